@@ -3,7 +3,7 @@ use Rattle.std.proofs.Common.{◌≡◌, ℕ, ◌+◌, List, [], Some, None, Opt
 use Rattle.std.specs.Str.Lines.{lines}
 use Rattle.scenario_text.specs.ScenarioGrammar.{scenario_of}
 use Rattle.scenario_text.specs.ScenarioParts.{ScenarioParts}
-use Rattle.text_readers.specs.Faults.{Gives, after_lines, ◌>>=◌}
+use Rattle.text_readers.specs.Faults.{IsAsDefined, draft_after_lines, ◌>>=◌}
 use Rattle.text_readers.specs.declared.fault.FaultKind.{FaultKind}
 use Rattle.text_readers.specs.declared.fault.FaultKind.TheVariants.{Missing}
 use Rattle.text_readers.specs.declared.fault.ParseFault.{ParseFault}
@@ -14,8 +14,8 @@ use Rattle.air_check.specs.Divisions.{HasBelow, IsDivided}
 use Rattle.air_check.specs.LogGrammar.{after_log_line, log_of}
 
 -- a fault of the first part is one of the whole
-err_goes_on : {A B : Type 0} (e : ParseFault) (r : Result A (ℕ × FaultKind)) (f : A → Result B (ℕ × FaultKind)) → Gives {A = A} (Err e) r
-    → Gives {A = B} (Err e) (r >>= f)
+err_goes_on : {A B : Type 0} (e : ParseFault) (r : Result A (ℕ × FaultKind)) (f : A → Result B (ℕ × FaultKind)) → IsAsDefined {A = A} (Err e) r
+    → IsAsDefined {A = B} (Err e) (r >>= f)
 err_goes_on {A} (Line n k) r f is = ap (λ (x : Result A (ℕ × FaultKind)). x >>= f) is
 err_goes_on Memory r f is = tt
 
@@ -35,9 +35,9 @@ module _ (bytes above : List ℕ) (count : ℕ) (below : Option (List ℕ)) (div
   whole : checked_text bytes ≡ (scenario_of above >>= by_log)
   whole = ap (λ (ls : List (List ℕ)). scenario_in ls >>= by_log) (sym divided.lines_above)
 
-  pub scenario_fault : (e : ParseFault) → Gives {A = ScenarioParts} (Err e) (scenario_of above) → Gives {A = Checked} (Err e) (checked_text bytes)
+  pub scenario_fault : (e : ParseFault) → IsAsDefined {A = ScenarioParts} (Err e) (scenario_of above) → IsAsDefined {A = Checked} (Err e) (checked_text bytes)
   scenario_fault e is =
-      subst (λ (r : Result Checked (ℕ × FaultKind)). Gives {A = Checked} (Err e) r) (sym whole) (err_goes_on e (scenario_of above) by_log is)
+      subst (λ (r : Result Checked (ℕ × FaultKind)). IsAsDefined {A = Checked} (Err e) r) (sym whole) (err_goes_on e (scenario_of above) by_log is)
 
   module _ (s : ScenarioParts) (said : scenario_of above ≡ Ok s) where
     of_scenario : checked_text bytes ≡ by_log s
@@ -55,14 +55,15 @@ module _ (bytes above : List ℕ) (count : ℕ) (below : Option (List ℕ)) (div
           let has = subst (λ (o : Option (List ℕ)). HasBelow o rest) some divided.lines_below in
           let number : count_above (lines bytes) + 2 ≡ count + 1 + 1 = omega (arith, divided.counted) in
           ap (log_in s (count_above (lines bytes))) has.1
-          ∙ ap (λ (n : ℕ). after_lines (after_log_line s.nodes) n [] (lines b)) number
+          ∙ ap (λ (n : ℕ). draft_after_lines (after_log_line s.nodes) n [] (lines b)) number
 
       of_log : checked_text bytes ≡ (log_of s (count + 1) b >>= with_log s)
       of_log = of_scenario ∙ ap (λ (r : Result (List Entry) (ℕ × FaultKind)). r >>= with_log s) log_is
 
-      pub log_fault : (e : ParseFault) → Gives {A = List Entry} (Err e) (log_of s (count + 1) b) → Gives {A = Checked} (Err e) (checked_text bytes)
+      pub log_fault : (e : ParseFault) → IsAsDefined {A = List Entry} (Err e) (log_of s (count + 1) b) → IsAsDefined {A = Checked} (Err e) (checked_text bytes)
       log_fault e is =
-          subst (λ (r : Result Checked (ℕ × FaultKind)). Gives {A = Checked} (Err e) r) (sym of_log) (err_goes_on e (log_of s (count + 1) b) (with_log s) is)
+          subst (λ (r : Result Checked (ℕ × FaultKind)). IsAsDefined {A = Checked} (Err e) r) (sym of_log)
+              (err_goes_on e (log_of s (count + 1) b) (with_log s) is)
 
       pub read : (air : List Entry) → log_of s (count + 1) b ≡ Ok air → checked_text bytes ≡ Ok (s, air)
       read air is = of_log ∙ ap (λ (r : Result (List Entry) (ℕ × FaultKind)). r >>= with_log s) is

@@ -6,7 +6,7 @@ use Rattle.std.proofs.lemmas.List.{append-nil, append_assoc, length-append}
 use Rattle.std.proofs.lemmas.List.Sums.{take_while-cons}
 use Rattle.std.specs.List.{take_while}
 use Rattle.std.specs.Str.Lines.{lines}
-use Rattle.text_readers.specs.LineEnds.{EndLines, IsCut}
+use Rattle.text_readers.specs.LineEnds.{EndLines, IsLineAndRest}
 use Rattle.air_check.specs.CheckedText.{is_log, count_above}
 use Rattle.air_check.specs.Divisions.{IsDivided}
 
@@ -77,7 +77,7 @@ module _ (bytes rest : List ℕ) (count : ℕ) (passed : Passed bytes rest count
   passing = ap (take_while is_other) all_lines ∙ passes_on (lines passed.front) (lines rest) passed.others
 
   -- one line more that isn't `log`
-  pub one_more : (line others : List ℕ) → 0 < length rest → IsCut rest line others → is_log line ≡ false → Passed bytes others (count + 1)
+  pub one_more : (line others : List ℕ) → 0 < length rest → IsLineAndRest rest line others → is_log line ≡ false → Passed bytes others (count + 1)
   one_more line others some cut is =
       let ends = front_ends some in
       let more : lines (passed.front ++ cut.front) ≡ lines passed.front ++ line ∷ [] =

@@ -14,12 +14,12 @@ use Rattle.std.proofs.lemmas.List.Elements.{Contains-push, Contains-push_cases, 
 use Rattle.radio_model.specs.OnAir.{Tuning}
 use Rattle.lwb_base.proofs.Elements.{not_in_none, contains_head, contains_tail}
 use Rattle.air_check.proofs.Gathered.{not_less}
-use Rattle.air_check.specs.Tunings.{IsNoLater, IsOf, IsIn, AreTuned, IsUntilAfter, tuning_by}
+use Rattle.air_check.specs.Tunings.{IsNoLater, IsOf, IsListedTuning, AreTuned, IsUntilAfter, tuning_of_tuned}
 use Rattle.air_check.specs.declared.tunings.Tuned.{Tuned}
 
 -- these are done with, and none of them is later than one of those to come
 pub record IsExtended (done todo es : List Tuned) : Type 0 where
-  pub are : AreTuned (map tuning_by done) es
+  pub are : AreTuned (map tuning_of_tuned done) es
   pub later : (e r : Tuned) → Contains es e → Contains todo r → IsNoLater e r
 
 pub none_yet : (todo : List Tuned) → IsExtended [] todo []
@@ -37,8 +37,8 @@ module _ (done todo es : List Tuned) (r e : Tuned) (is : IsExtended done (r ∷ 
   abbrev now : List Tuned
   now = es ++ e ∷ []
 
-  grown : map tuning_by (done ++ r ∷ []) ≡ map tuning_by done ++ tuning_by r ∷ []
-  grown = map-append tuning_by done (r ∷ [])
+  grown : map tuning_of_tuned (done ++ r ∷ []) ≡ map tuning_of_tuned done ++ tuning_of_tuned r ∷ []
+  grown = map-append tuning_of_tuned done (r ∷ [])
 
   before_it : (x : Tuned) → Contains es x → IsNoLater x r
   before_it x there = is.later x r there (contains_head r todo)
@@ -61,10 +61,11 @@ module _ (done todo es : List Tuned) (r e : Tuned) (is : IsExtended done (r ∷ 
         start = λ same also. (let k = by.start (sym node ∙ same) (sym rank ∙ also) in omega (arith, k, start));
       }
 
-  more_of : (x : Tuned) → IsOf (map tuning_by done) x → IsOf (map tuning_by (done ++ r ∷ [])) x
+  more_of : (x : Tuned) → IsOf (map tuning_of_tuned done) x → IsOf (map tuning_of_tuned (done ++ r ∷ [])) x
   more_of x o = record {
     tuning = o.tuning;
-    there = subst (λ (l : List Tuning). Contains l o.tuning) (sym grown) (Contains-append_left (map tuning_by done) (tuning_by r ∷ []) o.tuning o.there);
+    there = subst (λ (l : List Tuning). Contains l o.tuning) (sym grown)
+        (Contains-append_left (map tuning_of_tuned done) (tuning_of_tuned r ∷ []) o.tuning o.there);
     node = o.node;
     rank = o.rank;
     start = o.start;
@@ -74,11 +75,11 @@ module _ (done todo es : List Tuned) (r e : Tuned) (is : IsExtended done (r ∷ 
   last_there : 0 < length es → Contains es (get_or es (length es - 1) e)
   last_there some = Contains-get_or es (length es - 1) e (omega arith)
 
-  new_of : IsOf (map tuning_by (done ++ r ∷ [])) e
+  new_of : IsOf (map tuning_of_tuned (done ++ r ∷ [])) e
   new_of = elim until.from [
     | inl own ↦ record {
-      tuning = tuning_by r;
-      there = subst (λ (l : List Tuning). Contains l (tuning_by r)) (sym grown) (Contains-push (map tuning_by done) (tuning_by r));
+      tuning = tuning_of_tuned r;
+      there = subst (λ (l : List Tuning). Contains l (tuning_of_tuned r)) (sym grown) (Contains-push (map tuning_of_tuned done) (tuning_of_tuned r));
       node = sym node;
       rank = sym rank;
       start = omega (arith, start);
@@ -111,7 +112,7 @@ module _ (done todo es : List Tuned) (r e : Tuned) (is : IsExtended done (r ∷ 
   new_at k d at = get_or_push es e d k (sym at)
 
   -- one of the node and channel of e lasts until e does at most
-  lasts_on : (t : Tuning) → (i : IsIn es t) → e.node ≡ t.node → e.rank ≡ t.rank → t.end ≤ e.until
+  lasts_on : (t : Tuning) → (i : IsListedTuning es t) → e.node ≡ t.node → e.rank ≡ t.rank → t.end ≤ e.until
   lasts_on t i same_node same_rank =
       let place : ℕ = i.place in
       let below = i.below in
@@ -137,7 +138,7 @@ module _ (done todo es : List Tuned) (r e : Tuned) (is : IsExtended done (r ∷ 
       let goes = until.lasts e (omega (arith, below)) (both.0 ∙ sym same_node ∙ node) (both.1 ∙ sym same_rank ∙ rank) in
       omega (arith, ends, goes)
 
-  old_in : (t : Tuning) → IsIn es t → IsIn now t
+  old_in : (t : Tuning) → IsListedTuning es t → IsListedTuning now t
   old_in t i =
       let place : ℕ = i.place in
       let within = i.below in
@@ -159,7 +160,7 @@ module _ (done todo es : List Tuned) (r e : Tuned) (is : IsExtended done (r ∷ 
         ];
       }
 
-  new_in : IsIn now (tuning_by r)
+  new_in : IsListedTuning now (tuning_of_tuned r)
   new_in = record {
     place = length es;
     below = omega (arith, long);
@@ -177,11 +178,11 @@ module _ (done todo es : List Tuned) (r e : Tuned) (is : IsExtended done (r ∷ 
       in_order = all_pairs_push IsNoLater es e is.are.in_order (λ k d below. to_it (get_or es k d) (before_it (get_or es k d) (Contains-get_or es k d below)));
       of_them = λ x there. elim (Contains-push_cases es e x there) [
         | inl before ↦ more_of x (is.are.of_them x before)
-        | inr same ↦ subst (IsOf (map tuning_by (done ++ r ∷ []))) same new_of
+        | inr same ↦ subst (IsOf (map tuning_of_tuned (done ++ r ∷ []))) same new_of
       ];
-      all = λ t there. elim (Contains-push_cases (map tuning_by done) (tuning_by r) t (subst (λ (l : List Tuning). Contains l t) grown there)) [
+      all = λ t there. elim (Contains-push_cases (map tuning_of_tuned done) (tuning_of_tuned r) t (subst (λ (l : List Tuning). Contains l t) grown there)) [
         | inl before ↦ old_in t (is.are.all t before)
-        | inr same ↦ subst (IsIn now) same new_in
+        | inr same ↦ subst (IsListedTuning now) same new_in
       ];
     };
     later = λ x q there also. elim (Contains-push_cases es e x there) [
@@ -232,8 +233,8 @@ extended_more rs es new i r e in_order below at node rank start until is pushed 
     (in_order i (i + 1 + k) q (omega arith) (omega (arith, within, Rattle.std.proofs.Common.length-drop (i + 1) rs))))))
     node rank start until))
 
-pub all_extended : (rs es : List Tuned) (i : ℕ) → length rs ≤ i → IsExtended (take i rs) (drop i rs) es → AreTuned (map tuning_by rs) es
-all_extended rs es i over is = subst (λ (l : List Tuned). AreTuned (map tuning_by l) es) (take_all i rs over) is.are
+pub all_extended : (rs es : List Tuned) (i : ℕ) → length rs ≤ i → IsExtended (take i rs) (drop i rs) es → AreTuned (map tuning_of_tuned rs) es
+all_extended rs es i over is = subst (λ (l : List Tuned). AreTuned (map tuning_of_tuned l) es) (take_all i rs over) is.are
 
 -- the order of tunings
 abbrev pub place_of : Tuned → ℕ × ℕ × ℕ
@@ -268,18 +269,19 @@ before_pairs xs sorted i j d less below =
     }
 
 -- in another order they are the same tunings
-pub same_tunings : (ts : List Tuning) (raw sorts es : List Tuned) → map tuning_by raw ≡ ts → IsPermutation raw sorts
-    → AreTuned (map tuning_by sorts) es → AreTuned ts es
+pub same_tunings : (ts : List Tuning) (raw sorts es : List Tuned) → map tuning_of_tuned raw ≡ ts → IsPermutation raw sorts
+    → AreTuned (map tuning_of_tuned sorts) es → AreTuned ts es
 same_tunings ts raw sorts es is same are =
-    let across = IsPermutation-map tuning_by raw sorts same in
-    let back : (t : Tuning) → Contains (map tuning_by sorts) t → Contains ts t =
+    let across = IsPermutation-map tuning_of_tuned raw sorts same in
+    let back : (t : Tuning) → Contains (map tuning_of_tuned sorts) t → Contains ts t =
     λ t there. subst (λ (l : List Tuning). Contains l t) is
-    (Contains-permutation (map tuning_by sorts) (map tuning_by raw) t (IsPermutation-sym (map tuning_by raw) (map tuning_by sorts) across) there) in
+    (Contains-permutation (map tuning_of_tuned sorts) (map tuning_of_tuned raw) t
+        (IsPermutation-sym (map tuning_of_tuned raw) (map tuning_of_tuned sorts) across) there) in
     record {
       in_order = are.in_order;
       of_them = λ e there. (
           let o = are.of_them e there in
           record { tuning = o.tuning; there = back o.tuning o.there; node = o.node; rank = o.rank; start = o.start; end = o.end });
       all = λ t there. are.all t
-          (Contains-permutation (map tuning_by raw) (map tuning_by sorts) t across (subst (λ (l : List Tuning). Contains l t) (sym is) there));
+          (Contains-permutation (map tuning_of_tuned raw) (map tuning_of_tuned sorts) t across (subst (λ (l : List Tuning). Contains l t) (sym is) there));
     }

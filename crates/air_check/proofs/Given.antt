@@ -8,7 +8,7 @@ use Rattle.scenario_text.specs.ScenarioGrammar.{IsScenario}
 use Rattle.scenario_text.proofs.SoundScenarios.{sound}
 use Rattle.scenario_text.specs.ScenarioParts.{ScenarioParts}
 use Rattle.radio_model.proofs.Members.{in_tail, in_either}
-use Rattle.radio_model.specs.Hearing.{Hears}
+use Rattle.radio_model.specs.Hearing.{HearsInScene}
 use Rattle.radio_model.specs.OnAir.{Sending}
 use Rattle.air_log.specs.declared.entry.Entry.{Entry}
 use Rattle.air_log.specs.HearsAir.{scene_of}
@@ -51,7 +51,7 @@ near_in_air air s i near x is are = record {
 }
 
 pub given_so : (s : ScenarioParts) (air : List Entry) (v : ℕ) (x : Sending) (result : Bool) → x.end < run_end s
-    → (result ≡ true ↔ Hears (scene_of s.profile s.trace air) v x) → (result ≡ true ↔ IsGiven s air v x)
+    → (result ≡ true ↔ HearsInScene (scene_of s.profile s.trace air) v x) → (result ≡ true ↔ IsGiven s air v x)
 given_so s air v x result ends hears = (λ so. record { ends = ends; heard = hears.0 so }, λ given. hears.1 given.heard)
 
 pub short_run : (s : ScenarioParts) → IsScenario s → run_end s ≤ 2 ^ 46

@@ -10,7 +10,7 @@ use Rattle.scenario_text.specs.ScenarioParts.{ScenarioParts}
 use Rattle.scenario_text.specs.declared.lines.NodeLine.{NodeLine}
 use Rattle.air_log.specs.declared.entry.Entry.{Entry}
 use Rattle.air_log.specs.Lawful.{FollowsTrails}
-use Rattle.air_check.specs.NodeLogs.{NodeLogState, nothing, log_by, AreLogsOf}
+use Rattle.air_check.specs.NodeLogs.{NodeLogState, empty_node_log, log_by, AreLogsOf}
 use Rattle.air_check.specs.Verdicts.{FollowsTrail}
 use Rattle.air_check.proofs.OwnTrails.{nothing_follows}
 use Rattle.scenario_clocks.specs.NodeRates.{IsId}
@@ -25,7 +25,7 @@ outside ns ids v not = elim (cases_Bool (knows ns v)) [
 
 module _ (s : ScenarioParts) (clocks : ℕ → ℕ → ℕ) (air : List Entry) (sound : IsSoundScenario s) where
   -- an id that is none does nothing
-  follows_outside : (v : ℕ) → ((1 ≤ v) × (v ≤ 200) → ⊥) → log_by air v ≡ nothing → FollowsTrail s clocks air v
+  follows_outside : (v : ℕ) → ((1 ≤ v) × (v ≤ 200) → ⊥) → log_by air v ≡ empty_node_log → FollowsTrail s clocks air v
   follows_outside v not none =
       nothing_follows s clocks air v (outside s.nodes sound.ids v not) (ap (λ (n : NodeLogState). n.sent) none) (ap (λ (n : NodeLogState). n.tuned) none)
 
@@ -36,12 +36,13 @@ module _ (s : ScenarioParts) (clocks : ℕ → ℕ → ℕ) (air : List Entry) (
       (ap (log_by air) zero_is ∙ sym (are.each 0) ∙ are.none)
 
   pub all_follow : (logs : List NodeLogState) (id : ℕ) → 201 ≤ id → length logs ≡ 201
-      → ((v : ℕ) → id ≤ v → get_or logs v nothing ≡ log_by air v) → id ≤ 201 → ((v : ℕ) → v < id → FollowsTrail s clocks air v) → FollowsTrails s clocks air
+      → ((v : ℕ) → id ≤ v → get_or logs v empty_node_log ≡ log_by air v) → id ≤ 201 → ((v : ℕ) → v < id → FollowsTrail s clocks air v)
+          → FollowsTrails s clocks air
   all_follow logs id over long left few followed = record { sent = λ v. (at v).sent; tuned = λ v. (at v).tuned }
     where
       at : (v : ℕ) → FollowsTrail s clocks air v
       at v = elim (cases_lt v id) [
         | inl before ↦ followed v before
         | inr after ↦ follows_outside v (λ in_range. omega (arith, in_range.1, after, over))
-            (sym (left v after) ∙ get_or_past logs v nothing (omega (arith, long, after, few, over)))
+            (sym (left v after) ∙ get_or_past logs v empty_node_log (omega (arith, long, after, few, over)))
       ]

@@ -3,7 +3,7 @@ use Rattle.std.proofs.Common.{◌≡◌, ℕ, List, ◌↔◌, subst}
 use Rattle.radio_model.specs.declared.sending.Sending.{Sending}
 use Rattle.scenario_text.specs.ScenarioParts.{ScenarioParts}
 use Rattle.air_log.specs.declared.entry.Entry.{Entry}
-use Rattle.air_log.specs.Entries.{IsHeard}
+use Rattle.air_log.specs.Entries.{HasHeardEntry}
 use Rattle.air_log.specs.Lawful.{Lawful as LawfulLog, FollowsTrails}
 use Rattle.air_check.specs.declared.verdict.Verdict.{Verdict}
 use Rattle.air_check.specs.declared.verdict.Verdict.TheVariants.{Lawful}
@@ -11,7 +11,7 @@ use Rattle.air_check.specs.Verdicts.{IsGiven, AreGiven, IsVerdict}
 use Rattle.air_check.proofs.OneVerdict.{one_verdict}
 
 module _ (s : ScenarioParts) (clocks : ℕ → ℕ → ℕ) (air : List Entry) where
-  pub is_lawful : FollowsTrails s clocks air → AreGiven s air air → ((v : ℕ) (x : Sending) → IsGiven s air v x → IsHeard air v x) → LawfulLog s clocks air
+  pub is_lawful : FollowsTrails s clocks air → AreGiven s air air → ((v : ℕ) (x : Sending) → IsGiven s air v x → HasHeardEntry air v x) → LawfulLog s clocks air
   is_lawful trails are all = record {
     trails = trails;
     hearing = record {

@@ -7,7 +7,7 @@ use Rattle.text_readers.specs.declared.fault.FaultKind.TheVariants.{NotUtf8, Bad
 use Rattle.air_log.specs.declared.entry.Entry.{Entry}
 use Rattle.air_log.specs.declared.entry.Entry.TheVariants.{Sent, Heard, Tuned}
 use Rattle.air_log.specs.FirstRound.{first_round}
-use Rattle.air_check.specs.LogGrammar.{log_of, after_log_line, after_words, log_line, sent_line, heard_line}
+use Rattle.air_check.specs.LogGrammar.{log_of, after_log_line, entries_after_words, log_line, sent_log_line, heard_log_line}
 
 -- in any order and in either case, with blanks and skipped lines: comments, empty lines and those of reports
 a_log : log_of first_round 12
@@ -16,7 +16,7 @@ a_log : log_of first_round 12
     ≡ Ok (Tuned (record { rank = 3; node = 2; start = 5; end = 6 })
     ∷ Sent (record { rank = 0; node = 1; start = 1344064000; end = 1344100864; packet = 1 ∷ 0 ∷ 171 ∷ 205 ∷ 239 ∷ [] })
     ∷ Heard (record { rank = 0; node = 2; from = 1; start = 7; end = 8; packet = 10 ∷ 11 ∷ 12 ∷ [] }) ∷ [])
-unfolding after_log_line after_words log_line sent_line heard_line is_utf8 chars encode
+unfolding after_log_line entries_after_words log_line sent_log_line heard_log_line is_utf8 chars encode
 a_log = refl
 
 -- after twelve lines above and one more: a line, and its fault
@@ -31,7 +31,7 @@ words : map behind (
     ≡ Err (14, NotUtf8) ∷ Err (14, BadWord) ∷ Err (14, BadWord) ∷ Err (14, BadWord) ∷ Err (14, BadWord) ∷ Err (14, BadWord) ∷ Err (14, BadWord)
     ∷ Err (14, BadWord) ∷ Err (14, BadWord) ∷ Err (14, BadWord) ∷ Err (14, BadWord) ∷ Err (14, BadWord)
     ∷ Err (14, BadWord) ∷ []
-unfolding after_log_line after_words log_line sent_line heard_line is_utf8 chars encode
+unfolding after_log_line entries_after_words log_line sent_log_line heard_log_line is_utf8 chars encode
 words = refl
 
 numbers : map behind (
@@ -42,10 +42,10 @@ numbers : map behind (
     ≡ Err (14, BadNumber) ∷ Err (14, BadNumber) ∷ Err (14, BadNumber)
     ∷ Err (14, Range) ∷ Err (14, Range) ∷ Err (14, Range) ∷ Err (14, Range) ∷ Err (14, Range)
     ∷ Err (14, Range) ∷ Err (14, Range) ∷ []
-unfolding after_log_line after_words log_line sent_line heard_line is_utf8 chars encode
+unfolding after_log_line entries_after_words log_line sent_log_line heard_log_line is_utf8 chars encode
 numbers = refl
 
 unknown : map behind (codes "tuned 0 3 0 1" ∷ codes "sent 0 200 0 1 010203" ∷ codes "heard 0 3 1 0 1 010203" ∷ codes "heard 0 1 3 0 1 010203" ∷ [])
     ≡ Err (14, UnknownNode) ∷ Err (14, UnknownNode) ∷ Err (14, UnknownNode) ∷ Err (14, UnknownNode) ∷ []
-unfolding after_log_line after_words log_line sent_line heard_line is_utf8 chars encode
+unfolding after_log_line entries_after_words log_line sent_log_line heard_log_line is_utf8 chars encode
 unknown = refl

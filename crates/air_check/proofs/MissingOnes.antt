@@ -11,7 +11,7 @@ use Rattle.radio_model.specs.Hearing.{Before}
 use Rattle.radio_model.specs.OnAir.{Sending}
 use Rattle.radio_model.proofs.Members.{some_of, same_default}
 use Rattle.air_log.specs.declared.entry.Entry.{Entry}
-use Rattle.air_log.specs.Entries.{IsHeard}
+use Rattle.air_log.specs.Entries.{HasHeardEntry}
 use Rattle.air_log.specs.Lawful.{FollowsTrails}
 use Rattle.air_check.specs.Flags.{IsFirstOf}
 use Rattle.air_check.specs.Indexes.{IsIndex}
@@ -64,7 +64,7 @@ module _ (s : ScenarioParts) (clocks : ℕ → ℕ → ℕ) (air : List Entry) (
   sent = i.sent.items
 
   abbrev AllBefore : Type 0
-  AllBefore = (j w : ℕ) (d : Sending) → j < k → IsGiven s air w (get_or sent j d) → IsHeard air w (get_or sent j d)
+  AllBefore = (j w : ℕ) (d : Sending) → j < k → IsGiven s air w (get_or sent j d) → HasHeardEntry air w (get_or sent j d)
 
   pub first_missing : AllBefore → (x : Sending) → k < length sent → x ≡ get_or sent k x → (v u t : ℕ) → IsFirstOf s air x (Rattle.std.proofs.Common.Some v)
       → u ≡ x.node → t ≡ x.start → IsFirstMissing s air v u t
@@ -86,7 +86,7 @@ module _ (s : ScenarioParts) (clocks : ℕ → ℕ → ℕ) (air : List Entry) (
               let nodes = ap (λ (z : Sending). z.node) eq in
               record { start = omega (arith, starts); sender = λ e. omega (arith, nodes); receiver = λ e f. by }
           | inr (inl less) ↦
-              absurd (m.absent (subst (λ (z : Sending). IsHeard air w z) here
+              absurd (m.absent (subst (λ (z : Sending). HasHeardEntry air w z) here
               (all j w y less (subst (λ (z : Sending). IsGiven s air w z) (sym here) m.given))))
           | inr (inr more) ↦
               let before = subst (λ (z : Sending). Before x z) here
@@ -102,12 +102,12 @@ module _ (s : ScenarioParts) (clocks : ℕ → ℕ → ℕ) (air : List Entry) (
   }
 
 pub all_there : (s : ScenarioParts) (air : List Entry) (i : Index) → IsIndex air i → (k : ℕ) → length i.sent.items ≤ k
-    → ((j w : ℕ) (d : Sending) → j < k → IsGiven s air w (get_or i.sent.items j d) → IsHeard air w (get_or i.sent.items j d))
-    → (v : ℕ) (x : Sending) → IsGiven s air v x → IsHeard air v x
+    → ((j w : ℕ) (d : Sending) → j < k → IsGiven s air w (get_or i.sent.items j d) → HasHeardEntry air w (get_or i.sent.items j d))
+    → (v : ℕ) (x : Sending) → IsGiven s air v x → HasHeardEntry air v x
 all_there s air i is k over all v x given =
     let there = is.all_sent x given.heard.sent in
     let j : ℕ = there.0 in
     let within = there.1 in
     let here = there.2 in
-    subst (λ (y : Sending). IsHeard air v y) here
+    subst (λ (y : Sending). HasHeardEntry air v y) here
     (all j v x (omega (arith, within, over)) (subst (λ (y : Sending). IsGiven s air v y) (sym here) given))

@@ -11,10 +11,10 @@ use Rattle.air_log.specs.declared.entry.Entry.{Entry}
 use Rattle.air_log.specs.declared.entry.Entry.TheVariants.{Sent, Heard, Tuned}
 use Rattle.air_log.specs.Courses.{hearing_of}
 use Rattle.air_log.specs.DeviceStates.{tuning_of}
-use Rattle.air_log.specs.Entries.{sending_in, hearing_in, tuning_in, node_of}
+use Rattle.air_log.specs.Entries.{sending_in, hearing_in, tuning_in, node_of_entry}
 use Rattle.air_log.specs.Lawful.{sent_by, hearings_by, tuned_by}
-use Rattle.air_log.specs.TrailsTold.{sending_of}
-use Rattle.air_check.specs.NodeLogs.{NodeLogState, nothing, log_by, after_entry, AreLogsOf}
+use Rattle.air_log.specs.TrailsTold.{sending_of_entry}
+use Rattle.air_check.specs.NodeLogs.{NodeLogState, empty_node_log, log_by, after_entry, AreLogsOf}
 
 -- what is picked of one entry more
 module _ {X : Type 0} (pick : Entry → Option X) (own : X → Bool) (air : List Entry) (e : Entry) where
@@ -34,15 +34,15 @@ module _ {X : Type 0} (pick : Entry → Option X) (own : X → Bool) (air : List
 abbrev log : List Sending → List Hearing → List Tuning → NodeLogState
 log xs hs ts = record { sent = xs; heard = hs; tuned = ts }
 
-pub log_more : (air : List Entry) (e : Entry) (v : ℕ) → log_by (air ++ e ∷ []) v ≡ (if node_of e == v then after_entry (log_by air v) e else log_by air v)
+pub log_more : (air : List Entry) (e : Entry) (v : ℕ) → log_by (air ++ e ∷ []) v ≡ (if node_of_entry e == v then after_entry (log_by air v) e else log_by air v)
 log_more air (Sent x) v =
     rw (
-      one sending_in (λ (y : Sending). y.node == v) air (Sent x) (sending_of x) refl,
+      one sending_in (λ (y : Sending). y.node == v) air (Sent x) (sending_of_entry x) refl,
       none hearing_in (λ (h : Hearing). h.node == v) air (Sent x) refl,
       none tuning_in (λ (t : Tuning). t.node == v) air (Sent x) refl,
     ) (by_test (x.node == v))
   where
-    by_test : (b : Bool) → log (sent_by air v ++ (if b then sending_of x ∷ [] else [])) (hearings_by air v) (tuned_by air v)
+    by_test : (b : Bool) → log (sent_by air v ++ (if b then sending_of_entry x ∷ [] else [])) (hearings_by air v) (tuned_by air v)
         ≡ (if b then after_entry (log_by air v) (Sent x) else log_by air v)
     by_test true = refl
     by_test false = ap (λ (xs : List Sending). log xs (hearings_by air v) (tuned_by air v)) (append-nil (sent_by air v))
@@ -69,38 +69,38 @@ log_more air (Tuned e) v =
     by_test true = refl
     by_test false = ap (λ (ts : List Tuning). log (sent_by air v) (hearings_by air v) ts) (append-nil (tuned_by air v))
 
-pub added_entry : (air : List Entry) (e : Entry) (logs : List NodeLogState) → AreLogsOf air logs → 1 ≤ node_of e → node_of e ≤ 200
-    → AreLogsOf (air ++ e ∷ []) (set logs (node_of e) (after_entry (get_or logs (node_of e) nothing) e))
+pub added_entry : (air : List Entry) (e : Entry) (logs : List NodeLogState) → AreLogsOf air logs → 1 ≤ node_of_entry e → node_of_entry e ≤ 200
+    → AreLogsOf (air ++ e ∷ []) (set logs (node_of_entry e) (after_entry (get_or logs (node_of_entry e) empty_node_log) e))
 added_entry air e logs are some few = record {
-  ids = length-set logs (node_of e) added ∙ are.ids;
-  none = get_or-set_other logs (node_of e) 0 added nothing (λ same. omega (arith, same, some)) ∙ are.none;
-  each = λ v. by_test v (node_of e == v) refl;
+  ids = length-set logs (node_of_entry e) added ∙ are.ids;
+  none = get_or-set_other logs (node_of_entry e) 0 added empty_node_log (λ same. omega (arith, same, some)) ∙ are.none;
+  each = λ v. by_test v (node_of_entry e == v) refl;
 }
   where
     added : NodeLogState
-    added = after_entry (get_or logs (node_of e) nothing) e
+    added = after_entry (get_or logs (node_of_entry e) empty_node_log) e
 
-    by_test : (v : ℕ) (b : Bool) → (node_of e == v) ≡ b → get_or (set logs (node_of e) added) v nothing ≡ log_by (air ++ e ∷ []) v
+    by_test : (v : ℕ) (b : Bool) → (node_of_entry e == v) ≡ b → get_or (set logs (node_of_entry e) added) v empty_node_log ≡ log_by (air ++ e ∷ []) v
     by_test v true at =
-        let own : node_of e ≡ v = eqb-true (node_of e) v at in
-        ap (λ (w : ℕ). get_or (set logs (node_of e) added) w nothing) (sym own)
-        ∙ get_or-set_same logs (node_of e) added nothing (omega (arith, are.ids, few))
-        ∙ ap (λ (n : NodeLogState). after_entry n e) (are.each (node_of e) ∙ ap (log_by air) own)
-        ∙ sym (log_more air e v ∙ cond-true (node_of e == v) (after_entry (log_by air v) e) (log_by air v) at)
+        let own : node_of_entry e ≡ v = eqb-true (node_of_entry e) v at in
+        ap (λ (w : ℕ). get_or (set logs (node_of_entry e) added) w empty_node_log) (sym own)
+        ∙ get_or-set_same logs (node_of_entry e) added empty_node_log (omega (arith, are.ids, few))
+        ∙ ap (λ (n : NodeLogState). after_entry n e) (are.each (node_of_entry e) ∙ ap (log_by air) own)
+        ∙ sym (log_more air e v ∙ cond-true (node_of_entry e == v) (after_entry (log_by air v) e) (log_by air v) at)
     by_test v false at =
-        let other : node_of e ≢ v = eqb-false (node_of e) v at in
-        get_or-set_other logs (node_of e) v added nothing (λ same. other (sym same))
+        let other : node_of_entry e ≢ v = eqb-false (node_of_entry e) v at in
+        get_or-set_other logs (node_of_entry e) v added empty_node_log (λ same. other (sym same))
         ∙ are.each v
-        ∙ sym (log_more air e v ∙ cond-false (node_of e == v) (after_entry (log_by air v) e) (log_by air v) at)
+        ∙ sym (log_more air e v ∙ cond-false (node_of_entry e == v) (after_entry (log_by air v) e) (log_by air v) at)
 
-nothing_yet : (n v : ℕ) → get_or (replicate n nothing) v nothing ≡ nothing
+nothing_yet : (n v : ℕ) → get_or (replicate n empty_node_log) v empty_node_log ≡ empty_node_log
 nothing_yet zero v = refl
 nothing_yet (suc n) zero = refl
 nothing_yet (suc n) (suc v) = nothing_yet n v
 
-pub none_yet : (logs : List NodeLogState) → logs ≡ replicate 201 nothing → AreLogsOf [] logs
+pub none_yet : (logs : List NodeLogState) → logs ≡ replicate 201 empty_node_log → AreLogsOf [] logs
 none_yet logs is = record {
-  ids = ap (λ (l : List NodeLogState). length l) is ∙ length-replicate 201 nothing;
-  none = ap (λ (l : List NodeLogState). get_or l 0 nothing) is ∙ nothing_yet 201 0;
-  each = λ v. ap (λ (l : List NodeLogState). get_or l v nothing) is ∙ nothing_yet 201 v;
+  ids = ap (λ (l : List NodeLogState). length l) is ∙ length-replicate 201 empty_node_log;
+  none = ap (λ (l : List NodeLogState). get_or l 0 empty_node_log) is ∙ nothing_yet 201 0;
+  each = λ v. ap (λ (l : List NodeLogState). get_or l v empty_node_log) is ∙ nothing_yet 201 v;
 }

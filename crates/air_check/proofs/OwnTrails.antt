@@ -16,7 +16,7 @@ use Rattle.air_log.specs.declared.entry.Entry.{Entry}
 use Rattle.air_log.specs.declared.entry.SentEntry.{SentEntry}
 use Rattle.air_log.specs.declared.entry.TunedEntry.{TunedEntry}
 use Rattle.air_log.specs.DeviceStates.{tuning_of}
-use Rattle.air_log.specs.TrailsTold.{sending_of}
+use Rattle.air_log.specs.TrailsTold.{sending_of_entry}
 use Rattle.air_log.specs.Lawful.{sent_by, tuned_by, trail_in, trail_sent, trail_tuned}
 use Rattle.air_log.specs.Trails.{Reception, trail}
 use Rattle.lwb_base.proofs.Elements.{reversed}
@@ -79,11 +79,11 @@ rises_map f key back xs rises i j d le within =
 
 module _ (s : ScenarioParts) (v : ℕ) (clock : ℕ → ℕ) (hs : List Reception) where
   pub sent_told : (made : List Sending) (own sorted : List SentEntry) (b : Bool) → made ≡ (trail s v clock hs).made.sent → IsPermutation own sorted
-      → IsNonDecreasingBy (λ x. x.start) sorted → Decides b (made ≡ map sending_of sorted)
-      → Decides b (IsPermutation (trail s v clock hs).made.sent (map sending_of own))
+      → IsNonDecreasingBy (λ x. x.start) sorted → Decides b (made ≡ map sending_of_entry sorted)
+      → Decides b (IsPermutation (trail s v clock hs).made.sent (map sending_of_entry own))
   sent_told made own sorted b is moved rises same =
-      sent_decided s v clock hs (map sending_of own) (map sending_of sorted) b (IsPermutation-map sending_of own sorted moved)
-      (rises_map sending_of sent_start sent_with sorted rises) (subst (λ (l : List Sending). Decides b (l ≡ map sending_of sorted)) is same)
+      sent_decided s v clock hs (map sending_of_entry own) (map sending_of_entry sorted) b (IsPermutation-map sending_of_entry own sorted moved)
+      (rises_map sending_of_entry sent_start sent_with sorted rises) (subst (λ (l : List Sending). Decides b (l ≡ map sending_of_entry sorted)) is same)
 
   pub tuned_told : (made : List Tuning) (own sorted : List TunedEntry) (b : Bool) → made ≡ (trail s v clock hs).made.tuned → IsPermutation own sorted
       → IsNonDecreasingBy (λ t. t.start) sorted → Decides b (reverse made ≡ map tuning_of sorted)

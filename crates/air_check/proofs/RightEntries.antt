@@ -12,7 +12,7 @@ use Rattle.lwb_base.proofs.Lists.{one_kept}
 use Rattle.air_log.specs.declared.entry.Entry.{Entry}
 use Rattle.air_log.specs.declared.entry.Entry.TheVariants.{Sent, Heard, Tuned}
 use Rattle.air_log.specs.Entries.{hearing_in, hearings_of, heard_entry}
-use Rattle.air_check.specs.Flags.{AreFlags, TakesIn, GoesOn, IsWrong}
+use Rattle.air_check.specs.Flags.{AreFlags, TakesIn, IsRightNext, IsWrong}
 use Rattle.air_check.specs.Verdicts.{IsGiven, AreGiven, IsFirstWrong}
 
 pub hearings_more : (above : List Entry) (e : Entry) → hearings_of (above ++ e ∷ []) ≡ hearings_of above ++ option_to_list (hearing_in e)
@@ -59,13 +59,13 @@ module _ (s : ScenarioParts) (air : List Entry) where
       }
 
   pub takes : (sent : List Sending) (above : List Entry) (e : Entry) (h : Hearing) (flags : List Bool) (result : Bool) → hearing_in e ≡ Some h
-      → TakesIn s air sent (hearings_of above) h flags result → GoesOn s air sent above e flags result
+      → TakesIn s air sent (hearings_of above) h flags result → IsRightNext s air sent above e flags result
   takes sent above e h flags true is (are, right, new) =
       (subst (λ (hs : List Hearing). AreFlags sent hs flags) (sym (with_hearing above e h is)) are, one_right above e h is right new)
   takes sent above e h flags false is wrong = record { hearing = h; entry = heard_is e h is; wrong = wrong }
 
   pub passes_by : (sent : List Sending) (above : List Entry) (e : Entry) (flags : List Bool) → hearing_in e ≡ None → AreFlags sent (hearings_of above) flags
-      → GoesOn s air sent above e flags true
+      → IsRightNext s air sent above e flags true
   passes_by sent above e flags is are =
       let same = without_hearing above e is in
       (subst (λ (hs : List Hearing). AreFlags sent hs flags) (sym same) are, same_given above (above ++ e ∷ []) same)

@@ -8,7 +8,7 @@ use Rattle.radio_model.specs.OnAir.{Tuning}
 use Rattle.air_log.specs.declared.entry.SentEntry.{SentEntry}
 use Rattle.air_log.specs.declared.entry.TunedEntry.{TunedEntry}
 use Rattle.air_log.specs.DeviceStates.{tuning_of}
-use Rattle.air_log.specs.TrailsTold.{sending_of}
+use Rattle.air_log.specs.TrailsTold.{sending_of_entry}
 
 abbrev pub sent_with : Sending → SentEntry
 sent_with x = record { rank = x.rank; node = x.node; start = x.start; end = x.end; packet = x.packet }
@@ -16,7 +16,7 @@ sent_with x = record { rank = x.rank; node = x.node; start = x.start; end = x.en
 abbrev pub tuned_with : Tuning → TunedEntry
 tuned_with t = record { rank = t.rank; node = t.node; start = t.start; end = t.end }
 
-again_sent : (xs : List SentEntry) → map sent_with (map sending_of xs) ≡ xs
+again_sent : (xs : List SentEntry) → map sent_with (map sending_of_entry xs) ≡ xs
 again_sent [] = refl
 again_sent (x ∷ xs) = ap (λ (l : List SentEntry). x ∷ l) (again_sent xs)
 
@@ -24,7 +24,7 @@ again_tuned : (ts : List TunedEntry) → map tuned_with (map tuning_of ts) ≡ t
 again_tuned [] = refl
 again_tuned (t ∷ ts) = ap (λ (l : List TunedEntry). t ∷ l) (again_tuned ts)
 
-pub one_sent : (xs ys : List SentEntry) → map sending_of xs ≡ map sending_of ys → xs ≡ ys
+pub one_sent : (xs ys : List SentEntry) → map sending_of_entry xs ≡ map sending_of_entry ys → xs ≡ ys
 one_sent xs ys is = sym (again_sent xs) ∙ ap (map sent_with) is ∙ again_sent ys
 
 pub one_tuned : (ts us : List TunedEntry) → map tuning_of ts ≡ map tuning_of us → ts ≡ us

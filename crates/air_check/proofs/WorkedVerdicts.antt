@@ -1,9 +1,9 @@
 -- The worked verdicts, by trails that are computed.
 use Rattle.std.proofs.Common.{◌≡◌, ℕ, zero, suc, ◌<◌, List, [], ◌∷◌, true, IsPermutation, length, refl, ap, ◌∙◌, arith}
 use Rattle.std.proofs.lemmas.List.Sorted.{IsPermutation-refl, length_permutation}
-use Rattle.lwb_base.specs.Messages.{least}
+use Rattle.lwb_base.specs.Messages.{least_passing}
 use Rattle.lwb_base.proofs.Orders.{same_list}
-use Rattle.schedule_codec.specs.Packing.{digits, number}
+use Rattle.schedule_codec.specs.Packing.{digits, packed_number}
 use Rattle.schedule_codec.specs.Reading.{schedule_of, asks_in}
 use Rattle.bus_rules.specs.Streams.{schedule_heard}
 use Rattle.bus_rules.specs.Granting.{plan_round, turns}
@@ -11,7 +11,7 @@ use Rattle.bus_rules.specs.HostPlans.{host_plan}
 use Rattle.air_log.specs.Devices.{Device, at_rest, silenced}
 use Rattle.air_log.specs.Lawful.{trail_sent, sent_by}
 use Rattle.air_log.specs.Trails.{Reception, trail}
-use Rattle.air_log.specs.FirstRound.{first_round, opening_with, closing_with, sent_by_host, tuned_by_host}
+use Rattle.air_log.specs.FirstRound.{first_round, opening_with, closing_with, first_round_sent_by_host, first_round_tuned_by_host}
 use Rattle.air_log.specs.TwoNodeLog.{true_time}
 use Rattle.air_log.proofs.ComputedTrails.{goes_through, after_ticks, computed, true_due}
 use Rattle.air_log.proofs.FirstRound.{host_trail, of_trail, by_ticks}
@@ -45,20 +45,20 @@ heard_late =
     ∷ []
 
 host_goes : goes_through (λ x. x) (λ t. t) first_round 1 [] 1536000000 0 host_ticks at_rest ≡ true
-unfolding least digits number schedule_of asks_in schedule_heard host_plan plan_round turns
+unfolding least_passing digits packed_number schedule_of asks_in schedule_heard host_plan plan_round turns
 host_goes = refl
 
 other_goes : goes_through (λ x. x) (λ t. t) first_round 2 heard_late 1536000000 0 other_ticks at_rest ≡ true
-unfolding least digits number schedule_of asks_in schedule_heard host_plan plan_round turns
+unfolding least_passing digits packed_number schedule_of asks_in schedule_heard host_plan plan_round turns
 other_goes = refl
 
 -- both transmit: the host its opening and its closing, the other node three relays
 host_sends : length (by_ticks 1 [] host_ticks).made.sent ≡ 2
-unfolding least digits number schedule_of asks_in schedule_heard host_plan plan_round turns
+unfolding least_passing digits packed_number schedule_of asks_in schedule_heard host_plan plan_round turns
 host_sends = refl
 
 other_sends : length (by_ticks 2 heard_late other_ticks).made.sent ≡ 3
-unfolding least digits number schedule_of asks_in schedule_heard host_plan plan_round turns
+unfolding least_passing digits packed_number schedule_of asks_in schedule_heard host_plan plan_round turns
 other_sends = refl
 
 pub empty : IsFirstAstray first_round true_time [] 1
@@ -90,7 +90,8 @@ one_less = record {
     one_too_many same = omega (arith, three, length_permutation (trail_sent first_round true_time first_reception_lost 2) (sent_by first_reception_lost 2) same)
 
     host : FollowsTrail first_round true_time first_reception_lost 1
-    host = record { sent = same_list _ _ sent_by_host host_trail.sendings refl; tuned = same_list _ _ tuned_by_host host_trail.tunings refl }
+    host = record { sent = same_list _ _ first_round_sent_by_host host_trail.sendings refl;
+        tuned = same_list _ _ first_round_tuned_by_host host_trail.tunings refl }
 
     below : (u : ℕ) → u < 2 → FollowsTrail first_round true_time first_reception_lost u
     below zero low = record { sent = IsPermutation-refl []; tuned = IsPermutation-refl [] }

@@ -2,10 +2,10 @@
 use Rattle.std.specs.Prelude.{ℕ, ◌+◌, List, [], ◌∷◌, Bool, not, ◌&&◌, ◌==◌, Ok, Err, Result, length, take, drop, codes}
 use Rattle.std.specs.List.{take_while}
 use Rattle.std.specs.Str.Lines.{lines}
-use Rattle.scenario_text.specs.ScenarioGrammar.{begins, after_words, no_scenario, finished}
+use Rattle.scenario_text.specs.ScenarioGrammar.{first_word_is, scenario_after_words, no_scenario, whole_scenario}
 use Rattle.scenario_text.specs.ScenarioParts.{ScenarioParts}
-use Rattle.text_readers.specs.Faults.{in_line, ◌>>=◌, after_lines}
-use Rattle.text_readers.specs.Reading.{after_line}
+use Rattle.text_readers.specs.Faults.{in_line, ◌>>=◌, draft_after_lines}
+use Rattle.text_readers.specs.Reading.{draft_after_line}
 use Rattle.text_readers.specs.Words.{words}
 use Rattle.text_readers.specs.declared.fault.FaultKind.{FaultKind}
 use Rattle.text_readers.specs.declared.fault.FaultKind.TheVariants.{Missing}
@@ -14,18 +14,18 @@ use Rattle.air_check.specs.LogGrammar.{after_log_line}
 
 -- the only word of the line is `log`
 abbrev pub is_log : List ℕ → Bool
-is_log line = (length (words line) == 1) && begins (words line) (codes "log")
+is_log line = (length (words line) == 1) && first_word_is (words line) (codes "log")
 
 -- what these lines say as a scenario
 abbrev pub scenario_in : List (List ℕ) → Result ScenarioParts (ℕ × FaultKind)
 scenario_in ls = do
-  d ← after_lines (after_line after_words) 1 no_scenario ls
-  in_line (length ls + 1) (finished d)
+  d ← draft_after_lines (draft_after_line scenario_after_words) 1 no_scenario ls
+  in_line (length ls + 1) (whole_scenario d)
 
 -- what the line `log` and the lines after it say, where n lines are above. Without them it is missing after the last line
 abbrev pub log_in : ScenarioParts → ℕ → List (List ℕ) → Result (List Entry) (ℕ × FaultKind)
 log_in s n [] = Err (n + 1, Missing)
-log_in s n (first ∷ ls) = after_lines (after_log_line s.nodes) (n + 2) [] ls
+log_in s n (first ∷ ls) = draft_after_lines (after_log_line s.nodes) (n + 2) [] ls
 
 -- how many lines are above the first line `log`
 abbrev pub count_above : List (List ℕ) → ℕ

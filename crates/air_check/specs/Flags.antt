@@ -4,7 +4,7 @@ use Rattle.std.specs.Prelude.{Contains, length, slice_index_or}
 use Rattle.scenario_text.specs.ScenarioParts.{ScenarioParts}
 use Rattle.radio_model.specs.OnAir.{Hearing, Sending}
 use Rattle.air_log.specs.declared.entry.Entry.{Entry}
-use Rattle.air_log.specs.Entries.{hearings_of, heard_entry, IsHeard}
+use Rattle.air_log.specs.Entries.{hearings_of, heard_entry, HasHeardEntry}
 use Rattle.air_check.specs.Verdicts.{IsGiven, AreGiven, IsMissing}
 
 -- the flag of transmission k and node v
@@ -18,9 +18,9 @@ pub record AreFlags (sent : List Sending) (hs : List Hearing) (flags : List Bool
       → (flag flags k v ≡ true) ↔ Contains hs (record { node = v; sending = slice_index_or sent k d })
 
 -- whether a reception is given and not among these
-abbrev pub IsDue : ScenarioParts → List Entry → List Hearing → ℕ → Sending → Bool → Type 0
-IsDue s air hs v x true = IsGiven s air v x × (Contains hs (record { node = v; sending = x }) → ⊥)
-IsDue s air hs v x false = (IsGiven s air v x → ⊥) ⊎ Contains hs (record { node = v; sending = x })
+abbrev pub IsGivenAndMissing : ScenarioParts → List Entry → List Hearing → ℕ → Sending → Bool → Type 0
+IsGivenAndMissing s air hs v x true = IsGiven s air v x × (Contains hs (record { node = v; sending = x }) → ⊥)
+IsGivenAndMissing s air hs v x false = (IsGiven s air v x → ⊥) ⊎ Contains hs (record { node = v; sending = x })
 
 -- whether one more reception is given and new; if so it has its flag
 abbrev pub TakesIn : ScenarioParts → List Entry → List Sending → List Hearing → Hearing → List Bool → Bool → Type 0
@@ -34,11 +34,11 @@ pub record IsWrong (s : ScenarioParts) (air above : List Entry) (e : Entry) : Ty
   pub wrong : (IsGiven s air hearing.node hearing.sending → ⊥) ⊎ Contains (hearings_of above) hearing
 
 -- whether one more entry is right, after these that are
-abbrev pub GoesOn : ScenarioParts → List Entry → List Sending → List Entry → Entry → List Bool → Bool → Type 0
-GoesOn s air sent above e flags true = AreFlags sent (hearings_of (above ++ e ∷ [])) flags × (AreGiven s air above → AreGiven s air (above ++ e ∷ []))
-GoesOn s air sent above e flags false = IsWrong s air above e
+abbrev pub IsRightNext : ScenarioParts → List Entry → List Sending → List Entry → Entry → List Bool → Bool → Type 0
+IsRightNext s air sent above e flags true = AreFlags sent (hearings_of (above ++ e ∷ [])) flags × (AreGiven s air above → AreGiven s air (above ++ e ∷ []))
+IsRightNext s air sent above e flags false = IsWrong s air above e
 
 -- the least id that has no reception of x and should have one. Without it each reception that is given is there
 abbrev pub IsFirstOf : ScenarioParts → List Entry → Sending → Option ℕ → Type 0
-IsFirstOf s air x None = (w : ℕ) → IsGiven s air w x → IsHeard air w x
+IsFirstOf s air x None = (w : ℕ) → IsGiven s air w x → HasHeardEntry air w x
 IsFirstOf s air x (Some v) = IsMissing s air v x × ((w : ℕ) → IsMissing s air w x → v ≤ w)

@@ -7,15 +7,15 @@ use Rattle.air_log.specs.declared.entry.Entry.TheVariants.{Sent, Heard, Tuned}
 use Rattle.air_log.specs.Courses.{hearing_of}
 use Rattle.air_log.specs.DeviceStates.{tuning_of}
 use Rattle.air_log.specs.Lawful.{sent_by, hearings_by, tuned_by}
-use Rattle.air_log.specs.TrailsTold.{sending_of}
+use Rattle.air_log.specs.TrailsTold.{sending_of_entry}
 
 pub record NodeLogState : Type 0 where
   pub sent : List Sending
   pub heard : List Hearing
   pub tuned : List Tuning
 
-abbrev pub nothing : NodeLogState
-nothing = record { sent = []; heard = []; tuned = [] }
+abbrev pub empty_node_log : NodeLogState
+empty_node_log = record { sent = []; heard = []; tuned = [] }
 
 -- in the order of the log
 abbrev pub log_by : List Entry → ℕ → NodeLogState
@@ -23,12 +23,12 @@ log_by air v = record { sent = sent_by air v; heard = hearings_by air v; tuned =
 
 -- one entry more
 abbrev pub after_entry : NodeLogState → Entry → NodeLogState
-after_entry n (Sent x) = record n { sent = n.sent ++ sending_of x ∷ [] }
+after_entry n (Sent x) = record n { sent = n.sent ++ sending_of_entry x ∷ [] }
 after_entry n (Heard h) = record n { heard = n.heard ++ hearing_of h ∷ [] }
 after_entry n (Tuned t) = record n { tuned = n.tuned ++ tuning_of t ∷ [] }
 
 -- ids are 1 to 200
 pub record AreLogsOf (air : List Entry) (logs : List NodeLogState) : Type 0 where
   pub ids : length logs ≡ 201
-  pub none : get_or logs 0 nothing ≡ nothing
-  pub each : (v : ℕ) → get_or logs v nothing ≡ log_by air v
+  pub none : get_or logs 0 empty_node_log ≡ empty_node_log
+  pub each : (v : ℕ) → get_or logs v empty_node_log ≡ log_by air v

@@ -16,8 +16,8 @@ abbrev pub begins_by : ℕ → ℕ → ℕ → Tuned → Bool
 begins_by v channel t e = nat_lt e.node v || ((e.node == v) && (nat_lt e.rank channel || ((e.rank == channel) && nat_le e.start t)))
 
 -- the tuning that it was made of
-abbrev pub tuning_by : Tuned → Tuning
-tuning_by e = record { rank = e.rank; node = e.node; start = e.start; end = e.until }
+abbrev pub tuning_of_tuned : Tuned → Tuning
+tuning_of_tuned e = record { rank = e.rank; node = e.node; start = e.start; end = e.until }
 
 -- a tuning begins with e or before it, and ends when e does
 pub record IsOf (ts : List Tuning) (e : Tuned) : Type 0 where
@@ -29,7 +29,7 @@ pub record IsOf (ts : List Tuning) (e : Tuned) : Type 0 where
   pub end : tuning.end ≡ e.until
 
 -- t begins with an element of the list, and from it on those of its node and channel last until its end at least
-pub record IsIn (es : List Tuned) (t : Tuning) : Type 0 where
+pub record IsListedTuning (es : List Tuned) (t : Tuning) : Type 0 where
   pub place : ℕ
   pub below : place < length es
   pub node : (d : Tuned) → (slice_index_or es place d).node ≡ t.node
@@ -42,7 +42,7 @@ pub record IsIn (es : List Tuned) (t : Tuning) : Type 0 where
 pub record AreTuned (ts : List Tuning) (es : List Tuned) : Type 0 where
   pub in_order : AllPairs IsNoLater es
   pub of_them : (e : Tuned) → Contains es e → IsOf ts e
-  pub all : (t : Tuning) → Contains ts t → IsIn es t
+  pub all : (t : Tuning) → Contains ts t → IsListedTuning es t
 
 -- until then the node is on the channel of e, by e and what is before it
 pub record IsUntilAfter (es : List Tuned) (e : Tuned) (until : ℕ) : Type 0 where

@@ -4,7 +4,7 @@ use Rattle.scenario_text.specs.ScenarioParts.{ScenarioParts}
 use Rattle.radio_model.specs.declared.sending.Sending.{Sending}
 use Rattle.radio_model.specs.OnAir.{Hearing}
 use Rattle.air_log.specs.declared.entry.Entry.{Entry}
-use Rattle.air_log.specs.Entries.{hearings_of, IsHeard, heard_entry}
+use Rattle.air_log.specs.Entries.{hearings_of, HasHeardEntry, heard_entry}
 use Rattle.air_log.specs.HearsAir.{HearsAir}
 use Rattle.air_log.specs.Lawful.{Lawful as LawfulLog, FollowsTrails, trail_sent, trail_tuned, sent_by, tuned_by}
 use Rattle.air_log.specs.Trails.{run_end}
@@ -28,7 +28,7 @@ pub record IsGiven (s : ScenarioParts) (air : List Entry) (v : ℕ) (x : Sending
 
 -- the receptions in these entries are given, each once
 pub record AreGiven (s : ScenarioParts) (air entries : List Entry) : Type 0 where
-  pub given : (v : ℕ) (x : Sending) → IsHeard entries v x → IsGiven s air v x
+  pub given : (v : ℕ) (x : Sending) → HasHeardEntry entries v x → IsGiven s air v x
   pub once : AllPairs (λ g h. g ≢ h) (hearings_of entries)
 
 -- entry i, counted from 1, is the first reception that is not given, or stands above already
@@ -44,7 +44,7 @@ pub record IsFirstWrong (s : ScenarioParts) (air : List Entry) (i : ℕ) : Type 
 -- a reception of x by v is given and is not there
 pub record IsMissing (s : ScenarioParts) (air : List Entry) (v : ℕ) (x : Sending) : Type 0 where
   pub given : IsGiven s air v x
-  pub absent : IsHeard air v x → ⊥
+  pub absent : HasHeardEntry air v x → ⊥
 
 -- by start, then sender, then receiver, x by v is no later than y by w
 pub record NoLater (v : ℕ) (x : Sending) (w : ℕ) (y : Sending) : Type 0 where

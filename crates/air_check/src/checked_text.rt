@@ -1,7 +1,7 @@
 //! A text to be checked: the lines of a scenario, a line `log`, and the lines of a log.
 
 ghost use Rattle.std.specs.Prelude.{◌≡◌, ◌<◌, ◌^◌, ◌+◌, ◌≤◌, IfOk, IfSome, length, option_map};
-ghost use Rattle.text_readers.specs.Faults.{Gives};
+ghost use Rattle.text_readers.specs.Faults.{IsAsDefined};
 ghost use Rattle.scenario_text.specs.ScenarioGrammar.{IsScenario};
 ghost use Rattle.air_check.specs.CheckedText.{checked_text, is_log as is_log_of};
 ghost use Rattle.air_check.specs.Divisions.{IsDivided};
@@ -21,7 +21,7 @@ use text_readers::{FaultKind, first_line, is, split_words, word};
 /// last one, unless the scenario is rejected.
 pub fn parse_checked(alloc: Global, bytes: &[u8]) -> Result<(Scenario, Air), LogFault>
     requires { length bytes.now < 2 ^ 31 }
-    ensures text { Gives result (checked_text bytes.now) }
+    ensures text { IsAsDefined result (checked_text bytes.now) }
     ensures scenario { IfOk result (λ t. IsScenario t.0) }
 {
     let Ok(division) = divided(alloc, bytes) else {

@@ -4,7 +4,7 @@ ghost use Rattle.std.specs.Prelude.{◌≡◌, ◌*◌, ◌<◌, List, length, s
 ghost use Rattle.radio_model.specs.OnAir.{Hearing, Sending};
 ghost use Rattle.radio_model.specs.Receptions.{AreNear};
 ghost use Rattle.air_log.specs.declared.entry.Entry.{Entry};
-ghost use Rattle.air_check.specs.Flags.{AreFlags, IsDue};
+ghost use Rattle.air_check.specs.Flags.{AreFlags, IsGivenAndMissing};
 ghost use Rattle.air_check.specs.Indexes.{IsIndex, IsSearchable};
 
 use crate::flags::is_received;
@@ -28,7 +28,7 @@ pub(crate) fn is_due(
     requires place { place < length index.now.sent.items }
     requires near { (d : Sending) → AreNear index.now.sent.items (slice_index_or index.now.sent.items place d) near.now }
     ensures { (air : List Entry) (hs : List Hearing) (d : Sending) → IsIndex air index.now → AreFlags index.now.sent.items hs flags.now
-        → IsDue s.now air hs node (slice_index_or index.now.sent.items place d) result }
+        → IsGivenAndMissing s.now air hs node (slice_index_or index.now.sent.items place d) result }
 {
     !is_received(flags, place, node) && is_given(s, index, near, node, &index.sent[place])
 }

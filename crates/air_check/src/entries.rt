@@ -3,7 +3,7 @@
 ghost use Rattle.std.specs.Prelude.{◌≡◌, nat_le, if◌then◌else◌, Some, None};
 ghost use Rattle.scenario_text.specs.FloodParts.{knows as knows_of};
 ghost use Rattle.scenario_text.specs.Network.{is_id};
-ghost use Rattle.air_check.specs.LogGrammar.{entry_of, sent_of, heard_of, tuned_of, knows_ids as knows_ids_of};
+ghost use Rattle.air_check.specs.LogGrammar.{entry_of_line, sent_of, heard_of, tuned_entry_of, ids_are_known as knows_ids_of};
 
 use crate::line::LogLine;
 use air_log::{Entry, HeardEntry, SentEntry, TunedEntry};
@@ -13,7 +13,7 @@ use scenario_text::NodeLine;
 impl LogLine {
     /// The entry. None where a number or the packet is out of its range, or the end isn't above the start.
     pub fn entry(self) -> Option<Entry>
-        ensures { result ≡ entry_of self }
+        ensures { result ≡ entry_of_line self }
     {
         match self {
             LogLine::Sent {
@@ -93,7 +93,7 @@ fn heard_entry(
 }
 
 fn tuned_entry(rank: u64, node: u64, start: u64, end: u64) -> Option<TunedEntry>
-    ensures { result ≡ tuned_of rank node start end }
+    ensures { result ≡ tuned_entry_of rank node start end }
 {
     let rank = channel(rank)?;
     let node = node_id(node)?;

@@ -1,6 +1,6 @@
 ghost use Rattle.std.specs.Prelude.{◌≡◌, map};
 ghost use Rattle.text_readers.specs.Faults.{spelled};
-ghost use Rattle.air_check.specs.LogGrammar.{log_line, log_numbers, sent_line as sent_line_of, heard_line as heard_line_of, front, last_word};
+ghost use Rattle.air_check.specs.LogGrammar.{log_line, log_numbers, sent_log_line as sent_line_of, heard_log_line as heard_line_of, front, last_word};
 
 use crate::packet_words::{is_hex, packet};
 use lwb_base::Packet;
@@ -63,7 +63,7 @@ impl LogLine {
 }
 
 // What the words of a transmission say. A packet that is misspelled comes before a number that is.
-#[tactic(auto, unfolding(crate::specs::LogGrammar::sent_line))]
+#[tactic(auto, unfolding(crate::specs::LogGrammar::sent_log_line))]
 fn sent_line(words: &[&[u8]]) -> Result<LogLine, FaultKind>
     ensures { let ws = map (λ w. w.now) words.now in result ≡ spelled (sent_line_of ws) (λ l. log_numbers l ws) }
 {
@@ -80,7 +80,7 @@ fn sent_line(words: &[&[u8]]) -> Result<LogLine, FaultKind>
 }
 
 // What the words of a reception say.
-#[tactic(auto, unfolding(crate::specs::LogGrammar::heard_line))]
+#[tactic(auto, unfolding(crate::specs::LogGrammar::heard_log_line))]
 fn heard_line(words: &[&[u8]]) -> Result<LogLine, FaultKind>
     ensures { let ws = map (λ w. w.now) words.now in result ≡ spelled (heard_line_of ws) (λ l. log_numbers l ws) }
 {

@@ -1,9 +1,9 @@
 //! The lines of a log, one after another.
 
 ghost use Rattle.std.specs.Prelude.{◌≡◌, ◌<◌, ◌^◌, length, map};
-ghost use Rattle.text_readers.specs.Faults.{Gives};
+ghost use Rattle.text_readers.specs.Faults.{IsAsDefined};
 ghost use Rattle.text_readers.specs.Reading.{Reads};
-ghost use Rattle.air_check.specs.LogGrammar.{after_words, after_log_line, is_report as is_report_of, log_of};
+ghost use Rattle.air_check.specs.LogGrammar.{entries_after_words, after_log_line, is_report as is_report_of, log_of};
 
 use crate::entries::knows_ids;
 use crate::line::LogLine;
@@ -29,7 +29,7 @@ pub type LogFault = ParseFault;
 pub fn parse_log(alloc: Global, s: &Scenario, bytes: &[u8], before: u32) -> Result<Air, LogFault>
     requires few { before < 2 ^ 31 }
     requires short { length bytes.now < 2 ^ 31 }
-    ensures { Gives result (log_of s.now before bytes.now) }
+    ensures { IsAsDefined result (log_of s.now before bytes.now) }
 {
     let mut air = Air::new(alloc);
     let mut words = Vec::new(alloc);
@@ -74,9 +74,9 @@ fn is_report(words: &[&[u8]]) -> bool
 }
 
 // Adds the entry that the words say.
-#[tactic(auto, unfolding(crate::specs::LogGrammar::after_words))]
+#[tactic(auto, unfolding(crate::specs::LogGrammar::entries_after_words))]
 fn add_entry(nodes: &[NodeLine], air: &mut Air, words: &[&[u8]]) -> Result<(), Refusal>
-    ensures { Reads result air.new (after_words nodes.now air.old (map (λ w. w.now) words.now)) }
+    ensures { Reads result air.new (entries_after_words nodes.now air.old (map (λ w. w.now) words.now)) }
 {
     let line = LogLine::new(words)?;
     let entry = line.entry().ok_or(FaultKind::Range)?;

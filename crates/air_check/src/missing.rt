@@ -3,7 +3,7 @@
 ghost use Rattle.std.specs.Prelude.{◌≡◌, ◌*◌, ◌<◌, ℕ, List, IfSome, IfNone, length, slice_index_or};
 ghost use Rattle.scenario_clocks.specs.StatedClocks.{scenario_clock};
 ghost use Rattle.air_log.specs.declared.entry.Entry.{Entry};
-ghost use Rattle.air_log.specs.Entries.{hearings_of, IsHeard};
+ghost use Rattle.air_log.specs.Entries.{hearings_of, HasHeardEntry};
 ghost use Rattle.air_log.specs.Lawful.{FollowsTrails};
 ghost use Rattle.radio_model.specs.OnAir.{Sending};
 ghost use Rattle.air_check.specs.Flags.{AreFlags, IsFirstOf};
@@ -31,7 +31,7 @@ pub(crate) fn first_missing(s: &Scenario, index: &Index, flags: &[bool]) -> Opti
     ensures some { (air : List Entry) → FollowsTrails s.now (scenario_clock s.now) air → IsIndex air index.now
         → AreFlags index.now.sent.items (hearings_of air) flags.now → IfSome result (λ m. IsFirstMissing s.now air m.receiver m.sender m.start) }
     ensures none { (air : List Entry) → IsIndex air index.now → AreFlags index.now.sent.items (hearings_of air) flags.now
-        → IfNone result ((v : ℕ) (x : Sending) → IsGiven s.now air v x → IsHeard air v x) }
+        → IfNone result ((v : ℕ) (x : Sending) → IsGiven s.now air v x → HasHeardEntry air v x) }
 {
     for k in 0..index.sent.len() {
         if let Some(receiver) = first_of(s, index, flags, k) {

@@ -3,8 +3,8 @@
 ghost use Rattle.std.specs.Prelude.{◌≡◌, ◌++◌, ◌∷◌, [], OnOk};
 ghost use Rattle.air_log.specs.Courses.{hearing_of};
 ghost use Rattle.air_log.specs.DeviceStates.{tuning_of};
-ghost use Rattle.air_log.specs.TrailsTold.{sending_of};
-ghost use Rattle.air_check.specs.NodeLogs.{after_entry, nothing};
+ghost use Rattle.air_log.specs.TrailsTold.{sending_of_entry};
+ghost use Rattle.air_check.specs.NodeLogs.{after_entry, empty_node_log};
 
 use air_log::{Entry, HeardEntry, SentEntry, TunedEntry};
 use lwb_base::Memory;
@@ -23,13 +23,13 @@ impl Model for NodeLog {
     ghost use Rattle.std.specs.Prelude.{map};
     ghost use Rattle.air_log.specs.Courses.{hearing_of};
     ghost use Rattle.air_log.specs.DeviceStates.{tuning_of};
-    ghost use Rattle.air_log.specs.TrailsTold.{sending_of};
+    ghost use Rattle.air_log.specs.TrailsTold.{sending_of_entry};
     ghost use Rattle.air_check.specs.NodeLogs.{NodeLogState};
 
     ghost Value = { NodeLogState };
 
     ghost view = { λ n. record {
-      sent = map sending_of n.sent.items;
+      sent = map sending_of_entry n.sent.items;
       heard = map hearing_of n.heard.items;
       tuned = map tuning_of n.tuned.items;
     } };
@@ -37,7 +37,7 @@ impl Model for NodeLog {
 
 impl NodeLog {
     pub fn new(alloc: Global) -> NodeLog
-        ensures { result ≡ nothing }
+        ensures { result ≡ empty_node_log }
     {
         NodeLog {
             sent: Vec::new(alloc),
@@ -58,7 +58,7 @@ impl NodeLog {
     }
 
     fn add_sent(&mut self, sent: &SentEntry) -> Result<(), Memory>
-        ensures { OnOk result (self.new ≡ record self.old { sent = self.old.sent ++ sending_of sent.now ∷ [] }) }
+        ensures { OnOk result (self.new ≡ record self.old { sent = self.old.sent ++ sending_of_entry sent.now ∷ [] }) }
     {
         self.sent.push(SentEntry {
             rank: sent.rank,

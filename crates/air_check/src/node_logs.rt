@@ -1,8 +1,8 @@
 //! The entries of a log by ids.
 
 ghost use Rattle.std.specs.Prelude.{◌≡◌, ◌≤◌, [], IfOk, OnOk, length, get_or, set};
-ghost use Rattle.air_log.specs.Entries.{node_of as node_with};
-ghost use Rattle.air_check.specs.NodeLogs.{AreLogsOf, after_entry, nothing};
+ghost use Rattle.air_log.specs.Entries.{node_of_entry as node_with};
+ghost use Rattle.air_check.specs.NodeLogs.{AreLogsOf, after_entry, empty_node_log};
 
 use crate::node_log::NodeLog;
 use air_log::Entry;
@@ -37,7 +37,7 @@ fn add_entry(logs: &mut Vec<NodeLog>, entry: &Entry) -> Result<(), Memory>
     requires { length logs.old.items ≡ IDS }
     ensures range { (1 ≤ node_with entry.now) × (node_with entry.now ≤ 200) }
     ensures added { OnOk result (logs.new.items
-        ≡ set logs.old.items (node_with entry.now) (after_entry (get_or logs.old.items (node_with entry.now) nothing) entry.now)) }
+        ≡ set logs.old.items (node_with entry.now) (after_entry (get_or logs.old.items (node_with entry.now) empty_node_log) entry.now)) }
 {
     let place = node_of(entry).number() as usize;
     let log = &mut logs[place];

@@ -4,7 +4,7 @@ ghost use Rattle.std.specs.Prelude.{◌≡◌, ◌<◌};
 ghost use Rattle.std.specs.Char.{is_ascii_hexdigit};
 ghost use Rattle.std.specs.List.{list_all};
 ghost use Rattle.scenario_text.specs.Payloads.{hex_value as hex_value_of, hex_bytes};
-ghost use Rattle.air_check.specs.LogGrammar.{is_hex as is_hex_of, packet_of};
+ghost use Rattle.air_check.specs.LogGrammar.{is_hex as is_hex_of, packet_of_bytes};
 
 use arrayvec::ArrayVec;
 use lwb_base::Packet;
@@ -24,7 +24,7 @@ fn are_hex(word: &[u8]) -> bool
 
 /// The packet that the digits spell. None where it has fewer than 3 or more than 125 bytes.
 pub fn packet(digits: &[u8]) -> Option<Packet>
-    ensures { result ≡ packet_of (hex_bytes digits.now) }
+    ensures { result ≡ packet_of_bytes (hex_bytes digits.now) }
 {
     let mut bytes: ArrayVec<u8, 125> = ArrayVec::new();
     let mut rest = digits;

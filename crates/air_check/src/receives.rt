@@ -1,7 +1,7 @@
 //! Whether the rules of the medium give a reception.
 
 ghost use Rattle.std.specs.Prelude.{◌≡◌, ◌↔◌, ◌≤◌, ◌^◌, All, Contains, true};
-ghost use Rattle.radio_model.specs.Hearing.{Scene, Hears};
+ghost use Rattle.radio_model.specs.Hearing.{Scene, HearsInScene};
 ghost use Rattle.radio_model.specs.Receptions.{AreNear};
 ghost use Rattle.air_check.specs.Tunings.{AreTuned};
 
@@ -23,7 +23,7 @@ pub(crate) fn receives(
     requires start { x.now.start ≤ 2 ^ 46 }
     requires starts { All (λ y. y.start ≤ 2 ^ 46) near.now }
     ensures { (a : Scene) → a.numbers ≡ profile.now → a.lines ≡ trace.now.lines → AreNear a.sendings x.now near.now → AreTuned a.tunings tuned.now
-        → Contains a.sendings x.now → (result ≡ true ↔ Hears a node x.now) }
+        → Contains a.sendings x.now → (result ≡ true ↔ HearsInScene a node x.now) }
 {
     is_tuned_through(tuned, node, x) && comes_through(profile, trace, near, node, x)
 }

@@ -3,7 +3,7 @@
 ghost use Rattle.std.specs.Prelude.{◌≡◌, ◌≤◌, ◌⊎◌, ◌++◌, IfOk, OnOk, map, AllPairs, option_to_list};
 ghost use Rattle.std.specs.Option.{option_map};
 ghost use Rattle.air_log.specs.Entries.{tunings_of, tuning_in};
-ghost use Rattle.air_check.specs.Tunings.{AreTuned, IsNoLater, IsUntilAfter, tuning_by};
+ghost use Rattle.air_check.specs.Tunings.{AreTuned, IsNoLater, IsUntilAfter, tuning_of_tuned};
 
 use crate::index::entry_at;
 use crate::tunings::Tuned;
@@ -31,7 +31,7 @@ fn place(e: &Tuned) -> (u8, u8, u64)
 // In this order, each lasts at least as long as those of its node and channel before it.
 fn extended(alloc: Global, tunings: &[Tuned]) -> Result<Vec<Tuned>, Memory>
     requires { AllPairs IsNoLater tunings.now }
-    ensures { IfOk result (λ es. AreTuned (map tuning_by tunings.now) es.items) }
+    ensures { IfOk result (λ es. AreTuned (map tuning_of_tuned tunings.now) es.items) }
 {
     let mut tuned: Vec<Tuned> = Vec::new(alloc);
     for e in tunings {
@@ -72,7 +72,7 @@ fn longer(last: Tuned, e: Tuned) -> u64
 
 // The tunings of a log as they stand.
 fn tunings_in(alloc: Global, air: &Air) -> Result<Vec<Tuned>, Memory>
-    ensures { IfOk result (λ es. map tuning_by es.items ≡ tunings_of air.now) }
+    ensures { IfOk result (λ es. map tuning_of_tuned es.items ≡ tunings_of air.now) }
 {
     let mut tunings = Vec::new(alloc);
     for i in 0..air.len() {
@@ -92,7 +92,7 @@ fn push_some(tunings: &mut Vec<Tuned>, e: Option<Tuned>) -> Result<(), Memory>
 
 // The tuning that an entry says.
 fn tuned_by(entry: &Entry) -> Option<Tuned>
-    ensures { option_map tuning_by result ≡ tuning_in entry.now }
+    ensures { option_map tuning_of_tuned result ≡ tuning_in entry.now }
 {
     match entry {
         Entry::Tuned(tuned) => Some(Tuned {

@@ -5,7 +5,7 @@ ghost use Rattle.air_log.specs.declared.entry.Entry.{Entry};
 ghost use Rattle.air_log.specs.Entries.{hearings_of};
 ghost use Rattle.air_log.specs.Courses.{hearing_of};
 ghost use Rattle.radio_model.specs.OnAir.{Hearing};
-ghost use Rattle.air_check.specs.Flags.{AreFlags, TakesIn, GoesOn};
+ghost use Rattle.air_check.specs.Flags.{AreFlags, TakesIn, IsRightNext};
 ghost use Rattle.air_check.specs.Indexes.{IsIndex, IsSearchable};
 ghost use Rattle.air_check.specs.Verdicts.{IsFirstWrong, AreGiven};
 
@@ -44,7 +44,7 @@ fn is_right(s: &Scenario, index: &Index, flags: &mut Vec<bool>, entry: &Entry) -
     requires searchable { IsSearchable s.now index.now }
     requires size { length flags.old.items ≡ length index.now.sent.items * 201 }
     ensures { (air above : List Entry) → IsIndex air index.now → AreFlags index.now.sent.items (hearings_of above) flags.old.items
-        → GoesOn s.now air index.now.sent.items above entry.now flags.new.items result }
+        → IsRightNext s.now air index.now.sent.items above entry.now flags.new.items result }
 {
     match heard_in(entry) {
         Some(h) => take_in(s, index, flags, h),

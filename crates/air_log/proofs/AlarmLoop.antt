@@ -15,7 +15,7 @@ use Rattle.scenario_text.specs.ScenarioParts.{ScenarioParts}
 use Rattle.scenario_text.specs.declared.script.Act.{Act}
 use Rattle.scenario_text.specs.declared.script.Act.TheVariants.{On, Off as SwitchOff, Declare, Leave, Put}
 use Rattle.scenario_text.specs.declared.script.ScriptLine.{ScriptLine}
-use Rattle.bus_rules.specs.Streams.{Streams, declared, left, put}
+use Rattle.bus_rules.specs.Streams.{Streams, declared, streams_after_leaving, put}
 use Rattle.bus_rules.specs.States.{refuses, queues}
 use Rattle.bus_rules.specs.Cores.{Setup}
 use Rattle.node_core.specs.Nodes.{Node, rebooted}
@@ -24,10 +24,11 @@ use Rattle.node_core.specs.Nodes.{with_streams}
 use Rattle.node_core.specs.Rows.{node_after, orders_by}
 use Rattle.node_core.specs.declared.stage.Stage.{Stage}
 use Rattle.node_core.specs.declared.stage.Stage.TheVariants.{Idle, Scanning, AwaitFrame, AwaitSlot, InWindow}
-use Rattle.air_log.specs.Devices.{Device, Power, PowerOff, PowerOn, Listening, Ordered, obeyed, moved, stepped, event, event_by, silenced, tunes, listens_to}
-use Rattle.air_log.specs.ScriptedDevices.{after_act, after_line, dropped, with_new_core}
-use Rattle.air_log.specs.Trails.{Reception, run_end, setup_of, lines_at, scripted, ending_at, hears, heard, ended_by}
-use Rattle.air_log.specs.Trails.{ended, is_due, alarms, alarmed, before_start, begun_by, starts, before_tick}
+use Rattle.air_log.specs.Devices.{Device, Power, PowerOff, PowerOn, Listening, OrderedPacket, obeyed, moved, stepped, event, event_by, silenced, tunes}
+use Rattle.air_log.specs.Devices.{listens_to}
+use Rattle.air_log.specs.ScriptedDevices.{device_after_act, device_after_line, dropped, with_new_core}
+use Rattle.air_log.specs.Trails.{Reception, run_end, setup_of, lines_at, device_after_script, ending_at, device_after_reception, device_after_receptions}
+use Rattle.air_log.specs.Trails.{device_ended_by, device_after_end, alarm_is_due, alarms, alarmed, before_start, begun_by, starts, before_tick}
 use Rattle.air_log.proofs.AlarmRows.{IsRoomy, roomy, Waits, Goes, GoesBy, alarm_by, alarm_after, progress, most}
 use Rattle.air_log.proofs.AlarmRows.{in_reach, boot_goes, heard_goes, sent_goes, alarm_goes, Rises}
 
@@ -84,7 +85,8 @@ module _ (s : Setup) (L : ℕ → ℕ) (t : ℕ) where
     with_streams_goes : (n : Node) (a : Option ℕ) (streams : Streams) → Goes s L t n a → Goes s L t (with_streams n streams) a
     with_streams_goes n a streams goes = (record { small = goes.0.small; frame = goes.0.frame; stage = goes.0.stage }, goes.1)
 
-    pub act_sound : (frame : ℕ) (d : Device) (a : Act) (power : Power) → d.power ≡ power → SoundBy power d.alarm → Sound (after_act L s t frame d a power)
+    pub act_sound : (frame : ℕ) (d : Device) (a : Act) (power : Power) → d.power ≡ power → SoundBy power d.alarm
+        → Sound (device_after_act L s t frame d a power)
     act_sound frame d On (PowerOff boots) at sound =
         let n = rebooted (boots + 1) in
         let x : Device = record d { power = PowerOn n } in
@@ -95,21 +97,21 @@ module _ (s : Setup) (L : ℕ → ℕ) (t : ℕ) where
     act_sound frame d (Declare i interval) (PowerOff boots) at sound = rw at sound
     act_sound frame d (Declare i interval) (PowerOn n) at sound = with_streams_goes n d.alarm (declared i interval n.core.streams) sound
     act_sound frame d (Leave i) (PowerOff boots) at sound = rw at sound
-    act_sound frame d (Leave i) (PowerOn n) at sound = with_streams_goes n d.alarm (left i n.core.streams) sound
+    act_sound frame d (Leave i) (PowerOn n) at sound = with_streams_goes n d.alarm (streams_after_leaving i n.core.streams) sound
     act_sound frame d (Put i payload) (PowerOff boots) at sound = rw at sound
     act_sound frame d (Put i payload) (PowerOn n) at sound =
         cond_both (refuses i n.core) (dropped s.id frame i d) (with_new_core d n (queues i payload n.core)) Sound (λ is. rw at sound)
         (λ is. with_streams_goes n d.alarm (put i payload n.core.streams) sound)
 
-    lines_sound : (ls : List ScriptLine) (d : Device) → Sound d → Sound (fold (after_line L s t) d ls)
+    lines_sound : (ls : List ScriptLine) (d : Device) → Sound d → Sound (fold (device_after_line L s t) d ls)
     lines_sound [] d sound = sound
-    lines_sound (l ∷ ls) d sound = lines_sound ls (after_line L s t d l) (act_sound l.frame d l.act d.power refl sound)
+    lines_sound (l ∷ ls) d sound = lines_sound ls (device_after_line L s t d l) (act_sound l.frame d l.act d.power refl sound)
 
-    hearings_sound : (hs : List Reception) (d : Device) → Sound d → Sound (fold (hears L s t) d hs)
+    hearings_sound : (hs : List Reception) (d : Device) → Sound d → Sound (fold (device_after_reception L s t) d hs)
     hearings_sound [] d sound = sound
-    hearings_sound (h ∷ hs) d sound = hearings_sound hs (hears L s t d h) (heard_sound h.packet d d.power sound refl)
+    hearings_sound (h ∷ hs) d sound = hearings_sound hs (device_after_reception L s t d h) (heard_sound h.packet d d.power sound refl)
 
-    end_sound : (d : Device) (x : Option Sending) → Sound d → Sound (ended_by L s t d x)
+    end_sound : (d : Device) (x : Option Sending) → Sound d → Sound (device_ended_by L s t d x)
     end_sound d None sound = sound
     end_sound d (Some x) sound =
         let y : Device = record d { sending = None } in
@@ -122,7 +124,7 @@ module _ (s : Setup) (L : ℕ → ℕ) (t : ℕ) where
 
     module _ (clock : IsClock L) (early : t ≤ 2 ^ 45) where
       -- an alarm that is due now was the one that is set
-      pub fires : (stage : Stage) (f : ℕ) (a : Option ℕ) → is_due t a ≡ true → Waits s L t f stage a → Waits s L t f stage (Some t)
+      pub fires : (stage : Stage) (f : ℕ) (a : Option ℕ) → alarm_is_due t a ≡ true → Waits s L t f stage a → Waits s L t f stage (Some t)
       fires Idle f a due waits = tt
       fires Scanning f None due waits = absurd (true≢false (sym due))
       fires Scanning f (Some w) due waits = omega (arith, waits, eqb-true w t due)
@@ -132,7 +134,7 @@ module _ (s : Setup) (L : ℕ → ℕ) (t : ℕ) where
       fires (InWindow j w) f a due waits = tt
 
       abbrev Ends : Device → Type 0
-      Ends d = Sound d × (is_due t d.alarm ≡ false)
+      Ends d = Sound d × (alarm_is_due t d.alarm ≡ false)
 
       -- what is left after one alarm more: either it goes on further, or no alarm is set
       abbrev Next : ℕ → Device → Type 0
@@ -147,37 +149,37 @@ module _ (s : Setup) (L : ℕ → ℕ) (t : ℕ) where
       next_if more n (AwaitSlot j) d at has rises left = inl (rw has.0 (omega (arith, rises, left)))
       next_if more n (InWindow j w) d at has rises left = inl (rw has.0 (omega (arith, rises, left)))
 
-      one_alarm : (more : ℕ) (d : Device) (n : Node) → is_due t d.alarm ≡ true → Goes s L t n d.alarm → most s L t room ≤ progress n + suc more
+      one_alarm : (more : ℕ) (d : Device) (n : Node) → alarm_is_due t d.alarm ≡ true → Goes s L t n d.alarm → most s L t room ≤ progress n + suc more
           → Next more (stepped L s t Alarm None (record d { alarm = None }) n)
       one_alarm more d n due goes left =
           let x : Device = record d { alarm = None } in
           let all = alarm_goes s L t room clock early n n.stage refl goes.0 (fires n.stage n.frame d.alarm due goes.1) in
           (step_sound Alarm None x n all.0, next_if more n n.stage (stepped L s t Alarm None x n) refl (step_has Alarm None x n) all.1 left)
 
-      none_due : (more : ℕ) (b : Bool) (d : Device) → d.alarm ≡ None → is_due t d.alarm ≡ b → Sound d → Ends (alarms L s t b more d)
+      none_due : (more : ℕ) (b : Bool) (d : Device) → d.alarm ≡ None → alarm_is_due t d.alarm ≡ b → Sound d → Ends (alarms L s t b more d)
       unfolding alarms
       none_due more false d none due sound = (sound, due)
-      none_due more true d none due sound = absurd (true≢false (sym due ∙ ap (is_due t) none))
+      none_due more true d none due sound = absurd (true≢false (sym due ∙ ap (alarm_is_due t) none))
 
-      at_last : (d : Device) (power : Power) → is_due t d.alarm ≡ true → SoundBy power d.alarm → Left power zero → ⊥
-      at_last d (PowerOff boots) due sound left = true≢false (sym due ∙ ap (is_due t) sound)
+      at_last : (d : Device) (power : Power) → alarm_is_due t d.alarm ≡ true → SoundBy power d.alarm → Left power zero → ⊥
+      at_last d (PowerOff boots) due sound left = true≢false (sym due ∙ ap (alarm_is_due t) sound)
       at_last d (PowerOn n) due sound left = omega (arith, left, in_reach s L t room n sound.0)
 
-      goes_on : (more : ℕ) (d : Device) (power : Power) → is_due t d.alarm ≡ true → SoundBy power d.alarm → Left power (suc more)
-          → ((e : Device) → Sound e → Left e.power more → Ends (alarms L s t (is_due t e.alarm) more e))
-          → Ends (alarms L s t (is_due t (event_by L s t Alarm None (record d { alarm = None }) power).alarm) more
+      goes_on : (more : ℕ) (d : Device) (power : Power) → alarm_is_due t d.alarm ≡ true → SoundBy power d.alarm → Left power (suc more)
+          → ((e : Device) → Sound e → Left e.power more → Ends (alarms L s t (alarm_is_due t e.alarm) more e))
+          → Ends (alarms L s t (alarm_is_due t (event_by L s t Alarm None (record d { alarm = None }) power).alarm) more
           (event_by L s t Alarm None (record d { alarm = None }) power))
-      goes_on more d (PowerOff boots) due sound left rest = absurd (true≢false (sym due ∙ ap (is_due t) sound))
+      goes_on more d (PowerOff boots) due sound left rest = absurd (true≢false (sym due ∙ ap (alarm_is_due t) sound))
       goes_on more d (PowerOn n) due sound left rest =
           let e = stepped L s t Alarm None (record d { alarm = None }) n in
           let next = one_alarm more d n due sound left in
-          elim next.1 [ inl more_left ↦ rest e next.0 more_left | inr none ↦ none_due more (is_due t e.alarm) e none refl next.0 ]
+          elim next.1 [ inl more_left ↦ rest e next.0 more_left | inr none ↦ none_due more (alarm_is_due t e.alarm) e none refl next.0 ]
 
-      loop : (more : ℕ) (b : Bool) (d : Device) → is_due t d.alarm ≡ b → Sound d → Left d.power more → Ends (alarms L s t b more d)
+      loop : (more : ℕ) (b : Bool) (d : Device) → alarm_is_due t d.alarm ≡ b → Sound d → Left d.power more → Ends (alarms L s t b more d)
       unfolding alarms
       loop more false d due sound left = (sound, due)
       loop zero true d due sound left = absurd (at_last d d.power due sound left)
-      loop (suc more) true d due sound left = goes_on more d d.power due sound left (λ e here there. loop more (is_due t e.alarm) e refl here there)
+      loop (suc more) true d due sound left = goes_on more d d.power due sound left (λ e here there. loop more (alarm_is_due t e.alarm) e refl here there)
 
       -- as many alarms as the trail allows are enough
       enough : (q r F : ℕ) → 2 ^ 23 ≤ F → q * F ≤ r + F → 128 * (q + 1) ≤ r + 300
@@ -195,7 +197,7 @@ module _ (s : Setup) (L : ℕ → ℕ) (t : ℕ) where
           )
 
       alarms_end : (d : Device) → Sound d → Ends (alarmed L s t d)
-      alarms_end d sound = loop (L t + 300) (is_due t d.alarm) d refl sound (allowed d.power)
+      alarms_end d sound = loop (L t + 300) (alarm_is_due t d.alarm) d refl sound (allowed d.power)
 
 pub later : (s : Setup) (L : ℕ → ℕ) (t : ℕ) (d : Device) → L t ≤ L (suc t) → Sound s L t d → Sound s L (suc t) d
 later s L t d on sound = by_power d.power sound
@@ -213,7 +215,7 @@ later s L t d on sound = by_power d.power sound
         (record { small = sound.0.small; frame = omega (arith, sound.0.frame, on); stage = sound.0.stage }, waits_on n.frame n.stage sound.1)
 
 -- the start of a sending
-pub begun_sound : (s : Setup) (L : ℕ → ℕ) (t : ℕ) (d : Device) (o : Option Ordered) → Sound s L t d → Sound s L t (begun_by s t d o)
+pub begun_sound : (s : Setup) (L : ℕ → ℕ) (t : ℕ) (d : Device) (o : Option OrderedPacket) → Sound s L t d → Sound s L t (begun_by s t d o)
 begun_sound s L t d None sound = sound
 begun_sound s L t d (Some o) sound =
     cond_both (o.tick == t) (starts s t o.packet d d.listening d.sending) d (Sound s L t) (λ is. starts_sound d.listening d.sending) (λ is. sound)
@@ -229,10 +231,10 @@ module _ (s : ScenarioParts) (v : ℕ) (L : ℕ → ℕ) (hs : List Reception) (
   in_tick t d early sound =
       let x = setup_of s v in
       let one = lines_sound x L t room (lines_at s v t) d sound in
-      let d1 = scripted s v L t d in
+      let d1 = device_after_script s v L t d in
       let two = hearings_sound x L t room (ending_at t hs) d1 one in
-      let d2 = heard L x t hs d1 in
-      alarms_end x L t room clock early (ended L x t d2) (end_sound x L t room d2 d2.sending two)
+      let d2 = device_after_receptions L x t hs d1 in
+      alarms_end x L t room clock early (device_after_end L x t d2) (end_sound x L t room d2 d2.sending two)
 
   at_tick : (t : ℕ) → t ≤ 2 ^ 45 → Sound (setup_of s v) L t (before_tick s v L hs t)
   unfolding before_tick
@@ -244,7 +246,7 @@ module _ (s : ScenarioParts) (v : ℕ) (L : ℕ → ℕ) (hs : List Reception) (
       later (setup_of s v) L t (begun_by (setup_of s v) t x x.ordered) (never_back L t (suc t) clock (omega arith) (omega (arith, early)))
       (begun_sound (setup_of s v) L t x x.ordered within.0)
 
-  pub none_left : (t : ℕ) → t ≤ 2 ^ 45 → is_due t (before_start s v L hs t (before_tick s v L hs t)).alarm ≡ false
+  pub none_left : (t : ℕ) → t ≤ 2 ^ 45 → alarm_is_due t (before_start s v L hs t (before_tick s v L hs t)).alarm ≡ false
   none_left t early = (in_tick t (before_tick s v L hs t) early (at_tick t early)).1
 
 -- every tick of a run comes early enough
@@ -255,5 +257,5 @@ early_in_run s t sound within =
     omega (arith, within, few, room.short)
 
 pub no_alarm_left : (s : ScenarioParts) (v : ℕ) (L : ℕ → ℕ) (hs : List Reception) (t : ℕ) → IsSoundScenario s → IsClock L → t ≤ run_end s
-    → is_due t (before_start s v L hs t (before_tick s v L hs t)).alarm ≡ false
+    → alarm_is_due t (before_start s v L hs t (before_tick s v L hs t)).alarm ≡ false
 no_alarm_left s v L hs t sound clock within = none_left s v L hs (roomy s.profile sound.profile) clock t (early_in_run s t sound within)

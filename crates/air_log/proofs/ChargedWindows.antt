@@ -26,9 +26,10 @@ counts_few p n (w ∷ ws) small =
     one : (w : WindowLog) → charge_by p n w ≤ 2 ^ 28 → charge_by p n w ≤ 2 ^ 28 * (if w.by_alarm then 1 else 0)
     one w less = by w.by_alarm less
       where
-        by : (b : Bool) → (if b then Rattle.air_log.specs.Charges.counted p
-            (Rattle.bus_rules.specs.Charges.last_of n (Rattle.air_log.specs.Charges.sent_packets w)) else 0) ≤ 2 ^ 28
-            → (if b then Rattle.air_log.specs.Charges.counted p (Rattle.bus_rules.specs.Charges.last_of n (Rattle.air_log.specs.Charges.sent_packets w)) else 0)
+        by : (b : Bool) → (if b then Rattle.air_log.specs.Charges.charge_by_last p
+            (Rattle.bus_rules.specs.Charges.last_if_all_sent n (Rattle.air_log.specs.Charges.sent_packets w)) else 0) ≤ 2 ^ 28
+            → (if b then Rattle.air_log.specs.Charges.charge_by_last p
+                (Rattle.bus_rules.specs.Charges.last_if_all_sent n (Rattle.air_log.specs.Charges.sent_packets w)) else 0)
             ≤ 2 ^ 28 * (if b then 1 else 0)
         by true less = omega (arith, less)
         by false less = omega arith

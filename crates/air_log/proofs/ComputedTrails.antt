@@ -21,9 +21,9 @@ use Rattle.bus_rules.specs.Cores.{Setup}
 use Rattle.node_core.specs.Nodes.{Node, rebooted}
 use Rattle.node_core.specs.Rows.{row}
 use Rattle.node_core.specs.Rows.{orders_by}
-use Rattle.air_log.specs.Devices.{Device, Power, PowerOff, PowerOn, Ordered, at_rest, silenced, listens_to, retuned, moved}
-use Rattle.air_log.specs.ScriptedDevices.{dropped, switched_off, with_new_core, put_or_dropped}
-use Rattle.air_log.specs.Trails.{Reception, setup_of, frame_start, lines_at, ending_at, is_due, alarms, begun, tick, before_tick}
+use Rattle.air_log.specs.Devices.{Device, Power, PowerOff, PowerOn, OrderedPacket, at_rest, silenced, listens_to, device_after_tuning, moved}
+use Rattle.air_log.specs.ScriptedDevices.{dropped, device_after_off, with_new_core, put_or_dropped}
+use Rattle.air_log.specs.Trails.{Reception, setup_of, frame_start, lines_at, ending_at, alarm_is_due, alarms, device_after_start, tick, before_tick}
 use Rattle.air_log.specs.Ahead.{NextDue}
 use Rattle.lwb_base.proofs.Elements.{all_passes}
 use Rattle.lwb_base.proofs.Truths.{implied}
@@ -32,7 +32,7 @@ use Rattle.air_log.proofs.NextDue.{until_next}
 -- D is in the place of the search
 module _ (D : ℕ → ℕ) (clock : ℕ → ℕ) where
   abbrev obeyed : ℕ → ℕ → Device → Order → Device
-  obeyed node t d (Listen rank) = if listens_to rank d.listening then d else retuned rank t (silenced node t d)
+  obeyed node t d (Listen rank) = if listens_to rank d.listening then d else device_after_tuning rank t (silenced node t d)
   obeyed node t d Off = silenced node t d
   obeyed node t d (SendAt local packet) = record d { ordered = Some (record { tick = max (D local) t; packet = packet }) }
   obeyed node t d (AlarmAt local) = record d { alarm = Some (max (D local) t) }
@@ -51,7 +51,7 @@ module _ (D : ℕ → ℕ) (clock : ℕ → ℕ) where
   after_act s t frame d On (PowerOff boots) = event s t Boot None (record d { power = PowerOn (rebooted (boots + 1)) })
   after_act s t frame d On (PowerOn n) = d
   after_act s t frame d SwitchOff (PowerOff boots) = d
-  after_act s t frame d SwitchOff (PowerOn n) = switched_off s.id t n d
+  after_act s t frame d SwitchOff (PowerOn n) = device_after_off s.id t n d
   after_act s t frame d (Declare i interval) (PowerOff boots) = d
   after_act s t frame d (Declare i interval) (PowerOn n) = with_new_core d n (declares i interval n.core)
   after_act s t frame d (Leave i) (PowerOff boots) = d
@@ -78,7 +78,7 @@ module _ (D : ℕ → ℕ) (clock : ℕ → ℕ) where
   abbrev all_alarms : Setup → ℕ → Bool → ℕ → Device → Device
   all_alarms s t false more d = d
   all_alarms s t true zero d = d
-  all_alarms s t true (suc more) d = let after = one_alarm s t d in all_alarms s t (is_due t after.alarm) more after
+  all_alarms s t true (suc more) d = let after = one_alarm s t d in all_alarms s t (alarm_is_due t after.alarm) more after
 
   abbrev before_alarms : ScenarioParts → ℕ → List Reception → ℕ → Device → Device
   before_alarms s v hs t d = let x = setup_of s v in ended x t (fold (hears x t) (fold (after_line x t) d (lines_at s v t)) (ending_at t hs))
@@ -87,14 +87,14 @@ module _ (D : ℕ → ℕ) (clock : ℕ → ℕ) where
   in_tick s v hs t d =
       let x = setup_of s v in
       let e = before_alarms s v hs t d in
-      begun x t (all_alarms x t (is_due t e.alarm) (clock t + 300) e)
+      device_after_start x t (all_alarms x t (alarm_is_due t e.alarm) (clock t + 300) e)
 
   -- nothing is due from tick a on before tick b
   abbrev alarm_from : ℕ → Option ℕ → Bool
   alarm_from b None = true
   alarm_from b (Some w) = nat_le b w
 
-  abbrev start_from : ℕ → Option Ordered → Bool
+  abbrev start_from : ℕ → Option OrderedPacket → Bool
   start_from b None = true
   start_from b (Some o) = nat_le b o.tick
 
@@ -126,13 +126,13 @@ module _ (clock : ℕ → ℕ) where
   unfolding alarms
   same_alarms s t false more d = refl
   same_alarms s t true zero d = refl
-  same_alarms s t true (suc more) d = let e = one_alarm (due clock) clock s t d in same_alarms s t (is_due t e.alarm) more e
+  same_alarms s t true (suc more) d = let e = one_alarm (due clock) clock s t d in same_alarms s t (alarm_is_due t e.alarm) more e
 
   same_tick : (s : ScenarioParts) (v : ℕ) (hs : List Reception) (t : ℕ) (d : Device) → tick s v clock hs t d ≡ in_tick (due clock) clock s v hs t d
   same_tick s v hs t d =
       let x = setup_of s v in
       let e = before_alarms (due clock) clock s v hs t d in
-      ap (begun x t) (same_alarms x t (is_due t e.alarm) (clock t + 300) e)
+      ap (device_after_start x t) (same_alarms x t (alarm_is_due t e.alarm) (clock t + 300) e)
 
   one_tick : (s : ScenarioParts) (v : ℕ) (hs : List Reception) (t : ℕ) (d : Device) → before_tick s v clock hs t ≡ d
       → before_tick s v clock hs (suc t) ≡ in_tick (due clock) clock s v hs t d
@@ -168,7 +168,7 @@ from_test D clock s v hs a b d is =
     alarm_set None is = tt
     alarm_set (Some w) is = leb-true b w is
 
-    start_set : (o : Option Ordered) → start_from D clock b o ≡ true → IfSome o (λ x. b ≤ x.tick)
+    start_set : (o : Option OrderedPacket) → start_from D clock b o ≡ true → IfSome o (λ x. b ≤ x.tick)
     start_set None is = tt
     start_set (Some o) is = leb-true b o.tick is
 

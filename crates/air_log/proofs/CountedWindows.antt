@@ -10,13 +10,14 @@ use Rattle.lwb_base.specs.Profile.{Numbers}
 use Rattle.lwb_base.specs.declared.event.Event.{Event}
 use Rattle.lwb_base.specs.declared.event.Event.TheVariants.{Boot, Alarm, Heard, Sent}
 use Rattle.radio_model.specs.declared.sending.Sending.{Sending}
-use Rattle.bus_rules.specs.Charges.{last_of}
+use Rattle.bus_rules.specs.Charges.{last_if_all_sent}
 use Rattle.node_core.specs.Nodes.{Node}
 use Rattle.node_core.specs.Windows.{Window}
 use Rattle.node_core.specs.declared.stage.Stage.{Stage}
-use Rattle.air_log.specs.Charges.{sent_in, sent_packets, counted}
-use Rattle.air_log.specs.WindowLogs.{WindowLog, is_alarm, happening, opened_log, gone_on, closed_log, window_of, windows_after, windows_by}
-use Rattle.air_log.specs.WindowSums.{WindowSum, charge_by, IsCountedTo, IsCounted, is_window, sent_with, opened_sum, only_if, sent_sum, with_packet, noted}
+use Rattle.air_log.specs.Charges.{sent_in, sent_packets, charge_by_last}
+use Rattle.air_log.specs.WindowLogs.{WindowLog, is_alarm, happening, opened_log, gone_on, logs_after_closing, window_of_stage, windows_after, windows_by}
+use Rattle.air_log.specs.WindowSums.{WindowSum, charge_by, IsCountedTo, IsCounted, stage_has_window, sent_with, opened_sum, only_if, sent_sum, with_packet}
+use Rattle.air_log.specs.WindowSums.{noted}
 
 -- the packets that an event adds
 sent_by_event : (t : ℕ) (e : Event) (ended : Option Sending) → filter_map sent_in (happening t e ended) ≡ option_to_list (sent_with e ended)
@@ -40,7 +41,7 @@ same_test l n few = by (l + 1 == n) refl
         other : l + 1 ≡ n → ⊥
         other same = Rattle.std.proofs.lemmas.Bool.true≢false (sym (eq-eqb (l + 1) n same) ∙ is)
 
-last_by : (n : ℕ) (ps : List (List ℕ)) (p : List ℕ) → last_of n (ps ++ p ∷ []) ≡ only_if (length ps + 1 == n) p
+last_by : (n : ℕ) (ps : List (List ℕ)) (p : List ℕ) → last_if_all_sent n (ps ++ p ∷ []) ≡ only_if (length ps + 1 == n) p
 last_by n ps p =
     ap (λ (l : ℕ). if l == n then last_or None (ps ++ p ∷ []) else None) (length-append ps (p ∷ []))
     ∙ ap (λ (o : Option (List ℕ)). if length ps + 1 == n then o else None) (last_pushed None ps p)
@@ -53,19 +54,19 @@ module _ (p : Numbers) (n : ℕ) (few : n ≤ 4) where
   sends_more w m ws x packet profile sends same more is = record {
     earlier = is.earlier;
     last =
-        ap (λ (b : Bool). if b then counted x.profile (only_if (min (x.sent + 1) 5 == x.sends) packet) else 0) (is.by_alarm ∙ sym same)
-        ∙ ap (λ (o : Option (List ℕ)). if m.by_alarm then counted x.profile o else 0) last
-        ∙ ap (λ (q : Numbers). if m.by_alarm then counted q (last_of n (sent_packets m)) else 0) profile;
+        ap (λ (b : Bool). if b then charge_by_last x.profile (only_if (min (x.sent + 1) 5 == x.sends) packet) else 0) (is.by_alarm ∙ sym same)
+        ∙ ap (λ (o : Option (List ℕ)). if m.by_alarm then charge_by_last x.profile o else 0) last
+        ∙ ap (λ (q : Numbers). if m.by_alarm then charge_by_last q (last_if_all_sent n (sent_packets m)) else 0) profile;
     by_alarm = is.by_alarm ∙ sym same;
     sent = omega (arith, is.sent, ap length more, length-append (sent_packets w) (packet ∷ []));
   }
     where
-      last : only_if (min (x.sent + 1) 5 == x.sends) packet ≡ last_of n (sent_packets m)
+      last : only_if (min (x.sent + 1) 5 == x.sends) packet ≡ last_if_all_sent n (sent_packets m)
       last =
           ap (λ (k : ℕ). only_if (min (k + 1) 5 == x.sends) packet) is.sent
           ∙ ap (λ (k : ℕ). only_if (min (min (length (sent_packets w)) 5 + 1) 5 == k) packet) sends
           ∙ ap (λ (b : Bool). only_if b packet) (same_test (length (sent_packets w)) n few)
-          ∙ sym (ap (last_of n) more ∙ last_by n (sent_packets w) packet)
+          ∙ sym (ap (last_if_all_sent n) more ∙ last_by n (sent_packets w) packet)
 
   -- an event that leaves the last window open
   goes_on_by : (o : Option (List ℕ)) (w m : WindowLog) (ws : List WindowLog) (x : WindowSum) → x.profile ≡ p → x.sends ≡ n → m.by_alarm ≡ w.by_alarm
@@ -76,8 +77,8 @@ module _ (p : Numbers) (n : ℕ) (few : n ≤ 4) where
       record {
         earlier = is.earlier;
         last =
-            is.last ∙ ap (λ (b : Bool). if b then counted p (last_of n (sent_packets w)) else 0) (sym same)
-            ∙ ap (λ (ps : List (List ℕ)). if m.by_alarm then counted p (last_of n ps) else 0) (sym packets);
+            is.last ∙ ap (λ (b : Bool). if b then charge_by_last p (last_if_all_sent n (sent_packets w)) else 0) (sym same)
+            ∙ ap (λ (ps : List (List ℕ)). if m.by_alarm then charge_by_last p (last_if_all_sent n ps) else 0) (sym packets);
         by_alarm = is.by_alarm ∙ sym same;
         sent = is.sent ∙ ap (λ (ps : List (List ℕ)). min (length ps) 5) (sym packets);
       }
@@ -99,7 +100,7 @@ module _ (p : Numbers) (n : ℕ) (few : n ≤ 4) where
         sends = is.sends;
         counts = record {
           earlier = is.counts.earlier;
-          last = ap (λ (b : Bool). if b then counted x.profile (only_if (min (x.sent + 1) 5 == x.sends) packet) else 0) is.counts.by_alarm;
+          last = ap (λ (b : Bool). if b then charge_by_last x.profile (only_if (min (x.sent + 1) 5 == x.sends) packet) else 0) is.counts.by_alarm;
           by_alarm = is.counts.by_alarm;
         };
         small = tt;
@@ -133,14 +134,14 @@ module _ (p : Numbers) (n : ℕ) (few : n ≤ 4) where
   opened_counted b m logs x same none is = record {
     earlier = total logs x is;
     last =
-        ap (λ (q : Numbers). if b then counted q None else 0) is.profile
-        ∙ ap (λ (o : Option (List ℕ)). if b then counted p o else 0) (sym (ap (last_of n) none ∙ nothing_last))
-        ∙ ap (λ (c : Bool). if c then counted p (last_of n (sent_packets m)) else 0) (sym same);
+        ap (λ (q : Numbers). if b then charge_by_last q None else 0) is.profile
+        ∙ ap (λ (o : Option (List ℕ)). if b then charge_by_last p o else 0) (sym (ap (last_if_all_sent n) none ∙ nothing_last))
+        ∙ ap (λ (c : Bool). if c then charge_by_last p (last_if_all_sent n (sent_packets m)) else 0) (sym same);
     by_alarm = sym same;
     sent = ap (λ (ps : List (List ℕ)). min (length ps) 5) (sym none);
   }
     where
-      nothing_last : (let none : List (List ℕ) = [] in last_of n none ≡ None)
+      nothing_last : (let none : List (List ℕ) = [] in last_if_all_sent n none ≡ None)
       nothing_last = cond_both (0 == n) None None (λ (o : Option (List ℕ)). o ≡ None) (λ is. refl) (λ is. refl)
 
   opens_counted : (t : ℕ) (e : Event) (ended : Option Sending) (nd md : Node) (i : ℕ) (u : Window) (logs : List WindowLog) (x : WindowSum)
@@ -159,7 +160,7 @@ module _ (p : Numbers) (n : ℕ) (few : n ≤ 4) where
       kept None counts less = record { profile = is.profile; sends = is.sends; counts = counts; small = (omega (arith, less, counts.last), is.small) }
       kept (Some packet) counts less = record { profile = is.profile; sends = is.sends; counts = counts; small = (omega (arith, less, counts.last), is.small) }
 
-  closed_counted : (t : ℕ) (md : Node) (logs : List WindowLog) (x : WindowSum) → IsCounted p n logs x → IsCounted p n (closed_log t md logs) x
+  closed_counted : (t : ℕ) (md : Node) (logs : List WindowLog) (x : WindowSum) → IsCounted p n logs x → IsCounted p n (logs_after_closing t md logs) x
   closed_counted t md [] x is = is
   closed_counted t md (w ∷ ws) x is =
       let c = is.counts in
@@ -171,9 +172,9 @@ module _ (p : Numbers) (n : ℕ) (few : n ≤ 4) where
       }
 
   pub after_event : (t : ℕ) (e : Event) (ended : Option Sending) (nd md : Node) (from to : Stage) (logs : List WindowLog) (x : WindowSum) → IsCounted p n logs x
-      → (noted (is_window from) (is_window to) (is_alarm e) (sent_with e ended) x).last ≤ 2 ^ 28
-      → IsCounted p n (windows_after t e ended nd md from to logs) (noted (is_window from) (is_window to) (is_alarm e) (sent_with e ended) x)
-  after_event t e ended nd md from to logs x is less = by_windows (window_of from) (window_of to) less
+      → (noted (stage_has_window from) (stage_has_window to) (is_alarm e) (sent_with e ended) x).last ≤ 2 ^ 28
+      → IsCounted p n (windows_after t e ended nd md from to logs) (noted (stage_has_window from) (stage_has_window to) (is_alarm e) (sent_with e ended) x)
+  after_event t e ended nd md from to logs x is less = by_windows (window_of_stage from) (window_of_stage to) less
     where
       by_windows : (old new : Option (ℕ × Window)) → (noted (is_some old) (is_some new) (is_alarm e) (sent_with e ended) x).last ≤ 2 ^ 28
           → IsCounted p n (windows_by t e ended nd md old new logs) (noted (is_some old) (is_some new) (is_alarm e) (sent_with e ended) x)

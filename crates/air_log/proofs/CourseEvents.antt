@@ -12,16 +12,16 @@ use Rattle.node_core.specs.Rows.{Stepped}
 use Rattle.node_core.specs.Rows.{orders_by}
 use Rattle.air_log.specs.Devices.{Device, Made, Power, PowerOff, PowerOn, obeyed, event}
 use Rattle.air_log.specs.DeviceStates.{DeviceState, whole}
-use Rattle.air_log.specs.DeviceStates.{HappenedBy, row_at, row_of, after_row, made_by}
+use Rattle.air_log.specs.DeviceStates.{HappenedBy, row_at, row_of, state_after_row, made_by}
 use Rattle.air_log.specs.WindowLogs.{is_alarm}
-use Rattle.air_log.specs.WindowSums.{WindowSum, in_window, sent_with, noted}
-use Rattle.air_log.specs.Courses.{CourseState, made_in, Shows, IsShown, Goes}
+use Rattle.air_log.specs.WindowSums.{WindowSum, power_has_window, sent_with, noted}
+use Rattle.air_log.specs.Courses.{CourseState, made_in, CourseShows, CourseIsShown, Goes}
 use Rattle.air_log.proofs.CountedEvents.{counted_then}
 use Rattle.air_log.proofs.ShownCourses.{shows_as}
 
 -- an event, before its orders are obeyed
 abbrev pub reacted : DeviceState → Option Stepped → DeviceState
-reacted state r = record (after_row state r) { delivery = None }
+reacted state r = record (state_after_row state r) { delivery = None }
 
 pub keeps_setup : (state : DeviceState) (r : Option Stepped) → (reacted state r).setup ≡ state.setup
 keeps_setup state None = refl
@@ -31,19 +31,19 @@ pub keeps_happened : (t : ℕ) (state : DeviceState) (r : Option Stepped) → Ha
 keeps_happened t state None h = record { closed = h.closed; listening = h.listening }
 keeps_happened t state (Some r) h = record { closed = h.closed; listening = h.listening }
 
-keeps_power : (state : DeviceState) (r : Option Stepped) → (reacted state r).power ≡ (after_row state r).power
+keeps_power : (state : DeviceState) (r : Option Stepped) → (reacted state r).power ≡ (state_after_row state r).power
 keeps_power state None = refl
 keeps_power state (Some r) = refl
 
 module _ (clock : ℕ → ℕ) (t : ℕ) (e : Event) (ended : Option Sending) (state : DeviceState) (taken : state.delivery ≡ None) where
   delivered_by_row : (n : Node) (r : Option Stepped) (made : Made)
-      → (made_by t e ended (PowerOn n) r made).deliveries ≡ made.deliveries ++ option_to_list (after_row state r).delivery
+      → (made_by t e ended (PowerOn n) r made).deliveries ≡ made.deliveries ++ option_to_list (state_after_row state r).delivery
   delivered_by_row n None made = ap (λ (o : Option Delivery). made.deliveries ++ option_to_list o) (sym taken)
   delivered_by_row n (Some r) made = refl
 
   delivered : (s : Setup) (power : Power) (made : Made)
       → (made_by t e ended power (row_at clock t e s power) made).deliveries
-      ≡ made.deliveries ++ option_to_list (after_row state (row_at clock t e s power)).delivery
+      ≡ made.deliveries ++ option_to_list (state_after_row state (row_at clock t e s power)).delivery
   delivered s (PowerOff boots) made = sym (append-nil made.deliveries) ∙ ap (λ (o : Option Delivery). made.deliveries ++ option_to_list o) (sym taken)
   delivered s (PowerOn n) made = delivered_by_row n (row_at clock t e s (PowerOn n)) made
 
@@ -61,11 +61,12 @@ module _ (clock : ℕ → ℕ) (t : ℕ) (e : Event) (ended : Option Sending) (o
   abbrev pub after_event_is : CourseState
   after_event_is = record old {
     device = reacted old.device row_now;
-    deliveries = old.deliveries ++ option_to_list (after_row old.device row_now).delivery;
-    windows = noted (in_window old.device.power) (in_window (after_row old.device row_now).power) (is_alarm e) (sent_with e ended) old.windows;
+    deliveries = old.deliveries ++ option_to_list (state_after_row old.device row_now).delivery;
+    windows =
+        noted (power_has_window old.device.power) (power_has_window (state_after_row old.device row_now).power) (is_alarm e) (sent_with e ended) old.windows;
   }
 
-  module _ (less : after_event_is.windows.last ≤ 2 ^ 28) (q : Setup) (d : Device) (shows : Shows q t old d) where
+  module _ (less : after_event_is.windows.last ≤ 2 ^ 28) (q : Setup) (d : Device) (shows : CourseShows q t old d) where
     abbrev making : Made
     making = made_by t e ended old.device.power row_now (made_in old shows.drops shows.windows)
 
@@ -76,7 +77,7 @@ module _ (clock : ℕ → ℕ) (t : ℕ) (e : Event) (ended : Option Sending) (o
         ∙ sym (made_sent clock t e ended old.device shows.taken old.device.power row_now (made_in old shows.drops shows.windows))
 
     -- it shows the device after the row
-    pub event_shows : Shows q t after_event_is (whole (reacted old.device row_now) making)
+    pub event_shows : CourseShows q t after_event_is (whole (reacted old.device row_now) making)
     event_shows = record {
       drops = shows.drops;
       windows = making.windows;
@@ -93,12 +94,12 @@ module _ (clock : ℕ → ℕ) (t : ℕ) (e : Event) (ended : Option Sending) (o
 
     pub event_comes : (orders : List Order) → orders ≡ orders_by row_now
         → ((made : Made) → event clock old.device.setup t e ended (whole old.device made)
-        ≡ fold (obeyed clock old.device.setup.id t) (whole (after_row old.device row_now) (made_by t e ended old.device.power row_now made))
+        ≡ fold (obeyed clock old.device.setup.id t) (whole (state_after_row old.device row_now) (made_by t e ended old.device.power row_now made))
         (orders_by row_now))
         → fold (obeyed clock q.id t) (whole (reacted old.device row_now) making) orders ≡ event clock q t e ended d
     event_comes orders is comes =
         let made = made_in old shows.drops shows.windows in
-        let same_whole : whole (reacted old.device row_now) making ≡ whole (after_row old.device row_now) making = whole_same row_now in
+        let same_whole : whole (reacted old.device row_now) making ≡ whole (state_after_row old.device row_now) making = whole_same row_now in
         ap (λ (z : Setup). fold (obeyed clock z.id t) (whole (reacted old.device row_now) making) orders) (sym shows.setup)
         ∙ ap (λ (os : List Order). fold (obeyed clock old.device.setup.id t) (whole (reacted old.device row_now) making) os) is
         ∙ ap (λ (x : Device). fold (obeyed clock old.device.setup.id t) x (orders_by row_now)) same_whole
@@ -106,7 +107,7 @@ module _ (clock : ℕ → ℕ) (t : ℕ) (e : Event) (ended : Option Sending) (o
         ∙ ap (λ (x : Device). event clock old.device.setup t e ended x) shows.is
         ∙ ap (λ (z : Setup). event clock z t e ended d) shows.setup
       where
-        whole_same : (r : Option Stepped) → whole (reacted old.device r) making ≡ whole (after_row old.device r) making
+        whole_same : (r : Option Stepped) → whole (reacted old.device r) making ≡ whole (state_after_row old.device r) making
         whole_same None = refl
         whole_same (Some r) = refl
 
@@ -114,8 +115,8 @@ module _ (clock : ℕ → ℕ) (t : ℕ) (e : Event) (ended : Option Sending) (o
 module _ (clock : ℕ → ℕ) (t : ℕ) (e : Event) (ended : Option Sending) (old : CourseState) where
   pub event_course : (moved after : DeviceState) (delivery : Option Delivery) (before after_b alarm : Bool) (sent : Option (List ℕ)) (windows : WindowSum)
       (new : CourseState)
-      → moved ≡ after_row old.device (row_of clock t e old.device) → after ≡ record moved { delivery = None } → delivery ≡ moved.delivery
-      → before ≡ in_window old.device.power → after_b ≡ in_window moved.power → alarm ≡ is_alarm e → sent ≡ sent_with e ended
+      → moved ≡ state_after_row old.device (row_of clock t e old.device) → after ≡ record moved { delivery = None } → delivery ≡ moved.delivery
+      → before ≡ power_has_window old.device.power → after_b ≡ power_has_window moved.power → alarm ≡ is_alarm e → sent ≡ sent_with e ended
       → windows ≡ noted before after_b alarm sent old.windows
       → new ≡ record old { device = after; deliveries = old.deliveries ++ option_to_list delivery; windows = windows }
       → new ≡ after_event_is clock t e ended old
@@ -123,27 +124,29 @@ module _ (clock : ℕ → ℕ) (t : ℕ) (e : Event) (ended : Option Sending) (o
       is_new =
       let r = row_of clock t e old.device in
       let device : after ≡ reacted old.device r = is_after ∙ ap (λ (d : DeviceState). record d { delivery = None }) is_moved in
-      let made : delivery ≡ (after_row old.device r).delivery = is_delivery ∙ ap (λ (d : DeviceState). d.delivery) is_moved in
-      let opens : after_b ≡ in_window (after_row old.device r).power = is_open ∙ ap (λ (d : DeviceState). in_window d.power) is_moved in
-      let sums : windows ≡ noted (in_window old.device.power) (in_window (after_row old.device r).power) (is_alarm e) (sent_with e ended) old.windows =
+      let made : delivery ≡ (state_after_row old.device r).delivery = is_delivery ∙ ap (λ (d : DeviceState). d.delivery) is_moved in
+      let opens : after_b ≡ power_has_window (state_after_row old.device r).power = is_open ∙ ap (λ (d : DeviceState). power_has_window d.power) is_moved in
+      let sums : windows ≡ noted (power_has_window old.device.power) (power_has_window (state_after_row old.device r).power) (is_alarm e) (sent_with e
+          ended) old.windows =
       is_windows
       ∙ ap (λ (b : Bool). noted b after_b alarm sent old.windows) is_before
-      ∙ ap (λ (b : Bool). noted (in_window old.device.power) b alarm sent old.windows) opens
-      ∙ ap (λ (b : Bool). noted (in_window old.device.power) (in_window (after_row old.device r).power) b sent old.windows) is_alarm_now
-      ∙ ap (λ (o : Option (List ℕ)). noted (in_window old.device.power) (in_window (after_row old.device r).power) (is_alarm e) o old.windows) is_sent in
+      ∙ ap (λ (b : Bool). noted (power_has_window old.device.power) b alarm sent old.windows) opens
+      ∙ ap (λ (b : Bool). noted (power_has_window old.device.power) (power_has_window (state_after_row old.device r).power) b sent old.windows) is_alarm_now
+      ∙ ap (λ (o : Option (List ℕ)). noted (power_has_window old.device.power) (power_has_window (state_after_row old.device r).power) (is_alarm e) o
+          old.windows) is_sent in
       is_new
       ∙ ap (λ (d : DeviceState). record old { device = d; deliveries = old.deliveries ++ option_to_list delivery; windows = windows }) device
       ∙ ap (λ (o : Option Delivery). record old { device = reacted old.device r; deliveries = old.deliveries ++ option_to_list o; windows = windows }) made
       ∙ ap (λ (w : WindowSum). record old {
         device = reacted old.device r;
-        deliveries = old.deliveries ++ option_to_list (after_row old.device r).delivery;
+        deliveries = old.deliveries ++ option_to_list (state_after_row old.device r).delivery;
         windows = w;
       }) sums
 
   -- with its orders obeyed
   pub event_goes : (last : CourseState) (orders : List Order) → orders ≡ orders_by (row_of clock t e old.device)
       → ((made : Made) → event clock old.device.setup t e ended (whole old.device made)
-      ≡ fold (obeyed clock old.device.setup.id t) (whole (after_row old.device (row_of clock t e old.device))
+      ≡ fold (obeyed clock old.device.setup.id t) (whole (state_after_row old.device (row_of clock t e old.device))
       (made_by t e ended old.device.power (row_of clock t e old.device) made)) (orders_by (row_of clock t e old.device)))
       → Goes t (λ q d. fold (obeyed clock q.id t) d orders) (after_event_is clock t e ended old) last
       → (after_event_is clock t e ended old).windows.last ≤ 2 ^ 28
@@ -154,5 +157,5 @@ module _ (clock : ℕ → ℕ) (t : ℕ) (e : Event) (ended : Option Sending) (o
       shows_as q t last (fold (obeyed clock q.id t) after orders) (event clock q t e ended d) (goes q after (event_shows clock t e ended old less q d shows))
       (event_comes clock t e ended old less q d shows orders is comes)
 
-  pub event_shown : (after_event_is clock t e ended old).windows.last ≤ 2 ^ 28 → IsShown t old → IsShown t (after_event_is clock t e ended old)
+  pub event_shown : (after_event_is clock t e ended old).windows.last ≤ 2 ^ 28 → CourseIsShown t old → CourseIsShown t (after_event_is clock t e ended old)
   event_shown less shown = record { setup = shown.setup; device = _; shows = event_shows clock t e ended old less shown.setup shown.device shown.shows }

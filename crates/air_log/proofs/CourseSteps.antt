@@ -12,7 +12,7 @@ use Rattle.air_log.specs.DeviceStates.{DeviceState, whole, with_tuned, one_more,
 use Rattle.air_log.specs.DeviceStates.{EndedBefore, HappenedBy, IsSameNode}
 use Rattle.air_log.specs.WindowLogs.{WindowLog}
 use Rattle.air_log.specs.WindowSums.{WindowSum, IsCounted}
-use Rattle.air_log.specs.Courses.{CourseState, made_in, Shows, IsShown, Goes, Tells}
+use Rattle.air_log.specs.Courses.{CourseState, made_in, CourseShows, CourseIsShown, Goes, HasListsOf}
 use Rattle.air_log.proofs.ShownCourses.{whole_shows, shows_as, set_happened}
 
 -- tunings that are handed out have ended
@@ -129,7 +129,7 @@ pub close_tells : (t : ℕ) (old : CourseState) (silent closed : DeviceState) (b
     → ((made : Made) → silenced old.device.setup.id t (whole old.device made) ≡ whole silent (with_tuned before made))
     → ((made : Made) → whole silent made ≡ whole closed (with_tuned last made)) → closed.closed ≡ None
     → new ≡ record old { device = closed; tuned = one_more last (one_more before old.tuned) }
-    → (q : Setup) (d : Device) → Shows q t old d → Tells q new (silenced q.id t d)
+    → (q : Setup) (d : Device) → CourseShows q t old d → HasListsOf q new (silenced q.id t d)
 close_tells t old silent closed before last new first second none is q d shows =
     let made = made_in old shows.drops shows.windows in
     let end : CourseState = record old { device = closed; tuned = one_more last (one_more before old.tuned) } in
@@ -138,13 +138,13 @@ close_tells t old silent closed before last new first second none is q d shows =
     ∙ second (with_tuned before made) in
     let tuned : one_more closed.closed (one_more last (one_more before old.tuned)) ≡ one_more last (one_more before old.tuned) =
     ap (λ (o : Option TunedEntry). one_more o (one_more last (one_more before old.tuned))) none in
-    let tells : Tells q end (silenced q.id t d) = record {
+    let tells : HasListsOf q end (silenced q.id t d) = record {
       sent = ap (λ (x : Device). x.made.sent) all;
       tuned = ap (λ (x : Device). x.made.tuned) all ∙ tuned;
       deliveries = ap (λ (x : Device). x.made.deliveries) all;
       counted = subst (λ (x : Device). IsCounted q.profile q.sends x.made.windows old.windows) (sym all) shows.counted;
     } in
-    subst (λ (c : CourseState). Tells q c (silenced q.id t d)) (sym is) tells
+    subst (λ (c : CourseState). HasListsOf q c (silenced q.id t d)) (sym is) tells
 
 -- the device changes, and the rest of the change follows
 module _ (t : ℕ) (old : CourseState) (after : DeviceState) (happened : HappenedBy t old.device → HappenedBy t after) (setup : after.setup ≡ old.device.setup)
@@ -152,11 +152,11 @@ module _ (t : ℕ) (old : CourseState) (after : DeviceState) (happened : Happene
   abbrev pub middle : CourseState
   middle = record old { device = after }
 
-  middle_shows : (q : Setup) (d : Device) → (shows : Shows q t old d) → Shows q t middle (whole after (made_in old shows.drops shows.windows))
+  middle_shows : (q : Setup) (d : Device) → (shows : CourseShows q t old d) → CourseShows q t middle (whole after (made_in old shows.drops shows.windows))
   middle_shows q d shows =
       whole_shows q t middle shows.drops shows.windows (setup ∙ shows.setup) shows.counted shows.few shows.ended (happened shows.happened) (taken shows.taken)
 
-  pub then_shown : IsShown t old → IsShown t middle
+  pub then_shown : CourseIsShown t old → CourseIsShown t middle
   then_shown shown = record { setup = shown.setup; device = _; shows = middle_shows shown.setup shown.device shown.shows }
 
   pub then_goes : (first second : Setup → Device → Device) (last : CourseState)

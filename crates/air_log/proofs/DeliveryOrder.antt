@@ -7,17 +7,17 @@ use Rattle.std.proofs.lemmas.List.Sorted.{ranks_by}
 use Rattle.lwb_base.proofs.Orders.{compares_less, by_four_total, compares_equal, one_number}
 use Rattle.lwb_base.proofs.Truths.{both_not}
 use Rattle.bus_rules.specs.declared.delivery.Delivery.{Delivery}
-use Rattle.air_log.specs.Deliveries.{comes_before}
+use Rattle.air_log.specs.Deliveries.{delivery_comes_before}
 
 -- what the order goes by
 abbrev pub place_of : Delivery → ℕ × ℕ × ℕ × ℕ
 place_of d = (d.frame, d.rank, d.slot, d.node)
 
-pub is_order : IsStrictWeakOrder comes_before
+pub is_order : IsStrictWeakOrder delivery_comes_before
 is_order = ranks_by by_four_total place_of
 
 abbrev pub Before : Delivery → Delivery → Type 0
-Before a b = comes_before a b ≡ true
+Before a b = delivery_comes_before a b ≡ true
 
 module _ (a b : Delivery) where
   abbrev then_so : Ordering → Ordering → Ordering → Ordering → Bool
@@ -51,9 +51,9 @@ pub record SamePlace (a b : Delivery) : Type 0 where
   pub slot : a.slot ≡ b.slot
   pub node : a.node ≡ b.node
 
-pub tied_place : (a b : Delivery) → ties comes_before a b ≡ true → SamePlace a b
+pub tied_place : (a b : Delivery) → ties delivery_comes_before a b ≡ true → SamePlace a b
 tied_place a b tied =
-    let so = both_not (comes_before a b) (comes_before b a) tied in
+    let so = both_not (delivery_comes_before a b) (delivery_comes_before b a) tied in
     let up : Before a b → ⊥ = λ is. true≢false (sym is ∙ so.0) in
     let down : Before b a → ⊥ = λ is. true≢false (sym is ∙ so.1) in
     let frame = one_number a.frame b.frame (λ less. up (by_frame a b less)) (λ less. down (by_frame b a less)) in

@@ -18,10 +18,10 @@ use Rattle.node_core.specs.Rows.{row, boots}
 use Rattle.node_core.specs.Rows.{node_after}
 use Rattle.node_core.specs.declared.stage.Stage.{Stage}
 use Rattle.node_core.specs.declared.stage.Stage.TheVariants.{Idle, Scanning, AwaitFrame, AwaitSlot, InWindow}
-use Rattle.air_log.specs.Devices.{Device, Power, PowerOff, PowerOn, Listening, Ordered, stepped, event_by}
-use Rattle.air_log.specs.ScriptedDevices.{after_act, after_line, dropped, with_new_core}
-use Rattle.air_log.specs.Trails.{Reception, run_end, setup_of, lines_at, scripted, ending_at, hears, heard, ended_by}
-use Rattle.air_log.specs.Trails.{ended, is_due, alarms, alarmed, begun_by, starts, before_tick, trail}
+use Rattle.air_log.specs.Devices.{Device, Power, PowerOff, PowerOn, Listening, OrderedPacket, stepped, event_by}
+use Rattle.air_log.specs.ScriptedDevices.{device_after_act, device_after_line, dropped, with_new_core}
+use Rattle.air_log.specs.Trails.{Reception, run_end, setup_of, lines_at, device_after_script, ending_at, device_after_reception, device_after_receptions}
+use Rattle.air_log.specs.Trails.{device_ended_by, device_after_end, alarm_is_due, alarms, alarmed, begun_by, starts, before_tick, trail}
 use Rattle.air_log.proofs.AlarmRows.{IsRoomy, roomy, InRange, IsGoing, alarm_goes}
 use Rattle.air_log.proofs.AlarmLoop.{Sound, SoundBy, step_sound, heard_sound, sent_sound, act_sound, fires, begun_sound, later, early_in_run}
 use Rattle.air_log.proofs.OpenedByAlarm.{by_alarm, place_spent, FewBy, Few, one_at_most, row_few, heard_few, sent_few, alarm_few}
@@ -43,11 +43,11 @@ module _ (s : Setup) (L : ℕ → ℕ) (t : ℕ) where
     sent_both x d (PowerOff boots) at sound few = record { sound = rw at sound; few = rw at few }
     sent_both x d (PowerOn n) at sound few = record { sound = sent_sound s L t room x d (PowerOn n) sound at; few = sent_few s L t x d n few }
 
-    hearings_both : (hs : List Reception) (d : Device) → Goes_few d → Goes_few (fold (hears L s t) d hs)
+    hearings_both : (hs : List Reception) (d : Device) → Goes_few d → Goes_few (fold (device_after_reception L s t) d hs)
     hearings_both [] d both = both
-    hearings_both (h ∷ hs) d both = hearings_both hs (hears L s t d h) (heard_both h.packet d d.power refl both.sound both.few)
+    hearings_both (h ∷ hs) d both = hearings_both hs (device_after_reception L s t d h) (heard_both h.packet d d.power refl both.sound both.few)
 
-    end_both : (d : Device) (x : Option Sending) → Goes_few d → Goes_few (ended_by L s t d x)
+    end_both : (d : Device) (x : Option Sending) → Goes_few d → Goes_few (device_ended_by L s t d x)
     end_both d None both = both
     end_both d (Some x) both =
         let y : Device = record d { sending = None } in
@@ -58,28 +58,28 @@ module _ (s : Setup) (L : ℕ → ℕ) (t : ℕ) where
     starts_few packet d (Some l) (Some x) few = few
     starts_few packet d (Some l) None few = few
 
-    begun_few : (d : Device) (o : Option Ordered) → Few d → Few (begun_by s t d o)
+    begun_few : (d : Device) (o : Option OrderedPacket) → Few d → Few (begun_by s t d o)
     begun_few d None few = few
     begun_few d (Some o) few =
         cond_both (o.tick == t) (starts s t o.packet d d.listening d.sending) d Few (λ is. starts_few o.packet d d.listening d.sending few) (λ is. few)
 
     module _ (clock : IsClock L) (early : t ≤ 2 ^ 45) (in_run : (n : Node) → IsGoing s L t n → n.frame < 2 ^ 13) where
-      alarm_both : (d : Device) (power : Power) → d.power ≡ power → is_due t d.alarm ≡ true → SoundBy s L t power d.alarm
+      alarm_both : (d : Device) (power : Power) → d.power ≡ power → alarm_is_due t d.alarm ≡ true → SoundBy s L t power d.alarm
           → FewBy power (by_alarm d.made.windows) → Goes_few (event_by L s t Alarm None (record d { alarm = None }) power)
-      alarm_both d (PowerOff boots) at due sound few = absurd (true≢false (sym due ∙ ap (is_due t) sound))
+      alarm_both d (PowerOff boots) at due sound few = absurd (true≢false (sym due ∙ ap (alarm_is_due t) sound))
       alarm_both d (PowerOn n) at due sound few =
           let x : Device = record d { alarm = None } in
           let goes = (alarm_goes s L t room clock early n n.stage refl sound.0 (fires s L t room clock early n.stage n.frame d.alarm due sound.1)).0 in
           let frame = in_run n sound.0 in
           record { sound = step_sound s L t Alarm None x n goes; few = alarm_few s L t x n sound.0.stage (omega (arith, frame)) few }
 
-      alarms_both : (more : ℕ) (b : Bool) (d : Device) → is_due t d.alarm ≡ b → Goes_few d → Goes_few (alarms L s t b more d)
+      alarms_both : (more : ℕ) (b : Bool) (d : Device) → alarm_is_due t d.alarm ≡ b → Goes_few d → Goes_few (alarms L s t b more d)
       unfolding alarms
       alarms_both more false d due both = both
       alarms_both zero true d due both = both
       alarms_both (suc more) true d due both =
           let e = event_by L s t Alarm None (record d { alarm = None }) d.power in
-          alarms_both more (is_due t e.alarm) e refl (alarm_both d d.power refl due both.sound both.few)
+          alarms_both more (alarm_is_due t e.alarm) e refl (alarm_both d d.power refl due both.sound both.few)
 
       -- power comes on with a boot more, and goes off
       booted : (b : ℕ) (d : Device) → by_alarm d.made.windows ≤ b * 2 ^ 20
@@ -101,7 +101,7 @@ module _ (s : Setup) (L : ℕ → ℕ) (t : ℕ) where
       off_few n k going few = omega (arith, few, in_run n going, in_frame n.stage going.stage)
 
       act_few : (frame : ℕ) (d : Device) (a : Act) (power : Power) → d.power ≡ power → SoundBy s L t power d.alarm → FewBy power (by_alarm d.made.windows)
-          → Few (after_act L s t frame d a power)
+          → Few (device_after_act L s t frame d a power)
       act_few frame d On (PowerOff b) at sound few = booted b d few
       act_few frame d On (PowerOn n) at sound few = rw at few
       act_few frame d Off (PowerOff b) at sound few = rw at few
@@ -114,10 +114,10 @@ module _ (s : Setup) (L : ℕ → ℕ) (t : ℕ) where
       act_few frame d (Put i payload) (PowerOn n) at sound few =
           cond_both (refuses i n.core) (dropped s.id frame i d) (with_new_core d n (queues i payload n.core)) Few (λ is. rw at few) (λ is. few)
 
-      lines_both : (ls : List ScriptLine) (d : Device) → Goes_few d → Goes_few (fold (after_line L s t) d ls)
+      lines_both : (ls : List ScriptLine) (d : Device) → Goes_few d → Goes_few (fold (device_after_line L s t) d ls)
       lines_both [] d both = both
       lines_both (l ∷ ls) d both =
-          lines_both ls (after_line L s t d l)
+          lines_both ls (device_after_line L s t d l)
           (record { sound = act_sound s L t room l.frame d l.act d.power refl both.sound; few = act_few l.frame d l.act d.power refl both.sound both.few })
 
 -- a whole run
@@ -148,12 +148,12 @@ module _ (s : ScenarioParts) (v : ℕ) (L : ℕ → ℕ) (hs : List Reception) (
       let early = early_in_run s t sound less in
       let d = before_tick s v L hs t in
       let one = lines_both x L t room clock early (in_run t less) (lines_at s v t) d (at_tick t less) in
-      let d1 = scripted s v L t d in
+      let d1 = device_after_script s v L t d in
       let two = hearings_both x L t room (ending_at t hs) d1 one in
-      let d2 = heard L x t hs d1 in
+      let d2 = device_after_receptions L x t hs d1 in
       let three = end_both x L t room d2 d2.sending two in
-      let d3 = ended L x t d2 in
-      let four = alarms_both x L t room clock early (in_run t less) (L t + 300) (is_due t d3.alarm) d3 refl three in
+      let d3 = device_after_end L x t d2 in
+      let four = alarms_both x L t room clock early (in_run t less) (L t + 300) (alarm_is_due t d3.alarm) d3 refl three in
       let d4 = alarmed L x t d3 in
       let on = never_back L t (suc t) clock (omega arith) (omega (arith, early)) in
       record {

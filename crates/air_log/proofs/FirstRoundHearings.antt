@@ -7,15 +7,15 @@ use Rattle.std.proofs.lemmas.List.Elements.{All-nil, All-cons}
 use Rattle.std.proofs.lemmas.List.Kept.{AllPairs-cons}
 use Rattle.radio_model.specs.declared.sending.Sending.{Sending}
 use Rattle.radio_model.specs.OnAir.{Hearing, Tuning}
-use Rattle.radio_model.specs.Hearing.{Scene, Hears, Meets, IsTuned, Arrives, Before}
+use Rattle.radio_model.specs.Hearing.{Scene, HearsInScene, Meets, IsTuned, Arrives, Before}
 use Rattle.air_log.specs.HearsAir.{scene_of}
 use Rattle.air_log.specs.Trails.{run_end}
 use Rattle.air_log.specs.Lawful.{FollowsHearing}
-use Rattle.air_log.specs.FirstRound.{first_round, first_round_log, sent_in_round, heard_in_round, tuned_by_host, tuned_by_other}
+use Rattle.air_log.specs.FirstRound.{first_round, first_round_log, sent_in_round, heard_in_round, first_round_tuned_by_host, tuned_by_other}
 use Rattle.lwb_base.proofs.Elements.{not_in_none, contains_cases, contains_head, contains_tail, all_passes}
 
 abbrev pub tuned_in_round : List Tuning
-tuned_in_round = tuned_by_host ++ tuned_by_other
+tuned_in_round = first_round_tuned_by_host ++ tuned_by_other
 
 none : Tuning
 none = record { rank = 0; node = 0; start = 0; end = 0 }
@@ -69,7 +69,7 @@ record IsGood (h : Hearing) : Type 0 where
   arrives : Arrives scene h.node h.sending
   in_run : h.sending.end < run_end first_round
 
-hears_it : (h : Hearing) → IsGood h → Hears scene h.node h.sending
+hears_it : (h : Hearing) → IsGood h → HearsInScene scene h.node h.sending
 hears_it h good = record {
   sent = good.sent;
   tuned =
@@ -219,7 +219,7 @@ from_cover true b c is apart here = absurd (apart refl)
 from_cover false true c is apart here = is
 from_cover false false c is apart here = absurd (true≢false (sym here))
 
-heard_there : (v : ℕ) (x : Sending) → Hears scene v x → Contains heard_in_round (record { node = v; sending = x })
+heard_there : (v : ℕ) (x : Sending) → HearsInScene scene v x → Contains heard_in_round (record { node = v; sending = x })
 heard_there v x hears =
     let long : x.start < x.end = takes_time x hears.sent in
     let on : IsTuned scene v x.rank x.start = hears.tuned x.start (omega arith) long in

@@ -8,7 +8,8 @@ use Rattle.radio_model.specs.OnAir.{Tuning}
 use Rattle.scenario_text.specs.FloodParts.{knows}
 use Rattle.air_log.specs.Lawful.{Lawful, trail_sent, trail_tuned, sent_by, tuned_by}
 use Rattle.air_log.specs.TwoNodeLog.{true_time}
-use Rattle.air_log.specs.FirstRound.{first_round, first_round_log, sent_in_round, tuned_by_host, tuned_by_other, sent_by_host, sent_by_other}
+use Rattle.air_log.specs.FirstRound.{first_round, first_round_log, sent_in_round, first_round_tuned_by_host, tuned_by_other, first_round_sent_by_host}
+use Rattle.air_log.specs.FirstRound.{sent_by_other}
 use Rattle.air_log.proofs.NextDue.{none_passes}
 use Rattle.air_log.proofs.FirstRound.{host_trail, other_trail}
 use Rattle.air_log.proofs.FirstRoundHearings.{tuned_in_round, follows_hearing}
@@ -52,7 +53,7 @@ TunedAs v = IsPermutation (trail_tuned first_round true_time first_round_log v) 
 sent_of : (v : ℕ) → SentAs v
 sent_of v =
     elim (cases_eq v 1) [
-      | inl is ↦ subst SentAs (sym is) (same_list _ _ sent_by_host host_trail.sendings refl)
+      | inl is ↦ subst SentAs (sym is) (same_list _ _ first_round_sent_by_host host_trail.sendings refl)
       | inr one ↦ elim (cases_eq v 2) [
         | inl is ↦ subst SentAs (sym is) (same_list _ _ sent_by_other other_trail.sendings refl)
         | inr two ↦ same_list _ _ [] (none_sent v one two) (no_sent v one two)
@@ -62,7 +63,7 @@ sent_of v =
 tuned_of : (v : ℕ) → TunedAs v
 tuned_of v =
     elim (cases_eq v 1) [
-      | inl is ↦ subst TunedAs (sym is) (same_list _ _ tuned_by_host host_trail.tunings refl)
+      | inl is ↦ subst TunedAs (sym is) (same_list _ _ first_round_tuned_by_host host_trail.tunings refl)
       | inr one ↦ elim (cases_eq v 2) [
         | inl is ↦ subst TunedAs (sym is) (same_list _ _ tuned_by_other other_trail.tunings refl)
         | inr two ↦ same_list _ _ [] (none_tuned v one two) (no_tuned v one two)

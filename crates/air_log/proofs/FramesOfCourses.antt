@@ -13,13 +13,13 @@ use Rattle.scenario_text.specs.ScenarioFacts.{IsSoundScenario}
 use Rattle.scenario_text.specs.declared.script.ScriptLine.{ScriptLine}
 use Rattle.air_log.specs.declared.entry.HeardEntry.{HeardEntry}
 use Rattle.lwb_base.specs.declared.event.Event.TheVariants.{Heard, Sent}
-use Rattle.air_log.specs.Devices.{Device, Ordered, event, seen_power}
+use Rattle.air_log.specs.Devices.{Device, OrderedPacket, event, seen_power}
 use Rattle.air_log.proofs.KeptPower.{event_power, alarmed_power, begun_power}
-use Rattle.air_log.specs.ScriptedDevices.{after_line}
-use Rattle.air_log.specs.Trails.{Reception, setup_of, run_end, frame_start, lines_at, scripted, at_frame}
-use Rattle.air_log.specs.Trails.{before_tick, hears, heard, ending_at, ended, ended_by, alarmed}
-use Rattle.air_log.specs.Courses.{CourseState, Shows, IsShownEnding, IsCut, Ascends, AlarmsEnd, end_of, reception_in}
-use Rattle.air_log.specs.Courses.{least_due, before_alarms_in, after_lines}
+use Rattle.air_log.specs.ScriptedDevices.{device_after_line}
+use Rattle.air_log.specs.Trails.{Reception, setup_of, run_end, frame_start, lines_at, device_after_script, at_frame}
+use Rattle.air_log.specs.Trails.{before_tick, device_after_reception, device_after_receptions, ending_at, device_after_end, device_ended_by, alarmed}
+use Rattle.air_log.specs.Courses.{CourseState, CourseShows, IsShownEnding, IsSplitByKey, IsSortedByKey, AlarmsEnd, end_of_reception, reception_in}
+use Rattle.air_log.specs.Courses.{least_due, before_alarms_in, rest_of_tick}
 use Rattle.air_log.proofs.AlarmLoop.{early_in_run}
 use Rattle.air_log.proofs.AlarmRuns.{alarms_are_run}
 use Rattle.lwb_base.proofs.Elements.{map_from}
@@ -44,21 +44,21 @@ start_early s f sound within = early_in_run s (frame_start s f) sound (omega (ar
 
 -- a tick changes no power but by its lines
 module _ (clock : ℕ → ℕ) (q : Setup) (t : ℕ) where
-  hearings_power : (es : List Reception) (d : Device) → seen_power (fold (hears clock q t) d es).power ≡ seen_power d.power
+  hearings_power : (es : List Reception) (d : Device) → seen_power (fold (device_after_reception clock q t) d es).power ≡ seen_power d.power
   hearings_power [] d = refl
-  hearings_power (h ∷ es) d = hearings_power es (hears clock q t d h) ∙ event_power clock q t (Heard h.packet) None d
+  hearings_power (h ∷ es) d = hearings_power es (device_after_reception clock q t d h) ∙ event_power clock q t (Heard h.packet) None d
 
-  end_power : (d : Device) (x : Option Sending) → seen_power (ended_by clock q t d x).power ≡ seen_power d.power
+  end_power : (d : Device) (x : Option Sending) → seen_power (device_ended_by clock q t d x).power ≡ seen_power d.power
   end_power d None = refl
   end_power d (Some x) =
       let y : Device = record d { sending = None } in
       cond_both (x.end == t) (event clock q t Sent (Some x) y) d (λ (e : Device). seen_power e.power ≡ seen_power d.power)
       (λ is. event_power clock q t Sent (Some x) y) (λ is. refl)
 
-  pub tick_power : (es : List Reception) (d : Device) → seen_power (after_lines clock q t es d).power ≡ seen_power d.power
+  pub tick_power : (es : List Reception) (d : Device) → seen_power (rest_of_tick clock q t es d).power ≡ seen_power d.power
   tick_power es d =
-      let d2 = heard clock q t es d in
-      let d3 = ended clock q t d2 in
+      let d2 = device_after_receptions clock q t es d in
+      let d3 = device_after_end clock q t d2 in
       begun_power clock q t (alarmed clock q t d3) ∙ alarmed_power clock q t d3 ∙ end_power d2 d2.sending ∙ hearings_power (ending_at t es) d
 
 module _ (clock : ℕ → ℕ) (s : ScenarioParts) (hs : List HeardEntry) (f : ℕ) where
@@ -67,16 +67,17 @@ module _ (clock : ℕ → ℕ) (s : ScenarioParts) (hs : List HeardEntry) (f : �
 
   -- at a tick of the frame the device has been told its script lines, and at its end not those of the next
   abbrev pub point : ℕ → ℕ → Device
-  point v t = if nat_lt t (frame_start s (f + 1)) then scripted s v clock t (before_tick s v clock rs t) else before_tick s v clock rs t
+  point v t = if nat_lt t (frame_start s (f + 1)) then device_after_script s v clock t (before_tick s v clock rs t) else before_tick s v clock rs t
 
   pub record IsAtTick (t k : ℕ) (old now : CourseState) : Type 0 where
     pub from : frame_start s f ≤ t
     pub within : t ≤ frame_start s (f + 1)
-    pub cut : IsCut end_of hs k t
+    pub cut : IsSplitByKey end_of_reception hs k t
     pub power : seen_power now.device.power ≡ seen_power old.device.power
-    pub shows : (v : ℕ) → Shows (setup_of s v) (frame_start s f) old (at_frame s v clock rs f) → Shows (setup_of s v) t now (point v t)
+    pub shows : (v : ℕ) → CourseShows (setup_of s v) (frame_start s f) old (at_frame s v clock rs f) → CourseShows (setup_of s v) t now (point v t)
 
-  pub first_tick : (t k : ℕ) (c : CourseState) → 1 ≤ s.profile.frame → t ≡ frame_start s f → IsCut end_of hs k (frame_start s f) → IsAtTick t k c c
+  pub first_tick : (t k : ℕ) (c : CourseState) → 1 ≤ s.profile.frame → t ≡ frame_start s f → IsSplitByKey end_of_reception hs k (frame_start s f)
+      → IsAtTick t k c c
   first_tick t k c some is cut = subst (λ (u : ℕ). IsAtTick u k c c) (sym is) (record {
     from = omega arith;
     within = omega (arith, next_start s f);
@@ -90,7 +91,7 @@ module _ (clock : ℕ → ℕ) (s : ScenarioParts) (hs : List HeardEntry) (f : �
   module _ (sound : IsSoundScenario s) (drifts : IsClock clock) (in_frames : f < s.frames) (t k : ℕ) (old now : CourseState) (at : IsAtTick t k old now)
       (less : t < frame_start s (f + 1)) where
     abbrev told : ℕ → Device
-    told v = scripted s v clock t (before_tick s v clock rs t)
+    told v = device_after_script s v clock t (before_tick s v clock rs t)
 
     point_is : (v : ℕ) → point v t ≡ told v
     point_is v = cond-true (nat_lt t (frame_start s (f + 1))) (told v) (before_tick s v clock rs t) (lt-ltb t (frame_start s (f + 1)) less)
@@ -101,31 +102,31 @@ module _ (clock : ℕ → ℕ) (s : ScenarioParts) (hs : List HeardEntry) (f : �
     pub early : t ≤ 2 ^ 45
     early = early_in_run s t sound in_time
 
-    shown_now : (v : ℕ) → Shows (setup_of s v) (frame_start s f) old (at_frame s v clock rs f) → Shows (setup_of s v) t now (told v)
+    shown_now : (v : ℕ) → CourseShows (setup_of s v) (frame_start s f) old (at_frame s v clock rs f) → CourseShows (setup_of s v) t now (told v)
     shown_now v first = shows_as (setup_of s v) t now (point v t) (told v) (at.shows v first) (point_is v)
 
     ends_now : (v : ℕ) → AlarmsEnd clock (setup_of s v) t (before_alarms_in clock (setup_of s v) t rs (told v))
     ends_now v = alarms_are_run s v clock rs t sound drifts in_time
 
-    pub alarms_end : (v : ℕ) × Shows (setup_of s v) (frame_start s f) old (at_frame s v clock rs f)
+    pub alarms_end : (v : ℕ) × CourseShows (setup_of s v) (frame_start s f) old (at_frame s v clock rs f)
         → IsShownEnding clock t (λ q d. before_alarms_in clock q t rs d) now
     alarms_end first = record { setup = setup_of s first.0; device = told first.0; shows = shown_now first.0 first.1; ends = ends_now first.0 }
 
     -- after the tick, up to the next one at which something is due
-    module _ (ascends : Ascends end_of hs) (next : ℕ) (cut : IsCut end_of hs next (t + 1)) (last : CourseState)
-        (goes : (q : Setup) (d : Device) → Shows q t now d → AlarmsEnd clock q t (before_alarms_in clock q t rs d)
-        → Shows q t last (after_lines clock q t rs d)) where
+    module _ (ascends : IsSortedByKey end_of_reception hs) (next : ℕ) (cut : IsSplitByKey end_of_reception hs next (t + 1)) (last : CourseState)
+        (goes : (q : Setup) (d : Device) → CourseShows q t now d → AlarmsEnd clock q t (before_alarms_in clock q t rs d)
+        → CourseShows q t last (rest_of_tick clock q t rs d)) where
       abbrev u : ℕ
       u = least_due last.device (slice_get hs next) (frame_start s (f + 1))
 
-      next_is : (v : ℕ) → before_tick s v clock rs (t + 1) ≡ after_lines clock (setup_of s v) t rs (told v)
+      next_is : (v : ℕ) → before_tick s v clock rs (t + 1) ≡ rest_of_tick clock (setup_of s v) t rs (told v)
       unfolding before_tick
       next_is v = rw add-one refl
 
-      shown_next : (v : ℕ) → Shows (setup_of s v) (frame_start s f) old (at_frame s v clock rs f)
-          → Shows (setup_of s v) t last (before_tick s v clock rs (t + 1))
+      shown_next : (v : ℕ) → CourseShows (setup_of s v) (frame_start s f) old (at_frame s v clock rs f)
+          → CourseShows (setup_of s v) t last (before_tick s v clock rs (t + 1))
       shown_next v first =
-          shows_as (setup_of s v) t last (after_lines clock (setup_of s v) t rs (told v)) (before_tick s v clock rs (t + 1))
+          shows_as (setup_of s v) t last (rest_of_tick clock (setup_of s v) t rs (told v)) (before_tick s v clock rs (t + 1))
           (goes (setup_of s v) (told v) (shown_now v first) (ends_now v)) (sym (next_is v))
 
       least : IsLeast last.device (slice_get hs next) (frame_start s (f + 1)) u
@@ -135,28 +136,28 @@ module _ (clock : ℕ → ℕ) (s : ScenarioParts) (hs : List HeardEntry) (f : �
       next_late None is = tt
       next_late (Some h) is = cut.behind next h is (omega arith)
 
-      goes_on : (v : ℕ) → Shows (setup_of s v) t last (before_tick s v clock rs (t + 1)) → t + 1 ≤ u
+      goes_on : (v : ℕ) → CourseShows (setup_of s v) t last (before_tick s v clock rs (t + 1)) → t + 1 ≤ u
       goes_on v shows =
           let ahead = is_ahead s v clock rs sound drifts (t + 1) (omega (arith, less, in_run s f in_frames)) in
           let d = before_tick s v clock rs (t + 1) in
           no_earlier last.device (slice_get hs next) (frame_start s (f + 1)) (t + 1) (omega (arith, less))
           (subst (λ (o : Option ℕ). IfSome o (λ x. t + 1 ≤ x)) (sym (ap (λ (x : Device). x.alarm) shows.is)) ahead.alarm)
-          (subst (λ (o : Option Ordered). IfSome o (λ x. t + 1 ≤ x.tick)) (sym (ap (λ (x : Device). x.ordered) shows.is)) ahead.ordered)
+          (subst (λ (o : Option OrderedPacket). IfSome o (λ x. t + 1 ≤ x.tick)) (sym (ap (λ (x : Device). x.ordered) shows.is)) ahead.ordered)
           (subst (λ (o : Option Sending). IfSome o (λ x. t + 1 ≤ x.end)) (sym (ap (λ (x : Device). x.sending) shows.is)) ahead.sending)
           (next_late (slice_get hs next) refl)
 
-      pub later_by : (v : ℕ) × Shows (setup_of s v) (frame_start s f) old (at_frame s v clock rs f) → t + 1 ≤ u
+      pub later_by : (v : ℕ) × CourseShows (setup_of s v) (frame_start s f) old (at_frame s v clock rs f) → t + 1 ≤ u
       later_by first = goes_on first.0 (shown_next first.0 first.1)
 
       next_end : (h : HeardEntry) → slice_get hs next ≡ Some h → u ≤ h.end
       next_end h is = subst (λ (o : Option HeardEntry). IfSome o (λ x. u ≤ x.end)) is least.next
 
-      module _ (first : (v : ℕ) × Shows (setup_of s v) (frame_start s f) old (at_frame s v clock rs f)) where
+      module _ (first : (v : ℕ) × CourseShows (setup_of s v) (frame_start s f) old (at_frame s v clock rs f)) where
         on : t + 1 ≤ u
         on = later_by first
 
-        cut_next : IsCut end_of hs next u
-        cut_next = cut_later end_of hs ascends next (t + 1) u on cut next_end
+        cut_next : IsSplitByKey end_of_reception hs next u
+        cut_next = cut_later end_of_reception hs ascends next (t + 1) u on cut next_end
 
         heard_apart : (r : Reception) → Contains rs r → (r.end < t + 1) ⊎ (u ≤ r.end)
         heard_apart r there =
@@ -180,12 +181,13 @@ module _ (clock : ℕ → ℕ) (s : ScenarioParts) (hs : List HeardEntry) (f : �
                 inl (omega (arith, times, at.from))
             by false is = inr (mul-le-mul_right s.profile.frame (ltb-false l.frame (f + 1) is))
 
-        quiet_until : (v : ℕ) → Shows (setup_of s v) t last (before_tick s v clock rs (t + 1)) → before_tick s v clock rs u ≡ before_tick s v clock rs (t + 1)
+        quiet_until : (v : ℕ) → CourseShows (setup_of s v) t last (before_tick s v clock rs (t + 1))
+            → before_tick s v clock rs u ≡ before_tick s v clock rs (t + 1)
         quiet_until v shows =
             until_next s v clock rs (t + 1) u on (record {
               set = record {
                 alarm = subst (λ (o : Option ℕ). IfSome o (λ x. u ≤ x)) (ap (λ (x : Device). x.alarm) shows.is) least.alarm;
-                ordered = subst (λ (o : Option Ordered). IfSome o (λ x. u ≤ x.tick)) (ap (λ (x : Device). x.ordered) shows.is) least.ordered;
+                ordered = subst (λ (o : Option OrderedPacket). IfSome o (λ x. u ≤ x.tick)) (ap (λ (x : Device). x.ordered) shows.is) least.ordered;
                 sending = subst (λ (o : Option Sending). IfSome o (λ x. u ≤ x.end)) (ap (λ (x : Device). x.sending) shows.is) least.sending;
               };
               hearings = heard_apart;
@@ -198,9 +200,9 @@ module _ (clock : ℕ → ℕ) (s : ScenarioParts) (hs : List HeardEntry) (f : �
             elim (line_apart l) [ inl before ↦ absurd (omega (arith, before, same, on)) | inr behind ↦ absurd (omega (arith, behind, same, below)) ])
 
         point_then : (v : ℕ) (b : Bool) → nat_lt u (frame_start s (f + 1)) ≡ b
-            → before_tick s v clock rs u ≡ (if b then scripted s v clock u (before_tick s v clock rs u) else before_tick s v clock rs u)
+            → before_tick s v clock rs u ≡ (if b then device_after_script s v clock u (before_tick s v clock rs u) else before_tick s v clock rs u)
         point_then v true is =
-            sym (ap (fold (after_line clock (setup_of s v) u) (before_tick s v clock rs u)) (no_lines v (ltb-true u (frame_start s (f + 1)) is)))
+            sym (ap (fold (device_after_line clock (setup_of s v) u) (before_tick s v clock rs u)) (no_lines v (ltb-true u (frame_start s (f + 1)) is)))
         point_then v false is = refl
 
         pub next_tick : IsAtTick u next old last
@@ -225,12 +227,12 @@ module _ (clock : ℕ → ℕ) (s : ScenarioParts) (hs : List HeardEntry) (f : �
   frame_over t k old now at over = subst (λ (w : ℕ). IsAtTick w k old now) (omega (arith, over, at.within)) at
 
   pub shown_over : (k : ℕ) (old now : CourseState) → IsAtTick (frame_start s (f + 1)) k old now → (v : ℕ)
-      → Shows (setup_of s v) (frame_start s f) old (at_frame s v clock rs f)
-      → Shows (setup_of s v) (frame_start s (f + 1)) now (before_tick s v clock rs (frame_start s (f + 1)))
+      → CourseShows (setup_of s v) (frame_start s f) old (at_frame s v clock rs f)
+      → CourseShows (setup_of s v) (frame_start s (f + 1)) now (before_tick s v clock rs (frame_start s (f + 1)))
   shown_over k old now at v first =
       let T = frame_start s (f + 1) in
       shows_as (setup_of s v) T now (point v T) (before_tick s v clock rs T) (at.shows v first)
-      (cond-false (nat_lt T T) (scripted s v clock T (before_tick s v clock rs T)) (before_tick s v clock rs T) (not_below T))
+      (cond-false (nat_lt T T) (device_after_script s v clock T (before_tick s v clock rs T)) (before_tick s v clock rs T) (not_below T))
     where
       not_below : (n : ℕ) → nat_lt n n ≡ false
       not_below n = by (nat_lt n n) refl

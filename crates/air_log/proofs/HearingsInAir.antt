@@ -14,10 +14,10 @@ use Rattle.radio_model.specs.OnAir.{Hearing}
 use Rattle.air_log.specs.declared.entry.Entry.{Entry}
 use Rattle.air_log.specs.declared.entry.HeardEntry.{HeardEntry}
 use Rattle.air_log.specs.Entries.{hearing_in}
-use Rattle.air_log.specs.Lawful.{comes_before, put_in, by_end, hearings_by, reception_of}
+use Rattle.air_log.specs.Lawful.{reception_comes_before, put_in, by_end, hearings_by, reception_of}
 use Rattle.air_log.specs.Trails.{Reception}
-use Rattle.air_log.specs.LogText.{placed, in_order}
-use Rattle.air_log.specs.Courses.{Ascends, end_of, hearing_of, reception_in, only_of, hearing_with}
+use Rattle.air_log.specs.LogText.{with_inserted, in_order}
+use Rattle.air_log.specs.Courses.{IsSortedByKey, end_of_reception, hearing_of, reception_in, only_of, hearing_with}
 
 -- one entry more
 picked : (v : ℕ) (o : Option Hearing) → filter (λ h. h.node == v) (option_to_list o) ≡ option_to_list (only_of v o)
@@ -65,19 +65,21 @@ is_order = ranks_by (then_total (on_total (λ (t : ℕ × ℕ). t.0) nat_cmp_tot
 same_test : (m n p q : ℕ) → (nat_lt m n || ((m == n) && nat_lt p q)) ≡ is_lt (ordering_then (nat_cmp m n) (nat_cmp p q))
 same_test m n p q = grind (arith, nat_tests)
 
-same_order : (g h : HeardEntry) → comes_before (hearing_of g) (hearing_of h) ≡ before g h
+same_order : (g h : HeardEntry) → reception_comes_before (hearing_of g) (hearing_of h) ≡ before g h
 same_order g h = same_test g.end h.end g.from h.from
 
-put_same : (h : HeardEntry) (gs : List HeardEntry) → put_in (hearing_of h) (map hearing_of gs) ≡ map hearing_of (placed before h gs)
+put_same : (h : HeardEntry) (gs : List HeardEntry) → put_in (hearing_of h) (map hearing_of gs) ≡ map hearing_of (with_inserted before h gs)
 put_same h [] = refl
 put_same h (g ∷ gs) =
-    ap (λ (l : List Hearing). if comes_before (hearing_of g) (hearing_of h) then hearing_of g ∷ l else hearing_of h ∷ hearing_of g ∷ map hearing_of gs)
+    ap (λ (l : List Hearing). if reception_comes_before (hearing_of g) (hearing_of h) then hearing_of g ∷ l else hearing_of h ∷ hearing_of g
+        ∷ map hearing_of gs)
     (put_same h gs)
-    ∙ ap (λ (b : Bool). if b then hearing_of g ∷ map hearing_of (placed before h gs) else hearing_of h ∷ hearing_of g ∷ map hearing_of gs) (same_order g h)
+    ∙ ap (λ (b : Bool). if b then hearing_of g ∷ map hearing_of (with_inserted before h gs) else hearing_of h ∷ hearing_of g ∷ map hearing_of gs)
+        (same_order g h)
     ∙ by (before g h)
   where
-    by : (b : Bool) → (if b then hearing_of g ∷ map hearing_of (placed before h gs) else hearing_of h ∷ hearing_of g ∷ map hearing_of gs)
-        ≡ map hearing_of (if b then g ∷ placed before h gs else h ∷ g ∷ gs)
+    by : (b : Bool) → (if b then hearing_of g ∷ map hearing_of (with_inserted before h gs) else hearing_of h ∷ hearing_of g ∷ map hearing_of gs)
+        ≡ map hearing_of (if b then g ∷ with_inserted before h gs else h ∷ g ∷ gs)
     by true = refl
     by false = refl
 
@@ -92,7 +94,7 @@ not_before m n p q is = elim (cases_order m n) [
   | inr (inr more) ↦ absurd (true≢false (sym (ap (λ (b : Bool). b || ((n == m) && nat_lt q p)) (lt-ltb n m more)) ∙ same_test n m q p ∙ is))
 ]
 
-pub sorted_ascends : (hs : List HeardEntry) → IsSortedBy before hs → Ascends end_of hs
+pub sorted_ascends : (hs : List HeardEntry) → IsSortedBy before hs → IsSortedByKey end_of_reception hs
 sorted_ascends hs sorted i j d less within =
     not_before (get_or hs i d).end (get_or hs j d).end (get_or hs i d).from (get_or hs j d).from
     (sorted_far before is_order hs sorted i j d (omega (arith, less)) within)

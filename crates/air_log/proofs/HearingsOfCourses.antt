@@ -11,8 +11,8 @@ use Rattle.radio_model.specs.declared.sending.Sending.{Sending}
 use Rattle.std.specs.declared.option.Option.{Option}
 use Rattle.air_log.specs.declared.entry.HeardEntry.{HeardEntry}
 use Rattle.air_log.specs.Devices.{Device, event}
-use Rattle.air_log.specs.Trails.{Reception, ending_at, hears, heard}
-use Rattle.air_log.specs.Courses.{CourseState, Goes, IsCut, end_of, reception_in}
+use Rattle.air_log.specs.Trails.{Reception, ending_at, device_after_reception, device_after_receptions}
+use Rattle.air_log.specs.Courses.{CourseState, Goes, IsSplitByKey, end_of_reception, reception_in}
 use Rattle.air_log.proofs.ShownCourses.{shows_as}
 use Rattle.air_log.proofs.ListCuts.{IsGone, gone_first, gone_more, none_yet, none_left, filter_more}
 
@@ -30,40 +30,42 @@ ending_in t (h ∷ hs) = ap (λ (rs : List Reception). cond (h.end == t) (recept
     by false = refl
 
 module _ (clock : ℕ → ℕ) (hs : List HeardEntry) (t : ℕ) where
-  keyed : (h : HeardEntry) → ends t h ≡ true → end_of h ≡ t
+  keyed : (h : HeardEntry) → ends t h ≡ true → end_of_reception h ≡ t
   keyed h is = eqb-true h.end t is
 
   abbrev so_far : ℕ → Setup → Device → Device
-  so_far k q d = fold (hears clock q t) d (map reception_in (filter (ends t) (take k hs)))
+  so_far k q d = fold (device_after_reception clock q t) d (map reception_in (filter (ends t) (take k hs)))
 
   pub record AreHeard (k : ℕ) (old now : CourseState) : Type 0 where
-    pub cut : IsGone end_of hs k t
+    pub cut : IsGone end_of_reception hs k t
     pub goes : Goes t (so_far k) old now
 
-  pub none_heard : (k : ℕ) (c : CourseState) → IsCut end_of hs k t → AreHeard k c c
+  pub none_heard : (k : ℕ) (c : CourseState) → IsSplitByKey end_of_reception hs k t → AreHeard k c c
   none_heard k c cut = record {
-    cut = gone_first end_of hs k t cut;
+    cut = gone_first end_of_reception hs k t cut;
     goes =
         λ q d shows. shows_as q t c d (so_far k q d) shows
-        (sym (ap (λ (xs : List HeardEntry). fold (hears clock q t) d (map reception_in xs)) (none_yet end_of hs (ends t) t keyed k cut)));
+        (sym (ap (λ (xs : List HeardEntry). fold (device_after_reception clock q t) d (map reception_in xs))
+            (none_yet end_of_reception hs (ends t) t keyed k cut)));
   }
 
   pub one_more_heard : (k : ℕ) (old now : CourseState) → AreHeard k old now → (h : HeardEntry) → slice_get hs k ≡ Some h → h.end ≡ t → (last : CourseState)
       → (let none : Option Sending = None in Goes t (λ q d. event clock q t (Heard h.packet) none d) now last) → AreHeard (k + 1) old last
   one_more_heard k old now heard h at same last goes = record {
-    cut = gone_more end_of hs k t h at same heard.cut;
+    cut = gone_more end_of_reception hs k t h at same heard.cut;
     goes = λ q d shows.
         let front = filter (ends t) (take k hs) in
         let more : filter (ends t) (take (k + 1) hs) ≡ front ++ h ∷ [] =
-        filter_more end_of hs (ends t) k h at ∙ ap (λ (xs : List HeardEntry). front ++ xs) (cond-true (h.end == t) (h ∷ []) [] (eq-eqb h.end t same)) in
-        shows_as q t last (hears clock q t (so_far k q d) (reception_in h)) (so_far (k + 1) q d) (goes q (so_far k q d) (heard.goes q d shows))
-        (sym (ap (λ (xs : List HeardEntry). fold (hears clock q t) d (map reception_in xs)) more
-        ∙ ap (fold (hears clock q t) d) (map-append reception_in front (h ∷ []))
-        ∙ fold-append (hears clock q t) d (map reception_in front) (reception_in h ∷ [])));
+        filter_more end_of_reception hs (ends t) k h at
+            ∙ ap (λ (xs : List HeardEntry). front ++ xs) (cond-true (h.end == t) (h ∷ []) [] (eq-eqb h.end t same)) in
+        shows_as q t last (device_after_reception clock q t (so_far k q d) (reception_in h)) (so_far (k + 1) q d) (goes q (so_far k q d) (heard.goes q d shows))
+        (sym (ap (λ (xs : List HeardEntry). fold (device_after_reception clock q t) d (map reception_in xs)) more
+        ∙ ap (fold (device_after_reception clock q t) d) (map-append reception_in front (h ∷ []))
+        ∙ fold-append (device_after_reception clock q t) d (map reception_in front) (reception_in h ∷ [])));
   }
 
-  pub all_heard : (k : ℕ) (old now : CourseState) → AreHeard k old now → IsCut end_of hs k (t + 1)
-      → Goes t (λ q d. heard clock q t (map reception_in hs) d) old now
+  pub all_heard : (k : ℕ) (old now : CourseState) → AreHeard k old now → IsSplitByKey end_of_reception hs k (t + 1)
+      → Goes t (λ q d. device_after_receptions clock q t (map reception_in hs) d) old now
   all_heard k old now so cut = λ q d shows.
-      shows_as q t now (so_far k q d) (heard clock q t (map reception_in hs) d) (so.goes q d shows)
-      (sym (ap (fold (hears clock q t) d) (ending_in t hs ∙ ap (map reception_in) (none_left end_of hs (ends t) t keyed k cut))))
+      shows_as q t now (so_far k q d) (device_after_receptions clock q t (map reception_in hs) d) (so.goes q d shows)
+      (sym (ap (fold (device_after_reception clock q t) d) (ending_in t hs ∙ ap (map reception_in) (none_left end_of_reception hs (ends t) t keyed k cut))))

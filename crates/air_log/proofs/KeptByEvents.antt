@@ -15,8 +15,9 @@ use Rattle.node_core.specs.Nodes.{Node, rebooted}
 use Rattle.node_core.specs.Rows.{orders_by}
 use Rattle.node_core.specs.Rows.{Stepped, row}
 use Rattle.air_log.specs.Devices.{Device, Power, PowerOff, PowerOn, obeyed, moved, event, event_by, silenced}
-use Rattle.air_log.specs.ScriptedDevices.{after_act, after_line, dropped, with_new_core}
-use Rattle.air_log.specs.Trails.{Reception, setup_of, lines_at, scripted, ending_at, hears, heard, ended_by, ended, is_due, alarms, alarmed, before_start}
+use Rattle.air_log.specs.ScriptedDevices.{device_after_act, device_after_line, dropped, with_new_core}
+use Rattle.air_log.specs.Trails.{Reception, setup_of, lines_at, device_after_script, ending_at, device_after_reception, device_after_receptions}
+use Rattle.air_log.specs.Trails.{device_ended_by, device_after_end, alarm_is_due, alarms, alarmed, before_start}
 
 -- at tick t. Neither the power nor what is set or runs matters
 pub record IsKept (P : Device → Type 0) (clock : ℕ → ℕ) (s : Setup) (t : ℕ) : Type 0 where
@@ -39,7 +40,7 @@ module _ (P : Device → Type 0) (clock : ℕ → ℕ) (s : Setup) (t : ℕ) (ke
       let r = row s n (clock t) e in
       all_obeyed (orders_by r) (moved t e x d n r) (kept.moving e x d n r holds)
 
-  by_act : (frame : ℕ) (d : Device) (a : Act) (p : Power) → P d → P (after_act clock s t frame d a p)
+  by_act : (frame : ℕ) (d : Device) (a : Act) (p : Power) → P d → P (device_after_act clock s t frame d a p)
   by_act frame d On (PowerOff boots) holds =
       by_event Boot None (record d { power = PowerOn (rebooted (boots + 1)) }) (PowerOn (rebooted (boots + 1)))
       (kept.powered d (PowerOn (rebooted (boots + 1))) holds)
@@ -55,15 +56,15 @@ module _ (P : Device → Type 0) (clock : ℕ → ℕ) (s : Setup) (t : ℕ) (ke
       cond_both (refuses i n.core) (dropped s.id frame i d) (with_new_core d n (queues i payload n.core)) P (λ is. kept.dropping frame i d holds)
       (λ is. kept.powered d _ holds)
 
-  by_lines : (ls : List ScriptLine) (d : Device) → P d → P (fold (after_line clock s t) d ls)
+  by_lines : (ls : List ScriptLine) (d : Device) → P d → P (fold (device_after_line clock s t) d ls)
   by_lines [] d holds = holds
-  by_lines (l ∷ ls) d holds = by_lines ls (after_line clock s t d l) (by_act l.frame d l.act d.power holds)
+  by_lines (l ∷ ls) d holds = by_lines ls (device_after_line clock s t d l) (by_act l.frame d l.act d.power holds)
 
-  by_hearings : (hs : List Reception) (d : Device) → P d → P (fold (hears clock s t) d hs)
+  by_hearings : (hs : List Reception) (d : Device) → P d → P (fold (device_after_reception clock s t) d hs)
   by_hearings [] d holds = holds
-  by_hearings (h ∷ hs) d holds = by_hearings hs (hears clock s t d h) (by_event (Heard h.packet) None d d.power holds)
+  by_hearings (h ∷ hs) d holds = by_hearings hs (device_after_reception clock s t d h) (by_event (Heard h.packet) None d d.power holds)
 
-  by_end : (d : Device) (x : Option Sending) → P d → P (ended_by clock s t d x)
+  by_end : (d : Device) (x : Option Sending) → P d → P (device_ended_by clock s t d x)
   by_end d None holds = holds
   by_end d (Some x) holds =
       cond_both (x.end == t) (event clock s t Sent (Some x) (record d { sending = None })) d P
@@ -75,16 +76,16 @@ module _ (P : Device → Type 0) (clock : ℕ → ℕ) (s : Setup) (t : ℕ) (ke
   by_alarms true zero d holds = holds
   by_alarms true (suc more) d holds =
       let after = event clock s t Alarm None (record d { alarm = None }) in
-      by_alarms (is_due t after.alarm) more after (by_event Alarm None (record d { alarm = None }) d.power (kept.without_alarm d holds))
+      by_alarms (alarm_is_due t after.alarm) more after (by_event Alarm None (record d { alarm = None }) d.power (kept.without_alarm d holds))
 
 -- the phases of a tick up to the hearings, the alarms, and all before the start of a sending
 pub in_hearings : (P : Device → Type 0) (s : ScenarioParts) (v : ℕ) (clock : ℕ → ℕ) (hs : List Reception) (t : ℕ) (d : Device) → IsKept P clock (setup_of s v) t
-    → P d → P (heard clock (setup_of s v) t hs (scripted s v clock t d))
+    → P d → P (device_after_receptions clock (setup_of s v) t hs (device_after_script s v clock t d))
 in_hearings P s v clock hs t d kept holds =
     let x = setup_of s v in
-    by_hearings P clock x t kept (ending_at t hs) (scripted s v clock t d) (by_lines P clock x t kept (lines_at s v t) d holds)
+    by_hearings P clock x t kept (ending_at t hs) (device_after_script s v clock t d) (by_lines P clock x t kept (lines_at s v t) d holds)
 
-pub in_end : (P : Device → Type 0) (clock : ℕ → ℕ) (s : Setup) (t : ℕ) (d : Device) → IsKept P clock s t → P d → P (ended clock s t d)
+pub in_end : (P : Device → Type 0) (clock : ℕ → ℕ) (s : Setup) (t : ℕ) (d : Device) → IsKept P clock s t → P d → P (device_after_end clock s t d)
 in_end P clock s t d kept holds = by_end P clock s t kept d d.sending holds
 
 pub in_event : (P : Device → Type 0) (clock : ℕ → ℕ) (s : Setup) (t : ℕ) (e : Event) (x : Option Sending) (d : Device) → IsKept P clock s t → P d
@@ -92,11 +93,11 @@ pub in_event : (P : Device → Type 0) (clock : ℕ → ℕ) (s : Setup) (t : �
 in_event P clock s t e x d kept holds = by_event P clock s t kept e x d d.power holds
 
 pub in_alarms : (P : Device → Type 0) (clock : ℕ → ℕ) (s : Setup) (t : ℕ) (d : Device) → IsKept P clock s t → P d → P (alarmed clock s t d)
-in_alarms P clock s t d kept holds = by_alarms P clock s t kept (is_due t d.alarm) (clock t + 300) d holds
+in_alarms P clock s t d kept holds = by_alarms P clock s t kept (alarm_is_due t d.alarm) (clock t + 300) d holds
 
 pub in_tick : (P : Device → Type 0) (s : ScenarioParts) (v : ℕ) (clock : ℕ → ℕ) (hs : List Reception) (t : ℕ) (d : Device) → IsKept P clock (setup_of s v) t
     → P d → P (before_start s v clock hs t d)
 in_tick P s v clock hs t d kept holds =
     let x = setup_of s v in
-    let d2 = heard clock x t hs (scripted s v clock t d) in
-    in_alarms P clock x t (ended clock x t d2) kept (in_end P clock x t d2 kept (in_hearings P s v clock hs t d kept holds))
+    let d2 = device_after_receptions clock x t hs (device_after_script s v clock t d) in
+    in_alarms P clock x t (device_after_end clock x t d2) kept (in_end P clock x t d2 kept (in_hearings P s v clock hs t d kept holds))

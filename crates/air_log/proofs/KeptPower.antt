@@ -20,9 +20,10 @@ use Rattle.bus_rules.specs.Cores.{Setup}
 use Rattle.node_core.specs.Nodes.{Node, rebooted}
 use Rattle.node_core.specs.Rows.{Stepped, row}
 use Rattle.node_core.specs.Rows.{node_after, orders_by}
-use Rattle.air_log.specs.Devices.{Device, Power, PowerOff, PowerOn, Listening, Ordered, obeyed, moved, event, event_by, silenced, tunes, listens_to, seen_power}
-use Rattle.air_log.specs.ScriptedDevices.{after_act, after_line, dropped, with_new_core}
-use Rattle.air_log.specs.Trails.{is_due, alarms, alarmed, begun, begun_by, starts, one_alarm}
+use Rattle.air_log.specs.Devices.{Device, Power, PowerOff, PowerOn, Listening, OrderedPacket, obeyed, moved, event, event_by, silenced, tunes, listens_to}
+use Rattle.air_log.specs.Devices.{seen_power}
+use Rattle.air_log.specs.ScriptedDevices.{device_after_act, device_after_line, dropped, with_new_core}
+use Rattle.air_log.specs.Trails.{alarm_is_due, alarms, alarmed, device_after_start, begun_by, starts, one_alarm}
 use Rattle.node_core.proofs.KeptBoots.{KeepsBoot, boot_kept}
 
 -- orders change no power
@@ -64,12 +65,13 @@ module _ (clock : ℕ → ℕ) (s : Setup) (t : ℕ) where
   unfolding alarms
   by_alarms false more d = refl
   by_alarms true zero d = refl
-  by_alarms true (suc more) d = let e = one_alarm clock s t d in by_alarms (is_due t e.alarm) more e ∙ event_power AlarmEvent None (record d { alarm = None })
+  by_alarms true (suc more) d =
+      let e = one_alarm clock s t d in by_alarms (alarm_is_due t e.alarm) more e ∙ event_power AlarmEvent None (record d { alarm = None })
 
   pub alarmed_power : (d : Device) → seen_power (alarmed clock s t d).power ≡ seen_power d.power
-  alarmed_power d = by_alarms (is_due t d.alarm) (clock t + 300) d
+  alarmed_power d = by_alarms (alarm_is_due t d.alarm) (clock t + 300) d
 
-  by_act : (frame : ℕ) (d : Device) (a : Act) (p : Power) → d.power ≡ p → seen_power (after_act clock s t frame d a p).power ≡ turned_by a (seen_power p)
+  by_act : (frame : ℕ) (d : Device) (a : Act) (p : Power) → d.power ≡ p → seen_power (device_after_act clock s t frame d a p).power ≡ turned_by a (seen_power p)
   by_act frame d On (PowerOff boots) is = event_power Boot None (record d { power = PowerOn (rebooted (boots + 1)) })
   by_act frame d On (PowerOn n) is = ap seen_power is
   by_act frame d Off (PowerOff boots) is = ap seen_power is
@@ -83,7 +85,7 @@ module _ (clock : ℕ → ℕ) (s : Setup) (t : ℕ) where
       cond_both (refuses i n.core) (dropped s.id frame i d) (with_new_core d n (queues i payload n.core))
       (λ (e : Device). seen_power e.power ≡ (true, n.core.boot)) (λ lost. ap seen_power is) (λ kept. refl)
 
-  pub line_power : (d : Device) (l : ScriptLine) → seen_power (after_line clock s t d l).power ≡ turned_by l.act (seen_power d.power)
+  pub line_power : (d : Device) (l : ScriptLine) → seen_power (device_after_line clock s t d l).power ≡ turned_by l.act (seen_power d.power)
   line_power d l = by_act l.frame d l.act d.power refl
 
   starts_power : (packet : List ℕ) (d : Device) (l : Option Listening) (x : Option Sending) → (starts s t packet d l x).power ≡ d.power
@@ -91,13 +93,13 @@ module _ (clock : ℕ → ℕ) (s : Setup) (t : ℕ) where
   starts_power packet d (Some l) (Some x) = refl
   starts_power packet d (Some l) None = refl
 
-  by_start : (d : Device) (o : Option Ordered) → (begun_by s t d o).power ≡ d.power
+  by_start : (d : Device) (o : Option OrderedPacket) → (begun_by s t d o).power ≡ d.power
   by_start d None = refl
   by_start d (Some o) =
       cond_both (o.tick == t) (starts s t o.packet d d.listening d.sending) d (λ (e : Device). e.power ≡ d.power)
       (λ now. starts_power o.packet d d.listening d.sending) (λ other. refl)
 
-  pub begun_power : (d : Device) → seen_power (begun s t d).power ≡ seen_power d.power
+  pub begun_power : (d : Device) → seen_power (device_after_start s t d).power ≡ seen_power d.power
   begun_power d = ap seen_power (by_start d d.ordered)
 
 pub few_before : (s : ScenarioParts) (sound : IsSoundScenario s) (told rest : List ScriptLine) (l : ScriptLine) → s.script ≡ told ++ l ∷ rest → l.act ≡ On

@@ -3,8 +3,8 @@ use Rattle.std.proofs.Common.{ℕ, ◌≤◌, Option}
 use Rattle.std.proofs.Common.{Some, None, option_map, IfSome, arith}
 use Rattle.air_log.specs.declared.entry.HeardEntry.{HeardEntry}
 use Rattle.air_log.specs.DeviceStates.{DeviceState}
-use Rattle.air_log.specs.Courses.{end_of}
-use Rattle.air_log.specs.Courses.{tick_of as ordered_tick, sending_end, least_of, least_due}
+use Rattle.air_log.specs.Courses.{end_of_reception}
+use Rattle.air_log.specs.Courses.{tick_of_ordered as ordered_tick, sending_end, least_of, least_due}
 
 -- the least of what is due comes no later than any of it
 least_below : (t : ℕ) (o : Option ℕ) → (least_of t o ≤ t) × IfSome o (λ u. least_of t o ≤ u)
@@ -39,25 +39,25 @@ is_least d h until =
     let a = least_of until d.alarm in
     let b = least_of a (option_map ordered_tick d.ordered) in
     let e = least_of b (option_map sending_end d.sending) in
-    let u = least_of e (option_map end_of h) in
+    let u = least_of e (option_map end_of_reception h) in
     let one = least_below until d.alarm in
     let two = least_below a (option_map ordered_tick d.ordered) in
     let three = least_below b (option_map sending_end d.sending) in
-    let four = least_below e (option_map end_of h) in
+    let four = least_below e (option_map end_of_reception h) in
     record {
       within = omega (arith, one.0, two.0, three.0, four.0);
       alarm = if_some_weaker d.alarm u a (omega (arith, two.0, three.0, four.0)) one.1;
       ordered =
           from_some_map ordered_tick d.ordered (λ x. u ≤ x) (if_some_weaker (option_map ordered_tick d.ordered) u b (omega (arith, three.0, four.0)) two.1);
       sending = from_some_map sending_end d.sending (λ x. u ≤ x) (if_some_weaker (option_map sending_end d.sending) u e (omega (arith, four.0)) three.1);
-      next = from_some_map end_of h (λ x. u ≤ x) four.1;
+      next = from_some_map end_of_reception h (λ x. u ≤ x) four.1;
     }
 
 pub no_earlier : (d : DeviceState) (h : Option HeardEntry) (until a : ℕ) → a ≤ until → IfSome d.alarm (λ x. a ≤ x) → IfSome d.ordered (λ o. a ≤ o.tick)
     → IfSome d.sending (λ x. a ≤ x.end) → IfSome h (λ x. a ≤ x.end) → a ≤ least_due d h until
 no_earlier d h until a within alarm ordered sending next =
-    least_above a _ (option_map end_of h)
+    least_above a _ (option_map end_of_reception h)
     (least_above a _ (option_map sending_end d.sending)
     (least_above a _ (option_map ordered_tick d.ordered) (least_above a until d.alarm within alarm) (if_some_map ordered_tick d.ordered (λ x. a ≤ x) ordered))
     (if_some_map sending_end d.sending (λ x. a ≤ x) sending))
-    (if_some_map end_of h (λ x. a ≤ x) next)
+    (if_some_map end_of_reception h (λ x. a ≤ x) next)

@@ -14,20 +14,20 @@ use Rattle.scenario_text.specs.declared.script.Act.TheVariants.{On}
 use Rattle.scenario_text.specs.declared.script.ScriptLine.{ScriptLine}
 use Rattle.scenario_text.proofs.BootsTold.{turned_more, Boots}
 use Rattle.air_log.specs.Devices.{Device, Power, PowerOff, PowerOn, seen_power}
-use Rattle.air_log.specs.ScriptedDevices.{after_line}
+use Rattle.air_log.specs.ScriptedDevices.{device_after_line}
 use Rattle.air_log.specs.Trails.{frame_start, lines_at}
 use Rattle.air_log.specs.DeviceStates.{CanBoot}
-use Rattle.air_log.specs.Courses.{CourseState, Shows, IsShown, Goes, IsCut, frame_of}
+use Rattle.air_log.specs.Courses.{CourseState, CourseShows, CourseIsShown, Goes, IsSplitByKey, frame_of_line}
 use Rattle.air_log.proofs.AlarmRows.{roomy}
 use Rattle.air_log.proofs.KeptPower.{line_power, few_before}
 use Rattle.air_log.proofs.ShownCourses.{shows_as}
 use Rattle.air_log.proofs.ListCuts.{IsGone, gone_first, gone_more, one_more, none_yet, none_left, filter_more}
 
 abbrev pub own_line : (ℕ → ℕ) → ℕ → ScriptLine → Setup → Device → Device
-own_line clock t l q d = if l.node == q.id then after_line clock q t d l else d
+own_line clock t l q d = if l.node == q.id then device_after_line clock q t d l else d
 
 -- the power that is shown
-power_shown : (q : Setup) (t : ℕ) (c : CourseState) (d : Device) → Shows q t c d → c.device.power ≡ d.power
+power_shown : (q : Setup) (t : ℕ) (c : CourseState) (d : Device) → CourseShows q t c d → c.device.power ≡ d.power
 power_shown q t c d shows = ap (λ (x : Device). x.power) shows.is
 
 module _ (clock : ℕ → ℕ) (s : ScenarioParts) (f : ℕ) where
@@ -35,11 +35,11 @@ module _ (clock : ℕ → ℕ) (s : ScenarioParts) (f : ℕ) where
   is_line v l = (l.node == v) && (frame_start s l.frame == frame_start s f)
 
   pub record AreTold (k : ℕ) (old now : CourseState) : Type 0 where
-    pub cut : IsGone frame_of s.script k f
+    pub cut : IsGone frame_of_line s.script k f
     pub power : seen_power now.device.power ≡ turned old.device.setup.id (false, 0) (take k s.script)
     pub setup : now.device.setup ≡ old.device.setup
-    pub shown : IsShown (frame_start s f) now
-    pub goes : Goes (frame_start s f) (λ q d. fold (after_line clock q (frame_start s f)) d (filter (is_line q.id) (take k s.script))) old now
+    pub shown : CourseIsShown (frame_start s f) now
+    pub goes : Goes (frame_start s f) (λ q d. fold (device_after_line clock q (frame_start s f)) d (filter (is_line q.id) (take k s.script))) old now
 
 module _ (clock : ℕ → ℕ) (s : ScenarioParts) (sound : IsSoundScenario s) (f : ℕ) where
   abbrev is_own : ℕ → ScriptLine → Bool
@@ -51,18 +51,18 @@ module _ (clock : ℕ → ℕ) (s : ScenarioParts) (sound : IsSoundScenario s) (
   some_frame : 1 ≤ s.profile.frame
   some_frame = let room = roomy s.profile sound.profile in omega (arith, room.long)
 
-  keyed : (v : ℕ) (l : ScriptLine) → is_own v l ≡ true → frame_of l ≡ f
+  keyed : (v : ℕ) (l : ScriptLine) → is_own v l ≡ true → frame_of_line l ≡ f
   keyed v l is = same_factor l.frame f s.profile.frame some_frame (eqb-true (frame_start s l.frame) (frame_start s f) (and_parts _ _ is).1)
 
-  pub none_told : (k : ℕ) (c : CourseState) → IsCut frame_of s.script k f → seen_power c.device.power ≡ turned c.device.setup.id (false, 0) (take k s.script)
-      → IsShown (frame_start s f) c → Told k c c
+  pub none_told : (k : ℕ) (c : CourseState) → IsSplitByKey frame_of_line s.script k f
+      → seen_power c.device.power ≡ turned c.device.setup.id (false, 0) (take k s.script) → CourseIsShown (frame_start s f) c → Told k c c
   none_told k c cut power shown = record {
-    cut = gone_first frame_of s.script k f cut;
+    cut = gone_first frame_of_line s.script k f cut;
     power = power;
     setup = refl;
     shown = shown;
-    goes = λ q d shows. shows_as q (frame_start s f) c d (fold (after_line clock q (frame_start s f)) d (filter (is_own q.id) (take k s.script))) shows
-        (sym (ap (fold (after_line clock q (frame_start s f)) d) (none_yet frame_of s.script (is_own q.id) f (keyed q.id) k cut)));
+    goes = λ q d shows. shows_as q (frame_start s f) c d (fold (device_after_line clock q (frame_start s f)) d (filter (is_own q.id) (take k s.script))) shows
+        (sym (ap (fold (device_after_line clock q (frame_start s f)) d) (none_yet frame_of_line s.script (is_own q.id) f (keyed q.id) k cut)));
   }
 
   module _ (k : ℕ) (old now : CourseState) (told : Told k old now) (l : ScriptLine) (at : slice_get s.script k ≡ Some l) where
@@ -87,13 +87,14 @@ module _ (clock : ℕ → ℕ) (s : ScenarioParts) (sound : IsSoundScenario s) (
             few_before s sound (take k s.script) (drop (k + 1) s.script) l splits on b
             (sym (ap seen_power is) ∙ told.power ∙ ap (λ (v : ℕ). turned v (false, 0) (take k s.script)) (sym (own ∙ ap (λ (q : Setup). q.id) told.setup)))
 
-    power_by : (b : Bool) (q : Setup) (d : Device) → seen_power (if b then after_line clock q (frame_start s f) d l else d).power
+    power_by : (b : Bool) (q : Setup) (d : Device) → seen_power (if b then device_after_line clock q (frame_start s f) d l else d).power
         ≡ (if b then turned_by l.act (seen_power d.power) else seen_power d.power)
     power_by true q d = line_power clock q (frame_start s f) d l
     power_by false q d = refl
 
     fold_by : (b c : Bool) (q : Setup) (x : Device) → c ≡ true
-        → fold (after_line clock q (frame_start s f)) x (if b && c then l ∷ [] else []) ≡ (if b then after_line clock q (frame_start s f) x l else x)
+        → fold (device_after_line clock q (frame_start s f)) x (if b && c then l ∷ [] else [])
+            ≡ (if b then device_after_line clock q (frame_start s f) x l else x)
     fold_by true true q x is = refl
     fold_by false c q x is = refl
     fold_by true false q x is = cc
@@ -102,12 +103,12 @@ module _ (clock : ℕ → ℕ) (s : ScenarioParts) (sound : IsSoundScenario s) (
     one_more_told same last goes =
         let T = frame_start s f in
         let w = told.shown in
-        let after : Shows w.setup T last (own_line clock T l w.setup w.device) = goes w.setup w.device w.shows in
+        let after : CourseShows w.setup T last (own_line clock T l w.setup w.device) = goes w.setup w.device w.shows in
         let id : w.setup.id ≡ old.device.setup.id = ap (λ (q : Setup). q.id) (sym w.shows.setup ∙ told.setup) in
         let next : suc k ≡ k + 1 = omega arith in
         let more : take k s.script ++ l ∷ [] ≡ take (k + 1) s.script = one_more s.script k l at ∙ ap (λ (n : ℕ). take n s.script) next in
         record {
-          cut = gone_more frame_of s.script k f l at same told.cut;
+          cut = gone_more frame_of_line s.script k f l at same told.cut;
           power =
               ap seen_power (power_shown w.setup T last (own_line clock T l w.setup w.device) after)
               ∙ power_by (l.node == w.setup.id) w.setup w.device
@@ -120,17 +121,17 @@ module _ (clock : ℕ → ℕ) (s : ScenarioParts) (sound : IsSoundScenario s) (
           setup = after.setup ∙ sym w.shows.setup ∙ told.setup;
           shown = record { setup = w.setup; device = _; shows = after };
           goes = λ q d shows.
-              let so = fold (after_line clock q T) d (filter (is_own q.id) (take k s.script)) in
-              shows_as q T last (own_line clock T l q so) (fold (after_line clock q T) d (filter (is_own q.id) (take (k + 1) s.script)))
+              let so = fold (device_after_line clock q T) d (filter (is_own q.id) (take k s.script)) in
+              shows_as q T last (own_line clock T l q so) (fold (device_after_line clock q T) d (filter (is_own q.id) (take (k + 1) s.script)))
               (goes q so (told.goes q d shows))
-              (sym (ap (fold (after_line clock q T) d) (filter_more frame_of s.script (is_own q.id) k l at)
-              ∙ fold-append (after_line clock q T) d (filter (is_own q.id) (take k s.script)) (if is_own q.id l then l ∷ [] else [])
+              (sym (ap (fold (device_after_line clock q T) d) (filter_more frame_of_line s.script (is_own q.id) k l at)
+              ∙ fold-append (device_after_line clock q T) d (filter (is_own q.id) (take k s.script)) (if is_own q.id l then l ∷ [] else [])
               ∙ fold_by (l.node == q.id) (frame_start s l.frame == T) q so (eq-eqb (frame_start s l.frame) T (ap (frame_start s) same))));
         }
 
-  pub all_told : (k : ℕ) (old now : CourseState) → Told k old now → IsCut frame_of s.script k (f + 1)
-      → Goes (frame_start s f) (λ q d. fold (after_line clock q (frame_start s f)) d (lines_at s q.id (frame_start s f))) old now
+  pub all_told : (k : ℕ) (old now : CourseState) → Told k old now → IsSplitByKey frame_of_line s.script k (f + 1)
+      → Goes (frame_start s f) (λ q d. fold (device_after_line clock q (frame_start s f)) d (lines_at s q.id (frame_start s f))) old now
   all_told k old now told cut = λ q d shows.
-      shows_as q (frame_start s f) now (fold (after_line clock q (frame_start s f)) d (filter (is_own q.id) (take k s.script)))
-      (fold (after_line clock q (frame_start s f)) d (lines_at s q.id (frame_start s f))) (told.goes q d shows)
-      (sym (ap (fold (after_line clock q (frame_start s f)) d) (none_left frame_of s.script (is_own q.id) f (keyed q.id) k cut)))
+      shows_as q (frame_start s f) now (fold (device_after_line clock q (frame_start s f)) d (filter (is_own q.id) (take k s.script)))
+      (fold (device_after_line clock q (frame_start s f)) d (lines_at s q.id (frame_start s f))) (told.goes q d shows)
+      (sym (ap (fold (device_after_line clock q (frame_start s f)) d) (none_left frame_of_line s.script (is_own q.id) f (keyed q.id) k cut)))

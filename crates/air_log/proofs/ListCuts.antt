@@ -6,7 +6,7 @@ use Rattle.std.proofs.lemmas.Bool.{ltb-false}
 use Rattle.std.proofs.lemmas.List.{take-append-drop, append-nil, length-drop, get_or-drop, length-take, get_or-take}
 use Rattle.std.proofs.lemmas.List.Elements.{filter-append}
 use Rattle.std.proofs.lemmas.Option.{slice_get_within, get_or_from_slice_get, same_Some, none-some, slice_get_read, slice_get_past, slice_get-get_or}
-use Rattle.air_log.specs.Courses.{IsCut, Ascends}
+use Rattle.air_log.specs.Courses.{IsSplitByKey, IsSortedByKey}
 use Rattle.air_log.proofs.NextDue.{none_passes}
 
 module _ {X : Type 0} where
@@ -49,10 +49,10 @@ module _ {X : Type 0} where
       pub before : (i : ℕ) (x : X) → slice_get xs i ≡ Some x → i < k → key x < t + 1
       pub behind : (i : ℕ) (x : X) → slice_get xs i ≡ Some x → k ≤ i → t ≤ key x
 
-    pub first_cut : IsCut key xs 0 0
+    pub first_cut : IsSplitByKey key xs 0 0
     first_cut = record { before = λ i x at less. absurd (omega (arith, less)); behind = λ i x at le. omega arith }
 
-    pub gone_first : (k t : ℕ) → IsCut key xs k t → IsGone k t
+    pub gone_first : (k t : ℕ) → IsSplitByKey key xs k t → IsGone k t
     gone_first k t cut = record { before = λ i x at less. (let early = cut.before i x at less in omega (arith, early)); behind = cut.behind }
 
     pub gone_more : (k t : ℕ) (x : X) → slice_get xs k ≡ Some x → key x ≡ t → IsGone k t → IsGone (k + 1) t
@@ -69,7 +69,7 @@ module _ {X : Type 0} where
                 let keys = ap key one in
                 omega (arith, same, keys)
 
-    module _ (ascends : Ascends key xs) where
+    module _ (ascends : IsSortedByKey key xs) where
       -- from an element on the keys are no less
       pub from_here : (k : ℕ) (x : X) → slice_get xs k ≡ Some x → (i : ℕ) (y : X) → slice_get xs i ≡ Some y → k ≤ i → key x ≤ key y
       from_here k x at i y there le = by (nat_lt k i) refl
@@ -87,7 +87,7 @@ module _ {X : Type 0} where
               omega (arith, keys)
 
       -- the next one has another key
-      pub cut_at : (k t : ℕ) (x : X) → slice_get xs k ≡ Some x → key x ≢ t → IsGone k t → IsCut key xs k (t + 1)
+      pub cut_at : (k t : ℕ) (x : X) → slice_get xs k ≡ Some x → key x ≢ t → IsGone k t → IsSplitByKey key xs k (t + 1)
       cut_at k t x at other gone = record {
         before = gone.before;
         behind = λ i y there le. (let later = from_here k x at i y there le in omega (arith, here, later));
@@ -101,7 +101,7 @@ module _ {X : Type 0} where
               by false is le = absurd (other (omega (arith, le, ltb-false t (key x) is)))
 
       -- a key that the next one has not yet reached
-      pub cut_later : (k t u : ℕ) → t ≤ u → IsCut key xs k t → ((x : X) → slice_get xs k ≡ Some x → u ≤ key x) → IsCut key xs k u
+      pub cut_later : (k t u : ℕ) → t ≤ u → IsSplitByKey key xs k t → ((x : X) → slice_get xs k ≡ Some x → u ≤ key x) → IsSplitByKey key xs k u
       cut_later k t u le cut next = record { before = λ i x at less. (let early = cut.before i x at less in omega (arith, early, le)); behind = behind }
         where
           behind : (i : ℕ) (y : X) → slice_get xs i ≡ Some y → k ≤ i → u ≤ key y
@@ -112,17 +112,17 @@ module _ {X : Type 0} where
               by (Some x) at = (let first = next x at in let later = from_here k x at i y there from in omega (arith, first, later))
 
     -- there is no next one
-    pub cut_end : (k t : ℕ) → slice_get xs k ≡ None → IsGone k t → IsCut key xs k (t + 1)
+    pub cut_end : (k t : ℕ) → slice_get xs k ≡ None → IsGone k t → IsSplitByKey key xs k (t + 1)
     cut_end k t none gone = record { before = gone.before; behind = λ i y there le. absurd (past xs k none i y there le) }
 
     -- what has the key t among them
     module _ (test : X → Bool) (t : ℕ) (keyed : (x : X) → test x ≡ true → key x ≡ t) where
-      pub none_yet : (k : ℕ) → IsCut key xs k t → filter test (take k xs) ≡ []
+      pub none_yet : (k : ℕ) → IsSplitByKey key xs k t → filter test (take k xs) ≡ []
       none_yet k cut =
           none_passes test (take k xs)
           (λ x there is. (let w = among_first xs k x there in let early = cut.before w.0 x w.2 w.1 in let same = keyed x is in omega (arith, early, same)))
 
-      pub none_left : (k : ℕ) → IsCut key xs k (t + 1) → filter test xs ≡ filter test (take k xs)
+      pub none_left : (k : ℕ) → IsSplitByKey key xs k (t + 1) → filter test xs ≡ filter test (take k xs)
       none_left k cut =
           let rest : filter test (drop k xs) ≡ [] =
           none_passes test (drop k xs) (λ x there

@@ -6,14 +6,14 @@ use Rattle.radio_model.specs.declared.sending.Sending.{Sending}
 use Rattle.radio_model.specs.OnAir.{Tuning}
 use Rattle.air_log.specs.declared.entry.Entry.{Entry}
 use Rattle.air_log.specs.declared.entry.Entry.TheVariants.{Sent, Heard, Tuned}
-use Rattle.air_log.specs.Entries.{sending_in, hearing_in, tuning_in, node_of, sendings_of, hearings_of, tunings_of, sent_entry, heard_entry}
+use Rattle.air_log.specs.Entries.{sending_in, hearing_in, tuning_in, node_of_entry, sendings_of, hearings_of, tunings_of, sent_entry, heard_entry}
 
 -- the node of an entry is that of what it says
 abbrev sender_in : Option Sending → ℕ → ℕ
 sender_in None v = v
 sender_in (Some x) v = x.node
 
-pub sending_node : (e : Entry) (x : Sending) → sending_in e ≡ Some x → node_of e ≡ x.node
+pub sending_node : (e : Entry) (x : Sending) → sending_in e ≡ Some x → node_of_entry e ≡ x.node
 sending_node (Sent y) x is = ap (λ (o : Option Sending). sender_in o 0) is
 sending_node (Heard h) x is = cc
 sending_node (Tuned t) x is = cc
@@ -22,7 +22,7 @@ abbrev tuner_in : Option Tuning → ℕ → ℕ
 tuner_in None v = v
 tuner_in (Some x) v = x.node
 
-pub tuning_node : (e : Entry) (x : Tuning) → tuning_in e ≡ Some x → node_of e ≡ x.node
+pub tuning_node : (e : Entry) (x : Tuning) → tuning_in e ≡ Some x → node_of_entry e ≡ x.node
 tuning_node (Sent y) x is = cc
 tuning_node (Heard h) x is = cc
 tuning_node (Tuned t) x is = ap (λ (o : Option Tuning). tuner_in o 0) is

@@ -12,9 +12,10 @@ use Rattle.radio_model.specs.declared.sending.Sending.{Sending}
 use Rattle.scenario_text.specs.ScenarioParts.{ScenarioParts}
 use Rattle.scenario_text.specs.ScenarioFacts.{IsSoundScenario}
 use Rattle.bus_rules.specs.Cores.{Setup}
-use Rattle.air_log.specs.Devices.{Device, Listening, Ordered, event, obeyed, silenced, tunes, listens_to}
-use Rattle.air_log.specs.Trails.{Reception, setup_of, run_end, frame_start, scripted, heard, ended_by, ended, is_due, alarmed, begun_by, starts, before_tick}
-use Rattle.air_log.specs.QuietTicks.{IsQuiet, ends_at, starts_at}
+use Rattle.air_log.specs.Devices.{Device, Listening, OrderedPacket, event, obeyed, silenced, tunes, listens_to}
+use Rattle.air_log.specs.Trails.{Reception, setup_of, run_end, frame_start, device_after_script, device_after_receptions, device_ended_by, device_after_end}
+use Rattle.air_log.specs.Trails.{alarm_is_due, alarmed, begun_by, starts, before_tick}
+use Rattle.air_log.specs.QuietTicks.{IsQuiet, ends_at, ordered_starts_at}
 use Rattle.air_log.specs.Ahead.{IsAhead, NextDue}
 use Rattle.lwb_base.proofs.Elements.{contains_head, contains_tail}
 use Rattle.air_log.proofs.QuietTicks.{quiet_ticks}
@@ -24,7 +25,7 @@ use Rattle.air_log.proofs.AlarmLoop.{no_alarm_left}
 abbrev pub AlarmAhead : ℕ → Option ℕ → Type 0
 AlarmAhead t a = IfSome a (λ tick. t ≤ tick)
 
-abbrev pub StartAhead : ℕ → Option Ordered → Type 0
+abbrev pub StartAhead : ℕ → Option OrderedPacket → Type 0
 StartAhead t o = IfSome o (λ x. t ≤ x.tick)
 
 abbrev pub EndAhead : ℕ → Option Sending → Type 0
@@ -96,7 +97,8 @@ kept_sends clock s t u = record {
 }
 
 -- after its phase no sending ends at the tick any more
-pub end_over : (clock : ℕ → ℕ) (s : Setup) (t : ℕ) (d : Device) (x : Option Sending) → d.sending ≡ x → EndAhead t x → Sends (suc t) (ended_by clock s t d x)
+pub end_over : (clock : ℕ → ℕ) (s : Setup) (t : ℕ) (d : Device) (x : Option Sending) → d.sending ≡ x → EndAhead t x
+    → Sends (suc t) (device_ended_by clock s t d x)
 end_over clock s t d None at ahead = rw at tt
 end_over clock s t d (Some x) at ahead =
     let y : Device = record d { sending = None } in
@@ -104,7 +106,7 @@ end_over clock s t d (Some x) at ahead =
     (λ is. in_event (Sends (suc t)) clock s t Sent (Some x) y (kept_sends clock s t (suc t)) tt)
     (λ is. rw at (omega (arith, ahead, eqb-false x.end t is)))
 
-pub alarm_over : (t : ℕ) (a : Option ℕ) → is_due t a ≡ false → AlarmAhead t a → AlarmAhead (suc t) a
+pub alarm_over : (t : ℕ) (a : Option ℕ) → alarm_is_due t a ≡ false → AlarmAhead t a → AlarmAhead (suc t) a
 alarm_over t None none ahead = tt
 alarm_over t (Some tick) none ahead = omega (arith, ahead, eqb-false tick t none)
 
@@ -112,7 +114,7 @@ alarm_over t (Some tick) none ahead = omega (arith, ahead, eqb-false tick t none
 takes_time : (p : Numbers) (n : ℕ) → 1 ≤ p.byte → 1 ≤ airtime p n
 takes_time p n some = let times : (n + 8) * 1 ≤ (n + 8) * p.byte = mul-le-mul_left (n + 8) some in omega (arith, times)
 
-pub begin_over : (s : Setup) (t : ℕ) (d : Device) (o : Option Ordered) → 1 ≤ s.profile.byte → d.ordered ≡ o → AlarmAhead (suc t) d.alarm → StartAhead t o
+pub begin_over : (s : Setup) (t : ℕ) (d : Device) (o : Option OrderedPacket) → 1 ≤ s.profile.byte → d.ordered ≡ o → AlarmAhead (suc t) d.alarm → StartAhead t o
     → Sends (suc t) d → Ahead (suc t) (begun_by s t d o)
 begin_over s t d None some at alarm start runs = (alarm, rw at tt, runs)
 begin_over s t d (Some o) some at alarm start runs =
@@ -139,8 +141,8 @@ module _ (s : ScenarioParts) (v : ℕ) (clock : ℕ → ℕ) (hs : List Receptio
   ahead_at (suc t) within =
       let x = setup_of s v in
       let d = before_tick s v clock hs t in
-      let d2 = heard clock x t hs (scripted s v clock t d) in
-      let d3 = ended clock x t d2 in
+      let d2 = device_after_receptions clock x t hs (device_after_script s v clock t d) in
+      let d3 = device_after_end clock x t d2 in
       let d4 = alarmed clock x t d3 in
       let two = in_hearings (Ahead t) s v clock hs t d (kept_ahead clock x t) (ahead_at t (omega (arith, within))) in
       let three = in_end (Ahead t) clock x t d2 (kept_ahead clock x t) two in
@@ -161,11 +163,11 @@ none_passes {X} p (x ∷ xs) none = by_test (p x) refl (none_passes p xs (λ y t
     by_test true is rest = absurd (none x (contains_head x xs) is)
     by_test false is rest = rest
 
-alarm_quiet : (t b : ℕ) (a : Option ℕ) → t < b → AlarmAhead b a → is_due t a ≡ false
+alarm_quiet : (t b : ℕ) (a : Option ℕ) → t < b → AlarmAhead b a → alarm_is_due t a ≡ false
 alarm_quiet t b None less ahead = refl
 alarm_quiet t b (Some tick) less ahead = ne_eqb tick t (λ is. omega (arith, is, less, ahead))
 
-start_quiet : (t b : ℕ) (o : Option Ordered) → t < b → StartAhead b o → starts_at t o ≡ false
+start_quiet : (t b : ℕ) (o : Option OrderedPacket) → t < b → StartAhead b o → ordered_starts_at t o ≡ false
 start_quiet t b None less ahead = refl
 start_quiet t b (Some o) less ahead = ne_eqb o.tick t (λ is. omega (arith, is, less, ahead))
 

@@ -20,7 +20,7 @@ use Rattle.node_core.specs.declared.stage.Stage.{Stage}
 use Rattle.node_core.specs.declared.stage.Stage.TheVariants.{Idle, Scanning, AwaitFrame, AwaitSlot, InWindow}
 use Rattle.node_core.proofs.KeptBoots.{boot_kept}
 use Rattle.air_log.specs.Devices.{Device, Power, PowerOff, PowerOn, obeyed, moved, stepped, silenced, tunes, listens_to}
-use Rattle.air_log.specs.WindowLogs.{WindowLog, is_alarm, gone_on, closed_log, window_of, windows_after, windows_by}
+use Rattle.air_log.specs.WindowLogs.{WindowLog, is_alarm, gone_on, logs_after_closing, window_of_stage, windows_after, windows_by}
 use Rattle.air_log.proofs.AlarmRows.{InRange}
 use Rattle.air_log.proofs.KeptPower.{boot_after}
 
@@ -53,7 +53,7 @@ gone_same : (t : ℕ) (e : Event) (x : Option Sending) (u : Window) (logs : List
 gone_same t e x u [] = refl
 gone_same t e x u (w ∷ ws) = refl
 
-closed_same : (t : ℕ) (m : Node) (logs : List WindowLog) → by_alarm (closed_log t m logs) ≡ by_alarm logs
+closed_same : (t : ℕ) (m : Node) (logs : List WindowLog) → by_alarm (logs_after_closing t m logs) ≡ by_alarm logs
 closed_same t m [] = refl
 closed_same t m (w ∷ ws) = refl
 
@@ -63,7 +63,7 @@ opens e = if is_alarm e then 1 else 0
 
 pub one_at_most : (t : ℕ) (e : Event) (x : Option Sending) (n m : Node) (from to : Stage) (logs : List WindowLog)
     → by_alarm (windows_after t e x n m from to logs) ≤ opens e + by_alarm logs
-one_at_most t e x n m from to logs = by_windows (window_of from) (window_of to)
+one_at_most t e x n m from to logs = by_windows (window_of_stage from) (window_of_stage to)
   where
     by_windows : (old new : Option (ℕ × Window)) → by_alarm (windows_by t e x n m old new logs) ≤ opens e + by_alarm logs
     by_windows (Some old) (Some new) = omega (arith, gone_same t e x new.1 logs)

@@ -10,8 +10,9 @@ use Rattle.radio_model.specs.OnAir.{Tuning}
 use Rattle.radio_model.specs.declared.sending.Sending.{Sending}
 use Rattle.scenario_text.specs.ScenarioParts.{ScenarioParts}
 use Rattle.bus_rules.specs.Cores.{Setup}
-use Rattle.air_log.specs.Devices.{Device, Listening, Ordered, event, obeyed, silenced, tunes, listens_to}
-use Rattle.air_log.specs.Trails.{Reception, setup_of, scripted, heard, ended_by, ended, alarmed, begun_by, starts, sending_from, before_start, before_tick}
+use Rattle.air_log.specs.Devices.{Device, Listening, OrderedPacket, event, obeyed, silenced, tunes, listens_to}
+use Rattle.air_log.specs.Trails.{Reception, setup_of, device_after_script, device_after_receptions, device_ended_by, device_after_end, alarmed, begun_by}
+use Rattle.air_log.specs.Trails.{starts, sending_from, before_start, before_tick}
 use Rattle.air_log.specs.QuietTicks.{ends_at}
 use Rattle.air_log.proofs.KeptByEvents.{IsKept, in_hearings, in_end, in_event, in_alarms, in_tick}
 
@@ -61,7 +62,7 @@ own_starts s t packet d None x is = is
 own_starts s t packet d (Some l) (Some x) is = is
 own_starts s t packet d (Some l) None is = Contains-push d.made.sent (sending_from s t packet l)
 
-own_begun : (s : Setup) (t : ℕ) (d : Device) (o : Option Ordered) → SendsOwn d → SendsOwn (begun_by s t d o)
+own_begun : (s : Setup) (t : ℕ) (d : Device) (o : Option OrderedPacket) → SendsOwn d → SendsOwn (begun_by s t d o)
 own_begun s t d None is = is
 own_begun s t d (Some o) is =
     cond_both (o.tick == t) (starts s t o.packet d d.listening d.sending) d SendsOwn (λ now. own_starts s t o.packet d d.listening d.sending is) (λ other. is)
@@ -75,7 +76,7 @@ module _ (s : ScenarioParts) (v : ℕ) (clock : ℕ → ℕ) (hs : List Receptio
       let e = before_start s v clock hs t d in
       own_begun (setup_of s v) t e e.ordered (in_tick SendsOwn s v clock hs t d (kept_own clock (setup_of s v) t) (own_before t))
 
-  pub own_heard : (t : ℕ) → SendsOwn (heard clock (setup_of s v) t hs (scripted s v clock t (before_tick s v clock hs t)))
+  pub own_heard : (t : ℕ) → SendsOwn (device_after_receptions clock (setup_of s v) t hs (device_after_script s v clock t (before_tick s v clock hs t)))
   own_heard t = in_hearings SendsOwn s v clock hs t (before_tick s v clock hs t) (kept_own clock (setup_of s v) t) (own_before t)
 
 -- a sending stands among all also after the end of one
@@ -83,7 +84,7 @@ module _ (y : Sending) where
   abbrev Has : Option Sending → List Sending → Type 0
   Has x xs = Contains xs y
 
-  pub still_sent : (clock : ℕ → ℕ) (s : Setup) (t : ℕ) (d : Device) → Contains d.made.sent y → Contains (ended clock s t d).made.sent y
+  pub still_sent : (clock : ℕ → ℕ) (s : Setup) (t : ℕ) (d : Device) → Contains d.made.sent y → Contains (device_after_end clock s t d).made.sent y
   still_sent clock s t d is = in_end (λ d. Has d.sending d.made.sent) clock s t d (kept_running Has (λ x xs has. has) clock s t) is
 
 -- no sending that runs ends at the tick
@@ -96,7 +97,7 @@ NoEnd t x xs = ends_at t x ≡ false
 kept_none : (clock : ℕ → ℕ) (s : Setup) (t u : ℕ) → IsKept (NoneEnds u) clock s t
 kept_none clock s t u = kept_running (NoEnd u) (λ x xs is. refl) clock s t
 
-none_by : (clock : ℕ → ℕ) (s : Setup) (t : ℕ) (d : Device) (x : Option Sending) → d.sending ≡ x → NoneEnds t (ended_by clock s t d x)
+none_by : (clock : ℕ → ℕ) (s : Setup) (t : ℕ) (d : Device) (x : Option Sending) → d.sending ≡ x → NoneEnds t (device_ended_by clock s t d x)
 none_by clock s t d None at = rw at refl
 none_by clock s t d (Some x) at =
     let y : Device = record d { sending = None } in
@@ -105,7 +106,7 @@ none_by clock s t d (Some x) at =
     (λ is. rw at is)
 
 -- after their ends, and after the alarms
-pub none_ends : (clock : ℕ → ℕ) (s : Setup) (t : ℕ) (d : Device) → NoneEnds t (ended clock s t d)
+pub none_ends : (clock : ℕ → ℕ) (s : Setup) (t : ℕ) (d : Device) → NoneEnds t (device_after_end clock s t d)
 none_ends clock s t d = none_by clock s t d d.sending refl
 
 pub none_ends_later : (clock : ℕ → ℕ) (s : Setup) (t : ℕ) (d : Device) → NoneEnds t d → NoneEnds t (alarmed clock s t d)

@@ -4,16 +4,17 @@ use Rattle.std.proofs.Common.{Option, refl, ap, ◌∙◌, sym, filter, arith, t
 use Rattle.radio_model.specs.declared.sending.Sending.{Sending}
 use Rattle.scenario_text.specs.ScenarioParts.{ScenarioParts}
 use Rattle.bus_rules.specs.Cores.{Setup}
-use Rattle.air_log.specs.Devices.{Device, Ordered, silenced}
-use Rattle.air_log.specs.Trails.{Reception, setup_of, ending_at, ended_by, begun_by, alarms, is_due, before_start, begun, tick, before_tick, run_end, trail}
-use Rattle.air_log.specs.QuietTicks.{IsQuiet, ends_at, starts_at, ends_before}
+use Rattle.air_log.specs.Devices.{Device, OrderedPacket, silenced}
+use Rattle.air_log.specs.Trails.{Reception, setup_of, ending_at, device_ended_by, begun_by, alarms, alarm_is_due, before_start, device_after_start, tick}
+use Rattle.air_log.specs.Trails.{before_tick, run_end, trail}
+use Rattle.air_log.specs.QuietTicks.{IsQuiet, ends_at, ordered_starts_at, ends_before}
 
 -- where nothing is due, a phase changes nothing
-pub no_end : (clock : ℕ → ℕ) (s : Setup) (t : ℕ) (d : Device) (x : Option Sending) → ends_at t x ≡ false → ended_by clock s t d x ≡ d
+pub no_end : (clock : ℕ → ℕ) (s : Setup) (t : ℕ) (d : Device) (x : Option Sending) → ends_at t x ≡ false → device_ended_by clock s t d x ≡ d
 no_end clock s t d None none = refl
 no_end clock s t d (Some x) none = rw none refl
 
-pub no_start : (s : Setup) (t : ℕ) (d : Device) (o : Option Ordered) → starts_at t o ≡ false → begun_by s t d o ≡ d
+pub no_start : (s : Setup) (t : ℕ) (d : Device) (o : Option OrderedPacket) → ordered_starts_at t o ≡ false → begun_by s t d o ≡ d
 no_start s t d None none = refl
 no_start s t d (Some o) none = rw none refl
 
@@ -24,7 +25,7 @@ no_alarm clock s t more d b none = rw none refl
 pub quiet_tick : (s : ScenarioParts) (v : ℕ) (clock : ℕ → ℕ) (hs : List Reception) (t : ℕ) (d : Device) → IsQuiet s v hs t d → tick s v clock hs t d ≡ d
 quiet_tick s v clock hs t d q =
     rw q.lines rw q.hearings
-    (rw (no_end clock (setup_of s v) t d d.sending q.sending) rw (no_alarm clock (setup_of s v) t (clock t + 300) d (is_due t d.alarm) q.alarm)
+    (rw (no_end clock (setup_of s v) t d d.sending q.sending) rw (no_alarm clock (setup_of s v) t (clock t + 300) d (alarm_is_due t d.alarm) q.alarm)
     (no_start (setup_of s v) t d d.ordered q.start))
 
 module _ (s : ScenarioParts) (v : ℕ) (clock : ℕ → ℕ) where
@@ -84,7 +85,7 @@ module _ (s : ScenarioParts) (v : ℕ) (clock : ℕ → ℕ) where
   same_start gs hs t d now = rw now refl
 
   pub same_tick : (gs hs : List Reception) (t : ℕ) (d : Device) → ending_at t gs ≡ ending_at t hs → tick s v clock gs t d ≡ tick s v clock hs t d
-  same_tick gs hs t d now = ap (begun (setup_of s v) t) (same_start gs hs t d now)
+  same_tick gs hs t d now = ap (device_after_start (setup_of s v) t) (same_start gs hs t d now)
 
   pub prefix : (gs hs : List Reception) (t : ℕ) → filter (ends_before t) gs ≡ filter (ends_before t) hs
       → before_tick s v clock gs t ≡ before_tick s v clock hs t

@@ -17,9 +17,9 @@ use Rattle.bus_rules.specs.Cores.{Setup}
 use Rattle.node_core.specs.Nodes.{rebooted}
 use Rattle.node_core.specs.Rows.{orders_by}
 use Rattle.node_core.specs.Rows.{row}
-use Rattle.air_log.specs.Devices.{Device, Power, PowerOff, PowerOn, Listening, Ordered, obeyed, silenced, tunes, listens_to, moved, event, event_by}
-use Rattle.air_log.specs.ScriptedDevices.{after_act, after_line, dropped, with_new_core}
-use Rattle.air_log.specs.Trails.{begun, begun_by, starts, sending_from, is_due, alarms, alarmed, starting, starting_by}
+use Rattle.air_log.specs.Devices.{Device, Power, PowerOff, PowerOn, Listening, OrderedPacket, obeyed, silenced, tunes, listens_to, moved, event, event_by}
+use Rattle.air_log.specs.ScriptedDevices.{device_after_act, device_after_line, dropped, with_new_core}
+use Rattle.air_log.specs.Trails.{device_after_start, begun_by, starts, sending_from, alarm_is_due, alarms, alarmed, sendings_starting, starting_by}
 
 tuned_sending : (rank t : ℕ) (d : Device) (es : List Tuning) → (tunes rank t d es).sending ≡ d.sending
 tuned_sending rank t d [] = refl
@@ -46,7 +46,7 @@ module _ (clock : ℕ → ℕ) (s : Setup) (t : ℕ) where
   pub event_sending : (e : Event) (x : Option Sending) (d : Device) → (event clock s t e x d).sending ≡ d.sending
   event_sending e x d = by_power e x d d.power
 
-  act_sending : (frame : ℕ) (d : Device) (a : Act) (p : Power) → (after_act clock s t frame d a p).sending ≡ d.sending
+  act_sending : (frame : ℕ) (d : Device) (a : Act) (p : Power) → (device_after_act clock s t frame d a p).sending ≡ d.sending
   act_sending frame d On (PowerOff boots) = event_sending Boot None (record d { power = PowerOn (rebooted (boots + 1)) })
   act_sending frame d On (PowerOn n) = refl
   act_sending frame d OffOf (PowerOff boots) = refl
@@ -60,7 +60,7 @@ module _ (clock : ℕ → ℕ) (s : Setup) (t : ℕ) where
       cond_both (refuses i n.core) (dropped s.id frame i d) (with_new_core d n (queues i payload n.core)) (λ (y : Device). y.sending ≡ d.sending) (λ at. refl)
       (λ at. refl)
 
-  pub line_sending : (d : Device) (line : ScriptLine) → (after_line clock s t d line).sending ≡ d.sending
+  pub line_sending : (d : Device) (line : ScriptLine) → (device_after_line clock s t d line).sending ≡ d.sending
   line_sending d line = act_sending line.frame d line.act d.power
 
   alarms_sending : (b : Bool) (more : ℕ) (d : Device) → (alarms clock s t b more d).sending ≡ d.sending
@@ -69,10 +69,10 @@ module _ (clock : ℕ → ℕ) (s : Setup) (t : ℕ) where
   alarms_sending true zero d = refl
   alarms_sending true (suc more) d =
       let after = event clock s t AlarmOf None (record d { alarm = None }) in
-      alarms_sending (is_due t after.alarm) more after ∙ event_sending AlarmOf None (record d { alarm = None })
+      alarms_sending (alarm_is_due t after.alarm) more after ∙ event_sending AlarmOf None (record d { alarm = None })
 
   pub alarmed_sending : (d : Device) → (alarmed clock s t d).sending ≡ d.sending
-  alarmed_sending d = alarms_sending (is_due t d.alarm) (clock t + 300) d
+  alarmed_sending d = alarms_sending (alarm_is_due t d.alarm) (clock t + 300) d
 
 -- nothing starts, or this sending does where none ran
 abbrev pub Begins : Setup → ℕ → Device → List Sending → Device → Type 0
@@ -86,8 +86,8 @@ pub profile_lasts : (p : Numbers) → IsProfile p → Lasts p
 profile_lasts p (inl is) n = omega (arith, ap (λ (q : Numbers). airtime q n) is)
 profile_lasts p (inr is) n = omega (arith, ap (λ (q : Numbers). airtime q n) is.0)
 
-starts_begins : (s : Setup) → Lasts s.profile → (t : ℕ) (o : Ordered) (d : Device) (l : Option Listening) (x : Option Sending) → d.sending ≡ x → o.tick ≡ t
-    → Begins s t d (starting_by s t (Some o) l x) (starts s t o.packet d l x)
+starts_begins : (s : Setup) → Lasts s.profile → (t : ℕ) (o : OrderedPacket) (d : Device) (l : Option Listening) (x : Option Sending) → d.sending ≡ x
+    → o.tick ≡ t → Begins s t d (starting_by s t (Some o) l x) (starts s t o.packet d l x)
 starts_begins s lasts t o d None None is at = refl
 starts_begins s lasts t o d None (Some x) is at = refl
 starts_begins s lasts t o d (Some l) (Some x) is at = refl
@@ -100,13 +100,13 @@ starts_begins s lasts t o d (Some l) None is at =
     apart : (o.tick == t) ≡ false → ⊥
     apart other = omega (arith, at, eqb-false o.tick t other)
 
-idle : (s : Setup) (t : ℕ) (o : Ordered) (l : Option Listening) (x : Option Sending) → (o.tick == t) ≡ false → starting_by s t (Some o) l x ≡ []
+idle : (s : Setup) (t : ℕ) (o : OrderedPacket) (l : Option Listening) (x : Option Sending) → (o.tick == t) ≡ false → starting_by s t (Some o) l x ≡ []
 idle s t o None None other = refl
 idle s t o None (Some x) other = refl
 idle s t o (Some l) None other = cond-false (o.tick == t) (sending_from s t o.packet l ∷ []) [] other
 idle s t o (Some l) (Some x) other = refl
 
-begun_begins : (s : Setup) → Lasts s.profile → (t : ℕ) (d : Device) (o : Option Ordered)
+begun_begins : (s : Setup) → Lasts s.profile → (t : ℕ) (d : Device) (o : Option OrderedPacket)
     → Begins s t d (starting_by s t o d.listening d.sending) (begun_by s t d o)
 begun_begins s lasts t d None = refl
 begun_begins s lasts t d (Some o) =
@@ -114,5 +114,5 @@ begun_begins s lasts t d (Some o) =
     (λ is. starts_begins s lasts t o d d.listening d.sending refl (eqb-true o.tick t is))
     (λ other. subst (λ (xs : List Sending). Begins s t d xs d) (sym (idle s t o d.listening d.sending other)) refl)
 
-pub begun_sending : (s : Setup) → Lasts s.profile → (t : ℕ) (d : Device) → Begins s t d (starting s t d) (begun s t d)
+pub begun_sending : (s : Setup) → Lasts s.profile → (t : ℕ) (d : Device) → Begins s t d (sendings_starting s t d) (device_after_start s t d)
 begun_sending s lasts t d = begun_begins s lasts t d d.ordered

@@ -10,10 +10,10 @@ use Rattle.air_log.specs.DeviceStates.{DeviceState, whole}
 use Rattle.air_log.specs.DeviceStates.{EndedBefore, HappenedBy}
 use Rattle.air_log.specs.WindowLogs.{WindowLog}
 use Rattle.air_log.specs.WindowSums.{IsCounted}
-use Rattle.air_log.specs.Courses.{CourseState, made_in, Shows, IsShown, Goes}
+use Rattle.air_log.specs.Courses.{CourseState, made_in, CourseShows, CourseIsShown, Goes}
 
 -- a device is shown still
-pub shown_still : (t : ℕ) (change : Setup → Device → Device) (old new : CourseState) → Goes t change old new → IsShown t old → IsShown t new
+pub shown_still : (t : ℕ) (change : Setup → Device → Device) (old new : CourseState) → Goes t change old new → CourseIsShown t old → CourseIsShown t new
 shown_still t change old new goes shown = record {
   setup = shown.setup;
   device = change shown.setup shown.device;
@@ -23,7 +23,7 @@ shown_still t change old new goes shown = record {
 -- what a device shows, by its state and by what was made
 pub whole_shows : (q : Setup) (t : ℕ) (c : CourseState) (drops : List DropLine) (windows : List WindowLog) → c.device.setup ≡ q
     → IsCounted q.profile q.sends windows c.windows → q.sends ≤ 4 → EndedBefore t c.tuned → HappenedBy t c.device → c.device.delivery ≡ None
-    → Shows q t c (whole c.device (made_in c drops windows))
+    → CourseShows q t c (whole c.device (made_in c drops windows))
 whole_shows q t c drops windows setup counted few ended happened taken = record {
   drops = drops;
   windows = windows;
@@ -37,11 +37,11 @@ whole_shows q t c drops windows setup counted few ended happened taken = record 
 }
 
 -- a device of a trail by the one that is shown
-pub shows_as : (q : Setup) (t : ℕ) (c : CourseState) (d e : Device) → Shows q t c d → d ≡ e → Shows q t c e
-shows_as q t c d e shows same = subst (λ (x : Device). Shows q t c x) same shows
+pub shows_as : (q : Setup) (t : ℕ) (c : CourseState) (d e : Device) → CourseShows q t c d → d ≡ e → CourseShows q t c e
+shows_as q t c d e shows same = subst (λ (x : Device). CourseShows q t c x) same shows
 
-pub goes_as : (t : ℕ) (change other : Setup → Device → Device) (old new : CourseState) → ((q : Setup) (d : Device) → Shows q t old d → change q d ≡ other q d)
-    → Goes t change old new → Goes t other old new
+pub goes_as : (t : ℕ) (change other : Setup → Device → Device) (old new : CourseState)
+    → ((q : Setup) (d : Device) → CourseShows q t old d → change q d ≡ other q d) → Goes t change old new → Goes t other old new
 goes_as t change other old new same goes = λ q d shows. shows_as q t new (change q d) (other q d) (goes q d shows) (same q d shows)
 
 -- a later tick
@@ -60,7 +60,7 @@ happened_later t u s le happened = record { closed = closed s.closed happened.cl
     listening None h = tt
     listening (Some l) h = omega (arith, le, h)
 
-pub shows_later : (q : Setup) (t u : ℕ) (c : CourseState) (d : Device) → t ≤ u → Shows q t c d → Shows q u c d
+pub shows_later : (q : Setup) (t u : ℕ) (c : CourseState) (d : Device) → t ≤ u → CourseShows q t c d → CourseShows q u c d
 shows_later q t u c d le shows = record {
   drops = shows.drops;
   windows = shows.windows;

@@ -11,9 +11,10 @@ use Rattle.lwb_packets.specs.Requests.{is_request}
 use Rattle.schedule_codec.specs.Spelling.{spells, slot_fits}
 use Rattle.schedule_codec.specs.Reading.{said, schedule_of}
 use Rattle.bus_rules.specs.Plans.{last_slot}
-use Rattle.bus_rules.specs.Tables.{interval_of, Entry, Table, Above, Ascends, after_request, is_full, without, with_entry, new_entry, seen, missed}
+use Rattle.bus_rules.specs.Tables.{interval_of, Entry, Table, EntriesAreAbove, EntriesAscend, after_request, is_full, without, with_entry, new_entry}
+use Rattle.bus_rules.specs.Tables.{entry_after_data, missed}
 use Rattle.bus_rules.specs.Granting.{last_code, share_in, owners_by, grant, granted_by, grants_for, plan_round, owed_to, given, gap_of, in_turn, turns, Grants}
-use Rattle.bus_rules.specs.HostPlans.{Answered, Served, answer, answered, serve, served, put_if, host_plan}
+use Rattle.bus_rules.specs.HostPlans.{Answered, Served, answer, answers_to, serve, served, put_if, host_plan}
 use Rattle.bus_rules.specs.Streams.{Streams, due_of, with_agreed}
 use Rattle.bus_rules.specs.Slots.{owner_heard, ScheduleOf, DataOf, RequestOf}
 use Rattle.lwb_packets.specs.Ranges.{between}
@@ -23,7 +24,7 @@ use Rattle.stream_table.proofs.Changes.{seen_keeps, missed_sifts, grant_keeps}
 use Rattle.lwb_member.specs.Said.{data_in, request_in, message_of}
 
 -- a code that stands in one entry at most
-none_at : (x : ℕ) (es : List Entry) → Above x es → sum_by (λ (e : Entry). cond (x == e.code) 1 0) es ≡ 0
+none_at : (x : ℕ) (es : List Entry) → EntriesAreAbove x es → sum_by (λ (e : Entry). cond (x == e.code) 1 0) es ≡ 0
 none_at x [] above = refl
 none_at x (e ∷ es) above = omega (arith, sum_by-cons (λ (e : Entry). cond (x == e.code) 1 0) e es, none_at x es above.1, here (x == e.code) refl)
   where
@@ -31,13 +32,13 @@ none_at x (e ∷ es) above = omega (arith, sum_by-cons (λ (e : Entry). cond (x 
     here true is = absurd (omega (arith, above.0, eqb-true x e.code is))
     here false is = refl
 
-one_at : (x : ℕ) (es : List Entry) → Ascends es → sum_by (λ (e : Entry). cond (x == e.code) 1 0) es ≤ 1
+one_at : (x : ℕ) (es : List Entry) → EntriesAscend es → sum_by (λ (e : Entry). cond (x == e.code) 1 0) es ≤ 1
 one_at x [] up = omega arith
 one_at x (e ∷ es) up = omega (arith, sum_by-cons (λ (e : Entry). cond (x == e.code) 1 0) e es, by_test (one_at x es up.1) (x == e.code) refl)
   where
     by_test : sum_by (λ (e : Entry). cond (x == e.code) 1 0) es ≤ 1 → (b : Bool) → (x == e.code) ≡ b
         → cond b 1 0 + sum_by (λ (e : Entry). cond (x == e.code) 1 0) es ≤ 1
-    by_test rest true is = omega (arith, none_at x es (subst (λ (c : ℕ). Above c es) (sym (eqb-true x e.code is)) up.0))
+    by_test rest true is = omega (arith, none_at x es (subst (λ (c : ℕ). EntriesAreAbove c es) (sym (eqb-true x e.code is)) up.0))
     by_test rest false is = omega (arith, rest)
 
 one_more : (x : ℕ) (cs : List ℕ) (es : List Entry) → sum_by (share_in (x ∷ cs)) es ≡ sum_by (λ (e : Entry). cond (x == e.code) 1 0) es + sum_by (share_in cs) es
@@ -57,7 +58,7 @@ no_shares [] = refl
 no_shares (e ∷ es) = omega (arith, sum_by-cons (share_in []) e es, no_shares es)
 
 -- no more slots are shared out than were given
-shares : (cs : List ℕ) (es : List Entry) → Ascends es → sum_by (share_in cs) es ≤ length cs
+shares : (cs : List ℕ) (es : List Entry) → EntriesAscend es → sum_by (share_in cs) es ≤ length cs
 shares [] es up = omega (arith, no_shares es)
 shares (x ∷ cs) es up = omega (arith, one_more x cs es, one_at x es up, shares cs es up)
 
@@ -68,16 +69,16 @@ owned share (e ∷ es) =
 
 -- what a host grants
 abbrev AreFew : List ℕ → Table → Type 0
-AreFew owners t = (length owners ≤ 40) × Ascends t.entries
+AreFew owners t = (length owners ≤ 40) × EntriesAscend t.entries
 
-few_by : (share : Entry → ℕ) (gap place : ℕ) (es : List Entry) → Ascends es → sum_by share es ≤ 40
+few_by : (share : Entry → ℕ) (gap place : ℕ) (es : List Entry) → EntriesAscend es → sum_by share es ≤ 40
     → AreFew (granted_by share gap place es).owners (granted_by share gap place es).table
 few_by share gap place es up fits = (omega (arith, owned share es, fits), ascends_map (grant share) es (grant_keeps share) up)
 
 given_few : (owes : Entry → ℕ) (t : Table) → length (given owes t) ≤ 40
 given_few owes t = omega (arith, length-take 40 (turns owes (in_turn t.place t.entries) 40))
 
-few_for : (owes : Entry → ℕ) (gap : ℕ) (t : Table) → Ascends t.entries → AreFew (grants_for owes gap t).owners (grants_for owes gap t).table
+few_for : (owes : Entry → ℕ) (gap : ℕ) (t : Table) → EntriesAscend t.entries → AreFew (grants_for owes gap t).owners (grants_for owes gap t).table
 few_for owes gap t up =
     cond_both (nat_le (sum_by owes t.entries) 40) (granted_by owes gap t.place t.entries)
     (granted_by (share_in (given owes t)) gap (last_code (given owes t) + 1) t.entries) (λ (g : Grants). AreFew g.owners g.table)
@@ -85,46 +86,47 @@ few_for owes gap t up =
     (λ more. few_by (share_in (given owes t)) gap (last_code (given owes t) + 1) t.entries up
     (omega (arith, shares (given owes t) t.entries up, given_few owes t)))
 
-few : (seconds frame : ℕ) (t : Table) → Ascends t.entries → AreFew (plan_round seconds frame t).owners (plan_round seconds frame t).table
+few : (seconds frame : ℕ) (t : Table) → EntriesAscend t.entries → AreFew (plan_round seconds frame t).owners (plan_round seconds frame t).table
 unfolding plan_round
 few seconds frame t up = let gap = gap_of seconds frame t.entries in few_for (owed_to seconds (frame + gap)) gap t up
 
 -- requests put to a table
-after_one : (frame : ℕ) (t : Table) (a : Ask) → Ascends t.entries → Ascends (after_request frame t a).entries
+after_one : (frame : ℕ) (t : Table) (a : Ask) → EntriesAscend t.entries → EntriesAscend (after_request frame t a).entries
 after_one frame t a up =
-    cond_both (is_full a t) t.entries _ Ascends (λ is. up)
-    (λ is. cond_both (a.interval == 0) (without (code_of a) t.entries) (with_entry (new_entry a frame) t.entries) Ascends
+    cond_both (is_full a t) t.entries _ EntriesAscend (λ is. up)
+    (λ is. cond_both (a.interval == 0) (without (code_of a) t.entries) (with_entry (new_entry a frame) t.entries) EntriesAscend
     (λ none. ascends_filter _ t.entries up) (λ some. ascends_with (new_entry a frame) t.entries up))
 
-after_answers : (frame : ℕ) (kept : List Ask) (x : Answered) → Ascends x.table.entries → Ascends (fold (answer frame) x kept).table.entries
+after_answers : (frame : ℕ) (kept : List Ask) (x : Answered) → EntriesAscend x.table.entries → EntriesAscend (fold (answer frame) x kept).table.entries
 after_answers frame [] x up = up
 after_answers frame (a ∷ kept) x up = after_answers frame kept (answer frame x a) (after_one frame x.table a up)
 
-after_put : (frame node boot i : ℕ) (o : Option ℕ) (t : Table) → Ascends t.entries → Ascends (put_if frame node boot i o t).entries
+after_put : (frame node boot i : ℕ) (o : Option ℕ) (t : Table) → EntriesAscend t.entries → EntriesAscend (put_if frame node boot i o t).entries
 after_put frame node boot i None t up = up
 after_put frame node boot i (Some interval) t up = after_one frame t (record { node = node; boot = boot; stream = i; interval = interval }) up
 
-after_serving : (frame node boot : ℕ) (is : List ℕ) (x : Served) → Ascends x.table.entries → Ascends (fold (serve frame node boot) x is).table.entries
+after_serving : (frame node boot : ℕ) (is : List ℕ) (x : Served) → EntriesAscend x.table.entries
+    → EntriesAscend (fold (serve frame node boot) x is).table.entries
 after_serving frame node boot [] x up = up
 after_serving frame node boot (i ∷ is) x up =
     let asks = due_of (with_agreed i (interval_of x.table (code node i)) x.streams) i in
     after_serving frame node boot is (serve frame node boot x i) (after_put frame node boot i asks x.table up)
 
 -- the plan that a host makes
-pub host_plan_few : (p : Numbers) (node boot rank frame : ℕ) (kept : List Ask) (t : Table) (s : Streams) → Ascends t.entries
+pub host_plan_few : (p : Numbers) (node boot rank frame : ℕ) (kept : List Ask) (t : Table) (s : Streams) → EntriesAscend t.entries
     → AreFew (host_plan p node boot rank frame kept t s).plan.owners (host_plan p node boot rank frame kept t s).table
     × ((host_plan p node boot rank frame kept t s).plan.contend ≡ p.contend)
 unfolding host_plan
 host_plan_few p node boot rank frame kept t s up =
-    let first = answered frame kept t in
+    let first = answers_to frame kept t in
     let own = served frame node boot first.table s in (
       few p.seconds frame own.table (after_serving frame node boot (0 ∷ 1 ∷ 2 ∷ 3 ∷ []) (record { table = first.table; streams = s })
           (after_answers frame kept (record { table = t; acks = [] }) up)),
       refl,
     )
 
-pub owner_keeps : (owner : ℕ) (heard : Bool) (t : Table) → Ascends t.entries → Ascends (owner_heard heard owner t).entries
-owner_keeps owner true t up = ascends_map (seen owner) t.entries (seen_keeps owner) up
+pub owner_keeps : (owner : ℕ) (heard : Bool) (t : Table) → EntriesAscend t.entries → EntriesAscend (owner_heard heard owner t).entries
+owner_keeps owner true t up = ascends_map (entry_after_data owner) t.entries (seen_keeps owner) up
 owner_keeps owner false t up = ascends_filter_map (missed owner) t.entries (missed_sifts owner) up
 
 -- the last slot of a round of few owners

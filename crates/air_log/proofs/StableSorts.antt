@@ -11,7 +11,7 @@ use Rattle.std.proofs.lemmas.Bool.{true≢false}
 use Rattle.std.proofs.lemmas.List.Elements.{recursion_from_All}
 use Rattle.std.proofs.lemmas.List.Sorted.{sorted_far}
 use Rattle.lwb_base.proofs.Truths.{both_not}
-use Rattle.air_log.specs.LogText.{placed, in_order}
+use Rattle.air_log.specs.LogText.{with_inserted, in_order}
 
 pub flat_map-map : {X Y Z : Type 0} (g : X → Y) (f : Y → List Z) (xs : List X) → flat_map (λ x. f (g x)) xs ≡ flat_map f (map g xs)
 flat_map-map g f [] = refl
@@ -23,13 +23,13 @@ module _ {X Y : Type 0} (g : X → Y) (before : Y → Y → Bool) where
   map-cond true us vs = refl
   map-cond false us vs = refl
 
-  map-placed : (x : X) (xs : List X) → map g (placed (λ a b. before (g a) (g b)) x xs) ≡ placed before (g x) (map g xs)
+  map-placed : (x : X) (xs : List X) → map g (with_inserted (λ a b. before (g a) (g b)) x xs) ≡ with_inserted before (g x) (map g xs)
   map-placed x [] = refl
-  map-placed x (y ∷ ys) = rw (map-cond (before (g y) (g x)) (y ∷ placed (λ a b. before (g a) (g b)) x ys) (x ∷ y ∷ ys), map-placed x ys) refl
+  map-placed x (y ∷ ys) = rw (map-cond (before (g y) (g x)) (y ∷ with_inserted (λ a b. before (g a) (g b)) x ys) (x ∷ y ∷ ys), map-placed x ys) refl
 
   pub map-in_order : (xs : List X) → map g (in_order (λ a b. before (g a) (g b)) xs) ≡ in_order before (map g xs)
   map-in_order [] = refl
-  map-in_order (x ∷ xs) = map-placed x (in_order (λ a b. before (g a) (g b)) xs) ∙ ap (placed before (g x)) (map-in_order xs)
+  map-in_order (x ∷ xs) = map-placed x (in_order (λ a b. before (g a) (g b)) xs) ∙ ap (with_inserted before (g x)) (map-in_order xs)
 
 module _ {X : Type 0} where
   all_weaker : (P Q : X → Type 0) → ((x : X) → P x → Q x) → (xs : List X) → AllByRecursion P xs → AllByRecursion Q xs
@@ -89,16 +89,16 @@ module _ {X : Type 0} (lt : X → X → Bool) (o : IsStrictWeakOrder lt) where
   placed_all_by P x y ys us true h k all later = (k, later)
   placed_all_by P x y ys us false h k all later = (h, (k, all))
 
-  placed_all : (P : X → Type 0) (x : X) (ys : List X) → P x → AllByRecursion P ys → AllByRecursion P (placed lt x ys)
+  placed_all : (P : X → Type 0) (x : X) (ys : List X) → P x → AllByRecursion P ys → AllByRecursion P (with_inserted lt x ys)
   placed_all P x [] h all = (h, tt)
-  placed_all P x (y ∷ ys) h all = placed_all_by P x y ys (placed lt x ys) (lt y x) h all.0 all.1 (placed_all P x ys h all.1)
+  placed_all P x (y ∷ ys) h all = placed_all_by P x y ys (with_inserted lt x ys) (lt y x) h all.0 all.1 (placed_all P x ys h all.1)
 
-  placed_rises_by : (x y : X) (ys : List X) (b : Bool) → lt y x ≡ b → Rises (y ∷ ys) → Rises (placed lt x ys)
-      → Rises (if b then y ∷ placed lt x ys else x ∷ y ∷ ys)
+  placed_rises_by : (x y : X) (ys : List X) (b : Bool) → lt y x ≡ b → Rises (y ∷ ys) → Rises (with_inserted lt x ys)
+      → Rises (if b then y ∷ with_inserted lt x ys else x ∷ y ∷ ys)
   placed_rises_by x y ys true is up later = (placed_all (λ z. lt z y ≡ false) x ys (o.one_way y x is) up.0, later)
   placed_rises_by x y ys false is up later = ((is, all_weaker (λ z. lt z y ≡ false) (λ z. lt z x ≡ false) (λ z h. o.chain z y x h is) ys up.0), up)
 
-  placed_rises : (x : X) (ys : List X) → Rises ys → Rises (placed lt x ys)
+  placed_rises : (x : X) (ys : List X) → Rises ys → Rises (with_inserted lt x ys)
   placed_rises x [] up = (tt, tt)
   placed_rises x (y ∷ ys) up = placed_rises_by x y ys (lt y x) refl up (placed_rises x ys up.1)
 
@@ -111,14 +111,14 @@ module _ {X : Type 0} (lt : X → X → Bool) (o : IsStrictWeakOrder lt) where
   apart x y z less tied true is = absurd (true≢false (sym less ∙ o.chain y z x (both_not (lt z y) (lt y z) tied).1 (both_not (lt z x) (lt x z) is).0))
   apart x y z less tied false is = refl
 
-  placed_ties_by : (z x y : X) (ys : List X) (b : Bool) → lt y x ≡ b → filter (ties lt z) (placed lt x ys) ≡ filter (ties lt z) (x ∷ ys)
-      → filter (ties lt z) (if b then y ∷ placed lt x ys else x ∷ y ∷ ys) ≡ filter (ties lt z) (x ∷ y ∷ ys)
+  placed_ties_by : (z x y : X) (ys : List X) (b : Bool) → lt y x ≡ b → filter (ties lt z) (with_inserted lt x ys) ≡ filter (ties lt z) (x ∷ ys)
+      → filter (ties lt z) (if b then y ∷ with_inserted lt x ys else x ∷ y ∷ ys) ≡ filter (ties lt z) (x ∷ y ∷ ys)
   placed_ties_by z x y ys true is later =
       ap (λ (us : List X). cond (ties lt z y) (y ∷ us) us) later
       ∙ exchanged (ties lt z y) (ties lt z x) x y (filter (ties lt z) ys) (λ tied. apart x y z is tied (ties lt z x) refl)
   placed_ties_by z x y ys false is later = refl
 
-  placed_ties : (z x : X) (ys : List X) → filter (ties lt z) (placed lt x ys) ≡ filter (ties lt z) (x ∷ ys)
+  placed_ties : (z x : X) (ys : List X) → filter (ties lt z) (with_inserted lt x ys) ≡ filter (ties lt z) (x ∷ ys)
   placed_ties z x [] = refl
   placed_ties z x (y ∷ ys) = placed_ties_by z x y ys (lt y x) refl (placed_ties z x ys)
 

@@ -16,7 +16,7 @@ use Rattle.bus_rules.specs.Slots.{Message, ScheduleOf, DataOf, RequestOf}
 use Rattle.bus_rules.specs.Tuning.{rank_of}
 use Rattle.node_core.specs.Nodes.{Node, frame_alarm, closes_at, opens_at, stopped_frame}
 use Rattle.node_core.specs.Rows.{Stepped, row, at_alarm, at_heard, at_sent, scanner_hears, joins, sends, accepted_in}
-use Rattle.node_core.specs.Rows.{orders_for, waits, zero_for, first_sending, relaying, zero_by, zero_next}
+use Rattle.node_core.specs.Rows.{orders_for, waits, zero_for, initiating_orders, relaying, zero_by, zero_next}
 use Rattle.node_core.specs.declared.stage.Stage.{Stage}
 use Rattle.node_core.specs.declared.stage.Stage.TheVariants.{Idle, Scanning, AwaitFrame, AwaitSlot, InWindow}
 use Rattle.air_log.specs.DeviceStates.{IsTimely}
@@ -67,7 +67,7 @@ next_zero p z (Hold r due) small = small
 next_zero p z (Host r due) small = stops _
 
 -- a first sending, or a relay, and then an alarm
-said_then : (p : Numbers) (z j x : ℕ) (m : Option Message) → x < 2 ^ 47 → All IsTimely (first_sending p z j m ++ AlarmAt x ∷ [])
+said_then : (p : Numbers) (z j x : ℕ) (m : Option Message) → x < 2 ^ 47 → All IsTimely (initiating_orders p z j m ++ AlarmAt x ∷ [])
 said_then p z j x None small = alarm_at x small
 said_then p z j x (Some m) small = All-cons IsTimely (SendAt _ _) (AlarmAt x ∷ []) (stops _) (alarm_at x small)
 

@@ -9,7 +9,7 @@ use Rattle.radio_model.specs.OnAir.{Tuning}
 use Rattle.radio_model.specs.declared.sending.Sending.{Sending}
 use Rattle.scenario_text.specs.ScenarioParts.{ScenarioParts}
 use Rattle.bus_rules.specs.Cores.{Setup}
-use Rattle.air_log.specs.Devices.{Device, Listening, Ordered, obeyed, silenced, tunes, listens_to}
+use Rattle.air_log.specs.Devices.{Device, Listening, OrderedPacket, obeyed, silenced, tunes, listens_to}
 use Rattle.air_log.specs.Trails.{Reception, setup_of, run_end, before_start, begun_by, starts, sending_from, before_tick, trail}
 use Rattle.air_log.specs.TrailEntries.{IsSentBefore, StartsBefore}
 use Rattle.air_log.proofs.KeptByEvents.{IsKept, in_tick}
@@ -68,7 +68,7 @@ module _ (s : ScenarioParts) (v : ℕ) where
   by_start t packet d (Some l) (Some y) all = later t d.made.sent all
   by_start t packet d (Some l) None all = one_more t packet l d.made.sent all
 
-  by_begun : (t : ℕ) (d : Device) (o : Option Ordered) → Before t d.made.sent → Before (suc t) (begun_by (setup_of s v) t d o).made.sent
+  by_begun : (t : ℕ) (d : Device) (o : Option OrderedPacket) → Before t d.made.sent → Before (suc t) (begun_by (setup_of s v) t d o).made.sent
   by_begun t d None all = later t d.made.sent all
   by_begun t d (Some o) all =
       cond_both (o.tick == t) (starts (setup_of s v) t o.packet d d.listening d.sending) d (λ (x : Device). Before (suc t) x.made.sent)

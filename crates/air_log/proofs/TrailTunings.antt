@@ -10,7 +10,7 @@ use Rattle.radio_model.specs.declared.sending.Sending.{Sending}
 use Rattle.radio_model.specs.OnAir.{Tuning}
 use Rattle.scenario_text.specs.ScenarioParts.{ScenarioParts}
 use Rattle.bus_rules.specs.Cores.{Setup}
-use Rattle.air_log.specs.Devices.{Device, Listening, Ordered, obeyed, silenced, tunes, with_tuning, listens_to}
+use Rattle.air_log.specs.Devices.{Device, Listening, OrderedPacket, obeyed, silenced, tunes, with_tuning, listens_to}
 use Rattle.air_log.specs.Trails.{Reception, setup_of, run_end, before_start, begun_by, starts, before_tick, trail}
 use Rattle.air_log.specs.TrailEntries.{IsTunedBy, FollowsOn}
 use Rattle.air_log.proofs.KeptByEvents.{IsKept, in_tick}
@@ -86,7 +86,7 @@ kept clock s t = record {
 }
 
 -- the start of a sending leaves the radio on
-begun_tuned : (s : Setup) (t : ℕ) (P : Option Listening → List Tuning → Type 0) (d : Device) (o : Option Ordered) → P d.listening d.made.tuned
+begun_tuned : (s : Setup) (t : ℕ) (P : Option Listening → List Tuning → Type 0) (d : Device) (o : Option OrderedPacket) → P d.listening d.made.tuned
     → P (begun_by s t d o).listening (begun_by s t d o).made.tuned
 begun_tuned s t P d None all = all
 begun_tuned s t P d (Some o) all =

@@ -17,10 +17,10 @@ use Rattle.scenario_text.proofs.BootsCounted.{never_less}
 use Rattle.air_log.specs.declared.entry.HeardEntry.{HeardEntry}
 use Rattle.air_log.specs.Charges.{windows_charge, scanned_frames, scans_with}
 use Rattle.air_log.specs.Devices.{Device, seen_power, silenced}
-use Rattle.air_log.specs.ScriptedDevices.{after_line}
+use Rattle.air_log.specs.ScriptedDevices.{device_after_line}
 use Rattle.air_log.specs.Trails.{Reception, setup_of, run_end, frame_start, lines_at, at_frame, before_tick, trail, tune_of, tune_at}
 use Rattle.air_log.specs.TrailsTold.{TrailTold, trail_told}
-use Rattle.air_log.specs.Courses.{CourseState, Shows, Tells, Goes, IsCut, frame_of, end_of, reception_in}
+use Rattle.air_log.specs.Courses.{CourseState, CourseShows, HasListsOf, Goes, IsSplitByKey, frame_of_line, end_of_reception, reception_in}
 use Rattle.air_log.proofs.ChargedWindows.{charge_is}
 use Rattle.air_log.proofs.ListCuts.{first_cut}
 
@@ -36,9 +36,9 @@ module _ (clock : ℕ → ℕ) (s : ScenarioParts) (v : ℕ) (hs : List HeardEnt
 
   -- frame f begins
   pub record IsAtFrame (f told next : ℕ) (tunes : List (Option Tune)) (scanned : ℕ) (c : CourseState) : Type 0 where
-    pub lines : IsCut frame_of s.script told f
-    pub hearings : IsCut end_of hs next (frame_start s f)
-    pub shows : Shows (setup_of s v) (frame_start s f) c (before_tick s v clock rs (frame_start s f))
+    pub lines : IsSplitByKey frame_of_line s.script told f
+    pub hearings : IsSplitByKey end_of_reception hs next (frame_start s f)
+    pub shows : CourseShows (setup_of s v) (frame_start s f) c (before_tick s v clock rs (frame_start s f))
     pub power : seen_power c.device.power ≡ turned v (false, 0) (take told s.script)
     pub tunes_are : tunes ≡ map tune (range_with_len 0 f)
     pub scanned_are : scanned ≡ count_by scans (range_with_len 0 f)
@@ -70,7 +70,8 @@ module _ (clock : ℕ → ℕ) (s : ScenarioParts) (v : ℕ) (hs : List HeardEnt
       same ∙ omega (arith, more, parts, last, so_far)
 
   -- in frame f after its lines
-  pub tune_in : (f : ℕ) (c : CourseState) → f < s.frames → Shows (setup_of s v) (frame_start s f) c (at_frame s v clock rs f) → tune_of c.device.power ≡ tune f
+  pub tune_in : (f : ℕ) (c : CourseState) → f < s.frames → CourseShows (setup_of s v) (frame_start s f) c (at_frame s v clock rs f)
+      → tune_of c.device.power ≡ tune f
   tune_in f c within shows =
       ap (λ (x : Device). tune_of x.power) shows.is
       ∙ sym (cond-true (nat_lt f s.frames) (tune_of (at_frame s v clock rs f).power) None (lt-ltb f s.frames within))
@@ -79,12 +80,12 @@ module _ (clock : ℕ → ℕ) (s : ScenarioParts) (v : ℕ) (hs : List HeardEnt
   first_start = omega arith
 
   -- the first frame, and from one to the next
-  pub begins : (c : CourseState) → Shows (setup_of s v) 0 c Rattle.air_log.specs.Devices.at_rest → IsAtFrame 0 0 0 [] 0 c
+  pub begins : (c : CourseState) → CourseShows (setup_of s v) 0 c Rattle.air_log.specs.Devices.at_rest → IsAtFrame 0 0 0 [] 0 c
   unfolding before_tick
   begins c shows = record {
-    lines = first_cut frame_of s.script;
-    hearings = subst (λ (t : ℕ). IsCut end_of hs 0 t) first_start (first_cut end_of hs);
-    shows = subst (λ (t : ℕ). Shows (setup_of s v) t c (before_tick s v clock rs t)) first_start shows;
+    lines = first_cut frame_of_line s.script;
+    hearings = subst (λ (t : ℕ). IsSplitByKey end_of_reception hs 0 t) first_start (first_cut end_of_reception hs);
+    shows = subst (λ (t : ℕ). CourseShows (setup_of s v) t c (before_tick s v clock rs t)) first_start shows;
     power = ap (λ (x : Device). seen_power x.power) shows.is;
     tunes_are = refl;
     scanned_are = refl;
@@ -92,8 +93,8 @@ module _ (clock : ℕ → ℕ) (s : ScenarioParts) (v : ℕ) (hs : List HeardEnt
   }
 
   pub after_lines_shows : (f told next : ℕ) (tunes : List (Option Tune)) (scanned : ℕ) (c new : CourseState) → IsAtFrame f told next tunes scanned c
-      → Goes (frame_start s f) (λ q d. fold (after_line clock q (frame_start s f)) d (lines_at s q.id (frame_start s f))) c new
-      → Shows (setup_of s v) (frame_start s f) new (at_frame s v clock rs f)
+      → Goes (frame_start s f) (λ q d. fold (device_after_line clock q (frame_start s f)) d (lines_at s q.id (frame_start s f))) c new
+      → CourseShows (setup_of s v) (frame_start s f) new (at_frame s v clock rs f)
   after_lines_shows f told next tunes scanned c new at goes = goes (setup_of s v) (before_tick s v clock rs (frame_start s f)) at.shows
 
 module _ (clock : ℕ → ℕ) (s : ScenarioParts) (v : ℕ) (hs : List HeardEntry) (sound : IsSoundScenario s) (drifts : IsClock clock) where
@@ -107,9 +108,9 @@ module _ (clock : ℕ → ℕ) (s : ScenarioParts) (v : ℕ) (hs : List HeardEnt
 
   -- the sum of all windows of a run
   pub windows_are : (told : ℕ) (c : CourseState) (last : CourseState)
-      → Shows (setup_of s v) (run_end s) c (before_tick s v clock (map reception_in hs) (run_end s))
+      → CourseShows (setup_of s v) (run_end s) c (before_tick s v clock (map reception_in hs) (run_end s))
       → seen_power c.device.power ≡ turned v (false, 0) (take told s.script)
-      → Tells (setup_of s v) last (trail s v clock (map reception_in hs))
+      → HasListsOf (setup_of s v) last (trail s v clock (map reception_in hs))
       → (last.windows.earlier + last.windows.last) % 2 ^ 64 ≡ windows_charge s (trail s v clock (map reception_in hs))
   windows_are told c last shows power tells =
       let seen = ap (λ (b : Bool × ℕ). b.1) (sym (ap (λ (x : Device). seen_power x.power) shows.is) ∙ power) in
@@ -132,7 +133,7 @@ same_told a b c d e f g h i j k l p q r s t u =
 pub told_is : (clock : ℕ → ℕ) (s : ScenarioParts) (v : ℕ) (hs : List HeardEntry) (sound : IsSoundScenario s) (drifts : IsClock clock) (f told next : ℕ)
     (tunes : List (Option Tune)) (scanned : ℕ) (c : CourseState)
     → IsAtFrame clock s v hs f told next tunes scanned c → f ≡ s.frames → (t : ℕ) → t ≡ run_end s → (last : CourseState)
-    → ((q : Setup) (d : Device) → Shows q t c d → Tells q last (silenced q.id t d))
+    → ((q : Setup) (d : Device) → CourseShows q t c d → HasListsOf q last (silenced q.id t d))
     → (result : TrailTold) → result ≡ record {
       sent = last.sent;
       tuned = last.tuned;
@@ -144,10 +145,10 @@ pub told_is : (clock : ℕ → ℕ) (s : ScenarioParts) (v : ℕ) (hs : List Hea
     → (taken : List Reception) → map reception_in hs ≡ taken → result ≡ trail_told s v clock taken
 told_is clock s v hs sound drifts f told next tunes scanned c at over t end last closes result is taken heard =
     let rs : List Reception = map reception_in hs in
-    let shows : Shows (setup_of s v) (run_end s) c (before_tick s v clock rs (run_end s)) =
-    subst (λ (u : ℕ). Shows (setup_of s v) u c (before_tick s v clock rs u)) (ap (frame_start s) over) at.shows in
-    let tells : Tells (setup_of s v) last (trail s v clock rs) =
-    subst (λ (u : ℕ). (q : Setup) (d : Device) → Shows q u c d → Tells q last (silenced q.id u d)) end closes (setup_of s v)
+    let shows : CourseShows (setup_of s v) (run_end s) c (before_tick s v clock rs (run_end s)) =
+    subst (λ (u : ℕ). CourseShows (setup_of s v) u c (before_tick s v clock rs u)) (ap (frame_start s) over) at.shows in
+    let tells : HasListsOf (setup_of s v) last (trail s v clock rs) =
+    subst (λ (u : ℕ). (q : Setup) (d : Device) → CourseShows q u c d → HasListsOf q last (silenced q.id u d)) end closes (setup_of s v)
     (before_tick s v clock rs (run_end s)) shows in
     is
     ∙ same_told (trail s v clock rs).made.sent last.sent (trail s v clock rs).made.tuned last.tuned (trail s v clock rs).made.deliveries last.deliveries

@@ -16,15 +16,15 @@ use Rattle.scenario_text.specs.declared.script.ScriptLine.{ScriptLine}
 use Rattle.bus_rules.specs.States.{refuses, queues}
 use Rattle.bus_rules.specs.Cores.{Setup}
 use Rattle.node_core.specs.Nodes.{rebooted}
-use Rattle.air_log.specs.Devices.{Device, Power, PowerOff, PowerOn, Listening, Ordered, obeyed, silenced, tunes, with_tuning, listens_to, event}
-use Rattle.air_log.specs.ScriptedDevices.{after_act, after_line, dropped, with_new_core}
-use Rattle.air_log.specs.Trails.{Reception, setup_of, begun, begun_by, starts, alarmed, before_tick, before_start}
+use Rattle.air_log.specs.Devices.{Device, Power, PowerOff, PowerOn, Listening, OrderedPacket, obeyed, silenced, tunes, with_tuning, listens_to, event}
+use Rattle.air_log.specs.ScriptedDevices.{device_after_act, device_after_line, dropped, with_new_core}
+use Rattle.air_log.specs.Trails.{Reception, setup_of, device_after_start, begun_by, starts, alarmed, before_tick, before_start}
 use Rattle.air_log.proofs.KeptByEvents.{IsKept, in_event, in_alarms, in_tick}
-use Rattle.air_log.specs.TunedTimes.{IsIn, listened}
+use Rattle.air_log.specs.TunedTimes.{CoversTick, listened}
 
 -- by these tunings that ended and the present one
 abbrev pub TunedAt : List Tuning → Option Listening → ℕ → ℕ → Type 0
-TunedAt es l r k = ((e : Tuning) × Contains es e × IsIn r k e) ⊎ listened r k l
+TunedAt es l r k = ((e : Tuning) × Contains es e × CoversTick r k e) ⊎ listened r k l
 
 -- none of them goes beyond this tick
 pub record AllBy (t : ℕ) (es : List Tuning) (l : Option Listening) : Type 0 where
@@ -178,7 +178,7 @@ module _ (clock : ℕ → ℕ) (s : Setup) (t : ℕ) (es : List Tuning) (l : Opt
   pub event_as : (e : Event) (x : Option Sending) (d : Device) → As d → As (event clock s t e x d)
   event_as e x d is = in_event As clock s t e x d kept is
 
-  act_as : (frame : ℕ) (d : Device) (a : Act) (p : Power) → As d → As (after_act clock s t frame d a p)
+  act_as : (frame : ℕ) (d : Device) (a : Act) (p : Power) → As d → As (device_after_act clock s t frame d a p)
   act_as frame d On (PowerOff boots) is = event_as Boot None (record d { power = PowerOn (rebooted (boots + 1)) }) is
   act_as frame d On (PowerOn n) is = is
   act_as frame d OffOf (PowerOff boots) is = is
@@ -191,12 +191,12 @@ module _ (clock : ℕ → ℕ) (s : Setup) (t : ℕ) (es : List Tuning) (l : Opt
   act_as frame d (Put i payload) (PowerOn n) is =
       cond_both (refuses i n.core) (dropped s.id frame i d) (with_new_core d n (queues i payload n.core)) As (λ at. is) (λ at. is)
 
-  pub line_as : (d : Device) (line : ScriptLine) → As d → As (after_line clock s t d line)
+  pub line_as : (d : Device) (line : ScriptLine) → As d → As (device_after_line clock s t d line)
   line_as d line is = act_as line.frame d line.act d.power is
 
-  pub lines_as : (d : Device) (lines : List ScriptLine) → As d → As (fold (after_line clock s t) d lines)
+  pub lines_as : (d : Device) (lines : List ScriptLine) → As d → As (fold (device_after_line clock s t) d lines)
   lines_as d [] is = is
-  lines_as d (line ∷ lines) is = lines_as (after_line clock s t d line) lines (line_as d line is)
+  lines_as d (line ∷ lines) is = lines_as (device_after_line clock s t d line) lines (line_as d line is)
 
   pub alarmed_as : (d : Device) → As d → As (alarmed clock s t d)
   alarmed_as d is = in_alarms As clock s t d kept is
@@ -212,7 +212,7 @@ module _ (clock : ℕ → ℕ) (s : Setup) (t : ℕ) (d : Device) (by : HasTuned
   pub event_stays : (e : Event) (x : Option Sending) → IsTunedAs t d (event clock s t e x d)
   event_stays e x = event_as clock s t d.made.tuned d.listening e x d itself
 
-  pub line_stays : (line : ScriptLine) → IsTunedAs t d (after_line clock s t d line)
+  pub line_stays : (line : ScriptLine) → IsTunedAs t d (device_after_line clock s t d line)
   line_stays line = line_as clock s t d.made.tuned d.listening d line itself
 
   pub alarmed_stays : IsTunedAs t d (alarmed clock s t d)
@@ -225,14 +225,14 @@ started_as s t packet P d None x is = is
 started_as s t packet P d (Some l) None is = is
 started_as s t packet P d (Some l) (Some x) is = is
 
-begun_as : (s : Setup) (t : ℕ) (P : List Tuning → Option Listening → Type 0) (d : Device) (o : Option Ordered) → P d.made.tuned d.listening
+begun_as : (s : Setup) (t : ℕ) (P : List Tuning → Option Listening → Type 0) (d : Device) (o : Option OrderedPacket) → P d.made.tuned d.listening
     → P (begun_by s t d o).made.tuned (begun_by s t d o).listening
 begun_as s t P d None is = is
 begun_as s t P d (Some o) is =
     cond_both (o.tick == t) (starts s t o.packet d d.listening d.sending) d (λ (x : Device). P x.made.tuned x.listening)
     (λ at. started_as s t o.packet P d d.listening d.sending is) (λ at. is)
 
-pub begun_stays : (s : Setup) (t : ℕ) (d : Device) → HasTunedBy t d → IsTunedAs t d (begun s t d)
+pub begun_stays : (s : Setup) (t : ℕ) (d : Device) → HasTunedBy t d → IsTunedAs t d (device_after_start s t d)
 begun_stays s t d by = begun_as s t (Stays t d.made.tuned d.listening) d d.ordered (stays_same t d.made.tuned d.listening by)
 
 -- along a trail

@@ -2,7 +2,7 @@
 use Rattle.std.specs.Prelude.{◌≡◌, ℕ, zero, suc, ◌<◌, true, false}
 use Rattle.bus_rules.specs.Cores.{Setup}
 use Rattle.air_log.specs.Devices.{Device}
-use Rattle.air_log.specs.Trails.{is_due, one_alarm}
+use Rattle.air_log.specs.Trails.{alarm_is_due, one_alarm}
 
 -- after so many alarms at tick t
 abbrev pub after_alarms : (ℕ → ℕ) → Setup → ℕ → ℕ → Device → Device
@@ -13,5 +13,5 @@ after_alarms clock s t (suc k) d = one_alarm clock s t (after_alarms clock s t k
 pub record IsAlarmRun (clock : ℕ → ℕ) (s : Setup) (t : ℕ) (d e : Device) : Type 0 where
   pub count : ℕ
   pub is : e ≡ after_alarms clock s t count d
-  pub due : (j : ℕ) → j < count → is_due t (after_alarms clock s t j d).alarm ≡ true
-  pub over : is_due t e.alarm ≡ false
+  pub due : (j : ℕ) → j < count → alarm_is_due t (after_alarms clock s t j d).alarm ≡ true
+  pub over : alarm_is_due t e.alarm ≡ false

@@ -8,7 +8,7 @@ use Rattle.glossy_relay.specs.Relaying.{counter_of}
 use Rattle.scenario_text.specs.ScenarioParts.{ScenarioParts}
 use Rattle.bus_rules.specs.declared.tune.Tune.{Tune}
 use Rattle.bus_rules.specs.Tuning.{is_scan}
-use Rattle.bus_rules.specs.Charges.{last_of, charge as charge_of}
+use Rattle.bus_rules.specs.Charges.{last_if_all_sent, charge as charge_of}
 use Rattle.air_log.specs.WindowLogs.{WindowLog, Happening, HeardAt, SentAt}
 use Rattle.air_log.specs.Devices.{Device}
 use Rattle.air_log.specs.Trails.{Reception, tune_at}
@@ -27,15 +27,15 @@ abbrev pub step_and_length : List ℕ → ℕ × ℕ
 step_and_length packet = (counter_of packet, length packet)
 
 -- what a window counts by the last packet, if it was sent as often as it may
-abbrev pub counted : Numbers → Option (List ℕ) → ℕ
-counted p last = charge_of p (option_map step_and_length last)
+abbrev pub charge_by_last : Numbers → Option (List ℕ) → ℕ
+charge_by_last p last = charge_of p (option_map step_and_length last)
 
 -- windows count that opened by their alarm
-abbrev pub charge : ScenarioParts → WindowLog → ℕ
-charge s w = if w.by_alarm then counted s.profile (last_of s.sends (sent_packets w)) else 0
+abbrev pub charge_of_window : ScenarioParts → WindowLog → ℕ
+charge_of_window s w = if w.by_alarm then charge_by_last s.profile (last_if_all_sent s.sends (sent_packets w)) else 0
 
 abbrev pub windows_charge : ScenarioParts → Device → ℕ
-windows_charge s d = sum_by (charge s) d.made.windows
+windows_charge s d = sum_by (charge_of_window s) d.made.windows
 
 -- a node that is off does not scan
 abbrev pub scans_with : Option Tune → Bool

@@ -12,9 +12,9 @@ use Rattle.air_log.specs.declared.entry.Entry.{Entry}
 use Rattle.air_log.specs.declared.entry.HeardEntry.{HeardEntry}
 use Rattle.air_log.specs.Entries.{hearing_in}
 use Rattle.air_log.specs.AlarmRuns.{IsAlarmRun}
-use Rattle.air_log.specs.Devices.{Device, Made, Ordered}
+use Rattle.air_log.specs.Devices.{Device, Made, OrderedPacket}
 use Rattle.air_log.specs.DeviceStates.{DeviceState, whole, EndedBefore, HappenedBy}
-use Rattle.air_log.specs.Trails.{Reception, heard, ended, alarmed, begun}
+use Rattle.air_log.specs.Trails.{Reception, device_after_receptions, device_after_end, alarmed, device_after_start}
 use Rattle.air_log.specs.WindowLogs.{WindowLog}
 use Rattle.air_log.specs.WindowSums.{WindowSum, IsCounted}
 
@@ -31,7 +31,7 @@ abbrev pub made_in : CourseState → List DropLine → List WindowLog → Made
 made_in c drops windows = record { sent = c.sent; tuned = c.tuned; deliveries = c.deliveries; drops = drops; windows = windows }
 
 -- at tick t it is this device of a trail
-pub record Shows (q : Setup) (t : ℕ) (c : CourseState) (d : Device) : Type 0 where
+pub record CourseShows (q : Setup) (t : ℕ) (c : CourseState) (d : Device) : Type 0 where
   pub drops : List DropLine
   pub windows : List WindowLog
   pub is : whole c.device (made_in c drops windows) ≡ d
@@ -43,34 +43,34 @@ pub record Shows (q : Setup) (t : ℕ) (c : CourseState) (d : Device) : Type 0 w
   pub taken : c.device.delivery ≡ None
 
 -- its lists are what this device has made
-pub record Tells (q : Setup) (c : CourseState) (d : Device) : Type 0 where
+pub record HasListsOf (q : Setup) (c : CourseState) (d : Device) : Type 0 where
   pub sent : d.made.sent ≡ c.sent
   pub tuned : d.made.tuned ≡ c.tuned
   pub deliveries : d.made.deliveries ≡ c.deliveries
   pub counted : IsCounted q.profile q.sends d.made.windows c.windows
 
-pub record IsShown (t : ℕ) (c : CourseState) : Type 0 where
+pub record CourseIsShown (t : ℕ) (c : CourseState) : Type 0 where
   pub setup : Setup
   pub device : Device
-  pub shows : Shows setup t c device
+  pub shows : CourseShows setup t c device
 
 -- at tick t it goes through this change, as a trail does
 abbrev pub Goes : ℕ → (Setup → Device → Device) → CourseState → CourseState → Type 0
-Goes t change old new = (q : Setup) (d : Device) → Shows q t old d → Shows q t new (change q d)
+Goes t change old new = (q : Setup) (d : Device) → CourseShows q t old d → CourseShows q t new (change q d)
 
 -- the first k of a list have keys below t, and the others have not
-pub record IsCut {X : Type 0} (key : X → ℕ) (xs : List X) (k t : ℕ) : Type 0 where
+pub record IsSplitByKey {X : Type 0} (key : X → ℕ) (xs : List X) (k t : ℕ) : Type 0 where
   pub before : (i : ℕ) (x : X) → slice_get xs i ≡ Some x → i < k → key x < t
   pub behind : (i : ℕ) (x : X) → slice_get xs i ≡ Some x → k ≤ i → t ≤ key x
 
-abbrev pub Ascends : {X : Type 0} → (X → ℕ) → List X → Type 0
-Ascends key xs = AllPairs (λ a b. key a ≤ key b) xs
+abbrev pub IsSortedByKey : {X : Type 0} → (X → ℕ) → List X → Type 0
+IsSortedByKey key xs = AllPairs (λ a b. key a ≤ key b) xs
 
-abbrev pub frame_of : ScriptLine → ℕ
-frame_of l = l.frame
+abbrev pub frame_of_line : ScriptLine → ℕ
+frame_of_line l = l.frame
 
-abbrev pub end_of : HeardEntry → ℕ
-end_of h = h.end
+abbrev pub end_of_reception : HeardEntry → ℕ
+end_of_reception h = h.end
 
 abbrev pub reception_in : HeardEntry → Reception
 reception_in h = record { packet = h.packet; end = h.end }
@@ -94,8 +94,8 @@ abbrev pub least_of : ℕ → Option ℕ → ℕ
 least_of t None = t
 least_of t (Some u) = min t u
 
-abbrev pub tick_of : Ordered → ℕ
-tick_of o = o.tick
+abbrev pub tick_of_ordered : OrderedPacket → ℕ
+tick_of_ordered o = o.tick
 
 abbrev pub sending_end : Sending → ℕ
 sending_end x = x.end
@@ -103,14 +103,15 @@ sending_end x = x.end
 -- the least of what is set at a device, the end of the next hearing and another tick
 abbrev pub least_due : DeviceState → Option HeardEntry → ℕ → ℕ
 least_due d h until =
-    least_of (least_of (least_of (least_of until d.alarm) (option_map tick_of d.ordered)) (option_map sending_end d.sending)) (option_map end_of h)
+    least_of (least_of (least_of (least_of until d.alarm) (option_map tick_of_ordered d.ordered)) (option_map sending_end d.sending))
+        (option_map end_of_reception h)
 
 -- what comes before the alarms of a tick, after its script lines, and with its alarms and its start
 abbrev pub before_alarms_in : (ℕ → ℕ) → Setup → ℕ → List Reception → Device → Device
-before_alarms_in clock q t hs d = ended clock q t (heard clock q t hs d)
+before_alarms_in clock q t hs d = device_after_end clock q t (device_after_receptions clock q t hs d)
 
-abbrev pub after_lines : (ℕ → ℕ) → Setup → ℕ → List Reception → Device → Device
-after_lines clock q t hs d = begun q t (alarmed clock q t (before_alarms_in clock q t hs d))
+abbrev pub rest_of_tick : (ℕ → ℕ) → Setup → ℕ → List Reception → Device → Device
+rest_of_tick clock q t hs d = device_after_start q t (alarmed clock q t (before_alarms_in clock q t hs d))
 
 -- at this device the alarms of the tick come to an end
 abbrev pub AlarmsEnd : (ℕ → ℕ) → Setup → ℕ → Device → Type 0
@@ -120,5 +121,5 @@ AlarmsEnd clock q t d = IsAlarmRun clock q t d (alarmed clock q t d)
 pub record IsShownEnding (clock : ℕ → ℕ) (t : ℕ) (before : Setup → Device → Device) (c : CourseState) : Type 0 where
   pub setup : Setup
   pub device : Device
-  pub shows : Shows setup t c device
+  pub shows : CourseShows setup t c device
   pub ends : AlarmsEnd clock setup t (before setup device)

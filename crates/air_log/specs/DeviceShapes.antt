@@ -8,9 +8,9 @@ use Rattle.air_log.specs.declared.entry.TunedEntry.{TunedEntry}
 use Rattle.air_log.specs.Devices.{Power, PowerOff, PowerOn, Listening}
 use Rattle.air_log.specs.DeviceStates.{IsKeptBack}
 
-abbrev pub power_of : Bool → ℕ → Node → Power
-power_of false boots n = PowerOff boots
-power_of true boots n = PowerOn n
+abbrev pub power_with : Bool → ℕ → Node → Power
+power_with false boots n = PowerOff boots
+power_with true boots n = PowerOn n
 
 pub record IsDevice (node : ℕ) (profile : Numbers) (core : NodeState) (on : Bool) (boots : ℕ) (closed : Option TunedEntry)
     (listening : Option Listening) : Type 0 where

@@ -16,7 +16,7 @@ use Rattle.node_core.specs.Rows.{Stepped, row}
 use Rattle.node_core.specs.Rows.{node_after}
 use Rattle.air_log.specs.declared.entry.TunedEntry.{TunedEntry}
 use Rattle.air_log.specs.WindowLogs.{windows_after}
-use Rattle.air_log.specs.Devices.{Device, Power, PowerOff, PowerOn, Listening, Ordered, Made, delivery_by, event}
+use Rattle.air_log.specs.Devices.{Device, Power, PowerOff, PowerOn, Listening, OrderedPacket, Made, delivery_by, event}
 
 -- core: the node, also where its power is off; closed: the tuning that ended last, as long as its entry is not in the log;
 -- delivery: that of the last step
@@ -27,7 +27,7 @@ pub record DeviceState : Type 0 where
   pub listening : Option Listening
   pub closed : Option TunedEntry
   pub alarm : Option ℕ
-  pub ordered : Option Ordered
+  pub ordered : Option OrderedPacket
   pub sending : Option Sending
   pub delivery : Option Delivery
 
@@ -90,9 +90,9 @@ abbrev pub row_of : (ℕ → ℕ) → ℕ → Event → DeviceState → Option S
 row_of clock t e s = row_at clock t e s.setup s.power
 
 -- the device after a row, but for its orders
-abbrev pub after_row : DeviceState → Option Stepped → DeviceState
-after_row s None = s
-after_row s (Some r) = record s { core = r.node; power = PowerOn r.node; delivery = r.delivery }
+abbrev pub state_after_row : DeviceState → Option Stepped → DeviceState
+state_after_row s None = s
+state_after_row s (Some r) = record s { core = r.node; power = PowerOn r.node; delivery = r.delivery }
 
 -- what a row makes: its delivery, and what it is to the windows
 abbrev pub made_by : ℕ → Event → Option Sending → Power → Option Stepped → Made → Made
@@ -108,7 +108,7 @@ with_sent None made = made
 with_sent (Some x) made = record made { sent = made.sent ++ x ∷ [] }
 
 -- the packet that is to be sent at this tick, and the sending that ends at it
-abbrev pub packet_due : ℕ → Option Ordered → Option (List ℕ)
+abbrev pub packet_due : ℕ → Option OrderedPacket → Option (List ℕ)
 packet_due t None = None
 packet_due t (Some o) = if o.tick == t then Some o.packet else None
 

@@ -22,14 +22,14 @@ pub data Power : Type 0 where
   PowerOff : (boots : ℕ) → Power
   PowerOn : (node : Node) → Power
 
-abbrev pub is_on : Power → Bool
-is_on (PowerOff boots) = false
-is_on (PowerOn n) = true
+abbrev pub power_is_on : Power → Bool
+power_is_on (PowerOff boots) = false
+power_is_on (PowerOn n) = true
 
 -- what the bus has of it
-abbrev pub seen : Power → State
-seen (PowerOff boots) = StateOff boots
-seen (PowerOn n) = StateOn n.core
+abbrev pub state_of_power : Power → State
+state_of_power (PowerOff boots) = StateOff boots
+state_of_power (PowerOn n) = StateOn n.core
 
 -- whether a node is on, and how often it booted
 abbrev pub seen_power : Power → Bool × ℕ
@@ -42,7 +42,7 @@ pub record Listening : Type 0 where
   pub since : ℕ
 
 -- a packet that is to be sent at a tick
-pub record Ordered : Type 0 where
+pub record OrderedPacket : Type 0 where
   pub tick : ℕ
   pub packet : List ℕ
 
@@ -60,7 +60,7 @@ pub record Device : Type 0 where
   pub power : Power
   pub listening : Option Listening
   pub alarm : Option ℕ
-  pub ordered : Option Ordered
+  pub ordered : Option OrderedPacket
   pub sending : Option Sending
   pub made : Made
 
@@ -87,8 +87,8 @@ tunes rank t d (e ∷ earlier) =
     then record d { listening = Some (record { rank = rank; since = e.start }); made = record (d.made) { tuned = earlier } }
     else record d { listening = Some (record { rank = rank; since = t }) }
 
-abbrev pub retuned : ℕ → ℕ → Device → Device
-retuned rank t d = tunes rank t d d.made.tuned
+abbrev pub device_after_tuning : ℕ → ℕ → Device → Device
+device_after_tuning rank t d = tunes rank t d d.made.tuned
 
 abbrev pub listens_to : ℕ → Option Listening → Bool
 listens_to rank None = false
@@ -96,7 +96,7 @@ listens_to rank (Some l) = l.rank == rank
 
 -- an order at tick t. Times by the clock are those at which it first reads them, or the present tick if that has passed
 abbrev pub obeyed : (ℕ → ℕ) → ℕ → ℕ → Device → Order → Device
-obeyed clock node t d (Listen rank) = if listens_to rank d.listening then d else retuned rank t (silenced node t d)
+obeyed clock node t d (Listen rank) = if listens_to rank d.listening then d else device_after_tuning rank t (silenced node t d)
 obeyed clock node t d Off = silenced node t d
 obeyed clock node t d (SendAt local packet) = record d { ordered = Some (record { tick = max (due clock local) t; packet = packet }) }
 obeyed clock node t d (Alarm local) = record d { alarm = Some (max (due clock local) t) }

@@ -8,8 +8,8 @@ use Rattle.scenario_text.specs.declared.script.ScriptLine.{ScriptLine}
 use Rattle.bus_rules.specs.declared.delivery.DropLine.{DropLine}
 use Rattle.bus_rules.specs.States.{loses}
 use Rattle.air_log.specs.declared.entry.Entry.{Entry}
-use Rattle.air_log.specs.Devices.{Device, Power, seen}
-use Rattle.air_log.specs.ScriptedDevices.{after_line}
+use Rattle.air_log.specs.Devices.{Device, Power, state_of_power}
+use Rattle.air_log.specs.ScriptedDevices.{device_after_line}
 use Rattle.air_log.specs.Trails.{setup_of, frame_start, before_tick}
 use Rattle.air_log.specs.Lawful.{heard_by}
 
@@ -18,10 +18,10 @@ abbrev pub told_at_tick : ScenarioParts → List ScriptLine → ScriptLine → L
 told_at_tick s above l = filter (λ m. (m.node == l.node) && (frame_start s m.frame == frame_start s l.frame)) above
 
 -- the node of a line by its trail, just before the line: as it comes to the start of the frame, and then told the lines above
-abbrev pub before_line : ScenarioParts → (ℕ → ℕ → ℕ) → List Entry → List ScriptLine → ScriptLine → Device
-before_line s clocks air above l =
+abbrev pub device_before_line : ScenarioParts → (ℕ → ℕ → ℕ) → List Entry → List ScriptLine → ScriptLine → Device
+device_before_line s clocks air above l =
     let t = frame_start s l.frame in
-    fold (after_line (clocks l.node) (setup_of s l.node) t) (before_tick s l.node (clocks l.node) (heard_by air l.node) t) (told_at_tick s above l)
+    fold (device_after_line (clocks l.node) (setup_of s l.node) t) (before_tick s l.node (clocks l.node) (heard_by air l.node) t) (told_at_tick s above l)
 
 -- a put is lost where the node is off or its stream refuses it
 abbrev pub drop_by : ScriptLine → Act → Power → Option DropLine
@@ -29,14 +29,14 @@ drop_by l On power = None
 drop_by l Off power = None
 drop_by l (Declare i interval) power = None
 drop_by l (Leave i) power = None
-drop_by l (Put i payload) power = if loses i (seen power) then Some (record { frame = l.frame; node = l.node; stream = i }) else None
+drop_by l (Put i payload) power = if loses i (state_of_power power) then Some (record { frame = l.frame; node = l.node; stream = i }) else None
 
 -- what these lines lose, where the others stand above them
-abbrev pub drops_below : ScenarioParts → (ℕ → ℕ → ℕ) → List Entry → List ScriptLine → List ScriptLine → List DropLine
-drops_below s clocks air above [] = []
-drops_below s clocks air above (l ∷ ls) =
-    option_to_list (drop_by l l.act (before_line s clocks air above l).power) ++ drops_below s clocks air (above ++ l ∷ []) ls
+abbrev pub trail_drops_below : ScenarioParts → (ℕ → ℕ → ℕ) → List Entry → List ScriptLine → List ScriptLine → List DropLine
+trail_drops_below s clocks air above [] = []
+trail_drops_below s clocks air above (l ∷ ls) =
+    option_to_list (drop_by l l.act (device_before_line s clocks air above l).power) ++ trail_drops_below s clocks air (above ++ l ∷ []) ls
 
 -- in the order of the text
 abbrev pub drops_of : ScenarioParts → (ℕ → ℕ → ℕ) → List Entry → List DropLine
-drops_of s clocks air = drops_below s clocks air [] s.script
+drops_of s clocks air = trail_drops_below s clocks air [] s.script

@@ -37,13 +37,13 @@ abbrev pub hearings_of : List Entry → List Hearing
 hearings_of air = filter_map hearing_in air
 
 -- v has a Heard entry of x
-abbrev pub IsHeard : List Entry → ℕ → Sending → Type 0
-IsHeard air v x = Contains (hearings_of air) (record { node = v; sending = x })
+abbrev pub HasHeardEntry : List Entry → ℕ → Sending → Type 0
+HasHeardEntry air v x = Contains (hearings_of air) (record { node = v; sending = x })
 
 abbrev pub tunings_of : List Entry → List Tuning
 tunings_of air = filter_map tuning_in air
 
-abbrev pub node_of : Entry → ℕ
-node_of (Sent x) = x.node
-node_of (Heard h) = h.node
-node_of (Tuned t) = t.node
+abbrev pub node_of_entry : Entry → ℕ
+node_of_entry (Sent x) = x.node
+node_of_entry (Heard h) = h.node
+node_of_entry (Tuned t) = t.node

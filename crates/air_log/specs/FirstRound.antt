@@ -39,8 +39,8 @@ abbrev pub closing_with : ℕ → List ℕ
 closing_with counter = 1 ∷ 2 ∷ counter ∷ 4 ∷ 1 ∷ 0 ∷ 0 ∷ 0 ∷ 0 ∷ 0 ∷ []
 
 -- what each node hears is what the other one sends
-abbrev pub heard_by_host : List Reception
-heard_by_host = record { packet = opening_with 1; end = 1344150016 } ∷ record { packet = closing_with 1; end = 1348374016 } ∷ []
+abbrev pub first_round_heard_by_host : List Reception
+first_round_heard_by_host = record { packet = opening_with 1; end = 1344150016 } ∷ record { packet = closing_with 1; end = 1348374016 } ∷ []
 
 abbrev pub heard_by_other : List Reception
 heard_by_other =
@@ -53,8 +53,8 @@ heard_by_other =
 abbrev pub sent_at : ℕ → ℕ → ℕ → List ℕ → Sending
 sent_at v start end packet = record { rank = 0; node = v; start = start; end = end; packet = packet }
 
-abbrev pub sent_by_host : List Sending
-sent_by_host =
+abbrev pub first_round_sent_by_host : List Sending
+first_round_sent_by_host =
     sent_at 1 1344064000 1344100864 (opening_with 0)
     ∷ sent_at 1 1344162304 1344199168 (opening_with 2)
     ∷ sent_at 1 1348288000 1348324864 (closing_with 0)
@@ -73,8 +73,9 @@ abbrev pub tuned_at : ℕ → ℕ → ℕ → Tuning
 tuned_at v start end = record { rank = 0; node = v; start = start; end = end }
 
 -- the last first
-abbrev pub tuned_by_host : List Tuning
-tuned_by_host = tuned_at 1 1348224000 1348423168 ∷ tuned_at 1 1346112000 1348208000 ∷ tuned_at 1 1344000000 1344199168 ∷ tuned_at 1 0 1228800000 ∷ []
+abbrev pub first_round_tuned_by_host : List Tuning
+first_round_tuned_by_host =
+    tuned_at 1 1348224000 1348423168 ∷ tuned_at 1 1346112000 1348208000 ∷ tuned_at 1 1344000000 1344199168 ∷ tuned_at 1 0 1228800000 ∷ []
 
 abbrev pub tuned_by_other : List Tuning
 tuned_by_other = tuned_at 2 1348224000 1348472320 ∷ tuned_at 2 1346112000 1348208000 ∷ tuned_at 2 0 1344248320 ∷ []
@@ -116,4 +117,4 @@ abbrev pub tuned_entry : Tuning → Entry
 tuned_entry t = Tuned (record { rank = t.rank; node = t.node; start = t.start; end = t.end })
 
 abbrev pub first_round_log : List Entry
-first_round_log = map sent_entry sent_in_round ++ map entry_of_hearing heard_in_round ++ map tuned_entry (tuned_by_host ++ tuned_by_other)
+first_round_log = map sent_entry sent_in_round ++ map entry_of_hearing heard_in_round ++ map tuned_entry (first_round_tuned_by_host ++ tuned_by_other)

@@ -10,9 +10,9 @@ use Rattle.scenario_text.specs.FloodParts.{FloodParts, knows}
 use Rattle.air_log.specs.declared.entry.Entry.{Entry}
 use Rattle.radio_model.specs.declared.sending.Sending.{Sending}
 use Rattle.radio_model.specs.OnAir.{Tuning}
-use Rattle.air_log.specs.Entries.{sendings_of, tunings_of, node_of, IsHeard}
+use Rattle.air_log.specs.Entries.{sendings_of, tunings_of, node_of_entry, HasHeardEntry}
 use Rattle.air_log.specs.HearsAir.{HearsAir}
-use Rattle.air_log.specs.NodeEvents.{Event, Heard, Ended, InOrder, occasions, own_ends}
+use Rattle.air_log.specs.NodeEvents.{Event, Heard, Ended, EventsInOrder, event_occasions, own_ends}
 
 -- all nodes tune in at this tick
 abbrev pub OPENING : ℕ
@@ -49,9 +49,9 @@ first_flood f v = if f.start == v then initiating (first_packet f.start) f.sends
 
 -- in the order of their ends, these are the hearings of v and its own sendings
 pub record AreEventsOf (air : List Entry) (v : ℕ) (events : List Event) : Type 0 where
-  pub hearings : (x : Sending) → Contains events (Heard x) ↔ IsHeard air v x
+  pub hearings : (x : Sending) → Contains events (Heard x) ↔ HasHeardEntry air v x
   pub sendings : (x : Sending) → Contains events (Ended x) ↔ (Contains (sendings_of air) x × (x.node ≡ v))
-  pub in_order : InOrder events
+  pub in_order : EventsInOrder events
 
 -- v is tuned until its N-th sending has ended, or until the closing if it sends fewer times
 abbrev pub tuning_by : ℕ → ℕ → List Event → Tuning
@@ -67,7 +67,7 @@ tuning_by sends v events = record {
 pub record IsRelay (f : FloodParts) (clock : ℕ → ℕ) (events : List Event) (x : Sending) : Type 0 where
   pub heard : Sending
   pub flood : FloodState
-  pub occasion : Contains (occasions (first_flood f x.node) events) (record { before = flood; event = Heard heard })
+  pub occasion : Contains (event_occasions (first_flood f x.node) events) (record { before = flood; event = Heard heard })
   pub answer : reply_to flood heard.packet ≡ Relay x.packet
   pub start : x.start ≡ due clock (clock heard.end + one.turn)
 
@@ -77,7 +77,7 @@ pub record FloodLaw (f : FloodParts) (clocks : ℕ → ℕ → ℕ) (air : List 
   pub events : ℕ → List Event
   pub happened : (v : ℕ) → knows f.nodes v ≡ true → AreEventsOf air v (events v)
   -- nodes alone have entries, and each is tuned once
-  pub known : (e : Entry) → Contains air e → knows f.nodes (node_of e) ≡ true
+  pub known : (e : Entry) → Contains air e → knows f.nodes (node_of_entry e) ≡ true
   pub tuned : (t : Tuning) → Contains (tunings_of air) t
       ↔ ((knows f.nodes t.node ≡ true) × (t ≡ tuning_by f.sends t.node (events t.node)))
   -- the starting node begins, and nobody else
@@ -85,7 +85,7 @@ pub record FloodLaw (f : FloodParts) (clocks : ℕ → ℕ → ℕ) (air : List 
       ↔ (x ≡ sending_at f.start START (first_packet f.start))
   pub lasts : (x : Sending) → Contains (sendings_of air) x → Lasts x
   -- nodes hear by the rule of the air
-  pub hears : (v : ℕ) (x : Sending) → IsHeard air v x ↔ ((knows f.nodes v ≡ true) × HearsAir one f.trace air v x)
+  pub hears : (v : ℕ) (x : Sending) → HasHeardEntry air v x ↔ ((knows f.nodes v ≡ true) × HearsAir one f.trace air v x)
   -- what a node relays, it sends, and nothing else
   pub relayed : (x : Sending) → knows f.nodes x.node ≡ true → Lasts x → IsRelay f (clocks x.node) (events x.node) x
       → Contains (sendings_of air) x

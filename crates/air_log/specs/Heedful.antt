@@ -4,7 +4,7 @@ use Rattle.scenario_text.specs.ScenarioParts.{ScenarioParts}
 use Rattle.radio_model.specs.declared.sending.Sending.{Sending}
 use Rattle.radio_model.specs.Hearing.{TunedThrough}
 use Rattle.air_log.specs.declared.entry.Entry.{Entry}
-use Rattle.air_log.specs.Entries.{sendings_of, IsHeard}
+use Rattle.air_log.specs.Entries.{sendings_of, HasHeardEntry}
 use Rattle.air_log.specs.HearsAir.{scene_of}
 use Rattle.air_log.specs.Lawful.{FollowsTrails}
 
@@ -16,4 +16,4 @@ pub record WasInReach (s : ScenarioParts) (air : List Entry) (v : ℕ) (x : Send
 -- nodes do what they heard calls for, and what they heard was in their reach
 pub record Heedful (s : ScenarioParts) (clocks : ℕ → ℕ → ℕ) (air : List Entry) : Type 0 where
   pub trails : FollowsTrails s clocks air
-  pub heard : (v : ℕ) (x : Sending) → IsHeard air v x → WasInReach s air v x
+  pub heard : (v : ℕ) (x : Sending) → HasHeardEntry air v x → WasInReach s air v x

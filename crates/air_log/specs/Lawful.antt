@@ -5,19 +5,19 @@ use Rattle.scenario_text.specs.FloodParts.{knows}
 use Rattle.radio_model.specs.declared.sending.Sending.{Sending}
 use Rattle.radio_model.specs.OnAir.{Hearing, Tuning}
 use Rattle.air_log.specs.declared.entry.Entry.{Entry}
-use Rattle.air_log.specs.Entries.{sendings_of, hearings_of, tunings_of, IsHeard}
+use Rattle.air_log.specs.Entries.{sendings_of, hearings_of, tunings_of, HasHeardEntry}
 use Rattle.air_log.specs.HearsAir.{HearsAir}
 use Rattle.air_log.specs.Devices.{Device}
 use Rattle.air_log.specs.Trails.{Reception, run_end, trail}
 
 -- by end, and then by sender
-abbrev pub comes_before : Hearing → Hearing → Bool
-comes_before g h = nat_lt g.sending.end h.sending.end || ((g.sending.end == h.sending.end) && nat_lt g.sending.node h.sending.node)
+abbrev pub reception_comes_before : Hearing → Hearing → Bool
+reception_comes_before g h = nat_lt g.sending.end h.sending.end || ((g.sending.end == h.sending.end) && nat_lt g.sending.node h.sending.node)
 
 -- a hearing put to its place, before all that do not come before it
 abbrev pub put_in : Hearing → List Hearing → List Hearing
 put_in h [] = h ∷ []
-put_in h (g ∷ gs) = if comes_before g h then g ∷ put_in h gs else h ∷ g ∷ gs
+put_in h (g ∷ gs) = if reception_comes_before g h then g ∷ put_in h gs else h ∷ g ∷ gs
 
 -- by end, then sender, then place in the list
 abbrev pub by_end : List Hearing → List Hearing
@@ -26,7 +26,7 @@ by_end (h ∷ hs) = put_in h (by_end hs)
 
 -- none comes before one that stands before it
 abbrev pub AreInTurn : List Hearing → Type 0
-AreInTurn hs = AllPairs (λ g h. comes_before h g ≡ false) hs
+AreInTurn hs = AllPairs (λ g h. reception_comes_before h g ≡ false) hs
 
 abbrev pub reception_of : Hearing → Reception
 reception_of h = record { packet = h.sending.packet; end = h.sending.end }
@@ -62,7 +62,7 @@ pub record FollowsTrails (s : ScenarioParts) (clocks : ℕ → ℕ → ℕ) (air
 
 -- v has a Heard entry, once, exactly of each sending that ends in the run and that it hears
 pub record FollowsHearing (s : ScenarioParts) (air : List Entry) : Type 0 where
-  pub heard : (v : ℕ) (x : Sending) → IsHeard air v x ↔ ((x.end < run_end s) × HearsAir s.profile s.trace air v x)
+  pub heard : (v : ℕ) (x : Sending) → HasHeardEntry air v x ↔ ((x.end < run_end s) × HearsAir s.profile s.trace air v x)
   pub once : AllPairs (λ g h. g ≢ h) (hearings_of air)
 
 pub record Lawful (s : ScenarioParts) (clocks : ℕ → ℕ → ℕ) (air : List Entry) : Type 0 where

@@ -4,7 +4,7 @@ use Rattle.std.specs.Prelude.{ℕ, List, [], ◌∷◌, ◌++◌, Bool, if◌the
 use Rattle.std.specs.Ordering.{nat_cmp, ordering_then, is_lt}
 use Rattle.text_writers.specs.Lines.{line_text, numbered}
 use Rattle.text_writers.specs.HexWords.{hex_word}
-use Rattle.air_log.specs.Entries.{node_of}
+use Rattle.air_log.specs.Entries.{node_of_entry}
 use Rattle.air_log.specs.declared.entry.Entry.{Entry}
 use Rattle.air_log.specs.declared.entry.Entry.TheVariants.{Sent, Heard, Tuned}
 use Rattle.air_log.specs.declared.entry.SentEntry.{SentEntry}
@@ -16,24 +16,25 @@ start_of (Sent x) = x.start
 start_of (Heard h) = h.start
 start_of (Tuned t) = t.start
 
-abbrev pub kind_of : Entry → ℕ
-kind_of (Sent x) = 0
-kind_of (Heard h) = 1
-kind_of (Tuned t) = 2
+abbrev pub kind_number : Entry → ℕ
+kind_number (Sent x) = 0
+kind_number (Heard h) = 1
+kind_number (Tuned t) = 2
 
 -- by start, then kind, then node
-abbrev pub is_before : Entry → Entry → Bool
-is_before a b = is_lt (ordering_then (ordering_then (nat_cmp (start_of a) (start_of b)) (nat_cmp (kind_of a) (kind_of b))) (nat_cmp (node_of a) (node_of b)))
+abbrev pub entry_is_before : Entry → Entry → Bool
+entry_is_before a b = is_lt
+    (ordering_then (ordering_then (nat_cmp (start_of a) (start_of b)) (nat_cmp (kind_number a) (kind_number b))) (nat_cmp (node_of_entry a) (node_of_entry b)))
 
 -- x in front of the first that is not before it
-abbrev pub placed : {X : Type 0} → (X → X → Bool) → X → List X → List X
-placed before x [] = x ∷ []
-placed before x (y ∷ ys) = if before y x then y ∷ placed before x ys else x ∷ y ∷ ys
+abbrev pub with_inserted : {X : Type 0} → (X → X → Bool) → X → List X → List X
+with_inserted before x [] = x ∷ []
+with_inserted before x (y ∷ ys) = if before y x then y ∷ with_inserted before x ys else x ∷ y ∷ ys
 
 -- each in its place among those that come after it in the list
 abbrev pub in_order : {X : Type 0} → (X → X → Bool) → List X → List X
 in_order before [] = []
-in_order before (x ∷ xs) = placed before x (in_order before xs)
+in_order before (x ∷ xs) = with_inserted before x (in_order before xs)
 
 abbrev pub sent_line : SentEntry → List ℕ
 sent_line x = line_text (numbered (codes "sent") (x.rank ∷ x.node ∷ x.start ∷ x.end ∷ []) ++ hex_word x.packet ∷ [])
@@ -50,4 +51,4 @@ entry_line (Heard h) = heard_line h
 entry_line (Tuned t) = tuned_line t
 
 abbrev pub log_text : List Entry → List ℕ
-log_text air = flat_map entry_line (in_order is_before air)
+log_text air = flat_map entry_line (in_order entry_is_before air)

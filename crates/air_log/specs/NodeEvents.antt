@@ -9,30 +9,30 @@ pub data Event : Type 0 where
   Heard : (x : Sending) → Event
   Ended : (x : Sending) → Event
 
-abbrev pub sending_of : Event → Sending
-sending_of (Heard x) = x
-sending_of (Ended x) = x
+abbrev pub sending_of_event : Event → Sending
+sending_of_event (Heard x) = x
+sending_of_event (Ended x) = x
 
 -- by their ends, and none twice
-abbrev pub InOrder : List Event → Type 0
-InOrder events = AllPairs (λ d e. ((sending_of d).end ≤ (sending_of e).end) × (d ≢ e)) events
+abbrev pub EventsInOrder : List Event → Type 0
+EventsInOrder events = AllPairs (λ d e. ((sending_of_event d).end ≤ (sending_of_event e).end) × (d ≢ e)) events
 
-abbrev pub after : FloodState → Event → FloodState
-after s (Heard x) = after_heard s x.packet
-after s (Ended x) = after_sent s
+abbrev pub flood_after_event : FloodState → Event → FloodState
+flood_after_event s (Heard x) = after_heard s x.packet
+flood_after_event s (Ended x) = after_sent s
 
-abbrev pub after_all : FloodState → List Event → FloodState
-after_all s [] = s
-after_all s (e ∷ es) = after_all (after s e) es
+abbrev pub flood_after_events : FloodState → List Event → FloodState
+flood_after_events s [] = s
+flood_after_events s (e ∷ es) = flood_after_events (flood_after_event s e) es
 
 -- an event, and the flood before it
-pub record Occasion : Type 0 where
+pub record EventOccasion : Type 0 where
   pub before : FloodState
   pub event : Event
 
-abbrev pub occasions : FloodState → List Event → List Occasion
-occasions s [] = []
-occasions s (e ∷ es) = record { before = s; event = e } ∷ occasions (after s e) es
+abbrev pub event_occasions : FloodState → List Event → List EventOccasion
+event_occasions s [] = []
+event_occasions s (e ∷ es) = record { before = s; event = e } ∷ event_occasions (flood_after_event s e) es
 
 abbrev pub own_end : Event → Option ℕ
 own_end (Heard x) = None

@@ -16,26 +16,26 @@ use Rattle.scenario_text.specs.ScenarioParts.{ScenarioParts}
 use Rattle.scenario_text.specs.declared.script.Act.TheVariants.{Off}
 use Rattle.scenario_text.specs.declared.script.ScriptLine.{ScriptLine}
 use Rattle.radio_model.specs.declared.sending.Sending.{Sending}
-use Rattle.radio_model.specs.Hearing.{Meets, frame_of, slot_of, counter_of}
+use Rattle.radio_model.specs.Hearing.{Meets, frame_of_sending, slot_of_sending, counter_of_sending}
 use Rattle.air_log.specs.declared.entry.Entry.{Entry}
-use Rattle.air_log.specs.Entries.{sendings_of, IsHeard}
+use Rattle.air_log.specs.Entries.{sendings_of, HasHeardEntry}
 use Rattle.air_log.specs.Lawful.{heard_by}
 use Rattle.air_log.specs.Trails.{frame_start, tune_when}
 
 -- both are of one channel, frame and slot
 pub record SameSlot (p : Numbers) (x y : Sending) : Type 0 where
   pub channel : x.rank ≡ y.rank
-  pub frame : frame_of p x ≡ frame_of p y
-  pub slot : slot_of x ≡ slot_of y
+  pub frame : frame_of_sending p x ≡ frame_of_sending p y
+  pub slot : slot_of_sending x ≡ slot_of_sending y
 
 -- and of one counter
 pub record SameStep (p : Numbers) (x y : Sending) : Type 0 where
   pub slot : SameSlot p x y
-  pub counter : counter_of x ≡ counter_of y
+  pub counter : counter_of_sending x ≡ counter_of_sending y
 
 -- within one frame: a sending ends before the next frame starts
 abbrev pub WithinOneFrame : ScenarioParts → List Entry → Type 0
-WithinOneFrame s air = (x : Sending) → Contains (sendings_of air) x → x.end < frame_start s (frame_of s.profile x + 1)
+WithinOneFrame s air = (x : Sending) → Contains (sendings_of air) x → x.end < frame_start s (frame_of_sending s.profile x + 1)
 
 -- no overlap: two that meet on a channel are of one frame, slot and counter
 abbrev pub NoOverlap : ScenarioParts → List Entry → Type 0
@@ -46,7 +46,7 @@ NoOverlap s air =
 -- they differ in no byte but the counter, and where that is the same they start together
 pub record Alike (p : Numbers) (x y : Sending) : Type 0 where
   pub bytes : body x.packet ≡ body y.packet
-  pub together : counter_of x ≡ counter_of y → Near x.start y.start p.delta
+  pub together : counter_of_sending x ≡ counter_of_sending y → Near x.start y.start p.delta
 
 -- same but for the counter: two of one channel, frame and slot are alike, unless both are requests
 abbrev pub SameButForCounter : ScenarioParts → List Entry → Type 0
@@ -56,14 +56,14 @@ SameButForCounter s air =
 
 -- x begins a flood, and is no request
 pub record Begins (x : Sending) : Type 0 where
-  pub first : counter_of x ≡ 0
+  pub first : counter_of_sending x ≡ 0
   pub no_request : is_request x.packet ≡ false
 
 -- one initiator: at most one sending begins the flood of a slot, and a schedule is begun by the host of its channel
 pub record OneInitiator (s : ScenarioParts) (air : List Entry) : Type 0 where
   pub one : AllPairs (λ x y. SameSlot s.profile x y → Begins x → Begins y → ⊥) (sendings_of air)
   pub host : (x : Sending) → Contains (sendings_of air) x
-      → counter_of x ≡ 0 → is_schedule x.packet ≡ true → slice_get s.hosts x.rank ≡ Some x.node
+      → counter_of_sending x ≡ 0 → is_schedule x.packet ≡ true → slice_get s.hosts x.rank ≡ Some x.node
 
 -- no off line of v stands in the frames g + 1 to f
 abbrev pub StaysOn : ScenarioParts → ℕ → ℕ → ℕ → Type 0
@@ -80,13 +80,13 @@ Allows y j None = ⊤
 pub record HasWord (s : ScenarioParts) (air : List Entry) (x : Sending) : Type 0 where
   pub heard : Sending
   pub schedule : Schedule
-  pub there : IsHeard air x.node heard
+  pub there : HasHeardEntry air x.node heard
   pub says : message_of heard.packet ≡ Some (ScheduleOf schedule)
   pub channel : heard.rank ≡ x.rank
   pub named : schedule.plan.rank ≡ x.rank
-  pub due : frame_of s.profile heard + schedule.gap ≡ frame_of s.profile x
-  pub stays_on : StaysOn s x.node (frame_of s.profile heard) (frame_of s.profile x)
-  pub allows : Allows schedule (slot_of x) (message_of x.packet)
+  pub due : frame_of_sending s.profile heard + schedule.gap ≡ frame_of_sending s.profile x
+  pub stays_on : StaysOn s x.node (frame_of_sending s.profile heard) (frame_of_sending s.profile x)
+  pub allows : Allows schedule (slot_of_sending x) (message_of x.packet)
 
 -- a node that is off hosts nothing
 abbrev pub is_hosting : Option Tune → Bool
@@ -94,14 +94,14 @@ is_hosting None = false
 is_hosting (Some tune) = hosts tune
 
 -- whether the sender of x hosts when x starts, by its trail
-abbrev pub by_host : ScenarioParts → (ℕ → ℕ → ℕ) → List Entry → Sending → Bool
-by_host s clocks air x = is_hosting (tune_when s x.node (clocks x.node) (heard_by air x.node) x.start)
+abbrev pub sender_hosts : ScenarioParts → (ℕ → ℕ → ℕ) → List Entry → Sending → Bool
+sender_hosts s clocks air x = is_hosting (tune_when s x.node (clocks x.node) (heard_by air x.node) x.start)
 
 -- silence: who begins a flood that is no schedule, and does not host, has heard that it may
 abbrev pub Silence : ScenarioParts → (ℕ → ℕ → ℕ) → List Entry → Type 0
 Silence s clocks air =
     (x : Sending) → Contains (sendings_of air) x
-    → counter_of x ≡ 0 → is_schedule x.packet ≡ false → by_host s clocks air x ≡ false → HasWord s air x
+    → counter_of_sending x ≡ 0 → is_schedule x.packet ≡ false → sender_hosts s clocks air x ≡ false → HasWord s air x
 
 pub record Safe (s : ScenarioParts) (clocks : ℕ → ℕ → ℕ) (air : List Entry) : Type 0 where
   pub within_one_frame : WithinOneFrame s air

@@ -14,12 +14,12 @@ abbrev pub dropped : ℕ → ℕ → ℕ → Device → Device
 dropped node frame stream d = record d { made = record (d.made) { drops = d.made.drops ++ record { frame = frame; node = node; stream = stream } ∷ [] } }
 
 -- power comes on: the next boot
-abbrev pub switched_on : (ℕ → ℕ) → Setup → ℕ → ℕ → Device → Device
-switched_on clock s t boots d = event clock s t Boot None (record d { power = PowerOn (rebooted (boots + 1)) })
+abbrev pub device_after_on : (ℕ → ℕ) → Setup → ℕ → ℕ → Device → Device
+device_after_on clock s t boots d = event clock s t Boot None (record d { power = PowerOn (rebooted (boots + 1)) })
 
 -- power goes off, and with it the tuning, the alarm and what is ordered. A sending that runs goes on
-abbrev pub switched_off : ℕ → ℕ → Node → Device → Device
-switched_off node t n d = record (silenced node t d) { power = PowerOff n.core.boot; alarm = None; ordered = None }
+abbrev pub device_after_off : ℕ → ℕ → Node → Device → Device
+device_after_off node t n d = record (silenced node t d) { power = PowerOff n.core.boot; alarm = None; ordered = None }
 
 abbrev pub with_new_core : Device → Node → Core → Device
 with_new_core d n core = record d { power = PowerOn (record n { core = core }) }
@@ -29,18 +29,18 @@ put_or_dropped s frame i payload d n =
     if refuses i n.core then dropped s.id frame i d else with_new_core d n (queues i payload n.core)
 
 -- what is done at tick t, in this frame
-abbrev pub after_act : (ℕ → ℕ) → Setup → ℕ → ℕ → Device → Act → Power → Device
-after_act clock s t frame d On (PowerOff boots) = switched_on clock s t boots d
-after_act clock s t frame d On (PowerOn n) = d
-after_act clock s t frame d Off (PowerOff boots) = d
-after_act clock s t frame d Off (PowerOn n) = switched_off s.id t n d
-after_act clock s t frame d (Declare i interval) (PowerOff boots) = d
-after_act clock s t frame d (Declare i interval) (PowerOn n) = with_new_core d n (declares i interval n.core)
-after_act clock s t frame d (Leave i) (PowerOff boots) = d
-after_act clock s t frame d (Leave i) (PowerOn n) = with_new_core d n (leaves i n.core)
-after_act clock s t frame d (Put i payload) (PowerOff boots) = dropped s.id frame i d
-after_act clock s t frame d (Put i payload) (PowerOn n) = put_or_dropped s frame i payload d n
+abbrev pub device_after_act : (ℕ → ℕ) → Setup → ℕ → ℕ → Device → Act → Power → Device
+device_after_act clock s t frame d On (PowerOff boots) = device_after_on clock s t boots d
+device_after_act clock s t frame d On (PowerOn n) = d
+device_after_act clock s t frame d Off (PowerOff boots) = d
+device_after_act clock s t frame d Off (PowerOn n) = device_after_off s.id t n d
+device_after_act clock s t frame d (Declare i interval) (PowerOff boots) = d
+device_after_act clock s t frame d (Declare i interval) (PowerOn n) = with_new_core d n (declares i interval n.core)
+device_after_act clock s t frame d (Leave i) (PowerOff boots) = d
+device_after_act clock s t frame d (Leave i) (PowerOn n) = with_new_core d n (leaves i n.core)
+device_after_act clock s t frame d (Put i payload) (PowerOff boots) = dropped s.id frame i d
+device_after_act clock s t frame d (Put i payload) (PowerOn n) = put_or_dropped s frame i payload d n
 
 -- what a line of the node says, at tick t
-abbrev pub after_line : (ℕ → ℕ) → Setup → ℕ → Device → ScriptLine → Device
-after_line clock s t d l = after_act clock s t l.frame d l.act d.power
+abbrev pub device_after_line : (ℕ → ℕ) → Setup → ℕ → Device → ScriptLine → Device
+device_after_line clock s t d l = device_after_act clock s t l.frame d l.act d.power

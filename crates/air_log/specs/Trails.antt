@@ -9,8 +9,8 @@ use Rattle.scenario_text.specs.ScenarioParts.{ScenarioParts}
 use Rattle.scenario_text.specs.declared.script.ScriptLine.{ScriptLine}
 use Rattle.bus_rules.specs.declared.tune.Tune.{Tune}
 use Rattle.bus_rules.specs.Cores.{Setup, setup_for}
-use Rattle.air_log.specs.Devices.{Device, Power, PowerOff, PowerOn, Listening, Ordered, at_rest, event, silenced}
-use Rattle.air_log.specs.ScriptedDevices.{after_line}
+use Rattle.air_log.specs.Devices.{Device, Power, PowerOff, PowerOn, Listening, OrderedPacket, at_rest, event, silenced}
+use Rattle.air_log.specs.ScriptedDevices.{device_after_line}
 
 -- a packet that was heard whole, and the tick at which its hearing ended
 pub record Reception : Type 0 where
@@ -33,31 +33,31 @@ frame_start s f = f * s.profile.frame
 abbrev pub lines_at : ScenarioParts → ℕ → ℕ → List ScriptLine
 lines_at s v t = filter (λ l. (l.node == v) && (frame_start s l.frame == t)) s.script
 
-abbrev pub scripted : ScenarioParts → ℕ → (ℕ → ℕ) → ℕ → Device → Device
-scripted s v clock t d = fold (after_line clock (setup_of s v) t) d (lines_at s v t)
+abbrev pub device_after_script : ScenarioParts → ℕ → (ℕ → ℕ) → ℕ → Device → Device
+device_after_script s v clock t d = fold (device_after_line clock (setup_of s v) t) d (lines_at s v t)
 
 -- second: the hearings that end at t, in the order of the list
 abbrev pub ending_at : ℕ → List Reception → List Reception
 ending_at t hs = filter (λ h. h.end == t) hs
 
-abbrev pub hears : (ℕ → ℕ) → Setup → ℕ → Device → Reception → Device
-hears clock s t d h = event clock s t (Heard h.packet) None d
+abbrev pub device_after_reception : (ℕ → ℕ) → Setup → ℕ → Device → Reception → Device
+device_after_reception clock s t d h = event clock s t (Heard h.packet) None d
 
-abbrev pub heard : (ℕ → ℕ) → Setup → ℕ → List Reception → Device → Device
-heard clock s t hs d = fold (hears clock s t) d (ending_at t hs)
+abbrev pub device_after_receptions : (ℕ → ℕ) → Setup → ℕ → List Reception → Device → Device
+device_after_receptions clock s t hs d = fold (device_after_reception clock s t) d (ending_at t hs)
 
 -- third: the end of the own sending
-abbrev pub ended_by : (ℕ → ℕ) → Setup → ℕ → Device → Option Sending → Device
-ended_by clock s t d None = d
-ended_by clock s t d (Some x) = if x.end == t then event clock s t Sent (Some x) (record d { sending = None }) else d
+abbrev pub device_ended_by : (ℕ → ℕ) → Setup → ℕ → Device → Option Sending → Device
+device_ended_by clock s t d None = d
+device_ended_by clock s t d (Some x) = if x.end == t then event clock s t Sent (Some x) (record d { sending = None }) else d
 
-abbrev pub ended : (ℕ → ℕ) → Setup → ℕ → Device → Device
-ended clock s t d = ended_by clock s t d d.sending
+abbrev pub device_after_end : (ℕ → ℕ) → Setup → ℕ → Device → Device
+device_after_end clock s t d = device_ended_by clock s t d d.sending
 
 -- fourth: the alarm, and again as long as one is due at t
-abbrev pub is_due : ℕ → Option ℕ → Bool
-is_due t None = false
-is_due t (Some tick) = tick == t
+abbrev pub alarm_is_due : ℕ → Option ℕ → Bool
+alarm_is_due t None = false
+alarm_is_due t (Some tick) = tick == t
 
 abbrev pub one_alarm : (ℕ → ℕ) → Setup → ℕ → Device → Device
 one_alarm clock s t d = event clock s t Alarm None (record d { alarm = None })
@@ -67,11 +67,11 @@ alarms clock s t false more d = d
 alarms clock s t true zero d = d
 alarms clock s t true (suc more) d =
     let after = one_alarm clock s t d in
-    alarms clock s t (is_due t after.alarm) more after
+    alarms clock s t (alarm_is_due t after.alarm) more after
 
 -- by a clock that keeps the drift law there are never as many as this
 abbrev pub alarmed : (ℕ → ℕ) → Setup → ℕ → Device → Device
-alarmed clock s t d = alarms clock s t (is_due t d.alarm) (clock t + 300) d
+alarmed clock s t d = alarms clock s t (alarm_is_due t d.alarm) (clock t + 300) d
 
 -- fifth: the start of the ordered sending. It has no effect where the radio is off or the node still sends
 abbrev pub sending_from : Setup → ℕ → List ℕ → Listening → Sending
@@ -83,34 +83,34 @@ starts s t packet d (Some l) (Some x) = record d { ordered = None }
 starts s t packet d (Some l) None =
     record d { ordered = None; sending = Some (sending_from s t packet l); made = record (d.made) { sent = d.made.sent ++ sending_from s t packet l ∷ [] } }
 
-abbrev pub begun_by : Setup → ℕ → Device → Option Ordered → Device
+abbrev pub begun_by : Setup → ℕ → Device → Option OrderedPacket → Device
 begun_by s t d None = d
 begun_by s t d (Some o) = if o.tick == t then starts s t o.packet d d.listening d.sending else d
 
-abbrev pub begun : Setup → ℕ → Device → Device
-begun s t d = begun_by s t d d.ordered
+abbrev pub device_after_start : Setup → ℕ → Device → Device
+device_after_start s t d = begun_by s t d d.ordered
 
 -- the sending that starts at t at a device, if one does
-abbrev pub starting_by : Setup → ℕ → Option Ordered → Option Listening → Option Sending → List Sending
+abbrev pub starting_by : Setup → ℕ → Option OrderedPacket → Option Listening → Option Sending → List Sending
 starting_by s t None l sending = []
 starting_by s t (Some o) None sending = []
 starting_by s t (Some o) (Some l) (Some x) = []
 starting_by s t (Some o) (Some l) None = if o.tick == t then sending_from s t o.packet l ∷ [] else []
 
-abbrev pub starting : Setup → ℕ → Device → List Sending
-starting s t d = starting_by s t d.ordered d.listening d.sending
+abbrev pub sendings_starting : Setup → ℕ → Device → List Sending
+sendings_starting s t d = starting_by s t d.ordered d.listening d.sending
 
 -- tick t: what comes before the alarms, what comes before the start of a sending, and the whole
 abbrev pub before_alarms : ScenarioParts → ℕ → (ℕ → ℕ) → List Reception → ℕ → Device → Device
 before_alarms s v clock hs t d =
     let node = setup_of s v in
-    ended clock node t (heard clock node t hs (scripted s v clock t d))
+    device_after_end clock node t (device_after_receptions clock node t hs (device_after_script s v clock t d))
 
 abbrev pub before_start : ScenarioParts → ℕ → (ℕ → ℕ) → List Reception → ℕ → Device → Device
 before_start s v clock hs t d = alarmed clock (setup_of s v) t (before_alarms s v clock hs t d)
 
 abbrev pub tick : ScenarioParts → ℕ → (ℕ → ℕ) → List Reception → ℕ → Device → Device
-tick s v clock hs t d = begun (setup_of s v) t (before_start s v clock hs t d)
+tick s v clock hs t d = device_after_start (setup_of s v) t (before_start s v clock hs t d)
 
 -- the device before tick t
 unfoldable pub before_tick : ScenarioParts → ℕ → (ℕ → ℕ) → List Reception → ℕ → Device
@@ -123,7 +123,7 @@ trail s v clock hs = silenced v (run_end s) (before_tick s v clock hs (run_end s
 
 -- the device after the script lines of frame f
 abbrev pub at_frame : ScenarioParts → ℕ → (ℕ → ℕ) → List Reception → ℕ → Device
-at_frame s v clock hs f = scripted s v clock (frame_start s f) (before_tick s v clock hs (frame_start s f))
+at_frame s v clock hs f = device_after_script s v clock (frame_start s f) (before_tick s v clock hs (frame_start s f))
 
 abbrev pub tune_of : Power → Option Tune
 tune_of (PowerOff boots) = None

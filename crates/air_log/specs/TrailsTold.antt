@@ -32,5 +32,5 @@ trail_told s v clock hs = record {
 }
 
 -- the sending that an entry says
-abbrev pub sending_of : SentEntry → Sending
-sending_of x = record { rank = x.rank; node = x.node; start = x.start; end = x.end; packet = x.packet }
+abbrev pub sending_of_entry : SentEntry → Sending
+sending_of_entry x = record { rank = x.rank; node = x.node; start = x.start; end = x.end; packet = x.packet }

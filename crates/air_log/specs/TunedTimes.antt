@@ -9,10 +9,10 @@ abbrev pub listened : ℕ → ℕ → Option Listening → Type 0
 listened r k None = ⊥
 listened r k (Some l) = (l.rank ≡ r) × (l.since ≤ k)
 
-pub record IsIn (r k : ℕ) (e : Tuning) : Type 0 where
+pub record CoversTick (r k : ℕ) (e : Tuning) : Type 0 where
   pub rank : e.rank ≡ r
   pub since : e.start ≤ k
   pub until : k < e.end
 
 abbrev pub WasTuned : Device → ℕ → ℕ → Type 0
-WasTuned d r k = ((e : Tuning) × Contains d.made.tuned e × IsIn r k e) ⊎ listened r k d.listening
+WasTuned d r k = ((e : Tuning) × Contains d.made.tuned e × CoversTick r k e) ⊎ listened r k d.listening

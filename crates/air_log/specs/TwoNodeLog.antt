@@ -4,8 +4,8 @@ use Rattle.scenario_text.specs.FloodParts.{FloodParts}
 use Rattle.air_log.specs.declared.entry.Entry.{Entry}
 use Rattle.air_log.specs.declared.entry.Entry.TheVariants.{Sent, Heard, Tuned}
 
-abbrev pub two_nodes : FloodParts
-two_nodes = record {
+abbrev pub two_node_flood : FloodParts
+two_node_flood = record {
   sends = 1;
   nodes = record { node = 1; offset = 0 } ∷ record { node = 2; offset = 0 } ∷ [];
   rates = [];

@@ -67,25 +67,25 @@ abbrev pub gone_on : ℕ → Event → Option Sending → Window → List Window
 gone_on t e ended w [] = []
 gone_on t e ended w (x ∷ xs) = record x { happenings = x.happenings ++ happening t e ended; last = w } ∷ xs
 
-abbrev pub closed_log : ℕ → Node → List WindowLog → List WindowLog
-closed_log t m [] = []
-closed_log t m (x ∷ xs) = record x { closed = Some (record { tick = t; after = m }) } ∷ xs
+abbrev pub logs_after_closing : ℕ → Node → List WindowLog → List WindowLog
+logs_after_closing t m [] = []
+logs_after_closing t m (x ∷ xs) = record x { closed = Some (record { tick = t; after = m }) } ∷ xs
 
 -- the window of a stage, with its slot
-abbrev pub window_of : Stage → Option (ℕ × Window)
-window_of Idle = None
-window_of Scanning = None
-window_of AwaitFrame = None
-window_of (AwaitSlot j) = None
-window_of (InWindow j w) = Some (j, w)
+abbrev pub window_of_stage : Stage → Option (ℕ × Window)
+window_of_stage Idle = None
+window_of_stage Scanning = None
+window_of_stage AwaitFrame = None
+window_of_stage (AwaitSlot j) = None
+window_of_stage (InWindow j w) = Some (j, w)
 
 -- the windows after an event at tick t that took the node n to m: with a window before it and one after it the event belongs to
 -- that window, with one before it alone it closes that, and with one after it alone it opens it
 abbrev pub windows_by : ℕ → Event → Option Sending → Node → Node → Option (ℕ × Window) → Option (ℕ × Window) → List WindowLog → List WindowLog
 windows_by t e ended n m (Some old) (Some new) logs = gone_on t e ended new.1 logs
-windows_by t e ended n m (Some old) None logs = closed_log t m logs
+windows_by t e ended n m (Some old) None logs = logs_after_closing t m logs
 windows_by t e ended n m None (Some new) logs = opened_log t e ended n m new.0 new.1 ∷ logs
 windows_by t e ended n m None None logs = logs
 
 abbrev pub windows_after : ℕ → Event → Option Sending → Node → Node → Stage → Stage → List WindowLog → List WindowLog
-windows_after t e ended n m from to logs = windows_by t e ended n m (window_of from) (window_of to) logs
+windows_after t e ended n m from to logs = windows_by t e ended n m (window_of_stage from) (window_of_stage to) logs

@@ -5,11 +5,11 @@ use Rattle.lwb_base.specs.Profile.{Numbers}
 use Rattle.lwb_base.specs.declared.event.Event.{Event}
 use Rattle.lwb_base.specs.declared.event.Event.TheVariants.{Boot, Alarm, Heard, Sent}
 use Rattle.radio_model.specs.declared.sending.Sending.{Sending}
-use Rattle.bus_rules.specs.Charges.{last_of}
+use Rattle.bus_rules.specs.Charges.{last_if_all_sent}
 use Rattle.node_core.specs.declared.stage.Stage.{Stage}
-use Rattle.air_log.specs.Charges.{sent_packets, counted}
+use Rattle.air_log.specs.Charges.{sent_packets, charge_by_last}
 use Rattle.air_log.specs.Devices.{Power, PowerOff, PowerOn}
-use Rattle.air_log.specs.WindowLogs.{WindowLog, window_of}
+use Rattle.air_log.specs.WindowLogs.{WindowLog, window_of_stage}
 
 -- earlier: what all windows but the last one count, as 64 bits have it; last: what that one counts; by_alarm: it opened by
 -- its alarm; sent: how often the node has sent in it, where 5 stands for more as well
@@ -22,7 +22,7 @@ pub record WindowSum : Type 0 where
   pub sent : ℕ
 
 abbrev pub charge_by : Numbers → ℕ → WindowLog → ℕ
-charge_by p n w = if w.by_alarm then counted p (last_of n (sent_packets w)) else 0
+charge_by p n w = if w.by_alarm then charge_by_last p (last_if_all_sent n (sent_packets w)) else 0
 
 -- of windows that stand with the last first
 pub record IsCountedTo (p : Numbers) (n : ℕ) (w : WindowLog) (ws : List WindowLog) (x : WindowSum) : Type 0 where
@@ -52,12 +52,12 @@ pub record IsCounted (p : Numbers) (n : ℕ) (logs : List WindowLog) (x : Window
   pub small : AreSmall p n logs
 
 -- whether a window is open
-abbrev pub is_window : Stage → Bool
-is_window stage = is_some (window_of stage)
+abbrev pub stage_has_window : Stage → Bool
+stage_has_window stage = is_some (window_of_stage stage)
 
-abbrev pub in_window : Power → Bool
-in_window (PowerOff boots) = false
-in_window (PowerOn n) = is_window n.stage
+abbrev pub power_has_window : Power → Bool
+power_has_window (PowerOff boots) = false
+power_has_window (PowerOn n) = stage_has_window n.stage
 
 -- the packet of the sending that an event tells the end of
 abbrev pub sent_with : Event → Option Sending → Option (List ℕ)
@@ -71,7 +71,7 @@ sent_with Sent (Some x) = Some x.packet
 abbrev pub opened_sum : Bool → WindowSum → WindowSum
 opened_sum by_alarm x = record x {
   earlier = (x.earlier + x.last) % 2 ^ 64;
-  last = if by_alarm then counted x.profile None else 0;
+  last = if by_alarm then charge_by_last x.profile None else 0;
   by_alarm = by_alarm;
   sent = 0;
 }
@@ -81,7 +81,8 @@ abbrev pub only_if : Bool → List ℕ → Option (List ℕ)
 only_if b packet = if b then Some packet else None
 
 abbrev pub sent_sum : List ℕ → WindowSum → WindowSum
-sent_sum packet x = record x { last = if x.by_alarm then counted x.profile (only_if (min (x.sent + 1) 5 == x.sends) packet) else 0; sent = min (x.sent + 1) 5 }
+sent_sum packet x =
+    record x { last = if x.by_alarm then charge_by_last x.profile (only_if (min (x.sent + 1) 5 == x.sends) packet) else 0; sent = min (x.sent + 1) 5 }
 
 abbrev pub with_packet : Option (List ℕ) → WindowSum → WindowSum
 with_packet None x = x

@@ -8,13 +8,13 @@ ghost use Rattle.scenario_text.specs.ScenarioFacts.{IsAct};
 ghost use Rattle.scenario_text.specs.declared.script.Act.TheVariants.{On as OnOf};
 ghost use Rattle.air_log.specs.AlarmRuns.{IsAlarmRun};
 ghost use Rattle.air_log.specs.Devices.{Device as DeviceOf, at_rest, obeyed, event as event_at, silenced};
-ghost use Rattle.air_log.specs.ScriptedDevices.{after_act, after_line};
-ghost use Rattle.air_log.specs.Trails.{setup_of, is_due, one_alarm, alarmed, begun as begun_at, ended as ended_at};
+ghost use Rattle.air_log.specs.ScriptedDevices.{device_after_act, device_after_line};
+ghost use Rattle.air_log.specs.Trails.{setup_of, alarm_is_due, one_alarm, alarmed, device_after_start as begun_at, device_after_end as ended_at};
 ghost use Rattle.air_log.specs.DeviceStates.{IsTimely, CanBoot, one_more};
 ghost use Rattle.air_log.specs.WindowLogs.{is_alarm};
 ghost use Rattle.air_log.specs.WindowSums.{sent_with};
-ghost use Rattle.air_log.specs.TrailsTold.{sending_of};
-ghost use Rattle.air_log.specs.Courses.{Shows, Tells, IsShown, Goes, IsShownEnding};
+ghost use Rattle.air_log.specs.TrailsTold.{sending_of_entry};
+ghost use Rattle.air_log.specs.Courses.{CourseShows, HasListsOf, CourseIsShown, Goes, IsShownEnding};
 
 use crate::device::Device;
 use crate::window_sum::WindowSum;
@@ -40,14 +40,14 @@ pub(crate) struct Course {
 impl Model for Course {
     ghost use Rattle.std.specs.Prelude.{map, reverse};
     ghost use Rattle.air_log.specs.DeviceStates.{tuning_of};
-    ghost use Rattle.air_log.specs.TrailsTold.{sending_of};
+    ghost use Rattle.air_log.specs.TrailsTold.{sending_of_entry};
     ghost use Rattle.air_log.specs.Courses.{CourseState};
 
     ghost Value = { CourseState };
 
     ghost view = { λ c. record {
       device = c.device;
-      sent = map sending_of c.sent.items;
+      sent = map sending_of_entry c.sent.items;
       tuned = reverse (map tuning_of c.tuned.items);
       deliveries = c.deliveries.items;
       windows = c.windows;
@@ -57,7 +57,7 @@ impl Model for Course {
 impl Course {
     // The node is off, and nothing has happened.
     pub(crate) fn new(alloc: Global, s: &Scenario, node: NodeId) -> Result<Course, Memory>
-        ensures { IfOk result (λ c. Shows (setup_of s.now node) 0 c at_rest) }
+        ensures { IfOk result (λ c. CourseShows (setup_of s.now node) 0 c at_rest) }
     {
         let profile = s.profile();
         Ok(Course {
@@ -77,7 +77,7 @@ impl Course {
         event: Event,
         ended: Option<Sending>,
     ) -> Result<(), Memory>
-        requires shown { IsShown t self.old }
+        requires shown { CourseIsShown t self.old }
         requires early { t ≤ 2 ^ 45 }
         ensures { OnOk result (Goes t (λ q d. event_at (C.readings clock.now) q t event ended d) self.old self.new) }
     {
@@ -100,7 +100,7 @@ impl Course {
         t: u64,
         mut radio: RecordingRadio,
     ) -> Result<(), Memory>
-        requires shown { IsShown t self.old }
+        requires shown { CourseIsShown t self.old }
         requires timely { All IsTimely radio }
         ensures { OnOk result (Goes t (λ q d. fold (obeyed (C.readings clock.now) q.id t) d radio) self.old self.new) }
     {
@@ -112,7 +112,7 @@ impl Course {
 
     // An order of the device, at tick t.
     fn obey<C: DriftClock>(&mut self, clock: &C, t: u64, order: Order) -> Result<(), Memory>
-        requires shown { IsShown t self.old }
+        requires shown { CourseIsShown t self.old }
         requires timely { IsTimely order }
         ensures { OnOk result (Goes t (λ q d. obeyed (C.readings clock.now) q.id t d order) self.old self.new) }
     {
@@ -140,8 +140,9 @@ impl Course {
     pub(crate) fn alarm<C: DriftClock>(&mut self, clock: &C, t: u64) -> Result<(), Memory>
         requires ends { IsShownEnding (C.readings clock.now) t (λ q d. d) self.old }
         requires early { t ≤ 2 ^ 45 }
-        ensures { OnOk result ((q : Setup) (d : DeviceOf) → Shows q t self.old d
-            → IsAlarmRun (C.readings clock.now) q t d (alarmed (C.readings clock.now) q t d) → Shows q t self.new (alarmed (C.readings clock.now) q t d)) }
+        ensures { OnOk result ((q : Setup) (d : DeviceOf) → CourseShows q t self.old d
+            → IsAlarmRun (C.readings clock.now) q t d (alarmed (C.readings clock.now) q t d)
+                → CourseShows q t self.new (alarmed (C.readings clock.now) q t d)) }
     {
         // There are fewer of them than this.
         for _ in 0..u64::MAX {
@@ -155,7 +156,7 @@ impl Course {
 
     // The sending that ends at tick t, if one does.
     pub(crate) fn end_sending<C: DriftClock>(&mut self, clock: &C, t: u64) -> Result<(), Memory>
-        requires shown { IsShown t self.old }
+        requires shown { CourseIsShown t self.old }
         requires early { t ≤ 2 ^ 45 }
         ensures { OnOk result (Goes t (λ q d. ended_at (C.readings clock.now) q t d) self.old self.new) }
     {
@@ -167,7 +168,7 @@ impl Course {
 
     // The sending that starts at tick t, if one does.
     pub(crate) fn begin(&mut self, t: u64) -> Result<(), Memory>
-        requires shown { IsShown t self.old }
+        requires shown { CourseIsShown t self.old }
         requires early { t ≤ 2 ^ 45 }
         ensures { OnOk result (Goes t (λ q d. begun_at q t d) self.old self.new) }
     {
@@ -182,11 +183,11 @@ impl Course {
         t: u64,
         line: &ScriptLine,
     ) -> Result<(), Memory>
-        requires shown { IsShown t self.old }
+        requires shown { CourseIsShown t self.old }
         requires early { t ≤ 2 ^ 45 }
         requires range { IsAct self.old.device.setup.profile line.now.act }
         requires boots { line.now.act ≡ OnOf → CanBoot self.old.device.power }
-        ensures { OnOk result (Goes t (λ q d. after_line (C.readings clock.now) q t d line.now) self.old self.new) }
+        ensures { OnOk result (Goes t (λ q d. device_after_line (C.readings clock.now) q t d line.now) self.old self.new) }
     {
         match &line.act {
             Act::On => {
@@ -216,7 +217,7 @@ impl Course {
 
     // At tick t its tuning ends, and all its tunings are in the list.
     pub(crate) fn close(&mut self, t: u64) -> Result<(), Memory>
-        ensures { OnOk result ((q : Setup) (d : DeviceOf) → Shows q t self.old d → Tells q self.new (silenced q.id t d)) }
+        ensures { OnOk result ((q : Setup) (d : DeviceOf) → CourseShows q t self.old d → HasListsOf q self.new (silenced q.id t d)) }
     {
         let before = self.device.silence(t);
         let last = self.device.hand_out();
@@ -256,7 +257,7 @@ impl Course {
 }
 
 fn entry_of(x: Sending) -> SentEntry
-    ensures { sending_of result ≡ x }
+    ensures { sending_of_entry result ≡ x }
 {
     SentEntry {
         rank: x.rank,

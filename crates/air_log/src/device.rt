@@ -5,12 +5,12 @@ ghost use Rattle.tick_clock.specs.Clocks.{due};
 ghost use Rattle.lwb_base.specs.declared.order.Order.TheVariants.{Listen};
 ghost use Rattle.bus_rules.specs.Cores.{own_rank};
 ghost use Rattle.node_core.specs.Nodes.{rebooted};
-ghost use Rattle.air_log.specs.Devices.{Made, nothing_made, at_rest, silenced, retuned, obeyed, listens_to, is_on};
+ghost use Rattle.air_log.specs.Devices.{Made, nothing_made, at_rest, silenced, device_after_tuning, obeyed, listens_to, power_is_on};
 ghost use Rattle.node_core.specs.Standing.{place_of};
 ghost use Rattle.node_core.specs.declared.stage.Stage.{Stage};
 ghost use Rattle.air_log.specs.Trails.{tune_of};
 ghost use Rattle.air_log.specs.Charges.{scans_with};
-ghost use Rattle.air_log.specs.WindowSums.{is_window, in_window};
+ghost use Rattle.air_log.specs.WindowSums.{stage_has_window, power_has_window};
 ghost use Rattle.air_log.specs.DeviceStates.{whole, with_tuned, EndedBefore, HappenedBy, IsSameNode, IsCoreAt, core_in};
 
 use crate::TunedEntry;
@@ -47,7 +47,7 @@ pub(crate) struct Ordered {
 }
 
 impl Model for Ordered {
-    ghost use Rattle.air_log.specs.Devices.{Ordered as OrderedOf};
+    ghost use Rattle.air_log.specs.Devices.{OrderedPacket as OrderedOf};
 
     ghost Value = { OrderedOf };
 
@@ -78,14 +78,14 @@ pub struct Device {
 
 impl Model for Device {
     ghost use Rattle.air_log.specs.DeviceStates.{DeviceState};
-    ghost use Rattle.air_log.specs.DeviceShapes.{IsDevice, power_of};
+    ghost use Rattle.air_log.specs.DeviceShapes.{IsDevice, power_with};
 
     ghost Value = { DeviceState };
 
     ghost view = { λ d. record {
       setup = d.core.setup;
       core = d.core.node;
-      power = power_of d.on d.boots d.core.node;
+      power = power_with d.on d.boots d.core.node;
       listening = d.listening;
       closed = d.closed;
       alarm = d.alarm;
@@ -138,7 +138,7 @@ impl Device {
 
     /// Whether its power is on.
     pub fn is_on(&self) -> bool
-        ensures { result ≡ is_on self.now.power }
+        ensures { result ≡ power_is_on self.now.power }
     {
         self.on
     }
@@ -163,7 +163,7 @@ impl Device {
 
     /// Whether its power is on and a window is open.
     pub fn is_in_window(&self) -> bool
-        ensures { result ≡ in_window self.now.power }
+        ensures { result ≡ power_has_window self.now.power }
     {
         self.on && is_window(self.core.place())
     }
@@ -280,7 +280,7 @@ impl Device {
     fn tune(&mut self, rank: Rank, t: u64)
         requires off { self.old.listening ≡ None }
         requires time { HappenedBy t self.old }
-        ensures whole { (made : Made) → EndedBefore t made.tuned → retuned rank t (whole self.old made) ≡ whole self.new made }
+        ensures whole { (made : Made) → EndedBefore t made.tuned → device_after_tuning rank t (whole self.old made) ≡ whole self.new made }
         ensures time { HappenedBy t self.new }
         ensures node { IsSameNode self.old self.new }
         ensures core { self.new.core ≡ self.old.core }
@@ -298,7 +298,7 @@ impl Device {
 }
 
 fn is_window(place: Place) -> bool
-    ensures { (stage : Stage) → place ≡ place_of stage → result ≡ is_window stage }
+    ensures { (stage : Stage) → place ≡ place_of stage → result ≡ stage_has_window stage }
 {
     matches!(place, Place::InWindow(_))
 }

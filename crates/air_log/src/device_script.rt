@@ -3,8 +3,8 @@
 ghost use Rattle.std.specs.Prelude.{◌≡◌, ◌≤◌, ◌<◌, ℕ, Some, None, IfSome, length, false, if◌then◌else◌};
 ghost use Rattle.lwb_base.specs.declared.event.Event.TheVariants.{Boot};
 ghost use Rattle.scenario_text.specs.declared.script.Act.TheVariants.{On, Off, Declare, Leave, Put as PutAct};
-ghost use Rattle.air_log.specs.Devices.{Made, event, is_on};
-ghost use Rattle.air_log.specs.ScriptedDevices.{after_act};
+ghost use Rattle.air_log.specs.Devices.{Made, event, power_is_on};
+ghost use Rattle.air_log.specs.ScriptedDevices.{device_after_act};
 ghost use Rattle.air_log.specs.DeviceStates.{whole, with_tuned, with_drop, HappenedBy, IsSameNode, CanBoot};
 
 use crate::TunedEntry;
@@ -17,7 +17,7 @@ impl Device {
     pub fn switch_on(&mut self) -> bool
         requires { CanBoot self.old.power }
         ensures whole { (clock : ℕ → ℕ) (t frame : ℕ) (made : Made)
-            → after_act clock self.old.setup t frame (whole self.old made) On self.old.power
+            → device_after_act clock self.old.setup t frame (whole self.old made) On self.old.power
             ≡ (if result then event clock self.old.setup t Boot None (whole self.new made) else whole self.new made) }
         ensures after { self.new ≡ (if result then record self.old { core = self.new.core; power = self.new.power; delivery = None } else self.old) }
         ensures time { (now : ℕ) → HappenedBy now self.old → HappenedBy now self.new }
@@ -35,7 +35,7 @@ impl Device {
     /// that does not go on any more is handed out.
     pub fn switch_off(&mut self, t: u64) -> Option<TunedEntry>
         ensures whole { (clock : ℕ → ℕ) (frame : ℕ) (made : Made)
-            → after_act clock self.old.setup t frame (whole self.old made) Off self.old.power ≡ whole self.new (with_tuned result made) }
+            → device_after_act clock self.old.setup t frame (whole self.old made) Off self.old.power ≡ whole self.new (with_tuned result made) }
         ensures before { IfSome result (λ e. e.end < t) }
         ensures own { IfSome result (λ e. e.node ≡ self.old.setup.id) }
         ensures time { HappenedBy t self.old → HappenedBy t self.new }
@@ -56,10 +56,10 @@ impl Device {
         requires stream { stream ≤ 3 }
         requires interval { (1 ≤ interval) × (interval ≤ 120) }
         ensures whole { (clock : ℕ → ℕ) (t frame : ℕ) (made : Made)
-            → after_act clock self.old.setup t frame (whole self.old made) (Declare stream interval) self.old.power ≡ whole self.new made }
+            → device_after_act clock self.old.setup t frame (whole self.old made) (Declare stream interval) self.old.power ≡ whole self.new made }
         ensures time { (now : ℕ) → HappenedBy now self.old → HappenedBy now self.new }
         ensures node { IsSameNode self.old self.new }
-        ensures off { is_on self.old.power ≡ false → self.new ≡ self.old }
+        ensures off { power_is_on self.old.power ≡ false → self.new ≡ self.old }
     {
         if self.on {
             self.core.declare(stream, interval);
@@ -70,10 +70,10 @@ impl Device {
     pub fn leave(&mut self, stream: u8)
         requires { stream ≤ 3 }
         ensures whole { (clock : ℕ → ℕ) (t frame : ℕ) (made : Made)
-            → after_act clock self.old.setup t frame (whole self.old made) (Leave stream) self.old.power ≡ whole self.new made }
+            → device_after_act clock self.old.setup t frame (whole self.old made) (Leave stream) self.old.power ≡ whole self.new made }
         ensures time { (now : ℕ) → HappenedBy now self.old → HappenedBy now self.new }
         ensures node { IsSameNode self.old self.new }
-        ensures off { is_on self.old.power ≡ false → self.new ≡ self.old }
+        ensures off { power_is_on self.old.power ≡ false → self.new ≡ self.old }
     {
         if self.on {
             self.core.leave(stream);
@@ -85,11 +85,11 @@ impl Device {
         requires stream { stream ≤ 3 }
         requires payload { length payload.now ≤ self.old.setup.profile.payload_max }
         ensures whole { (clock : ℕ → ℕ) (t frame : ℕ) (made : Made)
-            → after_act clock self.old.setup t frame (whole self.old made) (PutAct stream payload.now) self.old.power
+            → device_after_act clock self.old.setup t frame (whole self.old made) (PutAct stream payload.now) self.old.power
             ≡ whole self.new (with_drop result (record { frame = frame; node = self.old.setup.id; stream = stream }) made) }
         ensures time { (now : ℕ) → HappenedBy now self.old → HappenedBy now self.new }
         ensures node { IsSameNode self.old self.new }
-        ensures off { is_on self.old.power ≡ false → self.new ≡ self.old }
+        ensures off { power_is_on self.old.power ≡ false → self.new ≡ self.old }
     {
         if !self.on {
             return true;

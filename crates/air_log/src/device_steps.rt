@@ -5,8 +5,9 @@ ghost use Rattle.radio_model.specs.declared.sending.Sending.{Sending};
 ghost use Rattle.node_core.specs.Rows.{orders_by};
 ghost use Rattle.lwb_base.specs.Orders.{Gives};
 ghost use Rattle.air_log.specs.Devices.{Made, obeyed, event as event_at};
-ghost use Rattle.air_log.specs.Trails.{is_due, begun, ended};
-ghost use Rattle.air_log.specs.DeviceStates.{whole, IsSameNode, row_of, after_row, made_by, with_sent, packet_due, ending_at, told_of, HappenedBy, IsTimely};
+ghost use Rattle.air_log.specs.Trails.{alarm_is_due, device_after_start, device_after_end};
+ghost use Rattle.air_log.specs.DeviceStates.{whole, IsSameNode, row_of, state_after_row, made_by, with_sent, packet_due, ending_at, told_of, HappenedBy};
+ghost use Rattle.air_log.specs.DeviceStates.{IsTimely};
 
 use crate::device::Device;
 use bus_rules::Delivery;
@@ -25,7 +26,7 @@ impl Device {
     )
         requires early { t ≤ 2 ^ 45 }
         requires room { 4 ≤ (R.told radio.old).room }
-        ensures after { self.new ≡ after_row self.old (row_of (C.readings clock.now) t event.now self.old) }
+        ensures after { self.new ≡ state_after_row self.old (row_of (C.readings clock.now) t event.now self.old) }
         ensures orders { Gives (R.told radio.old) (R.told radio.new) (orders_by (row_of (C.readings clock.now) t event.now self.old)) }
         ensures timely { All IsTimely (orders_by (row_of (C.readings clock.now) t event.now self.old)) }
         ensures whole { (made : Made) (ended : Option Sending)
@@ -57,7 +58,7 @@ impl Device {
 
     /// Whether the alarm is due at tick t; it is not set any more then.
     pub fn take_alarm(&mut self, t: u64) -> bool
-        ensures due { result ≡ is_due t self.old.alarm }
+        ensures due { result ≡ alarm_is_due t self.old.alarm }
         ensures after { self.new ≡ record self.old { alarm = if result then None else self.old.alarm } }
     {
         let due = match self.alarm {
@@ -74,7 +75,7 @@ impl Device {
     /// radio is off, or the node still sends.
     pub fn begin(&mut self, t: u64) -> Option<Sending>
         requires early { t ≤ 2 ^ 45 }
-        ensures whole { (made : Made) → begun self.old.setup t (whole self.old made) ≡ whole self.new (with_sent result made) }
+        ensures whole { (made : Made) → device_after_start self.old.setup t (whole self.old made) ≡ whole self.new (with_sent result made) }
         ensures time { (now : ℕ) → HappenedBy now self.old → HappenedBy now self.new }
         ensures node { IsSameNode self.old self.new }
         ensures core { self.new.core ≡ self.old.core }
@@ -114,7 +115,7 @@ impl Device {
         ensures ended { result ≡ ending_at t self.old.sending }
         ensures after { self.new ≡ record self.old { sending = if is_some result then None else self.old.sending } }
         ensures whole { (clock : ℕ → ℕ) (made : Made)
-            → ended clock self.old.setup t (whole self.old made) ≡ told_of clock self.old.setup t result (whole self.new made) }
+            → device_after_end clock self.old.setup t (whole self.old made) ≡ told_of clock self.old.setup t result (whole self.new made) }
     {
         match &self.sending {
             Some(x) if x.end == t => self.sending.take(),

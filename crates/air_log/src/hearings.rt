@@ -3,7 +3,7 @@
 ghost use Rattle.std.specs.Prelude.{◌≡◌, OnOk, IfOk, map, ◌++◌, option_to_list};
 ghost use Rattle.std.specs.Option.{option_map};
 ghost use Rattle.air_log.specs.Lawful.{by_end, hearings_by, reception_of};
-ghost use Rattle.air_log.specs.Courses.{Ascends, end_of, reception_in, hearing_of, hearing_with};
+ghost use Rattle.air_log.specs.Courses.{IsSortedByKey, end_of_reception, reception_in, hearing_of, hearing_with};
 
 use crate::{Entry, HeardEntry};
 use lwb_base::{Memory, NodeId};
@@ -12,7 +12,7 @@ use std::alloc::Global;
 // These hearings by end, then sender, then place in the list.
 pub(crate) fn in_turn(mut heard: Vec<HeardEntry>) -> Result<Vec<HeardEntry>, Memory>
     ensures taken { IfOk result (λ hs. map reception_in hs.items ≡ map reception_of (by_end (map hearing_of heard.items))) }
-    ensures ascends { IfOk result (λ hs. Ascends end_of hs.items) }
+    ensures ascends { IfOk result (λ hs. IsSortedByKey end_of_reception hs.items) }
 {
     heard.sort_by_key(|hearing| place(hearing))?;
     Ok(heard)

@@ -1,8 +1,8 @@
 //! Writes a whole log as text.
 
 ghost use Rattle.std.specs.Prelude.{◌≡◌, ◌++◌, map, flat_map, IfOk, OnOk, string_bytes};
-ghost use Rattle.air_log.specs.Entries.{node_of};
-ghost use Rattle.air_log.specs.LogText.{entry_line, log_text, in_order, is_before, start_of, kind_of};
+ghost use Rattle.air_log.specs.Entries.{node_of_entry};
+ghost use Rattle.air_log.specs.LogText.{entry_line, log_text, in_order, entry_is_before, start_of, kind_number};
 
 use crate::line_writers::write_entry;
 use crate::{Air, Entry};
@@ -37,7 +37,7 @@ fn write_entries(text: &mut String, entries: &[&Entry]) -> Result<(), AllocError
 
 // References are sorted, so that no entry is copied, and each entry is read once for its place.
 fn entries_in_order(alloc: Global, entries: &[Entry]) -> Result<Vec<&Entry>, AllocError>
-    ensures { IfOk result (λ v. map (λ e. e.now) v.items ≡ in_order is_before entries.now) }
+    ensures { IfOk result (λ v. map (λ e. e.now) v.items ≡ in_order entry_is_before entries.now) }
 {
     let mut sorted: Vec<&Entry> = entries.iter().collect(alloc)?;
     sorted.sort_by_cached_key(|entry| place(entry))?;
@@ -46,7 +46,7 @@ fn entries_in_order(alloc: Global, entries: &[Entry]) -> Result<Vec<&Entry>, All
 
 // What the order goes by: the start, the number of the kind, and the node.
 fn place(entry: &Entry) -> (u64, u8, u8)
-    ensures { result ≡ (start_of entry.now, kind_of entry.now, node_of entry.now) }
+    ensures { result ≡ (start_of entry.now, kind_number entry.now, node_of_entry entry.now) }
 {
     match entry {
         Entry::Sent(sent) => (sent.start, 0, sent.node.number()),

@@ -5,11 +5,12 @@ ghost use Rattle.scenario_text.specs.ScenarioParts.{ScenarioParts};
 ghost use Rattle.scenario_text.specs.ScenarioFacts.{IsSoundScenario};
 ghost use Rattle.tick_clock.specs.Clocks.{IsClock};
 ghost use Rattle.air_log.specs.AlarmRuns.{IsAlarmRun};
-ghost use Rattle.air_log.specs.Trails.{Reception, hears, heard, setup_of, run_end, before_alarms, before_start, before_tick, trail};
+ghost use Rattle.air_log.specs.Trails.{Reception, device_after_reception, device_after_receptions, setup_of, run_end, before_alarms, before_start, before_tick};
+ghost use Rattle.air_log.specs.Trails.{trail};
 ghost use Rattle.air_log.specs.QuietTicks.{IsQuiet, ends_before};
 ghost use Rattle.air_log.specs.Ahead.{IsAhead, NextDue};
-ghost use Rattle.air_log.specs.FirstRound.{IsWorked, first_round, first_round_log, heard_by_host};
-ghost use Rattle.air_log.specs.FirstRound.{heard_by_other, sent_by_host, sent_by_other, tuned_by_host, tuned_by_other};
+ghost use Rattle.air_log.specs.FirstRound.{IsWorked, first_round, first_round_log, first_round_heard_by_host};
+ghost use Rattle.air_log.specs.FirstRound.{heard_by_other, first_round_sent_by_host, sent_by_other, first_round_tuned_by_host, tuned_by_other};
 ghost use Rattle.air_log.specs.TwoNodeLog.{true_time};
 ghost use Rattle.bus_rules.specs.declared.tune.Tune.TheVariants.{Hold, Host};
 ghost use Rattle.air_log.specs.declared.entry.Entry.{Entry};
@@ -61,7 +62,7 @@ pub fn hearings_come_one_by_one()
     ensures before { (s : ScenarioParts) (v : ℕ) (clock : ℕ → ℕ) (hs : List Reception) (h : Reception) (t : ℕ) → t ≤ h.end
         → before_tick s v clock (hs ++ h ∷ []) t ≡ before_tick s v clock hs t }
     ensures now { (clock : ℕ → ℕ) (s : Setup) (t : ℕ) (hs : List Reception) (h : Reception) (d : Device) → h.end ≡ t
-        → heard clock s t (hs ++ h ∷ []) d ≡ hears clock s t (heard clock s t hs d) h }
+        → device_after_receptions clock s t (hs ++ h ∷ []) d ≡ device_after_reception clock s t (device_after_receptions clock s t hs d) h }
 {}
 
 /// What is set at a node lies ahead, and until the next of it, the next end of a reception and the next script line the node
@@ -90,7 +91,8 @@ pub fn entries_of_a_trail_differ()
 
 /// Worked example: the traces of a host and of another node through their first round.
 pub fn trails_of_a_first_round()
-    ensures host { IsWorked first_round (trail first_round 1 (true_time 1) heard_by_host) sent_by_host tuned_by_host 2494336 (Host 0 9) }
+    ensures host { IsWorked first_round (trail first_round 1 (true_time 1) first_round_heard_by_host) first_round_sent_by_host first_round_tuned_by_host
+        2494336 (Host 0 9) }
     ensures other { IsWorked first_round (trail first_round 2 (true_time 2) heard_by_other) sent_by_other tuned_by_other 2344320 (Hold 0 9) }
 {}
 

@@ -8,12 +8,12 @@ ghost use Rattle.scenario_text.specs.declared.script.Act.TheVariants.{On as OnOf
 ghost use Rattle.air_log.specs.DeviceStates.{CanBoot};
 ghost use Rattle.air_log.specs.Charges.{scans_with};
 ghost use Rattle.air_log.specs.Devices.{Device as DeviceOf, seen_power};
-ghost use Rattle.air_log.specs.ScriptedDevices.{after_line};
+ghost use Rattle.air_log.specs.ScriptedDevices.{device_after_line};
 ghost use Rattle.air_log.specs.Lawful.{by_end, heard_by, reception_of};
-ghost use Rattle.air_log.specs.Trails.{Reception, setup_of, frame_start, tune_of, lines_at, heard as heard_at, at_frame, before_tick};
+ghost use Rattle.air_log.specs.Trails.{Reception, setup_of, frame_start, tune_of, lines_at, device_after_receptions as heard_at, at_frame, before_tick};
 ghost use Rattle.air_log.specs.TrailsTold.{trail_told};
-ghost use Rattle.air_log.specs.Courses.{Shows, IsShown, Goes, IsShownEnding, IsCut, Ascends, AlarmsEnd, frame_of, end_of, hearing_of};
-ghost use Rattle.air_log.specs.Courses.{reception_in, before_alarms_in, after_lines, least_of, least_due};
+ghost use Rattle.air_log.specs.Courses.{CourseShows, CourseIsShown, Goes, IsShownEnding, IsSplitByKey, IsSortedByKey, AlarmsEnd, frame_of_line};
+ghost use Rattle.air_log.specs.Courses.{end_of_reception, hearing_of, reception_in, before_alarms_in, rest_of_tick, least_of, least_due};
 
 use crate::course::Course;
 use crate::hearings::{hearings_by, in_turn};
@@ -122,14 +122,15 @@ impl Course {
     ) -> Result<usize, Memory>
         requires sound { IsSoundScenario s.now }
         requires frame { frame < s.now.frames }
-        requires cut { IsCut frame_of s.now.script first frame }
-        requires shown { IsShown (frame_start s.now frame) self.old }
+        requires cut { IsSplitByKey frame_of_line s.now.script first frame }
+        requires shown { CourseIsShown (frame_start s.now frame) self.old }
         requires profile { self.old.device.setup.profile ≡ s.now.profile }
         requires power { seen_power self.old.device.power ≡ turned self.old.device.setup.id (false, 0) (take first s.now.script) }
-        ensures cut { IfOk result (λ told. IsCut frame_of s.now.script told (frame + 1)) }
+        ensures cut { IfOk result (λ told. IsSplitByKey frame_of_line s.now.script told (frame + 1)) }
         ensures power { IfOk result (λ told. seen_power self.new.device.power ≡ turned self.old.device.setup.id (false, 0) (take told s.now.script)) }
         ensures goes { OnOk result (Goes (frame_start s.now frame)
-            (λ q d. fold (after_line (C.readings clock.now) q (frame_start s.now frame)) d (lines_at s.now q.id (frame_start s.now frame))) self.old self.new) }
+            (λ q d. fold (device_after_line (C.readings clock.now) q (frame_start s.now frame)) d (lines_at s.now q.id (frame_start s.now frame))) self.old
+                self.new) }
     {
         let t = u64::from(frame) * s.profile().frame();
         let mut told = first;
@@ -145,11 +146,11 @@ impl Course {
 
     // A line of the script at tick t, which is told if it is the node's.
     fn line<C: DriftClock>(&mut self, clock: &C, t: u64, line: &ScriptLine) -> Result<(), Memory>
-        requires shown { IsShown t self.old }
+        requires shown { CourseIsShown t self.old }
         requires early { t ≤ 2 ^ 45 }
         requires range { IsAct self.old.device.setup.profile line.now.act }
         requires boots { line.now.node ≡ self.old.device.setup.id → line.now.act ≡ OnOf → CanBoot self.old.device.power }
-        ensures { OnOk result (Goes t (λ q d. if line.now.node == q.id then after_line (C.readings clock.now) q t d line.now else d) self.old self.new) }
+        ensures { OnOk result (Goes t (λ q d. if line.now.node == q.id then device_after_line (C.readings clock.now) q t d line.now else d) self.old self.new) }
     {
         if line.node != self.device.node() {
             return Ok(());
@@ -169,15 +170,15 @@ impl Course {
     ) -> Result<usize, Memory>
         requires sound { IsSoundScenario s.now }
         requires frame { frame < s.now.frames }
-        requires ascends { Ascends end_of heard.now }
-        requires cut { IsCut end_of heard.now first (frame_start s.now frame) }
+        requires ascends { IsSortedByKey end_of_reception heard.now }
+        requires cut { IsSplitByKey end_of_reception heard.now first (frame_start s.now frame) }
         requires shown { (v : ℕ)
-            × Shows (setup_of s.now v) (frame_start s.now frame) self.old (at_frame s.now v (C.readings clock.now) (map reception_in heard.now) frame) }
-        ensures cut { IfOk result (λ k. IsCut end_of heard.now k (frame_start s.now (frame + 1))) }
+            × CourseShows (setup_of s.now v) (frame_start s.now frame) self.old (at_frame s.now v (C.readings clock.now) (map reception_in heard.now) frame) }
+        ensures cut { IfOk result (λ k. IsSplitByKey end_of_reception heard.now k (frame_start s.now (frame + 1))) }
         ensures power { OnOk result (seen_power self.new.device.power ≡ seen_power self.old.device.power) }
         ensures shows { (v : ℕ)
-            → Shows (setup_of s.now v) (frame_start s.now frame) self.old (at_frame s.now v (C.readings clock.now) (map reception_in heard.now) frame)
-            → OnOk result (Shows (setup_of s.now v) (frame_start s.now (frame + 1)) self.new
+            → CourseShows (setup_of s.now v) (frame_start s.now frame) self.old (at_frame s.now v (C.readings clock.now) (map reception_in heard.now) frame)
+            → OnOk result (CourseShows (setup_of s.now v) (frame_start s.now (frame + 1)) self.new
             (before_tick s.now v (C.readings clock.now) (map reception_in heard.now) (frame_start s.now (frame + 1)))) }
     {
         let length = s.profile().frame();
@@ -200,13 +201,13 @@ impl Course {
         first: usize,
     ) -> Result<usize, Memory>
         requires early { t ≤ 2 ^ 45 }
-        requires ascends { Ascends end_of heard.now }
-        requires cut { IsCut end_of heard.now first t }
+        requires ascends { IsSortedByKey end_of_reception heard.now }
+        requires cut { IsSplitByKey end_of_reception heard.now first t }
         requires ends { IsShownEnding (C.readings clock.now) t (λ q d. before_alarms_in (C.readings clock.now) q t (map reception_in heard.now) d) self.old }
-        ensures cut { IfOk result (λ k. IsCut end_of heard.now k (t + 1)) }
-        ensures goes { OnOk result ((q : Setup) (d : DeviceOf) → Shows q t self.old d
+        ensures cut { IfOk result (λ k. IsSplitByKey end_of_reception heard.now k (t + 1)) }
+        ensures goes { OnOk result ((q : Setup) (d : DeviceOf) → CourseShows q t self.old d
             → AlarmsEnd (C.readings clock.now) q t (before_alarms_in (C.readings clock.now) q t (map reception_in heard.now) d)
-            → Shows q t self.new (after_lines (C.readings clock.now) q t (map reception_in heard.now) d)) }
+            → CourseShows q t self.new (rest_of_tick (C.readings clock.now) q t (map reception_in heard.now) d)) }
     {
         let next = self.hear(clock, heard, t, first)?;
         self.end_sending(clock, t)?;
@@ -224,10 +225,10 @@ impl Course {
         first: usize,
     ) -> Result<usize, Memory>
         requires early { t ≤ 2 ^ 45 }
-        requires ascends { Ascends end_of heard.now }
-        requires cut { IsCut end_of heard.now first t }
-        requires shown { IsShown t self.old }
-        ensures cut { IfOk result (λ k. IsCut end_of heard.now k (t + 1)) }
+        requires ascends { IsSortedByKey end_of_reception heard.now }
+        requires cut { IsSplitByKey end_of_reception heard.now first t }
+        requires shown { CourseIsShown t self.old }
+        ensures cut { IfOk result (λ k. IsSplitByKey end_of_reception heard.now k (t + 1)) }
         ensures goes { OnOk result (Goes t (λ q d. heard_at (C.readings clock.now) q t (map reception_in heard.now) d) self.old self.new) }
     {
         let mut next = first;

@@ -2,7 +2,7 @@
 
 ghost use Rattle.std.specs.Prelude.{◌≡◌, ◌≤◌, ◌+◌, ◌%◌, ◌^◌, None, false, option_copied};
 ghost use Rattle.lwb_base.specs.Profile.{IsProfile};
-ghost use Rattle.air_log.specs.Charges.{counted};
+ghost use Rattle.air_log.specs.Charges.{charge_by_last};
 ghost use Rattle.air_log.specs.WindowSums.{opened_sum, sent_sum, noted};
 
 use bus_rules::until_last_sending;

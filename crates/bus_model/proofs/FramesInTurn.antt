@@ -16,19 +16,19 @@ use Rattle.bus_terms.specs.Bus.{Cost, before_frame, state_at}
 use Rattle.bus_terms.specs.Costs.{over_round, slot_sent, slot_window}
 use Rattle.bus_terms.specs.FloodOfText.{ids}
 use Rattle.bus_terms.specs.Rounds.{rank_in, rounds}
-use Rattle.bus_terms.specs.ScriptedStates.{ended, is_on}
+use Rattle.bus_terms.specs.ScriptedStates.{states_after_end, is_on_and}
 use Rattle.plain_bus.specs.BusNodes.{BusNode, bus_node, IsEarlyState, ranks_in}
-use Rattle.plain_bus.specs.Networks.{Network, IsReady, no_cost, off_at}
+use Rattle.plain_bus.specs.Networks.{Network, IsReady, no_cost, node_at_first}
 use Rattle.plain_bus.specs.SlotCosts.{IsBelow}
 use Rattle.plain_bus.proofs.MembersOfSlots.{map_of_map, map_same}
 use Rattle.plain_bus.proofs.SlotsMet.{ids_each}
-use Rattle.bus_model.specs.FrameNodes.{HavePower, IsCut, begun, deliveries_to, ended_at, frame_deliveries, nodes_with, power, prior_ranks}
+use Rattle.bus_model.specs.FrameNodes.{HavePower, CountsLinesBefore, with_round_rank, deliveries_to, ended_at, frame_deliveries, nodes_with, power, prior_ranks}
 use Rattle.bus_model.specs.RoundCosts.{cost_after, with_round, with_scan}
 use Rattle.bus_model.proofs.LinesAllowed.{ended_early}
 use Rattle.bus_model.proofs.PowerKept.{ended_power, rounds_power}
 use Rattle.bus_model.proofs.SlotsInTurn.{flat_more, sum_more}
 
-next_frame : (s : ScenarioParts) (f : ℕ) → before_frame s (suc f) ≡ ended s f (rounds s f (state_at s f))
+next_frame : (s : ScenarioParts) (f : ℕ) → before_frame s (suc f) ≡ states_after_end s f (rounds s f (state_at s f))
 unfolding before_frame
 next_frame s f = refl
 
@@ -45,8 +45,8 @@ unfolding prior_ranks
 first_ranks s = refl
 
 module _ (s : ScenarioParts) (f : ℕ) where
-  pub nodes_begun : (ranks : ℕ → ℕ) (states : ℕ → State) → map begun (nodes_with s ranks states) ≡ nodes_with s (ranks_in states) states
-  nodes_begun ranks states = sym (map_of_map begun (bus_node s ranks states) (ids s.nodes))
+  pub nodes_begun : (ranks : ℕ → ℕ) (states : ℕ → State) → map with_round_rank (nodes_with s ranks states) ≡ nodes_with s (ranks_in states) states
+  nodes_begun ranks states = sym (map_of_map with_round_rank (bus_node s ranks states) (ids s.nodes))
 
   pub nodes_ended : map (ended_at f) (nodes_with s (ranks_in (state_at s f)) (rounds s f (state_at s f))) ≡ nodes_with s (prior_ranks s (f + 1))
       (before_frame s (f + 1))
@@ -61,7 +61,7 @@ module _ (s : ScenarioParts) (f : ℕ) where
   cost_more v =
       let sent : ℕ → ℕ = λ g. over_round (λ x. slot_sent s.profile x v) s (rank_in (state_at s g v)) g (state_at s g) in
       let window : ℕ → ℕ = λ g. over_round (λ x. slot_window s.profile x v) s (rank_in (state_at s g v)) g (state_at s g) in
-      let scan : ℕ → ℕ = λ g. if is_on (λ c. is_scan c.tune) (state_at s g v) then 1 else 0 in
+      let scan : ℕ → ℕ = λ g. if is_on_and (λ c. is_scan c.tune) (state_at s g v) then 1 else 0 in
       let of : ℕ → ℕ → ℕ → Cost = λ a b c. record { sent = a; windows = b; scanned = c } in
       ap (λ (a : ℕ). of a (sum_by window (range_with_len 0 f) + window f) (sum_by scan (range_with_len 0 f) + scan f)) (sym (sum_more sent f))
       ∙ ap (λ (b : ℕ). of (sum_by sent (range_with_len 0 (f + 1))) b (sum_by scan (range_with_len 0 f) + scan f)) (sym (sum_more window f))
@@ -82,7 +82,7 @@ module _ (s : ScenarioParts) (f : ℕ) where
 
   -- it scanned in so many frames at most
   scanned_few : (v : ℕ) → (cost_after s f v).scanned ≤ f
-  scanned_few v = omega (arith, count_by-le-length (λ g. is_on (λ c. is_scan c.tune) (state_at s g v)) (range_with_len 0 f), length-range_with_len 0 f)
+  scanned_few v = omega (arith, count_by-le-length (λ g. is_on_and (λ c. is_scan c.tune) (state_at s g v)) (range_with_len 0 f), length-range_with_len 0 f)
 
   pub all_few : (cs : List Cost) → cs ≡ map (cost_after s f) (ids s.nodes) → All (λ c. c.scanned ≤ f) cs
   all_few cs are i d below =
@@ -90,15 +90,15 @@ module _ (s : ScenarioParts) (f : ℕ) where
       subst (λ (c : Cost). c.scanned ≤ f) (sym (ap (λ (l : List Cost). get_or l i d) are ∙ get_or-map (cost_after s f) (ids s.nodes) i 0 d near))
       (scanned_few (get_or (ids s.nodes) i 0))
 
-  pub ready_begun : (m : ℕ) (old new : Network) (states : ℕ → State) (cost : ℕ → Cost) → new.ids ≡ old.ids → new.nodes ≡ map begun old.nodes
+  pub ready_begun : (m : ℕ) (old new : Network) (states : ℕ → State) (cost : ℕ → Cost) → new.ids ≡ old.ids → new.nodes ≡ map with_round_rank old.nodes
       → length new.costs ≡ length old.costs
       → old.costs ≡ map cost (ids s.nodes) → new.costs ≡ map (λ v. with_scan (states v) (cost v)) (ids s.nodes) → IsReady s f m old → IsReady s f m new
   ready_begun m old new states cost same nodes size costs scanned ready = record {
     ids_are = same ∙ ready.ids_are;
-    nodes_each = ap length nodes ∙ length-map old.nodes begun ∙ ready.nodes_each;
+    nodes_each = ap length nodes ∙ length-map old.nodes with_round_rank ∙ ready.nodes_each;
     costs_each = size ∙ ready.costs_each;
-    early = λ i d below. (let near : i < length old.nodes = omega (arith, below, ap length nodes, length-map old.nodes begun) in
-        subst (λ (x : BusNode). IsEarlyState f x.state) (sym (ap (λ (l : List BusNode). get_or l i d) nodes ∙ get_or-map begun old.nodes i d d near))
+    early = λ i d below. (let near : i < length old.nodes = omega (arith, below, ap length nodes, length-map old.nodes with_round_rank) in
+        subst (λ (x : BusNode). IsEarlyState f x.state) (sym (ap (λ (l : List BusNode). get_or l i d) nodes ∙ get_or-map with_round_rank old.nodes i d d near))
         (ready.early i d near));
     room = λ i d below.
         (let g : ℕ → Cost = λ v. with_scan (states v) (cost v) in
@@ -127,7 +127,7 @@ module _ (s : ScenarioParts) (f : ℕ) where
 
 -- before the first frame
 module _ (s : ScenarioParts) where
-  pub nodes_off : map (off_at s) (ids s.nodes) ≡ nodes_with s (prior_ranks s 0) (before_frame s 0)
+  pub nodes_off : map (node_at_first s) (ids s.nodes) ≡ nodes_with s (prior_ranks s 0) (before_frame s 0)
   nodes_off =
       ap (λ (g : ℕ → State). nodes_with s (λ (v : ℕ). 0) g) (sym (first_frame s))
       ∙ ap (λ (r : ℕ → ℕ). nodes_with s r (before_frame s 0)) (sym (first_ranks s))
@@ -136,22 +136,22 @@ module _ (s : ScenarioParts) where
   power_off v = ap (λ (g : ℕ → State). power (g v)) (first_frame s)
 
   pub ready_off : IsReady s 0 (0 * 184)
-      (record { ids = ids s.nodes; nodes = map (off_at s) (ids s.nodes); costs = map (λ (v : ℕ). no_cost) (ids s.nodes); deliveries = [] })
+      (record { ids = ids s.nodes; nodes = map (node_at_first s) (ids s.nodes); costs = map (λ (v : ℕ). no_cost) (ids s.nodes); deliveries = [] })
   ready_off = record {
     ids_are = refl;
-    nodes_each = length-map (ids s.nodes) (off_at s) ∙ ids_each s;
+    nodes_each = length-map (ids s.nodes) (node_at_first s) ∙ ids_each s;
     costs_each = length-map (ids s.nodes) (λ (v : ℕ). no_cost) ∙ ids_each s;
-    early = λ i d below. (let near : i < length (ids s.nodes) = omega (arith, below, length-map (ids s.nodes) (off_at s)) in
-        subst (λ (x : BusNode). IsEarlyState 0 x.state) (sym (get_or-map (off_at s) (ids s.nodes) i 0 d near)) tt);
+    early = λ i d below. (let near : i < length (ids s.nodes) = omega (arith, below, length-map (ids s.nodes) (node_at_first s)) in
+        subst (λ (x : BusNode). IsEarlyState 0 x.state) (sym (get_or-map (node_at_first s) (ids s.nodes) i 0 d near)) tt);
     room = λ i d below. (let near : i < length (ids s.nodes) = omega (arith, below, length-map (ids s.nodes) (λ (v : ℕ). no_cost)) in
         subst (IsBelow 0) (sym (get_or-map (λ (v : ℕ). no_cost) (ids s.nodes) i 0 d near)) (record { sent = omega arith; windows = omega arith }));
   }
 
-  pub cut_off : IsCut s.script 0 0
+  pub cut_off : CountsLinesBefore s.script 0 0
   cut_off = record { within = omega arith; before = λ i d low. absurd (omega (arith, low)); from = λ i d high near. omega arith }
 
   -- behind the last frame the script is over
-  pub script_over : (sound : IsSoundScenario s) (n : ℕ) → IsCut s.script s.frames n → take n s.script ≡ s.script
+  pub script_over : (sound : IsSoundScenario s) (n : ℕ) → CountsLinesBefore s.script s.frames n → take n s.script ≡ s.script
   script_over sound n cut = elim (cases_lt n (length s.script)) [
     | inl less ↦ absurd (
         let d : ScriptLine = record { frame = 0; node = 0; act = Off } in

@@ -17,7 +17,7 @@ use Rattle.bus_rules.specs.States.{State, StateOff, StateOn, at_core, refuses, q
 use Rattle.bus_rules.specs.declared.tune.Tune.{Tune}
 use Rattle.bus_terms.specs.FloodOfText.{ids}
 use Rattle.bus_terms.specs.Flooding.{has}
-use Rattle.bus_terms.specs.ScriptedStates.{after_act}
+use Rattle.bus_terms.specs.ScriptedStates.{state_after_act}
 use Rattle.plain_bus.specs.BusNodes.{MayDo, IsEarlyState}
 use Rattle.plain_bus.proofs.TextFloods.{has_known}
 use Rattle.bus_model.specs.FrameNodes.{power}
@@ -70,7 +70,7 @@ module _ (s : ScenarioParts) (sound : IsSoundScenario s) (n : ℕ) (l : ScriptLi
           [ inl same ↦ absurd (other same) | inr differ ↦ elim (cases_lt f l.frame) [ inl less ↦ less | inr more ↦ absurd (other (omega (arith, up, more))) ] ]
 
 -- a table without entries, or the same one, is as early
-pub act_early : (f : ℕ) (a : Act) (x : State) → IsEarlyState f x → IsEarlyState f (after_act a x)
+pub act_early : (f : ℕ) (a : Act) (x : State) → IsEarlyState f x → IsEarlyState f (state_after_act a x)
 act_early f On (StateOff boots) is = λ i d below. absurd (omega (arith, below))
 act_early f On (StateOn c) is = is
 act_early f Off (StateOff boots) is = is

@@ -12,11 +12,11 @@ use Rattle.scenario_text.specs.ScenarioFacts.{turned, turned_by}
 use Rattle.scenario_text.specs.declared.script.ScriptLine.{ScriptLine}
 use Rattle.bus_rules.specs.declared.delivery.DropLine.{DropLine}
 use Rattle.bus_rules.specs.States.{State}
-use Rattle.bus_terms.specs.Bus.{before_frame, before_line, drops_below, state_at}
+use Rattle.bus_terms.specs.Bus.{before_frame, state_before_line, drops_below, state_at}
 use Rattle.bus_terms.specs.FloodOfText.{ids}
-use Rattle.bus_terms.specs.ScriptedStates.{after_line, lost_by}
+use Rattle.bus_terms.specs.ScriptedStates.{state_after_line, lost_by}
 use Rattle.plain_bus.specs.BusNodes.{BusNode, bus_node}
-use Rattle.bus_model.specs.FrameNodes.{HavePower, IsCut, nodes_with, power, told, told_at}
+use Rattle.bus_model.specs.FrameNodes.{HavePower, CountsLinesBefore, nodes_with, power, node_after_line, told_at}
 use Rattle.bus_model.proofs.PowerKept.{act_power}
 
 -- a filter that keeps nothing
@@ -52,26 +52,26 @@ and_true false c is = refl
 
 module _ (s : ScenarioParts) (f : ℕ) where
   told_more : (n : ℕ) (l : ScriptLine) → n < length s.script → l ≡ get_or s.script n l → l.frame ≡ f → (v : ℕ)
-      → told_at s f (n + 1) v ≡ (if l.node == v then after_line (told_at s f n v) l else told_at s f n v)
+      → told_at s f (n + 1) v ≡ (if l.node == v then state_after_line (told_at s f n v) l else told_at s f n v)
   told_more n l below at is v =
-      ap (λ (ls : List ScriptLine). fold after_line (before_frame s f v) (filter (own f v) ls))
+      ap (λ (ls : List ScriptLine). fold state_after_line (before_frame s f v) (filter (own f v) ls))
       (take_more s.script n l below ∙ ap (λ (y : ScriptLine). take n s.script ++ y ∷ []) (sym at))
-      ∙ ap (fold after_line (before_frame s f v)) (filter-append (own f v) (take n s.script) (l ∷ []))
-      ∙ ap (λ (b : Bool). fold after_line (before_frame s f v) (filter (own f v) (take n s.script) ++ (if b then l ∷ [] else [])))
+      ∙ ap (fold state_after_line (before_frame s f v)) (filter-append (own f v) (take n s.script) (l ∷ []))
+      ∙ ap (λ (b : Bool). fold state_after_line (before_frame s f v) (filter (own f v) (take n s.script) ++ (if b then l ∷ [] else [])))
       (and_true (l.node == v) (l.frame == f) (eq-eqb l.frame f is))
       ∙ by_node (l.node == v)
     where
-      by_node : (b : Bool) → fold after_line (before_frame s f v) (filter (own f v) (take n s.script) ++ (if b then l ∷ [] else []))
-          ≡ (if b then after_line (told_at s f n v) l else told_at s f n v)
-      by_node true = fold_push after_line (before_frame s f v) (filter (own f v) (take n s.script)) l
-      by_node false = ap (fold after_line (before_frame s f v)) (append-nil (filter (own f v) (take n s.script)))
+      by_node : (b : Bool) → fold state_after_line (before_frame s f v) (filter (own f v) (take n s.script) ++ (if b then l ∷ [] else []))
+          ≡ (if b then state_after_line (told_at s f n v) l else told_at s f n v)
+      by_node true = fold_push state_after_line (before_frame s f v) (filter (own f v) (take n s.script)) l
+      by_node false = ap (fold state_after_line (before_frame s f v)) (append-nil (filter (own f v) (take n s.script)))
 
   other_frame : (v k : ℕ) (l : ScriptLine) → (l.frame ≡ f → ⊥) → own f v l ≡ false
   other_frame v k l other = and_right (l.node == v) (l.frame == f) (ne_eqb l.frame f other)
 
   -- before the first line of the frame
-  pub none_told : (n : ℕ) → IsCut s.script f n → (v : ℕ) → told_at s f n v ≡ before_frame s f v
-  none_told n cut v = ap (fold after_line (before_frame s f v)) (none_kept (own f v) (take n s.script) (λ i d below.
+  pub none_told : (n : ℕ) → CountsLinesBefore s.script f n → (v : ℕ) → told_at s f n v ≡ before_frame s f v
+  none_told n cut v = ap (fold state_after_line (before_frame s f v)) (none_kept (own f v) (take n s.script) (λ i d below.
       (let near : i < n = within i below in
       other_frame v i (get_or (take n s.script) i d)
       (λ is. (let before = cut.before i d near in omega (arith, before, is, ap (λ (l : ScriptLine). l.frame) (get_or-take n s.script i d near)))))))
@@ -83,7 +83,7 @@ module _ (s : ScenarioParts) (f : ℕ) where
   pub all_told : (n : ℕ) → ((i : ℕ) (d : ScriptLine) → n ≤ i → i < length s.script → f < (get_or s.script i d).frame) → (v : ℕ)
       → told_at s f n v ≡ state_at s f v
   all_told n later v =
-      ap (fold after_line (before_frame s f v)) (sym (
+      ap (fold state_after_line (before_frame s f v)) (sym (
       ap (filter (own f v)) (sym (take-append-drop n s.script))
       ∙ filter-append (own f v) (take n s.script) (drop n s.script)
       ∙ ap (λ (l : List ScriptLine). filter (own f v) (take n s.script) ++ l) (none_kept (own f v) (drop n s.script) (λ i d below.
@@ -94,19 +94,21 @@ module _ (s : ScenarioParts) (f : ℕ) where
   -- the nodes behind a line
   pub node_told : (ranks : ℕ → ℕ) (n : ℕ) (l : ScriptLine) → n < length s.script → l ≡ get_or s.script n l → l.frame ≡ f → AllPairs (λ a b. a < b) (ids s.nodes)
       → (i : ℕ) → i < length (ids s.nodes) → get_or (ids s.nodes) i 0 ≡ l.node → (d : BusNode)
-      → set (nodes_with s ranks (told_at s f n)) i (told l (get_or (nodes_with s ranks (told_at s f n)) i d)) ≡ nodes_with s ranks (told_at s f (n + 1))
+      → set (nodes_with s ranks (told_at s f n)) i (node_after_line l (get_or (nodes_with s ranks (told_at s f n)) i d))
+          ≡ nodes_with s ranks (told_at s f (n + 1))
   node_told ranks n l below at is ascending i near here d =
       let g = bus_node s ranks (told_at s f n) in
       let h = bus_node s ranks (told_at s f (n + 1)) in
       let v : ℕ = get_or (ids s.nodes) i 0 in
-      let state : told_at s f (n + 1) v ≡ after_line (told_at s f n v) l =
-      told_more n l below at is v ∙ ap (λ (b : Bool). if b then after_line (told_at s f n v) l else told_at s f n v) (eq-eqb l.node v (sym here)) in
-      ap (λ (x : BusNode). set (nodes_with s ranks (told_at s f n)) i (told l x)) (get_or-map g (ids s.nodes) i 0 d near)
+      let state : told_at s f (n + 1) v ≡ state_after_line (told_at s f n v) l =
+      told_more n l below at is v ∙ ap (λ (b : Bool). if b then state_after_line (told_at s f n v) l else told_at s f n v) (eq-eqb l.node v (sym here)) in
+      ap (λ (x : BusNode). set (nodes_with s ranks (told_at s f n)) i (node_after_line l x)) (get_or-map g (ids s.nodes) i 0 d near)
       ∙ ap (λ (x : State). set (nodes_with s ranks (told_at s f n)) i (record (g v) { state = x })) (sym state)
       ∙ set_mapped g h (ids s.nodes) i near (λ k there other.
       (let u : ℕ = get_or (ids s.nodes) k 0 in
       ap (λ (x : State). record (g u) { state = x }) (sym (told_more n l below at is u
-      ∙ ap (λ (b : Bool). if b then after_line (told_at s f n u) l else told_at s f n u) (ne_eqb l.node u (λ same. differ k there other (here ∙ same)))))))
+      ∙ ap (λ (b : Bool). if b then state_after_line (told_at s f n u) l else told_at s f n u)
+          (ne_eqb l.node u (λ same. differ k there other (here ∙ same)))))))
     where
       differ : (k : ℕ) → k < length (ids s.nodes) → (k ≡ i → ⊥) → get_or (ids s.nodes) i 0 ≡ get_or (ids s.nodes) k 0 → ⊥
       differ k there other same = elim (cases_lt k i) [
@@ -130,23 +132,23 @@ module _ (s : ScenarioParts) (f : ℕ) where
       turned_more v b [] l = refl
       turned_more v b (x ∷ ls) l = turned_more v (if x.node == v then turned_by x.act b else b) ls l
 
-      by_node : (b : Bool) → power (if b then after_line (told_at s f n v) l else told_at s f n v)
+      by_node : (b : Bool) → power (if b then state_after_line (told_at s f n v) l else told_at s f n v)
           ≡ (if b then turned_by l.act (turned v (false, 0) (take n s.script)) else turned v (false, 0) (take n s.script))
       by_node true = act_power l.act (told_at s f n v) ∙ ap (turned_by l.act) (have v)
       by_node false = have v
 
   -- and what is lost
   drops_more : (above ls : List ScriptLine) (l : ScriptLine) → drops_below s above (ls ++ l ∷ [])
-      ≡ drops_below s above ls ++ option_to_list (lost_by l l.act (before_line s (above ++ ls) l))
+      ≡ drops_below s above ls ++ option_to_list (lost_by l l.act (state_before_line s (above ++ ls) l))
   drops_more above [] l =
-      append-nil (option_to_list (lost_by l l.act (before_line s above l)))
-      ∙ ap (λ (xs : List ScriptLine). option_to_list (lost_by l l.act (before_line s xs l))) (sym (append-nil above))
+      append-nil (option_to_list (lost_by l l.act (state_before_line s above l)))
+      ∙ ap (λ (xs : List ScriptLine). option_to_list (lost_by l l.act (state_before_line s xs l))) (sym (append-nil above))
   drops_more above (x ∷ ls) l =
-      let first = option_to_list (lost_by x x.act (before_line s above x)) in
+      let first = option_to_list (lost_by x x.act (state_before_line s above x)) in
       let rest = drops_below s (above ++ x ∷ []) ls in
       ap (λ (ds : List DropLine). first ++ ds) (drops_more (above ++ x ∷ []) ls l)
-      ∙ sym (append_assoc first rest (option_to_list (lost_by l l.act (before_line s ((above ++ x ∷ []) ++ ls) l))))
-      ∙ ap (λ (xs : List ScriptLine). (first ++ rest) ++ option_to_list (lost_by l l.act (before_line s xs l))) (append_assoc above (x ∷ []) ls)
+      ∙ sym (append_assoc first rest (option_to_list (lost_by l l.act (state_before_line s ((above ++ x ∷ []) ++ ls) l))))
+      ∙ ap (λ (xs : List ScriptLine). (first ++ rest) ++ option_to_list (lost_by l l.act (state_before_line s xs l))) (append_assoc above (x ∷ []) ls)
 
   pub lost_more : (n : ℕ) (l : ScriptLine) → n < length s.script → l ≡ get_or s.script n l → l.frame ≡ f
       → drops_below s [] (take (n + 1) s.script) ≡ drops_below s [] (take n s.script) ++ option_to_list (lost_by l l.act (told_at s f n l.node))
@@ -155,4 +157,4 @@ module _ (s : ScenarioParts) (f : ℕ) where
       ∙ drops_more [] (take n s.script) l
       ∙ ap (λ (k : ℕ). drops_below s []
       (take n s.script) ++ option_to_list (lost_by l l.act
-      (fold after_line (before_frame s k l.node) (filter (λ m. (m.node == l.node) && (m.frame == k)) (take n s.script))))) is
+      (fold state_after_line (before_frame s k l.node) (filter (λ m. (m.node == l.node) && (m.frame == k)) (take n s.script))))) is

@@ -8,12 +8,12 @@ use Rattle.bus_rules.specs.Cores.{Core, Setup, as_host, begins_host, frame_ended
 use Rattle.bus_rules.specs.States.{State, StateOff, StateOn, at_core, refuses, queues}
 use Rattle.bus_rules.specs.declared.tune.Tune.{Tune}
 use Rattle.bus_terms.specs.Rounds.{rounds}
-use Rattle.bus_terms.specs.ScriptedStates.{after_act, ended, setup_in}
+use Rattle.bus_terms.specs.ScriptedStates.{state_after_act, states_after_end, setup_in}
 use Rattle.bus_terms.proofs.NumbersKept.{opened_core, closed_core}
 use Rattle.bus_model.specs.FrameNodes.{power}
 use Rattle.bus_model.proofs.KeptStates.{rounds_keep}
 
-pub act_power : (a : Act) (x : State) → power (after_act a x) ≡ turned_by a (power x)
+pub act_power : (a : Act) (x : State) → power (state_after_act a x) ≡ turned_by a (power x)
 act_power On (StateOff boots) = refl
 act_power On (StateOn c) = refl
 act_power Off (StateOff boots) = refl
@@ -36,7 +36,7 @@ ended_boot q f c = by_host _ (begins_host c.tune _)
     by_host t None = refl
     by_host t (Some rank) = refl
 
-pub ended_power : (s : ScenarioParts) (f v : ℕ) (states : ℕ → State) → power (ended s f states v) ≡ power (states v)
+pub ended_power : (s : ScenarioParts) (f v : ℕ) (states : ℕ → State) → power (states_after_end s f states v) ≡ power (states v)
 ended_power s f v states = by_state (states v)
   where
     by_state : (x : State) → power (at_core (frame_ended (setup_in s v) f) x) ≡ power x

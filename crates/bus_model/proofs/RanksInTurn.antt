@@ -10,22 +10,22 @@ use Rattle.bus_rules.specs.States.{State}
 use Rattle.bus_terms.specs.Bus.{Cost}
 use Rattle.bus_terms.specs.Costs.{slot_sent, slot_window}
 use Rattle.bus_terms.specs.FloodOfText.{ids}
-use Rattle.bus_terms.specs.Rounds.{round, rounds, slot_at, slots_of}
+use Rattle.bus_terms.specs.Rounds.{round_of_rank, rounds, slot_at, slots_of}
 use Rattle.plain_bus.specs.BusNodes.{bus_node, mixed, nodes_in, ranks_in}
-use Rattle.plain_bus.specs.Leaders.{parts_of}
+use Rattle.plain_bus.specs.Leaders.{slot_parts}
 use Rattle.plain_bus.proofs.MembersOfSlots.{map_same}
 use Rattle.bus_model.specs.FrameNodes.{nodes_with, run_below}
 use Rattle.bus_model.specs.RoundCosts.{cost_below, with_round}
 
 -- whether there is a round, by its parts
-pub led_some : (o : Option Plan) (parts : List Part) → Some parts ≡ option_map parts_of o → (p : Plan) × (o ≡ Some p) × (parts ≡ parts_of p)
+pub led_some : (o : Option Plan) (parts : List Part) → Some parts ≡ option_map slot_parts o → (p : Plan) × (o ≡ Some p) × (parts ≡ slot_parts p)
 led_some None parts is = absurd (cc)
-led_some (Some p) parts is = (p, refl, one parts (parts_of p) is)
+led_some (Some p) parts is = (p, refl, one parts (slot_parts p) is)
   where
     one : (a b : List Part) → Some a ≡ Some b → a ≡ b
     one a b is = cc
 
-pub led_none : (o : Option Plan) → None ≡ option_map parts_of o → o ≡ None
+pub led_none : (o : Option Plan) → None ≡ option_map slot_parts o → o ≡ None
 led_none None is = refl
 led_none (Some p) is = absurd (cc)
 
@@ -88,12 +88,12 @@ module _ (s : ScenarioParts) (f : ℕ) (start : ℕ → State) (r : ℕ) where
   enters = map_same (bus_node s (ranks_in start) (run_below s f start r)) (bus_node s (ranks_in start) (mixed r (ranks_in start) start (run_below s f start r)))
       (λ v. ap (λ (x : State). bus_node s (ranks_in start) (λ (u : ℕ). x) v) (sym (entered (ranks_in start v) (start v) (rounds s f start v)))) (ids s.nodes)
 
-  pub leaves : nodes_in s r start (round s r f start) (run_below s f start r) ≡ nodes_with s (ranks_in start) (run_below s f start (r + 1))
-  leaves = map_same (bus_node s (ranks_in start) (mixed r (ranks_in start) (round s r f start) (run_below s f start r)))
+  pub leaves : nodes_in s r start (round_of_rank s r f start) (run_below s f start r) ≡ nodes_with s (ranks_in start) (run_below s f start (r + 1))
+  leaves = map_same (bus_node s (ranks_in start) (mixed r (ranks_in start) (round_of_rank s r f start) (run_below s f start r)))
       (bus_node s (ranks_in start) (run_below s f start (r + 1)))
       (λ v. ap (λ (x : State). bus_node s (ranks_in start) (λ (u : ℕ). x) v)
-      (left (ranks_in start v) (start v) (rounds s f start v) (round s r f start v)
-      (λ same. ap (λ (k : ℕ). round s k f start v) (sym (eqb-true (ranks_in start v) r same))))) (ids s.nodes)
+      (left (ranks_in start v) (start v) (rounds s f start v) (round_of_rank s r f start v)
+      (λ same. ap (λ (k : ℕ). round_of_rank s k f start v) (sym (eqb-true (ranks_in start v) r same))))) (ids s.nodes)
 
   pub costs_left : (cost : ℕ → Cost)
       → map (λ v. if ranks_in start v == r then with_round s r f start v (cost_below s f start r cost v) else cost_below s f start r cost v) (ids s.nodes)

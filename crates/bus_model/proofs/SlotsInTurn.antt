@@ -16,7 +16,7 @@ use Rattle.bus_terms.specs.Costs.{slot_sent, slot_window}
 use Rattle.bus_terms.specs.FloodOfText.{ids}
 use Rattle.bus_terms.specs.Rounds.{before_slot, slot_at}
 use Rattle.plain_bus.specs.BusNodes.{nodes_in, nodes_before, ranks_in}
-use Rattle.plain_bus.specs.Leaders.{parts_of}
+use Rattle.plain_bus.specs.Leaders.{slot_parts}
 use Rattle.plain_bus.specs.Networks.{Network, IsReady, with_slot_at}
 use Rattle.plain_bus.specs.SlotCosts.{IsBelow}
 use Rattle.plain_bus.proofs.MembersOfSlots.{map_same}
@@ -38,12 +38,12 @@ ready_more s f m n x le is = record {
   room = λ i d below. below_more m n le (get_or x.costs i d) (is.room i d below);
 }
 
-pub part_at : (p : Plan) (parts : List Part) (i : ℕ) (q : Part) → parts ≡ parts_of p → i < length parts → q ≡ get_or parts i q → q ≡ part_of p i
+pub part_at : (p : Plan) (parts : List Part) (i : ℕ) (q : Part) → parts ≡ slot_parts p → i < length parts → q ≡ get_or parts i q → q ≡ part_of p i
 part_at p parts i q are below at =
     let size : length parts ≡ last_slot p + 1 = ap length are ∙ length-map-range_with_len (part_of p) 0 (last_slot p + 1) in
     at ∙ ap (λ (l : List Part). get_or l i q) are ∙ get_or-map-range_with_len (part_of p) 0 (last_slot p + 1) i i q (omega (arith, below, size)) (omega arith)
 
-pub parts_count : (p : Plan) (parts : List Part) → parts ≡ parts_of p → length parts ≡ last_slot p + 1
+pub parts_count : (p : Plan) (parts : List Part) → parts ≡ slot_parts p → length parts ≡ last_slot p + 1
 parts_count p parts are = ap length are ∙ length-map-range_with_len (part_of p) 0 (last_slot p + 1)
 
 first_slot : (s : ScenarioParts) (rank f : ℕ) (p : Plan) (start : ℕ → State) → before_slot s rank f p start 0 ≡ start

@@ -11,7 +11,7 @@ use Rattle.bus_rules.specs.States.{State, StateOff, StateOn, at_core}
 use Rattle.bus_terms.specs.Bus.{before_frame, state_at, ranks_of}
 use Rattle.bus_terms.specs.FloodOfText.{ids}
 use Rattle.bus_terms.specs.Rounds.{rank_in, rounds, round_deliveries}
-use Rattle.bus_terms.specs.ScriptedStates.{after_act, after_line}
+use Rattle.bus_terms.specs.ScriptedStates.{state_after_act, state_after_line}
 use Rattle.plain_bus.specs.BusNodes.{BusNode, bus_node, ranks_in}
 use Rattle.plain_bus.specs.Networks.{Network, IsReady}
 use Rattle.bus_model.specs.RoundCosts.{cost_after}
@@ -36,10 +36,10 @@ deliveries_to s n = flat_map (λ f. frame_deliveries s f (state_at s f)) (range_
 
 -- the state of v in frame f behind those of the first n lines that it is told then
 abbrev pub told_at : ScenarioParts → ℕ → ℕ → ℕ → State
-told_at s f n v = fold after_line (before_frame s f v) (filter (λ l. (l.node == v) && (l.frame == f)) (take n s.script))
+told_at s f n v = fold state_after_line (before_frame s f v) (filter (λ l. (l.node == v) && (l.frame == f)) (take n s.script))
 
 -- the first n lines are those of the frames before f
-pub record IsCut (ls : List ScriptLine) (f n : ℕ) : Type 0 where
+pub record CountsLinesBefore (ls : List ScriptLine) (f n : ℕ) : Type 0 where
   pub within : n ≤ length ls
   pub before : (i : ℕ) (d : ScriptLine) → i < n → (slice_index_or ls i d).frame < f
   pub from : (i : ℕ) (d : ScriptLine) → n ≤ i → i < length ls → f ≤ (slice_index_or ls i d).frame
@@ -59,12 +59,12 @@ prior_ranks s zero = λ (v : ℕ). 0
 prior_ranks s (suc f) = ranks_in (state_at s f)
 
 -- a node that was told a line
-abbrev pub told : ScriptLine → BusNode → BusNode
-told l n = record n { state = after_act l.act n.state }
+abbrev pub node_after_line : ScriptLine → BusNode → BusNode
+node_after_line l n = record n { state = state_after_act l.act n.state }
 
 -- a node whose round begins, and whose frame ends
-abbrev pub begun : BusNode → BusNode
-begun n = record n { rank = rank_in n.state }
+abbrev pub with_round_rank : BusNode → BusNode
+with_round_rank n = record n { rank = rank_in n.state }
 
 abbrev pub ended_at : ℕ → BusNode → BusNode
 ended_at f n = record n { state = at_core (frame_ended n.setup f) n.state }

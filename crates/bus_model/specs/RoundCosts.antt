@@ -8,7 +8,7 @@ use Rattle.bus_rules.specs.Tuning.{is_scan}
 use Rattle.bus_terms.specs.Bus.{Cost, state_at}
 use Rattle.bus_terms.specs.Costs.{over_round, slot_sent, slot_window}
 use Rattle.bus_terms.specs.Rounds.{rank_in, slot_at}
-use Rattle.bus_terms.specs.ScriptedStates.{is_on}
+use Rattle.bus_terms.specs.ScriptedStates.{is_on_and}
 use Rattle.plain_bus.specs.BusNodes.{ranks_in}
 
 -- a cost with those of the first n slots of a round
@@ -31,12 +31,12 @@ cost_below s f start r cost v = if nat_lt (ranks_in start v) r then with_round s
 
 -- a frame more, if the node scans in it
 abbrev pub with_scan : State → Cost → Cost
-with_scan x c = record c { scanned = c.scanned + (if is_on (λ k. is_scan k.tune) x then 1 else 0) }
+with_scan x c = record c { scanned = c.scanned + (if is_on_and (λ k. is_scan k.tune) x then 1 else 0) }
 
 -- what the first n frames cost node v
 abbrev pub cost_after : ScenarioParts → ℕ → ℕ → Cost
 cost_after s n v = record {
   sent = sum_by (λ f. over_round (λ x. slot_sent s.profile x v) s (rank_in (state_at s f v)) f (state_at s f)) (range_with_len 0 n);
   windows = sum_by (λ f. over_round (λ x. slot_window s.profile x v) s (rank_in (state_at s f v)) f (state_at s f)) (range_with_len 0 n);
-  scanned = count_by (λ f. is_on (λ c. is_scan c.tune) (state_at s f v)) (range_with_len 0 n);
+  scanned = count_by (λ f. is_on_and (λ c. is_scan c.tune) (state_at s f v)) (range_with_len 0 n);
 }

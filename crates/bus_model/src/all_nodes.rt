@@ -5,14 +5,14 @@ ghost use Rattle.bus_rules.specs.States.{State};
 ghost use Rattle.bus_terms.specs.Bus.{Cost as CostOf};
 ghost use Rattle.bus_terms.specs.FloodOfText.{ids};
 ghost use Rattle.scenario_text.specs.ScenarioParts.{ScenarioParts};
-ghost use Rattle.bus_model.specs.FrameNodes.{begun, ended_at, nodes_with};
+ghost use Rattle.bus_model.specs.FrameNodes.{with_round_rank, ended_at, nodes_with};
 ghost use Rattle.bus_model.specs.RoundCosts.{with_scan};
 
 use plain_bus::{BusNode, Cost};
 
 /// The rounds of a frame begin: each node takes part in that of the rank which it scans, holds or hosts now.
 pub fn begin_all(nodes: &mut [BusNode])
-    ensures { nodes.new ≡ map begun nodes.old }
+    ensures { nodes.new ≡ map with_round_rank nodes.old }
 {
     for node in nodes.iter_mut() {
         node.begin_rounds();

@@ -6,7 +6,7 @@ ghost use Rattle.bus_terms.specs.Bus.{Cost as CostOf, before_frame, drops_below}
 ghost use Rattle.bus_terms.specs.FloodOfText.{ids};
 ghost use Rattle.scenario_text.specs.ScenarioParts.{ScenarioParts};
 ghost use Rattle.plain_bus.specs.Networks.{IsReady};
-ghost use Rattle.bus_model.specs.FrameNodes.{HavePower, IsAtFrame, IsCut, begun, ended_at, nodes_with};
+ghost use Rattle.bus_model.specs.FrameNodes.{HavePower, IsAtFrame, CountsLinesBefore, with_round_rank, ended_at, nodes_with};
 ghost use Rattle.bus_model.specs.RoundCosts.{with_scan};
 
 use crate::all_nodes::{begin_all, count_scans, end_all};
@@ -32,11 +32,11 @@ pub fn run_frame(
     requires frame { frame < s.now.frames }
     requires few { s.now.frames ≤ 4096 }
     requires at { IsAtFrame s.now frame net.old }
-    requires cut { IsCut s.now.script frame told }
+    requires cut { CountsLinesBefore s.now.script frame told }
     requires power { HavePower s.now (before_frame s.now frame) told }
     requires drops { drops.old.items ≡ drops_below s.now [] (take told s.now.script) }
     ensures at { OnOk result (IsAtFrame s.now (frame + 1) net.new) }
-    ensures cut { IfOk result (IsCut s.now.script (frame + 1)) }
+    ensures cut { IfOk result (CountsLinesBefore s.now.script (frame + 1)) }
     ensures power { IfOk result (HavePower s.now (before_frame s.now (frame + 1))) }
     ensures drops { IfOk result (λ next. drops.new.items ≡ drops_below s.now [] (take next s.now.script)) }
 {
@@ -51,7 +51,7 @@ pub fn run_frame(
 fn begin_rounds(net: &mut Network)
     requires each { length net.old.nodes ≡ length net.old.costs }
     requires few { All (λ c. c.scanned ≤ 4096) net.old.costs }
-    ensures nodes { net.new.nodes ≡ map begun net.old.nodes }
+    ensures nodes { net.new.nodes ≡ map with_round_rank net.old.nodes }
     ensures costs { (s : ScenarioParts) (ranks : ℕ → ℕ) (states : ℕ → State) (cost : ℕ → CostOf) → net.old.nodes ≡ nodes_with s ranks states
         → net.old.costs ≡ map cost (ids s.nodes)
         → net.new.costs ≡ map (λ v. with_scan (states v) (cost v)) (ids s.nodes) }

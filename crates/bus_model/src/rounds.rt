@@ -6,9 +6,9 @@ ghost use Rattle.bus_rules.specs.Plans.{last_slot};
 ghost use Rattle.bus_rules.specs.States.{State};
 ghost use Rattle.bus_terms.specs.Bus.{Cost as CostOf};
 ghost use Rattle.bus_terms.specs.FloodOfText.{ids};
-ghost use Rattle.bus_terms.specs.Rounds.{before_slot, round, rounds, round_deliveries, slot_deliveries, slots_of};
+ghost use Rattle.bus_terms.specs.Rounds.{before_slot, round_of_rank, rounds, round_deliveries, slot_deliveries, slots_of};
 ghost use Rattle.plain_bus.specs.BusNodes.{nodes_in, ranks_in};
-ghost use Rattle.plain_bus.specs.Leaders.{parts_of};
+ghost use Rattle.plain_bus.specs.Leaders.{slot_parts};
 ghost use Rattle.plain_bus.specs.Networks.{IsReady};
 ghost use Rattle.bus_model.specs.FrameNodes.{AreRanked, frame_deliveries, nodes_with};
 ghost use Rattle.bus_model.specs.RoundCosts.{with_round, with_slots};
@@ -66,7 +66,7 @@ fn run_round(
     requires ready { IsReady s.now frame 1040000 net.old }
     ensures ready { OnOk result ((m : ℕ) → IsReady s.now frame m net.old → IsReady s.now frame (m + 46) net.new) }
     ensures nodes { OnOk result ((start others : ℕ → State) → net.old.nodes ≡ nodes_in s.now rank start start others
-        → net.new.nodes ≡ nodes_in s.now rank start (round s.now rank frame start) others) }
+        → net.new.nodes ≡ nodes_in s.now rank start (round_of_rank s.now rank frame start) others) }
     ensures deliveries { OnOk result ((start others : ℕ → State) → net.old.nodes ≡ nodes_in s.now rank start start others
         → net.new.deliveries ≡ net.old.deliveries ++ round_deliveries s.now rank frame start) }
     ensures costs { OnOk result
@@ -92,12 +92,12 @@ fn run_slots(
     requires few { length parts.now ≤ 46 }
     requires ready { IsReady s.now frame 1040000 net.old }
     ensures ready { OnOk result ((m : ℕ) → IsReady s.now frame m net.old → IsReady s.now frame (m + length parts.now) net.new) }
-    ensures nodes { OnOk result ((p : Plan) (start others : ℕ → State) → parts.now ≡ parts_of p → net.old.nodes ≡ nodes_in s.now rank start start others
+    ensures nodes { OnOk result ((p : Plan) (start others : ℕ → State) → parts.now ≡ slot_parts p → net.old.nodes ≡ nodes_in s.now rank start start others
         → net.new.nodes ≡ nodes_in s.now rank start (before_slot s.now rank frame p start (last_slot p + 1)) others) }
-    ensures deliveries { OnOk result ((p : Plan) (start others : ℕ → State) → parts.now ≡ parts_of p → net.old.nodes ≡ nodes_in s.now rank start start others
+    ensures deliveries { OnOk result ((p : Plan) (start others : ℕ → State) → parts.now ≡ slot_parts p → net.old.nodes ≡ nodes_in s.now rank start start others
         → net.new.deliveries ≡ net.old.deliveries ++ flat_map (slot_deliveries s.now rank frame p start) (slots_of p)) }
     ensures costs { OnOk result
-        ((p : Plan) (start others : ℕ → State) (cost : ℕ → CostOf) → parts.now ≡ parts_of p → net.old.nodes ≡ nodes_in s.now rank start start others
+        ((p : Plan) (start others : ℕ → State) (cost : ℕ → CostOf) → parts.now ≡ slot_parts p → net.old.nodes ≡ nodes_in s.now rank start start others
         → net.old.costs ≡ map cost (ids s.now.nodes)
         → net.new.costs
         ≡ map (λ v. if ranks_in start v == rank then with_slots s.now rank frame p start (last_slot p + 1) v (cost v) else cost v) (ids s.now.nodes)) }

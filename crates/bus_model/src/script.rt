@@ -11,7 +11,7 @@ ghost use Rattle.bus_terms.specs.Flooding.{has};
 ghost use Rattle.bus_terms.specs.ScriptedStates.{lost_by};
 ghost use Rattle.plain_bus.specs.BusNodes.{BusNode as NodeOf, MayDo, loses_by};
 ghost use Rattle.plain_bus.specs.Networks.{IsReady};
-ghost use Rattle.bus_model.specs.FrameNodes.{HavePower, IsCut, nodes_with, prior_ranks, told};
+ghost use Rattle.bus_model.specs.FrameNodes.{HavePower, CountsLinesBefore, nodes_with, prior_ranks, node_after_line};
 
 use bus_rules::DropLine;
 use lwb_base::Memory;
@@ -27,12 +27,12 @@ pub fn tell_lines(
     from: usize,
     drops: &mut Vec<DropLine>,
 ) -> Result<usize, Memory>
-    requires cut { IsCut s.now.script frame from }
+    requires cut { CountsLinesBefore s.now.script frame from }
     requires power { HavePower s.now (before_frame s.now frame) from }
     requires nodes { net.old.nodes ≡ nodes_with s.now (prior_ranks s.now frame) (before_frame s.now frame) }
     requires ready { IsReady s.now frame 1000000 net.old }
     requires drops { drops.old.items ≡ drops_below s.now [] (take from s.now.script) }
-    ensures cut { IfOk result (IsCut s.now.script (frame + 1)) }
+    ensures cut { IfOk result (CountsLinesBefore s.now.script (frame + 1)) }
     ensures power { IfOk result (HavePower s.now (state_at s.now frame)) }
     ensures nodes { OnOk result (net.new.nodes ≡ nodes_with s.now (prior_ranks s.now frame) (state_at s.now frame)) }
     ensures drops { IfOk result (λ next. drops.new.items ≡ drops_below s.now [] (take next s.now.script)) }
@@ -59,7 +59,7 @@ fn tell_line(net: &mut Network, line: &ScriptLine, drops: &mut Vec<DropLine>) ->
     requires may { (i : ℕ) (d : NodeOf) → i < length net.old.nodes → slice_index net.old.ids i ≡ line.now.node
         → IsAct (slice_index_or net.old.nodes i d).setup.profile line.now.act × MayDo line.now.act (slice_index_or net.old.nodes i d).state }
     ensures nodes { OnOk result ((i : ℕ) × (i < length net.old.ids) × (slice_index net.old.ids i ≡ line.now.node)
-        × ((d : NodeOf) → (net.new.nodes ≡ slice_set net.old.nodes i (told line.now (slice_index_or net.old.nodes i d)))
+        × ((d : NodeOf) → (net.new.nodes ≡ slice_set net.old.nodes i (node_after_line line.now (slice_index_or net.old.nodes i d)))
         × (drops.new.items ≡ drops.old.items ++ option_to_list (lost_by line.now line.now.act (slice_index_or net.old.nodes i d).state)))) }
     ensures rest { OnOk result ((net.new.ids ≡ net.old.ids) × (net.new.costs ≡ net.old.costs) × (net.new.deliveries ≡ net.old.deliveries)) }
 {

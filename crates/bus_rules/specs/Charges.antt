@@ -11,5 +11,5 @@ charge p None = p.close
 charge p (Some last) = p.listen + (last.0 + 1) * step p last.1 - p.turn
 
 -- the last of what was sent, if it was sent as often as a node may
-abbrev pub last_of : {X : Type 0} → ℕ → List X → Option X
-last_of sends made = if length made == sends then last_or None made else None
+abbrev pub last_if_all_sent : {X : Type 0} → ℕ → List X → Option X
+last_if_all_sent sends made = if length made == sends then last_or None made else None

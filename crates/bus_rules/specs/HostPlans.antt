@@ -20,8 +20,8 @@ pub record Answered : Type 0 where
 abbrev pub answer : ℕ → Answered → Ask → Answered
 answer frame x a = record { table = after_request frame x.table a; acks = if is_full a x.table then x.acks else with_ack a x.acks }
 
-abbrev pub answered : ℕ → List Ask → Table → Answered
-answered frame kept t = fold (answer frame) (record { table = t; acks = [] }) kept
+abbrev pub answers_to : ℕ → List Ask → Table → Answered
+answers_to frame kept t = fold (answer frame) (record { table = t; acks = [] }) kept
 
 -- then the host's own streams, ascending: what is agreed is what the table has, and a request that is then due is put to it
 pub record Served : Type 0 where
@@ -49,7 +49,7 @@ pub record HostPlan : Type 0 where
 -- by node, boot and rank of the host, in this frame, from the kept requests in the order of their slots
 unfoldable pub host_plan : Numbers → ℕ → ℕ → ℕ → ℕ → List Ask → Table → Streams → HostPlan
 host_plan p node boot rank frame kept t s =
-    let first = answered frame kept t in
+    let first = answers_to frame kept t in
     let own = served frame node boot first.table s in
     let grants = plan_round p.seconds frame own.table in
     record {

@@ -9,7 +9,7 @@ use Rattle.bus_rules.specs.declared.part.Part.{Part}
 use Rattle.bus_rules.specs.declared.part.Part.TheVariants.{Opening, Data as DataSlot, Contention, Closing}
 use Rattle.bus_rules.specs.declared.tune.Tune.TheVariants.{Host}
 use Rattle.bus_rules.specs.Plans.{opening, last_slot, slots_named}
-use Rattle.bus_rules.specs.Streams.{Waiting, first_waiting, taken, requested, after_contention, stream_at}
+use Rattle.bus_rules.specs.Streams.{WaitingPacket, first_waiting, taken, requested, after_contention, stream_at}
 use Rattle.bus_rules.specs.Tables.{Table, heard_owner, unheard_owner}
 use Rattle.bus_rules.specs.Tuning.{hosts_in, rank_of}
 use Rattle.bus_rules.specs.HostPlans.{HostPlan, host_plan}
@@ -47,7 +47,7 @@ pub record Opened : Type 0 where
   pub message : Option Message
 
 -- a data slot: of its own stream a node sends the packet that waits longest, which leaves the queue
-abbrev pub data_of : ℕ → Core → ℕ → Waiting → Message
+abbrev pub data_of : ℕ → Core → ℕ → WaitingPacket → Message
 data_of node c i w = DataOf (record { node = node; boot = c.boot; stream = i; seq = w.seq; payload = w.payload })
 
 abbrev pub data_opened : ℕ → ℕ → Core → Opened
@@ -88,11 +88,11 @@ abbrev pub silent : Core → Opened
 silent c = record { core = c; message = None }
 
 -- the window of a slot opens at a member of the round of frame f
-abbrev pub opened : Setup → ℕ → Part → Core → Opened
-opened s f Opening c = record { core = c; message = if hosts_now f c then Some (ScheduleOf (opening c.plan)) else None }
-opened s f (DataSlot owner) c = data_opened s.id owner c
-opened s f (Contention i) c = contention_opened s.id i c
-opened s f Closing c = if hosts_now f c then host_closes s f c else silent c
+abbrev pub opened_slot : Setup → ℕ → Part → Core → Opened
+opened_slot s f Opening c = record { core = c; message = if hosts_now f c then Some (ScheduleOf (opening c.plan)) else None }
+opened_slot s f (DataSlot owner) c = data_opened s.id owner c
+opened_slot s f (Contention i) c = contention_opened s.id i c
+opened_slot s f Closing c = if hosts_now f c then host_closes s f c else silent c
 
 -- what the closing of a window leaves, and the data that is delivered, if some is
 pub record Closed : Type 0 where
@@ -115,11 +115,11 @@ abbrev pub most_kept : Numbers → ℕ
 most_kept p = slots_named p.contend
 
 -- the window of a slot closes in frame f. initiated: the node said something itself; last, what it accepted
-abbrev pub closed : Setup → ℕ → Part → Bool → Core → Option Message → Closed
-closed s f part initiated c None = record { core = slot_heard f part initiated c; delivered = None }
-closed s f part initiated c (Some (ScheduleOf x)) = record { core = schedule_accepted s.id f x c; delivered = None }
-closed s f part initiated c (Some (DataOf d)) = record { core = slot_heard f part true c; delivered = Some d }
-closed s f part initiated c (Some (RequestOf a)) = record {
+abbrev pub closed_slot : Setup → ℕ → Part → Bool → Core → Option Message → Closed
+closed_slot s f part initiated c None = record { core = slot_heard f part initiated c; delivered = None }
+closed_slot s f part initiated c (Some (ScheduleOf x)) = record { core = schedule_accepted s.id f x c; delivered = None }
+closed_slot s f part initiated c (Some (DataOf d)) = record { core = slot_heard f part true c; delivered = Some d }
+closed_slot s f part initiated c (Some (RequestOf a)) = record {
   core = record c { kept = if hosts_now f c && nat_lt (length c.kept) (most_kept s.profile) then c.kept ++ a ∷ [] else c.kept };
   delivered = None;
 }

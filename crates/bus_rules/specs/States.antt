@@ -1,6 +1,6 @@
 -- A node as the script meets it: off or on, and what the script does to it.
 use Rattle.std.specs.Prelude.{ℕ, ◌+◌, List, Bool, true, if◌then◌else◌}
-use Rattle.bus_rules.specs.Streams.{declared, left, put, drops}
+use Rattle.bus_rules.specs.Streams.{declared, streams_after_leaving, put, drops}
 use Rattle.bus_rules.specs.Cores.{Core, booted}
 
 -- off after so many boots, or on
@@ -9,21 +9,21 @@ pub data State : Type 0 where
   StateOn : (core : Core) → State
 
 -- power comes on: the next boot
-abbrev pub switched_on : State → State
-switched_on (StateOff boots) = StateOn (booted (boots + 1))
-switched_on (StateOn c) = StateOn c
+abbrev pub state_after_on : State → State
+state_after_on (StateOff boots) = StateOn (booted (boots + 1))
+state_after_on (StateOn c) = StateOn c
 
 -- power goes off
-abbrev pub switched_off : State → State
-switched_off (StateOff boots) = StateOff boots
-switched_off (StateOn c) = StateOff c.boot
+abbrev pub state_after_off : State → State
+state_after_off (StateOff boots) = StateOff boots
+state_after_off (StateOn c) = StateOff c.boot
 
 -- a stream wishes this interval, or nothing more
 abbrev pub declares : ℕ → ℕ → Core → Core
 declares i interval c = record c { streams = declared i interval c.streams }
 
 abbrev pub leaves : ℕ → Core → Core
-leaves i c = record c { streams = left i c.streams }
+leaves i c = record c { streams = streams_after_leaving i c.streams }
 
 -- a packet is queued at a stream that does not refuse it
 abbrev pub refuses : ℕ → Core → Bool

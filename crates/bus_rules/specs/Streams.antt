@@ -6,7 +6,7 @@ use Rattle.std.specs.List.{slice_index_or}
 use Rattle.lwb_base.specs.Messages.{Ask, Schedule, node_of, stream_of}
 
 -- a packet that waits
-pub record Waiting : Type 0 where
+pub record WaitingPacket : Type 0 where
   pub seq : ℕ
   pub payload : List ℕ
 
@@ -16,7 +16,7 @@ pub record Stream : Type 0 where
   pub wish : ℕ
   pub agreed : ℕ
   pub last : ℕ
-  pub queue : List Waiting
+  pub queue : List WaitingPacket
   pub next : ℕ
 
 -- the four streams in their order, the tries and skips of contention, and the rank of the host of the last accepted
@@ -49,8 +49,8 @@ declared i interval s = with_stream i (wishes interval (stream_at s i)) s
 abbrev pub emptied : Stream → Stream
 emptied x = record x { wish = 0; queue = [] }
 
-abbrev pub left : ℕ → Streams → Streams
-left i s = with_stream i (emptied (stream_at s i)) s
+abbrev pub streams_after_leaving : ℕ → Streams → Streams
+streams_after_leaving i s = with_stream i (emptied (stream_at s i)) s
 
 -- a put is dropped where nothing is wished, 16 packets wait, or 65,535 numbers are used
 abbrev pub refuses : Stream → Bool
@@ -68,7 +68,7 @@ put_to payload x = if refuses x then x else queued payload x
 abbrev pub put : ℕ → List ℕ → Streams → Streams
 put i payload s = with_stream i (put_to payload (stream_at s i)) s
 
-abbrev pub first_waiting : Streams → ℕ → Option Waiting
+abbrev pub first_waiting : Streams → ℕ → Option WaitingPacket
 first_waiting s i = slice_get (stream_at s i).queue 0
 
 abbrev pub without_first : Stream → Stream
@@ -81,15 +81,15 @@ taken i s = with_stream i (without_first (stream_at s i)) s
 abbrev pub wants : Stream → Bool
 wants x = not (x.wish == x.agreed) && ((x.wish == 0) || not (length x.queue == 0))
 
-abbrev pub is_due : Streams → ℕ → Bool
-is_due s i = wants (stream_at s i)
+abbrev pub request_is_due : Streams → ℕ → Bool
+request_is_due s i = wants (stream_at s i)
 
 abbrev pub due_of : Streams → ℕ → Option ℕ
-due_of s i = if is_due s i then Some (stream_at s i).wish else None
+due_of s i = if request_is_due s i then Some (stream_at s i).wish else None
 
 -- the least stream of which a request is due
-abbrev pub due : Streams → Option ℕ
-due s = find (is_due s) (0 ∷ 1 ∷ 2 ∷ 3 ∷ [])
+abbrev pub due_stream : Streams → Option ℕ
+due_stream s = find (request_is_due s) (0 ∷ 1 ∷ 2 ∷ 3 ∷ [])
 
 -- a stream with its wish
 abbrev pub with_wish : Streams → ℕ → ℕ × ℕ
@@ -97,26 +97,26 @@ with_wish s i = (i, (stream_at s i).wish)
 
 -- contention, in the own slot of a fresh node: the stream that is requested now, and the streams after
 abbrev pub requested : Streams → Option ℕ
-requested s = if s.skips == 0 then due s else None
+requested s = if s.skips == 0 then due_stream s else None
 
 abbrev pub tries_after : Streams → ℕ
 tries_after s = min 4 (s.tries + 1)
 
 abbrev pub after_contention : ℕ → Streams → Streams
 after_contention node s =
-    if is_none (due s) then s
+    if is_none (due_stream s) then s
     else if s.skips == 0 then record s { tries = tries_after s; skips = node % 2 ^ tries_after s }
     else record s { skips = s.skips - 1 }
 
-abbrev pub agrees : ℕ → Stream → Stream
-agrees interval x = record x { agreed = interval }
+abbrev pub with_granted_interval : ℕ → Stream → Stream
+with_granted_interval interval x = record x { agreed = interval }
 
 abbrev pub with_agreed : ℕ → ℕ → Streams → Streams
-with_agreed i interval s = with_stream i (agrees interval (stream_at s i)) s
+with_agreed i interval s = with_stream i (with_granted_interval interval (stream_at s i)) s
 
 -- what a node forgets when it hosts, or hears another host
 abbrev pub unbound : Streams → Streams
-unbound s = record s { all = map (agrees 0) s.all; tries = 0; skips = 0 }
+unbound s = record s { all = map (with_granted_interval 0) s.all; tries = 0; skips = 0 }
 
 abbrev pub is_host : Option (ℕ × ℕ) → ℕ → ℕ → Bool
 is_host None rank boot = false
@@ -129,14 +129,14 @@ heard_host rank boot s = if is_host s.host rank boot then s else record (unbound
 abbrev pub names : ℕ → ℕ → Ask → Bool
 names node boot a = (a.node == node) && (a.boot == boot)
 
-abbrev pub granted : ℕ → ℕ → Stream → Stream
-granted interval frame x = record x { agreed = interval; last = frame }
+abbrev pub granted_stream : ℕ → ℕ → Stream → Stream
+granted_stream interval frame x = record x { agreed = interval; last = frame }
 
 -- second: an acknowledgement that names this node and this boot
 abbrev pub acknowledged : ℕ → ℕ → ℕ → Streams → Ask → Streams
 acknowledged node boot frame s a =
     if names node boot a
-    then record (with_stream a.stream (granted a.interval frame (stream_at s a.stream)) s) { tries = 0; skips = 0 }
+    then record (with_stream a.stream (granted_stream a.interval frame (stream_at s a.stream)) s) { tries = 0; skips = 0 }
     else s
 
 abbrev pub named_in : ℕ → Stream → Stream

@@ -24,19 +24,19 @@ abbrev pub no_table : Table
 no_table = record { entries = []; place = 0 }
 
 -- each code is above this one
-abbrev pub Above : ℕ → List Entry → Type 0
-Above c [] = ⊤
-Above c (e ∷ es) = (c < e.code) × Above c es
+abbrev pub EntriesAreAbove : ℕ → List Entry → Type 0
+EntriesAreAbove c [] = ⊤
+EntriesAreAbove c (e ∷ es) = (c < e.code) × EntriesAreAbove c es
 
 -- each code is below those after it
-abbrev pub Ascends : List Entry → Type 0
-Ascends [] = ⊤
-Ascends (e ∷ es) = Above e.code es × Ascends es
+abbrev pub EntriesAscend : List Entry → Type 0
+EntriesAscend [] = ⊤
+EntriesAscend (e ∷ es) = EntriesAreAbove e.code es × EntriesAscend es
 
 -- what holds of the entries of a table at all times
 pub record AreEntries (es : List Entry) : Type 0 where
   pub few : length es ≤ 32
-  pub ascends : Ascends es
+  pub ascends : EntriesAscend es
 
 abbrev pub has_code : ℕ → Entry → Bool
 has_code c e = e.code == c
@@ -83,11 +83,11 @@ abbrev pub interval_of : Table → ℕ → ℕ
 interval_of t c = option_map_or interval_in (entry_of t.entries c) 0
 
 -- a data slot of this owner in which the host accepted a packet or initiated one
-abbrev pub seen : ℕ → Entry → Entry
-seen c e = record e { unheard = if has_code c e then 0 else e.unheard }
+abbrev pub entry_after_data : ℕ → Entry → Entry
+entry_after_data c e = record e { unheard = if has_code c e then 0 else e.unheard }
 
 abbrev pub heard_owner : ℕ → Table → Table
-heard_owner c t = record t { entries = map (seen c) t.entries }
+heard_owner c t = record t { entries = map (entry_after_data c) t.entries }
 
 -- another data slot of this owner: the count rises, and at 16 the entry goes
 abbrev pub missed : ℕ → Entry → Option Entry

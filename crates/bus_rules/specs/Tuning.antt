@@ -62,22 +62,22 @@ scans rank (Scan r waited) = r == rank
 
 -- the tune of a node, with what its next change goes by: whether it accepted this frame's opening as a scanner, the rank
 -- that it hosts, if it does, and how many ranks there are
-pub record Tuning : Type 0 where
+pub record TuneState : Type 0 where
   pub tune : Tune
   pub joined : Bool
   pub own : Option ℕ
   pub ranks : ℕ
 
-pub record IsTuning (t : Tuning) : Type 0 where
+pub record IsTuning (t : TuneState) : Type 0 where
   pub ranks : (1 ≤ t.ranks) × (t.ranks ≤ 4)
   pub own : IfSome t.own (λ r. r < t.ranks)
   pub waited : HasWaited t.tune
 
-abbrev pub booted : Option ℕ → ℕ → Tuning
+abbrev pub booted : Option ℕ → ℕ → TuneState
 booted own ranks = record { tune = Scan 0 0; joined = false; own = own; ranks = ranks }
 
-abbrev pub after_frame : ℕ → Tuning → Tuning
-after_frame frame t = record t { tune = next_tune t.tune frame t.joined t.own t.ranks; joined = false }
+abbrev pub tune_after_frame : ℕ → TuneState → TuneState
+tune_after_frame frame t = record t { tune = next_tune t.tune frame t.joined t.own t.ranks; joined = false }
 
 -- a host that planned hosts in the frame of its plan
 abbrev pub with_due : ℕ → Tune → Tune

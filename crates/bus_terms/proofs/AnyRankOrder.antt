@@ -12,7 +12,7 @@ use Rattle.bus_rules.specs.States.{State}
 use Rattle.bus_terms.specs.Bus.{ranks_of, state_at}
 use Rattle.bus_terms.specs.Flooding.{has}
 use Rattle.bus_terms.specs.RankOrders.{rounds_in_turn}
-use Rattle.bus_terms.specs.Rounds.{rank_in, round, round_deliveries, rounds}
+use Rattle.bus_terms.specs.Rounds.{rank_in, round_of_rank, round_deliveries, rounds}
 use Rattle.bus_terms.proofs.KeptRanks.{elsewhere, hosted, round_rank}
 use Rattle.bus_terms.proofs.ListsInTurn.{range_in_turn}
 use Rattle.bus_terms.proofs.OtherRanks.{round_elsewhere}
@@ -42,7 +42,7 @@ not_there n (m ∷ ns) apart =
     or_from (m == n) (has ns n) (ne_eqb m n (λ same. true≢false (sym (eq-eqb n m (sym same)) ∙ apart.0))) (not_there n ns apart.1)
 
 module _ (s : ScenarioParts) (f : ℕ) where
-  other_rank : (g : ℕ → State) (n v : ℕ) → (rank_in (g v) == n) ≡ false → round s n f g v ≡ g v
+  other_rank : (g : ℕ → State) (n v : ℕ) → (rank_in (g v) == n) ≡ false → round_of_rank s n f g v ≡ g v
   other_rank g n v is = round_elsewhere s n f v g (elsewhere s n f (g v) is)
 
   -- a node of none of these ranks is left alone
@@ -51,7 +51,7 @@ module _ (s : ScenarioParts) (f : ℕ) where
   left_alone (n ∷ ns) g v not =
       let own = rank_in (g v) in
       let rank = round_rank s n f g v in
-      left_alone ns (round s n f g) v (ap (has ns) rank ∙ no_later (has ns own) refl) ∙ other_rank g n v (no_now (own == n) refl)
+      left_alone ns (round_of_rank s n f g) v (ap (has ns) rank ∙ no_later (has ns own) refl) ∙ other_rank g n v (no_now (own == n) refl)
     where
       no_later : (b : Bool) → has ns (rank_in (g v)) ≡ b → has ns (rank_in (g v)) ≡ false
       no_later true is = absurd (true≢false (sym (or_right (n == rank_in (g v)) _ is) ∙ not))
@@ -63,7 +63,7 @@ module _ (s : ScenarioParts) (f : ℕ) where
 
   turns_rank : (ranks : List ℕ) (g : ℕ → State) (v : ℕ) → rank_in (rounds_in_turn s f g ranks v) ≡ rank_in (g v)
   turns_rank [] g v = refl
-  turns_rank (n ∷ ns) g v = turns_rank ns (round s n f g) v ∙ round_rank s n f g v
+  turns_rank (n ∷ ns) g v = turns_rank ns (round_of_rank s n f g) v ∙ round_rank s n f g v
 
   module _ (start : ℕ → State) where
     abbrev own : ℕ → ℕ
@@ -85,11 +85,11 @@ module _ (s : ScenarioParts) (f : ℕ) where
         elim (or_cases (n == own v) (has ns (own v)) there) [
           | inl now ↦
               (let same : n ≡ own v = eqb-true n (own v) now in
-              left_alone ns (round s n f g) v (ap (has ns) (round_rank s n f g v ∙ rank v ∙ sym same) ∙ alone)
+              left_alone ns (round_of_rank s n f g) v (ap (has ns) (round_rank s n f g v ∙ rank v ∙ sym same) ∙ alone)
               ∙ same_round s n f g start (alike g n rank (λ u is. waits u (or_left (n == own u) _ (eq-eqb n (own u) (sym is))))) v (waits v there)
-              ∙ ap (λ (r : ℕ). round s r f start v) same)
+              ∙ ap (λ (r : ℕ). round_of_rank s r f start v) same)
           | inr then ↦
-              in_turn ns (IsDistinct-tail eqb n ns distinct) (round s n f g) (λ u. round_rank s n f g u ∙ rank u)
+              in_turn ns (IsDistinct-tail eqb n ns distinct) (round_of_rank s n f g) (λ u. round_rank s n f g u ∙ rank u)
               (λ u still. other_rank g n u (ap (λ (r : ℕ). r == n) (rank u) ∙ later u still) ∙ waits u (or_right (n == own u) _ still)) v then
         ]
       where

@@ -10,13 +10,13 @@ use Rattle.bus_rules.specs.declared.delivery.Delivery.{Delivery}
 use Rattle.bus_rules.specs.declared.part.Part.{Part}
 use Rattle.bus_rules.specs.declared.part.Part.TheVariants.{Data as DataSlot}
 use Rattle.bus_rules.specs.Cores.{Core, Setup}
-use Rattle.bus_rules.specs.Slots.{Message, ScheduleOf, DataOf, RequestOf, Data, Opened, closed, delivery_of, part_of}
+use Rattle.bus_rules.specs.Slots.{Message, ScheduleOf, DataOf, RequestOf, Data, Opened, closed_slot, delivery_of, part_of}
 use Rattle.bus_rules.specs.States.{State}
 use Rattle.bus_terms.specs.FloodOfText.{ids}
 use Rattle.bus_terms.specs.Flooding.{Accepts, accepted, has}
 use Rattle.bus_terms.specs.RelayPaths.{IsLeast}
 use Rattle.bus_terms.specs.ScriptedStates.{setup_in}
-use Rattle.bus_terms.specs.Rounds.{Slot, accepted_at, before_slot, closed_by, delivered_at, opened_at, said_in, slot_at, takes_part}
+use Rattle.bus_terms.specs.Rounds.{Slot, accepted_at, before_slot, closed_slot_of, delivery_in_slot, opened_at, message_said, slot_at, takes_part}
 use Rattle.bus_terms.specs.Received.{IsReceived}
 use Rattle.bus_terms.proofs.FirstHearings.{accepted_first}
 use Rattle.bus_terms.proofs.LeastPaths.{accepts_least}
@@ -30,7 +30,7 @@ said_data (Some (ScheduleOf y)) = None
 said_data (Some (DataOf d)) = Some d
 said_data (Some (RequestOf a)) = None
 
-pub closed_data : (S : Setup) (f : ℕ) (part : Part) (begun : Bool) (c : Core) (m : Option Message) → (closed S f part begun c m).delivered ≡ said_data m
+pub closed_data : (S : Setup) (f : ℕ) (part : Part) (begun : Bool) (c : Core) (m : Option Message) → (closed_slot S f part begun c m).delivered ≡ said_data m
 closed_data S f part begun c None = refl
 closed_data S f part begun c (Some (ScheduleOf y)) = refl
 closed_data S f part begun c (Some (DataOf d)) = refl
@@ -46,9 +46,9 @@ one_delivery d e is = cc
 pub record DeliversAt (s : ScenarioParts) (rank f : ℕ) (p : Plan) (states : ℕ → State) (j owner v k : ℕ) : Type 0 where
   pub packet : Data
   pub speaks : has (slot_at s rank f p states j).flood.initiators (node_of owner) ≡ true
-  pub said : said_in ((slot_at s rank f p states j).window (node_of owner)) ≡ Some (DataOf packet)
+  pub said : message_said ((slot_at s rank f p states j).window (node_of owner)) ≡ Some (DataOf packet)
   pub accepts : Accepts (slot_at s rank f p states j).flood v (node_of owner) k
-  pub delivered : delivered_at s rank f p states j v ≡ Some (delivery_of v f rank j packet)
+  pub delivered : delivery_in_slot s rank f p states j v ≡ Some (delivery_of v f rank j packet)
 
 module _ (s : ScenarioParts) (sound : IsSoundScenario s) (rank f : ℕ) (p : Plan) (states : ℕ → State) (j owner : ℕ) (is : part_of p j ≡ DataSlot owner) where
   abbrev before : ℕ → State
@@ -61,7 +61,7 @@ module _ (s : ScenarioParts) (sound : IsSoundScenario s) (rank f : ℕ) (p : Pla
   Delivers v k = DeliversAt s rank f p states j owner v k
 
   abbrev OneSpeaks : Type 0
-  OneSpeaks = (x.flood.initiators ≡ node_of owner ∷ []) × (is_some (said_in (x.window (node_of owner))) ≡ true)
+  OneSpeaks = (x.flood.initiators ≡ node_of owner ∷ []) × (is_some (message_said (x.window (node_of owner))) ≡ true)
 
   rise : AllPairs (λ a b. a < b) (ids s.nodes)
   rise = ids_rise s.nodes sound.ascending
@@ -79,20 +79,20 @@ module _ (s : ScenarioParts) (sound : IsSoundScenario s) (rank f : ℕ) (p : Pla
   there = takes s rank f owner x before window_is refl everyone_is rise
 
   delivery_is : (v : ℕ) (o : Opened) → x.window v ≡ Some o
-      → delivered_at s rank f p states j v ≡ option_map (delivery_of v f rank j) (said_data (accepted_at x v))
+      → delivery_in_slot s rank f p states j v ≡ option_map (delivery_of v f rank j) (said_data (accepted_at x v))
   delivery_is v o at =
       ap (λ (w : Option Opened). option_map (delivery_of v f rank j)
-      (option_and_then (λ c. c.delivered) (closed_by s f x.part v w (accepted_at x v) (before v)))) at
+      (option_and_then (λ c. c.delivered) (closed_slot_of s f x.part v w (accepted_at x v) (before v)))) at
       ∙ ap (option_map (delivery_of v f rank j)) (closed_data (setup_in s v) f x.part (is_some o.message) o.core (accepted_at x v))
 
   -- who accepts delivers
   accepts_delivers : (one : OneSpeaks) (v k : ℕ) (o : Opened) → x.window v ≡ Some o → Accepts x.flood v (node_of owner) k → Delivers v k
   accepts_delivers one v k o at accepts =
-      let m = some_said s rank f owner x before window_is refl everyone_is rise (said_in (x.window (node_of owner))) one.1 in
+      let m = some_said s rank f owner x before window_is refl everyone_is rise (message_said (x.window (node_of owner))) one.1 in
       let d = (says_data s rank f owner x before window_is refl everyone_is rise (node_of owner) m.0 m.1).1 in
-      let said : said_in (x.window (node_of owner)) ≡ Some (DataOf d.0) = m.1 ∙ ap (λ (n : Message). Some n) d.1 in
+      let said : message_said (x.window (node_of owner)) ≡ Some (DataOf d.0) = m.1 ∙ ap (λ (n : Message). Some n) d.1 in
       let heard : accepted_at x v ≡ Some (DataOf d.0) =
-      ap (option_and_then (λ (a : ℕ × ℕ). said_in (x.window a.0))) ((accepted_first x.flood v (node_of owner) k).1 accepts) ∙ said in
+      ap (option_and_then (λ (a : ℕ × ℕ). message_said (x.window a.0))) ((accepted_first x.flood v (node_of owner) k).1 accepts) ∙ said in
       record {
         packet = d.0;
         speaks = ap (λ (l : List ℕ). has l (node_of owner)) one.0 ∙ or_left (node_of owner == node_of owner) _ (eq-eqb (node_of owner) (node_of owner) refl);
@@ -134,18 +134,18 @@ module _ (s : ScenarioParts) (sound : IsSoundScenario s) (rank f : ℕ) (p : Pla
     pub delivers : Delivers v step
     pub same : d ≡ delivery_of v f rank j delivers.packet
 
-  pub delivered_so : (v : ℕ) (d : Delivery) → delivered_at s rank f p states j v ≡ Some d → IsDelivered v d
+  pub delivered_so : (v : ℕ) (d : Delivery) → delivery_in_slot s rank f p states j v ≡ Some d → IsDelivered v d
   delivered_so v d at = by_window (x.window v) refl
     where
       reached : IsReceived s rank f p states j owner
       reached = received s sound rank f p states j owner is
 
       other : v ≢ node_of owner
-      other same = no_delivery d (sym reached.itself ∙ ap (delivered_at s rank f p states j) (sym same) ∙ at)
+      other same = no_delivery d (sym reached.itself ∙ ap (delivery_in_slot s rank f p states j) (sym same) ∙ at)
 
       by_accepted : (o : Opened) → x.window v ≡ Some o → (a : Option (ℕ × ℕ)) → accepted x.flood v ≡ a → (x.flood.initiators ≡ []) ⊎ OneSpeaks → IsDelivered v d
       by_accepted o opens None none who =
-          let heard : accepted_at x v ≡ None = ap (option_and_then (λ (a : ℕ × ℕ). said_in (x.window a.0))) none in
+          let heard : accepted_at x v ≡ None = ap (option_and_then (λ (a : ℕ × ℕ). message_said (x.window a.0))) none in
           absurd (no_delivery d (
           sym (delivery_is v o opens ∙ ap (λ (h : Option Message). option_map (delivery_of v f rank j) (said_data h)) heard) ∙ at))
       by_accepted o opens (Some a) some (inl none) =

@@ -17,17 +17,17 @@ use Rattle.bus_rules.specs.declared.tune.Tune.TheVariants.{Scan, Hold, Host}
 use Rattle.bus_rules.specs.Cores.{Core, Setup, as_host, begins_host, frame_ended, is_fresh, is_member, opening_accepted, closing_accepted, schedule_accepted}
 use Rattle.bus_rules.specs.HostPlans.{host_plan}
 use Rattle.bus_rules.specs.Plans.{last_slot, opening}
-use Rattle.bus_rules.specs.Slots.{Message, ScheduleOf, DataOf, RequestOf, opened, closed, hosts_now, host_closes, silent, is_own, data_of}
+use Rattle.bus_rules.specs.Slots.{Message, ScheduleOf, DataOf, RequestOf, opened_slot, closed_slot, hosts_now, host_closes, silent, is_own, data_of}
 use Rattle.bus_rules.specs.Slots.{part_of, request_of}
 use Rattle.bus_rules.specs.States.{State, StateOff, StateOn, at_core, refuses, queues}
-use Rattle.bus_rules.specs.Streams.{Waiting, first_waiting, requested}
+use Rattle.bus_rules.specs.Streams.{WaitingPacket, first_waiting, requested}
 use Rattle.bus_rules.specs.Tuning.{rank_of, is_rank, next_tune}
 use Rattle.bus_rules.proofs.Ranks.{same_schedule, heard_rank}
 use Rattle.bus_terms.specs.Bus.{before_frame, state_at}
 use Rattle.bus_terms.specs.Flooding.{accepted}
-use Rattle.bus_terms.specs.Rounds.{accepted_at, after_round, after_slot, before_slot, closed_by, left_by, opened_at, rank_in, round, round_plan, rounds}
-use Rattle.bus_terms.specs.Rounds.{said_in, slot_of}
-use Rattle.bus_terms.specs.ScriptedStates.{after_act, after_line, lines_of, scripted, setup_in}
+use Rattle.bus_terms.specs.Rounds.{accepted_at, after_round, after_slot, before_slot, closed_slot_of, left_by, opened_at, rank_in, round_of_rank, round_plan}
+use Rattle.bus_terms.specs.Rounds.{rounds, message_said, slot_of_round}
+use Rattle.bus_terms.specs.ScriptedStates.{state_after_act, state_after_line, lines_of, states_after_script, setup_in}
 use Rattle.bus_terms.proofs.OtherRanks.{IsElsewhere, not_member, slot_elsewhere}
 
 -- a schedule by which no tune changes, or one of this rank
@@ -37,7 +37,7 @@ IsOfRank rank (DataOf d) = Unit {0}
 IsOfRank rank (RequestOf a) = Unit {0}
 
 -- a window opens and closes
-opened_rank : (q : Setup) (f : ℕ) (part : Part) (c : Core) → rank_of (opened q f part c).core.tune ≡ rank_of c.tune
+opened_rank : (q : Setup) (f : ℕ) (part : Part) (c : Core) → rank_of (opened_slot q f part c).core.tune ≡ rank_of c.tune
 opened_rank q f Opening c = refl
 opened_rank q f (DataSlot owner) c = refl
 opened_rank q f (Contention i) c = refl
@@ -47,7 +47,7 @@ opened_rank q f Closing c = by_test (hosts_now f c)
     by_test true = refl
     by_test false = refl
 
-said_rank : (q : Setup) (f : ℕ) (part : Part) (c : Core) (m : Message) → (opened q f part c).message ≡ Some m → IsOfRank (rank_of c.tune) m
+said_rank : (q : Setup) (f : ℕ) (part : Part) (c : Core) (m : Message) → (opened_slot q f part c).message ≡ Some m → IsOfRank (rank_of c.tune) m
 unfolding host_plan
 said_rank q f part c (DataOf d) said = tt
 said_rank q f part c (RequestOf a) said = tt
@@ -58,7 +58,7 @@ said_rank q f Opening c (ScheduleOf x) said = by_test (hosts_now f c) said
     by_test false is = absurd (cc)
 said_rank q f (DataSlot owner) c (ScheduleOf x) said = absurd (by_owner (node_of owner == q.id) (first_waiting c.streams (stream_of owner)) said)
   where
-    by_owner : (b : Bool) (w : Option Waiting) → (if b then option_map (data_of q.id c (stream_of owner)) w else None) ≡ Some (ScheduleOf x) → ⊥
+    by_owner : (b : Bool) (w : Option WaitingPacket) → (if b then option_map (data_of q.id c (stream_of owner)) w else None) ≡ Some (ScheduleOf x) → ⊥
     by_owner false w is = cc
     by_owner true None is = cc
     by_owner true (Some w) is = cc
@@ -85,7 +85,7 @@ taken_rank node rank f x c at of_ = by_test (x.gap == 0) refl
     by_test false is = elim of_ [ inl opens ↦ absurd (true≢false (sym opens ∙ is)) | inr same ↦ same ]
 
 closed_rank : (q : Setup) (rank f : ℕ) (part : Part) (b : Bool) (c : Core) (o : Option Message) → ((m : Message) → o ≡ Some m → IsOfRank rank m)
-    → rank_of c.tune ≡ rank → rank_of (closed q f part b c o).core.tune ≡ rank
+    → rank_of c.tune ≡ rank → rank_of (closed_slot q f part b c o).core.tune ≡ rank
 closed_rank q rank f part b c None told at = heard_rank f part b c ∙ at
 closed_rank q rank f part b c (Some (ScheduleOf x)) told at = taken_rank q.id rank f x c at (told (ScheduleOf x) refl)
 closed_rank q rank f part b c (Some (DataOf d)) told at = heard_rank f part true c ∙ at
@@ -101,32 +101,33 @@ member_of rank f c is =
 
 -- slot by slot
 module _ (s : ScenarioParts) (rank f : ℕ) where
-  window_says : (part : Part) (v : ℕ) (x : State) (m : Message) → said_in (opened_at s rank f part v x) ≡ Some m → IsOfRank rank m
+  window_says : (part : Part) (v : ℕ) (x : State) (m : Message) → message_said (opened_at s rank f part v x) ≡ Some m → IsOfRank rank m
   window_says part v (StateOff boots) m said = absurd (cc)
   window_says part v (StateOn c) m said = by_member (is_member rank f c) refl said
     where
-      by_member : (b : Bool) → is_member rank f c ≡ b → said_in (if b then Some (opened (setup_in s v) f part c) else None) ≡ Some m → IsOfRank rank m
+      by_member : (b : Bool) → is_member rank f c ≡ b → message_said (if b then Some (opened_slot (setup_in s v) f part c) else None) ≡ Some m → IsOfRank rank m
       by_member true is said = subst (λ (r : ℕ). IsOfRank r m) (member_of rank f c is) (said_rank (setup_in s v) f part c m said)
       by_member false is said = absurd (cc)
 
   closing_rank : (part : Part) (v : ℕ) (heard : Option Message) (x : State) → ((m : Message) → heard ≡ Some m → IsOfRank rank m) → rank_in x ≡ rank
-      → rank_in (left_by x (closed_by s f part v (opened_at s rank f part v x) heard x)) ≡ rank
+      → rank_in (left_by x (closed_slot_of s f part v (opened_at s rank f part v x) heard x)) ≡ rank
   closing_rank part v None (StateOff boots) told at = at
   closing_rank part v (Some m) (StateOff boots) told at = at
   closing_rank part v heard (StateOn c) told at = by_member (is_member rank f c) heard told
     where
       by_member : (b : Bool) (heard : Option Message) → ((m : Message) → heard ≡ Some m → IsOfRank rank m)
-          → rank_in (left_by (StateOn c) (closed_by s f part v (if b then Some (opened (setup_in s v) f part c) else None) heard (StateOn c))) ≡ rank
+          → rank_in (left_by (StateOn c) (closed_slot_of s f part v (if b then Some (opened_slot (setup_in s v) f part c) else None) heard (StateOn c))) ≡ rank
       by_member true heard told =
-          let o = opened (setup_in s v) f part c in
+          let o = opened_slot (setup_in s v) f part c in
           closed_rank (setup_in s v) rank f part (is_some o.message) o.core heard told (opened_rank (setup_in s v) f part c ∙ at)
       by_member false None told = at
       by_member false (Some m) told = closed_rank (setup_in s v) rank f part false c (Some m) told at
 
-  heard_said : (p : Plan) (j v : ℕ) (g : ℕ → State) (m : Message) → accepted_at (slot_of s rank f p j g) v ≡ Some m → IsOfRank rank m
-  heard_said p j v g m is = by_first (accepted (slot_of s rank f p j g).flood v) is
+  heard_said : (p : Plan) (j v : ℕ) (g : ℕ → State) (m : Message) → accepted_at (slot_of_round s rank f p j g) v ≡ Some m → IsOfRank rank m
+  heard_said p j v g m is = by_first (accepted (slot_of_round s rank f p j g).flood v) is
     where
-      by_first : (o : Option (ℕ × ℕ)) → option_and_then (λ (a : ℕ × ℕ). said_in (opened_at s rank f (part_of p j) a.0 (g a.0))) o ≡ Some m → IsOfRank rank m
+      by_first : (o : Option (ℕ × ℕ)) → option_and_then (λ (a : ℕ × ℕ). message_said (opened_at s rank f (part_of p j) a.0 (g a.0))) o ≡ Some m
+          → IsOfRank rank m
       by_first None is = absurd (cc)
       by_first (Some a) is = window_says (part_of p j) a.0 (g a.0) m is
 
@@ -139,7 +140,7 @@ module _ (s : ScenarioParts) (rank f : ℕ) where
       elim (cases_Bool (rank_in (g v) == rank)) [
         | inl same ↦
             (let at = eqb-true (rank_in (g v)) rank same in
-            closing_rank (part_of p j) v (accepted_at (slot_of s rank f p j g) v) (g v) (heard_said p j v g) at ∙ sym at)
+            closing_rank (part_of p j) v (accepted_at (slot_of_round s rank f p j g) v) (g v) (heard_said p j v g) at ∙ sym at)
         | inr other ↦ ap rank_in (slot_elsewhere s rank f p j v g (elsewhere (g v) other))
       ]
 
@@ -148,7 +149,7 @@ module _ (s : ScenarioParts) (rank f : ℕ) where
   slots_rank p states zero v = refl
   slots_rank p states (suc j) v = slot_rank p j v (before_slot s rank f p states j) ∙ slots_rank p states j v
 
-  pub round_rank : (states : ℕ → State) (v : ℕ) → rank_in (round s rank f states v) ≡ rank_in (states v)
+  pub round_rank : (states : ℕ → State) (v : ℕ) → rank_in (round_of_rank s rank f states v) ≡ rank_in (states v)
   round_rank states v = by_plan (round_plan s rank f states)
     where
       by_plan : (o : Option Plan) → rank_in (after_round s rank f states o v) ≡ rank_in (states v)
@@ -156,7 +157,7 @@ module _ (s : ScenarioParts) (rank f : ℕ) where
       by_plan (Some p) = slots_rank p states (last_slot p + 1) v
 
 -- the script
-acts : (r : ℕ) → 1 ≤ r → (a : Act) (x : State) → rank_in x < r → rank_in (after_act a x) < r
+acts : (r : ℕ) → 1 ≤ r → (a : Act) (x : State) → rank_in x < r → rank_in (state_after_act a x) < r
 acts r some On (StateOff boots) below = omega (arith, some)
 acts r some On (StateOn c) below = below
 acts r some Off (StateOff boots) below = below
@@ -172,9 +173,9 @@ acts r some (Put i payload) (StateOn c) below = by_test (refuses i c)
     by_test true = below
     by_test false = below
 
-lines : (r : ℕ) → 1 ≤ r → (ls : List ScriptLine) (x : State) → rank_in x < r → rank_in (fold after_line x ls) < r
+lines : (r : ℕ) → 1 ≤ r → (ls : List ScriptLine) (x : State) → rank_in x < r → rank_in (fold state_after_line x ls) < r
 lines r some [] x below = below
-lines r some (l ∷ ls) x below = lines r some ls (after_line x l) (acts r some l.act x below)
+lines r some (l ∷ ls) x below = lines r some ls (state_after_line x l) (acts r some l.act x below)
 
 -- the end of a frame
 as_host_rank : (p : Numbers) (o : Option ℕ) (c : Core) → rank_of (as_host p o c).tune ≡ rank_of c.tune
@@ -205,14 +206,14 @@ ends q f some (StateOn c) below =
     (next_rank c.tune f (is_fresh c) q.own q.ranks some below)
 
 module _ (s : ScenarioParts) (sound : IsSoundScenario s) where
-  told_rank : (f v : ℕ) (g : ℕ → State) → rank_in (g v) < length s.hosts → rank_in (scripted s f g v) < length s.hosts
+  told_rank : (f v : ℕ) (g : ℕ → State) → rank_in (g v) < length s.hosts → rank_in (states_after_script s f g v) < length s.hosts
   told_rank f v g below = lines (length s.hosts) sound.some_hosts (lines_of s f v) (g v) below
 
   frame_rank : (f v : ℕ) → rank_in (before_frame s f v) < length s.hosts
   unfolding before_frame
   frame_rank zero v = sound.some_hosts
   frame_rank (suc f) v =
-      let g = scripted s f (before_frame s f) in
+      let g = states_after_script s f (before_frame s f) in
       ends (setup_in s v) f sound.some_hosts (rounds s f g v)
       (subst (λ (r : ℕ). r < length s.hosts) (sym (round_rank s (rank_in (g v)) f g v)) (told_rank f v (before_frame s f) (frame_rank f v)))
 

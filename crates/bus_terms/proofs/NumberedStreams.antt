@@ -7,28 +7,29 @@ use Rattle.std.proofs.lemmas.Bool.{cond_both}
 use Rattle.lwb_base.specs.Messages.{Ask, Schedule, node_of, stream_of}
 use Rattle.lwb_base.specs.Profile.{Numbers}
 use Rattle.bus_rules.specs.Tables.{Table}
-use Rattle.bus_rules.specs.HostPlans.{Served, serve, answered, host_plan}
-use Rattle.bus_rules.specs.Streams.{Waiting, Stream, Streams, no_stream, stream_at, with_stream, queued, refuses, put_to, put, declared, left, taken}
-use Rattle.bus_rules.specs.Streams.{without_first, unbound, heard_host, is_host, names, acknowledged, owns, forgets, forgotten, agrees, with_agreed}
-use Rattle.bus_rules.specs.Streams.{after_contention, tries_after, due, schedule_heard, first_waiting, cleared, granted, named_in, wishes, emptied}
+use Rattle.bus_rules.specs.HostPlans.{Served, serve, answers_to, host_plan}
+use Rattle.bus_rules.specs.Streams.{WaitingPacket, Stream, Streams, no_stream, stream_at, with_stream, queued, refuses, put_to, put, declared}
+use Rattle.bus_rules.specs.Streams.{streams_after_leaving, taken, without_first, unbound, heard_host, is_host, names, acknowledged, owns, forgets, forgotten}
+use Rattle.bus_rules.specs.Streams.{with_granted_interval, with_agreed, after_contention, tries_after, due_stream, schedule_heard, first_waiting, cleared}
+use Rattle.bus_rules.specs.Streams.{granted_stream, named_in, wishes, emptied}
 
 -- from a number on, ascending, and below the next
-abbrev pub Rises : ℕ → List Waiting → ℕ → Type 0
+abbrev pub Rises : ℕ → List WaitingPacket → ℕ → Type 0
 Rises low [] next = low ≤ next
 Rises low (w ∷ ws) next = (low ≤ w.seq) × Rises (w.seq + 1) ws next
 
 abbrev pub IsNumbered : ℕ → Stream → Type 0
 IsNumbered low x = Rises low x.queue x.next
 
-pub from_lower : (low high : ℕ) (ws : List Waiting) (next : ℕ) → low ≤ high → Rises high ws next → Rises low ws next
+pub from_lower : (low high : ℕ) (ws : List WaitingPacket) (next : ℕ) → low ≤ high → Rises high ws next → Rises low ws next
 from_lower low high [] next le is = omega arith
 from_lower low high (w ∷ ws) next le is = (omega arith, is.1)
 
-up_to_next : (low : ℕ) (ws : List Waiting) (next : ℕ) → Rises low ws next → low ≤ next
+up_to_next : (low : ℕ) (ws : List WaitingPacket) (next : ℕ) → Rises low ws next → low ≤ next
 up_to_next low [] next is = is
 up_to_next low (w ∷ ws) next is = (let rest = up_to_next (w.seq + 1) ws next is.1 in omega arith)
 
-one_more : (low : ℕ) (ws : List Waiting) (next : ℕ) (payload : List ℕ) → Rises low ws next
+one_more : (low : ℕ) (ws : List WaitingPacket) (next : ℕ) (payload : List ℕ) → Rises low ws next
     → Rises low (ws ++ record { seq = next; payload = payload } ∷ []) (next + 1)
 one_more low [] next payload is = (is, omega arith)
 one_more low (w ∷ ws) next payload is = (is.0, one_more (w.seq + 1) ws next payload is.1)
@@ -72,7 +73,7 @@ map_keeps g keeps (x ∷ xs) (suc i) low is = map_keeps g keeps xs i low is
 pub declared_keeps : (i interval : ℕ) (s : Streams) → KeepsAll s (declared i interval s)
 declared_keeps i interval s = with_stream_keeps s i (wishes interval (stream_at s i)) (λ low is. is)
 
-pub left_keeps : (i : ℕ) (s : Streams) → KeepsAll s (left i s)
+pub left_keeps : (i : ℕ) (s : Streams) → KeepsAll s (streams_after_leaving i s)
 left_keeps i s = with_stream_keeps s i (emptied (stream_at s i)) (λ low is. up_to_next low (stream_at s i).queue (stream_at s i).next is)
 
 pub put_keeps : (i : ℕ) (payload : List ℕ) (s : Streams) → KeepsAll s (put i payload s)
@@ -84,7 +85,7 @@ put_keeps i payload s = with_stream_keeps s i (put_to payload (stream_at s i)) (
 pub first_keeps : (x : Stream) → KeepsNumbers x (without_first x)
 first_keeps x low is = by_queue x.queue x.next is
   where
-    by_queue : (ws : List Waiting) (next : ℕ) → Rises low ws next → IsNumbered low (without_first (record x { queue = ws; next = next }))
+    by_queue : (ws : List WaitingPacket) (next : ℕ) → Rises low ws next → IsNumbered low (without_first (record x { queue = ws; next = next }))
     by_queue [] next is = is
     by_queue (w ∷ ws) next is = from_lower low (w.seq + 1) ws next (omega arith) is.1
 
@@ -92,16 +93,16 @@ pub taken_keeps : (i : ℕ) (s : Streams) → KeepsAll s (taken i s)
 taken_keeps i s = with_stream_keeps s i (without_first (stream_at s i)) (first_keeps (stream_at s i))
 
 pub unbound_keeps : (s : Streams) → KeepsAll s (unbound s)
-unbound_keeps s i = map_keeps (agrees 0) (λ x low is. is) s.all i
+unbound_keeps s i = map_keeps (with_granted_interval 0) (λ x low is. is) s.all i
 
 pub contention_keeps : (node : ℕ) (s : Streams) → KeepsAll s (after_contention node s)
 contention_keeps node s =
-    either_keeps (is_none (due s)) s s _ (same_keeps s)
+    either_keeps (is_none (due_stream s)) s s _ (same_keeps s)
     (either_keeps (s.skips == 0) s
     (record s { tries = tries_after s; skips = node % 2 ^ tries_after s }) (record s { skips = s.skips - 1 }) (λ i low is. is) (λ i low is. is))
 
 pub agreed_keeps : (i interval : ℕ) (s : Streams) → KeepsAll s (with_agreed i interval s)
-agreed_keeps i interval s = with_stream_keeps s i (agrees interval (stream_at s i)) (λ low is. is)
+agreed_keeps i interval s = with_stream_keeps s i (with_granted_interval interval (stream_at s i)) (λ low is. is)
 
 -- steps one after another
 fold_keeps : {A : Type 0} (g : Streams → A → Streams) → ((s : Streams) (a : A) → KeepsAll s (g s a)) → (xs : List A) (s : Streams) → KeepsAll s (fold g s xs)
@@ -114,7 +115,7 @@ host_keeps rank boot s =
 
 acknowledged_keeps : (node boot frame : ℕ) (s : Streams) (a : Ask) → KeepsAll s (acknowledged node boot frame s a)
 acknowledged_keeps node boot frame s a =
-    let x = granted a.interval frame (stream_at s a.stream) in
+    let x = granted_stream a.interval frame (stream_at s a.stream) in
     either_keeps (names node boot a) s (record (with_stream a.stream x s) { tries = 0; skips = 0 }) s
     (λ i low is. with_stream_keeps s a.stream x (λ low is. is) i low is) (same_keeps s)
 
@@ -150,21 +151,21 @@ pub plan_keeps : (p : Numbers) (node boot rank frame : ℕ) (kept : List Ask) (t
     → KeepsAll s (host_plan p node boot rank frame kept t s).streams
 unfolding host_plan
 plan_keeps p node boot rank frame kept t s =
-    served_keeps frame node boot (0 ∷ 1 ∷ 2 ∷ 3 ∷ []) (record { table = (answered frame kept t).table; streams = s })
+    served_keeps frame node boot (0 ∷ 1 ∷ 2 ∷ 3 ∷ []) (record { table = (answers_to frame kept t).table; streams = s })
 
 -- the first that waits is taken: it is from the bound on, and those that are left are above it
-take_first : (xs : List Stream) (i low : ℕ) (w : Waiting) → slice_get (slice_index_or xs i no_stream).queue 0 ≡ Some w
+take_first : (xs : List Stream) (i low : ℕ) (w : WaitingPacket) → slice_get (slice_index_or xs i no_stream).queue 0 ≡ Some w
     → IsNumbered low (slice_index_or xs i no_stream)
     → (low ≤ w.seq) × IsNumbered (w.seq + 1) (slice_index_or (slice_set xs i (without_first (slice_index_or xs i no_stream))) i no_stream)
 take_first [] i low w first is = absurd (cc)
 take_first (x ∷ xs) zero low w first is = by_queue x.queue x.next first is
   where
-    by_queue : (ws : List Waiting) (next : ℕ) → slice_get ws 0 ≡ Some w → Rises low ws next → (low ≤ w.seq) × Rises (w.seq + 1) (drop 1 ws) next
+    by_queue : (ws : List WaitingPacket) (next : ℕ) → slice_get ws 0 ≡ Some w → Rises low ws next → (low ≤ w.seq) × Rises (w.seq + 1) (drop 1 ws) next
     by_queue [] next first is = absurd (cc)
-    by_queue (v ∷ vs) next first is = (let same : v ≡ w = cc in subst (λ (x : Waiting). (low ≤ x.seq) × Rises (x.seq + 1) vs next) same is)
+    by_queue (v ∷ vs) next first is = (let same : v ≡ w = cc in subst (λ (x : WaitingPacket). (low ≤ x.seq) × Rises (x.seq + 1) vs next) same is)
 take_first (x ∷ xs) (suc i) low w first is = take_first xs i low w first is
 
-pub taken_first : (s : Streams) (i low : ℕ) (w : Waiting) → first_waiting s i ≡ Some w → IsNumbered low (stream_at s i)
+pub taken_first : (s : Streams) (i low : ℕ) (w : WaitingPacket) → first_waiting s i ≡ Some w → IsNumbered low (stream_at s i)
     → (low ≤ w.seq) × IsNumbered (w.seq + 1) (stream_at (taken i s) i)
 taken_first s i low w first is = take_first s.all i low w first is
 

@@ -9,10 +9,10 @@ use Rattle.bus_rules.specs.declared.part.Part.{Part}
 use Rattle.bus_rules.specs.declared.part.Part.TheVariants.{Opening, Data as DataSlot, Contention, Closing}
 use Rattle.bus_rules.specs.declared.tune.Tune.{Tune}
 use Rattle.bus_rules.specs.Cores.{Core, Setup, as_host, begins_host, frame_ended, schedule_accepted, opening_accepted, closing_accepted}
-use Rattle.bus_rules.specs.Slots.{Message, ScheduleOf, DataOf, RequestOf, opened, closed, slot_heard, hosts_now, host_closes, silent, is_own}
-use Rattle.bus_rules.specs.States.{State, StateOff, StateOn, at_core, refuses, queues, puts, switched_on, switched_off}
+use Rattle.bus_rules.specs.Slots.{Message, ScheduleOf, DataOf, RequestOf, opened_slot, closed_slot, slot_heard, hosts_now, host_closes, silent, is_own}
+use Rattle.bus_rules.specs.States.{State, StateOff, StateOn, at_core, refuses, queues, puts, state_after_on, state_after_off}
 use Rattle.bus_rules.specs.Streams.{stream_at, taken, after_contention}
-use Rattle.bus_terms.specs.ScriptedStates.{after_act, after_line, scripted, lines_of, ended, setup_in}
+use Rattle.bus_terms.specs.ScriptedStates.{state_after_act, state_after_line, states_after_script, lines_of, states_after_end, setup_in}
 use Rattle.bus_terms.proofs.NumberedStreams.{IsNumbered, KeepsAll, declared_keeps, left_keeps, put_keeps, taken_keeps}
 use Rattle.bus_terms.proofs.NumberedStreams.{unbound_keeps, contention_keeps, heard_keeps, plan_keeps, cleared_is_numbered}
 
@@ -58,11 +58,11 @@ at_core_keeps change keeps (StateOff boots) = keeps_same (StateOff boots)
 at_core_keeps change keeps (StateOn c) = on_keeps c (change c) (keeps c)
 
 -- script lines
-on_line : (x : State) → Keeps x (switched_on x)
+on_line : (x : State) → Keeps x (state_after_on x)
 on_line (StateOff boots) = record { past = λ b i low is. (omega arith, λ at. absurd (omega arith)); well = λ is i. cleared_is_numbered i }
 on_line (StateOn c) = keeps_same (StateOn c)
 
-off_line : (x : State) → Keeps x (switched_off x)
+off_line : (x : State) → Keeps x (state_after_off x)
 off_line (StateOff boots) = keeps_same (StateOff boots)
 off_line (StateOn c) = record { past = λ b i low is. is.0; well = λ is. tt }
 
@@ -73,18 +73,19 @@ puts_keep i payload c = by_test (refuses i c)
     by_test true = core_same c
     by_test false = record { boot = refl; numbers = put_keeps i payload c.streams }
 
-act_keeps : (a : Act) (x : State) → Keeps x (after_act a x)
+act_keeps : (a : Act) (x : State) → Keeps x (state_after_act a x)
 act_keeps On x = on_line x
 act_keeps Off x = off_line x
 act_keeps (Declare i interval) x = at_core_keeps _ (λ c. record { boot = refl; numbers = declared_keeps i interval c.streams }) x
 act_keeps (Leave i) x = at_core_keeps _ (λ c. record { boot = refl; numbers = left_keeps i c.streams }) x
 act_keeps (Put i payload) x = at_core_keeps _ (puts_keep i payload) x
 
-lines_keep : (ls : List ScriptLine) (x : State) → Keeps x (fold after_line x ls)
+lines_keep : (ls : List ScriptLine) (x : State) → Keeps x (fold state_after_line x ls)
 lines_keep [] x = keeps_same x
-lines_keep (l ∷ ls) x = keeps_both x (after_line x l) (fold after_line (after_line x l) ls) (act_keeps l.act x) (lines_keep ls (after_line x l))
+lines_keep (l ∷ ls) x =
+    keeps_both x (state_after_line x l) (fold state_after_line (state_after_line x l) ls) (act_keeps l.act x) (lines_keep ls (state_after_line x l))
 
-pub script_keeps : (s : ScenarioParts) (f v : ℕ) (states : ℕ → State) → Keeps (states v) (scripted s f states v)
+pub script_keeps : (s : ScenarioParts) (f v : ℕ) (states : ℕ → State) → Keeps (states v) (states_after_script s f states v)
 script_keeps s f v states = lines_keep (lines_of s f v) (states v)
 
 -- the end of a frame
@@ -95,11 +96,11 @@ ended_core s f c = by_host _ (begins_host c.tune _)
     by_host t None = record { boot = refl; numbers = λ i low is. is }
     by_host t (Some rank) = record { boot = refl; numbers = unbound_keeps c.streams }
 
-pub ended_keeps : (s : ScenarioParts) (f v : ℕ) (states : ℕ → State) → Keeps (states v) (ended s f states v)
+pub ended_keeps : (s : ScenarioParts) (f v : ℕ) (states : ℕ → State) → Keeps (states v) (states_after_end s f states v)
 ended_keeps s f v states = at_core_keeps _ (ended_core (setup_in s v) f) (states v)
 
 -- a window opens
-pub opened_core : (s : Setup) (f : ℕ) (part : Part) (c : Core) → KeepsCore c (opened s f part c).core
+pub opened_core : (s : Setup) (f : ℕ) (part : Part) (c : Core) → KeepsCore c (opened_slot s f part c).core
 opened_core s f Opening c = core_same c
 opened_core s f (DataSlot owner) c = by_test (node_of owner == s.id)
   where
@@ -131,7 +132,7 @@ accepted_core node f x c = by_test (x.gap == 0)
     by_test true = record { boot = refl; numbers = heard_keeps node c.boot f x c.streams }
     by_test false = record { boot = refl; numbers = heard_keeps node c.boot f x c.streams }
 
-pub closed_core : (s : Setup) (f : ℕ) (part : Part) (initiated : Bool) (c : Core) (m : Option Message) → KeepsCore c (closed s f part initiated c m).core
+pub closed_core : (s : Setup) (f : ℕ) (part : Part) (initiated : Bool) (c : Core) (m : Option Message) → KeepsCore c (closed_slot s f part initiated c m).core
 closed_core s f part initiated c None = heard_core f part initiated c
 closed_core s f part initiated c (Some (ScheduleOf x)) = accepted_core s.id f x c
 closed_core s f part initiated c (Some (DataOf d)) = heard_core f part true c

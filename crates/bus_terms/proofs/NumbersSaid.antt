@@ -9,31 +9,31 @@ use Rattle.bus_rules.specs.declared.part.Part.{Part}
 use Rattle.bus_rules.specs.declared.part.Part.TheVariants.{Opening, Data as DataSlot, Contention, Closing}
 use Rattle.bus_rules.specs.Cores.{Core, Setup, is_member}
 use Rattle.bus_rules.specs.Plans.{opening}
-use Rattle.bus_rules.specs.Slots.{Data, Message, ScheduleOf, DataOf, Opened, opened, data_of, part_of, hosts_now, host_closes, silent, is_own, request_of}
+use Rattle.bus_rules.specs.Slots.{Data, Message, ScheduleOf, DataOf, Opened, opened_slot, data_of, part_of, hosts_now, host_closes, silent, is_own, request_of}
 use Rattle.bus_rules.specs.States.{State, StateOff, StateOn}
-use Rattle.bus_rules.specs.Streams.{Streams, Waiting, stream_at, taken, first_waiting, requested}
+use Rattle.bus_rules.specs.Streams.{Streams, WaitingPacket, stream_at, taken, first_waiting, requested}
 use Rattle.bus_terms.specs.ScriptedStates.{setup_in}
-use Rattle.bus_terms.specs.Rounds.{slot_of, opened_at, said_in, accepted_at, closed_by, left_by, after_slot, before_slot}
+use Rattle.bus_terms.specs.Rounds.{slot_of_round, opened_at, message_said, accepted_at, closed_slot_of, left_by, after_slot, before_slot}
 use Rattle.bus_terms.proofs.NumberedStreams.{IsNumbered, taken_first}
 use Rattle.bus_terms.proofs.NumbersKept.{IsPast, IsWell, Keeps, keeps_same, keeps_both, core_both, on_keeps, opened_core, closed_core}
 
 -- a slot keeps the numbers of each node
 closing_keeps : (s : ScenarioParts) (rank f : ℕ) (part : Part) (v : ℕ) (heard : Option Message) (x : State)
-    → Keeps x (left_by x (closed_by s f part v (opened_at s rank f part v x) heard x))
+    → Keeps x (left_by x (closed_slot_of s f part v (opened_at s rank f part v x) heard x))
 closing_keeps s rank f part v None (StateOff boots) = keeps_same (StateOff boots)
 closing_keeps s rank f part v (Some m) (StateOff boots) = keeps_same (StateOff boots)
 closing_keeps s rank f part v heard (StateOn c) = by_member (is_member rank f c) heard
   where
     by_member : (b : Bool) (heard : Option Message)
-        → Keeps (StateOn c) (left_by (StateOn c) (closed_by s f part v (if b then Some (opened (setup_in s v) f part c) else None) heard (StateOn c)))
+        → Keeps (StateOn c) (left_by (StateOn c) (closed_slot_of s f part v (if b then Some (opened_slot (setup_in s v) f part c) else None) heard (StateOn c)))
     by_member true heard =
-        let o = opened (setup_in s v) f part c in
+        let o = opened_slot (setup_in s v) f part c in
         on_keeps c _ (core_both c o.core _ (opened_core (setup_in s v) f part c) (closed_core (setup_in s v) f part (is_some o.message) o.core heard))
     by_member false None = keeps_same (StateOn c)
     by_member false (Some m) = on_keeps c _ (closed_core (setup_in s v) f part false c (Some m))
 
 slot_keeps : (s : ScenarioParts) (rank f : ℕ) (p : Plan) (j v : ℕ) (states : ℕ → State) → Keeps (states v) (after_slot s rank f p j states v)
-slot_keeps s rank f p j v states = closing_keeps s rank f (part_of p j) v (accepted_at (slot_of s rank f p j states) v) (states v)
+slot_keeps s rank f p j v states = closing_keeps s rank f (part_of p j) v (accepted_at (slot_of_round s rank f p j states) v) (states v)
 
 in_order : (j k : ℕ) → (j ≤ k) ⊎ (k < j)
 in_order j k = elim (cases_lt k j) [ inl less ↦ inr less | inr more ↦ inl (omega arith) ]
@@ -59,7 +59,7 @@ slots_keep s rank f p v states j (suc k) le = by_order (in_order j k) (slots_kee
 
 -- d is said by a window that opens at this core: it is the first that waits in its stream, which it leaves
 pub record IsSaidBy (node : ℕ) (c : Core) (o : Opened) (d : Data) : Type 0 where
-  pub waiting : Waiting
+  pub waiting : WaitingPacket
   pub first : first_waiting c.streams d.stream ≡ Some waiting
   pub number : d.seq ≡ waiting.seq
   pub of_node : d.node ≡ node
@@ -67,8 +67,8 @@ pub record IsSaidBy (node : ℕ) (c : Core) (o : Opened) (d : Data) : Type 0 whe
   pub boot : o.core.boot ≡ c.boot
   pub streams : o.core.streams ≡ taken d.stream c.streams
 
-pub said_by : (s : Setup) (f : ℕ) (part : Part) (c : Core) (d : Data) → (opened s f part c).message ≡ Some (DataOf d)
-    → IsSaidBy s.id c (opened s f part c) d × ((owner : ℕ) × (part ≡ DataSlot owner))
+pub said_by : (s : Setup) (f : ℕ) (part : Part) (c : Core) (d : Data) → (opened_slot s f part c).message ≡ Some (DataOf d)
+    → IsSaidBy s.id c (opened_slot s f part c) d × ((owner : ℕ) × (part ≡ DataSlot owner))
 said_by s f Opening c d is = absurd (by_test (hosts_now f c) is)
   where
     by_test : (b : Bool) → (if b then Some (ScheduleOf (opening c.plan)) else None) ≡ Some (DataOf d) → ⊥
@@ -76,13 +76,13 @@ said_by s f Opening c d is = absurd (by_test (hosts_now f c) is)
     by_test false is = cc
 said_by s f (DataSlot owner) c d is = (by_test (node_of owner == s.id) (first_waiting c.streams (stream_of owner)) refl refl is, (owner, refl))
   where
-    by_test : (b : Bool) (w : Option Waiting) → (node_of owner == s.id) ≡ b → first_waiting c.streams (stream_of owner) ≡ w
-        → (if b then option_map (data_of s.id c (stream_of owner)) w else None) ≡ Some (DataOf d) → IsSaidBy s.id c (opened s f (DataSlot owner) c) d
+    by_test : (b : Bool) (w : Option WaitingPacket) → (node_of owner == s.id) ≡ b → first_waiting c.streams (stream_of owner) ≡ w
+        → (if b then option_map (data_of s.id c (stream_of owner)) w else None) ≡ Some (DataOf d) → IsSaidBy s.id c (opened_slot s f (DataSlot owner) c) d
     by_test false w at first is = absurd (cc)
     by_test true None at first is = absurd (cc)
     by_test true (Some w) at first is =
         let same : record { node = s.id; boot = c.boot; stream = stream_of owner; seq = w.seq; payload = w.payload } ≡ d = data_same _ d is in
-        subst (λ (e : Data). IsSaidBy s.id c (opened s f (DataSlot owner) c) e) same
+        subst (λ (e : Data). IsSaidBy s.id c (opened_slot s f (DataSlot owner) c) e) same
         (record {
           waiting = w;
           first = first;
@@ -112,15 +112,15 @@ pub record Says (s : ScenarioParts) (rank f : ℕ) (part : Part) (v : ℕ) (x : 
   pub core : Core
   pub on : x ≡ StateOn core
   pub member : is_member rank f core ≡ true
-  pub said : IsSaidBy v core (opened (setup_in s v) f part core) d
+  pub said : IsSaidBy v core (opened_slot (setup_in s v) f part core) d
   pub slot : (owner : ℕ) × (part ≡ DataSlot owner)
 
-pub says : (s : ScenarioParts) (rank f : ℕ) (part : Part) (v : ℕ) (x : State) (d : Data) → said_in (opened_at s rank f part v x) ≡ Some (DataOf d)
+pub says : (s : ScenarioParts) (rank f : ℕ) (part : Part) (v : ℕ) (x : State) (d : Data) → message_said (opened_at s rank f part v x) ≡ Some (DataOf d)
     → Says s rank f part v x d
 says s rank f part v (StateOff boots) d is = absurd (cc)
 says s rank f part v (StateOn c) d is = by_test (is_member rank f c) refl is
   where
-    by_test : (b : Bool) → is_member rank f c ≡ b → said_in (if b then Some (opened (setup_in s v) f part c) else None) ≡ Some (DataOf d)
+    by_test : (b : Bool) → is_member rank f c ≡ b → message_said (if b then Some (opened_slot (setup_in s v) f part c) else None) ≡ Some (DataOf d)
         → Says s rank f part v (StateOn c) d
     by_test false at is = absurd (cc)
     by_test true at is =
@@ -141,20 +141,20 @@ pub above_then : (s : ScenarioParts) (rank f : ℕ) (p : Plan) (j v : ℕ) (stat
     → IsWell (states v)
     → IsPast d.boot d.stream (d.seq + 1) (after_slot s rank f p j states v)
 above_then s rank f p j v states d is well =
-    subst (λ (x : State). IsPast d.boot d.stream (d.seq + 1) (left_by x (closed_by s f part v (opened_at s rank f part v x) heard x))) (sym is.on)
+    subst (λ (x : State). IsPast d.boot d.stream (d.seq + 1) (left_by x (closed_slot_of s f part v (opened_at s rank f part v x) heard x))) (sym is.on)
     (by_member (is_member rank f c) is.member)
   where
     part : Part
     part = part_of p j
 
     heard : Option Message
-    heard = accepted_at (slot_of s rank f p j states) v
+    heard = accepted_at (slot_of_round s rank f p j states) v
 
     c : Core
     c = is.core
 
     o : Opened
-    o = opened (setup_in s v) f part c
+    o = opened_slot (setup_in s v) f part c
 
     numbered : IsNumbered 0 (stream_at c.streams d.stream)
     numbered = subst IsWell is.on well d.stream
@@ -167,7 +167,7 @@ above_then s rank f p j v states d is well =
 
     by_member : (b : Bool) → b ≡ true
         → IsPast d.boot d.stream (d.seq + 1) (left_by (StateOn c)
-        (closed_by s f part v (if b then Some (opened (setup_in s v) f part c) else None) heard (StateOn c)))
+        (closed_slot_of s f part v (if b then Some (opened_slot (setup_in s v) f part c) else None) heard (StateOn c)))
     by_member false at = absurd (false≢true at)
     by_member true at =
         let boot = is.said.boot in

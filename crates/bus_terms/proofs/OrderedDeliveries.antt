@@ -20,9 +20,9 @@ use Rattle.bus_rules.specs.Slots.{Data, Message, ScheduleOf, DataOf, RequestOf, 
 use Rattle.bus_rules.specs.States.{State, StateOff, StateOn}
 use Rattle.bus_terms.specs.FloodOfText.{ids}
 use Rattle.bus_terms.specs.Flooding.{accepted}
-use Rattle.bus_terms.specs.ScriptedStates.{scripted}
-use Rattle.bus_terms.specs.Rounds.{Slot, slot_of, said_in, accepted_at, closed_by, before_slot, after_round, round, rounds}
-use Rattle.bus_terms.specs.Rounds.{rank_in, round_plan, slots_of, delivered_at, slot_deliveries, round_deliveries}
+use Rattle.bus_terms.specs.ScriptedStates.{states_after_script}
+use Rattle.bus_terms.specs.Rounds.{Slot, slot_of_round, message_said, accepted_at, closed_slot_of, before_slot, after_round, round_of_rank, rounds}
+use Rattle.bus_terms.specs.Rounds.{rank_in, round_plan, slots_of, delivery_in_slot, slot_deliveries, round_deliveries}
 use Rattle.bus_terms.specs.Bus.{before_frame, state_at, frames_of, ranks_of, bus_deliveries, InOrder, Ordered}
 use Rattle.bus_terms.proofs.ListsInTurn.{in_turn_pairs, pairs_in_turn, pieces_in_turn}
 use Rattle.bus_terms.proofs.ListsInTurn.{each_of_pieces, given_in_turn, each_given, range_in_turn}
@@ -48,7 +48,7 @@ record IsFrom (s : ScenarioParts) (rank f : ℕ) (a : Delivery) : Type 0 where
 
 -- what a window delivers it has accepted
 accepted_data : (s : ScenarioParts) (f : ℕ) (part : Part) (v : ℕ) (w : Option Opened) (heard : Option Message) (x : State) (d : Data)
-    → option_and_then (λ c. c.delivered) (closed_by s f part v w heard x) ≡ Some d → heard ≡ Some (DataOf d)
+    → option_and_then (λ c. c.delivered) (closed_slot_of s f part v w heard x) ≡ Some d → heard ≡ Some (DataOf d)
 accepted_data s f part v (Some o) None x d is = absurd (cc)
 accepted_data s f part v (Some o) (Some (ScheduleOf y)) x d is = absurd (cc)
 accepted_data s f part v (Some o) (Some (DataOf e)) x d is = (let same : e ≡ d = cc in ap (λ (y : Data). Some (DataOf y)) same)
@@ -60,8 +60,8 @@ accepted_data s f part v None (Some (DataOf e)) (StateOn c) d is = (let same : e
 accepted_data s f part v None (Some (RequestOf a)) (StateOn c) d is = absurd (cc)
 
 -- what is accepted somebody said
-said_somewhere : (x : Slot) (a : Option (ℕ × ℕ)) (m : Message) → option_and_then (λ b. said_in (x.window b.0)) a ≡ Some m
-    → (o : ℕ) × (said_in (x.window o) ≡ Some m)
+said_somewhere : (x : Slot) (a : Option (ℕ × ℕ)) (m : Message) → option_and_then (λ b. message_said (x.window b.0)) a ≡ Some m
+    → (o : ℕ) × (message_said (x.window o) ≡ Some m)
 said_somewhere x None m is = absurd (cc)
 said_somewhere x (Some a) m is = (a.0, is)
 
@@ -69,11 +69,11 @@ pub mapped : (g : Data → Delivery) (d : Option Data) (a : Delivery) → option
 mapped g None a is = absurd (cc)
 mapped g (Some e) a is = (e, refl, cc)
 
-delivered_from : (s : ScenarioParts) (rank f : ℕ) (p : Plan) (j v : ℕ) (a : Delivery) → delivered_at s rank f p (state_at s f) j v ≡ Some a
+delivered_from : (s : ScenarioParts) (rank f : ℕ) (p : Plan) (j v : ℕ) (a : Delivery) → delivery_in_slot s rank f p (state_at s f) j v ≡ Some a
     → (a.node ≡ v) × IsSaidIn s rank f p j a
 delivered_from s rank f p j v a is =
     let before = before_slot s rank f p (state_at s f) j in
-    let x = slot_of s rank f p j before in
+    let x = slot_of_round s rank f p j before in
     let found = mapped (delivery_of v f rank j) _ a is in
     let d = found.0 in
     let heard = accepted_data s f x.part v (x.window v) (accepted_at x v) (before v) d found.1 in
@@ -148,7 +148,7 @@ rounds_keep s f v states = by_plan (round_plan s (rank_in (states v)) f states)
 frame_keeps : (s : ScenarioParts) (f v : ℕ) → Keeps (before_frame s f v) (before_frame s (suc f) v)
 unfolding before_frame
 frame_keeps s f v =
-    let told = scripted s f (before_frame s f) in
+    let told = states_after_script s f (before_frame s f) in
     let over = rounds s f told in
     keeps_both (before_frame s f v) (told v) (before_frame s (suc f) v) (script_keeps s f v (before_frame s f))
     (keeps_both (told v) (over v) (before_frame s (suc f) v) (rounds_keep s f v told) (ended_keeps s f v over))
@@ -217,9 +217,9 @@ past_frame s rank f a is =
     let behind = (slots_keep s rank f p u states (suc is.slot) (last_slot p + 1) (omega (arith, within))).past a.boot a.stream (a.seq + 1)
     (past_slot s rank f p is.slot a is.said) in
     let own = rank_is s rank f p is.slot u states (data_in a) is.said in
-    let planned : round s rank f states u ≡ before_slot s rank f p states (last_slot p + 1) u = ap
+    let planned : round_of_rank s rank f states u ≡ before_slot s rank f p states (last_slot p + 1) u = ap
     (λ (q : Option Plan). after_round s rank f states q u) is.planned in
-    let ranked : rounds s f states u ≡ round s rank f states u = ap (λ (r : ℕ). round s r f states u) own in
+    let ranked : rounds s f states u ≡ round_of_rank s rank f states u = ap (λ (r : ℕ). round_of_rank s r f states u) own in
     let over = subst (IsPast a.boot a.stream (a.seq + 1)) (sym (ranked ∙ planned)) behind in
     (ended_keeps s f u (rounds s f states)).past a.boot a.stream (a.seq + 1) over
 
@@ -239,11 +239,11 @@ later_frame s f g less a b first second =
 module _ (s : ScenarioParts) (sound : IsSoundScenario s) where
   in_slot : (rank f : ℕ) (p : Plan) (j : ℕ) → Climbs InOrder (slot_deliveries s rank f p (state_at s f) j)
   in_slot rank f p j =
-      given_in_turn (λ u v. u < v) InOrder (delivered_at s rank f p (state_at s f) j) other_node (ids s.nodes)
+      given_in_turn (λ u v. u < v) InOrder (delivery_in_slot s rank f p (state_at s f) j) other_node (ids s.nodes)
       (pairs_in_turn (λ u v. u < v) (ids s.nodes) (ids_rise s.nodes sound.ascending))
     where
-      other_node : (u v : ℕ) → u < v → (a b : Delivery) → delivered_at s rank f p (state_at s f) j u ≡ Some a
-          → delivered_at s rank f p (state_at s f) j v ≡ Some b → InOrder a b
+      other_node : (u v : ℕ) → u < v → (a b : Delivery) → delivery_in_slot s rank f p (state_at s f) j u ≡ Some a
+          → delivery_in_slot s rank f p (state_at s f) j v ≡ Some b → InOrder a b
       other_node u v less a b first second node from boot stream =
           let one = (delivered_from s rank f p j u a first).0 in
           let two = (delivered_from s rank f p j v b second).0 in
@@ -251,7 +251,7 @@ module _ (s : ScenarioParts) (sound : IsSoundScenario s) where
 
   each_in_slot : (rank f : ℕ) (p : Plan) (j : ℕ) → AllByRecursion (IsSaidIn s rank f p j) (slot_deliveries s rank f p (state_at s f) j)
   each_in_slot rank f p j =
-      each_given (IsSaidIn s rank f p j) (delivered_at s rank f p (state_at s f) j) (λ v a is. (delivered_from s rank f p j v a is).1) (ids s.nodes)
+      each_given (IsSaidIn s rank f p j) (delivery_in_slot s rank f p (state_at s f) j) (λ v a is. (delivered_from s rank f p j v a is).1) (ids s.nodes)
 
   in_round : (rank f : ℕ) → Climbs InOrder (round_deliveries s rank f (state_at s f))
   in_round rank f = by_plan (round_plan s rank f (state_at s f))

@@ -14,8 +14,8 @@ use Rattle.bus_rules.specs.States.{State, StateOff, StateOn}
 use Rattle.bus_rules.proofs.Ranks.{not_scanner}
 use Rattle.bus_terms.specs.FloodOfText.{ids}
 use Rattle.bus_terms.specs.Flooding.{has}
-use Rattle.bus_terms.specs.Rounds.{Slot, opened_at, takes_part, said_in, slot_of, accepted_at, closed_at, closed_by, left_by, after_round, after_slot}
-use Rattle.bus_terms.specs.Rounds.{before_slot, round, round_plan}
+use Rattle.bus_terms.specs.Rounds.{Slot, opened_at, takes_part, message_said, slot_of_round, accepted_at, closed_at, closed_slot_of, left_by, after_round}
+use Rattle.bus_terms.specs.Rounds.{after_slot, before_slot, round_of_rank, round_plan}
 use Rattle.bus_terms.proofs.ReceivedByPaths.{of_filtered}
 use Rattle.bus_terms.proofs.ReceivedInRounds.{accepted_none}
 
@@ -48,15 +48,15 @@ no_part rank part (StateOn c) other is = by_part (is_schedule_part part) (scans 
 
 -- such a node accepts nothing
 pub accepts_nothing : (s : ScenarioParts) (rank f : ℕ) (p : Plan) (j v : ℕ) (states : ℕ → State) → IsElsewhere rank (states v)
-    → accepted_at (slot_of s rank f p j states) v ≡ None
+    → accepted_at (slot_of_round s rank f p j states) v ≡ None
 accepts_nothing s rank f p j v states other =
-    ap (λ (a : Option (ℕ × ℕ)). option_and_then (λ b. said_in (x.window b.0)) a) (accepted_none x.flood v (λ o k a. outside a.here))
+    ap (λ (a : Option (ℕ × ℕ)). option_and_then (λ b. message_said (x.window b.0)) a) (accepted_none x.flood v (λ o k a. outside a.here))
   where
     part : Part
     part = part_of p j
 
     x : Slot
-    x = slot_of s rank f p j states
+    x = slot_of_round s rank f p j states
 
     outside : has x.flood.everyone v ≡ true → ⊥
     outside there =
@@ -66,11 +66,11 @@ accepts_nothing s rank f p j v states other =
 
 -- and no window of it closes
 pub closes_nothing : (s : ScenarioParts) (rank f : ℕ) (p : Plan) (j v : ℕ) (states : ℕ → State) → IsElsewhere rank (states v)
-    → closed_at s f (slot_of s rank f p j states) states v ≡ None
+    → closed_at s f (slot_of_round s rank f p j states) states v ≡ None
 closes_nothing s rank f p j v states other =
-    ap (λ (w : Option Opened). closed_by s f (part_of p j) v w (accepted_at (slot_of s rank f p j states) v) (states v))
+    ap (λ (w : Option Opened). closed_slot_of s f (part_of p j) v w (accepted_at (slot_of_round s rank f p j states) v) (states v))
     (no_window s rank f (part_of p j) v (states v) other)
-    ∙ ap (λ (m : Option Message). closed_by s f (part_of p j) v None m (states v)) (accepts_nothing s rank f p j v states other)
+    ∙ ap (λ (m : Option Message). closed_slot_of s f (part_of p j) v None m (states v)) (accepts_nothing s rank f p j v states other)
 
 pub slot_elsewhere : (s : ScenarioParts) (rank f : ℕ) (p : Plan) (j v : ℕ) (states : ℕ → State) → IsElsewhere rank (states v)
     → after_slot s rank f p j states v ≡ states v
@@ -84,7 +84,7 @@ slots_elsewhere s rank f p v states other (suc j) =
     let before = slots_elsewhere s rank f p v states other j in
     slot_elsewhere s rank f p j v (before_slot s rank f p states j) (subst (IsElsewhere rank) (sym before) other) ∙ before
 
-pub round_elsewhere : (s : ScenarioParts) (rank f v : ℕ) (states : ℕ → State) → IsElsewhere rank (states v) → round s rank f states v ≡ states v
+pub round_elsewhere : (s : ScenarioParts) (rank f v : ℕ) (states : ℕ → State) → IsElsewhere rank (states v) → round_of_rank s rank f states v ≡ states v
 round_elsewhere s rank f v states other = by_plan (round_plan s rank f states)
   where
     by_plan : (o : Option Plan) → after_round s rank f states o v ≡ states v

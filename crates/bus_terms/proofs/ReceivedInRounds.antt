@@ -12,14 +12,14 @@ use Rattle.std.proofs.lemmas.List.{get_or-map, length-map}
 use Rattle.bus_rules.specs.declared.part.Part.{Part}
 use Rattle.bus_rules.specs.declared.part.Part.TheVariants.{Data as DataSlot}
 use Rattle.bus_rules.specs.Cores.{Core, is_member}
-use Rattle.bus_rules.specs.Slots.{Message, DataOf, Data, Opened, part_of, data_of, opened, delivery_of}
+use Rattle.bus_rules.specs.Slots.{Message, DataOf, Data, Opened, part_of, data_of, opened_slot, delivery_of}
 use Rattle.bus_rules.specs.States.{State, StateOff, StateOn}
-use Rattle.bus_rules.specs.Streams.{Waiting, first_waiting}
+use Rattle.bus_rules.specs.Streams.{WaitingPacket, first_waiting}
 use Rattle.bus_terms.specs.FloodOfText.{ids}
 use Rattle.bus_terms.specs.Flooding.{Setting, moment, has, accepted, Accepts, STEPS}
 use Rattle.bus_terms.specs.RelayPaths.{HasPath}
 use Rattle.bus_terms.specs.ScriptedStates.{setup_in}
-use Rattle.bus_terms.specs.Rounds.{Slot, slot_of, opened_at, said_in, takes_part, accepted_at, closed_by, before_slot, delivered_at}
+use Rattle.bus_terms.specs.Rounds.{Slot, slot_of_round, opened_at, message_said, takes_part, accepted_at, closed_slot_of, before_slot, delivery_in_slot}
 use Rattle.bus_terms.specs.Received.{IsReceived}
 use Rattle.bus_terms.proofs.FirstHearings.{accepted_first}
 use Rattle.bus_terms.proofs.LeastPaths.{accepts_some}
@@ -34,11 +34,11 @@ accepted_none x v nowhere = by_answer (accepted x v) refl
     by_answer (Some a) is = absurd (nowhere a.0 a.1 ((accepted_first x v a.0 a.1).0 is))
 
 -- what is said in a data slot is data of its owner
-said_from : (owner v : ℕ) (c : Core) (w : Option Waiting) (m : Message)
+said_from : (owner v : ℕ) (c : Core) (w : Option WaitingPacket) (m : Message)
     → (if node_of owner == v then option_map (data_of v c (stream_of owner)) w else None) ≡ Some m → (v ≡ node_of owner) × ((d : Data) × (m ≡ DataOf d))
 said_from owner v c w m is = by_test (node_of owner == v) refl w is
   where
-    by_test : (b : Bool) → (node_of owner == v) ≡ b → (w : Option Waiting) → (if b then option_map (data_of v c (stream_of owner)) w else None) ≡ Some m
+    by_test : (b : Bool) → (node_of owner == v) ≡ b → (w : Option WaitingPacket) → (if b then option_map (data_of v c (stream_of owner)) w else None) ≡ Some m
         → (v ≡ node_of owner) × ((d : Data) × (m ≡ DataOf d))
     by_test false at w is = absurd (cc)
     by_test true at None is = absurd (cc)
@@ -46,18 +46,18 @@ said_from owner v c w m is = by_test (node_of owner == v) refl w is
         (sym (eqb-true _ v at), (record { node = v; boot = c.boot; stream = stream_of owner; seq = x.seq; payload = x.payload }, cc))
 
 module _ (s : ScenarioParts) (rank f owner : ℕ) where
-  said_in_data : (v : ℕ) (x : State) (m : Message) → said_in (opened_at s rank f (DataSlot owner) v x) ≡ Some m
+  said_in_data : (v : ℕ) (x : State) (m : Message) → message_said (opened_at s rank f (DataSlot owner) v x) ≡ Some m
       → (v ≡ node_of owner) × ((d : Data) × (m ≡ DataOf d))
   said_in_data v (StateOff boots) m is = absurd (cc)
   said_in_data v (StateOn c) m is = by_test (is_member rank f c) is
     where
-      by_test : (b : Bool) → said_in (if b then Some (opened (setup_in s v) f (DataSlot owner) c) else None) ≡ Some m
+      by_test : (b : Bool) → message_said (if b then Some (opened_slot (setup_in s v) f (DataSlot owner) c) else None) ≡ Some m
           → (v ≡ node_of owner) × ((d : Data) × (m ≡ DataOf d))
       by_test false is = absurd (cc)
       by_test true is = said_from owner v c (first_waiting c.streams (stream_of owner)) m is
 
   -- a window in which something is said is one
-  has_window : (part : Part) (w : Option Opened) (x : State) → is_some (said_in w) ≡ true → takes_part rank part x w ≡ true
+  has_window : (part : Part) (w : Option Opened) (x : State) → is_some (message_said w) ≡ true → takes_part rank part x w ≡ true
   has_window part None x is = absurd (false≢true is)
   has_window part (Some o) x is = refl
 
@@ -67,29 +67,29 @@ module _ (s : ScenarioParts) (rank f owner : ℕ) where
 
   -- what is delivered where a window closes: what was accepted, if it is data
   delivers : (v : ℕ) (o : Opened) (x : State) (heard : Option Message) → ((m : Message) → heard ≡ Some m → (d : Data) × (m ≡ DataOf d))
-      → is_some (option_and_then (λ c. c.delivered) (closed_by s f (DataSlot owner) v (Some o) heard x)) ≡ is_some heard
+      → is_some (option_and_then (λ c. c.delivered) (closed_slot_of s f (DataSlot owner) v (Some o) heard x)) ≡ is_some heard
   delivers v o x None data_only = refl
   delivers v o x (Some m) data_only = (let d = data_only m refl in rw d.1 refl)
 
   module _ (x : Slot) (states : ℕ → State)
       (window_is : (v : ℕ) → x.window v ≡ opened_at s rank f (DataSlot owner) v (states v))
-      (initiators_are : x.flood.initiators ≡ filter (λ v. is_some (said_in (x.window v))) (ids s.nodes))
+      (initiators_are : x.flood.initiators ≡ filter (λ v. is_some (message_said (x.window v))) (ids s.nodes))
       (everyone_is : x.flood.everyone ≡ filter (λ v. takes_part rank (DataSlot owner) (states v) (x.window v)) (ids s.nodes))
       (rise : AllPairs (λ a b. a < b) (ids s.nodes)) where
-    pub says_data : (v : ℕ) (m : Message) → said_in (x.window v) ≡ Some m → (v ≡ node_of owner) × ((d : Data) × (m ≡ DataOf d))
-    says_data v m is = said_in_data v (states v) m (ap said_in (sym (window_is v)) ∙ is)
+    pub says_data : (v : ℕ) (m : Message) → message_said (x.window v) ≡ Some m → (v ≡ node_of owner) × ((d : Data) × (m ≡ DataOf d))
+    says_data v m is = said_in_data v (states v) m (ap message_said (sym (window_is v)) ∙ is)
 
     pub some_said : (w : Option Message) → is_some w ≡ true → (m : Message) × (w ≡ Some m)
     some_said None is = absurd (false≢true is)
     some_said (Some m) is = (m, refl)
 
-    owner_alone : (v : ℕ) → is_some (said_in (x.window v)) ≡ true → v ≡ node_of owner
-    owner_alone v is = (let m = some_said (said_in (x.window v)) is in (says_data v m.0 m.1).0)
+    owner_alone : (v : ℕ) → is_some (message_said (x.window v)) ≡ true → v ≡ node_of owner
+    owner_alone v is = (let m = some_said (message_said (x.window v)) is in (says_data v m.0 m.1).0)
 
     -- nobody initiates, or the owner's node alone
-    pub initiators : (x.flood.initiators ≡ []) ⊎ ((x.flood.initiators ≡ node_of owner ∷ []) × (is_some (said_in (x.window (node_of owner))) ≡ true))
+    pub initiators : (x.flood.initiators ≡ []) ⊎ ((x.flood.initiators ≡ node_of owner ∷ []) × (is_some (message_said (x.window (node_of owner))) ≡ true))
     initiators =
-        elim (one_at_most (λ v. is_some (said_in (x.window v))) (node_of owner) (ids s.nodes) rise owner_alone) [
+        elim (one_at_most (λ v. is_some (message_said (x.window v))) (node_of owner) (ids s.nodes) rise owner_alone) [
           | inl none ↦ inl (initiators_are ∙ none)
           | inr one ↦ inr (initiators_are ∙ one.0, one.1)
         ]
@@ -105,14 +105,14 @@ module _ (s : ScenarioParts) (rank f owner : ℕ) where
     heard_data : (v : ℕ) (m : Message) → accepted_at x v ≡ Some m → (d : Data) × (m ≡ DataOf d)
     heard_data v m is = by_answer (accepted x.flood v) is
       where
-        by_answer : (a : Option (ℕ × ℕ)) → option_and_then (λ a. said_in (x.window a.0)) a ≡ Some m → (d : Data) × (m ≡ DataOf d)
+        by_answer : (a : Option (ℕ × ℕ)) → option_and_then (λ a. message_said (x.window a.0)) a ≡ Some m → (d : Data) × (m ≡ DataOf d)
         by_answer None is = absurd (cc)
         by_answer (Some a) is = (says_data a.0 m is).1
 
     -- who has no window takes no part
     nothing_outside : (v : ℕ) → x.window v ≡ None → accepted_at x v ≡ None
     nothing_outside v none =
-        ap (λ (a : Option (ℕ × ℕ)). option_and_then (λ a. said_in (x.window a.0)) a) (accepted_none x.flood v (λ o k a. outside a.here))
+        ap (λ (a : Option (ℕ × ℕ)). option_and_then (λ a. message_said (x.window a.0)) a) (accepted_none x.flood v (λ o k a. outside a.here))
       where
         outside : has x.flood.everyone v ≡ true → ⊥
         outside there =
@@ -123,23 +123,24 @@ module _ (s : ScenarioParts) (rank f owner : ℕ) where
     -- the owner's node accepts nothing: either it initiates or nobody does
     nothing_at_owner : accepted_at x (node_of owner) ≡ None
     nothing_at_owner =
-        ap (λ (a : Option (ℕ × ℕ)). option_and_then (λ a. said_in (x.window a.0)) a) (accepted_none x.flood (node_of owner) (λ o k a. refused o k a initiators))
+        ap (λ (a : Option (ℕ × ℕ)). option_and_then (λ a. message_said (x.window a.0)) a)
+            (accepted_none x.flood (node_of owner) (λ o k a. refused o k a initiators))
       where
         refused : (o k : ℕ) → Accepts x.flood (node_of owner) o k
-            → (x.flood.initiators ≡ []) ⊎ ((x.flood.initiators ≡ node_of owner ∷ []) × (is_some (said_in (x.window (node_of owner))) ≡ true)) → ⊥
+            → (x.flood.initiators ≡ []) ⊎ ((x.flood.initiators ≡ node_of owner ∷ []) × (is_some (message_said (x.window (node_of owner))) ≡ true)) → ⊥
         refused o k a (inl none) = nobody_hears x.flood none (node_of owner) o k a.hears
         refused o k a (inr one) =
             let listens = ap (λ (l : List ℕ). has l (node_of owner)) (sym one.0) ∙ a.listens in
             false≢true (sym listens ∙ or_left (node_of owner == node_of owner) _ (eq-eqb (node_of owner) (node_of owner) refl))
 
-    module _ (one : x.flood.initiators ≡ node_of owner ∷ []) (says : is_some (said_in (x.window (node_of owner))) ≡ true) where
+    module _ (one : x.flood.initiators ≡ node_of owner ∷ []) (says : is_some (message_said (x.window (node_of owner))) ≡ true) where
       pub owner_there : has x.flood.everyone (node_of owner) ≡ true
       owner_there =
           let kept = ap (λ (l : List ℕ). has l (node_of owner)) (sym initiators_are ∙ one) ∙ or_left (node_of owner == node_of owner) _
           (eq-eqb (node_of owner) (node_of owner) refl) in
-          takes (node_of owner) (in_whole (λ v. is_some (said_in (x.window v))) (ids s.nodes) (node_of owner) kept) (opens (x.window (node_of owner)) says)
+          takes (node_of owner) (in_whole (λ v. is_some (message_said (x.window v))) (ids s.nodes) (node_of owner) kept) (opens (x.window (node_of owner)) says)
         where
-          opens : (w : Option Opened) → is_some (said_in w) ≡ true → is_some w ≡ true
+          opens : (w : Option Opened) → is_some (message_said w) ≡ true → is_some w ≡ true
           opens None is = absurd (false≢true is)
           opens (Some o) is = refl
 
@@ -165,7 +166,7 @@ module _ (s : ScenarioParts) (rank f owner : ℕ) where
           paths : ((k : ℕ) × Accepts x.flood v (node_of owner) k) ↔ ((m : ℕ) × HasPath x.flood (node_of owner) m v)
           paths = accepts_some x.flood (node_of owner) one owner_there v there other
 
-          by_answer : (a : Option (ℕ × ℕ)) → accepted x.flood v ≡ a → is_some (option_and_then (λ a. said_in (x.window a.0)) a) ≡ true
+          by_answer : (a : Option (ℕ × ℕ)) → accepted x.flood v ≡ a → is_some (option_and_then (λ a. message_said (x.window a.0)) a) ≡ true
               → ((k : ℕ) × Accepts x.flood v (node_of owner) k)
           by_answer None is some = absurd (false≢true some)
           by_answer (Some a) is some = (a.1, from_owner v a is)
@@ -173,14 +174,14 @@ module _ (s : ScenarioParts) (rank f owner : ℕ) where
           back : ((k : ℕ) × Accepts x.flood v (node_of owner) k) → is_some (accepted_at x v) ≡ true
           back k =
               let is = (accepted_first x.flood v (node_of owner) k.0).1 k.1 in
-              ap (λ (a : Option (ℕ × ℕ)). is_some (option_and_then (λ a. said_in (x.window a.0)) a)) is ∙ says
+              ap (λ (a : Option (ℕ × ℕ)). is_some (option_and_then (λ a. message_said (x.window a.0)) a)) is ∙ says
 
     accepts_by_paths : (v : ℕ) → has x.flood.everyone v ≡ true → v ≢ node_of owner
         → (is_some (accepted_at x v) ≡ true ↔ ((m : ℕ) × HasPath x.flood (node_of owner) m v))
     accepts_by_paths v there other =
         elim initiators [
           | inl none ↦ (
-            (λ some. absurd (false≢true (sym (ap (λ (a : Option (ℕ × ℕ)). is_some (option_and_then (λ a. said_in (x.window a.0)) a))
+            (λ some. absurd (false≢true (sym (ap (λ (a : Option (ℕ × ℕ)). is_some (option_and_then (λ a. message_said (x.window a.0)) a))
                 (accepted_none x.flood v (λ o k a. nobody_hears x.flood none v o k a.hears))) ∙ some))),
             λ path. absurd (no_path x.flood none (node_of owner) v path.0 other path.1),
           )
@@ -213,7 +214,7 @@ received s sound rank f p states j owner is = record {
     before = before_slot s rank f p states j
 
     x : Slot
-    x = slot_of s rank f p j before
+    x = slot_of_round s rank f p j before
 
     rise : AllPairs (λ a b. a < b) (ids s.nodes)
     rise = ids_rise s.nodes sound.ascending
@@ -225,23 +226,23 @@ received s sound rank f p states j owner is = record {
     everyone_is = ap (λ (part : Part). filter (λ v. takes_part rank part (before v) (x.window v)) (ids s.nodes)) is
 
     delivery_with : ℕ → Option Opened → Option Message → Option Delivery
-    delivery_with v w heard = option_map (delivery_of v f rank j) (option_and_then (λ c. c.delivered) (closed_by s f x.part v w heard (before v)))
+    delivery_with v w heard = option_map (delivery_of v f rank j) (option_and_then (λ c. c.delivered) (closed_slot_of s f x.part v w heard (before v)))
 
     nothing_by : (v : ℕ) (w : Option Opened) → delivery_with v w None ≡ None
     nothing_by v None = refl
     nothing_by v (Some o) = refl
 
     by_paths : (v : ℕ) → has (ids s.nodes) v ≡ true → is_some (x.window v) ≡ true → v ≢ node_of owner → (w : Option Opened) → x.window v ≡ w
-        → (is_some (delivered_at s rank f p states j v) ≡ true ↔ ((m : ℕ) × HasPath x.flood (node_of owner) m v))
+        → (is_some (delivery_in_slot s rank f p states j v) ≡ true ↔ ((m : ℕ) × HasPath x.flood (node_of owner) m v))
     by_paths v there opens other None at = absurd (false≢true (ap (λ (w : Option Opened). is_some w) (sym at) ∙ opens))
     by_paths v there opens other (Some o) at =
         let paths = accepts_by_paths s rank f owner x before window_is refl everyone_is rise v
         (takes s rank f owner x before window_is refl everyone_is rise v there opens) other in
-        let same : is_some (delivered_at s rank f p states j v) ≡ is_some (accepted_at x v) =
+        let same : is_some (delivery_in_slot s rank f p states j v) ≡ is_some (accepted_at x v) =
         ap (λ (w : Option Opened). is_some (delivery_with v w (accepted_at x v))) at
         ∙ ap (λ (part : Part). is_some (option_map (delivery_of v f rank j)
-        (option_and_then (λ c. c.delivered) (closed_by s f part v (Some o) (accepted_at x v) (before v))))) is
-        ∙ some_mapped (option_and_then (λ c. c.delivered) (closed_by s f (DataSlot owner) v (Some o) (accepted_at x v) (before v)))
+        (option_and_then (λ c. c.delivered) (closed_slot_of s f part v (Some o) (accepted_at x v) (before v))))) is
+        ∙ some_mapped (option_and_then (λ c. c.delivered) (closed_slot_of s f (DataSlot owner) v (Some o) (accepted_at x v) (before v)))
         ∙ delivers s rank f owner v o (before v) (accepted_at x v) (heard_data s rank f owner x before window_is refl everyone_is rise v) in
         (λ some. paths.0 (sym same ∙ some), λ path. same ∙ paths.1 path)
       where

@@ -19,9 +19,10 @@ use Rattle.bus_rules.specs.Tuning.{rank_of, hosts_in, holds_in}
 use Rattle.bus_rules.proofs.Ranks.{hosts_rank, holds_rank}
 use Rattle.bus_terms.specs.FloodOfText.{ids}
 use Rattle.bus_terms.specs.Flooding.{Setting, accepted}
-use Rattle.bus_terms.specs.Rounds.{Slot, accepted_at, after_round, after_slot, before_slot, closed_at, closed_by, delivered_at, first_node, left_by, opened_at}
-use Rattle.bus_terms.specs.Rounds.{plan_in, round, round_deliveries, round_plan, said_in, slot_deliveries, slot_of, slots_of, takes_part}
-use Rattle.bus_terms.specs.ScriptedStates.{is_on}
+use Rattle.bus_terms.specs.Rounds.{Slot, accepted_at, after_round, after_slot, before_slot, closed_at, closed_slot_of, delivery_in_slot, first_node, left_by}
+use Rattle.bus_terms.specs.Rounds.{opened_at, plan_in, round_of_rank, round_deliveries, round_plan, message_said, slot_deliveries, slot_of_round, slots_of}
+use Rattle.bus_terms.specs.Rounds.{takes_part}
+use Rattle.bus_terms.specs.ScriptedStates.{is_on_and}
 use Rattle.bus_terms.proofs.OtherRanks.{IsElsewhere, closes_nothing, no_part, no_window, slot_elsewhere}
 
 found_passes : (p : ℕ → Bool) (xs : List ℕ) (x : ℕ) → find p xs ≡ Some x → p x ≡ true
@@ -71,10 +72,10 @@ module _ (s : ScenarioParts) (rank f : ℕ) where
     part = part_of p j
 
     abbrev xa : Slot
-    xa = slot_of s rank f p j a
+    xa = slot_of_round s rank f p j a
 
     abbrev xb : Slot
-    xb = slot_of s rank f p j b
+    xb = slot_of_round s rank f p j b
 
     windows : (v : ℕ) → xa.window v ≡ xb.window v
     windows v = same_window part v (a v) (b v) (alike v)
@@ -82,25 +83,25 @@ module _ (s : ScenarioParts) (rank f : ℕ) where
     same_flood : xa.flood ≡ xb.flood
     same_flood =
         ap (λ (l : List ℕ). flood_with s f j l xa.flood.everyone)
-        (filter_agree (λ v. is_some (said_in (xa.window v))) (λ v. is_some (said_in (xb.window v)))
-        (λ v. ap (λ (w : Option Opened). is_some (said_in w)) (windows v)) (ids s.nodes))
+        (filter_agree (λ v. is_some (message_said (xa.window v))) (λ v. is_some (message_said (xb.window v)))
+        (λ v. ap (λ (w : Option Opened). is_some (message_said w)) (windows v)) (ids s.nodes))
         ∙ ap (flood_with s f j xb.flood.initiators)
         (filter_agree (λ v. takes_part rank part (a v) (xa.window v)) (λ v. takes_part rank part (b v) (xb.window v))
         (λ v. same_part part (a v) (b v) (xa.window v) (alike v) ∙ ap (takes_part rank part (b v)) (windows v)) (ids s.nodes))
 
     same_accepted : (v : ℕ) → accepted_at xa v ≡ accepted_at xb v
     same_accepted v =
-        ap (λ (g : Setting). option_and_then (λ (c : ℕ × ℕ). said_in (xa.window c.0)) (accepted g v)) same_flood ∙ by_answer (accepted xb.flood v)
+        ap (λ (g : Setting). option_and_then (λ (c : ℕ × ℕ). message_said (xa.window c.0)) (accepted g v)) same_flood ∙ by_answer (accepted xb.flood v)
       where
-        by_answer : (o : Option (ℕ × ℕ)) → option_and_then (λ (c : ℕ × ℕ). said_in (xa.window c.0)) o
-            ≡ option_and_then (λ (c : ℕ × ℕ). said_in (xb.window c.0)) o
+        by_answer : (o : Option (ℕ × ℕ)) → option_and_then (λ (c : ℕ × ℕ). message_said (xa.window c.0)) o
+            ≡ option_and_then (λ (c : ℕ × ℕ). message_said (xb.window c.0)) o
         by_answer None = refl
-        by_answer (Some c) = ap said_in (windows c.0)
+        by_answer (Some c) = ap message_said (windows c.0)
 
     same_closing : (v : ℕ) → a v ≡ b v → closed_at s f xa a v ≡ closed_at s f xb b v
     same_closing v is =
-        ap (λ (y : State). closed_by s f part v (opened_at s rank f part v y) (accepted_at xa v) y) is
-        ∙ ap (λ (m : Option Message). closed_by s f part v (xb.window v) m (b v)) (same_accepted v)
+        ap (λ (y : State). closed_slot_of s f part v (opened_at s rank f part v y) (accepted_at xa v) y) is
+        ∙ ap (λ (m : Option Message). closed_slot_of s f part v (xb.window v) m (b v)) (same_accepted v)
 
     alike_closing : (v : ℕ) → closed_at s f xa a v ≡ closed_at s f xb b v
     alike_closing v =
@@ -135,22 +136,22 @@ module _ (s : ScenarioParts) (rank f : ℕ) where
 
     -- a test that only cores of this rank pass
     module _ (test : Core → Bool) (ranked : (c : Core) → test c ≡ true → (rank_of c.tune == rank) ≡ true) where
-      fails : (x : State) → IsElsewhere rank x → is_on test x ≡ false
+      fails : (x : State) → IsElsewhere rank x → is_on_and test x ≡ false
       fails (StateOff boots) out = refl
       fails (StateOn c) out = elim (cases_Bool (test c)) [ inl passes ↦ absurd (false≢true (sym out ∙ ranked c passes)) | inr not ↦ not ]
 
-      same_test : (v : ℕ) → is_on test (a v) ≡ is_on test (b v)
-      same_test v = elim (alike v) [ inl is ↦ ap (is_on test) is | inr out ↦ fails (a v) out.0 ∙ sym (fails (b v) out.1) ]
+      same_test : (v : ℕ) → is_on_and test (a v) ≡ is_on_and test (b v)
+      same_test v = elim (alike v) [ inl is ↦ ap (is_on_and test) is | inr out ↦ fails (a v) out.0 ∙ sym (fails (b v) out.1) ]
 
-      same_first : first_node s (is_on test) a ≡ first_node s (is_on test) b
-      same_first = find_agree (λ v. is_on test (a v)) (λ v. is_on test (b v)) same_test (ids s.nodes)
+      same_first : first_node s (is_on_and test) a ≡ first_node s (is_on_and test) b
+      same_first = find_agree (λ v. is_on_and test (a v)) (λ v. is_on_and test (b v)) same_test (ids s.nodes)
 
       -- who passes has the same state in both
-      same_found : (v : ℕ) → first_node s (is_on test) b ≡ Some v → a v ≡ b v
+      same_found : (v : ℕ) → first_node s (is_on_and test) b ≡ Some v → a v ≡ b v
       same_found v first =
           elim (alike v) [
             | inl is ↦ is
-            | inr out ↦ absurd (false≢true (sym (fails (b v) out.1) ∙ found_passes (λ u. is_on test (b u)) (ids s.nodes) v first))
+            | inr out ↦ absurd (false≢true (sym (fails (b v) out.1) ∙ found_passes (λ u. is_on_and test (b u)) (ids s.nodes) v first))
           ]
 
     abbrev hosting : Core → Bool
@@ -161,19 +162,19 @@ module _ (s : ScenarioParts) (rank f : ℕ) where
 
     same_plan : round_plan s rank f a ≡ round_plan s rank f b
     same_plan =
-        ap (λ (o : Option ℕ). option_and_then (λ v. plan_in (a v)) (option_or o (first_node s (is_on holding) a)))
+        ap (λ (o : Option ℕ). option_and_then (λ v. plan_in (a v)) (option_or o (first_node s (is_on_and holding) a)))
         (same_first hosting (λ c is. hosts_rank rank f c.tune is))
-        ∙ ap (λ (o : Option ℕ). option_and_then (λ v. plan_in (a v)) (option_or (first_node s (is_on hosting) b) o))
+        ∙ ap (λ (o : Option ℕ). option_and_then (λ v. plan_in (a v)) (option_or (first_node s (is_on_and hosting) b) o))
         (same_first holding (λ c is. holds_rank rank f c.tune is))
-        ∙ by_leader (first_node s (is_on hosting) b) (first_node s (is_on holding) b) refl refl
+        ∙ by_leader (first_node s (is_on_and hosting) b) (first_node s (is_on_and holding) b) refl refl
       where
-        by_leader : (h o : Option ℕ) → first_node s (is_on hosting) b ≡ h → first_node s (is_on holding) b ≡ o
+        by_leader : (h o : Option ℕ) → first_node s (is_on_and hosting) b ≡ h → first_node s (is_on_and holding) b ≡ o
             → option_and_then (λ v. plan_in (a v)) (option_or h o) ≡ option_and_then (λ v. plan_in (b v)) (option_or h o)
         by_leader (Some v) o first second = ap plan_in (same_found hosting (λ c is. hosts_rank rank f c.tune is) v first)
         by_leader None (Some v) first second = ap plan_in (same_found holding (λ c is. holds_rank rank f c.tune is) v second)
         by_leader None None first second = refl
 
-    pub same_round : (v : ℕ) → a v ≡ b v → round s rank f a v ≡ round s rank f b v
+    pub same_round : (v : ℕ) → a v ≡ b v → round_of_rank s rank f a v ≡ round_of_rank s rank f b v
     same_round v is = ap (λ (o : Option Plan). after_round s rank f a o v) same_plan ∙ by_plan (round_plan s rank f b)
       where
         by_plan : (o : Option Plan) → after_round s rank f a o v ≡ after_round s rank f b o v
@@ -181,16 +182,16 @@ module _ (s : ScenarioParts) (rank f : ℕ) where
         by_plan (Some p) = same_slots p (last_slot p + 1) v is
 
     -- and what is delivered in it
-    same_delivery : (p : Plan) (j v : ℕ) → delivered_at s rank f p a j v ≡ delivered_at s rank f p b j v
+    same_delivery : (p : Plan) (j v : ℕ) → delivery_in_slot s rank f p a j v ≡ delivery_in_slot s rank f p b j v
     same_delivery p j v =
         ap (λ (c : Option Closed). option_map (delivery_of v f rank j) (option_and_then (λ d. d.delivered) c))
         (alike_closing p j (before_slot s rank f p a j) (before_slot s rank f p b j) (alike_slots p j) v)
 
-    same_slot : (p : Plan) (j : ℕ) (xs : List ℕ) → filter_map (delivered_at s rank f p a j) xs ≡ filter_map (delivered_at s rank f p b j) xs
+    same_slot : (p : Plan) (j : ℕ) (xs : List ℕ) → filter_map (delivery_in_slot s rank f p a j) xs ≡ filter_map (delivery_in_slot s rank f p b j) xs
     same_slot p j [] = refl
     same_slot p j (v ∷ xs) =
-        ap (λ (o : Option Delivery). cons_option o (filter_map (delivered_at s rank f p a j) xs)) (same_delivery p j v)
-        ∙ ap (cons_option (delivered_at s rank f p b j v)) (same_slot p j xs)
+        ap (λ (o : Option Delivery). cons_option o (filter_map (delivery_in_slot s rank f p a j) xs)) (same_delivery p j v)
+        ∙ ap (cons_option (delivery_in_slot s rank f p b j v)) (same_slot p j xs)
 
     same_lists : (p : Plan) (js : List ℕ) → flat_map (slot_deliveries s rank f p a) js ≡ flat_map (slot_deliveries s rank f p b) js
     same_lists p [] = refl

@@ -14,7 +14,7 @@ use Rattle.bus_rules.specs.Streams.{schedule_heard}
 use Rattle.bus_rules.specs.Granting.{plan_round}
 use Rattle.bus_rules.specs.HostPlans.{host_plan}
 use Rattle.bus_terms.specs.Flooding.{moment}
-use Rattle.lwb_base.specs.Messages.{least}
+use Rattle.lwb_base.specs.Messages.{least_passing}
 use Rattle.bus_terms.specs.Rounds.{before_slot}
 use Rattle.bus_terms.specs.Bus.{before_frame, bus_deliveries, bus_drops, bus_cost, Cost}
 
@@ -45,18 +45,18 @@ simple frames lost more = record {
 }
 
 no_round : bus_deliveries (simple 5 [] []) ≡ []
-unfolding before_frame before_slot moment schedule_heard host_plan plan_round least
+unfolding before_frame before_slot moment schedule_heard host_plan plan_round least_passing
 no_round = refl
 
 abbrev costs : ℕ → ℕ → ℕ → Cost
 costs sent windows scanned = record { sent = sent; windows = windows; scanned = scanned }
 
 one_packet : bus_deliveries (simple 12 [] []) ≡ delivery 9 0 1 1 2 1 0 0 0xaa ∷ []
-unfolding before_frame before_slot moment schedule_heard host_plan plan_round least
+unfolding before_frame before_slot moment schedule_heard host_plan plan_round least_passing
 one_packet = refl
 
 one_packet_costs : (bus_cost (simple 12 [] []) 1 ≡ costs 450560 9681408 5) × (bus_cost (simple 12 [] []) 2 ≡ costs 450560 9551872 6)
-unfolding before_frame before_slot moment schedule_heard host_plan plan_round least
+unfolding before_frame before_slot moment schedule_heard host_plan plan_round least_passing
 one_packet_costs = (refl, refl)
 
 -- two contenders, and two contention slots
@@ -74,14 +74,14 @@ three taken = record {
 
 two_contenders : bus_deliveries (three []) ≡
     delivery 13 0 1 1 2 1 0 0 0xaa ∷ delivery 13 0 1 3 2 1 0 0 0xaa ∷ delivery 17 0 5 1 3 1 0 0 0xbb ∷ delivery 17 0 5 2 3 1 0 0 0xbb ∷ []
-unfolding before_frame before_slot moment schedule_heard host_plan plan_round least
+unfolding before_frame before_slot moment schedule_heard host_plan plan_round least_passing
 two_contenders = refl
 
 two_contenders_costs :
     (bus_cost (three []) 1 ≡ costs 929792 27789824 5)
     × (bus_cost (three []) 2 ≡ costs 960512 27973632 6)
     × (bus_cost (three []) 3 ≡ costs 960512 27973632 6)
-unfolding before_frame before_slot moment schedule_heard host_plan plan_round least
+unfolding before_frame before_slot moment schedule_heard host_plan plan_round least_passing
 two_contenders_costs = (refl, refl, refl)
 
 -- the host hears the request of node 2 at once
@@ -90,14 +90,14 @@ captured = three (record { frame = 5; slot = 1; step = 0; at = 1; from = 2 } ∷
 
 two_contenders_captured : bus_deliveries captured ≡
     delivery 9 0 1 1 2 1 0 0 0xaa ∷ delivery 9 0 1 3 2 1 0 0 0xaa ∷ delivery 17 0 5 1 3 1 0 0 0xbb ∷ delivery 17 0 5 2 3 1 0 0 0xbb ∷ []
-unfolding before_frame before_slot moment schedule_heard host_plan plan_round least
+unfolding before_frame before_slot moment schedule_heard host_plan plan_round least_passing
 two_contenders_captured = refl
 
 two_contenders_captured_costs :
     (bus_cost captured 1 ≡ costs 946176 36198400 5)
     × (bus_cost captured 2 ≡ costs 946176 36390400 6)
     × (bus_cost captured 3 ≡ costs 915456 38219648 6)
-unfolding before_frame before_slot moment schedule_heard host_plan plan_round least
+unfolding before_frame before_slot moment schedule_heard host_plan plan_round least_passing
 two_contenders_captured_costs = (refl, refl, refl)
 
 -- opening and closing missed
@@ -108,22 +108,22 @@ abbrev missed : ScenarioParts
 missed = simple 14 (lost 0 ∷ lost 6 ∷ []) (at 9 2 (Declare 1 4) ∷ at 9 2 (Put 1 (0xcc ∷ [])) ∷ at 10 2 (Put 0 (0xbb ∷ [])) ∷ [])
 
 opening_and_closing_missed : bus_deliveries missed ≡ delivery 9 0 1 1 2 1 0 0 0xaa ∷ delivery 13 0 1 1 2 1 0 1 0xbb ∷ []
-unfolding before_frame before_slot moment schedule_heard host_plan plan_round least
+unfolding before_frame before_slot moment schedule_heard host_plan plan_round least_passing
 opening_and_closing_missed = refl
 
 opening_and_closing_missed_costs : (bus_cost missed 1 ≡ costs 667648 20631424 5) × (bus_cost missed 2 ≡ costs 585728 20149120 10)
-unfolding before_frame before_slot moment schedule_heard host_plan plan_round least
+unfolding before_frame before_slot moment schedule_heard host_plan plan_round least_passing
 opening_and_closing_missed_costs = (refl, refl)
 
 abbrev restarted : ScenarioParts
 restarted = simple 16 [] (at 6 1 Off ∷ at 6 1 On ∷ at 10 2 (Put 0 (0xbb ∷ [])) ∷ [])
 
 host_restarts : bus_deliveries restarted ≡ delivery 15 0 1 1 2 1 0 1 0xbb ∷ []
-unfolding before_frame before_slot moment schedule_heard host_plan plan_round least
+unfolding before_frame before_slot moment schedule_heard host_plan plan_round least_passing
 host_restarts = refl
 
 host_restarts_costs : (bus_cost restarted 1 ≡ costs 667648 10315776 10) × (bus_cost restarted 2 ≡ costs 702464 24669312 8)
-unfolding before_frame before_slot moment schedule_heard host_plan plan_round least
+unfolding before_frame before_slot moment schedule_heard host_plan plan_round least_passing
 host_restarts_costs = (refl, refl)
 
 abbrev contention : ScenarioParts
@@ -135,14 +135,14 @@ contention = record (three []) {
 
 two_contention_slots : bus_deliveries contention ≡
     delivery 9 0 1 1 2 1 0 0 0xaa ∷ delivery 9 0 1 3 2 1 0 0 0xaa ∷ delivery 9 0 5 1 3 1 0 0 0xbb ∷ delivery 9 0 5 2 3 1 0 0 0xbb ∷ []
-unfolding before_frame before_slot moment schedule_heard host_plan plan_round least
+unfolding before_frame before_slot moment schedule_heard host_plan plan_round least_passing
 two_contention_slots = refl
 
 two_contention_slots_costs :
     (bus_cost contention 1 ≡ costs 634880 30385152 5)
     × (bus_cost contention 2 ≡ costs 634880 30396928 6)
     × (bus_cost contention 3 ≡ costs 634880 30396928 6)
-unfolding before_frame before_slot moment schedule_heard host_plan plan_round least
+unfolding before_frame before_slot moment schedule_heard host_plan plan_round least_passing
 two_contention_slots_costs = (refl, refl, refl)
 
 -- backup host takes over
@@ -159,19 +159,19 @@ backup = record {
 }
 
 backup_host_takes_over : bus_deliveries backup ≡ delivery 9 0 1 2 3 1 0 0 0xaa ∷ delivery 31 1 1 2 3 1 0 1 0xbb ∷ []
-unfolding before_frame before_slot moment schedule_heard host_plan plan_round least
+unfolding before_frame before_slot moment schedule_heard host_plan plan_round least_passing
 backup_host_takes_over = refl
 
 backup_host_takes_over_costs :
     (bus_cost backup 1 ≡ costs 217088 634368 5)
     × (bus_cost backup 2 ≡ costs 737280 22985984 23)
     × (bus_cost backup 3 ≡ costs 737280 22766336 24)
-unfolding before_frame before_slot moment schedule_heard host_plan plan_round least
+unfolding before_frame before_slot moment schedule_heard host_plan plan_round least_passing
 backup_host_takes_over_costs = (refl, refl, refl)
 
 -- full queue
 full : bus_drops (simple 5 [] (replicate 16 (at 0 2 (Put 0 (0xaa ∷ []))))) ≡ record { frame = 0; node = 2; stream = 0 } ∷ []
-unfolding before_frame before_slot moment schedule_heard host_plan plan_round least
+unfolding before_frame before_slot moment schedule_heard host_plan plan_round least_passing
 full = refl
 
 -- the second profile, also with its longest payload
@@ -182,13 +182,13 @@ second payload = record (simple 12 [] []) {
 }
 
 second_profile : bus_deliveries (second (0xaa ∷ [])) ≡ delivery 9 0 1 1 2 1 0 0 0xaa ∷ []
-unfolding before_frame before_slot moment schedule_heard host_plan plan_round least
+unfolding before_frame before_slot moment schedule_heard host_plan plan_round least_passing
 second_profile = refl
 
 second_profile_costs : (bus_cost (second (0xaa ∷ [])) 1 ≡ costs 450560 15569408 5) × (bus_cost (second (0xaa ∷ [])) 2 ≡ costs 450560 15439872 6)
-unfolding before_frame before_slot moment schedule_heard host_plan plan_round least
+unfolding before_frame before_slot moment schedule_heard host_plan plan_round least_passing
 second_profile_costs = (refl, refl)
 
 longest_payload : bus_deliveries (second (replicate 96 0xaa)) ≡ record (delivery 9 0 1 1 2 1 0 0 0) { payload = replicate 96 0xaa } ∷ []
-unfolding before_frame before_slot moment schedule_heard host_plan plan_round least
+unfolding before_frame before_slot moment schedule_heard host_plan plan_round least_passing
 longest_payload = refl

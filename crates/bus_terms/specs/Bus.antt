@@ -9,20 +9,20 @@ use Rattle.bus_rules.specs.States.{State, StateOff}
 use Rattle.bus_rules.specs.Tuning.{is_scan}
 use Rattle.bus_terms.specs.Costs.{slot_sent, slot_window, over_round}
 use Rattle.bus_terms.specs.Rounds.{Slot, rounds, rank_in, round_deliveries}
-use Rattle.bus_terms.specs.ScriptedStates.{after_line, ended, is_on, lost_by, scripted, told_above}
+use Rattle.bus_terms.specs.ScriptedStates.{state_after_line, states_after_end, is_on_and, lost_by, states_after_script, told_above}
 
 -- one frame: the script, the rounds of all ranks, the end
-abbrev pub after_frame : ScenarioParts → ℕ → (ℕ → State) → ℕ → State
-after_frame s f states = ended s f (rounds s f (scripted s f states))
+abbrev pub states_after_frame : ScenarioParts → ℕ → (ℕ → State) → ℕ → State
+states_after_frame s f states = states_after_end s f (rounds s f (states_after_script s f states))
 
 -- each node before the script lines of frame f. All are off at first
 unfoldable pub before_frame : ScenarioParts → ℕ → ℕ → State
 before_frame s zero = λ (v : ℕ). StateOff 0
-before_frame s (suc f) = after_frame s f (before_frame s f)
+before_frame s (suc f) = states_after_frame s f (before_frame s f)
 
 -- and behind them
 abbrev pub state_at : ScenarioParts → ℕ → ℕ → State
-state_at s f = scripted s f (before_frame s f)
+state_at s f = states_after_script s f (before_frame s f)
 
 abbrev pub frames_of : ScenarioParts → List ℕ
 frames_of s = range_with_len 0 s.frames
@@ -35,13 +35,13 @@ abbrev pub bus_deliveries : ScenarioParts → List Delivery
 bus_deliveries s = flat_map (λ f. flat_map (λ rank. round_deliveries s rank f (state_at s f)) (ranks_of s)) (frames_of s)
 
 -- the node of a line just before it, where these lines stand above it
-abbrev pub before_line : ScenarioParts → List ScriptLine → ScriptLine → State
-before_line s above l = fold after_line (before_frame s l.frame l.node) (told_above above l)
+abbrev pub state_before_line : ScenarioParts → List ScriptLine → ScriptLine → State
+state_before_line s above l = fold state_after_line (before_frame s l.frame l.node) (told_above above l)
 
 -- what these lines lose, where the others stand above them
 abbrev pub drops_below : ScenarioParts → List ScriptLine → List ScriptLine → List DropLine
 drops_below s above [] = []
-drops_below s above (l ∷ ls) = option_to_list (lost_by l l.act (before_line s above l)) ++ drops_below s (above ++ l ∷ []) ls
+drops_below s above (l ∷ ls) = option_to_list (lost_by l l.act (state_before_line s above l)) ++ drops_below s (above ++ l ∷ []) ls
 
 -- in the order of the text
 abbrev pub bus_drops : ScenarioParts → List DropLine
@@ -61,7 +61,7 @@ abbrev pub bus_cost : ScenarioParts → ℕ → Cost
 bus_cost s v = record {
   sent = over_frames (λ x. slot_sent s.profile x v) s v;
   windows = over_frames (λ x. slot_window s.profile x v) s v;
-  scanned = count_by (λ f. is_on (λ c. is_scan c.tune) (state_at s f v)) (frames_of s);
+  scanned = count_by (λ f. is_on_and (λ c. is_scan c.tune) (state_at s f v)) (frames_of s);
 }
 
 -- of two deliveries to one node from one stream of one boot the later one has the greater number

@@ -7,33 +7,33 @@ use Rattle.scenario_text.specs.declared.script.Act.TheVariants.{On, Off, Declare
 use Rattle.scenario_text.specs.declared.script.ScriptLine.{ScriptLine}
 use Rattle.bus_rules.specs.declared.delivery.DropLine.{DropLine}
 use Rattle.bus_rules.specs.Cores.{Core, Setup, setup_for, frame_ended}
-use Rattle.bus_rules.specs.States.{State, StateOff, StateOn, switched_on, switched_off, at_core, declares, leaves, puts, loses}
+use Rattle.bus_rules.specs.States.{State, StateOff, StateOn, state_after_on, state_after_off, at_core, declares, leaves, puts, loses}
 
 -- what is fixed for this node of a scenario
 abbrev pub setup_in : ScenarioParts → ℕ → Setup
 setup_in s v = setup_for s.profile s.hosts s.sends v
 
 -- a test of a node's core, which fails where the node is off
-abbrev pub is_on : (Core → Bool) → State → Bool
-is_on test (StateOff boots) = false
-is_on test (StateOn c) = test c
+abbrev pub is_on_and : (Core → Bool) → State → Bool
+is_on_and test (StateOff boots) = false
+is_on_and test (StateOn c) = test c
 
-abbrev pub after_act : Act → State → State
-after_act On x = switched_on x
-after_act Off x = switched_off x
-after_act (Declare i interval) x = at_core (declares i interval) x
-after_act (Leave i) x = at_core (leaves i) x
-after_act (Put i payload) x = at_core (puts i payload) x
+abbrev pub state_after_act : Act → State → State
+state_after_act On x = state_after_on x
+state_after_act Off x = state_after_off x
+state_after_act (Declare i interval) x = at_core (declares i interval) x
+state_after_act (Leave i) x = at_core (leaves i) x
+state_after_act (Put i payload) x = at_core (puts i payload) x
 
-abbrev pub after_line : State → ScriptLine → State
-after_line x l = after_act l.act x
+abbrev pub state_after_line : State → ScriptLine → State
+state_after_line x l = state_after_act l.act x
 
 -- what the node is told in this frame, in the order of the text
 abbrev pub lines_of : ScenarioParts → ℕ → ℕ → List ScriptLine
 lines_of s f v = filter (λ l. (l.node == v) && (l.frame == f)) s.script
 
-abbrev pub scripted : ScenarioParts → ℕ → (ℕ → State) → ℕ → State
-scripted s f states v = fold after_line (states v) (lines_of s f v)
+abbrev pub states_after_script : ScenarioParts → ℕ → (ℕ → State) → ℕ → State
+states_after_script s f states v = fold state_after_line (states v) (lines_of s f v)
 
 -- what is lost by a line at a node in this state
 abbrev pub lost_by : ScriptLine → Act → State → Option DropLine
@@ -48,5 +48,5 @@ abbrev pub told_above : List ScriptLine → ScriptLine → List ScriptLine
 told_above above l = filter (λ m. (m.node == l.node) && (m.frame == l.frame)) above
 
 -- the end of frame f at each node
-abbrev pub ended : ScenarioParts → ℕ → (ℕ → State) → ℕ → State
-ended s f states v = at_core (frame_ended (setup_in s v) f) (states v)
+abbrev pub states_after_end : ScenarioParts → ℕ → (ℕ → State) → ℕ → State
+states_after_end s f states v = at_core (frame_ended (setup_in s v) f) (states v)

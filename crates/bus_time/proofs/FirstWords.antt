@@ -4,7 +4,7 @@ use Rattle.std.proofs.Common.{◌==◌, Some, None, Option, Bool, refl, sym, ◌
 use Rattle.std.proofs.lemmas.Bool.{and_parts}
 use Rattle.std.proofs.lemmas.Bool.Decides.{nat_tests}
 use Rattle.std.proofs.lemmas.List.Elements.{Contains-append_left, Contains-push, Contains-push_cases}
-use Rattle.bus_time.specs.Words.{Note, IsFirstWord, comes_before, same_round}
+use Rattle.bus_time.specs.Words.{Note, IsFirstWord, word_comes_before, same_round}
 use Rattle.bus_time.specs.declared.words.Round.{Round}
 use Rattle.bus_time.specs.declared.words.Word.{Word}
 
@@ -23,10 +23,10 @@ same_self : (a : Round) → same_round a a ≡ true
 same_self a = grind (arith, nat_tests)
 
 -- the order of words
-not_itself : (w : Word) → comes_before w w ≡ false
+not_itself : (w : Word) → word_comes_before w w ≡ false
 not_itself w = grind (arith, nat_tests)
 
-before_none : (w first new : Word) → comes_before w first ≡ false → comes_before new first ≡ true → comes_before w new ≡ false
+before_none : (w first new : Word) → word_comes_before w first ≡ false → word_comes_before new first ≡ true → word_comes_before w new ≡ false
 before_none w first new not_first is = grind (arith, nat_tests, not_first, is)
 
 abbrev word_of : Note → Word
@@ -46,23 +46,23 @@ module _ (notes : List Note) (round : Round) (word : Word) where
   still n there = Contains-append_left notes ((round, word) ∷ []) n there
 
   -- of the same round
-  pub kept : (first : Word) → IsFirstWord notes round (Some first) → comes_before word first ≡ false
+  pub kept : (first : Word) → IsFirstWord notes round (Some first) → word_comes_before word first ≡ false
       → IsFirstWord (notes ++ (round, word) ∷ []) round (Some first)
   kept first is later = (
     still (round, first) is.0,
     λ w there. elim (Contains-push_cases notes (round, word) (round, w) there) [
       | inl old ↦ is.1 w old
-      | inr new ↦ subst (λ (u : Word). comes_before u first ≡ false) (ap word_of new) later
+      | inr new ↦ subst (λ (u : Word). word_comes_before u first ≡ false) (ap word_of new) later
     ],
   )
 
-  pub replaced : (first : Word) → IsFirstWord notes round (Some first) → comes_before word first ≡ true
+  pub replaced : (first : Word) → IsFirstWord notes round (Some first) → word_comes_before word first ≡ true
       → IsFirstWord (notes ++ (round, word) ∷ []) round (Some word)
   replaced first is earlier = (
     there_now,
     λ w there. elim (Contains-push_cases notes (round, word) (round, w) there) [
       | inl old ↦ before_none w first word (is.1 w old) earlier
-      | inr new ↦ subst (λ (u : Word). comes_before u word ≡ false) (ap word_of new) (not_itself word)
+      | inr new ↦ subst (λ (u : Word). word_comes_before u word ≡ false) (ap word_of new) (not_itself word)
     ],
   )
 
@@ -71,7 +71,7 @@ module _ (notes : List Note) (round : Round) (word : Word) where
     there_now,
     λ w there. elim (Contains-push_cases notes (round, word) (round, w) there) [
       | inl old ↦ absurd (none w old)
-      | inr new ↦ subst (λ (u : Word). comes_before u word ≡ false) (ap word_of new) (not_itself word)
+      | inr new ↦ subst (λ (u : Word). word_comes_before u word ≡ false) (ap word_of new) (not_itself word)
     ],
   )
 
@@ -111,6 +111,6 @@ module _ (notes : List Note) (round : Round) (word : Word) where
   put o are here n is keeps other = at_each o (Some word) are here n is keeps other
 
   pub left : (o : Round → Option Word) (first : Word) → ((other : Round) → IsFirstWord notes other (o other)) → o round ≡ Some first
-      → comes_before word first ≡ false → (other : Round) → IsFirstWord (notes ++ (round, word) ∷ []) other (o other)
+      → word_comes_before word first ≡ false → (other : Round) → IsFirstWord (notes ++ (round, word) ∷ []) other (o other)
   left o first are is later other =
       at_each o (Some first) are (kept first (subst (IsFirstWord notes round) is (are round)) later) o is (λ other apart. refl) other

@@ -11,18 +11,18 @@ use Rattle.schedule_codec.specs.Reading.{schedule_of}
 use Rattle.bus_rules.specs.Slots.{Message, ScheduleOf, DataOf, RequestOf}
 use Rattle.lwb_member.specs.Said.{message_of}
 use Rattle.radio_model.specs.declared.sending.Sending.{Sending}
-use Rattle.radio_model.specs.Hearing.{frame_of}
+use Rattle.radio_model.specs.Hearing.{frame_of_sending}
 use Rattle.radio_model.specs.OnAir.{Hearing}
 use Rattle.lwb_base.proofs.Elements.{in_filter, filter_from}
 use Rattle.scenario_text.specs.ScenarioParts.{ScenarioParts}
 use Rattle.air_log.specs.declared.entry.Entry.{Entry}
-use Rattle.air_log.specs.Entries.{hearing_in, hearings_of, IsHeard}
-use Rattle.law_trails.specs.PacketKinds.{SaysOfKind, kind_of}
+use Rattle.air_log.specs.Entries.{hearing_in, hearings_of, HasHeardEntry}
+use Rattle.law_trails.specs.PacketKinds.{SaysOfKind, kind_of_message}
 use Rattle.law_trails.proofs.SaidPackets.{kind_says, schedule_read}
 use Rattle.bus_time.specs.Stamps.{IsOfFrame, IsAhead}
 use Rattle.bus_time.specs.Stamping.{IsWordFor}
-use Rattle.bus_time.specs.Words.{Note, IsFirstWord, comes_before}
-use Rattle.bus_time.specs.Reading.{now_in, ahead_in, now_by, ahead_by, note_now, note_ahead, note_of, round_of, word_of}
+use Rattle.bus_time.specs.Words.{Note, IsFirstWord, word_comes_before}
+use Rattle.bus_time.specs.Reading.{now_in, ahead_in, now_by, ahead_by, note_now, note_ahead, note_of, round_ahead, word_of}
 use Rattle.bus_time.specs.declared.words.Round.{Round}
 use Rattle.bus_time.specs.declared.words.Word.{Word}
 use Rattle.bus_time.proofs.ReadMore.{some_gap}
@@ -31,7 +31,7 @@ use Rattle.bus_time.proofs.ReadMore.{some_gap}
 pub schedule_said : (q : List ℕ) (y : Schedule) → schedule_of q ≡ Some y → message_of q ≡ Some (ScheduleOf y)
 schedule_said q y is = of_kind (kind_says kinds.Schedule q (ap (λ (o : Option Schedule). is_some o) is))
   where
-    of_message : (m : Message) → message_of q ≡ Some m → kind_of m ≡ kinds.Schedule → message_of q ≡ Some (ScheduleOf y)
+    of_message : (m : Message) → message_of q ≡ Some m → kind_of_message m ≡ kinds.Schedule → message_of q ≡ Some (ScheduleOf y)
     of_message (ScheduleOf z) says kind = (
         let read : schedule_of q ≡ Some z = schedule_read q z says in
         let same : z ≡ y = cc in
@@ -44,28 +44,28 @@ schedule_said q y is = of_kind (kind_says kinds.Schedule q (ap (λ (o : Option S
     of_kind k = of_message k.message k.says k.of_kind
 
 -- of two words, of which none of the second comes before the first
-no_earlier : (u w : Word) → comes_before u w ≡ false → u.ahead ≡ w.ahead → w.end ≤ u.end
+no_earlier : (u w : Word) → word_comes_before u w ≡ false → u.ahead ≡ w.ahead → w.end ≤ u.end
 no_earlier u w later same = elim (cases_lt u.end w.end) [
   | inr other ↦ other
   | inl less ↦ absurd (true≢false (sym (before less) ∙ later))
 ]
   where
-    before : u.end < w.end → comes_before u w ≡ true
+    before : u.end < w.end → word_comes_before u w ≡ true
     before less = grind (arith, nat_tests, less, same)
 
-no_later_frame : (u w : Word) → comes_before u w ≡ false → w.ahead ≤ u.ahead
+no_later_frame : (u w : Word) → word_comes_before u w ≡ false → w.ahead ≤ u.ahead
 no_later_frame u w later = elim (cases_lt u.ahead w.ahead) [
   | inr other ↦ other
   | inl less ↦ absurd (true≢false (sym (before less) ∙ later))
 ]
   where
-    before : u.ahead < w.ahead → comes_before u w ≡ true
+    before : u.ahead < w.ahead → word_comes_before u w ≡ true
     before less = grind (arith, nat_tests, less)
 
 module _ (s : ScenarioParts) (air : List Entry) (x : Sending) where
   -- the round of x at its sender
   abbrev pub own_round : Round
-  own_round = record { node = x.node; rank = x.rank; frame = frame_of s.profile x }
+  own_round = record { node = x.node; rank = x.rank; frame = frame_of_sending s.profile x }
 
   abbrev heard_as : Sending → Hearing
   heard_as h = record { node = x.node; sending = h }
@@ -79,8 +79,8 @@ module _ (s : ScenarioParts) (air : List Entry) (x : Sending) where
       let note : now_in s.profile e.0 ≡ Some (note_of s.profile 0 (heard_as h)) = ap (now_by s.profile) e.2 ∙ ap (note_now s.profile (heard_as h)) read in
       let rank = is.heard.channel in
       let frame = is.frame in
-      let round : round_of s.profile 0 (heard_as h) ≡ own_round =
-      ap {A = ℕ} {B = Round} (λ (r : ℕ). record { node = x.node; rank = r; frame = frame_of s.profile h + 0 }) rank
+      let round : round_ahead s.profile 0 (heard_as h) ≡ own_round =
+      ap {A = ℕ} {B = Round} (λ (r : ℕ). record { node = x.node; rank = r; frame = frame_of_sending s.profile h + 0 }) rank
       ∙ ap {A = ℕ} {B = Round} (λ (f : ℕ). record { node = x.node; rank = x.rank; frame = f }) (omega (arith, frame)) in
       subst (λ (r : Round). Contains (filter_map (now_in s.profile) air) (r, word_of 0 (heard_as h))) round
       (in_filter (now_in s.profile) air e.0 (note_of s.profile 0 (heard_as h)) e.1 note)
@@ -96,8 +96,8 @@ module _ (s : ScenarioParts) (air : List Entry) (x : Sending) where
       ap (ahead_by s.profile) e.2 ∙ ap (note_ahead s.profile (heard_as h)) read ∙ some_gap s.profile (heard_as h) y (λ none. omega (arith, none, gap, some)) in
       let rank = is.heard.channel in
       let frame = is.frame in
-      let round : round_of s.profile d (heard_as h) ≡ own_round =
-      ap {A = ℕ} {B = Round} (λ (r : ℕ). record { node = x.node; rank = r; frame = frame_of s.profile h + d }) rank
+      let round : round_ahead s.profile d (heard_as h) ≡ own_round =
+      ap {A = ℕ} {B = Round} (λ (r : ℕ). record { node = x.node; rank = r; frame = frame_of_sending s.profile h + d }) rank
       ∙ ap {A = ℕ} {B = Round} (λ (f : ℕ). record { node = x.node; rank = x.rank; frame = f }) frame in
       subst (λ (r : Round). Contains (filter_map (ahead_in s.profile) air) (r, word_of d (heard_as h))) round
       (subst (λ (g : ℕ). Contains (filter_map (ahead_in s.profile) air) (note_of s.profile g (heard_as h))) gap
@@ -108,17 +108,17 @@ module _ (s : ScenarioParts) (air : List Entry) (x : Sending) where
   -- a word of the round of x is of a schedule
   record IsNoteOf (d : ℕ) (w : Word) : Type 0 where
     pub heard : Sending
-    pub there : IsHeard air x.node heard
+    pub there : HasHeardEntry air x.node heard
     pub channel : heard.rank ≡ x.rank
     pub schedule : Schedule
     pub says : message_of heard.packet ≡ Some (ScheduleOf schedule)
-    pub frame : frame_of s.profile heard + d ≡ frame_of s.profile x
+    pub frame : frame_of_sending s.profile heard + d ≡ frame_of_sending s.profile x
     pub is : w ≡ word_of d (record { node = x.node; sending = heard })
 
   of_note : (d : ℕ) (g : Hearing) (y : Schedule) (w : Word) → Contains (hearings_of air) g → schedule_of g.sending.packet ≡ Some y
       → note_of s.profile d g ≡ (own_round, w) → IsNoteOf d w
   of_note d g y w there read is =
-      let round : round_of s.profile d g ≡ own_round = ap (λ (n : Note). n.0) is in
+      let round : round_ahead s.profile d g ≡ own_round = ap (λ (n : Note). n.0) is in
       let node : g.node ≡ x.node = ap (λ (r : Round). r.node) round in
       let word : word_of d g ≡ w = ap (λ (n : Note). n.1) is in
       record {

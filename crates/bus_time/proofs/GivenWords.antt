@@ -6,10 +6,10 @@ use Rattle.lwb_base.specs.Messages.{Schedule}
 use Rattle.lwb_packets.specs.DataPackets.{is_data}
 use Rattle.lwb_member.specs.Said.{data_in}
 use Rattle.radio_model.specs.declared.sending.Sending.{Sending}
-use Rattle.radio_model.specs.Hearing.{frame_of, counter_of}
+use Rattle.radio_model.specs.Hearing.{frame_of_sending, counter_of_sending}
 use Rattle.scenario_text.specs.ScenarioParts.{ScenarioParts}
 use Rattle.air_log.specs.declared.entry.Entry.{Entry}
-use Rattle.air_log.specs.Safe.{by_host}
+use Rattle.air_log.specs.Safe.{sender_hosts}
 use Rattle.air_log.specs.Entries.{sendings_of}
 use Rattle.law_safety.specs.Endings.{EndsInOrder}
 use Rattle.bus_time.specs.Stamps.{begins_data, IsOfFrame}
@@ -27,11 +27,11 @@ use Rattle.bus_time.proofs.HeardWords.{over_before}
 -- data that begins a flood
 pub begun_data : (air : List Entry) (x : Sending) → Contains (sendings_of air) x → begins_data x ≡ true → BeginsData air x
 begun_data air x there begins =
-    let parts = and_parts (counter_of x == 0) (is_data x.packet) begins in
-    record { there = there; first = eqb-true (counter_of x) 0 parts.0; data_ = data_in x.packet; says = cond-true (is_data x.packet) _ _ parts.1 }
+    let parts = and_parts (counter_of_sending x == 0) (is_data x.packet) begins in
+    record { there = there; first = eqb-true (counter_of_sending x) 0 parts.0; data_ = data_in x.packet; says = cond-true (is_data x.packet) _ _ parts.1 }
 
 module _ (s : ScenarioParts) (clocks : ℕ → ℕ → ℕ) (air : List Entry) (whole : EndsInOrder s clocks air) (x : Sending) (begun : BeginsData air x)
-    (guest : by_host s clocks air x ≡ false) where
+    (guest : sender_hosts s clocks air x ≡ false) where
   -- a word on a later frame, unless there is one on the frame itself
   pub given_ahead : ((k : Sending) → IsOfFrame s air x k → ⊥) → IsFirstWord (filter_map (ahead_in s.profile) air) (own_round s air x) None → ⊥
   given_ahead none nothing =
@@ -65,7 +65,7 @@ pub found : (s : ScenarioParts) (air : List Entry) (x : Sending) (b : Beginning)
 found s air x b is words notes are node rank same_node same_rank o at =
     let of_node : node ≡ x.node = same_node ∙ ap (λ (c : Beginning). c.node) is in
     let of_rank : rank ≡ x.rank = same_rank ∙ ap (λ (c : Beginning). c.rank) is in
-    let of_frame : b.frame ≡ frame_of s.profile x = ap (λ (c : Beginning). c.frame) is in
+    let of_frame : b.frame ≡ frame_of_sending s.profile x = ap (λ (c : Beginning). c.frame) is in
     let round : ◌≡◌ {A = Round} (record { node = node; rank = rank; frame = b.frame }) (own_round s air x) =
     ap {A = ℕ} {B = Round} (λ (n : ℕ). record { node = n; rank = rank; frame = b.frame }) of_node
     ∙ ap {A = ℕ} {B = Round} (λ (r : ℕ). record { node = x.node; rank = r; frame = b.frame }) of_rank

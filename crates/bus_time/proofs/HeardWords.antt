@@ -6,14 +6,14 @@ use Rattle.std.proofs.lemmas.Bool.{cases_lt}
 use Rattle.lwb_base.specs.Profile.{step}
 use Rattle.lwb_base.specs.Messages.{Schedule}
 use Rattle.time_reference.specs.Budgets.{budget_of}
-use Rattle.time_reference.specs.Zeros.{starting, Good}
+use Rattle.time_reference.specs.Zeros.{starting_offset, Good}
 use Rattle.bus_rules.specs.Slots.{Data, DataOf, ScheduleOf}
 use Rattle.lwb_member.specs.Said.{message_of}
 use Rattle.scenario_text.specs.ScenarioParts.{ScenarioParts}
 use Rattle.radio_model.specs.declared.sending.Sending.{Sending}
-use Rattle.radio_model.specs.Hearing.{frame_of, slot_of, counter_of}
+use Rattle.radio_model.specs.Hearing.{frame_of_sending, slot_of_sending, counter_of_sending}
 use Rattle.air_log.specs.declared.entry.Entry.{Entry}
-use Rattle.air_log.specs.Entries.{sendings_of, IsHeard}
+use Rattle.air_log.specs.Entries.{sendings_of, HasHeardEntry}
 use Rattle.law_trails.proofs.SlotBounds.{slots_apart}
 use Rattle.law_trails.proofs.SaidPackets.{says}
 use Rattle.law_trails.proofs.ProfilePackets.{in_slot}
@@ -30,33 +30,34 @@ data_slot q d is = (says q (DataOf d) is).place.0.slot.0
 module _ (s : ScenarioParts) (clocks : ℕ → ℕ → ℕ) (air : List Entry) (whole : EndsInOrder s clocks air) where
   -- what is of an earlier slot of the round is over
   earlier_slot : (x y : Sending) (is : IsOfFlood s clocks air x) (also : IsOfFlood s clocks air y) → x.rank ≡ y.rank
-      → frame_of s.profile x ≡ frame_of s.profile y → slot_of x < slot_of y → x.end < y.start
+      → frame_of_sending s.profile x ≡ frame_of_sending s.profile y → slot_of_sending x < slot_of_sending y → x.end < y.start
   earlier_slot x y is also channel frame less =
       let p = s.profile in
       let b = budget_of p in
       let host = clocks (slice_index s.hosts x.rank) in
       let first = clocks is.origin.node in
       let other = clocks also.origin.node in
-      let f = frame_of p x in
+      let f = frame_of_sending p x in
       let drifts = host_drifts s clocks air whole.run x is in
       let first_drifts = origin_drifts s clocks air whole.run x is in
       let other_drifts = origin_drifts s clocks air whole.run y also in
-      let good : Good p b host other also.zero f (starting p (slot_of y)) =
-      subst (λ (r : ℕ). Good p b (clocks (slice_index s.hosts r)) other also.zero f (starting p (slot_of y))) (sym channel)
-      (subst (λ (g : ℕ). Good p b (clocks (slice_index s.hosts y.rank)) other also.zero g (starting p (slot_of y))) (sym frame)
+      let good : Good p b host other also.zero f (starting_offset p (slot_of_sending y)) =
+      subst (λ (r : ℕ). Good p b (clocks (slice_index s.hosts r)) other also.zero f (starting_offset p (slot_of_sending y))) (sym channel)
+      (subst (λ (g : ℕ). Good p b (clocks (slice_index s.hosts y.rank)) other also.zero g (starting_offset p (slot_of_sending y))) (sym frame)
       (zero_good s clocks air whole.run y also)) in
       subst (λ (e : ℕ). e < y.start) (sym is.lasts)
-      (slots_apart p b (run_fits s whole.run.driven.sound) host first other is.zero also.zero f (slot_of x) (slot_of y) (length x.packet) (length y.packet)
-      (counter_of x) (counter_of y) x.start y.start drifts first_drifts other_drifts
+      (slots_apart p b (run_fits s whole.run.driven.sound) host first other is.zero also.zero f (slot_of_sending x) (slot_of_sending y) (length x.packet)
+          (length y.packet)
+      (counter_of_sending x) (counter_of_sending y) x.start y.start drifts first_drifts other_drifts
       less (slot_in_round s clocks air whole.run y also) (packet_short s clocks air whole.run x is) (zero_good s clocks air whole.run x is) good
       (in_flood s clocks air whole.run x is) (in_flood s clocks air whole.run y also))
 
-  was_sent : (v : ℕ) (h : Sending) → IsHeard air v h → Contains (sendings_of air) h
+  was_sent : (v : ℕ) (h : Sending) → HasHeardEntry air v h → Contains (sendings_of air) h
   was_sent v h there = (whole.run.heedful.heard v h there).sent
 
   -- a schedule for the frame of x, which is data
-  pub over_before : (v : ℕ) (h x : Sending) (y : Schedule) (d : Data) → IsHeard air v h → Contains (sendings_of air) x → h.rank ≡ x.rank
-      → message_of h.packet ≡ Some (ScheduleOf y) → message_of x.packet ≡ Some (DataOf d) → frame_of s.profile h + y.gap ≡ frame_of s.profile x
+  pub over_before : (v : ℕ) (h x : Sending) (y : Schedule) (d : Data) → HasHeardEntry air v h → Contains (sendings_of air) x → h.rank ≡ x.rank
+      → message_of h.packet ≡ Some (ScheduleOf y) → message_of x.packet ≡ Some (DataOf d) → frame_of_sending s.profile h + y.gap ≡ frame_of_sending s.profile x
       → h.end < x.start
   over_before v h x y d heard there channel schedule payload due =
       let sent = was_sent v h heard in
@@ -66,12 +67,12 @@ module _ (s : ScenarioParts) (clocks : ℕ → ℕ → ℕ) (air : List Entry) (
         | inl ahead ↦ (
             let ends = before_frame_end s clocks air whole.run h is sent in
             let starts = after_frame_start s clocks air whole.run x also there in
-            let later : frame_of s.profile h + 1 ≤ frame_of s.profile x = omega (arith, ahead, due) in
+            let later : frame_of_sending s.profile h + 1 ≤ frame_of_sending s.profile x = omega (arith, ahead, due) in
             let frames = mul-le-mul_right s.profile.frame later in
             omega (arith, ends, starts, frames)
             )
         | inr none ↦ (
-            let first : slot_of h ≡ 0 = (in_slot h.packet y schedule).opening (omega (arith, none)) in
+            let first : slot_of_sending h ≡ 0 = (in_slot h.packet y schedule).opening (omega (arith, none)) in
             let later = data_slot x.packet d payload in
             earlier_slot h x is also channel (omega (arith, none, due)) (omega (arith, first, later))
             )
@@ -80,7 +81,7 @@ module _ (s : ScenarioParts) (clocks : ℕ → ℕ → ℕ) (air : List Entry) (
   -- whoever began the flood of h began no later
   pub origin_before : (h : Sending) (is : IsOfFlood s clocks air h) → is.origin.start ≤ h.start
   origin_before h is =
-      let k = counter_of h in
+      let k = counter_of_sending h in
       let n = length h.packet in
       let near = is.near.above in
       let turn : 1 ≤ step s.profile n = (let short = (run_fits s whole.run.driven.sound).turn_apart in omega (arith, short)) in

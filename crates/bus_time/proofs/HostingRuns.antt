@@ -11,12 +11,12 @@ use Rattle.law_trails.specs.Phases.{Lines, Start, device_at}
 use Rattle.law_trails.specs.TrailLinks.{device_in}
 use Rattle.law_trails.proofs.WalkOfRun.{holds_in_tick}
 use Rattle.law_trails.proofs.SentInTrails.{sent_below}
-use Rattle.law_safety.specs.Invariant.{Invariant, IsRun}
+use Rattle.law_safety.specs.Invariant.{Invariant, IsObedientRun}
 use Rattle.law_safety.specs.Rows.{AtTick, IsFine}
 use Rattle.law_safety.proofs.InvariantHolds.{all_rows, holds_throughout}
 use Rattle.bus_time.proofs.HostingWalk.{All, IsHosting, keeps_all}
 
-module _ (s : ScenarioParts) (clocks : ℕ → ℕ → ℕ) (air : List Entry) (v : ℕ) (run : IsRun s clocks air) (known : knows s.nodes v ≡ true) where
+module _ (s : ScenarioParts) (clocks : ℕ → ℕ → ℕ) (air : List Entry) (v : ℕ) (run : IsObedientRun s clocks air) (known : knows s.nodes v ≡ true) where
   at_tick : (t : ℕ) → t < run_end s → AtTick s clocks air v t
   at_tick t in_run = record { run = run; known = known; in_run = in_run; before = holds_throughout s clocks air run t (omega (arith, in_run)) }
 

@@ -7,7 +7,7 @@ use Rattle.lwb_base.specs.Messages.{Schedule}
 use Rattle.lwb_base.specs.declared.event.Event.{Event}
 use Rattle.lwb_base.specs.declared.event.Event.TheVariants.{Alarm, Heard, Sent}
 use Rattle.radio_model.specs.declared.sending.Sending.{Sending}
-use Rattle.radio_model.specs.Hearing.{frame_of, counter_of, slot_of}
+use Rattle.radio_model.specs.Hearing.{frame_of_sending, counter_of_sending, slot_of_sending}
 use Rattle.bus_rules.specs.declared.tune.Tune.{Tune}
 use Rattle.bus_rules.specs.declared.tune.Tune.TheVariants.{Scan, Hold, Host}
 use Rattle.bus_rules.specs.Tuning.{hosts, rank_of}
@@ -23,26 +23,26 @@ use Rattle.scenario_text.specs.ScenarioParts.{ScenarioParts}
 use Rattle.scenario_text.specs.declared.script.Act.TheVariants.{Off}
 use Rattle.scenario_text.specs.declared.script.ScriptLine.{ScriptLine}
 use Rattle.air_log.specs.declared.entry.Entry.{Entry}
-use Rattle.air_log.specs.Devices.{Device, Power, PowerOff, PowerOn, Listening, Ordered, listens_to, moved}
-use Rattle.air_log.specs.ScriptedDevices.{switched_on, switched_off, with_new_core, dropped}
+use Rattle.air_log.specs.Devices.{Device, Power, PowerOff, PowerOn, Listening, OrderedPacket, listens_to, moved}
+use Rattle.air_log.specs.ScriptedDevices.{device_after_on, device_after_off, with_new_core, dropped}
 use Rattle.air_log.specs.Lawful.{heard_by}
-use Rattle.air_log.specs.Safe.{by_host, is_hosting}
+use Rattle.air_log.specs.Safe.{sender_hosts, is_hosting}
 use Rattle.air_log.specs.Trails.{setup_of, sending_from, tune_of}
 use Rattle.lwb_base.proofs.Elements.{contains_head}
-use Rattle.law_trails.specs.Phases.{Phase, Lines, Hearings, End, Alarms, Start, Over, IsNextLine, IsNextAlarm, device_at}
-use Rattle.law_trails.specs.Walks.{Now, Keeps, after_row, begins}
+use Rattle.law_trails.specs.Phases.{Phase, Lines, Hearings, End, Alarms, Start, Over, IsNextLineOf, IsNextAlarm, device_at}
+use Rattle.law_trails.specs.Walks.{Now, Keeps, device_after_row, with_start}
 use Rattle.law_trails.specs.TrailLinks.{device_in}
 use Rattle.law_trails.specs.DeviceRanges.{IsPower}
-use Rattle.law_trails.specs.NodeRanges.{IsNode}
+use Rattle.law_trails.specs.NodeRanges.{IsNodeInRange}
 use Rattle.law_trails.specs.Lives.{Life, ByTune, ByPower}
 use Rattle.law_trails.proofs.RowsOfDevices.{row_obeyed, row_power, switched_on_is}
 use Rattle.law_safety.specs.SentPlans.{IsHostOf, StaysOnUntil}
 use Rattle.law_safety.specs.SetAlarms.{rank_at}
-use Rattle.law_safety.specs.TunedNodes.{Either, IsMember, IsRoundOf, IsTunedAt, by_hearing, is_last}
+use Rattle.law_safety.specs.TunedNodes.{Either, IsMember, IsRoundOf, IsTunedAt, by_hearing, is_last_window}
 use Rattle.law_safety.specs.Beginnings.{MaySay}
 use Rattle.law_safety.specs.FloodSendings.{IsOfFlood, BeginsFlood}
 use Rattle.law_safety.specs.NodesInOrder.{IsOn, InOpenWindow, InOrderBy, WindowAt}
-use Rattle.law_safety.specs.QuietHosts.{HostsInOrder, IsIn, LivesBy}
+use Rattle.law_safety.specs.QuietHosts.{HostsInOrder, LifeHasSchedule, LivesBy}
 use Rattle.law_safety.specs.Rows.{AtTick, AllRows, IsFine, told_in}
 use Rattle.law_safety.proofs.RunFacts.{frame_below}
 use Rattle.law_safety.proofs.OpenWindows.{IsAbout, where_ordered}
@@ -55,7 +55,7 @@ HostsBy (PowerOn n) = hosts n.core.tune ≡ true
 
 -- x begins the flood of a schedule
 pub record BeginsSchedule (x : Sending) : Type 0 where
-  pub first : counter_of x ≡ 0
+  pub first : counter_of_sending x ≡ 0
   pub schedule : Schedule
   pub says : message_of x.packet ≡ Some (ScheduleOf schedule)
 
@@ -71,8 +71,8 @@ module _ (s : ScenarioParts) (clocks : ℕ → ℕ → ℕ) (air : List Entry) (
   -- beside the invariant, at some moment of tick t
   pub record IsHosting (t : ℕ) (d : Device) : Type 0 where
     pub grows : (x : Sending) → Contains (device_in s clocks air v t).made.sent x → Contains d.made.sent x
-    pub on : (x : Sending) → Contains d.made.sent x → BeginsSchedule x → StaysOnUntil s v (frame_of s.profile x) (suc t) → HostsBy d.power
-    pub own : (x : Sending) → Contains d.made.sent x → by_host s clocks air x ≡ true → IsHostOf s x.rank v
+    pub on : (x : Sending) → Contains d.made.sent x → BeginsSchedule x → StaysOnUntil s v (frame_of_sending s.profile x) (suc t) → HostsBy d.power
+    pub own : (x : Sending) → Contains d.made.sent x → sender_hosts s clocks air x ≡ true → IsHostOf s x.rank v
 
   abbrev pub All : ℕ → Phase → Device → Type 0
   All t phase d = IsFine s clocks air v t phase d × IsHosting t d
@@ -96,9 +96,9 @@ module _ (s : ScenarioParts) (clocks : ℕ → ℕ → ℕ) (air : List Entry) (
 
   -- and after a row
   after : (t : ℕ) (e : Event) (x : Option Sending) (d : Device) (n : Node) (r : Stepped) → d.power ≡ PowerOn n
-      → (hosts n.core.tune ≡ true → hosts r.node.core.tune ≡ true) → IsHosting t d → IsHosting t (after_row (clocks v) (setup_of s v) t e x d n r)
+      → (hosts n.core.tune ≡ true → hosts r.node.core.tune ≡ true) → IsHosting t d → IsHosting t (device_after_row (clocks v) (setup_of s v) t e x d n r)
   after t e x d n r on keeps is =
-      still t d (after_row (clocks v) S t e x d n r) (row_obeyed (clocks v) S t e x d n r).sent
+      still t d (device_after_row (clocks v) S t e x d n r) (row_obeyed (clocks v) S t e x d n r).sent
       (λ host. subst HostsBy (sym (row_power (clocks v) S t e x d n r)) (keeps (subst HostsBy on host))) is
 
   told : (t : ℕ) (d : Device) (n : Node) → d.power ≡ PowerOn n → HostsBy d.power → hosts n.core.tune ≡ true
@@ -110,13 +110,13 @@ module _ (s : ScenarioParts) (clocks : ℕ → ℕ → ℕ) (air : List Entry) (
 
   -- a line that switches it off is told after all that it sent
   goes_off : (t : ℕ) → AtTick s clocks air v t → (d : Device) (l : ScriptLine) (n : Node) → IsFine s clocks air v t Lines d
-      → IsNextLine s v (clocks v) (heard_by air v) t l d → l.act ≡ Off → IsHosting t d → IsHosting t (switched_off v t n d)
+      → IsNextLineOf s v (clocks v) (heard_by air v) t l d → l.act ≡ Off → IsHosting t d → IsHosting t (device_after_off v t n d)
   goes_off t at d l n order next act is = record {
     grows = is.grows;
     on = λ x there begins stays. (
         let starts = order.before x there in
         let line = next.now in
-        let later : frame_of s.profile x < l.frame = frame_below s at.run.driven.sound l.frame x.start (omega (arith, starts, line)) in
+        let later : frame_of_sending s.profile x < l.frame = frame_below s at.run.driven.sound l.frame x.start (omega (arith, starts, line)) in
         absurd (stays l next.there next.node later (omega (arith, line)) act)
         );
     own = is.own;
@@ -133,14 +133,14 @@ module _ (s : ScenarioParts) (clocks : ℕ → ℕ → ℕ) (air : List Entry) (
   closes_by t at d n j w here due power stage host =
       let on = on_in t Alarms d n here.holds power in
       let is : InOpenWindow s clocks air v (suc t) n d j w = subst (WindowAt s clocks air v (suc t) n d) stage on.window in
-      let ranged : IsNode S n = subst (IsPower S) power (well_at_alarms s clocks air v t at d due).power in
+      let ranged : IsNodeInRange S n = subst (IsPower S) power (well_at_alarms s clocks air v t at d due).power in
       closed_hosts S n.frame w.part w.flood.initiated n.core (accepted_in w)
       (accepts_none S n j w ranged stage (is.flood.own host)) host
 
   -- ---- a sending begins
 
   -- a life that opened or closed in this frame hosts
-  by_life : (rank f : ℕ) (y : Schedule) (l : Life) (tune : Tune) → ByTune rank l tune → IsIn l f y → l.frame ≤ f → hosts tune ≡ true
+  by_life : (rank f : ℕ) (y : Schedule) (l : Life) (tune : Tune) → ByTune rank l tune → LifeHasSchedule l f y → l.frame ≤ f → hosts tune ≡ true
   by_life rank f y l (Host r due) by is late = refl
   by_life rank f y l (Hold r due) by is late = absurd (elim is [
     | inl opened ↦ (let past = by.1.openings (record { frame = f; plan = y.plan }) opened.1 in let since = by.0 in omega (arith, past, since, late))
@@ -151,7 +151,8 @@ module _ (s : ScenarioParts) (clocks : ℕ → ℕ → ℕ) (air : List Entry) (
     | inr closed ↦ (let past = by.1.closings (record { frame = f; gap = y.gap; plan = y.plan }) closed in let since = by.0 in omega (arith, past, since, late))
   ])
 
-  module _ (t : ℕ) (at : AtTick s clocks air v t) (rows : AllRows) (d : Device) (o : Ordered) (l : Listening) (here : Now (IsFine s clocks air v) s t Start d)
+  module _ (t : ℕ) (at : AtTick s clocks air v t) (rows : AllRows) (d : Device) (o : OrderedPacket) (l : Listening)
+      (here : Now (IsFine s clocks air v) s t Start d)
       (enters : d ≡ device_at s v (clocks v) (heard_by air v) t Start) (ordered : d.ordered ≡ Some o) (now : o.tick ≡ t)
       (tuned : d.listening ≡ Some l) (free : d.sending ≡ None) where
     abbrev x : Sending
@@ -160,13 +161,13 @@ module _ (s : ScenarioParts) (clocks : ℕ → ℕ → ℕ) (air : List Entry) (
     about : IsAbout s clocks air v t d o
     about = where_ordered s clocks air v t d o ordered here.holds
 
-    behind : IsFine s clocks air v t Over (begins d x)
+    behind : IsFine s clocks air v t Over (with_start d x)
     behind = rows.beginning s clocks air v t at d o l here enters ordered now tuned free
 
-    in_it : Contains (begins d x).made.sent x
+    in_it : Contains (with_start d x).made.sent x
     in_it = Contains-append_right d.made.sent (x ∷ []) x (contains_head x [])
 
-    hosts_now : by_host s clocks air x ≡ hosts about.node.core.tune
+    hosts_now : sender_hosts s clocks air x ≡ hosts about.node.core.tune
     hosts_now =
         ap (λ (y : Device). is_hosting (tune_of y.power)) (sym enters)
         ∙ ap (λ (p : Power). is_hosting (tune_of p)) about.on
@@ -177,27 +178,28 @@ module _ (s : ScenarioParts) (clocks : ℕ → ℕ → ℕ) (air : List Entry) (
         let begun : BeginsFlood s clocks air of_flood.zero x = subst (BeginsFlood s clocks air of_flood.zero) (of_flood.itself starts.first) of_flood.begins in
         let y = starts.schedule in
         let host : IsHostOf s x.rank v =
-        (subst (MaySay s clocks air v x.rank (frame_of s.profile x) of_flood.zero (slot_of x) (by_host s clocks air x)) starts.says begun.start.says).host in
-        let h : HostsInOrder s x.rank t (suc t) (begins d x) = behind.host x.rank host in
+        (subst (MaySay s clocks air v x.rank (frame_of_sending s.profile x) of_flood.zero (slot_of_sending x) (sender_hosts s clocks air x)) starts.says
+            begun.start.says).host in
+        let h : HostsInOrder s x.rank t (suc t) (with_start d x) = behind.host x.rank host in
         let lives = subst (LivesBy h.life (t / s.profile.frame)) about.on h.lives in
         let stands : ByPower x.rank h.life true = subst (ByPower x.rank h.life) lives.on h.quiet.stands in
         let frame = lives.frame in
         let counted = about.frame in
-        ap hosts (sym lives.tune) ∙ by_life x.rank (frame_of s.profile x) y h.life h.life.tune stands (h.sent x y in_it starts.first starts.says)
+        ap hosts (sym lives.tune) ∙ by_life x.rank (frame_of_sending s.profile x) y h.life h.life.tune stands (h.sent x y in_it starts.first starts.says)
         (omega (arith, frame, counted))
         )
 
-    own_rank : by_host s clocks air x ≡ true → IsHostOf s x.rank v
+    own_rank : sender_hosts s clocks air x ≡ true → IsHostOf s x.rank v
     own_rank host =
         let n = about.node in
         let hosting : hosts n.core.tune ≡ true = sym hosts_now ∙ host in
-        let place : Either (by_hearing n n.core.tune) _ (IsMember s clocks v n about.slot about.window.last (is_last about.slot about.window)) =
+        let place : Either (by_hearing n n.core.tune) _ (IsMember s clocks v n about.slot about.window.last (is_last_window about.slot about.window)) =
         subst (IsTunedAt s clocks v n) about.stage about.is.tune.at in
         let member = otherwise (by_hearing n n.core.tune) _ _ (not_by_hearing n n.core.tune hosting) place in
         let rank : l.rank ≡ rank_at n = eqb-true l.rank (rank_at n) (ap (listens_to (rank_at n)) (sym tuned) ∙ about.listens) in
-        subst (λ (r : ℕ). IsHostOf s r v) (sym rank) (own_by n about.slot (is_last about.slot about.window) n.core.tune hosting member.round)
+        subst (λ (r : ℕ). IsHostOf s r v) (sym rank) (own_by n about.slot (is_last_window about.slot about.window) n.core.tune hosting member.round)
 
-    begins_so : IsHosting t d → IsHosting t (begins d x)
+    begins_so : IsHosting t d → IsHosting t (with_start d x)
     begins_so is = record {
       grows = λ y there. Contains-append_left d.made.sent (x ∷ []) y (is.grows y there);
       on = λ y there begins stays. elim (Contains-push_cases d.made.sent x y there) [
@@ -206,7 +208,7 @@ module _ (s : ScenarioParts) (clocks : ℕ → ℕ → ℕ) (air : List Entry) (
       ];
       own = λ y there host. elim (Contains-push_cases d.made.sent x y there) [
         | inl old ↦ is.own y old host
-        | inr this ↦ subst (λ (z : Sending). by_host s clocks air z ≡ true → IsHostOf s z.rank v) this own_rank host
+        | inr this ↦ subst (λ (z : Sending). sender_hosts s clocks air z ≡ true → IsHostOf s z.rank v) this own_rank host
       ];
     }
 
@@ -216,7 +218,7 @@ module _ (s : ScenarioParts) (clocks : ℕ → ℕ → ℕ) (air : List Entry) (
       record {
         boot = λ d l count here next act off. (
           rows.boot s clocks air v t at d l count (fine t Lines d here) next act off,
-          still t d (switched_on c S t count d) (switched_on_is c S t count d).sent (λ host. absurd (subst HostsBy off host)) here.holds.1,
+          still t d (device_after_on c S t count d) (switched_on_is c S t count d).sent (λ host. absurd (subst HostsBy off host)) here.holds.1,
         );
         off = λ d l n here next act on.
             (rows.off s clocks air v t at d l n (fine t Lines d here) next act on, goes_off t at d l n here.holds.0 next act here.holds.1);

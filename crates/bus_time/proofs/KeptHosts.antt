@@ -12,8 +12,8 @@ use Rattle.node_core.specs.Windows.{Window}
 use Rattle.node_core.specs.Nodes.{Node}
 use Rattle.node_core.specs.Rows.{accepted_in}
 use Rattle.scenario_text.specs.ScenarioParts.{ScenarioParts}
-use Rattle.law_trails.specs.NodeRanges.{IsNode, IsAt, IsOpen, IsCarried}
-use Rattle.law_trails.specs.PacketKinds.{kind_of}
+use Rattle.law_trails.specs.NodeRanges.{IsNodeInRange, IsInStage, IsOpenInRange, IsCarried}
+use Rattle.law_trails.specs.PacketKinds.{kind_of_message}
 use Rattle.law_trails.proofs.SaidPackets.{kind_says}
 use Rattle.law_safety.specs.TunedNodes.{Either, Scans, by_hearing}
 use Rattle.bus_rules.specs.declared.part.Part.{Part}
@@ -22,7 +22,8 @@ use Rattle.bus_rules.specs.declared.tune.Tune.{Tune}
 use Rattle.bus_rules.specs.declared.tune.Tune.TheVariants.{Scan, Hold, Host}
 use Rattle.bus_rules.specs.Tuning.{hosts, next_tune}
 use Rattle.bus_rules.specs.Cores.{Core, Setup, as_host, begins_host, frame_ended, is_fresh}
-use Rattle.bus_rules.specs.Slots.{Message, ScheduleOf, DataOf, RequestOf, Opened, opened, closed, hosts_now, host_closes, silent, slot_heard, is_schedule_part}
+use Rattle.bus_rules.specs.Slots.{Message, ScheduleOf, DataOf, RequestOf, Opened, opened_slot, closed_slot, hosts_now, host_closes, silent, slot_heard}
+use Rattle.bus_rules.specs.Slots.{is_schedule_part}
 
 -- what was heard leaves the tune
 heard_tune : (f : ℕ) (part : Part) (heard : Bool) (c : Core) → (slot_heard f part heard c).tune ≡ c.tune
@@ -43,7 +44,7 @@ pub ended_hosts : (s : Setup) (f : ℕ) (c : Core) → hosts c.tune ≡ true →
 ended_hosts s f c host = ended_by s f c c.tune (is_fresh c) host
 
 -- where a window opens
-pub opened_hosts : (s : Setup) (f : ℕ) (part : Part) (c : Core) → hosts c.tune ≡ true → hosts (opened s f part c).core.tune ≡ true
+pub opened_hosts : (s : Setup) (f : ℕ) (part : Part) (c : Core) → hosts c.tune ≡ true → hosts (opened_slot s f part c).core.tune ≡ true
 opened_hosts s f Opening c host = host
 opened_hosts s f (DataSlot owner) c host = host
 opened_hosts s f (Contention i) c host = host
@@ -52,7 +53,7 @@ opened_hosts s f Closing c host =
 
 -- and where it closes, unless it accepted a schedule
 pub closed_hosts : (s : Setup) (f : ℕ) (part : Part) (initiated : Bool) (c : Core) (m : Option Message) → ((y : Schedule) → m ≡ Some (ScheduleOf y) → ⊥)
-    → hosts c.tune ≡ true → hosts (closed s f part initiated c m).core.tune ≡ true
+    → hosts c.tune ≡ true → hosts (closed_slot s f part initiated c m).core.tune ≡ true
 closed_hosts s f part initiated c None none host = ap hosts (heard_tune f part initiated c) ∙ host
 closed_hosts s f part initiated c (Some (DataOf d)) none host = ap hosts (heard_tune f part true c) ∙ host
 closed_hosts s f part initiated c (Some (RequestOf a)) none host = host
@@ -79,7 +80,7 @@ no_schedule part kind q y spelled says =
     let k = kind_says kind q spelled in
     let also : message_of q ≡ Some k.message = k.says in
     let same : k.message ≡ ScheduleOf y = cc in
-    sym k.of_kind ∙ ap kind_of same
+    sym k.of_kind ∙ ap kind_of_message same
 
 of_schedules : (part : Part) → kind_for part ≡ Kind.TheVariants.Schedule → is_schedule_part part ≡ true
 of_schedules Opening is = refl
@@ -87,12 +88,12 @@ of_schedules (DataSlot owner) is = absurd cc
 of_schedules (Contention i) is = absurd cc
 of_schedules Closing is = refl
 
-pub accepts_none : (s : Setup) (n : Node) (j : ℕ) (w : Window) → IsNode s n → n.stage ≡ InWindow j w
+pub accepts_none : (s : Setup) (n : Node) (j : ℕ) (w : Window) → IsNodeInRange s n → n.stage ≡ InWindow j w
     → (is_schedule_part w.part ≡ true → w.flood.initiated ≡ true) → (y : Schedule) → accepted_in w ≡ Some (ScheduleOf y) → ⊥
 accepts_none s n j w ranged stage own y accepted =
     let taken = packet_of (accepted_of w.flood) (ScheduleOf y) accepted in
     let listens = listener w.flood.initiated w.flood.first taken.0 taken.1 in
-    let open_so : IsOpen s n.frame n.core j w = subst (IsAt s n.frame n.core) stage ranged.stage in
+    let open_so : IsOpenInRange s n.frame n.core j w = subst (IsInStage s n.frame n.core) stage ranged.stage in
     let carried : IsCarried s (kind_for w.part) j taken.0.0 =
     subst (λ (o : Option (List ℕ)). IfSome o (IsCarried s (kind_for w.part) j)) listens.1 open_so.flood.first in
     let of_kind = no_schedule w.part (kind_for w.part) taken.0.0 y carried.spelled taken.2 in

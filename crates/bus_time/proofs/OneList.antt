@@ -12,14 +12,14 @@ use Rattle.bus_rules.specs.Slots.{Data, Message, ScheduleOf, DataOf, RequestOf}
 use Rattle.lwb_member.specs.Said.{message_of}
 use Rattle.radio_model.specs.declared.sending.Sending.{Sending}
 use Rattle.radio_model.specs.OnAir.{Hearing}
-use Rattle.radio_model.specs.Hearing.{frame_of, slot_of}
+use Rattle.radio_model.specs.Hearing.{frame_of_sending, slot_of_sending}
 use Rattle.radio_model.proofs.Members.{from_filter, in_filter}
 use Rattle.scenario_text.specs.ScenarioParts.{ScenarioParts}
 use Rattle.air_log.specs.declared.entry.Entry.{Entry}
 use Rattle.air_log.specs.Entries.{hearing_in, sending_in, sendings_of}
-use Rattle.air_log.specs.Safe.{Begins, SameSlot, by_host}
+use Rattle.air_log.specs.Safe.{Begins, SameSlot, sender_hosts}
 use Rattle.lwb_base.proofs.Elements.{contains_head, contains_tail, filtered, in_filtered}
-use Rattle.law_trails.specs.PacketKinds.{kind_of}
+use Rattle.law_trails.specs.PacketKinds.{kind_of_message}
 use Rattle.law_trails.proofs.SaidPackets.{kind_says}
 use Rattle.law_safety.specs.Endings.{EndsInOrder}
 use Rattle.law_safety.proofs.SafeRuns.{safe_at_the_end}
@@ -54,13 +54,13 @@ module _ (a b : List Entry) (moved : IsPermutation a b) where
 -- ---- the transmissions that are stamped
 
 abbrev place_of : Numbers → Sending → Place
-place_of p x = (frame_of p x, x.rank, slot_of x)
+place_of p x = (frame_of_sending p x, x.rank, slot_of_sending x)
 
 -- data is no request
 data_asks_not : (q : List ℕ) (d : Data) → message_of q ≡ Some (DataOf d) → is_request q ≡ false
 data_asks_not q d says = by_test (is_request q) refl
   where
-    other : (m : Message) → ◌≡◌ {A = Option Message} (Some (DataOf d)) (Some m) → kind_of m ≡ kinds.Request → ⊥
+    other : (m : Message) → ◌≡◌ {A = Option Message} (Some (DataOf d)) (Some m) → kind_of_message m ≡ kinds.Request → ⊥
     other (ScheduleOf y) same kind = cc
     other (DataOf e) same kind = cc
     other (RequestOf a) same kind = cc
@@ -97,10 +97,10 @@ one_stamped s clocks a b of_a of_b moved =
 
 module _ (s : ScenarioParts) (clocks : ℕ → ℕ → ℕ) (a b : List Entry) (of_a : EndsInOrder s clocks a) (of_b : EndsInOrder s clocks b)
     (moved : IsPermutation a b) (x : Sending) (begun : BeginsData a x) (begun_b : BeginsData b x) where
-  hosts_too : by_host s clocks a x ≡ true → by_host s clocks b x ≡ true
+  hosts_too : sender_hosts s clocks a x ≡ true → sender_hosts s clocks b x ≡ true
   hosts_too is = (hosts_named s clocks b of_b x begun_b).1 ((hosts_named s clocks a of_a x begun).0 is)
 
-  hosts_back : by_host s clocks b x ≡ true → by_host s clocks a x ≡ true
+  hosts_back : sender_hosts s clocks b x ≡ true → sender_hosts s clocks a x ≡ true
   hosts_back is = (hosts_named s clocks a of_a x begun).1 ((hosts_named s clocks b of_b x begun_b).0 is)
 
   by_references : (t u : ℕ) → HasReference s a x clocks t → HasReference s b x clocks u → t ≡ u
@@ -113,9 +113,9 @@ module _ (s : ScenarioParts) (clocks : ℕ → ℕ → ℕ) (a b : List Entry) (
       ∙ sym also.is
 
   same_tick : (t u : ℕ) → IsTick s a x clocks t → IsTick s b x clocks u → t ≡ u
-  same_tick t u is also = by_tests (by_host s clocks a x) (by_host s clocks b x) refl refl
+  same_tick t u is also = by_tests (sender_hosts s clocks a x) (sender_hosts s clocks b x) refl refl
     where
-      by_tests : (m n : Bool) → by_host s clocks a x ≡ m → by_host s clocks b x ≡ n → t ≡ u
+      by_tests : (m n : Bool) → sender_hosts s clocks a x ≡ m → sender_hosts s clocks b x ≡ n → t ≡ u
       by_tests true true one two = is.host one ∙ sym (also.host two)
       by_tests true false one two = absurd (true≢false (sym (hosts_too one) ∙ two))
       by_tests false true one two = absurd (true≢false (sym (hosts_back two) ∙ one))

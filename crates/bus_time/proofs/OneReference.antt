@@ -10,10 +10,10 @@ use Rattle.bus_rules.specs.Slots.{ScheduleOf, RequestOf}
 use Rattle.lwb_member.specs.Said.{message_of}
 use Rattle.node_core.specs.Nodes.{zero_from}
 use Rattle.radio_model.specs.declared.sending.Sending.{Sending}
-use Rattle.radio_model.specs.Hearing.{Meets, frame_of, slot_of, counter_of}
+use Rattle.radio_model.specs.Hearing.{Meets, frame_of_sending, slot_of_sending, counter_of_sending}
 use Rattle.scenario_text.specs.ScenarioParts.{ScenarioParts}
 use Rattle.air_log.specs.declared.entry.Entry.{Entry}
-use Rattle.air_log.specs.Entries.{sendings_of, IsHeard}
+use Rattle.air_log.specs.Entries.{sendings_of, HasHeardEntry}
 use Rattle.air_log.specs.Safe.{SameStep}
 use Rattle.law_safety.specs.Endings.{EndsInOrder}
 use Rattle.law_safety.specs.FloodSendings.{IsOfFlood}
@@ -31,7 +31,7 @@ use Rattle.bus_time.proofs.StampErrors.{before, sent}
 
 -- whatever is heard by the first log is heard by the second
 abbrev pub HeardToo : List Entry → List Entry → Type 0
-HeardToo a b = (v : ℕ) (h : Sending) → IsHeard a v h → IsHeard b v h
+HeardToo a b = (v : ℕ) (h : Sending) → HasHeardEntry a v h → HasHeardEntry b v h
 
 module _ (s : ScenarioParts) (x : Sending) (a b : List Entry) where
   schedule_too : HeardToo a b → (gap : ℕ) (h : Sending) → IsScheduleHeard s a x gap h → IsScheduleHeard s b x gap h
@@ -165,6 +165,8 @@ module _ (s : ScenarioParts) (clocks : ℕ → ℕ → ℕ) (air : List Entry) (
       let L = clocks x.node in
       let one = alike s air x d e h k is also in
       let zero : zero_from p (L h.end) h.packet ≡ zero_from p (L k.end) k.packet =
-      zero_same p (L h.end) (L k.end) (length h.packet) (length k.packet) (counter_of h) (counter_of k) (slot_of h) (slot_of k) (ap L one.end)
+      zero_same p (L h.end) (L k.end) (length h.packet) (length k.packet) (counter_of_sending h) (counter_of_sending k) (slot_of_sending h)
+          (slot_of_sending k) (ap L one.end)
       (same_length h.packet k.packet bodies) step.counter step.slot.slot in
-      tick_same (frame_of p x * p.frame + p.lead + L x.start) (zero_from p (L h.end) h.packet) (zero_from p (L k.end) k.packet) d e p.frame zero one.ahead
+      tick_same (frame_of_sending p x * p.frame + p.lead + L x.start) (zero_from p (L h.end) h.packet) (zero_from p (L k.end) k.packet) d e p.frame zero
+          one.ahead

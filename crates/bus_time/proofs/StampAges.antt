@@ -10,14 +10,14 @@ use Rattle.tick_clock.specs.Clocks.{Near, IsClock, due}
 use Rattle.tick_clock.proofs.Readings.{rounded}
 use Rattle.time_reference.specs.Budgets.{Budget, Fits, budget_of, budget_one, budget_two}
 use Rattle.time_reference.specs.Reference.{host_zero}
-use Rattle.time_reference.specs.Zeros.{Good, apart, opening, point, started, starting}
+use Rattle.time_reference.specs.Zeros.{Good, apart, opening_offset, tick_at_offset, start_tick, starting_offset}
 use Rattle.time_reference.proofs.BudgetRoom.{ages_end, window_order, window_room}
 use Rattle.time_reference.proofs.Points.{good_later, host_good}
 use Rattle.time_reference.proofs.Rounds.{start, spread}
 use Rattle.bus_rules.specs.Slots.{ScheduleOf}
 use Rattle.lwb_member.specs.Said.{message_of}
 use Rattle.radio_model.specs.declared.sending.Sending.{Sending}
-use Rattle.radio_model.specs.Hearing.{frame_of, slot_of}
+use Rattle.radio_model.specs.Hearing.{frame_of_sending, slot_of_sending}
 use Rattle.scenario_text.specs.ScenarioParts.{ScenarioParts}
 use Rattle.air_log.specs.declared.entry.Entry.{Entry}
 use Rattle.law_trails.proofs.ProfilePackets.{in_slot}
@@ -37,20 +37,20 @@ use Rattle.bus_time.proofs.StampErrors.{before, clock, errs, flood, host_clock, 
 
 module _ (p : Numbers) (b : Budget) (fits : Fits p b) where
   -- what starts in slot j of frame f by a good zero starts near the host's start of that slot
-  near_host : (H L : ℕ → ℕ) (z f j : ℕ) → IsClock H → IsClock L → 2 ≤ f → f ≤ 4095 → j ≤ b.last → Good p b H L z f (starting p j)
-      → Near (point L z (starting p j)) (started p H f j) (apart b)
+  near_host : (H L : ℕ → ℕ) (z f j : ℕ) → IsClock H → IsClock L → 2 ≤ f → f ≤ 4095 → j ≤ b.last → Good p b H L z f (starting_offset p j)
+      → Near (tick_at_offset L z (starting_offset p j)) (start_tick p H f j) (apart b)
   near_host H L z f j host clock late within slot good =
       let slots = mul-le-mul_right p.slot slot in
       let window = window_order p b fits in
-      let low : starting p j ≤ b.last * p.slot + p.close = omega (arith, slots, window) in
-      let own = good_later p b fits H H (host_zero p f) f 0 (starting p j) (omega arith) (host_good p b fits H f host late (omega (arith, within))) in
-      let near = spread p b fits H L H z (host_zero p f) f (starting p j) (starting p j) host clock host good own low low in
-      let same : due H (host_zero p f + starting p j) ≡ started p H f j = ap (due H) (omega arith) in
+      let low : starting_offset p j ≤ b.last * p.slot + p.close = omega (arith, slots, window) in
+      let own = good_later p b fits H H (host_zero p f) f 0 (starting_offset p j) (omega arith) (host_good p b fits H f host late (omega (arith, within))) in
+      let near = spread p b fits H L H z (host_zero p f) f (starting_offset p j) (starting_offset p j) host clock host good own low low in
+      let same : due H (host_zero p f + starting_offset p j) ≡ start_tick p H f j = ap (due H) (omega arith) in
       omega (arith, near, same)
 
   -- the host starts a slot of one of the next four frames within the age of a reference, with room for what starts near it
   within_age : (H : ℕ → ℕ) (g d f i j : ℕ) → IsClock H → 1 ≤ g → g + d ≡ f → d ≤ 4 → f ≤ 4095 → i ≤ b.last → j ≤ b.last
-      → started p H f j + apart b ≤ started p H g i + b.age
+      → start_tick p H f j + apart b ≤ start_tick p H g i + b.age
   within_age H g d f i j clock first is few within i_low j_low =
       let from = start p b fits H g i clock first (omega (arith, is, within)) i_low in
       let to = start p b fits H f j clock (omega (arith, is, first)) within j_low in
@@ -61,8 +61,8 @@ module _ (p : Numbers) (b : Budget) (fits : Fits p b) where
       let room = window_room p b fits in
       let age = fits.age in
       let end = ages_end p b fits in
-      let t0 : ℕ = started p H g i in
-      let t : ℕ = started p H f j in
+      let t0 : ℕ = start_tick p H g i in
+      let t : ℕ = start_tick p H f j in
       elim (cases_lt t0 t) [
         | inr before ↦ omega (arith, before, window, age)
         | inl late ↦ (
@@ -124,20 +124,21 @@ module _ (s : ScenarioParts) (clocks : ℕ → ℕ → ℕ) (air : List Entry) (
   fits : Fits s.profile (budget_of s.profile)
   fits = run_fits s whole.run.driven.sound
 
-  within : frame_of s.profile x ≤ 4095
+  within : frame_of_sending s.profile x ≤ 4095
   within = frame_of_run s clocks air whole.run x own_flood begun.there
 
-  j_low : slot_of x ≤ (budget_of s.profile).last
+  j_low : slot_of_sending x ≤ (budget_of s.profile).last
   j_low = slot_in_round s clocks air whole.run x own_flood
 
-  good : Good s.profile (budget_of s.profile) (clocks host) (clocks x.node) own_flood.zero (frame_of s.profile x) (starting s.profile (slot_of x))
+  good : Good s.profile (budget_of s.profile) (clocks host) (clocks x.node) own_flood.zero (frame_of_sending s.profile x)
+      (starting_offset s.profile (slot_of_sending x))
   good =
       let p = s.profile in
       let L = clocks x.node in
       let H = clocks (slice_index s.hosts x.rank) in
-      let j = slot_of x in
-      subst (λ (u : ℕ). Good p (budget_of p) (clocks u) L own_flood.zero (frame_of p x) (starting p j)) (host_is s x.rank host named)
-      (good_later p (budget_of p) fits H L own_flood.zero (frame_of p x) (opening p j) (starting p j) (omega arith) begins.start.good)
+      let j = slot_of_sending x in
+      subst (λ (u : ℕ). Good p (budget_of p) (clocks u) L own_flood.zero (frame_of_sending p x) (starting_offset p j)) (host_is s x.rank host named)
+      (good_later p (budget_of p) fits H L own_flood.zero (frame_of_sending p x) (opening_offset p j) (starting_offset p j) (omega arith) begins.start.good)
 
   -- one frame at most
   same_frame : d ≡ 0 → x.start ≤ o.start + (budget_of s.profile).age
@@ -145,11 +146,11 @@ module _ (s : ScenarioParts) (clocks : ℕ → ℕ → ℕ) (air : List Entry) (
       let p = s.profile in
       let sound = whole.run.driven.sound in
       let frames = (before s clocks air whole x begun d h reference y says).frames in
-      let same : frame_of p o ≡ frame_of p x = sym began.same.frame ∙ omega (arith, none, frames) in
+      let same : frame_of_sending p o ≡ frame_of_sending p x = sym began.same.frame ∙ omega (arith, none, frames) in
       let from = frame_begins s sound o.start in
       let until = frame_ends s sound x.start in
-      let one : (frame_of p x + 1) * p.frame ≡ frame_of p x * p.frame + p.frame = omega arith in
-      let product : frame_of p o * p.frame ≡ frame_of p x * p.frame = ap (λ (f : ℕ). f * p.frame) same in
+      let one : (frame_of_sending p x + 1) * p.frame ≡ frame_of_sending p x * p.frame + p.frame = omega arith in
+      let product : frame_of_sending p o * p.frame ≡ frame_of_sending p x * p.frame = ap (λ (f : ℕ). f * p.frame) same in
       let age = fits.age in
       omega (arith, from, until, one, product, age)
 
@@ -159,17 +160,17 @@ module _ (s : ScenarioParts) (clocks : ℕ → ℕ → ℕ) (air : List Entry) (
       let b = budget_of p in
       let H = clocks host in
       let L = clocks x.node in
-      let f = frame_of p x in
-      let g = frame_of p h in
+      let f = frame_of_sending p x in
+      let g = frame_of_sending p h in
       let frames = (before s clocks air whole x begun d h reference y says).frames in
       let first = later_frame s clocks air whole x begun d h reference y says o began host named in
       let i_low = slot_short s clocks air whole x begun d h reference y says o began host named in
       let host_drifts = host_clock s clocks air whole x begun d h reference y says o began host named in
       let drifts = clock s clocks air whole x begun d h reference y says o began host named in
-      let begins_at : x.start ≡ point L own_flood.zero (starting p (slot_of x)) = begins.at in
-      let near = near_host p b fits H L own_flood.zero f (slot_of x) host_drifts drifts (omega (arith, frames, first, some)) within j_low good in
+      let begins_at : x.start ≡ tick_at_offset L own_flood.zero (starting_offset p (slot_of_sending x)) = begins.at in
+      let near = near_host p b fits H L own_flood.zero f (slot_of_sending x) host_drifts drifts (omega (arith, frames, first, some)) within j_low good in
       let few = few_ahead s air x d h reference in
-      let young = within_age p b fits H g d f (slot_of h) (slot_of x) host_drifts first frames few within i_low j_low in
+      let young = within_age p b fits H g d f (slot_of_sending h) (slot_of_sending x) host_drifts first frames few within i_low j_low in
       let at = starts s clocks air whole x begun d h reference y says o began host named in
       let below = near.below in
       omega (arith, begins_at, below, young, at)

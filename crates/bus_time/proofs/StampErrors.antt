@@ -8,7 +8,7 @@ use Rattle.tick_clock.specs.Clocks.{Near, IsClock}
 use Rattle.tick_clock.proofs.Readings.{rounding}
 use Rattle.time_reference.specs.Budgets.{budget_of, span}
 use Rattle.time_reference.specs.Drift.{drift}
-use Rattle.time_reference.specs.Zeros.{started, starting, point, nominal}
+use Rattle.time_reference.specs.Zeros.{start_tick, starting_offset, tick_at_offset, nominal}
 use Rattle.time_reference.proofs.Points.{no_clamp}
 use Rattle.time_reference.proofs.Rounds.{start}
 use Rattle.time_reference.proofs.Steps.{reference_error}
@@ -16,11 +16,11 @@ use Rattle.bus_rules.specs.Slots.{ScheduleOf, RequestOf}
 use Rattle.lwb_member.specs.Said.{message_of}
 use Rattle.node_core.specs.Nodes.{zero_from}
 use Rattle.radio_model.specs.declared.sending.Sending.{Sending}
-use Rattle.radio_model.specs.Hearing.{frame_of, slot_of, counter_of}
+use Rattle.radio_model.specs.Hearing.{frame_of_sending, slot_of_sending, counter_of_sending}
 use Rattle.scenario_text.specs.ScenarioParts.{ScenarioParts}
 use Rattle.air_log.specs.declared.entry.Entry.{Entry}
-use Rattle.air_log.specs.Entries.{sendings_of, IsHeard}
-use Rattle.air_log.specs.Safe.{by_host}
+use Rattle.air_log.specs.Entries.{sendings_of, HasHeardEntry}
+use Rattle.air_log.specs.Safe.{sender_hosts}
 use Rattle.air_log.specs.Trails.{run_end}
 use Rattle.air_log.proofs.AlarmLoop.{early_in_run}
 use Rattle.law_trails.proofs.HeardReferences.{host_starts}
@@ -61,7 +61,7 @@ sums frames ahead lead listen J A K B D N Ht0 Ht Lt0 Lt Le z is_N low high own o
 
 module _ (s : ScenarioParts) (clocks : ℕ → ℕ → ℕ) (air : List Entry) (whole : EndsInOrder s clocks air) (x : Sending) (begun : BeginsData air x)
     (d : ℕ) (h : Sending) (reference : IsReference s air x d h) (y : Schedule) (says : message_of h.packet ≡ Some (ScheduleOf y)) where
-  pub heard : IsHeard air x.node h
+  pub heard : HasHeardEntry air x.node h
   heard = reference_heard s air x d h reference
 
   pub sent : Contains (sendings_of air) h
@@ -73,7 +73,7 @@ module _ (s : ScenarioParts) (clocks : ℕ → ℕ → ℕ) (air : List Entry) (
   -- h is of the channel of x, d frames before it, and over before it starts
   pub record IsBefore : Type 0 where
     pub channel : h.rank ≡ x.rank
-    pub frames : frame_of s.profile h + d ≡ frame_of s.profile x
+    pub frames : frame_of_sending s.profile h + d ≡ frame_of_sending s.profile x
     pub over : h.end < x.start
 
   pub before : IsBefore
@@ -112,10 +112,10 @@ module _ (s : ScenarioParts) (clocks : ℕ → ℕ → ℕ) (air : List Entry) (
         asks : message_of flood.origin.packet ≡ Some (ScheduleOf y) → ((a : Ask) × (message_of flood.origin.packet ≡ Some (RequestOf a))) → ⊥
         asks is also = let other = also.1 in cc
 
-    speech : SaysSchedule s clocks air flood.origin.node flood.origin.rank (frame_of s.profile flood.origin) flood.zero (slot_of flood.origin) y
+    speech : SaysSchedule s clocks air flood.origin.node flood.origin.rank (frame_of_sending s.profile flood.origin) flood.zero (slot_of_sending flood.origin) y
     speech =
-        subst (MaySay s clocks air flood.origin.node flood.origin.rank (frame_of s.profile flood.origin) flood.zero (slot_of flood.origin)
-        (by_host s clocks air flood.origin)) (sym (says_as_origin s clocks air h flood) ∙ says) flood.begins.start.says
+        subst (MaySay s clocks air flood.origin.node flood.origin.rank (frame_of_sending s.profile flood.origin) flood.zero (slot_of_sending flood.origin)
+        (sender_hosts s clocks air flood.origin)) (sym (says_as_origin s clocks air h flood) ∙ says) flood.begins.start.says
 
     host_node : flood.origin.node ≡ host
     host_node =
@@ -127,14 +127,14 @@ module _ (s : ScenarioParts) (clocks : ℕ → ℕ → ℕ) (air : List Entry) (
     p = s.profile
 
     -- the host starts its flood at the nominal time
-    pub starts : o.start ≡ started s.profile (clocks host) (frame_of s.profile h) (slot_of h)
+    pub starts : o.start ≡ start_tick s.profile (clocks host) (frame_of_sending s.profile h) (slot_of_sending h)
     starts =
         sym (ap (λ (z : Sending). z.start) same) ∙ flood.begins.at
-        ∙ ap (λ (u : ℕ). point (clocks u) flood.zero (starting p (slot_of flood.origin))) host_node
-        ∙ ap (λ (z : ℕ). point (clocks host) z (starting p (slot_of flood.origin))) speech.zero
-        ∙ host_starts p (clocks host) (frame_of p flood.origin) (slot_of flood.origin)
-        ∙ ap (λ (f : ℕ). started p (clocks host) f (slot_of flood.origin)) (sym flood.slot.frame)
-        ∙ ap (λ (j : ℕ). started p (clocks host) (frame_of p h) j) (sym flood.slot.slot)
+        ∙ ap (λ (u : ℕ). tick_at_offset (clocks u) flood.zero (starting_offset p (slot_of_sending flood.origin))) host_node
+        ∙ ap (λ (z : ℕ). tick_at_offset (clocks host) z (starting_offset p (slot_of_sending flood.origin))) speech.zero
+        ∙ host_starts p (clocks host) (frame_of_sending p flood.origin) (slot_of_sending flood.origin)
+        ∙ ap (λ (f : ℕ). start_tick p (clocks host) f (slot_of_sending flood.origin)) (sym flood.slot.frame)
+        ∙ ap (λ (j : ℕ). start_tick p (clocks host) (frame_of_sending p h) j) (sym flood.slot.slot)
 
     pub clock : IsClock (clocks x.node)
     clock = whole.run.driven.drift x.node (sent_known s clocks air whole.run.heedful.trails x begun.there)
@@ -143,14 +143,14 @@ module _ (s : ScenarioParts) (clocks : ℕ → ℕ → ℕ) (air : List Entry) (
     host_clock = whole.run.driven.drift host (host_known s whole.run.driven.sound x.rank host named)
 
     -- frames of hosted rounds are counted from 1
-    pub later_frame : 1 ≤ frame_of s.profile h
+    pub later_frame : 1 ≤ frame_of_sending s.profile h
     later_frame =
         let good = zero_good s clocks air whole.run h flood in
         let begun_in = good.ref.begun in
         let past = good.ref.past in
         omega (arith, begun_in, past)
 
-    pub slot_short : slot_of h ≤ (budget_of s.profile).last
+    pub slot_short : slot_of_sending h ≤ (budget_of s.profile).last
     slot_short = slot_in_round s clocks air whole.run h flood
 
     pub in_run : x.start < run_end s
@@ -178,9 +178,9 @@ module _ (s : ScenarioParts) (clocks : ℕ → ℕ → ℕ) (air : List Entry) (
         let L = clocks x.node in
         let H = clocks host in
         let n = length h.packet in
-        let k = counter_of h in
-        let g = frame_of p h in
-        let j = slot_of h in
+        let k = counter_of_sending h in
+        let g = frame_of_sending p h in
+        let j = slot_of_sending h in
         let fits = run_fits s whole.run.driven.sound in
         let few = frame_of_run s clocks air whole.run h flood sent in
         let A = airtime p n in
@@ -214,7 +214,7 @@ module _ (s : ScenarioParts) (clocks : ℕ → ℕ → ℕ) (air : List Entry) (
           above = (let above = exact.above in omega (arith, above, small));
         }) in
         let ahead : (g + d) * p.frame ≡ g * p.frame + d * p.frame = add-mul g d p.frame in
-        let nominal_frame : frame_of p x * p.frame ≡ g * p.frame + d * p.frame = ap (λ (f : ℕ). f * p.frame) (sym frames) ∙ ahead in
+        let nominal_frame : frame_of_sending p x * p.frame ≡ g * p.frame + d * p.frame = ap (λ (f : ℕ). f * p.frame) (sym frames) ∙ ahead in
         let near_host = sums (g * p.frame) (d * p.frame) p.lead p.listen (j * p.slot) A (k * step p n) (open_by y) D (nominal p g j) (H o.start) (H x.start)
         (L o.start) (L x.start) (L h.end) (zero_from p (L h.end) h.packet) refl low high own other heard_end most room refl in
         let total = open_is (y.plan.contend == 0) in

@@ -12,10 +12,10 @@ use Rattle.scenario_text.specs.ScenarioFacts.{IsSoundScenario}
 use Rattle.scenario_text.specs.ScenarioParts.{ScenarioParts}
 use Rattle.scenario_text.specs.FloodParts.{knows}
 use Rattle.radio_model.specs.declared.sending.Sending.{Sending}
-use Rattle.radio_model.specs.Hearing.{frame_of}
+use Rattle.radio_model.specs.Hearing.{frame_of_sending}
 use Rattle.air_log.specs.declared.entry.Entry.{Entry}
-use Rattle.air_log.specs.Entries.{IsHeard}
-use Rattle.air_log.specs.Safe.{by_host}
+use Rattle.air_log.specs.Entries.{HasHeardEntry}
+use Rattle.air_log.specs.Safe.{sender_hosts}
 use Rattle.air_log.specs.Trails.{run_end}
 use Rattle.air_log.proofs.AlarmLoop.{early_in_run}
 use Rattle.law_trails.proofs.SentInTrails.{sent_known, sent_lasts}
@@ -30,7 +30,7 @@ use Rattle.bus_time.proofs.DataHosts.{whole_run, hosts_named}
 use Rattle.bus_time.proofs.GivenWords.{begun_data}
 
 -- a reference is heard
-pub reference_heard : (s : ScenarioParts) (air : List Entry) (x : Sending) (d : ℕ) (h : Sending) → IsReference s air x d h → IsHeard air x.node h
+pub reference_heard : (s : ScenarioParts) (air : List Entry) (x : Sending) (d : ℕ) (h : Sending) → IsReference s air x d h → HasHeardEntry air x.node h
 reference_heard s air x d h reference = elim reference.by [
   | inl now ↦ now.1.is.heard.there
   | inr ahead ↦ ahead.1.is.heard.there
@@ -63,32 +63,32 @@ module _ (s : ScenarioParts) (clocks : ℕ → ℕ → ℕ) (now ahead : Words) 
   pub starts : b.start ≡ x.start
   starts = ap (λ (c : Beginning). c.start) may.is
 
-  pub frames : b.frame ≡ frame_of s.profile x
+  pub frames : b.frame ≡ frame_of_sending s.profile x
   frames = ap (λ (c : Beginning). c.frame) may.is
 
-  pub small_frame : frame_of s.profile x ≤ 4095
+  pub small_frame : frame_of_sending s.profile x ≤ 4095
   small_frame = frame_in_run s may.driven.sound x.start in_run
 
-  pub frame_begun : frame_of s.profile x * s.profile.frame ≤ x.start
+  pub frame_begun : frame_of_sending s.profile x * s.profile.frame ≤ x.start
   frame_begun = frame_begins s may.driven.sound x.start
 
-  pub named : by_host s clocks air x ≡ true → slice_get s.hosts b.rank ≡ Some b.node
+  pub named : sender_hosts s clocks air x ≡ true → slice_get s.hosts b.rank ≡ Some b.node
   named host =
       let is : IsHostOf s x.rank x.node =
       (hosts_named s clocks air (whole_run s clocks air may.driven may.lawful) x (begun_data air x may.there may.begins)).0 host in
       ap (λ (c : Beginning). slice_get s.hosts c.rank) may.is ∙ is ∙ ap (λ (c : Beginning). Some c.node) (sym may.is)
 
-  pub hosting : slice_get s.hosts b.rank ≡ Some b.node → by_host s clocks air x ≡ true
+  pub hosting : slice_get s.hosts b.rank ≡ Some b.node → sender_hosts s clocks air x ≡ true
   hosting is =
       (hosts_named s clocks air (whole_run s clocks air may.driven may.lawful) x (begun_data air x may.there may.begins)).1
       (sym (ap (λ (c : Beginning). slice_get s.hosts c.rank) may.is) ∙ is ∙ ap (λ (c : Beginning). Some c.node) may.is)
 
-  guest_by : (c : Bool) → by_host s clocks air x ≡ c → (slice_get s.hosts b.rank ≡ Some b.node → ⊥) → by_host s clocks air x ≡ false
+  guest_by : (c : Bool) → sender_hosts s clocks air x ≡ c → (slice_get s.hosts b.rank ≡ Some b.node → ⊥) → sender_hosts s clocks air x ≡ false
   guest_by true host other = absurd (other (named host))
   guest_by false guest other = guest
 
-  pub guest : (slice_get s.hosts b.rank ≡ Some b.node → ⊥) → by_host s clocks air x ≡ false
-  guest other = guest_by (by_host s clocks air x) refl other
+  pub guest : (slice_get s.hosts b.rank ≡ Some b.node → ⊥) → sender_hosts s clocks air x ≡ false
+  guest other = guest_by (sender_hosts s clocks air x) refl other
 
   pub word_in_run : (w : Word) → IsWordFor s air x w → w.end < run_end s
   word_in_run w is =
@@ -110,8 +110,8 @@ module _ (s : ScenarioParts) (clocks : ℕ → ℕ → ℕ) (now ahead : Words) 
         reference = is.reference;
         is = tick_is
             ∙ ap (λ (f : ℕ). f * s.profile.frame + s.profile.lead + local - (from_zero + w.ahead * s.profile.frame)) frames
-            ∙ ap (λ (l : ℕ). frame_of s.profile x * s.profile.frame + s.profile.lead + l - (from_zero + w.ahead * s.profile.frame)) local_is
-            ∙ ap (λ (z : ℕ). frame_of s.profile x * s.profile.frame + s.profile.lead + clocks x.node x.start - (z + w.ahead * s.profile.frame)) from;
+            ∙ ap (λ (l : ℕ). frame_of_sending s.profile x * s.profile.frame + s.profile.lead + l - (from_zero + w.ahead * s.profile.frame)) local_is
+            ∙ ap (λ (z : ℕ). frame_of_sending s.profile x * s.profile.frame + s.profile.lead + clocks x.node x.start - (z + w.ahead * s.profile.frame)) from;
       }
 
 -- the sum by the numbers of the profile

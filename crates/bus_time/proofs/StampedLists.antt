@@ -9,7 +9,7 @@ use Rattle.radio_model.specs.declared.sending.Sending.{Sending}
 use Rattle.air_log.specs.declared.entry.Entry.{Entry}
 use Rattle.air_log.specs.declared.entry.Entry.TheVariants.{Sent, Heard, Tuned}
 use Rattle.air_log.specs.Entries.{sendings_of}
-use Rattle.air_log.specs.LogText.{in_order, placed}
+use Rattle.air_log.specs.LogText.{in_order, with_inserted}
 use Rattle.lwb_base.proofs.Elements.{contains_head, contains_tail, contains_cases, filtered, not_in_none}
 use Rattle.air_log.proofs.StableSorts.{map-in_order}
 use Rattle.bus_time.specs.Reading.{beginning_in, beginning_of, starts_first}
@@ -37,11 +37,11 @@ sorted_all p air bs sorted read is =
     is ∙ ap (in_order starts_first) (read ∙ read_all p air) ∙ sym (map-in_order (beginning_of p) starts_first (filter begins_data (sendings_of air)))
 
 -- an element that was put in its place
-in_placed : {X : Type 0} (before : X → X → Bool) (y : X) (ys : List X) (x : X) → Contains (placed before y ys) x → (y ≡ x) ⊎ Contains ys x
+in_placed : {X : Type 0} (before : X → X → Bool) (y : X) (ys : List X) (x : X) → Contains (with_inserted before y ys) x → (y ≡ x) ⊎ Contains ys x
 in_placed before y [] x there = contains_cases y [] x there
 in_placed {X} before y (z ∷ zs) x there =
-    cond_both (before z y) (z ∷ placed before y zs) (y ∷ z ∷ zs) (λ (l : List X). Contains l x → (y ≡ x) ⊎ Contains (z ∷ zs) x)
-    (λ earlier now. elim (contains_cases z (placed before y zs) x now) [
+    cond_both (before z y) (z ∷ with_inserted before y zs) (y ∷ z ∷ zs) (λ (l : List X). Contains l x → (y ≡ x) ⊎ Contains (z ∷ zs) x)
+    (λ earlier now. elim (contains_cases z (with_inserted before y zs) x now) [
       | inl first ↦ inr (subst (Contains (z ∷ zs)) first (contains_head z zs))
       | inr rest ↦ elim (in_placed before y zs x rest) [ inl is ↦ inl is | inr later ↦ inr (contains_tail z zs x later) ]
     ])

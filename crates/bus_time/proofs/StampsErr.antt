@@ -7,7 +7,7 @@ use Rattle.radio_model.specs.declared.sending.Sending.{Sending}
 use Rattle.scenario_text.specs.ScenarioParts.{ScenarioParts}
 use Rattle.air_log.specs.declared.entry.Entry.{Entry}
 use Rattle.air_log.specs.Lawful.{Lawful}
-use Rattle.air_log.specs.Safe.{by_host}
+use Rattle.air_log.specs.Safe.{sender_hosts}
 use Rattle.lwb_base.proofs.Elements.{contains_head, contains_tail}
 use Rattle.law_safety.specs.Endings.{EndsInOrder}
 use Rattle.law_safety.specs.Invariant.{IsDrivenWell}
@@ -43,12 +43,12 @@ module _ (s : ScenarioParts) (clocks : ℕ → ℕ → ℕ) (air : List Entry) (
   named : IsHostOf s x.rank host
   named = host_named s x.rank (of_flood s clocks air whole x begun.there).hosted
 
-  own : by_host s clocks air x ≡ true → stamp.tick ≡ clocks host x.start
+  own : sender_hosts s clocks air x ≡ true → stamp.tick ≡ clocks host x.start
   own hosting =
       is.tick.host hosting
       ∙ ap (λ (v : ℕ). clocks v x.start) (sym (host_is s x.rank x.node ((hosts_named s clocks air whole x begun).0 hosting)))
 
-  module _ (guest : by_host s clocks air x ≡ false) where
+  module _ (guest : sender_hosts s clocks air x ≡ false) where
     by : HasReference s air x clocks stamp.tick
     by = is.tick.other guest
 
@@ -78,7 +78,7 @@ module _ (s : ScenarioParts) (clocks : ℕ → ℕ → ℕ) (air : List Entry) (
         subst (λ (t : ℕ). DifferByLess t (clocks host x.start) (never_reached s.profile)) (sym r.is)
         (close s clocks air whole x begun r.ahead r.heard r.reference age.schedule age.says age.first age.began host named)
 
-  close_by : (b : Bool) → by_host s clocks air x ≡ b → DifferByLess stamp.tick (clocks host x.start) (never_reached s.profile)
+  close_by : (b : Bool) → sender_hosts s clocks air x ≡ b → DifferByLess stamp.tick (clocks host x.start) (never_reached s.profile)
   close_by true hosting = at_once (own hosting) (some_ticks (s.profile.seconds == 4))
     where
       some_ticks : (c : Bool) → 0 < (if c then 44960 else 58300)
@@ -90,7 +90,7 @@ module _ (s : ScenarioParts) (clocks : ℕ → ℕ → ℕ) (air : List Entry) (
   close_by false guest = guest_close guest
 
   pub errs_little : ErrsLittle s clocks air x stamp
-  errs_little = record { host = host; named = named; hosting = own; other = by_age; close = close_by (by_host s clocks air x) refl }
+  errs_little = record { host = host; named = named; hosting = own; other = by_age; close = close_by (sender_hosts s clocks air x) refl }
 
 pub all_err_little : (s : ScenarioParts) (clocks : ℕ → ℕ → ℕ) (air : List Entry) → IsDrivenWell s clocks → Lawful s clocks air → (stamps : List Stamp)
     → AreStamps s clocks air stamps → AllErrLittle s clocks air stamps

@@ -7,7 +7,7 @@ use Rattle.lwb_base.specs.Messages.{Schedule}
 use Rattle.schedule_codec.specs.Reading.{schedule_of}
 use Rattle.lwb_member.specs.Said.{data_in}
 use Rattle.radio_model.specs.declared.sending.Sending.{Sending}
-use Rattle.radio_model.specs.Hearing.{frame_of, slot_of}
+use Rattle.radio_model.specs.Hearing.{frame_of_sending, slot_of_sending}
 use Rattle.radio_model.specs.OnAir.{Hearing}
 use Rattle.air_log.specs.declared.entry.Entry.{Entry}
 use Rattle.air_log.specs.Entries.{hearing_in, sending_in}
@@ -19,8 +19,8 @@ use Rattle.bus_time.specs.declared.words.Words.{Words}
 use Rattle.bus_time.specs.declared.beginning.Beginning.{Beginning}
 
 -- the round of the hearer of g that is so many frames ahead
-abbrev pub round_of : Numbers → ℕ → Hearing → Round
-round_of p ahead g = record { node = g.node; rank = g.sending.rank; frame = frame_of p g.sending + ahead }
+abbrev pub round_ahead : Numbers → ℕ → Hearing → Round
+round_ahead p ahead g = record { node = g.node; rank = g.sending.rank; frame = frame_of_sending p g.sending + ahead }
 
 abbrev pub word_of : ℕ → Hearing → Word
 word_of ahead g = record {
@@ -32,7 +32,7 @@ word_of ahead g = record {
 }
 
 abbrev pub note_of : Numbers → ℕ → Hearing → Note
-note_of p ahead g = (round_of p ahead g, word_of ahead g)
+note_of p ahead g = (round_ahead p ahead g, word_of ahead g)
 
 -- of a schedule that is heard: the word on the frame itself, and on the frame to which its gap leads
 abbrev pub note_now : Numbers → Hearing → Option Schedule → Option Note
@@ -60,9 +60,9 @@ ahead_in p e = ahead_by p (hearing_in e)
 -- what is kept of a transmission that is stamped
 abbrev pub beginning_of : Numbers → Sending → Beginning
 beginning_of p x = record {
-  frame = frame_of p x;
+  frame = frame_of_sending p x;
   rank = x.rank;
-  slot = slot_of x;
+  slot = slot_of_sending x;
   node = x.node;
   stream = (data_in x.packet).stream;
   seq = (data_in x.packet).seq;

@@ -7,12 +7,12 @@ use Rattle.lwb_base.specs.Messages.{Schedule}
 use Rattle.bus_rules.specs.Slots.{ScheduleOf}
 use Rattle.lwb_member.specs.Said.{message_of}
 use Rattle.radio_model.specs.declared.sending.Sending.{Sending}
-use Rattle.radio_model.specs.Hearing.{counter_of}
+use Rattle.radio_model.specs.Hearing.{counter_of_sending}
 use Rattle.scenario_text.specs.ScenarioParts.{ScenarioParts}
 use Rattle.air_log.specs.declared.entry.Entry.{Entry}
 use Rattle.air_log.specs.Entries.{sendings_of}
 use Rattle.air_log.specs.Lawful.{Lawful}
-use Rattle.air_log.specs.Safe.{SameSlot, by_host}
+use Rattle.air_log.specs.Safe.{SameSlot, sender_hosts}
 use Rattle.law_safety.specs.Invariant.{IsDrivenWell}
 use Rattle.law_safety.specs.SentPlans.{IsHostOf}
 use Rattle.bus_time.specs.Stamps.{IsReference, HasReference, stamped, tick_by}
@@ -31,7 +31,7 @@ drifted d = 40 * d / 1000000
 pub record BeganFlood (s : ScenarioParts) (air : List Entry) (h o : Sending) : Type 0 where
   pub there : Contains (sendings_of air) o
   pub same : SameSlot s.profile h o
-  pub first : counter_of o ≡ 0
+  pub first : counter_of_sending o ≡ 0
 
 -- a stamp by a reference h errs by what its schedule leaves open, and by the drift since the start of the flood of h
 abbrev pub StampsErrLittle : Type 0
@@ -71,8 +71,8 @@ module _ (s : ScenarioParts) (clocks : ℕ → ℕ → ℕ) (air : List Entry) (
   pub record ErrsLittle (stamp : Stamp) : Type 0 where
     pub host : ℕ
     pub named : IsHostOf s x.rank host
-    pub hosting : by_host s clocks air x ≡ true → stamp.tick ≡ clocks host x.start
-    pub other : by_host s clocks air x ≡ false → ErrsByAge stamp.tick host
+    pub hosting : sender_hosts s clocks air x ≡ true → stamp.tick ≡ clocks host x.start
+    pub other : sender_hosts s clocks air x ≡ false → ErrsByAge stamp.tick host
     pub close : DifferByLess stamp.tick (clocks host x.start) (never_reached s.profile)
 
 -- so errs the stamp of each

@@ -10,34 +10,35 @@ use Rattle.bus_rules.specs.Slots.{ScheduleOf}
 use Rattle.lwb_member.specs.Said.{message_of, data_in}
 use Rattle.node_core.specs.Nodes.{zero_from}
 use Rattle.radio_model.specs.declared.sending.Sending.{Sending}
-use Rattle.radio_model.specs.Hearing.{frame_of, slot_of, counter_of}
+use Rattle.radio_model.specs.Hearing.{frame_of_sending, slot_of_sending, counter_of_sending}
 use Rattle.scenario_text.specs.ScenarioParts.{ScenarioParts}
 use Rattle.air_log.specs.declared.entry.Entry.{Entry}
-use Rattle.air_log.specs.Entries.{sendings_of, IsHeard}
+use Rattle.air_log.specs.Entries.{sendings_of, HasHeardEntry}
 use Rattle.air_log.specs.LogText.{in_order}
-use Rattle.air_log.specs.Safe.{by_host}
+use Rattle.air_log.specs.Safe.{sender_hosts}
 use Rattle.bus_time.specs.declared.stamp.Stamp.{Stamp}
 
 -- the transmissions of data with counter 0, by frame, rank and slot
 abbrev pub begins_data : Sending → Bool
-begins_data x = (counter_of x == 0) && is_data x.packet
+begins_data x = (counter_of_sending x == 0) && is_data x.packet
 
 abbrev pub comes_first : Numbers → Sending → Sending → Bool
 comes_first p x y =
-    is_lt (ordering_then (ordering_then (nat_cmp (frame_of p x) (frame_of p y)) (nat_cmp x.rank y.rank)) (nat_cmp (slot_of x) (slot_of y)))
+    is_lt (ordering_then (ordering_then (nat_cmp (frame_of_sending p x) (frame_of_sending p y)) (nat_cmp x.rank y.rank))
+        (nat_cmp (slot_of_sending x) (slot_of_sending y)))
 
 abbrev pub stamped : Numbers → List Entry → List Sending
 stamped p air = in_order (comes_first p) (filter begins_data (sendings_of air))
 
 -- the first by end of those of which P holds
-pub record IsFirst (P : Sending → Type 0) (h : Sending) : Type 0 where
+pub record IsFirstByEnd (P : Sending → Type 0) (h : Sending) : Type 0 where
   pub is : P h
   pub first : (k : Sending) → P k → h.end ≤ k.end
 
 module _ (s : ScenarioParts) (air : List Entry) (x : Sending) where
   -- the sender of x heard h, a schedule on the channel of x with this gap
   pub record IsScheduleHeard (gap : ℕ) (h : Sending) : Type 0 where
-    pub there : IsHeard air x.node h
+    pub there : HasHeardEntry air x.node h
     pub channel : h.rank ≡ x.rank
     pub schedule : Schedule
     pub says : message_of h.packet ≡ Some (ScheduleOf schedule)
@@ -47,24 +48,24 @@ module _ (s : ScenarioParts) (air : List Entry) (x : Sending) where
   pub record IsOfFrame (h : Sending) : Type 0 where
     pub gap : ℕ
     pub heard : IsScheduleHeard gap h
-    pub frame : frame_of s.profile h ≡ frame_of s.profile x
+    pub frame : frame_of_sending s.profile h ≡ frame_of_sending s.profile x
     pub over : h.end < x.start
 
   -- d frames before, with the gap d
   pub record IsAhead (d : ℕ) (h : Sending) : Type 0 where
     pub heard : IsScheduleHeard d h
     pub some : 1 ≤ d
-    pub frame : frame_of s.profile h + d ≡ frame_of s.profile x
+    pub frame : frame_of_sending s.profile h + d ≡ frame_of_sending s.profile x
 
   -- h is the first of the frame of x, and d is 0; or there is none, and h is the first of the latest frame, d frames before
   pub record IsReference (d : ℕ) (h : Sending) : Type 0 where
-    pub by : ((d ≡ 0) × IsFirst IsOfFrame h)
-        ⊎ (((k : Sending) → IsOfFrame k → ⊥) × IsFirst (IsAhead d) h × ((e : ℕ) (k : Sending) → IsAhead e k → d ≤ e))
+    pub by : ((d ≡ 0) × IsFirstByEnd IsOfFrame h)
+        ⊎ (((k : Sending) → IsOfFrame k → ⊥) × IsFirstByEnd (IsAhead d) h × ((e : ℕ) (k : Sending) → IsAhead e k → d ≤ e))
 
   -- the start of x by the sender's clock, read from the zero of the round that h gives
   abbrev pub tick_by : (ℕ → ℕ → ℕ) → ℕ → Sending → ℕ
   tick_by clocks d h =
-      host_zero s.profile (frame_of s.profile x) + clocks x.node x.start
+      host_zero s.profile (frame_of_sending s.profile x) + clocks x.node x.start
       - (zero_from s.profile (clocks x.node h.end) h.packet + d * s.profile.frame)
 
   pub record HasReference (clocks : ℕ → ℕ → ℕ) (tick : ℕ) : Type 0 where
@@ -75,14 +76,14 @@ module _ (s : ScenarioParts) (air : List Entry) (x : Sending) where
 
   -- a host by its trail takes its own clock
   pub record IsTick (clocks : ℕ → ℕ → ℕ) (tick : ℕ) : Type 0 where
-    pub host : by_host s clocks air x ≡ true → tick ≡ clocks x.node x.start
-    pub other : by_host s clocks air x ≡ false → HasReference clocks tick
+    pub host : sender_hosts s clocks air x ≡ true → tick ≡ clocks x.node x.start
+    pub other : sender_hosts s clocks air x ≡ false → HasReference clocks tick
 
 -- what the stamp of x says
 pub record IsStamp (s : ScenarioParts) (clocks : ℕ → ℕ → ℕ) (air : List Entry) (x : Sending) (stamp : Stamp) : Type 0 where
-  pub frame : stamp.frame ≡ frame_of s.profile x
+  pub frame : stamp.frame ≡ frame_of_sending s.profile x
   pub rank : stamp.rank ≡ x.rank
-  pub slot : stamp.slot ≡ slot_of x
+  pub slot : stamp.slot ≡ slot_of_sending x
   pub node : stamp.node ≡ x.node
   pub stream : stamp.stream ≡ (data_in x.packet).stream
   pub seq : stamp.seq ≡ (data_in x.packet).seq

@@ -11,8 +11,8 @@ abbrev pub Note : Type 0
 Note = Round × Word
 
 -- the word of a later frame comes before others, and of one frame that which ends earlier
-abbrev pub comes_before : Word → Word → Bool
-comes_before a b = nat_lt a.ahead b.ahead || ((a.ahead == b.ahead) && nat_lt a.end b.end)
+abbrev pub word_comes_before : Word → Word → Bool
+word_comes_before a b = nat_lt a.ahead b.ahead || ((a.ahead == b.ahead) && nat_lt a.end b.end)
 
 abbrev pub same_round : Round → Round → Bool
 same_round a b = (a.node == b.node) && ((a.rank == b.rank) && (a.frame == b.frame))
@@ -20,7 +20,7 @@ same_round a b = (a.node == b.node) && ((a.rank == b.rank) && (a.frame == b.fram
 -- no word of the round comes before it
 abbrev pub IsFirstWord : List Note → Round → Option Word → Type 0
 IsFirstWord notes round None = (w : Word) → Contains notes (round, w) → ⊥
-IsFirstWord notes round (Some first) = Contains notes (round, first) × ((w : Word) → Contains notes (round, w) → comes_before w first ≡ false)
+IsFirstWord notes round (Some first) = Contains notes (round, first) × ((w : Word) → Contains notes (round, w) → word_comes_before w first ≡ false)
 
 abbrev pub AreFirsts : List Note → Words → Type 0
 AreFirsts notes words = (round : Round) → IsFirstWord notes round (get same_round words.first round)

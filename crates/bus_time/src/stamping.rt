@@ -9,7 +9,7 @@ ghost use Rattle.node_core.specs.Nodes.{zero_from};
 ghost use Rattle.time_reference.specs.Reference.{heard_zero};
 ghost use Rattle.air_log.specs.declared.entry.Entry.{Entry};
 ghost use Rattle.air_log.specs.Lawful.{Lawful};
-ghost use Rattle.air_log.specs.Safe.{by_host};
+ghost use Rattle.air_log.specs.Safe.{sender_hosts};
 ghost use Rattle.bus_time.specs.Stamps.{AreStamps, IsStamp, IsTick};
 ghost use Rattle.bus_time.specs.StampErrors.{AllErrLittle};
 ghost use Rattle.bus_time.specs.Stamping.{MayStamp, IsWordFor};
@@ -55,9 +55,9 @@ pub fn stamps(alloc: Global, s: &Scenario, air: &Air) -> Result<Vec<Stamp>, Memo
 // The word by which data is stamped that its node sent without hosting.
 fn word_for(reading: &Reading, begun: &Beginning) -> Word
     requires { (s : ScenarioParts) × (clocks : ℕ → ℕ → ℕ) × (air : List Entry) × (x : Sending)
-        × MayStamp s clocks reading.now.present reading.now.ahead begun.now air x × (by_host s clocks air x ≡ false) }
+        × MayStamp s clocks reading.now.present reading.now.ahead begun.now air x × (sender_hosts s clocks air x ≡ false) }
     ensures { (s : ScenarioParts) (clocks : ℕ → ℕ → ℕ) (air : List Entry) (x : Sending)
-        → MayStamp s clocks reading.now.present reading.now.ahead begun.now air x → by_host s clocks air x ≡ false → IsWordFor s air x result }
+        → MayStamp s clocks reading.now.present reading.now.ahead begun.now air x → sender_hosts s clocks air x ≡ false → IsWordFor s air x result }
 {
     let round = Round {
         node: begun.node.number(),

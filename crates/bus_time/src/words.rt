@@ -1,7 +1,7 @@
 //! What nodes received of their rounds: of each round the first word.
 
 ghost use Rattle.std.specs.Prelude.{◌≡◌, ◌++◌, ◌∷◌, [], List, OnOk, None, true};
-ghost use Rattle.bus_time.specs.Words.{Note, AreFirsts, IsFirstWord, comes_before};
+ghost use Rattle.bus_time.specs.Words.{Note, AreFirsts, IsFirstWord, word_comes_before};
 ghost use Rattle.bus_time.specs.declared.words.Round.{Round as RoundOf};
 ghost use Rattle.bus_time.specs.declared.words.Word.{Word as WordOf};
 
@@ -64,7 +64,7 @@ impl Words {
 }
 
 fn comes_before(a: Word, b: Word) -> bool
-    ensures { result ≡ comes_before a b }
+    ensures { result ≡ word_comes_before a b }
 {
     a.ahead < b.ahead || a.ahead == b.ahead && a.end < b.end
 }

@@ -13,7 +13,7 @@ use Rattle.lwb_base.proofs.Lists.{each_more}
 use Rattle.deadline_plan.specs.declared.job.Job.{Job}
 use Rattle.deadline_plan.specs.Jobs.{load, NothingOver}
 use Rattle.deadline_plan.specs.Sorting.{sorted, IsOrdered}
-use Rattle.deadline_plan.specs.Grants.{comes_by, granted, left, grants_from, grants, AreKept}
+use Rattle.deadline_plan.specs.Grants.{comes_by, granted_jobs, jobs_left, grants_from, grants, AreGrantedInTime}
 use Rattle.deadline_plan.proofs.Counts.{one, count_cons, count_none, count_same}
 use Rattle.deadline_plan.proofs.InOrder.{count_moved, sorted_moves, ordered_sorted}
 use Rattle.deadline_plan.proofs.JobOrder.{job_order, ends_rise}
@@ -30,44 +30,47 @@ abbrev falls : ℕ → ℕ → Job → Bool
 falls from until j = nat_le from j.release && nat_le j.end until
 
 -- what a frame leaves is of what was there
-all_left : (P : Job → Type 0) (slots frame : ℕ) (js : List Job) → AllByRecursion P js → AllByRecursion P (left slots frame js)
-unfolding left
+all_left : (P : Job → Type 0) (slots frame : ℕ) (js : List Job) → AllByRecursion P js → AllByRecursion P (jobs_left slots frame js)
+unfolding jobs_left
 all_left P slots frame [] all = tt
 all_left P zero frame (j ∷ js) all = all
 all_left P (suc slots) frame (j ∷ js) all =
     let taken = all_left P slots frame js all.1 in
     let kept = all_left P (suc slots) frame js all.1 in
-    cond_both (nat_le j.release frame) (left slots frame js) (j ∷ left (suc slots) frame js) (λ l. AllByRecursion P l) (λ is. taken) (λ not. (all.0, kept))
+    cond_both (nat_le j.release frame) (jobs_left slots frame js) (j ∷ jobs_left (suc slots) frame js) (λ l. AllByRecursion P l) (λ is. taken)
+        (λ not. (all.0, kept))
 
 all_granted : (P : Job → Type 0) (slots frame : ℕ) (js : List Job) → AllByRecursion P js → AllByRecursion (λ j. (j.release ≤ frame) × P j)
-    (granted slots frame js)
-unfolding granted
+    (granted_jobs slots frame js)
+unfolding granted_jobs
 all_granted P slots frame [] all = tt
 all_granted P zero frame (j ∷ js) all = tt
 all_granted P (suc slots) frame (j ∷ js) all =
     let taken = all_granted P slots frame js all.1 in
     let kept = all_granted P (suc slots) frame js all.1 in
-    cond_both (nat_le j.release frame) (j ∷ granted slots frame js) (granted (suc slots) frame js) (λ l. AllByRecursion (λ j. (j.release ≤ frame) × P j) l)
+    cond_both (nat_le j.release frame) (j ∷ granted_jobs slots frame js) (granted_jobs (suc slots) frame js)
+        (λ l. AllByRecursion (λ j. (j.release ≤ frame) × P j) l)
     (λ is. ((leb-true j.release frame is, all.0), taken)) (λ not. kept)
 
-rise_left : (slots frame : ℕ) (js : List Job) → EndsRise js → EndsRise (left slots frame js)
-unfolding left
+rise_left : (slots frame : ℕ) (js : List Job) → EndsRise js → EndsRise (jobs_left slots frame js)
+unfolding jobs_left
 rise_left slots frame [] rise = tt
 rise_left zero frame (j ∷ js) rise = rise
 rise_left (suc slots) frame (j ∷ js) rise =
     let taken = rise_left slots frame js rise.1 in
     let kept = rise_left (suc slots) frame js rise.1 in
     let all = all_left (λ k. j.end ≤ k.end) (suc slots) frame js rise.0 in
-    cond_both (nat_le j.release frame) (left slots frame js) (j ∷ left (suc slots) frame js) (λ l. EndsRise l) (λ is. taken) (λ not. (all, kept))
+    cond_both (nat_le j.release frame) (jobs_left slots frame js) (j ∷ jobs_left (suc slots) frame js) (λ l. EndsRise l) (λ is. taken) (λ not. (all, kept))
 
-granted_moves : (slots frame : ℕ) (js : List Job) → IsPermutation js (granted slots frame js ++ left slots frame js)
-unfolding granted left
+granted_moves : (slots frame : ℕ) (js : List Job) → IsPermutation js (granted_jobs slots frame js ++ jobs_left slots frame js)
+unfolding granted_jobs jobs_left
 granted_moves slots frame [] = IsPermutation-refl []
 granted_moves zero frame (j ∷ js) = IsPermutation-refl (j ∷ js)
 granted_moves (suc slots) frame (j ∷ js) =
     let taken = granted_moves slots frame js in
     let kept = granted_moves (suc slots) frame js in
-    by_test (nat_le j.release frame) j js (granted slots frame js) (left slots frame js) (granted (suc slots) frame js) (left (suc slots) frame js) taken kept
+    by_test (nat_le j.release frame) j js (granted_jobs slots frame js) (jobs_left slots frame js) (granted_jobs (suc slots) frame js)
+        (jobs_left (suc slots) frame js) taken kept
   where
     by_test : (b : Bool) (j : Job) (js gs ls hs ms : List Job) → IsPermutation js (gs ++ ls) → IsPermutation js (hs ++ ms)
         → IsPermutation (j ∷ js) ((cond b (j ∷ gs) hs) ++ (cond b ls (j ∷ ms)))
@@ -76,25 +79,26 @@ granted_moves (suc slots) frame (j ∷ js) =
         IsPermutation-trans (j ∷ js) (j ∷ (hs ++ ms)) (hs ++ j ∷ ms) (IsPermutation-cons j js (hs ++ ms) kept) (IsPermutation-sym (hs ++ j ∷ ms) (j ∷
         (hs ++ ms)) (IsPermutation-middle hs j ms))
 
-left_fewer : (p : Job → Bool) (slots frame : ℕ) (js : List Job) → count_by p (left slots frame js) ≤ count_by p js
-unfolding left
+left_fewer : (p : Job → Bool) (slots frame : ℕ) (js : List Job) → count_by p (jobs_left slots frame js) ≤ count_by p js
+unfolding jobs_left
 left_fewer p slots frame [] = omega arith
 left_fewer p zero frame (j ∷ js) = omega arith
 left_fewer p (suc slots) frame (j ∷ js) =
     let taken = left_fewer p slots frame js in
     let kept = left_fewer p (suc slots) frame js in
-    cond_both (nat_le j.release frame) (left slots frame js) (j ∷ left (suc slots) frame js) (λ l. count_by p l ≤ count_by p (j ∷ js))
+    cond_both (nat_le j.release frame) (jobs_left slots frame js) (j ∷ jobs_left (suc slots) frame js) (λ l. count_by p l ≤ count_by p (j ∷ js))
     (λ is. omega (arith, count_cons p j js, taken))
-    (λ not. omega (arith, count_cons p j js, count_cons p j (left (suc slots) frame js), kept))
+    (λ not. omega (arith, count_cons p j js, count_cons p j (jobs_left (suc slots) frame js), kept))
 
 waits : (r f e u : ℕ) → f < r → one (nat_le e u) ≤ one (nat_le (f + 1) r && nat_le e u)
 waits r f e u late = grind (arith, nat_tests)
 
 -- of the jobs with ends up to `until` a frame grants as many as it has slots, or leaves none that was released
 served : (slots frame until : ℕ) (js : List Job) → EndsRise js
-    → (count_by (ends_by until) (left slots frame js) + slots ≤ count_by (ends_by until) js) ⊎ (count_by (ends_by until) (left slots frame js) ≤ load js
+    → (count_by (ends_by until) (jobs_left slots frame js) + slots ≤ count_by (ends_by until) js)
+        ⊎ (count_by (ends_by until) (jobs_left slots frame js) ≤ load js
     (frame + 1) until)
-unfolding left
+unfolding jobs_left
 served slots frame until [] rise = inr (omega arith)
 served zero frame until (j ∷ js) rise = inl (omega arith)
 served (suc slots) frame until (j ∷ js) rise =
@@ -104,7 +108,7 @@ served (suc slots) frame until (j ∷ js) rise =
     let q : Job → Bool = falls (frame + 1) until in
     let more = count_cons p j js in
     let falls_more = count_cons q j js in
-    cond_both (nat_le j.release frame) (left slots frame js) (j ∷ left (suc slots) frame js)
+    cond_both (nat_le j.release frame) (jobs_left slots frame js) (j ∷ jobs_left (suc slots) frame js)
     (λ l. (count_by p l + suc slots ≤ count_by p (j ∷ js)) ⊎ (count_by p l ≤ count_by q (j ∷ js)))
     (λ is. elim (cases_lt until j.end) [
       | inl past ↦
@@ -116,7 +120,7 @@ served (suc slots) frame until (j ∷ js) rise =
           elim taken [ inl few ↦ inl (omega (arith, few, more, here)) | inr rest ↦ inr (omega (arith, rest, falls_more)) ])
     ])
     (λ not.
-    let left_more = count_cons p j (left (suc slots) frame js) in
+    let left_more = count_cons p j (jobs_left (suc slots) frame js) in
     let here = waits j.release frame j.end until (leb-false j.release frame not) in
     elim kept [ inl few ↦ inl (omega (arith, few, more, left_more)) | inr rest ↦ inr (omega (arith, rest, left_more, falls_more, here)) ])
 
@@ -137,7 +141,7 @@ record Waits (slots frame frames : ℕ) (js : List Job) : Type 0 where
   pub room : (from d : ℕ) → load js from (from + d) ≤ slots * d
   pub ends : AllByRecursion (λ j. j.end ≤ frame + frames) js
 
-waits_on : (slots frame frames : ℕ) (js : List Job) → Waits slots frame (suc frames) js → Waits slots (frame + 1) frames (left slots frame js)
+waits_on : (slots frame frames : ℕ) (js : List Job) → Waits slots frame (suc frames) js → Waits slots (frame + 1) frames (jobs_left slots frame js)
 waits_on slots frame frames js is = record {
   rise = rise_left slots frame js is.rise;
   due = λ d.
@@ -145,7 +149,8 @@ waits_on slots frame frames js is = record {
       elim (served slots frame (frame + 1 + d) js is.rise)
       [ inl few ↦ omega (arith, few, before, is.due (suc d)) | inr rest ↦ omega (arith, rest, is.room (frame + 1) d) ];
   room = λ from d. omega (arith, left_fewer (falls from (from + d)) slots frame js, is.room from d);
-  ends = each_more (λ (j : Job). j.end ≤ frame + suc frames) (λ (j : Job). j.end ≤ frame + 1 + frames) (λ j by. omega arith) (left slots frame js) (all_left
+  ends =
+      each_more (λ (j : Job). j.end ≤ frame + suc frames) (λ (j : Job). j.end ≤ frame + 1 + frames) (λ j by. omega arith) (jobs_left slots frame js) (all_left
       (λ j. j.end ≤ frame + suc frames) slots frame js is.ends);
 }
 
@@ -157,12 +162,12 @@ all_granted_once slots frame zero (j ∷ js) is =
     let none = none_late (frame + 0) (j ∷ js) (omega (arith, is.due 0)) in
     absurd (omega (arith, none.0, is.ends.0))
 all_granted_once slots frame (suc frames) js is =
-    let rest = all_granted_once slots (frame + 1) frames (left slots frame js) (waits_on slots frame frames js is) in
-    let later = grants_from slots (frame + 1) frames (left slots frame js) in
-    let now = granted slots frame js in
+    let rest = all_granted_once slots (frame + 1) frames (jobs_left slots frame js) (waits_on slots frame frames js is) in
+    let later = grants_from slots (frame + 1) frames (jobs_left slots frame js) in
+    let now = granted_jobs slots frame js in
     subst (λ (l : List Job). IsPermutation js l) (sym (flat_map-cons (λ (g : List Job). g) now later))
-    (IsPermutation-trans js (now ++ left slots frame js) (now ++ flat_map (λ (g : List Job). g) later) (granted_moves slots frame js)
-    (IsPermutation-append_right now (left slots frame js) (flat_map (λ (g : List Job). g) later) rest))
+    (IsPermutation-trans js (now ++ jobs_left slots frame js) (now ++ flat_map (λ (g : List Job). g) later) (granted_moves slots frame js)
+    (IsPermutation-append_right now (jobs_left slots frame js) (flat_map (λ (g : List Job). g) later) rest))
 
 abbrev InTime : ℕ → Job → Type 0
 InTime frame j = (j.release ≤ frame) × (frame < j.end)
@@ -172,12 +177,12 @@ each_in_time : (slots frame frames : ℕ) (js : List Job) → Waits slots frame 
 unfolding grants_from
 each_in_time slots frame zero js is i = tt
 each_in_time slots frame (suc frames) js is zero =
-    each_more (λ (j : Job). (j.release ≤ frame) × (frame + 0 < j.end)) (InTime (frame + 0)) (λ j at. (omega (arith, at.0), at.1)) (granted slots frame js)
+    each_more (λ (j : Job). (j.release ≤ frame) × (frame + 0 < j.end)) (InTime (frame + 0)) (λ j at. (omega (arith, at.0), at.1)) (granted_jobs slots frame js)
     (all_granted (λ j. frame + 0 < j.end) slots frame js (none_late (frame + 0) js (omega (arith, is.due 0))))
 each_in_time slots frame (suc frames) js is (suc i) =
     each_more (InTime (frame + 1 + i)) (InTime (frame + suc i)) (λ j at. (omega (arith, at.0), omega (arith, at.1))) (get_or (grants_from slots
-    (frame + 1) frames (left slots frame js)) i [])
-    (each_in_time slots (frame + 1) frames (left slots frame js) (waits_on slots frame frames js is) i)
+    (frame + 1) frames (jobs_left slots frame js)) i [])
+    (each_in_time slots (frame + 1) frames (jobs_left slots frame js) (waits_on slots frame frames js is) i)
 
 rise_of : (js : List Job) → IsOrdered comes_by js → EndsRise js
 rise_of [] is = tt
@@ -222,7 +227,7 @@ module _ (slots frames : ℕ) (js : List Job) (sound : All (λ j. (j.release < j
     ends = each_more (λ (j : Job). (j.release < j.end) × (j.end ≤ frames)) (λ j. j.end ≤ 0 + frames) (λ j is. omega (arith, is.1)) queue their_ends;
   }
 
-  pub are_kept : AreKept js (grants slots frames js)
+  pub are_kept : AreGrantedInTime js (grants slots frames js)
   are_kept = record {
     once = IsPermutation-trans js queue (flat_map (λ (g : List Job). g) (grants slots frames js)) moved (all_granted_once slots 0 frames queue at_first);
     in_time = λ frame. All-from_recursion (InTime frame) (get_or (grants slots frames js) frame [])

@@ -4,7 +4,7 @@ use Rattle.std.proofs.lemmas.Bool.Decides.{nat_tests}
 use Rattle.std.proofs.lemmas.List.Elements.{recursion_from_All}
 use Rattle.std.specs.List.{AllByRecursion}
 use Rattle.deadline_plan.specs.declared.job.Job.{Job}
-use Rattle.deadline_plan.specs.Jobs.{load, IsOver}
+use Rattle.deadline_plan.specs.Jobs.{load, IsOverload}
 use Rattle.deadline_plan.specs.Placings.{IsPlacing}
 use Rattle.deadline_plan.proofs.Counts.{one, count_either, count_most, count_none}
 
@@ -43,5 +43,5 @@ module _ (slots : ℕ) (js : List Job) (frame_of : Job → ℕ) (placing : IsPla
       let same : count_by (between from (from + n)) js ≡ count_by (between from until) js = ap (λ (b : ℕ). count_by (between from b) js) is in
       omega (arith, within, same, few_between from n)
 
-pub no_placing : (slots : ℕ) (js : List Job) (from until : ℕ) → IsOver slots js from until → (frame_of : Job → ℕ) → IsPlacing slots js frame_of → ⊥
+pub no_placing : (slots : ℕ) (js : List Job) (from until : ℕ) → IsOverload slots js from until → (frame_of : Job → ℕ) → IsPlacing slots js frame_of → ⊥
 no_placing slots js from until over frame_of placing = absurd (omega (arith, few_jobs slots js frame_of placing from until over.0, over.1))

@@ -6,8 +6,8 @@ use Rattle.std.proofs.lemmas.List.{get_or_past, take_all, drop_all, append-nil}
 use Rattle.std.specs.List.{AllByRecursion}
 use Rattle.deadline_plan.specs.declared.stream.DeadlineStream.{DeadlineStream}
 use Rattle.deadline_plan.specs.declared.load.Overload.{Overload}
-use Rattle.deadline_plan.specs.Jobs.{IsStream, jobs, load, NothingOver, IsFirstOver}
-use Rattle.deadline_plan.specs.Load.{has_job, span, IsLatestOver}
+use Rattle.deadline_plan.specs.Jobs.{IsDeadlineStream, jobs, load, NothingOver, IsFirstOver}
+use Rattle.deadline_plan.specs.Load.{has_job, sum_from, IsLatestOver}
 use Rattle.deadline_plan.proofs.StreamJobs.{InFrames, in_frames, count_streams, few_jobs_in_all}
 use Rattle.deadline_plan.proofs.Spans.{released_at, none_at_first, one_end_more, nothing_over, first_is, nothing_more}
 
@@ -17,7 +17,7 @@ written now before n same all =
     let none = drop_all (length now) before (omega arith) in
     ap (λ (l : List ℕ). take n (now ++ l)) none ∙ ap (λ (l : List ℕ). take n l) (append-nil now) ∙ take_all n now (omega arith)
 
-module _ (frames : ℕ) (ss : List DeadlineStream) (few : frames ≤ 1024) (short : length ss ≤ 33) (all : AllByRecursion IsStream ss) where
+module _ (frames : ℕ) (ss : List DeadlineStream) (few : frames ≤ 1024) (short : length ss ≤ 33) (all : AllByRecursion IsDeadlineStream ss) where
   abbrev pub Counts : ℕ → List ℕ → Type 0
   Counts ended released = (a : ℕ) → a < frames → get_or released a 0 ≡ released_at (jobs frames ss) a ended
 
@@ -58,6 +58,6 @@ module _ (frames : ℕ) (ss : List DeadlineStream) (few : frames ≤ 1024) (shor
         (jobs frames ss) o.from o.until)
     overload o is = first_is frames (jobs frames ss) sound slots ended within nothing now counted o is
 
-    pub none_so_far : ((a : ℕ) → a < ended + 1 → span now a (ended + 1 - a) ≤ slots * (ended + 1 - a))
+    pub none_so_far : ((a : ℕ) → a < ended + 1 → sum_from now a (ended + 1 - a) ≤ slots * (ended + 1 - a))
         → (from until : ℕ) → until ≤ ended + 1 → from < until → load (jobs frames ss) from until ≤ slots * (until - from)
     none_so_far none = nothing_more frames (jobs frames ss) sound slots ended within nothing now counted none

@@ -9,7 +9,7 @@ use Rattle.lwb_base.proofs.Lists.{each_more}
 use Rattle.deadline_plan.specs.declared.job.Job.{Job}
 use Rattle.deadline_plan.specs.declared.load.Overload.{Overload}
 use Rattle.deadline_plan.specs.Jobs.{load, NothingOver, IsFirstOver}
-use Rattle.deadline_plan.specs.Load.{span, IsLatestOver}
+use Rattle.deadline_plan.specs.Load.{sum_from, IsLatestOver}
 use Rattle.deadline_plan.proofs.Counts.{one, count_none, count_split, count_same}
 use Rattle.deadline_plan.proofs.StreamJobs.{InFrames}
 
@@ -66,12 +66,12 @@ module _ (frames : ℕ) (js : List Job) (sound : AllByRecursion (InFrames frames
 
   -- where the numbers are those of the jobs released in each frame
   module _ (released : List ℕ) (until : ℕ) (within : until ≤ frames) (counted : (a : ℕ) → a < frames → get_or released a 0 ≡ released_at js a until) where
-    sums : (n a : ℕ) → a + n ≡ until → span released a n ≡ load js a until
-    unfolding span
+    sums : (n a : ℕ) → a + n ≡ until → sum_from released a n ≡ load js a until
+    unfolding sum_from
     sums zero a is = sym (no_load a until (omega arith))
     sums (suc n) a is = omega (arith, counted a (omega arith), sums n (a + 1) (omega arith), one_frame_first js a until)
 
-    pub span_is : (a : ℕ) → a ≤ until → span released a (until - a) ≡ load js a until
+    pub span_is : (a : ℕ) → a ≤ until → sum_from released a (until - a) ≡ load js a until
     span_is a order = sums (until - a) a (omega arith)
 
   -- so far nothing is over
@@ -93,7 +93,7 @@ module _ (frames : ℕ) (js : List Job) (sound : AllByRecursion (InFrames frames
 
   module _ (slots ended : ℕ) (within : ended < frames) (nothing : NothingBy slots ended) (released : List ℕ) (counted : (a : ℕ) → a < frames
       → get_or released a 0 ≡ released_at js a (ended + 1)) where
-    spans : (a : ℕ) → a ≤ ended + 1 → span released a (ended + 1 - a) ≡ load js a (ended + 1)
+    spans : (a : ℕ) → a ≤ ended + 1 → sum_from released a (ended + 1 - a) ≡ load js a (ended + 1)
     spans a order = span_is released (ended + 1) (omega arith) counted a order
 
     pub first_is : (o : Overload) → IsLatestOver released slots (ended + 1) o → IsFirstOver slots js o.from o.until × (o.demand ≡ load js o.from o.until)
@@ -110,7 +110,7 @@ module _ (frames : ℕ) (js : List Job) (sound : AllByRecursion (InFrames frames
           demand,
         )
 
-    pub nothing_more : ((a : ℕ) → a < ended + 1 → span released a (ended + 1 - a) ≤ slots * (ended + 1 - a)) → NothingBy slots (ended + 1)
+    pub nothing_more : ((a : ℕ) → a < ended + 1 → sum_from released a (ended + 1 - a) ≤ slots * (ended + 1 - a)) → NothingBy slots (ended + 1)
     nothing_more none from until by order =
         elim (cases_lt ended until) [
           | inl last ↦

@@ -11,7 +11,7 @@ use Rattle.std.specs.List.{AllByRecursion, range_with_len}
 use Rattle.lwb_base.proofs.Orders.{same_factor}
 use Rattle.deadline_plan.specs.declared.job.Job.{Job}
 use Rattle.deadline_plan.specs.declared.stream.DeadlineStream.{DeadlineStream}
-use Rattle.deadline_plan.specs.Jobs.{IsStream, job, jobs_of, jobs}
+use Rattle.deadline_plan.specs.Jobs.{IsDeadlineStream, job, jobs_of, jobs}
 use Rattle.deadline_plan.specs.Load.{has_job}
 use Rattle.deadline_plan.proofs.Counts.{one, count_cons, count_append, count_none, count_same}
 use Rattle.deadline_plan.proofs.Placed.{all_of}
@@ -55,7 +55,7 @@ count_once k i (suc n) low high =
 abbrev at : ℕ → ℕ → Job → Bool
 at a b j = (j.release == a) && (j.end == b)
 
-module _ (s : DeadlineStream) (is_stream : IsStream s) (frames a b : ℕ) (within : b ≤ frames) where
+module _ (s : DeadlineStream) (is_stream : IsDeadlineStream s) (frames a b : ℕ) (within : b ≤ frames) where
   abbrev test : ℕ → Bool
   test m = nat_le (s.start + m * s.period + s.deadline) frames && at a b (job s m)
 
@@ -111,7 +111,7 @@ module _ (s : DeadlineStream) (is_stream : IsStream s) (frames a b : ℕ) (withi
       count_numbers (at a b) frames s 0 frames
       ∙ elim (cases_Bool (has_job s a b)) [ inl has ↦ counts_one has ∙ sym (ap one has) | inr hasnt ↦ counts_none hasnt ∙ sym (ap one hasnt) ]
 
-pub count_streams : (frames a b : ℕ) → b ≤ frames → (ss : List DeadlineStream) → AllByRecursion IsStream ss
+pub count_streams : (frames a b : ℕ) → b ≤ frames → (ss : List DeadlineStream) → AllByRecursion IsDeadlineStream ss
     → count_by (at a b) (jobs frames ss) ≡ count_by (λ s. has_job s a b) ss
 count_streams frames a b within [] all = refl
 count_streams frames a b within (s ∷ ss) all =
@@ -157,7 +157,7 @@ few_jobs_in_all p frames few (s ∷ ss) =
 abbrev pub InFrames : ℕ → Job → Type 0
 InFrames frames j = (j.release < j.end) × (j.end ≤ frames)
 
-numbers_in_frames : (frames : ℕ) (s : DeadlineStream) → IsStream s → (i n : ℕ) → AllByRecursion (InFrames frames) (filter (by_last frames) (map (job s)
+numbers_in_frames : (frames : ℕ) (s : DeadlineStream) → IsDeadlineStream s → (i n : ℕ) → AllByRecursion (InFrames frames) (filter (by_last frames) (map (job s)
     (range_with_len i n)))
 numbers_in_frames frames s is i zero = tt
 numbers_in_frames frames s is i (suc n) =
@@ -171,14 +171,14 @@ all_append : (P : Job → Type 0) (js ks : List Job) → AllByRecursion P js →
 all_append P [] ks all others = others
 all_append P (j ∷ js) ks all others = (all.0, all_append P js ks all.1 others)
 
-pub in_frames : (frames : ℕ) (ss : List DeadlineStream) → AllByRecursion IsStream ss → AllByRecursion (InFrames frames) (jobs frames ss)
+pub in_frames : (frames : ℕ) (ss : List DeadlineStream) → AllByRecursion IsDeadlineStream ss → AllByRecursion (InFrames frames) (jobs frames ss)
 in_frames frames [] all = tt
 in_frames frames (s ∷ ss) all =
     subst (λ (l : List Job). AllByRecursion (InFrames frames) l) (sym (flat_map-cons (jobs_of frames) s ss))
     (all_append (InFrames frames) (jobs_of frames s) (jobs frames ss) (numbers_in_frames frames s all.0 0 frames) (in_frames frames ss all.1))
 
 -- the job of a number, counted
-pub counted_once : (frames : ℕ) (s : DeadlineStream) → IsStream s → (m : ℕ) → (job s m).end ≤ frames
+pub counted_once : (frames : ℕ) (s : DeadlineStream) → IsDeadlineStream s → (m : ℕ) → (job s m).end ≤ frames
     → count_by (at (job s m).release (job s m).end) (jobs_of frames s) ≡ 1
 counted_once frames s is m within =
     count_stream s is frames (job s m).release (job s m).end within

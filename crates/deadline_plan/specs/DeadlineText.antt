@@ -6,13 +6,13 @@ use Rattle.std.specs.Option.{ok_or}
 use Rattle.std.specs.Str.{bytes_eq}
 use Rattle.std.specs.Str.Lines.{lines}
 use Rattle.lwb_base.specs.Messages.{code}
-use Rattle.text_readers.specs.Faults.{first_fault, unless_fault, spelled, in_line, ◌>>=◌, after_lines}
-use Rattle.text_readers.specs.Reading.{after_line}
-use Rattle.text_readers.specs.Words.{word, is_number, number_at, counted}
+use Rattle.text_readers.specs.Faults.{first_fault, unless_fault, spelled, in_line, ◌>>=◌, draft_after_lines}
+use Rattle.text_readers.specs.Reading.{draft_after_line}
+use Rattle.text_readers.specs.Words.{word, is_number, number_at, line_of_words}
 use Rattle.text_readers.specs.declared.fault.FaultKind.{FaultKind}
 use Rattle.text_readers.specs.declared.fault.FaultKind.TheVariants.{Range, Twice, TooMany, Missing}
-use Rattle.deadline_plan.specs.Jobs.{IsStream}
-use Rattle.deadline_plan.specs.Admission.{Plan, has}
+use Rattle.deadline_plan.specs.Jobs.{IsDeadlineStream}
+use Rattle.deadline_plan.specs.Admission.{PlanOfDeadlines, has_stream_of}
 use Rattle.deadline_plan.specs.declared.line.DeadlineLine.{DeadlineLine}
 use Rattle.deadline_plan.specs.declared.line.DeadlineLine.TheVariants.{Slots, Frames, Stream}
 use Rattle.deadline_plan.specs.declared.stream.DeadlineStream.{DeadlineStream}
@@ -20,20 +20,20 @@ use Rattle.deadline_plan.specs.declared.stream.DeadlineStream.{DeadlineStream}
 -- what the words say, if they are those of a line
 unfoldable pub deadline_line : List (List ℕ) → Option DeadlineLine
 deadline_line ws =
-    if bytes_eq (word ws 0) (codes "slots") then counted 2 ws (Slots (number_at ws 1))
-    else if bytes_eq (word ws 0) (codes "frames") then counted 2 ws (Frames (number_at ws 1))
+    if bytes_eq (word ws 0) (codes "slots") then line_of_words 2 ws (Slots (number_at ws 1))
+    else if bytes_eq (word ws 0) (codes "frames") then line_of_words 2 ws (Frames (number_at ws 1))
     else if bytes_eq (word ws 0) (codes "stream")
-    then counted 6 ws (Stream (number_at ws 1) (number_at ws 2) (number_at ws 3) (number_at ws 4) (number_at ws 5))
+    then line_of_words 6 ws (Stream (number_at ws 1) (number_at ws 2) (number_at ws 3) (number_at ws 4) (number_at ws 5))
     else None
 
 -- what the lines above say
-pub record Drafted : Type 0 where
+pub record DraftedPlan : Type 0 where
   pub slots : Option ℕ
   pub frames : Option ℕ
   pub streams : List DeadlineStream
 
-abbrev pub no_lines : Drafted
-no_lines = record { slots = None; frames = None; streams = [] }
+abbrev pub empty_plan_draft : DraftedPlan
+empty_plan_draft = record { slots = None; frames = None; streams = [] }
 
 abbrev pub between : ℕ → ℕ → ℕ → Bool
 between low high n = nat_le low n && nat_le n high
@@ -43,55 +43,55 @@ are_in_range node stream start period deadline =
     between 1 200 node && (nat_le stream 3 && (nat_le start 1023 && (between 1 64 period && between 1 64 deadline)))
 
 -- the fault of a line that is spelled right
-abbrev pub rule_fault : Drafted → DeadlineLine → Option FaultKind
-rule_fault d (Slots n) = first_fault ((between 1 40 n, Range) ∷ (is_none d.slots, Twice) ∷ [])
-rule_fault d (Frames n) = first_fault ((between 1 1024 n, Range) ∷ (is_none d.frames, Twice) ∷ [])
-rule_fault d (Stream node stream start period deadline) =
-    first_fault ((are_in_range node stream start period deadline, Range) ∷ (not (has d.streams (code node stream)), Twice) ∷ (
+abbrev pub deadline_rule_fault : DraftedPlan → DeadlineLine → Option FaultKind
+deadline_rule_fault d (Slots n) = first_fault ((between 1 40 n, Range) ∷ (is_none d.slots, Twice) ∷ [])
+deadline_rule_fault d (Frames n) = first_fault ((between 1 1024 n, Range) ∷ (is_none d.frames, Twice) ∷ [])
+deadline_rule_fault d (Stream node stream start period deadline) =
+    first_fault ((are_in_range node stream start period deadline, Range) ∷ (not (has_stream_of d.streams (code node stream)), Twice) ∷ (
       nat_lt
           (length d.streams) 32,
       TooMany,
     ) ∷ [])
 
 -- what the lines say with an allowed line more
-abbrev pub with_line : Drafted → DeadlineLine → Drafted
-with_line d (Slots n) = record d { slots = Some n }
-with_line d (Frames n) = record d { frames = Some n }
-with_line d (Stream node stream start period deadline) =
+abbrev pub with_deadline_line : DraftedPlan → DeadlineLine → DraftedPlan
+with_deadline_line d (Slots n) = record d { slots = Some n }
+with_deadline_line d (Frames n) = record d { frames = Some n }
+with_deadline_line d (Stream node stream start period deadline) =
     record d { streams = d.streams ++ record { owner = code node stream; start = start; period = period; deadline = deadline } ∷ [] }
 
 -- behind a line of these words, or its fault. Every word behind the first is a number
-unfoldable pub after_words : Drafted → List (List ℕ) → Result Drafted FaultKind
-after_words d ws = do
+unfoldable pub plan_after_words : DraftedPlan → List (List ℕ) → Result DraftedPlan FaultKind
+plan_after_words d ws = do
   l ← spelled (deadline_line ws) (λ _. list_all is_number (drop 1 ws))
-  unless_fault (rule_fault d l) (with_line d l)
+  unless_fault (deadline_rule_fault d l) (with_deadline_line d l)
 
 -- what a whole text says, which has slots, frames and a stream
-abbrev pub parts_of : Option ℕ → Option ℕ → List DeadlineStream → Option Plan
-parts_of (Some slots) (Some frames) (s ∷ ss) = Some (record { slots = slots; frames = frames; streams = s ∷ ss })
-parts_of None frames ss = None
-parts_of (Some slots) None ss = None
-parts_of (Some slots) (Some frames) [] = None
+abbrev pub plan_of_parts : Option ℕ → Option ℕ → List DeadlineStream → Option PlanOfDeadlines
+plan_of_parts (Some slots) (Some frames) (s ∷ ss) = Some (record { slots = slots; frames = frames; streams = s ∷ ss })
+plan_of_parts None frames ss = None
+plan_of_parts (Some slots) None ss = None
+plan_of_parts (Some slots) (Some frames) [] = None
 
-abbrev pub finished : Drafted → Result Plan FaultKind
-finished d = ok_or (parts_of d.slots d.frames d.streams) Missing
+abbrev pub whole_plan : DraftedPlan → Result PlanOfDeadlines FaultKind
+whole_plan d = ok_or (plan_of_parts d.slots d.frames d.streams) Missing
 
 -- what the bytes say, or their first fault and its line. What is missing is missing behind the last line
-abbrev pub plan_of : List ℕ → Result Plan (ℕ × FaultKind)
+abbrev pub plan_of : List ℕ → Result PlanOfDeadlines (ℕ × FaultKind)
 plan_of bytes = do
-  d ← after_lines (after_line after_words) 1 no_lines (lines bytes)
-  in_line (length (lines bytes) + 1) (finished d)
+  d ← draft_after_lines (draft_after_line plan_after_words) 1 empty_plan_draft (lines bytes)
+  in_line (length (lines bytes) + 1) (whole_plan d)
 
 -- Internal: what is true of each draft, and of each text.
-pub record IsDraft (d : Drafted) : Type 0 where
+pub record IsPlanDraft (d : DraftedPlan) : Type 0 where
   pub slots : IfSome d.slots (λ n. (1 ≤ n) × (n ≤ 40))
   pub frames : IfSome d.frames (λ n. (1 ≤ n) × (n ≤ 1024))
-  pub streams : All IsStream d.streams
+  pub streams : All IsDeadlineStream d.streams
   pub few : length d.streams ≤ 32
 
-pub record IsText (p : Plan) : Type 0 where
+pub record IsText (p : PlanOfDeadlines) : Type 0 where
   pub slots : (1 ≤ p.slots) × (p.slots ≤ 40)
   pub frames : (1 ≤ p.frames) × (p.frames ≤ 1024)
-  pub streams : All IsStream p.streams
+  pub streams : All IsDeadlineStream p.streams
   pub some : 1 ≤ length p.streams
   pub few : length p.streams ≤ 32

@@ -10,31 +10,31 @@ abbrev pub comes_by : Job → Job → Bool
 comes_by j k = nat_lt j.end k.end || ((j.end == k.end) && (nat_lt j.owner k.owner || ((j.owner == k.owner) && nat_le j.release k.release)))
 
 -- of waiting jobs in their order, the first so many that are released by this frame
-unfoldable pub granted : ℕ → ℕ → List Job → List Job
-granted slots frame [] = []
-granted zero frame (j ∷ js) = []
-granted (suc slots) frame (j ∷ js) = if nat_le j.release frame then j ∷ granted slots frame js else granted (suc slots) frame js
+unfoldable pub granted_jobs : ℕ → ℕ → List Job → List Job
+granted_jobs slots frame [] = []
+granted_jobs zero frame (j ∷ js) = []
+granted_jobs (suc slots) frame (j ∷ js) = if nat_le j.release frame then j ∷ granted_jobs slots frame js else granted_jobs (suc slots) frame js
 
 -- the waiting jobs without these
-unfoldable pub left : ℕ → ℕ → List Job → List Job
-left slots frame [] = []
-left zero frame (j ∷ js) = j ∷ js
-left (suc slots) frame (j ∷ js) = if nat_le j.release frame then left slots frame js else j ∷ left (suc slots) frame js
+unfoldable pub jobs_left : ℕ → ℕ → List Job → List Job
+jobs_left slots frame [] = []
+jobs_left zero frame (j ∷ js) = j ∷ js
+jobs_left (suc slots) frame (j ∷ js) = if nat_le j.release frame then jobs_left slots frame js else j ∷ jobs_left (suc slots) frame js
 
 -- what so many frames grant of waiting jobs, from this frame on
 unfoldable pub grants_from : ℕ → ℕ → ℕ → List Job → List (List Job)
 grants_from slots frame zero js = []
-grants_from slots frame (suc frames) js = granted slots frame js ∷ grants_from slots (frame + 1) frames (left slots frame js)
+grants_from slots frame (suc frames) js = granted_jobs slots frame js ∷ grants_from slots (frame + 1) frames (jobs_left slots frame js)
 
 -- the jobs granted in each frame
 abbrev pub grants : ℕ → ℕ → List Job → List (List Job)
 grants slots frames js = grants_from slots 0 frames (sorted comes_by js)
 
 -- the owners of a frame's slots, ascending
-abbrev pub round : List Job → List ℕ
-round js = sorted nat_le (map (λ (j : Job). j.owner) js)
+abbrev pub owners_of_round : List Job → List ℕ
+owners_of_round js = sorted nat_le (map (λ (j : Job). j.owner) js)
 
 -- each job is granted once, in a frame from its release to its end - 1
-pub record AreKept (js : List Job) (granted : List (List Job)) : Type 0 where
+pub record AreGrantedInTime (js : List Job) (granted : List (List Job)) : Type 0 where
   pub once : IsPermutation js (flat_map (λ g. g) granted)
   pub in_time : (frame : ℕ) → All (λ j. (j.release ≤ frame) × (frame < j.end)) (slice_index_or granted frame [])

@@ -4,7 +4,7 @@ use Rattle.std.specs.List.{flat_map, range_with_len}
 use Rattle.deadline_plan.specs.declared.job.Job.{Job}
 use Rattle.deadline_plan.specs.declared.stream.DeadlineStream.{DeadlineStream}
 
-pub record IsStream (s : DeadlineStream) : Type 0 where
+pub record IsDeadlineStream (s : DeadlineStream) : Type 0 where
   pub start : s.start ≤ 1023
   pub some_period : 1 ≤ s.period
   pub short_period : s.period ≤ 64
@@ -28,14 +28,14 @@ abbrev pub load : List Job → ℕ → ℕ → ℕ
 load js from until = count_by (λ j. nat_le from j.release && nat_le j.end until) js
 
 -- the load is more than the slots of the frames from `from` to `until - 1`
-abbrev pub IsOver : ℕ → List Job → ℕ → ℕ → Type 0
-IsOver slots js from until = (from < until) × (slots * (until - from) < load js from until)
+abbrev pub IsOverload : ℕ → List Job → ℕ → ℕ → Type 0
+IsOverload slots js from until = (from < until) × (slots * (until - from) < load js from until)
 
 abbrev pub NothingOver : ℕ → List Job → Type 0
 NothingOver slots js = (from until : ℕ) → from < until → load js from until ≤ slots * (until - from)
 
 -- of the pairs that are over, that with the least `until`, and of these that with the greatest `from`
 pub record IsFirstOver (slots : ℕ) (js : List Job) (from until : ℕ) : Type 0 where
-  pub over : IsOver slots js from until
-  pub least : (a b : ℕ) → IsOver slots js a b → until ≤ b
-  pub greatest : (a : ℕ) → IsOver slots js a until → a ≤ from
+  pub over : IsOverload slots js from until
+  pub least : (a b : ℕ) → IsOverload slots js a b → until ≤ b
+  pub greatest : (a : ℕ) → IsOverload slots js a until → a ≤ from

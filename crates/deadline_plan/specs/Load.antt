@@ -12,15 +12,15 @@ is_at None n = false
 is_at (Some m) n = m == n
 
 -- the sum of so many of the numbers, from this place on
-unfoldable pub span : List ℕ → ℕ → ℕ → ℕ
-span ns from zero = 0
-span ns from (suc n) = slice_index ns from + span ns (from + 1) n
+unfoldable pub sum_from : List ℕ → ℕ → ℕ → ℕ
+sum_from ns from zero = 0
+sum_from ns from (suc n) = slice_index ns from + sum_from ns (from + 1) n
 
 -- where `released` says how many jobs are released in each frame: the latest frame from which more of them are released
 -- than there are slots until `until`
 pub record IsLatestOver (released : List ℕ) (slots until : ℕ) (o : Overload) : Type 0 where
   pub ends : o.until ≡ until
   pub before : o.from < until
-  pub demand : o.demand ≡ span released o.from (until - o.from)
+  pub demand : o.demand ≡ sum_from released o.from (until - o.from)
   pub over : slots * (until - o.from) < o.demand
-  pub latest : (a : ℕ) → o.from < a → a < until → span released a (until - a) ≤ slots * (until - a)
+  pub latest : (a : ℕ) → o.from < a → a < until → sum_from released a (until - a) ≤ slots * (until - a)

@@ -2,9 +2,9 @@
 
 ghost use Rattle.std.specs.Prelude.{◌≡◌, ◌≤◌, [], IfOk};
 ghost use Rattle.std.specs.List.{list_any};
-ghost use Rattle.deadline_plan.specs.Admission.{Plan, has, after_admit, Answers, rounds_of, grants_of, with_last};
-ghost use Rattle.deadline_plan.specs.Grants.{AreKept};
-ghost use Rattle.deadline_plan.specs.Jobs.{IsStream, jobs};
+ghost use Rattle.deadline_plan.specs.Admission.{PlanOfDeadlines, has_stream_of, after_admit, IsAdmission, rounds_of, grants_of, with_last};
+ghost use Rattle.deadline_plan.specs.Grants.{AreGrantedInTime};
+ghost use Rattle.deadline_plan.specs.Jobs.{IsDeadlineStream, jobs};
 
 use crate::DeadlineStream;
 use crate::grants::{queue, rounds};
@@ -40,13 +40,13 @@ pub struct Deadlines {
 }
 
 impl Model for Deadlines {
-    ghost use Rattle.deadline_plan.specs.Admission.{Plan, IsPlan};
+    ghost use Rattle.deadline_plan.specs.Admission.{PlanOfDeadlines, IsDeadlinePlan};
 
-    ghost Value = { Plan };
+    ghost Value = { PlanOfDeadlines };
 
     ghost view = { λ d. record { slots = d.slots; frames = d.frames; streams = d.streams.items } };
 
-    ghost invariant = { λ d. IsPlan (record { slots = d.slots; frames = d.frames; streams = d.streams.items }) };
+    ghost invariant = { λ d. IsDeadlinePlan (record { slots = d.slots; frames = d.frames; streams = d.streams.items }) };
 }
 
 impl Deadlines {
@@ -66,8 +66,8 @@ impl Deadlines {
     /// Admits the stream, unless its owner or 32 streams are admitted already, or a job would go without a slot. Nothing
     /// changes but by `Yes`, nor after `Memory`.
     pub fn admit(&mut self, alloc: Global, s: &DeadlineStream) -> Result<Admit, Memory>
-        requires { IsStream s.now }
-        ensures answer { IfOk result (Answers self.old s.now) }
+        requires { IsDeadlineStream s.now }
+        ensures answer { IfOk result (IsAdmission self.old s.now) }
         ensures plan { self.new ≡ after_admit self.old s.now result }
     {
         if has_owner(self.streams.as_slice(), s.owner) {
@@ -93,7 +93,7 @@ impl Deadlines {
     /// its release to its end - 1.
     pub fn rounds(&self, alloc: Global) -> Result<Vec<Owners>, Memory>
         ensures rounds { IfOk result (λ v. v.items ≡ rounds_of self.now) }
-        ensures kept { AreKept (jobs self.now.frames self.now.streams) (grants_of self.now) }
+        ensures kept { AreGrantedInTime (jobs self.now.frames self.now.streams) (grants_of self.now) }
     {
         let waiting = queue(alloc, self.streams.as_slice(), self.frames)?;
         rounds(alloc, waiting, self.slots, self.frames)
@@ -101,7 +101,7 @@ impl Deadlines {
 }
 
 pub(crate) fn has_owner(streams: &[DeadlineStream], owner: Owner) -> bool
-    ensures { result ≡ has streams.now owner }
+    ensures { result ≡ has_stream_of streams.now owner }
 {
     streams.iter().any(|s| s.owner == owner)
 }

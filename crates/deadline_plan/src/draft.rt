@@ -2,8 +2,8 @@
 
 ghost use Rattle.std.specs.Prelude.{◌≡◌, OnOk};
 ghost use Rattle.text_readers.specs.Faults.{Refuses, RefusesBy};
-ghost use Rattle.deadline_plan.specs.DeadlineText.{no_lines, rule_fault, with_line, after_words};
-ghost use Rattle.deadline_plan.specs.DeadlineText.{parts_of, between as between_of, are_in_range as are_in_range_of};
+ghost use Rattle.deadline_plan.specs.DeadlineText.{empty_plan_draft, deadline_rule_fault, with_deadline_line, plan_after_words};
+ghost use Rattle.deadline_plan.specs.DeadlineText.{plan_of_parts, between as between_of, are_in_range as are_in_range_of};
 ghost use Rattle.deadline_plan.specs.declared.line.DeadlineLine.TheVariants.{Slots, Frames, Stream};
 
 use crate::admission::has_owner;
@@ -23,19 +23,19 @@ pub struct DeadlineDraft {
 }
 
 impl Model for DeadlineDraft {
-    ghost use Rattle.deadline_plan.specs.DeadlineText.{Drafted, IsDraft};
+    ghost use Rattle.deadline_plan.specs.DeadlineText.{DraftedPlan, IsPlanDraft};
 
-    ghost Value = { Drafted };
+    ghost Value = { DraftedPlan };
 
     ghost view = { λ d. record { slots = d.slots; frames = d.frames; streams = d.streams.items } };
 
-    ghost invariant = { λ d. IsDraft (record { slots = d.slots; frames = d.frames; streams = d.streams.items }) };
+    ghost invariant = { λ d. IsPlanDraft (record { slots = d.slots; frames = d.frames; streams = d.streams.items }) };
 }
 
 impl Draft for DeadlineDraft {
-    ghost after = { after_words };
+    ghost after = { plan_after_words };
 
-    #[tactic(auto, unfolding(crate::specs::DeadlineText::after_words))]
+    #[tactic(auto, unfolding(crate::specs::DeadlineText::plan_after_words))]
     fn read(&mut self, words: &[&[u8]]) -> Result<(), Refusal> {
         let line = DeadlineLine::new(words)?;
         self.add(line)
@@ -45,7 +45,7 @@ impl Draft for DeadlineDraft {
 impl DeadlineDraft {
     /// A draft of no lines. It takes no memory.
     pub fn new(alloc: Global) -> DeadlineDraft
-        ensures { result ≡ no_lines }
+        ensures { result ≡ empty_plan_draft }
     {
         DeadlineDraft {
             slots: None,
@@ -55,8 +55,8 @@ impl DeadlineDraft {
     }
 
     fn add(&mut self, line: DeadlineLine) -> Result<(), Refusal>
-        ensures fault { Refuses result (rule_fault self.old line) }
-        ensures added { OnOk result (self.new ≡ with_line self.old line) }
+        ensures fault { Refuses result (deadline_rule_fault self.old line) }
+        ensures added { OnOk result (self.new ≡ with_deadline_line self.old line) }
     {
         match line {
             DeadlineLine::Slots { count } => Ok(self.add_slots(count)?),
@@ -72,8 +72,8 @@ impl DeadlineDraft {
     }
 
     fn add_slots(&mut self, count: u64) -> Result<(), FaultKind>
-        ensures fault { RefusesBy result (rule_fault self.old (Slots count)) }
-        ensures added { OnOk result (self.new ≡ with_line self.old (Slots count)) }
+        ensures fault { RefusesBy result (deadline_rule_fault self.old (Slots count)) }
+        ensures added { OnOk result (self.new ≡ with_deadline_line self.old (Slots count)) }
     {
         refuse_unless(between(1, 40, count), FaultKind::Range)?;
         refuse_unless(self.slots.is_none(), FaultKind::Twice)?;
@@ -82,8 +82,8 @@ impl DeadlineDraft {
     }
 
     fn add_frames(&mut self, count: u64) -> Result<(), FaultKind>
-        ensures fault { RefusesBy result (rule_fault self.old (Frames count)) }
-        ensures added { OnOk result (self.new ≡ with_line self.old (Frames count)) }
+        ensures fault { RefusesBy result (deadline_rule_fault self.old (Frames count)) }
+        ensures added { OnOk result (self.new ≡ with_deadline_line self.old (Frames count)) }
     {
         refuse_unless(between(1, 1_024, count), FaultKind::Range)?;
         refuse_unless(self.frames.is_none(), FaultKind::Twice)?;
@@ -99,8 +99,8 @@ impl DeadlineDraft {
         period: u64,
         deadline: u64,
     ) -> Result<(), Refusal>
-        ensures fault { Refuses result (rule_fault self.old (Stream node stream start period deadline)) }
-        ensures added { OnOk result (self.new ≡ with_line self.old (Stream node stream start period deadline)) }
+        ensures fault { Refuses result (deadline_rule_fault self.old (Stream node stream start period deadline)) }
+        ensures added { OnOk result (self.new ≡ with_deadline_line self.old (Stream node stream start period deadline)) }
     {
         let is_in_range = are_in_range(node, stream, start, period, deadline);
         refuse_unless(is_in_range, FaultKind::Range)?;
@@ -120,7 +120,7 @@ impl DeadlineDraft {
 
     /// What the text says. Returns `None` if and only if slots, frames or a stream is missing.
     pub fn finish(self) -> Option<DeadlineText>
-        ensures { result ≡ parts_of self.slots self.frames self.streams }
+        ensures { result ≡ plan_of_parts self.slots self.frames self.streams }
     {
         let DeadlineDraft {
             slots,

@@ -1,8 +1,8 @@
 //! Which frame grants which job its slot.
 
 ghost use Rattle.std.specs.Prelude.{◌≡◌, ◌<◌, ◌≤◌, ◌++◌, [], ◌∷◌, ◌&&◌, nat_le, nat_lt, if◌then◌else◌, length, map, IfOk, All};
-ghost use Rattle.deadline_plan.specs.Grants.{comes_by, granted as granted_of, left as left_of, grants_from, round as round_of};
-ghost use Rattle.deadline_plan.specs.Jobs.{IsStream, job as job_of, jobs_of, jobs as all_jobs};
+ghost use Rattle.deadline_plan.specs.Grants.{comes_by, granted_jobs as granted_of, jobs_left as left_of, grants_from, owners_of_round as round_of};
+ghost use Rattle.deadline_plan.specs.Jobs.{IsDeadlineStream, job as job_of, jobs_of, jobs as all_jobs};
 ghost use Rattle.deadline_plan.specs.Sorting.{sorted, IsOrdered};
 
 use crate::{DeadlineStream, Job};
@@ -12,7 +12,7 @@ use std::alloc::Global;
 
 /// The jobs of the streams that end by the last frame, in their order.
 pub fn queue(alloc: Global, streams: &[DeadlineStream], frames: u32) -> Result<Vec<Job>, Memory>
-    requires streams { All IsStream streams.now }
+    requires streams { All IsDeadlineStream streams.now }
     requires frames { frames ≤ 1024 }
     ensures { IfOk result (λ v. v.items ≡ sorted comes_by (all_jobs frames streams.now)) }
 {
@@ -25,7 +25,7 @@ pub fn queue(alloc: Global, streams: &[DeadlineStream], frames: u32) -> Result<V
 }
 
 fn add_jobs(jobs: &mut Vec<Job>, stream: &DeadlineStream, frames: u32) -> Result<(), Memory>
-    requires stream { IsStream stream.now }
+    requires stream { IsDeadlineStream stream.now }
     requires frames { frames ≤ 1024 }
     ensures { IfOk result (λ done. jobs.new.items ≡ jobs.old.items ++ jobs_of frames stream.now) }
 {
@@ -42,7 +42,7 @@ fn add_job(
     number: u32,
     frames: u32,
 ) -> Result<(), Memory>
-    requires stream { IsStream stream.now }
+    requires stream { IsDeadlineStream stream.now }
     requires number { number ≤ 1024 }
     ensures { IfOk result
         (λ done. jobs.new.items ≡ jobs.old.items ++ (if nat_le (job_of stream.now number).end frames then job_of stream.now number ∷ [] else [])) }

@@ -1,8 +1,8 @@
 //! Pairs of frames between which more slots are needed than there are.
 
 ghost use Rattle.std.specs.Prelude.{◌≡◌, ◌<◌, ◌≤◌, ◌+◌, ◌-◌, ◌*◌, ℕ, length, count_by, slice_index, IfOk, IfSome, IfNone, All};
-ghost use Rattle.deadline_plan.specs.Jobs.{IsStream, jobs, load, NothingOver, IsFirstOver};
-ghost use Rattle.deadline_plan.specs.Load.{has_job, is_at, span, IsLatestOver};
+ghost use Rattle.deadline_plan.specs.Jobs.{IsDeadlineStream, jobs, load, NothingOver, IsFirstOver};
+ghost use Rattle.deadline_plan.specs.Load.{has_job, is_at, sum_from, IsLatestOver};
 
 use crate::DeadlineStream;
 use lwb_base::Memory;
@@ -23,7 +23,7 @@ pub fn first_over(
     slots: u8,
     frames: u32,
 ) -> Result<Option<Overload>, Memory>
-    requires streams { All IsStream streams.now }
+    requires streams { All IsDeadlineStream streams.now }
     requires few { length streams.now ≤ 33 }
     requires slots { slots ≤ 40 }
     requires frames { frames ≤ 1024 }
@@ -43,7 +43,7 @@ pub fn first_over(
 
 // Counts each job that ends then at its release.
 fn count_ends(streams: &[DeadlineStream], until: u32, released: &mut [u32])
-    requires streams { All IsStream streams.now }
+    requires streams { All IsDeadlineStream streams.now }
     requires few { length streams.now ≤ 33 }
     requires until { until ≤ length released.old }
     requires short { until ≤ 1024 }
@@ -61,7 +61,7 @@ fn count_ends(streams: &[DeadlineStream], until: u32, released: &mut [u32])
 
 // The release of the stream's job with that end. None where no job ends then.
 fn release_of(stream: &DeadlineStream, end: u32) -> Option<u32>
-    requires stream { IsStream stream.now }
+    requires stream { IsDeadlineStream stream.now }
     requires short { end ≤ 1024 }
     ensures job { (a : ℕ) → has_job stream.now a end ≡ is_at result a }
     ensures before { IfSome result (λ a. a < end) }
@@ -85,7 +85,7 @@ fn latest_over(released: &[u32], slots: u8, until: u32) -> Option<Overload>
     requires short { until ≤ 1024 }
     requires room { (a : ℕ) → slice_index released.now a ≤ 131072 }
     ensures some { IfSome result (IsLatestOver released.now slots until) }
-    ensures none { IfNone result ((a : ℕ) → a < until → span released.now a (until - a) ≤ slots * (until - a)) }
+    ensures none { IfNone result ((a : ℕ) → a < until → sum_from released.now a (until - a) ≤ slots * (until - a)) }
 {
     let slots = u32::from(slots);
     let mut from = until;

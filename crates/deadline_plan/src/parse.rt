@@ -1,7 +1,7 @@
 //! Reads the text of a plan.
 
 ghost use Rattle.std.specs.Prelude.{◌<◌, ◌^◌, length};
-ghost use Rattle.text_readers.specs.Faults.{Gives};
+ghost use Rattle.text_readers.specs.Faults.{IsAsDefined};
 ghost use Rattle.deadline_plan.specs.DeadlineText.{plan_of};
 
 use crate::DeadlineText;
@@ -14,7 +14,7 @@ use text_readers::{FaultKind, ParseFault, read_lines};
 /// and `Missing`, where slots, frames or a stream are missing after the last line.
 pub fn parse_deadlines(alloc: Global, bytes: &[u8]) -> Result<DeadlineText, ParseFault>
     requires { length bytes.now < 2 ^ 31 }
-    ensures { Gives result (plan_of bytes.now) }
+    ensures { IsAsDefined result (plan_of bytes.now) }
 {
     let (draft, count) = read_lines(alloc, DeadlineDraft::new(alloc), bytes)?;
     match draft.finish() {

@@ -1,9 +1,9 @@
 //! What the text of a plan says.
 
 ghost use Rattle.std.specs.Prelude.{◌≡◌, ◌≤◌, ◌<◌, length, All};
-ghost use Rattle.deadline_plan.specs.Admission.{Plan};
+ghost use Rattle.deadline_plan.specs.Admission.{PlanOfDeadlines};
 ghost use Rattle.deadline_plan.specs.DeadlineText.{IsText};
-ghost use Rattle.deadline_plan.specs.Jobs.{IsStream};
+ghost use Rattle.deadline_plan.specs.Jobs.{IsDeadlineStream};
 
 use crate::DeadlineStream;
 use std::marker::Model;
@@ -18,10 +18,10 @@ pub struct DeadlineText {
 }
 
 impl Model for DeadlineText {
-    ghost use Rattle.deadline_plan.specs.Admission.{Plan};
+    ghost use Rattle.deadline_plan.specs.Admission.{PlanOfDeadlines};
     ghost use Rattle.deadline_plan.specs.DeadlineText.{IsText};
 
-    ghost Value = { Plan };
+    ghost Value = { PlanOfDeadlines };
 
     ghost view = { λ t. record { slots = t.slots; frames = t.frames; streams = t.streams.items } };
 

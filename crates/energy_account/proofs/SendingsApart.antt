@@ -8,10 +8,10 @@ use Rattle.radio_model.specs.declared.sending.Sending.{Sending}
 use Rattle.scenario_text.specs.ScenarioParts.{ScenarioParts}
 use Rattle.scenario_text.specs.declared.script.ScriptLine.{ScriptLine}
 use Rattle.bus_rules.specs.Cores.{Setup}
-use Rattle.air_log.specs.Devices.{Device, Listening, Ordered, event}
-use Rattle.air_log.specs.ScriptedDevices.{after_line}
-use Rattle.air_log.specs.Trails.{Reception, setup_of, lines_at, scripted, ending_at, hears, heard, ended_by, ended, begun_by, starts, sending_from}
-use Rattle.air_log.specs.Trails.{before_start, before_tick, run_end, trail}
+use Rattle.air_log.specs.Devices.{Device, Listening, OrderedPacket, event}
+use Rattle.air_log.specs.ScriptedDevices.{device_after_line}
+use Rattle.air_log.specs.Trails.{Reception, setup_of, lines_at, device_after_script, ending_at, device_after_reception, device_after_receptions}
+use Rattle.air_log.specs.Trails.{device_ended_by, device_after_end, begun_by, starts, sending_from, before_start, before_tick, run_end, trail}
 use Rattle.air_log.proofs.KeptByEvents.{in_tick}
 use Rattle.air_log.proofs.SendingsKept.{event_sending, line_sending, alarmed_sending}
 use Rattle.air_log.proofs.TrailSendings.{kept_sent}
@@ -39,16 +39,16 @@ one_more b xs y is after long = (
 
 -- the sending that runs, through the phases of a tick
 module _ (clock : ℕ → ℕ) (s : Setup) (t : ℕ) where
-  lines_sending : (ls : List ScriptLine) (d : Device) → (fold (after_line clock s t) d ls).sending ≡ d.sending
+  lines_sending : (ls : List ScriptLine) (d : Device) → (fold (device_after_line clock s t) d ls).sending ≡ d.sending
   lines_sending [] d = refl
-  lines_sending (l ∷ ls) d = lines_sending ls (after_line clock s t d l) ∙ line_sending clock s t d l
+  lines_sending (l ∷ ls) d = lines_sending ls (device_after_line clock s t d l) ∙ line_sending clock s t d l
 
-  hearings_sending : (hs : List Reception) (d : Device) → (fold (hears clock s t) d hs).sending ≡ d.sending
+  hearings_sending : (hs : List Reception) (d : Device) → (fold (device_after_reception clock s t) d hs).sending ≡ d.sending
   hearings_sending [] d = refl
-  hearings_sending (h ∷ hs) d = hearings_sending hs (hears clock s t d h) ∙ event_sending clock s t (Heard h.packet) None d
+  hearings_sending (h ∷ hs) d = hearings_sending hs (device_after_reception clock s t d h) ∙ event_sending clock s t (Heard h.packet) None d
 
   -- one that ends now has ended by this tick
-  end_by : (d : Device) (x : Option Sending) → d.sending ≡ x → end_of t (ended_by clock s t d x).sending ≡ end_of t x
+  end_by : (d : Device) (x : Option Sending) → d.sending ≡ x → end_of t (device_ended_by clock s t d x).sending ≡ end_of t x
   end_by d None is = ap (end_of t) is
   end_by d (Some x) is =
       cond_both (x.end == t) (event clock s t Sent (Some x) (record d { sending = None })) d (λ (e : Device). end_of t e.sending ≡ x.end)
@@ -62,7 +62,7 @@ module _ (clock : ℕ → ℕ) (s : Setup) (t : ℕ) where
   by_start packet d (Some l) None is all =
       one_more t d.made.sent (sending_from s t packet l) (subst (λ (o : Option Sending). EndedBy (end_of t o) d.made.sent) is all) (omega arith) (omega arith)
 
-  by_begun : (d : Device) (o : Option Ordered) → EndedBy (end_of t d.sending) d.made.sent
+  by_begun : (d : Device) (o : Option OrderedPacket) → EndedBy (end_of t d.sending) d.made.sent
       → EndedBy (end_of t (begun_by s t d o).sending) (begun_by s t d o).made.sent
   by_begun d None all = all
   by_begun d (Some o) all =
@@ -75,12 +75,12 @@ module _ (s : ScenarioParts) (v : ℕ) (clock : ℕ → ℕ) (hs : List Receptio
       → (let e = before_start s v clock hs t d in EndedBy (end_of t e.sending) e.made.sent)
   before_starts t d all =
       let x = setup_of s v in
-      let lines = scripted s v clock t d in
-      let after = heard clock x t hs lines in
+      let lines = device_after_script s v clock t d in
+      let after = device_after_receptions clock x t hs lines in
       let e = before_start s v clock hs t d in
       let same : e.made.sent ≡ d.made.sent = in_tick (λ y. y.made.sent ≡ d.made.sent) s v clock hs t d (kept_sent (λ xs. xs ≡ d.made.sent) clock x t) refl in
       let runs : end_of t e.sending ≡ end_of t d.sending =
-      ap (end_of t) (alarmed_sending clock x t (ended clock x t after))
+      ap (end_of t) (alarmed_sending clock x t (device_after_end clock x t after))
       ∙ end_by clock x t after after.sending refl
       ∙ ap (end_of t) (hearings_sending clock x t (ending_at t hs) lines ∙ lines_sending clock x t (lines_at s v t) d) in
       rw (same, runs) all

@@ -10,8 +10,8 @@ use Rattle.event_calendar.specs.declared.class.Class.TheVariants.{SendingEnd, Al
 use Rattle.event_calendar.specs.declared.entry.Entry.{Entry}
 use Rattle.event_calendar.specs.declared.queues.Queues.{Queues}
 use Rattle.event_calendar.specs.Orders.{Due, Order, Stands, IsNext, IsNotAfter, at, rank}
-use Rattle.event_calendar.specs.Waiting.{IsBefore, IsInOrder}
-use Rattle.event_calendar.specs.Queues.{queue_of, order, earlier, first_in, first_of, HasQueues}
+use Rattle.event_calendar.specs.Waiting.{IsBefore, EntriesAreInOrder}
+use Rattle.event_calendar.specs.Queues.{queue_of, order, earlier_order, first_in, first_order, HasQueues}
 
 -- the first, if there is one, has the second no later than it
 abbrev Follows : Option Order → Option Order → Type 0
@@ -47,12 +47,12 @@ chosen_right : (x y : Order) (t : Bool) → nat_lt y.0 x.0 ≡ t → rank x.1 < 
 chosen_right x y true is ranks = follows_itself (Some y)
 chosen_right x y false is ranks = let not_less = ltb-false y.0 x.0 is in omega arith
 
-left_follows : (a b : Option Order) → Follows a (earlier a b)
+left_follows : (a b : Option Order) → Follows a (earlier_order a b)
 left_follows None b = tt
 left_follows (Some x) None = follows_itself (Some x)
 left_follows (Some x) (Some y) = chosen_left x y (nat_lt y.0 x.0) refl
 
-right_follows : (a b : Option Order) → HasRanks a b → Follows b (earlier a b)
+right_follows : (a b : Option Order) → HasRanks a b → Follows b (earlier_order a b)
 right_follows None b ranks = follows_itself b
 right_follows (Some x) None ranks = tt
 right_follows (Some x) (Some y) ranks = chosen_right x y (nat_lt y.0 x.0) refl ranks
@@ -61,7 +61,7 @@ chosen_keeps : (P : Option Order → Type 0) (x y : Order) (t : Bool) → P (Som
 chosen_keeps P x y true left right = right
 chosen_keeps P x y false left right = left
 
-earlier_keeps : (P : Option Order → Type 0) (a b : Option Order) → P a → P b → P (earlier a b)
+earlier_keeps : (P : Option Order → Type 0) (a b : Option Order) → P a → P b → P (earlier_order a b)
 earlier_keeps P None b left right = right
 earlier_keeps P (Some x) None left right = left
 earlier_keeps P (Some x) (Some y) left right = chosen_keeps P x y (nat_lt y.0 x.0) left right
@@ -77,7 +77,7 @@ first_stands : (class : Class) (map : List Due) (xs : List Entry) → ((e : Entr
 first_stands class map [] stands = tt
 first_stands class map (x ∷ xs) stands = stands x (0, omega arith, refl)
 
-follows_first : (class : Class) (xs : List Entry) (e : Entry) → IsInOrder xs → Contains xs e
+follows_first : (class : Class) (xs : List Entry) (e : Entry) → EntriesAreInOrder xs → Contains xs e
     → Follows (Some (e.tick, class, e.place)) (order class (slice_get xs 0))
 follows_first class [] e in_order c = absurd (omega (arith, c.1))
 follows_first class (x ∷ xs) e in_order c =
@@ -98,22 +98,22 @@ waiting_follows class map q tick place has is =
     follows_first class (queue_of class q).entries e i.order (i.waits e is)
 
 all_follow : (class : Class) (map : List Due) (q : Queues) (tick place : ℕ) → HasQueues map q → at map place class ≡ Some tick
-    → Follows (Some (tick, class, place)) (first_of q)
+    → Follows (Some (tick, class, place)) (first_order q)
 all_follow SendingEnd map q tick place has is =
     let end = first_in SendingEnd q in
     let alarm = first_in Alarm q in
     let start = first_in SendingStart q in
     let x : Option Order = Some (tick, SendingEnd, place) in
-    let in_two = follows_on (earlier end alarm) end x (left_follows end alarm) (waiting_follows SendingEnd map q tick place has is) in
-    follows_on (first_of q) (earlier end alarm) x (left_follows (earlier end alarm) start) in_two
+    let in_two = follows_on (earlier_order end alarm) end x (left_follows end alarm) (waiting_follows SendingEnd map q tick place has is) in
+    follows_on (first_order q) (earlier_order end alarm) x (left_follows (earlier_order end alarm) start) in_two
 all_follow Alarm map q tick place has is =
     let end = first_in SendingEnd q in
     let alarm = first_in Alarm q in
     let start = first_in SendingStart q in
     let x : Option Order = Some (tick, Alarm, place) in
     let ranks = ranks_of SendingEnd Alarm (slice_get q.ends.entries 0) (slice_get q.alarms.entries 0) (omega arith) in
-    let in_two = follows_on (earlier end alarm) alarm x (right_follows end alarm ranks) (waiting_follows Alarm map q tick place has is) in
-    follows_on (first_of q) (earlier end alarm) x (left_follows (earlier end alarm) start) in_two
+    let in_two = follows_on (earlier_order end alarm) alarm x (right_follows end alarm ranks) (waiting_follows Alarm map q tick place has is) in
+    follows_on (first_order q) (earlier_order end alarm) x (left_follows (earlier_order end alarm) start) in_two
 all_follow SendingStart map q tick place has is =
     let end = first_in SendingEnd q in
     let alarm = first_in Alarm q in
@@ -122,7 +122,7 @@ all_follow SendingStart map q tick place has is =
     let from_end = ranks_of SendingEnd SendingStart (slice_get q.ends.entries 0) (slice_get q.starts.entries 0) (omega arith) in
     let from_alarm = ranks_of Alarm SendingStart (slice_get q.alarms.entries 0) (slice_get q.starts.entries 0) (omega arith) in
     let ranks = earlier_keeps (λ (o : Option Order). HasRanks o start) end alarm from_end from_alarm in
-    follows_on (first_of q) start x (right_follows (earlier end alarm) start ranks) (waiting_follows SendingStart map q tick place has is)
+    follows_on (first_order q) start x (right_follows (earlier_order end alarm) start ranks) (waiting_follows SendingStart map q tick place has is)
 
 first_of_class_stands : (class : Class) (map : List Due) (q : Queues) → HasQueues map q → Standing map (first_in class q)
 first_of_class_stands class map q has = let i = has class in first_stands class map (queue_of class q).entries i.stands
@@ -136,11 +136,11 @@ next_by map None stands follows = λ place class. none place class (at map place
     none place class (Some t) is = absurd (follows t place class is)
 next_by map (Some x) stands follows = (stands, λ y is. follows y.0 y.2 y.1 is)
 
-pub first_is_next : (map : List Due) (q : Queues) → HasQueues map q → IsNext map (first_of q)
+pub first_is_next : (map : List Due) (q : Queues) → HasQueues map q → IsNext map (first_order q)
 first_is_next map q has =
     let end = first_in SendingEnd q in
     let alarm = first_in Alarm q in
     let start = first_in SendingStart q in
     let two = earlier_keeps (Standing map) end alarm (first_of_class_stands SendingEnd map q has) (first_of_class_stands Alarm map q has) in
-    next_by map (first_of q) (earlier_keeps (Standing map) (earlier end alarm) start two (first_of_class_stands SendingStart map q has))
+    next_by map (first_order q) (earlier_keeps (Standing map) (earlier_order end alarm) start two (first_of_class_stands SendingStart map q has))
     (λ tick place class is. all_follow class map q tick place has is)

@@ -11,7 +11,7 @@ use Rattle.std.proofs.lemmas.List.Elements.{Contains-append_cases, Contains-appe
 use Rattle.std.proofs.lemmas.List.Quantifiers.{all_pairs_remove}
 use Rattle.std.proofs.lemmas.List.Sorted.{IsPermutation-insert, IsPermutation-remove}
 use Rattle.event_calendar.specs.declared.entry.Entry.{Entry}
-use Rattle.event_calendar.specs.Waiting.{is_before, IsBefore, IsInOrder, IsAdded, IsRemoved}
+use Rattle.event_calendar.specs.Waiting.{is_before, IsBefore, EntriesAreInOrder, IsAdded, IsRemoved}
 
 pub same_entry : (x y : Entry) → x.tick ≡ y.tick → x.place ≡ y.place → x ≡ y
 same_entry x y tick place =
@@ -66,7 +66,7 @@ placed xs at e k d within =
       ]
     ]
 
-pair_in_order : (xs : List Entry) (at i j : ℕ) (e d : Entry) → IsInOrder xs → AllBefore xs at e → AllAfter xs at e
+pair_in_order : (xs : List Entry) (at i j : ℕ) (e d : Entry) → EntriesAreInOrder xs → AllBefore xs at e → AllAfter xs at e
     → at ≤ length xs → i < j → j ≤ length xs → Placed xs at e i d → Placed xs at e j d
     → IsBefore (get_or (insert xs at e) i d) (get_or (insert xs at e) j d)
 pair_in_order xs at i j e d order before after within less below (inl a) (inl b) =
@@ -84,20 +84,21 @@ pair_in_order xs at i j e d order before after within less below (inr (inr a)) (
 pair_in_order xs at i j e d order before after within less below (inr (inr a)) (inr (inr b)) =
     before_as a.1 b.1 (order (i - 1) (j - 1) d (omega (arith, a.0, b.0)) (omega (arith, b.0)))
 
-in_order_with : (xs : List Entry) (at : ℕ) (e : Entry) → IsInOrder xs → AllBefore xs at e → AllAfter xs at e → at ≤ length xs → IsInOrder (insert xs at e)
+in_order_with : (xs : List Entry) (at : ℕ) (e : Entry) → EntriesAreInOrder xs → AllBefore xs at e → AllAfter xs at e → at ≤ length xs
+    → EntriesAreInOrder (insert xs at e)
 in_order_with xs at e order before after within i j d less below =
     let size = length-insert xs at e within in
     pair_in_order xs at i j e d order before after within less (omega (arith, size)) (placed xs at e i d within) (placed xs at e j d within)
 
-pub added : (xs ys : List Entry) (at more room : ℕ) (e : Entry) → IsInOrder xs → AllBefore xs at e → AllAfter xs at e → at ≤ length xs
+pub added : (xs ys : List Entry) (at more room : ℕ) (e : Entry) → EntriesAreInOrder xs → AllBefore xs at e → AllAfter xs at e → at ≤ length xs
     → ys ≡ insert xs at e → room ≤ more → IsAdded e (record { entries = xs; room = room }) (record { entries = ys; room = more })
 added xs ys at more room e order before after within is grows = record {
   entries = subst (λ (zs : List Entry). IsPermutation (e ∷ xs) zs) (sym is) (IsPermutation-insert xs at e);
-  order = subst IsInOrder (sym is) (in_order_with xs at e order before after within);
+  order = subst EntriesAreInOrder (sym is) (in_order_with xs at e order before after within);
   room = grows;
 }
 
-gone : (xs : List Entry) (at : ℕ) (e : Entry) → at < length xs → get_or xs at e ≡ e → IsInOrder xs → Contains (remove xs at) e → ⊥
+gone : (xs : List Entry) (at : ℕ) (e : Entry) → at < length xs → get_or xs at e ≡ e → EntriesAreInOrder xs → Contains (remove xs at) e → ⊥
 gone xs at e within is order c =
     let k : ℕ = c.0 in
     let size = length-remove xs at within in
@@ -111,12 +112,12 @@ gone xs at e within is order c =
           not_before_itself e (before_as (sym is) (sym here) before)
     ]
 
-pub removed : (xs ys : List Entry) (at more room : ℕ) (e : Entry) → IsInOrder xs → at < length xs → get_or xs at e ≡ e → ys ≡ remove xs at → room ≤ more
+pub removed : (xs ys : List Entry) (at more room : ℕ) (e : Entry) → EntriesAreInOrder xs → at < length xs → get_or xs at e ≡ e → ys ≡ remove xs at → room ≤ more
     → IsRemoved e (record { entries = xs; room = room }) (record { entries = ys; room = more })
 removed xs ys at more room e order within here is grows = record {
   entries = subst (λ (zs : List Entry). IsPermutation xs (e ∷ zs)) (sym is) (IsPermutation-remove xs at e within (sym here));
   gone = λ c. gone xs at e within here order (subst (λ (zs : List Entry). Contains zs e) is c);
-  order = subst IsInOrder (sym is) (all_pairs_remove IsBefore xs at within order);
+  order = subst EntriesAreInOrder (sym is) (all_pairs_remove IsBefore xs at within order);
   room = grows;
 }
 
@@ -134,7 +135,7 @@ pub the_other : (x e : Entry) (xs : List Entry) → Contains xs e → Contains (
 the_other x e xs c = Contains-append_right (x ∷ []) xs e c
 
 -- the scan from the back: an order that comes before the new one, and all before that do
-pub all_before : (xs : List Entry) (at : ℕ) (last e : Entry) → IsInOrder xs → 0 < at → at ≤ length xs → last ≡ get_or xs (at - 1) last
+pub all_before : (xs : List Entry) (at : ℕ) (last e : Entry) → EntriesAreInOrder xs → 0 < at → at ≤ length xs → last ≡ get_or xs (at - 1) last
     → is_before last e ≡ true → AllBefore xs at e
 all_before xs at last e order some within is test k d less =
     let read : last ≡ get_or xs (at - 1) d = get_or_read xs (at - 1) last (omega arith) is d in

@@ -12,8 +12,8 @@ use Rattle.event_calendar.specs.declared.class.Class.{Class}
 use Rattle.event_calendar.specs.declared.entry.Entry.{Entry}
 use Rattle.event_calendar.specs.declared.queues.Queues.{Queues}
 use Rattle.event_calendar.specs.Orders.{Due, at, changed, due_at, nothing_due, rank, tick_of, with_tick}
-use Rattle.event_calendar.specs.Waiting.{Waiting, IsInOrder, IsAdded, IsRemoved}
-use Rattle.event_calendar.specs.Queues.{queue_of, is_due, IsEmpty, IsQueueOf, HasQueues, AddsOne, RemovesOne}
+use Rattle.event_calendar.specs.Waiting.{WaitingEntries, EntriesAreInOrder, IsAdded, IsRemoved}
+use Rattle.event_calendar.specs.Queues.{queue_of, has_order_of_class, IsEmpty, IsQueueOf, HasQueues, AddsOne, RemovesOne}
 use Rattle.event_calendar.proofs.OneOrder.{there, elsewhere, new_tick, other_tick, nothing_at_first, same_class}
 use Rattle.event_calendar.proofs.OrdersThatWait.{same_entry, one_or_other, the_one, the_other}
 
@@ -21,13 +21,13 @@ abbrev one : Option ℕ → ℕ
 one tick = cond (is_some tick) 1 0
 
 abbrev count : Class → List Due → ℕ
-count class map = count_by (is_due class) map
+count class map = count_by (has_order_of_class class) map
 
 -- the count of a class where one order of some class changes
 counted : (class other : Class) (map : List Due) (place : ℕ) (tick : Option ℕ) → place < length map
     → count other (changed map place class tick) + one (at map place other) ≡ count other map + one (tick_of other (with_tick class tick (due_at map place)))
 counted class other map place tick within =
-    sum_by-set (λ (d : Due). cond (is_due other d) 1 0) map place (with_tick class tick (due_at map place)) nothing_due within
+    sum_by-set (λ (d : Due). cond (has_order_of_class other d) 1 0) map place (with_tick class tick (due_at map place)) nothing_due within
 
 count_stays : (class other : Class) (map : List Due) (place : ℕ) (tick : Option ℕ) → place < length map → other ≢ class
     → count other (changed map place class tick) ≡ count other map
@@ -47,17 +47,17 @@ pub size_stays : (map : List Due) (place : ℕ) (class : Class) (tick : Option �
 size_stays map place class tick = length-set map place (with_tick class tick (due_at map place))
 
 -- where nothing stands, there is room for one more
-pub has_room : (class : Class) (map : List Due) (place : ℕ) (q : Waiting) → place < length map → at map place class ≡ None → IsQueueOf class map q
+pub has_room : (class : Class) (map : List Due) (place : ℕ) (q : WaitingEntries) → place < length map → at map place class ≡ None → IsQueueOf class map q
     → length q.entries < q.room
 has_room class map place q within is i =
     let more : count class (changed map place class (Some 0)) + 0 ≡ count class map + 1 = count_here class map place None (Some 0) within is in
-    omega (arith, more, count_by-le-length (is_due class) (changed map place class (Some 0)), size_stays map place class (Some 0), i.count, i.room)
+    omega (arith, more, count_by-le-length (has_order_of_class class) (changed map place class (Some 0)), size_stays map place class (Some 0), i.count, i.room)
 
 some_same : (o : Option ℕ) (s t : ℕ) → o ≡ Some s → o ≡ Some t → s ≡ t
 some_same o s t first second = cc
 
-queue_stays : (class other : Class) (map : List Due) (place : ℕ) (tick : Option ℕ) (q : Waiting) → place < length map → other ≢ class → IsQueueOf other map q
-    → IsQueueOf other (changed map place class tick) q
+queue_stays : (class other : Class) (map : List Due) (place : ℕ) (tick : Option ℕ) (q : WaitingEntries) → place < length map → other ≢ class
+    → IsQueueOf other map q → IsQueueOf other (changed map place class tick) q
 queue_stays class other map place tick q within apart i = record {
   order = i.order;
   stands = λ e c. elsewhere map place e.place class other tick (inr apart) ∙ i.stands e c;
@@ -66,7 +66,7 @@ queue_stays class other map place tick q within apart i = record {
   room = omega (arith, size_stays map place class tick, i.room);
 }
 
-queue_added : (class : Class) (map : List Due) (e : Entry) (q after : Waiting) → e.place < length map → at map e.place class ≡ None
+queue_added : (class : Class) (map : List Due) (e : Entry) (q after : WaitingEntries) → e.place < length map → at map e.place class ≡ None
     → IsQueueOf class map q → IsAdded e q after → IsQueueOf class (changed map e.place class (Some e.tick)) after
 queue_added class map e q after within none i a = record {
   order = a.order;
@@ -102,7 +102,7 @@ queue_added class map e q after within none i a = record {
           the_other e x q.entries (i.waits x was)
     ]
 
-queue_removed : (class : Class) (map : List Due) (e : Entry) (q after : Waiting) → e.place < length map → at map e.place class ≡ Some e.tick
+queue_removed : (class : Class) (map : List Due) (e : Entry) (q after : WaitingEntries) → e.place < length map → at map e.place class ≡ Some e.tick
     → IsQueueOf class map q → IsRemoved e q after → IsQueueOf class (changed map e.place class None) after
 queue_removed class map e q after within some i r = record {
   order = r.order;
@@ -152,7 +152,7 @@ pub queues_added : (class : Class) (map : List Due) (e : Entry) (q after : Queue
 queues_added class map e q after within none has adds = λ other. elim (same_or_other other class) [
   | inl same ↦ subst (λ (c : Class). IsQueueOf c (changed map e.place class (Some e.tick)) (queue_of c after)) (sym same)
       (queue_added class map e (queue_of class q) (queue_of class after) within none (has class) adds.added)
-  | inr apart ↦ subst (λ (w : Waiting). IsQueueOf other (changed map e.place class (Some e.tick)) w) (sym (adds.others other apart))
+  | inr apart ↦ subst (λ (w : WaitingEntries). IsQueueOf other (changed map e.place class (Some e.tick)) w) (sym (adds.others other apart))
       (queue_stays class other map e.place (Some e.tick) (queue_of other q) within apart (has other))
 ]
 
@@ -161,19 +161,19 @@ pub queues_removed : (class : Class) (map : List Due) (e : Entry) (q after : Que
 queues_removed class map e q after within some has removes = λ other. elim (same_or_other other class) [
   | inl same ↦ subst (λ (c : Class). IsQueueOf c (changed map e.place class None) (queue_of c after)) (sym same)
       (queue_removed class map e (queue_of class q) (queue_of class after) within some (has class) removes.removed)
-  | inr apart ↦ subst (λ (w : Waiting). IsQueueOf other (changed map e.place class None) w) (sym (removes.others other apart))
+  | inr apart ↦ subst (λ (w : WaitingEntries). IsQueueOf other (changed map e.place class None) w) (sym (removes.others other apart))
       (queue_stays class other map e.place None (queue_of other q) within apart (has other))
 ]
 
 nothing_counted : (class : Class) (places : ℕ) → count class (replicate places nothing_due) ≡ 0
 nothing_counted class places =
     let none : one (tick_of class nothing_due) ≡ 0 = ap one (nothing_at_first 0 0 class) in
-    sum_by-replicate (λ (d : Due). cond (is_due class d) 1 0) places nothing_due ∙ ap (λ (n : ℕ). places * n) none ∙ mul-zero places
+    sum_by-replicate (λ (d : Due). cond (has_order_of_class class d) 1 0) places nothing_due ∙ ap (λ (n : ℕ). places * n) none ∙ mul-zero places
 
 -- empty queues are those of a map in which nothing stands
 pub queues_at_first : (places : ℕ) (q : Queues) → IsEmpty places q → HasQueues (replicate places nothing_due) q
 queues_at_first places q empty = λ class. record {
-  order = subst IsInOrder (sym (empty.entries class)) (λ i j d less below. absurd (omega arith));
+  order = subst EntriesAreInOrder (sym (empty.entries class)) (λ i j d less below. absurd (omega arith));
   stands = λ e c. absurd (omega (arith, c.1, ap length (empty.entries class)));
   waits = λ e is. absurd (not_both (at (replicate places nothing_due) e.place class) e.tick (nothing_at_first places e.place class) is);
   count = ap length (empty.entries class) ∙ sym (nothing_counted class places);

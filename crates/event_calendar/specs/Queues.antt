@@ -7,9 +7,9 @@ use Rattle.event_calendar.specs.declared.class.Class.TheVariants.{SendingEnd, Al
 use Rattle.event_calendar.specs.declared.entry.Entry.{Entry}
 use Rattle.event_calendar.specs.declared.queues.Queues.{Queues}
 use Rattle.event_calendar.specs.Orders.{Due, Order, at, tick_of}
-use Rattle.event_calendar.specs.Waiting.{Waiting, IsInOrder, IsAdded, IsRemoved}
+use Rattle.event_calendar.specs.Waiting.{WaitingEntries, EntriesAreInOrder, IsAdded, IsRemoved}
 
-abbrev pub queue_of : Class → Queues → Waiting
+abbrev pub queue_of : Class → Queues → WaitingEntries
 queue_of SendingEnd q = q.ends
 queue_of Alarm q = q.alarms
 queue_of SendingStart q = q.starts
@@ -30,15 +30,15 @@ pub record RemovesOne (class : Class) (e : Entry) (before after : Queues) : Type
   pub others : OthersStay class before after
 
 -- whether a place has an order of that class
-abbrev pub is_due : Class → Due → Bool
-is_due class d = is_some (tick_of class d)
+abbrev pub has_order_of_class : Class → Due → Bool
+has_order_of_class class d = is_some (tick_of class d)
 
 -- the queue of a class has exactly the orders of that class, in order
-pub record IsQueueOf (class : Class) (map : List Due) (q : Waiting) : Type 0 where
-  pub order : IsInOrder q.entries
+pub record IsQueueOf (class : Class) (map : List Due) (q : WaitingEntries) : Type 0 where
+  pub order : EntriesAreInOrder q.entries
   pub stands : (e : Entry) → Contains q.entries e → at map e.place class ≡ Some e.tick
   pub waits : (e : Entry) → at map e.place class ≡ Some e.tick → Contains q.entries e
-  pub count : length q.entries ≡ count_by (is_due class) map
+  pub count : length q.entries ≡ count_by (has_order_of_class class) map
   pub room : length map ≤ q.room
 
 abbrev pub HasQueues : List Due → Queues → Type 0
@@ -48,13 +48,13 @@ abbrev pub order : Class → Option Entry → Option Order
 order class entry = option_map (λ e. (e.tick, class, e.place)) entry
 
 -- the earlier of two by tick, and the first at one tick
-abbrev pub earlier : Option Order → Option Order → Option Order
-earlier None y = y
-earlier (Some x) None = Some x
-earlier (Some x) (Some y) = if nat_lt y.0 x.0 then Some y else Some x
+abbrev pub earlier_order : Option Order → Option Order → Option Order
+earlier_order None y = y
+earlier_order (Some x) None = Some x
+earlier_order (Some x) (Some y) = if nat_lt y.0 x.0 then Some y else Some x
 
 abbrev pub first_in : Class → Queues → Option Order
 first_in class q = order class (slice_get (queue_of class q).entries 0)
 
-abbrev pub first_of : Queues → Option Order
-first_of q = earlier (earlier (first_in SendingEnd q) (first_in Alarm q)) (first_in SendingStart q)
+abbrev pub first_order : Queues → Option Order
+first_order q = earlier_order (earlier_order (first_in SendingEnd q) (first_in Alarm q)) (first_in SendingStart q)

@@ -4,7 +4,7 @@ use Rattle.std.specs.List.Sorted.{IsPermutation}
 use Rattle.event_calendar.specs.declared.entry.Entry.{Entry}
 
 -- those that wait, front first, and how many there is room for
-pub record Waiting : Type 0 where
+pub record WaitingEntries : Type 0 where
   pub entries : List Entry
   pub room : ℕ
 
@@ -15,18 +15,18 @@ pub record IsBefore (x y : Entry) : Type 0 where
   pub tick : x.tick ≤ y.tick
   pub place : x.tick ≡ y.tick → x.place < y.place
 
-abbrev pub IsInOrder : List Entry → Type 0
-IsInOrder entries = AllPairs IsBefore entries
+abbrev pub EntriesAreInOrder : List Entry → Type 0
+EntriesAreInOrder entries = AllPairs IsBefore entries
 
 -- an order comes in, and nothing else changes but where the orders stand
-pub record IsAdded (e : Entry) (before after : Waiting) : Type 0 where
+pub record IsAdded (e : Entry) (before after : WaitingEntries) : Type 0 where
   pub entries : IsPermutation (e ∷ before.entries) after.entries
-  pub order : IsInOrder after.entries
+  pub order : EntriesAreInOrder after.entries
   pub room : before.room ≤ after.room
 
 -- an order leaves
-pub record IsRemoved (e : Entry) (before after : Waiting) : Type 0 where
+pub record IsRemoved (e : Entry) (before after : WaitingEntries) : Type 0 where
   pub entries : IsPermutation before.entries (e ∷ after.entries)
   pub gone : Contains after.entries e → ⊥
-  pub order : IsInOrder after.entries
+  pub order : EntriesAreInOrder after.entries
   pub room : before.room ≤ after.room

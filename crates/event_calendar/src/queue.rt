@@ -2,7 +2,7 @@
 
 ghost use Rattle.std.specs.Prelude.{◌≡◌, ◌<◌, ◌≤◌, ℕ, List, [], Contains, length, slice_get, slice_index_or, IfOk, true};
 ghost use Rattle.event_calendar.specs.declared.entry.Entry.{Entry as EntryOf};
-ghost use Rattle.event_calendar.specs.Waiting.{IsBefore, IsInOrder, IsAdded, IsRemoved};
+ghost use Rattle.event_calendar.specs.Waiting.{IsBefore, EntriesAreInOrder, IsAdded, IsRemoved};
 
 use crate::entry::Entry;
 use lwb_base::Memory;
@@ -18,9 +18,9 @@ pub struct Queue {
 
 impl Model for Queue {
     ghost use Rattle.std.specs.VecDeque.{deque_capacity};
-    ghost use Rattle.event_calendar.specs.Waiting.{Waiting};
+    ghost use Rattle.event_calendar.specs.Waiting.{WaitingEntries};
 
-    ghost Value = { Waiting };
+    ghost Value = { WaitingEntries };
 
     ghost view = { λ q. record { entries = q.entries.items; room = deque_capacity q.entries } };
 }
@@ -46,7 +46,7 @@ impl Queue {
     #[inline(always)]
     pub fn add(&mut self, entry: Entry)
         requires room { length self.old.entries < self.old.room }
-        requires order { IsInOrder self.old.entries }
+        requires order { EntriesAreInOrder self.old.entries }
         requires apart { Contains self.old.entries entry → ⊥ }
         ensures { IsAdded entry self.old self.new }
     {
@@ -60,7 +60,7 @@ impl Queue {
     /// Removes an order that is in it.
     #[inline(always)]
     pub fn remove(&mut self, entry: Entry)
-        requires order { IsInOrder self.old.entries }
+        requires order { EntriesAreInOrder self.old.entries }
         requires there { Contains self.old.entries entry }
         ensures { IsRemoved entry self.old self.new }
     {
@@ -74,7 +74,7 @@ impl Queue {
     // Whether each order comes before that one, as a new order mostly comes last.
     #[inline(always)]
     fn comes_last(&self, entry: &Entry) -> bool
-        requires { IsInOrder self.now.entries }
+        requires { EntriesAreInOrder self.now.entries }
         ensures { result ≡ true → (k : ℕ) (d : EntryOf) → k < length self.now.entries → IsBefore (slice_index_or self.now.entries k d) entry.now }
     {
         match self.entries.back() {
@@ -98,7 +98,7 @@ impl Queue {
     #[inline(never)]
     fn insert(&mut self, entry: Entry)
         requires room { length self.old.entries < self.old.room }
-        requires order { IsInOrder self.old.entries }
+        requires order { EntriesAreInOrder self.old.entries }
         requires apart { Contains self.old.entries entry → ⊥ }
         ensures { IsAdded entry self.old self.new }
     {
@@ -112,7 +112,7 @@ impl Queue {
     // Removes an order that stands after others.
     #[inline(never)]
     fn remove_later(&mut self, entry: Entry)
-        requires order { IsInOrder self.old.entries }
+        requires order { EntriesAreInOrder self.old.entries }
         requires there { Contains self.old.entries entry }
         ensures { IsRemoved entry self.old self.new }
     {
@@ -122,7 +122,7 @@ impl Queue {
 
     // How many orders come before that one, which are most of them.
     fn place_of(&self, entry: &Entry) -> usize
-        requires order { IsInOrder self.now.entries }
+        requires order { EntriesAreInOrder self.now.entries }
         requires apart { Contains self.now.entries entry.now → ⊥ }
         ensures bound { result ≤ length self.now.entries }
         ensures before { (k : ℕ) (d : EntryOf) → k < result → IsBefore (slice_index_or self.now.entries k d) entry.now }

@@ -4,9 +4,9 @@ ghost use Rattle.std.specs.Prelude.{◌≡◌, ◌<◌, ◌≤◌, ℕ, List, []
 ghost use Rattle.std.specs.declared.option.Option.{Option as OptionOf};
 ghost use Rattle.event_calendar.specs.Orders.{Order};
 ghost use Rattle.event_calendar.specs.Waiting as waiting;
-ghost use Rattle.event_calendar.specs.Waiting.{IsInOrder};
+ghost use Rattle.event_calendar.specs.Waiting.{EntriesAreInOrder};
 ghost use Rattle.event_calendar.specs.Queues as queues;
-ghost use Rattle.event_calendar.specs.Queues.{queue_of, IsEmpty, AddsOne, RemovesOne, first_of};
+ghost use Rattle.event_calendar.specs.Queues.{queue_of, IsEmpty, AddsOne, RemovesOne, first_order};
 
 use crate::Class;
 use crate::entry::Entry;
@@ -41,7 +41,7 @@ impl Queues {
     #[inline(always)]
     pub fn add(&mut self, class: Class, entry: Entry)
         requires room { length (queue_of class self.old).entries < (queue_of class self.old).room }
-        requires order { IsInOrder (queue_of class self.old).entries }
+        requires order { EntriesAreInOrder (queue_of class self.old).entries }
         requires apart { Contains (queue_of class self.old).entries entry → ⊥ }
         ensures { AddsOne class entry self.old self.new }
     {
@@ -55,7 +55,7 @@ impl Queues {
     /// Removes an order of that class that is there.
     #[inline(always)]
     pub fn remove(&mut self, class: Class, entry: Entry)
-        requires order { IsInOrder (queue_of class self.old).entries }
+        requires order { EntriesAreInOrder (queue_of class self.old).entries }
         requires there { Contains (queue_of class self.old).entries entry }
         ensures { RemovesOne class entry self.old self.new }
     {
@@ -68,7 +68,7 @@ impl Queues {
 
     /// The first of the first orders of the classes.
     pub fn next(&self) -> Option<(u64, Class, u8)>
-        ensures { result ≡ first_of self.now }
+        ensures { result ≡ first_order self.now }
     {
         let end = order(Class::SendingEnd, self.ends.first());
         let alarm = order(Class::Alarm, self.alarms.first());
@@ -89,7 +89,7 @@ fn earlier(
     first: Option<(u64, Class, u8)>,
     second: Option<(u64, Class, u8)>,
 ) -> Option<(u64, Class, u8)>
-    ensures { result ≡ queues.earlier first second }
+    ensures { result ≡ queues.earlier_order first second }
 {
     match (first, second) {
         (None, other) => other,

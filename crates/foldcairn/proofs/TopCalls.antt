@@ -5,9 +5,10 @@ use Rattle.std.specs.declared.io.Error.{Error}
 use Rattle.std.specs.declared.vec.IntoIter.{IntoIter}
 use Rattle.air_log.specs.declared.entry.Entry.{Entry}
 use Rattle.foldcairn.specs.ProcessWords.{IsWords}
-use Rattle.foldcairn.specs.ProcessRuns.{Ends, IsTopCall, IsProcessRun}
+use Rattle.foldcairn.specs.ProcessRuns.{ProcessStreams, IsTopCall, IsProcessRun}
 
-module _ {S K : Type 0} (e : Ends S K) (started : Result (IntoIter (String Global) Global) Error) (source source_after : S) (sink sink_after : K) where
+module _ {S K : Type 0} (e : ProcessStreams S K) (started : Result (IntoIter (String Global) Global) Error) (source source_after : S)
+    (sink sink_after : K) where
   -- `top` was given the words of the process, and its status is that of the process
   pub called : (words : Vec (String Global) Global) (given : List (String Global)) (status exit : ℕ) (air : List Entry)
       → IsWords started (Ok words) → given ≡ words.items → exit ≡ status
@@ -23,7 +24,7 @@ module _ {S K : Type 0} (e : Ends S K) (started : Result (IntoIter (String Globa
       })
 
 -- the process could not get its words
-pub uncalled : {S K : Type 0} (e : Ends S K) (started : Result (IntoIter (String Global) Global) Error) (source : S) (sink : K) (status exit : ℕ)
+pub uncalled : {S K : Type 0} (e : ProcessStreams S K) (started : Result (IntoIter (String Global) Global) Error) (source : S) (sink : K) (status exit : ℕ)
     → IsWords started (Err status) → exit ≡ status → IsProcessRun e started source source sink sink exit
 uncalled e started source sink status exit are ends = inl (record {
   words = subst (λ (n : ℕ). IsWords started (Err n)) (sym ends) are;

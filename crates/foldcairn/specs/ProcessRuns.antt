@@ -11,14 +11,14 @@ use Rattle.replay_tool.specs.declared.command.Command.{Command}
 use Rattle.foldcairn.specs.ProcessWords.{IsWords}
 
 -- what is known of a source and of a sink: what is left to read and what was written, and how often each has failed
-pub record Ends (S K : Type 0) : Type 0 where
+pub record ProcessStreams (S K : Type 0) : Type 0 where
   pub left : S → Option (List ℕ)
   pub read_faults : S → ℕ
   pub held : K → Option (List ℕ)
   pub write_faults : K → ℕ
 
 -- a call of `top`: each clause of its contract, by the same name
-pub record IsTopCall {S K : Type 0} (e : Ends S K) (words : List (List ℕ)) (source source_after : S) (sink sink_after : K)
+pub record IsTopCall {S K : Type 0} (e : ProcessStreams S K) (words : List (List ℕ)) (source source_after : S) (sink sink_after : K)
     (status : ℕ) (air : List Entry) : Type 0 where
   pub known : status ≤ 5
   pub report : status ≡ 0 → Written (e.held sink) (e.held sink_after) (ReportDue words (e.left source) (e.left source_after) air)
@@ -46,13 +46,13 @@ pub record EndsWithoutWords {S K : Type 0} (started : Result (IntoIter (String G
   pub nothing_written : sink_after ≡ sink
 
 -- `top` is called on the words, and the process ends with its status
-pub record CallsTop {S K : Type 0} (e : Ends S K) (started : Result (IntoIter (String Global) Global) Error) (source source_after : S)
+pub record CallsTop {S K : Type 0} (e : ProcessStreams S K) (started : Result (IntoIter (String Global) Global) Error) (source source_after : S)
     (sink sink_after : K) (status : ℕ) : Type 0 where
   pub words : Vec (String Global) Global
   pub are : IsWords started (Ok words)
   pub air : List Entry
   pub call : IsTopCall e (map string_bytes words.items) source source_after sink sink_after status air
 
-abbrev pub IsProcessRun : {S K : Type 0} (e : Ends S K) → Result (IntoIter (String Global) Global) Error → S → S → K → K → ℕ → Type 0
+abbrev pub IsProcessRun : {S K : Type 0} (e : ProcessStreams S K) → Result (IntoIter (String Global) Global) Error → S → S → K → K → ℕ → Type 0
 IsProcessRun e started source source_after sink sink_after status =
     EndsWithoutWords started source source_after sink sink_after status ⊎ CallsTop e started source source_after sink sink_after status

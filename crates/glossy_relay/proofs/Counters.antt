@@ -7,7 +7,7 @@ use Rattle.lwb_packets.specs.Body.{body}
 use Rattle.lwb_packets.specs.declared.kind.Kind.{Kind}
 use Rattle.lwb_packets.specs.declared.kind.Kind.TheVariants as kinds
 use Rattle.schedule_codec.specs.Reading.{schedule_of, is_schedule}
-use Rattle.schedule_codec.specs.Spelling.{spelling}
+use Rattle.schedule_codec.specs.Spelling.{schedule_spelling}
 use Rattle.schedule_codec.proofs.Readings.{parts_of, range_from, spelled_by, read_as, bytes_same}
 use Rattle.glossy_relay.specs.Relaying.{is_spelling, counter_of}
 use Rattle.lwb_packets.specs.Ranges.{between}
@@ -91,7 +91,7 @@ long kinds.Schedule p is = by_value (schedule_of p) refl is
     by_value None value is = absurd (false≢true is)
     by_value (Some s) value is =
         let both = and_parts _ _ (spelled_by p s value) in
-        let same = ap length (bytes_same (spelling s (slice_index p 1) (slice_index p 2)) p both.1) in
+        let same = ap length (bytes_same (schedule_spelling s (slice_index p 1) (slice_index p 2)) p both.1) in
         omega (arith, same)
 long kinds.Payload p is = let size = and_parts _ _ (first_of_eight (between 8 104 (length p)) _ _ _ _ _ _ _ is) in omega (arith, leb-true 8 (length p) size.0)
 long kinds.Request p is = omega (arith, eqb-true (length p) 7 (first_of_eight (length p == 7) _ _ _ _ _ _ _ is))

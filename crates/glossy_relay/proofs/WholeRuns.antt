@@ -6,7 +6,7 @@ use Rattle.std.proofs.lemmas.Bool.{cond_both, cases_eq, eq-eqb, ne_eqb}
 use Rattle.glossy_relay.specs.FloodState.{FloodState}
 use Rattle.glossy_relay.specs.Relaying.{fits, counter_of, first_of, after_heard, after_sent, after_ending, accepted_of}
 use Rattle.glossy_relay.specs.declared.flood.After.TheVariants.{Off, More}
-use Rattle.glossy_relay.specs.Runs.{Call, Heard, Sent, after_all, IsAllowed, orders_one, orders, endings, first_fitting}
+use Rattle.glossy_relay.specs.Runs.{Call, Heard, Sent, flood_after_calls, IsAllowed, orders_one, orders, endings, first_fitting}
 
 -- the sendings that ended, and the one that is ordered
 abbrev used : FloodState → ℕ
@@ -49,7 +49,7 @@ pub record IsCounted (s t : FloodState) (ended : ℕ) : Type 0 where
   pub limit : t.limit ≡ s.limit
   pub initiated : t.initiated ≡ s.initiated
 
-pub counted : (calls : List Call) (s : FloodState) → IsCounted s (after_all s calls) (endings calls)
+pub counted : (calls : List Call) (s : FloodState) → IsCounted s (flood_after_calls s calls) (endings calls)
 counted [] s = record { sent = omega arith; limit = refl; initiated = refl }
 counted (Heard p ∷ calls) s =
     let like = heard_like s p in
@@ -60,7 +60,7 @@ counted (Sent ∷ calls) s =
     record { sent = omega (arith, rest.sent); limit = rest.limit; initiated = rest.initiated }
 
 -- what is carried stays
-kept : (calls : List Call) (s : FloodState) (p : List ℕ) → s.first ≡ Some p → (after_all s calls).first ≡ Some p
+kept : (calls : List Call) (s : FloodState) (p : List ℕ) → s.first ≡ Some p → (flood_after_calls s calls).first ≡ Some p
 kept [] s p is = is
 kept (Heard q ∷ calls) s p is =
     kept calls (after_heard s q) p
@@ -70,16 +70,16 @@ kept (Heard q ∷ calls) s p is =
 kept (Sent ∷ calls) s p is = kept calls (after_sent s) p is
 
 -- where nothing is carried, the first that fits will be
-pub found : (calls : List Call) (s : FloodState) → s.first ≡ None → (after_all s calls).first ≡ first_fitting s calls
+pub found : (calls : List Call) (s : FloodState) → s.first ≡ None → (flood_after_calls s calls).first ≡ first_fitting s calls
 found [] s none = none
 found (Heard p ∷ calls) s none =
     by_fit (fits s p) s p calls (λ t is. kept calls t p is) (λ t is. found calls t is) none
   where
     by_fit : (b : Bool) (s : FloodState) (p : List ℕ) (calls : List Call)
-        → ((t : FloodState) → t.first ≡ Some p → (after_all t calls).first ≡ Some p)
-        → ((t : FloodState) → t.first ≡ None → (after_all t calls).first ≡ first_fitting t calls) → s.first ≡ None
+        → ((t : FloodState) → t.first ≡ Some p → (flood_after_calls t calls).first ≡ Some p)
+        → ((t : FloodState) → t.first ≡ None → (flood_after_calls t calls).first ≡ first_fitting t calls) → s.first ≡ None
         → (let t : FloodState = if b then record s { waiting = nat_lt (counter_of p) 11; first = first_of s.first p } else s in
-        (after_all t calls).first ≡ (if b then Some p else first_fitting t calls))
+        (flood_after_calls t calls).first ≡ (if b then Some p else first_fitting t calls))
     by_fit true s p calls stays more none = stays (record s { waiting = nat_lt (counter_of p) 11; first = first_of s.first p })
         (ap (λ (o : Option (List ℕ)). first_of o p) none)
     by_fit false s p calls stays more none = more s none
@@ -104,9 +104,10 @@ off_where a b =
       | inr differ ↦ (λ off. absurd (more_is_not_off (sym (rw (ne_eqb a b differ) at off))), λ same. absurd (differ same))
     ]
 
-pub off_at_limit : (s : FloodState) (calls : List Call) (n : ℕ) → s.sent ≡ 0 → s.limit ≡ n → after_ending (after_all s calls) ≡ Off ↔ (endings calls + 1 ≡ n)
+pub off_at_limit : (s : FloodState) (calls : List Call) (n : ℕ) → s.sent ≡ 0 → s.limit ≡ n
+    → after_ending (flood_after_calls s calls) ≡ Off ↔ (endings calls + 1 ≡ n)
 off_at_limit s calls n none few =
-    let t = after_all s calls in
+    let t = flood_after_calls s calls in
     let is = counted calls s in
     let decides = off_where (t.sent + 1) t.limit in (
       (λ off. omega (arith, decides.0 off, is.sent, is.limit)),

@@ -8,13 +8,13 @@ pub data Call : Type 0 where
   Heard : (p : List ℕ) → Call
   Sent : Call
 
-abbrev pub after : FloodState → Call → FloodState
-after s (Heard p) = after_heard s p
-after s Sent = after_sent s
+abbrev pub flood_after_call : FloodState → Call → FloodState
+flood_after_call s (Heard p) = after_heard s p
+flood_after_call s Sent = after_sent s
 
-abbrev pub after_all : FloodState → List Call → FloodState
-after_all s [] = s
-after_all s (call ∷ calls) = after_all (after s call) calls
+abbrev pub flood_after_calls : FloodState → List Call → FloodState
+flood_after_calls s [] = s
+flood_after_calls s (call ∷ calls) = flood_after_calls (flood_after_call s call) calls
 
 -- a sending ends only where one is ordered
 abbrev pub IsAllowed : FloodState → List Call → Type 0
@@ -23,13 +23,13 @@ IsAllowed s (Heard p ∷ calls) = IsAllowed (after_heard s p) calls
 IsAllowed s (Sent ∷ calls) = (s.waiting ≡ true) × IsAllowed (after_sent s) calls
 
 -- a call, and the flood before it
-pub record Occasion : Type 0 where
+pub record CallOccasion : Type 0 where
   pub before : FloodState
   pub call : Call
 
-abbrev pub occasions : FloodState → List Call → List Occasion
-occasions s [] = []
-occasions s (call ∷ calls) = record { before = s; call = call } ∷ occasions (after s call) calls
+abbrev pub call_occasions : FloodState → List Call → List CallOccasion
+call_occasions s [] = []
+call_occasions s (call ∷ calls) = record { before = s; call = call } ∷ call_occasions (flood_after_call s call) calls
 
 -- the sendings ordered by a call
 abbrev pub orders_one : FloodState → Call → ℕ
@@ -39,7 +39,7 @@ orders_one s Sent = 0
 -- the sendings ordered by these calls
 abbrev pub orders : FloodState → List Call → ℕ
 orders s [] = 0
-orders s (call ∷ calls) = orders_one s call + orders (after s call) calls
+orders s (call ∷ calls) = orders_one s call + orders (flood_after_call s call) calls
 
 -- the sendings that ended among these calls
 abbrev pub endings : List Call → ℕ

@@ -7,13 +7,13 @@ ghost use Rattle.glossy_relay.specs.declared.flood.Reply.TheVariants.{Relay};
 ghost use Rattle.glossy_relay.specs.declared.flood.After.TheVariants.{Off};
 ghost use Rattle.glossy_relay.specs.FloodState.{FloodState, listening, initiating};
 ghost use Rattle.glossy_relay.specs.Relaying.{counter_of, reply_to, accepted_of, after_ending};
-ghost use Rattle.glossy_relay.specs.Runs.{Call, Heard, Sent, Occasion, IsAllowed, occasions, after_all, orders, endings, first_fitting};
+ghost use Rattle.glossy_relay.specs.Runs.{Call, Heard, Sent, CallOccasion, IsAllowed, call_occasions, flood_after_calls, orders, endings, first_fitting};
 
 /// However a flood is called, each packet that it relays is one that it received with a counter below 11, with the counter plus
 /// 1 and the same other bytes.
 pub fn relays_raise_the_counter()
     ensures { (s : FloodState) (calls : List Call) (before : FloodState) (p q : List ℕ)
-        → Contains (occasions s calls) (record { before = before; call = Heard p }) → reply_to before p ≡ Relay q
+        → Contains (call_occasions s calls) (record { before = before; call = Heard p }) → reply_to before p ≡ Relay q
         → (counter_of p < 11) × (q ≡ slice_set p 2 (counter_of p + 1)) }
 {}
 
@@ -26,15 +26,15 @@ pub fn orders_at_most_its_limit()
 
 /// The end of a transmission turns the radio off if and only if it is the n-th, however the flood is called.
 pub fn turns_off_after_its_last_sending()
-    ensures listening { (kind : Kind) (slot n : ℕ) (calls : List Call) → after_ending (after_all (listening kind slot n) calls) ≡ Off
+    ensures listening { (kind : Kind) (slot n : ℕ) (calls : List Call) → after_ending (flood_after_calls (listening kind slot n) calls) ≡ Off
         ↔ (endings calls + 1 ≡ n) }
-    ensures initiating { (p : List ℕ) (n : ℕ) (calls : List Call) → after_ending (after_all (initiating p n) calls) ≡ Off ↔ (endings calls + 1 ≡ n) }
+    ensures initiating { (p : List ℕ) (n : ℕ) (calls : List Call) → after_ending (flood_after_calls (initiating p n) calls) ≡ Off ↔ (endings calls + 1 ≡ n) }
 {}
 
 /// What a listener has accepted is the first packet that fitted, with its counter; what began here accepts nothing.
 pub fn accepts_the_first_that_fits()
     ensures listening { (kind : Kind) (slot n : ℕ) (calls : List Call)
-        → accepted_of (after_all (listening kind slot n) calls)
+        → accepted_of (flood_after_calls (listening kind slot n) calls)
         ≡ option_map {U = List ℕ × ℕ} (λ p. (p, counter_of p)) (first_fitting (listening kind slot n) calls) }
-    ensures initiating { (p : List ℕ) (n : ℕ) (calls : List Call) → accepted_of (after_all (initiating p n) calls) ≡ None }
+    ensures initiating { (p : List ℕ) (n : ℕ) (calls : List Call) → accepted_of (flood_after_calls (initiating p n) calls) ≡ None }
 {}

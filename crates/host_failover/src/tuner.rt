@@ -2,7 +2,7 @@
 
 ghost use Rattle.std.specs.Prelude.{◌≡◌, ◌≤◌, ◌<◌, true, IfSome};
 ghost use Rattle.bus_rules.specs.declared.tune.Tune.TheVariants.{Hold};
-ghost use Rattle.bus_rules.specs.Tuning.{booted, after_frame, hosts, with_due};
+ghost use Rattle.bus_rules.specs.Tuning.{booted, tune_after_frame, hosts, with_due};
 
 use bus_rules::{Tune, next_tune};
 use lwb_base::Rank;
@@ -19,9 +19,9 @@ pub struct Tuner {
 }
 
 impl Model for Tuner {
-    ghost use Rattle.bus_rules.specs.Tuning.{Tuning, IsTuning};
+    ghost use Rattle.bus_rules.specs.Tuning.{TuneState, IsTuning};
 
-    ghost Value = { Tuning };
+    ghost Value = { TuneState };
 
     ghost view = { λ t. record { tune = t.tune; joined = t.joined; own = t.own; ranks = t.hosts } };
 
@@ -70,7 +70,7 @@ impl Tuner {
     pub fn frame_ended(&mut self, frame: u32) -> Tune
         requires { frame ≤ 16777215 }
         ensures tune { result ≡ self.new.tune }
-        ensures after { self.new ≡ after_frame frame self.old }
+        ensures after { self.new ≡ tune_after_frame frame self.old }
     {
         self.tune = next_tune(self.tune, frame, self.joined, self.own, self.hosts);
         self.joined = false;

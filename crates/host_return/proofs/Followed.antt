@@ -14,9 +14,9 @@ use Rattle.scenario_clocks.specs.StatedClocks.{scenario_clock}
 use Rattle.air_log.specs.Lawful.{Lawful}
 use Rattle.air_log.specs.Safe.{Safe}
 use Rattle.law_safety.proofs.SafeRuns.{lawful_logs_are_safe}
-use Rattle.host_return.specs.Candidates.{IsNext}
+use Rattle.host_return.specs.Candidates.{IsNextReturn}
 use Rattle.host_return.specs.Courses.{IsFollowed, IsOneMore}
-use Rattle.host_return.specs.Returned.{Becomes, GoesBack, Ends, Sixteen, ReturnedParts, counts_in, IsReturned}
+use Rattle.host_return.specs.Returned.{Becomes, GoesBack, ReturnsEnd, Sixteen, ReturnedParts, counts_in, IsReturned}
 use Rattle.host_return.specs.declared.follow.Course.{Course}
 use Rattle.host_return.specs.declared.returned.Return.{Return}
 
@@ -48,7 +48,7 @@ one_more read old new less was more =
     let back : GoesBack read old.scenario (reverse old.returns.items) more.last new.scenario = record {
       air = old.air;
       lawful = was.lawful;
-      next = subst (λ (rs : List Return). IsNext read old.scenario old.air rs more.last) (sym (reverse-reverse old.returns.items)) more.next;
+      next = subst (λ (rs : List Return). IsNextReturn read old.scenario old.air rs more.last) (sym (reverse-reverse old.returns.items)) more.next;
       added = more.added;
       room = more.room;
       said = more.said;
@@ -67,10 +67,10 @@ one_more read old new less was more =
 abbrev pub parts_of : Course → ReturnedParts
 parts_of c = record { scenario = c.scenario; returns = c.returns.items; air = c.air; counts = counts_in c.scenario c.air }
 
-pub ended : (read : ScenarioParts) (c : Course) → IsFollowed read c → Ends read c.scenario c.air c.returns.items → IsReturned read (parts_of c)
+pub ended : (read : ScenarioParts) (c : Course) → IsFollowed read c → ReturnsEnd read c.scenario c.air c.returns.items → IsReturned read (parts_of c)
 ended read c followed ends = record { becomes = followed.becomes; few = followed.few; lawful = followed.lawful; ends = ends; counts = refl }
 
-pub ended_early : (read : ScenarioParts) (old new : Course) → IsFollowed read old → new ≡ old → Ends read old.scenario old.air old.returns.items
+pub ended_early : (read : ScenarioParts) (old new : Course) → IsFollowed read old → new ≡ old → ReturnsEnd read old.scenario old.air old.returns.items
     → IsReturned read (parts_of new)
 ended_early read old new followed same ends = subst (λ (c : Course). IsReturned read (parts_of c)) (sym same) (ended read old followed ends)
 

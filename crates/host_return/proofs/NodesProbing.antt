@@ -21,7 +21,7 @@ use Rattle.air_log.specs.declared.entry.Entry.{Entry}
 use Rattle.air_log.specs.Lawful.{Lawful, heard_by}
 use Rattle.air_log.specs.Trails.{Reception, tune_at}
 use Rattle.air_log.specs.TrailsTold.{TrailTold, trail_told}
-use Rattle.host_return.specs.Candidates.{comes_before}
+use Rattle.host_return.specs.Candidates.{return_comes_before}
 use Rattle.host_return.specs.NodeTrails.{is_backup, told_for, trail_for, all_trails, probed_by}
 use Rattle.host_return.specs.Probes.{Brings, probed_with, probed_rank}
 use Rattle.host_return.proofs.BackupHosts.{never_idle}
@@ -108,7 +108,7 @@ neither true e n never other = never
 neither false false n never other = refl
 neither false true n never other = other refl
 
-pub not_earlier : (q r : Return) → (q.frame < r.frame → ⊥) → (q.frame ≡ r.frame → r.node ≤ q.node) → comes_before q r ≡ false
+pub not_earlier : (q r : Return) → (q.frame < r.frame → ⊥) → (q.frame ≡ r.frame → r.node ≤ q.node) → return_comes_before q r ≡ false
 not_earlier q r never up =
     let from : r.frame ≤ q.frame = elim (cases_lt q.frame r.frame) [ inl less ↦ absurd (never less) | inr at ↦ at ] in
     neither (nat_lt q.frame r.frame) (q.frame == r.frame) (nat_lt q.node r.node) (le-ltb q.frame r.frame from)

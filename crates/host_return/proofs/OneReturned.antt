@@ -18,11 +18,11 @@ use Rattle.air_log.specs.Lawful.{Lawful}
 use Rattle.air_log.specs.Trails.{frame_start}
 use Rattle.law_one_log.specs.OneLog.{OneLogLaw}
 use Rattle.law_one_log.proofs.SameBefore.{Twins}
-use Rattle.host_return.specs.Candidates.{IsCandidate, IsNext, comes_before}
+use Rattle.host_return.specs.Candidates.{IsCandidate, IsNextReturn, return_comes_before}
 use Rattle.host_return.specs.OneReturned.{OneReturnedLaw}
 use Rattle.host_return.specs.Probes.{probed_rank, probes}
-use Rattle.host_return.specs.Restarts.{lines_of}
-use Rattle.host_return.specs.Returned.{Becomes, GoesBack, Ends, Sixteen, NoneLeft, Full, ReturnedParts, counts_in, IsReturned}
+use Rattle.host_return.specs.Restarts.{lines_of_going_back}
+use Rattle.host_return.specs.Returned.{Becomes, GoesBack, ReturnsEnd, Sixteen, NoneLeft, Full, ReturnedParts, counts_in, IsReturned}
 use Rattle.host_return.specs.declared.returned.Return.{Return}
 use Rattle.host_return.proofs.CountedProbes.{count_next}
 use Rattle.host_return.proofs.NodesProbing.{moved_probe, one_rank}
@@ -36,7 +36,7 @@ return_is q r frame node rank =
     ∙ ap (λ (n : ℕ). record { frame = r.frame; node = n; rank = q.rank }) node
     ∙ ap (λ (n : ℕ). record { frame = r.frame; node = r.node; rank = n }) rank
 
-not_lower : (q r : Return) → comes_before q r ≡ false → q.frame ≡ r.frame → r.node ≤ q.node
+not_lower : (q r : Return) → return_comes_before q r ≡ false → q.frame ≡ r.frame → r.node ≤ q.node
 not_lower q r is same = elim (cases_lt q.node r.node) [
   | inl less ↦ absurd (true≢false (sym (both (lt-ltb q.node r.node less) (eq-eqb q.frame r.frame same)) ∙ is))
   | inr at ↦ at
@@ -47,7 +47,7 @@ not_lower q r is same = elim (cases_lt q.node r.node) [
     by_tests false true n less frame = less
     by_tests false false n less frame = frame
 
-    both : nat_lt q.node r.node ≡ true → (q.frame == r.frame) ≡ true → comes_before q r ≡ true
+    both : nat_lt q.node r.node ≡ true → (q.frame == r.frame) ≡ true → return_comes_before q r ≡ true
     both less frame = by_tests (nat_lt q.frame r.frame) (q.frame == r.frame) (nat_lt q.node r.node) less frame
 
 counted_alike : (p q : ℕ → Bool) (f : ℕ) → ((g : ℕ) → g < f → p g ≡ q g) → count_by p (range_with_len 0 f) ≡ count_by q (range_with_len 0 f)
@@ -83,8 +83,8 @@ module _ (s : ScenarioParts) (said : IsScenario s) (a b : List Entry) (of_a : La
   counts_alike : counts_in s a ≡ counts_in s b
   counts_alike = counts_by s.nodes
 
-  lines_alike : (q r : Return) → q ≡ r → lines_of s a q ≡ lines_of s b r
-  lines_alike q r same = ap (lines_of s a) same ∙ sym (restart_told s a r (sound s said)) ∙ restart_told s b r (sound s said)
+  lines_alike : (q r : Return) → q ≡ r → lines_of_going_back s a q ≡ lines_of_going_back s b r
+  lines_alike q r same = ap (lines_of_going_back s a) same ∙ sym (restart_told s a r (sound s said)) ∙ restart_told s b r (sound s said)
 
   candidate_also : (read : ScenarioParts) → read.frames ≡ s.frames → (q : Return) → IsCandidate read s a q → IsCandidate read s b q
   candidate_also read frames q is =
@@ -99,7 +99,7 @@ module _ (s : ScenarioParts) (said : IsScenario s) (a b : List Entry) (of_a : La
 
 -- have the same next return
 next_same : (read s : ScenarioParts) → IsScenario s → read.frames ≡ s.frames → (a b : List Entry) → Lawful s (scenario_clock s) a
-    → Lawful s (scenario_clock s) b → (listed : List Return) (q r : Return) → IsNext read s a listed q → IsNext read s b listed r → q ≡ r
+    → Lawful s (scenario_clock s) b → (listed : List Return) (q r : Return) → IsNextReturn read s a listed q → IsNextReturn read s b listed r → q ≡ r
 next_same read s said frames a b of_a of_b listed q r first second =
     let q_too = candidate_also s said a b of_a of_b read frames q first.candidate in
     let r_too = candidate_also s said b a of_b of_a read frames r second.candidate in
@@ -127,8 +127,8 @@ module _ (read : ScenarioParts) (read_said : IsScenario read) where
       let said = said_after e s before in
       let same = next_same read s said (frames_after e s before) first.air second.air first.lawful second.lawful (reverse e) q r first.next second.next in
       let lines = lines_alike s said first.air second.air first.lawful second.lawful q r same in
-      let added : IsWithScript s (lines_of s second.air r) t = subst (λ (ls : List ScriptLine). IsWithScript s ls t) lines first.added in
-      let scripts : t.script ≡ u.script = one_merged s.script (lines_of s second.air r) t.script u.script added.script second.added.script in
+      let added : IsWithScript s (lines_of_going_back s second.air r) t = subst (λ (ls : List ScriptLine). IsWithScript s ls t) lines first.added in
+      let scripts : t.script ≡ u.script = one_merged s.script (lines_of_going_back s second.air r) t.script u.script added.script second.added.script in
       (same, added.parts ∙ ap (λ (ls : List ScriptLine). record s { script = ls }) scripts ∙ sym second.added.parts)
 
   chains : (rs qs : List Return) (t u : ScenarioParts) → length rs ≡ length qs → Becomes read rs t → Becomes read qs u → (rs ≡ qs) × (t ≡ u)
@@ -170,8 +170,8 @@ module _ (read : ScenarioParts) (read_said : IsScenario read) where
 
   -- none is taken where the returns have ended
   has_ended : (s : ScenarioParts) (air : List Entry) (listed : List Return) → IsScenario s → read.frames ≡ s.frames → Lawful s (scenario_clock s) air
-      → length listed < 16 → Ends read s air listed → (other : List Entry) → Lawful s (scenario_clock s) other → (r : Return) (t : ScenarioParts)
-      → IsNext read s other listed r → IsWithScript s (lines_of s other r) t → HasRoom t → ⊥
+      → length listed < 16 → ReturnsEnd read s air listed → (other : List Entry) → Lawful s (scenario_clock s) other → (r : Return) (t : ScenarioParts)
+      → IsNextReturn read s other listed r → IsWithScript s (lines_of_going_back s other r) t → HasRoom t → ⊥
   has_ended s air listed said frames lawful few (Sixteen many) other law r t next added room = omega (arith, many, few)
   has_ended s air listed said frames lawful few (NoneLeft all) other law r t next added room =
       true≢false (sym (all r (candidate_also s said other air law lawful read frames r next.candidate)) ∙ next.fresh)
@@ -190,7 +190,7 @@ module _ (read : ScenarioParts) (read_said : IsScenario read) where
       let few = of_y.few in
       has_ended x.scenario x.air x.returns (said_after (reverse x.returns) x.scenario of_x.becomes)
       (frames_after (reverse x.returns) x.scenario of_x.becomes) of_x.lawful (omega (arith, less, few)) of_x.ends goes.air goes.lawful one.return one.after
-      (subst (λ (l : List Return). IsNext read x.scenario goes.air l one.return) (reverse-reverse x.returns) goes.next) goes.added goes.room
+      (subst (λ (l : List Return). IsNextReturn read x.scenario goes.air l one.return) (reverse-reverse x.returns) goes.next) goes.added goes.room
 
 pub one_returned : OneLogLaw → OneReturnedLaw
 one_returned one_log read x y said of_x of_y =

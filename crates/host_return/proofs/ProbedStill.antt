@@ -13,7 +13,7 @@ use Rattle.air_log.specs.declared.entry.Entry.{Entry}
 use Rattle.air_log.specs.Lawful.{Lawful}
 use Rattle.air_log.specs.Trails.{frame_start}
 use Rattle.law_one_log.proofs.SameBefore.{Twins, with_lines, turned}
-use Rattle.host_return.specs.Candidates.{IsCandidate, comes_before, is_listed}
+use Rattle.host_return.specs.Candidates.{IsCandidate, return_comes_before, is_listed}
 use Rattle.host_return.specs.Courses.{IsOneMore}
 use Rattle.host_return.specs.Probes.{Probed}
 use Rattle.host_return.specs.declared.follow.Course.{Course}
@@ -43,7 +43,7 @@ list_any_push test (q ∷ rs) r is = by_test (test q) is (list_any_push test rs 
     by_test true is rest = is
     by_test false is rest = rest is
 
-pub not_before : (q r : Return) → comes_before q r ≡ false → r.frame ≤ q.frame
+pub not_before : (q r : Return) → return_comes_before q r ≡ false → r.frame ≤ q.frame
 not_before q r is = elim (cases_lt q.frame r.frame) [
   | inl less ↦ absurd (true≢false (sym (ap (λ (b : Bool). b || ((q.frame == r.frame) && nat_lt q.node r.node)) (lt-ltb q.frame r.frame less)) ∙ is))
   | inr at ↦ at

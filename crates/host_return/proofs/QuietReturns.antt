@@ -4,7 +4,7 @@ use Rattle.std.proofs.Common.{refl, sym, ◌∙◌, ap, subst, arith}
 use Rattle.std.specs.Prelude.{slice_index}
 use Rattle.std.proofs.lemmas.Bool.{cases_Bool, cases_lt, cond-false, ne_eqb, lt-ltb}
 use Rattle.time_reference.specs.Budgets.{budget_of}
-use Rattle.time_reference.specs.Zeros.{starting, Good}
+use Rattle.time_reference.specs.Zeros.{starting_offset, Good}
 use Rattle.lwb_base.specs.Messages.{Schedule}
 use Rattle.lwb_packets.specs.DataPackets.{is_data}
 use Rattle.bus_rules.specs.declared.part.Part.{Part}
@@ -23,12 +23,12 @@ use Rattle.scenario_text.proofs.SoundScenarios.{sound}
 use Rattle.scenario_clocks.specs.StatedClocks.{scenario_clock}
 use Rattle.scenario_clocks.proofs.StatedDrift.{scenario_clocks_drift}
 use Rattle.radio_model.specs.declared.sending.Sending.{Sending}
-use Rattle.radio_model.specs.Hearing.{frame_of, slot_of, counter_of}
+use Rattle.radio_model.specs.Hearing.{frame_of_sending, slot_of_sending, counter_of_sending}
 use Rattle.air_log.specs.declared.entry.Entry.{Entry}
 use Rattle.air_log.specs.Devices.{Power, PowerOn}
 use Rattle.air_log.specs.Entries.{sendings_of}
 use Rattle.air_log.specs.Lawful.{heard_by}
-use Rattle.air_log.specs.Safe.{by_host}
+use Rattle.air_log.specs.Safe.{sender_hosts}
 use Rattle.air_log.specs.Trails.{run_end, tune_of, tune_at}
 use Rattle.air_log.specs.WindowLogs.{WindowLog}
 use Rattle.law_trails.specs.TrailLinks.{device_in}
@@ -39,7 +39,7 @@ use Rattle.law_trails.proofs.SlotBounds.{slots_apart}
 use Rattle.law_safety.specs.Beginnings.{MaySay, SaysData, SaysSchedule}
 use Rattle.law_safety.specs.Endings.{EndsInOrder}
 use Rattle.law_safety.specs.FloodSendings.{IsOfFlood}
-use Rattle.law_safety.specs.Invariant.{IsRun}
+use Rattle.law_safety.specs.Invariant.{IsObedientRun}
 use Rattle.law_safety.specs.SentPlans.{IsHostOf}
 use Rattle.law_safety.proofs.FloodTimes.{host_drifts, in_flood, origin_drifts, packet_short, slot_in_round, zero_good}
 use Rattle.law_safety.proofs.InvariantHolds.{holds_throughout}
@@ -61,7 +61,8 @@ use Rattle.host_return.proofs.ProbedStill.{AreProbed}
 
 whole_run : (s : ScenarioParts) (clocks : ℕ → ℕ → ℕ) (air : List Entry) → IsLawfulRun s clocks air → EndsInOrder s clocks air
 whole_run s clocks air is =
-    let run : IsRun s clocks air = record { driven = record { sound = is.sound; drift = is.drift }; heedful = lawful_is_heedful s clocks air is.lawful } in
+    let run : IsObedientRun s clocks air =
+        record { driven = record { sound = is.sound; drift = is.drift }; heedful = lawful_is_heedful s clocks air is.lawful } in
     record { run = run; ends = holds_throughout s clocks air run (run_end s) (omega arith) }
 
 data_message : (p : List ℕ) → is_data p ≡ true → message_of p ≡ Some (DataOf (data_in p))
@@ -99,7 +100,7 @@ module _ (s : ScenarioParts) (clocks : ℕ → ℕ → ℕ) (air : List Entry) (
         | inr heard ↦ joined w is heard
       ]
 
-      sends_nothing : (y : Sending) → Contains (sendings_of air) y → y.node ≡ v → frame_of s.profile y ≡ f → ⊥
+      sends_nothing : (y : Sending) → Contains (sendings_of air) y → y.node ≡ v → frame_of_sending s.profile y ≡ f → ⊥
       sends_nothing y there node frame =
           let own : Contains (device_in s clocks air v (run_end s)).made.sent y =
           subst (λ (u : ℕ). Contains (device_in s clocks air u (run_end s)).made.sent y) node (in_trail s clocks air whole y there) in
@@ -108,38 +109,39 @@ module _ (s : ScenarioParts) (clocks : ℕ → ℕ → ℕ) (air : List Entry) (
 
   -- the transmissions of an earlier slot are over before those of a later one
   slot_before : (x y : Sending) (is : IsOfFlood s clocks air x) (also : IsOfFlood s clocks air y) → x.rank ≡ y.rank
-      → frame_of s.profile x ≡ frame_of s.profile y → slot_of x < slot_of y → x.end < y.start
+      → frame_of_sending s.profile x ≡ frame_of_sending s.profile y → slot_of_sending x < slot_of_sending y → x.end < y.start
   slot_before x y is also channel frame less =
       let p = s.profile in
       let b = budget_of p in
       let host = clocks (slice_index s.hosts x.rank) in
       let first = clocks is.origin.node in
       let other = clocks also.origin.node in
-      let f = frame_of p x in
-      let good : Good p b host other also.zero f (starting p (slot_of y)) =
-      subst (λ (r : ℕ). Good p b (clocks (slice_index s.hosts r)) other also.zero f (starting p (slot_of y))) (sym channel)
-      (subst (λ (g : ℕ). Good p b (clocks (slice_index s.hosts y.rank)) other also.zero g (starting p (slot_of y))) (sym frame)
+      let f = frame_of_sending p x in
+      let good : Good p b host other also.zero f (starting_offset p (slot_of_sending y)) =
+      subst (λ (r : ℕ). Good p b (clocks (slice_index s.hosts r)) other also.zero f (starting_offset p (slot_of_sending y))) (sym channel)
+      (subst (λ (g : ℕ). Good p b (clocks (slice_index s.hosts y.rank)) other also.zero g (starting_offset p (slot_of_sending y))) (sym frame)
       (zero_good s clocks air whole.run y also)) in
       subst (λ (e : ℕ). e < y.start) (sym is.lasts)
-      (slots_apart p b (run_fits s whole.run.driven.sound) host first other is.zero also.zero f (slot_of x) (slot_of y) (length x.packet) (length y.packet)
-      (counter_of x) (counter_of y) x.start y.start (host_drifts s clocks air whole.run x is) (origin_drifts s clocks air whole.run x is)
+      (slots_apart p b (run_fits s whole.run.driven.sound) host first other is.zero also.zero f (slot_of_sending x) (slot_of_sending y) (length x.packet)
+          (length y.packet)
+      (counter_of_sending x) (counter_of_sending y) x.start y.start (host_drifts s clocks air whole.run x is) (origin_drifts s clocks air whole.run x is)
       (origin_drifts s clocks air whole.run y also) less (slot_in_round s clocks air whole.run y also) (packet_short s clocks air whole.run x is)
       (zero_good s clocks air whole.run x is) good (in_flood s clocks air whole.run x is) (in_flood s clocks air whole.run y also))
 
-  frame_before : (x y : Sending) → frame_of s.profile y < frame_of s.profile x → y.start < x.start
+  frame_before : (x y : Sending) → frame_of_sending s.profile y < frame_of_sending s.profile x → y.start < x.start
   frame_before x y less = elim (cases_lt y.start x.start) [
     | inl before ↦ before
     | inr past ↦
         let begins = frame_begins s lawful.sound x.start in
-        let from = frame_from s lawful.sound (frame_of s.profile x) y.start (omega (arith, past, begins)) in
+        let from = frame_from s lawful.sound (frame_of_sending s.profile x) y.start (omega (arith, past, begins)) in
         omega (arith, less, from)
   ]
 
-  not_first : (x : Sending) (owner : ℕ) (plan : _) → part_of plan (slot_of x) ≡ DataSlot owner → 0 < slot_of x
-  not_first x owner plan part = elim (cases_lt 0 (slot_of x)) [
+  not_first : (x : Sending) (owner : ℕ) (plan : _) → part_of plan (slot_of_sending x) ≡ DataSlot owner → 0 < slot_of_sending x
+  not_first x owner plan part = elim (cases_lt 0 (slot_of_sending x)) [
     | inl some ↦ some
     | inr none ↦
-        let zero_slot : slot_of x ≡ 0 = omega (arith, none) in
+        let zero_slot : slot_of_sending x ≡ 0 = omega (arith, none) in
         let opening : ◌≡◌ {A = Part} Opening (DataSlot owner) = subst (λ (j : ℕ). part_of plan j ≡ DataSlot owner) zero_slot part in
         absurd (cc)
   ]
@@ -160,22 +162,24 @@ module _ (s : ScenarioParts) (clocks : ℕ → ℕ → ℕ) (air : List Entry) (
       (places s clocks air lawful v f known within n on.1).place ∙ ap (λ (t : Tune). stage_for t n.frame) on.2
       ∙ cond-false (due == n.frame) (AwaitSlot 0) AwaitFrame (ne_eqb due n.frame (λ same. omega (arith, same, waits, path.frame))) in
       let host = hosts_rank v f rank due n known on.1 on.2 in
-      let may : SaysData s clocks air x.node x.rank (frame_of s.profile x) (of_flood s clocks air whole x there).zero (slot_of x) (by_host s clocks air x)
+      let may : SaysData s clocks air x.node x.rank (frame_of_sending s.profile x) (of_flood s clocks air whole x there).zero (slot_of_sending x)
+          (sender_hosts s clocks air x)
       (data_in x.packet) =
-      subst (MaySay s clocks air x.node x.rank (frame_of s.profile x) (of_flood s clocks air whole x there).zero (slot_of x) (by_host s clocks air x))
+      subst (MaySay s clocks air x.node x.rank (frame_of_sending s.profile x) (of_flood s clocks air whole x there).zero (slot_of_sending x)
+          (sender_hosts s clocks air x))
       (data_message x.packet speaks) (begins_flood s clocks air whole x there first).start.says in
       let y = may.planned.sending in
       let is = may.planned.schedule in
       let gap = may.planned.gap in
-      let due_is : frame_of s.profile y + gap ≡ frame_of s.profile x = may.planned.due in
+      let due_is : frame_of_sending s.profile y + gap ≡ frame_of_sending s.profile x = may.planned.due in
       let said : Schedule = record { plan = may.plan; gap = gap } in
       let flood = of_flood s clocks air whole y is.sent in
-      let began : SaysSchedule s clocks air y.node y.rank (frame_of s.profile y) flood.zero (slot_of y) said =
-      subst (MaySay s clocks air y.node y.rank (frame_of s.profile y) flood.zero (slot_of y) (by_host s clocks air y)) is.says
+      let began : SaysSchedule s clocks air y.node y.rank (frame_of_sending s.profile y) flood.zero (slot_of_sending y) said =
+      subst (MaySay s clocks air y.node y.rank (frame_of_sending s.profile y) flood.zero (slot_of_sending y) (sender_hosts s clocks air y)) is.says
       (begins_flood s clocks air whole y is.sent is.first).start.says in
       let rank_is : y.rank ≡ rank = is.channel ∙ channel in
       let node : y.node ≡ v = sym (host_is s rank y.node (subst (λ (r : ℕ). IsHostOf s r y.node) rank_is began.host)) ∙ host_is s rank v host in
-      elim (cases_lt f (frame_of s.profile y)) [
+      elim (cases_lt f (frame_of_sending s.profile y)) [
         | inl after ↦ (
           y,
           record {

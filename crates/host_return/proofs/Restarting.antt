@@ -10,14 +10,14 @@ use Rattle.scenario_text.specs.declared.script.ScriptLine.{ScriptLine}
 use Rattle.scenario_clocks.specs.StatedClocks.{scenario_clock}
 use Rattle.air_log.specs.declared.entry.Entry.{Entry}
 use Rattle.air_log.specs.Lawful.{heard_by}
-use Rattle.host_return.specs.Restarts.{wish_in, declared_again, restart, lines_of}
+use Rattle.host_return.specs.Restarts.{wish_in, declared_again, restart, lines_of_going_back}
 use Rattle.host_return.specs.Wishes.{told}
 use Rattle.host_return.specs.declared.returned.Return.{Return}
 use Rattle.host_return.proofs.WishesTold.{wish_told, few_wished}
 
 -- by what the script tells, they are those by what the trail says
 pub restart_told : (s : ScenarioParts) (air : List Entry) (r : Return) → IsSoundScenario s
-    → restart (r.frame + 1) r.node (λ i. (told (r.frame + 1) r.node i s.script).1) ≡ lines_of s air r
+    → restart (r.frame + 1) r.node (λ i. (told (r.frame + 1) r.node i s.script).1) ≡ lines_of_going_back s air r
 restart_told s air r sound =
     let f = r.frame + 1 in
     let v = r.node in
@@ -65,7 +65,7 @@ restart_ascends f v wish s i j d less below =
     let all = all_restart s f v wish (λ l. l.frame ≡ f) refl refl (λ i least some. refl) in
     omega (arith, all i d (omega (arith, less, below)), all j d below)
 
-pub restart_of_frame : (s : ScenarioParts) (air : List Entry) (r : Return) (l : ScriptLine) → Contains (lines_of s air r) l → l.frame ≡ r.frame + 1
+pub restart_of_frame : (s : ScenarioParts) (air : List Entry) (r : Return) (l : ScriptLine) → Contains (lines_of_going_back s air r) l → l.frame ≡ r.frame + 1
 restart_of_frame s air r l there =
-    All-contains (λ (m : ScriptLine). m.frame ≡ r.frame + 1) (lines_of s air r) l
+    All-contains (λ (m : ScriptLine). m.frame ≡ r.frame + 1) (lines_of_going_back s air r) l
     (all_restart s (r.frame + 1) r.node (wish_in s air (r.frame + 1) r.node) (λ m. m.frame ≡ r.frame + 1) refl refl (λ i least some. refl)) there

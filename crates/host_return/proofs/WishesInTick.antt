@@ -19,9 +19,9 @@ use Rattle.scenario_text.specs.ScenarioFacts.{IsAct}
 use Rattle.scenario_text.specs.declared.script.Act.{Act}
 use Rattle.scenario_text.specs.declared.script.Act.TheVariants.{On, Off, Declare, Leave, Put}
 use Rattle.scenario_text.specs.declared.script.ScriptLine.{ScriptLine}
-use Rattle.air_log.specs.Devices.{Device, Power, PowerOff, PowerOn, Listening, Ordered, event, event_by}
-use Rattle.air_log.specs.ScriptedDevices.{after_act, after_line, dropped, with_new_core}
-use Rattle.air_log.specs.Trails.{Reception, hears, ended_by, is_due, alarms, one_alarm, begun_by, starts}
+use Rattle.air_log.specs.Devices.{Device, Power, PowerOff, PowerOn, Listening, OrderedPacket, event, event_by}
+use Rattle.air_log.specs.ScriptedDevices.{device_after_act, device_after_line, dropped, with_new_core}
+use Rattle.air_log.specs.Trails.{Reception, device_after_reception, device_ended_by, alarm_is_due, alarms, one_alarm, begun_by, starts}
 use Rattle.law_trails.proofs.RowsOfDevices.{switched_on_is}
 use Rattle.air_log.proofs.EventPower.{stepped_power}
 use Rattle.host_return.specs.Wishes.{told_by}
@@ -101,11 +101,11 @@ module _ (i : ℕ) where
     event_told : (w : Wish) (e : Event) (x : Option Sending) (d : Device) → IsNoBoot e → IsTold w d.power → IsTold w (event clock s t e x d).power
     event_told w e x d other was = by_event w e x d d.power other refl was
 
-    pub hearings_told : (w : Wish) (hs : List Reception) (d : Device) → IsTold w d.power → IsTold w (fold (hears clock s t) d hs).power
+    pub hearings_told : (w : Wish) (hs : List Reception) (d : Device) → IsTold w d.power → IsTold w (fold (device_after_reception clock s t) d hs).power
     hearings_told w [] d was = was
-    hearings_told w (h ∷ hs) d was = hearings_told w hs (hears clock s t d h) (event_told w (Heard h.packet) None d tt was)
+    hearings_told w (h ∷ hs) d was = hearings_told w hs (device_after_reception clock s t d h) (event_told w (Heard h.packet) None d tt was)
 
-    pub end_told : (w : Wish) (d : Device) (x : Option Sending) → IsTold w d.power → IsTold w (ended_by clock s t d x).power
+    pub end_told : (w : Wish) (d : Device) (x : Option Sending) → IsTold w d.power → IsTold w (device_ended_by clock s t d x).power
     end_told w d None was = was
     end_told w d (Some x) was =
         cond_both (x.end == t) (event clock s t Sent (Some x) (record d { sending = None })) d (λ (e : Device). IsTold w e.power)
@@ -117,21 +117,21 @@ module _ (i : ℕ) where
     alarms_told w true zero d was = was
     alarms_told w true (suc more) d was =
         let e = one_alarm clock s t d in
-        alarms_told w (is_due t e.alarm) more e (event_told w Alarm None (record d { alarm = None }) tt was)
+        alarms_told w (alarm_is_due t e.alarm) more e (event_told w Alarm None (record d { alarm = None }) tt was)
 
     start_power : (packet : List ℕ) (d : Device) (l : Option Listening) (x : Option Sending) → (starts s t packet d l x).power ≡ d.power
     start_power packet d None x = refl
     start_power packet d (Some l) (Some x) = refl
     start_power packet d (Some l) None = refl
 
-    pub begun_told : (w : Wish) (d : Device) (o : Option Ordered) → IsTold w d.power → IsTold w (begun_by s t d o).power
+    pub begun_told : (w : Wish) (d : Device) (o : Option OrderedPacket) → IsTold w d.power → IsTold w (begun_by s t d o).power
     begun_told w d None was = was
     begun_told w d (Some o) was =
         cond_both (o.tick == t) (starts s t o.packet d d.listening d.sending) d (λ (e : Device). IsTold w e.power)
         (λ now. moved_to w _ d.power (start_power o.packet d d.listening d.sending) was) (λ other. was)
 
     by_act : (w : Wish) (p : Numbers) (frame : ℕ) (d : Device) (a : Act) (q : Power) → IsAct p a → d.power ≡ q → IsTold w q
-        → IsTold (told_by i a w) (after_act clock s t frame d a q).power
+        → IsTold (told_by i a w) (device_after_act clock s t frame d a q).power
     by_act w p frame d On (PowerOff boots) range at was =
         let on = switched_on_is clock s t boots d in
         moved_to _ _ _ on.power (record { four = refl; is = ap (λ (k : ℕ). (true, k)) (cleared_wish i) ∙ ap (λ (u : Wish). (true, u.1)) was.is })
@@ -171,8 +171,8 @@ module _ (i : ℕ) where
         (with_same n.core.streams j x (put_wish payload (stream_at n.core.streams j))) was)
 
     pub lines_told : (w : Wish) (p : Numbers) (ls : List ScriptLine) (d : Device) → ((l : ScriptLine) → Contains ls l → IsAct p l.act) → IsTold w d.power
-        → IsTold (fold (λ (u : Wish) (l : ScriptLine). told_by i l.act u) w ls) (fold (after_line clock s t) d ls).power
+        → IsTold (fold (λ (u : Wish) (l : ScriptLine). told_by i l.act u) w ls) (fold (device_after_line clock s t) d ls).power
     lines_told w p [] d ranges was = was
     lines_told w p (l ∷ ls) d ranges was =
-        lines_told (told_by i l.act w) p ls (after_line clock s t d l) (λ m there. ranges m (in_tail ls l m there))
+        lines_told (told_by i l.act w) p ls (device_after_line clock s t d l) (λ m there. ranges m (in_tail ls l m there))
         (by_act w p l.frame d l.act d.power (ranges l (in_head ls l)) refl was)

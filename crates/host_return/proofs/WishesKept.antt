@@ -10,14 +10,14 @@ use Rattle.lwb_base.specs.Profile.{Numbers}
 use Rattle.lwb_base.specs.declared.event.Event.{Event}
 use Rattle.lwb_base.specs.declared.event.Event.TheVariants.{Boot, Alarm, Heard, Sent}
 use Rattle.bus_rules.specs.Tables.{Table}
-use Rattle.bus_rules.specs.HostPlans.{Served, serve, answered, host_plan}
+use Rattle.bus_rules.specs.HostPlans.{Served, serve, answers_to, host_plan}
 use Rattle.bus_rules.specs.Streams.{Stream, Streams, no_stream, stream_at, with_stream, taken, without_first, unbound, heard_host, is_host, names}
-use Rattle.bus_rules.specs.Streams.{acknowledged, owns, forgets, forgotten, agrees, after_contention, tries_after, due, schedule_heard, granted}
-use Rattle.bus_rules.specs.Streams.{named_in}
+use Rattle.bus_rules.specs.Streams.{acknowledged, owns, forgets, forgotten, with_granted_interval, after_contention, tries_after, due_stream, schedule_heard}
+use Rattle.bus_rules.specs.Streams.{granted_stream, named_in}
 use Rattle.bus_rules.specs.declared.part.Part.{Part}
 use Rattle.bus_rules.specs.declared.part.Part.TheVariants.{Opening, Data as DataSlot, Contention, Closing}
 use Rattle.bus_rules.specs.Cores.{Core, Setup, as_host, opening_accepted, closing_accepted}
-use Rattle.bus_rules.specs.Slots.{Message, ScheduleOf, DataOf, RequestOf, opened, closed, host_closes, silent, hosts_now, slot_heard, part_of, is_own}
+use Rattle.bus_rules.specs.Slots.{Message, ScheduleOf, DataOf, RequestOf, opened_slot, closed_slot, host_closes, silent, hosts_now, slot_heard, part_of, is_own}
 use Rattle.bus_rules.specs.Tuning.{rank_of}
 use Rattle.node_core.specs.Nodes.{Node}
 use Rattle.node_core.specs.Rows.{Stepped, row, at_alarm, at_heard, at_sent, scanner_hears, joins, sends, accepted_in}
@@ -60,11 +60,11 @@ map_wish g keeps (x ∷ xs) zero = keeps x
 map_wish g keeps (x ∷ xs) (suc i) = map_wish g keeps xs i
 
 unbound_same : (s : Streams) → SameWishes s (unbound s)
-unbound_same s = record { count = length-map s.all (agrees 0); wish = λ i. map_wish (agrees 0) (λ x. refl) s.all i }
+unbound_same s = record { count = length-map s.all (with_granted_interval 0); wish = λ i. map_wish (with_granted_interval 0) (λ x. refl) s.all i }
 
 contention_same : (node : ℕ) (s : Streams) → SameWishes s (after_contention node s)
 contention_same node s =
-    either (is_none (due s)) s s _ (same s)
+    either (is_none (due_stream s)) s s _ (same s)
     (either (s.skips == 0) s
     (record s { tries = tries_after s; skips = node % 2 ^ tries_after s }) (record s { skips = s.skips - 1 })
     (record { count = refl; wish = λ i. refl }) (record { count = refl; wish = λ i. refl }))
@@ -81,7 +81,7 @@ host_same rank boot s =
 
 acknowledged_same : (node boot frame : ℕ) (s : Streams) (a : Ask) → SameWishes s (acknowledged node boot frame s a)
 acknowledged_same node boot frame s a =
-    let x = granted a.interval frame (stream_at s a.stream) in
+    let x = granted_stream a.interval frame (stream_at s a.stream) in
     let new = with_same s a.stream x refl in
     either (names node boot a) s (record (with_stream a.stream x s) { tries = 0; skips = 0 }) s (record { count = new.count; wish = new.wish }) (same s)
 
@@ -115,7 +115,7 @@ served_same frame node boot (k ∷ ks) x =
 plan_same : (p : Numbers) (node boot rank frame : ℕ) (kept : List Ask) (t : Table) (s : Streams) → SameWishes s (host_plan p node boot rank frame kept t s).streams
 unfolding host_plan
 plan_same p node boot rank frame kept t s =
-    served_same frame node boot (0 ∷ 1 ∷ 2 ∷ 3 ∷ []) (record { table = (answered frame kept t).table; streams = s })
+    served_same frame node boot (0 ∷ 1 ∷ 2 ∷ 3 ∷ []) (record { table = (answers_to frame kept t).table; streams = s })
 
 -- the rows
 abbrev pub KeepsWishes : Node → Option Stepped → Type 0
@@ -126,7 +126,7 @@ at_host : (p : Numbers) (rank : Option ℕ) (c : Core) → SameWishes c.streams 
 at_host p None c = same c.streams
 at_host p (Some rank) c = unbound_same c.streams
 
-at_opening : (s : Setup) (f : ℕ) (part : Part) (c : Core) → SameWishes c.streams (opened s f part c).core.streams
+at_opening : (s : Setup) (f : ℕ) (part : Part) (c : Core) → SameWishes c.streams (opened_slot s f part c).core.streams
 at_opening s f Opening c = same c.streams
 at_opening s f (DataSlot owner) c =
     let i = stream_of owner in
@@ -144,7 +144,7 @@ in_slot f (Contention i) heard c = same c.streams
 in_slot f Closing heard c = same c.streams
 
 at_closing : (s : Setup) (f : ℕ) (part : Part) (initiated : Bool) (c : Core) (m : Option Message)
-    → SameWishes c.streams (closed s f part initiated c m).core.streams
+    → SameWishes c.streams (closed_slot s f part initiated c m).core.streams
 at_closing s f part initiated c None = in_slot f part initiated c
 at_closing s f part initiated c (Some (ScheduleOf x)) =
     cond_both (x.gap == 0) (opening_accepted s.id f x c) (closing_accepted s.id f x c) (λ (k : Core). SameWishes c.streams k.streams)

@@ -14,7 +14,7 @@ use Rattle.scenario_text.specs.declared.script.Act.TheVariants.{On, Off, Declare
 use Rattle.scenario_text.specs.declared.script.ScriptLine.{ScriptLine}
 use Rattle.scenario_text.proofs.EachPair.{pairs_climb}
 use Rattle.air_log.specs.Devices.{Device, Power, PowerOff, PowerOn}
-use Rattle.air_log.specs.Trails.{Reception, setup_of, frame_start, lines_at, scripted, ending_at, heard, is_due}
+use Rattle.air_log.specs.Trails.{Reception, setup_of, frame_start, lines_at, device_after_script, ending_at, device_after_receptions, alarm_is_due}
 use Rattle.air_log.specs.Trails.{before_alarms, before_start, before_tick, at_frame}
 use Rattle.lwb_base.proofs.Elements.{filtered}
 use Rattle.law_safety.proofs.RunFacts.{frame_lasts}
@@ -87,9 +87,9 @@ module _ (s : ScenarioParts) (sound : IsSoundScenario s) (v i : ℕ) (clock : �
       (All-contains (IsScriptLine s) s.script l sound.script
       (filtered (λ (m : ScriptLine). (m.node == v) && (frame_start s m.frame == t)) s.script l there).0).act
 
-  scripted_told : (t : ℕ) (d : Device) → IsTold i (so_far t) d.power → IsTold i (so_far (suc t)) (scripted s v clock t d).power
+  scripted_told : (t : ℕ) (d : Device) → IsTold i (so_far t) d.power → IsTold i (so_far (suc t)) (device_after_script s v clock t d).power
   scripted_told t d was =
-      subst (λ (w : Wish). IsTold i w (scripted s v clock t d).power)
+      subst (λ (w : Wish). IsTold i w (device_after_script s v clock t d).power)
       (sym (splits s v i t s.script (pairs_climb (λ a b. a.frame ≤ b.frame) s.script sound.script_ascends) (false, 0)))
       (lines_told i clock (setup_of s v) t (so_far t) s.profile (lines_at s v t) d (acts t) was)
 
@@ -104,12 +104,12 @@ module _ (s : ScenarioParts) (sound : IsSoundScenario s) (v i : ℕ) (clock : �
       let d = before_tick s v clock hs t in
       let x = setup_of s v in
       let w = so_far (suc t) in
-      let d1 = scripted s v clock t d in
-      let d2 = heard clock x t hs d1 in
+      let d1 = device_after_script s v clock t d in
+      let d2 = device_after_receptions clock x t hs d1 in
       let d3 = before_alarms s v clock hs t d in
       let d4 = before_start s v clock hs t d in
       begun_told i clock x t w d4 d4.ordered
-      (alarms_told i clock x t w (is_due t d3.alarm) (clock t + 300) d3
+      (alarms_told i clock x t w (alarm_is_due t d3.alarm) (clock t + 300) d3
       (end_told i clock x t w d2 d2.sending
       (hearings_told i clock x t w (ending_at t hs) d1 (scripted_told t d (tick_told t)))))
 

@@ -5,7 +5,7 @@ use Rattle.schedule_codec.specs.Reading.{is_schedule}
 use Rattle.lwb_packets.specs.DataPackets.{is_data}
 use Rattle.scenario_text.specs.ScenarioParts.{ScenarioParts}
 use Rattle.scenario_clocks.specs.StatedClocks.{scenario_clock}
-use Rattle.radio_model.specs.Hearing.{frame_of, counter_of}
+use Rattle.radio_model.specs.Hearing.{frame_of_sending, counter_of_sending}
 use Rattle.radio_model.specs.declared.sending.Sending.{Sending}
 use Rattle.air_log.specs.declared.entry.Entry.{Entry}
 use Rattle.air_log.specs.Entries.{sendings_of}
@@ -28,14 +28,14 @@ pub record IsScheduleSince (s : ScenarioParts) (air : List Entry) (f : ℕ) (x y
   pub sent : Contains (sendings_of air) y
   pub channel : y.rank ≡ x.rank
   pub says : is_schedule y.packet ≡ true
-  pub after : f < frame_of s.profile y
+  pub after : f < frame_of_sending s.profile y
   pub before : y.start < x.start
 
 -- after frame f + 3 no node initiates data on this rank before a schedule of the rank is sent in a frame after f
 abbrev pub QuietAfter : ScenarioParts → List Entry → ℕ → ℕ → Type 0
 QuietAfter s air f rank =
-    (x : Sending) → Contains (sendings_of air) x → x.rank ≡ rank → counter_of x ≡ 0 → is_data x.packet ≡ true
-    → f + 3 < frame_of s.profile x → (y : Sending) × IsScheduleSince s air f x y
+    (x : Sending) → Contains (sendings_of air) x → x.rank ≡ rank → counter_of_sending x ≡ 0 → is_data x.packet ≡ true
+    → f + 3 < frame_of_sending s.profile x → (y : Sending) × IsScheduleSince s air f x y
 
 -- so it is with the rank that the node of a return hosted
 abbrev pub AllQuiet : ReturnedParts → Type 0

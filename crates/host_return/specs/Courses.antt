@@ -5,8 +5,8 @@ use Rattle.scenario_text.specs.ScenarioGrammar.{IsScenario}
 use Rattle.scenario_text.specs.ScenarioParts.{ScenarioParts}
 use Rattle.scenario_clocks.specs.StatedClocks.{scenario_clock}
 use Rattle.air_log.specs.Lawful.{Lawful}
-use Rattle.host_return.specs.Candidates.{IsNext}
-use Rattle.host_return.specs.Restarts.{lines_of}
+use Rattle.host_return.specs.Candidates.{IsNextReturn}
+use Rattle.host_return.specs.Restarts.{lines_of_going_back}
 use Rattle.host_return.specs.Returned.{Becomes}
 use Rattle.host_return.specs.declared.follow.Course.{Course}
 use Rattle.host_return.specs.declared.returned.Return.{Return}
@@ -23,8 +23,8 @@ pub record IsFollowed (read : ScenarioParts) (c : Course) : Type 0 where
 pub record IsOneMore (read : ScenarioParts) (old new : Course) : Type 0 where
   pub last : Return
   pub returns : new.returns.items ≡ old.returns.items ++ last ∷ []
-  pub next : IsNext read old.scenario old.air old.returns.items last
-  pub added : IsWithScript old.scenario (lines_of old.scenario old.air last) new.scenario
+  pub next : IsNextReturn read old.scenario old.air old.returns.items last
+  pub added : IsWithScript old.scenario (lines_of_going_back old.scenario old.air last) new.scenario
   pub room : HasRoom new.scenario
   pub said : IsScenario new.scenario
   pub lawful : Lawful new.scenario (scenario_clock new.scenario) new.air

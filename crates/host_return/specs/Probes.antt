@@ -40,8 +40,8 @@ pub record IsOfFrame (s : ScenarioParts) (f t : ℕ) : Type 0 where
   pub until : t < frame_start s (f + 1)
 
 -- v hears x if it is tuned to this rank for the whole of frame f
-abbrev pub HearsIn : ScenarioParts → List Entry → ℕ → ℕ → ℕ → Sending → Type 0
-HearsIn s air f v rank x = HearsAir s.profile s.trace (with_probe s air f v rank) v x
+abbrev pub HearsAsProbe : ScenarioParts → List Entry → ℕ → ℕ → ℕ → Sending → Type 0
+HearsAsProbe s air f v rank x = HearsAir s.profile s.trace (with_probe s air f v rank) v x
 
 -- x is a schedule of this rank in frame f, and v hears it if it is tuned there for the whole frame
 pub record Brings (s : ScenarioParts) (air : List Entry) (f v rank : ℕ) (x : Sending) : Type 0 where
@@ -50,7 +50,7 @@ pub record Brings (s : ScenarioParts) (air : List Entry) (f v rank : ℕ) (x : S
   pub says : is_schedule x.packet ≡ true
   pub starts : IsOfFrame s f x.start
   pub ends : IsOfFrame s f x.end
-  pub hears : HearsIn s air f v rank x
+  pub hears : HearsAsProbe s air f v rank x
 
 -- in frame f node v probes this rank, and hears a schedule there
 pub record Probed (s : ScenarioParts) (air : List Entry) (f v rank : ℕ) : Type 0 where

@@ -32,5 +32,5 @@ restart f v wish =
     ∷ flat_map (λ i. declared_again f v i (wish i)) (0 ∷ 1 ∷ 2 ∷ 3 ∷ [])
 
 -- the lines of a return, by a run of the scenario so far: the node restarts in the next frame
-abbrev pub lines_of : ScenarioParts → List Entry → Return → List ScriptLine
-lines_of s air r = restart (r.frame + 1) r.node (wish_in s air (r.frame + 1) r.node)
+abbrev pub lines_of_going_back : ScenarioParts → List Entry → Return → List ScriptLine
+lines_of_going_back s air r = restart (r.frame + 1) r.node (wish_in s air (r.frame + 1) r.node)

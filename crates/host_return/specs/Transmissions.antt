@@ -12,6 +12,6 @@ pub record AreSent (air : List Entry) (t : Transmissions) : Type 0 where
   pub all : (y : Sending) → Contains (sendings_of air) y → Contains t.sent.items y
 
 -- they are in order, and none lasts longer than is said
-pub record IsSearchable (t : Transmissions) : Type 0 where
+pub record TransmissionsAreSearchable (t : Transmissions) : Type 0 where
   pub in_order : AllPairs Before t.sent.items
   pub longest : All (λ y. y.end ≤ y.start + t.longest) t.sent.items

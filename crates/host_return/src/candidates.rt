@@ -9,8 +9,8 @@ ghost use Rattle.scenario_text.specs.ScenarioGrammar.{IsScenario};
 ghost use Rattle.air_log.specs.declared.entry.Entry.{Entry as EntryOf};
 ghost use Rattle.air_log.specs.Lawful.{Lawful};
 ghost use Rattle.host_return.specs.NodeTrails.{all_trails, probed_by, told_for};
-ghost use Rattle.host_return.specs.Candidates.{is_off, AllListed, IsCandidate, IsNext, is_listed as is_listed_in};
-ghost use Rattle.host_return.specs.Transmissions.{AreSent, IsSearchable};
+ghost use Rattle.host_return.specs.Candidates.{switches_off, AllListed, IsCandidate, IsNextReturn, is_listed as is_listed_in};
+ghost use Rattle.host_return.specs.Transmissions.{AreSent, TransmissionsAreSearchable};
 ghost use Rattle.host_return.specs.declared.returned.Return.{Return as ReturnOf};
 
 use crate::Return;
@@ -31,7 +31,7 @@ pub(crate) fn next_return(
 ) -> Result<Option<Return>, Memory>
     requires lawful { Lawful s.now (scenario_clock s.now) air.now }
     requires frames { read.now.frames ≡ s.now.frames }
-    ensures some { IfOk result (λ o. IfSome o (IsNext read.now s.now air.now listed.now)) }
+    ensures some { IfOk result (λ o. IfSome o (IsNextReturn read.now s.now air.now listed.now)) }
     ensures none { IfOk result (λ o. IfNone o (AllListed read.now s.now air.now listed.now)) }
 {
     let trails = trails_of(alloc, s, air)?;
@@ -66,7 +66,7 @@ fn next_in_frame(
     requires said { IsScenario s.now }
     requires frames { read.now.frames ≡ s.now.frames }
     requires frame { frame < s.now.frames }
-    requires searchable { IsSearchable sent.now }
+    requires searchable { TransmissionsAreSearchable sent.now }
     requires early { All (λ y. y.start ≤ 2 ^ 46) sent.now.sent.items }
     ensures some { (air : List EntryOf) → Lawful s.now (scenario_clock s.now) air → trails.now ≡ all_trails s.now air → AreSent air sent.now
         → IfSome result (λ r. IsCandidate read.now s.now air r × (is_listed_in listed.now r ≡ false) × (r.frame ≡ frame)
@@ -94,7 +94,7 @@ fn fresh_candidate(
     requires said { IsScenario s.now }
     requires frames { read.now.frames ≡ s.now.frames }
     requires frame { frame < s.now.frames }
-    requires searchable { IsSearchable sent.now }
+    requires searchable { TransmissionsAreSearchable sent.now }
     requires early { All (λ y. y.start ≤ 2 ^ 46) sent.now.sent.items }
     ensures some { (air : List EntryOf) → Lawful s.now (scenario_clock s.now) air → AreSent air sent.now → knows s.now.nodes trail.now.node ≡ true
         → trail.now.trail ≡ told_for s.now air trail.now.node
@@ -134,13 +134,13 @@ fn is_listed(listed: &[Return], r: &Return) -> bool
 
 // Whether the script has an off line of the node in the frame.
 fn goes_off(s: &Scenario, frame: u32, node: NodeId) -> bool
-    ensures { result ≡ list_any (is_off frame node) s.now.script }
+    ensures { result ≡ list_any (switches_off frame node) s.now.script }
 {
     s.script().iter().any(|line| is_off_line(line, frame, node))
 }
 
 fn is_off_line(line: &ScriptLine, frame: u32, node: NodeId) -> bool
-    ensures { result ≡ is_off frame node line.now }
+    ensures { result ≡ switches_off frame node line.now }
 {
     line.frame == frame && line.node == node && matches!(line.act, Act::Off)
 }

@@ -7,7 +7,7 @@ ghost use Rattle.air_log.specs.Lawful.{Lawful};
 ghost use Rattle.air_log.specs.Safe.{Safe};
 ghost use Rattle.host_return.specs.AfterReturns.{AllProbed, AllQuiet};
 ghost use Rattle.host_return.specs.Courses.{IsOneMore};
-ghost use Rattle.host_return.specs.Returned.{Ends, IsReturned, counts_in};
+ghost use Rattle.host_return.specs.Returned.{ReturnsEnd, IsReturned, counts_in};
 
 use crate::candidates::next_return;
 use crate::restart::lines_of;
@@ -65,7 +65,7 @@ impl Course {
         requires lawful { Lawful self.old.scenario (scenario_clock self.old.scenario) self.old.air }
         requires frames { read.now.frames ≡ self.old.scenario.frames }
         ensures more { result ≡ Ok true → IsOneMore read.now self.old self.new }
-        ensures end { result ≡ Ok false → (self.new ≡ self.old) × Ends read.now self.old.scenario self.old.air self.old.returns.items }
+        ensures end { result ≡ Ok false → (self.new ≡ self.old) × ReturnsEnd read.now self.old.scenario self.old.air self.old.returns.items }
     {
         let Some(r) = next_return(alloc, read, &self.scenario, &self.air, &self.returns)? else {
             return Ok(false);

@@ -4,7 +4,7 @@ ghost use Rattle.std.specs.Prelude.{◌≡◌, ◌+◌, ◌<◌, ◌≤◌, ◌+
 ghost use Rattle.scenario_text.specs.FloodParts.{knows};
 ghost use Rattle.scenario_text.specs.ScenarioFacts.{IsScriptLine};
 ghost use Rattle.air_log.specs.declared.entry.Entry.{Entry as EntryOf};
-ghost use Rattle.host_return.specs.Restarts.{declared_again, restart, lines_of as lines_of_return};
+ghost use Rattle.host_return.specs.Restarts.{declared_again, restart, lines_of_going_back as lines_of_return};
 ghost use Rattle.host_return.specs.Wishes.{told, told_by};
 
 use crate::Return;

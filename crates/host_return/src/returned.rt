@@ -1,7 +1,7 @@
 //! What came of the returns of a scenario.
 
 ghost use Rattle.std.specs.Prelude.{◌≡◌};
-ghost use Rattle.host_return.specs.Returned.{count_of};
+ghost use Rattle.host_return.specs.Returned.{count_of_node};
 
 use air_log::Air;
 use lwb_base::{NodeId, Rank};
@@ -60,7 +60,7 @@ impl Returned {
 
     /// In how many frames of that run the node is idle, and probes a lower channel. It is 0 for an id that is no node's.
     pub fn probes(&self, node: NodeId) -> u32
-        ensures { result ≡ count_of self.now.counts node }
+        ensures { result ≡ count_of_node self.now.counts node }
     {
         for count in &self.counts {
             if count.0 == node {

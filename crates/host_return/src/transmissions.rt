@@ -6,9 +6,9 @@ ghost use Rattle.radio_model.specs.Hearing.{Before};
 ghost use Rattle.radio_model.specs.declared.sending.Sending.{Sending as SendingOf};
 ghost use Rattle.air_log.specs.declared.entry.Entry.{Entry as EntryOf};
 ghost use Rattle.air_log.specs.Entries.{sendings_of, sending_in};
-ghost use Rattle.host_return.specs.Probes.{Brings, HearsIn, IsOfFrame};
+ghost use Rattle.host_return.specs.Probes.{Brings, HearsAsProbe, IsOfFrame};
 ghost use Rattle.air_log.specs.Trails.{frame_start as start_of_frame};
-ghost use Rattle.host_return.specs.Transmissions.{AreSent, IsSearchable};
+ghost use Rattle.host_return.specs.Transmissions.{AreSent, TransmissionsAreSearchable};
 
 use crate::Return;
 use air_log::{Air, Entry, SentEntry};
@@ -31,7 +31,7 @@ pub(crate) struct Transmissions {
 impl Transmissions {
     pub(crate) fn of(alloc: Global, air: &Air) -> Result<Transmissions, Memory>
         ensures sent { IfOk result (AreSent air.now) }
-        ensures searchable { IfOk result IsSearchable }
+        ensures searchable { IfOk result TransmissionsAreSearchable }
     {
         let sent = sent_in_order(alloc, air)?;
         Ok(Transmissions {
@@ -43,7 +43,7 @@ impl Transmissions {
     /// Whether the node of r would receive a schedule of the rank of r in the frame of r.
     pub(crate) fn bring_schedule(&self, s: &Scenario, r: &Return) -> bool
         requires frame { r.now.frame < s.now.frames }
-        requires searchable { IsSearchable self.now }
+        requires searchable { TransmissionsAreSearchable self.now }
         requires early { All (λ y. y.start ≤ 2 ^ 46) self.now.sent.items }
         ensures { (air : List EntryOf) → AreSent air self.now
             → (result ≡ true ↔ ((x : SendingOf) × Brings s.now air r.now.frame r.now.node r.now.rank x)) }
@@ -55,7 +55,7 @@ impl Transmissions {
     // Whether one of these, which are in order from the start of the frame on, is such a schedule.
     fn bring_one_of(&self, some: &[Sending], s: &Scenario, r: &Return) -> bool
         requires frame { r.now.frame < s.now.frames }
-        requires searchable { IsSearchable self.now }
+        requires searchable { TransmissionsAreSearchable self.now }
         requires early { All (λ y. y.start ≤ 2 ^ 46) self.now.sent.items }
         requires in_order { AllPairs Before some.now }
         requires since { (y : SendingOf) → Contains some.now y → start_of_frame s.now r.now.frame ≤ y.start }
@@ -77,7 +77,7 @@ impl Transmissions {
     // Whether this one is such a schedule.
     fn brings(&self, x: &Sending, s: &Scenario, r: &Return) -> bool
         requires frame { r.now.frame < s.now.frames }
-        requires searchable { IsSearchable self.now }
+        requires searchable { TransmissionsAreSearchable self.now }
         requires early { All (λ y. y.start ≤ 2 ^ 46) self.now.sent.items }
         requires there { Contains self.now.sent.items x.now }
         ensures { (air : List EntryOf) → AreSent air self.now → (result ≡ true ↔ Brings s.now air r.now.frame r.now.node r.now.rank x.now) }
@@ -99,11 +99,11 @@ impl Transmissions {
 
     // Whether the node would receive it, tuned to its channel for the whole frame.
     fn comes_through(&self, x: &Sending, s: &Scenario, r: &Return) -> bool
-        requires searchable { IsSearchable self.now }
+        requires searchable { TransmissionsAreSearchable self.now }
         requires early { All (λ y. y.start ≤ 2 ^ 46) self.now.sent.items }
         requires there { Contains self.now.sent.items x.now }
         ensures { (air : List EntryOf) → AreSent air self.now → x.now.rank ≡ r.now.rank → IsOfFrame s.now r.now.frame x.now.start
-            → IsOfFrame s.now r.now.frame x.now.end → (result ≡ true ↔ HearsIn s.now air r.now.frame r.now.node r.now.rank x.now) }
+            → IsOfFrame s.now r.now.frame x.now.end → (result ≡ true ↔ HearsAsProbe s.now air r.now.frame r.now.node r.now.rank x.now) }
     {
         let near = near(&self.sent, self.longest, x);
         comes_through(&s.profile(), s.trace(), near, r.node, x)

@@ -11,16 +11,17 @@ use Rattle.std.proofs.lemmas.List.Elements.{filter-append, filter_more}
 use Rattle.std.proofs.lemmas.List.Sums.{sum_by-cons, sum_by_more, sum_by-take-le}
 use Rattle.std.proofs.lemmas.Option.{slice_get-map, slice_get_within, get_or_from_slice_get}
 use Rattle.lwb_base.proofs.Lists.{length_filtered}
-use Rattle.bus_rules.specs.Tables.{Entry, Table, Ascends, entry_of, code_in}
+use Rattle.bus_rules.specs.Tables.{Entry, Table, EntriesAscend, entry_of, code_in}
 use Rattle.bus_rules.specs.Granting.{owed_to}
 use Rattle.stream_table.specs.Entries.{owed_by}
 use Rattle.stream_table.proofs.Order.{entry_at}
 use Rattle.host_scheduler.specs.declared.debts.Debt.{Debt}
-use Rattle.host_scheduler.specs.Debts.{debt_of, debts_of, code_of, owed_in, codes_owed, all_owed, in_line, late, early, owed_beyond, beyond, turns_of}
+use Rattle.host_scheduler.specs.Debts.{debt_of, debts_of, code_of_debt, owed_in, codes_owed, all_owed, debts_from_place, is_owed_from, early, owed_beyond}
+use Rattle.host_scheduler.specs.Debts.{beyond, turns_of}
 use Rattle.host_scheduler.proofs.Sifted.{filter_filter, filter_stronger, both_fit, take_joined}
 
 -- the owner at a place of the table, with what is owed to it
-pub debt_more : (seconds frame : ℕ) (t : Table) (i owner : ℕ) (ds : List Debt) → Ascends t.entries
+pub debt_more : (seconds frame : ℕ) (t : Table) (i owner : ℕ) (ds : List Debt) → EntriesAscend t.entries
     → Some owner ≡ slice_get (map code_in t.entries) i → ds ≡ take i (debts_of (owed_to seconds frame) t.entries)
     → ds ++ record { code = owner; owed = owed_by seconds frame t owner } ∷ [] ≡ take (i + 1) (debts_of (owed_to seconds frame) t.entries)
 debt_more seconds frame t i owner ds up at is = of_entry (slice_get t.entries i) refl
@@ -80,7 +81,7 @@ all_fits ds i d codes within read few is =
     omega (arith, ap length is)
 
 -- the two parts of the line
-apart : (place : ℕ) (d : Debt) → (late place d && early place d) ≡ false
+apart : (place : ℕ) (d : Debt) → (is_owed_from place d && early place d) ≡ false
 apart place d = by_tests (nat_le place d.code) (nat_lt d.code place) (nat_lt 0 d.owed) refl refl
   where
     by_tests : (a b s : Bool) → nat_le place d.code ≡ a → nat_lt d.code place ≡ b → ((a && s) && (b && s)) ≡ false
@@ -89,16 +90,16 @@ apart place d = by_tests (nat_le place d.code) (nat_lt d.code place) (nat_lt 0 d
     by_tests true false false is less = refl
     by_tests false b s is less = refl
 
-pub line_fits : (place : ℕ) (ds : List Debt) → length (filter (late place) ds) + length (filter (early place) ds) ≤ length ds
-line_fits place ds = both_fit (late place) (early place) ds (apart place)
+pub line_fits : (place : ℕ) (ds : List Debt) → length (filter (is_owed_from place) ds) + length (filter (early place) ds) ≤ length ds
+line_fits place ds = both_fit (is_owed_from place) (early place) ds (apart place)
 
-pub line_is : (place : ℕ) (ds : List Debt) → filter (late place) ds ++ filter (early place) ds ≡ beyond 0 (in_line place ds)
+pub line_is : (place : ℕ) (ds : List Debt) → filter (is_owed_from place) ds ++ filter (early place) ds ≡ beyond 0 (debts_from_place place ds)
 line_is place ds =
     let first : Debt → Bool = λ d. nat_le place d.code in
     let second : Debt → Bool = λ d. nat_lt d.code place in
     sym (filter-append (owed_beyond 0) (filter first ds) (filter second ds)
     ∙ ap (λ (l : List Debt). l ++ filter (owed_beyond 0) (filter second ds)) (filter_filter first (owed_beyond 0) ds)
-    ∙ ap (λ (l : List Debt). filter (late place) ds ++ l) (filter_filter second (owed_beyond 0) ds))
+    ∙ ap (λ (l : List Debt). filter (is_owed_from place) ds ++ l) (filter_filter second (owed_beyond 0) ds))
 
 places_apart : (place : ℕ) (d : Debt) → (nat_le place d.code && nat_lt d.code place) ≡ false
 places_apart place d = by_tests (nat_le place d.code) (nat_lt d.code place) refl refl
@@ -108,23 +109,23 @@ places_apart place d = by_tests (nat_le place d.code) (nat_lt d.code place) refl
     by_tests true false is less = refl
     by_tests false b is less = refl
 
-pub length_line : (place k : ℕ) (ds : List Debt) → length (beyond k (in_line place ds)) ≤ length ds
+pub length_line : (place k : ℕ) (ds : List Debt) → length (beyond k (debts_from_place place ds)) ≤ length ds
 length_line place k ds =
     let first : Debt → Bool = λ d. nat_le place d.code in
     let second : Debt → Bool = λ d. nat_lt d.code place in
     omega (
       arith,
-      length_filtered (owed_beyond k) (in_line place ds),
+      length_filtered (owed_beyond k) (debts_from_place place ds),
       length-append (filter first ds) (filter second ds),
       both_fit first second ds (places_apart place),
     )
 
 -- one turn after another
 pub next_turn : (line : List Debt) (k : ℕ) (given : List ℕ) → given ≡ take 40 (turns_of line k)
-    → take 40 (given ++ map code_of (beyond k line)) ≡ take 40 (turns_of line (k + 1))
+    → take 40 (given ++ map code_of_debt (beyond k line)) ≡ take 40 (turns_of line (k + 1))
 unfolding turns_of
 next_turn line k given is = rw add-one
-    (ap (λ (l : List ℕ). take 40 (l ++ map code_of (beyond k line))) is ∙ take_joined 40 (turns_of line k) (map code_of (beyond k line)))
+    (ap (λ (l : List ℕ). take 40 (l ++ map code_of_debt (beyond k line))) is ∙ take_joined 40 (turns_of line k) (map code_of_debt (beyond k line)))
 
 pub no_turn : (line : List Debt) → take 40 (turns_of line 0) ≡ []
 unfolding turns_of
@@ -135,12 +136,13 @@ next_line line k = filter_stronger (owed_beyond k) (owed_beyond (k + 1)) line (�
 
 -- a slot more of a turn
 pub slot_more : (before : List ℕ) (line : List Debt) (i : ℕ) (d : Debt) (old new : List ℕ) → i < length line → d ≡ get_or line i d
-    → old ≡ take 40 (before ++ map code_of (take i line)) → new ≡ take 40 (old ++ d.code ∷ [])
-    → new ≡ take 40 (before ++ map code_of (take (i + 1) line))
+    → old ≡ take 40 (before ++ map code_of_debt (take i line)) → new ≡ take 40 (old ++ d.code ∷ [])
+    → new ≡ take 40 (before ++ map code_of_debt (take (i + 1) line))
 slot_more before line i d old new within read is now =
-    now ∙ ap (λ (l : List ℕ). take 40 (l ++ d.code ∷ [])) is ∙ take_joined 40 (before ++ map code_of (take i line)) (d.code ∷ [])
-    ∙ ap (take 40) (append_assoc before (map code_of (take i line)) (d.code ∷ [])
-    ∙ ap (λ (l : List ℕ). before ++ l) (ap (λ (x : Debt). map code_of (take i line) ++ code_of x ∷ []) read ∙ sym (map_more code_of line i d within)))
+    now ∙ ap (λ (l : List ℕ). take 40 (l ++ d.code ∷ [])) is ∙ take_joined 40 (before ++ map code_of_debt (take i line)) (d.code ∷ [])
+    ∙ ap (take 40) (append_assoc before (map code_of_debt (take i line)) (d.code ∷ [])
+    ∙ ap (λ (l : List ℕ). before ++ l)
+        (ap (λ (x : Debt). map code_of_debt (take i line) ++ code_of_debt x ∷ []) read ∙ sym (map_more code_of_debt line i d within)))
 
 -- what is read at a place
 abbrev pub nothing : Debt
@@ -154,10 +156,10 @@ length_taken xs = omega (arith, length-take 40 xs)
 
 -- room for one more of the line
 pub late_room : (place : ℕ) (ds : List Debt) (i : ℕ) (line : List Debt) → i < length ds → length ds ≤ 32
-    → line ≡ [] ++ filter (late place) (take i ds) → length line < 32
+    → line ≡ [] ++ filter (is_owed_from place) (take i ds) → length line < 32
 late_room place ds i line within few is =
     let cut : length (take i ds) ≡ i = length-take-le i ds (omega arith) in
-    omega (arith, ap length is, length_filtered (late place) (take i ds))
+    omega (arith, ap length is, length_filtered (is_owed_from place) (take i ds))
 
 length_front : (p : Debt → Bool) (k : ℕ) (ds : List Debt) → length (filter p (take k ds)) ≤ length (filter p ds)
 length_front p k ds =
@@ -166,7 +168,7 @@ length_front p k ds =
     omega (arith, ap length whole, length-append (filter p (take k ds)) (filter p (drop k ds)))
 
 pub line_room : (place : ℕ) (ds : List Debt) (i : ℕ) (line : List Debt) → i < length ds → length ds ≤ 32
-    → line ≡ filter (late place) ds ++ filter (early place) (take i ds) → early place (get_or ds i nothing) ≡ true → length line < 32
+    → line ≡ filter (is_owed_from place) ds ++ filter (early place) (take i ds) → early place (get_or ds i nothing) ≡ true → length line < 32
 line_room place ds i line within few is stays =
     let d = get_or ds i nothing in
     let more : filter (early place) (take (i + 1) ds) ≡ filter (early place) (take i ds) ++ d ∷ [] =
@@ -174,7 +176,7 @@ line_room place ds i line within few is stays =
     omega (
       arith,
       ap length is,
-      length-append (filter (late place) ds) (filter (early place) (take i ds)),
+      length-append (filter (is_owed_from place) ds) (filter (early place) (take i ds)),
       ap length more,
       length-append (filter (early place) (take i ds)) (d ∷ []),
       length_front (early place) (i + 1) ds,

@@ -9,7 +9,7 @@ use Rattle.std.proofs.lemmas.List.Elements.{All-head, All-tail}
 use Rattle.std.proofs.lemmas.List.Sums.{sum_by-cons, sum_by-append}
 use Rattle.std.proofs.lemmas.List.Sorted.{sum_by-IsPermutation}
 use Rattle.std.proofs.lemmas.Option.{slice_get-get_or}
-use Rattle.bus_rules.specs.Tables.{Entry, Above, Ascends, entry_of}
+use Rattle.bus_rules.specs.Tables.{Entry, EntriesAreAbove, EntriesAscend, entry_of}
 use Rattle.bus_rules.specs.Granting.{count_of, grant, share_in, owners_by}
 use Rattle.bus_rules.proofs.Grants.{count_replicate}
 use Rattle.stream_table.proofs.Order.{entry_at, none_above, apart_from}
@@ -44,7 +44,7 @@ count_none share c (e ∷ es) none =
       count_none share c es apart.1,
     )
 
-pub count_owned : (share : Entry → ℕ) (c : ℕ) (es : List Entry) → Ascends es → count_of c (owners_by share es) ≡ option_map_or share (entry_of es c) 0
+pub count_owned : (share : Entry → ℕ) (c : ℕ) (es : List Entry) → EntriesAscend es → count_of c (owners_by share es) ≡ option_map_or share (entry_of es c) 0
 count_owned share c [] up = refl
 count_owned share c (e ∷ es) up = ⊎_elim here (λ apart. other apart (count_owned share c es up.1)) (cases_eq e.code c)
   where
@@ -78,7 +78,7 @@ rises_replicate : (low c n : ℕ) (xs : List ℕ) → low ≤ c → Rises c xs �
 rises_replicate low c zero xs le up = rises_from low c xs le up
 rises_replicate low c (suc n) xs le up = (le, rises_replicate c c n xs (omega arith) up)
 
-pub owners_rise : (share : Entry → ℕ) (low : ℕ) (es : List Entry) → Above low es → Ascends es → Rises low (owners_by share es)
+pub owners_rise : (share : Entry → ℕ) (low : ℕ) (es : List Entry) → EntriesAreAbove low es → EntriesAscend es → Rises low (owners_by share es)
 owners_rise share low [] above up = tt
 owners_rise share low (e ∷ es) above up = rises_replicate low e.code (share e) (owners_by share es) (omega (arith, above.0))
     (owners_rise share e.code es up.0 up.1)
@@ -152,13 +152,13 @@ counted es slots c all None is = sym (none_counted es c slots all is)
 counted es slots c all (Some e) is = ap (λ (d : ℕ). count_of d slots) (found_code es c e is)
 
 -- the slots in the order of their codes
-pub sorted_is : (es : List Entry) (slots sorted : List ℕ) → Ascends es → All (λ x. IsSome (entry_of es x)) slots
+pub sorted_is : (es : List Entry) (slots sorted : List ℕ) → EntriesAscend es → All (λ x. IsSome (entry_of es x)) slots
     → IsPermutation slots sorted → IsNonDecreasing sorted → sorted ≡ owners_by (share_in slots) es
 sorted_is es slots sorted up all moved ascends =
     same_counts 0 0 sorted (owners_by (share_in slots) es) (rises_of sorted ascends) (rise es up)
     (λ c. sum_by-IsPermutation (one c) slots sorted moved ∙ sym (count_owned (share_in slots) c es up ∙ counted es slots c all (entry_of es c) refl))
   where
-    rise : (es : List Entry) → Ascends es → Rises 0 (owners_by (share_in slots) es)
+    rise : (es : List Entry) → EntriesAscend es → Rises 0 (owners_by (share_in slots) es)
     rise [] up = tt
     rise (e ∷ es) up = rises_replicate 0 e.code (share_in slots e) (owners_by (share_in slots) es) (omega arith)
         (owners_rise (share_in slots) e.code es up.0 up.1)
@@ -171,7 +171,7 @@ same_shares slots sorted (e ∷ es) moved =
     cc (here, same_shares slots sorted es moved)
 
 -- where each is granted all that it is owed
-all_shares : (owes : Entry → ℕ) (es : List Entry) → Ascends es → All (λ e. share_in (owners_by owes es) e ≡ owes e) es
+all_shares : (owes : Entry → ℕ) (es : List Entry) → EntriesAscend es → All (λ e. share_in (owners_by owes es) e ≡ owes e) es
 all_shares owes es up k d within =
     let e = get_or es k d in
     let at : slice_get es k ≡ Some e = slice_get-get_or es k d within in
@@ -189,8 +189,8 @@ owners_same s t (e ∷ es) all =
     ap (λ (k : ℕ). replicate k e.code ++ owners_by s es) (All-head (λ x. s x ≡ t x) e es all)
     ∙ ap (λ (l : List ℕ). replicate (t e) e.code ++ l) (owners_same s t es (All-tail (λ x. s x ≡ t x) e es all))
 
-pub all_granted : (owes : Entry → ℕ) (es : List Entry) → Ascends es → map (grant (share_in (owners_by owes es))) es ≡ map (grant owes) es
+pub all_granted : (owes : Entry → ℕ) (es : List Entry) → EntriesAscend es → map (grant (share_in (owners_by owes es))) es ≡ map (grant owes) es
 all_granted owes es up = grants_same (share_in (owners_by owes es)) owes es (all_shares owes es up)
 
-pub all_owned : (owes : Entry → ℕ) (es : List Entry) → Ascends es → owners_by (share_in (owners_by owes es)) es ≡ owners_by owes es
+pub all_owned : (owes : Entry → ℕ) (es : List Entry) → EntriesAscend es → owners_by (share_in (owners_by owes es)) es ≡ owners_by owes es
 all_owned owes es up = owners_same (share_in (owners_by owes es)) owes es (all_shares owes es up)

@@ -11,8 +11,8 @@ debt_of owes e = record { code = e.code; owed = owes e }
 abbrev pub debts_of : (Entry → ℕ) → List Entry → List Debt
 debts_of owes es = map (debt_of owes) es
 
-abbrev pub code_of : Debt → ℕ
-code_of d = d.code
+abbrev pub code_of_debt : Debt → ℕ
+code_of_debt d = d.code
 
 abbrev pub owed_in : Debt → ℕ
 owed_in d = d.owed
@@ -28,12 +28,12 @@ abbrev pub all_owed : List Debt → List ℕ
 all_owed ds = flat_map codes_owed ds
 
 -- from the place on, and then those before it
-abbrev pub in_line : ℕ → List Debt → List Debt
-in_line place ds = filter (λ d. nat_le place d.code) ds ++ filter (λ d. nat_lt d.code place) ds
+abbrev pub debts_from_place : ℕ → List Debt → List Debt
+debts_from_place place ds = filter (λ d. nat_le place d.code) ds ++ filter (λ d. nat_lt d.code place) ds
 
 -- owed something, from the place on or before it
-abbrev pub late : ℕ → Debt → Bool
-late place d = nat_le place d.code && nat_lt 0 d.owed
+abbrev pub is_owed_from : ℕ → Debt → Bool
+is_owed_from place d = nat_le place d.code && nat_lt 0 d.owed
 
 abbrev pub early : ℕ → Debt → Bool
 early place d = nat_lt d.code place && nat_lt 0 d.owed
@@ -48,7 +48,7 @@ beyond k ds = filter (owed_beyond k) ds
 -- the slots of k turns
 unfoldable pub turns_of : List Debt → ℕ → List ℕ
 turns_of line zero = []
-turns_of line (suc k) = turns_of line k ++ map code_of (beyond k line)
+turns_of line (suc k) = turns_of line k ++ map code_of_debt (beyond k line)
 
 -- a code of the table that can be counted forty times more
 pub record IsGrantable (es : List Entry) (c : ℕ) : Type 0 where
@@ -57,8 +57,8 @@ pub record IsGrantable (es : List Entry) (c : ℕ) : Type 0 where
   pub few : IfSome (entry_of es c) (λ e. e.granted < 2 ^ 31)
 
 -- the slots that are given for a round, in some order
-abbrev pub slots_of : (Entry → ℕ) → Table → List ℕ
-slots_of owes t = if nat_le (sum_by owes t.entries) 40 then owners_by owes t.entries else given owes t
+abbrev pub slots_given : (Entry → ℕ) → Table → List ℕ
+slots_given owes t = if nat_le (sum_by owes t.entries) 40 then owners_by owes t.entries else given owes t
 
 abbrev pub place_after : (Entry → ℕ) → Table → ℕ
 place_after owes t = if nat_le (sum_by owes t.entries) 40 then t.place else last_code (given owes t) + 1

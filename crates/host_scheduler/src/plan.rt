@@ -4,7 +4,7 @@ ghost use Rattle.std.specs.Prelude.{◌≡◌, ◌+◌, ◌≤◌, All, length};
 ghost use Rattle.std.specs.List.Sorted.{IsPermutation, IsNonDecreasing};
 ghost use Rattle.bus_rules.specs.Granting.{gap_of, last_code, owed_to, plan_round as planned};
 ghost use Rattle.bus_rules.specs.Tables.{AreEntries};
-ghost use Rattle.host_scheduler.specs.Debts.{IsGrantable, granted_all, slots_of, place_after};
+ghost use Rattle.host_scheduler.specs.Debts.{IsGrantable, granted_all, slots_given, place_after};
 
 use crate::debts::{all, debts};
 use crate::turns::give;
@@ -46,7 +46,7 @@ fn slots(table: &mut Table, seconds: u8, frame: u32) -> ArrayVec<u16, 40>
     requires seconds { seconds ≤ 5 }
     requires accepted { All (λ e. e.accepted ≤ frame) table.old.entries }
     requires frame { frame ≤ 16777219 }
-    ensures codes { result.items ≡ slots_of (owed_to seconds frame) table.old }
+    ensures codes { result.items ≡ slots_given (owed_to seconds frame) table.old }
     ensures place { table.new ≡ record table.old { place = place_after (owed_to seconds frame) table.old } }
     ensures grantable { All (IsGrantable table.old.entries) result.items }
     ensures few { length result.items ≤ 40 }

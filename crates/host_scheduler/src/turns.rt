@@ -1,7 +1,7 @@
 //! The slots of a round where more are owed than it has.
 
 ghost use Rattle.std.specs.Prelude.{◌≡◌, ◌+◌, ◌<◌, ◌≤◌, [], ◌∷◌, ◌++◌, true, if◌then◌else◌, length, map, take};
-ghost use Rattle.host_scheduler.specs.Debts.{in_line, late, early, turns_of, beyond, code_of};
+ghost use Rattle.host_scheduler.specs.Debts.{debts_from_place, is_owed_from, early, turns_of, beyond, code_of_debt};
 
 use crate::debts::Debt;
 use arrayvec::ArrayVec;
@@ -10,7 +10,7 @@ use arrayvec::ArrayVec;
 // still owed something, beginning at the place and wrapping round.
 pub(crate) fn give(debts: &[Debt], place: u16) -> ArrayVec<u16, 40>
     requires { length debts.now ≤ 32 }
-    ensures { result.items ≡ take 40 (turns_of (in_line place debts.now) 40) }
+    ensures { result.items ≡ take 40 (turns_of (debts_from_place place debts.now) 40) }
 {
     let mut given = ArrayVec::new();
     let mut line = line_from(debts, place);
@@ -23,7 +23,7 @@ pub(crate) fn give(debts: &[Debt], place: u16) -> ArrayVec<u16, 40>
 // The owners that are owed something, in the order of a turn.
 fn line_from(debts: &[Debt], place: u16) -> ArrayVec<Debt, 32>
     requires { length debts.now ≤ 32 }
-    ensures { result.items ≡ beyond 0 (in_line place debts.now) }
+    ensures { result.items ≡ beyond 0 (debts_from_place place debts.now) }
 {
     let mut line = ArrayVec::new();
     for debt in debts {
@@ -37,7 +37,7 @@ fn line_from(debts: &[Debt], place: u16) -> ArrayVec<Debt, 32>
 
 // Owed something, and from the place on.
 fn is_late(debt: &Debt, place: u16) -> bool
-    ensures { result ≡ late place debt.now }
+    ensures { result ≡ is_owed_from place debt.now }
 {
     debt.code >= place && debt.owed > 0
 }
@@ -54,7 +54,7 @@ fn give_turn(given: &mut ArrayVec<u16, 40>, line: &[Debt], turn: u32) -> ArrayVe
     requires turn { turn < 40 }
     requires line { length line.now ≤ 32 }
     requires given { length given.old.items ≤ 40 }
-    ensures given { given.new.items ≡ take 40 (given.old.items ++ map code_of line.now) }
+    ensures given { given.new.items ≡ take 40 (given.old.items ++ map code_of_debt line.now) }
     ensures rest { result.items ≡ beyond (turn + 1) line.now }
 {
     let mut rest = ArrayVec::new();

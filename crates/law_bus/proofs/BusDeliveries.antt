@@ -12,7 +12,7 @@ use Rattle.scenario_text.specs.declared.lines.NodeLine.{NodeLine}
 use Rattle.lwb_base.proofs.Elements.{any_of, filter_from, from_flat, map_from, in_filter, in_flat, not_in_none}
 use Rattle.bus_terms.specs.Bus.{bus_deliveries, frames_of, ranks_of, state_at}
 use Rattle.bus_terms.specs.FloodOfText.{ids}
-use Rattle.bus_terms.specs.Rounds.{delivered_at, round_deliveries, round_plan, slot_deliveries, slots_of}
+use Rattle.bus_terms.specs.Rounds.{delivery_in_slot, round_deliveries, round_plan, slot_deliveries, slots_of}
 use Rattle.bus_terms.proofs.OrderedDeliveries.{mapped}
 use Rattle.law_terms.specs.SlotLaws.{IsRound}
 use Rattle.law_bus.proofs.NumbersOfRanges.{in_range, from_range}
@@ -27,17 +27,17 @@ pub record IsMadeOnBus (s : ScenarioParts) (a : Delivery) : Type 0 where
   pub within : slot ≤ last_slot plan
   pub line : NodeLine
   pub named : Contains s.nodes line
-  pub delivered : delivered_at s rank frame plan (state_at s frame) slot line.node ≡ Some a
+  pub delivered : delivery_in_slot s rank frame plan (state_at s frame) slot line.node ≡ Some a
 
 module _ (s : ScenarioParts) where
   abbrev of_round : ℕ → ℕ → List Delivery
   of_round f rank = round_deliveries s rank f (state_at s f)
 
   pub in_bus : (f rank j v : ℕ) (p : Plan) → IsRound s f rank p → j ≤ last_slot p → Contains (ids s.nodes) v → (a : Delivery)
-      → delivered_at s rank f p (state_at s f) j v ≡ Some a → Contains (bus_deliveries s) a
+      → delivery_in_slot s rank f p (state_at s f) j v ≡ Some a → Contains (bus_deliveries s) a
   in_bus f rank j v p round within named a is =
       let in_slot : Contains (slot_deliveries s rank f p (state_at s f) j) a =
-      in_filter (delivered_at s rank f p (state_at s f) j) (ids s.nodes) v a named is in
+      in_filter (delivery_in_slot s rank f p (state_at s f) j) (ids s.nodes) v a named is in
       let in_plan : Contains (flat_map (slot_deliveries s rank f p (state_at s f)) (slots_of p)) a =
       in_flat (slot_deliveries s rank f p (state_at s f)) (slots_of p) j a (in_range 0 (last_slot p + 1) j (omega arith) (omega (arith, within))) in_slot in
       let in_round : Contains (of_round f rank) a =
@@ -53,7 +53,7 @@ module _ (s : ScenarioParts) where
   from_plan f rank in_run hosted a None is within = absurd (not_in_none a within)
   from_plan f rank in_run hosted a (Some p) is within =
       let slot = from_flat (slot_deliveries s rank f p (state_at s f)) (slots_of p) a within in
-      let node = filter_from (delivered_at s rank f p (state_at s f) slot.0) (ids s.nodes) a slot.2 in
+      let node = filter_from (delivery_in_slot s rank f p (state_at s f) slot.0) (ids s.nodes) a slot.2 in
       let below = (from_range 0 (last_slot p + 1) slot.0 slot.1).1 in
       let line = map_from (λ (m : NodeLine). m.node) s.nodes node.0 node.1 in
       record {
@@ -65,7 +65,7 @@ module _ (s : ScenarioParts) where
         within = omega (arith, below);
         line = line.0;
         named = line.1;
-        delivered = ap (delivered_at s rank f p (state_at s f) slot.0) line.2 ∙ node.2;
+        delivered = ap (delivery_in_slot s rank f p (state_at s f) slot.0) line.2 ∙ node.2;
       }
 
   pub from_bus : (a : Delivery) → Contains (bus_deliveries s) a → IsMadeOnBus s a
@@ -93,7 +93,7 @@ module _ (s : ScenarioParts) where
     made_at = ap (λ (d : Delivery). d.node) parts.1
 
     pub made_so : (f rank j : ℕ) (p : Plan) → IsRound s f rank p → a.frame ≡ f → a.rank ≡ rank → a.slot ≡ j
-        → delivered_at s rank f p (state_at s f) j a.node ≡ Some a
+        → delivery_in_slot s rank f p (state_at s f) j a.node ≡ Some a
     made_so f rank j p round frame channel slot =
         let g : made.frame ≡ f = ap (λ (d : Delivery). d.frame) parts.1 ∙ frame in
         let r : made.rank ≡ rank = ap (λ (d : Delivery). d.rank) parts.1 ∙ channel in
@@ -102,9 +102,9 @@ module _ (s : ScenarioParts) where
         sym made.round.plan ∙ ap (λ (k : ℕ). round_plan s k made.frame (state_at s made.frame)) r
         ∙ ap (λ (k : ℕ). round_plan s rank k (state_at s k)) g ∙ round.plan) in
         sym (
-        ap (λ (k : ℕ). delivered_at s k made.frame made.plan (state_at s made.frame) made.slot made.line.node) r
-        ∙ ap (λ (k : ℕ). delivered_at s rank k made.plan (state_at s k) made.slot made.line.node) g
-        ∙ ap (λ (k : Plan). delivered_at s rank f k (state_at s f) made.slot made.line.node) q
-        ∙ ap (λ (k : ℕ). delivered_at s rank f p (state_at s f) k made.line.node) i
-        ∙ ap (delivered_at s rank f p (state_at s f) j) made_at)
+        ap (λ (k : ℕ). delivery_in_slot s k made.frame made.plan (state_at s made.frame) made.slot made.line.node) r
+        ∙ ap (λ (k : ℕ). delivery_in_slot s rank k made.plan (state_at s k) made.slot made.line.node) g
+        ∙ ap (λ (k : Plan). delivery_in_slot s rank f k (state_at s f) made.slot made.line.node) q
+        ∙ ap (λ (k : ℕ). delivery_in_slot s rank f p (state_at s f) k made.line.node) i
+        ∙ ap (delivery_in_slot s rank f p (state_at s f) j) made_at)
         ∙ made.delivered

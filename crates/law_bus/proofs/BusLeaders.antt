@@ -11,7 +11,7 @@ use Rattle.bus_rules.specs.Cores.{Core}
 use Rattle.bus_rules.specs.States.{State, StateOff, StateOn}
 use Rattle.bus_terms.specs.FloodOfText.{ids}
 use Rattle.bus_terms.specs.Flooding.{has}
-use Rattle.bus_terms.specs.ScriptedStates.{is_on}
+use Rattle.bus_terms.specs.ScriptedStates.{is_on_and}
 use Rattle.bus_terms.specs.Rounds.{plan_in, first_node, round_plan}
 use Rattle.law_bus.proofs.MembersByTune.{leads_by}
 use Rattle.lwb_flood.proofs.LogEntries.{ids_known}
@@ -79,10 +79,10 @@ module _ (s : ScenarioParts) (rank f : ℕ) (states : ℕ → State) where
     pub plan : core.plan ≡ p
 
   abbrev hosting : State → Bool
-  hosting x = is_on (λ c. hosts_in rank f c.tune) x
+  hosting x = is_on_and (λ c. hosts_in rank f c.tune) x
 
   abbrev holding : State → Bool
-  holding x = is_on (λ c. holds_in rank f c.tune) x
+  holding x = is_on_and (λ c. holds_in rank f c.tune) x
 
   abbrev all : List ℕ
   all = ids s.nodes
@@ -94,15 +94,15 @@ module _ (s : ScenarioParts) (rank f : ℕ) (states : ℕ → State) where
   no_plan_so p is = cc
 
   led_by : (test : Core → Bool) → ((c : Core) → test c ≡ true → leads_by rank f c.tune ≡ true) → (u : ℕ) (p : Plan) → has all u ≡ true
-      → (x : State) → states u ≡ x → is_on test x ≡ true → plan_in x ≡ Some p → IsLeader p
+      → (x : State) → states u ≡ x → is_on_and test x ≡ true → plan_in x ≡ Some p → IsLeader p
   led_by test leads u p there (StateOff boots) at passes is = absurd (false≢true passes)
   led_by test leads u p there (StateOn c) at passes is =
       record { node = u; known = sym (ids_known s.nodes u) ∙ there; core = c; on = at; leads = leads c passes; plan = same_plan c.plan p is }
 
   led : (test : Core → Bool) → ((c : Core) → test c ≡ true → leads_by rank f c.tune ≡ true) → (u : ℕ) (p : Plan)
-      → first_node s (is_on test) states ≡ Some u → plan_in (states u) ≡ Some p → IsLeader p
+      → first_node s (is_on_and test) states ≡ Some u → plan_in (states u) ≡ Some p → IsLeader p
   led test leads u p first is =
-      let so = found_so (λ (v : ℕ). is_on test (states v)) all u first in
+      let so = found_so (λ (v : ℕ). is_on_and test (states v)) all u first in
       led_by test leads u p so.1 (states u) refl so.0 is
 
   by_leader : (a b : Option ℕ) → first_node s hosting states ≡ a → first_node s holding states ≡ b → (p : Plan)
@@ -119,12 +119,12 @@ module _ (s : ScenarioParts) (rank f : ℕ) (states : ℕ → State) where
   abbrev HasPlan : Option ℕ → Type 0
   HasPlan o = (p : Plan) × (option_and_then (λ v. plan_in (states v)) o ≡ Some p)
 
-  plan_so : (test : Core → Bool) (u : ℕ) (x : State) → states u ≡ x → is_on test x ≡ true → HasPlan (Some u)
+  plan_so : (test : Core → Bool) (u : ℕ) (x : State) → states u ≡ x → is_on_and test x ≡ true → HasPlan (Some u)
   plan_so test u (StateOff boots) at passes = absurd (false≢true passes)
   plan_so test u (StateOn c) at passes = (c.plan, ap plan_in at)
 
-  passes_on : (test : Core → Bool) (v : ℕ) (c : Core) → states v ≡ StateOn c → test c ≡ true → is_on test (states v) ≡ true
-  passes_on test v c on is = ap (λ (x : State). is_on test x) on ∙ is
+  passes_on : (test : Core → Bool) (v : ℕ) (c : Core) → states v ≡ StateOn c → test c ≡ true → is_on_and test (states v) ≡ true
+  passes_on test v c on is = ap (λ (x : State). is_on_and test x) on ∙ is
 
   host_first : (a b : Option ℕ) → (u : ℕ) → a ≡ Some u → hosting (states u) ≡ true → HasPlan (option_or a b)
   host_first a b u is passes = subst (λ (o : Option ℕ). HasPlan (option_or o b)) (sym is) (plan_so (λ c. hosts_in rank f c.tune) u (states u) refl passes)

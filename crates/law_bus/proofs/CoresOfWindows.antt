@@ -6,12 +6,12 @@ use Rattle.std.proofs.lemmas.Bool.{cond-true}
 use Rattle.lwb_base.specs.Messages.{Plan}
 use Rattle.bus_rules.specs.Plans.{last_slot}
 use Rattle.bus_rules.specs.Cores.{Core, is_member}
-use Rattle.bus_rules.specs.Slots.{Opened, part_of, opened}
+use Rattle.bus_rules.specs.Slots.{Opened, part_of, opened_slot}
 use Rattle.bus_rules.specs.States.{State, StateOff, StateOn}
 use Rattle.scenario_text.specs.ScenarioParts.{ScenarioParts}
 use Rattle.scenario_text.specs.FloodParts.{knows}
 use Rattle.air_log.specs.declared.entry.Entry.{Entry}
-use Rattle.air_log.specs.Devices.{seen}
+use Rattle.air_log.specs.Devices.{state_of_power}
 use Rattle.air_log.specs.Lawful.{trail_in}
 use Rattle.air_log.specs.Trails.{run_end}
 use Rattle.air_log.specs.WindowLogs.{WindowLog, Closing}
@@ -51,7 +51,7 @@ module _ (heards : SlotHeardLaw) where
   opens_at : (s : ScenarioParts) (f rank j v : ℕ) (p : Plan) (x : State) → is_some (opened_at s rank f (part_of p j) v x) ≡ true
       → (c : Core) × (x ≡ StateOn c) × (is_member rank f c ≡ true)
   opens_at s f rank j v p (StateOff boots) is = absurd (true≢false (sym is))
-  opens_at s f rank j v p (StateOn c) is = (c, refl, by_test (is_member rank f c) (Some (opened (setup_in s v) f (part_of p j) c)) is)
+  opens_at s f rank j v p (StateOn c) is = (c, refl, by_test (is_member rank f c) (Some (opened_slot (setup_in s v) f (part_of p j) c)) is)
     where
       by_test : (b : Bool) (o : Option Opened) → is_some (if b then o else None) ≡ true → b ≡ true
       by_test true o is = refl
@@ -65,7 +65,7 @@ module _ (heards : SlotHeardLaw) where
             let w = has.window in
             ap (λ (x : State). is_some (opened_at s rank f (part_of p j) v x)) (start.core v w has.here has.by_alarm)
             ∙ ap (λ (o : Option Opened). is_some o)
-            (cond-true (is_member rank f w.before.core) (Some (opened (setup_in s v) f (part_of p j) w.before.core)) None
+            (cond-true (is_member rank f w.before.core) (Some (opened_slot (setup_in s v) f (part_of p j) w.before.core)) None
             (start.member v w has.here has.by_alarm))),
       )
 
@@ -101,7 +101,7 @@ module _ (heards : SlotHeardLaw) where
     round_there : (p : Plan) × (round_plan s w.rank f (state_at s f) ≡ Some p)
     round_there =
         let led = led_round s clocks air lawful f frame_in_run w.rank w.slot v w here in
-        has_round s w.rank f (state_at s f) led.host led.node.core led.known (sym (found led.host led.known) ∙ ap seen led.on) led.leads
+        has_round s w.rank f (state_at s f) led.host led.node.core led.known (sym (found led.host led.known) ∙ ap state_of_power led.on) led.leads
 
     round_of : IsRound s f w.rank round_there.0
     round_of = record { in_run = frame_in_run; hosted = timed.hosted; plan = round_there.1 }

@@ -8,10 +8,10 @@ use Rattle.bus_rules.specs.Slots.{Message, ScheduleOf, DataOf, RequestOf, part_o
 use Rattle.lwb_member.specs.Said.{message_of}
 use Rattle.scenario_text.specs.ScenarioParts.{ScenarioParts}
 use Rattle.radio_model.specs.declared.sending.Sending.{Sending}
-use Rattle.radio_model.specs.Hearing.{frame_of, slot_of}
+use Rattle.radio_model.specs.Hearing.{frame_of_sending, slot_of_sending}
 use Rattle.air_log.specs.declared.entry.Entry.{Entry}
-use Rattle.air_log.specs.Entries.{sendings_of, IsHeard}
-use Rattle.air_log.specs.Safe.{by_host}
+use Rattle.air_log.specs.Entries.{sendings_of, HasHeardEntry}
+use Rattle.air_log.specs.Safe.{sender_hosts}
 use Rattle.air_log.specs.Lawful.{trail_in}
 use Rattle.air_log.specs.Trails.{run_end}
 use Rattle.air_log.specs.WindowLogs.{WindowLog, Closing}
@@ -37,7 +37,7 @@ use Rattle.law_bus.proofs.SlotSendings.{IsOf}
 module _ (s : ScenarioParts) (clocks : ℕ → ℕ → ℕ) (air : List Entry) (lawful : IsLawfulRun s clocks air)
     (f rank j : ℕ) (p : Plan) (round : IsRound s f rank p) (start : IsSlotStart s clocks air f rank p j)
     (v : ℕ) (here : has (bus_slot s f rank p j).flood.everyone v ≡ true) (no_alarm : HasWindow s clocks air f rank j v → ⊥)
-    (x : Sending) (there : IsHeard air v x) (is : IsOf s.profile f rank j x) where
+    (x : Sending) (there : HasHeardEntry air v x) (is : IsOf s.profile f rank j x) where
   -- it is a slot in which a schedule is said
   schedule_slot : is_schedule_part (part_of p j) ≡ true
   schedule_slot = by (takes_so s clocks air lawful f rank j p round.in_run start v here)
@@ -56,14 +56,14 @@ module _ (s : ScenarioParts) (clocks : ℕ → ℕ → ℕ) (air : List Entry) (
   abbrev o : Sending
   o = flood.origin
 
-  same_plan : (q : Plan) → IsPlanned s air o.rank (frame_of s.profile o) q → q ≡ p
+  same_plan : (q : Plan) → IsPlanned s air o.rank (frame_of_sending s.profile o) q → q ≡ p
   same_plan q planned =
       one_planned s clocks air (whole s clocks air lawful) rank f q p
       (subst (λ (r : ℕ). IsPlanned s air r f q) (sym flood.slot.channel ∙ is.0)
       (subst (λ (g : ℕ). IsPlanned s air o.rank g q) (sym flood.slot.frame ∙ is.1) planned))
       (round_planned s clocks air lawful f round.in_run rank start.found p round)
 
-  no_data : (q : Plan) → IsPlanned s air o.rank (frame_of s.profile o) q → (part : Part) → part_of q (slot_of o) ≡ part
+  no_data : (q : Plan) → IsPlanned s air o.rank (frame_of_sending s.profile o) q → (part : Part) → part_of q (slot_of_sending o) ≡ part
       → is_schedule_part part ≡ true
   no_data q planned part is_part =
       ap is_schedule_part (sym is_part)
@@ -76,7 +76,7 @@ module _ (s : ScenarioParts) (clocks : ℕ → ℕ → ℕ) (air : List Entry) (
     of_rank : schedule.plan.rank ≡ x.rank
 
   by_message : (m : Option Message) → message_of o.packet ≡ m
-      → MaySay s clocks air o.node o.rank (frame_of s.profile o) flood.zero (slot_of o) (by_host s clocks air o) m → SaysOwn
+      → MaySay s clocks air o.node o.rank (frame_of_sending s.profile o) flood.zero (slot_of_sending o) (sender_hosts s clocks air o) m → SaysOwn
   by_message None read may = absurd may
   by_message (Some (ScheduleOf y)) read may = record {
     schedule = y;

@@ -8,7 +8,7 @@ use Rattle.lwb_base.specs.Messages.{Plan}
 use Rattle.bus_rules.specs.declared.delivery.Delivery.{Delivery}
 use Rattle.bus_rules.specs.Cores.{Setup}
 use Rattle.bus_rules.specs.Plans.{last_slot}
-use Rattle.bus_rules.specs.Slots.{Data, closed, delivery_of}
+use Rattle.bus_rules.specs.Slots.{Data, closed_slot, delivery_of}
 use Rattle.node_core.specs.Rows.{accepted_in}
 use Rattle.scenario_text.specs.ScenarioParts.{ScenarioParts}
 use Rattle.scenario_text.specs.ScenarioFacts.{IsSoundScenario}
@@ -20,12 +20,12 @@ use Rattle.air_log.specs.Trails.{run_end, setup_of}
 use Rattle.air_log.specs.WindowLogs.{WindowLog, Closing}
 use Rattle.lwb_base.proofs.Elements.{contains_cases, contains_head, contains_tail, not_in_none}
 use Rattle.lwb_base.proofs.Lists.{each_more}
-use Rattle.law_windows.specs.OpenWindows.{AreApart, HasClosedBy}
-use Rattle.law_windows.specs.WindowDeliveries.{at_closing, delivered_by, delivered_in}
+use Rattle.law_windows.specs.OpenWindows.{CloseBeforeNext, HasClosedBy}
+use Rattle.law_windows.specs.WindowDeliveries.{delivery_at_closing, delivered_by, delivered_in}
 use Rattle.law_windows.specs.WindowTimes.{ClosesInTime, IsInTime}
 use Rattle.law_windows.proofs.WindowFacts.{close_in_time, one_a_slot, open_in_time, windows_apart}
 use Rattle.bus_terms.specs.FloodOfText.{ids}
-use Rattle.bus_terms.specs.Rounds.{delivered_at, round_deliveries, round_plan, slot_deliveries, slots_of}
+use Rattle.bus_terms.specs.Rounds.{delivery_in_slot, round_deliveries, round_plan, slot_deliveries, slots_of}
 use Rattle.bus_terms.specs.Bus.{bus_deliveries, frames_of, ranks_of, state_at}
 use Rattle.bus_terms.proofs.ListsInTurn.{each_given, each_of_pieces, given_in_turn, pairs_in_turn, pieces_in_turn, range_in_turn}
 use Rattle.bus_terms.proofs.ListsInTurn.{turn_append}
@@ -68,11 +68,11 @@ module _ (s : ScenarioParts) (sound : IsSoundScenario s) where
 
   in_slot : (f rank : ℕ) (p : Plan) (j : ℕ) → Climbs Before (of_slot f rank p j)
   in_slot f rank p j =
-      given_in_turn (λ u v. u < v) Before (delivered_at s rank f p (state_at s f) j) by_nodes (ids s.nodes)
+      given_in_turn (λ u v. u < v) Before (delivery_in_slot s rank f p (state_at s f) j) by_nodes (ids s.nodes)
       (pairs_in_turn (λ u v. u < v) (ids s.nodes) (ids_rise s.nodes sound.ascending))
     where
-      by_nodes : (u v : ℕ) → u < v → (a b : Delivery) → delivered_at s rank f p (state_at s f) j u ≡ Some a
-          → delivered_at s rank f p (state_at s f) j v ≡ Some b → Before a b
+      by_nodes : (u v : ℕ) → u < v → (a b : Delivery) → delivery_in_slot s rank f p (state_at s f) j u ≡ Some a
+          → delivery_in_slot s rank f p (state_at s f) j v ≡ Some b → Before a b
       by_nodes u v less a b first second =
           let one = placed_so f rank j u _ a first in
           let two = placed_so f rank j v _ b second in
@@ -82,7 +82,7 @@ module _ (s : ScenarioParts) (sound : IsSoundScenario s) where
 
   each_in_slot : (f rank : ℕ) (p : Plan) (j : ℕ) → AllByRecursion (AtSlot f rank j) (of_slot f rank p j)
   each_in_slot f rank p j =
-      each_given (AtSlot f rank j) (delivered_at s rank f p (state_at s f) j)
+      each_given (AtSlot f rank j) (delivery_in_slot s rank f p (state_at s f) j)
       (λ v a is. let at = placed_so f rank j v _ a is in (at.frame, at.rank_is, at.slot)) (ids s.nodes)
 
   in_round : (f rank : ℕ) (p : Option Plan) → Climbs Before (option_map_or (λ p. flat_map (slot_deliveries s rank f p (state_at s f)) (slots_of p)) p [])
@@ -131,14 +131,14 @@ pub record OfWindow (S : Setup) (ws : List WindowLog) (a : Delivery) : Type 0 wh
   pub there : Contains ws window
   pub closing : Closing
   pub closed : window.closed ≡ Some closing
-  pub is : at_closing S window ≡ Some a
+  pub is : delivery_at_closing S window ≡ Some a
 
 pub in_option : (S : Setup) (w : WindowLog) (o : Option Closing) (a : Delivery) → w.closed ≡ o → Contains (option_to_list (delivered_by S w o)) a
-    → (c : Closing) × (w.closed ≡ Some c) × (at_closing S w ≡ Some a)
+    → (c : Closing) × (w.closed ≡ Some c) × (delivery_at_closing S w ≡ Some a)
 in_option S w None a is there = absurd (not_in_none a there)
-in_option S w (Some c) a is there = (c, is, by_value (at_closing S w) refl there)
+in_option S w (Some c) a is there = (c, is, by_value (delivery_at_closing S w) refl there)
   where
-    by_value : (d : Option Delivery) → at_closing S w ≡ d → Contains (option_to_list d) a → at_closing S w ≡ Some a
+    by_value : (d : Option Delivery) → delivery_at_closing S w ≡ d → Contains (option_to_list d) a → delivery_at_closing S w ≡ Some a
     by_value None at there = absurd (not_in_none a there)
     by_value (Some d) at there = at ∙ elim (contains_cases d [] a there) [
       | inl same ↦ ap
@@ -162,9 +162,9 @@ from_windows S (w ∷ ws) a there =
 abbrev pub OtherSlot : WindowLog → WindowLog → Type 0
 OtherSlot x y = x.frame ≡ y.frame → x.rank ≡ y.rank → x.slot ≡ y.slot → ⊥
 
-window_place : (S : Setup) (w : WindowLog) (a : Delivery) → at_closing S w ≡ Some a → IsOf w.frame w.rank w.slot S.id a
+window_place : (S : Setup) (w : WindowLog) (a : Delivery) → delivery_at_closing S w ≡ Some a → IsOf w.frame w.rank w.slot S.id a
 window_place S w a is =
-    placed_so w.frame w.rank w.slot S.id (closed S w.frame w.last.part w.last.flood.initiated w.after.core (accepted_in w.last)).delivered a is
+    placed_so w.frame w.rank w.slot S.id (closed_slot S w.frame w.last.part w.last.flood.initiated w.after.core (accepted_in w.last)).delivered a is
 
 windows_deliver_apart : (S : Setup) (ws : List WindowLog) → Climbs OtherSlot ws → Climbs Apart (delivered_in S ws)
 windows_deliver_apart S [] other = tt
@@ -203,7 +203,7 @@ module _ (s : ScenarioParts) (clocks : ℕ → ℕ → ℕ) (air : List Entry) (
         let before = by.by in
         omega (arith, closes, early, before)
 
-    others : (ws : List WindowLog) → ((x : WindowLog) → Contains ws x → Contains logs x) → AreApart ws → Climbs OtherSlot ws
+    others : (ws : List WindowLog) → ((x : WindowLog) → Contains ws x → Contains logs x) → CloseBeforeNext ws → Climbs OtherSlot ws
     others [] all apart = tt
     others (x ∷ xs) all apart = (
       all_so (OtherSlot x) xs (λ y there frame rank slot.

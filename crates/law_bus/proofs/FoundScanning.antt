@@ -14,7 +14,7 @@ use Rattle.node_core.specs.Rows.{stage_for}
 use Rattle.scenario_text.specs.ScenarioParts.{ScenarioParts}
 use Rattle.scenario_text.specs.FloodParts.{knows}
 use Rattle.air_log.specs.declared.entry.Entry.{Entry}
-use Rattle.air_log.specs.Devices.{Power, PowerOff, PowerOn, seen}
+use Rattle.air_log.specs.Devices.{Power, PowerOff, PowerOn, state_of_power}
 use Rattle.law_safety.specs.SetAlarms.{rank_at}
 use Rattle.bus_terms.specs.FloodOfText.{ids}
 use Rattle.bus_terms.specs.Flooding.{has}
@@ -48,10 +48,10 @@ module _ (s : ScenarioParts) (clocks : ℕ → ℕ → ℕ) (air : List Entry) (
   abbrev takes : State → Bool
   takes x = takes_part rank (part_of p j) x (opened_at s rank f (part_of p j) v x)
 
-  same : bus_before s f rank p j v ≡ seen (power_at s clocks air v f)
+  same : bus_before s f rank p j v ≡ state_of_power (power_at s clocks air v f)
   same = start.others v known no_alarm ∙ sym (start.found v known)
 
-  test : takes (seen (power_at s clocks air v f)) ≡ true
+  test : takes (state_of_power (power_at s clocks air v f)) ≡ true
   test =
       ap takes (sym same)
       ∙ of_filtered (λ u. takes_part rank (part_of p j) (bus_before s f rank p j u) (opened_at s rank f (part_of p j) u (bus_before s f rank p j u)))
@@ -62,7 +62,7 @@ module _ (s : ScenarioParts) (clocks : ℕ → ℕ → ℕ) (air : List Entry) (
     none other = rw other refl
 
     by_test : (b : Bool) → is_member rank f n.core ≡ b → takes (StateOn n.core) ≡ true → IsFound
-    by_test true member is = absurd (no_alarm (start.window v n.core known (same ∙ ap seen on) member))
+    by_test true member is = absurd (no_alarm (start.window v n.core known (same ∙ ap state_of_power on) member))
     by_test false other is =
         let as_scanner : (is_schedule_part (part_of p j) && scans rank n.core.tune) ≡ true =
         ap (takes_part rank (part_of p j) (StateOn n.core)) (sym (none other)) ∙ is in
@@ -74,7 +74,7 @@ module _ (s : ScenarioParts) (clocks : ℕ → ℕ → ℕ) (air : List Entry) (
           of_rank = scans_rank rank n.core.tune scanner;
         }
 
-  by_power : (q : Power) → power_at s clocks air v f ≡ q → takes (seen q) ≡ true → IsFound
+  by_power : (q : Power) → power_at s clocks air v f ≡ q → takes (state_of_power q) ≡ true → IsFound
   by_power (PowerOff boots) on is = absurd (true≢false (sym (and_parts (is_schedule_part (part_of p j)) false is).1))
   by_power (PowerOn n) on is = by_test n on (is_member rank f n.core) refl is
 

@@ -11,14 +11,14 @@ use Rattle.node_core.specs.declared.stage.Stage.TheVariants.{AwaitFrame, AwaitSl
 use Rattle.scenario_text.specs.ScenarioParts.{ScenarioParts}
 use Rattle.scenario_text.specs.FloodParts.{knows}
 use Rattle.air_log.specs.declared.entry.Entry.{Entry}
-use Rattle.air_log.specs.Devices.{Power, PowerOff, PowerOn, seen}
+use Rattle.air_log.specs.Devices.{Power, PowerOff, PowerOn, state_of_power}
 use Rattle.air_log.specs.Lawful.{heard_by}
 use Rattle.air_log.specs.Trails.{before_tick, frame_start}
 use Rattle.air_log.specs.WindowLogs.{WindowLog}
 use Rattle.law_safety.specs.SentPlans.{IsPlanned}
 use Rattle.law_safety.proofs.RunFacts.{frame_lasts}
 use Rattle.bus_terms.specs.ScriptedStates.{setup_in}
-use Rattle.bus_terms.specs.Rounds.{round, rounds, rank_in, after_round, round_plan}
+use Rattle.bus_terms.specs.Rounds.{round_of_rank, rounds, rank_in, after_round, round_plan}
 use Rattle.bus_terms.specs.Bus.{state_at, before_frame}
 use Rattle.bus_terms.proofs.OtherRanks.{IsElsewhere, slots_elsewhere}
 use Rattle.law_windows.proofs.Courses.{through_frames}
@@ -77,11 +77,11 @@ module _ (heards : SlotHeardLaw) (s : ScenarioParts) (clocks : ℕ → ℕ → �
       states = state_at s f
 
       abbrev After : Type 0
-      After = seen (power_after s clocks air v f) ≡ at_core (frame_ended (setup_in s v) f) (rounds s f states v)
+      After = state_of_power (power_after s clocks air v f) ≡ at_core (frame_ended (setup_in s v) f) (rounds s f states v)
 
       off_then : (boots : ℕ) → power_at s clocks air v f ≡ PowerOff boots → StaysOff s clocks air v f boots → After
       off_then boots off stays =
-          let at : states v ≡ StateOff boots = sym (found v known) ∙ ap seen off in
+          let at : states v ≡ StateOff boots = sym (found v known) ∙ ap state_of_power off in
           stays.off
           ∙ ap (at_core (frame_ended (setup_in s v) f)) (sym
           (round_off s (rank_in (states v)) f v states boots at (round_plan s (rank_in (states v)) f states) ∙ at))
@@ -91,11 +91,11 @@ module _ (heards : SlotHeardLaw) (s : ScenarioParts) (clocks : ℕ → ℕ → �
         rank = rank_of n.core.tune
 
         at : states v ≡ StateOn n.core
-        at = sym (found v known) ∙ ap seen on
+        at = sym (found v known) ∙ ap state_of_power on
 
-        of_rank : (c : Core) → round s rank f states v ≡ StateOn c → at_core (frame_ended (setup_in s v) f)
+        of_rank : (c : Core) → round_of_rank s rank f states v ≡ StateOn c → at_core (frame_ended (setup_in s v) f)
             (rounds s f states v) ≡ StateOn (frame_ended (setup_in s v) f c)
-        of_rank c is = ap (λ (x : State). at_core (frame_ended (setup_in s v) f) (round s (rank_in x) f states v)) at
+        of_rank c is = ap (λ (x : State). at_core (frame_ended (setup_in s v) f) (round_of_rank s (rank_in x) f states v)) at
             ∙ ap (at_core (frame_ended (setup_in s v) f)) is
 
         as_of : (w : WindowLog) → IsWindowIn s clocks air v f w → IsWindowOf s clocks air f rank w.slot v w
@@ -106,7 +106,7 @@ module _ (heards : SlotHeardLaw) (s : ScenarioParts) (clocks : ℕ → ℕ → �
         no_round none =
             course.rests (λ w here.
             let led = led_round s clocks air lawful f in_run rank w.slot v w (as_of w here) in
-            let has = has_round s rank f states led.host led.node.core led.known (sym (found led.host led.known) ∙ ap seen led.on) led.leads in
+            let has = has_round s rank f states led.host led.node.core led.known (sym (found led.host led.known) ∙ ap state_of_power led.on) led.leads in
             never has.0 (sym none ∙ has.1))
             ∙ sym (of_rank n.core (ap (λ (o : Option Plan). after_round s rank f states o v) none ∙ at))
           where
@@ -163,12 +163,13 @@ module _ (heards : SlotHeardLaw) (s : ScenarioParts) (clocks : ℕ → ℕ → �
       by_power (PowerOn n) is goes = on_then n is goes
 
       -- the next frame
-      pub next_frame : seen (power_after s clocks air v f) ≡ before_frame s (suc f) v
+      pub next_frame : state_of_power (power_after s clocks air v f) ≡ before_frame s (suc f) v
       unfolding before_frame
       next_frame = by_power (power_at s clocks air v f) refl (through_frames s clocks air lawful v f known in_run)
 
   -- after the script lines
-  told : (f : ℕ) → ((v : ℕ) → knows s.nodes v ≡ true → seen (before_tick s v (clocks v) (heard_by air v) (frame_start s f)).power ≡ before_frame s f v)
+  told : (f : ℕ)
+      → ((v : ℕ) → knows s.nodes v ≡ true → state_of_power (before_tick s v (clocks v) (heard_by air v) (frame_start s f)).power ≡ before_frame s f v)
       → IsFrameStart s clocks air f
   told f before v known =
       let lasts = frame_lasts s lawful.sound in
@@ -176,11 +177,11 @@ module _ (heards : SlotHeardLaw) (s : ScenarioParts) (clocks : ℕ → ℕ → �
 
   -- before them
   pub frame_before : (f : ℕ) → f ≤ s.frames → (v : ℕ) → knows s.nodes v ≡ true
-      → seen (before_tick s v (clocks v) (heard_by air v) (frame_start s f)).power ≡ before_frame s f v
+      → state_of_power (before_tick s v (clocks v) (heard_by air v) (frame_start s f)).power ≡ before_frame s f v
   unfolding before_frame before_tick
   frame_before zero within v known =
       let none : frame_start s 0 ≡ 0 = omega arith in
-      ap (λ (t : ℕ). seen (before_tick s v (clocks v) (heard_by air v) t).power) none
+      ap (λ (t : ℕ). state_of_power (before_tick s v (clocks v) (heard_by air v) t).power) none
   frame_before (suc f) within v known =
       next_frame f (told f (frame_before f (omega (arith, within)))) within v known
 

@@ -11,23 +11,23 @@ use Rattle.node_core.specs.Nodes.{Node}
 use Rattle.scenario_text.specs.ScenarioParts.{ScenarioParts}
 use Rattle.scenario_text.specs.FloodParts.{knows}
 use Rattle.radio_model.specs.declared.sending.Sending.{Sending}
-use Rattle.radio_model.specs.Hearing.{frame_of}
+use Rattle.radio_model.specs.Hearing.{frame_of_sending}
 use Rattle.air_log.specs.declared.entry.Entry.{Entry}
 use Rattle.air_log.specs.Devices.{Device, Power, PowerOff, PowerOn, Listening}
-use Rattle.air_log.specs.Entries.{IsHeard}
+use Rattle.air_log.specs.Entries.{HasHeardEntry}
 use Rattle.air_log.specs.Lawful.{heard_by, trail_in}
-use Rattle.air_log.specs.Trails.{Reception, ending_at, hears, run_end, setup_of}
+use Rattle.air_log.specs.Trails.{Reception, ending_at, device_after_reception, run_end, setup_of}
 use Rattle.air_log.specs.WindowLogs.{WindowLog, Closing}
 use Rattle.lwb_base.proofs.Elements.{in_filtered, contains_head}
 use Rattle.air_log.proofs.SendingsKept.{profile_lasts}
-use Rattle.law_trails.specs.Obeying.{channel_of}
+use Rattle.law_trails.specs.Obeying.{channel_if_on}
 use Rattle.law_trails.specs.Phases.{End, device_at}
 use Rattle.law_trails.specs.TrailLinks.{ListensSince, device_in}
 use Rattle.law_trails.proofs.HeardInTrails.{reception_is}
 use Rattle.law_trails.proofs.SentInTrails.{sent_lasts}
 use Rattle.law_trails.proofs.TunedInTrails.{tuned_listens}
 use Rattle.law_safety.specs.CountedFrames.{IsResting}
-use Rattle.law_safety.specs.Invariant.{IsRun}
+use Rattle.law_safety.specs.Invariant.{IsObedientRun}
 use Rattle.law_safety.specs.NodesInOrder.{InOrderBy}
 use Rattle.law_safety.specs.RadiosOn.{RadioFor}
 use Rattle.law_safety.specs.Rows.{AtTick, IsFine}
@@ -64,16 +64,16 @@ module _ (s : ScenarioParts) (clocks : ℕ → ℕ → ℕ) (air : List Entry) (
   pub record IsOpenAsEnds (x : Sending) : Type 0 where
     pub window : WindowLog
     pub there : Contains (trail_in s clocks air v).made.windows window
-    pub frame : window.frame ≡ frame_of s.profile x
+    pub frame : window.frame ≡ frame_of_sending s.profile x
     pub opened : window.opened ≤ x.end
     pub closed : IfSome window.closed (λ c. x.end ≤ c.tick)
 
-  module _ (known : knows s.nodes v ≡ true) (x : Sending) (y : Schedule) (there : IsHeard air v x)
+  module _ (known : knows s.nodes v ≡ true) (x : Sending) (y : Schedule) (there : HasHeardEntry air v x)
       (says : message_of x.packet ≡ Some (ScheduleOf y)) (own : y.plan.rank ≡ x.rank) where
     abbrev t : ℕ
     t = x.end
 
-    go : IsRun s clocks air
+    go : IsObedientRun s clocks air
     go = run s clocks air lawful
 
     in_run : t < run_end s
@@ -88,14 +88,14 @@ module _ (s : ScenarioParts) (clocks : ℕ → ℕ → ℕ) (air : List Entry) (
     at : AtTick s clocks air v t
     at = at_tick s clocks air v Opened all_rows go known t in_run
 
-    frame : t / s.profile.frame ≡ frame_of s.profile x
+    frame : t / s.profile.frame ≡ frame_of_sending s.profile x
     frame =
         let sent = (go.heedful.heard v x there).sent in
         let flood = at.before.sendings x sent before in
         let from = after_frame_start s clocks air go x flood sent in
         let until = before_frame_end s clocks air go x flood sent in
         let first = before in
-        frame_is s (frame_of s.profile x) t (omega (arith, from, first)) (omega (arith, until))
+        frame_is s (frame_of_sending s.profile x) t (omega (arith, from, first)) (omega (arith, until))
 
     abbrev d : Device
     d = device_in s clocks air v t
@@ -110,8 +110,8 @@ module _ (s : ScenarioParts) (clocks : ℕ → ℕ → ℕ) (air : List Entry) (
         subst (λ (k : ℕ). ListensSince x.rank (t - 1) (device_in s clocks air v k)) (omega (arith, first))
         (tuned_listens s clocks air go.heedful.trails v x.rank (t - 1) tuned)
 
-    channel : channel_of d.listening ≡ Some x.rank
-    channel = ap (λ (l : Option Listening). channel_of l) listens.is ∙ ap (λ (r : ℕ). Some r) listens.channel
+    channel : channel_if_on d.listening ≡ Some x.rank
+    channel = ap (λ (l : Option Listening). channel_if_on l) listens.is ∙ ap (λ (r : ℕ). Some r) listens.channel
 
     abbrev h : Reception
     h = record { packet = x.packet; end = x.end }
@@ -121,7 +121,7 @@ module _ (s : ScenarioParts) (clocks : ℕ → ℕ → ℕ) (air : List Entry) (
         ((reception_is air v h).1 (record { sending = x; there = there; packet = refl; end = refl })) (eq-eqb x.end t refl)
 
     abbrev Behind : Type 0
-    Behind = InSome (clocks v) (setup_of s v) t (fold (hears (clocks v) (setup_of s v) t) d (ending_at t (heard_by air v))).power
+    Behind = InSome (clocks v) (setup_of s v) t (fold (device_after_reception (clocks v) (setup_of s v) t) d (ending_at t (heard_by air v))).power
 
     by_stage : (n : Node) (st : Stage) → d.power ≡ PowerOn n → n.stage ≡ st → RadioFor n d st → Behind
     by_stage n Idle on stage radio = absurd radio
@@ -141,7 +141,8 @@ module _ (s : ScenarioParts) (clocks : ℕ → ℕ → ℕ) (air : List Entry) (
     in_some =
         let few = in_run in
         let fine = fine_before s clocks air v t (omega (arith, few)) go known at.before in
-        subst (λ (z : Device). InSome (clocks v) (setup_of s v) t (fold (hears (clocks v) (setup_of s v) t) z (ending_at t (heard_by air v))).power)
+        subst (λ (z : Device). InSome (clocks v) (setup_of s v) t
+            (fold (device_after_reception (clocks v) (setup_of s v) t) z (ending_at t (heard_by air v))).power)
         (sym (nothing_told s clocks air v t at x there refl)) (by_power d.power refl fine.node.by_power)
 
     have : IsFine s clocks air v t End e × HasWindows s v (λ w. w.opened ≤ t) t e

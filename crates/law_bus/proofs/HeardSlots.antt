@@ -9,7 +9,7 @@ use Rattle.glossy_relay.specs.Relaying.{accepted_of, after_heard}
 use Rattle.glossy_relay.proofs.CountedPackets.{begun_here}
 use Rattle.bus_rules.specs.declared.part.Part.{Part}
 use Rattle.bus_rules.specs.Cores.{Setup, is_member}
-use Rattle.bus_rules.specs.Slots.{Message, Opened, part_of, opened}
+use Rattle.bus_rules.specs.Slots.{Message, Opened, part_of, opened_slot}
 use Rattle.bus_rules.specs.States.{State, StateOff, StateOn}
 use Rattle.lwb_member.specs.Said.{MaySay, message_of}
 use Rattle.node_core.specs.Rows.{flood_for}
@@ -20,20 +20,20 @@ use Rattle.air_log.specs.Trails.{run_end, setup_of}
 use Rattle.air_log.specs.WindowLogs.{WindowLog, Happening, HeardAt, SentAt}
 use Rattle.law_trails.proofs.HeedfulLogs.{lawful_is_heedful}
 use Rattle.law_trails.proofs.OtherCounters.{told_again}
-use Rattle.law_safety.specs.Invariant.{IsRun}
-use Rattle.law_windows.specs.WindowFloods.{said_in as said_on_air, flood_at_first, after_happening}
+use Rattle.law_safety.specs.Invariant.{IsObedientRun}
+use Rattle.law_windows.specs.WindowFloods.{initial_message as said_on_air, flood_at_first, after_happening}
 use Rattle.law_windows.proofs.WindowFacts.{floods_of_windows, one_a_slot, open_by_rows}
 use Rattle.bus_terms.specs.FloodOfText.{ids}
 use Rattle.bus_terms.specs.Flooding.{Setting, Accepts, accepted, has}
-use Rattle.bus_terms.specs.Rounds.{Slot, accepted_at, before_slot, opened_at, said_in}
+use Rattle.bus_terms.specs.Rounds.{Slot, accepted_at, before_slot, opened_at, message_said}
 use Rattle.bus_terms.specs.Rounds.{takes_part as takes_part_by}
 use Rattle.bus_terms.specs.Bus.{state_at}
 use Rattle.bus_terms.specs.ScriptedStates.{setup_in}
 use Rattle.bus_terms.proofs.FirstHearings.{accepted_first, heard_in_time}
 use Rattle.bus_terms.proofs.ReceivedByPaths.{in_whole, of_filtered}
 use Rattle.bus_terms.proofs.ReceivedInRounds.{accepted_none}
-use Rattle.lwb_flood.specs.FloodRun.{Run, initiates, packet, takes_part}
-use Rattle.lwb_flood.specs.FloodBySteps.{IsFloodBySteps, ended}
+use Rattle.lwb_flood.specs.FloodRun.{Run, initiates, packet, IsParticipant}
+use Rattle.lwb_flood.specs.FloodBySteps.{IsFloodBySteps, flood_at_end}
 use Rattle.lwb_flood.proofs.LogEntries.{ids_known}
 use Rattle.law_terms.specs.LawfulRuns.{IsLawfulRun}
 use Rattle.law_terms.specs.SlotLaws.{HasWindow, IsWindowOf, Says, bus_slot}
@@ -64,7 +64,7 @@ read a = option_and_then (λ (b : List ℕ × ℕ). message_of b.0) a
 
 module _ (s : ScenarioParts) (clocks : ℕ → ℕ → ℕ) (air : List Entry) (lawful : IsLawfulRun s clocks air) (f rank : ℕ) (p : Plan) (j : ℕ)
     (start : IsSlotStart s clocks air f rank p j) where
-  run : IsRun s clocks air
+  run : IsObedientRun s clocks air
   run = record { driven = record { sound = lawful.sound; drift = lawful.drift }; heedful = lawful_is_heedful s clocks air lawful.lawful }
 
   abbrev x : Slot
@@ -81,7 +81,7 @@ module _ (s : ScenarioParts) (clocks : ℕ → ℕ → ℕ) (air : List Entry) (
     abbrev S : Setup
     S = setup_of s v
 
-    window_is : x.window v ≡ Some (opened (setup_in s v) f (part_of p j) w.before.core)
+    window_is : x.window v ≡ Some (opened_slot (setup_in s v) f (part_of p j) w.before.core)
     window_is = ap (opened_at s rank f (part_of p j) v) (start.core v w here alarm) ∙ rw (start.member v w here alarm) refl
 
     part_is : part_of w.before.core.plan w.slot ≡ part_of p j
@@ -90,31 +90,31 @@ module _ (s : ScenarioParts) (clocks : ℕ → ℕ → ℕ) (air : List Entry) (
     frame_is : w.before.frame ≡ f
     frame_is = (open_by_rows s clocks air run v known (run_end s) (omega arith) w here.there).frame_before ∙ here.frame
 
-    said_same : said_in (x.window v) ≡ said_on_air S w
+    said_same : message_said (x.window v) ≡ said_on_air S w
     said_same =
-        ap (λ (o : Option Opened). said_in o) window_is
-        ∙ ap (λ (g : ℕ). (opened S g (part_of p j) w.before.core).message) (sym frame_is)
-        ∙ ap (λ (k : Part). (opened S w.before.frame k w.before.core).message) (sym part_is)
+        ap (λ (o : Option Opened). message_said o) window_is
+        ∙ ap (λ (g : ℕ). (opened_slot S g (part_of p j) w.before.core).message) (sym frame_is)
+        ∙ ap (λ (k : Part). (opened_slot S w.before.frame k w.before.core).message) (sym part_is)
 
   -- who says something has such a window
-  says_in_window : (v : ℕ) → knows s.nodes v ≡ true → is_some (said_in (x.window v)) ≡ true → HasWindow s clocks air f rank j v
+  says_in_window : (v : ℕ) → knows s.nodes v ≡ true → is_some (message_said (x.window v)) ≡ true → HasWindow s clocks air f rank j v
   says_in_window v known some = by_state (states v) refl some
     where
-      by_state : (y : State) → states v ≡ y → is_some (said_in (opened_at s rank f (part_of p j) v y)) ≡ true → HasWindow s clocks air f rank j v
+      by_state : (y : State) → states v ≡ y → is_some (message_said (opened_at s rank f (part_of p j) v y)) ≡ true → HasWindow s clocks air f rank j v
       by_state (StateOff boots) at is = absurd (false≢true is)
       by_state (StateOn c) at is = elim (cases_Bool (is_member rank f c)) [
         | inl takes ↦ start.window v c known at takes
         | inr other ↦ absurd (false≢true (ap
-            (λ (b : Bool). is_some (said_in (if b then Some (opened (setup_in s v) f (part_of p j) c) else None))) (sym other) ∙ is))
+            (λ (b : Bool). is_some (message_said (if b then Some (opened_slot (setup_in s v) f (part_of p j) c) else None))) (sym other) ∙ is))
       ]
 
   -- a window initiated where its node says something on the bus
   begun_at : (v : ℕ) → knows s.nodes v ≡ true → (w : WindowLog) → Of v w → (b : Bool) → w.by_alarm ≡ b
-      → (flood_at_first (setup_of s v) b w).initiated ≡ is_some (said_in (x.window v))
+      → (flood_at_first (setup_of s v) b w).initiated ≡ is_some (message_said (x.window v))
   begun_at v known w here true alarm =
       begun_by (setup_of s v) (part_of w.before.core.plan w.slot) w.slot (said_on_air (setup_of s v) w)
       ∙ ap (λ (o : Option Message). is_some o) (sym (said_same v known w here alarm))
-  begun_at v known w here false hears = elim (cases_Bool (is_some (said_in (x.window v)))) [
+  begun_at v known w here false hears = elim (cases_Bool (is_some (message_said (x.window v)))) [
     | inr none ↦ sym none
     | inl some ↦ (
         let has = says_in_window v known some in
@@ -125,7 +125,7 @@ module _ (s : ScenarioParts) (clocks : ℕ → ℕ → ℕ) (air : List Entry) (
         )
   ]
 
-  initiated_same : (v : ℕ) → knows s.nodes v ≡ true → (w : WindowLog) → Of v w → w.last.flood.initiated ≡ is_some (said_in (x.window v))
+  initiated_same : (v : ℕ) → knows s.nodes v ≡ true → (w : WindowLog) → Of v w → w.last.flood.initiated ≡ is_some (message_said (x.window v))
   initiated_same v known w here =
       ap (λ (t : FloodState). t.initiated) (floods_of_windows s clocks air run v known (run_end s) (omega arith) w here.there)
       ∙ leaves (flood_at_first (setup_of s v) w.by_alarm w) w.happenings
@@ -133,7 +133,7 @@ module _ (s : ScenarioParts) (clocks : ℕ → ℕ → ℕ) (air : List Entry) (
 
   module _ (r : Run) (is : IsRunOf s clocks air f rank p j r) (steps : IsFloodBySteps r) where
     -- who takes part is a node
-    part_known : (v : ℕ) → takes_part r v → knows s.nodes v ≡ true
+    part_known : (v : ℕ) → IsParticipant r v → knows s.nodes v ≡ true
     part_known v here =
         sym (ids_known s.nodes v)
         ∙ in_whole (λ u. takes_part_by rank (part_of p j) (states u) (x.window u)) (ids s.nodes) v
@@ -148,9 +148,9 @@ module _ (s : ScenarioParts) (clocks : ℕ → ℕ → ℕ) (air : List Entry) (
     has_said : (o : ℕ) → initiates r o → HasSaid o
     has_said o begun =
         let there : has x.flood.initiators o ≡ true = ap (λ (g : Setting). has g.initiators o) (sym is.setting) ∙ begun in
-        let known = sym (ids_known s.nodes o) ∙ in_whole (λ u. is_some (said_in (x.window u))) (ids s.nodes) o there in
-        let some = of_filtered (λ u. is_some (said_in (x.window u))) (ids s.nodes) o there in
-        let m = some_is (said_in (x.window o)) some in
+        let known = sym (ids_known s.nodes o) ∙ in_whole (λ u. is_some (message_said (x.window u))) (ids s.nodes) o there in
+        let some = of_filtered (λ u. is_some (message_said (x.window u))) (ids s.nodes) o there in
+        let m = some_is (message_said (x.window o)) some in
         let has_one = says_in_window o known some in
         let w = has_one.window in
         let on_air : said_on_air (setup_of s o) w ≡ Some m.0 = sym (said_same o known w has_one.here has_one.by_alarm) ∙ m.1 in
@@ -172,17 +172,18 @@ module _ (s : ScenarioParts) (clocks : ℕ → ℕ → ℕ) (air : List Entry) (
     on_run : (v o k : ℕ) → Accepts x.flood v o k → Accepts r.setting v o k
     on_run v o k a = subst (λ (g : Setting). Accepts g v o k) (sym is.setting) a
 
-    on_air : (v o k : ℕ) → Accepts r.setting v o k → accepted_of (ended r v) ≡ Some (packet r o k, k)
+    on_air : (v o k : ℕ) → Accepts r.setting v o k → accepted_of (flood_at_end r v) ≡ Some (packet r o k, k)
     on_air v o k a = (steps.accepts v k o a.here a.listens (heard_origin r.setting k v o a.hears)).1 a
 
     nothing_accepted : (v : ℕ) → ((o k : ℕ) → Accepts x.flood v o k → ⊥) → accepted_at x v ≡ None
-    nothing_accepted v none = ap (λ (q : Option (ℕ × ℕ)). option_and_then (λ b. said_in (x.window b.0)) q) (accepted_none x.flood v none)
+    nothing_accepted v none = ap (λ (q : Option (ℕ × ℕ)). option_and_then (λ b. message_said (x.window b.0)) q) (accepted_none x.flood v none)
 
-    accepted_same : (v : ℕ) → takes_part r v → read (accepted_of (ended r v)) ≡ accepted_at x v
-    accepted_same v here = by_flood (accepted_of (ended r v)) refl
+    accepted_same : (v : ℕ) → IsParticipant r v → read (accepted_of (flood_at_end r v)) ≡ accepted_at x v
+    accepted_same v here = by_flood (accepted_of (flood_at_end r v)) refl
       where
-        by_flood : (a : Option (List ℕ × ℕ)) → accepted_of (ended r v) ≡ a → read a ≡ accepted_at x v
-        by_flood None none = sym (nothing_accepted v (λ o k a. not_both (accepted_of (ended r v)) (packet r o k, k) none (on_air v o k (on_run v o k a))))
+        by_flood : (a : Option (List ℕ × ℕ)) → accepted_of (flood_at_end r v) ≡ a → read a ≡ accepted_at x v
+        by_flood None none =
+            sym (nothing_accepted v (λ o k a. not_both (accepted_of (flood_at_end r v)) (packet r o k, k) none (on_air v o k (on_run v o k a))))
         by_flood (Some a) some =
             let by = steps.accepts_only v a.0 a.1 here (listener r v a some) some in
             let o = by.0 in
@@ -192,7 +193,7 @@ module _ (s : ScenarioParts) (clocks : ℕ → ℕ → ℕ) (air : List Entry) (
             (accepted_first x.flood v o a.1).1 (subst (λ (g : Setting). Accepts g v o a.1) is.setting by.3) in
             ap message_of by.2 ∙ reads o a.1 h (omega (arith, in_time))
             ∙ sym h.said.1
-            ∙ sym (ap (λ (q : Option (ℕ × ℕ)). option_and_then (λ b. said_in (x.window b.0)) q) on_bus)
+            ∙ sym (ap (λ (q : Option (ℕ × ℕ)). option_and_then (λ b. message_said (x.window b.0)) q) on_bus)
 
     heard_slot : IsSlotHeard s clocks air f rank p j
     heard_slot = record {

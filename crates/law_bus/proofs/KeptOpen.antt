@@ -13,9 +13,9 @@ use Rattle.node_core.specs.Windows.{Window}
 use Rattle.radio_model.specs.OnAir.{Tuning}
 use Rattle.radio_model.specs.declared.sending.Sending.{Sending}
 use Rattle.scenario_text.specs.ScenarioParts.{ScenarioParts}
-use Rattle.air_log.specs.Devices.{Device, Listening, Ordered, obeyed, silenced, tunes, listens_to}
-use Rattle.air_log.specs.Trails.{Reception, setup_of, ended, alarmed, before_start, begun_by, starts, before_tick}
-use Rattle.air_log.specs.WindowLogs.{WindowLog, opened_log, gone_on, closed_log, window_of, windows_after, windows_by}
+use Rattle.air_log.specs.Devices.{Device, Listening, OrderedPacket, obeyed, silenced, tunes, listens_to}
+use Rattle.air_log.specs.Trails.{Reception, setup_of, device_after_end, alarmed, before_start, begun_by, starts, before_tick}
+use Rattle.air_log.specs.WindowLogs.{WindowLog, opened_log, gone_on, logs_after_closing, window_of_stage, windows_after, windows_by}
 use Rattle.lwb_base.proofs.Elements.{not_in_none, contains_head, contains_tail, contains_cases}
 use Rattle.air_log.proofs.KeptByEvents.{IsKept, in_alarms, in_end, in_tick}
 use Rattle.law_trails.specs.Phases.{End, device_at}
@@ -68,7 +68,7 @@ module _ (t : ℕ) (first : WindowLog) where
     | inr old ↦ one_more _ logs (older logs is old)
   ]
 
-  closes : (k : ℕ) → t ≤ k → (m : Node) (logs : List WindowLog) → IsStill logs → IsStill (closed_log k m logs)
+  closes : (k : ℕ) → t ≤ k → (m : Node) (logs : List WindowLog) → IsStill logs → IsStill (logs_after_closing k m logs)
   closes k late m [] is = absurd (not_in_none is.window is.there)
   closes k late m (y ∷ logs) is = elim (contains_cases y logs is.window is.there) [
     | inl same ↦ record {
@@ -85,7 +85,7 @@ module _ (t : ℕ) (first : WindowLog) where
 
   by_stages : (k : ℕ) → t ≤ k → (e : Event) (x : Option Sending) (n m : Node) (from to : Stage) (logs : List WindowLog) → IsStill logs
       → IsStill (windows_after k e x n m from to logs)
-  by_stages k late e x n m from to logs is = by_windows (window_of from) (window_of to)
+  by_stages k late e x n m from to logs is = by_windows (window_of_stage from) (window_of_stage to)
     where
       by_windows : (old new : Option (ℕ × Window)) → IsStill (windows_by k e x n m old new logs)
       by_windows None None = is
@@ -124,7 +124,7 @@ module _ (t : ℕ) (first : WindowLog) where
     by_start k packet d (Some l) (Some y) is = is
     by_start k packet d (Some l) None is = is
 
-    by_begun : (k : ℕ) (d : Device) (o : Option Ordered) → IsStill d.made.windows → IsStill (begun_by (setup_of s v) k d o).made.windows
+    by_begun : (k : ℕ) (d : Device) (o : Option OrderedPacket) → IsStill d.made.windows → IsStill (begun_by (setup_of s v) k d o).made.windows
     by_begun k d None is = is
     by_begun k d (Some o) is =
         cond_both (o.tick == k) (starts (setup_of s v) k o.packet d d.listening d.sending) d (λ (x : Device). IsStill x.made.windows)
@@ -154,7 +154,7 @@ module _ (t : ℕ) (first : WindowLog) where
     behind_hearings is =
         let kept = kept_still clock (setup_of s v) t (omega arith) in
         let d = device_at s v clock hs t End in
-        let e = ended clock (setup_of s v) t d in
+        let e = device_after_end clock (setup_of s v) t d in
         let x = alarmed clock (setup_of s v) t e in
         by_begun t x x.ordered (in_alarms (λ y. IsStill y.made.windows) clock (setup_of s v) t e kept
         (in_end (λ y. IsStill y.made.windows) clock (setup_of s v) t d kept is))

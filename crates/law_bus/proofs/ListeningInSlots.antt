@@ -7,10 +7,10 @@ use Rattle.scenario_text.specs.ScenarioParts.{ScenarioParts}
 use Rattle.radio_model.specs.declared.sending.Sending.{Sending}
 use Rattle.radio_model.specs.Hearing.{Scene, TunedThrough}
 use Rattle.air_log.specs.declared.entry.Entry.{Entry}
-use Rattle.air_log.specs.Entries.{hearings_of, IsHeard}
+use Rattle.air_log.specs.Entries.{hearings_of, HasHeardEntry}
 use Rattle.air_log.specs.HearsAir.{scene_of}
 use Rattle.air_log.specs.Lawful.{trail_in}
-use Rattle.air_log.specs.NodeEvents.{Event, Heard, Ended, InOrder, own_ends}
+use Rattle.air_log.specs.NodeEvents.{Event, Heard, Ended, EventsInOrder, own_ends}
 use Rattle.air_log.specs.Trails.{run_end, frame_start}
 use Rattle.air_log.specs.WindowLogs.{WindowLog}
 use Rattle.lwb_base.proofs.Elements.{not_in_none}
@@ -18,8 +18,8 @@ use Rattle.law_trails.proofs.SentInTrails.{sent_lasts}
 use Rattle.law_safety.proofs.RunFacts.{frame_begins}
 use Rattle.law_windows.specs.WindowTimes.{IsOfSlot}
 use Rattle.law_windows.proofs.WindowFacts.{slot_covered}
-use Rattle.lwb_flood.specs.FloodRun.{Run, WasHeard, initiates, takes_part, HasEvents}
-use Rattle.lwb_flood.specs.Windows.{HasWindow as ListensIn, IsWindow}
+use Rattle.lwb_flood.specs.FloodRun.{Run, WasHeard, initiates, IsParticipant, HasEvents}
+use Rattle.lwb_flood.specs.Windows.{ListensInWindow as ListensIn, IsListeningWindow}
 use Rattle.law_terms.specs.LawfulRuns.{IsLawfulRun}
 use Rattle.law_terms.specs.SlotLaws.{IsRound, IsWindowOf, HasWindow}
 use Rattle.law_terms.specs.SlotSteps.{IsSlotStart}
@@ -34,8 +34,8 @@ use Rattle.law_bus.proofs.SlotSendings.{IsOf, heard_in_slot, in_heard}
 use Rattle.law_bus.proofs.SlotSpeakers.{speaker, first_sending}
 use Rattle.law_bus.proofs.SlotStarts.{InSlot, is_of_window, in_it}
 
-in_order_none : (es : List Event) → es ≡ [] → InOrder es
-in_order_none es is = subst InOrder (sym is) (λ i k d before within. absurd (omega (arith, within)))
+in_order_none : (es : List Event) → es ≡ [] → EventsInOrder es
+in_order_none es is = subst EventsInOrder (sym is) (λ i k d before within. absurd (omega (arith, within)))
 
 module _ (s : ScenarioParts) (clocks : ℕ → ℕ → ℕ) (air : List Entry) (lawful : IsLawfulRun s clocks air)
     (f rank j : ℕ) (p : Plan) (round : IsRound s f rank p) (start : IsSlotStart s clocks air f rank p j)
@@ -53,7 +53,7 @@ module _ (s : ScenarioParts) (clocks : ℕ → ℕ → ℕ) (air : List Entry) (
   of_window : (v : ℕ) (w : WindowLog) → Of v w → (x : Sending) → IsOf s.profile f rank j x → IsOfSlot s w x
   of_window v w here x is = record { channel = is.0 ∙ sym here.channel; frame = is.1 ∙ sym here.frame; slot = is.2 ∙ sym here.slot }
 
-  heard_so : (v : ℕ) (x : Sending) → WasHeard r v x → IsHeard air v x × IsOf s.profile f rank j x
+  heard_so : (v : ℕ) (x : Sending) → WasHeard r v x → HasHeardEntry air v x × IsOf s.profile f rank j x
   heard_so v x heard = heard_in_slot s.profile f rank j (hearings_of air) (record { node = v; sending = x }) heard
 
   -- what is among the events was heard in the slot
@@ -140,7 +140,7 @@ module _ (s : ScenarioParts) (clocks : ℕ → ℕ → ℕ) (air : List Entry) (
   a = scene_of s.profile s.trace air
 
   -- a window by its alarm covers the flood
-  alarm_window : (v : ℕ) (w : WindowLog) → Of v w → w.by_alarm ≡ true → IsWindow r (TunedThrough a) v (frame_start s f) far
+  alarm_window : (v : ℕ) (w : WindowLog) → Of v w → w.by_alarm ≡ true → IsListeningWindow r (TunedThrough a) v (frame_start s f) far
   alarm_window v w here alarm =
       let played = are.by_window v w here in
       record {
@@ -179,7 +179,7 @@ module _ (s : ScenarioParts) (clocks : ℕ → ℕ → ℕ) (air : List Entry) (
             (subst (λ (es : List Event). Contains es (Heard x)) (are.without v (λ w here. none w here.there here.frame here.channel here.slot)) in_it))
       ]
 
-  from_heard : (v : ℕ) (x : Sending) → takes_part r v → WasHeard r v x → Contains (events v) (Heard x)
+  from_heard : (v : ℕ) (x : Sending) → IsParticipant r v → WasHeard r v x → Contains (events v) (Heard x)
   from_heard v x here heard =
       elim (look_up f rank j (trail_in s clocks air v).made.windows) [
         | inl own ↦ heard_events v own.window (record { there = own.there; frame = own.frame; channel = own.channel; slot = own.slot }) x heard
@@ -198,12 +198,12 @@ module _ (s : ScenarioParts) (clocks : ℕ → ℕ → ℕ) (air : List Entry) (
         | inr none ↦ none_ends v (λ w here. none w here.there here.frame here.channel here.slot) x
       ]
 
-  ordered : (v : ℕ) → InOrder (events v)
+  ordered : (v : ℕ) → EventsInOrder (events v)
   ordered v =
       elim (look_up f rank j (trail_in s clocks air v).made.windows) [
         | inl own ↦ (
             let played = are.by_window v own.window (record { there = own.there; frame = own.frame; channel = own.channel; slot = own.slot }) in
-            subst InOrder played.same played.part.has.in_order
+            subst EventsInOrder played.same played.part.has.in_order
             )
         | inr none ↦ in_order_none (events v) (are.without v (λ w here. none w here.there here.frame here.channel here.slot))
       ]
@@ -216,7 +216,7 @@ module _ (s : ScenarioParts) (clocks : ℕ → ℕ → ℕ) (air : List Entry) (
   }
 
   module _ (scanners : ScannersListen s clocks air f rank j r) where
-    pub listens : (v : ℕ) → takes_part r v → ListensIn r (TunedThrough a) v
+    pub listens : (v : ℕ) → IsParticipant r v → ListensIn r (TunedThrough a) v
     listens v here = elim (alarm_or_not v) [
       | inl own ↦ record { opening = frame_start s f; closing = far; window = alarm_window v own.window own.here own.by_alarm }
       | inr none ↦ scanners.listens v here none

@@ -5,7 +5,7 @@ use Rattle.std.specs.Prelude.{◌⊎◌, slice_index}
 use Rattle.std.proofs.lemmas.Bool.{cases_order}
 use Rattle.tick_clock.specs.Clocks.{IsClock}
 use Rattle.time_reference.specs.Budgets.{Budget, Fits, budget_of, span}
-use Rattle.time_reference.specs.Zeros.{Good, opening, starting, point}
+use Rattle.time_reference.specs.Zeros.{Good, opening_offset, starting_offset, tick_at_offset}
 use Rattle.time_reference.proofs.BudgetRoom.{packets_last}
 use Rattle.time_reference.proofs.Points.{relays_before_next_opens}
 use Rattle.time_reference.proofs.Steps.{flood_end}
@@ -14,7 +14,7 @@ use Rattle.lwb_base.specs.Profile.{Numbers, airtime}
 use Rattle.bus_rules.specs.Plans.{last_slot}
 use Rattle.scenario_text.specs.ScenarioParts.{ScenarioParts}
 use Rattle.radio_model.specs.declared.sending.Sending.{Sending}
-use Rattle.radio_model.specs.Hearing.{frame_of, slot_of, counter_of}
+use Rattle.radio_model.specs.Hearing.{frame_of_sending, slot_of_sending, counter_of_sending}
 use Rattle.air_log.specs.declared.entry.Entry.{Entry}
 use Rattle.air_log.specs.Entries.{sendings_of}
 use Rattle.air_log.specs.Lawful.{trail_in}
@@ -22,7 +22,7 @@ use Rattle.air_log.specs.Trails.{run_end}
 use Rattle.air_log.specs.WindowLogs.{WindowLog}
 use Rattle.law_trails.proofs.SlotBounds.{slots_apart}
 use Rattle.law_safety.specs.FloodSendings.{IsOfFlood}
-use Rattle.law_safety.specs.Invariant.{IsRun}
+use Rattle.law_safety.specs.Invariant.{IsObedientRun}
 use Rattle.law_safety.specs.SentPlans.{IsPlanned}
 use Rattle.law_safety.proofs.FloodTimes.{host_drifts, in_flood, origin_drifts, packet_short, slot_in_round, zero_good}
 use Rattle.law_safety.proofs.RunFacts.{run_fits}
@@ -49,14 +49,14 @@ module _ (s : ScenarioParts) (clocks : ℕ → ℕ → ℕ) (air : List Entry) (
   abbrev b : Budget
   b = budget_of s.profile
 
-  go : IsRun s clocks air
+  go : IsObedientRun s clocks air
   go = run s clocks air lawful
 
   fits : Fits s.profile (budget_of s.profile)
   fits = run_fits s lawful.sound
 
   module _ (v : ℕ) (w : WindowLog) (there : Contains (trail_in s clocks air v).made.windows w) (x : Sending) (sent : Contains (sendings_of air) x)
-      (channel : x.rank ≡ w.rank) (frame : frame_of s.profile x ≡ w.frame) (earlier : slot_of x < w.slot) where
+      (channel : x.rank ≡ w.rank) (frame : frame_of_sending s.profile x ≡ w.frame) (earlier : slot_of_sending x < w.slot) where
     timed : IsInTime s clocks air v w
     timed = open_in_time s clocks air go v (known_by s clocks air lawful v w there) (run_end s) (omega arith) w there
 
@@ -79,30 +79,30 @@ module _ (s : ScenarioParts) (clocks : ℕ → ℕ → ℕ) (air : List Entry) (
     host_is_clock = subst (λ (r : ℕ). IsClock (clocks (slice_index s.hosts r))) channel (host_drifts s clocks air go x flood)
 
     -- the zero of a flood, by the names of the window
-    named : (y : Sending) (of : IsOfFlood s clocks air y) → y.rank ≡ w.rank → frame_of s.profile y ≡ w.frame
-        → Good s.profile (budget_of s.profile) host (clocks of.origin.node) of.zero w.frame (starting s.profile (slot_of y))
+    named : (y : Sending) (of : IsOfFlood s clocks air y) → y.rank ≡ w.rank → frame_of_sending s.profile y ≡ w.frame
+        → Good s.profile (budget_of s.profile) host (clocks of.origin.node) of.zero w.frame (starting_offset s.profile (slot_of_sending y))
     named y of on at =
-        subst (λ (r : ℕ). Good p b (clocks (slice_index s.hosts r)) (clocks of.origin.node) of.zero w.frame (starting p (slot_of y))) on
-        (subst (λ (f : ℕ). Good p b (clocks (slice_index s.hosts y.rank)) (clocks of.origin.node) of.zero f (starting p (slot_of y))) at
+        subst (λ (r : ℕ). Good p b (clocks (slice_index s.hosts r)) (clocks of.origin.node) of.zero w.frame (starting_offset p (slot_of_sending y))) on
+        (subst (λ (f : ℕ). Good p b (clocks (slice_index s.hosts y.rank)) (clocks of.origin.node) of.zero f (starting_offset p (slot_of_sending y))) at
         (zero_good s clocks air go y of))
 
     abbrev began : ℕ
-    began = point first flood.zero (starting s.profile (slot_of x))
+    began = tick_at_offset first flood.zero (starting_offset s.profile (slot_of_sending x))
 
     bounds : (x.start + airtime s.profile (length x.packet) ≤ began + span s.profile (length x.packet) + 11) × (began ≤ x.start)
     bounds =
         let inside = in_flood s clocks air go x flood in
         let some = packets_last p b fits (length x.packet) in
-        flood_end p (length x.packet) (counter_of x) x.start began (omega arith) inside.few inside.near
+        flood_end p (length x.packet) (counter_of_sending x) x.start began (omega arith) inside.few inside.near
 
     by_kind : (alarm : Bool) → OpensInTime s clocks air v alarm w → x.end < w.opened
     by_kind true opens =
         let before = relays_before_next_opens p b fits host first (clocks v) flood.zero w.after.zero w.frame host_is_clock first_drifts own_drifts
-        (slot_of x) w.slot (length x.packet) earlier timed.in_round (packet_short s clocks air go x flood) (named x flood channel frame) opens.good in
+        (slot_of_sending x) w.slot (length x.packet) earlier timed.in_round (packet_short s clocks air go x flood) (named x flood channel frame) opens.good in
         let ends = bounds in
         let end = flood.lasts in
-        let here : point (clocks v) w.before.zero (opening p w.slot) ≡ point (clocks v) w.after.zero (opening p w.slot) =
-        ap (λ (z : ℕ). point (clocks v) z (opening p w.slot)) opens.zero in
+        let here : tick_at_offset (clocks v) w.before.zero (opening_offset p w.slot) ≡ tick_at_offset (clocks v) w.after.zero (opening_offset p w.slot) =
+        ap (λ (z : ℕ). tick_at_offset (clocks v) z (opening_offset p w.slot)) opens.zero in
         elim opens.at [
           | inl now ↦ omega (arith, before, ends, end, here, now)
           | inr late ↦ (let past = late.late in omega (arith, before, ends, end, here, past))
@@ -111,8 +111,8 @@ module _ (s : ScenarioParts) (clocks : ℕ → ℕ → ℕ) (air : List Entry) (
         let y = opens.heard in
         let other : IsOfFlood s clocks air y = of_flood s clocks air (whole s clocks air lawful) y (go.heedful.heard v y opens.there).sent in
         let apart : x.start + airtime p (length x.packet) < y.start =
-        slots_apart p b fits host first (clocks other.origin.node) flood.zero other.zero w.frame (slot_of x) (slot_of y) (length x.packet)
-        (length y.packet) (counter_of x) (counter_of y) x.start y.start host_is_clock first_drifts (origin_drifts s clocks air go y other)
+        slots_apart p b fits host first (clocks other.origin.node) flood.zero other.zero w.frame (slot_of_sending x) (slot_of_sending y) (length x.packet)
+        (length y.packet) (counter_of_sending x) (counter_of_sending y) x.start y.start host_is_clock first_drifts (origin_drifts s clocks air go y other)
         (let same = opens.of_slot.slot in omega (arith, earlier, same)) (slot_in_round s clocks air go y other)
         (packet_short s clocks air go x flood) (named x flood channel frame) (named y other opens.of_slot.channel opens.of_slot.frame)
         (in_flood s clocks air go x flood) (in_flood s clocks air go y other) in

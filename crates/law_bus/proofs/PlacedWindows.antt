@@ -5,14 +5,14 @@ use Rattle.bus_rules.specs.States.{State}
 use Rattle.scenario_text.specs.ScenarioParts.{ScenarioParts}
 use Rattle.scenario_text.specs.FloodParts.{knows}
 use Rattle.radio_model.specs.declared.sending.Sending.{Sending}
-use Rattle.radio_model.specs.Hearing.{frame_of, slot_of}
+use Rattle.radio_model.specs.Hearing.{frame_of_sending, slot_of_sending}
 use Rattle.air_log.specs.declared.entry.Entry.{Entry}
-use Rattle.air_log.specs.Devices.{seen}
+use Rattle.air_log.specs.Devices.{state_of_power}
 use Rattle.air_log.specs.Lawful.{trail_in}
 use Rattle.air_log.specs.Trails.{run_end}
 use Rattle.air_log.specs.WindowLogs.{WindowLog, Closing}
 use Rattle.lwb_base.proofs.Elements.{Distinct, contains_head, contains_tail}
-use Rattle.law_windows.specs.OpenWindows.{AreApart, HasClosedBy}
+use Rattle.law_windows.specs.OpenWindows.{CloseBeforeNext, HasClosedBy}
 use Rattle.law_windows.specs.WindowTimes.{IsOfSlot, IsInTime, ClosesInTime}
 use Rattle.law_windows.proofs.WindowFacts.{close_in_time, open_in_time, sends_as_called, windows_apart}
 use Rattle.bus_terms.specs.Bus.{state_at}
@@ -49,7 +49,7 @@ module _ (heards : SlotHeardLaw) (s : ScenarioParts) (clocks : ℕ → ℕ → �
   rank_same w there in_run =
       let goes = course_of s clocks air lawful v w.frame w in_run (record { there = there; frame = refl }) in
       goes.course.ranks w (record { there = there; frame = refl })
-      ∙ sym (ap (λ (x : State). rank_in x) (sym (found w.frame in_run v known) ∙ ap seen goes.on))
+      ∙ sym (ap (λ (x : State). rank_in x) (sym (found w.frame in_run v known) ∙ ap state_of_power goes.on))
 
   pub window_placed : (w : WindowLog) → Contains logs w → IsPlaced s v w.frame w.slot
   window_placed w there =
@@ -82,13 +82,13 @@ module _ (heards : SlotHeardLaw) (s : ScenarioParts) (clocks : ℕ → ℕ → �
       let call = calls.called y there in
       record { window = call.window; there = call.there; of_slot = call.of_slot }
 
-  pub sending_placed : (y : Sending) → Contains sent y → IsPlaced s v (frame_of s.profile y) (slot_of y)
+  pub sending_placed : (y : Sending) → Contains sent y → IsPlaced s v (frame_of_sending s.profile y) (slot_of_sending y)
   sending_placed y there =
       let from = caller y there in
-      subst (λ (i : ℕ). IsPlaced s v (frame_of s.profile y) i) (sym from.of_slot.slot)
+      subst (λ (i : ℕ). IsPlaced s v (frame_of_sending s.profile y) i) (sym from.of_slot.slot)
       (subst (λ (g : ℕ). IsPlaced s v g from.window.slot) (sym from.of_slot.frame) (window_placed from.window from.there))
 
-  pub sending_rank : (y : Sending) → Contains sent y → y.rank ≡ rank_at s v (frame_of s.profile y)
+  pub sending_rank : (y : Sending) → Contains sent y → y.rank ≡ rank_at s v (frame_of_sending s.profile y)
   sending_rank y there =
       let from = caller y there in
       let in_run = (window_placed from.window from.there).in_run in
@@ -105,7 +105,7 @@ module _ (heards : SlotHeardLaw) (s : ScenarioParts) (clocks : ℕ → ℕ → �
       let before = by.by in
       omega (arith, closes, early, before)
 
-  apart_distinct : (ws : List WindowLog) → ((w : WindowLog) → Contains ws w → Contains logs w) → AreApart ws → Distinct ws
+  apart_distinct : (ws : List WindowLog) → ((w : WindowLog) → Contains ws w → Contains logs w) → CloseBeforeNext ws → Distinct ws
   apart_distinct [] all apart = tt
   apart_distinct (w ∷ ws) all apart = (
     λ again. not_itself w (all w (contains_head w ws)) (apart.0 w again),

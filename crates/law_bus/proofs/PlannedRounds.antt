@@ -11,7 +11,7 @@ use Rattle.bus_rules.specs.declared.part.Part.TheVariants.{Opening, Data as Data
 use Rattle.bus_rules.specs.Plans.{last_slot, opening}
 use Rattle.bus_rules.specs.Tuning.{hosts}
 use Rattle.bus_rules.specs.Cores.{Core, Setup}
-use Rattle.bus_rules.specs.Slots.{Message, ScheduleOf, part_of, opened, closed, slot_heard, hosts_now}
+use Rattle.bus_rules.specs.Slots.{Message, ScheduleOf, part_of, opened_slot, closed_slot, slot_heard, hosts_now}
 use Rattle.node_core.specs.Nodes.{Node}
 use Rattle.node_core.specs.Windows.{Window}
 use Rattle.node_core.specs.Rows.{accepted_in, flood_for, window_opens}
@@ -25,7 +25,7 @@ use Rattle.law_safety.specs.SetAlarms.{rank_at}
 use Rattle.law_safety.specs.TunedNodes.{IsRoundOf}
 use Rattle.law_safety.proofs.OpeningRoles.{StandsAt, stands}
 use Rattle.law_safety.proofs.SentPlans.{one_planned}
-use Rattle.law_windows.specs.WindowFloods.{after_happening, flood_at_first, said_in}
+use Rattle.law_windows.specs.WindowFloods.{after_happening, flood_at_first, initial_message}
 use Rattle.law_windows.specs.WindowRows.{OpensByAlarm}
 use Rattle.law_windows.proofs.WindowFacts.{floods_of_windows}
 use Rattle.law_terms.specs.LawfulRuns.{IsLawfulRun}
@@ -84,9 +84,9 @@ module _ (s : ScenarioParts) (clocks : ℕ → ℕ → ℕ) (air : List Entry) (
       abbrev S : Setup
       S = setup_of s v
 
-      says : is_some (said_in S w) ≡ true
+      says : is_some (initial_message S w) ≡ true
       says =
-          ap (λ (i : ℕ). is_some (opened S w.before.frame (part_of w.before.core.plan i) w.before.core).message) first
+          ap (λ (i : ℕ). is_some (opened_slot S w.before.frame (part_of w.before.core.plan i) w.before.core).message) first
           ∙ ap (λ (m : Option Message). is_some m) (cond-true (hosts_now w.before.frame w.before.core)
           (Some (ScheduleOf (opening w.before.core.plan))) None now)
 
@@ -95,7 +95,7 @@ module _ (s : ScenarioParts) (clocks : ℕ → ℕ → ℕ) (air : List Entry) (
           let flood = floods_of_windows s clocks air (run s clocks air lawful) v
           (known_by s clocks air lawful v w here.there) (run_end s) (omega arith) w here.there in
           let start : (flood_at_first S w.by_alarm w).initiated ≡ true =
-          ap (λ (b : Bool). (flood_at_first S b w).initiated) alarm ∙ said_begins S (part_of w.before.core.plan w.slot) w.slot (said_in S w) says in
+          ap (λ (b : Bool). (flood_at_first S b w).initiated) alarm ∙ said_begins S (part_of w.before.core.plan w.slot) w.slot (initial_message S w) says in
           ap (λ (x : FloodState). x.initiated) flood ∙ begun_still (flood_at_first S w.by_alarm w) w.happenings start
 
       opened_plan : w.after.core.plan ≡ w.before.core.plan
@@ -106,7 +106,8 @@ module _ (s : ScenarioParts) (clocks : ℕ → ℕ → ℕ) (air : List Entry) (
       same_plan : (c : Closing) → w.closed ≡ Some c → c.after.core.plan ≡ w.before.core.plan
       same_plan c is =
           ap (λ (n : Node). n.core.plan) (closed_as s clocks air lawful v w c here.there is)
-          ∙ ap (λ (m : Option Message). (closed S w.after.frame w.last.part w.last.flood.initiated w.after.core m).core.plan) (nothing_accepted w.last begun)
+          ∙ ap (λ (m : Option Message). (closed_slot S w.after.frame w.last.part w.last.flood.initiated w.after.core m).core.plan)
+              (nothing_accepted w.last begun)
           ∙ plan_kept w.after.frame w.last.part w.last.flood.initiated w.after.core
           ∙ opened_plan
 

@@ -16,15 +16,15 @@ use Rattle.scenario_text.specs.ScenarioParts.{ScenarioParts}
 use Rattle.radio_model.specs.declared.sending.Sending.{Sending}
 use Rattle.air_log.specs.declared.entry.Entry.{Entry}
 use Rattle.air_log.specs.Lawful.{trail_in}
-use Rattle.air_log.specs.NodeEvents.{Event, Heard, Occasion, occasions}
+use Rattle.air_log.specs.NodeEvents.{Event, Heard, EventOccasion, event_occasions}
 use Rattle.air_log.specs.Trails.{setup_of}
 use Rattle.air_log.specs.WindowLogs.{WindowLog}
 use Rattle.lwb_base.proofs.Elements.{not_in_none}
 use Rattle.law_trails.proofs.OtherCounters.{first_place}
-use Rattle.law_windows.specs.WindowFloods.{flood_at_first, said_in}
+use Rattle.law_windows.specs.WindowFloods.{flood_at_first, initial_message}
 use Rattle.law_windows.specs.WindowParts.{SendsAt}
 use Rattle.bus_terms.specs.Flooding.{has}
-use Rattle.lwb_flood.specs.FloodRun.{Run, takes_part, counter, sending_at, begins, Relayed, HasSendings}
+use Rattle.lwb_flood.specs.FloodRun.{Run, IsParticipant, counter, sending_of_run, flood_at_beginning, RelayedInRun, HasSendings}
 use Rattle.law_terms.specs.LawfulRuns.{IsLawfulRun}
 use Rattle.law_terms.specs.SlotLaws.{IsRound, IsWindowOf, bus_slot}
 use Rattle.law_terms.specs.SlotSteps.{IsSlotStart}
@@ -70,7 +70,7 @@ module _ (s : ScenarioParts) (clocks : ℕ → ℕ → ℕ) (air : List Entry) (
   abbrev pub initiates_by : ℕ → Bool
   initiates_by v = has (bus_slot s f rank p j).flood.initiators v
 
-  pub begins_by : (v : ℕ) (b : Bool) → initiates_by v ≡ b → begins r v ≡ starting_by v b
+  pub begins_by : (v : ℕ) (b : Bool) → initiates_by v ≡ b → flood_at_beginning r v ≡ starting_by v b
   begins_by v b is = ap (starting_by v) is
 
   abbrev first_of : ℕ → WindowLog → Bool → FloodState
@@ -85,7 +85,7 @@ module _ (s : ScenarioParts) (clocks : ℕ → ℕ → ℕ) (air : List Entry) (
       let who : IsSpeaker s clocks air lawful f rank j p round.in_run start v = speaker s clocks air lawful f rank j p round.in_run start v is in
       let same : who.window ≡ w = same_window s clocks air lawful f rank j round.in_run v who.window w who.here here in
       let alarm : w.by_alarm ≡ true = ap (λ (x : WindowLog). x.by_alarm) (sym same) ∙ who.by_alarm in
-      let said : said_in (setup_of s v) w ≡ Some who.message = ap (λ (x : WindowLog). said_in (setup_of s v) x) (sym same) ∙ who.said in
+      let said : initial_message (setup_of s v) w ≡ Some who.message = ap (λ (x : WindowLog). initial_message (setup_of s v) x) (sym same) ∙ who.said in
       let m = who.message in
       let k : KindIs (part_of w.before.core.plan w.slot) (Some m) = subst (KindIs (part_of w.before.core.plan w.slot)) said
       (said_kind (setup_of s v) w.before.frame (part_of w.before.core.plan w.slot) w.before.core) in
@@ -110,7 +110,8 @@ module _ (s : ScenarioParts) (clocks : ℕ → ℕ → ℕ) (air : List Entry) (
       ∙ ap (first_of v w) (sym alarm)
 
   -- and who does not
-  silent_said : (v : ℕ) (w : WindowLog) → Of v w → w.by_alarm ≡ true → initiates_by v ≡ false → (o : Option Message) → said_in (setup_of s v) w ≡ o → o ≡ None
+  silent_said : (v : ℕ) (w : WindowLog) → Of v w → w.by_alarm ≡ true → initiates_by v ≡ false → (o : Option Message) → initial_message (setup_of s v) w ≡ o
+      → o ≡ None
   silent_said v w here alarm is None said = refl
   silent_said v w here alarm is (Some m) said =
       let known = known_by s clocks air lawful v w here.there in
@@ -120,58 +121,59 @@ module _ (s : ScenarioParts) (clocks : ℕ → ℕ → ℕ) (air : List Entry) (
   listening_so v w here is true alarm =
       ap (λ (k : Part). listens_to (kind_for k) j) (sym (part_is s clocks air lawful f rank j p round.in_run start v w here alarm))
       ∙ ap (listens_to (kind_for (part_of w.before.core.plan w.slot))) (sym here.slot)
-      ∙ ap (flood_for (setup_of s v) (part_of w.before.core.plan w.slot) w.slot) (sym (silent_said v w here alarm is (said_in (setup_of s v) w) refl))
+      ∙ ap (flood_for (setup_of s v) (part_of w.before.core.plan w.slot) w.slot) (sym (silent_said v w here alarm is (initial_message (setup_of s v) w) refl))
   listening_so v w here is false hears =
       ap (λ (k : Kind.Kind). listens_to k j) (schedule_kind (part_of p j) (schedule_slot s clocks air lawful f rank j p round start v w here hears))
       ∙ ap (listens_to Kind.TheVariants.Schedule) (sym here.slot)
 
-  first_by : (v : ℕ) (w : WindowLog) → Of v w → (b : Bool) → initiates_by v ≡ b → begins r v ≡ first_of v w w.by_alarm
+  first_by : (v : ℕ) (w : WindowLog) → Of v w → (b : Bool) → initiates_by v ≡ b → flood_at_beginning r v ≡ first_of v w w.by_alarm
   first_by v w here true is = begins_by v true is ∙ speaking v w here is
   first_by v w here false is = begins_by v false is ∙ listening_so v w here is w.by_alarm refl
 
   -- the flood of a window begins as the run says
-  pub begins_so : (v : ℕ) (w : WindowLog) → Of v w → begins r v ≡ flood_at_first (setup_of s v) w.by_alarm w
+  pub begins_so : (v : ℕ) (w : WindowLog) → Of v w → flood_at_beginning r v ≡ flood_at_first (setup_of s v) w.by_alarm w
   begins_so v w here = first_by v w here (initiates_by v) refl
 
-  relayed_by : (v tick : ℕ) (q : List ℕ) (is : Relayed r v (sending_at r v tick q)) (w : WindowLog) → Of v w → Contains r.sendings (sending_at r v tick q)
+  relayed_by : (v tick : ℕ) (q : List ℕ) (is : RelayedInRun r v (sending_of_run r v tick q)) (w : WindowLog) → Of v w
+      → Contains r.sendings (sending_of_run r v tick q)
   relayed_by v tick q is w here =
       let played = are.by_window v w here in
       let first = begins_so v w here in
-      let o : Occasion = record { before = is.flood; event = Heard is.heard } in
-      let there : Contains (occasions (flood_at_first (setup_of s v) w.by_alarm w) played.part.has.events) o =
-      subst (λ (es : List Event). Contains (occasions (flood_at_first (setup_of s v) w.by_alarm w) es) o) (sym played.same)
-      (subst (λ (g : FloodState). Contains (occasions g (events v)) o) first is.occasion) in
+      let o : EventOccasion = record { before = is.flood; event = Heard is.heard } in
+      let there : Contains (event_occasions (flood_at_first (setup_of s v) w.by_alarm w) played.part.has.events) o =
+      subst (λ (es : List Event). Contains (event_occasions (flood_at_first (setup_of s v) w.by_alarm w) es) o) (sym played.same)
+      (subst (λ (g : FloodState). Contains (event_occasions g (events v)) o) first is.occasion) in
       let sends : SendsAt s clocks air v w (due (clocks v) (clocks v is.heard.end + s.profile.turn)) q =
       played.part.relayed is.heard is.flood q there is.answer in
       sent_at s clocks air lawful f rank j p round.in_run start events are sends.sending
       (sends.there, is_of_window s clocks air lawful f rank j p round.in_run start events are v w here sends.sending sends.of_slot)
       v tick q sends.node (sends.at ∙ sym is.start) sends.packet_is
 
-  relayed_so : (v tick : ℕ) (q : List ℕ) → Relayed r v (sending_at r v tick q) → Contains r.sendings (sending_at r v tick q)
+  relayed_so : (v tick : ℕ) (q : List ℕ) → RelayedInRun r v (sending_of_run r v tick q) → Contains r.sendings (sending_of_run r v tick q)
   relayed_so v tick q is =
       elim (look_up f rank j (trail_in s clocks air v).made.windows) [
         | inl own ↦ relayed_by v tick q is own.window (record { there = own.there; frame = own.frame; channel = own.channel; slot = own.slot })
         | inr none ↦ (
             let empty : events v ≡ [] = are.without v (λ w here. none w here.there here.frame here.channel here.slot) in
-            let o : Occasion = record { before = is.flood; event = Heard is.heard } in
-            absurd (not_in_none o (subst (λ (es : List Event). Contains (occasions (begins r v) es) o) empty is.occasion))
+            let o : EventOccasion = record { before = is.flood; event = Heard is.heard } in
+            absurd (not_in_none o (subst (λ (es : List Event). Contains (event_occasions (flood_at_beginning r v) es) o) empty is.occasion))
             )
       ]
 
-  relays_so : (x : Sending) → Contains r.sendings x → counter x ≢ 0 → takes_part r x.node × Relayed r x.node x
+  relays_so : (x : Sending) → Contains r.sendings x → counter x ≢ 0 → IsParticipant r x.node × RelayedInRun r x.node x
   relays_so x there more =
       let is = here_so s clocks air lawful f rank j p round.in_run start events are x there in
       let from = caller s clocks air lawful f rank j p round.in_run start events are x is in
       let w = from.window in
       let played = are.by_window x.node w from.here in
       let answer = played.part.relays x is.0 refl from.of_slot more in
-      let o : Occasion = record { before = answer.flood; event = Heard answer.heard } in (
+      let o : EventOccasion = record { before = answer.flood; event = Heard answer.heard } in (
         window_takes s clocks air lawful f rank j p round start x.node w from.here,
         record {
           heard = answer.heard;
           flood = answer.flood;
-          occasion = subst (λ (g : FloodState). Contains (occasions g (events x.node)) o) (sym (begins_so x.node w from.here))
-              (subst (λ (es : List Event). Contains (occasions (flood_at_first (setup_of s x.node) w.by_alarm w) es) o) played.same answer.occasion);
+          occasion = subst (λ (g : FloodState). Contains (event_occasions g (events x.node)) o) (sym (begins_so x.node w from.here))
+              (subst (λ (es : List Event). Contains (event_occasions (flood_at_first (setup_of s x.node) w.by_alarm w) es) o) played.same answer.occasion);
           answer = answer.answer;
           start = answer.at;
         },

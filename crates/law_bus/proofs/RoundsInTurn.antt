@@ -10,13 +10,13 @@ use Rattle.node_core.specs.declared.stage.Stage.TheVariants.{AwaitSlot}
 use Rattle.scenario_text.specs.ScenarioParts.{ScenarioParts}
 use Rattle.scenario_text.specs.FloodParts.{knows}
 use Rattle.air_log.specs.declared.entry.Entry.{Entry}
-use Rattle.air_log.specs.Devices.{Power, PowerOff, PowerOn, seen}
+use Rattle.air_log.specs.Devices.{Power, PowerOff, PowerOn, state_of_power}
 use Rattle.air_log.specs.Lawful.{trail_in}
 use Rattle.air_log.specs.Trails.{run_end}
 use Rattle.air_log.specs.WindowLogs.{WindowLog, Closing}
 use Rattle.law_windows.proofs.WindowFacts.{open_in_time}
 use Rattle.law_safety.specs.SentPlans.{IsPlanned}
-use Rattle.bus_terms.specs.Rounds.{round, round_plan, after_round, before_slot}
+use Rattle.bus_terms.specs.Rounds.{round_of_rank, round_plan, after_round, before_slot}
 use Rattle.bus_terms.specs.Bus.{state_at}
 use Rattle.bus_terms.proofs.KeptRanks.{member_of}
 use Rattle.law_terms.specs.LawfulRuns.{IsLawfulRun}
@@ -37,7 +37,7 @@ pub record IsOnWith (c : Core) (p : Power) : Type 0 where
   pub on : p ≡ PowerOn node
   pub core : node.core ≡ c
 
-pub on_with : (c : Core) (p : Power) → seen p ≡ StateOn c → IsOnWith c p
+pub on_with : (c : Core) (p : Power) → state_of_power p ≡ StateOn c → IsOnWith c p
 on_with c (PowerOff boots) is = absurd (off is)
   where
     off : StateOff boots ≡ StateOn c → ⊥
@@ -118,7 +118,7 @@ module _ (s : ScenarioParts) (clocks : ℕ → ℕ → ℕ) (air : List Entry) (
       core = λ v w here alarm.
           (let go = goes s clocks air lawful f in_run rank 0 v w here in
           let node : w.before ≡ go.node = go.course.begins w (in_frame s clocks air lawful f in_run rank 0 v w here) here.slot in
-          sym (found v (known_by s clocks air lawful v w here.there)) ∙ ap seen go.on ∙ ap (λ (n : Node). StateOn n.core) (sym node));
+          sym (found v (known_by s clocks air lawful v w here.there)) ∙ ap state_of_power go.on ∙ ap (λ (n : Node). StateOn n.core) (sym node));
       member = λ v w here alarm. takes_part s clocks air lawful f in_run rank 0 v w here alarm;
       plan = λ v w here alarm. plan_by found 0 v w here alarm;
       window = λ v c known on member.
@@ -192,15 +192,15 @@ module _ (s : ScenarioParts) (clocks : ℕ → ℕ → ℕ) (air : List Entry) (
 
       -- behind the last slot
       module _ (end : j ≡ last_slot p) where
-        over : (v : ℕ) → round s rank f (state_at s f) v ≡ bus_before s f rank p (suc j) v
+        over : (v : ℕ) → round_of_rank s rank f (state_at s f) v ≡ bus_before s f rank p (suc j) v
         over v =
             ap (λ (o : Option Plan). after_round s rank f (state_at s f) o v) is_round.plan
             ∙ ap (λ (k : ℕ). before_slot s rank f p (state_at s f) k v) (omega (arith, end))
 
-        pub round_left : (v : ℕ) (w : WindowLog) (c : Closing) → Of j v w → w.closed ≡ Some c → round s rank f (state_at s f) v ≡ StateOn c.after.core
+        pub round_left : (v : ℕ) (w : WindowLog) (c : Closing) → Of j v w → w.closed ≡ Some c → round_of_rank s rank f (state_at s f) v ≡ StateOn c.after.core
         round_left v w c here is = over v ∙ left v w here c is
 
-        pub round_without : (v : ℕ) → knows s.nodes v ≡ true → ((w : WindowLog) → Of j v w → ⊥) → round s rank f (state_at s f) v ≡ state_at s f v
+        pub round_without : (v : ℕ) → knows s.nodes v ≡ true → ((w : WindowLog) → Of j v w → ⊥) → round_of_rank s rank f (state_at s f) v ≡ state_at s f v
         round_without v known none =
             over v
             ∙ stays_without s clocks air lawful f in_run rank j p start heard v known none

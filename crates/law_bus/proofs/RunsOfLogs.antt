@@ -14,12 +14,12 @@ use Rattle.lwb_member.specs.Said.{message_of}
 use Rattle.scenario_text.specs.ScenarioParts.{ScenarioParts}
 use Rattle.scenario_text.specs.FloodParts.{knows}
 use Rattle.radio_model.specs.declared.sending.Sending.{Sending}
-use Rattle.radio_model.specs.Hearing.{frame_of, slot_of}
+use Rattle.radio_model.specs.Hearing.{frame_of_sending, slot_of_sending}
 use Rattle.node_core.specs.Nodes.{Node}
 use Rattle.air_log.specs.declared.entry.Entry.{Entry}
 use Rattle.air_log.specs.Devices.{Power, PowerOff, PowerOn}
 use Rattle.air_log.specs.Lawful.{trail_in}
-use Rattle.air_log.specs.Safe.{by_host}
+use Rattle.air_log.specs.Safe.{sender_hosts}
 use Rattle.air_log.specs.Trails.{run_end, setup_of}
 use Rattle.air_log.specs.WindowLogs.{WindowLog}
 use Rattle.law_trails.specs.TrailLinks.{device_in}
@@ -27,7 +27,7 @@ use Rattle.law_trails.proofs.OtherCounters.{bodies_same}
 use Rattle.law_trails.proofs.SentInTrails.{sent_known}
 use Rattle.law_safety.specs.Beginnings.{MaySay, SaysSchedule}
 use Rattle.law_safety.specs.FloodSendings.{IsOfFlood}
-use Rattle.law_safety.specs.Invariant.{IsRun}
+use Rattle.law_safety.specs.Invariant.{IsObedientRun}
 use Rattle.law_safety.specs.SentPlans.{IsPlanned}
 use Rattle.law_safety.proofs.InvariantHolds.{holds_throughout}
 use Rattle.law_safety.specs.Endings.{EndsInOrder}
@@ -63,7 +63,7 @@ not_first f p q is long first =
     omega (arith, count, zero_count)
 
 module _ (s : ScenarioParts) (clocks : ℕ → ℕ → ℕ) (air : List Entry) (lawful : IsLawfulRun s clocks air) where
-  pub run : IsRun s clocks air
+  pub run : IsObedientRun s clocks air
   run = run_of s clocks air lawful
 
   pub whole : EndsInOrder s clocks air
@@ -98,13 +98,13 @@ module _ (s : ScenarioParts) (clocks : ℕ → ℕ → ℕ) (air : List Entry) (
     abbrev o : Sending
     o = flood.origin
 
-    frame : frame_of s.profile o ≡ w.frame
+    frame : frame_of_sending s.profile o ≡ w.frame
     frame = sym flood.slot.frame ∙ is.of_slot.frame
 
     channel : o.rank ≡ w.rank
     channel = sym flood.slot.channel ∙ is.of_slot.channel
 
-    slot : slot_of o ≡ w.slot
+    slot : slot_of_sending o ≡ w.slot
     slot = sym flood.slot.slot ∙ is.of_slot.slot
 
     message : message_of o.packet ≡ Some (ScheduleOf is.schedule)
@@ -112,15 +112,15 @@ module _ (s : ScenarioParts) (clocks : ℕ → ℕ → ℕ) (air : List Entry) (
         let first = flood.begins.start.first in
         sym (bodies_same is.heard.packet o.packet flood.few (omega (arith, first)) flood.same) ∙ is.says
 
-    says_there : SaysSchedule s clocks air o.node o.rank (frame_of s.profile o) flood.zero (slot_of o) is.schedule
-    says_there = subst (MaySay s clocks air o.node o.rank (frame_of s.profile o) flood.zero (slot_of o)
-        (by_host s clocks air o)) message flood.begins.start.says
+    says_there : SaysSchedule s clocks air o.node o.rank (frame_of_sending s.profile o) flood.zero (slot_of_sending o) is.schedule
+    says_there = subst (MaySay s clocks air o.node o.rank (frame_of_sending s.profile o) flood.zero (slot_of_sending o)
+        (sender_hosts s clocks air o)) message flood.begins.start.says
 
     says_here : SaysSchedule s clocks air o.node w.rank w.frame flood.zero w.slot is.schedule
     says_here =
         subst (λ (j : ℕ). SaysSchedule s clocks air o.node w.rank w.frame flood.zero j is.schedule) slot
-        (subst (λ (f : ℕ). SaysSchedule s clocks air o.node w.rank f flood.zero (slot_of o) is.schedule) frame
-        (subst (λ (r : ℕ). SaysSchedule s clocks air o.node r (frame_of s.profile o) flood.zero (slot_of o) is.schedule) channel says_there))
+        (subst (λ (f : ℕ). SaysSchedule s clocks air o.node w.rank f flood.zero (slot_of_sending o) is.schedule) frame
+        (subst (λ (r : ℕ). SaysSchedule s clocks air o.node r (frame_of_sending s.profile o) flood.zero (slot_of_sending o) is.schedule) channel says_there))
 
     called : IsCalled s clocks o.node (device_in s clocks air o.node (run_end s)).made.windows o
     called =
@@ -163,7 +163,7 @@ module _ (s : ScenarioParts) (clocks : ℕ → ℕ → ℕ) (air : List Entry) (
       };
     }
       where
-        frame_only : frame_of s.profile o + 0 ≡ w.frame
+        frame_only : frame_of_sending s.profile o + 0 ≡ w.frame
         frame_only = (let same = frame in omega (arith, same))
 
   -- a node that has a window in a frame is on at its start, and goes through it

@@ -6,7 +6,7 @@ use Rattle.bus_rules.specs.Plans.{last_slot}
 use Rattle.scenario_text.specs.ScenarioParts.{ScenarioParts}
 use Rattle.scenario_text.specs.FloodParts.{knows}
 use Rattle.radio_model.specs.declared.sending.Sending.{Sending}
-use Rattle.radio_model.specs.Hearing.{frame_of, slot_of as slot_byte}
+use Rattle.radio_model.specs.Hearing.{frame_of_sending, slot_of_sending as slot_byte}
 use Rattle.air_log.specs.declared.entry.Entry.{Entry}
 use Rattle.air_log.specs.Entries.{sendings_of}
 use Rattle.air_log.specs.Trails.{run_end}
@@ -17,7 +17,7 @@ use Rattle.law_windows.specs.WindowCalls.{IsCalled}
 use Rattle.law_windows.proofs.WindowFacts.{sends_as_called}
 use Rattle.bus_terms.specs.FloodOfText.{ids}
 use Rattle.bus_terms.specs.Flooding.{Sends, Setting, has}
-use Rattle.bus_terms.specs.Rounds.{Slot, said_in}
+use Rattle.bus_terms.specs.Rounds.{Slot, message_said}
 use Rattle.bus_terms.proofs.ReceivedByPaths.{of_filtered}
 use Rattle.lwb_flood.specs.FloodRun.{Run, counter}
 use Rattle.lwb_flood.specs.FloodBySteps.{IsFloodBySteps}
@@ -30,7 +30,7 @@ use Rattle.law_bus.proofs.RunsOfLogs.{run, whole}
 
 module _ (s : ScenarioParts) (clocks : ℕ → ℕ → ℕ) (air : List Entry) (x : Sending) (there : Contains (sendings_of air) x) (p : Plan) where
   abbrev f : ℕ
-  f = frame_of s.profile x
+  f = frame_of_sending s.profile x
 
   abbrev slot : Slot
   slot = bus_slot s f x.rank p (slot_byte x)
@@ -44,7 +44,7 @@ module _ (s : ScenarioParts) (clocks : ℕ → ℕ → ℕ) (air : List Entry) (
       let o = found.0 in
       let k = counter x in
       let begun : has slot.flood.initiators o ≡ true = subst (λ (g : Setting). has g.initiators o ≡ true) is.setting found.1 in
-      let m = some_is (said_in (slot.window o)) (of_filtered (λ u. is_some (said_in (slot.window u))) (ids s.nodes) o begun) in
+      let m = some_is (message_said (slot.window o)) (of_filtered (λ u. is_some (message_said (slot.window u))) (ids s.nodes) o begun) in
       let says : Says s f x.rank p (slot_byte x) o m.0 = (begun, m.1) in
       record {
         plan = p;
@@ -73,7 +73,7 @@ module _ (heards : SlotHeardLaw) (runs : RunsLaw) (s : ScenarioParts) (clocks : 
   aligned : IsAligned s x.node called.window
   aligned = cores_law heards s clocks air lawful x.node called.window known called.there
 
-  round : IsRound s (frame_of s.profile x) x.rank aligned.plan
+  round : IsRound s (frame_of_sending s.profile x) x.rank aligned.plan
   round = subst (λ (g : ℕ). IsRound s g x.rank aligned.plan) (sym called.of_slot.frame)
       (subst (λ (r : ℕ). IsRound s called.window.frame r aligned.plan) (sym called.of_slot.channel) aligned.round)
 
@@ -82,8 +82,8 @@ module _ (heards : SlotHeardLaw) (runs : RunsLaw) (s : ScenarioParts) (clocks : 
 
   said : IsSaidIn s x
   said =
-      let start = (all_slots heards s clocks air lawful (frame_of s.profile x) x.rank (slot_byte x) aligned.plan round within).0 in
-      let r = runs s clocks air lawful (frame_of s.profile x) x.rank (slot_byte x) aligned.plan round within start in
+      let start = (all_slots heards s clocks air lawful (frame_of_sending s.profile x) x.rank (slot_byte x) aligned.plan round within).0 in
+      let r = runs s clocks air lawful (frame_of_sending s.profile x) x.rank (slot_byte x) aligned.plan round within start in
       said_in_run s clocks air x there aligned.plan round within r.0 r.1 r.2
 
 pub sent_law : SlotHeardLaw → RunsLaw → SentLaw

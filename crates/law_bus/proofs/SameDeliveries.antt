@@ -13,17 +13,17 @@ use Rattle.scenario_text.specs.declared.lines.NodeLine.{NodeLine}
 use Rattle.scenario_text.specs.FloodDrafts.{Climbs}
 use Rattle.lwb_base.proofs.Elements.{any_of, from_flat, in_flat, map_contains, not_in_none, of_option, contains_cases}
 use Rattle.air_log.specs.declared.entry.Entry.{Entry}
-use Rattle.air_log.specs.Deliveries.{delivered_at as delivered_in_air, deliveries_of}
+use Rattle.air_log.specs.Deliveries.{deliveries_of_node as delivered_in_air, deliveries_of}
 use Rattle.air_log.specs.Devices.{Device}
 use Rattle.air_log.specs.Drops.{drops_of}
 use Rattle.air_log.specs.Lawful.{trail_in}
 use Rattle.air_log.specs.Trails.{run_end, setup_of}
 use Rattle.air_log.specs.WindowLogs.{WindowLog, Closing}
 use Rattle.law_safety.proofs.RunFacts.{frame_lasts}
-use Rattle.law_windows.specs.WindowDeliveries.{at_closing, delivered_by, delivered_in}
+use Rattle.law_windows.specs.WindowDeliveries.{delivery_at_closing, delivered_by, delivered_in}
 use Rattle.law_windows.proofs.WindowFacts.{deliveries_of_windows}
 use Rattle.bus_terms.specs.FloodOfText.{ids}
-use Rattle.bus_terms.specs.Rounds.{delivered_at}
+use Rattle.bus_terms.specs.Rounds.{delivery_in_slot}
 use Rattle.bus_terms.specs.Bus.{bus_deliveries, bus_drops, state_at}
 use Rattle.bus_terms.proofs.ListsInTurn.{pairs_in_turn, pieces_in_turn}
 use Rattle.law_windows.proofs.Strangers.{at_rest_always}
@@ -43,8 +43,8 @@ use Rattle.law_bus.proofs.SlotsAtNodes.{look_up}
 use Rattle.law_bus.proofs.WindowsInTurn.{closing_of}
 
 -- what a window delivers is among what its node delivers
-in_windows : (S : Setup) (ws : List WindowLog) (w : WindowLog) (c : Closing) (a : Delivery) → Contains ws w → w.closed ≡ Some c → at_closing S w ≡ Some a
-    → Contains (delivered_in S ws) a
+in_windows : (S : Setup) (ws : List WindowLog) (w : WindowLog) (c : Closing) (a : Delivery) → Contains ws w → w.closed ≡ Some c
+    → delivery_at_closing S w ≡ Some a → Contains (delivered_in S ws) a
 in_windows S [] w c a there closed is = absurd (not_in_none w there)
 in_windows S (x ∷ ws) w c a there closed is =
     elim (contains_cases x ws w there) [
@@ -87,7 +87,7 @@ module _ (heards : SlotHeardLaw) (s : ScenarioParts) (clocks : ℕ → ℕ → �
 
   -- each of them is of the bus
   of_bus : (v : ℕ) (w : WindowLog) (c : Closing) (a : Delivery) → Contains (ids s.nodes) v → Contains (logs v) w → w.closed ≡ Some c
-      → at_closing (setup_of s v) w ≡ Some a → Contains (bus_deliveries s) a
+      → delivery_at_closing (setup_of s v) w ≡ Some a → Contains (bus_deliveries s) a
   of_bus v w c a named there closed is =
       let known = known_by s clocks air lawful v w there in
       let aligned : IsAligned s v w = cores_law heards s clocks air lawful v w known there in
@@ -111,7 +111,7 @@ module _ (heards : SlotHeardLaw) (s : ScenarioParts) (clocks : ℕ → ℕ → �
 
   module _ (f rank j v : ℕ) (p : Plan) (round : IsRound s f rank p) (within : j ≤ last_slot p)
       (a : Delivery) (n : NodeLine) (named : Contains s.nodes n) (at : n.node ≡ v)
-      (is : delivered_at s rank f p (state_at s f) j v ≡ Some a) where
+      (is : delivery_in_slot s rank f p (state_at s f) j v ≡ Some a) where
     known : knows s.nodes v ≡ true
     known = any_of (λ (m : NodeLine). m.node == v) s.nodes n named (eq-eqb n.node v at)
 

@@ -1,7 +1,7 @@
 -- What a node says in a window may be said in its slot: as the window opens the node is in its ranges.
 use Rattle.std.proofs.Common.{◌≡◌, ℕ, List, Some, None, Option, IfSome, sym, subst, true≢false}
 use Rattle.lwb_packets.specs.declared.kind.Kind.{Kind}
-use Rattle.bus_rules.specs.Slots.{Message, part_of, opened}
+use Rattle.bus_rules.specs.Slots.{Message, part_of, opened_slot}
 use Rattle.lwb_member.specs.Places.{kind_for}
 use Rattle.lwb_member.specs.Said.{MaySay}
 use Rattle.node_core.specs.declared.stage.Stage.{Stage}
@@ -13,7 +13,7 @@ use Rattle.air_log.specs.Devices.{Device, Power, PowerOn}
 use Rattle.air_log.specs.Lawful.{heard_by}
 use Rattle.air_log.specs.Trails.{setup_of}
 use Rattle.law_trails.specs.DeviceRanges.{IsPower}
-use Rattle.law_trails.specs.NodeRanges.{IsAt, IsNode}
+use Rattle.law_trails.specs.NodeRanges.{IsInStage, IsNodeInRange}
 use Rattle.law_trails.specs.Phases.{IsNextAlarm}
 use Rattle.law_trails.proofs.SaidInRange.{IsSayable, placed, says}
 use Rattle.law_trails.proofs.TrailsInRange.{set}
@@ -31,17 +31,17 @@ may_be s v j k (Some m) is = is.may
 
 module _ (s : ScenarioParts) (clocks : ℕ → ℕ → ℕ) (air : List Entry) (v t : ℕ) (at : AtTick s clocks air v t) where
   -- a node in its ranges that awaits the slot
-  says_there : (n : Node) (j : ℕ) → IsNode (setup_of s v) n → n.stage ≡ AwaitSlot j
-      → IfSome (opened (setup_of s v) n.frame (part_of n.core.plan j) n.core).message (MaySay j)
+  says_there : (n : Node) (j : ℕ) → IsNodeInRange (setup_of s v) n → n.stage ≡ AwaitSlot j
+      → IfSome (opened_slot (setup_of s v) n.frame (part_of n.core.plan j) n.core).message (MaySay j)
   says_there n j ranged stage =
       let S = setup_of s v in
       let part = part_of n.core.plan j in
       let id = known_id s at.run.driven.sound v at.known in
-      let stands = subst (λ (st : Stage). IsAt S n.frame n.core st) stage ranged.stage in
-      may_be s v j (kind_for part) (opened S n.frame part n.core).message
+      let stands = subst (λ (st : Stage). IsInStage S n.frame n.core st) stage ranged.stage in
+      may_be s v j (kind_for part) (opened_slot S n.frame part n.core).message
       (says S (set s at.run.driven.sound v id.0 id.1) n.frame j part n.core ranged.core (placed n.core.plan j ranged.core.plan stands.0))
 
-  ranged_at : (d : Device) (n : Node) → IsNextAlarm s v (clocks v) (heard_by air v) t d → d.power ≡ PowerOn n → IsNode (setup_of s v) n
+  ranged_at : (d : Device) (n : Node) → IsNextAlarm s v (clocks v) (heard_by air v) t d → d.power ≡ PowerOn n → IsNodeInRange (setup_of s v) n
   ranged_at d n due on = subst (λ (p : Power). IsPower (setup_of s v) p) on (well_at_alarms s clocks air v t at d due).power
 
   says_steps : KeepsWindows s clocks air v (λ now taken w. SaysInRange s v w) t

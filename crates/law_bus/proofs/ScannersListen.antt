@@ -20,14 +20,14 @@ use Rattle.air_log.specs.WindowLogs.{WindowLog, Happening, HeardAt}
 use Rattle.lwb_base.proofs.Elements.{contains_head, contains_tail}
 use Rattle.law_trails.specs.TrailLinks.{device_in}
 use Rattle.law_trails.proofs.UnstoppedTimes.{relay_after, relay_is}
-use Rattle.law_safety.specs.Invariant.{IsRun}
+use Rattle.law_safety.specs.Invariant.{IsObedientRun}
 use Rattle.law_safety.proofs.RunFacts.{run_fits}
 use Rattle.law_safety.proofs.RunSendings.{in_trail}
 use Rattle.law_windows.specs.WindowCalls.{CallsFor, IsCalled}
 use Rattle.law_windows.specs.WindowHistory.{HasHappened, HeardThen}
 use Rattle.law_windows.proofs.WindowFacts.{history_on_air, sends_as_called}
 use Rattle.lwb_flood.specs.FloodRun.{Run, InTime}
-use Rattle.lwb_flood.specs.Windows.{HasWindow as ListensIn, IsWindow}
+use Rattle.lwb_flood.specs.Windows.{ListensInWindow as ListensIn, IsListeningWindow}
 use Rattle.bus_terms.specs.Flooding.{has}
 use Rattle.law_terms.specs.LawfulRuns.{IsLawfulRun}
 use Rattle.law_terms.specs.SlotLaws.{IsRound, IsWindowOf, HasWindow, bus_slot}
@@ -62,7 +62,7 @@ module _ (s : ScenarioParts) (clocks : ℕ → ℕ → ℕ) (air : List Entry) (
   abbrev far : ℕ
   far = run_end s + 12 * (r.air + r.turn)
 
-  go : IsRun s clocks air
+  go : IsObedientRun s clocks air
   go = run s clocks air lawful
 
   -- what is sent by the window that it has joined starts behind its opening
@@ -140,7 +140,7 @@ module _ (s : ScenarioParts) (clocks : ℕ → ℕ → ℕ) (air : List Entry) (
         | inr none ↦ none_ended x (are.without v (λ w at. none w at.there at.frame at.channel at.slot)) until
       ]
 
-  covers_flood : IsWindow r (TunedThrough a) v (frame_start s f) far
+  covers_flood : IsListeningWindow r (TunedThrough a) v (frame_start s f) far
   covers_flood = record {
     some = lawful.sound.some_sends;
     since = λ x time. (

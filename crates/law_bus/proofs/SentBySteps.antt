@@ -10,14 +10,14 @@ use Rattle.bus_rules.specs.Slots.{Message, message_length}
 use Rattle.lwb_member.proofs.Lengths.{said_long}
 use Rattle.scenario_text.specs.ScenarioParts.{ScenarioParts}
 use Rattle.radio_model.specs.declared.sending.Sending.{Sending}
-use Rattle.radio_model.specs.Hearing.{frame_of, slot_of}
+use Rattle.radio_model.specs.Hearing.{frame_of_sending, slot_of_sending}
 use Rattle.air_log.specs.declared.entry.Entry.{Entry}
 use Rattle.air_log.specs.Charges.{step_and_length}
 use Rattle.air_log.specs.Entries.{sendings_of}
 use Rattle.bus_terms.specs.Costs.{length_at}
 use Rattle.bus_terms.specs.FloodOfText.{ids}
 use Rattle.bus_terms.specs.Flooding.{Setting, Sends, has, moment, steps}
-use Rattle.bus_terms.specs.Rounds.{Slot, said_in}
+use Rattle.bus_terms.specs.Rounds.{Slot, message_said}
 use Rattle.bus_terms.proofs.ReceivedByPaths.{of_filtered}
 use Rattle.law_safety.proofs.RunSendings.{of_flood}
 use Rattle.lwb_flood.specs.FloodRun.{Run, initiates, packet}
@@ -55,8 +55,8 @@ module _ (s : ScenarioParts) (clocks : ℕ → ℕ → ℕ) (air : List Entry) (
     pub there : Contains (sendings_of air) y
     pub node : y.node ≡ v
     pub channel : y.rank ≡ rank
-    pub frame : frame_of s.profile y ≡ f
-    pub slot : slot_of y ≡ j
+    pub frame : frame_of_sending s.profile y ≡ f
+    pub slot : slot_of_sending y ≡ j
 
   module _ (r : Run) (is : IsRunOf s clocks air f rank p j r) (steps : IsFloodBySteps r) where
     in_run : (v : ℕ) (y : Sending) → IsSentHere v y → Contains r.sendings y
@@ -68,7 +68,7 @@ module _ (s : ScenarioParts) (clocks : ℕ → ℕ → ℕ) (air : List Entry) (
     -- what an initiator says is as long as on the bus
     said_length : (o k : ℕ) → has x.flood.initiators o ≡ true → length (packet r o k) ≡ length_at x o
     said_length o k there =
-        let said = some_is (said_in (x.window o)) (of_filtered (λ u. is_some (said_in (x.window u))) (ids s.nodes) o there) in
+        let said = some_is (message_said (x.window o)) (of_filtered (λ u. is_some (message_said (x.window u))) (ids s.nodes) o there) in
         let says : Says s f rank p j o said.0 = (there, said.1) in
         length-set (r.message o) 2 k
         ∙ ap (λ (q : List ℕ). length q) (is.message o said.0 says)

@@ -18,7 +18,7 @@ use Rattle.law_windows.specs.WindowCalls.{IsCalled}
 use Rattle.law_windows.specs.WindowTimes.{IsOfSlot}
 use Rattle.law_windows.proofs.WindowFacts.{sends_as_called}
 use Rattle.bus_terms.specs.Flooding.{has}
-use Rattle.lwb_flood.specs.FloodRun.{Run, initiates, counter, sending_at}
+use Rattle.lwb_flood.specs.FloodRun.{Run, initiates, counter, sending_of_run}
 use Rattle.law_terms.specs.LawfulRuns.{IsLawfulRun}
 use Rattle.law_terms.specs.SlotLaws.{IsWindowOf, bus_slot}
 use Rattle.law_terms.specs.SlotSteps.{IsSlotStart}
@@ -31,7 +31,7 @@ use Rattle.air_log.proofs.SameSendings.{same_sending}
 
 pub record BeginsAsSaid (r : Run) : Type 0 where
   pub lasts : (x : Sending) → Contains r.sendings x → (x.rank ≡ r.rank) × (x.end ≡ x.start + r.air)
-  pub begun : (o : ℕ) → initiates r o → Contains r.sendings (sending_at r o (r.starts o) (r.message o))
+  pub begun : (o : ℕ) → initiates r o → Contains r.sendings (sending_of_run r o (r.starts o) (r.message o))
   pub beginnings : (x : Sending) → Contains r.sendings x → counter x ≡ 0
       → initiates r x.node × (x.start ≡ r.starts x.node) × (x.packet ≡ r.message x.node)
 
@@ -127,12 +127,12 @@ module _ (s : ScenarioParts) (clocks : ℕ → ℕ → ℕ) (air : List Entry) (
 
   -- a sending of the slot, by its node, start and packet
   pub sent_at : (x : Sending) → InSlot s clocks air lawful f rank j p in_run start events are x → (v tick : ℕ) (q : List ℕ)
-      → x.node ≡ v → x.start ≡ tick → x.packet ≡ q → Contains r.sendings (sending_at r v tick q)
+      → x.node ≡ v → x.start ≡ tick → x.packet ≡ q → Contains r.sendings (sending_of_run r v tick q)
   sent_at x is v tick q node at packet =
       let end = lasts_so x is in
-      subst (Contains r.sendings) (same_sending x (sending_at r v tick q) is.1.0 node at (end ∙ ap (λ (k : ℕ). k + r.air) at) packet) (sent_there x is)
+      subst (Contains r.sendings) (same_sending x (sending_of_run r v tick q) is.1.0 node at (end ∙ ap (λ (k : ℕ). k + r.air) at) packet) (sent_there x is)
 
-  begun : (o : ℕ) → initiates r o → Contains r.sendings (sending_at r o (r.starts o) (r.message o))
+  begun : (o : ℕ) → initiates r o → Contains r.sendings (sending_of_run r o (r.starts o) (r.message o))
   begun o here =
       let who = speaker s clocks air lawful f rank j p in_run start o here in
       let first = first_sending s clocks air lawful f rank j p in_run start events are o who in

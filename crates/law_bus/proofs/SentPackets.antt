@@ -7,19 +7,19 @@ use Rattle.std.proofs.lemmas.List.{length-map}
 use Rattle.std.proofs.lemmas.List.Elements.{Contains-get_or}
 use Rattle.lwb_base.specs.Messages.{Plan}
 use Rattle.glossy_relay.specs.Relaying.{counter_of}
-use Rattle.bus_rules.specs.Charges.{charge as charge_of, last_of}
+use Rattle.bus_rules.specs.Charges.{charge as charge_of, last_if_all_sent}
 use Rattle.bus_rules.specs.Slots.{Opened}
 use Rattle.scenario_text.specs.ScenarioParts.{ScenarioParts}
 use Rattle.scenario_text.specs.FloodDrafts.{Climbs}
 use Rattle.radio_model.specs.declared.sending.Sending.{Sending}
 use Rattle.lwb_base.proofs.Elements.{filter_from, in_filter}
 use Rattle.air_log.specs.declared.entry.Entry.{Entry}
-use Rattle.air_log.specs.Charges.{charge, counted, sent_in, sent_packets, step_and_length}
-use Rattle.air_log.specs.NodeEvents.{Event, Heard, Ended, sending_of}
+use Rattle.air_log.specs.Charges.{charge_of_window, charge_by_last, sent_in, sent_packets, step_and_length}
+use Rattle.air_log.specs.NodeEvents.{Event, Heard, Ended, sending_of_event}
 use Rattle.air_log.specs.WindowLogs.{WindowLog, Happening}
-use Rattle.law_windows.specs.WindowEvents.{HasEvents, happening_of}
+use Rattle.law_windows.specs.WindowEvents.{WindowHasEvents, happening_of}
 use Rattle.law_windows.specs.WindowTimes.{IsOfSlot}
-use Rattle.bus_terms.specs.Costs.{length_at, sent_by, slot_window}
+use Rattle.bus_terms.specs.Costs.{length_at, steps_sent_by, slot_window}
 use Rattle.bus_terms.specs.Flooding.{moment, steps}
 use Rattle.bus_terms.specs.Rounds.{Slot}
 use Rattle.bus_terms.proofs.ListsInTurn.{given_in_turn, pairs_in_turn, range_in_turn}
@@ -49,7 +49,7 @@ last_mapped : {X Y : Type 0} (g : X → Y) (o : Option X) (xs : List X) → opti
 last_mapped g o [] = refl
 last_mapped g o (x ∷ xs) = last_mapped g (Some x) xs
 
-last_of_mapped : {X Y : Type 0} (g : X → Y) (n : ℕ) (xs : List X) → option_map g (last_of n xs) ≡ last_of n (map g xs)
+last_of_mapped : {X Y : Type 0} (g : X → Y) (n : ℕ) (xs : List X) → option_map g (last_if_all_sent n xs) ≡ last_if_all_sent n (map g xs)
 last_of_mapped {X} {Y} g n xs =
     by_test (length xs == n) ∙ ap (λ (k : ℕ). if k == n then last_or None (map g xs) else None) (sym (length-map xs g))
   where
@@ -82,13 +82,13 @@ module _ (s : ScenarioParts) (clocks : ℕ → ℕ → ℕ) (air : List Entry) (
       by_origin None eq = absurd (not_given a eq)
       by_origin (Some o) eq = sym (ap (λ (b : ℕ × ℕ). b.0) (is_given (k, length_at x o) a eq))
 
-  bus_ascends : Climbs Lower (sent_by x v)
+  bus_ascends : Climbs Lower (steps_sent_by x v)
   bus_ascends =
       given_in_turn (λ k l. k < l) Lower given
       (λ k l less a b first second. let one = of_step k a first in let two = of_step l b second in omega (arith, less, one, two))
       steps (subst (Climbs (λ k l. k < l)) (sym all_steps) (range_in_turn 0 12))
 
-  module _ (w : WindowLog) (here : IsWindowOf s clocks air f rank j v w) (has : HasEvents s air v w) where
+  module _ (w : WindowLog) (here : IsWindowOf s clocks air f rank j v w) (has : WindowHasEvents s air v w) where
     of_slot : (y : Sending) → IsOfSlot s w y → Contains has.events (Ended y) → SentHere y
     of_slot y of_ there =
         let sent = (has.ended y).0 there in
@@ -105,7 +105,7 @@ module _ (s : ScenarioParts) (clocks : ℕ → ℕ → ℕ) (air : List Entry) (
 
     -- in the window, one step after another
     abbrev Follows : Event → Event → Type 0
-    Follows d e = Contains has.events d × Contains has.events e × ((sending_of d).end ≤ (sending_of e).end) × (d ≢ e)
+    Follows d e = Contains has.events d × Contains has.events e × ((sending_of_event d).end ≤ (sending_of_event e).end) × (d ≢ e)
 
     in_turn : AllPairs Follows has.events
     in_turn k l d before within =
@@ -133,12 +133,12 @@ module _ (s : ScenarioParts) (clocks : ℕ → ℕ → ℕ) (air : List Entry) (
     window_ascends = given_in_turn Follows Lower own_step across has.events (pairs_in_turn Follows has.events in_turn)
 
     -- the same on both sides
-    on_the_bus : (a : ℕ × ℕ) → Contains (filter_map own_step has.events) a → Contains (sent_by x v) a
+    on_the_bus : (a : ℕ × ℕ) → Contains (filter_map own_step has.events) a → Contains (steps_sent_by x v) a
     on_the_bus a within =
         let found = filter_from own_step has.events a within in
         by_event found.0 found.1 found.2
       where
-        by_event : (e : Event) → Contains has.events e → own_step e ≡ Some a → Contains (sent_by x v) a
+        by_event : (e : Event) → Contains has.events e → own_step e ≡ Some a → Contains (steps_sent_by x v) a
         by_event (Heard y) there at = absurd (not_given a at)
         by_event (Ended y) there at =
             let step = step_of s clocks air lawful f rank p j r is by_steps v y (sent_here y there) in
@@ -148,7 +148,7 @@ module _ (s : ScenarioParts) (clocks : ℕ → ℕ → ℕ) (air : List Entry) (
             (in_range 0 12 (counter_of y.packet) (omega arith) (omega (arith, few))))
             (step.on_the_bus ∙ at)
 
-    in_the_window : (a : ℕ × ℕ) → Contains (sent_by x v) a → Contains (filter_map own_step has.events) a
+    in_the_window : (a : ℕ × ℕ) → Contains (steps_sent_by x v) a → Contains (filter_map own_step has.events) a
     in_the_window a within =
         let found = filter_from given steps a within in
         let k = found.0 in
@@ -167,16 +167,16 @@ module _ (s : ScenarioParts) (clocks : ℕ → ℕ → ℕ) (air : List Entry) (
         ))
         (ap (λ (b : ℕ × ℕ). Some b) sent.same)
 
-    pub packets_same : map step_and_length (sent_packets w) ≡ sent_by x v
+    pub packets_same : map step_and_length (sent_packets w) ≡ steps_sent_by x v
     packets_same =
         ap (λ (hs : List Happening). map step_and_length (filter_map sent_in hs)) (sym has.happened)
         ∙ packets_of has.events
-        ∙ same_ascending (λ (a : ℕ × ℕ). a.0) (filter_map own_step has.events) (sent_by x v) window_ascends bus_ascends on_the_bus in_the_window
+        ∙ same_ascending (λ (a : ℕ × ℕ). a.0) (filter_map own_step has.events) (steps_sent_by x v) window_ascends bus_ascends on_the_bus in_the_window
 
     -- where it has opened by its alarm, and is one of the bus
-    pub charge_same : w.by_alarm ≡ true → (o : Opened) → x.window v ≡ Some o → charge s w ≡ slot_window s.profile x v
+    pub charge_same : w.by_alarm ≡ true → (o : Opened) → x.window v ≡ Some o → charge_of_window s w ≡ slot_window s.profile x v
     charge_same alarm o window =
-        ap (λ (b : Bool). if b then counted s.profile (last_of s.sends (sent_packets w)) else 0) alarm
+        ap (λ (b : Bool). if b then charge_by_last s.profile (last_if_all_sent s.sends (sent_packets w)) else 0) alarm
         ∙ ap (λ (c : Option (ℕ × ℕ)). charge_of s.profile c) (last_of_mapped step_and_length s.sends (sent_packets w))
-        ∙ ap (λ (l : List (ℕ × ℕ)). charge_of s.profile (last_of s.sends l)) packets_same
-        ∙ sym (ap (λ (c : Option Opened). if is_some c then charge_of s.profile (last_of x.flood.limit (sent_by x v)) else 0) window)
+        ∙ ap (λ (l : List (ℕ × ℕ)). charge_of s.profile (last_if_all_sent s.sends l)) packets_same
+        ∙ sym (ap (λ (c : Option Opened). if is_some c then charge_of s.profile (last_if_all_sent x.flood.limit (steps_sent_by x v)) else 0) window)

@@ -12,7 +12,7 @@ use Rattle.bus_rules.specs.Plans.{last_slot}
 use Rattle.scenario_text.specs.ScenarioParts.{ScenarioParts}
 use Rattle.scenario_text.specs.FloodParts.{knows}
 use Rattle.radio_model.specs.declared.sending.Sending.{Sending}
-use Rattle.radio_model.specs.Hearing.{frame_of, slot_of}
+use Rattle.radio_model.specs.Hearing.{frame_of_sending, slot_of_sending}
 use Rattle.air_log.specs.declared.entry.Entry.{Entry}
 use Rattle.air_log.specs.Lawful.{heard_by, trail_in}
 use Rattle.air_log.specs.TrailEntries.{IsSentBefore}
@@ -84,7 +84,7 @@ module _ (runs : RunsLaw) (s : ScenarioParts) (clocks : ℕ → ℕ → ℕ) (ai
     abbrev SentHere : Sending → Type 0
     SentHere y = IsSentHere s clocks air lawful f rank p j v y
 
-    sent_here : (y : Sending) → Contains sent y → frame_of s.profile y ≡ f → slot_of y ≡ j → SentHere y
+    sent_here : (y : Sending) → Contains sent y → frame_of_sending s.profile y ≡ f → slot_of_sending y ≡ j → SentHere y
     sent_here y there frame slot =
         let own = (sent_below s clocks air (run s clocks air lawful).heedful.trails v known (run_end s) (omega arith) y).1 there in
         record {
@@ -105,19 +105,20 @@ module _ (runs : RunsLaw) (s : ScenarioParts) (clocks : ℕ → ℕ → ℕ) (ai
 
     -- what counts of this slot
     abbrev of_frame : Sending → ℕ
-    of_frame = under (frame_of s.profile) lasts f
+    of_frame = under (frame_of_sending s.profile) lasts f
 
     abbrev here_counts : Sending → ℕ
-    here_counts = under slot_of of_frame j
+    here_counts = under slot_of_sending of_frame j
 
-    counts_none : (y : Sending) → (frame_of s.profile y ≡ f → slot_of y ≡ j → ⊥) → here_counts y ≡ 0
-    counts_none y other = under_none slot_of of_frame j y (λ slot. under_none (frame_of s.profile) lasts f y (λ frame. absurd (other frame slot)))
+    counts_none : (y : Sending) → (frame_of_sending s.profile y ≡ f → slot_of_sending y ≡ j → ⊥) → here_counts y ≡ 0
+    counts_none y other =
+        under_none slot_of_sending of_frame j y (λ slot. under_none (frame_of_sending s.profile) lasts f y (λ frame. absurd (other frame slot)))
 
     few : (y : Sending) → Contains sent y → (steps_sent y < 12) ⊎ (here_counts y ≡ 0)
     few y there =
-        elim (cases_eq (frame_of s.profile y) f) [
+        elim (cases_eq (frame_of_sending s.profile y) f) [
           | inr other ↦ inr (counts_none y (λ frame slot. other frame))
-          | inl frame ↦ elim (cases_eq (slot_of y) j) [
+          | inl frame ↦ elim (cases_eq (slot_of_sending y) j) [
             | inr other ↦ inr (counts_none y (λ same slot. other slot))
             | inl slot ↦
                 (let step = step_of s clocks air lawful f rank p j found.0 found.1 found.2 v y (sent_here y there frame slot) in
@@ -142,8 +143,8 @@ module _ (runs : RunsLaw) (s : ScenarioParts) (clocks : ℕ → ℕ → ℕ) (ai
         (λ z also other. under_none steps_sent here_counts k z (λ step. counts_none z (λ frame slot.
         other (sent_once s clocks air lawful f rank p j found.0 found.1 found.2 v z y (sent_here z also frame slot) one.here (step ∙ sym one.counter)))))
         ∙ under_its steps_sent here_counts k y one.counter
-        ∙ under_its slot_of of_frame j y one.here.slot
-        ∙ under_its (frame_of s.profile) lasts f y one.here.frame
+        ∙ under_its slot_of_sending of_frame j y one.here.slot
+        ∙ under_its (frame_of_sending s.profile) lasts f y one.here.frame
         ∙ each_lasts y there
         ∙ ap takes one.same
 
@@ -165,5 +166,5 @@ module _ (runs : RunsLaw) (s : ScenarioParts) (clocks : ℕ → ℕ → ℕ) (ai
 
   pub sent_same : (bus_cost s v).sent ≡ sum_by (λ x. x.end - x.start) (trail_in s clocks air v).made.sent
   sent_same =
-      sym (over_rounds s v (frame_of s.profile) slot_of lasts sent (λ x. slot_sent s.profile x v)
+      sym (over_rounds s v (frame_of_sending s.profile) slot_of_sending lasts sent (λ x. slot_sent s.profile x v)
       (sending_placed heards s clocks air lawful v known) of_slot)

@@ -13,7 +13,7 @@ use Rattle.bus_rules.specs.declared.part.Part.TheVariants.{Opening, Data as Data
 use Rattle.bus_rules.specs.Cores.{Core, Setup}
 use Rattle.bus_rules.specs.Plans.{opening}
 use Rattle.bus_rules.specs.Streams.{first_waiting, requested}
-use Rattle.bus_rules.specs.Slots.{Message, ScheduleOf, DataOf, RequestOf, part_of, opened, hosts_now, host_closes, data_of, request_of, is_own}
+use Rattle.bus_rules.specs.Slots.{Message, ScheduleOf, DataOf, RequestOf, part_of, opened_slot, hosts_now, host_closes, data_of, request_of, is_own}
 use Rattle.lwb_member.specs.Places.{kind_for}
 use Rattle.lwb_member.specs.Said.{bytes_of, message_of}
 use Rattle.scenario_text.specs.ScenarioParts.{ScenarioParts}
@@ -21,10 +21,10 @@ use Rattle.radio_model.specs.declared.sending.Sending.{Sending}
 use Rattle.air_log.specs.declared.entry.Entry.{Entry}
 use Rattle.air_log.specs.NodeEvents.{Event}
 use Rattle.air_log.specs.Trails.{setup_of}
-use Rattle.law_trails.specs.PacketKinds.{IsPacketOf, kind_of}
+use Rattle.law_trails.specs.PacketKinds.{IsPacketOf, kind_of_message}
 use Rattle.law_trails.proofs.LogsInRange.{all_sent}
 use Rattle.law_trails.proofs.SaidPackets.{says, request_first, request_read}
-use Rattle.law_safety.specs.SlotLaws.{Asks}
+use Rattle.law_safety.specs.SlotLaws.{AsksForStream}
 use Rattle.law_safety.proofs.SlotFloods.{one_flood}
 use Rattle.law_terms.specs.LawfulRuns.{IsLawfulRun}
 use Rattle.law_terms.specs.SlotLaws.{IsRound}
@@ -44,7 +44,7 @@ AsksFor v (Some (ScheduleOf x)) = ⊤
 AsksFor v (Some (DataOf d)) = ⊤
 AsksFor v (Some (RequestOf a)) = a.node ≡ v
 
-asks_itself : (S : Setup) (f : ℕ) (part : Part) (c : Core) → AsksFor S.id (opened S f part c).message
+asks_itself : (S : Setup) (f : ℕ) (part : Part) (c : Core) → AsksFor S.id (opened_slot S f part c).message
 asks_itself S f Opening c = if_of (AsksFor S.id) tt (hosts_now f c) (Some (ScheduleOf (opening c.plan))) tt
 asks_itself S f (DataSlot owner) c =
     if_of (AsksFor S.id) tt (node_of owner == S.id) (option_map (data_of S.id c (stream_of owner)) (first_waiting c.streams (stream_of owner)))
@@ -93,7 +93,7 @@ module _ (s : ScenarioParts) (clocks : ℕ → ℕ → ℕ) (air : List Entry) (
       let k : KindIs (part_of w.before.core.plan w.slot) (Some (who o here).message) =
       subst (KindIs (part_of w.before.core.plan w.slot)) (who o here).said
       (said_kind (setup_of s o) w.before.frame (part_of w.before.core.plan w.slot) w.before.core) in
-      let named : kind_of said.message ≡ r.kind =
+      let named : kind_of_message said.message ≡ r.kind =
       sym of_packet.named ∙ ap kind_named (first_packet o here ∙ said_so o here) ∙ named_kind (part_of w.before.core.plan w.slot) (who o here).message j k
       ∙ ap kind_for (part_is s clocks air lawful f rank j p round.in_run start o w (who o here).here (who o here).by_alarm) in
       ap (is_spelling r.kind) (sym (first_packet o here)) ∙ ap (λ (l : Kind). is_spelling l (first_of o here).packet) (sym named) ∙ of_packet.spelled
@@ -103,7 +103,7 @@ module _ (s : ScenarioParts) (clocks : ℕ → ℕ → ℕ) (air : List Entry) (
       let w = (who o here).window in
       subst (AsksFor o) (who o here).said (asks_itself (setup_of s o) w.before.frame (part_of w.before.core.plan w.slot) w.before.core)
 
-  node_in : (o : ℕ) (here : initiates r o) → Asks (message_of (first_of o here).packet) → slice_index (body (r.message o)) 3 ≡ o
+  node_in : (o : ℕ) (here : initiates r o) → AsksForStream (message_of (first_of o here).packet) → slice_index (body (r.message o)) 3 ≡ o
   node_in o here asks =
       let byte : slice_index (bytes_of (who o here).message j) 0 ≡ 3 =
       ap (λ (q : List ℕ). slice_index q 0) (sym (first_packet o here ∙ said_so o here))
@@ -126,8 +126,8 @@ module _ (s : ScenarioParts) (clocks : ℕ → ℕ → ℕ) (air : List Entry) (
             ∙ (first_sending s clocks air lawful f rank j p round.in_run start events are q (who q also)).node
             )
         | inr asks ↦ (
-            let first : Asks (message_of (first_of o here).packet) = subst (λ (z : Sending). Asks (message_of z.packet)) one asks.0 in
-            let second : Asks (message_of (first_of q also).packet) = subst (λ (z : Sending). Asks (message_of z.packet)) two asks.1 in
+            let first : AsksForStream (message_of (first_of o here).packet) = subst (λ (z : Sending). AsksForStream (message_of z.packet)) one asks.0 in
+            let second : AsksForStream (message_of (first_of q also).packet) = subst (λ (z : Sending). AsksForStream (message_of z.packet)) two asks.1 in
             sym (node_in o here first) ∙ ap (λ (c : List ℕ). slice_index c 3) same ∙ node_in q also second
             )
       ]

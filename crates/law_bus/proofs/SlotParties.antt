@@ -12,7 +12,7 @@ use Rattle.bus_rules.specs.States.{State, StateOff, StateOn}
 use Rattle.scenario_text.specs.ScenarioParts.{ScenarioParts}
 use Rattle.scenario_text.specs.FloodParts.{knows}
 use Rattle.air_log.specs.declared.entry.Entry.{Entry}
-use Rattle.air_log.specs.Devices.{seen}
+use Rattle.air_log.specs.Devices.{state_of_power}
 use Rattle.air_log.specs.WindowLogs.{WindowLog}
 use Rattle.bus_terms.specs.FloodOfText.{ids}
 use Rattle.bus_terms.specs.Flooding.{has}
@@ -93,7 +93,7 @@ module _ (s : ScenarioParts) (clocks : ℕ → ℕ → ℕ) (air : List Entry) (
               true≢false (sym (start.member v own.window own.here own.by_alarm) ∙ ap (is_member rank f) same ∙ other)
 
           found : StateOn go.node.core ≡ StateOn c
-          found = ap seen (sym go.on) ∙ start.found v (known_party v here) ∙ sym (start.others v (known_party v here) no_alarm) ∙ at
+          found = ap state_of_power (sym go.on) ∙ start.found v (known_party v here) ∙ sym (start.others v (known_party v here) no_alarm) ∙ at
 
           scanner : i ≡ rank
           scanner = sym window.channel ∙ go.course.ranks w (record { there = window.there; frame = window.frame })

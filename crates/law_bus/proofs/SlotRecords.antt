@@ -6,12 +6,12 @@ use Rattle.glossy_relay.specs.Relaying.{accepted_of}
 use Rattle.scenario_text.specs.ScenarioParts.{ScenarioParts}
 use Rattle.air_log.specs.declared.entry.Entry.{Entry}
 use Rattle.air_log.specs.Lawful.{trail_in}
-use Rattle.air_log.specs.NodeEvents.{Event, after_all}
+use Rattle.air_log.specs.NodeEvents.{Event, flood_after_events}
 use Rattle.air_log.specs.Trails.{setup_of}
 use Rattle.air_log.specs.WindowLogs.{WindowLog}
 use Rattle.law_windows.specs.WindowFloods.{flood_at_first}
-use Rattle.lwb_flood.specs.FloodRun.{Run, begins}
-use Rattle.lwb_flood.specs.FloodBySteps.{ended}
+use Rattle.lwb_flood.specs.FloodRun.{Run, flood_at_beginning}
+use Rattle.lwb_flood.specs.FloodBySteps.{flood_at_end}
 use Rattle.law_terms.specs.LawfulRuns.{IsLawfulRun}
 use Rattle.law_terms.specs.SlotLaws.{IsRound, IsWindowOf}
 use Rattle.law_terms.specs.SlotRuns.{IsRunOf, HasClosed}
@@ -34,14 +34,14 @@ module _ (s : ScenarioParts) (clocks : ℕ → ℕ → ℕ) (air : List Entry) (
   Of v w = IsWindowOf s clocks air f rank j v w
 
   -- the flood of a window is what its events have made of it
-  pub ends_so : (v : ℕ) (w : WindowLog) → Of v w → ended r v ≡ w.last.flood
+  pub ends_so : (v : ℕ) (w : WindowLog) → Of v w → flood_at_end r v ≡ w.last.flood
   ends_so v w here =
       let played = are.by_window v w here in
-      ap (λ (g : FloodState). after_all g (events v)) (begins_so s clocks air lawful f rank j p round start events are v w here)
-      ∙ ap (after_all (flood_at_first (setup_of s v) w.by_alarm w)) (sym played.same) ∙ sym played.part.has.flood
+      ap (λ (g : FloodState). flood_after_events g (events v)) (begins_so s clocks air lawful f rank j p round start events are v w here)
+      ∙ ap (flood_after_events (flood_at_first (setup_of s v) w.by_alarm w)) (sym played.same) ∙ sym played.part.has.flood
 
   nothing_first : (v : ℕ) → ((w : WindowLog) → Of v w → ⊥) → (b : Bool)
-      → initiates_by s clocks air lawful f rank j p round start events are v ≡ b → is_some (accepted_of (begins r v)) ≡ true → ⊥
+      → initiates_by s clocks air lawful f rank j p round start events are v ≡ b → is_some (accepted_of (flood_at_beginning r v)) ≡ true → ⊥
   nothing_first v none true is some =
       let who = speaker s clocks air lawful f rank j p round.in_run start v is in
       none who.window who.here
@@ -49,7 +49,7 @@ module _ (s : ScenarioParts) (clocks : ℕ → ℕ → ℕ) (air : List Entry) (
       true≢false (sym some ∙ ap (λ (g : FloodState). is_some (accepted_of g)) (begins_by s clocks air lawful f rank j p round start events are v false is))
 
   -- who has accepted has a window
-  accepts_in : (v : ℕ) → is_some (accepted_of (ended r v)) ≡ true → HasClosed s clocks air f rank j v
+  accepts_in : (v : ℕ) → is_some (accepted_of (flood_at_end r v)) ≡ true → HasClosed s clocks air f rank j v
   accepts_in v some =
       elim (look_up f rank j (trail_in s clocks air v).made.windows) [
         | inl own ↦ record {
@@ -60,7 +60,7 @@ module _ (s : ScenarioParts) (clocks : ℕ → ℕ → ℕ) (air : List Entry) (
         | inr none ↦ (
             let without : (w : WindowLog) → Of v w → ⊥ = λ w here. none w here.there here.frame here.channel here.slot in
             absurd (nothing_first v without (initiates_by s clocks air lawful f rank j p round start events are v) refl
-            (subst (λ (es : List Event). is_some (accepted_of (after_all (begins r v) es)) ≡ true) (are.without v without) some))
+            (subst (λ (es : List Event). is_some (accepted_of (flood_after_events (flood_at_beginning r v) es)) ≡ true) (are.without v without) some))
             )
       ]
 

@@ -4,10 +4,10 @@ use Rattle.std.proofs.Common.{◌≡◌, ℕ, ◌<◌, Bool, true, false, ◌==�
 use Rattle.std.proofs.Common.{◌∙◌, ap, subst, eq-eqb, eqb-true, true≢false}
 use Rattle.std.proofs.lemmas.Bool.{and_parts, cond-true, cond-false}
 use Rattle.lwb_base.specs.Messages.{Plan}
-use Rattle.time_reference.specs.Zeros.{point, starting}
+use Rattle.time_reference.specs.Zeros.{tick_at_offset, starting_offset}
 use Rattle.bus_rules.specs.declared.part.Part.{Part}
 use Rattle.bus_rules.specs.Cores.{Core, is_member}
-use Rattle.bus_rules.specs.Slots.{Message, Opened, part_of, opened}
+use Rattle.bus_rules.specs.Slots.{Message, Opened, part_of, opened_slot}
 use Rattle.bus_rules.specs.States.{State, StateOff, StateOn}
 use Rattle.lwb_member.specs.Said.{bytes_of}
 use Rattle.scenario_text.specs.ScenarioParts.{ScenarioParts}
@@ -19,7 +19,7 @@ use Rattle.air_log.specs.Trails.{setup_of}
 use Rattle.air_log.specs.WindowLogs.{WindowLog}
 use Rattle.lwb_base.proofs.Elements.{contains_cases, contains_head, contains_tail, not_in_none}
 use Rattle.lwb_base.proofs.Options.{some_is}
-use Rattle.law_windows.specs.WindowFloods.{said_in}
+use Rattle.law_windows.specs.WindowFloods.{initial_message}
 use Rattle.law_windows.specs.WindowParts.{SendsAt}
 use Rattle.bus_terms.specs.FloodOfText.{ids}
 use Rattle.bus_terms.specs.Flooding.{has}
@@ -32,7 +32,7 @@ use Rattle.law_terms.specs.LawfulRuns.{IsLawfulRun}
 use Rattle.law_terms.specs.SlotLaws.{IsWindowOf, bus_before, bus_slot}
 use Rattle.law_terms.specs.SlotSteps.{IsSlotStart}
 use Rattle.law_bus.proofs.WindowsInTurn.{opened_by}
-use Rattle.law_bus.specs.SlotRun.{AreEvents, run_of_slot, bytes_said, is_window, start_in}
+use Rattle.law_bus.specs.SlotRun.{AreEvents, run_of_slot, bytes_said, is_window_of_slot, start_in}
 use Rattle.law_bus.proofs.SlotEvents.{same_window}
 
 -- the only element that passes a test is found
@@ -59,17 +59,18 @@ find_one test (x ∷ xs) w there passes only =
 
 -- what is said is said by a member
 member_says : (s : ScenarioParts) (rank f : ℕ) (part : Part) (v : ℕ) (x : State)
-    → is_some (rounds.said_in (rounds.opened_at s rank f part v x)) ≡ true → (c : Core) × (x ≡ StateOn c) × (is_member rank f c ≡ true)
+    → is_some (rounds.message_said (rounds.opened_at s rank f part v x)) ≡ true → (c : Core) × (x ≡ StateOn c) × (is_member rank f c ≡ true)
 member_says s rank f part v (StateOff boots) is = absurd (true≢false (sym is))
 member_says s rank f part v (StateOn c) is = by_test (is_member rank f c) refl
   where
     by_test : (b : Bool) → is_member rank f c ≡ b → (d : Core) × (StateOn c ≡ StateOn d) × (is_member rank f d ≡ true)
     by_test true member = (c, refl, member)
     by_test false other = absurd (true≢false (sym is
-        ∙ ap (λ (o : Option Opened). is_some (rounds.said_in o)) (cond-false (is_member rank f c) (Some (opened (setup_in s v) f part c)) None other)))
+        ∙ ap (λ (o : Option Opened). is_some (rounds.message_said o))
+            (cond-false (is_member rank f c) (Some (opened_slot (setup_in s v) f part c)) None other)))
 
 -- and so it takes part
-speaker_takes : (rank : ℕ) (part : Part) (x : State) (w : Option Opened) → is_some (rounds.said_in w) ≡ true → rounds.takes_part rank part x w ≡ true
+speaker_takes : (rank : ℕ) (part : Part) (x : State) (w : Option Opened) → is_some (rounds.message_said w) ≡ true → rounds.takes_part rank part x w ≡ true
 speaker_takes rank part x None is = absurd (true≢false (sym is))
 speaker_takes rank part x (Some o) is = refl
 
@@ -89,21 +90,21 @@ module _ (s : ScenarioParts) (clocks : ℕ → ℕ → ℕ) (air : List Entry) (
     frame_is : w.before.frame ≡ f
     frame_is = (opened_by s clocks air lawful v w here.there).frame_before ∙ here.frame
 
-    pub window_is : window_of v ≡ Some (opened (setup_in s v) f (part_of p j) w.before.core)
+    pub window_is : window_of v ≡ Some (opened_slot (setup_in s v) f (part_of p j) w.before.core)
     window_is =
         ap (rounds.opened_at s rank f (part_of p j) v) (start.core v w here alarm)
-        ∙ cond-true (is_member rank f w.before.core) (Some (opened (setup_in s v) f (part_of p j) w.before.core)) None (start.member v w here alarm)
+        ∙ cond-true (is_member rank f w.before.core) (Some (opened_slot (setup_in s v) f (part_of p j) w.before.core)) None (start.member v w here alarm)
 
-    pub said_same : rounds.said_in (window_of v) ≡ said_in (setup_of s v) w
+    pub said_same : rounds.message_said (window_of v) ≡ initial_message (setup_of s v) w
     said_same =
-        ap rounds.said_in window_is
-        ∙ ap (λ (k : Part). (opened (setup_of s v) f k w.before.core).message) (sym part_is)
-        ∙ ap (λ (g : ℕ). (opened (setup_of s v) g (part_of w.before.core.plan w.slot) w.before.core).message) (sym frame_is)
+        ap rounds.message_said window_is
+        ∙ ap (λ (k : Part). (opened_slot (setup_of s v) f k w.before.core).message) (sym part_is)
+        ∙ ap (λ (g : ℕ). (opened_slot (setup_of s v) g (part_of w.before.core.plan w.slot) w.before.core).message) (sym frame_is)
 
   -- the window of v is the one that is looked up
-  pub window_found : (v : ℕ) (w : WindowLog) → Of v w → find (is_window f rank j) (trail_in s clocks air v).made.windows ≡ Some w
+  pub window_found : (v : ℕ) (w : WindowLog) → Of v w → find (is_window_of_slot f rank j) (trail_in s clocks air v).made.windows ≡ Some w
   window_found v w here =
-      find_one (is_window f rank j) (trail_in s clocks air v).made.windows w here.there
+      find_one (is_window_of_slot f rank j) (trail_in s clocks air v).made.windows w here.there
       (rw (eq-eqb w.rank rank here.channel, eq-eqb w.frame f here.frame, eq-eqb w.slot j here.slot) refl)
       (λ x there passes. (
       let first = and_parts (x.rank == rank) _ passes in
@@ -118,11 +119,11 @@ module _ (s : ScenarioParts) (clocks : ℕ → ℕ → ℕ) (air : List Entry) (
     pub here : Of o window
     pub by_alarm : window.by_alarm ≡ true
     pub message : Message
-    pub on_bus : rounds.said_in (window_of o) ≡ Some message
-    pub said : said_in (setup_of s o) window ≡ Some message
+    pub on_bus : rounds.message_said (window_of o) ≡ Some message
+    pub said : initial_message (setup_of s o) window ≡ Some message
 
   abbrev says : ℕ → Bool
-  says o = is_some (rounds.said_in (window_of o))
+  says o = is_some (rounds.message_said (window_of o))
 
   pub speaker : (o : ℕ) → has (bus_slot s f rank p j).flood.initiators o ≡ true → IsSpeaker o
   speaker o initiates =
@@ -130,7 +131,7 @@ module _ (s : ScenarioParts) (clocks : ℕ → ℕ → ℕ) (air : List Entry) (
       let known : knows s.nodes o ≡ true = sym (ids_known s.nodes o) ∙ in_whole says (ids s.nodes) o initiates in
       let member = member_says s rank f (part_of p j) o (bus_before s f rank p j o) some in
       let own = start.window o member.0 known member.1 member.2 in
-      let m = some_is (rounds.said_in (window_of o)) some in
+      let m = some_is (rounds.message_said (window_of o)) some in
       record {
         window = own.window;
         here = own.here;
@@ -148,7 +149,7 @@ module _ (s : ScenarioParts) (clocks : ℕ → ℕ → ℕ) (air : List Entry) (
       (speaker_takes rank (part_of p j) (bus_before s f rank p j o) (window_of o) (of_filtered says (ids s.nodes) o initiates))
 
   -- who says something in its window initiates
-  pub speaks : (v : ℕ) (w : WindowLog) (m : Message) → knows s.nodes v ≡ true → Of v w → w.by_alarm ≡ true → said_in (setup_of s v) w ≡ Some m
+  pub speaks : (v : ℕ) (w : WindowLog) (m : Message) → knows s.nodes v ≡ true → Of v w → w.by_alarm ≡ true → initial_message (setup_of s v) w ≡ Some m
       → has (bus_slot s f rank p j).flood.initiators v ≡ true
   speaks v w m known here alarm said =
       in_filtered says (ids s.nodes) v (ids_known s.nodes v ∙ known) (ap (λ (o : Option Message). is_some o) (said_same v w here alarm ∙ said))
@@ -160,13 +161,13 @@ module _ (s : ScenarioParts) (clocks : ℕ → ℕ → ℕ) (air : List Entry) (
     pub message_is : r.message o ≡ bytes_of is.message j
     message_is = ap (bytes_said j) is.on_bus
 
-    pub start_is : r.starts o ≡ point (clocks o) is.window.after.zero (starting s.profile is.window.slot)
+    pub start_is : r.starts o ≡ tick_at_offset (clocks o) is.window.after.zero (starting_offset s.profile is.window.slot)
     start_is = ap (start_in s.profile (clocks o)) (window_found o is.window is.here)
 
     -- its first sending
     pub first_sending : SendsAt s clocks air o is.window (r.starts o) (r.message o)
     first_sending =
         subst (λ (t : ℕ). SendsAt s clocks air o is.window t (r.message o)) (sym start_is)
-        (subst (λ (q : List ℕ). SendsAt s clocks air o is.window (point (clocks o) is.window.after.zero (starting s.profile is.window.slot)) q)
+        (subst (λ (q : List ℕ). SendsAt s clocks air o is.window (tick_at_offset (clocks o) is.window.after.zero (starting_offset s.profile is.window.slot)) q)
         (ap (bytes_of is.message) is.here.slot ∙ sym message_is)
         ((are.by_window o is.window is.here).part.begun is.message is.by_alarm is.said))

@@ -18,7 +18,7 @@ use Rattle.law_safety.proofs.ContenderStarts.{contenders_near}
 use Rattle.law_safety.proofs.FloodPackets.{same_length, asks_in_7}
 use Rattle.law_safety.proofs.RunSendings.{of_flood}
 use Rattle.law_safety.proofs.SlotFloods.{one_flood}
-use Rattle.lwb_flood.specs.FloodRun.{Run, initiates, takes_part}
+use Rattle.lwb_flood.specs.FloodRun.{Run, initiates, IsParticipant}
 use Rattle.law_terms.specs.LawfulRuns.{IsLawfulRun}
 use Rattle.law_terms.specs.SlotSteps.{IsSlotStart}
 use Rattle.law_terms.specs.SlotLaws.{IsWindowOf}
@@ -29,7 +29,7 @@ use Rattle.law_bus.proofs.SlotSendings.{IsOf}
 use Rattle.law_bus.proofs.SlotSpeakers.{IsSpeaker, speaker, speaker_there, message_is, first_sending}
 
 pub record StartTogether (r : Run) : Type 0 where
-  pub there : (o : ℕ) → initiates r o → takes_part r o
+  pub there : (o : ℕ) → initiates r o → IsParticipant r o
   pub counter_zero : (o : ℕ) → initiates r o → relaying.counter_of (r.message o) ≡ 0
   pub slot : (o : ℕ) → initiates r o → relaying.slot_of (r.message o) ≡ r.slot
   pub together : (o q : ℕ) → initiates r o → initiates r q → Near (r.starts o) (r.starts q) r.spread

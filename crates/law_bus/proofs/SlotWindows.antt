@@ -11,7 +11,7 @@ use Rattle.bus_rules.specs.declared.tune.Tune.{Tune}
 use Rattle.bus_rules.specs.declared.tune.Tune.TheVariants.{Scan, Hold, Host}
 use Rattle.bus_rules.specs.Tuning.{rank_of, scans}
 use Rattle.bus_rules.specs.Cores.{Core, Setup, is_member}
-use Rattle.bus_rules.specs.Slots.{Message, ScheduleOf, DataOf, RequestOf, Opened, part_of, opened, hosts_now, host_closes, silent, data_of}
+use Rattle.bus_rules.specs.Slots.{Message, ScheduleOf, DataOf, RequestOf, Opened, part_of, opened_slot, hosts_now, host_closes, silent, data_of}
 use Rattle.bus_rules.specs.Slots.{request_of, is_own, is_schedule_part}
 use Rattle.bus_rules.specs.Plans.{opening}
 use Rattle.bus_rules.specs.Streams.{first_waiting, requested}
@@ -20,14 +20,14 @@ use Rattle.lwb_member.specs.Places.{kind_for}
 use Rattle.node_core.specs.Nodes.{Node}
 use Rattle.scenario_text.specs.ScenarioParts.{ScenarioParts}
 use Rattle.air_log.specs.declared.entry.Entry.{Entry}
-use Rattle.air_log.specs.Devices.{seen}
+use Rattle.air_log.specs.Devices.{state_of_power}
 use Rattle.air_log.specs.WindowLogs.{WindowLog}
 use Rattle.law_safety.specs.TunedNodes.{Scans}
 use Rattle.law_safety.proofs.SentPlans.{one_planned}
 use Rattle.bus_terms.specs.FloodOfText.{ids}
 use Rattle.bus_terms.specs.Flooding.{has}
 use Rattle.bus_terms.specs.Rounds.{opened_at, takes_part}
-use Rattle.bus_terms.specs.ScriptedStates.{is_on, setup_in}
+use Rattle.bus_terms.specs.ScriptedStates.{is_on_and, setup_in}
 use Rattle.bus_terms.proofs.ReceivedByPaths.{in_filtered}
 use Rattle.law_terms.specs.LawfulRuns.{IsLawfulRun}
 use Rattle.law_terms.specs.SlotLaws.{IsRound, IsWindowOf, HasWindow, bus_before, bus_slot}
@@ -63,7 +63,7 @@ KindIs part (Some (ScheduleOf x)) = kind_for part ≡ Kind.TheVariants.Schedule
 KindIs part (Some (DataOf d)) = kind_for part ≡ Kind.TheVariants.Payload
 KindIs part (Some (RequestOf a)) = kind_for part ≡ Kind.TheVariants.Request
 
-pub said_kind : (S : Setup) (f : ℕ) (part : Part) (c : Core) → KindIs part (opened S f part c).message
+pub said_kind : (S : Setup) (f : ℕ) (part : Part) (c : Core) → KindIs part (opened_slot S f part c).message
 said_kind S f Opening c = if_of (KindIs Opening) tt (hosts_now f c) (Some (ScheduleOf (opening c.plan))) refl
 said_kind S f (DataSlot owner) c =
     if_of (KindIs (DataSlot owner)) tt (node_of owner == S.id) (option_map (data_of S.id c (stream_of owner)) (first_waiting c.streams (stream_of owner)))
@@ -118,19 +118,19 @@ module _ (s : ScenarioParts) (clocks : ℕ → ℕ → ℕ) (air : List Entry) (
         let known = known_by s clocks air lawful v w here.there in
         let go = goes s clocks air lawful f round.in_run rank j v w here in
         let node : w.before ≡ go.node = go.course.joins w (in_frame s clocks air lawful f round.in_run rank j v w here) hears in
-        start.others v known no_alarm ∙ sym (start.found v known) ∙ ap seen go.on ∙ ap (λ (n : Node). StateOn n.core) (sym node)
+        start.others v known no_alarm ∙ sym (start.found v known) ∙ ap state_of_power go.on ∙ ap (λ (n : Node). StateOn n.core) (sym node)
 
     pub no_window : (bus_slot s f rank p j).window v ≡ None
     no_window =
         ap (opened_at s rank f (part_of p j) v) scans_on
-        ∙ cond-false (is_member rank f w.before.core) (Some (opened (setup_in s v) f (part_of p j) w.before.core)) None
+        ∙ cond-false (is_member rank f w.before.core) (Some (opened_slot (setup_in s v) f (part_of p j) w.before.core)) None
         (scanner_takes s clocks v w.before rank f w.before.core.tune scanner.scans)
 
     scanner_test : takes_part rank (part_of p j) (bus_before s f rank p j v) ((bus_slot s f rank p j).window v) ≡ true
     scanner_test =
         ap (takes_part rank (part_of p j) (bus_before s f rank p j v)) no_window
-        ∙ ap (λ (b : Bool). b && is_on (λ c. scans rank c.tune) (bus_before s f rank p j v)) schedule_slot
-        ∙ ap (λ (x : State). is_on (λ c. scans rank c.tune) x) scans_on
+        ∙ ap (λ (b : Bool). b && is_on_and (λ c. scans rank c.tune) (bus_before s f rank p j v)) schedule_slot
+        ∙ ap (λ (x : State). is_on_and (λ c. scans rank c.tune) x) scans_on
         ∙ scans_so s clocks v rank w.before w.before.core.tune scanner.scans
         ((opened_by s clocks air lawful v w here.there).rank_before ∙ here.channel)
 

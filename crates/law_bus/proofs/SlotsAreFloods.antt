@@ -16,7 +16,7 @@ use Rattle.law_safety.proofs.RunSendings.{of_flood}
 use Rattle.bus_terms.specs.Flooding.{has}
 use Rattle.lwb_flood.specs.FloodRun.{Run, initiates}
 use Rattle.lwb_flood.specs.FloodBySteps.{IsFloodBySteps}
-use Rattle.lwb_flood.specs.Windows.{IsSlot}
+use Rattle.lwb_flood.specs.Windows.{IsSlotFlood}
 use Rattle.lwb_flood.proofs.Slots.{slot_run}
 use Rattle.lwb_flood.proofs.WholeFlood.{flood_by_steps}
 use Rattle.law_terms.specs.LawfulRuns.{IsLawfulRun}
@@ -97,7 +97,7 @@ module _ (s : ScenarioParts) (clocks : ℕ → ℕ → ℕ) (air : List Entry) (
       let grows = (packets_grow s.profile b fits size b.packet has_size.most).1 in
       omega (arith, begins, frames, room, window, close, whole_round, alarm, clock, turn, slots, grows)
 
-  is_slot : ScannersListen s clocks air f rank j r → IsSlot s.profile (budget_of s.profile) size clocks r (TunedThrough a)
+  is_slot : ScannersListen s clocks air f rank j r → IsSlotFlood s.profile (budget_of s.profile) size clocks r (TunedThrough a)
   is_slot scanners = record {
     size = has_size.least;
     air = refl;

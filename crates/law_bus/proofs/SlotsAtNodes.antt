@@ -8,20 +8,20 @@ use Rattle.lwb_base.specs.Messages.{Plan}
 use Rattle.bus_rules.specs.declared.part.Part.{Part}
 use Rattle.bus_rules.specs.declared.part.Part.TheVariants.{Opening, Data as DataSlot, Contention, Closing as ClosingSlot}
 use Rattle.bus_rules.specs.Cores.{Core, is_member}
-use Rattle.bus_rules.specs.Slots.{Message, ScheduleOf, DataOf, RequestOf, Opened, part_of, opened, closed, slot_heard, hosts_now}
+use Rattle.bus_rules.specs.Slots.{Message, ScheduleOf, DataOf, RequestOf, Opened, part_of, opened_slot, closed_slot, slot_heard, hosts_now}
 use Rattle.bus_rules.specs.States.{State, StateOff, StateOn}
 use Rattle.node_core.specs.Nodes.{Node}
 use Rattle.node_core.specs.Rows.{accepted_in}
 use Rattle.scenario_text.specs.ScenarioParts.{ScenarioParts}
 use Rattle.scenario_text.specs.FloodParts.{knows}
 use Rattle.air_log.specs.declared.entry.Entry.{Entry}
-use Rattle.air_log.specs.Devices.{seen}
+use Rattle.air_log.specs.Devices.{state_of_power}
 use Rattle.air_log.specs.Trails.{run_end, setup_of}
 use Rattle.air_log.specs.WindowLogs.{WindowLog, Closing}
 use Rattle.lwb_base.proofs.Elements.{contains_cases, contains_head, contains_tail, not_in_none}
-use Rattle.law_windows.specs.WindowRows.{in_window, OpensByAlarm, OpensByHearing}
+use Rattle.law_windows.specs.WindowRows.{node_in_window, OpensByAlarm, OpensByHearing}
 use Rattle.bus_terms.specs.ScriptedStates.{setup_in}
-use Rattle.bus_terms.specs.Rounds.{opened_at, closed_by, left_by, said_in, accepted_at, before_slot}
+use Rattle.bus_terms.specs.Rounds.{opened_at, closed_slot_of, left_by, message_said, accepted_at, before_slot}
 use Rattle.bus_terms.specs.Bus.{state_at}
 use Rattle.law_terms.specs.LawfulRuns.{IsLawfulRun}
 use Rattle.law_terms.specs.SlotLaws.{IsWindowOf, HasWindow, bus_before, bus_slot}
@@ -82,13 +82,13 @@ guest_heard f (Contention i) h c guest = refl
 guest_heard f ClosingSlot h c guest = refl
 
 guest_slot : (s : ScenarioParts) (f v : ℕ) (part other : Part) (begun : Bool) (c : Core) → hosts_now f c ≡ false → (m : Option Message)
-    → left_by (StateOn c) (closed_by s f part v None m (StateOn c)) ≡ StateOn (closed (setup_of s v) f other begun c m).core
+    → left_by (StateOn c) (closed_slot_of s f part v None m (StateOn c)) ≡ StateOn (closed_slot (setup_of s v) f other begun c m).core
 guest_slot s f v part other begun c guest None = ap StateOn (sym (guest_heard f other begun c guest))
 guest_slot s f v part other begun c guest (Some (ScheduleOf x)) = refl
 guest_slot s f v part other begun c guest (Some (DataOf d)) = ap StateOn (guest_heard f part true c guest ∙ sym (guest_heard f other true c guest))
 guest_slot s f v part other begun c guest (Some (RequestOf a)) = refl
 
-none_left : (s : ScenarioParts) (f v : ℕ) (part : Part) (x : State) → left_by x (closed_by s f part v None None x) ≡ x
+none_left : (s : ScenarioParts) (f v : ℕ) (part : Part) (x : State) → left_by x (closed_slot_of s f part v None None x) ≡ x
 none_left s f v part x = refl
 
 module _ (s : ScenarioParts) (clocks : ℕ → ℕ → ℕ) (air : List Entry) (lawful : IsLawfulRun s clocks air)
@@ -102,7 +102,7 @@ module _ (s : ScenarioParts) (clocks : ℕ → ℕ → ℕ) (air : List Entry) (
 
   -- what is left of v, by what its window is, and what it accepted
   abbrev left_of : ℕ → Option Opened → State → State
-  left_of v w x = left_by x (closed_by s f (part_of p j) v w (accepted_at (bus_slot s f rank p j) v) x)
+  left_of v w x = left_by x (closed_slot_of s f (part_of p j) v w (accepted_at (bus_slot s f rank p j) v) x)
 
   module _ (v : ℕ) (w : WindowLog) (here : Of v w) where
     frame_after : w.after.frame ≡ f
@@ -124,13 +124,13 @@ module _ (s : ScenarioParts) (clocks : ℕ → ℕ → ℕ) (air : List Entry) (
       frame_before : w.before.frame ≡ f
       frame_before = (opened_by s clocks air lawful v w here.there).frame_before ∙ here.frame
 
-      core_after : w.after.core ≡ (opened (setup_in s v) f (part_of p j) w.before.core).core
+      core_after : w.after.core ≡ (opened_slot (setup_in s v) f (part_of p j) w.before.core).core
       core_after =
           ap (λ (n : Node). n.core) opens.after
-          ∙ ap (λ (g : ℕ). (opened (setup_of s v) g (part_of w.before.core.plan w.slot) w.before.core).core) frame_before
-          ∙ ap (λ (k : Part). (opened (setup_of s v) f k w.before.core).core) part_is
+          ∙ ap (λ (g : ℕ). (opened_slot (setup_of s v) g (part_of w.before.core.plan w.slot) w.before.core).core) frame_before
+          ∙ ap (λ (k : Part). (opened_slot (setup_of s v) f k w.before.core).core) part_is
 
-      pub window_is : opened_at s rank f (part_of p j) v (states v) ≡ Some (opened (setup_in s v) f (part_of p j) w.before.core)
+      pub window_is : opened_at s rank f (part_of p j) v (states v) ≡ Some (opened_slot (setup_in s v) f (part_of p j) w.before.core)
       window_is = ap (opened_at s rank f (part_of p j) v) (start.core v w here alarm) ∙ rw (start.member v w here alarm) refl
 
     module _ (hears : w.by_alarm ≡ false) where
@@ -156,12 +156,12 @@ module _ (s : ScenarioParts) (clocks : ℕ → ℕ → ℕ) (air : List Entry) (
       up =
           let go = goes s clocks air lawful f in_run rank j v w here in
           let node : w.before ≡ go.node = go.course.joins w (in_frame s clocks air lawful f in_run rank j v w here) hears in
-          start.others v known by_no_alarm ∙ sym (start.found v known) ∙ ap seen go.on ∙ ap (λ (n : Node). StateOn n.core) (sym node)
+          start.others v known by_no_alarm ∙ sym (start.found v known) ∙ ap state_of_power go.on ∙ ap (λ (n : Node). StateOn n.core) (sym node)
 
       pub no_window : opened_at s rank f (part_of p j) v (states v) ≡ None
       no_window =
           ap (opened_at s rank f (part_of p j) v) up
-          ∙ cond-false (is_member rank f w.before.core) (Some (opened (setup_in s v) f (part_of p j) w.before.core)) None
+          ∙ cond-false (is_member rank f w.before.core) (Some (opened_slot (setup_in s v) f (part_of p j) w.before.core)) None
           (scanner_takes s clocks v w.before rank f w.before.core.tune scanner.scans)
 
       guest : hosts_now f w.before.core ≡ false
@@ -175,19 +175,19 @@ module _ (s : ScenarioParts) (clocks : ℕ → ℕ → ℕ) (air : List Entry) (
       member_left : w.by_alarm ≡ true → bus_before s f rank p (suc j) v ≡ StateOn c.after.core
       unfolding before_slot
       member_left alarm =
-          slot_aligned s rank f p j v states w.before.core (in_window w) w.last
+          slot_aligned s rank f p j v states w.before.core (node_in_window w) w.last
           (start.core v w here alarm) (start.member v w here alarm) frame_after (core_after alarm) ((member alarm).part ∙ part_is alarm)
-          (heard.initiated v w here ∙ ap (λ (o : Option Opened). is_some (said_in o)) (window_is alarm))
+          (heard.initiated v w here ∙ ap (λ (o : Option Opened). is_some (message_said o)) (window_is alarm))
           (heard.accepted v w here closes)
           ∙ ap (λ (n : Node). StateOn n.core) (sym (closed_as s clocks air lawful v w c here.there is))
 
       -- what the row of the closing leaves
-      row_left : w.by_alarm ≡ false → c.after.core ≡ (closed (setup_of s v) f w.last.part w.last.flood.initiated w.before.core (accepted_in w.last)).core
+      row_left : w.by_alarm ≡ false → c.after.core ≡ (closed_slot (setup_of s v) f w.last.part w.last.flood.initiated w.before.core (accepted_in w.last)).core
       row_left hears =
           ap (λ (n : Node). n.core) (closed_as s clocks air lawful v w c here.there is)
-          ∙ ap (λ (x : Core). (closed (setup_of s v) w.after.frame w.last.part w.last.flood.initiated x (accepted_in w.last)).core)
+          ∙ ap (λ (x : Core). (closed_slot (setup_of s v) w.after.frame w.last.part w.last.flood.initiated x (accepted_in w.last)).core)
           (ap (λ (n : Node). n.core) (joins hears).after)
-          ∙ ap (λ (g : ℕ). (closed (setup_of s v) g w.last.part w.last.flood.initiated w.before.core (accepted_in w.last)).core) frame_after
+          ∙ ap (λ (g : ℕ). (closed_slot (setup_of s v) g w.last.part w.last.flood.initiated w.before.core (accepted_in w.last)).core) frame_after
 
       -- a scanner
       scanner_left : w.by_alarm ≡ false → bus_before s f rank p (suc j) v ≡ StateOn c.after.core
@@ -197,7 +197,7 @@ module _ (s : ScenarioParts) (clocks : ℕ → ℕ → ℕ) (air : List Entry) (
           ap (λ (o : Option Opened). left_of v o (states v)) (no_window hears)
           ∙ ap (left_of v None) (up hears)
           ∙ guest_slot s f v (part_of p j) w.last.part w.last.flood.initiated w.before.core (guest hears) m
-          ∙ ap (λ (a : Option Message). StateOn (closed (setup_of s v) f w.last.part w.last.flood.initiated w.before.core a).core)
+          ∙ ap (λ (a : Option Message). StateOn (closed_slot (setup_of s v) f w.last.part w.last.flood.initiated w.before.core a).core)
           (sym (heard.accepted v w here closes))
           ∙ ap StateOn (sym (row_left hears))
 
@@ -218,7 +218,7 @@ module _ (s : ScenarioParts) (clocks : ℕ → ℕ → ℕ) (air : List Entry) (
     not_member (StateOn c) at =
         elim (cases_Bool (is_member rank f c)) [
           | inl takes ↦ absurd (not_there (start.window v c known at takes))
-          | inr other ↦ cond-false (is_member rank f c) (Some (opened (setup_in s v) f (part_of p j) c)) None other
+          | inr other ↦ cond-false (is_member rank f c) (Some (opened_slot (setup_in s v) f (part_of p j) c)) None other
         ]
 
     -- who has none stays as it is
@@ -226,7 +226,7 @@ module _ (s : ScenarioParts) (clocks : ℕ → ℕ → ℕ) (air : List Entry) (
     unfolding before_slot
     stays_without =
         ap (λ (o : Option Opened). left_of v o (states v)) (not_member (states v) refl)
-        ∙ ap (λ (m : Option Message). left_by (states v) (closed_by s f (part_of p j) v None m (states v))) (heard.deaf v known none)
+        ∙ ap (λ (m : Option Message). left_by (states v) (closed_slot_of s f (part_of p j) v None m (states v))) (heard.deaf v known none)
         ∙ none_left s f v (part_of p j) (states v)
 
     -- that is as the frame found it

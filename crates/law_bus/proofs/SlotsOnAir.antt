@@ -5,7 +5,7 @@ use Rattle.lwb_base.specs.Messages.{Plan}
 use Rattle.link_trace.specs.Passes.{passes, captured}
 use Rattle.scenario_text.specs.ScenarioParts.{ScenarioParts}
 use Rattle.radio_model.specs.declared.sending.Sending.{Sending}
-use Rattle.radio_model.specs.Hearing.{Scene, Meets, TunedThrough, frame_of, slot_of, counter_of}
+use Rattle.radio_model.specs.Hearing.{Scene, Meets, TunedThrough, frame_of_sending, slot_of_sending, counter_of_sending}
 use Rattle.air_log.specs.declared.entry.Entry.{Entry}
 use Rattle.air_log.specs.Entries.{sendings_of, hearings_of}
 use Rattle.air_log.specs.HearsAir.{scene_of}
@@ -19,7 +19,7 @@ use Rattle.law_safety.proofs.RunSendings.{in_trail}
 use Rattle.law_safety.proofs.SafeRuns.{safe_at_the_end}
 use Rattle.law_windows.specs.WindowCalls.{IsCalled}
 use Rattle.law_windows.proofs.WindowFacts.{sends_as_called}
-use Rattle.lwb_flood.specs.FloodRun.{Run, takes_part, WasHeard, HearsIn, HearsByRule}
+use Rattle.lwb_flood.specs.FloodRun.{Run, IsParticipant, WasHeard, HearsIn, HearsByRule}
 use Rattle.lwb_flood.specs.RunOnAir.{IsPart}
 use Rattle.lwb_flood.proofs.RuleInRun.{rule_in_run}
 use Rattle.law_terms.specs.LawfulRuns.{IsLawfulRun}
@@ -48,15 +48,15 @@ module _ (s : ScenarioParts) (clocks : ℕ → ℕ → ℕ) (air : List Entry) (
   sent_so x there is = in_slot s.profile f rank j (sendings_of air) x there is
 
   -- sendings that meet are of one frame, on whatever channels
-  earlier_frame : (x y : Sending) → Contains (sendings_of air) y → Meets x y → frame_of s.profile x ≤ frame_of s.profile y
+  earlier_frame : (x y : Sending) → Contains (sendings_of air) y → Meets x y → frame_of_sending s.profile x ≤ frame_of_sending s.profile y
   earlier_frame x y there meets =
       let ends = safe.within_one_frame y there in
       let before = meets.before in
-      let below = frame_below s lawful.sound (frame_of s.profile y + 1) x.start (omega (arith, ends, before)) in
+      let below = frame_below s lawful.sound (frame_of_sending s.profile y + 1) x.start (omega (arith, ends, before)) in
       omega (arith, below)
 
   pub one_frame : (x y : Sending) → Contains (sendings_of air) x → Contains (sendings_of air) y → Meets x y
-      → frame_of s.profile x ≡ frame_of s.profile y
+      → frame_of_sending s.profile x ≡ frame_of_sending s.profile y
   one_frame x y first second meets =
       let one = earlier_frame x y second meets in
       let other = earlier_frame y x first (record { before = meets.after; after = meets.before }) in
@@ -75,7 +75,7 @@ module _ (s : ScenarioParts) (clocks : ℕ → ℕ → ℕ) (air : List Entry) (
       (sent_known s clocks air (run s clocks air lawful).heedful.trails y there) (run_end s) (omega arith) in
       calls.called y (in_trail s clocks air (whole s clocks air lawful) y there)
 
-  own_channel : (x y : Sending) → Contains r.sendings x → Contains (sendings_of air) y → takes_part r y.node → Meets x y → y.rank ≡ rank
+  own_channel : (x y : Sending) → Contains r.sendings x → Contains (sendings_of air) y → IsParticipant r y.node → Meets x y → y.rank ≡ rank
   own_channel x y sent there here meets =
       let is = sent_here x sent in
       let call = called y there in
@@ -91,11 +91,11 @@ module _ (s : ScenarioParts) (clocks : ℕ → ℕ → ℕ) (air : List Entry) (
     channel = on_channel;
     own = λ x y sent there here meets. on_channel x y sent there (own_channel x y sent there here meets) meets;
     passes_by = λ v x sent. (let is = sent_here x sent in
-        ap (λ (g : ℕ). passes s.trace g (slot_of x) (counter_of x) x.node v) is.1.1
-        ∙ ap (λ (i : ℕ). passes s.trace f i (counter_of x) x.node v) is.1.2);
+        ap (λ (g : ℕ). passes s.trace g (slot_of_sending x) (counter_of_sending x) x.node v) is.1.1
+        ∙ ap (λ (i : ℕ). passes s.trace f i (counter_of_sending x) x.node v) is.1.2);
     captured_by = λ v x sent. (let is = sent_here x sent in
-        ap (λ (g : ℕ). captured s.trace g (slot_of x) (counter_of x) v) is.1.1
-        ∙ ap (λ (i : ℕ). captured s.trace f i (counter_of x) v) is.1.2);
+        ap (λ (g : ℕ). captured s.trace g (slot_of_sending x) (counter_of_sending x) v) is.1.1
+        ∙ ap (λ (i : ℕ). captured s.trace f i (counter_of_sending x) v) is.1.2);
   }
 
   -- it ends in the run

@@ -3,7 +3,7 @@ use Rattle.std.proofs.Common.{◌≡◌, ℕ, ◌<◌, ◌≤◌, inl, inr, List
 use Rattle.std.proofs.lemmas.Bool.{cases_order}
 use Rattle.scenario_text.specs.ScenarioParts.{ScenarioParts}
 use Rattle.radio_model.specs.declared.sending.Sending.{Sending}
-use Rattle.radio_model.specs.Hearing.{counter_of}
+use Rattle.radio_model.specs.Hearing.{counter_of_sending}
 use Rattle.air_log.specs.declared.entry.Entry.{Entry}
 use Rattle.air_log.specs.Entries.{sendings_of}
 use Rattle.air_log.specs.Safe.{SameSlot}
@@ -13,9 +13,9 @@ use Rattle.law_safety.proofs.SafeSteps.{steps_apart}
 
 module _ (s : ScenarioParts) (clocks : ℕ → ℕ → ℕ) (air : List Entry) (whole : EndsInOrder s clocks air) where
   pub lower_first : (x y : Sending) → Contains (sendings_of air) x → Contains (sendings_of air) y → SameSlot s.profile x y
-      → (counter_of x ≡ counter_of y → ⊥) → x.end ≤ y.end → counter_of x < counter_of y
+      → (counter_of_sending x ≡ counter_of_sending y → ⊥) → x.end ≤ y.end → counter_of_sending x < counter_of_sending y
   lower_first x y there also_there same other before =
-      elim (cases_order (counter_of x) (counter_of y)) [
+      elim (cases_order (counter_of_sending x) (counter_of_sending y)) [
         | inl one ↦ absurd (other one)
         | inr (inl less) ↦ less
         | inr (inr more) ↦

@@ -13,7 +13,7 @@ use Rattle.node_core.specs.Windows.{Window}
 use Rattle.scenario_text.specs.ScenarioParts.{ScenarioParts}
 use Rattle.scenario_text.specs.FloodParts.{knows}
 use Rattle.radio_model.specs.declared.sending.Sending.{Sending}
-use Rattle.radio_model.specs.Hearing.{Scene, IsTuned, frame_of}
+use Rattle.radio_model.specs.Hearing.{Scene, IsTuned, frame_of_sending}
 use Rattle.air_log.specs.declared.entry.Entry.{Entry}
 use Rattle.air_log.specs.Devices.{Device, Power, PowerOff, PowerOn}
 use Rattle.air_log.specs.Entries.{sendings_of}
@@ -29,7 +29,7 @@ use Rattle.law_trails.specs.Walks.{NoWindow}
 use Rattle.law_trails.proofs.ObeyedOrders.{channel_is}
 use Rattle.law_safety.specs.CountedFrames.{frame_alarm_at}
 use Rattle.law_safety.specs.FloodSendings.{IsOfFlood}
-use Rattle.law_safety.specs.Invariant.{IsRun}
+use Rattle.law_safety.specs.Invariant.{IsObedientRun}
 use Rattle.law_safety.specs.NodesInOrder.{InOrderBy, IsOn}
 use Rattle.law_safety.specs.RadiosOn.{RadioFor}
 use Rattle.law_safety.specs.Rows.{IsFine}
@@ -83,7 +83,7 @@ module _ (s : ScenarioParts) (clocks : ℕ → ℕ → ℕ) (air : List Entry) (
   abbrev trail_windows : List WindowLog
   trail_windows = (trail_in s clocks air v).made.windows
 
-  go : IsRun s clocks air
+  go : IsObedientRun s clocks air
   go = run s clocks air lawful
 
   is_node : knows s.nodes v ≡ true
@@ -105,7 +105,7 @@ module _ (s : ScenarioParts) (clocks : ℕ → ℕ → ℕ) (air : List Entry) (
   frame =
       let begins = after_frame_start s clocks air go x flood is.0 in
       let ends = before_frame_end s clocks air go x flood is.0 in
-      frame_is s (frame_of s.profile x) t (omega (arith, begins, from)) (omega (arith, ends, until)) ∙ is.1.1
+      frame_is s (frame_of_sending s.profile x) t (omega (arith, begins, from)) (omega (arith, ends, until)) ∙ is.1.1
 
   have : IsFine s clocks air v t Over d × HasWindows s v (λ w. w.opened ≤ t) t d
   have = windows_behind s clocks air v (Opened s clocks air lawful v) all_rows go is_node (λ u now. opened_steps s clocks air lawful v u) t in_run

@@ -2,18 +2,18 @@
 use Rattle.std.proofs.Common.{◌≡◌, ℕ, ◌<◌, ◌≤◌, List, Bool, true, false, if◌then◌else◌, Some, None}
 use Rattle.std.proofs.Common.{Option, inl, inr, Contains, is_some, sum_by, refl, sym, ◌∙◌, ap}
 use Rattle.lwb_base.specs.Messages.{Plan}
-use Rattle.bus_rules.specs.Charges.{charge as charge_of, last_of}
+use Rattle.bus_rules.specs.Charges.{charge as charge_of, last_if_all_sent}
 use Rattle.bus_rules.specs.Plans.{last_slot}
-use Rattle.bus_rules.specs.Slots.{Opened, opened, part_of}
+use Rattle.bus_rules.specs.Slots.{Opened, opened_slot, part_of}
 use Rattle.scenario_text.specs.ScenarioParts.{ScenarioParts}
 use Rattle.scenario_text.specs.FloodParts.{knows}
 use Rattle.air_log.specs.declared.entry.Entry.{Entry}
-use Rattle.air_log.specs.Charges.{charge, counted, sent_packets, windows_charge}
+use Rattle.air_log.specs.Charges.{charge_of_window, charge_by_last, sent_packets, windows_charge}
 use Rattle.air_log.specs.Lawful.{trail_in}
 use Rattle.air_log.specs.WindowLogs.{WindowLog}
 use Rattle.law_windows.proofs.WindowParts.{nodes_take_part}
 use Rattle.bus_terms.specs.Bus.{bus_cost, state_at}
-use Rattle.bus_terms.specs.Costs.{sent_by, slot_window}
+use Rattle.bus_terms.specs.Costs.{steps_sent_by, slot_window}
 use Rattle.bus_terms.specs.Rounds.{Slot, before_slot}
 use Rattle.bus_terms.specs.ScriptedStates.{setup_in}
 use Rattle.law_terms.specs.LawfulRuns.{IsLawfulRun}
@@ -61,28 +61,28 @@ module _ (runs : RunsLaw) (s : ScenarioParts) (clocks : ℕ → ℕ → ℕ) (ai
 
     -- what a window counts in this slot
     abbrev of_frame : WindowLog → ℕ
-    of_frame = under frame_in (charge s) f
+    of_frame = under frame_in (charge_of_window s) f
 
     abbrev counts : WindowLog → ℕ
     counts = under slot_of_it of_frame j
 
     counts_none : (w : WindowLog) → (w.frame ≡ f → w.slot ≡ j → ⊥) → counts w ≡ 0
-    counts_none w other = under_none slot_of_it of_frame j w (λ slot. under_none frame_in (charge s) f w (λ frame. absurd (other frame slot)))
+    counts_none w other = under_none slot_of_it of_frame j w (λ slot. under_none frame_in (charge_of_window s) f w (λ frame. absurd (other frame slot)))
 
     none_counted : x.window v ≡ None → slot_window s.profile x v ≡ 0
-    none_counted none = ap (λ (o : Option Opened). if is_some o then charge_of s.profile (last_of x.flood.limit (sent_by x v)) else 0) none
+    none_counted none = ap (λ (o : Option Opened). if is_some o then charge_of s.profile (last_if_all_sent x.flood.limit (steps_sent_by x v)) else 0) none
 
     module _ (w : WindowLog) (here : IsWindowOf s clocks air f rank j v w) where
       -- the window of the slot counts what it does on the bus
-      charge_by : (b : Bool) → w.by_alarm ≡ b → charge s w ≡ slot_window s.profile x v
+      charge_by : (b : Bool) → w.by_alarm ≡ b → charge_of_window s w ≡ slot_window s.profile x v
       charge_by true alarm =
           let found = runs s clocks air lawful f rank j p round within start in
           let part = nodes_take_part s clocks air (record { sound = lawful.sound; drift = lawful.drift }) lawful.lawful v known w here.there in
           charge_same s clocks air lawful f rank p j found.0 found.1 found.2 v w here part.has alarm
-          (opened (setup_in s v) f (part_of p j) w.before.core)
+          (opened_slot (setup_in s v) f (part_of p j) w.before.core)
           (window_is s clocks air lawful f in_run rank j p start heard v w here alarm)
       charge_by false joined =
-          ap (λ (b : Bool). if b then counted s.profile (last_of s.sends (sent_packets w)) else 0) joined
+          ap (λ (b : Bool). if b then charge_by_last s.profile (last_if_all_sent s.sends (sent_packets w)) else 0) joined
           ∙ sym (none_counted (no_window s clocks air lawful f in_run rank j p start heard v w here joined))
 
       -- and no other window is of the slot
@@ -96,7 +96,7 @@ module _ (runs : RunsLaw) (s : ScenarioParts) (clocks : ℕ → ℕ → ℕ) (ai
           one_counts counts w ws (windows_distinct heards s clocks air lawful v known) here.there
           (λ y there other. counts_none y (another y there other))
           ∙ under_its slot_of_it of_frame j w here.slot
-          ∙ under_its frame_in (charge s) f w here.frame
+          ∙ under_its frame_in (charge_of_window s) f w here.frame
           ∙ charge_by w.by_alarm refl
 
     without_window : ((w : WindowLog) → IsWindowOf s clocks air f rank j v w → ⊥)
@@ -120,5 +120,5 @@ module _ (runs : RunsLaw) (s : ScenarioParts) (clocks : ℕ → ℕ → ℕ) (ai
 
   pub windows_same : (bus_cost s v).windows ≡ windows_charge s (trail_in s clocks air v)
   windows_same =
-      sym (over_rounds s v frame_in slot_of_it (charge s) ws (λ x. slot_window s.profile x v)
+      sym (over_rounds s v frame_in slot_of_it (charge_of_window s) ws (λ x. slot_window s.profile x v)
       (window_placed heards s clocks air lawful v known) of_slot)

@@ -15,7 +15,7 @@ use Rattle.scenario_text.specs.ScenarioParts.{ScenarioParts}
 use Rattle.scenario_text.specs.FloodParts.{knows}
 use Rattle.radio_model.specs.declared.sending.Sending.{Sending}
 use Rattle.air_log.specs.declared.entry.Entry.{Entry}
-use Rattle.air_log.specs.Entries.{IsHeard}
+use Rattle.air_log.specs.Entries.{HasHeardEntry}
 use Rattle.air_log.specs.Devices.{Device, PowerOn}
 use Rattle.air_log.specs.Lawful.{heard_by}
 use Rattle.air_log.specs.Trails.{Reception, setup_of, run_end}
@@ -23,7 +23,7 @@ use Rattle.air_log.specs.WindowLogs.{WindowLog, Happening, Closing}
 use Rattle.law_trails.specs.Phases.{Hearings, Alarms, IsNextHearing}
 use Rattle.law_trails.specs.TrailLinks.{device_in}
 use Rattle.law_safety.specs.FloodSendings.{IsOfFlood}
-use Rattle.law_safety.specs.Invariant.{IsRun}
+use Rattle.law_safety.specs.Invariant.{IsObedientRun}
 use Rattle.law_safety.specs.KnownInRows.{IsHeardNow}
 use Rattle.law_safety.specs.KnownPlans.{InRound, PlanAt}
 use Rattle.law_safety.specs.NodesInOrder.{IsOn}
@@ -49,7 +49,7 @@ module _ (s : ScenarioParts) (clocks : ℕ → ℕ → ℕ) (air : List Entry) (
   pub record OfScanner (w : WindowLog) : Type 0 where
     pub scans : Scans s clocks v w.before w.before.core.tune
     pub heard : Sending
-    pub there : IsHeard air v heard
+    pub there : HasHeardEntry air v heard
     pub of_slot : IsOfSlot s w heard
     pub of_flood : IsOfFlood s clocks air heard
     pub schedule : Schedule
@@ -150,7 +150,7 @@ module _ (s : ScenarioParts) (clocks : ℕ → ℕ → ℕ) (air : List Entry) (
     }
 
   -- so each of them is
-  pub of_round : IsRun s clocks air → knows s.nodes v ≡ true → (w : WindowLog) → Contains (device_in s clocks air v (run_end s)).made.windows w
+  pub of_round : IsObedientRun s clocks air → knows s.nodes v ≡ true → (w : WindowLog) → Contains (device_in s clocks air v (run_end s)).made.windows w
       → IsOfRound (run_end s) w
   of_round run known w there =
       (windows_before s clocks air v (λ now told w. IsOfRound told w) all_rows run known (λ u at. round_steps u at) (run_end s) (omega arith)).each w there

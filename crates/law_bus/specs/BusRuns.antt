@@ -18,7 +18,7 @@ use Rattle.law_bus.specs.RunEnergies.{cost_in}
 
 -- no two steps meet, what is delivered and lost is the bus's, each stream comes in order, data is received by relay paths, and
 -- each node's radio costs what it does on the bus
-pub record IsBusRun (s : ScenarioParts) (clocks : ℕ → ℕ → ℕ) (air : List Entry) : Type 0 where
+pub record AgreesWithBus (s : ScenarioParts) (clocks : ℕ → ℕ → ℕ) (air : List Entry) : Type 0 where
   pub safe : Safe s clocks air
   pub delivered : deliveries_of s clocks air ≡ bus_deliveries s
   pub lost : drops_of s clocks air ≡ bus_drops s
@@ -29,4 +29,4 @@ pub record IsBusRun (s : ScenarioParts) (clocks : ℕ → ℕ → ℕ) (air : Li
 
 -- each lawful run is
 abbrev pub LawfulRunsAreTheBus : Type 0
-LawfulRunsAreTheBus = (s : ScenarioParts) (clocks : ℕ → ℕ → ℕ) (air : List Entry) → IsLawfulRun s clocks air → IsBusRun s clocks air
+LawfulRunsAreTheBus = (s : ScenarioParts) (clocks : ℕ → ℕ → ℕ) (air : List Entry) → IsLawfulRun s clocks air → AgreesWithBus s clocks air

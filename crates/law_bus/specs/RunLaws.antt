@@ -8,13 +8,13 @@ use Rattle.lwb_member.specs.Places.{kind_for}
 use Rattle.scenario_text.specs.ScenarioParts.{ScenarioParts}
 use Rattle.scenario_text.specs.FloodParts.{knows}
 use Rattle.radio_model.specs.declared.sending.Sending.{Sending}
-use Rattle.radio_model.specs.Hearing.{TunedThrough, frame_of, slot_of}
+use Rattle.radio_model.specs.Hearing.{TunedThrough, frame_of_sending, slot_of_sending}
 use Rattle.air_log.specs.declared.entry.Entry.{Entry}
-use Rattle.air_log.specs.Entries.{sendings_of, IsHeard}
+use Rattle.air_log.specs.Entries.{sendings_of, HasHeardEntry}
 use Rattle.air_log.specs.HearsAir.{scene_of}
 use Rattle.air_log.specs.NodeEvents.{Event}
 use Rattle.air_log.specs.WindowLogs.{WindowLog}
-use Rattle.lwb_flood.specs.FloodRun.{Run, WasHeard, takes_part, HasInitiators, HasSendings, HasEvents, HearsByRule}
+use Rattle.lwb_flood.specs.FloodRun.{Run, WasHeard, IsParticipant, HasInitiators, HasSendings, HasEvents, HearsByRule}
 use Rattle.lwb_flood.specs.RunOnAir.{IsPart}
 use Rattle.law_terms.specs.LawfulRuns.{IsLawfulRun}
 use Rattle.law_terms.specs.SlotLaws.{IsRound, IsWindowOf, Says, bus_slot}
@@ -30,8 +30,8 @@ OfSlots Is = (s : ScenarioParts) (clocks : ℕ → ℕ → ℕ) (air : List Entr
 
 -- who takes part is a node, and each window that it has in the frame is of the rank
 pub record IsOfRank (s : ScenarioParts) (clocks : ℕ → ℕ → ℕ) (air : List Entry) (f rank : ℕ) (r : Run) : Type 0 where
-  pub known : (v : ℕ) → takes_part r v → knows s.nodes v ≡ true
-  pub rank_is : (v i k : ℕ) (w : WindowLog) → takes_part r v → IsWindowOf s clocks air f i k v w → i ≡ rank
+  pub known : (v : ℕ) → IsParticipant r v → knows s.nodes v ≡ true
+  pub rank_is : (v i k : ℕ) (w : WindowLog) → IsParticipant r v → IsWindowOf s clocks air f i k v w → i ≡ rank
 
 abbrev pub PartiesLaw : Type 0
 PartiesLaw = OfSlots (λ s clocks air f rank p j events. IsOfRank s clocks air f rank (run_of_slot s clocks air f rank p j events))
@@ -54,8 +54,8 @@ pub record IsOfBus (s : ScenarioParts) (air : List Entry) (f rank : ℕ) (p : Pl
   pub kind : r.kind ≡ kind_for (bus_slot s f rank p j).part
   pub message : (o : ℕ) (m : Message) → Says s f rank p j o m → r.message o ≡ bytes_of m j
   pub sendings : (x : Sending) → Contains r.sendings x
-      ↔ (Contains (sendings_of air) x × (x.rank ≡ rank) × (frame_of s.profile x ≡ f) × (slot_of x ≡ j))
-  pub hearings : (v : ℕ) (x : Sending) → WasHeard r v x ↔ (IsHeard air v x × Contains r.sendings x)
+      ↔ (Contains (sendings_of air) x × (x.rank ≡ rank) × (frame_of_sending s.profile x ≡ f) × (slot_of_sending x ≡ j))
+  pub hearings : (v : ℕ) (x : Sending) → WasHeard r v x ↔ (HasHeardEntry air v x × Contains r.sendings x)
 
 abbrev pub BusLaw : Type 0
 BusLaw = OfSlots (λ s clocks air f rank p j events. IsOfBus s air f rank p j (run_of_slot s clocks air f rank p j events))
@@ -83,7 +83,7 @@ SendingsLaw = OfSlots (λ s clocks air f rank p j events. AreEvents s clocks air
 -- who has a window in the slot takes part in it
 abbrev pub WindowsTakePartLaw : Type 0
 WindowsTakePartLaw = OfSlots (λ s clocks air f rank p j events. (v : ℕ) (w : WindowLog) → IsWindowOf s clocks air f rank j v w
-    → takes_part (run_of_slot s clocks air f rank p j events) v)
+    → IsParticipant (run_of_slot s clocks air f rank p j events) v)
 
 -- the floods of its nodes end as their windows do
 abbrev pub RecordsLaw : Type 0

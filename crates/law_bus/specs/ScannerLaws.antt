@@ -4,15 +4,15 @@ use Rattle.scenario_text.specs.ScenarioParts.{ScenarioParts}
 use Rattle.radio_model.specs.Hearing.{TunedThrough}
 use Rattle.air_log.specs.declared.entry.Entry.{Entry}
 use Rattle.air_log.specs.HearsAir.{scene_of}
-use Rattle.lwb_flood.specs.FloodRun.{Run, takes_part}
-use Rattle.lwb_flood.specs.Windows.{HasWindow as ListensIn}
+use Rattle.lwb_flood.specs.FloodRun.{Run, IsParticipant}
+use Rattle.lwb_flood.specs.Windows.{ListensInWindow as ListensIn}
 use Rattle.law_terms.specs.SlotLaws.{HasWindow}
 use Rattle.law_bus.specs.SlotRun.{AreEvents, run_of_slot}
 use Rattle.law_bus.specs.RunLaws.{OfSlots}
 
 -- each listens in some window that covers the flood
 pub record ScannersListen (s : ScenarioParts) (clocks : ℕ → ℕ → ℕ) (air : List Entry) (f rank j : ℕ) (r : Run) : Type 0 where
-  pub listens : (v : ℕ) → takes_part r v → (HasWindow s clocks air f rank j v → ⊥)
+  pub listens : (v : ℕ) → IsParticipant r v → (HasWindow s clocks air f rank j v → ⊥)
       → ListensIn r (TunedThrough (scene_of s.profile s.trace air)) v
 
 abbrev pub ScannersLaw : Type 0

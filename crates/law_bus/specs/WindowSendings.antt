@@ -3,7 +3,7 @@ use Rattle.std.specs.Prelude.{◌≡◌, ℕ, ◌≤◌, List, map}
 use Rattle.lwb_base.specs.Messages.{Plan}
 use Rattle.scenario_text.specs.ScenarioParts.{ScenarioParts}
 use Rattle.bus_rules.specs.Plans.{last_slot}
-use Rattle.bus_terms.specs.Costs.{sent_by}
+use Rattle.bus_terms.specs.Costs.{steps_sent_by}
 use Rattle.air_log.specs.Charges.{sent_packets, step_and_length}
 use Rattle.air_log.specs.declared.entry.Entry.{Entry}
 use Rattle.air_log.specs.WindowLogs.{WindowLog}
@@ -15,4 +15,4 @@ abbrev pub WindowSendingsLaw : Type 0
 WindowSendingsLaw = (s : ScenarioParts) (clocks : ℕ → ℕ → ℕ) (air : List Entry) → IsLawfulRun s clocks air
     → (f rank j v : ℕ) (p : Plan) → IsRound s f rank p → j ≤ last_slot p
     → (w : WindowLog) → IsWindowOf s clocks air f rank j v w
-    → map step_and_length (sent_packets w) ≡ sent_by (bus_slot s f rank p j) v
+    → map step_and_length (sent_packets w) ≡ steps_sent_by (bus_slot s f rank p j) v

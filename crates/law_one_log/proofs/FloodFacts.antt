@@ -9,9 +9,9 @@ use Rattle.radio_model.specs.Hearing.{Meets}
 use Rattle.lwb_base.proofs.Elements.{contains_head, contains_tail, contains_cases}
 use Rattle.scenario_text.specs.FloodParts.{FloodParts, knows}
 use Rattle.air_log.specs.declared.entry.Entry.{Entry}
-use Rattle.air_log.specs.Entries.{sendings_of, IsHeard}
+use Rattle.air_log.specs.Entries.{sendings_of, HasHeardEntry}
 use Rattle.air_log.specs.FloodLaw.{FloodLaw, IsRelay, Lasts, first_packet, first_flood, sending_at}
-use Rattle.air_log.specs.NodeEvents.{Heard, after}
+use Rattle.air_log.specs.NodeEvents.{Heard, flood_after_event}
 use Rattle.lwb_flood.specs.FloodBySteps.{IsFloodBySteps}
 use Rattle.lwb_flood.specs.FloodLog.{run_of}
 use Rattle.lwb_flood.proofs.SendingTimes.{occasion_event}
@@ -54,7 +54,7 @@ module _ (f : FloodParts) (clocks : ℕ → ℕ → ℕ) (air : List Entry) (law
 
   -- a relay follows a reception with the counter before
   pub cause : (x : Sending) → knows f.nodes x.node ≡ true → (relay : IsRelay f (clocks x.node) (law.events x.node) x)
-      → IsHeard air x.node relay.heard × (counter x ≡ counter relay.heard + 1)
+      → HasHeardEntry air x.node relay.heard × (counter x ≡ counter relay.heard + 1)
   cause x here relay =
       let y = relay.heard in
       let parts = relayed_parts relay.flood y.packet x.packet relay.answer in

@@ -3,7 +3,7 @@ use Rattle.std.proofs.Common.{◌≡◌, ℕ, ◌<◌, inl, inr, List, Some, All
 use Rattle.lwb_base.specs.Profile.{Numbers, IsProfile, airtime}
 use Rattle.link_trace.specs.Passes.{captured}
 use Rattle.radio_model.specs.declared.sending.Sending.{Sending}
-use Rattle.radio_model.specs.Hearing.{Scene, Meets, Rival, Captured, frame_of, slot_of, counter_of}
+use Rattle.radio_model.specs.Hearing.{Scene, Meets, Rival, Captured, frame_of_sending, slot_of_sending, counter_of_sending}
 use Rattle.scenario_text.specs.ScenarioParts.{ScenarioParts}
 use Rattle.air_log.specs.declared.entry.Entry.{Entry}
 use Rattle.air_log.specs.Devices.{Listening}
@@ -12,7 +12,7 @@ use Rattle.air_log.specs.HearsAir.{scene_of, HearsAir}
 use Rattle.air_log.specs.Safe.{Safe, SameStep}
 use Rattle.law_trails.proofs.SentInTrails.{sent_lasts}
 use Rattle.law_trails.proofs.TunedInTrails.{tuned_listens}
-use Rattle.law_trails.specs.OnePacket.{hears as hearing}
+use Rattle.law_trails.specs.OnePacket.{reception_at as hearing}
 use Rattle.law_safety.proofs.SafeRuns.{lawful_logs_are_safe}
 use Rattle.law_terms.specs.LawfulRuns.{IsLawfulRun}
 use Rattle.law_one_log.proofs.EntriesApart.{HearingsApart, Other}
@@ -91,11 +91,11 @@ module _ (s : ScenarioParts) (clocks : ℕ → ℕ → ℕ) (air : List Entry) (
     one_named : (c : Captured scene v x) (d : Captured scene v y) → c.winner.node ≡ d.winner.node
     one_named c d =
         let line = captured s.trace in
-        let frame : frame_of s.profile x ≡ frame_of s.profile y = step.slot.frame in
+        let frame : frame_of_sending s.profile x ≡ frame_of_sending s.profile y = step.slot.frame in
         let moved =
-        ap (λ (f : ℕ). line f (slot_of x) (counter_of x) v) frame
-        ∙ ap (λ (j : ℕ). line (frame_of s.profile y) j (counter_of x) v) step.slot.slot
-        ∙ ap (λ (k : ℕ). line (frame_of s.profile y) (slot_of y) k v) step.counter in
+        ap (λ (f : ℕ). line f (slot_of_sending x) (counter_of_sending x) v) frame
+        ∙ ap (λ (j : ℕ). line (frame_of_sending s.profile y) j (counter_of_sending x) v) step.slot.slot
+        ∙ ap (λ (k : ℕ). line (frame_of_sending s.profile y) (slot_of_sending y) k v) step.counter in
         let both : Some c.winner.node ≡ Some d.winner.node = sym c.named ∙ moved ∙ d.named in
         cc
 

@@ -8,7 +8,7 @@ use Rattle.std.proofs.lemmas.List.Sorted.{Contains-permutation}
 use Rattle.radio_model.specs.OnAir.{Hearing}
 use Rattle.air_log.proofs.StrictOrders.{same_order}
 use Rattle.lwb_base.proofs.Elements.{not_in_none, contains_head, contains_tail, contains_cases, pairs_cons, pairs_tail, pairs_head}
-use Rattle.air_log.specs.Lawful.{comes_before, put_in, by_end}
+use Rattle.air_log.specs.Lawful.{reception_comes_before, put_in, by_end}
 
 -- g ends before h, or they end together and g is of an earlier sender
 abbrev pub InTurn : Hearing → Hearing → Type 0
@@ -35,7 +35,7 @@ chain g h k first then =
       ]
     ]
 
-told : (g h : Hearing) → comes_before g h ≡ true → InTurn g h
+told : (g h : Hearing) → reception_comes_before g h ≡ true → InTurn g h
 told g h is =
     elim (or_cases (nat_lt g.sending.end h.sending.end) _ is) [
       | inl less ↦ inl (ltb-true g.sending.end h.sending.end less)
@@ -43,7 +43,7 @@ told g h is =
           inr (eqb-true g.sending.end h.sending.end parts.0, ltb-true g.sending.node h.sending.node parts.1))
     ]
 
-tells : (g h : Hearing) → InTurn g h → comes_before g h ≡ true
+tells : (g h : Hearing) → InTurn g h → reception_comes_before g h ≡ true
 tells g h is =
     let less = nat_lt g.sending.end h.sending.end in
     let same = (g.sending.end == h.sending.end) && nat_lt g.sending.node h.sending.node in
@@ -65,14 +65,14 @@ one_of g h apart =
       ]
     ]
 
-other_way : (g h : Hearing) → comes_before g h ≡ false → EndApart g h → InTurn h g
+other_way : (g h : Hearing) → reception_comes_before g h ≡ false → EndApart g h → InTurn h g
 other_way g h not apart = elim (one_of g h apart) [ inl is ↦ absurd (false≢true (sym not ∙ tells g h is)) | inr is ↦ is ]
 
 -- a reception put to its place
 put_moves : (h : Hearing) (gs : List Hearing) → IsPermutation (h ∷ gs) (put_in h gs)
 put_moves h [] = IsPermutation-refl (h ∷ [])
 put_moves h (g ∷ gs) =
-    cond_both (comes_before g h) (g ∷ put_in h gs) (h ∷ g ∷ gs) (IsPermutation (h ∷ g ∷ gs))
+    cond_both (reception_comes_before g h) (g ∷ put_in h gs) (h ∷ g ∷ gs) (IsPermutation (h ∷ g ∷ gs))
     (λ is. IsPermutation-trans (h ∷ g ∷ gs) (g ∷ h ∷ gs) (g ∷ put_in h gs)
     (IsPermutation-sym (g ∷ h ∷ gs) (h ∷ g ∷ gs) (IsPermutation-middle (g ∷ []) h gs))
     (IsPermutation-cons g (h ∷ gs) (put_in h gs) (put_moves h gs)))
@@ -88,7 +88,7 @@ put_in_turn h [] apart all = pairs_cons InTurn h [] (λ y there. absurd (not_in_
 put_in_turn h (g ∷ gs) apart all =
     let rest = put_in_turn h gs (λ k there. apart k (contains_tail g gs k there)) (pairs_tail InTurn g gs all) in
     let later = pairs_head InTurn g gs all in
-    cond_both (comes_before g h) (g ∷ put_in h gs) (h ∷ g ∷ gs) (AllPairs InTurn)
+    cond_both (reception_comes_before g h) (g ∷ put_in h gs) (h ∷ g ∷ gs) (AllPairs InTurn)
     (λ is. pairs_cons InTurn g (put_in h gs)
     (λ k there. elim (contains_cases h gs k (Contains-permutation (put_in h gs) (h ∷ gs) k (IsPermutation-sym (h ∷ gs) (put_in h gs) (put_moves h gs)) there)) [
       | inl same ↦ subst (InTurn g) same (told g h is)

@@ -12,13 +12,13 @@ use Rattle.radio_model.specs.Hearing.{Rival}
 use Rattle.lwb_base.proofs.Elements.{filter_from, in_filter, pairs_cons, pairs_tail, pairs_head}
 use Rattle.scenario_text.specs.FloodParts.{FloodParts, knows}
 use Rattle.air_log.specs.declared.entry.Entry.{Entry}
-use Rattle.air_log.specs.Entries.{sendings_of, hearings_of, tunings_of, IsHeard}
+use Rattle.air_log.specs.Entries.{sendings_of, hearings_of, tunings_of, HasHeardEntry}
 use Rattle.air_log.specs.FloodLaw.{FloodLaw, OPENING, CLOSING}
 use Rattle.air_log.specs.HearsAir.{scene_of}
-use Rattle.air_log.specs.NodeEvents.{Event, Heard, Ended, sending_of, own_end, own_ends}
+use Rattle.air_log.specs.NodeEvents.{Event, Heard, Ended, sending_of_event, own_end, own_ends}
 use Rattle.air_log.proofs.StrictOrders.{same_order}
 use Rattle.lwb_flood.specs.FloodBySteps.{IsFloodBySteps}
-use Rattle.lwb_flood.specs.FloodLog.{HasClocks, HasSent, HasHeard, run_of}
+use Rattle.lwb_flood.specs.FloodLog.{HasClocks, HasSentEntry, HasHeard, run_of}
 use Rattle.lwb_flood.specs.FloodRun.{counter}
 use Rattle.law_one_log.specs.OneLog.{OneFloodLogLaw}
 use Rattle.law_one_log.proofs.EntriesApart.{also_there}
@@ -65,7 +65,7 @@ StepsLaw = (f : FloodParts) (clocks : ℕ → ℕ → ℕ) (air : List Entry) �
 
 abbrev pub SendsLaw : Type 0
 SendsLaw = (f : FloodParts) (clocks : ℕ → ℕ → ℕ) (air : List Entry) → HasClocks f clocks → FloodLaw f clocks air
-    → (v k : ℕ) → HasSent air v k ↔ Sends (setting f) v k f.start
+    → (v k : ℕ) → HasSentEntry air v k ↔ Sends (setting f) v k f.start
 
 abbrev pub HearsLaw : Type 0
 HearsLaw = (f : FloodParts) (clocks : ℕ → ℕ → ℕ) (air : List Entry) → HasClocks f clocks → FloodLaw f clocks air
@@ -80,7 +80,7 @@ module _ (steps : StepsLaw) (sends : SendsLaw) (hears : HearsLaw) (f : FloodPart
     in_b = steps f clocks b is other
 
     -- of one step a node hears the same in both
-    one_heard : (v k : ℕ) → SentToo k a b → SentToo k b a → (g h : Sending) → IsHeard a v g → IsHeard b v h → counter g ≡ k → counter h ≡ k → g ≡ h
+    one_heard : (v k : ℕ) → SentToo k a b → SentToo k b a → (g h : Sending) → HasHeardEntry a v g → HasHeardEntry b v h → counter g ≡ k → counter h ≡ k → g ≡ h
     one_heard v k to from g h there also at at_too =
         let hears_g = ((law.hears v g).0 there).1 in
         let hears_h = ((other.hears v h).0 also).1 in
@@ -127,7 +127,7 @@ module _ (steps : StepsLaw) (sends : SendsLaw) (hears : HearsLaw) (f : FloodPart
         let again = other.relays y z.there (λ none. omega (arith, z.counter, none)) in
         let caused = cause f clocks a law in_a x here relay in
         let caused_too = cause f clocks b other in_b y (known f clocks b other in_b y z.there) again in
-        let heard_here : IsHeard b v again.heard = subst (λ (u : ℕ). IsHeard b u again.heard) z.node caused_too.0 in
+        let heard_here : HasHeardEntry b v again.heard = subst (λ (u : ℕ). HasHeardEntry b u again.heard) z.node caused_too.0 in
         let heard : relay.heard ≡ again.heard = one_heard v k to from relay.heard again.heard caused.0 heard_here (omega (arith, at, caused.1))
         (omega (arith, z.counter, caused_too.1)) in
         let start : x.start ≡ y.start =
@@ -162,15 +162,16 @@ module _ (steps : StepsLaw) (sends : SendsLaw) (hears : HearsLaw) (f : FloodPart
         let z = (hears f clocks b is other v k here).1 ((hears f clocks a is law v k here).0 (record { sending = x; there = there; counter = refl })) in
         let both = sent_both k in
         let same = one_heard a b law other v k both.0 both.1 x z.sending there z.there refl z.counter in
-        subst (IsHeard b v) (sym same) z.there
+        subst (HasHeardEntry b v) (sym same) z.there
 
     -- own transmissions of a node end one after the other
     own_up : (v : ℕ) → knows f.nodes v ≡ true → AllPairs EndsUp (law.events v)
     own_up v here =
-        weaker_pairs (λ d e. ((sending_of d).end ≤ (sending_of e).end) × (d ≢ e)) EndsUp (law.events v) (law.happened v here).in_order
+        weaker_pairs (λ d e. ((sending_of_event d).end ≤ (sending_of_event e).end) × (d ≢ e)) EndsUp (law.events v) (law.happened v here).in_order
         (λ d e there also order. by_events d e there also order)
       where
-        by_events : (d e : Event) → Contains (law.events v) d → Contains (law.events v) e → ((sending_of d).end ≤ (sending_of e).end) × (d ≢ e) → EndsUp d e
+        by_events : (d e : Event) → Contains (law.events v) d → Contains (law.events v) e → ((sending_of_event d).end ≤ (sending_of_event e).end) × (d ≢ e)
+            → EndsUp d e
         by_events (Heard x) e there also order = tt
         by_events (Ended x) (Heard y) there also order = tt
         by_events (Ended x) (Ended y) there also order =

@@ -15,12 +15,13 @@ use Rattle.scenario_text.specs.ScenarioFacts.{IsSoundScenario}
 use Rattle.scenario_text.specs.declared.script.ScriptLine.{ScriptLine}
 use Rattle.air_log.specs.declared.entry.Entry.{Entry}
 use Rattle.air_log.specs.Devices.{Device}
-use Rattle.air_log.specs.Entries.{sendings_of, hearings_of, tunings_of, IsHeard}
+use Rattle.air_log.specs.Entries.{sendings_of, hearings_of, tunings_of, HasHeardEntry}
 use Rattle.air_log.specs.HearsAir.{scene_of}
 use Rattle.air_log.specs.Lawful.{Lawful, by_end, reception_of, hearings_by, heard_by}
 use Rattle.air_log.specs.QuietTicks.{ends_before}
-use Rattle.air_log.specs.Trails.{Reception, setup_of, lines_at, frame_start, run_end, trail, tick, heard, ended, alarmed, begun, before_tick, tune_of, tune_at}
-use Rattle.air_log.specs.ScriptedDevices.{after_line}
+use Rattle.air_log.specs.Trails.{Reception, setup_of, lines_at, frame_start, run_end, trail, tick, device_after_receptions, device_after_end, alarmed}
+use Rattle.air_log.specs.Trails.{device_after_start, before_tick, tune_of, tune_at}
+use Rattle.air_log.specs.ScriptedDevices.{device_after_line}
 use Rattle.lwb_base.proofs.Elements.{in_filtered, filtered}
 use Rattle.lwb_base.proofs.Lists.{filter_map_of}
 use Rattle.air_log.proofs.QuietTicks.{prefix, prefix_run}
@@ -33,7 +34,7 @@ use Rattle.law_one_log.proofs.TunedBack.{tuned_there, tuned_here, by_device, by_
 
 -- what a has heard before tick t, b has
 abbrev pub HeardToo : List Entry → List Entry → ℕ → Type 0
-HeardToo a b t = (v : ℕ) (x : Sending) → x.end < t → IsHeard a v x → IsHeard b v x
+HeardToo a b t = (v : ℕ) (x : Sending) → x.end < t → HasHeardEntry a v x → HasHeardEntry b v x
 
 -- and the other way round
 abbrev pub HeardAlike : List Entry → List Entry → ℕ → Type 0
@@ -111,7 +112,9 @@ module _ (p : ScenarioParts) (clocks : ℕ → ℕ → ℕ) (until : ℕ) where
     same_tick : (v t : ℕ) (hs : List Reception) → t < until → (d : Device) → tick s v (clocks v) hs t d ≡ tick u v (clocks v) hs t d
     same_tick v t hs less d =
         let x = setup_of p v in
-        ap (λ (ls : List ScriptLine). begun x t (alarmed (clocks v) x t (ended (clocks v) x t (heard (clocks v) x t hs (fold (after_line (clocks v) x t) d ls)))))
+        ap (λ (ls : List ScriptLine). device_after_start x t
+            (alarmed (clocks v) x t
+                (device_after_end (clocks v) x t (device_after_receptions (clocks v) x t hs (fold (device_after_line (clocks v) x t) d ls)))))
         (twins.lines v t less)
 
     same_script : (v : ℕ) (hs : List Reception) (t : ℕ) → t ≤ until → before_tick s v (clocks v) hs t ≡ before_tick u v (clocks v) hs t
@@ -145,9 +148,10 @@ module _ (p : ScenarioParts) (clocks : ℕ → ℕ → ℕ) (until : ℕ) where
     same_tune f v soon alike =
         let t : ℕ = frame_start p f in
         let x = setup_of p v in
-        ap (λ (d : Device). if nat_lt f p.frames then tune_of (fold (after_line (clocks v) x t) d (lines_at s v t)).power else None)
+        ap (λ (d : Device). if nat_lt f p.frames then tune_of (fold (device_after_line (clocks v) x t) d (lines_at s v t)).power else None)
         (same_device t v (omega (arith, soon)) alike)
-        ∙ ap (λ (ls : List ScriptLine). if nat_lt f p.frames then tune_of (fold (after_line (clocks v) x t) (device_in u clocks b v t) ls).power else None)
+        ∙ ap (λ (ls : List ScriptLine). if nat_lt f p.frames then tune_of (fold (device_after_line (clocks v) x t) (device_in u clocks b v t) ls).power
+            else None)
         (twins.lines v t soon)
 
   module _ (xs ys : List ScriptLine) (a b : List Entry) (twins : Twins p clocks until xs ys a b) where
@@ -170,7 +174,7 @@ module _ (p : ScenarioParts) (clocks : ℕ → ℕ → ℕ) (until : ℕ) where
         }
 
     -- what ends at the tick began before it, so who hears it is settled
-    ends_now : (t : ℕ) → t ≤ run_end p → t ≤ until → HeardAlike a b t → (v : ℕ) (x : Sending) → x.end ≡ t → IsHeard a v x → IsHeard b v x
+    ends_now : (t : ℕ) → t ≤ run_end p → t ≤ until → HeardAlike a b t → (v : ℕ) (x : Sending) → x.end ≡ t → HasHeardEntry a v x → HasHeardEntry b v x
     ends_now t within soon alike v x now there =
         let hears = (twins.of_a.hearing.heard v x).0 there in
         let long = lasts (with_lines p xs) clocks a twins.first twins.of_a x hears.1.sent in

@@ -13,7 +13,7 @@ use Rattle.air_log.specs.declared.entry.Entry.{Entry}
 use Rattle.air_log.specs.Charges.{windows_charge, scanned_frames, scans_with}
 use Rattle.air_log.specs.Devices.{Device}
 use Rattle.air_log.specs.Lawful.{Lawful, heard_by, sent_by, tuned_by, trail_in}
-use Rattle.air_log.specs.Trails.{run_end, frame_start, scripted, tune_of, tune_at}
+use Rattle.air_log.specs.Trails.{run_end, frame_start, device_after_script, tune_of, tune_at}
 use Rattle.energy_account.specs.Energies.{energy_of, sending_time, tuning_time, costs}
 use Rattle.law_one_log.specs.OneLog.{OneCostLaw}
 use Rattle.law_one_log.proofs.SameBefore.{alike_before, same_device, same_trail, one_scenario}
@@ -43,7 +43,7 @@ module _ (s : ScenarioParts) (clocks : ℕ → ℕ → ℕ) (sound : IsSoundScen
           let twins = one_scenario s clocks sound a b of_a of_b in
           let t = frame_start s f in
           let within : t ≤ run_end s = mul-le-mul_right s.profile.frame (let less = ltb-true f s.frames is in omega (arith, less)) in
-          ap (λ (d : Device). if nat_lt f s.frames then tune_of (scripted s v (clocks v) t d).power else None)
+          ap (λ (d : Device). if nat_lt f s.frames then tune_of (device_after_script s v (clocks v) t d).power else None)
           (same_device s clocks (run_end s) s.script s.script a b twins t v within
           (alike_before s clocks (run_end s) s.script s.script a b twins t within within))
       by_test false is = rw is refl

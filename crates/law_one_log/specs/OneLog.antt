@@ -3,9 +3,9 @@ use Rattle.std.specs.Prelude.{◌≡◌, ℕ, List, IsPermutation, AllPairs}
 use Rattle.scenario_text.specs.FloodParts.{FloodParts}
 use Rattle.scenario_text.specs.ScenarioParts.{ScenarioParts}
 use Rattle.air_log.specs.declared.entry.Entry.{Entry}
-use Rattle.air_log.specs.Entries.{node_of}
+use Rattle.air_log.specs.Entries.{node_of_entry}
 use Rattle.air_log.specs.FloodLaw.{FloodLaw}
-use Rattle.air_log.specs.LogText.{start_of, kind_of, log_text}
+use Rattle.air_log.specs.LogText.{start_of, kind_number, log_text}
 use Rattle.energy_account.specs.Energies.{energy_of}
 use Rattle.law_terms.specs.LawfulRuns.{IsLawfulRun}
 use Rattle.lwb_flood.specs.FloodLog.{HasClocks}
@@ -13,8 +13,8 @@ use Rattle.lwb_flood.specs.FloodLog.{HasClocks}
 -- the order of the log text does not tell the two apart
 pub record SamePlace (d e : Entry) : Type 0 where
   pub start : start_of d ≡ start_of e
-  pub kind : kind_of d ≡ kind_of e
-  pub node : node_of d ≡ node_of e
+  pub kind : kind_number d ≡ kind_number e
+  pub node : node_of_entry d ≡ node_of_entry e
 
 -- the same entries, each as often
 abbrev pub OneLogLaw : Type 0

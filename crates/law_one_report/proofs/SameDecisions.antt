@@ -1,7 +1,7 @@
 -- Streams that ask for admission one after the other are answered in one way.
 use Rattle.std.proofs.Common.{◌≡◌, ℕ, ◌<◌, ◌≤◌, List, [], ◌∷◌, map, Ok, refl, sym, ◌∙◌, ap, subst, arith}
-use Rattle.deadline_plan.specs.Admission.{Plan, with_last, after_admit, rounds_of}
-use Rattle.deadline_plan.specs.Jobs.{IsOver, IsFirstOver, jobs, load}
+use Rattle.deadline_plan.specs.Admission.{PlanOfDeadlines, with_last, after_admit, rounds_of}
+use Rattle.deadline_plan.specs.Jobs.{IsOverload, IsFirstOver, jobs, load}
 use Rattle.deadline_plan.specs.declared.admission.Admit.{Admit}
 use Rattle.deadline_plan.specs.declared.admission.Admit.TheVariants.{Yes, Twice, Full, Over}
 use Rattle.deadline_plan.specs.declared.job.Job.{Job}
@@ -17,14 +17,14 @@ one_until slots js f u g w one two =
 one_from : (slots : ℕ) (js : List Job) (f u g w : ℕ) → IsFirstOver slots js f u → IsFirstOver slots js g w → f ≡ g
 one_from slots js f u g w one two =
     let same = one_until slots js f u g w one two in
-    let up = two.greatest f (subst (IsOver slots js f) same one.over) in
-    let down = one.greatest g (subst (IsOver slots js g) (sym same) two.over) in
+    let up = two.greatest f (subst (IsOverload slots js f) same one.over) in
+    let down = one.greatest g (subst (IsOverload slots js g) (sym same) two.over) in
     omega (arith, up, down)
 
 both_ways : (m n : ℕ) → m ≤ n → n < m → ⊥
 both_ways m n up down = omega (arith, up, down)
 
-module _ (p : Plan) (x : DeadlineStream) where
+module _ (p : PlanOfDeadlines) (x : DeadlineStream) where
   abbrev asked : List Job
   asked = jobs p.frames (with_last p.streams x)
 
@@ -51,7 +51,7 @@ Answered = DeadlineStream × Admit
 abbrev answered : DeadlineStream → Admit → Answered
 answered x m = (x, m)
 
-one_decision : (p q r : Plan) (ms ns : List Answered) → map stream_of_answer ms ≡ map stream_of_answer ns → Decided p ms q → Decided p ns r
+one_decision : (p q r : PlanOfDeadlines) (ms ns : List Answered) → map stream_of_answer ms ≡ map stream_of_answer ns → Decided p ms q → Decided p ns r
     → (ms ≡ ns) × (q ≡ r)
 one_decision p q r [] [] streams is also = (refl, is ∙ sym also)
 one_decision p q r [] (b ∷ ns) streams is also = cc
@@ -66,10 +66,10 @@ one_decision p q r (a ∷ ms) (b ∷ ns) streams is also =
     (subst (λ (c : Answered). Decided (after_admit p c.0 (Ok c.1)) ns r) (sym head) also.1) in
     (ap (λ (c : Answered). c ∷ ms) head ∙ ap (λ (l : List Answered). b ∷ l) later.0, later.1)
 
-pub one_plan_report : (t : Plan) (text other : List ℕ) → IsDeadlineReport t text → IsDeadlineReport t other → text ≡ other
+pub one_plan_report : (t : PlanOfDeadlines) (text other : List ℕ) → IsDeadlineReport t text → IsDeadlineReport t other → text ≡ other
 one_plan_report t text other is also =
     let same = one_decision (no_streams t) is.plan also.plan is.answers also.answers (is.streams ∙ sym also.streams) is.decided also.decided in
     is.is
     ∙ ap (λ (ms : List Answered). deadline_lines ms (rounds_of is.plan)) same.0
-    ∙ ap (λ (q : Plan). deadline_lines also.answers (rounds_of q)) same.1
+    ∙ ap (λ (q : PlanOfDeadlines). deadline_lines also.answers (rounds_of q)) same.1
     ∙ sym also.is

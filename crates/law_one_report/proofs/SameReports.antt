@@ -12,7 +12,7 @@ use Rattle.scenario_text.specs.Canonical.{canonical, IsSaid}
 use Rattle.scenario_clocks.specs.StatedClocks.{scenario_clock, stated_clock}
 use Rattle.tick_clock.specs.Clocks.{IsClock}
 use Rattle.scenario_maker.specs.Made.{made, IsSize}
-use Rattle.deadline_plan.specs.Admission.{Plan}
+use Rattle.deadline_plan.specs.Admission.{PlanOfDeadlines}
 use Rattle.bus_terms.specs.Bus.{bus_deliveries, bus_drops}
 use Rattle.lwb_flood.specs.FloodLog.{HasClocks}
 use Rattle.law_terms.specs.LawfulRuns.{IsLawfulRun}
@@ -171,7 +171,7 @@ one_report laws Check asked bytes a b text other is also =
       no_logs laws bytes a b text other is.3.0 also.3.0,
     )
 one_report laws Deadlines asked bytes a b text other is also =
-    let here = subst (λ (p : Plan). IsDeadlineReport p other) (one_said _ also.0 is.0 also.1 is.1) also.2.1 in
+    let here = subst (λ (p : PlanOfDeadlines). IsDeadlineReport p other) (one_said _ also.0 is.0 also.1 is.1) also.2.1 in
     (one_plan_report is.0 text other is.2.1 here, no_logs laws bytes a b text other is.2.0 also.2.0)
 one_report laws Times asked bytes a b text other is also =
     of_scenario laws bytes a b text other IsTimesReport (λ s said. one_times laws s said a b text other) is also

@@ -8,7 +8,7 @@ use Rattle.lwb_member.specs.Said.{message_of}
 use Rattle.node_core.specs.Nodes.{Node, zero_from}
 use Rattle.scenario_text.specs.ScenarioParts.{ScenarioParts}
 use Rattle.radio_model.specs.declared.sending.Sending.{Sending}
-use Rattle.radio_model.specs.Hearing.{frame_of, slot_of}
+use Rattle.radio_model.specs.Hearing.{frame_of_sending, slot_of_sending}
 use Rattle.air_log.specs.declared.entry.Entry.{Entry}
 use Rattle.air_log.specs.Entries.{sendings_of}
 use Rattle.air_log.proofs.SendingsKept.{profile_lasts}
@@ -44,7 +44,7 @@ module _ (s : ScenarioParts) (clocks : ℕ → ℕ → ℕ) (air : List Entry) (
   abbrev o : Sending
   o = flood.origin
 
-  begun_so : SaysSchedule s clocks air o.node o.rank (frame_of s.profile o) flood.zero (slot_of o) y
+  begun_so : SaysSchedule s clocks air o.node o.rank (frame_of_sending s.profile o) flood.zero (slot_of_sending o) y
   begun_so = begun s clocks air at.run x was_sent flood y says
 
   -- a reference of the node's round
@@ -53,8 +53,8 @@ module _ (s : ScenarioParts) (clocks : ℕ → ℕ → ℕ) (air : List Entry) (
       let z = zero_from s.profile (clocks v x.end) x.packet in
       let was = taken s clocks air at.run x was_sent flood y says v at.known in
       subst (λ (i : ℕ). RefFor s clocks (rank_at n) v z n.frame n.frame i) is.slot
-      (subst (λ (f : ℕ). RefFor s clocks (rank_at n) v z f f (slot_of x)) is.frame
-      (subst (λ (r : ℕ). RefFor s clocks r v z (frame_of s.profile x) (frame_of s.profile x) (slot_of x)) is.rank was))
+      (subst (λ (f : ℕ). RefFor s clocks (rank_at n) v z f f (slot_of_sending x)) is.frame
+      (subst (λ (r : ℕ). RefFor s clocks r v z (frame_of_sending s.profile x) (frame_of_sending s.profile x) (slot_of_sending x)) is.rank was))
 
   origin_rank : o.rank ≡ rank_at n
   origin_rank = sym flood.slot.channel ∙ is.rank
@@ -68,9 +68,10 @@ module _ (s : ScenarioParts) (clocks : ℕ → ℕ → ℕ) (air : List Entry) (
   place = elim begun_so.part [
     | inl opens ↦ inl (opens.0, sym is.slot ∙ flood.slot.slot ∙ opens.1)
     | inr closes ↦ inr (
-        let behind : StandsAt closes.plan (slot_of o) Closing = subst (StandsAt closes.plan (slot_of o)) closes.part (stands closes.plan (slot_of o)) in
-        let some : 1 ≤ slot_of o = behind.0 in
-        let same : slot_of o ≡ j = sym flood.slot.slot ∙ is.slot in
+        let behind : StandsAt closes.plan (slot_of_sending o) Closing =
+            subst (StandsAt closes.plan (slot_of_sending o)) closes.part (stands closes.plan (slot_of_sending o)) in
+        let some : 1 ≤ slot_of_sending o = behind.0 in
+        let same : slot_of_sending o ≡ j = sym flood.slot.slot ∙ is.slot in
         (closes.some, closes.few, omega (arith, some, same))
         )
   ]

@@ -4,7 +4,7 @@ use Rattle.std.specs.Prelude.{slice_index}
 use Rattle.lwb_base.specs.Profile.{Numbers, airtime}
 use Rattle.tick_clock.specs.Clocks.{IsClock, due}
 use Rattle.time_reference.specs.Budgets.{Fits, Budget, budget_of}
-use Rattle.time_reference.specs.Zeros.{Good, opening, starting, closing, point}
+use Rattle.time_reference.specs.Zeros.{Good, opening_offset, starting_offset, closing_offset, tick_at_offset}
 use Rattle.time_reference.proofs.Points.{good_later, after_start, opens_before_starts, closes_before_next_starts, closes_before_next_closes}
 use Rattle.time_reference.proofs.Points.{closes_after_relays, opens_before_closes}
 use Rattle.bus_rules.specs.Plans.{last_slot}
@@ -12,7 +12,7 @@ use Rattle.node_core.specs.declared.stage.Stage.TheVariants.{AwaitSlot}
 use Rattle.node_core.specs.Nodes.{Node, starts_at, closes_at}
 use Rattle.scenario_text.specs.ScenarioParts.{ScenarioParts}
 use Rattle.radio_model.specs.declared.sending.Sending.{Sending}
-use Rattle.radio_model.specs.Hearing.{slot_of}
+use Rattle.radio_model.specs.Hearing.{slot_of_sending}
 use Rattle.air_log.specs.declared.entry.Entry.{Entry}
 use Rattle.air_log.specs.Devices.{Device}
 use Rattle.air_log.specs.Trails.{frame_start}
@@ -35,12 +35,12 @@ module _ (s : ScenarioParts) (clocks : ℕ → ℕ → ℕ) (air : List Entry) (
     pub stage : n.stage ≡ AwaitSlot j
     pub frame : (n.frame ≡ t / s.profile.frame) ⊎ IsOver s clocks v t n
     pub began : (j ≡ 0) ⊎ (frame_start s n.frame < t)
-    pub alarm : (t ≡ tick_by s clocks v n (opening s.profile j)) ⊎ OpensLate s clocks v n j t
+    pub alarm : (t ≡ tick_by s clocks v n (opening_offset s.profile j)) ⊎ OpensLate s clocks v n j t
     pub rank : rank_at n < length s.hosts
     pub member : IsMember s clocks v n j (last_slot n.core.plan) false
     pub still : IsStill d
-    pub below : (x : Sending) → HasBegun s n.frame d x → slot_of x < j
-    pub once : (f : ℕ) (x y : Sending) → HasBegun s f d x → HasBegun s f d y → slot_of x ≡ slot_of y → x ≡ y
+    pub below : (x : Sending) → HasBegun s n.frame d x → slot_of_sending x < j
+    pub once : (f : ℕ) (x y : Sending) → HasBegun s f d x → HasBegun s f d y → slot_of_sending x ≡ slot_of_sending y → x ≡ y
     pub plan : InRound s clocks air v (suc t) n j n.core.plan
 
   pub awaits : (d : Device) (n : Node) (j : ℕ) → IsOn s clocks air v t (suc t) d n → n.stage ≡ AwaitSlot j → d.alarm ≡ Some t → Awaits d n j
@@ -52,7 +52,7 @@ module _ (s : ScenarioParts) (clocks : ℕ → ℕ → ℕ) (air : List Entry) (
         stage = stage;
         frame = on.frame.at;
         began = subst (BeganBy s t n) stage on.frame.began;
-        alarm = subst (λ (a : ℕ). (a ≡ tick_by s clocks v n (opening s.profile j)) ⊎ OpensLate s clocks v n j a) same
+        alarm = subst (λ (a : ℕ). (a ≡ tick_by s clocks v n (opening_offset s.profile j)) ⊎ OpensLate s clocks v n j a) same
             (subst (AlarmFor s clocks v n on.alarm.alarm) stage on.alarm.at);
         rank = on.tune.rank;
         member = subst (IsTunedAt s clocks v n) stage on.tune.at;
@@ -87,17 +87,17 @@ module _ (s : ScenarioParts) (clocks : ℕ → ℕ → ℕ) (air : List Entry) (
     pub slot_in_round : j ≤ b.last
     slot_in_round = let within = is.member.slot in let short = is.plan.fits.short in omega (arith, within, short)
 
-    pub good_opening : Good p b host own n.zero n.frame (opening p j)
+    pub good_opening : Good p b host own n.zero n.frame (opening_offset p j)
     good_opening = is.member.good
 
-    good_starting : Good p b host own n.zero n.frame (starting p j)
-    good_starting = good_later p b fits host own n.zero n.frame (opening p j) (starting p j) (omega arith) good_opening
+    good_starting : Good p b host own n.zero n.frame (starting_offset p j)
+    good_starting = good_later p b fits host own n.zero n.frame (opening_offset p j) (starting_offset p j) (omega arith) good_opening
 
-    good_closing : Good p b host own n.zero n.frame (closing p j)
-    good_closing = good_later p b fits host own n.zero n.frame (opening p j) (closing p j) (omega arith) good_opening
+    good_closing : Good p b host own n.zero n.frame (closing_offset p j)
+    good_closing = good_later p b fits host own n.zero n.frame (opening_offset p j) (closing_offset p j) (omega arith) good_opening
 
     -- it opens before its start, and before it closes
-    pub before_start : t < tick_by s clocks v n (starting p j)
+    pub before_start : t < tick_by s clocks v n (starting_offset p j)
     before_start = elim is.alarm [
       | inl now ↦ (
           let starts =
@@ -114,7 +114,7 @@ module _ (s : ScenarioParts) (clocks : ℕ → ℕ → ℕ) (air : List Entry) (
           )
     ]
 
-    pub before_close : t < tick_by s clocks v n (closing p j)
+    pub before_close : t < tick_by s clocks v n (closing_offset p j)
     before_close = elim is.alarm [
       | inl now ↦ (
           let closes = opens_before_closes p b fits host own n.zero n.frame j host_drifts own_drifts slot_in_round good_opening in
@@ -123,10 +123,10 @@ module _ (s : ScenarioParts) (clocks : ℕ → ℕ → ℕ) (air : List Entry) (
       | inr late ↦ (
           let i = late.before in
           let next : i + 1 ≡ j = (let is_next = late.next in omega (arith, is_next)) in
-          let closes : point own late.zero (closing p i) < point own n.zero (closing p j) =
-          subst (λ (k : ℕ). point own late.zero (closing p i) < point own n.zero (closing p k)) next
+          let closes : tick_at_offset own late.zero (closing_offset p i) < tick_at_offset own n.zero (closing_offset p j) =
+          subst (λ (k : ℕ). tick_at_offset own late.zero (closing_offset p i) < tick_at_offset own n.zero (closing_offset p k)) next
           (closes_before_next_closes p b fits host own own n.zero late.zero n.frame host_drifts own_drifts own_drifts i (omega (arith, next, slot_in_round))
-          (subst (λ (k : ℕ). Good p b host own n.zero n.frame (closing p k)) (sym next) good_closing) late.good) in
+          (subst (λ (k : ℕ). Good p b host own n.zero n.frame (closing_offset p k)) (sym next) good_closing) late.good) in
           let set = late.at in
           omega (arith, set, closes)
           )
@@ -136,11 +136,11 @@ module _ (s : ScenarioParts) (clocks : ℕ → ℕ → ℕ) (air : List Entry) (
     first_in_frame : j ≡ 0 → frame_start s n.frame < t
     first_in_frame first =
         let nothing : 0 * p.slot ≡ 0 = omega arith in
-        let none : opening p j ≡ 0 = ap (λ (i : ℕ). i * p.slot) first ∙ nothing in
-        let begins : frame_start s n.frame < point own n.zero 0 =
+        let none : opening_offset p j ≡ 0 = ap (λ (i : ℕ). i * p.slot) first ∙ nothing in
+        let begins : frame_start s n.frame < tick_at_offset own n.zero 0 =
         after_start p b fits host own n.zero n.frame host_drifts own_drifts (subst (Good p b host own n.zero n.frame) none good_opening) in
         elim is.alarm [
-          | inl now ↦ (let same : t ≡ point own n.zero 0 = now ∙ ap (point own n.zero) none in omega (arith, same, begins))
+          | inl now ↦ (let same : t ≡ tick_at_offset own n.zero 0 = now ∙ ap (tick_at_offset own n.zero) none in omega (arith, same, begins))
           | inr late ↦ (let next = late.next in absurd (omega (arith, first, next)))
         ]
 
@@ -163,22 +163,23 @@ module _ (s : ScenarioParts) (clocks : ℕ → ℕ → ℕ) (air : List Entry) (
 
     -- the ticks for which a start and the closing are set
     sums : AreSums p n.zero j
-    sums = slots_are_sums p b fits host own n.zero n.frame (opening p j) j host_drifts own_drifts good_opening slot_in_round
+    sums = slots_are_sums p b fits host own n.zero n.frame (opening_offset p j) j host_drifts own_drifts good_opening slot_in_round
 
-    pub starts_then : max (due own (starts_at p n.zero j)) t ≡ tick_by s clocks v n (starting p j)
+    pub starts_then : max (due own (starts_at p n.zero j)) t ≡ tick_by s clocks v n (starting_offset p j)
     starts_then =
-        let is_sum : due own (starts_at p n.zero j) ≡ tick_by s clocks v n (starting p j) = ap (due own) sums.starts in
+        let is_sum : due own (starts_at p n.zero j) ≡ tick_by s clocks v n (starting_offset p j) = ap (due own) sums.starts in
         let later = before_start in
         omega (arith, is_sum, later)
 
-    pub closes_then : max (due own (closes_at p n.zero j)) t ≡ tick_by s clocks v n (closing p j)
+    pub closes_then : max (due own (closes_at p n.zero j)) t ≡ tick_by s clocks v n (closing_offset p j)
     closes_then =
-        let is_sum : due own (closes_at p n.zero j) ≡ tick_by s clocks v n (closing p j) = ap (due own) sums.closes in
+        let is_sum : due own (closes_at p n.zero j) ≡ tick_by s clocks v n (closing_offset p j) = ap (due own) sums.closes in
         let later = before_close in
         omega (arith, is_sum, later)
 
     -- what starts then is over before the window closes
-    pub over_before_close : (size : ℕ) → size ≤ b.packet → tick_by s clocks v n (starting p j) + airtime p size < tick_by s clocks v n (closing p j)
+    pub over_before_close : (size : ℕ) → size ≤ b.packet
+        → tick_by s clocks v n (starting_offset p j) + airtime p size < tick_by s clocks v n (closing_offset p j)
     over_before_close size short =
         let ends = closes_after_relays p b fits host own own n.zero n.zero n.frame host_drifts own_drifts own_drifts j size slot_in_round short
         good_starting good_closing in

@@ -3,7 +3,7 @@
 use Rattle.std.proofs.Common.{◌≡◌, ℕ, suc, ◌+◌, ◌/◌, ◌<◌, ◌≤◌, inl, inr, List, Bool, true, false, if◌then◌else◌, Some, None, Contains, length, max, refl, sym}
 use Rattle.std.proofs.Common.{◌∙◌, ap, subst, arith, true≢false}
 use Rattle.tick_clock.specs.Clocks.{due}
-use Rattle.time_reference.specs.Zeros.{opening, closing}
+use Rattle.time_reference.specs.Zeros.{opening_offset, closing_offset}
 use Rattle.bus_rules.specs.declared.tune.Tune.TheVariants.{Hold}
 use Rattle.bus_rules.specs.Plans.{last_slot}
 use Rattle.bus_rules.specs.Tuning.{rank_of, hosts}
@@ -14,7 +14,7 @@ use Rattle.node_core.specs.Nodes.{Node, frame_alarm, opens_at}
 use Rattle.node_core.specs.Rows.{zero_next}
 use Rattle.scenario_text.specs.ScenarioParts.{ScenarioParts}
 use Rattle.radio_model.specs.declared.sending.Sending.{Sending}
-use Rattle.radio_model.specs.Hearing.{slot_of}
+use Rattle.radio_model.specs.Hearing.{slot_of_sending}
 use Rattle.air_log.specs.declared.entry.Entry.{Entry}
 use Rattle.air_log.specs.Devices.{Device, PowerOn}
 use Rattle.law_trails.specs.Lives.{Life, Holds, after_step}
@@ -44,7 +44,7 @@ module _ (s : ScenarioParts) (clocks : ℕ → ℕ → ℕ) (air : List Entry) (
     begun_before : (g : ℕ) (x : Sending) → HasBegun s g e x → HasBegun s g d x
     begun_before g x b = record { sent = subst (λ (xs : List Sending). Contains xs x) shut.sent b.sent; first = b.first; frame = b.frame }
 
-    once_then : (g : ℕ) (x y : Sending) → HasBegun s g e x → HasBegun s g e y → slot_of x ≡ slot_of y → x ≡ y
+    once_then : (g : ℕ) (x y : Sending) → HasBegun s g e x → HasBegun s g e y → slot_of_sending x ≡ slot_of_sending y → x ≡ y
     once_then g x y bx by same = is.once g x y (begun_before g x bx) (begun_before g y by) same
 
     -- it awaits the next slot
@@ -53,7 +53,7 @@ module _ (s : ScenarioParts) (clocks : ℕ → ℕ → ℕ) (air : List Entry) (
       awaiting = record { core = core; frame = n.frame; zero = z; stage = AwaitSlot (j + 1) }
 
       pub record GoesOn : Type 0 where
-        pub good : GoodFor s clocks (rank_at n) v z n.frame (closing s.profile j)
+        pub good : GoodFor s clocks (rank_at n) v z n.frame (closing_offset s.profile j)
         pub slot : j + 1 ≤ last_slot core.plan
         pub round : IsRoundOf s clocks v awaiting (j + 1) false core.tune
         pub plan : InRound s clocks air v (suc t) awaiting (j + 1) core.plan
@@ -65,7 +65,8 @@ module _ (s : ScenarioParts) (clocks : ℕ → ℕ → ℕ) (air : List Entry) (
           let set : e.alarm ≡ Some (max (due (clocks v) (opens_at s.profile z (j + 1))) t) =
           shut.alarm ∙ ap (λ (a : ℕ). Some (max (due (clocks v) a) t)) when in
           elim (opens_then s clocks air v t at d n j w is z on.good (omega (arith, slot, short))) [
-            | inl opens ↦ record { alarm = tick_by s clocks v awaiting (opening s.profile (j + 1)); set = set ∙ ap (λ (a : ℕ). Some a) opens; at = inl refl }
+            | inl opens ↦ record { alarm = tick_by s clocks v awaiting (opening_offset s.profile (j + 1)); set = set ∙ ap (λ (a : ℕ). Some a) opens;
+                at = inl refl }
             | inr late ↦ record {
               alarm = t;
               set = set ∙ ap (λ (a : ℕ). Some a) late.0;
@@ -73,7 +74,8 @@ module _ (s : ScenarioParts) (clocks : ℕ → ℕ → ℕ) (air : List Entry) (
                 before = j;
                 next = omega arith;
                 zero = n.zero;
-                good = subst (λ (r : ℕ). GoodFor s clocks r v n.zero n.frame (closing s.profile j)) (sym rank) (good_closing s clocks air v t at d n j w is);
+                good = subst (λ (r : ℕ). GoodFor s clocks r v n.zero n.frame (closing_offset s.profile j)) (sym rank)
+                    (good_closing s clocks air v t at d n j w is);
                 at = is.alarm;
                 late = late.1;
               });
@@ -88,7 +90,7 @@ module _ (s : ScenarioParts) (clocks : ℕ → ℕ → ℕ) (air : List Entry) (
           rank = subst (λ (r : ℕ). r < length s.hosts) (sym rank) is.tune.rank;
           at = record {
             slot = on.slot;
-            good = subst (λ (r : ℕ). GoodFor s clocks r v z n.frame (opening s.profile (j + 1))) (sym rank)
+            good = subst (λ (r : ℕ). GoodFor s clocks r v z n.frame (opening_offset s.profile (j + 1))) (sym rank)
                 (good_next s clocks air v t at d n j w is z on.good);
             round = on.round;
           };

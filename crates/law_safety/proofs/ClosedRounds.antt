@@ -24,11 +24,11 @@ use Rattle.radio_model.specs.declared.sending.Sending.{Sending}
 use Rattle.air_log.specs.declared.entry.Entry.{Entry}
 use Rattle.air_log.specs.Devices.{Device}
 use Rattle.air_log.specs.Trails.{setup_of}
-use Rattle.law_trails.specs.NodeRanges.{IsNode, IsAt, IsOpen, IsCarried}
+use Rattle.law_trails.specs.NodeRanges.{IsNodeInRange, IsInStage, IsOpenInRange, IsCarried}
 use Rattle.law_trails.proofs.WindowsInRange.{schedule_said}
 use Rattle.law_safety.specs.RoundZeros.{RefFor}
 use Rattle.law_safety.specs.SetAlarms.{rank_at}
-use Rattle.law_safety.specs.TunedNodes.{Either, is_joining, is_last, IsMember}
+use Rattle.law_safety.specs.TunedNodes.{Either, is_joining, is_last_window, IsMember}
 use Rattle.law_safety.specs.OrderedSendings.{HeardIn}
 use Rattle.law_safety.specs.KnownPlans.{HasRound}
 use Rattle.law_safety.specs.AcceptedPackets.{IsAccepted}
@@ -61,11 +61,11 @@ module _ (s : ScenarioParts) (clocks : ℕ → ℕ → ℕ) (air : List Entry) (
     (is : Closes s clocks air v t d n j w) where
   -- the window of a member, with its round
   pub record IsMembers : Type 0 where
-    pub member : IsMember s clocks v n j w.last (is_last j w)
+    pub member : IsMember s clocks v n j w.last (is_last_window j w)
     pub round : HasRound s clocks air v (suc t) n j w
 
   abbrev TunedBy : Bool → Type 0
-  TunedBy joins = Either joins (RefFor s clocks (rank_at n) v n.zero n.frame n.frame j) (IsMember s clocks v n j w.last (is_last j w))
+  TunedBy joins = Either joins (RefFor s clocks (rank_at n) v n.zero n.frame n.frame j) (IsMember s clocks v n j w.last (is_last_window j w))
 
   member_by : (b : Bool) → is_joining n ≡ b
       → ((is_joining n ≡ true) × RefFor s clocks (rank_at n) v n.zero n.frame n.frame j) ⊎ ((is_joining n ≡ false) × IsMembers)
@@ -99,7 +99,7 @@ module _ (s : ScenarioParts) (clocks : ℕ → ℕ → ℕ) (air : List Entry) (
     pub reference : w.reference ≡ Some zero
     pub ref : RefFor s clocks (rank_at n) v zero n.frame n.frame j
 
-  module _ (ranged : IsNode (setup_of s v) n) (stage : n.stage ≡ InWindow j w) (y : Schedule) (accepted : accepted_in w ≡ Some (ScheduleOf y)) where
+  module _ (ranged : IsNodeInRange (setup_of s v) n) (stage : n.stage ≡ InWindow j w) (y : Schedule) (accepted : accepted_in w ≡ Some (ScheduleOf y)) where
     abbrev taken : (a : List ℕ × ℕ) × (accepted_of w.flood ≡ Some a) × (message_of a.0 ≡ Some (ScheduleOf y))
     taken = packet_of (accepted_of w.flood) (ScheduleOf y) accepted
 
@@ -108,7 +108,7 @@ module _ (s : ScenarioParts) (clocks : ℕ → ℕ → ℕ) (air : List Entry) (
 
     of_schedule : is_schedule_part w.part ≡ true
     of_schedule =
-        let open_so : IsOpen (setup_of s v) n.frame n.core j w = subst (IsAt (setup_of s v) n.frame n.core) stage ranged.stage in
+        let open_so : IsOpenInRange (setup_of s v) n.frame n.core j w = subst (IsInStage (setup_of s v) n.frame n.core) stage ranged.stage in
         let carried : IsCarried (setup_of s v) (kind_for w.part) j taken.0.0 =
         subst (λ (o : Option (List ℕ)). IfSome o (IsCarried (setup_of s v) (kind_for w.part) j)) listens.1 open_so.flood.first in
         schedule_said w.part taken.0.0 y carried.spelled taken.2

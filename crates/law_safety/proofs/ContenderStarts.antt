@@ -5,7 +5,7 @@ use Rattle.std.proofs.lemmas.Bool.{cond_both, eqb-false, ltb-true}
 use Rattle.lwb_base.specs.Messages.{Plan}
 use Rattle.tick_clock.specs.Clocks.{Near}
 use Rattle.time_reference.specs.Budgets.{budget_of}
-use Rattle.time_reference.specs.Zeros.{point, starting}
+use Rattle.time_reference.specs.Zeros.{tick_at_offset, starting_offset}
 use Rattle.time_reference.proofs.Steps.{contenders}
 use Rattle.bus_rules.specs.declared.part.Part.{Part}
 use Rattle.bus_rules.specs.declared.part.Part.TheVariants.{Opening, Data as DataSlot, Contention, Closing}
@@ -14,16 +14,16 @@ use Rattle.bus_rules.specs.Slots.{part_of}
 use Rattle.lwb_member.specs.Said.{message_of}
 use Rattle.scenario_text.specs.ScenarioParts.{ScenarioParts}
 use Rattle.radio_model.specs.declared.sending.Sending.{Sending}
-use Rattle.radio_model.specs.Hearing.{frame_of, slot_of}
+use Rattle.radio_model.specs.Hearing.{frame_of_sending, slot_of_sending}
 use Rattle.air_log.specs.declared.entry.Entry.{Entry}
-use Rattle.air_log.specs.Safe.{SameSlot, by_host}
+use Rattle.air_log.specs.Safe.{SameSlot, sender_hosts}
 use Rattle.law_trails.proofs.SentInTrails.{sent_known}
 use Rattle.law_safety.specs.Beginnings.{MaySay, SaysRequest}
 use Rattle.law_safety.specs.FloodSendings.{BeginsFlood, IsOfFlood}
 use Rattle.law_safety.specs.RoundZeros.{RefFor}
 use Rattle.law_safety.proofs.RunFacts.{host_clock, run_fits}
 use Rattle.law_safety.specs.Endings.{EndsInOrder}
-use Rattle.law_safety.specs.SlotLaws.{Asks}
+use Rattle.law_safety.specs.SlotLaws.{AsksForStream}
 use Rattle.law_safety.proofs.SentPlans.{planned_short}
 use Rattle.law_safety.proofs.SlotFloods.{origins_same}
 
@@ -46,19 +46,19 @@ in_between p j place =
     behind (suc k) some = omega arith
 
 module _ (s : ScenarioParts) (clocks : ℕ → ℕ → ℕ) (air : List Entry) (whole : EndsInOrder s clocks air) where
-  asked : (z : ℕ) (x : Sending) → BeginsFlood s clocks air z x → Asks (message_of x.packet)
-      → SaysRequest s clocks air x.node x.rank (frame_of s.profile x) z (slot_of x)
+  asked : (z : ℕ) (x : Sending) → BeginsFlood s clocks air z x → AsksForStream (message_of x.packet)
+      → SaysRequest s clocks air x.node x.rank (frame_of_sending s.profile x) z (slot_of_sending x)
   asked z x begins asks =
-      subst (MaySay s clocks air x.node x.rank (frame_of s.profile x) z (slot_of x) (by_host s clocks air x)) asks.1 begins.start.says
+      subst (MaySay s clocks air x.node x.rank (frame_of_sending s.profile x) z (slot_of_sending x) (sender_hosts s clocks air x)) asks.1 begins.start.says
 
   near_by : (z u : ℕ) (x y : Sending) → x.rank < length s.hosts → BeginsFlood s clocks air z x → BeginsFlood s clocks air u y
-      → SameSlot s.profile x y → Asks (message_of x.packet) → Asks (message_of y.packet)
+      → SameSlot s.profile x y → AsksForStream (message_of x.packet) → AsksForStream (message_of y.packet)
       → Near x.start y.start (budget_of s.profile).contenders
   near_by z u x y hosted first second same asks also_asks =
       let p = s.profile in
       let b = budget_of p in
-      let f = frame_of p x in
-      let j = slot_of x in
+      let f = frame_of_sending p x in
+      let j = slot_of_sending x in
       let says = asked z x first asks in
       let also_says = asked u y second also_asks in
       let drifts = whole.run.driven.drift in
@@ -70,7 +70,8 @@ module _ (s : ScenarioParts) (clocks : ℕ → ℕ → ℕ) (air : List Entry) (
       let ref : RefFor s clocks x.rank y.node u f f 0 =
       subst (λ (r : ℕ). RefFor s clocks r y.node u f f 0) (sym same.channel)
       (subst (λ (g : ℕ). RefFor s clocks y.rank y.node u g g 0) (sym same.frame) also_says.ref) in
-      let start : y.start ≡ point (clocks y.node) u (starting p j) = second.at ∙ ap (λ (i : ℕ). point (clocks y.node) u (starting p i)) (sym same.slot) in
+      let start : y.start ≡ tick_at_offset (clocks y.node) u (starting_offset p j) =
+          second.at ∙ ap (λ (i : ℕ). tick_at_offset (clocks y.node) u (starting_offset p i)) (sym same.slot) in
       let close = contenders p b (run_fits s whole.run.driven.sound) (clocks (slice_index s.hosts x.rank)) (clocks x.node) (clocks y.node) z u f j
       (host_clock s clocks whole.run.driven x.rank hosted) clock also_clock says.ref ref between.0 (omega (arith, between.1, short)) in
       let here = first.at in
@@ -78,7 +79,7 @@ module _ (s : ScenarioParts) (clocks : ℕ → ℕ → ℕ) (air : List Entry) (
 
   -- of what they say, in what their floods say
   pub contenders_near : (x y : Sending) (is : IsOfFlood s clocks air x) (also : IsOfFlood s clocks air y) → SameSlot s.profile x y
-      → Asks (message_of is.origin.packet) → Asks (message_of also.origin.packet)
+      → AsksForStream (message_of is.origin.packet) → AsksForStream (message_of also.origin.packet)
       → Near is.origin.start also.origin.start (budget_of s.profile).contenders
   contenders_near x y is also same asks also_asks =
       near_by is.zero also.zero is.origin also.origin (subst (λ (r : ℕ). r < length s.hosts) is.slot.channel is.hosted) is.begins also.begins

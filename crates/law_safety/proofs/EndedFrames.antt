@@ -12,7 +12,7 @@ use Rattle.lwb_base.specs.Profile.{Numbers}
 use Rattle.time_reference.specs.Budgets.{budget_of}
 use Rattle.scenario_text.specs.ScenarioParts.{ScenarioParts}
 use Rattle.scenario_text.specs.ScenarioFacts.{IsSoundScenario}
-use Rattle.air_log.specs.Devices.{Ordered}
+use Rattle.air_log.specs.Devices.{OrderedPacket}
 use Rattle.law_trails.specs.Obeying.{ordered_by}
 use Rattle.law_trails.proofs.ProfilePackets.{covers}
 use Rattle.node_core.specs.Nodes.{Node, stopped_frame}
@@ -97,7 +97,8 @@ empty_short s sound r boot =
     (λ some. omega (arith, few, named))
 
 -- the end of a frame orders no sending
-pub orders_no_sending : (p : Numbers) (U : Tune) (f z : ℕ) (reads : ℕ → ℕ) (t : ℕ) (o : Option Ordered) → fold (ordered_by reads t) o (orders_for p U f z) ≡ o
+pub orders_no_sending : (p : Numbers) (U : Tune) (f z : ℕ) (reads : ℕ → ℕ) (t : ℕ) (o : Option OrderedPacket)
+    → fold (ordered_by reads t) o (orders_for p U f z) ≡ o
 orders_no_sending p (Scan r w) f z reads t o = refl
 orders_no_sending p (Hold r due) f z reads t o = refl
 orders_no_sending p (Host r due) f z reads t o = refl

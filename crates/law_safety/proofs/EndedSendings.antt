@@ -12,8 +12,8 @@ use Rattle.node_core.specs.Nodes.{Node}
 use Rattle.node_core.specs.Rows.{sends}
 use Rattle.air_log.specs.Devices.{Device, PowerOn, listens_to}
 use Rattle.air_log.specs.Trails.{setup_of}
-use Rattle.law_trails.specs.Obeying.{channel_of, channel_by, alarm_by, ordered_by}
-use Rattle.law_trails.specs.Walks.{after_row}
+use Rattle.law_trails.specs.Obeying.{channel_if_on, channel_by, alarm_by, ordered_by}
+use Rattle.law_trails.specs.Walks.{device_after_row}
 use Rattle.law_trails.proofs.RowsOfDevices.{row_obeyed}
 use Rattle.law_trails.proofs.ObeyedOrders.{channel_is}
 use Rattle.law_safety.specs.SetAlarms.{rank_at}
@@ -32,10 +32,10 @@ pub record HasEnded (n : Node) (j : ℕ) (w : Window) (d e : Device) : Type 0 wh
 
 pub has_ended : (s : ScenarioParts) (v : ℕ) (clock : ℕ → ℕ) (t : ℕ) (x : Sending) (n : Node) (j : ℕ) (w : Window) (d : Device)
     → w.flood.sent < w.flood.limit
-    → HasEnded n j w d (after_row clock (setup_of s v) t Sent (Some x) (record d { sending = None }) n (sends n j w))
+    → HasEnded n j w d (device_after_row clock (setup_of s v) t Sent (Some x) (record d { sending = None }) n (sends n j w))
 has_ended s v clock t x n j w d below =
     let b = row_obeyed clock (setup_of s v) t Sent (Some x) (record d { sending = None }) n (sends n j w) in
-    let e = after_row clock (setup_of s v) t Sent (Some x) (record d { sending = None }) n (sends n j w) in
+    let e = device_after_row clock (setup_of s v) t Sent (Some x) (record d { sending = None }) n (sends n j w) in
     let k = w.flood.sent + 1 in
     record {
       power = b.power;
@@ -46,7 +46,7 @@ has_ended s v clock t x n j w d below =
       alarm = b.alarm ∙ cond_both (k == w.flood.limit) (Off ∷ []) []
           (λ (os : List Order). fold (alarm_by clock t) d.alarm os ≡ d.alarm) (λ is. refl) (λ is. refl);
       radio = λ on. cond_both (k == w.flood.limit) (Off ∷ []) []
-          (λ (os : List Order). channel_of e.listening ≡ fold channel_by (channel_of d.listening) os →
+          (λ (os : List Order). channel_if_on e.listening ≡ fold channel_by (channel_if_on d.listening) os →
           Either (nat_lt k w.flood.limit) (listens_to (rank_at n) e.listening ≡ true) (e.listening ≡ None))
           (λ last off. subst (λ (c : Bool). Either c (listens_to (rank_at n) e.listening ≡ true) (e.listening ≡ None))
           (sym (at_limit last)) (off_is e.listening off))

@@ -1,7 +1,7 @@
 -- Sendings of the worked rounds of one packet in their floods: a request, the relay of data, and that of a closing.
 use Rattle.std.proofs.Common.{◌≡◌, ℕ, suc, refl, sym, arith, inr}
-use Rattle.lwb_base.specs.Messages.{least}
-use Rattle.schedule_codec.specs.Packing.{digits, number}
+use Rattle.lwb_base.specs.Messages.{least_passing}
+use Rattle.schedule_codec.specs.Packing.{digits, packed_number}
 use Rattle.schedule_codec.specs.Reading.{schedule_of, asks_in}
 use Rattle.law_trails.specs.OnePacket.{request_0, grant_0, grant_1, data_0, data_1}
 use Rattle.law_trails.specs.OnePacketNodes.{first_plan, granted_plan}
@@ -14,7 +14,7 @@ one_first : ◌≡◌ {A = ℕ} 1 0 → ⊥
 one_first is = omega (arith, is)
 
 pub request_is : IsFlooded request_0
-unfolding least digits number schedule_of asks_in
+unfolding least_passing digits packed_number schedule_of asks_in
 request_is = record {
   hosted = omega arith;
   few = omega arith;
@@ -41,7 +41,7 @@ request_is = record {
 }
 
 pub data_is : IsFlooded data_1
-unfolding least digits number schedule_of asks_in
+unfolding least_passing digits packed_number schedule_of asks_in
 data_is = record {
   hosted = omega arith;
   few = omega arith;
@@ -77,7 +77,7 @@ data_is = record {
 }
 
 pub grant_is : IsFlooded grant_1
-unfolding least digits number schedule_of asks_in
+unfolding least_passing digits packed_number schedule_of asks_in
 grant_is = record {
   hosted = omega arith;
   few = omega arith;

@@ -7,12 +7,12 @@ use Rattle.bus_rules.specs.Slots.{RequestOf}
 use Rattle.lwb_member.specs.Said.{message_of}
 use Rattle.scenario_text.specs.ScenarioParts.{ScenarioParts}
 use Rattle.radio_model.specs.declared.sending.Sending.{Sending}
-use Rattle.radio_model.specs.Hearing.{counter_of}
+use Rattle.radio_model.specs.Hearing.{counter_of_sending}
 use Rattle.air_log.specs.declared.entry.Entry.{Entry}
 use Rattle.law_trails.proofs.OtherCounters.{bodies_same}
 use Rattle.law_trails.proofs.SaidPackets.{says, request_read}
 use Rattle.law_safety.specs.FloodSendings.{IsOfFlood}
-use Rattle.law_safety.specs.SlotLaws.{Asks, OneFloodInASlot}
+use Rattle.law_safety.specs.SlotLaws.{AsksForStream, OneFloodInASlot}
 use Rattle.law_safety.proofs.SlotFloods.{one_flood}
 
 -- packets that differ in the counter at most are of one length
@@ -23,10 +23,10 @@ module _ (s : ScenarioParts) (clocks : ℕ → ℕ → ℕ) (air : List Entry) (
   pub says_as_origin : message_of x.packet ≡ message_of is.origin.packet
   says_as_origin =
       let few = is.few in
-      let first : counter_of is.origin ≡ 0 = is.begins.start.first in
+      let first : counter_of_sending is.origin ≡ 0 = is.begins.start.first in
       bodies_same x.packet is.origin.packet few (omega (arith, first)) is.same
 
-  module _ (asks : Asks (message_of is.origin.packet)) where
+  module _ (asks : AsksForStream (message_of is.origin.packet)) where
     pub asks_too : message_of x.packet ≡ Some (RequestOf asks.0)
     asks_too = says_as_origin ∙ asks.1
 

@@ -3,28 +3,28 @@ use Rattle.std.proofs.Common.{◌≡◌, ℕ, ◌<◌, List, [], ◌∷◌, Bool
 use Rattle.std.proofs.Common.{inl, inr, true≢false}
 use Rattle.std.specs.List.{list_all}
 use Rattle.std.proofs.lemmas.Bool.{and_from, eq-eqb}
-use Rattle.radio_model.specs.Hearing.{slot_of, counter_of, frame_of}
-use Rattle.lwb_base.specs.Messages.{least}
+use Rattle.radio_model.specs.Hearing.{slot_of_sending, counter_of_sending, frame_of_sending}
+use Rattle.lwb_base.specs.Messages.{least_passing}
 use Rattle.lwb_base.specs.Profile.{one}
 use Rattle.lwb_base.proofs.Elements.{all_passes}
 use Rattle.lwb_base.proofs.Truths.{implied}
-use Rattle.schedule_codec.specs.Packing.{digits, number}
+use Rattle.schedule_codec.specs.Packing.{digits, packed_number}
 use Rattle.schedule_codec.specs.Reading.{schedule_of, asks_in}
 use Rattle.radio_model.specs.declared.sending.Sending.{Sending}
 use Rattle.air_log.specs.WindowLogs.{WindowLog}
 use Rattle.law_trails.specs.OnePacket.{reopening_0, request_0, opening_1, opening_3, request_2, grant_1, grant_3, reopening_1, data_0, sent_by_member}
-use Rattle.law_trails.specs.OnePacket.{data_2, closing_0, reopening_with, closing_with}
+use Rattle.law_trails.specs.OnePacket.{data_2, closing_0, reopening_with, data_closing_with}
 use Rattle.law_trails.specs.OnePacketNodes.{granted_plan}
 use Rattle.law_trails.specs.OnePacketMember.{member_28, member_34, member_53, member_60}
 use Rattle.law_trails.proofs.OnePacketZeros.{member_due_at, granted, reopened, closed}
-use Rattle.law_safety.specs.WorkedRounds.{Holds}
+use Rattle.law_safety.specs.WorkedRounds.{DeviceIsInOrder}
 use Rattle.law_safety.proofs.WorkedPlans.{once, none_of, same_flood_key, planned, heard_plan, fresh_plan, not_zero}
 use Rattle.law_safety.proofs.WorkedPlans.{next_planned, next_heard}
 use Rattle.law_safety.proofs.GuestJoins.{relay_at, zero_at, six_sent}
 
 -- it holds the plan of frame 9, still fresh from the round that has ended
-pub holds : (w : List WindowLog) → Holds 2 1484829697 (member_28 w)
-unfolding least digits number schedule_of asks_in
+pub holds : (w : List WindowLog) → DeviceIsInOrder 2 1484829697 (member_28 w)
+unfolding least_passing digits packed_number schedule_of asks_in
 holds w = record {
   by_power = record {
     frame = record { at = inl refl; began = tt };
@@ -42,8 +42,8 @@ holds w = record {
 }
 
 -- as a holder it heard the opening of frame 9, and its relay is ordered
-pub relays : (w : List WindowLog) → Holds 2 2368069888 (member_34 w)
-unfolding least digits number schedule_of asks_in
+pub relays : (w : List WindowLog) → DeviceIsInOrder 2 2368069888 (member_34 w)
+unfolding least_passing digits packed_number schedule_of asks_in
 relays w = record {
   by_power = record {
     frame = record { at = inl refl; began = omega arith };
@@ -118,14 +118,15 @@ abbrev nine_sent : List Sending
 nine_sent = opening_1 ∷ opening_3 ∷ request_0 ∷ request_2 ∷ grant_1 ∷ grant_3 ∷ reopening_1 ∷ data_0 ∷ data_2 ∷ []
 
 abbrev in_data : Sending → Bool
-in_data x = not ((counter_of x == 0) && (frame_of one x == 9)) || (slot_of x == 1)
+in_data x = not ((counter_of_sending x == 0) && (frame_of_sending one x == 9)) || (slot_of_sending x == 1)
 
-data_slot : (xs : List Sending) → list_all in_data xs ≡ true → (x : Sending) → Contains xs x → counter_of x ≡ 0 → frame_of one x ≡ 9 → slot_of x ≡ 1
-data_slot xs all x there first frame = eqb-true (slot_of x) 1
+data_slot : (xs : List Sending) → list_all in_data xs ≡ true → (x : Sending) → Contains xs x → counter_of_sending x ≡ 0 → frame_of_sending one x ≡ 9
+    → slot_of_sending x ≡ 1
+data_slot xs all x there first frame = eqb-true (slot_of_sending x) 1
     (implied _ _ (all_passes in_data xs all x there) (and_from _ _ (eq-eqb _ _ first) (eq-eqb _ _ frame)))
 
-pub hears_closing : (w : List WindowLog) → Holds 2 2380741635 (member_53 w)
-unfolding least digits number schedule_of asks_in
+pub hears_closing : (w : List WindowLog) → DeviceIsInOrder 2 2380741635 (member_53 w)
+unfolding least_passing digits packed_number schedule_of asks_in
 hears_closing w = record {
   by_power = record {
     frame = record { at = inl refl; began = omega arith };
@@ -187,7 +188,7 @@ hears_closing w = record {
           heard = closing_0;
           in_slot = record { there = (13, omega arith, refl); rank = refl; frame = refl; slot = refl; by = omega arith };
           is = refl;
-          reference = λ is. zero_at 2380729347 2367904772 (closing_with 0) refl;
+          reference = λ is. zero_at 2380729347 2367904772 (data_closing_with 0) refl;
         };
         joined = λ is. absurd (true≢false (sym is));
       };
@@ -196,8 +197,8 @@ hears_closing w = record {
 }
 
 -- it holds the plan of frame 13
-pub holds_on : (w : List WindowLog) → Holds 2 2764855298 (member_60 w)
-unfolding least digits number schedule_of asks_in
+pub holds_on : (w : List WindowLog) → DeviceIsInOrder 2 2764855298 (member_60 w)
+unfolding least_passing digits packed_number schedule_of asks_in
 holds_on w = record {
   by_power = record {
     frame = record { at = inl refl; began = tt };

@@ -2,9 +2,9 @@
 use Rattle.std.proofs.Common.{◌≡◌, ℕ, ◌+◌, ◌<◌, List, [], ◌∷◌, Some, refl, sym, ◌∙◌, ap, subst, arith}
 use Rattle.std.proofs.Common.{inl, inr, true≢false}
 use Rattle.tick_clock.specs.Clocks.{due}
-use Rattle.lwb_base.specs.Messages.{least}
+use Rattle.lwb_base.specs.Messages.{least_passing}
 use Rattle.lwb_base.specs.Profile.{one}
-use Rattle.schedule_codec.specs.Packing.{digits, number}
+use Rattle.schedule_codec.specs.Packing.{digits, packed_number}
 use Rattle.schedule_codec.specs.Reading.{schedule_of, asks_in}
 use Rattle.radio_model.specs.declared.sending.Sending.{Sending}
 use Rattle.node_core.specs.Nodes.{zero_from}
@@ -15,7 +15,7 @@ use Rattle.law_trails.specs.OnePacketNodes.{first_plan}
 use Rattle.law_trails.specs.OnePacketMember.{member_7, member_14}
 use Rattle.law_trails.proofs.DriftingClocks.{slow, slow_due, member_clock}
 use Rattle.law_trails.proofs.OnePacketZeros.{member_due_at, opened}
-use Rattle.law_safety.specs.WorkedRounds.{Holds}
+use Rattle.law_safety.specs.WorkedRounds.{DeviceIsInOrder}
 use Rattle.law_safety.proofs.WorkedPlans.{once, none_of, same_flood_key, not_zero, first_planned, first_heard, first_fresh}
 
 reads : (t : ℕ) → drifting 2 t ≡ slow t
@@ -35,8 +35,8 @@ abbrev pub six_sent : List Sending
 six_sent = opening_1 ∷ opening_3 ∷ request_0 ∷ request_2 ∷ grant_1 ∷ grant_3 ∷ []
 
 -- it heard the opening while it scanned, and its relay is ordered
-pub joins : (w : List WindowLog) → Holds 2 1344086272 (member_7 w)
-unfolding least digits number schedule_of asks_in
+pub joins : (w : List WindowLog) → DeviceIsInOrder 2 1344086272 (member_7 w)
+unfolding least_passing digits packed_number schedule_of asks_in
 joins w = record {
   by_power = record {
     frame = record { at = inl refl; began = omega arith };
@@ -98,8 +98,8 @@ joins w = record {
 }
 
 -- its request is ordered
-pub asks : (w : List WindowLog) → Holds 2 1346149161 (member_14 w)
-unfolding least digits number schedule_of asks_in
+pub asks : (w : List WindowLog) → DeviceIsInOrder 2 1346149161 (member_14 w)
+unfolding least_passing digits packed_number schedule_of asks_in
 asks w = record {
   by_power = record {
     frame = record { at = inl refl; began = omega arith };

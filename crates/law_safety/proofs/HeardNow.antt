@@ -23,13 +23,13 @@ use Rattle.node_core.specs.Rows.{Stepped, joins, relaying, at_heard, scanner_hea
 use Rattle.node_core.specs.Rows.{orders_by}
 use Rattle.scenario_text.specs.ScenarioParts.{ScenarioParts}
 use Rattle.scenario_text.specs.declared.script.ScriptLine.{ScriptLine}
-use Rattle.radio_model.specs.Hearing.{frame_of}
+use Rattle.radio_model.specs.Hearing.{frame_of_sending}
 use Rattle.air_log.specs.declared.entry.Entry.{Entry}
 use Rattle.air_log.specs.Devices.{Device, Power, PowerOff, PowerOn, Listening, event_by, moved}
-use Rattle.air_log.specs.ScriptedDevices.{after_line}
-use Rattle.air_log.specs.Trails.{Reception, setup_of, frame_start, lines_at, hears, scripted}
+use Rattle.air_log.specs.ScriptedDevices.{device_after_line}
+use Rattle.air_log.specs.Trails.{Reception, setup_of, frame_start, lines_at, device_after_reception, device_after_script}
 use Rattle.air_log.proofs.SendingsKept.{profile_lasts}
-use Rattle.law_trails.specs.Obeying.{channel_of, channel_by}
+use Rattle.law_trails.specs.Obeying.{channel_if_on, channel_by}
 use Rattle.law_trails.specs.TrailLinks.{ListensSince, device_in}
 use Rattle.law_trails.proofs.HeardInTrails.{reception_is}
 use Rattle.law_trails.proofs.ObeyedOrders.{has_obeyed}
@@ -71,15 +71,16 @@ module _ (clock : ℕ → ℕ) (s : Setup) (t : ℕ) where
       relaying_keeps p now Keep c = refl
       relaying_keeps p now Ignore c = refl
 
-  by_power : (d : Device) (q : List ℕ) (p : Power) → channel_of (event_by clock s t (Heard q) None d p).listening ≡ channel_of d.listening
+  by_power : (d : Device) (q : List ℕ) (p : Power) → channel_if_on (event_by clock s t (Heard q) None d p).listening ≡ channel_if_on d.listening
   by_power d q (PowerOff boots) = refl
   by_power d q (PowerOn n) =
       let r = at_heard s n (clock t) q n.stage in
-      (has_obeyed clock s.id t (orders_by r) (moved t (Heard q) None d n r)).channel ∙ heard_keeps n q n.stage (channel_of d.listening)
+      (has_obeyed clock s.id t (orders_by r) (moved t (Heard q) None d n r)).channel ∙ heard_keeps n q n.stage (channel_if_on d.listening)
 
-  pub hearings_keep : (taken : List Reception) (d : Device) → channel_of (fold (hears clock s t) d taken).listening ≡ channel_of d.listening
+  pub hearings_keep : (taken : List Reception) (d : Device)
+      → channel_if_on (fold (device_after_reception clock s t) d taken).listening ≡ channel_if_on d.listening
   hearings_keep [] d = refl
-  hearings_keep (h ∷ taken) d = hearings_keep taken (hears clock s t d h) ∙ by_power d h.packet d.power
+  hearings_keep (h ∷ taken) d = hearings_keep taken (device_after_reception clock s t d h) ∙ by_power d h.packet d.power
 
 -- no line is told within a frame
 none_told : (s : ScenarioParts) (v t : ℕ) (ls : List ScriptLine) → ((f : ℕ) → (frame_start s f == t) ≡ false)
@@ -116,16 +117,18 @@ heard_in_floods s clocks air v t at h d next =
     let sound = at.run.driven.sound in
     let from = after_frame_start s clocks air at.run x flood reach.sent in
     let until = before_frame_end s clocks air at.run x flood reach.sent in
-    let frame : t / s.profile.frame ≡ frame_of s.profile x = frame_is s (frame_of s.profile x) t (omega (arith, from, before)) (omega (arith, until, end)) in
+    let frame : t / s.profile.frame ≡ frame_of_sending s.profile x =
+        frame_is s (frame_of_sending s.profile x) t (omega (arith, from, before)) (omega (arith, until, end)) in
     let began : frame_start s (t / s.profile.frame) < t = omega (arith, from, before, ap (λ (f : ℕ). f * s.profile.frame) frame) in
     let same : suc (t - 1) ≡ t = omega (arith, before) in
     let on : ListensSince x.rank (t - 1) (device_in s clocks air v (suc (t - 1))) =
     tuned_listens s clocks air at.run.heedful.trails v x.rank (t - 1) (reach.tuned (t - 1) (omega (arith, before)) (omega (arith, before, end))) in
-    let tuned : channel_of (device_in s clocks air v t).listening ≡ Some x.rank =
-    subst (λ (k : ℕ). channel_of (device_in s clocks air v k).listening ≡ Some x.rank) same
-    (ap (λ (l : Option Listening). channel_of l) on.is ∙ ap (λ (r : ℕ). Some r) on.channel) in
-    let untold : channel_of (scripted s v (clocks v) t (device_in s clocks air v t)).listening ≡ channel_of (device_in s clocks air v t).listening =
-    ap (λ (ls : List ScriptLine). channel_of (fold (after_line (clocks v) (setup_of s v) t) (device_in s clocks air v t) ls).listening)
+    let tuned : channel_if_on (device_in s clocks air v t).listening ≡ Some x.rank =
+    subst (λ (k : ℕ). channel_if_on (device_in s clocks air v k).listening ≡ Some x.rank) same
+    (ap (λ (l : Option Listening). channel_if_on l) on.is ∙ ap (λ (r : ℕ). Some r) on.channel) in
+    let untold : channel_if_on (device_after_script s v (clocks v) t (device_in s clocks air v t)).listening ≡ channel_if_on (device_in s clocks air v
+        t).listening =
+    ap (λ (ls : List ScriptLine). channel_if_on (fold (device_after_line (clocks v) (setup_of s v) t) (device_in s clocks air v t) ls).listening)
     (none_in_frame s clocks air v t at began) in
     record {
       sending = x;
@@ -135,13 +138,13 @@ heard_in_floods s clocks air v t at h d next =
       before = before;
       of_flood = flood;
       channel =
-          ap (λ (e : Device). channel_of e.listening) next.is
-          ∙ hearings_keep (clocks v) (setup_of s v) t next.taken (scripted s v (clocks v) t (device_in s clocks air v t))
+          ap (λ (e : Device). channel_if_on e.listening) next.is
+          ∙ hearings_keep (clocks v) (setup_of s v) t next.taken (device_after_script s v (clocks v) t (device_in s clocks air v t))
           ∙ untold ∙ tuned;
       frame = sym frame;
       began = began;
       early =
           subst (λ (f : ℕ). t < frame_alarm_at s clocks v f) (sym frame)
-          (subst (λ (e : ℕ). e < frame_alarm_at s clocks v (frame_of s.profile x)) end
+          (subst (λ (e : ℕ). e < frame_alarm_at s clocks v (frame_of_sending s.profile x)) end
           (before_alarms s clocks air at.run x flood reach.sent (clocks v) (at.run.driven.drift v at.known)));
     }

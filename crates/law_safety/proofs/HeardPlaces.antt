@@ -6,9 +6,9 @@ use Rattle.std.proofs.lemmas.Bool.{false≢true}
 use Rattle.node_core.specs.Nodes.{Node}
 use Rattle.scenario_text.specs.ScenarioParts.{ScenarioParts}
 use Rattle.air_log.specs.declared.entry.Entry.{Entry}
-use Rattle.air_log.specs.Devices.{Device, Ordered, Listening, listens_to}
+use Rattle.air_log.specs.Devices.{Device, OrderedPacket, Listening, listens_to}
 use Rattle.air_log.specs.Trails.{Reception, frame_start}
-use Rattle.law_trails.specs.Obeying.{channel_of}
+use Rattle.law_trails.specs.Obeying.{channel_if_on}
 use Rattle.law_safety.specs.BegunFloods.{IsFirstOrdered}
 use Rattle.law_safety.specs.NodesInOrder.{IsOn}
 use Rattle.law_safety.specs.KnownInRows.{IsHeardNow}
@@ -27,15 +27,15 @@ unheard true a b x y = refl
 unheard false a b x y = refl
 
 -- the channel of a radio that listens to a rank
-pub listened : (l : Option Listening) (r x : ℕ) → channel_of l ≡ Some x → listens_to r l ≡ true → x ≡ r
+pub listened : (l : Option Listening) (r x : ℕ) → channel_if_on l ≡ Some x → listens_to r l ≡ true → x ≡ r
 listened None r x is on = absurd (false≢true on)
 listened (Some l) r x is on = let same : l.rank ≡ x = ap (λ (o : Option ℕ). unwrap_or o 0) is in sym same ∙ eqb-true l.rank r on
 
-pub silent : (l : Option Listening) (x : ℕ) → channel_of l ≡ Some x → l ≡ None → ⊥
+pub silent : (l : Option Listening) (x : ℕ) → channel_if_on l ≡ Some x → l ≡ None → ⊥
 silent None x is none = false≢true (ap (λ (o : Option ℕ). is_some o) is)
 silent (Some l) x is none = true≢false (ap (λ (o : Option Listening). is_some o) none)
 
-pub not_first : (o : Option Ordered) → is_some o ≡ false → IsFirstOrdered o → ⊥
+pub not_first : (o : Option OrderedPacket) → is_some o ≡ false → IsFirstOrdered o → ⊥
 not_first None is first = first
 not_first (Some o) is first = true≢false is
 

@@ -6,7 +6,7 @@ use Rattle.bus_rules.specs.Slots.{ScheduleOf}
 use Rattle.lwb_member.specs.Said.{message_of}
 use Rattle.node_core.specs.Nodes.{zero_from}
 use Rattle.scenario_text.specs.ScenarioParts.{ScenarioParts}
-use Rattle.radio_model.specs.Hearing.{slot_of}
+use Rattle.radio_model.specs.Hearing.{slot_of_sending}
 use Rattle.air_log.specs.declared.entry.Entry.{Entry}
 use Rattle.air_log.specs.Devices.{Device}
 use Rattle.air_log.specs.Lawful.{heard_by}
@@ -32,5 +32,5 @@ module _ (s : ScenarioParts) (clocks : ℕ → ℕ → ℕ) (air : List Entry) (
       let x = now.sending in
       let was = taken s clocks air at.run x (was_sent s clocks air v t at h d now) now.of_flood y sending_says v at.known in
       subst (λ (q : List ℕ). RefFor s clocks x.rank v (zero_from s.profile (clocks v t) q) f f (slice_index q 1)) (sym now.packet)
-      (subst (λ (e : ℕ). RefFor s clocks x.rank v (zero_from s.profile (clocks v e) x.packet) f f (slot_of x)) now.end
-      (subst (λ (g : ℕ). RefFor s clocks x.rank v (zero_from s.profile (clocks v x.end) x.packet) g g (slot_of x)) now.frame was))
+      (subst (λ (e : ℕ). RefFor s clocks x.rank v (zero_from s.profile (clocks v e) x.packet) f f (slot_of_sending x)) now.end
+      (subst (λ (g : ℕ). RefFor s clocks x.rank v (zero_from s.profile (clocks v x.end) x.packet) g g (slot_of_sending x)) now.frame was))

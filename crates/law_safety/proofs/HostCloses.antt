@@ -4,14 +4,14 @@ use Rattle.std.proofs.Common.{true≢false, eqb-true}
 use Rattle.std.specs.List.{list_all}
 use Rattle.std.proofs.lemmas.Bool.{and_from, eq-eqb}
 use Rattle.tick_clock.specs.Clocks.{due}
-use Rattle.lwb_base.specs.Messages.{least}
+use Rattle.lwb_base.specs.Messages.{least_passing}
 use Rattle.lwb_base.specs.Profile.{one}
 use Rattle.lwb_base.proofs.Elements.{all_passes}
 use Rattle.lwb_base.proofs.Truths.{implied}
-use Rattle.schedule_codec.specs.Packing.{digits, number}
+use Rattle.schedule_codec.specs.Packing.{digits, packed_number}
 use Rattle.schedule_codec.specs.Reading.{schedule_of, asks_in}
 use Rattle.radio_model.specs.declared.sending.Sending.{Sending}
-use Rattle.radio_model.specs.Hearing.{slot_of, counter_of, frame_of}
+use Rattle.radio_model.specs.Hearing.{slot_of_sending, counter_of_sending, frame_of_sending}
 use Rattle.air_log.specs.WindowLogs.{WindowLog}
 use Rattle.law_trails.specs.OnePacket.{drifting, opening_0, opening_2, request_1, request_3, grant_0, grant_2, reopening_0, data_0, data_1, data_3}
 use Rattle.law_trails.specs.OnePacket.{sent_by_host}
@@ -19,7 +19,7 @@ use Rattle.law_trails.specs.OnePacketNodes.{granted_plan}
 use Rattle.law_trails.specs.OnePacketHost.{host_38, host_46, host_53, host_59}
 use Rattle.law_trails.proofs.DriftingClocks.{fast, fast_due}
 use Rattle.law_trails.proofs.OnePacketZeros.{host_due_at}
-use Rattle.law_safety.specs.WorkedRounds.{Holds}
+use Rattle.law_safety.specs.WorkedRounds.{DeviceIsInOrder}
 use Rattle.law_safety.proofs.HostZeros.{reads, good_9}
 use Rattle.law_safety.proofs.WorkedPlans.{once, same_flood_key, planned, not_zero}
 
@@ -34,15 +34,16 @@ nine = opening_0 ∷ opening_2 ∷ request_1 ∷ request_3 ∷ grant_0 ∷ grant
 
 -- who begins in frame 9 so far begins slot 0
 abbrev in_first : Sending → Bool
-in_first x = not ((counter_of x == 0) && (frame_of one x == 9)) || (slot_of x == 0)
+in_first x = not ((counter_of_sending x == 0) && (frame_of_sending one x == 9)) || (slot_of_sending x == 0)
 
-first_slot : (xs : List Sending) → list_all in_first xs ≡ true → (x : Sending) → Contains xs x → counter_of x ≡ 0 → frame_of one x ≡ 9 → slot_of x ≡ 0
-first_slot xs all x there first frame = eqb-true (slot_of x) 0
+first_slot : (xs : List Sending) → list_all in_first xs ≡ true → (x : Sending) → Contains xs x → counter_of_sending x ≡ 0 → frame_of_sending one x ≡ 9
+    → slot_of_sending x ≡ 0
+first_slot xs all x there first frame = eqb-true (slot_of_sending x) 0
     (implied _ _ (all_passes in_first xs all x there) (and_from _ _ (eq-eqb _ _ first) (eq-eqb _ _ frame)))
 
 -- it heard the data, and its relay is ordered
-pub relays : (w : List WindowLog) → Holds 1 2370175785 (host_38 w)
-unfolding least digits number schedule_of asks_in
+pub relays : (w : List WindowLog) → DeviceIsInOrder 1 2370175785 (host_38 w)
+unfolding least_passing digits packed_number schedule_of asks_in
 relays w = record {
   by_power = record {
     frame = record { at = inl refl; began = omega arith };
@@ -110,8 +111,8 @@ relays w = record {
 }
 
 -- between two data slots
-pub awaits_data : (w : List WindowLog) → Holds 1 2374288515 (host_46 w)
-unfolding least digits number schedule_of asks_in
+pub awaits_data : (w : List WindowLog) → DeviceIsInOrder 1 2374288515 (host_46 w)
+unfolding least_passing digits packed_number schedule_of asks_in
 awaits_data w = record {
   by_power = record {
     frame = record { at = inl refl; began = inr (omega arith) };
@@ -135,8 +136,8 @@ awaits_data w = record {
 }
 
 -- its closing is ordered, and its core has the next plan
-pub closes : (w : List WindowLog) → Holds 1 2380688387 (host_53 w)
-unfolding least digits number schedule_of asks_in
+pub closes : (w : List WindowLog) → DeviceIsInOrder 1 2380688387 (host_53 w)
+unfolding least_passing digits packed_number schedule_of asks_in
 closes w = record {
   by_power = record {
     frame = record { at = inl refl; began = omega arith };
@@ -206,8 +207,8 @@ closes w = record {
 }
 
 -- the round is over, and it waits for the next
-pub waits : (w : List WindowLog) → Holds 1 2508749826 (host_59 w)
-unfolding least digits number schedule_of asks_in
+pub waits : (w : List WindowLog) → DeviceIsInOrder 1 2508749826 (host_59 w)
+unfolding least_passing digits packed_number schedule_of asks_in
 waits w = record {
   by_power = record {
     frame = record { at = inl refl; began = tt };

@@ -2,15 +2,15 @@
 use Rattle.std.proofs.Common.{◌≡◌, ℕ, ◌*◌, ◌<◌, List, [], ◌∷◌, true, false, Some, None, Option, Contains, refl, ap, subst, arith, inl, inr}
 use Rattle.std.specs.List.{AllByRecursion}
 use Rattle.lwb_base.specs.Profile.{one}
-use Rattle.lwb_base.specs.Messages.{Schedule, least}
-use Rattle.schedule_codec.specs.Packing.{digits, number}
+use Rattle.lwb_base.specs.Messages.{Schedule, least_passing}
+use Rattle.schedule_codec.specs.Packing.{digits, packed_number}
 use Rattle.schedule_codec.specs.Reading.{schedule_of, asks_in}
 use Rattle.bus_rules.specs.declared.tune.Tune.{Tune}
 use Rattle.bus_rules.specs.declared.tune.Tune.TheVariants.{Scan, Hold, Host}
 use Rattle.bus_rules.specs.Slots.{Message, ScheduleOf, DataOf, RequestOf}
 use Rattle.lwb_member.specs.Said.{message_of}
 use Rattle.radio_model.specs.declared.sending.Sending.{Sending}
-use Rattle.radio_model.specs.Hearing.{frame_of, counter_of}
+use Rattle.radio_model.specs.Hearing.{frame_of_sending, counter_of_sending}
 use Rattle.air_log.specs.WindowLogs.{WindowLog}
 use Rattle.lwb_base.proofs.Elements.{not_in_none, contains_cases}
 use Rattle.law_trails.specs.Lives.{Life, OpeningMade, ClosingMade, Step, ComesOn, Ends, Opens, Closes, Quiet, newborn, after_steps, AllMayCome}
@@ -18,7 +18,7 @@ use Rattle.law_trails.specs.OnePacket.{opening_0, opening_2, request_1, request_
 use Rattle.law_trails.specs.OnePacketNodes.{first_plan, granted_plan, next_plan}
 use Rattle.law_trails.specs.OnePacketHost.{host_53}
 use Rattle.law_trails.proofs.LifeSteps.{hosts_are_quiet}
-use Rattle.law_safety.specs.QuietHosts.{IsIn}
+use Rattle.law_safety.specs.QuietHosts.{LifeHasSchedule}
 use Rattle.law_safety.specs.WorkedRounds.{Lives}
 
 -- it comes on, hosts from frame 5 on, opens and closes there with gap 4, and so in frame 9
@@ -104,14 +104,14 @@ said_by (Some (DataOf d)) = record { plan = first_plan; gap = 0 }
 said_by (Some (RequestOf a)) = record { plan = first_plan; gap = 0 }
 
 abbrev InLife : Sending → Type 0
-InLife x = counter_of x ≡ 0 → (y : Schedule) → message_of x.packet ≡ Some (ScheduleOf y) → IsIn life (frame_of one x) y
+InLife x = counter_of_sending x ≡ 0 → (y : Schedule) → message_of x.packet ≡ Some (ScheduleOf y) → LifeHasSchedule life (frame_of_sending one x) y
 
 not_first : (k : ℕ) → ◌≡◌ {A = ℕ} k 0 → 0 < k → ⊥
 not_first k is some = omega (arith, is, some)
 
 -- where its second closing is ordered
 pub host_lives : (w : List WindowLog) → Lives 2380688387 (host_53 w)
-unfolding least digits number schedule_of asks_in
+unfolding least_passing digits packed_number schedule_of asks_in
 host_lives w = record {
   life = life;
   quiet = quiet;
@@ -120,7 +120,7 @@ host_lives w = record {
   closed = λ c there. each_at (λ (c : ClosingMade). c.frame * 256000000 < 2380688387) life.closings c (omega arith, (omega arith, tt)) there;
   sent = λ x y there first says.
       each_at InLife (opening_0 ∷ opening_2 ∷ request_1 ∷ request_3 ∷ grant_0 ∷ grant_2 ∷ reopening_0 ∷ data_1 ∷ data_3 ∷ []) x (
-        λ c y says. subst (λ (y : Schedule). IsIn life 5 y) (ap said_by says) (inl (refl, (0, omega arith, refl))),
+        λ c y says. subst (λ (y : Schedule). LifeHasSchedule life 5 y) (ap said_by says) (inl (refl, (0, omega arith, refl))),
         (
           λ c y says. absurd (not_first 2 c (omega arith)),
           (
@@ -128,11 +128,11 @@ host_lives w = record {
             (
               λ c y says. absurd (not_first 3 c (omega arith)),
               (
-                λ c y says. subst (λ (y : Schedule). IsIn life 5 y) (ap said_by says) (inr (0, omega arith, refl)),
+                λ c y says. subst (λ (y : Schedule). LifeHasSchedule life 5 y) (ap said_by says) (inr (0, omega arith, refl)),
                 (
                   λ c y says. absurd (not_first 2 c (omega arith)),
                   (
-                    λ c y says. subst (λ (y : Schedule). IsIn life 9 y) (ap said_by says) (inl (refl, (1, omega arith, refl))),
+                    λ c y says. subst (λ (y : Schedule). LifeHasSchedule life 9 y) (ap said_by says) (inl (refl, (1, omega arith, refl))),
                     (λ c y says. absurd (not_first 1 c (omega arith)), (λ c y says. absurd (not_first 3 c (omega arith)), tt)),
                   ),
                 ),
@@ -141,5 +141,5 @@ host_lives w = record {
           ),
         ),
       ) there first y says;
-  ordered = λ first y says. subst (λ (y : Schedule). IsIn life 9 y) (ap said_by says) (inr (1, omega arith, refl));
+  ordered = λ first y says. subst (λ (y : Schedule). LifeHasSchedule life 9 y) (ap said_by says) (inr (1, omega arith, refl));
 }

@@ -1,24 +1,24 @@
 -- The clauses at the host of the worked rounds of one packet, until its first opening is sent.
 use Rattle.std.proofs.Common.{◌≡◌, ℕ, ◌<◌, List, [], ◌∷◌, Some, Contains, refl, sym, ap, subst, arith, inl, inr}
 use Rattle.std.proofs.Common.{true≢false}
-use Rattle.lwb_base.specs.Messages.{least}
-use Rattle.schedule_codec.specs.Packing.{digits, number}
+use Rattle.lwb_base.specs.Messages.{least_passing}
+use Rattle.schedule_codec.specs.Packing.{digits, packed_number}
 use Rattle.schedule_codec.specs.Reading.{schedule_of, asks_in}
 use Rattle.radio_model.specs.declared.sending.Sending.{Sending}
-use Rattle.radio_model.specs.Hearing.{slot_of}
+use Rattle.radio_model.specs.Hearing.{slot_of_sending}
 use Rattle.air_log.specs.WindowLogs.{WindowLog}
 use Rattle.lwb_base.proofs.Elements.{not_in_none, contains_cases}
 use Rattle.law_trails.specs.OnePacket.{opening_0}
 use Rattle.law_trails.specs.OnePacketNodes.{first_plan}
 use Rattle.law_trails.specs.OnePacketHost.{host_6, host_7, host_8}
 use Rattle.law_trails.proofs.OnePacketZeros.{host_due_at}
-use Rattle.law_safety.specs.WorkedRounds.{Holds}
+use Rattle.law_safety.specs.WorkedRounds.{DeviceIsInOrder}
 use Rattle.law_safety.proofs.HostZeros.{good_5}
 use Rattle.law_safety.proofs.WorkedPlans.{once, none_of, same_flood_key, not_zero}
 
 -- before its first round
-pub awaits : (w : List WindowLog) → Holds 1 1343973121 (host_6 w)
-unfolding least digits number schedule_of asks_in
+pub awaits : (w : List WindowLog) → DeviceIsInOrder 1 1343973121 (host_6 w)
+unfolding least_passing digits packed_number schedule_of asks_in
 awaits w = record {
   by_power = record {
     frame = record { at = inl refl; began = inl refl };
@@ -41,8 +41,8 @@ awaits w = record {
 }
 
 -- its first opening is ordered; nobody was told the plan yet
-pub opens : (w : List WindowLog) → Holds 1 1344037120 (host_7 w)
-unfolding least digits number schedule_of asks_in
+pub opens : (w : List WindowLog) → DeviceIsInOrder 1 1344037120 (host_7 w)
+unfolding least_passing digits packed_number schedule_of asks_in
 opens w = record {
   by_power = record {
     frame = record { at = inl refl; began = omega arith };
@@ -112,8 +112,8 @@ only_opening = opening_0 ∷ []
 is_opening : (x : Sending) → Contains only_opening x → opening_0 ≡ x
 is_opening x there = elim (contains_cases opening_0 [] x there) [ inl is ↦ is | inr none ↦ absurd (not_in_none x none) ]
 
-pub sends : (w : List WindowLog) → Holds 1 1344073984 (host_8 w)
-unfolding least digits number schedule_of asks_in
+pub sends : (w : List WindowLog) → DeviceIsInOrder 1 1344073984 (host_8 w)
+unfolding least_passing digits packed_number schedule_of asks_in
 sends w = record {
   by_power = record {
     frame = record { at = inl refl; began = omega arith };
@@ -122,7 +122,7 @@ sends w = record {
     radio = record { at = refl };
     begun = record {
       at = record {
-        below = λ x b. omega (arith, ap slot_of (is_opening x b.sent));
+        below = λ x b. omega (arith, ap slot_of_sending (is_opening x b.sent));
         packet = λ x b is. (refl, ap (λ (y : Sending). Some y.packet) (is_opening x b.sent), λ first. first);
         made = λ is. inr (record { sending = opening_0; begun = record { sent = (0, omega arith, refl); first = refl; frame = refl }; slot = refl });
       };

@@ -3,7 +3,7 @@ use Rattle.std.proofs.Common.{◌≡◌, ℕ, ◌+◌, ◌*◌, ◌≤◌, sym, 
 use Rattle.tick_clock.specs.Clocks.{Near}
 use Rattle.lwb_base.specs.Profile.{one}
 use Rattle.time_reference.specs.Budgets.{budget_one}
-use Rattle.time_reference.specs.Zeros.{Ref, Good, nominal, started}
+use Rattle.time_reference.specs.Zeros.{Ref, Good, nominal, start_tick}
 use Rattle.law_trails.specs.OnePacket.{drifting}
 use Rattle.law_trails.proofs.DriftingClocks.{fast, fast_due, host_clock}
 use Rattle.law_trails.proofs.OnePacketZeros.{host_due_at}
@@ -16,7 +16,7 @@ zero_ref : (z f c : ℕ) → 1 ≤ c → c ≤ f → f ≤ c + 4 → c ≤ 4095
     → Near (fast (fast_due (nominal one c 0)) + f * 256000000) (z + 0 * 2112000 + 64000 + c * 256000000) 55
     → Ref one budget_one (drifting 1) (drifting 1) z f c 0
 zero_ref z f c begun past young run near =
-    let at : drifting 1 (started one (drifting 1) c 0) ≡ fast (fast_due (nominal one c 0)) = ap (drifting 1) (host_due_at (nominal one c 0))
+    let at : drifting 1 (start_tick one (drifting 1) c 0) ≡ fast (fast_due (nominal one c 0)) = ap (drifting 1) (host_due_at (nominal one c 0))
     ∙ reads (fast_due (nominal one c 0)) in
     record {
       begun = begun;

@@ -2,7 +2,7 @@
 use Rattle.std.proofs.Common.{◌≡◌, ℕ, suc, ◌/◌, ◌<◌, List, Bool, true, false, nat_lt, None, Option, ◌∙◌, subst, arith}
 use Rattle.std.specs.Prelude.{slice_index}
 use Rattle.time_reference.specs.Budgets.{budget_of}
-use Rattle.time_reference.specs.Zeros.{opening, closing}
+use Rattle.time_reference.specs.Zeros.{opening_offset, closing_offset}
 use Rattle.time_reference.proofs.Points.{good_later}
 use Rattle.glossy_relay.specs.Relaying.{accepted_of}
 use Rattle.node_core.specs.declared.stage.Stage.TheVariants.{InWindow}
@@ -19,7 +19,7 @@ use Rattle.law_trails.specs.Phases.{Hearings}
 use Rattle.law_trails.proofs.HeardReferences.{good_now}
 use Rattle.law_safety.specs.RoundZeros.{RefFor, GoodFor}
 use Rattle.law_safety.specs.SetAlarms.{rank_at}
-use Rattle.law_safety.specs.TunedNodes.{Either, IsTunedAt, IsMember, is_joining, is_last}
+use Rattle.law_safety.specs.TunedNodes.{Either, IsTunedAt, IsMember, is_joining, is_last_window}
 use Rattle.law_safety.specs.RadiosOn.{RadioFor}
 use Rattle.law_safety.specs.OrderedSendings.{HeardIn, HasOrder, HasSending}
 use Rattle.law_safety.specs.AcceptedPackets.{IsAccepted}
@@ -53,16 +53,16 @@ module _ (s : ScenarioParts) (clocks : ℕ → ℕ → ℕ) (air : List Entry) (
       by_radio true is = listened d.listening (rank_at n) now.sending.rank now.channel is
       by_radio false is = absurd (silent d.listening now.sending.rank now.channel is)
 
-  pub good : GoodFor s clocks (rank_at n) v n.zero n.frame (closing s.profile j)
+  pub good : GoodFor s clocks (rank_at n) v n.zero n.frame (closing_offset s.profile j)
   good = by_tune (is_joining n) (subst (IsTunedAt s clocks v n) stage known.tune.at)
     where
-      by_tune : (b : Bool) → Either b (RefFor s clocks (rank_at n) v n.zero n.frame n.frame j) (IsMember s clocks v n j w.last (is_last j w))
-          → GoodFor s clocks (rank_at n) v n.zero n.frame (closing s.profile j)
+      by_tune : (b : Bool) → Either b (RefFor s clocks (rank_at n) v n.zero n.frame n.frame j) (IsMember s clocks v n j w.last (is_last_window j w))
+          → GoodFor s clocks (rank_at n) v n.zero n.frame (closing_offset s.profile j)
       by_tune true ref = good_now s.profile (budget_of s.profile) (run_fits s at.run.driven.sound) (clocks (slice_index s.hosts (rank_at n)))
           (clocks v) n.zero n.frame j ref
       by_tune false is =
           good_later s.profile (budget_of s.profile) (run_fits s at.run.driven.sound) (clocks (slice_index s.hosts (rank_at n))) (clocks v) n.zero n.frame
-          (opening s.profile j) (closing s.profile j) (omega arith) is.good
+          (opening_offset s.profile j) (closing_offset s.profile j) (omega arith) is.good
 
   -- ---- the flood ignores it
 

@@ -12,7 +12,7 @@ use Rattle.law_trails.specs.Walks.{Keeps, HoldAll}
 use Rattle.law_trails.proofs.LifeSteps.{born_quiet}
 use Rattle.law_trails.proofs.SentInTrails.{sent_below, sent_known}
 use Rattle.law_trails.proofs.WalkOfRun.{holds_in_run}
-use Rattle.law_safety.specs.Invariant.{Invariant, IsRun}
+use Rattle.law_safety.specs.Invariant.{Invariant, IsObedientRun}
 use Rattle.law_safety.proofs.RunFacts.{host_known}
 use Rattle.law_safety.specs.Rows.{IsFine, AtTick, AllRows, RowsSuffice}
 
@@ -38,7 +38,7 @@ fine_at_rest s clocks air v = record {
   before = λ x there. absurd (not_in_none x there);
 }
 
-module _ (s : ScenarioParts) (clocks : ℕ → ℕ → ℕ) (air : List Entry) (run : IsRun s clocks air) where
+module _ (s : ScenarioParts) (clocks : ℕ → ℕ → ℕ) (air : List Entry) (run : IsObedientRun s clocks air) where
   -- what holds of all devices is the invariant
   of_all : (t : ℕ) → t ≤ run_end s → HoldAll (IsFine s clocks air) s clocks (heard_by air) t → Invariant s clocks air t
   of_all t within all =

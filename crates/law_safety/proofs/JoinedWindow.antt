@@ -8,7 +8,7 @@ use Rattle.schedule_codec.specs.Reading.{is_schedule}
 use Rattle.lwb_packets.specs.declared.kind.Kind as Kind
 use Rattle.tick_clock.specs.Clocks.{IsClock, due}
 use Rattle.time_reference.specs.Budgets.{budget_of}
-use Rattle.time_reference.specs.Zeros.{closing}
+use Rattle.time_reference.specs.Zeros.{closing_offset}
 use Rattle.glossy_relay.specs.FloodState.{FloodState, listening}
 use Rattle.glossy_relay.specs.Relaying.{fits}
 use Rattle.bus_rules.specs.declared.delivery.Delivery.{Delivery}
@@ -25,7 +25,7 @@ use Rattle.node_core.proofs.WindowKinds.{schedule_kind}
 use Rattle.scenario_text.specs.ScenarioParts.{ScenarioParts}
 use Rattle.radio_model.specs.declared.sending.Sending.{Sending}
 use Rattle.air_log.specs.declared.entry.Entry.{Entry}
-use Rattle.air_log.specs.Devices.{Device, PowerOn, Ordered, listens_to}
+use Rattle.air_log.specs.Devices.{Device, PowerOn, OrderedPacket, listens_to}
 use Rattle.air_log.specs.Lawful.{heard_by}
 use Rattle.air_log.specs.WindowLogs.{WindowLog}
 use Rattle.air_log.specs.Trails.{Reception, frame_start}
@@ -37,7 +37,7 @@ use Rattle.law_trails.proofs.UnstoppedTimes.{slots_are_sums}
 use Rattle.law_safety.specs.RoundZeros.{RefFor, GoodFor}
 use Rattle.law_safety.specs.SetAlarms.{rank_at, HasAlarm}
 use Rattle.law_safety.specs.StillDevices.{IsStill}
-use Rattle.law_safety.specs.TunedNodes.{Either, HasTune, IsTunedAt, Scans, IsMember, by_hearing, is_last}
+use Rattle.law_safety.specs.TunedNodes.{Either, HasTune, IsTunedAt, Scans, IsMember, by_hearing, is_last_window}
 use Rattle.law_safety.specs.RadiosOn.{HasRadio, RadioFor}
 use Rattle.law_safety.specs.OrderedSendings.{HasOrder, HasSending}
 use Rattle.law_safety.specs.BegunFloods.{BeginsOnce, BegunAt, HasBegun}
@@ -114,13 +114,13 @@ module _ (s : ScenarioParts) (clocks : ℕ → ℕ → ℕ) (air : List Entry) (
       subst (λ (r : ℕ). RefFor s clocks r v zero_now n.frame n.frame slot) rank
       (subst (λ (f : ℕ). RefFor s clocks now.sending.rank v zero_now f f slot) (sym frame) (reference s clocks air v t at h d now y there ended says))
 
-  good : GoodFor s clocks (rank_at n) v zero_now n.frame (closing s.profile slot)
+  good : GoodFor s clocks (rank_at n) v zero_now n.frame (closing_offset s.profile slot)
   good = good_now s.profile (budget_of s.profile) (run_fits s at.run.driven.sound) (clocks (slice_index s.hosts (rank_at n)))
       (clocks v) zero_now n.frame slot ref
 
   -- ---- the window, whose flood waits where a relay is ordered
 
-  module _ (waits : Bool) (ordered : Option Ordered) (deliveries : List Delivery) (windows : List WindowLog) where
+  module _ (waits : Bool) (ordered : Option OrderedPacket) (deliveries : List Delivery) (windows : List WindowLog) where
     abbrev pub open_window : Window
     open_window = record {
       part = part_by y;
@@ -154,10 +154,10 @@ module _ (s : ScenarioParts) (clocks : ℕ → ℕ → ℕ) (air : List Entry) (
         let host = subst (λ (r : ℕ). IsClock (clocks (slice_index s.hosts r))) rank (host_drifts s clocks air at.run x now.of_flood) in
         let sums = slots_are_sums s.profile (budget_of s.profile) (run_fits s at.run.driven.sound) (clocks (slice_index s.hosts (rank_at n)))
         (clocks v) zero_now n.frame
-        (closing s.profile slot) slot host (own_drifts s clocks air v t at h d now) good in_round in
+        (closing_offset s.profile slot) slot host (own_drifts s clocks air v t at h d now) good in_round in
         let same = ap (due (clocks v)) sums.closes in
         let before = ends_before s clocks air v t at h d now joined slot of_slot in
-        let is : due_alarm ≡ due (clocks v) (zero_now + closing s.profile slot) = omega (arith, same, before) in
+        let is : due_alarm ≡ due (clocks v) (zero_now + closing_offset s.profile slot) = omega (arith, same, before) in
         record { alarm = due_alarm; set = refl; at = is }
 
     joining : by_hearing n n.core.tune ≡ true
@@ -167,7 +167,7 @@ module _ (s : ScenarioParts) (clocks : ℕ → ℕ → ℕ) (air : List Entry) (
     tune_set = record {
       rank = known.tune.rank;
       at = subst (λ (b : Bool). Either b (RefFor s clocks (rank_at n) v zero_now n.frame n.frame slot)
-          (IsMember s clocks v joined slot (last_by y slot) (is_last slot open_window))) (sym joining) ref;
+          (IsMember s clocks v joined slot (last_by y slot) (is_last_window slot open_window))) (sym joining) ref;
     }
 
     radio_set : HasRadio joined joined_device

@@ -18,7 +18,7 @@ use Rattle.law_safety.specs.StillDevices.{IsStill, IsOff}
 use Rattle.law_safety.specs.CountedFrames.{InFrame, BeganBy}
 use Rattle.law_safety.specs.SetAlarms.{HasAlarm, AlarmFor, rank_at}
 use Rattle.law_safety.specs.RoundZeros.{RefFor}
-use Rattle.law_safety.specs.TunedNodes.{HasTune, IsTunedAt, IsRoundOf, IsMember, Waits, Scans, Either, by_hearing, is_joining, is_last}
+use Rattle.law_safety.specs.TunedNodes.{HasTune, IsTunedAt, IsRoundOf, IsMember, Waits, Scans, Either, by_hearing, is_joining, is_last_window}
 use Rattle.law_safety.specs.RadiosOn.{HasRadio, RadioFor}
 use Rattle.law_safety.specs.BegunFloods.{HasBegun, BeganOnce, BegunInWindow, BegunAt, BeginsOnce}
 
@@ -112,9 +112,9 @@ module _ (s : ScenarioParts) (clocks : ℕ → ℕ → ℕ) (v : ℕ) (n : Node)
   tuned_at (AwaitSlot j) is = member_kept j (last_slot n.core.plan) false is
   tuned_at (InWindow j w) is =
       either_kept (is_joining n) (is_joining m) (joins_same n streams n.core.tune)
-      (RefFor s clocks (rank_at n) v n.zero n.frame n.frame j) (IsMember s clocks v n j w.last (is_last j w))
-      (RefFor s clocks (rank_at n) v n.zero n.frame n.frame j) (IsMember s clocks v m j w.last (is_last j w))
-      (λ joins. joins) (member_kept j w.last (is_last j w)) is
+      (RefFor s clocks (rank_at n) v n.zero n.frame n.frame j) (IsMember s clocks v n j w.last (is_last_window j w))
+      (RefFor s clocks (rank_at n) v n.zero n.frame n.frame j) (IsMember s clocks v m j w.last (is_last_window j w))
+      (λ joins. joins) (member_kept j w.last (is_last_window j w)) is
 
   pub tune_kept : HasTune s clocks v n → HasTune s clocks v m
   tune_kept is = record { rank = is.rank; at = tuned_at n.stage is.at }

@@ -16,9 +16,9 @@ use Rattle.node_core.specs.Nodes.{Node}
 use Rattle.node_core.specs.Nodes.{with_streams}
 use Rattle.scenario_text.specs.ScenarioParts.{ScenarioParts}
 use Rattle.radio_model.specs.declared.sending.Sending.{Sending}
-use Rattle.radio_model.specs.Hearing.{frame_of}
+use Rattle.radio_model.specs.Hearing.{frame_of_sending}
 use Rattle.air_log.specs.declared.entry.Entry.{Entry}
-use Rattle.air_log.specs.Devices.{Device, Power, Ordered}
+use Rattle.air_log.specs.Devices.{Device, Power, OrderedPacket}
 use Rattle.law_safety.specs.SentPlans.{StaysOnUntil, HasHeardPlan}
 use Rattle.law_safety.specs.SetAlarms.{rank_at}
 use Rattle.law_safety.specs.TunedNodes.{is_joining}
@@ -49,7 +49,7 @@ module _ (s : ScenarioParts) (clocks : ℕ → ℕ → ℕ) (air : List Entry) (
     gap = is.gap;
     schedule = is.schedule;
     due = is.due;
-    stays = on.stays (frame_of s.profile is.heard) is.stays;
+    stays = on.stays (frame_of_sending s.profile is.heard) is.stays;
   }
 
   knows_plan : (frame : ℕ) (plan : Plan) → KnowsPlan s clocks air v told n frame plan → KnowsPlan s clocks air v later m frame plan
@@ -102,7 +102,7 @@ module _ (s : ScenarioParts) (clocks : ℕ → ℕ → ℕ) (air : List Entry) (
     by = (let by = is.by in let more = on.more in omega (arith, by, more));
   }
 
-  order_kept : (j : ℕ) (w : Window) (o : Ordered) → HasOrder s clocks air v told n j w o → HasOrder s clocks air v later m j w o
+  order_kept : (j : ℕ) (w : Window) (o : OrderedPacket) → HasOrder s clocks air v told n j w o → HasOrder s clocks air v later m j w o
   order_kept j w o is = record {
     over = is.over;
     slot = is.slot;

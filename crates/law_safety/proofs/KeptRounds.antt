@@ -22,7 +22,7 @@ use Rattle.radio_model.specs.declared.sending.Sending.{Sending}
 use Rattle.air_log.specs.declared.entry.Entry.{Entry}
 use Rattle.air_log.specs.Devices.{Device}
 use Rattle.air_log.specs.Trails.{setup_of}
-use Rattle.law_trails.specs.NodeRanges.{IsNode}
+use Rattle.law_trails.specs.NodeRanges.{IsNodeInRange}
 use Rattle.law_trails.proofs.UnstoppedTimes.{host_sum}
 use Rattle.law_safety.specs.SentPlans.{FitsRound}
 use Rattle.law_safety.specs.FloodSendings.{IsOfFlood}
@@ -51,7 +51,7 @@ heard_keeps f (Contention i) heard c = record { tune = refl; plan = refl; own_sl
 heard_keeps f Closing heard c = record { tune = refl; plan = refl; own_slot = refl }
 
 module _ (s : ScenarioParts) (clocks : ℕ → ℕ → ℕ) (air : List Entry) (v t : ℕ) (at : AtTick s clocks air v t) (d : Device) (n : Node) (j : ℕ) (w : Window)
-    (is : Closes s clocks air v t d n j w) (ranged : IsNode (setup_of s v) n) (members : IsMembers s clocks air v t at d n j w is)
+    (is : Closes s clocks air v t d n j w) (ranged : IsNodeInRange (setup_of s v) n) (members : IsMembers s clocks air v t at d n j w is)
     (sent : (x : Sending) → Contains d.made.sent x → IsOfFlood s clocks air x) (e : Device) (core : Core) (keeps : KeepsRound n.core core) where
   abbrev plan : Plan
   plan = members.round.plan

@@ -10,14 +10,14 @@ use Rattle.node_core.specs.Nodes.{Node}
 use Rattle.scenario_text.specs.ScenarioParts.{ScenarioParts}
 use Rattle.radio_model.specs.declared.sending.Sending.{Sending}
 use Rattle.air_log.specs.declared.entry.Entry.{Entry}
-use Rattle.air_log.specs.Devices.{Device, PowerOn, Ordered}
+use Rattle.air_log.specs.Devices.{Device, PowerOn, OrderedPacket}
 use Rattle.air_log.specs.WindowLogs.{WindowLog}
 use Rattle.air_log.specs.Trails.{frame_start}
 use Rattle.law_trails.specs.Lives.{Life}
 use Rattle.law_trails.specs.Phases.{Hearings}
 use Rattle.law_safety.specs.RoundZeros.{RefFor}
 use Rattle.law_safety.specs.SetAlarms.{HasAlarm, AlarmFor, rank_at}
-use Rattle.law_safety.specs.TunedNodes.{HasTune, IsTunedAt, IsMember, is_joining, is_last}
+use Rattle.law_safety.specs.TunedNodes.{HasTune, IsTunedAt, IsMember, is_joining, is_last_window}
 use Rattle.law_safety.specs.RadiosOn.{HasRadio, RadioFor}
 use Rattle.law_safety.specs.OrderedSendings.{HeardIn, IsRelay, HasOrder, HasSending}
 use Rattle.law_safety.specs.BegunFloods.{BeginsOnce, BegunAt, BegunInWindow, HasBegun, IsFirstOrdered}
@@ -29,7 +29,8 @@ use Rattle.law_safety.proofs.RestagedNodes.{either}
 
 -- the device d of a node n in the window w of slot j, with another state of the window's flood, reference and order
 module _ (s : ScenarioParts) (clocks : ℕ → ℕ → ℕ) (air : List Entry) (v t : ℕ) (d : Device) (n : Node) (j : ℕ) (w : Window)
-    (waits : Bool) (first : Option (List ℕ)) (reference : Option ℕ) (ordered : Option Ordered) (deliveries : List Delivery) (windows : List WindowLog) where
+    (waits : Bool) (first : Option (List ℕ)) (reference : Option ℕ) (ordered : Option OrderedPacket) (deliveries : List Delivery)
+        (windows : List WindowLog) where
   abbrev pub new_window : Window
   new_window = record w { flood = record (w.flood) { waiting = waits; first = first }; reference = reference }
 
@@ -54,10 +55,10 @@ module _ (s : ScenarioParts) (clocks : ℕ → ℕ → ℕ) (air : List Entry) (
   pub sending_kept : (x : Sending) → HasSending s clocks air v n j x → HasSending s clocks air v new_node j x
   sending_kept x is = record { rank = is.rank; slot = is.slot; over = is.over }
 
-  relay_kept : (o : Ordered) → IsRelay s clocks air v (suc t) n j o → IsRelay s clocks air v (suc t) new_node j o
+  relay_kept : (o : OrderedPacket) → IsRelay s clocks air v (suc t) n j o → IsRelay s clocks air v (suc t) new_node j o
   relay_kept o r = record { heard = r.heard; in_slot = heard_in r.heard r.in_slot; few = r.few; packet = r.packet; at = r.at }
 
-  pub order_kept : IsKept → (o : Ordered) → HasOrder s clocks air v (suc t) n j w o → HasOrder s clocks air v (suc t) new_node j new_window o
+  pub order_kept : IsKept → (o : OrderedPacket) → HasOrder s clocks air v (suc t) n j w o → HasOrder s clocks air v (suc t) new_node j new_window o
   order_kept kept o is = record {
     over = is.over;
     slot = is.slot;
@@ -73,15 +74,15 @@ module _ (s : ScenarioParts) (clocks : ℕ → ℕ → ℕ) (air : List Entry) (
     alarm_kept : HasAlarm s clocks v new_node new_device
     alarm_kept = record { alarm = known.alarm.alarm; set = known.alarm.set; at = subst (AlarmFor s clocks v n known.alarm.alarm) stage known.alarm.at }
 
-    member_kept : IsMember s clocks v n j w.last (is_last j w) → IsMember s clocks v new_node j w.last (is_last j w)
+    member_kept : IsMember s clocks v n j w.last (is_last_window j w) → IsMember s clocks v new_node j w.last (is_last_window j w)
     member_kept is = record { slot = is.slot; good = is.good; round = is.round }
 
     tune_kept : HasTune s clocks v new_node
     tune_kept = record {
       rank = known.tune.rank;
       at =
-          either (is_joining n) (RefFor s clocks (rank_at n) v n.zero n.frame n.frame j) (IsMember s clocks v n j w.last (is_last j w))
-          (RefFor s clocks (rank_at n) v n.zero n.frame n.frame j) (IsMember s clocks v new_node j w.last (is_last j w)) (λ ref. ref) member_kept
+          either (is_joining n) (RefFor s clocks (rank_at n) v n.zero n.frame n.frame j) (IsMember s clocks v n j w.last (is_last_window j w))
+          (RefFor s clocks (rank_at n) v n.zero n.frame n.frame j) (IsMember s clocks v new_node j w.last (is_last_window j w)) (λ ref. ref) member_kept
           (subst (IsTunedAt s clocks v n) stage known.tune.at);
     }
 

@@ -1,7 +1,7 @@
 -- The clauses at a window that opens late.
 use Rattle.std.proofs.Common.{ℕ, suc, ◌<◌, ◌≤◌, List, [], ◌∷◌, refl, sym, subst, arith, inl, inr, true≢false}
-use Rattle.lwb_base.specs.Messages.{least}
-use Rattle.schedule_codec.specs.Packing.{digits, number}
+use Rattle.lwb_base.specs.Messages.{least_passing}
+use Rattle.schedule_codec.specs.Packing.{digits, packed_number}
 use Rattle.schedule_codec.specs.Reading.{schedule_of, asks_in}
 use Rattle.radio_model.specs.declared.sending.Sending.{Sending}
 use Rattle.air_log.specs.WindowLogs.{WindowLog}
@@ -9,15 +9,15 @@ use Rattle.law_trails.specs.OnePacket.{request_0, opening_1, opening_3, request_
 use Rattle.law_trails.specs.OnePacketNodes.{granted_plan}
 use Rattle.law_trails.specs.OnePacketMember.{member_late, member_37}
 use Rattle.law_trails.proofs.OnePacketZeros.{member_due_at, granted, reopened}
-use Rattle.law_safety.specs.WorkedRounds.{Holds}
+use Rattle.law_safety.specs.WorkedRounds.{DeviceIsInOrder}
 use Rattle.law_safety.proofs.WorkedPlans.{once, none_of, same_flood_key, planned, heard_plan, fresh_plan, not_zero}
 
 abbrev sent_before : List Sending
 sent_before = opening_1 ∷ opening_3 ∷ request_0 ∷ request_2 ∷ grant_1 ∷ grant_3 ∷ reopening_1 ∷ []
 
 -- the data slot, whose window opened late: its packet is ordered
-pub late_window : (w : List WindowLog) → Holds 2 2370128681 (member_37 w)
-unfolding least digits number schedule_of asks_in
+pub late_window : (w : List WindowLog) → DeviceIsInOrder 2 2370128681 (member_37 w)
+unfolding least_passing digits packed_number schedule_of asks_in
 late_window w = record {
   by_power = record {
     frame = record { at = inl refl; began = omega arith };
@@ -94,8 +94,8 @@ late_window w = record {
 }
 
 -- before its late opening: the alarm is that of the closing by the old zero
-pub late_opening : (w : List WindowLog) → Holds 2 2370089470 (member_late w)
-unfolding least digits number schedule_of asks_in
+pub late_opening : (w : List WindowLog) → DeviceIsInOrder 2 2370089470 (member_late w)
+unfolding least_passing digits packed_number schedule_of asks_in
 late_opening w = record {
   by_power = record {
     frame = record { at = inl refl; began = inr (omega arith) };

@@ -6,7 +6,7 @@ use Rattle.std.proofs.lemmas.Bool.{cases_lt, eqb-false}
 use Rattle.std.proofs.lemmas.Option.{same_Some}
 use Rattle.tick_clock.specs.Clocks.{IsClock, due}
 use Rattle.time_reference.specs.Budgets.{Fits, budget_of}
-use Rattle.time_reference.specs.Zeros.{opening}
+use Rattle.time_reference.specs.Zeros.{opening_offset}
 use Rattle.time_reference.proofs.Points.{after_start}
 use Rattle.time_reference.proofs.Run.{alarm_after_start}
 use Rattle.bus_rules.specs.declared.tune.Tune.{Tune}
@@ -14,7 +14,7 @@ use Rattle.bus_rules.specs.declared.tune.Tune.TheVariants.{Scan, Hold, Host}
 use Rattle.bus_rules.specs.Tuning.{rank_of, is_scan}
 use Rattle.bus_rules.specs.Cores.{Core, is_fresh}
 use Rattle.radio_model.specs.declared.sending.Sending.{Sending}
-use Rattle.radio_model.specs.Hearing.{slot_of}
+use Rattle.radio_model.specs.Hearing.{slot_of_sending}
 use Rattle.scenario_text.specs.ScenarioParts.{ScenarioParts}
 use Rattle.node_core.specs.declared.stage.Stage.{Stage}
 use Rattle.node_core.specs.declared.stage.Stage.TheVariants.{Idle, Scanning, AwaitFrame, AwaitSlot, InWindow}
@@ -22,7 +22,7 @@ use Rattle.node_core.specs.Nodes.{Node, stopped_frame, frame_alarm}
 use Rattle.air_log.specs.declared.entry.Entry.{Entry}
 use Rattle.air_log.specs.Devices.{Device}
 use Rattle.air_log.specs.Trails.{frame_start}
-use Rattle.law_trails.specs.Obeying.{channel_of}
+use Rattle.law_trails.specs.Obeying.{channel_if_on}
 use Rattle.law_trails.specs.Walks.{AwaitsFrame}
 use Rattle.law_trails.proofs.UnstoppedTimes.{alarm_sum}
 use Rattle.law_safety.specs.StillDevices.{IsStill}
@@ -121,11 +121,12 @@ module _ (s : ScenarioParts) (clocks : ℕ → ℕ → ℕ) (air : List Entry) (
         later : (a b g : ℕ) → a ≡ b → g < b → t < g → max a t ≡ b
         later a b g same begun below = omega (arith, same, begun, below)
 
-    slot_alarm : (z : ℕ) → t < due (clocks v) (z + 0) → max (due (clocks v) z) t ≡ due (clocks v) (z + opening s.profile 0)
+    slot_alarm : (z : ℕ) → t < due (clocks v) (z + 0) → max (due (clocks v) z) t ≡ due (clocks v) (z + opening_offset s.profile 0)
     slot_alarm z less =
-        let none : z ≡ z + opening s.profile 0 = omega arith in
+        let none : z ≡ z + opening_offset s.profile 0 = omega arith in
         let zero : z ≡ z + 0 = omega arith in
-        later (due (clocks v) z) (due (clocks v) (z + 0)) (due (clocks v) (z + opening s.profile 0)) (ap (due (clocks v)) zero) (ap (due (clocks v)) none) less
+        later (due (clocks v) z) (due (clocks v) (z + 0)) (due (clocks v) (z + opening_offset s.profile 0)) (ap (due (clocks v)) zero)
+            (ap (due (clocks v)) none) less
       where
         later : (a b c : ℕ) → a ≡ b → a ≡ c → t < b → max a t ≡ c
         later a b c same also less = omega (arith, same, also, less)
@@ -139,7 +140,7 @@ module _ (s : ScenarioParts) (clocks : ℕ → ℕ → ℕ) (air : List Entry) (
         omega (arith, before, in_frame, later)
 
     -- what its orders leave of the device
-    module _ (e : Device) (channel : Option ℕ) (alarm : ℕ) (tuned : channel_of e.listening ≡ channel) (set : e.alarm ≡ Some (max (due (clocks v) alarm) t))
+    module _ (e : Device) (channel : Option ℕ) (alarm : ℕ) (tuned : channel_if_on e.listening ≡ channel) (set : e.alarm ≡ Some (max (due (clocks v) alarm) t))
         (ordered : e.ordered ≡ None) (sending : e.sending ≡ None) (sent : e.made.sent ≡ d.made.sent) where
       still_then : IsStill e
       still_then = record { ordered = ordered; sending = sending }
@@ -150,7 +151,7 @@ module _ (s : ScenarioParts) (clocks : ℕ → ℕ → ℕ) (air : List Entry) (
       none_then : (x : Sending) → HasBegun s f e x → ⊥
       none_then x begun = none_begun x (begun_before f x begun)
 
-      once_then : (g : ℕ) (x y : Sending) → HasBegun s g e x → HasBegun s g e y → slot_of x ≡ slot_of y → x ≡ y
+      once_then : (g : ℕ) (x y : Sending) → HasBegun s g e x → HasBegun s g e y → slot_of_sending x ≡ slot_of_sending y → x ≡ y
       once_then g x y bx by same = is.begun.once g x y (begun_before g x bx) (begun_before g y by) same
 
       pub on_scanning : (core : Core) (z r w : ℕ) → core.tune ≡ Scan r w → is_fresh core ≡ false → r < length s.hosts
@@ -196,7 +197,7 @@ module _ (s : ScenarioParts) (clocks : ℕ → ℕ → ℕ) (air : List Entry) (
             record {
               frame = record { at = inr (is_over (at_stage (AwaitSlot 0)) refl refl); began = inl refl };
               alarm = record {
-                alarm = due (clocks v) (z + opening s.profile 0);
+                alarm = due (clocks v) (z + opening_offset s.profile 0);
                 set = set ∙ ap (λ (a : ℕ). Some (max (due (clocks v) a) t)) when ∙ ap (λ (a : ℕ). Some a) (slot_alarm z less);
                 at = inl refl;
               };

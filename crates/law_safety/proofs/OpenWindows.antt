@@ -11,7 +11,7 @@ use Rattle.node_core.specs.declared.stage.Stage.TheVariants.{Idle, Scanning, Awa
 use Rattle.node_core.specs.Windows.{Window}
 use Rattle.node_core.specs.Nodes.{Node}
 use Rattle.air_log.specs.declared.entry.Entry.{Entry}
-use Rattle.air_log.specs.Devices.{Device, Power, PowerOff, PowerOn, Ordered, listens_to}
+use Rattle.air_log.specs.Devices.{Device, Power, PowerOff, PowerOn, OrderedPacket, listens_to}
 use Rattle.law_trails.specs.Phases.{Start}
 use Rattle.law_safety.specs.CountedFrames.{IsResting}
 use Rattle.law_safety.specs.SetAlarms.{rank_at}
@@ -22,7 +22,7 @@ use Rattle.law_safety.specs.NodesInOrder.{IsOn, InOrderBy, InOpenWindow, WindowA
 use Rattle.law_safety.specs.Rows.{IsFine}
 
 -- where something is ordered, at the start of what is ordered: a window is open, its flood waits, and the radio is on
-pub record IsAbout (s : ScenarioParts) (clocks : ℕ → ℕ → ℕ) (air : List Entry) (v t : ℕ) (d : Device) (o : Ordered) : Type 0 where
+pub record IsAbout (s : ScenarioParts) (clocks : ℕ → ℕ → ℕ) (air : List Entry) (v t : ℕ) (d : Device) (o : OrderedPacket) : Type 0 where
   pub node : Node
   pub slot : ℕ
   pub window : Window
@@ -36,13 +36,13 @@ pub record IsAbout (s : ScenarioParts) (clocks : ℕ → ℕ → ℕ) (air : Lis
   pub silent : (x : Sending) → d.sending ≡ Some x → ⊥
   pub frame : t / s.profile.frame ≡ node.frame
 
-module _ (s : ScenarioParts) (clocks : ℕ → ℕ → ℕ) (air : List Entry) (v t : ℕ) (d : Device) (o : Ordered) (ordered : d.ordered ≡ Some o) where
+module _ (s : ScenarioParts) (clocks : ℕ → ℕ → ℕ) (air : List Entry) (v t : ℕ) (d : Device) (o : OrderedPacket) (ordered : d.ordered ≡ Some o) where
   module _ (n : Node) (j : ℕ) (w : Window) (on : d.power ≡ PowerOn n) (stage : n.stage ≡ InWindow j w) (is : IsOn s clocks air v t (suc t) d n) where
     open_window : InOpenWindow s clocks air v (suc t) n d j w
     open_window = subst (λ (p : Stage). WindowAt s clocks air v (suc t) n d p) stage is.window
 
     waits : w.flood.waiting ≡ true
-    waits = open_window.flood.waits ∙ ap (λ (p : Option Ordered). is_some p || is_some d.sending) ordered
+    waits = open_window.flood.waits ∙ ap (λ (p : Option OrderedPacket). is_some p || is_some d.sending) ordered
 
     below : w.flood.sent < w.flood.limit
     below = elim (cases_lt w.flood.sent s.sends) [
@@ -58,7 +58,7 @@ module _ (s : ScenarioParts) (clocks : ℕ → ℕ → ℕ) (air : List Entry) (
     silent : (x : Sending) → d.sending ≡ Some x → ⊥
     silent x sending =
         let both : (is_some d.ordered && is_some d.sending) ≡ true =
-        ap (λ (p : Option Ordered). is_some p && is_some d.sending) ordered ∙ ap (λ (p : Option Sending). is_some p) sending in
+        ap (λ (p : Option OrderedPacket). is_some p && is_some d.sending) ordered ∙ ap (λ (p : Option Sending). is_some p) sending in
         true≢false (sym both ∙ open_window.flood.one)
 
     is_about : IsAbout s clocks air v t d o
@@ -70,7 +70,7 @@ module _ (s : ScenarioParts) (clocks : ℕ → ℕ → ℕ) (air : List Entry) (
       stage = stage;
       is = is;
       open_window = open_window;
-      order = subst (λ (p : Option Ordered). IfSome p (HasOrder s clocks air v (suc t) n j w)) ordered open_window.order;
+      order = subst (λ (p : Option OrderedPacket). IfSome p (HasOrder s clocks air v (suc t) n j w)) ordered open_window.order;
       waits = waits;
       listens = listens;
       silent = silent;

@@ -2,7 +2,7 @@
 use Rattle.std.proofs.Common.{◌≡◌, ℕ, suc, ◌≤◌, List, Bool, true, false, ◌&&◌, ◌||◌, nat_lt, Option, Some, None, IfSome, is_some, refl, sym, ◌∙◌, ap, subst}
 use Rattle.std.proofs.Common.{arith, lt-ltb, true≢false}
 use Rattle.lwb_base.proofs.Truths.{and_false}
-use Rattle.time_reference.specs.Zeros.{closing}
+use Rattle.time_reference.specs.Zeros.{closing_offset}
 use Rattle.glossy_relay.specs.Relaying.{accepted_of}
 use Rattle.radio_model.specs.declared.sending.Sending.{Sending}
 use Rattle.bus_rules.specs.declared.part.Part.{Part}
@@ -12,9 +12,9 @@ use Rattle.node_core.specs.Nodes.{Node}
 use Rattle.node_core.specs.Rows.{flood_for}
 use Rattle.scenario_text.specs.ScenarioParts.{ScenarioParts}
 use Rattle.air_log.specs.declared.entry.Entry.{Entry}
-use Rattle.air_log.specs.Devices.{Device, Ordered, listens_to}
+use Rattle.air_log.specs.Devices.{Device, OrderedPacket, listens_to}
 use Rattle.air_log.specs.Trails.{setup_of}
-use Rattle.law_trails.specs.NodeRanges.{IsNode, IsAt, IsOpen}
+use Rattle.law_trails.specs.NodeRanges.{IsNodeInRange, IsInStage, IsOpenInRange}
 use Rattle.law_trails.specs.RowEffects.{said}
 use Rattle.law_trails.proofs.WindowsInRange.{opens_is}
 use Rattle.law_safety.specs.SetAlarms.{rank_at, tick_by, HasAlarm}
@@ -54,14 +54,14 @@ module _ (s : ScenarioParts) (clocks : ℕ → ℕ → ℕ) (air : List Entry) (
 
   module _ (e : Device) (leaves : IsLeft s clocks air v t at d n j is e) where
     pub ordered_is : e.ordered ≡ said (clocks v) (setup_of s v) t n.zero j None message
-    ordered_is = leaves.ordered_is ∙ ap (λ (o : Option Ordered). said (clocks v) S t n.zero j o message) is.still.ordered
+    ordered_is = leaves.ordered_is ∙ ap (λ (o : Option OrderedPacket). said (clocks v) S t n.zero j o message) is.still.ordered
 
     pub sending_is : e.sending ≡ None
     sending_is = leaves.sending ∙ is.still.sending
 
     pub alarm_clause : HasAlarm s clocks v m e
     alarm_clause = record {
-      alarm = tick_by s clocks v n (closing s.profile j);
+      alarm = tick_by s clocks v n (closing_offset s.profile j);
       set = leaves.alarm_is ∙ ap (λ (a : ℕ). Some a) (closes_then s clocks air v t at d n j is);
       at = refl;
     }
@@ -82,14 +82,14 @@ module _ (s : ScenarioParts) (clocks : ℕ → ℕ → ℕ) (air : List Entry) (
               (listens_is (rank_at m) e.listening (leaves.channel_is ∙ ap (λ (r : ℕ). Some r) (sym same.rank)));
         }
 
-    pub flood_clause : IsNode (setup_of s v) n → HasFlood s m e j (window s clocks air v t at d n j is)
+    pub flood_clause : IsNodeInRange (setup_of s v) n → HasFlood s m e j (window s clocks air v t at d n j is)
     flood_clause ranged =
-        let own = (subst (IsAt S n.frame n.core) is.stage ranged.stage).1 in
-        let opened_so : IsOpen S n.frame m.core j (window s clocks air v t at d n j is) =
+        let own = (subst (IsInStage S n.frame n.core) is.stage ranged.stage).1 in
+        let opened_so : IsOpenInRange S n.frame m.core j (window s clocks air v t at d n j is) =
         opens_is S (is_set s clocks air v t at) n.frame j n.core ranged.core is.member.slot own in
         let unsent = flood_unsent S part j message in
         let some = some_sends in
-        let both = ap (λ (o : Option Ordered). is_some o || is_some e.sending) ordered_is
+        let both = ap (λ (o : Option OrderedPacket). is_some o || is_some e.sending) ordered_is
         ∙ ap (λ (x : Option Sending). is_some (said (clocks v) S t n.zero j None message) || is_some x) sending_is in
         record {
           kind = opened_so.flood.kind;

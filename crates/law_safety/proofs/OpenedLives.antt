@@ -8,23 +8,23 @@ use Rattle.bus_rules.specs.declared.part.Part.{Part}
 use Rattle.bus_rules.specs.declared.part.Part.TheVariants.{Opening, Data as DataSlot, Contention, Closing}
 use Rattle.bus_rules.specs.declared.tune.Tune.TheVariants.{Host}
 use Rattle.bus_rules.specs.Plans.{opening as opening_of}
-use Rattle.bus_rules.specs.Streams.{Waiting, first_waiting, requested}
+use Rattle.bus_rules.specs.Streams.{WaitingPacket, first_waiting, requested}
 use Rattle.bus_rules.specs.Tuning.{hosts}
 use Rattle.bus_rules.specs.HostPlans.{HostPlan}
 use Rattle.bus_rules.specs.Cores.{Core, Setup, own_rank}
-use Rattle.bus_rules.specs.Slots.{Message, Opened, ScheduleOf, hosts_now, part_of, opened, host_closes, silent, data_of, request_of, is_own}
+use Rattle.bus_rules.specs.Slots.{Message, Opened, ScheduleOf, hosts_now, part_of, opened_slot, host_closes, silent, data_of, request_of, is_own}
 use Rattle.node_core.specs.Nodes.{Node}
 use Rattle.lwb_member.specs.Places.{kind_for}
 use Rattle.lwb_member.specs.Said.{bytes_of, message_of}
 use Rattle.lwb_member.proofs.Told.{told}
 use Rattle.radio_model.specs.declared.sending.Sending.{Sending}
-use Rattle.radio_model.specs.Hearing.{frame_of}
+use Rattle.radio_model.specs.Hearing.{frame_of_sending}
 use Rattle.scenario_text.specs.ScenarioParts.{ScenarioParts}
 use Rattle.air_log.specs.declared.entry.Entry.{Entry}
 use Rattle.air_log.specs.Devices.{Device}
 use Rattle.air_log.specs.Trails.{setup_of, frame_start}
 use Rattle.law_trails.specs.Lives.{Life, OpeningMade, ClosingMade, Opens, Closes, after_step, Quiet}
-use Rattle.law_trails.specs.NodeRanges.{IsNode}
+use Rattle.law_trails.specs.NodeRanges.{IsNodeInRange}
 use Rattle.law_trails.proofs.CoresInRange.{host_plan_of}
 use Rattle.law_trails.proofs.HostRanks.{host_is_of_rank}
 use Rattle.law_trails.proofs.LifeSteps.{step_quiet}
@@ -33,7 +33,7 @@ use Rattle.law_trails.proofs.CoresInRange.{host_now}
 use Rattle.law_trails.proofs.SaidInRange.{IsSayable}
 use Rattle.law_safety.specs.SentPlans.{IsHostOf}
 use Rattle.law_safety.specs.SetAlarms.{rank_at}
-use Rattle.law_safety.specs.QuietHosts.{IsIn, LivesAs, LivesBy, IsOrderedBy, HostsInOrder}
+use Rattle.law_safety.specs.QuietHosts.{LifeHasSchedule, LivesAs, LivesBy, IsOrderedBy, HostsInOrder}
 use Rattle.law_safety.specs.Rows.{AtTick}
 use Rattle.law_safety.proofs.AwaitedSlots.{Awaits, frame_now, has_begun}
 use Rattle.law_safety.proofs.OpenedNodes.{IsLeft, is_set, left, after, next, HostsRound, hosts_round}
@@ -47,7 +47,7 @@ abbrev closing_made : ℕ → Plan → ℕ → ClosingMade
 closing_made gap plan f = record { frame = f; gap = gap; plan = plan }
 
 module _ (s : ScenarioParts) (clocks : ℕ → ℕ → ℕ) (air : List Entry) (v t : ℕ) (at : AtTick s clocks air v t) (d : Device) (n : Node) (j : ℕ)
-    (is : Awaits s clocks air v t d n j) (ranged : IsNode (setup_of s v) n)
+    (is : Awaits s clocks air v t d n j) (ranged : IsNodeInRange (setup_of s v) n)
     (rank : ℕ) (hosted : IsHostOf s rank v) (old : HostsInOrder s rank t (suc t) d) (lives : LivesAs old.life n) where
   abbrev S : Setup
   S = setup_of s v
@@ -66,7 +66,7 @@ module _ (s : ScenarioParts) (clocks : ℕ → ℕ → ℕ) (air : List Entry) (
 
   -- what it says, if that is a schedule, the life has
   abbrev Has : Life → Message → Type 0
-  Has k x = (y : Schedule) → x ≡ ScheduleOf y → IsIn k now y
+  Has k x = (y : Schedule) → x ≡ ScheduleOf y → LifeHasSchedule k now y
 
   -- a life that goes on with what the opening leaves
   pub record GoesOn (o : Opened) : Type 0 where
@@ -78,7 +78,7 @@ module _ (s : ScenarioParts) (clocks : ℕ → ℕ → ℕ) (air : List Entry) (
     pub plan : hosts o.core.tune ≡ true → life.plan ≡ o.core.plan
     pub opened_before : (x : OpeningMade) → Contains life.openings x → frame_start s x.frame < suc t
     pub closed_before : (x : ClosingMade) → Contains life.closings x → frame_start s x.frame < suc t
-    pub more : (f : ℕ) (y : Schedule) → IsIn l f y → IsIn life f y
+    pub more : (f : ℕ) (y : Schedule) → LifeHasSchedule l f y → LifeHasSchedule life f y
     pub says : IfSome o.message (Has life)
 
   stays : (o : Opened) → o.core.tune ≡ c.tune → o.core.plan ≡ c.plan → IfSome o.message (Has l) → GoesOn o
@@ -123,7 +123,7 @@ module _ (s : ScenarioParts) (clocks : ℕ → ℕ → ℕ) (air : List Entry) (
       let same : new ≡ opening_made now c.plan =
       ap (λ (f : ℕ). opening_made f l.plan) frame_is_now ∙ ap (opening_made now) (lives.plan host) in
       let life : Life = after_step rank (length s.hosts) l Opens in
-      let there : IsIn life now (opening_of c.plan) = inl (refl, subst (Contains life.openings) same (Contains-push l.openings new)) in
+      let there : LifeHasSchedule life now (opening_of c.plan) = inl (refl, subst (Contains life.openings) same (Contains-push l.openings new)) in
       record {
         life = life;
         quiet = step_quiet rank (length s.hosts) l old.quiet Opens (lives.on, hosts_so h);
@@ -140,7 +140,7 @@ module _ (s : ScenarioParts) (clocks : ℕ → ℕ → ℕ) (air : List Entry) (
           | inl opening ↦ inl (opening.0, Contains-append_left l.openings (new ∷ []) (record { frame = f; plan = y.plan }) opening.1)
           | inr closing ↦ inr closing
         ];
-        says = λ y said. (let is_y : opening_of c.plan ≡ y = cc in subst (IsIn life now) is_y there);
+        says = λ y said. (let is_y : opening_of c.plan ≡ y = cc in subst (LifeHasSchedule life now) is_y there);
       }
 
   -- or closes it, and goes by its next plan
@@ -154,7 +154,7 @@ module _ (s : ScenarioParts) (clocks : ℕ → ℕ → ℕ) (air : List Entry) (
       ap (closing_made made.gap made.plan) frame_is_now in
       let life : Life = after_step rank (length s.hosts) l (Closes made.gap made.plan) in
       let closing : Schedule = record { plan = made.plan; gap = made.gap } in
-      let there : IsIn life now closing = inr (subst (Contains life.closings) same (Contains-push l.closings new)) in
+      let there : LifeHasSchedule life now closing = inr (subst (Contains life.closings) same (Contains-push l.closings new)) in
       record {
         life = life;
         quiet = step_quiet rank (length s.hosts) l old.quiet (Closes made.gap made.plan) (lives.on, hosts_so h, gap.0, gap.1);
@@ -171,10 +171,10 @@ module _ (s : ScenarioParts) (clocks : ℕ → ℕ → ℕ) (air : List Entry) (
           | inl opening ↦ inl opening
           | inr before ↦ inr (Contains-append_left l.closings (new ∷ []) (record { frame = f; gap = y.gap; plan = y.plan }) before)
         ];
-        says = λ y said. (let is_y : closing ≡ y = cc in subst (IsIn life now) is_y there);
+        says = λ y said. (let is_y : closing ≡ y = cc in subst (LifeHasSchedule life now) is_y there);
       }
 
-  no_data : (i : ℕ) (o : Option Waiting) → IfSome (option_map (data_of v c i) o) (Has l)
+  no_data : (i : ℕ) (o : Option WaitingPacket) → IfSome (option_map (data_of v c i) o) (Has l)
   no_data i None = tt
   no_data i (Some x) = λ y said. absurd cc
 
@@ -182,18 +182,18 @@ module _ (s : ScenarioParts) (clocks : ℕ → ℕ → ℕ) (air : List Entry) (
   no_request None = tt
   no_request (Some i) = λ y said. absurd cc
 
-  goes_by : (part : Part) → GoesOn (opened S n.frame part c)
+  goes_by : (part : Part) → GoesOn (opened_slot S n.frame part c)
   goes_by Opening =
       cond_both (hosts_now n.frame c) (Some (ScheduleOf (opening_of c.plan))) None (λ (o : Option Message). GoesOn (record { core = c; message = o })) opens
       (λ other. stays (record { core = c; message = None }) refl refl tt)
   goes_by (DataSlot owner) =
-      stays (opened S n.frame (DataSlot owner) c) refl refl
+      stays (opened_slot S n.frame (DataSlot owner) c) refl refl
       (cond_both (node_of owner == v) (option_map (data_of v c (stream_of owner)) (first_waiting c.streams (stream_of owner))) None
       (λ (o : Option Message). IfSome o (Has l))
       (λ own. no_data (stream_of owner) (first_waiting c.streams (stream_of owner)))
       (λ other. tt))
   goes_by (Contention i) =
-      stays (opened S n.frame (Contention i) c) refl refl
+      stays (opened_slot S n.frame (Contention i) c) refl refl
       (cond_both (is_own c.own_slot i) (option_map (request_of v c) (requested c.streams)) None (λ (o : Option Message). IfSome o (Has l))
       (λ own. no_request (requested c.streams))
       (λ other. tt))
@@ -226,7 +226,7 @@ module _ (s : ScenarioParts) (clocks : ℕ → ℕ → ℕ) (air : List Entry) (
         opened = g.opened_before;
         closed = g.closed_before;
         sent = λ x y there first reads.
-            g.more (frame_of s.profile x) y (old.sent x y (subst (λ (xs : List Sending). Contains xs x) leaves.sent there) first reads);
+            g.more (frame_of_sending s.profile x) y (old.sent x y (subst (λ (xs : List Sending). Contains xs x) leaves.sent there) first reads);
         ordered = subst (IsOrderedBy life now) (sym set)
             (ordered_by life (left s clocks air v t at d n j is).message g.says (sayable s clocks air v t at d n j is ranged));
       }

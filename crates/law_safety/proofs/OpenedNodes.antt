@@ -3,7 +3,7 @@ use Rattle.std.proofs.Common.{◌≡◌, ℕ, ◌+◌, ◌<◌, ◌≤◌, inl, 
 use Rattle.std.proofs.Common.{eq-eqb, lt-ltb, le-ltb, true≢false}
 use Rattle.std.proofs.lemmas.Bool.{and_from, not_from_true, not_from_false}
 use Rattle.time_reference.specs.Reference.{host_zero}
-use Rattle.time_reference.specs.Zeros.{opening}
+use Rattle.time_reference.specs.Zeros.{opening_offset}
 use Rattle.bus_rules.specs.declared.part.Part.{Part}
 use Rattle.bus_rules.specs.declared.tune.Tune.{Tune}
 use Rattle.bus_rules.specs.declared.tune.Tune.TheVariants.{Scan, Hold, Host}
@@ -11,7 +11,7 @@ use Rattle.bus_rules.specs.Plans.{last_slot}
 use Rattle.bus_rules.specs.Tuning.{rank_of, hosts, is_scan, hosts_in}
 use Rattle.bus_rules.specs.HostPlans.{HostPlan, host_plan}
 use Rattle.bus_rules.specs.Cores.{Setup, is_fresh}
-use Rattle.bus_rules.specs.Slots.{Message, Opened, hosts_now, part_of, opened}
+use Rattle.bus_rules.specs.Slots.{Message, Opened, hosts_now, part_of, opened_slot}
 use Rattle.node_core.specs.declared.stage.Stage.TheVariants.{InWindow}
 use Rattle.node_core.specs.Windows.{Window}
 use Rattle.node_core.specs.Nodes.{Node, closes_at}
@@ -21,7 +21,7 @@ use Rattle.air_log.specs.declared.entry.Entry.{Entry}
 use Rattle.air_log.specs.Devices.{Device}
 use Rattle.air_log.specs.Trails.{setup_of}
 use Rattle.law_trails.specs.CoreRanges.{IsSetup}
-use Rattle.law_trails.specs.NodeRanges.{IsNode}
+use Rattle.law_trails.specs.NodeRanges.{IsNodeInRange}
 use Rattle.law_trails.specs.RowEffects.{Leaves, when, said}
 use Rattle.law_trails.proofs.CoresInRange.{host_plan_of}
 use Rattle.law_trails.proofs.CoresInRange.{host_now}
@@ -29,7 +29,7 @@ use Rattle.law_trails.proofs.TrailsInRange.{set}
 use Rattle.law_safety.specs.SentPlans.{IsHostOf}
 use Rattle.law_safety.specs.CountedFrames.{InFrame}
 use Rattle.law_safety.specs.SetAlarms.{rank_at}
-use Rattle.law_safety.specs.TunedNodes.{Either, by_hearing, is_joining, is_last, IsRoundOf, IsMember, HasTune}
+use Rattle.law_safety.specs.TunedNodes.{Either, by_hearing, is_joining, is_last_window, IsRoundOf, IsMember, HasTune}
 use Rattle.law_safety.specs.RoundZeros.{RefFor, GoodFor}
 use Rattle.law_safety.specs.Rows.{AtTick}
 use Rattle.law_safety.proofs.RunFacts.{known_id}
@@ -63,7 +63,7 @@ module _ (s : ScenarioParts) (clocks : ℕ → ℕ → ℕ) (air : List Entry) (
     part = part_of n.core.plan j
 
     abbrev pub left : Opened
-    left = opened (setup_of s v) n.frame (part_of n.core.plan j) n.core
+    left = opened_slot (setup_of s v) n.frame (part_of n.core.plan j) n.core
 
     abbrev pub window : Window
     window = record {
@@ -142,10 +142,10 @@ module _ (s : ScenarioParts) (clocks : ℕ → ℕ → ℕ) (air : List Entry) (
     round_kept (Host r due) closes open_ round =
         (round.0, round.1, subst (λ (c : Bool). Either c ((n.frame < due) × (due ≤ n.frame + 4)) (due ≡ n.frame)) (sym (open_ refl)) round.2)
 
-    round_by : IsNode (setup_of s v) n → Role S n.frame n.core j left → IsRoundOf s clocks v after j (is_last j window) left.core.tune
+    round_by : IsNodeInRange (setup_of s v) n → Role S n.frame n.core j left → IsRoundOf s clocks v after j (is_last_window j window) left.core.tune
     round_by ranged (inl keeps) =
-        subst (IsRoundOf s clocks v after j (is_last j window)) (sym keeps.tune)
-        (round_kept n.core.tune (is_last j window)
+        subst (IsRoundOf s clocks v after j (is_last_window j window)) (sym keeps.tune)
+        (round_kept n.core.tune (is_last_window j window)
         (λ host. not_from_true (nat_lt j (last_slot n.core.plan)) (lt-ltb j (last_slot n.core.plan) (keeps.more (hosts_round host).now))) is.member.round)
     round_by ranged (inr plans) =
         let h = hosts_round (host_now n.frame n.core plans.now) in
@@ -153,22 +153,22 @@ module _ (s : ScenarioParts) (clocks : ℕ → ℕ → ℕ) (air : List Entry) (
         let some = gap.0 in
         let few = gap.1 in
         let behind = plans.last in
-        let closes : is_last j window ≡ true =
+        let closes : is_last_window j window ≡ true =
         not_from_false (nat_lt j (last_slot n.core.plan)) (le-ltb j (last_slot n.core.plan) behind) in
-        subst (λ (x : Opened). IsRoundOf s clocks v after j (is_last j window) x.core.tune) (sym plans.is) (
+        subst (λ (x : Opened). IsRoundOf s clocks v after j (is_last_window j window) x.core.tune) (sym plans.is) (
           h.host,
           h.zero,
           subst (λ (c : Bool). Either c ((n.frame < n.frame + next.gap) × (n.frame + next.gap ≤ n.frame + 4)) (n.frame + next.gap ≡ n.frame)) (sym closes)
               (omega (arith, some), omega (arith, few)),
         )
 
-    pub tune_clause : IsNode (setup_of s v) n → HasTune s clocks v after
+    pub tune_clause : IsNodeInRange (setup_of s v) n → HasTune s clocks v after
     tune_clause ranged = record {
       rank = subst (λ (r : ℕ). r < length s.hosts) (sym standing.rank) is.rank;
       at = subst (λ (joins : Bool). Either joins (RefFor s clocks (rank_at after) v after.zero after.frame after.frame j)
-          (IsMember s clocks v after j window.last (is_last j window))) (sym none_joins) (record {
+          (IsMember s clocks v after j window.last (is_last_window j window))) (sym none_joins) (record {
             slot = is.member.slot;
-            good = subst (λ (r : ℕ). GoodFor s clocks r v n.zero n.frame (opening s.profile j)) (sym standing.rank) is.member.good;
+            good = subst (λ (r : ℕ). GoodFor s clocks r v n.zero n.frame (opening_offset s.profile j)) (sym standing.rank) is.member.good;
             round = round_by ranged role;
           });
     }

@@ -15,9 +15,9 @@ use Rattle.node_core.specs.Rows.{flood_for}
 use Rattle.scenario_text.specs.ScenarioParts.{ScenarioParts}
 use Rattle.radio_model.specs.declared.sending.Sending.{Sending}
 use Rattle.air_log.specs.declared.entry.Entry.{Entry}
-use Rattle.air_log.specs.Devices.{Device, Ordered}
+use Rattle.air_log.specs.Devices.{Device, OrderedPacket}
 use Rattle.air_log.specs.Trails.{setup_of}
-use Rattle.law_trails.specs.NodeRanges.{IsNode}
+use Rattle.law_trails.specs.NodeRanges.{IsNodeInRange}
 use Rattle.law_trails.specs.RowEffects.{said}
 use Rattle.law_trails.proofs.OtherCounters.{first_place}
 use Rattle.law_trails.proofs.ProfilePackets.{covers}
@@ -57,7 +57,7 @@ module _ (s : ScenarioParts) (clocks : ℕ → ℕ → ℕ) (air : List Entry) (
   so = standing s clocks air v t at d n j is
 
   -- the first packet of what it says
-  order_by : IsNode (setup_of s v) n → (o : Option Message) → message ≡ o → IfSome o May → IfSome o (IsSayable S (kind_for part) j)
+  order_by : IsNodeInRange (setup_of s v) n → (o : Option Message) → message ≡ o → IfSome o May → IfSome o (IsSayable S (kind_for part) j)
       → IfSome (said (clocks v) S t n.zero j None o) (HasOrder s clocks air v (suc t) m j w)
   order_by ranged None same may say = tt
   order_by ranged (Some x) same may say =
@@ -91,9 +91,9 @@ module _ (s : ScenarioParts) (clocks : ℕ → ℕ → ℕ) (air : List Entry) (
     ordered_now : e.ordered ≡ said (clocks v) (setup_of s v) t n.zero j None message
     ordered_now = ordered_is s clocks air v t at d n j is e leaves
 
-    pub order_clause : IsNode (setup_of s v) n → IfSome e.ordered (HasOrder s clocks air v (suc t) m j w)
+    pub order_clause : IsNodeInRange (setup_of s v) n → IfSome e.ordered (HasOrder s clocks air v (suc t) m j w)
     order_clause ranged =
-        subst (λ (o : Option Ordered). IfSome o (HasOrder s clocks air v (suc t) m j w)) (sym ordered_now)
+        subst (λ (o : Option OrderedPacket). IfSome o (HasOrder s clocks air v (suc t) m j w)) (sym ordered_now)
         (order_by ranged message refl (may_say s clocks air v t at d n j is ranged) (sayable s clocks air v t at d n j is ranged))
 
     before : (f : ℕ) (x : Sending) → HasBegun s f e x → HasBegun s f d x

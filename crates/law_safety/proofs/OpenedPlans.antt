@@ -10,9 +10,9 @@ use Rattle.bus_rules.specs.Plans.{opening as opening_of, last_slot}
 use Rattle.bus_rules.specs.Tuning.{hosts}
 use Rattle.bus_rules.specs.HostPlans.{HostPlan}
 use Rattle.bus_rules.specs.Cores.{Core, Setup}
-use Rattle.bus_rules.specs.Slots.{Message, Opened, ScheduleOf, hosts_now, part_of, opened, host_closes, silent}
+use Rattle.bus_rules.specs.Slots.{Message, Opened, ScheduleOf, hosts_now, part_of, opened_slot, host_closes, silent}
 use Rattle.bus_rules.proofs.Ranks.{planned_rank}
-use Rattle.lwb_member.specs.Places.{IsPlaced, kind_for}
+use Rattle.lwb_member.specs.Places.{IsPartOfSlot, kind_for}
 use Rattle.lwb_member.specs.Said.{bytes_of}
 use Rattle.lwb_member.proofs.Told.{told}
 use Rattle.node_core.specs.declared.stage.Stage.{Stage}
@@ -22,7 +22,7 @@ use Rattle.scenario_text.specs.ScenarioParts.{ScenarioParts}
 use Rattle.air_log.specs.declared.entry.Entry.{Entry}
 use Rattle.air_log.specs.Devices.{Device}
 use Rattle.air_log.specs.Trails.{setup_of}
-use Rattle.law_trails.specs.NodeRanges.{IsNode}
+use Rattle.law_trails.specs.NodeRanges.{IsNodeInRange}
 use Rattle.law_trails.proofs.ProfilePackets.{last_covered}
 use Rattle.law_trails.proofs.CoresInRange.{host_now}
 use Rattle.law_trails.proofs.SaidInRange.{IsSayable, placed, says}
@@ -68,7 +68,7 @@ module _ (s : ScenarioParts) (clocks : ℕ → ℕ → ℕ) (air : List Entry) (
   }
 
 module _ (s : ScenarioParts) (clocks : ℕ → ℕ → ℕ) (air : List Entry) (v t : ℕ) (at : AtTick s clocks air v t) (d : Device) (n : Node) (j : ℕ)
-    (is : Awaits s clocks air v t d n j) (ranged : IsNode (setup_of s v) n) where
+    (is : Awaits s clocks air v t d n j) (ranged : IsNodeInRange (setup_of s v) n) where
   abbrev S : Setup
   S = setup_of s v
 
@@ -82,7 +82,7 @@ module _ (s : ScenarioParts) (clocks : ℕ → ℕ → ℕ) (air : List Entry) (
   pub closing_sayable : hosts_now n.frame n.core ≡ true → part_of n.core.plan j ≡ Closing
       → IsSayable (setup_of s v) (kind_for Closing) j (ScheduleOf closing)
   closing_sayable now part =
-      let here : IsPlaced n.core.plan j Closing = subst (IsPlaced n.core.plan j) part (placed n.core.plan j ranged.core.plan is.member.slot) in
+      let here : IsPartOfSlot n.core.plan j Closing = subst (IsPartOfSlot n.core.plan j) part (placed n.core.plan j ranged.core.plan is.member.slot) in
       subst (λ (o : Opened). IfSome o.message (IsSayable S (kind_for Closing) j))
       (cond-true (hosts_now n.frame n.core) (host_closes S n.frame n.core) (silent n.core) now)
       (says S (is_set s clocks air v t at) n.frame j Closing n.core ranged.core here)
@@ -126,8 +126,8 @@ module _ (s : ScenarioParts) (clocks : ℕ → ℕ → ℕ) (air : List Entry) (
       if nat_le j (length c.plan.owners) then DataSlot (slice_index c.plan.owners (j - 1))
       else if nat_lt j (last_slot c.plan) then Contention (j - length c.plan.owners) else Closing in
       let here : part_of c.plan j ≡ Opening = cond-true (j == 0) Opening rest (eq-eqb j 0 first) in
-      let says_so : (opened S n.frame (part_of c.plan j) c).message ≡ Some (ScheduleOf (opening_of c.plan)) =
-      ap (λ (part : Part). (opened S n.frame part c).message) here ∙ cond-true (hosts_now n.frame c) (Some (ScheduleOf (opening_of c.plan))) None h.now in
+      let says_so : (opened_slot S n.frame (part_of c.plan j) c).message ≡ Some (ScheduleOf (opening_of c.plan)) =
+      ap (λ (part : Part). (opened_slot S n.frame part c).message) here ∙ cond-true (hosts_now n.frame c) (Some (ScheduleOf (opening_of c.plan))) None h.now in
       ap (λ (x : Option Message). (flood_for S (part_of c.plan j) j x).first) says_so
       ∙ ap (λ (i : ℕ). Some (bytes_of (ScheduleOf (opening_of c.plan)) i)) first
 

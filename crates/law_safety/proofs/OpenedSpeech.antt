@@ -5,10 +5,10 @@ use Rattle.lwb_base.specs.Messages.{node_of, stream_of}
 use Rattle.bus_rules.specs.declared.part.Part.{Part}
 use Rattle.bus_rules.specs.declared.part.Part.TheVariants.{Opening, Data as DataSlot, Contention, Closing}
 use Rattle.bus_rules.specs.Plans.{opening as opening_of}
-use Rattle.bus_rules.specs.Streams.{Waiting, first_waiting, requested}
+use Rattle.bus_rules.specs.Streams.{WaitingPacket, first_waiting, requested}
 use Rattle.bus_rules.specs.Tuning.{hosts}
 use Rattle.bus_rules.specs.Cores.{Core, Setup, is_fresh}
-use Rattle.bus_rules.specs.Slots.{Message, Opened, ScheduleOf, hosts_now, part_of, opened, host_closes, silent, data_of, request_of, is_own}
+use Rattle.bus_rules.specs.Slots.{Message, Opened, ScheduleOf, hosts_now, part_of, opened_slot, host_closes, silent, data_of, request_of, is_own}
 use Rattle.lwb_member.specs.Places.{kind_for}
 use Rattle.lwb_member.specs.Said.{bytes_of}
 use Rattle.lwb_member.proofs.Told.{told}
@@ -17,7 +17,7 @@ use Rattle.scenario_text.specs.ScenarioParts.{ScenarioParts}
 use Rattle.air_log.specs.declared.entry.Entry.{Entry}
 use Rattle.air_log.specs.Devices.{Device}
 use Rattle.air_log.specs.Trails.{setup_of, frame_start}
-use Rattle.law_trails.specs.NodeRanges.{IsNode}
+use Rattle.law_trails.specs.NodeRanges.{IsNodeInRange}
 use Rattle.law_trails.proofs.CoresInRange.{host_plan_of}
 use Rattle.law_trails.proofs.OtherCounters.{first_place}
 use Rattle.law_trails.proofs.CoresInRange.{host_now}
@@ -37,7 +37,7 @@ own_fresh None i is = is
 own_fresh (Some k) i is = refl
 
 module _ (s : ScenarioParts) (clocks : ℕ → ℕ → ℕ) (air : List Entry) (v t : ℕ) (at : AtTick s clocks air v t) (d : Device) (n : Node) (j : ℕ)
-    (is : Awaits s clocks air v t d n j) (ranged : IsNode (setup_of s v) n) where
+    (is : Awaits s clocks air v t d n j) (ranged : IsNodeInRange (setup_of s v) n) where
   abbrev S : Setup
   S = setup_of s v
 
@@ -66,7 +66,7 @@ module _ (s : ScenarioParts) (clocks : ℕ → ℕ → ℕ) (air : List Entry) (
     | inr guest ↦ inr (heard_now ((is.plan.known (inr behind)).heard guest))
   ]
 
-  may_data : (owner : ℕ) → part_of n.core.plan j ≡ DataSlot owner → 1 ≤ j → node_of owner ≡ v → (o : Option Waiting)
+  may_data : (owner : ℕ) → part_of n.core.plan j ≡ DataSlot owner → 1 ≤ j → node_of owner ≡ v → (o : Option WaitingPacket)
       → IfSome (option_map (data_of v c (stream_of owner)) o) May
   may_data owner part behind own None = tt
   may_data owner part behind own (Some x) = record {
@@ -94,7 +94,7 @@ module _ (s : ScenarioParts) (clocks : ℕ → ℕ → ℕ) (air : List Entry) (
         word = opening_known.heard;
       }
 
-  may_by : (part : Part) → part_of n.core.plan j ≡ part → StandsAt n.core.plan j part → IfSome (opened S n.frame part c).message May
+  may_by : (part : Part) → part_of n.core.plan j ≡ part → StandsAt n.core.plan j part → IfSome (opened_slot S n.frame part c).message May
   may_by Opening part stood =
       cond_both (hosts_now n.frame c) (Some (ScheduleOf (opening_of c.plan))) None (λ (o : Option Message). IfSome o May)
       (λ now. let h = hosts_round s clocks air v t at d n j is (host_now n.frame c now) in

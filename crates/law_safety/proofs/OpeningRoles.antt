@@ -10,7 +10,7 @@ use Rattle.bus_rules.specs.declared.part.Part.TheVariants.{Opening, Data as Data
 use Rattle.bus_rules.specs.Plans.{last_slot}
 use Rattle.bus_rules.specs.Tuning.{rank_of, hosts}
 use Rattle.bus_rules.specs.Cores.{Core, Setup, is_fresh}
-use Rattle.bus_rules.specs.Slots.{Opened, hosts_now, part_of, opened, host_closes, silent}
+use Rattle.bus_rules.specs.Slots.{Opened, hosts_now, part_of, opened_slot, host_closes, silent}
 use Rattle.law_trails.proofs.CoresInRange.{host_now}
 
 -- where a slot of this part stands in its round
@@ -50,7 +50,7 @@ pub record PlansNext (s : Setup) (f : ℕ) (c : Core) (j : ℕ) (o : Opened) : T
 abbrev pub Role : Setup → ℕ → Core → ℕ → Opened → Type 0
 Role s f c j o = KeepsPlan f c j o.core ⊎ PlansNext s f c j o
 
-role_by : (s : Setup) (f : ℕ) (c : Core) (j : ℕ) (part : Part) → part_of c.plan j ≡ part → StandsAt c.plan j part → Role s f c j (opened s f part c)
+role_by : (s : Setup) (f : ℕ) (c : Core) (j : ℕ) (part : Part) → part_of c.plan j ≡ part → StandsAt c.plan j part → Role s f c j (opened_slot s f part c)
 role_by s f c j Opening is at = inl (record { tune = refl; plan = refl; own_slot = refl; more = λ now. omega (arith, at) })
 role_by s f c j (DataSlot owner) is at = inl (record { tune = refl; plan = refl; own_slot = refl; more = λ now. at.1 })
 role_by s f c j (Contention i) is at = inl (record { tune = refl; plan = refl; own_slot = refl; more = λ now. at.1 })
@@ -59,7 +59,7 @@ role_by s f c j Closing is at =
     (λ now. inr (record { now = now; part = is; behind = at.0; last = at.1; is = refl }))
     (λ other. inl (record { tune = refl; plan = refl; own_slot = refl; more = λ now. absurd (true≢false (sym now ∙ other)) }))
 
-pub role_of : (s : Setup) (f : ℕ) (c : Core) (j : ℕ) → Role s f c j (opened s f (part_of c.plan j) c)
+pub role_of : (s : Setup) (f : ℕ) (c : Core) (j : ℕ) → Role s f c j (opened_slot s f (part_of c.plan j) c)
 role_of s f c j = role_by s f c j (part_of c.plan j) refl (stands c.plan j)
 
 -- either way it stays at its rank, a host or none, fresh or not

@@ -5,12 +5,12 @@ use Rattle.air_log.specs.WindowLogs.{WindowLog}
 use Rattle.law_trails.specs.OnePacket.{opening_0, opening_2, request_1, request_3, grant_0, grant_2}
 use Rattle.law_trails.specs.OnePacketHost.{host_0, host_2, host_29, host_32}
 use Rattle.law_trails.proofs.OnePacketZeros.{host_due_at}
-use Rattle.law_safety.specs.WorkedRounds.{Holds}
+use Rattle.law_safety.specs.WorkedRounds.{DeviceIsInOrder}
 use Rattle.law_safety.proofs.HostZeros.{good_9}
 use Rattle.law_safety.proofs.WorkedPlans.{once, none_of, same_flood_key}
 
 -- before the run
-pub is_off : (w : List WindowLog) → Holds 1 0 (host_0 w)
+pub is_off : (w : List WindowLog) → DeviceIsInOrder 1 0 (host_0 w)
 is_off w = record {
   by_power = (
     record { alarm = refl; radio = refl; still = record { ordered = refl; sending = refl } },
@@ -19,7 +19,7 @@ is_off w = record {
 }
 
 -- while it scans
-pub scans : (w : List WindowLog) → Holds 1 460790785 (host_2 w)
+pub scans : (w : List WindowLog) → DeviceIsInOrder 1 460790785 (host_2 w)
 scans w = record {
   by_power = record {
     frame = record { at = inl refl; began = tt };
@@ -39,7 +39,7 @@ abbrev six : List Sending
 six = opening_0 ∷ opening_2 ∷ request_1 ∷ request_3 ∷ grant_0 ∷ grant_2 ∷ []
 
 -- it waits between its rounds, and counts frame 6 while frame 5 lasts
-pub goes_on : (w : List WindowLog) → Holds 1 1500000000 (host_29 w)
+pub goes_on : (w : List WindowLog) → DeviceIsInOrder 1 1500000000 (host_29 w)
 goes_on w = record {
   by_power = record {
     frame = record {
@@ -60,7 +60,7 @@ goes_on w = record {
 }
 
 -- it awaits slot 0 of frame 9 while frame 8 lasts
-pub awaits_early : (w : List WindowLog) → Holds 1 2300000000 (host_32 w)
+pub awaits_early : (w : List WindowLog) → DeviceIsInOrder 1 2300000000 (host_32 w)
 awaits_early w = record {
   by_power = record {
     frame = record {

@@ -11,14 +11,14 @@ use Rattle.node_core.specs.Rows.{orders_by}
 use Rattle.scenario_text.specs.ScenarioParts.{ScenarioParts}
 use Rattle.scenario_text.specs.declared.script.ScriptLine.{ScriptLine}
 use Rattle.radio_model.specs.declared.sending.Sending.{Sending}
-use Rattle.radio_model.specs.Hearing.{frame_of}
+use Rattle.radio_model.specs.Hearing.{frame_of_sending}
 use Rattle.air_log.specs.declared.entry.Entry.{Entry}
-use Rattle.air_log.specs.Devices.{Device, Power, PowerOff, PowerOn, Ordered, moved}
-use Rattle.air_log.specs.ScriptedDevices.{switched_on}
+use Rattle.air_log.specs.Devices.{Device, Power, PowerOff, PowerOn, OrderedPacket, moved}
+use Rattle.air_log.specs.ScriptedDevices.{device_after_on}
 use Rattle.air_log.specs.Lawful.{heard_by}
 use Rattle.air_log.specs.Trails.{setup_of, frame_start}
 use Rattle.law_trails.specs.Lives.{Life, ComesOn, after_step}
-use Rattle.law_trails.specs.Phases.{Lines, IsNextLine}
+use Rattle.law_trails.specs.Phases.{Lines, IsNextLineOf}
 use Rattle.law_trails.proofs.LifeSteps.{step_quiet}
 use Rattle.law_trails.proofs.ObeyedOrders.{has_obeyed}
 use Rattle.law_trails.proofs.RowsOfDevices.{switched_on_is}
@@ -34,7 +34,7 @@ use Rattle.law_safety.proofs.FrameStarts.{line_starts}
 use Rattle.law_safety.proofs.TunedRadios.{listens_is}
 
 -- the sendings of a device stay as they are where its power comes on
-pub on_sent : (clock : ℕ → ℕ) (s : ScenarioParts) (v t count : ℕ) (d : Device) → (switched_on clock (setup_of s v) t count d).made.sent ≡ d.made.sent
+pub on_sent : (clock : ℕ → ℕ) (s : ScenarioParts) (v t count : ℕ) (d : Device) → (device_after_on clock (setup_of s v) t count d).made.sent ≡ d.made.sent
 on_sent clock s v t count d =
     let n = rebooted (count + 1) in
     let r = row (setup_of s v) n (clock t) Boot in
@@ -42,12 +42,12 @@ on_sent clock s v t count d =
 
 module _ (s : ScenarioParts) (clocks : ℕ → ℕ → ℕ) (air : List Entry) (v t : ℕ) (tick : AtTick s clocks air v t)
     (d : Device) (l : ScriptLine) (count : ℕ) (fine : IsFine s clocks air v t Lines d)
-    (next : IsNextLine s v (clocks v) (heard_by air v) t l d) (off : d.power ≡ PowerOff count) where
+    (next : IsNextLineOf s v (clocks v) (heard_by air v) t l d) (off : d.power ≡ PowerOff count) where
   abbrev clock : ℕ → ℕ
   clock = clocks v
 
   abbrev e : Device
-  e = switched_on clock (setup_of s v) t count d
+  e = device_after_on clock (setup_of s v) t count d
 
   abbrev n : Node
   n = (boots (setup_of s v) (rebooted (count + 1)) (clock t)).node
@@ -105,7 +105,7 @@ module _ (s : ScenarioParts) (clocks : ℕ → ℕ → ℕ) (air : List Entry) (
               (let old = was n.frame x begun in
               let before = fine.before x old.sent in
               let below = frame_below s tick.run.driven.sound now x.start (omega (arith, before, start)) in
-              let of : frame_of s.profile x ≡ now = old.frame ∙ counts in
+              let of : frame_of_sending s.profile x ≡ now = old.frame ∙ counts in
               absurd (omega (arith, below, of)));
           once = λ f x y a b. was_off.1 f x y (was f x a) (was f y b);
         };
@@ -127,7 +127,7 @@ module _ (s : ScenarioParts) (clocks : ℕ → ℕ → ℕ) (air : List Entry) (
         opened = h.opened;
         closed = h.closed;
         sent = λ x y there first says. h.sent x y (subst (λ (xs : List Sending). Contains xs x) same there) first says;
-        ordered = subst (λ (o : Option Ordered). IsOrderedBy life now o) (sym (is.ordered ∙ was_off.0.still.ordered)) tt;
+        ordered = subst (λ (o : Option OrderedPacket). IsOrderedBy life now o) (sym (is.ordered ∙ was_off.0.still.ordered)) tt;
       }
 
   boots_up : IsFine s clocks air v t Lines e

@@ -6,7 +6,7 @@ use Rattle.lwb_base.specs.Messages.{Schedule}
 use Rattle.lwb_base.specs.declared.event.Event.TheVariants.{Alarm}
 use Rattle.time_reference.specs.Reference.{stopped}
 use Rattle.bus_rules.specs.Cores.{Core, Setup, opening_accepted, closing_accepted}
-use Rattle.bus_rules.specs.Slots.{Message, ScheduleOf, DataOf, RequestOf, closed}
+use Rattle.bus_rules.specs.Slots.{Message, ScheduleOf, DataOf, RequestOf, closed_slot}
 use Rattle.node_core.specs.declared.stage.Stage.TheVariants.{InWindow}
 use Rattle.node_core.specs.Windows.{Window}
 use Rattle.node_core.specs.Nodes.{Node}
@@ -18,8 +18,8 @@ use Rattle.air_log.specs.declared.entry.Entry.{Entry}
 use Rattle.air_log.specs.Devices.{Device, Power}
 use Rattle.air_log.specs.Trails.{setup_of}
 use Rattle.law_trails.specs.DeviceRanges.{IsPower}
-use Rattle.law_trails.specs.NodeRanges.{IsNode}
-use Rattle.law_trails.specs.Walks.{after_row}
+use Rattle.law_trails.specs.NodeRanges.{IsNodeInRange}
+use Rattle.law_trails.specs.Walks.{device_after_row}
 use Rattle.law_trails.proofs.RowsLeave.{closing_leaves}
 use Rattle.law_safety.specs.FloodSendings.{IsOfFlood}
 use Rattle.law_safety.specs.NodesInOrder.{IsOn, InOrderBy}
@@ -35,7 +35,7 @@ use Rattle.law_safety.proofs.KeptRounds.{KeepsRound, heard_keeps, goes_by_own}
 use Rattle.law_safety.proofs.TakenSchedules.{goes_by_opening, goes_by_closing}
 
 module _ (s : ScenarioParts) (clocks : ℕ → ℕ → ℕ) (air : List Entry) (v t : ℕ) (at : AtTick s clocks air v t) (d : Device) (n : Node) (j : ℕ) (w : Window)
-    (is : Closes s clocks air v t d n j w) (ranged : IsNode (setup_of s v) n) (stage : n.stage ≡ InWindow j w)
+    (is : Closes s clocks air v t d n j w) (ranged : IsNodeInRange (setup_of s v) n) (stage : n.stage ≡ InWindow j w)
     (sent : (x : Sending) → Contains d.made.sent x → IsOfFlood s clocks air x) (e : Device) where
   abbrev f : ℕ
   f = n.frame
@@ -88,7 +88,7 @@ module _ (s : ScenarioParts) (clocks : ℕ → ℕ → ℕ) (air : List Entry) (
       ])
 
   by_message : (m : Option Message) → accepted_in w ≡ m
-      → Ends (closed (setup_of s v) f w.part w.flood.initiated n.core m).core (zero_by s.profile n.zero w.reference m) more
+      → Ends (closed_slot (setup_of s v) f w.part w.flood.initiated n.core m).core (zero_by s.profile n.zero w.reference m) more
   by_message None none = own _ _ (heard_keeps f w.part w.flood.initiated n.core) (zero_stays s.profile n.zero w.reference) (λ y some. absurd cc)
   by_message (Some (DataOf x)) is_data = own _ _ (heard_keeps f w.part true n.core) (data_stays w.reference) (λ y some. absurd cc)
     where
@@ -102,7 +102,8 @@ module _ (s : ScenarioParts) (clocks : ℕ → ℕ → ℕ) (air : List Entry) (
       request_stays (Some reference) = refl
   by_message (Some (ScheduleOf y)) accepted = taken y accepted
 
-  pub goes_on : Ends (closed (setup_of s v) f w.part w.flood.initiated n.core (accepted_in w)).core (zero_by s.profile n.zero w.reference (accepted_in w)) more
+  pub goes_on : Ends (closed_slot (setup_of s v) f w.part w.flood.initiated n.core (accepted_in w)).core
+      (zero_by s.profile n.zero w.reference (accepted_in w)) more
   goes_on = by_message (accepted_in w) refl
 
 pub closing_row : ClosingRow
@@ -111,9 +112,9 @@ closing_row s clocks air v t at d n j w here due power stage =
     let holds = here.holds in
     let on : IsOn s clocks air v t (suc t) d n = subst (λ (p : Power). InOrderBy s clocks air v t (suc t) d p) power holds.node.by_power in
     let is : Closes s clocks air v t d n j w = closes s clocks air v t d n j w on stage due.due here.known in
-    let ranged : IsNode set n = subst (IsPower set) power (well_at_alarms s clocks air v t at d due).power in
+    let ranged : IsNodeInRange set n = subst (IsPower set) power (well_at_alarms s clocks air v t at d due).power in
     let leaves = closing_leaves (clocks v) set t (record d { alarm = None }) n j w in
-    let e : Device = after_row (clocks v) set t Alarm None (record d { alarm = None }) n (window_closes set n j w) in
+    let e : Device = device_after_row (clocks v) set t Alarm None (record d { alarm = None }) n (window_closes set n j w) in
     let goes = goes_on s clocks air v t at d n j w is ranged stage holds.sent e (record {
       still = record { ordered = leaves.ordered_is ∙ is.still.ordered; sending = leaves.sending ∙ is.still.sending };
       off = off_is e.listening leaves.channel_is;

@@ -17,12 +17,12 @@ use Rattle.node_core.specs.declared.stage.Stage.TheVariants.{AwaitSlot}
 use Rattle.node_core.specs.Nodes.{Node, stopped_frame, frame_alarm, zero_of_host}
 use Rattle.node_core.specs.Rows.{Stepped, frame_alarms}
 use Rattle.air_log.specs.declared.entry.Entry.{Entry}
-use Rattle.air_log.specs.Devices.{Device, Power, PowerOn, Ordered}
+use Rattle.air_log.specs.Devices.{Device, Power, PowerOn, OrderedPacket}
 use Rattle.air_log.specs.Trails.{setup_of}
 use Rattle.law_trails.specs.Lives.{Life, Step, Ends, IsPast, after_step, plan_after, ByTune, ByPower, HostsQuietly}
-use Rattle.law_trails.specs.Obeying.{channel_of, channel_by, alarm_by, ordered_by}
+use Rattle.law_trails.specs.Obeying.{channel_if_on, channel_by, alarm_by, ordered_by}
 use Rattle.law_trails.specs.Phases.{Alarms}
-use Rattle.law_trails.specs.Walks.{AwaitsFrame, after_row}
+use Rattle.law_trails.specs.Walks.{AwaitsFrame, device_after_row}
 use Rattle.law_trails.proofs.HostRanks.{host_is_of_rank}
 use Rattle.law_trails.proofs.LifeSteps.{step_quiet}
 use Rattle.law_trails.proofs.RowsOfDevices.{row_obeyed}
@@ -131,7 +131,7 @@ module _ (s : ScenarioParts) (clocks : ℕ → ℕ → ℕ) (air : List Entry) (
         opened = b.opened;
         closed = b.closed;
         sent = λ x y there. b.sent x y (subst (λ (xs : List Sending). Contains xs x) sent there);
-        ordered = subst (λ (o : Option Ordered). IsOrderedBy new (t / s.profile.frame) o) (sym ordered) tt;
+        ordered = subst (λ (o : Option OrderedPacket). IsOrderedBy new (t / s.profile.frame) o) (sym ordered) tt;
       }
     where
       taken : (b : Bool) (p q new : Plan) → b ≡ true → (if b then new else p) ≡ (if b then new else q)
@@ -147,7 +147,7 @@ module _ (s : ScenarioParts) (clocks : ℕ → ℕ → ℕ) (air : List Entry) (
   module _ (e : Device) (ordered : e.ordered ≡ None) (sending : e.sending ≡ None) (sent : e.made.sent ≡ d.made.sent) where
     abbrev InOrderThen : Stepped → Type 0
     InOrderThen r =
-        channel_of e.listening ≡ fold channel_by (channel_of d.listening) r.orders
+        channel_if_on e.listening ≡ fold channel_by (channel_if_on d.listening) r.orders
         → e.alarm ≡ fold (alarm_by (clocks v) t) None r.orders
         → IsOn s clocks air v t (suc t) e r.node
 
@@ -253,7 +253,7 @@ module _ (s : ScenarioParts) (clocks : ℕ → ℕ → ℕ) (air : List Entry) (
 pub frame_alarm_row : FrameAlarmRow
 frame_alarm_row s clocks air v t at d n here due_now on awaits =
     let b = row_obeyed (clocks v) (setup_of s v) t Alarm None (record d { alarm = None }) n (frame_alarms (setup_of s v) n) in
-    let e = after_row (clocks v) (setup_of s v) t Alarm None (record d { alarm = None }) n (frame_alarms (setup_of s v) n) in
+    let e = device_after_row (clocks v) (setup_of s v) t Alarm None (record d { alarm = None }) n (frame_alarms (setup_of s v) n) in
     let fine = here.holds in
     let is_on = is s clocks air v t at d n fine on awaits due_now.due in
     let m = (frame_alarms (setup_of s v) n).node in

@@ -16,14 +16,14 @@ use Rattle.node_core.specs.Windows.{Window}
 use Rattle.node_core.specs.Nodes.{Node, zero_from}
 use Rattle.node_core.specs.Rows.{Stepped, is_foreign, is_ignored, relaying}
 use Rattle.scenario_text.specs.ScenarioParts.{ScenarioParts}
-use Rattle.radio_model.specs.Hearing.{slot_of}
+use Rattle.radio_model.specs.Hearing.{slot_of_sending}
 use Rattle.bus_rules.specs.declared.delivery.Delivery.{Delivery}
 use Rattle.air_log.specs.declared.entry.Entry.{Entry}
-use Rattle.air_log.specs.Devices.{Device, PowerOn, Ordered}
+use Rattle.air_log.specs.Devices.{Device, PowerOn, OrderedPacket}
 use Rattle.air_log.specs.WindowLogs.{WindowLog, windows_after}
 use Rattle.air_log.specs.Trails.{Reception, setup_of, frame_start}
 use Rattle.law_trails.specs.Phases.{Hearings}
-use Rattle.law_trails.specs.Walks.{after_row}
+use Rattle.law_trails.specs.Walks.{device_after_row}
 use Rattle.law_safety.specs.SetAlarms.{rank_at}
 use Rattle.law_safety.specs.OrderedSendings.{HasOrder, HasSending}
 use Rattle.law_safety.specs.AcceptedPackets.{HasAccepted}
@@ -68,7 +68,7 @@ module _ (s : ScenarioParts) (clocks : ℕ → ℕ → ℕ) (air : List Entry) (
     free : (is_some d.ordered ≡ false) × (is_some d.sending ≡ false)
     free = or_parts (is_some d.ordered) (is_some d.sending) (sym window.flood.waits ∙ parts.1)
 
-    slot : slot_of now.sending ≡ j
+    slot : slot_of_sending now.sending ≡ j
     slot = sym (ap (λ (q : List ℕ). slice_index q 1) now.packet) ∙ parts.2 ∙ window.flood.slot
 
     more : w.flood.sent ≡ s.sends → ⊥
@@ -134,7 +134,7 @@ module _ (s : ScenarioParts) (clocks : ℕ → ℕ → ℕ) (air : List Entry) (
 
     -- a relay is ordered
     module _ (less : count_of h.packet < 11) (ds : List Delivery) (ls : List WindowLog) where
-      abbrev order : Ordered
+      abbrev order : OrderedPacket
       order = relay_order s clocks air v t at h d now
 
       counted : slice_index order.packet 2 ≡ 0 → ⊥
@@ -263,7 +263,7 @@ module _ (s : ScenarioParts) (clocks : ℕ → ℕ → ℕ) (air : List Entry) (
   reference_stays false true false is = absurd (true≢false is)
 
   by_tests : (foreign fitting less : Bool) → fits w.flood h.packet ≡ fitting → nat_lt (count_of h.packet) 11 ≡ less
-      → IsFine s clocks air v t Hearings (after_row (clocks v) (setup_of s v) t (Heard h.packet) None d n (row_by foreign fitting less))
+      → IsFine s clocks air v t Hearings (device_after_row (clocks v) (setup_of s v) t (Heard h.packet) None d n (row_by foreign fitting less))
   by_tests true fitting less fit few = ignored s clocks air v t at h d now n j w fine on stage (reference_by true fitting less)
       (reference_stays true fitting less refl) deliveries_so (windows_so true fitting less)
   by_tests false false less fit few = ignored s clocks air v t at h d now n j w fine on stage (reference_by false false less)

@@ -21,12 +21,12 @@ use Rattle.node_core.specs.Rows.{Stepped, relaying, part_by, last_by}
 use Rattle.scenario_text.specs.ScenarioParts.{ScenarioParts}
 use Rattle.radio_model.specs.declared.sending.Sending.{Sending}
 use Rattle.air_log.specs.declared.entry.Entry.{Entry}
-use Rattle.air_log.specs.Devices.{Device, PowerOn, Ordered, listens_to}
+use Rattle.air_log.specs.Devices.{Device, PowerOn, OrderedPacket, listens_to}
 use Rattle.air_log.specs.Lawful.{heard_by}
 use Rattle.air_log.specs.WindowLogs.{WindowLog, windows_after}
 use Rattle.air_log.specs.Trails.{Reception, setup_of}
 use Rattle.law_trails.specs.Phases.{Hearings}
-use Rattle.law_trails.specs.Walks.{after_row}
+use Rattle.law_trails.specs.Walks.{device_after_row}
 use Rattle.law_safety.specs.SetAlarms.{rank_at}
 use Rattle.law_safety.specs.StillDevices.{IsStill}
 use Rattle.law_safety.specs.OrderedSendings.{HasOrder}
@@ -81,12 +81,12 @@ module _ (s : ScenarioParts) (clocks : ℕ → ℕ → ℕ) (air : List Entry) (
   windows_so fit less = windows_after t (Heard h.packet) None n (row_by fit less).node n.stage (row_by fit less).node.stage d.made.windows
 
   by_tests : (fit less : Bool) → fit ≡ true → nat_lt (count_of h.packet) 11 ≡ less
-      → IsFine s clocks air v t Hearings (after_row (clocks v) (setup_of s v) t (Heard h.packet) None d n (row_by fit less))
+      → IsFine s clocks air v t Hearings (device_after_row (clocks v) (setup_of s v) t (Heard h.packet) None d n (row_by fit less))
   by_tests false less fit few = absurd (false≢true fit)
   by_tests true true fit few =
       let k = counter_set h.packet (count_of h.packet + 1)
       (fitting_long empty h.packet (fitting s clocks air v t at h d now n y there ended says of_rank fine on stage)) in
-      let o : Ordered = relay_order s clocks air v t at h d now in
+      let o : OrderedPacket = relay_order s clocks air v t at h d now in
       joined_fine s clocks air v t at h d now n y there ended says of_rank fine on stage true (Some o) deliveries_so (windows_so true true) refl
       (ap (λ (x : Option Sending). is_some x) radio.1.sending)
       (relay_ordered s clocks air v t at h d now
@@ -98,7 +98,7 @@ module _ (s : ScenarioParts) (clocks : ℕ → ℕ → ℕ) (air : List Entry) (
   by_tests true false fit few =
       joined_fine s clocks air v t at h d now n y there ended says of_rank fine on stage false d.ordered deliveries_so (windows_so true false)
       (rw (radio.1.ordered, radio.1.sending) refl) (rw (radio.1.ordered) refl)
-      (subst (λ (o : Option Ordered). IfSome o
+      (subst (λ (o : Option OrderedPacket). IfSome o
       (HasOrder s clocks air v (suc t) (joined s clocks air v t at h d now n y there ended says of_rank fine on stage false d.ordered [] []) slot
       (open_window s clocks air v t at h d now n y there ended says of_rank fine on stage false d.ordered [] []))) (sym radio.1.ordered) tt)
       (λ l f is. is)

@@ -8,8 +8,8 @@ use Rattle.radio_model.specs.declared.sending.Sending.{Sending}
 use Rattle.air_log.specs.Devices.{Device, Power}
 use Rattle.air_log.specs.Trails.{setup_of}
 use Rattle.law_trails.specs.DeviceRanges.{IsPower}
-use Rattle.law_trails.specs.NodeRanges.{IsNode}
-use Rattle.law_trails.specs.Walks.{after_row}
+use Rattle.law_trails.specs.NodeRanges.{IsNodeInRange}
+use Rattle.law_trails.specs.Walks.{device_after_row}
 use Rattle.law_trails.proofs.RowsLeave.{opening_leaves}
 use Rattle.law_safety.specs.NodesInOrder.{IsOn, InOrderBy}
 use Rattle.law_safety.specs.QuietHosts.{LivesAs, LivesBy}
@@ -28,10 +28,10 @@ opening_row s clocks air v t at d n j here due power stage =
     let holds = here.holds in
     let on : IsOn s clocks air v t (suc t) d n = subst (λ (p : Power). InOrderBy s clocks air v t (suc t) d p) power holds.node.by_power in
     let is : Awaits s clocks air v t d n j = awaits s clocks air v t d n j on stage due.due in
-    let ranged : IsNode set n = subst (IsPower set) power (well_at_alarms s clocks air v t at d due).power in
+    let ranged : IsNodeInRange set n = subst (IsPower set) power (well_at_alarms s clocks air v t at d due).power in
     let m : Node = after s clocks air v t at d n j is in
     let leaves = opening_leaves (clocks v) set t (record d { alarm = None }) n j in
-    let e : Device = after_row (clocks v) set t Alarm None (record d { alarm = None }) n (window_opens set n j) in
+    let e : Device = device_after_row (clocks v) set t Alarm None (record d { alarm = None }) n (window_opens set n j) in
     let now_on : IsOn s clocks air v t (suc t) e m = record {
       frame = frame_clause s clocks air v t at d n j is;
       alarm = alarm_clause s clocks air v t at d n j is e leaves;

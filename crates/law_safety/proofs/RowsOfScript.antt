@@ -1,17 +1,17 @@
 -- The rows of the script: a node that is told something of its streams, loses a put, or goes off.
 use Rattle.std.proofs.Common.{◌≡◌, ℕ, ◌/◌, ◌≤◌, List, [], ◌∷◌, ◌++◌, length, refl, subst, arith}
 use Rattle.bus_rules.specs.declared.delivery.DropLine.{DropLine}
-use Rattle.bus_rules.specs.Streams.{Streams, declared, left, put}
+use Rattle.bus_rules.specs.Streams.{Streams, declared, streams_after_leaving, put}
 use Rattle.node_core.specs.Nodes.{Node}
 use Rattle.node_core.specs.Nodes.{with_streams}
 use Rattle.scenario_text.specs.ScenarioParts.{ScenarioParts}
 use Rattle.scenario_text.specs.declared.script.ScriptLine.{ScriptLine}
 use Rattle.air_log.specs.declared.entry.Entry.{Entry}
 use Rattle.air_log.specs.Devices.{Device, Power, PowerOn}
-use Rattle.air_log.specs.ScriptedDevices.{switched_off}
+use Rattle.air_log.specs.ScriptedDevices.{device_after_off}
 use Rattle.air_log.specs.Lawful.{heard_by}
 use Rattle.law_trails.specs.Lives.{GoesOff, after_step}
-use Rattle.law_trails.specs.Phases.{Lines, IsNextLine}
+use Rattle.law_trails.specs.Phases.{Lines, IsNextLineOf}
 use Rattle.law_trails.proofs.LifeSteps.{step_quiet}
 use Rattle.law_safety.specs.BegunFloods.{BeganOnce}
 use Rattle.law_safety.specs.QuietHosts.{LivesAs, LivesBy}
@@ -50,14 +50,14 @@ module _ (s : ScenarioParts) (clocks : ℕ → ℕ → ℕ) (air : List Entry) (
 
   -- what a node that goes off has begun, it began once
   pub once_off : (d : Device) (n : Node) → IsFine s clocks air v t Lines d → d.power ≡ PowerOn n
-      → BeganOnce s (switched_off v t n d)
+      → BeganOnce s (device_after_off v t n d)
   once_off d n fine on f x y a b same =
       (on_of s clocks air v t t d n fine.node on).begun.once f x y
       (record { sent = a.sent; first = a.first; frame = a.frame }) (record { sent = b.sent; first = b.first; frame = b.frame }) same
 
   module _ (tick : AtTick s clocks air v t) (d : Device) (l : ScriptLine) (n : Node) (fine : IsFine s clocks air v t Lines d)
-      (next : IsNextLine s v (clocks v) (heard_by air v) t l d) (on : d.power ≡ PowerOn n) where
-    goes_off : IsFine s clocks air v t Lines (switched_off v t n d)
+      (next : IsNextLineOf s v (clocks v) (heard_by air v) t l d) (on : d.power ≡ PowerOn n) where
+    goes_off : IsFine s clocks air v t Lines (device_after_off v t n d)
     goes_off =
         let sound = tick.run.driven.sound in
         let clock = tick.run.driven.drift v tick.known in
@@ -99,7 +99,7 @@ pub declare_row : DeclareRow
 declare_row s clocks air v t at d l n i interval here next act on = streams_told s clocks air v t d n (declared i interval n.core.streams) here.holds on
 
 pub leave_row : LeaveRow
-leave_row s clocks air v t at d l n i here next act on = streams_told s clocks air v t d n (left i n.core.streams) here.holds on
+leave_row s clocks air v t at d l n i here next act on = streams_told s clocks air v t d n (streams_after_leaving i n.core.streams) here.holds on
 
 pub put_row : PutRow
 put_row s clocks air v t at d l n i payload here next act on taken = streams_told s clocks air v t d n (put i payload n.core.streams) here.holds on

@@ -15,14 +15,14 @@ use Rattle.node_core.specs.Windows.{Window}
 use Rattle.node_core.specs.Nodes.{Node}
 use Rattle.node_core.specs.Rows.{sends}
 use Rattle.air_log.specs.declared.entry.Entry.{Entry}
-use Rattle.air_log.specs.Devices.{Device, Power, PowerOff, PowerOn, Ordered, listens_to}
+use Rattle.air_log.specs.Devices.{Device, Power, PowerOff, PowerOn, OrderedPacket, listens_to}
 use Rattle.air_log.specs.Trails.{setup_of}
 use Rattle.law_trails.specs.Lives.{Life}
 use Rattle.law_trails.specs.Phases.{End, Alarms}
-use Rattle.law_trails.specs.Walks.{after_row, NoWindow, HasNoWindow}
+use Rattle.law_trails.specs.Walks.{device_after_row, NoWindow, HasNoWindow}
 use Rattle.law_safety.specs.CountedFrames.{IsResting, BeganBy}
 use Rattle.law_safety.specs.SetAlarms.{rank_at, HasAlarm, AlarmFor}
-use Rattle.law_safety.specs.TunedNodes.{Either, HasTune, IsTunedAt, IsMember, is_joining, is_last}
+use Rattle.law_safety.specs.TunedNodes.{Either, HasTune, IsTunedAt, IsMember, is_joining, is_last_window}
 use Rattle.law_safety.specs.RoundZeros.{RefFor}
 use Rattle.law_safety.specs.RadiosOn.{RadioFor}
 use Rattle.law_safety.specs.OpenFloods.{HasFlood}
@@ -89,9 +89,9 @@ module _ (s : ScenarioParts) (clocks : ℕ → ℕ → ℕ) (air : List Entry) (
       begun_kept b = record {
         below = λ y begun. b.below y (begun_before n.frame y begun);
         packet = λ y begun same. (let p = b.packet y (begun_before n.frame y begun) same
-            in (p.0, p.1, λ first. subst (λ (o : Option Ordered). IsFirstOrdered o) none_ordered first));
+            in (p.0, p.1, λ first. subst (λ (o : Option OrderedPacket). IsFirstOrdered o) none_ordered first));
         made = λ initiated. elim (b.made initiated) [
-          | inl first ↦ inl (subst (λ (o : Option Ordered). IsFirstOrdered o) (sym ends.ordered) first)
+          | inl first ↦ inl (subst (λ (o : Option OrderedPacket). IsFirstOrdered o) (sym ends.ordered) first)
           | inr y ↦ inr (record { sending = y.sending; begun = begun_still n.frame y.sending y.begun; slot = y.slot })
         ];
       }
@@ -115,8 +115,8 @@ module _ (s : ScenarioParts) (clocks : ℕ → ℕ → ℕ) (air : List Entry) (
             slot = f.slot;
             limit = f.limit;
             few = (let less = below in omega (arith, less));
-            waits = sym (ap (λ (o : Option Ordered). is_some o || is_some e.sending) none_ordered ∙ ap (λ (o : Option Sending). is_some o) ends.sending);
-            one = ap (λ (o : Option Ordered). is_some o && is_some e.sending) none_ordered;
+            waits = sym (ap (λ (o : Option OrderedPacket). is_some o || is_some e.sending) none_ordered ∙ ap (λ (o : Option Sending). is_some o) ends.sending);
+            one = ap (λ (o : Option OrderedPacket). is_some o && is_some e.sending) none_ordered;
             spent = λ all. refl;
             own = f.own;
           }
@@ -148,7 +148,7 @@ module _ (s : ScenarioParts) (clocks : ℕ → ℕ → ℕ) (air : List Entry) (
       in_window : InOpenWindow s clocks air v (suc t) m e j u
       in_window = record {
         flood = has_flood;
-        order = subst (λ (o : Option Ordered). IfSome o (HasOrder s clocks air v (suc t) m j u)) (sym none_ordered) tt;
+        order = subst (λ (o : Option OrderedPacket). IfSome o (HasOrder s clocks air v (suc t) m j u)) (sym none_ordered) tt;
         sending = subst (λ (o : Option Sending). IfSome o (HasSending s clocks air v m j)) (sym ends.sending) tt;
         accepted = accepted_kept open_window.accepted;
       }
@@ -159,9 +159,9 @@ module _ (s : ScenarioParts) (clocks : ℕ → ℕ → ℕ) (air : List Entry) (
       tune_kept : HasTune s clocks v n → HasTune s clocks v m
       tune_kept h = record {
         rank = h.rank;
-        at = either (is_joining n) (RefFor s clocks (rank_at n) v n.zero n.frame n.frame j) (IsMember s clocks v n j w.last (is_last j w))
-            (RefFor s clocks (rank_at n) v n.zero n.frame n.frame j) (IsMember s clocks v m j w.last (is_last j w))
-            (λ r. r) (member_there s clocks air v (suc t) n (InWindow j u) j w.last (is_last j w))
+        at = either (is_joining n) (RefFor s clocks (rank_at n) v n.zero n.frame n.frame j) (IsMember s clocks v n j w.last (is_last_window j w))
+            (RefFor s clocks (rank_at n) v n.zero n.frame n.frame j) (IsMember s clocks v m j w.last (is_last_window j w))
+            (λ r. r) (member_there s clocks air v (suc t) n (InWindow j u) j w.last (is_last_window j w))
             (subst (λ (p : Stage). IsTunedAt s clocks v n p) stage h.at);
       }
 
@@ -198,9 +198,9 @@ module _ (s : ScenarioParts) (clocks : ℕ → ℕ → ℕ) (air : List Entry) (
 
   fine_after : (d : Device) (x : Sending) (n : Node) (j : ℕ) (w : Window) → IsFine s clocks air v t End d
       → d.sending ≡ Some x → d.power ≡ PowerOn n → n.stage ≡ InWindow j w
-      → IsFine s clocks air v t Alarms (after_row (clocks v) (setup_of s v) t Sent (Some x) (record d { sending = None }) n (sends n j w))
+      → IsFine s clocks air v t Alarms (device_after_row (clocks v) (setup_of s v) t Sent (Some x) (record d { sending = None }) n (sends n j w))
   fine_after d x n j w fine sending on stage =
-      let e = after_row (clocks v) (setup_of s v) t Sent (Some x) (record d { sending = None }) n (sends n j w) in
+      let e = device_after_row (clocks v) (setup_of s v) t Sent (Some x) (record d { sending = None }) n (sends n j w) in
       let is : IsOn s clocks air v t (suc t) d n = subst (λ (p : Power). InOrderBy s clocks air v t (suc t) d p) on fine.node.by_power in
       let ends = has_ended s v (clocks v) t x n j w d (below_limit d x n j w sending stage is) in
       let before : (y : Sending) → Contains e.made.sent y → Contains d.made.sent y = λ y there. subst (λ (xs : List Sending). Contains xs y) ends.sent there in
@@ -213,7 +213,7 @@ module _ (s : ScenarioParts) (clocks : ℕ → ℕ → ℕ) (air : List Entry) (
           opened = h.opened;
           closed = h.closed;
           sent = λ y z there. h.sent y z (before y there);
-          ordered = subst (λ (o : Option Ordered). IsOrderedBy h.life (t / s.profile.frame) o) (sym ends.ordered) h.ordered;
+          ordered = subst (λ (o : Option OrderedPacket). IsOrderedBy h.life (t / s.profile.frame) o) (sym ends.ordered) h.ordered;
         });
         sent = λ y there. fine.sent y (before y there);
         before = λ y there. fine.before y (before y there);

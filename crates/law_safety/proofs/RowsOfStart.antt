@@ -7,25 +7,25 @@ use Rattle.std.proofs.lemmas.Bool.{eq-eqb, eqb-true}
 use Rattle.std.proofs.lemmas.List.{length-set}
 use Rattle.std.proofs.lemmas.List.Elements.{Contains-append_left, Contains-append_right, Contains-push_cases}
 use Rattle.lwb_base.specs.Profile.{airtime}
-use Rattle.time_reference.specs.Zeros.{closing}
+use Rattle.time_reference.specs.Zeros.{closing_offset}
 use Rattle.glossy_relay.proofs.CountedPackets.{counter_set}
 use Rattle.bus_rules.specs.Tuning.{hosts}
 use Rattle.lwb_member.specs.Said.{message_of}
 use Rattle.radio_model.specs.declared.sending.Sending.{Sending}
-use Rattle.radio_model.specs.Hearing.{frame_of, slot_of, counter_of}
+use Rattle.radio_model.specs.Hearing.{frame_of_sending, slot_of_sending, counter_of_sending}
 use Rattle.scenario_text.specs.ScenarioParts.{ScenarioParts}
 use Rattle.node_core.specs.declared.stage.Stage.{Stage}
 use Rattle.node_core.specs.Windows.{Window}
 use Rattle.node_core.specs.Nodes.{Node}
 use Rattle.air_log.specs.declared.entry.Entry.{Entry}
 use Rattle.air_log.specs.Entries.{sendings_of}
-use Rattle.air_log.specs.Devices.{Device, Power, Listening, Ordered, listens_to}
+use Rattle.air_log.specs.Devices.{Device, Power, Listening, OrderedPacket, listens_to}
 use Rattle.air_log.specs.Lawful.{heard_by}
-use Rattle.air_log.specs.Safe.{by_host, is_hosting}
-use Rattle.air_log.specs.Trails.{setup_of, sending_from, starts, begun_by, begun, before_tick, tune_of}
+use Rattle.air_log.specs.Safe.{sender_hosts, is_hosting}
+use Rattle.air_log.specs.Trails.{setup_of, sending_from, starts, begun_by, device_after_start, before_tick, tune_of}
 use Rattle.law_trails.specs.Phases.{Start, Over, device_at}
 use Rattle.law_trails.specs.TrailLinks.{device_in}
-use Rattle.law_trails.specs.Walks.{begins}
+use Rattle.law_trails.specs.Walks.{with_start}
 use Rattle.law_trails.specs.DeviceRanges.{IsWellAndProper}
 use Rattle.law_trails.specs.SpokenRanges.{IsProper}
 use Rattle.lwb_base.proofs.Elements.{contains_head}
@@ -36,14 +36,14 @@ use Rattle.law_safety.specs.OrderedSendings.{IsFirst, IsRelay}
 use Rattle.law_safety.specs.BegunFloods.{BegunAt, BegunInWindow, HasBegun, IsFirstOrdered}
 use Rattle.law_safety.specs.FloodSendings.{IsOfFlood}
 use Rattle.law_safety.specs.NodesInOrder.{IsOn, InOrderBy, WindowAt}
-use Rattle.law_safety.specs.QuietHosts.{HostsInOrder, IsOrderedBy, IsIn}
+use Rattle.law_safety.specs.QuietHosts.{HostsInOrder, IsOrderedBy, LifeHasSchedule}
 use Rattle.law_safety.specs.Rows.{IsFine, AtTick, BeginningRow, MissedStartRow}
 use Rattle.law_safety.proofs.WellSteps.{well_in_phases}
 use Rattle.law_safety.proofs.OpenWindows.{IsAbout, where_ordered}
 use Rattle.law_safety.proofs.StartedSendings.{begins_flood, follows_flood}
 
 module _ (s : ScenarioParts) (clocks : ℕ → ℕ → ℕ) (air : List Entry) (v t : ℕ) where
-  module _ (d : Device) (o : Ordered) (fine : IsFine s clocks air v t Start d) (ordered : d.ordered ≡ Some o) (here : IsAbout s clocks air v t d o) where
+  module _ (d : Device) (o : OrderedPacket) (fine : IsFine s clocks air v t Start d) (ordered : d.ordered ≡ Some o) (here : IsAbout s clocks air v t d o) where
     abbrev n : Node
     n = here.node
 
@@ -59,17 +59,17 @@ module _ (s : ScenarioParts) (clocks : ℕ → ℕ → ℕ) (air : List Entry) (
       x = sending_from (setup_of s v) t o.packet l
 
       abbrev e : Device
-      e = begins d x
+      e = with_start d x
 
       rank_is : l.rank ≡ rank_at n
       rank_is = eqb-true l.rank (rank_at n) (ap (listens_to (rank_at n)) (sym tuned) ∙ here.listens)
 
       -- ---- it stands in the log
 
-      begun_sent : (begun (setup_of s v) t d).made.sent ≡ d.made.sent ++ x ∷ []
+      begun_sent : (device_after_start (setup_of s v) t d).made.sent ≡ d.made.sent ++ x ∷ []
       begun_sent =
           let su = setup_of s v in
-          ap (λ (p : Option Ordered). (begun_by su t d p).made.sent) ordered
+          ap (λ (p : Option OrderedPacket). (begun_by su t d p).made.sent) ordered
           ∙ ap (λ (b : Bool). (if b then starts su t o.packet d d.listening d.sending else d).made.sent) (eq-eqb o.tick t now)
           ∙ ap (λ (p : Option Listening). (starts su t o.packet d p d.sending).made.sent) tuned
           ∙ ap (λ (p : Option Sending). (starts su t o.packet d (Some l) p).made.sent) free
@@ -77,7 +77,7 @@ module _ (s : ScenarioParts) (clocks : ℕ → ℕ → ℕ) (air : List Entry) (
       sent_then : Contains (device_in s clocks air v (suc t)).made.sent x
       unfolding before_tick
       sent_then =
-          subst (λ (y : Device). Contains (begun (setup_of s v) t y).made.sent x) enters
+          subst (λ (y : Device). Contains (device_after_start (setup_of s v) t y).made.sent x) enters
           (subst (λ (xs : List Sending). Contains xs x) (sym begun_sent) (Contains-append_right d.made.sent (x ∷ []) x (contains_head x [])))
 
       in_log : Contains (sendings_of air) x
@@ -85,7 +85,7 @@ module _ (s : ScenarioParts) (clocks : ℕ → ℕ → ℕ) (air : List Entry) (
           let in_run = at.in_run in
           ((sent_below s clocks air at.run.heedful.trails v at.known (suc t) (omega (arith, in_run)) x).1 sent_then).there
 
-      hosts_now : by_host s clocks air x ≡ hosts n.core.tune
+      hosts_now : sender_hosts s clocks air x ≡ hosts n.core.tune
       hosts_now =
           ap (λ (y : Device). is_hosting (tune_of y.power)) (sym enters)
           ∙ ap (λ (p : Power). is_hosting (tune_of p)) here.on
@@ -95,7 +95,7 @@ module _ (s : ScenarioParts) (clocks : ℕ → ℕ → ℕ) (air : List Entry) (
       proper : IsProper s.profile o.packet
       proper =
           let well : IsWellAndProper s v d = subst (λ (y : Device). IsWellAndProper s v y) (sym enters) (well_in_phases s clocks air v t at Start) in
-          subst (λ (p : Option Ordered). IfSome p (λ q. IsProper s.profile q.packet)) ordered well.ordered
+          subst (λ (p : Option OrderedPacket). IfSome p (λ q. IsProper s.profile q.packet)) ordered well.ordered
 
       of_flood : IsOfFlood s clocks air x
       of_flood = elim here.order.why [
@@ -119,34 +119,34 @@ module _ (s : ScenarioParts) (clocks : ℕ → ℕ → ℕ) (air : List Entry) (
       begun_in = subst (λ (p : Stage). BegunAt s n d p) here.stage here.is.begun.at
 
       -- where it begins a flood, it is the first packet of the window's
-      first_of : counter_of x ≡ 0 → IsFirst s clocks air v n j w o
+      first_of : counter_of_sending x ≡ 0 → IsFirst s clocks air v n j w o
       first_of zero = elim here.order.why [
         | inl first ↦ first
         | inr relay ↦ absurd (relayed relay zero)
       ]
         where
-          relayed : IsRelay s clocks air v (suc t) n j o → counter_of x ≡ 0 → ⊥
+          relayed : IsRelay s clocks air v (suc t) n j o → counter_of_sending x ≡ 0 → ⊥
           relayed relay zero =
               let y = relay.heard in
               let long : 7 ≤ length o.packet = proper.spoken.least in
-              let size : length o.packet ≡ length y.packet = ap (λ (q : List ℕ). length q) relay.packet ∙ length-set y.packet 2 (counter_of y + 1) in
-              let counted : counter_of x ≡ counter_of y + 1 =
-              ap (λ (q : List ℕ). slice_index q 2) relay.packet ∙ counter_set y.packet (counter_of y + 1) (omega (arith, long, size)) in
+              let size : length o.packet ≡ length y.packet = ap (λ (q : List ℕ). length q) relay.packet ∙ length-set y.packet 2 (counter_of_sending y + 1) in
+              let counted : counter_of_sending x ≡ counter_of_sending y + 1 =
+              ap (λ (q : List ℕ). slice_index q 2) relay.packet ∙ counter_set y.packet (counter_of_sending y + 1) (omega (arith, long, size)) in
               omega (arith, zero, counted)
 
-      is_first : counter_of x ≡ 0 → IsFirstOrdered d.ordered
-      is_first zero = subst (λ (p : Option Ordered). IsFirstOrdered p) (sym ordered) zero
+      is_first : counter_of_sending x ≡ 0 → IsFirstOrdered d.ordered
+      is_first zero = subst (λ (p : Option OrderedPacket). IsFirstOrdered p) (sym ordered) zero
 
       begun_then : BegunInWindow s n e j w
       begun_then = record {
         below = λ y b. elim (of_old n.frame y b) [
           | inl old ↦ begun_in.below y old
-          | inr this ↦ (let slot : slot_of x ≡ j = here.order.slot in let same = ap slot_of this in omega (arith, slot, same))
+          | inr this ↦ (let slot : slot_of_sending x ≡ j = here.order.slot in let same = ap slot_of_sending this in omega (arith, slot, same))
         ];
         packet = λ y b same. elim (of_old n.frame y b) [
           | inl old ↦ (let p = begun_in.packet y old same in (p.0, p.1, λ none. none))
           | inr this ↦ (
-              let first = first_of (ap counter_of this ∙ b.first) in
+              let first = first_of (ap counter_of_sending this ∙ b.first) in
               (first.initiated, first.packet ∙ ap (λ (z : Sending). Some z.packet) this, λ none. none))
         ];
         made = λ initiated. elim (begun_in.made initiated) [
@@ -154,7 +154,7 @@ module _ (s : ScenarioParts) (clocks : ℕ → ℕ → ℕ) (air : List Entry) (
             sending = x;
             begun = record {
               sent = Contains-append_right d.made.sent (x ∷ []) x (contains_head x []);
-              first = subst (λ (p : Option Ordered). IsFirstOrdered p) ordered first;
+              first = subst (λ (p : Option OrderedPacket). IsFirstOrdered p) ordered first;
               frame = here.frame;
             };
             slot = here.order.slot;
@@ -164,20 +164,23 @@ module _ (s : ScenarioParts) (clocks : ℕ → ℕ → ℕ) (air : List Entry) (
       }
 
       -- an earlier one of this slot forbids that another is ordered
-      again : (f : ℕ) (y : Sending) → HasBegun s f d y → frame_of s.profile x ≡ f → counter_of x ≡ 0 → slot_of x ≡ slot_of y → ⊥
+      again : (f : ℕ) (y : Sending) → HasBegun s f d y → frame_of_sending s.profile x ≡ f → counter_of_sending x ≡ 0 → slot_of_sending x ≡ slot_of_sending y → ⊥
       again f y b frame zero same =
           let now_begun : HasBegun s n.frame d y = record { sent = b.sent; first = b.first; frame = b.frame ∙ sym frame ∙ here.frame } in
-          let slot : slot_of x ≡ j = here.order.slot in
+          let slot : slot_of_sending x ≡ j = here.order.slot in
           (begun_in.packet y now_begun (sym same ∙ slot)).2 (is_first zero)
 
-      once_then : (f : ℕ) (y z : Sending) → HasBegun s f e y → HasBegun s f e z → slot_of y ≡ slot_of z → y ≡ z
+      once_then : (f : ℕ) (y z : Sending) → HasBegun s f e y → HasBegun s f e z → slot_of_sending y ≡ slot_of_sending z → y ≡ z
       once_then f y z by bz same = elim (of_old f y by) [
         | inl old ↦ elim (of_old f z bz) [
           | inl older ↦ here.is.begun.once f y z old older same
-          | inr this ↦ absurd (again f y old (ap (frame_of s.profile) this ∙ bz.frame) (ap counter_of this ∙ bz.first) (ap slot_of this ∙ sym same))
+          | inr this ↦ absurd
+              (again f y old (ap (frame_of_sending s.profile) this ∙ bz.frame) (ap counter_of_sending this ∙ bz.first) (ap slot_of_sending this ∙ sym same))
         ]
         | inr at_once ↦ elim (of_old f z bz) [
-          | inl older ↦ absurd (again f z older (ap (frame_of s.profile) at_once ∙ by.frame) (ap counter_of at_once ∙ by.first) (ap slot_of at_once ∙ same))
+          | inl older ↦ absurd
+              (again f z older (ap (frame_of_sending s.profile) at_once ∙ by.frame) (ap counter_of_sending at_once ∙ by.first)
+                  (ap slot_of_sending at_once ∙ same))
           | inr this ↦ sym at_once ∙ this
         ]
       ]
@@ -210,7 +213,7 @@ module _ (s : ScenarioParts) (clocks : ℕ → ℕ → ℕ) (air : List Entry) (
               sending = record {
                 rank = rank_is;
                 slot = here.order.slot;
-                over = subst (λ (k : ℕ). k + airtime s.profile (length o.packet) < tick_by s clocks v n (closing s.profile j)) now here.order.over;
+                over = subst (λ (k : ℕ). k + airtime s.profile (length o.packet) < tick_by s clocks v n (closing_offset s.profile j)) now here.order.over;
               };
               accepted = old.accepted;
             });
@@ -225,9 +228,9 @@ module _ (s : ScenarioParts) (clocks : ℕ → ℕ → ℕ) (air : List Entry) (
         closed = h.closed;
         sent = λ y z there first says. elim (Contains-push_cases d.made.sent x y there) [
           | inl before ↦ h.sent y z before first says
-          | inr this ↦ subst (λ (u : Sending). IsIn h.life (frame_of s.profile u) z) this
-              (subst (λ (p : Option Ordered). IsOrderedBy h.life (t / s.profile.frame) p) ordered h.ordered
-              (ap counter_of this ∙ first) z (ap (λ (u : Sending). message_of u.packet) this ∙ says))
+          | inr this ↦ subst (λ (u : Sending). LifeHasSchedule h.life (frame_of_sending s.profile u) z) this
+              (subst (λ (p : Option OrderedPacket). IsOrderedBy h.life (t / s.profile.frame) p) ordered h.ordered
+              (ap counter_of_sending this ∙ first) z (ap (λ (u : Sending). message_of u.packet) this ∙ says))
         ];
         ordered = tt;
       }

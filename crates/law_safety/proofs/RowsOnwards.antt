@@ -8,12 +8,12 @@ use Rattle.scenario_text.specs.ScenarioParts.{ScenarioParts}
 use Rattle.scenario_text.specs.declared.script.Act.TheVariants.{Off}
 use Rattle.scenario_text.specs.declared.script.ScriptLine.{ScriptLine}
 use Rattle.air_log.specs.declared.entry.Entry.{Entry}
-use Rattle.air_log.specs.Devices.{Device, Power, PowerOff, PowerOn, Ordered}
+use Rattle.air_log.specs.Devices.{Device, Power, PowerOff, PowerOn, OrderedPacket}
 use Rattle.air_log.specs.Lawful.{heard_by}
-use Rattle.air_log.specs.Trails.{setup_of, frame_start, lines_at, scripted}
+use Rattle.air_log.specs.Trails.{setup_of, frame_start, lines_at, device_after_script}
 use Rattle.law_trails.specs.Lives.{Life}
-use Rattle.law_trails.specs.Phases.{Phase, Lines, Hearings, End, Alarms, Start, Over, device_at, next_phase, IsKnown}
-use Rattle.law_trails.specs.TrailLinks.{WentOff, WentOffBy, boots_of, device_in}
+use Rattle.law_trails.specs.Phases.{Phase, Lines, Hearings, End, Alarms, Start, Over, device_at, next_phase, NothingDue}
+use Rattle.law_trails.specs.TrailLinks.{WentOff, WentOffBy, boots_of_power, device_in}
 use Rattle.law_trails.proofs.LinesOfTick.{off_or_none, went_off, is_told}
 use Rattle.law_safety.specs.CountedFrames.{BeganBy, InFrame, IsOver, frame_alarm_at}
 use Rattle.law_safety.specs.KnownPlans.{PlanAt}
@@ -57,17 +57,17 @@ module _ (s : ScenarioParts) (clocks : ℕ → ℕ → ℕ) (air : List Entry) (
     ];
   }
 
-  all_told : AtTick s clocks air v t → (d : Device) → d ≡ scripted s v (clocks v) t (device_in s clocks air v t)
+  all_told : AtTick s clocks air v t → (d : Device) → d ≡ device_after_script s v (clocks v) t (device_in s clocks air v t)
       → IsInOrder s clocks air v t t d → IsInOrder s clocks air v t (suc t) d
   all_told tick d enters is =
       let before : Device = device_in s clocks air v t in
       let silent = silent_of s clocks air v t t before (tick.before.nodes v tick.known) in
       elim (off_or_none (lines_at s v t)) [
         | inl one ↦
-            let went : WentOff (clocks v) (setup_of s v) t (boots_of before.power) d =
-            subst (λ (e : Device). WentOff (clocks v) (setup_of s v) t (boots_of before.power) e) (sym enters)
+            let went : WentOff (clocks v) (setup_of s v) t (boots_of_power before.power) d =
+            subst (λ (e : Device). WentOff (clocks v) (setup_of s v) t (boots_of_power before.power) e) (sym enters)
             (went_off s v (clocks v) t before silent one.0 one.1 one.2) in
-            record { by_power = went_by (boots_of before.power) d d.power went is.by_power }
+            record { by_power = went_by (boots_of_power before.power) d d.power went is.by_power }
         | inr none ↦ record { by_power = power_kept s clocks air v t (suc t) (tells_on none) t d d.made.drops d.power is.by_power }
       ]
 
@@ -201,11 +201,11 @@ module _ (s : ScenarioParts) (clocks : ℕ → ℕ → ℕ) (air : List Entry) (
       sent = h.sent;
       ordered = elim goes_on [
         | inl same ↦ subst (λ (f : ℕ). IsOrderedBy h.life f d.ordered) (sym same) h.ordered
-        | inr ends ↦ subst (λ (o : Option Ordered). IsOrderedBy h.life soon o) (sym (none_ordered d d.power ahead ends.1 is.by_power)) tt
+        | inr ends ↦ subst (λ (o : Option OrderedPacket). IsOrderedBy h.life soon o) (sym (none_ordered d d.power ahead ends.1 is.by_power)) tt
       ];
     }
 
-    passes : (d : Device) → IsKnown t Over d → IsFine s clocks air v t Over d → IsFine s clocks air v (suc t) Lines d
+    passes : (d : Device) → NothingDue t Over d → IsFine s clocks air v t Over d → IsFine s clocks air v (suc t) Lines d
     passes d known fine = record {
       node = record { by_power = power_then d d.power known.alarm fine.node.by_power };
       host = λ rank of. host_then rank d known.alarm fine.node (fine.host rank of);

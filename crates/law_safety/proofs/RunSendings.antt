@@ -3,7 +3,7 @@ use Rattle.std.proofs.Common.{◌≡◌, ℕ, List, true, Contains, refl, sym, s
 use Rattle.scenario_text.specs.ScenarioParts.{ScenarioParts}
 use Rattle.scenario_text.specs.FloodParts.{knows}
 use Rattle.radio_model.specs.declared.sending.Sending.{Sending}
-use Rattle.radio_model.specs.Hearing.{counter_of, frame_of}
+use Rattle.radio_model.specs.Hearing.{counter_of_sending, frame_of_sending}
 use Rattle.air_log.specs.declared.entry.Entry.{Entry}
 use Rattle.air_log.specs.Entries.{sendings_of}
 use Rattle.air_log.specs.Devices.{Device, Power, PowerOff, PowerOn}
@@ -26,7 +26,7 @@ module _ (s : ScenarioParts) (clocks : ℕ → ℕ → ℕ) (air : List Entry) (
   of_flood x there = whole.ends.sendings x there (sent_lasts s clocks air whole.run.heedful.trails x there).0
 
   -- with counter 0 it begins its flood, when and as it may
-  pub begins_flood : (x : Sending) (there : Contains (sendings_of air) x) → counter_of x ≡ 0 → BeginsFlood s clocks air (of_flood x there).zero x
+  pub begins_flood : (x : Sending) (there : Contains (sendings_of air) x) → counter_of_sending x ≡ 0 → BeginsFlood s clocks air (of_flood x there).zero x
   begins_flood x there first =
       let is = of_flood x there in
       subst (λ (o : Sending). BeginsFlood s clocks air is.zero o) (is.itself first) is.begins
@@ -46,7 +46,7 @@ module _ (s : ScenarioParts) (clocks : ℕ → ℕ → ℕ) (air : List Entry) (
       let d = device_in s clocks air v (run_end s) in
       let known : knows s.nodes v ≡ true = sent_known s clocks air whole.run.heedful.trails x first.sent in
       let also : Contains d.made.sent y = subst (λ (u : ℕ). Contains (device_in s clocks air u (run_end s)).made.sent y) (sym node) (in_trail y second.sent) in
-      once_by s clocks air v (run_end s) d d.power (whole.ends.nodes v known).by_power (frame_of s.profile x) x y
+      once_by s clocks air v (run_end s) d d.power (whole.ends.nodes v known).by_power (frame_of_sending s.profile x) x y
       (record { sent = in_trail x first.sent; first = first.start.first; frame = refl })
       (record { sent = also; first = second.start.first; frame = sym same.frame })
       same.slot

@@ -10,7 +10,7 @@ use Rattle.radio_model.specs.declared.sending.Sending.{Sending}
 use Rattle.air_log.specs.declared.entry.Entry.{Entry}
 use Rattle.air_log.specs.Entries.{sendings_of}
 use Rattle.air_log.specs.Safe.{SameSlot, Begins, OneInitiator}
-use Rattle.law_trails.specs.PacketKinds.{SaysOfKind, kind_of}
+use Rattle.law_trails.specs.PacketKinds.{SaysOfKind, kind_of_message}
 use Rattle.law_trails.proofs.SaidPackets.{kind_says, request_read}
 use Rattle.law_safety.specs.Endings.{EndsInOrder}
 use Rattle.law_safety.proofs.DistinctSendings.{sendings_differ}
@@ -27,7 +27,7 @@ of_pairs R xs differ each i j d less within =
 schedule_in : (q : List ℕ) (says : SaysOfKind kinds.Schedule q) → (y : Schedule) × (message_of q ≡ Some (ScheduleOf y))
 schedule_in q says = of_message says.message says.says says.of_kind
   where
-    of_message : (m : Message) → message_of q ≡ Some m → kind_of m ≡ kinds.Schedule → (y : Schedule) × (message_of q ≡ Some (ScheduleOf y))
+    of_message : (m : Message) → message_of q ≡ Some m → kind_of_message m ≡ kinds.Schedule → (y : Schedule) × (message_of q ≡ Some (ScheduleOf y))
     of_message (ScheduleOf y) is kind = (y, is)
     of_message (DataOf d) is kind = absurd cc
     of_message (RequestOf a) is kind = absurd cc

@@ -9,7 +9,7 @@ use Rattle.time_reference.specs.Budgets.{budget_of}
 use Rattle.time_reference.proofs.Steps.{together}
 use Rattle.scenario_text.specs.ScenarioParts.{ScenarioParts}
 use Rattle.radio_model.specs.declared.sending.Sending.{Sending}
-use Rattle.radio_model.specs.Hearing.{counter_of}
+use Rattle.radio_model.specs.Hearing.{counter_of_sending}
 use Rattle.air_log.specs.declared.entry.Entry.{Entry}
 use Rattle.air_log.specs.Safe.{Alike, SameButForCounter}
 use Rattle.law_safety.specs.FloodSendings.{IsOfFlood}
@@ -28,12 +28,12 @@ module _ (s : ScenarioParts) (clocks : ℕ → ℕ → ℕ) (air : List Entry) (
       record {
         bytes = bytes;
         together = λ counter.
-            let near : Near y.start (is.origin.start + counter_of x * step p (length x.packet)) (counter_of x) =
-            subst (λ (o : Sending). Near y.start (o.start + counter_of x * step p (length x.packet)) (counter_of x)) (sym one)
-            (subst (λ (n : ℕ). Near y.start (also.origin.start + counter_of x * step p n) (counter_of x)) long
+            let near : Near y.start (is.origin.start + counter_of_sending x * step p (length x.packet)) (counter_of_sending x) =
+            subst (λ (o : Sending). Near y.start (o.start + counter_of_sending x * step p (length x.packet)) (counter_of_sending x)) (sym one)
+            (subst (λ (n : ℕ). Near y.start (also.origin.start + counter_of_sending x * step p n) (counter_of_sending x)) long
             (subst (λ (k : ℕ). Near y.start (also.origin.start + k * step p (length y.packet)) k) (sym counter) also.near)) in
             let fits = run_fits s whole.run.driven.sound in
-            let close = together p (budget_of p) fits (length x.packet) (counter_of x) x.start y.start is.origin.start is.few is.near near in
+            let close = together p (budget_of p) fits (length x.packet) (counter_of_sending x) x.start y.start is.origin.start is.few is.near near in
             omega (arith, close);
       }
 

@@ -8,9 +8,9 @@ use Rattle.bus_rules.specs.Slots.{Message, ScheduleOf, DataOf, RequestOf}
 use Rattle.lwb_member.specs.Said.{message_of}
 use Rattle.scenario_text.specs.ScenarioParts.{ScenarioParts}
 use Rattle.radio_model.specs.declared.sending.Sending.{Sending}
-use Rattle.radio_model.specs.Hearing.{frame_of, slot_of}
+use Rattle.radio_model.specs.Hearing.{frame_of_sending, slot_of_sending}
 use Rattle.air_log.specs.declared.entry.Entry.{Entry}
-use Rattle.air_log.specs.Safe.{Allows, HasWord, Silence, StaysOn, by_host}
+use Rattle.air_log.specs.Safe.{Allows, HasWord, Silence, StaysOn, sender_hosts}
 use Rattle.air_log.specs.Trails.{frame_start}
 use Rattle.law_trails.proofs.SaidPackets.{says}
 use Rattle.law_safety.specs.Beginnings.{MaySay}
@@ -29,8 +29,8 @@ of_code : (owner node stream : ℕ) → node_of owner ≡ node → stream_of own
 of_code owner node stream is also = omega (arith, is, also)
 
 module _ (s : ScenarioParts) (clocks : ℕ → ℕ → ℕ) (air : List Entry) (x : Sending) where
-  heard_plan : (plan : Plan) → HasHeardPlan s air x.node x.rank (frame_of s.profile x) plan (suc (frame_start s (frame_of s.profile x)))
-      → ((gap : ℕ) → Allows (record { plan = plan; gap = gap }) (slot_of x) (message_of x.packet)) → HasWord s air x
+  heard_plan : (plan : Plan) → HasHeardPlan s air x.node x.rank (frame_of_sending s.profile x) plan (suc (frame_start s (frame_of_sending s.profile x)))
+      → ((gap : ℕ) → Allows (record { plan = plan; gap = gap }) (slot_of_sending x) (message_of x.packet)) → HasWord s air x
   heard_plan plan word allows = record {
     heard = word.heard;
     schedule = record { plan = plan; gap = word.gap };
@@ -39,12 +39,12 @@ module _ (s : ScenarioParts) (clocks : ℕ → ℕ → ℕ) (air : List Entry) (
     channel = word.schedule.channel;
     named = word.schedule.rank_said;
     due = word.due;
-    stays_on = stays_on s x.node (frame_of s.profile word.heard) (frame_of s.profile x) word.stays;
+    stays_on = stays_on s x.node (frame_of_sending s.profile word.heard) (frame_of_sending s.profile x) word.stays;
     allows = allows word.gap;
   }
 
-  heard_opening : (plan : Plan) → HasHeardOpening s air x.node x.rank (frame_of s.profile x) plan
-      → Allows (record { plan = plan; gap = 0 }) (slot_of x) (message_of x.packet) → HasWord s air x
+  heard_opening : (plan : Plan) → HasHeardOpening s air x.node x.rank (frame_of_sending s.profile x) plan
+      → Allows (record { plan = plan; gap = 0 }) (slot_of_sending x) (message_of x.packet) → HasWord s air x
   heard_opening plan word allows = record {
     heard = word.heard;
     schedule = record { plan = plan; gap = 0 };
@@ -57,19 +57,19 @@ module _ (s : ScenarioParts) (clocks : ℕ → ℕ → ℕ) (air : List Entry) (
     allows = allows;
   }
 
-  has_word : (z : ℕ) (m : Option Message) → message_of x.packet ≡ m → is_schedule x.packet ≡ false → by_host s clocks air x ≡ false
-      → MaySay s clocks air x.node x.rank (frame_of s.profile x) z (slot_of x) (by_host s clocks air x) m → HasWord s air x
+  has_word : (z : ℕ) (m : Option Message) → message_of x.packet ≡ m → is_schedule x.packet ≡ false → sender_hosts s clocks air x ≡ false
+      → MaySay s clocks air x.node x.rank (frame_of_sending s.profile x) z (slot_of_sending x) (sender_hosts s clocks air x) m → HasWord s air x
   has_word z None is none guest may = absurd may
   has_word z (Some (ScheduleOf y)) is none guest may = absurd (true≢false (sym (says x.packet (ScheduleOf y) is).spelled ∙ none))
   has_word z (Some (DataOf d)) is none guest may = elim may.word [
     | inl hosting ↦ absurd (true≢false (sym hosting ∙ guest))
     | inr word ↦ heard_plan may.plan word
-        (λ gap. subst (λ (m : Option Message). Allows (record { plan = may.plan; gap = gap }) (slot_of x) m) (sym is)
+        (λ gap. subst (λ (m : Option Message). Allows (record { plan = may.plan; gap = gap }) (slot_of_sending x) m) (sym is)
         (may.part ∙ ap DataSlot (of_code may.owner d.node d.stream (may.node ∙ sym may.own) may.stream)))
   ]
   has_word z (Some (RequestOf a)) is none guest may =
       heard_opening may.plan may.word
-      (subst (λ (m : Option Message). Allows (record { plan = may.plan; gap = 0 }) (slot_of x) m) (sym is) refl)
+      (subst (λ (m : Option Message). Allows (record { plan = may.plan; gap = 0 }) (slot_of_sending x) m) (sym is) refl)
 
 pub silence : (s : ScenarioParts) (clocks : ℕ → ℕ → ℕ) (air : List Entry) → EndsInOrder s clocks air
     → Silence s clocks air

@@ -17,20 +17,20 @@ use Rattle.node_core.specs.Windows.{Window}
 use Rattle.node_core.specs.Nodes.{Node}
 use Rattle.scenario_text.specs.ScenarioParts.{ScenarioParts}
 use Rattle.radio_model.specs.declared.sending.Sending.{Sending}
-use Rattle.radio_model.specs.Hearing.{frame_of, slot_of}
+use Rattle.radio_model.specs.Hearing.{frame_of_sending, slot_of_sending}
 use Rattle.air_log.specs.declared.entry.Entry.{Entry}
 use Rattle.air_log.specs.Devices.{Device}
-use Rattle.air_log.specs.Safe.{by_host}
+use Rattle.air_log.specs.Safe.{sender_hosts}
 use Rattle.air_log.specs.Trails.{setup_of}
 use Rattle.law_trails.specs.CoreRanges.{IsSetup}
-use Rattle.law_trails.specs.NodeRanges.{IsNode}
+use Rattle.law_trails.specs.NodeRanges.{IsNodeInRange}
 use Rattle.law_trails.proofs.SaidInRange.{IsSayable, says}
 use Rattle.law_trails.proofs.TrailsInRange.{set}
 use Rattle.law_safety.specs.SentPlans.{IsPlanned}
 use Rattle.law_safety.specs.Beginnings.{MaySay, SaysSchedule}
 use Rattle.law_safety.specs.FloodSendings.{BeginsFlood, IsOfFlood}
 use Rattle.law_safety.specs.SetAlarms.{rank_at}
-use Rattle.law_safety.specs.TunedNodes.{is_last, IsRoundOf}
+use Rattle.law_safety.specs.TunedNodes.{is_last_window, IsRoundOf}
 use Rattle.law_safety.specs.BegunFloods.{IsFirstOrdered, HasBegunIn}
 use Rattle.law_safety.specs.Rows.{AtTick}
 use Rattle.law_safety.proofs.RunFacts.{known_id}
@@ -41,7 +41,7 @@ same_packet : (p q : List ℕ) → Some p ≡ Some q → p ≡ q
 same_packet p q is = cc
 
 module _ (s : ScenarioParts) (clocks : ℕ → ℕ → ℕ) (air : List Entry) (v t : ℕ) (at : AtTick s clocks air v t) (d : Device) (n : Node) (j : ℕ) (w : Window)
-    (is : Closes s clocks air v t d n j w) (ranged : IsNode (setup_of s v) n) (members : IsMembers s clocks air v t at d n j w is)
+    (is : Closes s clocks air v t d n j w) (ranged : IsNodeInRange (setup_of s v) n) (members : IsMembers s clocks air v t at d n j w is)
     (sent : (x : Sending) → Contains d.made.sent x → IsOfFlood s clocks air x) (host : hosts n.core.tune ≡ true) (first : j ≡ 0) where
   abbrev S : Setup
   S = setup_of s v
@@ -63,7 +63,7 @@ module _ (s : ScenarioParts) (clocks : ℕ → ℕ → ℕ) (air : List Entry) (
 
   now : hosts_now n.frame n.core ≡ true
   now =
-      let open_so : is_last j w ≡ false = not_from_true _ (lt-ltb j w.last more) in
+      let open_so : is_last_window j w ≡ false = not_from_true _ (lt-ltb j w.last more) in
       due_by n.core.tune refl host
       (subst (λ (closes : Bool). IsRoundOf s clocks v n j closes n.core.tune) open_so members.member.round)
 
@@ -106,8 +106,9 @@ module _ (s : ScenarioParts) (clocks : ℕ → ℕ → ℕ) (air : List Entry) (
   -- on the channel of its rank
   channel : x.rank ≡ rank_at n
   channel =
-      let says_schedule : SaysSchedule s clocks air x.node x.rank (frame_of s.profile x) flood.zero (slot_of x) (opening_of plan) =
-      subst (MaySay s clocks air x.node x.rank (frame_of s.profile x) flood.zero (slot_of x) (by_host s clocks air x)) says_so begins.start.says in
+      let says_schedule : SaysSchedule s clocks air x.node x.rank (frame_of_sending s.profile x) flood.zero (slot_of_sending x) (opening_of plan) =
+      subst (MaySay s clocks air x.node x.rank (frame_of_sending s.profile x) flood.zero (slot_of_sending x) (sender_hosts s clocks air x)) says_so
+          begins.start.says in
       sym says_schedule.fits.of_rank ∙ members.round.round.fits.of_rank
 
   pub opened_plan : IsPlanned s air (rank_at n) n.frame members.round.plan

@@ -7,28 +7,28 @@ use Rattle.lwb_member.specs.Said.{message_of}
 use Rattle.time_reference.specs.Budgets.{budget_of}
 use Rattle.scenario_text.specs.ScenarioParts.{ScenarioParts}
 use Rattle.radio_model.specs.declared.sending.Sending.{Sending}
-use Rattle.radio_model.specs.Hearing.{counter_of, frame_of, slot_of}
+use Rattle.radio_model.specs.Hearing.{counter_of_sending, frame_of_sending, slot_of_sending}
 use Rattle.air_log.specs.declared.entry.Entry.{Entry}
 use Rattle.air_log.specs.Entries.{sendings_of}
-use Rattle.air_log.specs.Safe.{by_host}
+use Rattle.air_log.specs.Safe.{sender_hosts}
 use Rattle.air_log.specs.Trails.{run_end}
 use Rattle.law_trails.specs.Lives.{Life, PlansFor}
 use Rattle.law_trails.specs.TrailLinks.{device_in}
 use Rattle.law_trails.proofs.LifeLaws.{one_plan}
 use Rattle.law_safety.specs.Beginnings.{MaySay, SaysSchedule}
-use Rattle.law_safety.specs.QuietHosts.{IsIn}
+use Rattle.law_safety.specs.QuietHosts.{LifeHasSchedule}
 use Rattle.law_safety.specs.SentPlans.{IsHostOf, FitsRound, IsScheduleSent, IsPlanned}
 use Rattle.law_safety.proofs.RunFacts.{host_is}
 use Rattle.law_safety.specs.Endings.{EndsInOrder}
 use Rattle.law_safety.proofs.RunSendings.{begins_flood, in_trail, of_flood}
 
 module _ (s : ScenarioParts) (clocks : ℕ → ℕ → ℕ) (air : List Entry) (whole : EndsInOrder s clocks air) where
-  module _ (x : Sending) (y : Schedule) (there : Contains (sendings_of air) x) (first : counter_of x ≡ 0)
+  module _ (x : Sending) (y : Schedule) (there : Contains (sendings_of air) x) (first : counter_of_sending x ≡ 0)
       (says : message_of x.packet ≡ Some (ScheduleOf y)) where
-    began : SaysSchedule s clocks air x.node x.rank (frame_of s.profile x) (of_flood s clocks air whole x there).zero (slot_of x) y
+    began : SaysSchedule s clocks air x.node x.rank (frame_of_sending s.profile x) (of_flood s clocks air whole x there).zero (slot_of_sending x) y
     began =
         let z = (of_flood s clocks air whole x there).zero in
-        subst (MaySay s clocks air x.node x.rank (frame_of s.profile x) z (slot_of x) (by_host s clocks air x)) says
+        subst (MaySay s clocks air x.node x.rank (frame_of_sending s.profile x) z (slot_of_sending x) (sender_hosts s clocks air x)) says
         (begins_flood s clocks air whole x there first).start.says
 
     -- who begins the flood of a schedule is the host of its channel
@@ -46,7 +46,8 @@ module _ (s : ScenarioParts) (clocks : ℕ → ℕ → ℕ) (air : List Entry) (
     said_fits = subst (λ (r : ℕ). FitsRound s r y.plan) is.channel (began_short x y is.sent is.first is.says)
 
   -- the life of the host has what was sent
-  of_life : (l : Life) (before gap frame : ℕ) (plan : Plan) → before + gap ≡ frame → IsIn l before (record { plan = plan; gap = gap }) → PlansFor l frame plan
+  of_life : (l : Life) (before gap frame : ℕ) (plan : Plan) → before + gap ≡ frame → LifeHasSchedule l before (record { plan = plan; gap = gap })
+      → PlansFor l frame plan
   of_life l before gap frame plan due (inl opened) =
       inr (subst (λ (f : ℕ). Contains l.openings (record { frame = f; plan = plan })) (let now = opened.0 in omega (arith, due, now)) opened.1)
   of_life l before gap frame plan due (inr closed) = inl (record { gap = gap; before = before; there = closed; due = due })
@@ -59,7 +60,7 @@ module _ (s : ScenarioParts) (clocks : ℕ → ℕ → ℕ) (air : List Entry) (
       let is = planned.schedule in
       let node : x.node ≡ v = sym (host_is s rank x.node (said_by_host rank y x is)) ∙ host_is s rank v host in
       let there = subst (λ (u : ℕ). Contains (device_in s clocks air u (run_end s)).made.sent x) node (in_trail s clocks air whole x is.sent) in
-      of_life (whole.ends.hosts rank v host).life (frame_of s.profile x) planned.gap frame plan planned.due
+      of_life (whole.ends.hosts rank v host).life (frame_of_sending s.profile x) planned.gap frame plan planned.due
       ((whole.ends.hosts rank v host).sent x y there is.first is.says)
 
   pub one_planned : (rank frame : ℕ) (p q : Plan) → IsPlanned s air rank frame p → IsPlanned s air rank frame q → p ≡ q

@@ -7,15 +7,15 @@ use Rattle.bus_rules.specs.Slots.{Message, ScheduleOf, DataOf, RequestOf, part_o
 use Rattle.lwb_member.specs.Said.{message_of}
 use Rattle.scenario_text.specs.ScenarioParts.{ScenarioParts}
 use Rattle.radio_model.specs.declared.sending.Sending.{Sending}
-use Rattle.radio_model.specs.Hearing.{frame_of, slot_of}
+use Rattle.radio_model.specs.Hearing.{frame_of_sending, slot_of_sending}
 use Rattle.air_log.specs.declared.entry.Entry.{Entry}
-use Rattle.air_log.specs.Safe.{SameSlot, by_host}
+use Rattle.air_log.specs.Safe.{SameSlot, sender_hosts}
 use Rattle.law_safety.specs.Beginnings.{MaySay}
 use Rattle.law_safety.specs.FloodSendings.{BeginsFlood, IsOfFlood}
 use Rattle.law_safety.specs.SentPlans.{IsHostOf, IsPlanned}
 use Rattle.law_safety.proofs.RunFacts.{host_is}
 use Rattle.law_safety.specs.Endings.{EndsInOrder}
-use Rattle.law_safety.specs.SlotLaws.{Asks}
+use Rattle.law_safety.specs.SlotLaws.{AsksForStream}
 use Rattle.law_safety.proofs.RunSendings.{begun_once}
 use Rattle.law_safety.proofs.SentPlans.{one_planned}
 
@@ -29,7 +29,7 @@ module _ (s : ScenarioParts) (air : List Entry) where
   abbrev MayTake : ℕ → ℕ → Option Message → Part → Type 0
   MayTake rank v m Opening = IsHostOf s rank v
   MayTake rank v m (DataSlot owner) = node_of owner ≡ v
-  MayTake rank v m (Contention place) = Asks m
+  MayTake rank v m (Contention place) = AsksForStream m
   MayTake rank v m Closing = IsHostOf s rank v
 
   record HasSlot (rank frame j v : ℕ) (m : Option Message) : Type 0 where
@@ -38,7 +38,8 @@ module _ (s : ScenarioParts) (air : List Entry) where
     takes : MayTake rank v m part
 
   -- two that may take one slot are one, or both ask
-  one_taker : (rank v u : ℕ) (m n : Option Message) (part : Part) → MayTake rank v m part → MayTake rank u n part → (v ≡ u) ⊎ (Asks m × Asks n)
+  one_taker : (rank v u : ℕ) (m n : Option Message) (part : Part) → MayTake rank v m part → MayTake rank u n part
+      → (v ≡ u) ⊎ (AsksForStream m × AsksForStream n)
   one_taker rank v u m n Opening first second = inl (sym (host_is s rank v first) ∙ host_is s rank u second)
   one_taker rank v u m n (DataSlot owner) first second = inl (sym first ∙ second)
   one_taker rank v u m n (Contention place) first second = inr (first, second)
@@ -64,24 +65,28 @@ module _ (s : ScenarioParts) (clocks : ℕ → ℕ → ℕ) (air : List Entry) w
     one_part rank f j P Q (inr a) (inr b) =
         sym a.2 ∙ ap (λ (p : Plan). part_of p j) (one_planned s clocks air whole rank f a.0 b.0 a.1 b.1) ∙ b.2
 
-    one_of_slot : (rank f j v u : ℕ) (m n : Option Message) → HasSlot s air rank f j v m → HasSlot s air rank f j u n → (v ≡ u) ⊎ (Asks m × Asks n)
+    one_of_slot : (rank f j v u : ℕ) (m n : Option Message) → HasSlot s air rank f j v m → HasSlot s air rank f j u n
+        → (v ≡ u) ⊎ (AsksForStream m × AsksForStream n)
     one_of_slot rank f j v u m n first second =
         one_taker s air rank v u m n second.part
         (subst (MayTake s air rank v m) (one_part rank f j first.part second.part first.is second.is) first.takes) second.takes
 
-    begun_slot : (z : ℕ) (x : Sending) → BeginsFlood s clocks air z x → HasSlot s air x.rank (frame_of s.profile x) (slot_of x) x.node (message_of x.packet)
-    begun_slot z x begins = has_slot x.node x.rank (frame_of s.profile x) z (slot_of x) (by_host s clocks air x) (message_of x.packet) begins.start.says
+    begun_slot : (z : ℕ) (x : Sending) → BeginsFlood s clocks air z x
+        → HasSlot s air x.rank (frame_of_sending s.profile x) (slot_of_sending x) x.node (message_of x.packet)
+    begun_slot z x begins =
+        has_slot x.node x.rank (frame_of_sending s.profile x) z (slot_of_sending x) (sender_hosts s clocks air x) (message_of x.packet) begins.start.says
 
     -- two beginnings in one slot are one, or both are requests
     pub one_beginning : (zx zy : ℕ) (x y : Sending) → BeginsFlood s clocks air zx x → BeginsFlood s clocks air zy y → SameSlot s.profile x y
-        → (x ≡ y) ⊎ (Asks (message_of x.packet) × Asks (message_of y.packet))
+        → (x ≡ y) ⊎ (AsksForStream (message_of x.packet) × AsksForStream (message_of y.packet))
     one_beginning zx zy x y first second same =
         let there = begun_slot zy y second in
-        let here : HasSlot s air x.rank (frame_of s.profile x) (slot_of x) y.node (message_of y.packet) =
-        subst (λ (r : ℕ). HasSlot s air r (frame_of s.profile x) (slot_of x) y.node (message_of y.packet)) (sym same.channel)
-        (subst (λ (f : ℕ). HasSlot s air y.rank f (slot_of x) y.node (message_of y.packet)) (sym same.frame)
-        (subst (λ (j : ℕ). HasSlot s air y.rank (frame_of s.profile y) j y.node (message_of y.packet)) (sym same.slot) there)) in
-        elim (one_of_slot x.rank (frame_of s.profile x) (slot_of x) x.node y.node (message_of x.packet) (message_of y.packet) (begun_slot zx x first) here) [
+        let here : HasSlot s air x.rank (frame_of_sending s.profile x) (slot_of_sending x) y.node (message_of y.packet) =
+        subst (λ (r : ℕ). HasSlot s air r (frame_of_sending s.profile x) (slot_of_sending x) y.node (message_of y.packet)) (sym same.channel)
+        (subst (λ (f : ℕ). HasSlot s air y.rank f (slot_of_sending x) y.node (message_of y.packet)) (sym same.frame)
+        (subst (λ (j : ℕ). HasSlot s air y.rank (frame_of_sending s.profile y) j y.node (message_of y.packet)) (sym same.slot) there)) in
+        elim (one_of_slot x.rank (frame_of_sending s.profile x) (slot_of_sending x) x.node y.node (message_of x.packet) (message_of y.packet)
+            (begun_slot zx x first) here) [
           | inl node ↦ inl (begun_once s clocks air whole zx zy x y first second same node)
           | inr both ↦ inr both
         ]
@@ -96,5 +101,5 @@ module _ (s : ScenarioParts) (clocks : ℕ → ℕ → ℕ) (air : List Entry) w
     }
 
     pub one_flood : (x y : Sending) (is : IsOfFlood s clocks air x) (also : IsOfFlood s clocks air y) → SameSlot s.profile x y
-        → (is.origin ≡ also.origin) ⊎ (Asks (message_of is.origin.packet) × Asks (message_of also.origin.packet))
+        → (is.origin ≡ also.origin) ⊎ (AsksForStream (message_of is.origin.packet) × AsksForStream (message_of also.origin.packet))
     one_flood x y is also same = one_beginning is.zero also.zero is.origin also.origin is.begins also.begins (origins_same x y is also same)

@@ -21,7 +21,7 @@ use Rattle.law_trails.proofs.HeardReferences.{moved_on, good_ahead, good_now}
 use Rattle.law_safety.specs.SentPlans.{FitsRound, IsPlanned, HasHeardPlan}
 use Rattle.law_safety.specs.RoundZeros.{RefFor, GoodFor}
 use Rattle.law_safety.specs.SetAlarms.{rank_at}
-use Rattle.law_safety.specs.TunedNodes.{is_joining, is_last, by_hearing, IsRoundOf, Waits}
+use Rattle.law_safety.specs.TunedNodes.{is_joining, is_last_window, by_hearing, IsRoundOf, Waits}
 use Rattle.law_safety.specs.KnownPlans.{InRound, PlanFor}
 use Rattle.law_safety.specs.Rows.{AtTick}
 use Rattle.law_safety.proofs.AcceptedSchedules.{fits as fits_round, planned, heard_plan, heard_opening}
@@ -79,14 +79,14 @@ module _ (s : ScenarioParts) (clocks : ℕ → ℕ → ℕ) (air : List Entry) (
         subst (λ (f : ℕ). RefFor s clocks (rank_at n) v zero_then f n.frame j) same_frame
         (moved_on p b budget host (clocks v) accepts.zero n.frame n.frame j y.gap host_clock own_clock accepts.ref (omega (arith, none)))
 
-    round_by : (tune : Tune) → ((by_hearing n tune ≡ true) ⊎ IsRoundOf s clocks v n j (is_last j w) tune) → hosts tune ≡ false
+    round_by : (tune : Tune) → ((by_hearing n tune ≡ true) ⊎ IsRoundOf s clocks v n j (is_last_window j w) tune) → hosts tune ≡ false
         → IsRoundOf s clocks v on (j + 1) false tune
     round_by (Scan r waited) was guest = (refl, omega arith)
     round_by (Hold r due) (inl joins) guest = absurd (true≢false (sym joins))
     round_by (Hold r due) (inr round) guest = round
     round_by (Host r due) was guest = absurd (true≢false guest)
 
-    was : (is_joining n ≡ true) ⊎ IsRoundOf s clocks v n j (is_last j w) n.core.tune
+    was : (is_joining n ≡ true) ⊎ IsRoundOf s clocks v n j (is_last_window j w) n.core.tune
     was = elim (joined_or_member s clocks air v t at d n j w is) [ inl joined ↦ inl joined.0 | inr other ↦ inr other.1.member.round ]
 
     plan_on : InRound s clocks air v (suc t) on (j + 1) y.plan

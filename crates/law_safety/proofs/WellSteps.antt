@@ -9,7 +9,7 @@ use Rattle.air_log.specs.declared.entry.Entry.{Entry}
 use Rattle.air_log.specs.AlarmRuns.{after_alarms}
 use Rattle.air_log.specs.Devices.{Device}
 use Rattle.air_log.specs.Lawful.{heard_by}
-use Rattle.air_log.specs.Trails.{Reception, setup_of, ending_at, hears, scripted, before_alarms, before_tick}
+use Rattle.air_log.specs.Trails.{Reception, setup_of, ending_at, device_after_reception, device_after_script, before_alarms, before_tick}
 use Rattle.law_trails.specs.CoreRanges.{IsSetup}
 use Rattle.law_trails.specs.SpokenRanges.{IsFitting, IsProper}
 use Rattle.law_trails.specs.DeviceRanges.{IsRanged, IsWellAndProper, HoldsThrough}
@@ -67,16 +67,17 @@ module _ (s : ScenarioParts) (clocks : ℕ → ℕ → ℕ) (air : List Entry) (
       (recursion_from_All (λ (h : Reception). h.end < suc t → IsShort h) hs
       (all_heard s at.run.driven.sound clocks air at.run.heedful.trails (λ u x there. (at.run.heedful.heard u x there).sent) v (suc t)))
 
-  hearings : (taken : List Reception) (d : Device) → AllByRecursion IsShort taken → ranged d → ranged (fold (hears (clocks v) (setup_of s v) t) d taken)
+  hearings : (taken : List Reception) (d : Device) → AllByRecursion IsShort taken → ranged d
+      → ranged (fold (device_after_reception (clocks v) (setup_of s v) t) d taken)
   hearings [] d short is = is
   hearings (h ∷ taken) d short is =
-      hearings taken (hears (clocks v) (setup_of s v) t d h) short.1
+      hearings taken (device_after_reception (clocks v) (setup_of s v) t d h) short.1
       (event_is (setup_of s v) is_set (IsProper s.profile) (IsFitting s.profile) (proper_rules (setup_of s v)) (clocks v) t (Heard h.packet) None d short.0 is)
 
   at_hearing : (h : Reception) (d : Device) → IsNextHearing s v (clocks v) hs t h d → ranged d
   at_hearing h d next =
       subst ranged (sym next.is)
-      (hearings next.taken (scripted s v (clocks v) t (before_tick s v (clocks v) hs t))
+      (hearings next.taken (device_after_script s v (clocks v) t (before_tick s v (clocks v) hs t))
       (of_first IsShort next.taken (h ∷ next.rest) (subst (AllByRecursion IsShort) next.hearings ending)) through.told)
 
   alarms : (gone : ℕ) (d : Device) → ranged d → ranged (after_alarms (clocks v) (setup_of s v) t gone d)

@@ -4,7 +4,7 @@ use Rattle.std.specs.declared.option.Option.{Option}
 use Rattle.lwb_base.specs.Messages.{Plan, Schedule, node_of, stream_of}
 use Rattle.time_reference.specs.Budgets.{budget_of}
 use Rattle.time_reference.specs.Reference.{host_zero}
-use Rattle.time_reference.specs.Zeros.{opening}
+use Rattle.time_reference.specs.Zeros.{opening_offset}
 use Rattle.bus_rules.specs.declared.part.Part.TheVariants.{Data as DataSlot, Contention, Closing}
 use Rattle.bus_rules.specs.Slots.{Data, Message, ScheduleOf, DataOf, RequestOf, part_of}
 use Rattle.lwb_member.specs.Said.{message_of}
@@ -61,5 +61,5 @@ module _ (s : ScenarioParts) (clocks : ℕ → ℕ → ℕ) (air : List Entry) (
     pub slot : slice_index packet 1 ≡ j
     pub first : slice_index packet 2 ≡ 0
     pub in_round : j ≤ (budget_of s.profile).last
-    pub good : GoodFor s clocks rank v z f (opening s.profile j)
+    pub good : GoodFor s clocks rank v z f (opening_offset s.profile j)
     pub says : MaySay hosting (message_of packet)

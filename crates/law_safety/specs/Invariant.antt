@@ -29,19 +29,19 @@ pub record IsDrivenWell (s : ScenarioParts) (clocks : ℕ → ℕ → ℕ) : Typ
   pub drift : (v : ℕ) → knows s.nodes v ≡ true → IsClock (clocks v)
 
 -- and a log whose nodes heed it
-pub record IsRun (s : ScenarioParts) (clocks : ℕ → ℕ → ℕ) (air : List Entry) : Type 0 where
+pub record IsObedientRun (s : ScenarioParts) (clocks : ℕ → ℕ → ℕ) (air : List Entry) : Type 0 where
   pub driven : IsDrivenWell s clocks
   pub heedful : Heedful s clocks air
 
 -- the theorem: the invariant holds before each tick of a run
 abbrev pub HoldsThroughout : Type 0
 HoldsThroughout =
-    (s : ScenarioParts) (clocks : ℕ → ℕ → ℕ) (air : List Entry) → IsRun s clocks air
+    (s : ScenarioParts) (clocks : ℕ → ℕ → ℕ) (air : List Entry) → IsObedientRun s clocks air
     → (t : ℕ) → t ≤ run_end s → Invariant s clocks air t
 
 abbrev pub HeedfulLogsAreSafe : Type 0
 HeedfulLogsAreSafe =
-    (s : ScenarioParts) (clocks : ℕ → ℕ → ℕ) (air : List Entry) → IsRun s clocks air → Safe s clocks air
+    (s : ScenarioParts) (clocks : ℕ → ℕ → ℕ) (air : List Entry) → IsObedientRun s clocks air → Safe s clocks air
 
 -- every lawful log is safe
 abbrev pub LawfulLogsAreSafe : Type 0

@@ -15,7 +15,7 @@ use Rattle.law_safety.specs.SentPlans.{IsHostOf}
 use Rattle.law_safety.specs.FloodSendings.{IsOfFlood}
 use Rattle.law_safety.specs.NodesInOrder.{IsInOrder}
 use Rattle.law_safety.specs.QuietHosts.{HostsInOrder}
-use Rattle.law_safety.specs.Invariant.{Invariant, IsRun}
+use Rattle.law_safety.specs.Invariant.{Invariant, IsObedientRun}
 
 -- up to which tick the script has been told in a phase of tick t
 abbrev pub told_in : ℕ → Phase → ℕ
@@ -36,7 +36,7 @@ module _ (s : ScenarioParts) (clocks : ℕ → ℕ → ℕ) (air : List Entry) (
 
   -- what each row may use: the run, and the invariant of all nodes before the tick
   pub record AtTick (t : ℕ) : Type 0 where
-    pub run : IsRun s clocks air
+    pub run : IsObedientRun s clocks air
     pub known : knows s.nodes v ≡ true
     pub in_run : t < run_end s
     pub before : Invariant s clocks air t
@@ -133,5 +133,5 @@ pub record AllRows : Type 0 where
 
 -- the rows suffice: the invariant holds before the first tick, and with it before each tick of a run
 abbrev pub RowsSuffice : Type 0
-RowsSuffice = AllRows → (s : ScenarioParts) (clocks : ℕ → ℕ → ℕ) (air : List Entry) → IsRun s clocks air
+RowsSuffice = AllRows → (s : ScenarioParts) (clocks : ℕ → ℕ → ℕ) (air : List Entry) → IsObedientRun s clocks air
     → (t : ℕ) → t ≤ run_end s → Invariant s clocks air t

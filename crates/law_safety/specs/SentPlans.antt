@@ -9,9 +9,9 @@ use Rattle.scenario_text.specs.ScenarioParts.{ScenarioParts}
 use Rattle.scenario_text.specs.declared.script.Act.TheVariants.{Off}
 use Rattle.scenario_text.specs.declared.script.ScriptLine.{ScriptLine}
 use Rattle.radio_model.specs.declared.sending.Sending.{Sending}
-use Rattle.radio_model.specs.Hearing.{frame_of, counter_of}
+use Rattle.radio_model.specs.Hearing.{frame_of_sending, counter_of_sending}
 use Rattle.air_log.specs.declared.entry.Entry.{Entry}
-use Rattle.air_log.specs.Entries.{sendings_of, IsHeard}
+use Rattle.air_log.specs.Entries.{sendings_of, HasHeardEntry}
 use Rattle.air_log.specs.Trails.{frame_start}
 
 -- v is the host that the scenario names for the rank
@@ -27,13 +27,13 @@ pub record FitsRound (s : ScenarioParts) (rank : ℕ) (plan : Plan) : Type 0 whe
 pub record IsScheduleSent (air : List Entry) (rank : ℕ) (y : Schedule) (x : Sending) : Type 0 where
   pub sent : Contains (sendings_of air) x
   pub channel : x.rank ≡ rank
-  pub first : counter_of x ≡ 0
+  pub first : counter_of_sending x ≡ 0
   pub says : message_of x.packet ≡ Some (ScheduleOf y)
   pub rank_said : y.plan.rank ≡ rank
 
 -- v heard the schedule on the channel of its rank
 pub record IsScheduleHeard (air : List Entry) (v rank : ℕ) (y : Schedule) (x : Sending) : Type 0 where
-  pub there : IsHeard air v x
+  pub there : HasHeardEntry air v x
   pub channel : x.rank ≡ rank
   pub says : message_of x.packet ≡ Some (ScheduleOf y)
   pub rank_said : y.plan.rank ≡ rank
@@ -48,18 +48,18 @@ pub record IsPlanned (s : ScenarioParts) (air : List Entry) (rank frame : ℕ) (
   pub sending : Sending
   pub gap : ℕ
   pub schedule : IsScheduleSent air rank (record { plan = plan; gap = gap }) sending
-  pub due : frame_of s.profile sending + gap ≡ frame
+  pub due : frame_of_sending s.profile sending + gap ≡ frame
 
 -- v heard it, and stays on until this tick
 pub record HasHeardPlan (s : ScenarioParts) (air : List Entry) (v rank frame : ℕ) (plan : Plan) (tick : ℕ) : Type 0 where
   pub heard : Sending
   pub gap : ℕ
   pub schedule : IsScheduleHeard air v rank (record { plan = plan; gap = gap }) heard
-  pub due : frame_of s.profile heard + gap ≡ frame
-  pub stays : StaysOnUntil s v (frame_of s.profile heard) tick
+  pub due : frame_of_sending s.profile heard + gap ≡ frame
+  pub stays : StaysOnUntil s v (frame_of_sending s.profile heard) tick
 
 -- v heard it from the opening of this very round
 pub record HasHeardOpening (s : ScenarioParts) (air : List Entry) (v rank frame : ℕ) (plan : Plan) : Type 0 where
   pub heard : Sending
   pub schedule : IsScheduleHeard air v rank (record { plan = plan; gap = 0 }) heard
-  pub now : frame_of s.profile heard ≡ frame
+  pub now : frame_of_sending s.profile heard ≡ frame

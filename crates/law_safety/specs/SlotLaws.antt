@@ -13,8 +13,8 @@ use Rattle.law_safety.specs.SentPlans.{IsPlanned}
 use Rattle.law_safety.specs.Endings.{EndsInOrder}
 
 -- it asks for a stream
-abbrev pub Asks : Option Message → Type 0
-Asks m = (a : Ask) × (m ≡ Some (RequestOf a))
+abbrev pub AsksForStream : Option Message → Type 0
+AsksForStream m = (a : Ask) × (m ≡ Some (RequestOf a))
 
 -- for a rank and a frame at most one plan is sent
 abbrev pub OnePlanIsSent : Type 0
@@ -27,4 +27,4 @@ abbrev pub OneFloodInASlot : Type 0
 OneFloodInASlot =
     (s : ScenarioParts) (clocks : ℕ → ℕ → ℕ) (air : List Entry) → EndsInOrder s clocks air
     → (x y : Sending) (is : IsOfFlood s clocks air x) (also : IsOfFlood s clocks air y) → SameSlot s.profile x y
-    → (is.origin ≡ also.origin) ⊎ (Asks (message_of x.packet) × Asks (message_of y.packet))
+    → (is.origin ≡ also.origin) ⊎ (AsksForStream (message_of x.packet) × AsksForStream (message_of y.packet))

@@ -1,7 +1,7 @@
 -- What the tune and the zero of a node are worth, by its place.
 use Rattle.std.specs.Prelude.{◌≡◌, ⊤, ℕ, ◌+◌, ◌<◌, ◌≤◌, Bool, true, false, not, nat_lt, length}
 use Rattle.time_reference.specs.Reference.{host_zero}
-use Rattle.time_reference.specs.Zeros.{opening}
+use Rattle.time_reference.specs.Zeros.{opening_offset}
 use Rattle.bus_rules.specs.declared.tune.Tune.{Tune}
 use Rattle.bus_rules.specs.declared.tune.Tune.TheVariants.{Scan, Hold, Host}
 use Rattle.bus_rules.specs.Plans.{last_slot}
@@ -30,8 +30,8 @@ abbrev pub is_joining : Node → Bool
 is_joining n = by_hearing n n.core.tune
 
 -- the window of the last slot of a round
-abbrev pub is_last : ℕ → Window → Bool
-is_last j w = not (nat_lt j w.last)
+abbrev pub is_last_window : ℕ → Window → Bool
+is_last_window j w = not (nat_lt j w.last)
 
 module _ (s : ScenarioParts) (clocks : ℕ → ℕ → ℕ) (v : ℕ) where
   -- the round of the node's frame is its own: a member's, or a fresh scanner's from slot 1 on. While a host closes it, its
@@ -45,7 +45,7 @@ module _ (s : ScenarioParts) (clocks : ℕ → ℕ → ℕ) (v : ℕ) where
   -- in slot j of this round, from which on the zero is good
   pub record IsMember (n : Node) (j last : ℕ) (closes : Bool) : Type 0 where
     pub slot : j ≤ last
-    pub good : GoodFor s clocks (rank_at n) v n.zero n.frame (opening s.profile j)
+    pub good : GoodFor s clocks (rank_at n) v n.zero n.frame (opening_offset s.profile j)
     pub round : IsRoundOf n j closes n.core.tune
 
   -- between rounds
@@ -66,7 +66,7 @@ module _ (s : ScenarioParts) (clocks : ℕ → ℕ → ℕ) (v : ℕ) where
   IsTunedAt n AwaitFrame = Waits n n.core.tune
   IsTunedAt n (AwaitSlot j) = IsMember n j (last_slot n.core.plan) false
   IsTunedAt n (InWindow j w) =
-      Either (is_joining n) (RefFor s clocks (rank_at n) v n.zero n.frame n.frame j) (IsMember n j w.last (is_last j w))
+      Either (is_joining n) (RefFor s clocks (rank_at n) v n.zero n.frame n.frame j) (IsMember n j w.last (is_last_window j w))
 
   pub record HasTune (n : Node) : Type 0 where
     pub rank : rank_at n < length s.hosts

@@ -8,8 +8,8 @@ use Rattle.law_safety.specs.NodesInOrder.{IsInOrder}
 use Rattle.law_safety.specs.QuietHosts.{HostsInOrder}
 
 -- the device of v is in order before tick t
-abbrev pub Holds : ℕ → ℕ → Device → Type 0
-Holds v t d = IsInOrder one_packet drifting one_packet_log v t t d
+abbrev pub DeviceIsInOrder : ℕ → ℕ → Device → Type 0
+DeviceIsInOrder v t d = IsInOrder one_packet drifting one_packet_log v t t d
 
 -- and the host's has its quiet life
 abbrev pub Lives : ℕ → Device → Type 0

@@ -14,7 +14,7 @@ use Rattle.bus_rules.specs.declared.tune.Tune.TheVariants.{Scan, Hold, Host}
 use Rattle.bus_rules.specs.Cores.{Core, is_member, is_fresh, schedule_accepted, opening_accepted, closing_accepted}
 use Rattle.bus_rules.specs.HostPlans.{host_plan, HostPlan}
 use Rattle.bus_rules.specs.Plans.{last_slot, opening}
-use Rattle.bus_rules.specs.Slots.{Message, ScheduleOf, Opened, opened, part_of, hosts_now, host_closes, silent, is_schedule_part}
+use Rattle.bus_rules.specs.Slots.{Message, ScheduleOf, Opened, opened_slot, part_of, hosts_now, host_closes, silent, is_schedule_part}
 use Rattle.bus_rules.specs.States.{State, StateOff, StateOn}
 use Rattle.bus_rules.specs.Streams.{Streams}
 use Rattle.bus_rules.specs.Tables.{Table}
@@ -23,12 +23,12 @@ use Rattle.bus_rules.proofs.Ranks.{planned_rank}
 use Rattle.bus_terms.specs.Bus.{state_at}
 use Rattle.bus_terms.specs.FloodOfText.{ids}
 use Rattle.bus_terms.specs.Flooding.{Accepts}
-use Rattle.bus_terms.specs.Rounds.{Slot, opened_at, said_in, accepted_at, closed_by, left_by, before_slot, takes_part}
-use Rattle.bus_terms.specs.ScriptedStates.{is_on, setup_in}
+use Rattle.bus_terms.specs.Rounds.{Slot, opened_at, message_said, accepted_at, closed_slot_of, left_by, before_slot, takes_part}
+use Rattle.bus_terms.specs.ScriptedStates.{is_on_and, setup_in}
 use Rattle.bus_terms.proofs.ReceivedByPaths.{in_filtered, of_filtered}
 use Rattle.bus_terms.proofs.ReceivedInRounds.{ids_rise}
 use Rattle.law_service.specs.Reach.{TakesPart, LosesNothing, IsWithin}
-use Rattle.law_service.specs.ScheduleService.{IsHosted, slot_in, node_after, OpeningsAreAccepted, ClosingsAreAccepted}
+use Rattle.law_service.specs.ScheduleService.{IsHosted, slot_in, state_after_round, OpeningsAreAccepted, ClosingsAreAccepted}
 use Rattle.law_service.proofs.HostsOfRanks.{due_rank}
 use Rattle.law_service.proofs.HostedRounds.{Hosting, has_planned, closing_opens, opening_said, leads, sole_host, said_message, host_member, closing_last}
 use Rattle.law_service.proofs.SaidByParts.{windowed}
@@ -38,14 +38,14 @@ use Rattle.law_service.proofs.GrantedSlots.{some_gap}
 -- the state of a node that takes part and accepts a schedule
 heard_schedule : (s : ScenarioParts) (rank f : ℕ) (part : Part) (v : ℕ) (x : State) (y : Schedule) → is_schedule_part part ≡ true
     → takes_part rank part x (opened_at s rank f part v x) ≡ true
-    → (d : Core) × (left_by x (closed_by s f part v (opened_at s rank f part v x) (Some (ScheduleOf y)) x) ≡ StateOn (schedule_accepted v f y d))
+    → (d : Core) × (left_by x (closed_slot_of s f part v (opened_at s rank f part v x) (Some (ScheduleOf y)) x) ≡ StateOn (schedule_accepted v f y d))
 heard_schedule s rank f part v (StateOff boots) y schedule takes = absurd (false≢true (and_parts (is_schedule_part part) _ takes).1)
 heard_schedule s rank f part v (StateOn c) y schedule takes = by_member (is_member rank f c)
   where
     by_member : (b : Bool) → (d : Core) × (left_by (StateOn c)
-        (closed_by s f part v (if b then Some (opened (setup_in s v) f part c) else None) (Some (ScheduleOf y)) (StateOn c))
+        (closed_slot_of s f part v (if b then Some (opened_slot (setup_in s v) f part c) else None) (Some (ScheduleOf y)) (StateOn c))
         ≡ StateOn (schedule_accepted v f y d))
-    by_member true = ((opened (setup_in s v) f part c).core, refl)
+    by_member true = ((opened_slot (setup_in s v) f part c).core, refl)
     by_member false = (c, refl)
 
 -- the next round comes later
@@ -62,8 +62,8 @@ module _ (s : ScenarioParts) (scenario : IsSoundScenario s) (rank f : ℕ) (p : 
 
   -- slot j is one of schedules, in which a host with its round due says this
   module _ (j : ℕ) (part : Part) (at : part_of p j ≡ part) (is : Hosting rank f p (before j host)) (y : Schedule)
-      (says : (opened (setup_in s host) f part is.core).message ≡ Some (ScheduleOf y))
-      (only_hosts : (v : ℕ) (c : Core) (m : Message) → (opened (setup_in s v) f part c).message ≡ Some m → hosts_now f c ≡ true)
+      (says : (opened_slot (setup_in s host) f part is.core).message ≡ Some (ScheduleOf y))
+      (only_hosts : (v : ℕ) (c : Core) (m : Message) → (opened_slot (setup_in s v) f part c).message ≡ Some m → hosts_now f c ≡ true)
       (only_members : (c : Core) → is_member rank f c ≡ true → hosts_now f c ≡ true → hosts_in rank f c.tune ≡ true) where
     abbrev x : Slot
     x = slot_in s rank f p j
@@ -71,26 +71,26 @@ module _ (s : ScenarioParts) (scenario : IsSoundScenario s) (rank f : ℕ) (p : 
     window_is : (v : ℕ) → x.window v ≡ opened_at s rank f part v (before j v)
     window_is v = ap (λ (q : Part). opened_at s rank f q v (before j v)) at
 
-    host_window : x.window host ≡ Some (opened (setup_in s host) f part is.core)
+    host_window : x.window host ≡ Some (opened_slot (setup_in s host) f part is.core)
     host_window = window_is host ∙ ap (λ (z : State). opened_at s rank f part host z) is.on
         ∙ windowed s rank f part host is.core (host_member rank f is.core is.due)
 
-    pub message : said_in (x.window host) ≡ Some (ScheduleOf y)
-    message = ap said_in host_window ∙ says
+    pub message : message_said (x.window host) ≡ Some (ScheduleOf y)
+    message = ap message_said host_window ∙ says
 
     takes : TakesPart x host
     takes = in_filtered (λ v. takes_part rank x.part (before j v) (x.window v)) (ids s.nodes) host hosted.known
         (ap (λ (w : Option Opened). takes_part rank x.part (before j host) w) host_window)
 
-    alone : (v : ℕ) → is_some (said_in (x.window v)) ≡ true → v ≡ host
-    alone v some = by_message (said_in (x.window v)) refl some
+    alone : (v : ℕ) → is_some (message_said (x.window v)) ≡ true → v ≡ host
+    alone v some = by_message (message_said (x.window v)) refl some
       where
-        by_message : (m : Option Message) → said_in (x.window v) ≡ m → is_some m ≡ true → v ≡ host
+        by_message : (m : Option Message) → message_said (x.window v) ≡ m → is_some m ≡ true → v ≡ host
         by_message None said some = absurd (false≢true some)
         by_message (Some m) said some =
-            let c = said_message s rank f part v (before j v) m (ap said_in (sym (window_is v)) ∙ said) in
+            let c = said_message s rank f part v (before j v) m (ap message_said (sym (window_is v)) ∙ said) in
             let due = only_members c.0 c.2 (only_hosts v c.0 m c.3) in
-            sole_host s rank f p host hosted j v (ap (λ (z : State). is_on (λ c. hosts_in rank f c.tune) z) c.1 ∙ due)
+            sole_host s rank f p host hosted j v (ap (λ (z : State). is_on_and (λ c. hosts_in rank f c.tune) z) c.1 ∙ due)
 
     module _ (lossless : LosesNothing s x) (k v : ℕ) (within : IsWithin s x host (suc k) v) where
       pub accepts_here : Accepts x.flood v host k
@@ -107,20 +107,20 @@ module _ (s : ScenarioParts) (scenario : IsSoundScenario s) (rank f : ℕ) (p : 
           ap (λ (q : Part). takes_part rank q (before j v) (opened_at s rank f q v (before j v))) (sym at) ∙ there in
           let told = heard_schedule s rank f part v (before j v) y schedule takes_here in (
             told.0,
-            ap (λ (h : Option Message). left_by (before j v) (closed_by s f (part_of p j) v (x.window v) h (before j v))) heard
-                ∙ ap (λ (q : Part). left_by (before j v) (closed_by s f q v (opened_at s rank f q v (before j v)) (Some (ScheduleOf y)) (before j v))) at
+            ap (λ (h : Option Message). left_by (before j v) (closed_slot_of s f (part_of p j) v (x.window v) h (before j v))) heard
+                ∙ ap (λ (q : Part). left_by (before j v) (closed_slot_of s f q v (opened_at s rank f q v (before j v)) (Some (ScheduleOf y)) (before j v))) at
                 ∙ told.1,
           )
 
 -- in the first slot and the last one who says something hosts its own round
-opening_hosts : (s : ScenarioParts) (f v : ℕ) (c : Core) (m : Message) → (opened (setup_in s v) f Opening c).message ≡ Some m → hosts_now f c ≡ true
+opening_hosts : (s : ScenarioParts) (f v : ℕ) (c : Core) (m : Message) → (opened_slot (setup_in s v) f Opening c).message ≡ Some m → hosts_now f c ≡ true
 opening_hosts s f v c m said = by_test (hosts_now f c) refl said
   where
     by_test : (b : Bool) → hosts_now f c ≡ b → (if b then Some (ScheduleOf (opening c.plan)) else None) ≡ Some m → hosts_now f c ≡ true
     by_test true at said = at
     by_test false at said = absurd (cc)
 
-closing_hosts : (s : ScenarioParts) (f v : ℕ) (c : Core) (m : Message) → (opened (setup_in s v) f Closing c).message ≡ Some m → hosts_now f c ≡ true
+closing_hosts : (s : ScenarioParts) (f v : ℕ) (c : Core) (m : Message) → (opened_slot (setup_in s v) f Closing c).message ≡ Some m → hosts_now f c ≡ true
 closing_hosts s f v c m said = by_test (hosts_now f c) refl said
   where
     by_test : (b : Bool) → hosts_now f c ≡ b → (if b then host_closes (setup_in s v) f c else silent c).message ≡ Some m → hosts_now f c ≡ true
@@ -180,7 +180,7 @@ closings s accepted rank f p host hosted lossless k v within = record {
     j : ℕ
     j = last_slot p
 
-    after : (v : ℕ) → node_after s rank f p v ≡ before_slot s rank f p (state_at s f) (suc j) v
+    after : (v : ℕ) → state_after_round s rank f p v ≡ before_slot s rank f p (state_at s f) (suc j) v
     after v = ap (λ (i : ℕ). before_slot s rank f p (state_at s f) i v) (add-one (last_slot p))
 
     at : part_of p j ≡ Closing
@@ -201,10 +201,10 @@ closings s accepted rank f p host hosted lossless k v within = record {
     planned : Opened
     planned = host_closes (setup_in s host) f is.core
 
-    opens : opened (setup_in s host) f Closing is.core ≡ planned
+    opens : opened_slot (setup_in s host) f Closing is.core ≡ planned
     opens = closing_opens s rank f p host hosted is
 
-    says : (opened (setup_in s host) f Closing is.core).message ≡ Some (ScheduleOf y)
+    says : (opened_slot (setup_in s host) f Closing is.core).message ≡ Some (ScheduleOf y)
     says = ap (λ (o : Opened). o.message) opens
 
     gap_some : 0 < plan.gap

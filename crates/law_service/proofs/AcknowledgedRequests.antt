@@ -5,7 +5,7 @@ use Rattle.std.proofs.lemmas.Bool.{cond_both, cond-false, eqb-true}
 use Rattle.std.proofs.lemmas.Grind.{fold-append}
 use Rattle.lwb_base.specs.Profile.{Numbers}
 use Rattle.lwb_base.specs.Messages.{Ask, code_of}
-use Rattle.bus_rules.specs.HostPlans.{Answered, answer, answered, with_ack, host_plan}
+use Rattle.bus_rules.specs.HostPlans.{Answered, answer, answers_to, with_ack, host_plan}
 use Rattle.bus_rules.specs.Streams.{Streams}
 use Rattle.bus_rules.specs.Tables.{Table, is_full}
 use Rattle.lwb_base.proofs.Elements.{not_in_none, contains_head, contains_tail, contains_cases}
@@ -50,18 +50,18 @@ acks_stay f a (b ∷ bs) x none there =
     acks_stay f a bs (answer f x b) none.1
     (cond_both (is_full b x.table) x.acks (with_ack b x.acks) (λ (l : List Ask). Contains l a) (λ _. there) (λ _. keeps_ack a b x.acks none.0 there))
 
-answered_acks : (f : ℕ) (a : Ask) (earlier later : List Ask) (t : Table) → NoneOf (code_of a) later → is_full a (answered f earlier t).table ≡ false
-    → Contains (answered f (earlier ++ a ∷ later) t).acks a
+answered_acks : (f : ℕ) (a : Ask) (earlier later : List Ask) (t : Table) → NoneOf (code_of a) later → is_full a (answers_to f earlier t).table ≡ false
+    → Contains (answers_to f (earlier ++ a ∷ later) t).acks a
 answered_acks f a earlier later t none room =
     let start : Answered = record { table = t; acks = [] } in
-    let x : Answered = answered f earlier t in
+    let x : Answered = answers_to f earlier t in
     let taken : Contains (answer f x a).acks a =
     subst (λ (l : List Ask). Contains l a) (sym (cond-false (is_full a x.table) x.acks (with_ack a x.acks) room)) (has_ack a x.acks) in
     subst (λ (y : Answered). Contains y.acks a) (sym (fold-append (answer f) start earlier (a ∷ later))) (acks_stay f a later (answer f x a) none taken)
 
 pub plan_acks : (n : Numbers) (node boot rank f : ℕ) (a : Ask) (earlier later kept : List Ask) (t : Table) (x : Streams)
-    → kept ≡ earlier ++ a ∷ later → NoneOf (code_of a) later → is_full a (answered f earlier t).table ≡ false
+    → kept ≡ earlier ++ a ∷ later → NoneOf (code_of a) later → is_full a (answers_to f earlier t).table ≡ false
     → Contains (host_plan n node boot rank f kept t x).plan.acks a
 unfolding host_plan
 plan_acks n node boot rank f a earlier later kept t x is none room =
-    subst (λ (l : List Ask). Contains (answered f l t).acks a) (sym is) (answered_acks f a earlier later t none room)
+    subst (λ (l : List Ask). Contains (answers_to f l t).acks a) (sym is) (answered_acks f a earlier later t none room)

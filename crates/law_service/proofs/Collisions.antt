@@ -10,13 +10,13 @@ use Rattle.scenario_text.specs.ScenarioParts.{ScenarioParts}
 use Rattle.bus_rules.specs.declared.part.Part.{Part}
 use Rattle.bus_rules.specs.declared.part.Part.TheVariants.{Contention}
 use Rattle.bus_rules.specs.Cores.{Core, is_member}
-use Rattle.bus_rules.specs.Slots.{Message, RequestOf, opened, part_of, is_own, request_of}
+use Rattle.bus_rules.specs.Slots.{Message, RequestOf, opened_slot, part_of, is_own, request_of}
 use Rattle.bus_rules.specs.States.{State, StateOn}
-use Rattle.bus_rules.specs.Streams.{Streams, after_contention, due}
+use Rattle.bus_rules.specs.Streams.{Streams, after_contention, due_stream}
 use Rattle.bus_terms.specs.Bus.{state_at}
 use Rattle.bus_terms.specs.FloodOfText.{ids}
 use Rattle.bus_terms.specs.Flooding.{Setting, Moment, STEPS, moment, has, offer, candidates, named, pick, may_hear, takes, hears, accepted, Hears}
-use Rattle.bus_terms.specs.Rounds.{Slot, accepted_at, opened_at, closed_by, left_by, before_slot, said_in, takes_part}
+use Rattle.bus_terms.specs.Rounds.{Slot, accepted_at, opened_at, closed_slot_of, left_by, before_slot, message_said, takes_part}
 use Rattle.bus_terms.specs.ScriptedStates.{setup_in}
 use Rattle.bus_terms.proofs.Options.{inspect, only_from, in_filter, from_filter, heard_parts, sends_parts, named_parts}
 use Rattle.bus_terms.proofs.ReceivedByPaths.{in_filtered, of_filtered, in_whole}
@@ -133,8 +133,8 @@ module _ (s : ScenarioParts) (rank f : ℕ) (p : Plan) (j u v : ℕ) (is : Colli
   known : (w : ℕ) → TakesPart x w → has (ids s.nodes) w ≡ true
   known w takes = in_whole (λ w. takes_part rank x.part (before w) (x.window w)) (ids s.nodes) w takes
 
-  initiates : (w : ℕ) → TakesPart x w → is_some (said_in (x.window w)) ≡ true → has x.flood.initiators w ≡ true
-  initiates w takes says = in_filtered (λ w. is_some (said_in (x.window w))) (ids s.nodes) w (known w takes) says
+  initiates : (w : ℕ) → TakesPart x w → is_some (message_said (x.window w)) ≡ true → has x.flood.initiators w ≡ true
+  initiates w takes says = in_filtered (λ w. is_some (message_said (x.window w))) (ids s.nodes) w (known w takes) says
 
   no_link : (a b c d : Bool) → a ≡ false → (a && b && c && d) ≡ false
   no_link a b c d is = rw is refl
@@ -151,33 +151,33 @@ module _ (s : ScenarioParts) (rank f : ℕ) (p : Plan) (j u v : ℕ) (is : Colli
   none_accepts w =
       let c = is.contenders in
       let deaf = nobody_hears x.flood u v c.differ c.members (initiates u c.members.0 c.both.0, initiates v c.members.1 c.both.1)
-      (λ w starts. c.others w (of_filtered (λ w. is_some (said_in (x.window w))) (ids s.nodes) w starts))
+      (λ w starts. c.others w (of_filtered (λ w. is_some (message_said (x.window w))) (ids s.nodes) w starts))
       (λ w here not_u not_v. steady u w c.members.0 here ∙ is.neighbours w here not_u not_v ∙ sym (steady v w c.members.1 here)) is.uncaptured in
-      ap (λ (a : Option (ℕ × ℕ)). option_and_then (λ a. said_in (x.window a.0)) a) (accepted_none x.flood w (λ o k a. deaf k w o a.hears))
+      ap (λ (a : Option (ℕ × ℕ)). option_and_then (λ a. message_said (x.window a.0)) a) (accepted_none x.flood w (λ o k a. deaf k w o a.hears))
 
   -- one of the two, before the slot and after it
-  requester : (w : ℕ) (c : Core) → before w ≡ StateOn c → is_some (said_in (x.window w)) ≡ true
+  requester : (w : ℕ) (c : Core) → before w ≡ StateOn c → is_some (message_said (x.window w)) ≡ true
       → (d : Core) × (before_slot s rank f p (state_at s f) (suc j) w ≡ StateOn d) × (d.streams ≡ after_contention w c.streams)
-      × (is_some (due c.streams) ≡ true)
+      × (is_some (due_stream c.streams) ≡ true)
   unfolding before_slot
   requester w c on says =
       let i = j - length p.owners in
       let at = contention_at p j is.contenders.after_data is.contenders.before_last in
-      let m = some_of (said_in (x.window w)) says in
-      let said = said_message s rank f (Contention i) w (before w) m.0 (ap (λ (q : Part). said_in (opened_at s rank f q w (before w))) (sym at) ∙ m.1) in
+      let m = some_of (message_said (x.window w)) says in
+      let said = said_message s rank f (Contention i) w (before w) m.0 (ap (λ (q : Part). message_said (opened_at s rank f q w (before w))) (sym at) ∙ m.1) in
       let same : said.0 ≡ c = (let both : StateOn said.0 ≡ StateOn c = sym said.1 ∙ on in cc) in
       let request = only_requests (setup_in s w) f i said.0 m.0 said.3 in
-      let asks : (opened (setup_in s w) f (Contention i) said.0).message ≡ Some (RequestOf request.0) = said.3 ∙ ap (λ (n : Message). Some n) request.1 in
+      let asks : (opened_slot (setup_in s w) f (Contention i) said.0).message ≡ Some (RequestOf request.0) = said.3 ∙ ap (λ (n : Message). Some n) request.1 in
       let own : c.own_slot ≡ Some i = ap (λ (d : Core). d.own_slot) (sym same) ∙ (requests (setup_in s w) f i said.0 request.0 asks).own in
       let member = ap (λ (d : Core). is_member rank f d) (sym same) ∙ said.2 in
       let mine : is_own c.own_slot i ≡ true = ap (λ (o : Option ℕ). is_own o i) own ∙ eq-eqb i i refl in (
-        (opened (setup_in s w) f (Contention i) c).core,
-        ap (λ (h : Option Message). left_by (before w) (closed_by s f (part_of p j) w (opened_at s rank f (part_of p j) w (before w)) h (before w)))
+        (opened_slot (setup_in s w) f (Contention i) c).core,
+        ap (λ (h : Option Message). left_by (before w) (closed_slot_of s f (part_of p j) w (opened_at s rank f (part_of p j) w (before w)) h (before w)))
             (none_accepts w)
-            ∙ ap (λ (q : Part). left_by (before w) (closed_by s f q w (opened_at s rank f q w (before w)) None (before w))) at
+            ∙ ap (λ (q : Part). left_by (before w) (closed_slot_of s f q w (opened_at s rank f q w (before w)) None (before w))) at
             ∙ left_windowed s rank f (Contention i) w (before w) c None on member,
         cond-true (is_own c.own_slot i) (after_contention w c.streams) c.streams mine,
-        has_due w c i (ap (λ (d : Core). is_some (opened (setup_in s w) f (Contention i) d).message) (sym same)
+        has_due w c i (ap (λ (d : Core). is_some (opened_slot (setup_in s w) f (Contention i) d).message) (sym same)
             ∙ ap (λ (o : Option Message). is_some o) said.3),
       )
     where
@@ -185,8 +185,8 @@ module _ (s : ScenarioParts) (rank f : ℕ) (p : Plan) (j u v : ℕ) (is : Colli
       some_of None is = absurd (false≢true is)
       some_of (Some m) is = (m, refl)
 
-      has_due : (w : ℕ) (c : Core) (i : ℕ) → is_some (opened (setup_in s w) f (Contention i) c).message ≡ true → is_some (due c.streams) ≡ true
-      has_due w c i some = by_tests (is_own c.own_slot i) (c.streams.skips == 0) (due c.streams) some
+      has_due : (w : ℕ) (c : Core) (i : ℕ) → is_some (opened_slot (setup_in s w) f (Contention i) c).message ≡ true → is_some (due_stream c.streams) ≡ true
+      has_due w c i some = by_tests (is_own c.own_slot i) (c.streams.skips == 0) (due_stream c.streams) some
         where
           by_tests : (b t : Bool) (o : Option ℕ) → is_some (if b then option_map (request_of w c) (if t then o else None) else None) ≡ true
               → is_some o ≡ true

@@ -8,10 +8,11 @@ use Rattle.bus_rules.specs.declared.part.Part.{Part}
 use Rattle.bus_rules.specs.declared.part.Part.TheVariants.{Opening, Data as DataSlot, Contention, Closing}
 use Rattle.bus_rules.specs.Cores.{Core, Setup, is_member}
 use Rattle.bus_rules.specs.Plans.{last_slot}
-use Rattle.bus_rules.specs.Slots.{Message, Data, data_of, ScheduleOf, DataOf, RequestOf, opened, closed, part_of, hosts_now, most_kept, is_own, request_of}
+use Rattle.bus_rules.specs.Slots.{Message, Data, data_of, ScheduleOf, DataOf, RequestOf, opened_slot, closed_slot, part_of, hosts_now, most_kept, is_own}
+use Rattle.bus_rules.specs.Slots.{request_of}
 use Rattle.bus_rules.specs.States.{State, StateOff, StateOn}
-use Rattle.bus_rules.specs.Streams.{Streams, Waiting, first_waiting, requested, stream_at, due, is_due}
-use Rattle.bus_terms.specs.Rounds.{opened_at, closed_by, left_by}
+use Rattle.bus_rules.specs.Streams.{Streams, WaitingPacket, first_waiting, requested, stream_at, due_stream, request_is_due}
+use Rattle.bus_terms.specs.Rounds.{opened_at, closed_slot_of, left_by}
 use Rattle.bus_terms.specs.ScriptedStates.{setup_in}
 
 -- the contention slots are those after the data slots and before the last
@@ -38,15 +39,15 @@ four false false false false k is = absurd (cc)
 requested_stream : (x : Streams) (k : ℕ) → requested x ≡ Some k → k ≤ 3
 requested_stream x k is = by_test (x.skips == 0) is
   where
-    by_test : (b : Bool) → (if b then due x else None) ≡ Some k → k ≤ 3
-    by_test true is = four (is_due x 0) (is_due x 1) (is_due x 2) (is_due x 3) k is
+    by_test : (b : Bool) → (if b then due_stream x else None) ≡ Some k → k ≤ 3
+    by_test true is = four (request_is_due x 0) (request_is_due x 1) (request_is_due x 2) (request_is_due x 3) k is
     by_test false is = absurd (cc)
 
 own_is : (own : Option ℕ) (i : ℕ) → is_own own i ≡ true → own ≡ Some i
 own_is None i is = absurd (false≢true is)
 own_is (Some n) i is = ap (λ (m : ℕ). Some m) (eqb-true n i is)
 
-pub requests : (q : Setup) (f i : ℕ) (c : Core) (b : Ask) → (opened q f (Contention i) c).message ≡ Some (RequestOf b) → IsRequest q.id i c b
+pub requests : (q : Setup) (f i : ℕ) (c : Core) (b : Ask) → (opened_slot q f (Contention i) c).message ≡ Some (RequestOf b) → IsRequest q.id i c b
 requests q f i c b said = by_own (is_own c.own_slot i) refl (requested c.streams) refl said
   where
     by_own : (t : Bool) → is_own c.own_slot i ≡ t → (w : Option ℕ) → requested c.streams ≡ w
@@ -60,7 +61,7 @@ requests q f i c b said = by_own (is_own c.own_slot i) refl (requested c.streams
         record { node = sym node; stream = omega (arith, stream, few); own = own_is c.own_slot i at }
 
 -- nothing but requests is said in it
-pub only_requests : (q : Setup) (f i : ℕ) (c : Core) (m : Message) → (opened q f (Contention i) c).message ≡ Some m → (b : Ask) × (m ≡ RequestOf b)
+pub only_requests : (q : Setup) (f i : ℕ) (c : Core) (m : Message) → (opened_slot q f (Contention i) c).message ≡ Some m → (b : Ask) × (m ≡ RequestOf b)
 only_requests q f i c m said = by_own (is_own c.own_slot i) (requested c.streams) said
   where
     by_own : (t : Bool) (w : Option ℕ) → (if t then option_map (request_of q.id c) w else None) ≡ Some m → (b : Ask) × (m ≡ RequestOf b)
@@ -71,10 +72,11 @@ only_requests q f i c m said = by_own (is_own c.own_slot i) (requested c.streams
         let is : m ≡ RequestOf b = cc in (b, is)
 
 -- and in a data slot nothing but data
-pub only_data : (q : Setup) (f owner : ℕ) (c : Core) (m : Message) → (opened q f (DataSlot owner) c).message ≡ Some m → (d : Data) × (m ≡ DataOf d)
+pub only_data : (q : Setup) (f owner : ℕ) (c : Core) (m : Message) → (opened_slot q f (DataSlot owner) c).message ≡ Some m → (d : Data) × (m ≡ DataOf d)
 only_data q f owner c m said = by_owner (node_of owner == q.id) (first_waiting c.streams (stream_of owner)) said
   where
-    by_owner : (t : Bool) (w : Option Waiting) → (if t then option_map (data_of q.id c (stream_of owner)) w else None) ≡ Some m → (d : Data) × (m ≡ DataOf d)
+    by_owner : (t : Bool) (w : Option WaitingPacket) → (if t then option_map (data_of q.id c (stream_of owner)) w else None) ≡ Some m
+        → (d : Data) × (m ≡ DataOf d)
     by_owner false w said = absurd (cc)
     by_owner true None said = absurd (cc)
     by_owner true (Some x) said =
@@ -97,7 +99,7 @@ few_more q f c (Some (RequestOf a)) =
     (λ _. omega (arith, length-append c.kept (a ∷ []))) (λ _. omega arith)
 
 pub keeps_by : (q : Setup) (f i : ℕ) (b : Bool) (c : Core) (heard : Option Message) → ((y : Schedule) → heard ≡ Some (ScheduleOf y) → ⊥)
-    → (let d : Core = (closed q f (Contention i) b (opened q f (Contention i) c).core heard).core in
+    → (let d : Core = (closed_slot q f (Contention i) b (opened_slot q f (Contention i) c).core heard).core in
     (d.kept ≡ kept_by q f c heard) × (d.table ≡ c.table))
 keeps_by q f i b c None none = (refl, refl)
 keeps_by q f i b c (Some (ScheduleOf y)) none = absurd (none y refl)
@@ -107,7 +109,7 @@ keeps_by q f i b c (Some (RequestOf a)) none = (refl, refl)
 -- and before the contention slots a host that accepts no schedule and no request keeps what it kept
 pub keeps_none : (q : Setup) (f : ℕ) (part : Part) (b : Bool) (c : Core) (heard : Option Message) → ((i : ℕ) → part ≡ Contention i → ⊥)
     → (part ≡ Closing → ⊥) → ((y : Schedule) → heard ≡ Some (ScheduleOf y) → ⊥) → ((a : Ask) → heard ≡ Some (RequestOf a) → ⊥)
-    → (closed q f part b (opened q f part c).core heard).core.kept ≡ c.kept
+    → (closed_slot q f part b (opened_slot q f part c).core heard).core.kept ≡ c.kept
 keeps_none q f (Contention i) b c heard early still none more = absurd (early i refl)
 keeps_none q f Closing b c heard early still none more = absurd (still refl)
 keeps_none q f part b c (Some (ScheduleOf y)) early still none more = absurd (none y refl)
@@ -123,14 +125,14 @@ own_of (StateOff boots) = None
 own_of (StateOn c) = c.own_slot
 
 pub own_stays : (s : ScenarioParts) (rank f i v : ℕ) (x : State) (heard : Option Message) → ((y : Schedule) → heard ≡ Some (ScheduleOf y) → ⊥)
-    → own_of (left_by x (closed_by s f (Contention i) v (opened_at s rank f (Contention i) v x) heard x)) ≡ own_of x
+    → own_of (left_by x (closed_slot_of s f (Contention i) v (opened_at s rank f (Contention i) v x) heard x)) ≡ own_of x
 own_stays s rank f i v (StateOff boots) None none = refl
 own_stays s rank f i v (StateOff boots) (Some m) none = refl
 own_stays s rank f i v (StateOn c) heard none = by_member (is_member rank f c) heard none
   where
     by_member : (t : Bool) (heard : Option Message) → ((y : Schedule) → heard ≡ Some (ScheduleOf y) → ⊥)
         → own_of (left_by (StateOn c)
-        (closed_by s f (Contention i) v (if t then Some (opened (setup_in s v) f (Contention i) c) else None) heard (StateOn c))) ≡ c.own_slot
+        (closed_slot_of s f (Contention i) v (if t then Some (opened_slot (setup_in s v) f (Contention i) c) else None) heard (StateOn c))) ≡ c.own_slot
     by_member true None none = refl
     by_member true (Some (ScheduleOf y)) none = absurd (none y refl)
     by_member true (Some (DataOf d)) none = refl

@@ -10,13 +10,13 @@ use Rattle.bus_rules.specs.declared.delivery.Delivery.{Delivery}
 use Rattle.bus_rules.specs.declared.part.Part.{Part}
 use Rattle.bus_rules.specs.declared.part.Part.TheVariants.{Data as DataSlot}
 use Rattle.bus_rules.specs.Cores.{Core}
-use Rattle.bus_rules.specs.Slots.{Message, Opened, opened, data_of, delivery_of}
+use Rattle.bus_rules.specs.Slots.{Message, Opened, opened_slot, data_of, delivery_of}
 use Rattle.bus_rules.specs.States.{State, StateOn}
-use Rattle.bus_rules.specs.Streams.{Waiting, first_waiting}
+use Rattle.bus_rules.specs.Streams.{WaitingPacket, first_waiting}
 use Rattle.bus_terms.specs.FloodOfText.{ids}
 use Rattle.bus_terms.specs.Flooding.{has}
 use Rattle.bus_terms.specs.ScriptedStates.{setup_in}
-use Rattle.bus_terms.specs.Rounds.{Slot, slot_of, opened_at, said_in, takes_part, accepted_at, closed_by, before_slot}
+use Rattle.bus_terms.specs.Rounds.{Slot, slot_of_round, opened_at, message_said, takes_part, accepted_at, closed_slot_of, before_slot}
 use Rattle.bus_terms.proofs.ReceivedByPaths.{of_filtered, in_whole}
 use Rattle.bus_terms.proofs.ReceivedInRounds.{ids_rise}
 use Rattle.law_service.specs.Reach.{TakesPart}
@@ -25,8 +25,8 @@ use Rattle.law_service.proofs.SaidByParts.{window_of, owner_alone}
 use Rattle.law_service.proofs.SoleVoices.{accepts, accepts_said}
 
 -- what the owner says
-owner_sends : (s : ScenarioParts) (f owner : ℕ) (c : Core) (w : Waiting) → first_waiting c.streams (stream_of owner) ≡ Some w
-    → (opened (setup_in s (node_of owner)) f (DataSlot owner) c).message ≡ Some (data_of (node_of owner) c (stream_of owner) w)
+owner_sends : (s : ScenarioParts) (f owner : ℕ) (c : Core) (w : WaitingPacket) → first_waiting c.streams (stream_of owner) ≡ Some w
+    → (opened_slot (setup_in s (node_of owner)) f (DataSlot owner) c).message ≡ Some (data_of (node_of owner) c (stream_of owner) w)
 owner_sends s f owner c w waits = rw (eq-eqb (node_of owner) (node_of owner) refl, waits) refl
 
 -- members alone take part in a data slot
@@ -39,7 +39,7 @@ delivered_within s accepted rank f p states j owner c w has_data lossless k v wi
   ap (λ (o : Option Opened). delivery_with v o (accepted_at x v)) opens.1
       ∙ ap (λ (h : Option Message). delivery_with v (Some opens.0) h) heard
       ∙ ap (λ (part : Part). option_map (delivery_of v f rank j)
-      (option_and_then (λ c. c.delivered) (closed_by s f part v (Some opens.0) (Some (data_of u c (stream_of owner) w)) (before v)))) has_data.slot,
+      (option_and_then (λ c. c.delivered) (closed_slot_of s f part v (Some opens.0) (Some (data_of u c (stream_of owner) w)) (before v)))) has_data.slot,
   accepts s x f j refl (λ k u v. refl) refl scenario.some_sends rise lossless u sent known takes says alone k v within,
 )
   where
@@ -50,7 +50,7 @@ delivered_within s accepted rank f p states j owner c w has_data lossless k v wi
     before = before_slot s rank f p states j
 
     x : Slot
-    x = slot_of s rank f p j before
+    x = slot_of_round s rank f p j before
 
     u : ℕ
     u = node_of owner
@@ -68,7 +68,7 @@ delivered_within s accepted rank f p states j owner c w has_data lossless k v wi
     known = in_whole (λ v. takes_part rank x.part (before v) (x.window v)) (ids s.nodes) u takes
 
     delivery_with : ℕ → Option Opened → Option Message → Option Delivery
-    delivery_with v o h = option_map (delivery_of v f rank j) (option_and_then (λ c. c.delivered) (closed_by s f x.part v o h (before v)))
+    delivery_with v o h = option_map (delivery_of v f rank j) (option_and_then (λ c. c.delivered) (closed_slot_of s f x.part v o h (before v)))
 
     window_is : (v : ℕ) → x.window v ≡ opened_at s rank f (DataSlot owner) v (before v)
     window_is v = ap (λ (part : Part). opened_at s rank f part v (before v)) has_data.slot
@@ -81,18 +81,18 @@ delivered_within s accepted rank f p states j owner c w has_data lossless k v wi
     opens : (o : Opened) × (x.window v ≡ Some o)
     opens = opened_part v within.there
 
-    says : said_in (x.window u) ≡ Some sent
+    says : message_said (x.window u) ≡ Some sent
     says =
         let mine = opened_part u takes in
         let own = window_of s rank f (DataSlot owner) u (before u) mine.0 (sym (window_is u) ∙ mine.1) in
         let same : StateOn own.0 ≡ StateOn c = sym own.1 ∙ has_data.on in
         let core : own.0 ≡ c = cc in
-        ap said_in mine.1 ∙ ap (λ (o : Opened). o.message) own.3
-        ∙ ap (λ (d : Core). (opened (setup_in s u) f (DataSlot owner) d).message) core
+        ap message_said mine.1 ∙ ap (λ (o : Opened). o.message) own.3
+        ∙ ap (λ (d : Core). (opened_slot (setup_in s u) f (DataSlot owner) d).message) core
         ∙ owner_sends s f owner c w has_data.waits
 
-    alone : (v : ℕ) → is_some (said_in (x.window v)) ≡ true → v ≡ u
-    alone v some = owner_alone s rank f owner v (before v) (ap (λ (o : Option Opened). is_some (said_in o)) (sym (window_is v)) ∙ some)
+    alone : (v : ℕ) → is_some (message_said (x.window v)) ≡ true → v ≡ u
+    alone v some = owner_alone s rank f owner v (before v) (ap (λ (o : Option Opened). is_some (message_said o)) (sym (window_is v)) ∙ some)
 
     heard : accepted_at x v ≡ Some sent
     heard = accepts_said s x f j refl (λ k u v. refl) refl scenario.some_sends rise lossless u sent known takes says alone k v within

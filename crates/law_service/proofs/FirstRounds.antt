@@ -8,7 +8,7 @@ use Rattle.scenario_text.proofs.SoundScenarios.{sound}
 use Rattle.bus_rules.specs.declared.tune.Tune.TheVariants.{Host}
 use Rattle.bus_rules.specs.Cores.{Core}
 use Rattle.bus_rules.specs.Granting.{count_of, owed_to, plan_round}
-use Rattle.bus_rules.specs.HostPlans.{host_plan, answered}
+use Rattle.bus_rules.specs.HostPlans.{host_plan, answers_to}
 use Rattle.bus_rules.specs.Plans.{last_slot}
 use Rattle.bus_rules.specs.Slots.{host_closes}
 use Rattle.bus_rules.specs.States.{StateOn}
@@ -17,8 +17,8 @@ use Rattle.bus_rules.specs.Tuning.{rank_of}
 use Rattle.bus_terms.specs.Bus.{state_at}
 use Rattle.bus_terms.specs.Rounds.{before_slot}
 use Rattle.bus_terms.specs.ScriptedStates.{setup_in}
-use Rattle.law_service.specs.FirstSlots.{table_at, PlansRound, Fits, RoundsFollow, OwedSlotsAreGranted, NewStreamsAreGranted}
-use Rattle.law_service.specs.ScheduleService.{IsHosted, slot_in, node_before, node_after}
+use Rattle.law_service.specs.FirstSlots.{table_at, PlansRound, FitsNextRound, RoundsFollow, OwedSlotsAreGranted, NewStreamsAreGranted}
+use Rattle.law_service.specs.ScheduleService.{IsHosted, slot_in, node_before, state_after_round}
 use Rattle.law_service.proofs.GrantedSlots.{gap_range, round_gap, fitting_grants, table_has}
 use Rattle.law_service.proofs.HostedRounds.{Hosting, leads, has_planned}
 use Rattle.law_service.proofs.LoneRequests.{same_core, at_closing, asked}
@@ -44,7 +44,7 @@ module _ (s : ScenarioParts) (rank f : ℕ) (p : Plan) (host : ℕ) (hosted : Is
   next_is lead =
       let same : lead.core ≡ c = same_core lead.core c (before_slot s rank f p (state_at s f) (last_slot p) host) lead.on plans.on in
       let after = has_planned s rank f p host hosted lead ∙ ap (λ (d : Core). StateOn (host_closes (setup_in s host) f d).core) same in
-      same_core plans.next (host_closes (setup_in s host) f c).core (node_after s rank f p host) plans.next_on after
+      same_core plans.next (host_closes (setup_in s host) f c).core (state_after_round s rank f p host) plans.next_on after
 
   lead : Hosting rank f p (before_slot s rank f p (state_at s f) (last_slot p) host)
   lead = leads s rank f p host hosted (last_slot p) (omega arith)
@@ -65,7 +65,8 @@ module _ (s : ScenarioParts) (rank f : ℕ) (p : Plan) (host : ℕ) (hosted : Is
       let is = due_is in
       (omega (arith, gap, range, is), omega (arith, gap, range, is))
 
-  pub grants : Fits s f host c due → (e : Entry) → Contains (table_at f host c).entries e → owed_to s.profile.seconds due e ≤ count_of e.code plan.owners
+  pub grants : FitsNextRound s f host c due → (e : Entry) → Contains (table_at f host c).entries e
+      → owed_to s.profile.seconds due e ≤ count_of e.code plan.owners
   grants fits e there =
       subst (λ (owners : _). owed_to s.profile.seconds due e ≤ count_of e.code owners) (sym owners_are)
       (fitting_grants s.profile.seconds f due (table_at f host c) due_is fits e there)
@@ -87,7 +88,7 @@ new_granted s accepted rank f p host j u a b reaches room wants c due plan plans
     let same : t.core ≡ c = same_core t.core c (node_before s rank f p (last_slot p) host) t.on plans.on in
     let kept = ap (λ (d : Core). d.kept) (sym same) ∙ t.kept in
     let table : c.table ≡ b.table = ap (λ (d : Core). d.table) (sym same) ∙ t.table in
-    let free : is_full a (answered f b.kept c.table).table ≡ false = ap (λ (x : Table). is_full a (answered f b.kept x).table) table ∙ room in
+    let free : is_full a (answers_to f b.kept c.table).table ≡ false = ap (λ (x : Table). is_full a (answers_to f b.kept x).table) table ∙ room in
     let ours = (asked s scenario rank f p host j u a b reaches).2 in
     let apart = is_another s (slot_in s rank f p j) u reaches.step host reaches.within in
     let other : (i : ℕ) → i ≤ 3 → code_of a ≢ code host i =

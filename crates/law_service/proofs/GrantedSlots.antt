@@ -7,7 +7,7 @@ use Rattle.std.proofs.lemmas.Grind.{fold-append}
 use Rattle.std.proofs.lemmas.List.Sums.{sum_by-cons}
 use Rattle.lwb_base.specs.Messages.{Ask, code_of, code}
 use Rattle.bus_rules.specs.Granting.{Grants, count_of, owners_by, granted_by, given, share_in, last_code, grants_for, gap_of, owed_to, total, plan_round}
-use Rattle.bus_rules.specs.HostPlans.{Answered, answer, answered, Served, serve, served, put_if}
+use Rattle.bus_rules.specs.HostPlans.{Answered, answer, answers_to, Served, serve, served, put_if}
 use Rattle.bus_rules.specs.Streams.{Streams, due_of, with_agreed}
 use Rattle.bus_rules.specs.Tables.{Entry, Table, has_code, is_full, new_entry, without, with_entry, after_request, interval_of}
 use Rattle.bus_rules.proofs.Grants.{count_replicate, gap_stays}
@@ -144,11 +144,11 @@ stay_answered f e [] x none there = there
 stay_answered f e (b ∷ bs) x none there =
     stay_answered f e bs (answer f x b) none.1 (stays_in f e x.table b (λ same. none.0 (sym same)) there)
 
-answered_entry : (f : ℕ) (a : Ask) (earlier later : List Ask) (t : Table) → NoneOf (code_of a) later → is_full a (answered f earlier t).table ≡ false
-    → a.interval ≢ 0 → Contains (answered f (earlier ++ a ∷ later) t).table.entries (new_entry a f)
+answered_entry : (f : ℕ) (a : Ask) (earlier later : List Ask) (t : Table) → NoneOf (code_of a) later → is_full a (answers_to f earlier t).table ≡ false
+    → a.interval ≢ 0 → Contains (answers_to f (earlier ++ a ∷ later) t).table.entries (new_entry a f)
 answered_entry f a earlier later t none room wants =
     let start : Answered = record { table = t; acks = [] } in
-    let x : Answered = answered f earlier t in
+    let x : Answered = answers_to f earlier t in
     subst (λ (y : Answered). Contains y.table.entries (new_entry a f)) (sym (fold-append (answer f) start earlier (a ∷ later)))
     (stay_answered f (new_entry a f) later (answer f x a) none (put_in f x.table a room wants))
 
@@ -175,8 +175,8 @@ served_entry f host boot t x e other there =
     (served_once f host boot 1 s1 e (other 1 (omega arith)) (served_once f host boot 0 s0 e (other 0 (omega arith)) there)))
 
 pub table_has : (f host boot : ℕ) (a : Ask) (earlier later kept : List Ask) (t : Table) (x : Streams) → kept ≡ earlier ++ a ∷ later
-    → NoneOf (code_of a) later → is_full a (answered f earlier t).table ≡ false → a.interval ≢ 0 → ((i : ℕ) → i ≤ 3 → code_of a ≢ code host i)
-    → Contains (served f host boot (answered f kept t).table x).table.entries (new_entry a f)
+    → NoneOf (code_of a) later → is_full a (answers_to f earlier t).table ≡ false → a.interval ≢ 0 → ((i : ℕ) → i ≤ 3 → code_of a ≢ code host i)
+    → Contains (served f host boot (answers_to f kept t).table x).table.entries (new_entry a f)
 table_has f host boot a earlier later kept t x is none room wants other =
-    served_entry f host boot (answered f kept t).table x (new_entry a f) other
-    (subst (λ (l : List Ask). Contains (answered f l t).table.entries (new_entry a f)) (sym is) (answered_entry f a earlier later t none room wants))
+    served_entry f host boot (answers_to f kept t).table x (new_entry a f) other
+    (subst (λ (l : List Ask). Contains (answers_to f l t).table.entries (new_entry a f)) (sym is) (answered_entry f a earlier later t none room wants))

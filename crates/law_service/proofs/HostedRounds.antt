@@ -12,17 +12,17 @@ use Rattle.bus_rules.specs.declared.tune.Tune.{Tune}
 use Rattle.bus_rules.specs.Cores.{Core, Setup, is_member, own_rank}
 use Rattle.bus_rules.specs.HostPlans.{host_plan}
 use Rattle.bus_rules.specs.Plans.{last_slot, opening}
-use Rattle.bus_rules.specs.Slots.{Message, ScheduleOf, DataOf, RequestOf, Opened, opened, closed, part_of, hosts_now, host_closes, silent}
+use Rattle.bus_rules.specs.Slots.{Message, ScheduleOf, DataOf, RequestOf, Opened, opened_slot, closed_slot, part_of, hosts_now, host_closes, silent}
 use Rattle.bus_rules.specs.States.{State, StateOff, StateOn}
 use Rattle.bus_rules.specs.Tuning.{rank_of, hosts_in, holds_in, rank_of}
 use Rattle.bus_rules.proofs.Ranks.{hosts_own}
 use Rattle.bus_terms.specs.Bus.{state_at}
 use Rattle.bus_terms.specs.FloodOfText.{ids}
 use Rattle.bus_terms.specs.Flooding.{has, accepted, moment, STEPS}
-use Rattle.bus_terms.specs.Rounds.{Slot, slot_at, opened_at, said_in, accepted_at, closed_by, left_by, before_slot, plan_in, first_node}
-use Rattle.bus_terms.specs.ScriptedStates.{is_on, setup_in}
+use Rattle.bus_terms.specs.Rounds.{Slot, slot_at, opened_at, message_said, accepted_at, closed_slot_of, left_by, before_slot, plan_in, first_node}
+use Rattle.bus_terms.specs.ScriptedStates.{is_on_and, setup_in}
 use Rattle.bus_terms.proofs.ReceivedByPaths.{in_filtered}
-use Rattle.law_service.specs.ScheduleService.{IsHosted, slot_in, node_after}
+use Rattle.law_service.specs.ScheduleService.{IsHosted, slot_in, state_after_round}
 use Rattle.law_service.proofs.HostsOfRanks.{IsRightfulState, rightful, rightful_before, due_hosts, due_rank, one_of_rank}
 use Rattle.law_service.proofs.HostsOfRanks.{data_no_schedule, contention_no_schedule}
 use Rattle.law_service.proofs.SaidByParts.{windowed, window_of, speaks}
@@ -62,47 +62,48 @@ closing_last p =
     ∙ cond-false (nat_lt (last_slot p) (last_slot p)) (Contention _) Closing end
 
 -- what is said in a slot, by a member that is on
-pub said_message : (s : ScenarioParts) (rank f : ℕ) (part : Part) (v : ℕ) (x : State) (m : Message) → said_in (opened_at s rank f part v x) ≡ Some m
-    → (c : Core) × (x ≡ StateOn c) × (is_member rank f c ≡ true) × ((opened (setup_in s v) f part c).message ≡ Some m)
+pub said_message : (s : ScenarioParts) (rank f : ℕ) (part : Part) (v : ℕ) (x : State) (m : Message) → message_said (opened_at s rank f part v x) ≡ Some m
+    → (c : Core) × (x ≡ StateOn c) × (is_member rank f c ≡ true) × ((opened_slot (setup_in s v) f part c).message ≡ Some m)
 said_message s rank f part v x m is =
     let o = speaks (opened_at s rank f part v x) (ap (λ (w : Option Message). is_some w) is) in
     let c = window_of s rank f part v x o.0 o.1 in
-    (c.0, c.1, c.2, ap (λ (w : Opened). w.message) (sym c.3) ∙ ap said_in (sym o.1) ∙ is)
+    (c.0, c.1, c.2, ap (λ (w : Opened). w.message) (sym c.3) ∙ ap message_said (sym o.1) ∙ is)
 
 -- what is accepted was said by such a member
 pub heard_from : (s : ScenarioParts) (rank f : ℕ) (p : Plan) (states : ℕ → State) (j : ℕ) (part : Part) → part_of p j ≡ part → (v : ℕ) (m : Message)
     → accepted_at (slot_at s rank f p states j) v ≡ Some m
     → (w : ℕ) × (c : Core) × (before_slot s rank f p states j w ≡ StateOn c) × (is_member rank f c ≡ true)
-    × ((opened (setup_in s w) f part c).message ≡ Some m)
+    × ((opened_slot (setup_in s w) f part c).message ≡ Some m)
 heard_from s rank f p states j part at v m said = by_answer (accepted (slot_at s rank f p states j).flood v) said
   where
     before : ℕ → State
     before = before_slot s rank f p states j
 
-    by_answer : (a : Option (ℕ × ℕ)) → option_and_then (λ a. said_in ((slot_at s rank f p states j).window a.0)) a ≡ Some m
-        → (w : ℕ) × (c : Core) × (before w ≡ StateOn c) × (is_member rank f c ≡ true) × ((opened (setup_in s w) f part c).message ≡ Some m)
+    by_answer : (a : Option (ℕ × ℕ)) → option_and_then (λ a. message_said ((slot_at s rank f p states j).window a.0)) a ≡ Some m
+        → (w : ℕ) × (c : Core) × (before w ≡ StateOn c) × (is_member rank f c ≡ true) × ((opened_slot (setup_in s w) f part c).message ≡ Some m)
     by_answer None is = absurd (cc)
     by_answer (Some a) is =
-        let c = said_message s rank f part a.0 (before a.0) m (ap (λ (q : Part). said_in (opened_at s rank f q a.0 (before a.0))) (sym at) ∙ is) in
+        let c = said_message s rank f part a.0 (before a.0) m (ap (λ (q : Part). message_said (opened_at s rank f q a.0 (before a.0))) (sym at) ∙ is) in
         (a.0, c.0, c.1, c.2, c.3)
 
 -- who initiates accepts nothing
 pub initiator_accepts_none : (x : Slot) (v : ℕ) → has x.flood.initiators v ≡ true → accepted_at x v ≡ None
 initiator_accepts_none x v is =
-    ap (λ (a : Option (ℕ × ℕ)). option_and_then (λ a. said_in (x.window a.0)) a) (cond-true (has x.flood.initiators v) None ((moment x.flood STEPS).heard v) is)
+    ap (λ (a : Option (ℕ × ℕ)). option_and_then (λ a. message_said (x.window a.0)) a)
+        (cond-true (has x.flood.initiators v) None ((moment x.flood STEPS).heard v) is)
 
 -- a member's state after the slot
 pub left_windowed : (s : ScenarioParts) (rank f : ℕ) (part : Part) (v : ℕ) (x : State) (c : Core) (heard : Option Message) → x ≡ StateOn c
-    → is_member rank f c ≡ true → left_by x (closed_by s f part v (opened_at s rank f part v x) heard x)
-    ≡ StateOn (closed (setup_in s v) f part (is_some (opened (setup_in s v) f part c).message) (opened (setup_in s v) f part c).core heard).core
+    → is_member rank f c ≡ true → left_by x (closed_slot_of s f part v (opened_at s rank f part v x) heard x)
+    ≡ StateOn (closed_slot (setup_in s v) f part (is_some (opened_slot (setup_in s v) f part c).message) (opened_slot (setup_in s v) f part c).core heard).core
 left_windowed s rank f part v x c heard on member =
-    ap (λ (x : State). left_by x (closed_by s f part v (opened_at s rank f part v x) heard x)) on
-    ∙ ap (λ (w : Option Opened). left_by (StateOn c) (closed_by s f part v w heard (StateOn c))) (windowed s rank f part v c member)
+    ap (λ (x : State). left_by x (closed_slot_of s f part v (opened_at s rank f part v x) heard x)) on
+    ∙ ap (λ (w : Option Opened). left_by (StateOn c) (closed_slot_of s f part v w heard (StateOn c))) (windowed s rank f part v c member)
 
 -- in a slot before the closing a host that accepts no schedule stays one, with its plan
 stays_host : (q : Setup) (f : ℕ) (part : Part) (b : Bool) (c : Core) (heard : Option Message) → is_closing part ≡ false
     → ((y : Schedule) → heard ≡ Some (ScheduleOf y) → ⊥)
-    → (let d : Core = (closed q f part b (opened q f part c).core heard).core in (d.tune ≡ c.tune) × (d.plan ≡ c.plan))
+    → (let d : Core = (closed_slot q f part b (opened_slot q f part c).core heard).core in (d.tune ≡ c.tune) × (d.plan ≡ c.plan))
 stays_host q f Closing b c heard early none = absurd (false≢true (sym early))
 stays_host q f part b c (Some (ScheduleOf y)) early none = absurd (none y refl)
 stays_host q f Opening b c None early none = (refl, refl)
@@ -122,11 +123,11 @@ pub record Hosting (rank f : ℕ) (p : Plan) (x : State) : Type 0 where
   pub due : hosts_in rank f core.tune ≡ true
   pub plan : core.plan ≡ p
 
-on_core : (test : Core → Bool) (x : State) → is_on test x ≡ true → (c : Core) × (x ≡ StateOn c) × (test c ≡ true)
+on_core : (test : Core → Bool) (x : State) → is_on_and test x ≡ true → (c : Core) × (x ≡ StateOn c) × (test c ≡ true)
 on_core test (StateOff boots) is = absurd (false≢true is)
 on_core test (StateOn c) is = (c, refl, is)
 
-own_of : (s : ScenarioParts) (rank f v : ℕ) (x : State) → IsRightfulState (setup_in s v) x → is_on (λ c. hosts_in rank f c.tune) x ≡ true
+own_of : (s : ScenarioParts) (rank f v : ℕ) (x : State) → IsRightfulState (setup_in s v) x → is_on_and (λ c. hosts_in rank f c.tune) x ≡ true
     → own_rank v s.hosts ≡ Some rank
 own_of s rank f v (StateOff boots) is due = absurd (false≢true due)
 own_of s rank f v (StateOn c) is due = is.own (due_hosts rank f c.tune due) ∙ ap (λ (r : ℕ). Some r) (due_rank rank f c.tune due)
@@ -141,10 +142,10 @@ module _ (s : ScenarioParts) (rank f : ℕ) (p : Plan) (host : ℕ) (hosted : Is
   own : own_rank host s.hosts ≡ Some rank
   own = own_of s rank f host (state_at s f host) (rightful s f host) hosted.due
 
-  pub sole_host : (j v : ℕ) → is_on (λ c. hosts_in rank f c.tune) (before_slot s rank f p (state_at s f) j v) ≡ true → v ≡ host
+  pub sole_host : (j v : ℕ) → is_on_and (λ c. hosts_in rank f c.tune) (before_slot s rank f p (state_at s f) j v) ≡ true → v ≡ host
   sole_host j v due = one_of_rank s.hosts v host rank (own_of s rank f v (before j v) (rightful_before s rank f p j v) due) own
 
-  first_sole : (v : ℕ) → is_on (λ c. hosts_in rank f c.tune) (state_at s f v) ≡ true → v ≡ host
+  first_sole : (v : ℕ) → is_on_and (λ c. hosts_in rank f c.tune) (state_at s f v) ≡ true → v ≡ host
   first_sole v due = one_of_rank s.hosts v host rank (own_of s rank f v (state_at s f v) (rightful s f v) due) own
 
   -- the plan of the round is the host's
@@ -154,11 +155,11 @@ module _ (s : ScenarioParts) (rank f : ℕ) (p : Plan) (host : ℕ) (hosted : Is
       at : (c : Core) × (state_at s f host ≡ StateOn c) × (hosts_in rank f c.tune ≡ true)
       at = on_core (λ c. hosts_in rank f c.tune) (state_at s f host) hosted.due
 
-      led : first_node s (is_on (λ c. hosts_in rank f c.tune)) (state_at s f) ≡ Some host
-      led = found_only (λ v. is_on (λ c. hosts_in rank f c.tune) (state_at s f v)) host hosted.due first_sole (ids s.nodes) hosted.known
+      led : first_node s (is_on_and (λ c. hosts_in rank f c.tune)) (state_at s f) ≡ Some host
+      led = found_only (λ v. is_on_and (λ c. hosts_in rank f c.tune) (state_at s f v)) host hosted.due first_sole (ids s.nodes) hosted.known
 
       other : Option ℕ
-      other = first_node s (is_on (λ c. holds_in rank f c.tune)) (state_at s f)
+      other = first_node s (is_on_and (λ c. holds_in rank f c.tune)) (state_at s f)
 
       planned : plan_in (state_at s f host) ≡ Some p
       planned = sym (ap (λ (o : Option ℕ). option_and_then (λ v. plan_in (state_at s f v)) (option_or o other)) led) ∙ hosted.plan
@@ -168,23 +169,23 @@ module _ (s : ScenarioParts) (rank f : ℕ) (p : Plan) (host : ℕ) (hosted : Is
 
   -- where it says a schedule, it initiates, and accepts nothing
   pub accepts_none : (j : ℕ) (part : Part) → part_of p j ≡ part → (is : Hosting rank f p (before_slot s rank f p (state_at s f) j host)) (y : Schedule)
-      → (opened (setup_in s host) f part is.core).message ≡ Some (ScheduleOf y) → accepted_at (slot_in s rank f p j) host ≡ None
+      → (opened_slot (setup_in s host) f part is.core).message ≡ Some (ScheduleOf y) → accepted_at (slot_in s rank f p j) host ≡ None
   accepts_none j part at is y says =
       let x : Slot = slot_in s rank f p j in
-      let window : x.window host ≡ Some (opened (setup_in s host) f part is.core) =
+      let window : x.window host ≡ Some (opened_slot (setup_in s host) f part is.core) =
       ap (λ (q : Part). opened_at s rank f q host (before j host)) at ∙ ap (λ (z : State). opened_at s rank f part host z) is.on
       ∙ windowed s rank f part host is.core (host_member rank f is.core is.due) in
       let initiates : has x.flood.initiators host ≡ true =
-      in_filtered (λ v. is_some (said_in (x.window v))) (ids s.nodes) host hosted.known
-      (ap (λ (w : Option Opened). is_some (said_in w)) window ∙ ap (λ (o : Option Message). is_some o) says) in
+      in_filtered (λ v. is_some (message_said (x.window v))) (ids s.nodes) host hosted.known
+      (ap (λ (w : Option Opened). is_some (message_said w)) window ∙ ap (λ (o : Option Message). is_some o) says) in
       initiator_accepts_none x host initiates
 
   pub opening_said : (is : Hosting rank f p (before_slot s rank f p (state_at s f) 0 host))
-      → (opened (setup_in s host) f Opening is.core).message ≡ Some (ScheduleOf (opening is.core.plan))
+      → (opened_slot (setup_in s host) f Opening is.core).message ≡ Some (ScheduleOf (opening is.core.plan))
   opening_said is = cond-true (hosts_now f is.core) _ None (hosts_own rank f is.core.tune is.due)
 
   pub closing_opens : (is : Hosting rank f p (before_slot s rank f p (state_at s f) (last_slot p) host))
-      → opened (setup_in s host) f Closing is.core ≡ host_closes (setup_in s host) f is.core
+      → opened_slot (setup_in s host) f Closing is.core ≡ host_closes (setup_in s host) f is.core
   closing_opens is = cond-true (hosts_now f is.core) (host_closes (setup_in s host) f is.core) (silent is.core) (hosts_own rank f is.core.tune is.due)
 
   -- a schedule is said by the host alone, in a slot of schedules
@@ -192,7 +193,7 @@ module _ (s : ScenarioParts) (rank f : ℕ) (p : Plan) (host : ℕ) (hosted : Is
       → (y : Schedule) → accepted_at (slot_in s rank f p j) host ≡ Some (ScheduleOf y) → ⊥
   no_schedule j Closing at early is y said = false≢true (sym early)
   no_schedule j Opening at early is y said =
-      let says : (opened (setup_in s host) f Opening is.core).message ≡ Some (ScheduleOf (opening is.core.plan)) =
+      let says : (opened_slot (setup_in s host) f Opening is.core).message ≡ Some (ScheduleOf (opening is.core.plan)) =
       cond-true (hosts_now f is.core) _ None (hosts_own rank f is.core.tune is.due) in
       let none = accepts_none j Opening at is (opening is.core.plan) says in
       cc
@@ -210,12 +211,12 @@ module _ (s : ScenarioParts) (rank f : ℕ) (p : Plan) (host : ℕ) (hosted : Is
       next : Hosting rank f p (before j host) → Hosting rank f p (before (suc j) host)
       next is =
           let part : Part = part_of p j in
-          let o = opened (setup_in s host) f part is.core in
+          let o = opened_slot (setup_in s host) f part is.core in
           let heard = accepted_at (slot_in s rank f p j) host in
           let open_still = before_closing p j (omega (arith, early)) in
           let same = stays_host (setup_in s host) f part (is_some o.message) is.core heard open_still (no_schedule j part refl open_still is) in
           record {
-            core = (closed (setup_in s host) f part (is_some o.message) o.core heard).core;
+            core = (closed_slot (setup_in s host) f part (is_some o.message) o.core heard).core;
             on = left_windowed s rank f part host (before j host) is.core heard is.on (host_member rank f is.core is.due);
             due = ap (λ (t : Tune). hosts_in rank f t) same.0 ∙ is.due;
             plan = same.1 ∙ is.plan;
@@ -223,7 +224,7 @@ module _ (s : ScenarioParts) (rank f : ℕ) (p : Plan) (host : ℕ) (hosted : Is
 
   -- and after the closing it goes by the plan that it made
   pub has_planned : (is : Hosting rank f p (before_slot s rank f p (state_at s f) (last_slot p) host))
-      → node_after s rank f p host ≡ StateOn (host_closes (setup_in s host) f is.core).core
+      → state_after_round s rank f p host ≡ StateOn (host_closes (setup_in s host) f is.core).core
   unfolding before_slot
   has_planned is =
       let j = last_slot p in
@@ -231,8 +232,8 @@ module _ (s : ScenarioParts) (rank f : ℕ) (p : Plan) (host : ℕ) (hosted : Is
       let plan = host_plan s.profile host is.core.boot (rank_of is.core.tune) f is.core.kept is.core.table is.core.streams in
       let none = accepts_none j Closing (closing_last p) is (record { plan = plan.plan; gap = plan.gap }) (ap (λ (o : Opened). o.message) opens) in
       ap (λ (i : ℕ). before_slot s rank f p (state_at s f) i host) (add-one j)
-      ∙ ap (λ (h : Option Message). left_by (before j host) (closed_by s f (part_of p j) host (opened_at s rank f (part_of p j) host (before j host)) h
+      ∙ ap (λ (h : Option Message). left_by (before j host) (closed_slot_of s f (part_of p j) host (opened_at s rank f (part_of p j) host (before j host)) h
       (before j host))) none
-      ∙ ap (λ (q : Part). left_by (before j host) (closed_by s f q host (opened_at s rank f q host (before j host)) None (before j host))) (closing_last p)
+      ∙ ap (λ (q : Part). left_by (before j host) (closed_slot_of s f q host (opened_at s rank f q host (before j host)) None (before j host))) (closing_last p)
       ∙ left_windowed s rank f Closing host (before j host) is.core None is.on (host_member rank f is.core is.due)
       ∙ ap (λ (o : Opened). StateOn o.core) opens

@@ -16,16 +16,16 @@ use Rattle.bus_rules.specs.declared.tune.Tune.TheVariants.{Scan, Hold, Host}
 use Rattle.bus_rules.specs.Cores.{Core, Setup, own_rank, as_host, begins_host, frame_ended, is_fresh, opening_accepted, closing_accepted, schedule_accepted}
 use Rattle.bus_rules.specs.HostPlans.{host_plan}
 use Rattle.bus_rules.specs.Plans.{opening}
-use Rattle.bus_rules.specs.Slots.{Message, ScheduleOf, DataOf, RequestOf, opened, closed, slot_heard, hosts_now, host_closes, silent, is_own, data_of}
+use Rattle.bus_rules.specs.Slots.{Message, ScheduleOf, DataOf, RequestOf, opened_slot, closed_slot, slot_heard, hosts_now, host_closes, silent, is_own, data_of}
 use Rattle.bus_rules.specs.Slots.{request_of}
 use Rattle.bus_rules.specs.States.{State, StateOff, StateOn, at_core, refuses, queues}
-use Rattle.bus_rules.specs.Streams.{Streams, Waiting, first_waiting, requested}
+use Rattle.bus_rules.specs.Streams.{Streams, WaitingPacket, first_waiting, requested}
 use Rattle.bus_rules.specs.Tables.{Table}
 use Rattle.bus_rules.specs.Tuning.{rank_of, hosts, hosts_in, is_rank, next_tune}
 use Rattle.bus_rules.proofs.Ranks.{same_schedule, rank_is}
 use Rattle.bus_terms.specs.Bus.{before_frame, state_at}
 use Rattle.bus_terms.specs.Rounds.{rounds, before_slot}
-use Rattle.bus_terms.specs.ScriptedStates.{after_act, after_line, lines_of, scripted, setup_in}
+use Rattle.bus_terms.specs.ScriptedStates.{state_after_act, state_after_line, lines_of, states_after_script, setup_in}
 use Rattle.law_service.proofs.KeptInRounds.{slots_keep, rounds_keep}
 
 pub record IsRightful (q : Setup) (c : Core) : Type 0 where
@@ -57,7 +57,7 @@ due_rank rank f (Host r due) now = eqb-true r rank (and_parts (r == rank) _ now)
 due_rank rank f (Hold r due) now = absurd (false≢true now)
 due_rank rank f (Scan r w) now = absurd (false≢true now)
 
-opens : (q : Setup) (f : ℕ) (part : Part) (c : Core) → IsRightful q c → IsRightful q (opened q f part c).core
+opens : (q : Setup) (f : ℕ) (part : Part) (c : Core) → IsRightful q c → IsRightful q (opened_slot q f part c).core
 opens q f Opening c is = is
 opens q f (DataSlot owner) c is = record { own = is.own; contend = is.contend }
 opens q f (Contention i) c is = record { own = is.own; contend = is.contend }
@@ -71,15 +71,15 @@ opens q f Closing c is = by_test (hosts_now f c) refl
     by_test false now = is
 
 -- in a data slot or a contention slot nobody says a schedule
-pub data_no_schedule : (q : Setup) (f owner : ℕ) (c : Core) (x : Schedule) → (opened q f (DataSlot owner) c).message ≡ Some (ScheduleOf x) → ⊥
+pub data_no_schedule : (q : Setup) (f owner : ℕ) (c : Core) (x : Schedule) → (opened_slot q f (DataSlot owner) c).message ≡ Some (ScheduleOf x) → ⊥
 data_no_schedule q f owner c x is = by_owner (node_of owner == q.id) (first_waiting c.streams (stream_of owner)) is
   where
-    by_owner : (b : Bool) (w : Option Waiting) → (if b then option_map (data_of q.id c (stream_of owner)) w else None) ≡ Some (ScheduleOf x) → ⊥
+    by_owner : (b : Bool) (w : Option WaitingPacket) → (if b then option_map (data_of q.id c (stream_of owner)) w else None) ≡ Some (ScheduleOf x) → ⊥
     by_owner false w is = cc
     by_owner true None is = cc
     by_owner true (Some w) is = cc
 
-pub contention_no_schedule : (q : Setup) (f i : ℕ) (c : Core) (x : Schedule) → (opened q f (Contention i) c).message ≡ Some (ScheduleOf x) → ⊥
+pub contention_no_schedule : (q : Setup) (f i : ℕ) (c : Core) (x : Schedule) → (opened_slot q f (Contention i) c).message ≡ Some (ScheduleOf x) → ⊥
 contention_no_schedule q f i c x is = by_own (is_own c.own_slot i) (requested c.streams) is
   where
     by_own : (b : Bool) (w : Option ℕ) → (if b then option_map (request_of q.id c) w else None) ≡ Some (ScheduleOf x) → ⊥
@@ -87,7 +87,7 @@ contention_no_schedule q f i c x is = by_own (is_own c.own_slot i) (requested c.
     by_own true None is = cc
     by_own true (Some w) is = cc
 
-says : (q : Setup) (f : ℕ) (part : Part) (c : Core) (m : Message) → IsRightful q c → (opened q f part c).message ≡ Some m → IsContended q.profile.contend m
+says : (q : Setup) (f : ℕ) (part : Part) (c : Core) (m : Message) → IsRightful q c → (opened_slot q f part c).message ≡ Some m → IsContended q.profile.contend m
 says q f part c (DataOf d) is said = tt
 says q f part c (RequestOf a) is said = tt
 says q f Opening c (ScheduleOf x) is said = by_test (hosts_now f c) refl said
@@ -123,14 +123,14 @@ takes q f x c same is = by_test (x.gap == 0)
     by_test false = record { own = λ host. absurd (false≢true host); contend = λ host. same }
 
 closes : (q : Setup) (f : ℕ) (part : Part) (b : Bool) (c : Core) (o : Option Message) → ((m : Message) → o ≡ Some m → IsContended q.profile.contend m)
-    → IsRightful q c → IsRightful q (closed q f part b c o).core
+    → IsRightful q c → IsRightful q (closed_slot q f part b c o).core
 closes q f part b c None told is = heard q f part b c is
 closes q f part b c (Some (ScheduleOf x)) told is = takes q f x c (told (ScheduleOf x) refl) is
 closes q f part b c (Some (DataOf d)) told is = heard q f part true c is
 closes q f part b c (Some (RequestOf a)) told is = record { own = is.own; contend = is.contend }
 
 -- the script
-acts : (q : Setup) (a : Act) (x : State) → IsRightfulState q x → IsRightfulState q (after_act a x)
+acts : (q : Setup) (a : Act) (x : State) → IsRightfulState q x → IsRightfulState q (state_after_act a x)
 acts q On (StateOff boots) is = record { own = λ host. absurd (false≢true host); contend = λ host. absurd (false≢true host) }
 acts q On (StateOn c) is = is
 acts q Off (StateOff boots) is = is
@@ -146,9 +146,9 @@ acts q (Put i payload) (StateOn c) is = by_test (refuses i c)
     by_test true = is
     by_test false = record { own = is.own; contend = is.contend }
 
-lines : (q : Setup) (ls : List ScriptLine) (x : State) → IsRightfulState q x → IsRightfulState q (fold after_line x ls)
+lines : (q : Setup) (ls : List ScriptLine) (x : State) → IsRightfulState q x → IsRightfulState q (fold state_after_line x ls)
 lines q [] x is = is
-lines q (l ∷ ls) x is = lines q ls (after_line x l) (acts q l.act x is)
+lines q (l ∷ ls) x is = lines q ls (state_after_line x l) (acts q l.act x is)
 
 -- the end of a frame
 ends : (q : Setup) (f : ℕ) (c : Core) → IsRightful q c → IsRightful q (frame_ended q f c)
@@ -193,7 +193,7 @@ ends_state q f (StateOff boots) is = is
 ends_state q f (StateOn c) is = ends q f c is
 
 module _ (s : ScenarioParts) where
-  told : (f : ℕ) (g : ℕ → State) → ((v : ℕ) → IsRightfulState (setup_in s v) (g v)) → (v : ℕ) → IsRightfulState (setup_in s v) (scripted s f g v)
+  told : (f : ℕ) (g : ℕ → State) → ((v : ℕ) → IsRightfulState (setup_in s v) (g v)) → (v : ℕ) → IsRightfulState (setup_in s v) (states_after_script s f g v)
   told f g all v = lines (setup_in s v) (lines_of s f v) (g v) (all v)
 
   run : (f : ℕ) (g : ℕ → State) → ((v : ℕ) → IsRightfulState (setup_in s v) (g v)) → (v : ℕ) → IsRightfulState (setup_in s v) (rounds s f g v)
@@ -207,7 +207,7 @@ module _ (s : ScenarioParts) where
   before zero v = tt
   before (suc f) v =
       let g = before_frame s f in
-      ends_state (setup_in s v) f (rounds s f (scripted s f g) v) (run f (scripted s f g) (told f g (before f)) v)
+      ends_state (setup_in s v) f (rounds s f (states_after_script s f g) v) (run f (states_after_script s f g) (told f g (before f)) v)
 
   pub rightful : (f v : ℕ) → IsRightfulState (setup_in s v) (state_at s f v)
   rightful f v = told f (before_frame s f) (before f) v

@@ -8,11 +8,11 @@ use Rattle.bus_rules.specs.declared.part.Part.{Part}
 use Rattle.bus_rules.specs.declared.part.Part.TheVariants.{Opening, Data as DataSlot, Contention, Closing}
 use Rattle.bus_rules.specs.Cores.{Core}
 use Rattle.bus_rules.specs.Plans.{last_slot, slots_named, opening}
-use Rattle.bus_rules.specs.Slots.{Message, Data, ScheduleOf, DataOf, RequestOf, opened, closed, part_of, hosts_now, most_kept}
+use Rattle.bus_rules.specs.Slots.{Message, Data, ScheduleOf, DataOf, RequestOf, opened_slot, closed_slot, part_of, hosts_now, most_kept}
 use Rattle.bus_rules.specs.States.{State, StateOn}
 use Rattle.bus_rules.proofs.Ranks.{hosts_own}
 use Rattle.bus_terms.specs.Bus.{state_at}
-use Rattle.bus_terms.specs.Rounds.{accepted_at, opened_at, closed_by, left_by, before_slot}
+use Rattle.bus_terms.specs.Rounds.{accepted_at, opened_at, closed_slot_of, left_by, before_slot}
 use Rattle.bus_terms.specs.ScriptedStates.{setup_in}
 use Rattle.law_service.specs.ScheduleService.{IsHosted, slot_in}
 use Rattle.law_service.proofs.ContentionSlots.{contention_at, IsRequest, requests, only_requests, only_data}
@@ -31,7 +31,7 @@ module _ (s : ScenarioParts) (rank f : ℕ) (p : Plan) where
   request_from m v late early o said =
       let from = heard_from s rank f p (state_at s f) m (Contention (m - length p.owners)) (contention_at p m late early) v o said in
       let only = only_requests (setup_in s from.0) f (m - length p.owners) from.1 o from.4 in
-      let as_said : (opened (setup_in s from.0) f (Contention (m - length p.owners)) from.1).message ≡ Some (RequestOf only.0) =
+      let as_said : (opened_slot (setup_in s from.0) f (Contention (m - length p.owners)) from.1).message ≡ Some (RequestOf only.0) =
       from.4 ∙ ap (λ (n : Message). Some n) only.1 in
       (only.0, only.1, (from.0, from.1, from.2, requests (setup_in s from.0) f (m - length p.owners) from.1 only.0 as_said))
 
@@ -41,7 +41,7 @@ module _ (s : ScenarioParts) (rank f : ℕ) (p : Plan) where
   own_next : (m v : ℕ) → length p.owners < m → m < last_slot p → own_of (before (suc m) v) ≡ own_of (before m v)
   unfolding before_slot
   own_next m v late early =
-      ap (λ (q : Part). own_of (left_by (before m v) (closed_by s f q v (opened_at s rank f q v (before m v)) (accepted_at (slot_in s rank f p m) v)
+      ap (λ (q : Part). own_of (left_by (before m v) (closed_slot_of s f q v (opened_at s rank f q v (before m v)) (accepted_at (slot_in s rank f p m) v)
       (before m v)))) (contention_at p m late early)
       ∙ own_stays s rank f (m - length p.owners) v (before m v) (accepted_at (slot_in s rank f p m) v) (λ y said. no_schedule m v late early y said)
 
@@ -60,11 +60,11 @@ module _ (s : ScenarioParts) (rank f : ℕ) (p : Plan) where
     unfolding before_slot
     slot_kept m late early is =
         let part = Contention (m - length p.owners) in
-        let o = opened (setup_in s host) f part is.core in
+        let o = opened_slot (setup_in s host) f part is.core in
         let heard = accepted_at (slot_in s rank f p m) host in
         let same = keeps_by (setup_in s host) f (m - length p.owners) (is_some o.message) is.core heard (λ y said. no_schedule m host late early y said) in (
-          (closed (setup_in s host) f part (is_some o.message) o.core heard).core,
-          ap (λ (q : Part). left_by (before m host) (closed_by s f q host (opened_at s rank f q host (before m host)) heard (before m host)))
+          (closed_slot (setup_in s host) f part (is_some o.message) o.core heard).core,
+          ap (λ (q : Part). left_by (before m host) (closed_slot_of s f q host (opened_at s rank f q host (before m host)) heard (before m host)))
               (contention_at p m late early)
               ∙ left_windowed s rank f part host (before m host) is.core heard is.on (host_member rank f is.core is.due),
           same.0,
@@ -92,9 +92,10 @@ module _ (s : ScenarioParts) (rank f : ℕ) (p : Plan) where
             → ((y : Schedule) → accepted_at (slot_in s rank f p m) host ≡ Some (ScheduleOf y) → ⊥)
             → ((a : Ask) → accepted_at (slot_in s rank f p m) host ≡ Some (RequestOf a) → ⊥) → kept_of (before (suc m) host) ≡ is.core.kept
         kept_with part at soon still none more =
-            let o = opened (setup_in s host) f part is.core in
+            let o = opened_slot (setup_in s host) f part is.core in
             let heard = accepted_at (slot_in s rank f p m) host in
-            ap (λ (q : Part). kept_of (left_by (before m host) (closed_by s f q host (opened_at s rank f q host (before m host)) heard (before m host)))) at
+            ap (λ (q : Part). kept_of
+                (left_by (before m host) (closed_slot_of s f q host (opened_at s rank f q host (before m host)) heard (before m host)))) at
             ∙ ap kept_of (left_windowed s rank f part host (before m host) is.core heard is.on (host_member rank f is.core is.due))
             ∙ keeps_none (setup_in s host) f part (is_some o.message) is.core heard soon still none more
 
@@ -102,7 +103,7 @@ module _ (s : ScenarioParts) (rank f : ℕ) (p : Plan) where
         by_part Closing at early = absurd (false≢true (ap first (sym at) ∙ early))
         by_part (Contention i) at early = absurd (false≢true (ap first (sym at) ∙ early))
         by_part Opening at early =
-            let says : (opened (setup_in s host) f Opening is.core).message ≡ Some (ScheduleOf (opening is.core.plan)) =
+            let says : (opened_slot (setup_in s host) f Opening is.core).message ≡ Some (ScheduleOf (opening is.core.plan)) =
             cond-true (hosts_now f is.core) _ None (hosts_own rank f is.core.tune is.due) in
             let none = accepts_none s rank f p host hosted m Opening at is (opening is.core.plan) says in
             kept_with Opening at (λ i same. cc) (λ same. cc) (λ y said. cc) (λ a said. cc)

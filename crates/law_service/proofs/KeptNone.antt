@@ -11,15 +11,16 @@ use Rattle.bus_rules.specs.declared.part.Part.{Part}
 use Rattle.bus_rules.specs.declared.part.Part.TheVariants.{Opening, Data as DataSlot, Contention, Closing}
 use Rattle.bus_rules.specs.Cores.{Core, Setup, as_host, begins_host, frame_ended, is_fresh, opening_accepted, closing_accepted}
 use Rattle.bus_rules.specs.Plans.{last_slot}
-use Rattle.bus_rules.specs.Slots.{Message, Opened, ScheduleOf, DataOf, RequestOf, opened, closed, slot_heard, hosts_now, host_closes, silent, most_kept}
+use Rattle.bus_rules.specs.Slots.{Message, Opened, ScheduleOf, DataOf, RequestOf, opened_slot, closed_slot, slot_heard, hosts_now, host_closes, silent}
+use Rattle.bus_rules.specs.Slots.{most_kept}
 use Rattle.bus_rules.specs.States.{State, StateOff, StateOn, at_core, refuses, queues}
 use Rattle.bus_rules.specs.Tuning.{next_tune, hosts_in}
 use Rattle.bus_terms.specs.Bus.{before_frame, state_at}
 use Rattle.bus_terms.specs.FloodOfText.{ids}
 use Rattle.bus_terms.specs.Flooding.{has}
 use Rattle.bus_terms.specs.Rounds.{rounds, round_plan, rank_in, after_round}
-use Rattle.bus_terms.specs.ScriptedStates.{after_act, after_line, is_on, lines_of, scripted, setup_in}
-use Rattle.law_service.specs.ScheduleService.{IsHosted, node_after}
+use Rattle.bus_terms.specs.ScriptedStates.{state_after_act, state_after_line, is_on_and, lines_of, states_after_script, setup_in}
+use Rattle.law_service.specs.ScheduleService.{IsHosted, state_after_round}
 use Rattle.law_service.proofs.KeptInRounds.{slots_keep}
 use Rattle.law_service.proofs.HostedRounds.{leads, has_planned}
 
@@ -32,7 +33,7 @@ abbrev IsQuiet : ℕ → State → Type 0
 IsQuiet f (StateOff boots) = Unit {0}
 IsQuiet f (StateOn c) = (hosts_now f c ≡ false) × (c.kept ≡ [])
 
-opens : (q : Setup) (f : ℕ) (part : Part) (c : Core) → IsQuiet f (StateOn c) → IsQuiet f (StateOn (opened q f part c).core)
+opens : (q : Setup) (f : ℕ) (part : Part) (c : Core) → IsQuiet f (StateOn c) → IsQuiet f (StateOn (opened_slot q f part c).core)
 opens q f Opening c is = is
 opens q f (DataSlot owner) c is = is
 opens q f (Contention i) c is = is
@@ -44,7 +45,8 @@ heard f (DataSlot owner) b c is = is
 heard f (Contention i) b c is = is
 heard f Closing b c is = is
 
-closes : (q : Setup) (f : ℕ) (part : Part) (b : Bool) (c : Core) (o : Option Message) → IsQuiet f (StateOn c) → IsQuiet f (StateOn (closed q f part b c o).core)
+closes : (q : Setup) (f : ℕ) (part : Part) (b : Bool) (c : Core) (o : Option Message) → IsQuiet f (StateOn c)
+    → IsQuiet f (StateOn (closed_slot q f part b c o).core)
 closes q f part b c None is = heard f part b c is
 closes q f part b c (Some (ScheduleOf x)) is = by_test (x.gap == 0)
   where
@@ -60,7 +62,7 @@ closes q f part b c (Some (RequestOf a)) is = (
 )
 
 -- the script and the ends of frames
-acts : (a : Act) (x : State) → kept_of x ≡ [] → kept_of (after_act a x) ≡ []
+acts : (a : Act) (x : State) → kept_of x ≡ [] → kept_of (state_after_act a x) ≡ []
 acts On (StateOff boots) is = refl
 acts On (StateOn c) is = is
 acts Off (StateOff boots) is = is
@@ -72,9 +74,9 @@ acts (Leave i) (StateOn c) is = is
 acts (Put i payload) (StateOff boots) is = is
 acts (Put i payload) (StateOn c) is = cond_both (refuses i c) c (queues i payload c) (λ (d : Core). d.kept ≡ []) (λ _. is) (λ _. is)
 
-lines : (ls : List ScriptLine) (x : State) → kept_of x ≡ [] → kept_of (fold after_line x ls) ≡ []
+lines : (ls : List ScriptLine) (x : State) → kept_of x ≡ [] → kept_of (fold state_after_line x ls) ≡ []
 lines [] x is = is
-lines (l ∷ ls) x is = lines ls (after_line x l) (acts l.act x is)
+lines (l ∷ ls) x is = lines ls (state_after_line x l) (acts l.act x is)
 
 ends : (q : Setup) (f : ℕ) (x : State) → kept_of x ≡ [] → kept_of (at_core (frame_ended q f) x) ≡ []
 ends q f (StateOff boots) is = is
@@ -93,12 +95,12 @@ module _ (s : ScenarioParts) (v : ℕ) (known : has (ids s.nodes) v ≡ true) wh
       rank = rank_in (state_at s f v)
 
       hosting : State → Bool
-      hosting x = is_on (λ c. hosts_now f c) x
+      hosting x = is_on_and (λ c. hosts_now f c) x
 
       hosted : (p : Plan) → round_plan s rank f (state_at s f) ≡ Some p → hosting (state_at s f v) ≡ true → IsHosted s rank f p v
       hosted p is due = record { known = known; due = by_state (state_at s f v) due; plan = is }
         where
-          by_state : (x : State) → hosting x ≡ true → is_on (λ c. hosts_in (rank_in x) f c.tune) x ≡ true
+          by_state : (x : State) → hosting x ≡ true → is_on_and (λ c. hosts_in (rank_in x) f c.tune) x ≡ true
           by_state (StateOff boots) due = due
           by_state (StateOn c) due = due
 
@@ -110,12 +112,13 @@ module _ (s : ScenarioParts) (v : ℕ) (known : has (ids s.nodes) v ≡ true) wh
       of_quiet (StateOff boots) is = refl
       of_quiet (StateOn c) is = is.1
 
-      by_hosting : (p : Plan) → round_plan s rank f (state_at s f) ≡ Some p → (t : Bool) → hosting (state_at s f v) ≡ t → kept_of (node_after s rank f p v) ≡ []
+      by_hosting : (p : Plan) → round_plan s rank f (state_at s f) ≡ Some p → (t : Bool) → hosting (state_at s f v) ≡ t
+          → kept_of (state_after_round s rank f p v) ≡ []
       by_hosting p is true due =
           let host = hosted p is due in
           let lead = leads s rank f p v host (last_slot p) (omega arith) in
           ap kept_of (has_planned s rank f p v host lead)
-      by_hosting p is false idle = of_quiet (node_after s rank f p v)
+      by_hosting p is false idle = of_quiet (state_after_round s rank f p v)
           (slots_keep s f (λ w x. w ≡ v → IsQuiet f x) (λ m. Unit {0})
           (λ w part c is same. opens (setup_in s w) f part c (is same))
           (λ w part c m is said. tt)
@@ -130,7 +133,7 @@ module _ (s : ScenarioParts) (v : ℕ) (known : has (ids s.nodes) v ≡ true) wh
   unfolding before_frame
   before zero = refl
   before (suc f) =
-      ends (setup_in s v) f (rounds s f (scripted s f (before_frame s f)) v) (after f (lines (lines_of s f v) (before_frame s f v) (before f)))
+      ends (setup_in s v) f (rounds s f (states_after_script s f (before_frame s f)) v) (after f (lines (lines_of s f v) (before_frame s f v) (before f)))
 
   pub keeps_nothing : (f : ℕ) → kept_of (state_at s f v) ≡ []
   keeps_nothing f = lines (lines_of s f v) (before_frame s f v) (before f)

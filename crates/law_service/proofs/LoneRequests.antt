@@ -11,10 +11,10 @@ use Rattle.scenario_text.proofs.SoundScenarios.{sound}
 use Rattle.bus_rules.specs.declared.part.Part.{Part}
 use Rattle.bus_rules.specs.Cores.{Core}
 use Rattle.bus_rules.specs.Plans.{last_slot}
-use Rattle.bus_rules.specs.Slots.{Message, ScheduleOf, DataOf, RequestOf, opened, part_of, hosts_now, host_closes, most_kept}
+use Rattle.bus_rules.specs.Slots.{Message, ScheduleOf, DataOf, RequestOf, opened_slot, part_of, hosts_now, host_closes, most_kept}
 use Rattle.bus_rules.specs.States.{State, StateOn}
 use Rattle.bus_rules.specs.Tables.{Table, is_full}
-use Rattle.bus_rules.specs.HostPlans.{answered}
+use Rattle.bus_rules.specs.HostPlans.{answers_to}
 use Rattle.bus_rules.specs.Tuning.{rank_of}
 use Rattle.bus_rules.proofs.Ranks.{hosts_own}
 use Rattle.bus_terms.specs.Bus.{state_at}
@@ -83,7 +83,7 @@ module _ (s : ScenarioParts) (scenario : IsSoundScenario s) (rank f : ℕ) (p : 
   pub asked : (d : Core) × (at j u ≡ StateOn d) × IsRequest u (j - length p.owners) d a
   asked =
       let said = said_message s rank f (part_of p j) u (at j u) (RequestOf a) reaches.request.says in
-      let message = ap (λ (q : Part). (opened (setup_in s u) f q said.0).message) (sym (contention_at p j late early)) ∙ said.3 in
+      let message = ap (λ (q : Part). (opened_slot (setup_in s u) f q said.0).message) (sym (contention_at p j late early)) ∙ said.3 in
       (said.0, said.1, requests (setup_in s u) f (j - length p.owners) said.0 a message)
 
   -- requests of later slots are of other streams: their nodes differ, since a node has one slot of its own
@@ -158,13 +158,13 @@ module _ (s : ScenarioParts) (scenario : IsSoundScenario s) (rank f : ℕ) (p : 
   track (suc n) within = subst (λ (i : ℕ). Tracked c a (at i host)) (omega arith) (next n (omega (arith, within)) (track n (omega (arith, within))))
 
   -- at the closing the host plans from what it has kept
-  planned : Hosting rank f p (at (last_slot p) host) → Tracked c a (at (last_slot p) host) → is_full a (answered f c.kept c.table).table ≡ false
+  planned : Hosting rank f p (at (last_slot p) host) → Tracked c a (at (last_slot p) host) → is_full a (answers_to f c.kept c.table).table ≡ false
       → Acknowledges s rank f p host a
   planned lead t free =
       let same : lead.core ≡ t.core = same_core lead.core t.core (at (last_slot p) host) lead.on t.on in
       let table : lead.core.table ≡ c.table = ap (λ (e : Core). e.table) same ∙ t.table in
       let had : lead.core.kept ≡ c.kept ++ a ∷ t.later = ap (λ (e : Core). e.kept) same ∙ t.kept in
-      let has_room : is_full a (answered f c.kept lead.core.table).table ≡ false = ap (λ (x : Table). is_full a (answered f c.kept x).table) table ∙ free in
+      let has_room : is_full a (answers_to f c.kept lead.core.table).table ≡ false = ap (λ (x : Table). is_full a (answers_to f c.kept x).table) table ∙ free in
       record {
         core = (host_closes (setup_in s host) f lead.core).core;
         on = has_planned s rank f p host reaches.hosted lead;
@@ -178,7 +178,7 @@ module _ (s : ScenarioParts) (scenario : IsSoundScenario s) (rank f : ℕ) (p : 
       let ends : j + suc n ≡ last_slot p = (let soon = early in omega (arith, soon)) in
       subst (λ (i : ℕ). Tracked c a (at i host)) ends (track n (omega (arith, ends)))
 
-  acknowledges : is_full a (answered f c.kept c.table).table ≡ false → Acknowledges s rank f p host a
+  acknowledges : is_full a (answers_to f c.kept c.table).table ≡ false → Acknowledges s rank f p host a
   acknowledges free = planned (leads s rank f p host reaches.hosted (last_slot p) (omega arith)) at_closing free
 
 pub kept : LoneRequestsAreKept

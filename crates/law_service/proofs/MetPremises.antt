@@ -1,7 +1,7 @@
 -- The premises of the laws are met in a worked network: the first round of a line of three nodes.
 use Rattle.std.proofs.Common.{◌≡◌, ◌<◌, ℕ, zero, suc, [], false, Some, refl, arith}
 use Rattle.lwb_base.specs.Profile.{one}
-use Rattle.lwb_base.specs.Messages.{Plan, least}
+use Rattle.lwb_base.specs.Messages.{Plan, least_passing}
 use Rattle.scenario_text.specs.ScenarioParts.{ScenarioParts}
 use Rattle.bus_rules.specs.Cores.{empty_plan}
 use Rattle.bus_rules.specs.Granting.{plan_round}
@@ -11,7 +11,7 @@ use Rattle.bus_rules.specs.Streams.{schedule_heard}
 use Rattle.bus_terms.specs.Bus.{before_frame, state_at}
 use Rattle.bus_terms.specs.Distances.{walks}
 use Rattle.bus_terms.specs.Flooding.{moment}
-use Rattle.bus_terms.specs.Rounds.{before_slot, said_in}
+use Rattle.bus_terms.specs.Rounds.{before_slot, message_said}
 use Rattle.law_service.specs.Reach.{is_linked, HasNoLines, LosesNothing, IsWithin}
 use Rattle.law_service.specs.ScheduleService.{IsHosted, slot_in}
 use Rattle.law_service.proofs.LosslessSlots.{lose_nothing}
@@ -24,7 +24,7 @@ abbrev p : Plan
 p = empty_plan one 0 1
 
 hosted : IsHosted s 0 5 p 1
-unfolding before_frame before_slot moment schedule_heard host_plan plan_round least
+unfolding before_frame before_slot moment schedule_heard host_plan plan_round least_passing
 hosted = record { known = refl; due = refl; plan = refl }
 
 untouched : (j : ℕ) → HasNoLines s 5 j
@@ -35,7 +35,7 @@ lossless j = lose_nothing s 0 5 p (state_at s 5) j (untouched j)
 
 -- node 3 is two hops from the host in the opening slot, and the host two hops from it in the contention slot
 listens : IsWithin s (slot_in s 0 5 p 0) 1 2 3
-unfolding before_frame before_slot moment schedule_heard host_plan plan_round least walks
+unfolding before_frame before_slot moment schedule_heard host_plan plan_round least_passing walks
 listens = record { there = refl; distance = record { reached = refl; nearest = nearest }; few = omega arith }
   where
     nearest : (i : ℕ) → i < 2 → walks (is_linked s) (slot_in s 0 5 p 0).flood.everyone 1 i 3 ≡ false
@@ -44,7 +44,7 @@ listens = record { there = refl; distance = record { reached = refl; nearest = n
     nearest (suc (suc i)) less = absurd (omega (arith, less))
 
 asks : IsWithin s (slot_in s 0 5 p 1) 3 2 1
-unfolding before_frame before_slot moment schedule_heard host_plan plan_round least walks
+unfolding before_frame before_slot moment schedule_heard host_plan plan_round least_passing walks
 asks = record { there = refl; distance = record { reached = refl; nearest = nearest }; few = omega arith }
   where
     nearest : (i : ℕ) → i < 2 → walks (is_linked s) (slot_in s 0 5 p 1).flood.everyone 3 i 1 ≡ false
@@ -53,6 +53,6 @@ asks = record { there = refl; distance = record { reached = refl; nearest = near
     nearest (suc (suc i)) less = absurd (omega (arith, less))
 
 -- in which it says the request that the host acknowledges
-request : said_in ((slot_in s 0 5 p 1).window 3) ≡ Some (RequestOf (record { node = 3; boot = 1; stream = 0; interval = 4 }))
-unfolding before_frame before_slot moment schedule_heard host_plan plan_round least
+request : message_said ((slot_in s 0 5 p 1).window 3) ≡ Some (RequestOf (record { node = 3; boot = 1; stream = 0; interval = 4 }))
+unfolding before_frame before_slot moment schedule_heard host_plan plan_round least_passing
 request = refl

@@ -8,7 +8,7 @@ use Rattle.bus_rules.specs.Slots.{Message}
 use Rattle.bus_terms.specs.Distances.{walks}
 use Rattle.bus_terms.specs.FloodOfText.{ids}
 use Rattle.bus_terms.specs.Flooding.{has, Accepts}
-use Rattle.bus_terms.specs.Rounds.{Slot, said_in, accepted_at}
+use Rattle.bus_terms.specs.Rounds.{Slot, message_said, accepted_at}
 use Rattle.bus_terms.proofs.FirstHearings.{accepted_first}
 use Rattle.bus_terms.proofs.ReachByDistance.{accepts_at_distance}
 use Rattle.bus_terms.proofs.ReceivedByPaths.{one_at_most, in_filtered}
@@ -24,7 +24,7 @@ no_link a b c d is = rw is refl
 
 module _ (s : ScenarioParts) (x : Slot) (f j : ℕ) (limit_is : x.flood.limit ≡ s.sends)
     (passes_are : (k u v : ℕ) → x.flood.passes k u v ≡ passes s.trace f j k u v)
-    (initiators_are : x.flood.initiators ≡ filter (λ v. is_some (said_in (x.window v))) (ids s.nodes))
+    (initiators_are : x.flood.initiators ≡ filter (λ v. is_some (message_said (x.window v))) (ids s.nodes))
     (some : 1 ≤ s.sends) (rise : AllPairs (λ a b. a < b) (ids s.nodes)) (lossless : LosesNothing s x) where
   -- a link passes in all steps or in none
   steady : (k u v : ℕ) → k < 12 → has x.flood.everyone u ≡ true → has x.flood.everyone v ≡ true → x.flood.passes k u v ≡ is_linked s u v
@@ -34,12 +34,12 @@ module _ (s : ScenarioParts) (x : Slot) (f j : ℕ) (limit_is : x.flood.limit �
       by_link true is = lossless k u v early from to is ∙ sym is
       by_link false is = passes_are k u v ∙ no_link _ _ _ _ is ∙ sym is
 
-  module _ (u : ℕ) (m : Message) (known : has (ids s.nodes) u ≡ true) (takes : TakesPart x u) (says : said_in (x.window u) ≡ Some m)
-      (alone : (v : ℕ) → is_some (said_in (x.window v)) ≡ true → v ≡ u) where
+  module _ (u : ℕ) (m : Message) (known : has (ids s.nodes) u ≡ true) (takes : TakesPart x u) (says : message_said (x.window u) ≡ Some m)
+      (alone : (v : ℕ) → is_some (message_said (x.window v)) ≡ true → v ≡ u) where
     pub initiates : x.flood.initiators ≡ u ∷ []
-    initiates = elim (one_at_most (λ v. is_some (said_in (x.window v))) u (ids s.nodes) rise alone) [
+    initiates = elim (one_at_most (λ v. is_some (message_said (x.window v))) u (ids s.nodes) rise alone) [
       | inl none ↦
-          (let kept = in_filtered (λ v. is_some (said_in (x.window v))) (ids s.nodes) u known (ap (λ (o : Option Message). is_some o) says) in
+          (let kept = in_filtered (λ v. is_some (message_said (x.window v))) (ids s.nodes) u known (ap (λ (o : Option Message). is_some o) says) in
           absurd (false≢true (ap (λ (l : List ℕ). has l u) (sym none) ∙ kept)))
       | inr one ↦ initiators_are ∙ one.0
     ]
@@ -52,4 +52,4 @@ module _ (s : ScenarioParts) (x : Slot) (f j : ℕ) (limit_is : x.flood.limit �
 
     pub accepts_said : (k v : ℕ) → IsWithin s x u (suc k) v → accepted_at x v ≡ Some m
     accepts_said k v within =
-        ap (λ (a : Option (ℕ × ℕ)). option_and_then (λ a. said_in (x.window a.0)) a) ((accepted_first x.flood v u k).1 (accepts k v within)) ∙ says
+        ap (λ (a : Option (ℕ × ℕ)). option_and_then (λ a. message_said (x.window a.0)) a) ((accepted_first x.flood v u k).1 (accepts k v within)) ∙ says

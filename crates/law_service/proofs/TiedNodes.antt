@@ -4,7 +4,7 @@ use Rattle.std.proofs.Common.{if◌then◌else◌, is_none, is_some, min, fold, 
 use Rattle.std.specs.List.{list_any}
 use Rattle.std.proofs.lemmas.Bool.{false≢true, cond_both, cond-false}
 use Rattle.lwb_base.specs.Messages.{Ask, Schedule, node_of}
-use Rattle.bus_rules.specs.Streams.{Streams, after_contention, tries_after, due, is_host, heard_host, unbound, names, acknowledged, owns, schedule_heard}
+use Rattle.bus_rules.specs.Streams.{Streams, after_contention, tries_after, due_stream, is_host, heard_host, unbound, names, acknowledged, owns, schedule_heard}
 use Rattle.law_service.specs.Contenders.{AreTied, own_number, TiesShareSlots, ThreeSlotsPart, ContentionKeepsTies, SchedulesKeepTies}
 
 pub share_slots : TiesShareSlots
@@ -34,8 +34,8 @@ backs_off u v (suc (suc (suc (suc (suc t))))) same few = absurd (omega (arith, f
 abbrev in_own : ℕ → Streams → Bool → Streams
 in_own node s sends = if sends then record s { tries = tries_after s; skips = node % 2 ^ tries_after s } else record s { skips = s.skips - 1 }
 
-with_due : (node : ℕ) (s : Streams) → is_some (due s) ≡ true → after_contention node s ≡ in_own node s (s.skips == 0)
-with_due node s some = cond-false (is_none (due s)) s (in_own node s (s.skips == 0)) (by_due (due s) some)
+with_due : (node : ℕ) (s : Streams) → is_some (due_stream s) ≡ true → after_contention node s ≡ in_own node s (s.skips == 0)
+with_due node s some = cond-false (is_none (due_stream s)) s (in_own node s (s.skips == 0)) (by_due (due_stream s) some)
   where
     by_due : (o : Option ℕ) → is_some o ≡ true → is_none o ≡ false
     by_due None is = absurd (false≢true is)

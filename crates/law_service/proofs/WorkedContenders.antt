@@ -1,7 +1,7 @@
 -- Contenders in worked networks, computed from the definitions; and where a premise is taken away, one of them is heard.
 use Rattle.std.proofs.Common.{◌≡◌, ◌==◌, ◌||◌, ◌&&◌, ℕ, [], ◌∷◌, Bool, Option, Some, None, if◌then◌else◌, refl}
 use Rattle.lwb_base.specs.Profile.{contended}
-use Rattle.lwb_base.specs.Messages.{least}
+use Rattle.lwb_base.specs.Messages.{least_passing}
 use Rattle.scenario_text.specs.ScenarioParts.{ScenarioParts}
 use Rattle.scenario_text.specs.declared.script.Act.TheVariants.{On, Declare, Put}
 use Rattle.bus_rules.specs.declared.delivery.Delivery.{Delivery}
@@ -41,12 +41,12 @@ delivery f slot v from byte =
     record { frame = f; rank = 0; slot = slot; node = v; from = from; boot = 1; stream = 0; seq = 0; payload = byte ∷ [] }
 
 contend_for_ever : bus_deliveries (star 4 40 7 23) ≡ []
-unfolding before_frame before_slot moment schedule_heard host_plan plan_round least
+unfolding before_frame before_slot moment schedule_heard host_plan plan_round least_passing
 contend_for_ever = refl
 
 part_with_three_slots : bus_deliveries (star 3 12 7 23) ≡
     delivery 9 1 1 7 0xaa ∷ delivery 9 1 23 7 0xaa ∷ delivery 9 5 1 23 0xbb ∷ delivery 9 5 7 23 0xbb ∷ []
-unfolding before_frame before_slot moment schedule_heard host_plan plan_round least
+unfolding before_frame before_slot moment schedule_heard host_plan plan_round least_passing
 part_with_three_slots = refl
 
 -- after a first try nodes 7 and 23 back off for one slot, and node 8, whose id is not equal to theirs modulo 16, for none

@@ -1,7 +1,7 @@
 -- Reach and deliveries in worked networks, computed from the definitions; and where a premise is taken away, nothing comes.
 use Rattle.std.proofs.Common.{◌≡◌, ℕ, List, [], ◌∷◌, Bool, true, false, ◌++◌, refl, map}
 use Rattle.lwb_base.specs.Profile.{one}
-use Rattle.lwb_base.specs.Messages.{least}
+use Rattle.lwb_base.specs.Messages.{least_passing}
 use Rattle.link_trace.specs.declared.lines.LinkLine.{LinkLine}
 use Rattle.link_trace.specs.declared.lines.LoseLine.{LoseLine}
 use Rattle.scenario_text.specs.ScenarioParts.{ScenarioParts}
@@ -69,15 +69,15 @@ abbrev in_frame_9 : ScenarioParts → List Delivery
 in_frame_9 s = round_deliveries s 0 9 (state_at s 9)
 
 both_others_deliver : in_frame_9 (three []) ≡ received 3 1 ∷ received 3 2 ∷ []
-unfolding before_frame before_slot moment schedule_heard host_plan plan_round least
+unfolding before_frame before_slot moment schedule_heard host_plan plan_round least_passing
 both_others_deliver = refl
 
 -- the first hop is lost in the step in which node 3 sends
 nobody_delivers_over_a_lost_link : in_frame_9 (three (record { frame = 9; slot = 1; step = 0; from = 3; to = 2 } ∷ [])) ≡ []
-unfolding before_frame before_slot moment schedule_heard host_plan plan_round least
+unfolding before_frame before_slot moment schedule_heard host_plan plan_round least_passing
 nobody_delivers_over_a_lost_link = refl
 
 -- node 14 is the source: node 2 is 12 hops off and node 1 is 13
 nobody_delivers_thirteen_hops_off : in_frame_9 fourteen ≡ map (received 14) (2 ∷ 3 ∷ 4 ∷ 5 ∷ 6 ∷ 7 ∷ 8 ∷ 9 ∷ 10 ∷ 11 ∷ 12 ∷ 13 ∷ [])
-unfolding before_frame before_slot moment schedule_heard host_plan plan_round least
+unfolding before_frame before_slot moment schedule_heard host_plan plan_round least_passing
 nobody_delivers_thirteen_hops_off = refl

@@ -1,7 +1,7 @@
 -- Who goes by the schedules of the first round in worked networks, computed from the definitions.
 use Rattle.std.proofs.Common.{◌≡◌, ℕ, [], ◌∷◌, List, Bool, true, false, Some, None, Option, refl}
 use Rattle.lwb_base.specs.Profile.{one}
-use Rattle.lwb_base.specs.Messages.{least}
+use Rattle.lwb_base.specs.Messages.{least_passing}
 use Rattle.link_trace.specs.declared.lines.LoseLine.{LoseLine}
 use Rattle.scenario_text.specs.ScenarioParts.{ScenarioParts}
 use Rattle.bus_rules.specs.Cores.{empty_plan}
@@ -11,7 +11,7 @@ use Rattle.bus_rules.specs.HostPlans.{host_plan}
 use Rattle.bus_rules.specs.Tuning.{hosts_in, holds_in}
 use Rattle.bus_terms.specs.Flooding.{moment, accepted}
 use Rattle.bus_terms.specs.Rounds.{before_slot, rounds}
-use Rattle.bus_terms.specs.ScriptedStates.{is_on}
+use Rattle.bus_terms.specs.ScriptedStates.{is_on_and}
 use Rattle.bus_terms.specs.Bus.{before_frame, state_at}
 use Rattle.law_service.specs.ScheduleService.{slot_in}
 use Rattle.law_service.proofs.WorkedReach.{line, three}
@@ -25,18 +25,18 @@ abbrev opening_at : ScenarioParts → ℕ → Option (ℕ × ℕ)
 opening_at s v = accepted (slot_in s 0 5 (empty_plan one 0 1) 0).flood v
 
 twelve_hops_accept_the_opening : (opening_at fourteen 2 ≡ Some (1, 0)) × (opening_at fourteen 13 ≡ Some (1, 11)) × (opening_at fourteen 14 ≡ None)
-unfolding before_frame before_slot moment schedule_heard host_plan plan_round least
+unfolding before_frame before_slot moment schedule_heard host_plan plan_round least_passing
 twelve_hops_accept_the_opening = (refl, refl, refl)
 
 -- whether a node holds the round of frame 9 after that of frame 5
 abbrev holds : ScenarioParts → ℕ → Bool
-holds s v = is_on (λ c. holds_in 0 9 c.tune) (rounds s 5 (state_at s 5) v)
+holds s v = is_on_and (λ c. holds_in 0 9 c.tune) (rounds s 5 (state_at s 5) v)
 
 abbrev hosts : ScenarioParts → ℕ → Bool
-hosts s v = is_on (λ c. hosts_in 0 9 c.tune) (rounds s 5 (state_at s 5) v)
+hosts s v = is_on_and (λ c. hosts_in 0 9 c.tune) (rounds s 5 (state_at s 5) v)
 
 twelve_hops_hold_the_next_round : (hosts fourteen 1 ≡ true) × (holds fourteen 2 ≡ true) × (holds fourteen 13 ≡ true) × (holds fourteen 14 ≡ false)
-unfolding before_frame before_slot moment schedule_heard host_plan plan_round least
+unfolding before_frame before_slot moment schedule_heard host_plan plan_round least_passing
 twelve_hops_hold_the_next_round = (refl, refl, refl, refl)
 
 -- a link that one slot loses from the host
@@ -44,9 +44,9 @@ abbrev lost : ℕ → List LoseLine
 lost slot = record { frame = 5; slot = slot; step = 0; from = 1; to = 2 } ∷ []
 
 a_lost_link_leaves_the_opening_unheard : (opening_at (three []) 3 ≡ Some (1, 1)) × (opening_at (three (lost 0)) 3 ≡ None)
-unfolding before_frame before_slot moment schedule_heard host_plan plan_round least
+unfolding before_frame before_slot moment schedule_heard host_plan plan_round least_passing
 a_lost_link_leaves_the_opening_unheard = (refl, refl)
 
 a_lost_link_leaves_the_closing_unheard : (holds (three []) 3 ≡ true) × (holds (three (lost 2)) 3 ≡ false)
-unfolding before_frame before_slot moment schedule_heard host_plan plan_round least
+unfolding before_frame before_slot moment schedule_heard host_plan plan_round least_passing
 a_lost_link_leaves_the_closing_unheard = (refl, refl)

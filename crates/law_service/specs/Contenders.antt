@@ -7,9 +7,9 @@ use Rattle.scenario_text.specs.ScenarioGrammar.{IsScenario}
 use Rattle.bus_rules.specs.Cores.{Core}
 use Rattle.bus_rules.specs.Plans.{last_slot}
 use Rattle.bus_rules.specs.States.{StateOn}
-use Rattle.bus_rules.specs.Streams.{Streams, after_contention, due, is_host, names, schedule_heard}
+use Rattle.bus_rules.specs.Streams.{Streams, after_contention, due_stream, is_host, names, schedule_heard}
 use Rattle.bus_terms.specs.Flooding.{Setting, candidates, has, hears, moment}
-use Rattle.bus_terms.specs.Rounds.{Slot, accepted_at, said_in}
+use Rattle.bus_terms.specs.Rounds.{Slot, accepted_at, message_said}
 use Rattle.law_service.specs.Reach.{is_linked, TakesPart, LosesNothing}
 use Rattle.law_service.specs.ScheduleService.{slot_in, node_before}
 
@@ -34,7 +34,7 @@ ThreeSlotsPart = (u tries : ℕ) → own_number u tries 3 ≢ own_number (u + 16
 -- in their own slot, in which both have a request due, both send or both back off; and they are tied again
 abbrev pub ContentionKeepsTies : Type 0
 ContentionKeepsTies =
-    (u v : ℕ) (a b : Streams) → AreTied u v a b → is_some (due a) ≡ true → is_some (due b) ≡ true
+    (u v : ℕ) (a b : Streams) → AreTied u v a b → is_some (due_stream a) ≡ true → is_some (due_stream b) ≡ true
     → AreTied u v (after_contention u a) (after_contention v b)
 
 -- so does a schedule that both accept and that acknowledges neither, if it is from the host of both, or from a host new to both
@@ -57,8 +57,8 @@ pub record AreContenders (s : ScenarioParts) (rank f : ℕ) (p : Plan) (j u v : 
   pub before_last : j < last_slot p
   pub differ : u ≢ v
   pub members : TakesPart (slot_in s rank f p j) u × TakesPart (slot_in s rank f p j) v
-  pub both : (is_some (said_in ((slot_in s rank f p j).window u)) ≡ true) × (is_some (said_in ((slot_in s rank f p j).window v)) ≡ true)
-  pub others : (w : ℕ) → is_some (said_in ((slot_in s rank f p j).window w)) ≡ true → (w ≡ u) ⊎ (w ≡ v)
+  pub both : (is_some (message_said ((slot_in s rank f p j).window u)) ≡ true) × (is_some (message_said ((slot_in s rank f p j).window v)) ≡ true)
+  pub others : (w : ℕ) → is_some (message_said ((slot_in s rank f p j).window w)) ≡ true → (w ≡ u) ⊎ (w ≡ v)
 
 -- whoever else takes part has a link from both of them, or from neither
 abbrev pub HaveSameNeighbours : ScenarioParts → Slot → ℕ → ℕ → Type 0

@@ -4,14 +4,14 @@ use Rattle.lwb_base.specs.Messages.{Ask, Plan}
 use Rattle.scenario_text.specs.ScenarioParts.{ScenarioParts}
 use Rattle.scenario_text.specs.ScenarioGrammar.{IsScenario}
 use Rattle.bus_rules.specs.Cores.{Core}
-use Rattle.bus_rules.specs.HostPlans.{answered}
+use Rattle.bus_rules.specs.HostPlans.{answers_to}
 use Rattle.bus_rules.specs.Plans.{last_slot}
 use Rattle.bus_rules.specs.Slots.{RequestOf}
 use Rattle.bus_rules.specs.States.{StateOn}
 use Rattle.bus_rules.specs.Tables.{is_full}
-use Rattle.bus_terms.specs.Rounds.{said_in}
+use Rattle.bus_terms.specs.Rounds.{message_said}
 use Rattle.law_service.specs.Reach.{TakesPart, LosesNothing, IsWithin}
-use Rattle.law_service.specs.ScheduleService.{IsHosted, slot_in, node_before, node_after}
+use Rattle.law_service.specs.ScheduleService.{IsHosted, slot_in, node_before, state_after_round}
 
 -- slot j of the round is one of contention, after those of data and before the last, and in it u requests a, and nobody else
 -- says anything
@@ -19,8 +19,8 @@ pub record IsLoneRequest (s : ScenarioParts) (rank f : ℕ) (p : Plan) (j u : �
   pub after_data : length p.owners < j
   pub before_last : j < last_slot p
   pub member : TakesPart (slot_in s rank f p j) u
-  pub says : said_in ((slot_in s rank f p j).window u) ≡ Some (RequestOf a)
-  pub alone : (v : ℕ) → is_some (said_in ((slot_in s rank f p j).window v)) ≡ true → v ≡ u
+  pub says : message_said ((slot_in s rank f p j).window u) ≡ Some (RequestOf a)
+  pub alone : (v : ℕ) → is_some (message_said ((slot_in s rank f p j).window v)) ≡ true → v ≡ u
 
 -- such a slot, without losses, with the host within reach of u; c is the host before it
 pub record ReachesHost (s : ScenarioParts) (rank f : ℕ) (p : Plan) (host j u : ℕ) (a : Ask) (c : Core) : Type 0 where
@@ -40,7 +40,7 @@ pub record KeepsRequest (s : ScenarioParts) (rank f : ℕ) (p : Plan) (host j : 
 -- the plan that the host makes at the closing acknowledges it
 pub record Acknowledges (s : ScenarioParts) (rank f : ℕ) (p : Plan) (host : ℕ) (a : Ask) : Type 0 where
   pub core : Core
-  pub on : node_after s rank f p host ≡ StateOn core
+  pub on : state_after_round s rank f p host ≡ StateOn core
   pub acknowledged : Contains core.plan.acks a
 
 abbrev pub LoneRequestsAreKept : Type 0
@@ -52,4 +52,4 @@ LoneRequestsAreKept =
 abbrev pub LoneRequestsAreAcknowledged : Type 0
 LoneRequestsAreAcknowledged =
     (s : ScenarioParts) → IsScenario s → (rank f : ℕ) (p : Plan) (host j u : ℕ) (a : Ask) (c : Core) → ReachesHost s rank f p host j u a c
-    → is_full a (answered f c.kept c.table).table ≡ false → Acknowledges s rank f p host a
+    → is_full a (answers_to f c.kept c.table).table ≡ false → Acknowledges s rank f p host a

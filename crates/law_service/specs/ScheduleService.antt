@@ -12,7 +12,7 @@ use Rattle.bus_terms.specs.Bus.{state_at}
 use Rattle.bus_terms.specs.Flooding.{Accepts, has}
 use Rattle.bus_terms.specs.FloodOfText.{ids}
 use Rattle.bus_terms.specs.Rounds.{Slot, slot_at, before_slot, round_plan}
-use Rattle.bus_terms.specs.ScriptedStates.{is_on}
+use Rattle.bus_terms.specs.ScriptedStates.{is_on_and}
 use Rattle.law_service.specs.Reach.{LosesNothing, IsWithin}
 
 -- slot j of the round of this rank and frame, which has plan p
@@ -24,13 +24,13 @@ abbrev pub node_before : ScenarioParts → ℕ → ℕ → Plan → ℕ → ℕ 
 node_before s rank f p j v = before_slot s rank f p (state_at s f) j v
 
 -- and after the round
-abbrev pub node_after : ScenarioParts → ℕ → ℕ → Plan → ℕ → State
-node_after s rank f p v = node_before s rank f p (last_slot p + 1) v
+abbrev pub state_after_round : ScenarioParts → ℕ → ℕ → Plan → ℕ → State
+state_after_round s rank f p v = node_before s rank f p (last_slot p + 1) v
 
 -- a node of the scenario hosts the round of this rank in frame f, which has plan p
 pub record IsHosted (s : ScenarioParts) (rank f : ℕ) (p : Plan) (host : ℕ) : Type 0 where
   pub known : has (ids s.nodes) host ≡ true
-  pub due : is_on (λ c. hosts_in rank f c.tune) (state_at s f host) ≡ true
+  pub due : is_on_and (λ c. hosts_in rank f c.tune) (state_at s f host) ≡ true
   pub plan : round_plan s rank f (state_at s f) ≡ Some p
 
 -- v accepts the opening schedule in step k. It then has the plan of this round, and is fresh: it may request in it
@@ -46,9 +46,9 @@ pub record AcceptsOpening (s : ScenarioParts) (rank f : ℕ) (p : Plan) (host k 
 pub record AcceptsClosing (s : ScenarioParts) (rank f : ℕ) (p : Plan) (host k v : ℕ) : Type 0 where
   pub accepts : Accepts (slot_in s rank f p (last_slot p)).flood v host k
   pub hosting : Core
-  pub host_on : node_after s rank f p host ≡ StateOn hosting
+  pub host_on : state_after_round s rank f p host ≡ StateOn hosting
   pub holding : Core
-  pub on : node_after s rank f p v ≡ StateOn holding
+  pub on : state_after_round s rank f p v ≡ StateOn holding
   pub due : ℕ
   pub later : f < due
   pub hosts : hosting.tune ≡ Host rank due

@@ -8,13 +8,13 @@ use Rattle.scenario_text.specs.declared.script.ScriptLine.{ScriptLine}
 use Rattle.bus_rules.specs.declared.delivery.DropLine.{DropLine}
 use Rattle.air_log.specs.declared.entry.Entry.{Entry}
 use Rattle.air_log.specs.Devices.{Device}
-use Rattle.air_log.specs.Trails.{frame_start, before_tick, setup_of, lines_at, scripted}
+use Rattle.air_log.specs.Trails.{frame_start, before_tick, setup_of, lines_at, device_after_script}
 use Rattle.air_log.specs.Lawful.{heard_by}
 use Rattle.air_log.specs.Drops as AirDrops
 use Rattle.bus_rules.specs.States.{State}
 use Rattle.bus_terms.specs.ScriptedStates as Bus
 use Rattle.bus_terms.specs.Bus as Frames
-use Rattle.air_log.specs.Devices.{seen}
+use Rattle.air_log.specs.Devices.{state_of_power}
 use Rattle.law_terms.proofs.ScriptedCores.{lines_same, drop_same}
 
 -- equal frames have equal first ticks, and others do not
@@ -42,23 +42,24 @@ same_told s above l some = same_filter _ _ (λ (m : ScriptLine). both_tests (m.n
 
 -- the first phase of a frame
 pub script_same : (s : ScenarioParts) (v f : ℕ) (clock : ℕ → ℕ) (d : Device) (states : ℕ → State) → 0 < s.profile.frame
-    → seen d.power ≡ states v → seen (scripted s v clock (frame_start s f) d).power ≡ Bus.scripted s f states v
+    → state_of_power d.power ≡ states v → state_of_power (device_after_script s v clock (frame_start s f) d).power ≡ Bus.states_after_script s f states v
 script_same s v f clock d states some is = rw (same_lines s f v some) (lines_same clock (setup_of s v) (frame_start s f) d (states v) (Bus.lines_of s f v) is)
 
 module _ (s : ScenarioParts) (clocks : ℕ → ℕ → ℕ) (air : List Entry) (some : 0 < s.profile.frame) where
   abbrev pub IsStart : ScriptLine → Type 0
-  IsStart l = seen (before_tick s l.node (clocks l.node) (heard_by air l.node) (frame_start s l.frame)).power ≡ Frames.before_frame s l.frame l.node
+  IsStart l = state_of_power (before_tick s l.node (clocks l.node) (heard_by air l.node) (frame_start s l.frame)).power ≡ Frames.before_frame s l.frame l.node
 
-  before_same : (above : List ScriptLine) (l : ScriptLine) → IsStart l → seen (AirDrops.before_line s clocks air above l).power ≡ Frames.before_line s above l
+  before_same : (above : List ScriptLine) (l : ScriptLine) → IsStart l
+      → state_of_power (AirDrops.device_before_line s clocks air above l).power ≡ Frames.state_before_line s above l
   before_same above l start =
       rw (same_told s above l some)
       (lines_same (clocks l.node) (setup_of s l.node) (frame_start s l.frame) _ _ (Bus.told_above above l) start)
 
-  pub drops_same : (above ls : List ScriptLine) → All IsStart ls → AirDrops.drops_below s clocks air above ls ≡ Frames.drops_below s above ls
+  pub drops_same : (above ls : List ScriptLine) → All IsStart ls → AirDrops.trail_drops_below s clocks air above ls ≡ Frames.drops_below s above ls
   drops_same above [] starts = refl
   drops_same above (l ∷ ls) starts =
       let start : IsStart l = starts 0 l (omega arith) in
       let later : All IsStart ls = λ k d below. starts (suc k) d (omega arith) in
-      let one = drop_same l l.act (AirDrops.before_line s clocks air above l).power ∙ ap (Bus.lost_by l l.act) (before_same above l start) in
-      ap (λ (x : Option DropLine). option_to_list x ++ AirDrops.drops_below s clocks air (above ++ l ∷ []) ls) one
-      ∙ ap (λ xs. option_to_list (Bus.lost_by l l.act (Frames.before_line s above l)) ++ xs) (drops_same (above ++ l ∷ []) ls later)
+      let one = drop_same l l.act (AirDrops.device_before_line s clocks air above l).power ∙ ap (Bus.lost_by l l.act) (before_same above l start) in
+      ap (λ (x : Option DropLine). option_to_list x ++ AirDrops.trail_drops_below s clocks air (above ++ l ∷ []) ls) one
+      ∙ ap (λ xs. option_to_list (Bus.lost_by l l.act (Frames.state_before_line s above l)) ++ xs) (drops_same (above ++ l ∷ []) ls later)

@@ -7,12 +7,12 @@ use Rattle.bus_rules.specs.Slots.{Message, ScheduleOf, DataOf, RequestOf}
 use Rattle.std.proofs.lemmas.Bool.{cond_both}
 use Rattle.glossy_relay.specs.FloodState.{FloodState}
 use Rattle.glossy_relay.specs.Relaying.{accepted_of, after_heard, after_sent, fits}
-use Rattle.air_log.specs.NodeEvents.{Event, Heard, Ended, after_all}
+use Rattle.air_log.specs.NodeEvents.{Event, Heard, Ended, flood_after_events}
 use Rattle.bus_terms.specs.Flooding.{Setting, Sends, Accepts, has}
 use Rattle.lwb_member.specs.Said.{bytes_of}
 use Rattle.air_log.specs.declared.entry.Entry.{Entry}
-use Rattle.lwb_flood.specs.FloodRun.{Run, initiates, packet, begins}
-use Rattle.lwb_flood.specs.FloodBySteps.{IsFloodBySteps, SendsOnAir, ended}
+use Rattle.lwb_flood.specs.FloodRun.{Run, initiates, packet, flood_at_beginning}
+use Rattle.lwb_flood.specs.FloodBySteps.{IsFloodBySteps, SendsOnAir, flood_at_end}
 use Rattle.law_terms.specs.SlotLaws.{Says, IsSending, IsAcceptance, bus_slot}
 use Rattle.law_terms.specs.SlotRuns.{IsRunOf}
 
@@ -23,7 +23,7 @@ slot_said (DataOf d) j k = refl
 slot_said (RequestOf a) j k = refl
 
 -- events leave an initiator one
-kept : (t : FloodState) (es : List Event) → (after_all t es).initiated ≡ t.initiated
+kept : (t : FloodState) (es : List Event) → (flood_after_events t es).initiated ≡ t.initiated
 kept t [] = refl
 kept t (Heard x ∷ es) = kept (after_heard t x.packet) es
     ∙ cond_both (fits t x.packet) _ _ (λ (u : FloodState). u.initiated ≡ t.initiated) (λ p. refl) (λ p. refl)
@@ -33,13 +33,14 @@ none_accepted : (t : FloodState) → t.initiated ≡ true → accepted_of t ≡ 
 none_accepted t is = rw is refl
 
 -- who has accepted is no initiator
-pub listener : (r : Run) (v : ℕ) (a : List ℕ × ℕ) → accepted_of (ended r v) ≡ Some a → has r.setting.initiators v ≡ false
+pub listener : (r : Run) (v : ℕ) (a : List ℕ × ℕ) → accepted_of (flood_at_end r v) ≡ Some a → has r.setting.initiators v ≡ false
 listener r v a is = by_start (has r.setting.initiators v) refl
   where
     by_start : (b : Bool) → has r.setting.initiators v ≡ b → b ≡ false
     by_start false e = refl
     by_start true e =
-        let apart : ◌≡◌ {A = Option (List ℕ × ℕ)} None (Some a) = sym (none_accepted (ended r v) (kept (begins r v) (r.events v) ∙ e)) ∙ is in
+        let apart : ◌≡◌ {A = Option (List ℕ × ℕ)} None (Some a) =
+            sym (none_accepted (flood_at_end r v) (kept (flood_at_beginning r v) (r.events v) ∙ e)) ∙ is in
         cc
 
 module _ (s : ScenarioParts) (clocks : ℕ → ℕ → ℕ) (air : List Entry) (f rank : ℕ) (p : Plan) (j : ℕ) (r : Run)
@@ -90,7 +91,7 @@ module _ (s : ScenarioParts) (clocks : ℕ → ℕ → ℕ) (air : List Entry) (
 
   accepted_in_run : IsAcceptance s clocks air f rank j v k m → Accepts r.setting v o k
   accepted_in_run a =
-      let is : accepted_of (ended r v) ≡ Some (packet r o k, k) = ap accepted_of (run.flood v a.window a.here a.closed) ∙ a.accepted
+      let is : accepted_of (flood_at_end r v) ≡ Some (packet r o k, k) = ap accepted_of (run.flood v a.window a.here a.closed) ∙ a.accepted
       ∙ ap with_counter (sym (run.message o m says)) in
       (steps.accepts v k o (run.part v a.window a.here) (listener r v (packet r o k, k) is) starts).0 is
 

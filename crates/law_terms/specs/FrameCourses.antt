@@ -8,7 +8,7 @@ use Rattle.bus_rules.specs.States.{StateOff, StateOn}
 use Rattle.node_core.specs.declared.stage.Stage.TheVariants.{AwaitSlot}
 use Rattle.node_core.specs.Nodes.{Node}
 use Rattle.air_log.specs.declared.entry.Entry.{Entry}
-use Rattle.air_log.specs.Devices.{Power, PowerOff, PowerOn, seen}
+use Rattle.air_log.specs.Devices.{Power, PowerOff, PowerOn, state_of_power}
 use Rattle.air_log.specs.Lawful.{heard_by, trail_in}
 use Rattle.air_log.specs.Trails.{at_frame, before_tick, frame_start, setup_of}
 use Rattle.air_log.specs.WindowLogs.{WindowLog, Closing}
@@ -69,14 +69,14 @@ module _ (s : ScenarioParts) (clocks : ℕ → ℕ → ℕ) (air : List Entry) (
         → OpensAt w.rank (suc w.slot) c.after
     pub follows : (w : WindowLog) (j : ℕ) → IsWindowIn w → w.by_alarm ≡ true → w.slot ≡ suc j → ClosesTo w.rank j w.before
     -- at the end of the frame its core has ended the frame: that of n where it had no window, else as its last one left it
-    pub rests : ((w : WindowLog) → IsWindowIn w → ⊥) → seen power_after ≡ StateOn (frame_ended (setup_of s v) f n.core)
+    pub rests : ((w : WindowLog) → IsWindowIn w → ⊥) → state_of_power power_after ≡ StateOn (frame_ended (setup_of s v) f n.core)
     pub ends : (w : WindowLog) (c : Closing) → IsWindowIn w → w.closed ≡ Some c → (c.after.stage ≡ AwaitSlot (suc w.slot) → ⊥)
-        → seen power_after ≡ StateOn (frame_ended (setup_of s v) f c.after.core)
+        → state_of_power power_after ≡ StateOn (frame_ended (setup_of s v) f c.after.core)
 
   -- a node that is off stays off, and has no window
   pub record StaysOff (boots : ℕ) : Type 0 where
     pub none_ : (w : WindowLog) → IsWindowIn w → ⊥
-    pub off : seen power_after ≡ StateOff boots
+    pub off : state_of_power power_after ≡ StateOff boots
 
   abbrev pub GoesThrough : Power → Type 0
   GoesThrough (PowerOff boots) = StaysOff boots

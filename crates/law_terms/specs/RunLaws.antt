@@ -9,14 +9,14 @@ use Rattle.air_log.specs.Deliveries.{deliveries_of}
 use Rattle.air_log.specs.Drops.{drops_of}
 use Rattle.air_log.specs.Charges.{windows_charge, scanned_frames}
 use Rattle.bus_terms.specs.Bus.{state_at, bus_deliveries, bus_drops, bus_cost}
-use Rattle.air_log.specs.Devices.{seen}
+use Rattle.air_log.specs.Devices.{state_of_power}
 use Rattle.law_terms.specs.LawfulRuns.{IsLawfulRun}
 
 -- Run: after the script lines of each frame each node is the bus's
 abbrev pub RunLaw : Type 0
 RunLaw = (s : ScenarioParts) (clocks : ℕ → ℕ → ℕ) (air : List Entry) → IsLawfulRun s clocks air
     → (v f : ℕ) → knows s.nodes v ≡ true → f < s.frames
-    → seen (at_frame s v (clocks v) (heard_by air v) f).power ≡ state_at s f v
+    → state_of_power (at_frame s v (clocks v) (heard_by air v) f).power ≡ state_at s f v
 
 abbrev pub DeliveriesLaw : Type 0
 DeliveriesLaw = (s : ScenarioParts) (clocks : ℕ → ℕ → ℕ) (air : List Entry) → IsLawfulRun s clocks air → deliveries_of s clocks air ≡ bus_deliveries s

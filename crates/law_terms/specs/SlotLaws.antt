@@ -5,7 +5,7 @@ use Rattle.lwb_base.specs.Messages.{Plan}
 use Rattle.scenario_text.specs.ScenarioParts.{ScenarioParts}
 use Rattle.scenario_text.specs.FloodParts.{knows}
 use Rattle.radio_model.specs.declared.sending.Sending.{Sending}
-use Rattle.radio_model.specs.Hearing.{frame_of, slot_of as slot_byte}
+use Rattle.radio_model.specs.Hearing.{frame_of_sending, slot_of_sending as slot_byte}
 use Rattle.glossy_relay.specs.Relaying.{accepted_of}
 use Rattle.bus_rules.specs.Plans.{last_slot}
 use Rattle.bus_rules.specs.Slots.{Message}
@@ -16,7 +16,7 @@ use Rattle.air_log.specs.Entries.{sendings_of}
 use Rattle.air_log.specs.WindowLogs.{WindowLog}
 use Rattle.air_log.specs.Lawful.{trail_in}
 use Rattle.bus_rules.specs.States.{State, StateOn}
-use Rattle.bus_terms.specs.Rounds.{Slot, round_plan, before_slot, slot_at, said_in}
+use Rattle.bus_terms.specs.Rounds.{Slot, round_plan, before_slot, slot_at, message_said}
 use Rattle.bus_terms.specs.Bus.{state_at}
 use Rattle.law_terms.specs.LawfulRuns.{IsLawfulRun}
 
@@ -36,7 +36,7 @@ bus_before s f rank p j v = before_slot s rank f p (state_at s f) j v
 
 -- o initiates in slot j of it, and says m
 abbrev pub Says : ScenarioParts → ℕ → ℕ → Plan → ℕ → ℕ → Message → Type 0
-Says s f rank p j o m = (has (bus_slot s f rank p j).flood.initiators o ≡ true) × (said_in ((bus_slot s f rank p j).window o) ≡ Some m)
+Says s f rank p j o m = (has (bus_slot s f rank p j).flood.initiators o ≡ true) × (message_said ((bus_slot s f rank p j).window o) ≡ Some m)
 
 -- a sending of v in this slot, with this counter, of this message
 pub record IsSending (s : ScenarioParts) (air : List Entry) (f rank j v k : ℕ) (m : Message) : Type 0 where
@@ -44,7 +44,7 @@ pub record IsSending (s : ScenarioParts) (air : List Entry) (f rank j v k : ℕ)
   pub there : Contains (sendings_of air) sending
   pub node : sending.node ≡ v
   pub channel : sending.rank ≡ rank
-  pub frame : frame_of s.profile sending ≡ f
+  pub frame : frame_of_sending s.profile sending ≡ f
   pub packet : sending.packet ≡ slice_set (bytes_of m j) 2 k
 
 pub record IsWindowOf (s : ScenarioParts) (clocks : ℕ → ℕ → ℕ) (air : List Entry) (f rank j v : ℕ) (w : WindowLog) : Type 0 where
@@ -75,15 +75,15 @@ SlotLaw = (s : ScenarioParts) (clocks : ℕ → ℕ → ℕ) (air : List Entry) 
 -- step of its counter in the flood of this slot
 pub record IsSaidIn (s : ScenarioParts) (x : Sending) : Type 0 where
   pub plan : Plan
-  pub round : IsRound s (frame_of s.profile x) x.rank plan
+  pub round : IsRound s (frame_of_sending s.profile x) x.rank plan
   pub slot : slot_byte x ≤ last_slot plan
   pub origin : ℕ
   pub message : Message
-  pub said : Says s (frame_of s.profile x) x.rank plan (slot_byte x) origin message
+  pub said : Says s (frame_of_sending s.profile x) x.rank plan (slot_byte x) origin message
   pub counter : ℕ
   pub few : counter ≤ 11
   pub packet : x.packet ≡ slice_set (bytes_of message (slot_byte x)) 2 counter
-  pub sends : Sends (bus_slot s (frame_of s.profile x) x.rank plan (slot_byte x)).flood x.node counter origin
+  pub sends : Sends (bus_slot s (frame_of_sending s.profile x) x.rank plan (slot_byte x)).flood x.node counter origin
 
 abbrev pub SentLaw : Type 0
 SentLaw = (s : ScenarioParts) (clocks : ℕ → ℕ → ℕ) (air : List Entry) → IsLawfulRun s clocks air

@@ -3,17 +3,17 @@ use Rattle.std.specs.Prelude.{◌≡◌, ℕ, ◌≤◌, ◌↔◌, List, Contai
 use Rattle.lwb_base.specs.Messages.{Plan}
 use Rattle.scenario_text.specs.ScenarioParts.{ScenarioParts}
 use Rattle.radio_model.specs.declared.sending.Sending.{Sending}
-use Rattle.radio_model.specs.Hearing.{frame_of, slot_of as slot_byte}
+use Rattle.radio_model.specs.Hearing.{frame_of_sending, slot_of_sending as slot_byte}
 use Rattle.glossy_relay.specs.Relaying.{accepted_of}
 use Rattle.bus_rules.specs.Plans.{last_slot}
 use Rattle.bus_rules.specs.Slots.{Message}
 use Rattle.lwb_member.specs.Said.{bytes_of}
 use Rattle.lwb_member.specs.Places.{kind_for}
 use Rattle.air_log.specs.declared.entry.Entry.{Entry}
-use Rattle.air_log.specs.Entries.{sendings_of, IsHeard}
+use Rattle.air_log.specs.Entries.{sendings_of, HasHeardEntry}
 use Rattle.air_log.specs.WindowLogs.{WindowLog}
-use Rattle.lwb_flood.specs.FloodRun.{Run, WasHeard, takes_part}
-use Rattle.lwb_flood.specs.FloodBySteps.{IsFloodBySteps, ended}
+use Rattle.lwb_flood.specs.FloodRun.{Run, WasHeard, IsParticipant}
+use Rattle.lwb_flood.specs.FloodBySteps.{IsFloodBySteps, flood_at_end}
 use Rattle.law_terms.specs.LawfulRuns.{IsLawfulRun}
 use Rattle.law_terms.specs.SlotLaws.{IsRound, IsWindowOf, Says, bus_slot}
 use Rattle.law_terms.specs.SlotSteps.{IsSlotStart}
@@ -32,12 +32,12 @@ pub record IsRunOf (s : ScenarioParts) (clocks : ℕ → ℕ → ℕ) (air : Lis
   pub kind : r.kind ≡ kind_for (bus_slot s f rank p j).part
   pub message : (o : ℕ) (m : Message) → Says s f rank p j o m → r.message o ≡ bytes_of m j
   pub sendings : (x : Sending) → Contains r.sendings x
-      ↔ (Contains (sendings_of air) x × (x.rank ≡ rank) × (frame_of s.profile x ≡ f) × (slot_byte x ≡ j))
-  pub hearings : (v : ℕ) (x : Sending) → takes_part r v → WasHeard r v x ↔ (IsHeard air v x × Contains r.sendings x)
-  pub flood : (v : ℕ) (w : WindowLog) → IsWindowOf s clocks air f rank j v w → is_some w.closed ≡ true → ended r v ≡ w.last.flood
+      ↔ (Contains (sendings_of air) x × (x.rank ≡ rank) × (frame_of_sending s.profile x ≡ f) × (slot_byte x ≡ j))
+  pub hearings : (v : ℕ) (x : Sending) → IsParticipant r v → WasHeard r v x ↔ (HasHeardEntry air v x × Contains r.sendings x)
+  pub flood : (v : ℕ) (w : WindowLog) → IsWindowOf s clocks air f rank j v w → is_some w.closed ≡ true → flood_at_end r v ≡ w.last.flood
   -- who has a window takes part, and who has accepted has a closed one
-  pub part : (v : ℕ) (w : WindowLog) → IsWindowOf s clocks air f rank j v w → takes_part r v
-  pub closes : (v : ℕ) → takes_part r v → is_some (accepted_of (ended r v)) ≡ true → HasClosed s clocks air f rank j v
+  pub part : (v : ℕ) (w : WindowLog) → IsWindowOf s clocks air f rank j v w → IsParticipant r v
+  pub closes : (v : ℕ) → IsParticipant r v → is_some (accepted_of (flood_at_end r v)) ≡ true → HasClosed s clocks air f rank j v
 
 abbrev pub RunsLaw : Type 0
 RunsLaw = (s : ScenarioParts) (clocks : ℕ → ℕ → ℕ) (air : List Entry) → IsLawfulRun s clocks air

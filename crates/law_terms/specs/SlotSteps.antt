@@ -11,15 +11,15 @@ use Rattle.air_log.specs.Trails.{at_frame}
 use Rattle.air_log.specs.Lawful.{heard_by}
 use Rattle.air_log.specs.WindowLogs.{WindowLog, Closing}
 use Rattle.bus_rules.specs.States.{StateOn}
-use Rattle.bus_terms.specs.Rounds.{accepted_at, round, said_in}
+use Rattle.bus_terms.specs.Rounds.{accepted_at, round_of_rank, message_said}
 use Rattle.bus_terms.specs.Bus.{state_at}
-use Rattle.air_log.specs.Devices.{seen}
+use Rattle.air_log.specs.Devices.{state_of_power}
 use Rattle.law_terms.specs.LawfulRuns.{IsLawfulRun}
 use Rattle.law_terms.specs.SlotLaws.{IsRound, IsWindowOf, HasWindow, bus_slot, bus_before}
 
 -- after the script lines of frame f the nodes are the bus's
 abbrev pub IsFrameStart : ScenarioParts → (ℕ → ℕ → ℕ) → List Entry → ℕ → Type 0
-IsFrameStart s clocks air f = (v : ℕ) → knows s.nodes v ≡ true → seen (at_frame s v (clocks v) (heard_by air v) f).power ≡ state_at s f v
+IsFrameStart s clocks air f = (v : ℕ) → knows s.nodes v ≡ true → state_of_power (at_frame s v (clocks v) (heard_by air v) f).power ≡ state_at s f v
 
 -- before slot j: a member is the bus's as it comes to its window, and goes by the round's plan; every other node is the bus's as the frame found it
 pub record IsSlotStart (s : ScenarioParts) (clocks : ℕ → ℕ → ℕ) (air : List Entry) (f rank : ℕ) (p : Plan) (j : ℕ) : Type 0 where
@@ -35,7 +35,8 @@ pub record IsSlotStart (s : ScenarioParts) (clocks : ℕ → ℕ → ℕ) (air :
 pub record IsSlotHeard (s : ScenarioParts) (clocks : ℕ → ℕ → ℕ) (air : List Entry) (f rank : ℕ) (p : Plan) (j : ℕ) : Type 0 where
   pub accepted : (v : ℕ) (w : WindowLog) → IsWindowOf s clocks air f rank j v w → is_some w.closed ≡ true
       → accepted_in w.last ≡ accepted_at (bus_slot s f rank p j) v
-  pub initiated : (v : ℕ) (w : WindowLog) → IsWindowOf s clocks air f rank j v w → w.last.flood.initiated ≡ is_some (said_in ((bus_slot s f rank p j).window v))
+  pub initiated : (v : ℕ) (w : WindowLog) → IsWindowOf s clocks air f rank j v w
+      → w.last.flood.initiated ≡ is_some (message_said ((bus_slot s f rank p j).window v))
   -- a scanner with no window accepted nothing
   pub deaf : (v : ℕ) → knows s.nodes v ≡ true → ((w : WindowLog) → IsWindowOf s clocks air f rank j v w → ⊥) → accepted_at (bus_slot s f rank p j) v ≡ None
 
@@ -51,9 +52,9 @@ SlotStepLaw = (s : ScenarioParts) (clocks : ℕ → ℕ → ℕ) (air : List Ent
 -- after the last slot: who had a window in it is as that left it
 pub record IsRoundEnd (s : ScenarioParts) (clocks : ℕ → ℕ → ℕ) (air : List Entry) (f rank : ℕ) (p : Plan) : Type 0 where
   pub core : (v : ℕ) (w : WindowLog) (c : Closing) → IsWindowOf s clocks air f rank (last_slot p) v w → w.closed ≡ Some c
-      → round s rank f (state_at s f) v ≡ StateOn c.after.core
+      → round_of_rank s rank f (state_at s f) v ≡ StateOn c.after.core
   pub others : (v : ℕ) → knows s.nodes v ≡ true → ((w : WindowLog) → IsWindowOf s clocks air f rank (last_slot p) v w → ⊥)
-      → round s rank f (state_at s f) v ≡ state_at s f v
+      → round_of_rank s rank f (state_at s f) v ≡ state_at s f v
 
 abbrev pub RoundEndLaw : Type 0
 RoundEndLaw = (s : ScenarioParts) (clocks : ℕ → ℕ → ℕ) (air : List Entry) → IsLawfulRun s clocks air

@@ -10,10 +10,10 @@ use Rattle.bus_rules.specs.Cores.{Setup, frame_ended}
 use Rattle.node_core.specs.declared.stage.Stage.TheVariants.{Idle, AwaitFrame, AwaitSlot}
 use Rattle.node_core.specs.Nodes.{Node, stopped_frame}
 use Rattle.node_core.specs.Rows.{stage_for}
-use Rattle.air_log.specs.Devices.{Device, PowerOn, Ordered}
+use Rattle.air_log.specs.Devices.{Device, PowerOn, OrderedPacket}
 use Rattle.air_log.specs.Trails.{Reception, setup_of, run_end}
 use Rattle.law_trails.specs.Phases.{Phase, device_at}
-use Rattle.law_trails.specs.Walks.{Keeps, IsPlaced, AwakeBy, IsAwake}
+use Rattle.law_trails.specs.Walks.{Keeps, IsAwakeStage, AwakeBy, IsAwake}
 use Rattle.law_trails.specs.RowEffects.{Leaves}
 use Rattle.law_trails.proofs.RowsLeave.{boot_leaves, joining_leaves, hearing_leaves, sent_leaves, frame_alarm_leaves, opening_leaves, closing_leaves}
 use Rattle.law_trails.proofs.WalkOfRun.{holds_in_tick, holds_along}
@@ -22,20 +22,20 @@ abbrev Awake : ℕ → Phase → Device → Type 0
 Awake t phase d = IsAwake d
 
 -- a row that leaves the node at a place, and an alarm set
-left_awake : {d e : Device} {n : Node} {channel alarm : Option ℕ} {ordered : Option Ordered} → Leaves d n channel alarm ordered e → IsPlaced n.stage
+left_awake : {d e : Device} {n : Node} {channel alarm : Option ℕ} {ordered : Option OrderedPacket} → Leaves d n channel alarm ordered e → IsAwakeStage n.stage
     → is_some alarm ≡ true → IsAwake e
 left_awake {e = e} leaves placed set = subst (AwakeBy e) (sym leaves.power) (placed, ap (λ (a : Option ℕ). is_some a) leaves.alarm_is ∙ set)
 
-placed_for : (tune : Tune) (f : ℕ) → IsPlaced (stage_for tune f)
+placed_for : (tune : Tune) (f : ℕ) → IsAwakeStage (stage_for tune f)
 placed_for (Scan r waited) f = tt
-placed_for (Hold r due) f = cond_both (due == f) (AwaitSlot 0) AwaitFrame IsPlaced (λ is. tt) (λ is. tt)
-placed_for (Host r due) f = cond_both (due == f) (AwaitSlot 0) AwaitFrame IsPlaced (λ is. tt) (λ is. tt)
+placed_for (Hold r due) f = cond_both (due == f) (AwaitSlot 0) AwaitFrame IsAwakeStage (λ is. tt) (λ is. tt)
+placed_for (Host r due) f = cond_both (due == f) (AwaitSlot 0) AwaitFrame IsAwakeStage (λ is. tt) (λ is. tt)
 
-same_place : (d : Device) (n : Node) → IsAwake d → d.power ≡ PowerOn n → IsPlaced n.stage × (is_some d.alarm ≡ true)
+same_place : (d : Device) (n : Node) → IsAwake d → d.power ≡ PowerOn n → IsAwakeStage n.stage × (is_some d.alarm ≡ true)
 same_place d n is on = subst (AwakeBy d) on is
 
 never_idle : (d : Device) (n : Node) → IsAwake d → d.power ≡ PowerOn n → n.stage ≡ Idle → ⊥
-never_idle d n is on stage = subst IsPlaced stage (same_place d n is on).0
+never_idle d n is on stage = subst IsAwakeStage stage (same_place d n is on).0
 
 module _ (s : ScenarioParts) (v : ℕ) (clock : ℕ → ℕ) (hs : List Reception) (t : ℕ) where
   abbrev node : Setup
@@ -63,7 +63,7 @@ module _ (s : ScenarioParts) (v : ℕ) (clock : ℕ → ℕ) (hs : List Receptio
     opening = λ d n j here next on stage. left_awake (opening_leaves clock node t (taken d) n j) tt refl;
     closing = λ d n j w here next on stage.
         left_awake (closing_leaves clock node t (taken d) n j w)
-        (cond_both (nat_lt j w.last) (AwaitSlot (j + 1)) AwaitFrame IsPlaced (λ more. tt) (λ over. tt)) refl;
+        (cond_both (nat_lt j w.last) (AwaitSlot (j + 1)) AwaitFrame IsAwakeStage (λ more. tt) (λ over. tt)) refl;
     alarm_elsewhere = λ d n here next on stage. absurd (never_idle d n here.holds on stage);
     beginning = λ d o l here is order due on own. here.holds;
     missed_start = λ d o here is order due cannot. here.holds;

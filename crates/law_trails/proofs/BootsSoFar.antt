@@ -13,8 +13,9 @@ use Rattle.scenario_text.proofs.BootsTold.{turned_over, Boots}
 use Rattle.scenario_text.proofs.BootsCounted.{never_less}
 use Rattle.bus_rules.specs.Cores.{Setup}
 use Rattle.air_log.specs.Devices.{Device, event, seen_power}
-use Rattle.air_log.specs.ScriptedDevices.{after_line}
-use Rattle.air_log.specs.Trails.{Reception, setup_of, frame_start, lines_at, scripted, ending_at, hears, heard, ended_by, ended, alarmed, tick}
+use Rattle.air_log.specs.ScriptedDevices.{device_after_line}
+use Rattle.air_log.specs.Trails.{Reception, setup_of, frame_start, lines_at, device_after_script, ending_at, device_after_reception, device_after_receptions}
+use Rattle.air_log.specs.Trails.{device_ended_by, device_after_end, alarmed, tick}
 use Rattle.air_log.proofs.KeptPower.{line_power, event_power, alarmed_power, begun_power}
 use Rattle.lwb_base.proofs.Elements.{pairs_tail}
 use Rattle.law_trails.proofs.DevicesInRange.{kept_all}
@@ -115,18 +116,18 @@ module _ (s : ScenarioParts) where
 -- what events leave
 module _ (clock : ℕ → ℕ) (s : Setup) (t : ℕ) where
   lines_power : (ls : List ScriptLine) (d : Device) → AllByRecursion (λ (l : ScriptLine). (l.node == s.id) ≡ true) ls
-      → seen_power (fold (after_line clock s t) d ls).power ≡ turned s.id (seen_power d.power) ls
+      → seen_power (fold (device_after_line clock s t) d ls).power ≡ turned s.id (seen_power d.power) ls
   lines_power [] d own = refl
   lines_power (l ∷ ls) d own =
-      lines_power ls (after_line clock s t d l) own.1
+      lines_power ls (device_after_line clock s t d l) own.1
       ∙ ap (λ (b : Boots). turned s.id b ls)
       (line_power clock s t d l ∙ ap (λ (x : Bool). if x then turned_by l.act (seen_power d.power) else seen_power d.power) (sym own.0))
 
-  hearings_power : (hs : List Reception) (d : Device) → seen_power (fold (hears clock s t) d hs).power ≡ seen_power d.power
+  hearings_power : (hs : List Reception) (d : Device) → seen_power (fold (device_after_reception clock s t) d hs).power ≡ seen_power d.power
   hearings_power [] d = refl
-  hearings_power (h ∷ hs) d = hearings_power hs (hears clock s t d h) ∙ event_power clock s t (Heard h.packet) None d
+  hearings_power (h ∷ hs) d = hearings_power hs (device_after_reception clock s t d h) ∙ event_power clock s t (Heard h.packet) None d
 
-  end_power : (d : Device) (x : Option Sending) → seen_power (ended_by clock s t d x).power ≡ seen_power d.power
+  end_power : (d : Device) (x : Option Sending) → seen_power (device_ended_by clock s t d x).power ≡ seen_power d.power
   end_power d None = refl
   end_power d (Some x) =
       cond_both (x.end == t) (event clock s t Sent (Some x) (record d { sending = None })) d (λ (e : Device). seen_power e.power ≡ seen_power d.power)
@@ -166,9 +167,9 @@ module _ (s : ScenarioParts) (sound : IsSoundScenario s) (v : ℕ) where
   pub tick_turned : (clock : ℕ → ℕ) (hs : List Reception) (t : ℕ) (d : Device) → IsTurned t d → IsTurned (suc t) (tick s v clock hs t d)
   tick_turned clock hs t d is =
       let x = setup_of s v in
-      let first = scripted s v clock t d in
-      let second = heard clock x t hs first in
-      let third = ended clock x t second in
+      let first = device_after_script s v clock t d in
+      let second = device_after_receptions clock x t hs first in
+      let third = device_after_end clock x t second in
       begun_power clock x t (alarmed clock x t third) ∙ alarmed_power clock x t third ∙ end_power clock x t second second.sending
       ∙ hearings_power clock x t (ending_at t hs) first
       ∙ lines_power clock x t (lines_at s v t) d (own_at t s.script)

@@ -25,9 +25,9 @@ use Rattle.air_log.specs.declared.entry.Entry.{Entry}
 use Rattle.air_log.specs.HearsAir.{scene_of}
 use Rattle.air_log.specs.Devices.{Device, Listening, Power, PowerOff, PowerOn, moved, event_by}
 use Rattle.air_log.specs.Lawful.{FollowsTrails, heard_by}
-use Rattle.air_log.specs.ScriptedDevices.{after_line}
-use Rattle.air_log.specs.Trails.{Reception, setup_of, lines_at, hears}
-use Rattle.law_trails.specs.Obeying.{channel_of, channel_by}
+use Rattle.air_log.specs.ScriptedDevices.{device_after_line}
+use Rattle.air_log.specs.Trails.{Reception, setup_of, lines_at, device_after_reception}
+use Rattle.law_trails.specs.Obeying.{channel_if_on, channel_by}
 use Rattle.law_trails.specs.Phases.{Hearings, device_at, IsNextHearing}
 use Rattle.law_trails.specs.TrailLinks.{ListensSince, device_in}
 use Rattle.law_trails.proofs.ObeyedOrders.{has_obeyed}
@@ -65,29 +65,30 @@ module _ (s : Setup) (n : Node) (now : ℕ) (p : List ℕ) where
   at_place (InWindow j w) c = relays (reply_by (rank_of n.core.tune) w p) c
 
 module _ (clock : ℕ → ℕ) (s : Setup) (t : ℕ) where
-  one_kept : (d : Device) (h : Reception) (p : Power) → channel_of (event_by clock s t (Heard h.packet) None d p).listening ≡ channel_of d.listening
+  one_kept : (d : Device) (h : Reception) (p : Power) → channel_if_on (event_by clock s t (Heard h.packet) None d p).listening ≡ channel_if_on d.listening
   one_kept d h (PowerOff boots) = refl
   one_kept d h (PowerOn n) =
       let r = row s n (clock t) (Heard h.packet) in
-      (has_obeyed clock s.id t (orders_by r) (moved t (Heard h.packet) None d n r)).channel ∙ at_place s n (clock t) h.packet n.stage (channel_of d.listening)
+      (has_obeyed clock s.id t (orders_by r) (moved t (Heard h.packet) None d n r)).channel
+          ∙ at_place s n (clock t) h.packet n.stage (channel_if_on d.listening)
 
-  all_kept : (hs : List Reception) (d : Device) → channel_of (fold (hears clock s t) d hs).listening ≡ channel_of d.listening
+  all_kept : (hs : List Reception) (d : Device) → channel_if_on (fold (device_after_reception clock s t) d hs).listening ≡ channel_if_on d.listening
   all_kept [] d = refl
-  all_kept (h ∷ hs) d = all_kept hs (hears clock s t d h) ∙ one_kept d h d.power
+  all_kept (h ∷ hs) d = all_kept hs (device_after_reception clock s t d h) ∙ one_kept d h d.power
 
 pub channel_kept : (s : ScenarioParts) (v : ℕ) (clock : ℕ → ℕ) (hs : List Reception) (t : ℕ) (h : Reception) (d : Device) → IsNextHearing s v clock hs t h d
-    → channel_of d.listening ≡ channel_of (device_at s v clock hs t Hearings).listening
+    → channel_if_on d.listening ≡ channel_if_on (device_at s v clock hs t Hearings).listening
 channel_kept s v clock hs t h d next =
-    ap (λ (e : Device). channel_of e.listening) next.is ∙ all_kept clock (setup_of s v) t next.taken (device_at s v clock hs t Hearings)
+    ap (λ (e : Device). channel_if_on e.listening) next.is ∙ all_kept clock (setup_of s v) t next.taken (device_at s v clock hs t Hearings)
 
 pub heard_on : (s : ScenarioParts) (clocks : ℕ → ℕ → ℕ) (air : List Entry) → FollowsTrails s clocks air → (v t : ℕ) (h : Reception) (d : Device)
     → IsNextHearing s v (clocks v) (heard_by air v) t h d → lines_at s v t ≡ []
-    → (rank k : ℕ) → suc k ≡ t → IsTuned (scene_of s.profile s.trace air) v rank k → channel_of d.listening ≡ Some rank
+    → (rank k : ℕ) → suc k ≡ t → IsTuned (scene_of s.profile s.trace air) v rank k → channel_if_on d.listening ≡ Some rank
 heard_on s clocks air follows v t h d next none rank k before tuned =
     let b = device_in s clocks air v t in
     let on : ListensSince rank k b = subst (λ (i : ℕ). ListensSince rank k (device_in s clocks air v i)) before
     (tuned_listens s clocks air follows v rank k tuned) in
     channel_kept s v (clocks v) (heard_by air v) t h d next
-    ∙ ap (λ ls. channel_of (fold (after_line (clocks v) (setup_of s v) t) b ls).listening) none
-    ∙ ap (λ (l : Option Listening). channel_of l) on.is
+    ∙ ap (λ ls. channel_if_on (fold (device_after_line (clocks v) (setup_of s v) t) b ls).listening) none
+    ∙ ap (λ (l : Option Listening). channel_if_on l) on.is
     ∙ ap (λ (r : ℕ). Some r) on.channel

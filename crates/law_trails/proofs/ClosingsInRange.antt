@@ -8,13 +8,13 @@ use Rattle.bus_rules.specs.declared.part.Part.{Part}
 use Rattle.bus_rules.specs.declared.part.Part.TheVariants.{Opening, Data as DataSlot, Contention, Closing}
 use Rattle.bus_rules.specs.Plans.{last_slot}
 use Rattle.bus_rules.specs.Cores.{Core, Setup, opening_accepted, closing_accepted}
-use Rattle.bus_rules.specs.Slots.{Message, ScheduleOf, DataOf, RequestOf, is_schedule_part, slot_heard, closed}
+use Rattle.bus_rules.specs.Slots.{Message, ScheduleOf, DataOf, RequestOf, is_schedule_part, slot_heard, closed_slot}
 use Rattle.lwb_member.specs.Places.{kind_for}
 use Rattle.lwb_member.specs.Said.{message_of}
 use Rattle.node_core.specs.Windows.{Window}
 use Rattle.node_core.specs.Rows.{accepted_in}
-use Rattle.node_core.specs.Standing.{IsOwn}
-use Rattle.law_trails.specs.NodeRanges.{IsCarried, IsOpen}
+use Rattle.node_core.specs.Standing.{IsInOwnRound}
+use Rattle.law_trails.specs.NodeRanges.{IsCarried, IsOpenInRange}
 use Rattle.law_trails.proofs.SaidInRange.{says}
 use Rattle.law_trails.proofs.WindowsInRange.{schedule_said}
 
@@ -26,7 +26,7 @@ module _ (s : Setup) (f : ℕ) (c : Core) where
   heard_plan (Contention i) heard = refl
   heard_plan Closing heard = refl
 
-  heard_own : (part : Part) (heard : Bool) → IsOwn f c → IsOwn f (slot_heard f part heard c)
+  heard_own : (part : Part) (heard : Bool) → IsInOwnRound f c → IsInOwnRound f (slot_heard f part heard c)
   heard_own Opening heard own = own
   heard_own (DataSlot owner) heard own = own
   heard_own (Contention i) heard own = own
@@ -37,16 +37,16 @@ module _ (s : Setup) (f : ℕ) (c : Core) where
   IsOther (DataOf d) = Unit {0}
   IsOther (RequestOf a) = Unit {0}
 
-  closed_plan : (part : Part) (begun : Bool) (o : Option Message) → IfSome o IsOther → (closed s f part begun c o).core.plan ≡ c.plan
+  closed_plan : (part : Part) (begun : Bool) (o : Option Message) → IfSome o IsOther → (closed_slot s f part begun c o).core.plan ≡ c.plan
   closed_plan part begun None other = heard_plan part begun
   closed_plan part begun (Some (ScheduleOf x)) other = absurd other
   closed_plan part begun (Some (DataOf d)) other = heard_plan part true
   closed_plan part begun (Some (RequestOf a)) other = refl
 
-  closed_own : (part : Part) (begun : Bool) (o : Option Message) → IsOwn f c → IsOwn f (closed s f part begun c o).core
+  closed_own : (part : Part) (begun : Bool) (o : Option Message) → IsInOwnRound f c → IsInOwnRound f (closed_slot s f part begun c o).core
   closed_own part begun None own = heard_own part begun own
   closed_own part begun (Some (ScheduleOf x)) own =
-      cond_both (x.gap == 0) (opening_accepted s.id f x c) (closing_accepted s.id f x c) (IsOwn f) (λ opens. own) (λ closes host. absurd (cc))
+      cond_both (x.gap == 0) (opening_accepted s.id f x c) (closing_accepted s.id f x c) (IsInOwnRound f) (λ opens. own) (λ closes host. absurd (cc))
   closed_own part begun (Some (DataOf d)) own = heard_own part true own
   closed_own part begun (Some (RequestOf a)) own = own
 
@@ -64,11 +64,11 @@ module _ (s : Setup) (f : ℕ) (c : Core) where
   other_first j w false (Some q) plain carried = other_by w q (message_of q) plain carried.spelled refl
 
   -- where the round goes on
-  pub goes_on_is : (j : ℕ) (w : Window) → IsOpen s f c j w → j < w.last
-      → (j + 1 ≤ last_slot (closed s f w.part w.flood.initiated c (accepted_in w)).core.plan)
-      × IsOwn f (closed s f w.part w.flood.initiated c (accepted_in w)).core
+  pub goes_on_is : (j : ℕ) (w : Window) → IsOpenInRange s f c j w → j < w.last
+      → (j + 1 ≤ last_slot (closed_slot s f w.part w.flood.initiated c (accepted_in w)).core.plan)
+      × IsInOwnRound f (closed_slot s f w.part w.flood.initiated c (accepted_in w)).core
   goes_on_is j w is less =
-      let after = (closed s f w.part w.flood.initiated c (accepted_in w)).core in
+      let after = (closed_slot s f w.part w.flood.initiated c (accepted_in w)).core in
       let within : j + 1 ≤ last_slot after.plan =
       elim (is.next less) [
         | inl first ↦ omega (arith, first)

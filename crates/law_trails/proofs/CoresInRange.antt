@@ -17,8 +17,8 @@ use Rattle.bus_rules.specs.Tuning.{rank_of, hosts, hosts_in, is_scan, is_rank, H
 use Rattle.bus_rules.specs.HostPlans.{host_plan}
 use Rattle.bus_rules.specs.Cores.{Core, Setup, booted, is_fresh, begins_host, new_host, as_host, frame_ended, opening_accepted, closing_accepted}
 use Rattle.bus_rules.specs.Cores.{schedule_accepted}
-use Rattle.bus_rules.specs.Slots.{Opened, Message, ScheduleOf, DataOf, RequestOf, hosts_now, opened, host_closes, silent, is_own, owner_heard, slot_heard}
-use Rattle.bus_rules.specs.Slots.{most_kept, closed}
+use Rattle.bus_rules.specs.Slots.{Opened, Message, ScheduleOf, DataOf, RequestOf, hosts_now, opened_slot, host_closes, silent, is_own, owner_heard, slot_heard}
+use Rattle.bus_rules.specs.Slots.{most_kept, closed_slot}
 use Rattle.bus_rules.proofs.Ranks.{rank_is}
 use Rattle.lwb_member.specs.Members.{IsBoot}
 use Rattle.lwb_member.proofs.HostPlanned.{contend_few}
@@ -212,7 +212,7 @@ module _ (s : Setup) (set : IsSetup s) where
         kept = refl;
       }
 
-  pub opened_is : (f : ℕ) (part : Part) (c : Core) → IsCore s c → IsCore s (opened s f part c).core
+  pub opened_is : (f : ℕ) (part : Part) (c : Core) → IsCore s c → IsCore s (opened_slot s f part c).core
   opened_is f Opening c is = is
   opened_is f (DataSlot owner) c is =
       let i = stream_of owner in
@@ -290,7 +290,7 @@ module _ (s : Setup) (set : IsSetup s) where
       (λ full. is)
 
   pub closed_is : (f : ℕ) (part : Part) (initiated : Bool) (c : Core) (m : Option Message) → IfSome m (MayTake c) → IsCore s c
-      → IsCore s (closed s f part initiated c m).core
+      → IsCore s (closed_slot s f part initiated c m).core
   closed_is f part initiated c None may is = slot_is f part initiated c is
   closed_is f part initiated c (Some (ScheduleOf x)) may is = accepted_is f x c may is
   closed_is f part initiated c (Some (DataOf d)) may is = slot_is f part true c is

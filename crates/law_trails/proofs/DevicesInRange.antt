@@ -16,7 +16,7 @@ use Rattle.scenario_text.specs.declared.script.Act.{Act}
 use Rattle.scenario_text.specs.declared.script.Act.TheVariants.{On, Off, Declare, Leave, Put}
 use Rattle.scenario_text.specs.declared.script.ScriptLine.{ScriptLine}
 use Rattle.scenario_text.proofs.BootsCounted.{never_less}
-use Rattle.bus_rules.specs.Streams.{Streams, declared, left, put}
+use Rattle.bus_rules.specs.Streams.{Streams, declared, streams_after_leaving, put}
 use Rattle.bus_rules.specs.States.{refuses, queues}
 use Rattle.bus_rules.specs.Cores.{Core, Setup}
 use Rattle.node_core.specs.declared.stage.Stage.{Stage}
@@ -24,15 +24,16 @@ use Rattle.node_core.specs.declared.stage.Stage.TheVariants.{Idle, Scanning, Awa
 use Rattle.node_core.specs.Nodes.{Node, rebooted}
 use Rattle.node_core.specs.Rows.{Stepped, row}
 use Rattle.node_core.specs.Rows.{node_after, orders_by}
-use Rattle.air_log.specs.Devices.{Device, Power, PowerOff, PowerOn, Listening, Ordered, obeyed, moved}
+use Rattle.air_log.specs.Devices.{Device, Power, PowerOff, PowerOn, Listening, OrderedPacket, obeyed, moved}
 use Rattle.air_log.specs.Devices.{stepped, event, event_by, silenced, tunes, listens_to, seen_power}
-use Rattle.air_log.specs.ScriptedDevices.{after_act, after_line, dropped, with_new_core}
-use Rattle.air_log.specs.Trails.{Reception, ending_at, hears, heard, ended_by, ended, is_due, alarms, alarmed, one_alarm, begun, begun_by, starts, sending_from}
+use Rattle.air_log.specs.ScriptedDevices.{device_after_act, device_after_line, dropped, with_new_core}
+use Rattle.air_log.specs.Trails.{Reception, ending_at, device_after_reception, device_after_receptions, device_ended_by, device_after_end, alarm_is_due}
+use Rattle.air_log.specs.Trails.{alarms, alarmed, one_alarm, device_after_start, begun_by, starts, sending_from}
 use Rattle.air_log.proofs.KeptPower.{line_power}
 use Rattle.law_trails.specs.StreamRanges.{AreStreams}
 use Rattle.law_trails.specs.CoreRanges.{IsSetup}
-use Rattle.law_trails.specs.NodeRanges.{IsAt, IsNode}
-use Rattle.law_trails.specs.RowRanges.{IsOrder, AreOrders, IsStepped, IsBrought}
+use Rattle.law_trails.specs.NodeRanges.{IsInStage, IsNodeInRange}
+use Rattle.law_trails.specs.RowRanges.{HoldsOfOrdered, AreOrders, IsStepped, HoldsOfHeard}
 use Rattle.law_trails.specs.DeviceRanges.{IsPower, IsRanged}
 use Rattle.law_trails.proofs.StreamsInRange.{declared_are, left_are, put_are}
 use Rattle.law_trails.proofs.CoresInRange.{with_streams}
@@ -58,7 +59,7 @@ other_of : (Q : List ℕ → Type 0) (s : Setup) (d : Device) → IsRanged Q s d
 other_of Q s d is = record { ordered = is.ordered; sending = is.sending; sent = is.sent }
 
 -- the streams of a node change alone
-stage_stays : (s : Setup) (f : ℕ) (c : Core) (x : Streams) (stage : Stage) → IsAt s f c stage → IsAt s f (record c { streams = x }) stage
+stage_stays : (s : Setup) (f : ℕ) (c : Core) (x : Streams) (stage : Stage) → IsInStage s f c stage → IsInStage s f (record c { streams = x }) stage
 stage_stays s f c x Idle at = tt
 stage_stays s f c x Scanning at = at
 stage_stays s f c x AwaitFrame at = tt
@@ -85,7 +86,7 @@ module _ (s : Setup) (set : IsSetup s) (Q H : List ℕ → Type 0) (rules : AreR
   silenced_is : (d : Device) → IsRanged Q s d → IsRanged Q s (silenced s.id t d)
   silenced_is d is = record { power = is.power; ordered = is.ordered; sending = is.sending; sent = is.sent }
 
-  order_is : (d : Device) (o : Order) → IsOrder Q o → IsRanged Q s d → IsRanged Q s (obeyed clock s.id t d o)
+  order_is : (d : Device) (o : Order) → HoldsOfOrdered Q o → IsRanged Q s d → IsRanged Q s (obeyed clock s.id t d o)
   order_is d (Listen rank) may is =
       let x = silenced s.id t d in
       cond_both (listens_to rank d.listening) d (tunes rank t x x.made.tuned) (IsRanged Q s)
@@ -100,29 +101,29 @@ module _ (s : Setup) (set : IsSetup s) (Q H : List ℕ → Type 0) (rules : AreR
   orders_are (o ∷ os) d may is = orders_are os (obeyed clock s.id t d o) may.1 (order_is d o may.0 is)
 
   -- events
-  step_is : (e : Event) (x : Option Sending) (d : Device) (n : Node) → IsOther Q d → IsNode s (node_after n (row s n (clock t) e))
+  step_is : (e : Event) (x : Option Sending) (d : Device) (n : Node) → IsOther Q d → IsNodeInRange s (node_after n (row s n (clock t) e))
       → AreOrders Q (orders_by (row s n (clock t) e)) → IsRanged Q s (stepped clock s t e x d n)
   step_is e x d n is node orders =
       let r = row s n (clock t) e in
       orders_are (orders_by r) (moved t e x d n r) orders (record { power = node; ordered = is.ordered; sending = is.sending; sent = is.sent })
 
-  node_is : (n : Node) (r : Option Stepped) → IsNode s n → IsStepped Q s r → IsNode s (node_after n r) × AreOrders Q (orders_by r)
+  node_is : (n : Node) (r : Option Stepped) → IsNodeInRange s n → IsStepped Q s r → IsNodeInRange s (node_after n r) × AreOrders Q (orders_by r)
   node_is n None is step = (is, tt)
   node_is n (Some r) is step = step
 
-  by_power : (e : Event) (x : Option Sending) (d : Device) (p : Power) → d.power ≡ p → IsBrought H e → IsRanged Q s d
+  by_power : (e : Event) (x : Option Sending) (d : Device) (p : Power) → d.power ≡ p → HoldsOfHeard H e → IsRanged Q s d
       → IsRanged Q s (event_by clock s t e x d p)
   by_power e x d (PowerOff boots) at brought is = is
   by_power e x d (PowerOn n) at brought is =
-      let node : IsNode s n = subst (IsPower s) at is.power in
+      let node : IsNodeInRange s n = subst (IsPower s) at is.power in
       let after = node_is n (row s n (clock t) e) node (row_is s set Q H rules n (clock t) e brought node) in
       step_is e x d n (other_of Q s d is) after.0 after.1
 
-  pub event_is : (e : Event) (x : Option Sending) (d : Device) → IsBrought H e → IsRanged Q s d → IsRanged Q s (event clock s t e x d)
+  pub event_is : (e : Event) (x : Option Sending) (d : Device) → HoldsOfHeard H e → IsRanged Q s d → IsRanged Q s (event clock s t e x d)
   event_is e x d brought is = by_power e x d d.power refl brought is
 
   -- script lines
-  new_streams : (d : Device) (n : Node) (x : Streams) → IsNode s n → AreStreams s.profile x → IsRanged Q s d
+  new_streams : (d : Device) (n : Node) (x : Streams) → IsNodeInRange s n → AreStreams s.profile x → IsRanged Q s d
       → IsRanged Q s (with_new_core d n (record (n.core) { streams = x }))
   new_streams d n x node are is = record {
     power = record { core = with_streams s set n.core x node.core are; frame = node.frame; stage = stage_stays s n.frame n.core x n.stage node.stage };
@@ -135,7 +136,7 @@ module _ (s : Setup) (set : IsSetup s) (Q H : List ℕ → Type 0) (rules : AreR
   dropped_is frame i d is = record { power = is.power; ordered = is.ordered; sending = is.sending; sent = is.sent }
 
   act_is : (frame : ℕ) (d : Device) (a : Act) (p : Power) → d.power ≡ p → IsAct s.profile a → (turned_by a (seen_power p)).1 ≤ 200 → IsRanged Q s d
-      → IsRanged Q s (after_act clock s t frame d a p)
+      → IsRanged Q s (device_after_act clock s t frame d a p)
   act_is frame d On (PowerOff boots) at act few is =
       let n = rebooted (boots + 1) in
       let after = boots_is s set Q H rules n (clock t) (omega arith, few) in
@@ -145,15 +146,15 @@ module _ (s : Setup) (set : IsSetup s) (Q H : List ℕ → Type 0) (rules : AreR
   act_is frame d Off (PowerOn n) at act few is = record { power = few; ordered = tt; sending = is.sending; sent = is.sent }
   act_is frame d (Declare i interval) (PowerOff boots) at act few is = is
   act_is frame d (Declare i interval) (PowerOn n) at act few is =
-      let node : IsNode s n = subst (IsPower s) at is.power in
+      let node : IsNodeInRange s n = subst (IsPower s) at is.power in
       new_streams d n (declared i interval n.core.streams) node (declared_are s.profile n.core.streams i interval act.2 node.core.streams) is
   act_is frame d (Leave i) (PowerOff boots) at act few is = is
   act_is frame d (Leave i) (PowerOn n) at act few is =
-      let node : IsNode s n = subst (IsPower s) at is.power in
-      new_streams d n (left i n.core.streams) node (left_are s.profile n.core.streams i node.core.streams) is
+      let node : IsNodeInRange s n = subst (IsPower s) at is.power in
+      new_streams d n (streams_after_leaving i n.core.streams) node (left_are s.profile n.core.streams i node.core.streams) is
   act_is frame d (Put i payload) (PowerOff boots) at act few is = dropped_is frame i d is
   act_is frame d (Put i payload) (PowerOn n) at act few is =
-      let node : IsNode s n = subst (IsPower s) at is.power in
+      let node : IsNodeInRange s n = subst (IsPower s) at is.power in
       cond_both (refuses i n.core) (dropped s.id frame i d) (with_new_core d n (queues i payload n.core)) (IsRanged Q s) (λ lost. dropped_is frame i d is)
       (λ kept. new_streams d n (put i payload n.core.streams) node (put_are s.profile n.core.streams i payload act.1 node.core.streams) is)
 
@@ -162,38 +163,38 @@ module _ (s : Setup) (set : IsSetup s) (Q H : List ℕ → Type 0) (rules : AreR
   IsLine l = ((l.node == s.id) ≡ true) × IsAct s.profile l.act
 
   pub lines_are : (ls : List ScriptLine) (d : Device) → AllByRecursion IsLine ls → (turned s.id (seen_power d.power) ls).1 ≤ 200 → IsRanged Q s d
-      → IsRanged Q s (fold (after_line clock s t) d ls)
+      → IsRanged Q s (fold (device_after_line clock s t) d ls)
   lines_are [] d all few is = is
   lines_are (l ∷ ls) d all few is =
       let b = seen_power d.power in
       let next : (turned s.id (turned_by l.act b) ls).1 ≤ 200 =
       subst (λ (own : Bool). (turned s.id (if own then turned_by l.act b else b) ls).1 ≤ 200) all.0.0 few in
       let now : (turned_by l.act b).1 ≤ 200 = omega (arith, never_less s.id (turned_by l.act b) ls, next) in
-      lines_are ls (after_line clock s t d l) all.1 (subst (λ (c : Bool × ℕ). (turned s.id c ls).1 ≤ 200) (sym (line_power clock s t d l)) next)
+      lines_are ls (device_after_line clock s t d l) all.1 (subst (λ (c : Bool × ℕ). (turned s.id c ls).1 ≤ 200) (sym (line_power clock s t d l)) next)
       (act_is l.frame d l.act d.power refl all.0.1 now is)
 
   -- hearings
   abbrev IsShort : Reception → Type 0
   IsShort h = H h.packet
 
-  hearings_are : (hs : List Reception) (d : Device) → AllByRecursion IsShort hs → IsRanged Q s d → IsRanged Q s (fold (hears clock s t) d hs)
+  hearings_are : (hs : List Reception) (d : Device) → AllByRecursion IsShort hs → IsRanged Q s d → IsRanged Q s (fold (device_after_reception clock s t) d hs)
   hearings_are [] d short is = is
-  hearings_are (h ∷ hs) d short is = hearings_are hs (hears clock s t d h) short.1 (event_is (Heard h.packet) None d short.0 is)
+  hearings_are (h ∷ hs) d short is = hearings_are hs (device_after_reception clock s t d h) short.1 (event_is (Heard h.packet) None d short.0 is)
 
   pub heard_is : (hs : List Reception) (d : Device) → AllByRecursion (λ h. h.end ≡ t → H h.packet) hs → IsRanged Q s d
-      → IsRanged Q s (heard clock s t hs d)
+      → IsRanged Q s (device_after_receptions clock s t hs d)
   heard_is hs d short is =
       hearings_are (ending_at t hs) d (kept_all (λ h. h.end ≡ t → H h.packet) IsShort (λ h. h.end == t) hs (λ h few at. few (eqb-true h.end t at)) short) is
 
   -- the end of a sending, and the alarms
-  ended_of : (d : Device) (x : Option Sending) → IsRanged Q s d → IsRanged Q s (ended_by clock s t d x)
+  ended_of : (d : Device) (x : Option Sending) → IsRanged Q s d → IsRanged Q s (device_ended_by clock s t d x)
   ended_of d None is = is
   ended_of d (Some x) is =
       cond_both (x.end == t) (event clock s t Sent (Some x) (record d { sending = None })) d (IsRanged Q s)
       (λ now. event_is Sent (Some x) (record d { sending = None }) tt (record { power = is.power; ordered = is.ordered; sending = tt; sent = is.sent }))
       (λ later. is)
 
-  pub ended_is : (d : Device) → IsRanged Q s d → IsRanged Q s (ended clock s t d)
+  pub ended_is : (d : Device) → IsRanged Q s d → IsRanged Q s (device_after_end clock s t d)
   ended_is d is = ended_of d d.sending is
 
   alarms_are : (b : Bool) (more : ℕ) (d : Device) → IsRanged Q s d → IsRanged Q s (alarms clock s t b more d)
@@ -202,11 +203,11 @@ module _ (s : Setup) (set : IsSetup s) (Q H : List ℕ → Type 0) (rules : AreR
   alarms_are true zero d is = is
   alarms_are true (suc more) d is =
       let after = one_alarm clock s t d in
-      alarms_are (is_due t after.alarm) more after
+      alarms_are (alarm_is_due t after.alarm) more after
       (event_is AlarmEvent None (record d { alarm = None }) tt (record { power = is.power; ordered = is.ordered; sending = is.sending; sent = is.sent }))
 
   pub alarmed_is : (d : Device) → IsRanged Q s d → IsRanged Q s (alarmed clock s t d)
-  alarmed_is d is = alarms_are (is_due t d.alarm) (clock t + 300) d is
+  alarmed_is d is = alarms_are (alarm_is_due t d.alarm) (clock t + 300) d is
 
   -- the start of a sending
   starts_is : (q : List ℕ) (d : Device) (l : Option Listening) (x : Option Sending) → Q q → IsRanged Q s d → IsRanged Q s (starts s t q d l x)
@@ -220,13 +221,13 @@ module _ (s : Setup) (set : IsSetup s) (Q H : List ℕ → Type 0) (rules : AreR
         sent = All-push (λ (x : Sending). Q x.packet) d.made.sent (sending_from s t q l) is.sent spoken;
       }
 
-  begun_of : (d : Device) (o : Option Ordered) → d.ordered ≡ o → IsRanged Q s d → IsRanged Q s (begun_by s t d o)
+  begun_of : (d : Device) (o : Option OrderedPacket) → d.ordered ≡ o → IsRanged Q s d → IsRanged Q s (begun_by s t d o)
   begun_of d None at is = is
   begun_of d (Some o) at is =
-      let spoken : Q o.packet = subst (λ (x : Option Ordered). IfSome x (λ y. Q y.packet)) at is.ordered in
+      let spoken : Q o.packet = subst (λ (x : Option OrderedPacket). IfSome x (λ y. Q y.packet)) at is.ordered in
       cond_both (o.tick == t) (starts s t o.packet d d.listening d.sending) d (IsRanged Q s)
       (λ now. starts_is o.packet d d.listening d.sending spoken is)
       (λ later. is)
 
-  pub begun_is : (d : Device) → IsRanged Q s d → IsRanged Q s (begun s t d)
+  pub begun_is : (d : Device) → IsRanged Q s d → IsRanged Q s (device_after_start s t d)
   begun_is d is = begun_of d d.ordered refl is

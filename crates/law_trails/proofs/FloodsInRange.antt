@@ -9,16 +9,16 @@ use Rattle.bus_rules.specs.Cores.{Setup}
 use Rattle.bus_rules.specs.Slots.{Message}
 use Rattle.lwb_member.specs.Said.{bytes_of}
 use Rattle.lwb_member.proofs.Lengths.{said_long}
-use Rattle.law_trails.specs.NodeRanges.{IsCarried, IsFlood}
+use Rattle.law_trails.specs.NodeRanges.{IsCarried, IsFloodOfSlot}
 use Rattle.law_trails.proofs.SpokenInRange.{said_is, said_slot, fitting}
 use Rattle.law_trails.proofs.SaidInRange.{IsSayable}
 
 -- a flood
 module _ (s : Setup) (k : Kind) (j : ℕ) where
-  pub listening_is : IsFlood s k j (listening k j s.sends)
+  pub listening_is : IsFloodOfSlot s k j (listening k j s.sends)
   listening_is = record { kind = refl; slot = refl; limit = refl; sent = omega arith; waiting = λ waits. absurd (cc); first = tt }
 
-  pub initiating_is : (m : Message) → 1 ≤ s.sends → IsSayable s k j m → IsFlood s k j (initiating (bytes_of m j) s.sends)
+  pub initiating_is : (m : Message) → 1 ≤ s.sends → IsSayable s k j m → IsFloodOfSlot s k j (initiating (bytes_of m j) s.sends)
   initiating_is m some is =
       let said = said_is m j is.may in
       record {
@@ -38,9 +38,9 @@ module _ (s : Setup) (k : Kind) (j : ℕ) where
   first_is P None q new old = new
   first_is P (Some x) q new old = old
 
-  pub heard_is : (f : FloodState) (q : List ℕ) → length q ≤ s.profile.packet_max → IsFlood s k j f → IsFlood s k j (after_heard f q)
+  pub heard_is : (f : FloodState) (q : List ℕ) → length q ≤ s.profile.packet_max → IsFloodOfSlot s k j f → IsFloodOfSlot s k j (after_heard f q)
   heard_is f q few is =
-      cond_both (fits f q) (record f { waiting = nat_lt (counter_of q) 11; first = first_of f.first q }) f (IsFlood s k j)
+      cond_both (fits f q) (record f { waiting = nat_lt (counter_of q) 11; first = first_of f.first q }) f (IsFloodOfSlot s k j)
       (λ fit.
       let parts = fitting f q fit in
       record {
@@ -57,7 +57,7 @@ module _ (s : Setup) (k : Kind) (j : ℕ) where
       })
       (λ other. is)
 
-  pub sent_is : (f : FloodState) → f.waiting ≡ true → IsFlood s k j f → IsFlood s k j (after_sent f)
+  pub sent_is : (f : FloodState) → f.waiting ≡ true → IsFloodOfSlot s k j f → IsFloodOfSlot s k j (after_sent f)
   sent_is f waits is = let less = is.waiting waits in record {
     kind = is.kind;
     slot = is.slot;

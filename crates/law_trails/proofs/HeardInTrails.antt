@@ -4,7 +4,7 @@ use Rattle.std.proofs.lemmas.Bool.{cond_both, eq-eqb, eqb-true}
 use Rattle.radio_model.specs.OnAir.{Hearing}
 use Rattle.air_log.specs.declared.entry.Entry.{Entry}
 use Rattle.air_log.specs.Entries.{hearings_of}
-use Rattle.air_log.specs.Lawful.{comes_before, put_in, by_end, reception_of, hearings_by, heard_by}
+use Rattle.air_log.specs.Lawful.{reception_comes_before, put_in, by_end, reception_of, hearings_by, heard_by}
 use Rattle.air_log.specs.Trails.{Reception}
 use Rattle.lwb_base.proofs.Elements.{contains_head, contains_tail, contains_cases, map_contains, map_from, in_filtered, filtered}
 use Rattle.law_trails.specs.TrailLinks.{IsReceptionOf}
@@ -37,7 +37,7 @@ put_same : (h : Hearing) (hs : List Hearing) → Same (put_in h hs) (h ∷ hs)
 put_same h [] = λ x. (λ there. there, λ there. there)
 put_same h (g ∷ gs) =
     let rest = put_same h gs in
-    cond_both (comes_before g h) (g ∷ put_in h gs) (h ∷ g ∷ gs) (λ (l : List Hearing). Same l (h ∷ g ∷ gs))
+    cond_both (reception_comes_before g h) (g ∷ put_in h gs) (h ∷ g ∷ gs) (λ (l : List Hearing). Same l (h ∷ g ∷ gs))
     (λ is. λ x. (
       λ there. turned g h gs x (behind g (put_in h gs) (h ∷ gs) rest x there),
       λ there. behind g (h ∷ gs) (put_in h gs) (back (put_in h gs) (h ∷ gs) rest) x (turned h g gs x there),

@@ -10,18 +10,19 @@ use Rattle.scenario_text.specs.declared.script.ScriptLine.{ScriptLine}
 use Rattle.bus_rules.specs.States.{refuses, queues}
 use Rattle.bus_rules.specs.Cores.{Setup}
 use Rattle.node_core.specs.Nodes.{rebooted}
-use Rattle.air_log.specs.Devices.{Device, Power, PowerOff, PowerOn, Listening, Ordered, event, event_by}
-use Rattle.air_log.specs.ScriptedDevices.{after_act, after_line, dropped, switched_on, with_new_core}
-use Rattle.air_log.specs.Trails.{Reception, hears, ended, ended_by, is_due, one_alarm, begun, begun_by, starts}
+use Rattle.air_log.specs.Devices.{Device, Power, PowerOff, PowerOn, Listening, OrderedPacket, event, event_by}
+use Rattle.air_log.specs.ScriptedDevices.{device_after_act, device_after_line, dropped, device_after_on, with_new_core}
+use Rattle.air_log.specs.Trails.{Reception, device_after_reception, device_after_end, device_ended_by, alarm_is_due, one_alarm, device_after_start, begun_by}
+use Rattle.air_log.specs.Trails.{starts}
 use Rattle.air_log.proofs.KeptByEvents.{IsKept, in_event, in_end}
 use Rattle.air_log.proofs.NextDue.{Ahead, Sends, kept_ahead, kept_sends, end_over, alarm_over, begin_over}
 use Rattle.air_log.proofs.EventPower.{stepped_power}
-use Rattle.law_trails.specs.Phases.{Lines, Hearings, End, Alarms, Start, Over, SilentBy, IsKnown}
+use Rattle.law_trails.specs.Phases.{Lines, Hearings, End, Alarms, Start, Over, SilentBy, NothingDue}
 use Rattle.law_trails.proofs.RowsOfDevices.{switched_on_is}
 
 module _ (clock : ℕ → ℕ) (s : Setup) (t : ℕ) where
   -- what each event keeps, a script line keeps
-  pub act_keeps : (P : Device → Type 0) → IsKept P clock s t → (frame : ℕ) (d : Device) (a : Act) (p : Power) → P d → P (after_act clock s t frame d a p)
+  pub act_keeps : (P : Device → Type 0) → IsKept P clock s t → (frame : ℕ) (d : Device) (a : Act) (p : Power) → P d → P (device_after_act clock s t frame d a p)
   act_keeps P kept frame d On (PowerOff boots) is =
       let n = PowerOn (rebooted (boots + 1)) in in_event P clock s t Boot None (record d { power = n }) kept (kept.powered d n is)
   act_keeps P kept frame d On (PowerOn n) is = is
@@ -47,8 +48,8 @@ module _ (clock : ℕ → ℕ) (s : Setup) (t : ℕ) where
   pub event_silent : (e : Event) (x : Option Sending) (d : Device) → Silent d → Silent (event clock s t e x d)
   event_silent e x d is = silent_by e x d d.power refl is
 
-  act_silent : (frame : ℕ) (d : Device) (a : Act) (p : Power) → d.power ≡ p → SilentBy d p → Silent (after_act clock s t frame d a p)
-  act_silent frame d On (PowerOff boots) on is = subst (SilentBy (switched_on clock s t boots d)) (sym (switched_on_is clock s t boots d).power) tt
+  act_silent : (frame : ℕ) (d : Device) (a : Act) (p : Power) → d.power ≡ p → SilentBy d p → Silent (device_after_act clock s t frame d a p)
+  act_silent frame d On (PowerOff boots) on is = subst (SilentBy (device_after_on clock s t boots d)) (sym (switched_on_is clock s t boots d).power) tt
   act_silent frame d On (PowerOn n) on is = subst (SilentBy d) (sym on) tt
   act_silent frame d Off (PowerOff boots) on is = subst (SilentBy d) (sym on) is
   act_silent frame d Off (PowerOn n) on is = record { radio = refl; alarm = refl; ordered = refl }
@@ -65,33 +66,33 @@ module _ (clock : ℕ → ℕ) (s : Setup) (t : ℕ) where
       cond_both (refuses i n.core) (dropped s.id frame i d) (with_new_core d n (queues i payload n.core)) Silent
       (λ lost. subst (SilentBy (dropped s.id frame i d)) (sym on) tt) (λ queued. tt)
 
-  pub line_known : (d : Device) (l : ScriptLine) → IsKnown t Lines d → IsKnown t Lines (after_line clock s t d l)
+  pub line_known : (d : Device) (l : ScriptLine) → NothingDue t Lines d → NothingDue t Lines (device_after_line clock s t d l)
   line_known d l is =
       let ahead = act_keeps (Ahead t) (kept_ahead clock s t) l.frame d l.act d.power (is.alarm, is.ordered, is.sending) in
       record { alarm = ahead.0; ordered = ahead.1; sending = ahead.2; off = act_silent l.frame d l.act d.power refl is.off }
 
-  pub told_known : (d : Device) → IsKnown t Lines d → IsKnown t Hearings d
+  pub told_known : (d : Device) → NothingDue t Lines d → NothingDue t Hearings d
   told_known d is = record { alarm = is.alarm; ordered = is.ordered; sending = is.sending; off = is.off }
 
-  pub hearing_known : (d : Device) (h : Reception) → IsKnown t Hearings d → IsKnown t Hearings (hears clock s t d h)
+  pub hearing_known : (d : Device) (h : Reception) → NothingDue t Hearings d → NothingDue t Hearings (device_after_reception clock s t d h)
   hearing_known d h is =
       let ahead = in_event (Ahead t) clock s t (Heard h.packet) None d (kept_ahead clock s t) (is.alarm, is.ordered, is.sending) in
       record { alarm = ahead.0; ordered = ahead.1; sending = ahead.2; off = event_silent (Heard h.packet) None d is.off }
 
-  pub taken_known : (d : Device) → IsKnown t Hearings d → IsKnown t End d
+  pub taken_known : (d : Device) → NothingDue t Hearings d → NothingDue t End d
   taken_known d is = record { alarm = is.alarm; ordered = is.ordered; sending = is.sending; off = is.off }
 
   unsent : (d : Device) (p : Power) → SilentBy d p → SilentBy (record d { sending = None }) p
   unsent d (PowerOff boots) is = record { radio = is.radio; alarm = is.alarm; ordered = is.ordered }
   unsent d (PowerOn n) is = tt
 
-  end_silent : (d : Device) (x : Option Sending) → Silent d → Silent (ended_by clock s t d x)
+  end_silent : (d : Device) (x : Option Sending) → Silent d → Silent (device_ended_by clock s t d x)
   end_silent d None is = is
   end_silent d (Some x) is =
       let y : Device = record d { sending = None } in
       cond_both (x.end == t) (event clock s t Sent (Some x) y) d Silent (λ ends. event_silent Sent (Some x) y (unsent d d.power is)) (λ runs. is)
 
-  pub end_known : (d : Device) → IsKnown t End d → IsKnown t Alarms (ended clock s t d)
+  pub end_known : (d : Device) → NothingDue t End d → NothingDue t Alarms (device_after_end clock s t d)
   end_known d is =
       let ahead = in_end (Ahead t) clock s t d (kept_ahead clock s t) (is.alarm, is.ordered, is.sending) in
       record { alarm = ahead.0; ordered = ahead.1; sending = end_over clock s t d d.sending refl is.sending; off = end_silent d d.sending is.off }
@@ -100,7 +101,7 @@ module _ (clock : ℕ → ℕ) (s : Setup) (t : ℕ) where
   unset d (PowerOff boots) is = record { radio = is.radio; alarm = refl; ordered = is.ordered }
   unset d (PowerOn n) is = tt
 
-  pub alarm_known : (d : Device) → IsKnown t Alarms d → IsKnown t Alarms (one_alarm clock s t d)
+  pub alarm_known : (d : Device) → NothingDue t Alarms d → NothingDue t Alarms (one_alarm clock s t d)
   alarm_known d is =
       let y : Device = record d { alarm = None } in
       let ahead = in_event (Ahead t) clock s t Alarm None y (kept_ahead clock s t) (tt, is.ordered, later d.sending is.sending) in
@@ -111,7 +112,7 @@ module _ (clock : ℕ → ℕ) (s : Setup) (t : ℕ) where
       later None is = tt
       later (Some x) is = omega (arith, is)
 
-  pub over_known : (d : Device) → is_due t d.alarm ≡ false → IsKnown t Alarms d → IsKnown t Start d
+  pub over_known : (d : Device) → alarm_is_due t d.alarm ≡ false → NothingDue t Alarms d → NothingDue t Start d
   over_known d none is = record { alarm = alarm_over t d.alarm none is.alarm; ordered = is.ordered; sending = is.sending; off = is.off }
 
   start_silent : (d : Device) (packet : List ℕ) (l : Option Listening) (x : Option Sending) (p : Power) → SilentBy d p → SilentBy (starts s t packet d l x) p
@@ -125,7 +126,7 @@ module _ (clock : ℕ → ℕ) (s : Setup) (t : ℕ) where
   same_power d packet (Some l) (Some x) = refl
   same_power d packet (Some l) None = refl
 
-  begun_silent : (d : Device) (o : Option Ordered) → Silent d → Silent (begun_by s t d o)
+  begun_silent : (d : Device) (o : Option OrderedPacket) → Silent d → Silent (begun_by s t d o)
   begun_silent d None is = is
   begun_silent d (Some o) is =
       let y = starts s t o.packet d d.listening d.sending in
@@ -133,10 +134,10 @@ module _ (clock : ℕ → ℕ) (s : Setup) (t : ℕ) where
       (λ now. subst (SilentBy y) (sym (same_power d o.packet d.listening d.sending)) (start_silent d o.packet d.listening d.sending d.power is))
       (λ other. is)
 
-  pub begun_known : 1 ≤ s.profile.byte → (d : Device) → IsKnown t Start d → IsKnown t Over (begun s t d)
+  pub begun_known : 1 ≤ s.profile.byte → (d : Device) → NothingDue t Start d → NothingDue t Over (device_after_start s t d)
   begun_known some d is =
       let ahead = begin_over s t d d.ordered some refl is.alarm is.ordered is.sending in
       record { alarm = ahead.0; ordered = ahead.1; sending = ahead.2; off = begun_silent d d.ordered is.off }
 
-  pub passed_known : (d : Device) → IsKnown t Over d → IsKnown (suc t) Lines d
+  pub passed_known : (d : Device) → NothingDue t Over d → NothingDue (suc t) Lines d
   passed_known d is = record { alarm = is.alarm; ordered = is.ordered; sending = is.sending; off = is.off }

@@ -6,23 +6,23 @@ use Rattle.scenario_text.specs.declared.script.Act.{Act}
 use Rattle.scenario_text.specs.declared.script.Act.TheVariants.{On, Off, Declare, Leave, Put}
 use Rattle.scenario_text.specs.declared.script.ScriptLine.{ScriptLine}
 use Rattle.bus_rules.specs.States.{refuses, queues}
-use Rattle.bus_rules.specs.Streams.{Streams, cleared, declared, left, put}
+use Rattle.bus_rules.specs.Streams.{Streams, cleared, declared, streams_after_leaving, put}
 use Rattle.bus_rules.specs.Cores.{Core, Setup}
 use Rattle.node_core.specs.Nodes.{Node, rebooted}
 use Rattle.node_core.specs.Rows.{boots}
 use Rattle.node_core.specs.Nodes.{with_streams}
 use Rattle.air_log.specs.Devices.{Device, Power, PowerOff, PowerOn}
-use Rattle.air_log.specs.ScriptedDevices.{after_act, after_line, dropped, switched_on, with_new_core}
-use Rattle.air_log.specs.Trails.{setup_of, frame_start, lines_at, scripted}
+use Rattle.air_log.specs.ScriptedDevices.{device_after_act, device_after_line, dropped, device_after_on, with_new_core}
+use Rattle.air_log.specs.Trails.{setup_of, frame_start, lines_at, device_after_script}
 use Rattle.lwb_base.proofs.Elements.{not_in_none, contains_head, contains_tail, contains_cases, in_filtered, filtered}
 use Rattle.law_trails.specs.Phases.{IsSilent, SilentBy}
-use Rattle.law_trails.specs.TrailLinks.{IsTold, HasBooted, WentOff, WentOffBy, StaysOn, boots_of}
+use Rattle.law_trails.specs.TrailLinks.{IsLineOfTick, HasBooted, WentOff, WentOffBy, DeviceStaysOn, boots_of_power}
 use Rattle.law_trails.proofs.RowsOfDevices.{switched_on_is}
 
 module _ (clock : ℕ → ℕ) (s : Setup) (t before : ℕ) where
   -- no boot less than these, and silent where it is off
   abbrev CountsBy : Device → Power → Type 0
-  CountsBy d p = SilentBy d p × (before ≤ boots_of p)
+  CountsBy d p = SilentBy d p × (before ≤ boots_of_power p)
 
   abbrev Counts : Device → Type 0
   Counts d = CountsBy d d.power
@@ -34,9 +34,9 @@ module _ (clock : ℕ → ℕ) (s : Setup) (t before : ℕ) where
   abbrev Gone : Device → Type 0
   Gone d = GoneBy d d.power
 
-  on_again : (count : ℕ) (d : Device) → IsSilent d → before ≤ count → Gone (switched_on clock s t count d)
+  on_again : (count : ℕ) (d : Device) → IsSilent d → before ≤ count → Gone (device_after_on clock s t count d)
   on_again count d silent fewer =
-      let e = switched_on clock s t count d in
+      let e = device_after_on clock s t count d in
       let is = switched_on_is clock s t count d in
       let n = (boots s (rebooted (count + 1)) (clock t)).node in
       let has : HasBooted clock s t n.core.boot e n = record {
@@ -47,10 +47,10 @@ module _ (clock : ℕ → ℕ) (s : Setup) (t before : ℕ) where
       } in
       subst (GoneBy e) (sym is.power) (tt, (omega (arith, fewer), has))
 
-  counted : (count : ℕ) (d : Device) → before ≤ count → Counts (switched_on clock s t count d)
-  counted count d fewer = subst (CountsBy (switched_on clock s t count d)) (sym (switched_on_is clock s t count d).power) (tt, omega (arith, fewer))
+  counted : (count : ℕ) (d : Device) → before ≤ count → Counts (device_after_on clock s t count d)
+  counted count d fewer = subst (CountsBy (device_after_on clock s t count d)) (sym (switched_on_is clock s t count d).power) (tt, omega (arith, fewer))
 
-  counts_on : (frame : ℕ) (d : Device) (a : Act) (p : Power) → d.power ≡ p → CountsBy d p → Counts (after_act clock s t frame d a p)
+  counts_on : (frame : ℕ) (d : Device) (a : Act) (p : Power) → d.power ≡ p → CountsBy d p → Counts (device_after_act clock s t frame d a p)
   counts_on frame d On (PowerOff count) at is = counted count d is.1
   counts_on frame d On (PowerOn n) at is = subst (CountsBy d) (sym at) is
   counts_on frame d Off (PowerOff count) at is = subst (CountsBy d) (sym at) is
@@ -71,7 +71,7 @@ module _ (clock : ℕ → ℕ) (s : Setup) (t before : ℕ) where
       cond_both (refuses i n.core) (dropped s.id frame i d) (with_new_core d n (queues i payload n.core)) Counts
       (λ lost. subst (CountsBy (dropped s.id frame i d)) (sym at) is) (λ kept. is)
 
-  goes_off : (frame : ℕ) (d : Device) (p : Power) → d.power ≡ p → CountsBy d p → Gone (after_act clock s t frame d Off p)
+  goes_off : (frame : ℕ) (d : Device) (p : Power) → d.power ≡ p → CountsBy d p → Gone (device_after_act clock s t frame d Off p)
   goes_off frame d (PowerOff count) at is = subst (GoneBy d) (sym at) is
   goes_off frame d (PowerOn n) at is = (record { radio = refl; alarm = refl; ordered = refl }, is.1)
 
@@ -98,7 +98,7 @@ module _ (clock : ℕ → ℕ) (s : Setup) (t before : ℕ) where
         ),
       )
 
-  gone_on : (frame : ℕ) (d : Device) (a : Act) (p : Power) → d.power ≡ p → GoneBy d p → Gone (after_act clock s t frame d a p)
+  gone_on : (frame : ℕ) (d : Device) (a : Act) (p : Power) → d.power ≡ p → GoneBy d p → Gone (device_after_act clock s t frame d a p)
   gone_on frame d On (PowerOff count) at is = on_again count d is.0 is.1
   gone_on frame d On (PowerOn n) at is = subst (GoneBy d) (sym at) is
   gone_on frame d Off (PowerOff count) at is = subst (GoneBy d) (sym at) is
@@ -106,7 +106,7 @@ module _ (clock : ℕ → ℕ) (s : Setup) (t before : ℕ) where
   gone_on frame d (Declare i interval) (PowerOff count) at is = subst (GoneBy d) (sym at) is
   gone_on frame d (Declare i interval) (PowerOn n) at is = other_streams d n (declared i interval n.core.streams) is.1
   gone_on frame d (Leave i) (PowerOff count) at is = subst (GoneBy d) (sym at) is
-  gone_on frame d (Leave i) (PowerOn n) at is = other_streams d n (left i n.core.streams) is.1
+  gone_on frame d (Leave i) (PowerOn n) at is = other_streams d n (streams_after_leaving i n.core.streams) is.1
   gone_on frame d (Put i payload) (PowerOff count) at is = subst (GoneBy (dropped s.id frame i d)) (sym at) (
     record {
       radio = is.0.radio;
@@ -131,24 +131,25 @@ module _ (clock : ℕ → ℕ) (s : Setup) (t before : ℕ) where
       ))
       (λ kept. other_streams d n (put i payload n.core.streams) is.1)
 
-  gone_lines : (ls : List ScriptLine) (d : Device) → Gone d → Gone (fold (after_line clock s t) d ls)
+  gone_lines : (ls : List ScriptLine) (d : Device) → Gone d → Gone (fold (device_after_line clock s t) d ls)
   gone_lines [] d is = is
-  gone_lines (l ∷ ls) d is = gone_lines ls (after_line clock s t d l) (gone_on l.frame d l.act d.power refl is)
+  gone_lines (l ∷ ls) d is = gone_lines ls (device_after_line clock s t d l) (gone_on l.frame d l.act d.power refl is)
 
-  off_lines : (ls : List ScriptLine) (d : Device) → Counts d → (l : ScriptLine) → Contains ls l → l.act ≡ Off → Gone (fold (after_line clock s t) d ls)
+  off_lines : (ls : List ScriptLine) (d : Device) → Counts d → (l : ScriptLine) → Contains ls l → l.act ≡ Off → Gone (fold (device_after_line clock s t) d ls)
   off_lines [] d is l there off = absurd (not_in_none l there)
   off_lines (x ∷ ls) d is l there off =
       elim (contains_cases x ls l there) [
         | inl same ↦
             let gone = goes_off x.frame d d.power refl is in
             let act : x.act ≡ Off = ap (λ (k : ScriptLine). k.act) same ∙ off in
-            gone_lines ls (after_line clock s t d x) (subst (λ (a : Act). Gone (after_act clock s t x.frame d a d.power)) (sym act) gone)
-        | inr later ↦ off_lines ls (after_line clock s t d x) (counts_on x.frame d x.act d.power refl is) l later off
+            gone_lines ls (device_after_line clock s t d x) (subst (λ (a : Act). Gone (device_after_act clock s t x.frame d a d.power)) (sym act) gone)
+        | inr later ↦ off_lines ls (device_after_line clock s t d x) (counts_on x.frame d x.act d.power refl is) l later off
       ]
 
 -- no off line
 module _ (clock : ℕ → ℕ) (s : Setup) (t : ℕ) (n : Node) (d : Device) where
-  new_streams : (e : Device) (is : StaysOn n d e) (m : Node) (streams : Streams) → StaysOn n d (record e { power = PowerOn (with_streams n streams) })
+  new_streams : (e : Device) (is : DeviceStaysOn n d e) (m : Node) (streams : Streams)
+      → DeviceStaysOn n d (record e { power = PowerOn (with_streams n streams) })
   new_streams e is m streams = record {
     streams = streams;
     power = refl;
@@ -159,28 +160,28 @@ module _ (clock : ℕ → ℕ) (s : Setup) (t : ℕ) (n : Node) (d : Device) whe
   }
 
   -- the node of e, with what is told
-  stays : (frame : ℕ) (e : Device) (a : Act) → a ≢ Off → StaysOn n d e → StaysOn n d (after_act clock s t frame e a e.power)
-  stays frame e a other is = subst (λ (p : Power). StaysOn n d (after_act clock s t frame e a p)) (sym is.power) (by_act a other)
+  stays : (frame : ℕ) (e : Device) (a : Act) → a ≢ Off → DeviceStaysOn n d e → DeviceStaysOn n d (device_after_act clock s t frame e a e.power)
+  stays frame e a other is = subst (λ (p : Power). DeviceStaysOn n d (device_after_act clock s t frame e a p)) (sym is.power) (by_act a other)
     where
       m : Node
       m = with_streams n is.streams
 
-      by_act : (a : Act) → a ≢ Off → StaysOn n d (after_act clock s t frame e a (PowerOn m))
+      by_act : (a : Act) → a ≢ Off → DeviceStaysOn n d (device_after_act clock s t frame e a (PowerOn m))
       by_act On other = is
       by_act Off other = absurd (other refl)
       by_act (Declare i interval) other = new_streams e is m (declared i interval is.streams)
-      by_act (Leave i) other = new_streams e is m (left i is.streams)
+      by_act (Leave i) other = new_streams e is m (streams_after_leaving i is.streams)
       by_act (Put i payload) other =
-          cond_both (refuses i m.core) (dropped s.id frame i e) (with_new_core e m (queues i payload m.core)) (StaysOn n d)
+          cond_both (refuses i m.core) (dropped s.id frame i e) (with_new_core e m (queues i payload m.core)) (DeviceStaysOn n d)
           (λ lost. record { streams = is.streams; power = is.power; listening = is.listening; alarm = is.alarm; ordered = is.ordered; sending = is.sending })
           (λ kept. new_streams e is m (put i payload is.streams))
 
-  stays_lines : (ls : List ScriptLine) (e : Device) → StaysOn n d e → ((l : ScriptLine) → Contains ls l → l.act ≢ Off)
-      → StaysOn n d (fold (after_line clock s t) e ls)
+  stays_lines : (ls : List ScriptLine) (e : Device) → DeviceStaysOn n d e → ((l : ScriptLine) → Contains ls l → l.act ≢ Off)
+      → DeviceStaysOn n d (fold (device_after_line clock s t) e ls)
   stays_lines [] e is none = is
   stays_lines (l ∷ ls) e is none =
       let on = stays l.frame e l.act (none l (contains_head l ls)) is in
-      stays_lines ls (after_line clock s t e l) on (λ k there. none k (contains_tail l ls k there))
+      stays_lines ls (device_after_line clock s t e l) on (λ k there. none k (contains_tail l ls k there))
 
 pub off_or_none : (ls : List ScriptLine) → ((l : ScriptLine) × Contains ls l × (l.act ≡ Off)) ⊎ ((l : ScriptLine) → Contains ls l → l.act ≢ Off)
 off_or_none [] = inr (λ l there. absurd (not_in_none l there))
@@ -206,16 +207,16 @@ off_or_none (x ∷ ls) = by_act x.act refl (off_or_none ls)
     by_act (Put i payload) is rest = other (Put i payload) is (λ e. cc) rest
 
 pub went_off : (s : ScenarioParts) (v : ℕ) (clock : ℕ → ℕ) (t : ℕ) (d : Device) → SilentBy d d.power
-    → (l : ScriptLine) → Contains (lines_at s v t) l → l.act ≡ Off → WentOff clock (setup_of s v) t (boots_of d.power) (scripted s v clock t d)
-went_off s v clock t d silent l there off = (off_lines clock (setup_of s v) t (boots_of d.power) (lines_at s v t) d (silent, omega arith) l there off).1
+    → (l : ScriptLine) → Contains (lines_at s v t) l → l.act ≡ Off → WentOff clock (setup_of s v) t (boots_of_power d.power) (device_after_script s v clock t d)
+went_off s v clock t d silent l there off = (off_lines clock (setup_of s v) t (boots_of_power d.power) (lines_at s v t) d (silent, omega arith) l there off).1
 
 pub stays_on : (s : ScenarioParts) (v : ℕ) (clock : ℕ → ℕ) (t : ℕ) (d : Device) (n : Node) → d.power ≡ PowerOn n
-    → ((l : ScriptLine) → Contains (lines_at s v t) l → l.act ≢ Off) → StaysOn n d (scripted s v clock t d)
+    → ((l : ScriptLine) → Contains (lines_at s v t) l → l.act ≢ Off) → DeviceStaysOn n d (device_after_script s v clock t d)
 stays_on s v clock t d n on none =
     stays_lines clock (setup_of s v) t n d (lines_at s v t) d
     (record { streams = n.core.streams; power = on; listening = refl; alarm = refl; ordered = refl; sending = refl }) none
 
-pub is_told : (s : ScenarioParts) (v t : ℕ) (l : ScriptLine) → Contains (lines_at s v t) l ↔ IsTold s v t l
+pub is_told : (s : ScenarioParts) (v t : ℕ) (l : ScriptLine) → Contains (lines_at s v t) l ↔ IsLineOfTick s v t l
 is_told s v t l = (
   λ there.
       let both = filtered now s.script l there in

@@ -15,8 +15,8 @@ use Rattle.scenario_text.specs.FloodParts.{knows}
 use Rattle.scenario_text.specs.declared.lines.NodeLine.{NodeLine}
 use Rattle.air_log.specs.declared.entry.Entry.{Entry}
 use Rattle.air_log.specs.Entries.{sendings_of, hearings_of}
-use Rattle.air_log.specs.Lawful.{FollowsTrails, comes_before, put_in, by_end, reception_of, hearings_by, heard_by, sent_by, trail_sent}
-use Rattle.air_log.specs.Devices.{Device, Listening, Ordered}
+use Rattle.air_log.specs.Lawful.{FollowsTrails, reception_comes_before, put_in, by_end, reception_of, hearings_by, heard_by, sent_by, trail_sent}
+use Rattle.air_log.specs.Devices.{Device, Listening, OrderedPacket}
 use Rattle.air_log.specs.Trails.{Reception, setup_of, run_end, before_start, begun_by, starts, sending_from, before_tick}
 use Rattle.air_log.specs.TrailEntries.{IsSentBefore}
 use Rattle.lwb_base.proofs.Elements.{not_in_none, contains_head, contains_tail, contains_cases}
@@ -41,7 +41,7 @@ known_in (n ∷ ns) v ids known =
 -- in another order
 put_all : (P : Hearing → Type 0) (h : Hearing) (gs : List Hearing) → P h → AllByRecursion P gs → AllByRecursion P (put_in h gs)
 put_all P h [] this all = (this, tt)
-put_all P h (g ∷ gs) this all = cond_both (comes_before g h) (g ∷ put_in h gs) (h ∷ g ∷ gs) (AllByRecursion P)
+put_all P h (g ∷ gs) this all = cond_both (reception_comes_before g h) (g ∷ put_in h gs) (h ∷ g ∷ gs) (AllByRecursion P)
     (λ before. (all.0, put_all P h gs this all.1)) (λ after. (this, all))
 
 sorted_all : (P : Hearing → Type 0) (hs : List Hearing) → AllByRecursion P hs → AllByRecursion P (by_end hs)
@@ -70,7 +70,7 @@ module _ (s : ScenarioParts) (v : ℕ) (clock : ℕ → ℕ) (hs : List Receptio
   starts_later u q d (Some l) (Some y) late all = all
   starts_later u q d (Some l) None late all = All-push Below d.made.sent (sending_from (setup_of s v) u q l) all (λ early. absurd (omega (arith, early, late)))
 
-  begun_later : (u : ℕ) (d : Device) (o : Option Ordered) → t ≤ u → All Below d.made.sent → All Below (begun_by (setup_of s v) u d o).made.sent
+  begun_later : (u : ℕ) (d : Device) (o : Option OrderedPacket) → t ≤ u → All Below d.made.sent → All Below (begun_by (setup_of s v) u d o).made.sent
   begun_later u d None late all = all
   begun_later u d (Some o) late all =
       cond_both (o.tick == u) (starts (setup_of s v) u o.packet d d.listening d.sending) d (λ (x : Device). All Below x.made.sent)

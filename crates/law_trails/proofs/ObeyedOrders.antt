@@ -6,17 +6,17 @@ use Rattle.lwb_base.specs.declared.order.Order.{Order}
 use Rattle.lwb_base.specs.declared.order.Order.TheVariants.{Listen, Off, SendAt, Alarm}
 use Rattle.tick_clock.specs.Clocks.{due}
 use Rattle.radio_model.specs.OnAir.{Tuning}
-use Rattle.air_log.specs.Devices.{Device, Listening, Ordered, obeyed, silenced, tunes, listens_to}
-use Rattle.law_trails.specs.Obeying.{channel_of, channel_by, alarm_by, ordered_by, HasObeyed}
+use Rattle.air_log.specs.Devices.{Device, Listening, OrderedPacket, obeyed, silenced, tunes, listens_to}
+use Rattle.law_trails.specs.Obeying.{channel_if_on, channel_by, alarm_by, ordered_by, HasObeyed}
 
-pub channel_is : (rank : ℕ) (l : Option Listening) → listens_to rank l ≡ true → channel_of l ≡ Some rank
+pub channel_is : (rank : ℕ) (l : Option Listening) → listens_to rank l ≡ true → channel_if_on l ≡ Some rank
 channel_is rank None on = absurd (true≢false (sym on))
 channel_is rank (Some l) on = ap (λ (r : ℕ). Some r) (eqb-true l.rank rank on)
 
 module _ (clock : ℕ → ℕ) (v t : ℕ) where
   -- a device that differs in what orders change
-  rebuilt : (os : List Order) (d : Device) (l : Option Listening) (a : Option ℕ) (o : Option Ordered) (es : List Tuning)
-      → channel_of l ≡ fold channel_by (channel_of d.listening) os → a ≡ fold (alarm_by clock t) d.alarm os → o ≡ fold (ordered_by clock t) d.ordered os
+  rebuilt : (os : List Order) (d : Device) (l : Option Listening) (a : Option ℕ) (o : Option OrderedPacket) (es : List Tuning)
+      → channel_if_on l ≡ fold channel_by (channel_if_on d.listening) os → a ≡ fold (alarm_by clock t) d.alarm os → o ≡ fold (ordered_by clock t) d.ordered os
       → HasObeyed clock t os d (record d { listening = l; alarm = a; ordered = o; made = record (d.made) { tuned = es } })
   rebuilt os d l a o es channel alarm ordered = record {
     channel = channel;
@@ -53,7 +53,7 @@ module _ (clock : ℕ → ℕ) (v t : ℕ) where
       (λ other. retuned rank d x.made.tuned)
   one d Off = rebuilt (Off ∷ []) d None d.alarm d.ordered (silenced v t d).made.tuned refl refl refl
   one d (SendAt local packet) =
-      let o : Ordered = record { tick = max (due clock local) t; packet = packet } in
+      let o : OrderedPacket = record { tick = max (due clock local) t; packet = packet } in
       rebuilt (SendAt local packet ∷ []) d d.listening d.alarm (Some o) d.made.tuned refl refl refl
   one d (Alarm local) = rebuilt (Alarm local ∷ []) d d.listening (Some (max (due clock local) t)) d.ordered d.made.tuned refl refl refl
 
@@ -66,7 +66,7 @@ module _ (clock : ℕ → ℕ) (v t : ℕ) where
       record {
         channel = b.channel ∙ ap (λ (c : Option ℕ). fold channel_by c os) a.channel;
         alarm = b.alarm ∙ ap (λ (c : Option ℕ). fold (alarm_by clock t) c os) a.alarm;
-        ordered = b.ordered ∙ ap (λ (c : Option Ordered). fold (ordered_by clock t) c os) a.ordered;
+        ordered = b.ordered ∙ ap (λ (c : Option OrderedPacket). fold (ordered_by clock t) c os) a.ordered;
         power = b.power ∙ a.power;
         sending = b.sending ∙ a.sending;
         sent = b.sent ∙ a.sent;

@@ -8,7 +8,7 @@ use Rattle.tick_clock.specs.RatesLaw.{rates_law}
 use Rattle.tick_clock.proofs.Readings.{true_clock}
 use Rattle.lwb_base.specs.Profile.{one}
 use Rattle.time_reference.specs.Budgets.{budget_one}
-use Rattle.time_reference.specs.Zeros.{Ref, nominal, started}
+use Rattle.time_reference.specs.Zeros.{Ref, nominal, start_tick}
 use Rattle.law_trails.specs.OnePacket.{drifting}
 use Rattle.law_trails.proofs.DriftingClocks.{fast_due, fast_dues, slow, slow_due, slow_dues, tame_fast, tame_slow, host_clock, member_clock}
 
@@ -34,7 +34,7 @@ ref_by : (z f c j : ℕ) → 1 ≤ c → c ≤ f → f ≤ c + 4 → c ≤ 4095 
     → Near (slow (fast_due (nominal one c j)) + f * 256000000) (z + j * 2112000 + 64000 + c * 256000000) 55
     → Ref one budget_one (drifting 1) (drifting 2) z f c j
 ref_by z f c j begun past young run slot near =
-    let reads : drifting 2 (started one (drifting 1) c j) ≡ slow (fast_due (nominal one c j)) =
+    let reads : drifting 2 (start_tick one (drifting 1) c j) ≡ slow (fast_due (nominal one c j)) =
     ap (drifting 2) (host_due_at (nominal one c j)) ∙ ap (λ (clock : ℕ → ℕ). clock (fast_due (nominal one c j))) member_clock in
     record {
       begun = begun;

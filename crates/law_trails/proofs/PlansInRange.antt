@@ -13,10 +13,10 @@ use Rattle.schedule_codec.specs.AckLists.{ask_in_range}
 use Rattle.schedule_codec.specs.OwnerLists.{ascend}
 use Rattle.schedule_codec.specs.Spelling.{most_acks}
 use Rattle.bus_rules.specs.Plans.{slots_named}
-use Rattle.bus_rules.specs.Streams.{Streams, with_agreed, is_due, due_of, stream_at}
-use Rattle.bus_rules.specs.Tables.{Entry, Table, Above, is_full, interval_of}
+use Rattle.bus_rules.specs.Streams.{Streams, with_agreed, request_is_due, due_of, stream_at}
+use Rattle.bus_rules.specs.Tables.{Entry, Table, EntriesAreAbove, is_full, interval_of}
 use Rattle.bus_rules.specs.Granting.{Grants, grant, owners_by, granted_by, grants_for, share_in, given, last_code, gap_of, owed_to, plan_round}
-use Rattle.bus_rules.specs.HostPlans.{Answered, Served, with_ack, answer, answered, put_if, serve, served, host_plan}
+use Rattle.bus_rules.specs.HostPlans.{Answered, Served, with_ack, answer, answers_to, put_if, serve, served, host_plan}
 use Rattle.bus_rules.proofs.Grants.{with_few}
 use Rattle.stream_table.proofs.Changes.{grant_keeps}
 use Rattle.host_scheduler.proofs.Shares.{Rises, owners_rise}
@@ -78,7 +78,7 @@ module _ (p : Numbers) (node boot frame : ℕ) (low : 1 ≤ node) (high : node �
       let streams = with_agreed i (interval_of x.table (code node i)) x.streams in
       let now : AreStreams p streams = agreed_are p x.streams i (interval_of x.table (code node i)) (interval_is x.table (code node i) are.table) are.streams in
       let wish : IfSome (due_of streams i) (λ n. n ≤ 120) =
-      cond_both (is_due streams i) (Some (stream_at streams i).wish) None (λ (o : Option ℕ). IfSome o (λ n. n ≤ 120))
+      cond_both (request_is_due streams i) (Some (stream_at streams i).wish) None (λ (o : Option ℕ). IfSome o (λ n. n ≤ 120))
       (λ due. (stream_is p streams i now).wish) (λ none. tt) in
       record { table = put_is i (due_of streams i) x.table few wish are.table; streams = now }
 
@@ -102,7 +102,7 @@ owners_between share (e ∷ es) all =
     each_between (share e) e.code (owners_by share es) (and_from _ _ (le-leb 4 e.code this.code.0) (le-leb e.code 803 this.code.1))
     (owners_between share es (All-tail IsEntry e es all))
 
-above_none : (es : List Entry) → All IsEntry es → Above 0 es
+above_none : (es : List Entry) → All IsEntry es → EntriesAreAbove 0 es
 above_none [] all = tt
 above_none (e ∷ es) all = let this = All-head IsEntry e es all in (omega (arith, this.code), above_none es (All-tail IsEntry e es all))
 
@@ -143,7 +143,7 @@ pub host_plan_is : (p : Numbers) (node boot rank frame : ℕ) (kept : List Ask) 
     → IsHostPlan p rank boot (host_plan p node boot rank frame kept t s)
 unfolding host_plan
 host_plan_is p node boot rank frame kept t s profile low high booted few_ranks few ranges is are =
-    let first = answered frame kept t in
+    let first = answers_to frame kept t in
     let own = served frame node boot first.table s in
     let answers = answers_are frame kept (record { table = t; acks = [] }) 0 ranges (record {
       table = is;

@@ -8,7 +8,7 @@ use Rattle.lwb_packets.specs.Ranges.{between}
 use Rattle.tick_clock.specs.Clocks.{Near, IsClock}
 use Rattle.time_reference.specs.Budgets.{Fits, budget_of, budget_one, budget_two, span}
 use Rattle.time_reference.specs.Drift.{drift}
-use Rattle.time_reference.specs.Zeros.{started, Ref}
+use Rattle.time_reference.specs.Zeros.{start_tick, Ref}
 use Rattle.time_reference.proofs.ProfileSizes.{sizes}
 use Rattle.time_reference.proofs.Steps.{of_61, of_74}
 use Rattle.schedule_codec.specs.Spelling.{slot_fits}
@@ -168,7 +168,7 @@ slot_covered p made q x own is =
 -- what a schedule of the profile gives to whoever hears it whole
 pub profile_reference : (p : Numbers) → IsProfile p → (H L : ℕ → ℕ) (c s e : ℕ) (q : List ℕ) (x : Schedule) → IsClock H → IsClock L
     → 1 ≤ c → c ≤ 4095 → message_of q ≡ Some (ScheduleOf x) → IsOfProfile p (ScheduleOf x)
-    → Near s (started p H c (slot_of q) + counter_of q * step p (length q)) (counter_of q) → e ≡ s + airtime p (length q)
+    → Near s (start_tick p H c (slot_of q) + counter_of q * step p (length q)) (counter_of q) → e ≡ s + airtime p (length q)
     → Ref p (budget_of p) H L (zero_from p (L e) q) c c (slot_of q)
 profile_reference p made H L c s e q x host clock begun within is own near ends =
     let cover = covers p made in

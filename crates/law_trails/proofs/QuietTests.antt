@@ -6,7 +6,7 @@ use Rattle.std.proofs.lemmas.Bool.{and_parts, and_from, leb-true, le-leb, or_cas
 use Rattle.radio_model.specs.declared.sending.Sending.{Sending}
 use Rattle.scenario_text.specs.ScenarioParts.{ScenarioParts}
 use Rattle.scenario_text.specs.declared.script.ScriptLine.{ScriptLine}
-use Rattle.air_log.specs.Devices.{Device, Power, Listening, Ordered, Made}
+use Rattle.air_log.specs.Devices.{Device, Power, Listening, OrderedPacket, Made}
 use Rattle.air_log.specs.Trails.{Reception, frame_start}
 use Rattle.air_log.proofs.ComputedTrails.{goes_through}
 
@@ -14,7 +14,7 @@ abbrev alarm_from : ℕ → Option ℕ → Bool
 alarm_from b None = true
 alarm_from b (Some w) = nat_le b w
 
-abbrev start_from : ℕ → Option Ordered → Bool
+abbrev start_from : ℕ → Option OrderedPacket → Bool
 start_from b None = true
 start_from b (Some o) = nat_le b o.tick
 
@@ -32,12 +32,12 @@ module _ (clock D : ℕ → ℕ) (s : ScenarioParts) (v : ℕ) (hs : List Recept
   abbrev told_from : ℕ → ScriptLine → Bool
   told_from b l = not (l.node == v) || outside a b (frame_start s l.frame)
 
-  abbrev test : ℕ → Option ℕ → Option Ordered → Option Sending → Bool
+  abbrev test : ℕ → Option ℕ → Option OrderedPacket → Option Sending → Bool
   test b alarm ordered sending =
       nat_le a b && alarm_from b alarm && start_from b ordered && end_from b sending && list_all (heard_from b) hs && list_all (told_from b) s.script
 
   module _ (b : ℕ) (power : Power) (listening : Option Listening) (made : Made) where
-    is_test : (alarm : Option ℕ) (ordered : Option Ordered) (sending : Option Sending)
+    is_test : (alarm : Option ℕ) (ordered : Option OrderedPacket) (sending : Option Sending)
         → goes_through D clock s v hs b a [] (record { power = power; listening = listening; alarm = alarm; ordered = ordered; sending = sending; made = made })
         ≡ test b alarm ordered sending
     is_test None None None = refl
@@ -67,7 +67,7 @@ module _ (clock D : ℕ → ℕ) (s : ScenarioParts) (v : ℕ) (hs : List Recept
     alarm_earlier None is = refl
     alarm_earlier (Some w) is = earlier t b w order is
 
-    start_earlier : (o : Option Ordered) → start_from b o ≡ true → start_from t o ≡ true
+    start_earlier : (o : Option OrderedPacket) → start_from b o ≡ true → start_from t o ≡ true
     start_earlier None is = refl
     start_earlier (Some o) is = earlier t b o.tick order is
 
@@ -75,7 +75,7 @@ module _ (clock D : ℕ → ℕ) (s : ScenarioParts) (v : ℕ) (hs : List Recept
     end_earlier None is = refl
     end_earlier (Some x) is = earlier t b x.end order is
 
-    test_earlier : (alarm : Option ℕ) (ordered : Option Ordered) (sending : Option Sending) → test b alarm ordered sending ≡ true
+    test_earlier : (alarm : Option ℕ) (ordered : Option OrderedPacket) (sending : Option Sending) → test b alarm ordered sending ≡ true
         → test t alarm ordered sending ≡ true
     test_earlier alarm ordered sending is =
         let lines = and_parts _ _ is in

@@ -2,8 +2,8 @@
 use Rattle.std.proofs.Common.{◌≡◌, ℕ, ◌<◌, List, [], ◌∷◌, false, length, replicate, refl, arith}
 use Rattle.lwb_base.specs.Profile.{one, contended}
 use Rattle.lwb_packets.specs.declared.kind.Kind.TheVariants.{Payload}
-use Rattle.schedule_codec.specs.OwnerLists.{least}
-use Rattle.schedule_codec.specs.Packing.{number, digits}
+use Rattle.schedule_codec.specs.OwnerLists.{least_passing}
+use Rattle.schedule_codec.specs.Packing.{packed_number, digits}
 use Rattle.schedule_codec.specs.Reading.{schedule_of, asks_in}
 use Rattle.glossy_relay.specs.FloodState.{listening}
 use Rattle.glossy_relay.specs.Relaying.{is_packet, reply_to}
@@ -19,28 +19,28 @@ request_relayed_once : IsSpoken one (3 ∷ 1 ∷ 1 ∷ 2 ∷ 1 ∷ 0 ∷ 5 ∷ [
 request_relayed_once = spoken one (3 ∷ 1 ∷ 1 ∷ 2 ∷ 1 ∷ 0 ∷ 5 ∷ []) refl (omega arith)
 
 opening_of_three : IsSpoken one (1 ∷ 0 ∷ 0 ∷ 0 ∷ 1 ∷ 0 ∷ 0 ∷ 0 ∷ 0 ∷ 3 ∷ 0 ∷ 0x43 ∷ 0x14 ∷ [])
-unfolding number digits least schedule_of asks_in
+unfolding packed_number digits least_passing schedule_of asks_in
 opening_of_three = spoken one (1 ∷ 0 ∷ 0 ∷ 0 ∷ 1 ∷ 0 ∷ 0 ∷ 0 ∷ 0 ∷ 3 ∷ 0 ∷ 0x43 ∷ 0x14 ∷ []) refl (omega arith)
 
 closing_of_two : IsSpoken (contended 2) (4 ∷ 3 ∷ 0 ∷ 4 ∷ 1 ∷ 0x12 ∷ 2 ∷ 1 ∷ 0 ∷ 5 ∷ 3 ∷ 1 ∷ 0 ∷ 5 ∷ 8 ∷ 0 ∷ 0x83 ∷ 0 ∷ 0x40 ∷ 0 ∷ [])
-unfolding number digits least schedule_of asks_in
+unfolding packed_number digits least_passing schedule_of asks_in
 closing_of_two = spoken (contended 2) (4 ∷ 3 ∷ 0 ∷ 4 ∷ 1 ∷ 0x12 ∷ 2 ∷ 1 ∷ 0 ∷ 5 ∷ 3 ∷ 1 ∷ 0 ∷ 5 ∷ 8 ∷ 0 ∷ 0x83 ∷ 0 ∷ 0x40 ∷ 0 ∷ []) refl (omega arith)
 
 -- a slot, a counter and a boot out of range, and an opening in slot 1
 slot_41 : is_packet (2 ∷ 41 ∷ 0 ∷ 4 ∷ 1 ∷ 0 ∷ 0 ∷ 0 ∷ []) ≡ false
-unfolding number digits least schedule_of asks_in
+unfolding packed_number digits least_passing schedule_of asks_in
 slot_41 = refl
 
 counter_12 : is_packet (3 ∷ 1 ∷ 12 ∷ 2 ∷ 1 ∷ 0 ∷ 5 ∷ []) ≡ false
-unfolding number digits least schedule_of asks_in
+unfolding packed_number digits least_passing schedule_of asks_in
 counter_12 = refl
 
 boot_201 : is_packet (3 ∷ 1 ∷ 0 ∷ 2 ∷ 201 ∷ 0 ∷ 5 ∷ []) ≡ false
-unfolding number digits least schedule_of asks_in
+unfolding packed_number digits least_passing schedule_of asks_in
 boot_201 = refl
 
 late_opening : is_packet (1 ∷ 1 ∷ 0 ∷ 0 ∷ 1 ∷ 0 ∷ 0 ∷ 0 ∷ 0 ∷ 3 ∷ 0 ∷ 0x43 ∷ 0x14 ∷ []) ≡ false
-unfolding number digits least schedule_of asks_in
+unfolding packed_number digits least_passing schedule_of asks_in
 late_opening = refl
 
 -- what is heard has to fit the profile: a node of the first profile would relay a packet of 104 bytes, of which it has room

@@ -18,7 +18,7 @@ use Rattle.bus_rules.specs.declared.tune.Tune.TheVariants.{Scan, Hold, Host}
 use Rattle.bus_rules.specs.Plans.{last_slot}
 use Rattle.bus_rules.specs.Tuning.{rank_of, hosts}
 use Rattle.bus_rules.specs.Cores.{Core, Setup, frame_ended, begins_host}
-use Rattle.bus_rules.specs.Slots.{Message, ScheduleOf, DataOf, RequestOf, part_of, opened, closed, hosts_now}
+use Rattle.bus_rules.specs.Slots.{Message, ScheduleOf, DataOf, RequestOf, part_of, opened_slot, closed_slot, hosts_now}
 use Rattle.lwb_member.specs.Members.{IsBoot}
 use Rattle.lwb_member.specs.Places.{kind_for}
 use Rattle.lwb_member.specs.Said.{bytes_of, message_of}
@@ -26,12 +26,12 @@ use Rattle.node_core.specs.declared.stage.Stage.{Stage}
 use Rattle.node_core.specs.declared.stage.Stage.TheVariants.{Idle, Scanning, AwaitFrame, AwaitSlot, InWindow}
 use Rattle.node_core.specs.Windows.{Window}
 use Rattle.node_core.specs.Nodes.{Node, stopped_frame}
-use Rattle.node_core.specs.Rows.{row, boots, stage_for, orders_for, zero_for, frame_alarms, first_sending, window_opens, relaying, joins, scanner_hears}
+use Rattle.node_core.specs.Rows.{row, boots, stage_for, orders_for, zero_for, frame_alarms, initiating_orders, window_opens, relaying, joins, scanner_hears}
 use Rattle.node_core.specs.Rows.{is_foreign, reply_by, window_hears, sends, accepted_in, window_closes, at_alarm, at_heard, at_sent}
-use Rattle.node_core.specs.Standing.{IsOwn}
+use Rattle.node_core.specs.Standing.{IsInOwnRound}
 use Rattle.law_trails.specs.CoreRanges.{IsSetup}
-use Rattle.law_trails.specs.NodeRanges.{IsOpen, IsAt, IsNode}
-use Rattle.law_trails.specs.RowRanges.{AreOrders, IsStepped, IsBrought}
+use Rattle.law_trails.specs.NodeRanges.{IsOpenInRange, IsInStage, IsNodeInRange}
+use Rattle.law_trails.specs.RowRanges.{AreOrders, IsStepped, HoldsOfHeard}
 use Rattle.law_trails.proofs.SaidInRange.{IsSayable, placed, says as says_in}
 use Rattle.law_trails.proofs.CoresInRange.{booted_is, frame_is, opened_is, closed_is}
 use Rattle.law_trails.proofs.WindowsInRange.{opens_is, joins_is, hears_is, ends_is, accepted_may}
@@ -53,14 +53,14 @@ module _ (s : Setup) (set : IsSetup s) (Q H : List ℕ → Type 0) (rules : AreR
   boots_is n now is = (record { core = booted_is s set n.core.boot is; frame = omega arith; stage = refl }, (tt, (tt, tt)))
 
   -- frame alarm
-  staged : (f : ℕ) (c : Core) (t : Tune) → c.tune ≡ t → IsAt s f c (stage_for t f)
+  staged : (f : ℕ) (c : Core) (t : Tune) → c.tune ≡ t → IsInStage s f c (stage_for t f)
   staged f c (Scan r w) at = ap hosts at
   staged f c (Hold r due) at =
-      cond_both (due == f) (AwaitSlot 0) AwaitFrame (IsAt s f c)
+      cond_both (due == f) (AwaitSlot 0) AwaitFrame (IsInStage s f c)
       (λ now. (omega arith, λ host. (let never : true ≡ false = sym host ∙ ap hosts at in absurd (cc))))
       (λ later. tt)
   staged f c (Host r due) at =
-      cond_both (due == f) (AwaitSlot 0) AwaitFrame (IsAt s f c)
+      cond_both (due == f) (AwaitSlot 0) AwaitFrame (IsInStage s f c)
       (λ now. (omega arith, λ host. subst (λ (t : Tune). hosts_now f (record c { tune = t }) ≡ true) (sym at) (and_from _ _ (eq-eqb r r refl) now)))
       (λ later. tt)
 
@@ -69,7 +69,7 @@ module _ (s : Setup) (set : IsSetup s) (Q H : List ℕ → Type 0) (rules : AreR
   frame_orders (Hold r due) f z = (tt, (tt, tt))
   frame_orders (Host r due) f z = (tt, (tt, tt))
 
-  frame_row : (n : Node) → IsNode s n → IsStepped Q s (Some (frame_alarms s n))
+  frame_row : (n : Node) → IsNodeInRange s n → IsStepped Q s (Some (frame_alarms s n))
   frame_row n is =
       let core = frame_ended s n.frame n.core in
       let f = stopped_frame (n.frame + 1) in (
@@ -78,33 +78,33 @@ module _ (s : Setup) (set : IsSetup s) (Q H : List ℕ → Type 0) (rules : AreR
       )
 
   -- window opens
-  first_orders : (k : Kind) (z j : ℕ) (o : Option Message) → IfSome o (IsSayable s k j) → AreOrders Q (first_sending s.profile z j o)
+  first_orders : (k : Kind) (z j : ℕ) (o : Option Message) → IfSome o (IsSayable s k j) → AreOrders Q (initiating_orders s.profile z j o)
   first_orders k z j None said = tt
   first_orders k z j (Some m) said = (rules.own k j m said, tt)
 
-  opens_row : (n : Node) (j : ℕ) → IsNode s n → (j ≤ last_slot n.core.plan) × IsOwn n.frame n.core → IsStepped Q s (Some (window_opens s n j))
+  opens_row : (n : Node) (j : ℕ) → IsNodeInRange s n → (j ≤ last_slot n.core.plan) × IsInOwnRound n.frame n.core → IsStepped Q s (Some (window_opens s n j))
   opens_row n j is at =
       let part = part_of n.core.plan j in
-      let o = opened s n.frame part n.core in
+      let o = opened_slot s n.frame part n.core in
       let said = says_in s set n.frame j part n.core is.core (placed n.core.plan j is.core.plan at.0) in (
         record { core = opened_is s set n.frame part n.core is.core; frame = is.frame; stage = opens_is s set n.frame j n.core is.core at.0 at.1 },
-        (tt, both_orders Q (first_sending s.profile n.zero j o.message) (AlarmAt _ ∷ []) (first_orders (kind_for part) n.zero j o.message said) (tt, tt)),
+        (tt, both_orders Q (initiating_orders s.profile n.zero j o.message) (AlarmAt _ ∷ []) (first_orders (kind_for part) n.zero j o.message said) (tt, tt)),
       )
 
   -- window closes
-  closes_row : (n : Node) (j : ℕ) (w : Window) → IsNode s n → IsOpen s n.frame n.core j w → IsStepped Q s (Some (window_closes s n j w))
+  closes_row : (n : Node) (j : ℕ) (w : Window) → IsNodeInRange s n → IsOpenInRange s n.frame n.core j w → IsStepped Q s (Some (window_closes s n j w))
   closes_row n j w is open_ =
-      let c = closed s n.frame w.part w.flood.initiated n.core (accepted_in w) in (
+      let c = closed_slot s n.frame w.part w.flood.initiated n.core (accepted_in w) in (
         record {
           core = closed_is s set n.frame w.part w.flood.initiated n.core (accepted_in w) (accepted_may s set n.frame j n.core w open_) is.core;
           frame = is.frame;
-          stage = cond_both (nat_lt j w.last) (AwaitSlot (j + 1)) AwaitFrame (IsAt s n.frame c.core)
+          stage = cond_both (nat_lt j w.last) (AwaitSlot (j + 1)) AwaitFrame (IsInStage s n.frame c.core)
               (λ more. goes_on_is s n.frame n.core j w open_ (ltb-true j w.last more)) (λ last. tt);
         },
         (tt, (tt, tt)),
       )
 
-  alarm_row : (n : Node) (stage : Stage) → IsNode s n → IsAt s n.frame n.core stage → IsStepped Q s (at_alarm s n stage)
+  alarm_row : (n : Node) (stage : Stage) → IsNodeInRange s n → IsInStage s n.frame n.core stage → IsStepped Q s (at_alarm s n stage)
   alarm_row n Idle is at = tt
   alarm_row n Scanning is at = frame_row n is
   alarm_row n AwaitFrame is at = frame_row n is
@@ -117,7 +117,7 @@ module _ (s : Setup) (set : IsSetup s) (Q H : List ℕ → Type 0) (rules : AreR
   relay_orders now Keep spoken = tt
   relay_orders now Ignore spoken = tt
 
-  joins_row : (n : Node) (now : ℕ) (p : List ℕ) (x : Schedule) → IsNode s n → hosts n.core.tune ≡ false → H p
+  joins_row : (n : Node) (now : ℕ) (p : List ℕ) (x : Schedule) → IsNodeInRange s n → hosts n.core.tune ≡ false → H p
       → message_of p ≡ Some (ScheduleOf x) → (x.plan.rank == rank_of n.core.tune) ≡ true
       → IsStepped Q s (Some (joins s n now p x))
   joins_row n now p x is free few says ranked =
@@ -127,7 +127,7 @@ module _ (s : Setup) (set : IsSetup s) (Q H : List ℕ → Type 0) (rules : AreR
             (relay_orders now (reply_to start p) (λ q relays. rules.relay start p q relays few)) (tt, tt),
       )
 
-  scanner_row : (n : Node) (now : ℕ) (p : List ℕ) (o : Option Message) → IsNode s n → hosts n.core.tune ≡ false → H p
+  scanner_row : (n : Node) (now : ℕ) (p : List ℕ) (o : Option Message) → IsNodeInRange s n → hosts n.core.tune ≡ false → H p
       → message_of p ≡ o → IsStepped Q s (scanner_hears s n now p o)
   scanner_row n now p None is free few says = tt
   scanner_row n now p (Some (DataOf d)) is free few says = tt
@@ -140,7 +140,7 @@ module _ (s : Setup) (set : IsSetup s) (Q H : List ℕ → Type 0) (rules : AreR
   ignored : (q : List ℕ) → Ignore ≡ Relay q → Q q
   ignored q is = absurd (cc)
 
-  hears_row : (n : Node) (now j : ℕ) (w : Window) (p : List ℕ) → IsNode s n → IsOpen s n.frame n.core j w → H p
+  hears_row : (n : Node) (now j : ℕ) (w : Window) (p : List ℕ) → IsNodeInRange s n → IsOpenInRange s n.frame n.core j w → H p
       → IsStepped Q s (Some (window_hears s n now j w p))
   hears_row n now j w p is open_ few =
       let rank = rank_of n.core.tune in (
@@ -150,7 +150,7 @@ module _ (s : Setup) (set : IsSetup s) (Q H : List ℕ → Type 0) (rules : AreR
             (λ foreign. ignored) (λ own q relays. rules.relay w.flood p q relays few)),
       )
 
-  heard_row : (n : Node) (now : ℕ) (p : List ℕ) (stage : Stage) → IsNode s n → IsAt s n.frame n.core stage → H p
+  heard_row : (n : Node) (now : ℕ) (p : List ℕ) (stage : Stage) → IsNodeInRange s n → IsInStage s n.frame n.core stage → H p
       → IsStepped Q s (at_heard s n now p stage)
   heard_row n now p Idle is at few = tt
   heard_row n now p Scanning is at few = scanner_row n now p (message_of p) is at few refl
@@ -163,7 +163,7 @@ module _ (s : Setup) (set : IsSetup s) (Q H : List ℕ → Type 0) (rules : AreR
   off_order true = (tt, tt)
   off_order false = tt
 
-  sent_row : (n : Node) (stage : Stage) → IsNode s n → IsAt s n.frame n.core stage → IsStepped Q s (at_sent n stage)
+  sent_row : (n : Node) (stage : Stage) → IsNodeInRange s n → IsInStage s n.frame n.core stage → IsStepped Q s (at_sent n stage)
   sent_row n Idle is at = tt
   sent_row n Scanning is at = tt
   sent_row n AwaitFrame is at = tt
@@ -173,7 +173,7 @@ module _ (s : Setup) (set : IsSetup s) (Q H : List ℕ → Type 0) (rules : AreR
       (λ waits. (record { core = is.core; frame = is.frame; stage = ends_is s set n.frame j n.core w waits at }, off_order (w.flood.sent + 1 == w.flood.limit)))
       (λ none. tt)
 
-  pub row_is : (n : Node) (now : ℕ) (e : Event) → IsBrought H e → IsNode s n → IsStepped Q s (row s n now e)
+  pub row_is : (n : Node) (now : ℕ) (e : Event) → HoldsOfHeard H e → IsNodeInRange s n → IsStepped Q s (row s n now e)
   row_is n now Boot brought is = boots_is n now is.core.boot
   row_is n now Alarm brought is = alarm_row n n.stage is is.stage
   row_is n now (Heard p) brought is = heard_row n now p n.stage is is.stage brought

@@ -14,7 +14,7 @@ use Rattle.schedule_codec.specs.Reading.{is_schedule}
 use Rattle.schedule_codec.proofs.Readings.{bytes_same}
 use Rattle.scenario_text.specs.ScenarioParts.{ScenarioParts}
 use Rattle.radio_model.specs.declared.sending.Sending.{Sending}
-use Rattle.radio_model.specs.Hearing.{Meets, frame_of, slot_of, counter_of}
+use Rattle.radio_model.specs.Hearing.{Meets, frame_of_sending, slot_of_sending, counter_of_sending}
 use Rattle.air_log.specs.declared.entry.Entry.{Entry}
 use Rattle.air_log.specs.Entries.{sendings_of}
 use Rattle.air_log.specs.Trails.{frame_start}
@@ -28,10 +28,10 @@ no_clash true true false is x y z = true≢false (sym z)
 
 module _ (s : ScenarioParts) where
   abbrev same_slot : Sending → Sending → Bool
-  same_slot x y = (x.rank == y.rank) && ((slot_of x == slot_of y) && (frame_of s.profile x == frame_of s.profile y))
+  same_slot x y = (x.rank == y.rank) && ((slot_of_sending x == slot_of_sending y) && (frame_of_sending s.profile x == frame_of_sending s.profile y))
 
   abbrev same_step : Sending → Sending → Bool
-  same_step x y = same_slot x y && (counter_of x == counter_of y)
+  same_step x y = same_slot x y && (counter_of_sending x == counter_of_sending y)
 
   abbrev meets : Sending → Sending → Bool
   meets x y = (x.rank == y.rank) && (nat_lt x.start y.end && nat_lt y.start x.end)
@@ -40,13 +40,13 @@ module _ (s : ScenarioParts) where
   near x y = nat_le x.start (y.start + s.profile.delta) && nat_le y.start (x.start + s.profile.delta)
 
   abbrev alike : Sending → Sending → Bool
-  alike x y = bytes_eq (body x.packet) (body y.packet) && (not (counter_of x == counter_of y) || near x y)
+  alike x y = bytes_eq (body x.packet) (body y.packet) && (not (counter_of_sending x == counter_of_sending y) || near x y)
 
   abbrev begins : Sending → Bool
-  begins x = (counter_of x == 0) && not (is_request x.packet)
+  begins x = (counter_of_sending x == 0) && not (is_request x.packet)
 
   abbrev is_in_frame : Sending → Bool
-  is_in_frame x = nat_lt x.end (frame_start s (frame_of s.profile x + 1))
+  is_in_frame x = nat_lt x.end (frame_start s (frame_of_sending s.profile x + 1))
 
   abbrev keep_apart : Sending → Sending → Bool
   keep_apart x y = not (meets x y) || same_step x y
@@ -66,10 +66,10 @@ module _ (s : ScenarioParts) where
   is_named v (Some u) = u == v
 
   abbrev by_its_host : Sending → Bool
-  by_its_host x = not ((counter_of x == 0) && is_schedule x.packet) || is_named x.node (slice_get s.hosts x.rank)
+  by_its_host x = not ((counter_of_sending x == 0) && is_schedule x.packet) || is_named x.node (slice_get s.hosts x.rank)
 
   abbrev says_schedule : Sending → Bool
-  says_schedule x = not (counter_of x == 0) || is_schedule x.packet
+  says_schedule x = not (counter_of_sending x == 0) || is_schedule x.packet
 
   abbrev pair_with : (Sending → Sending → Bool) → List Sending → Sending → Bool
   pair_with test xs x = list_all (test x) xs
@@ -127,7 +127,7 @@ module _ (s : ScenarioParts) where
   named_from v None is = absurd (true≢false (sym is))
   named_from v (Some u) is = ap (λ (w : ℕ). Some w) (eqb-true u v is)
 
-  host_from : (x : Sending) → by_its_host x ≡ true → counter_of x ≡ 0 → is_schedule x.packet ≡ true → slice_get s.hosts x.rank ≡ Some x.node
+  host_from : (x : Sending) → by_its_host x ≡ true → counter_of_sending x ≡ 0 → is_schedule x.packet ≡ true → slice_get s.hosts x.rank ≡ Some x.node
   host_from x test first schedule = named_from x.node _ (implied _ _ test (and_from _ _ (eq-eqb _ _ first) schedule))
 
   -- each clause by its test

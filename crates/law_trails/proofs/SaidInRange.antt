@@ -10,12 +10,13 @@ use Rattle.schedule_codec.proofs.Readings.{range_from}
 use Rattle.bus_rules.specs.declared.part.Part.{Part}
 use Rattle.bus_rules.specs.declared.part.Part.TheVariants.{Opening, Data as DataSlot, Contention, Closing}
 use Rattle.bus_rules.specs.Plans.{last_slot, opening}
-use Rattle.bus_rules.specs.Streams.{Waiting, Streams, stream_at, first_waiting, is_due, due, requested}
+use Rattle.bus_rules.specs.Streams.{WaitingPacket, Streams, stream_at, first_waiting, request_is_due, due_stream, requested}
 use Rattle.bus_rules.specs.Tuning.{rank_of}
 use Rattle.bus_rules.specs.HostPlans.{host_plan}
 use Rattle.bus_rules.specs.Cores.{Core, Setup}
-use Rattle.bus_rules.specs.Slots.{Opened, Message, ScheduleOf, hosts_now, part_of, opened, data_of, request_of, host_closes, silent, is_own, message_length}
-use Rattle.lwb_member.specs.Places.{IsPlaced, kind_for}
+use Rattle.bus_rules.specs.Slots.{Opened, Message, ScheduleOf, hosts_now, part_of, opened_slot, data_of, request_of, host_closes, silent, is_own}
+use Rattle.bus_rules.specs.Slots.{message_length}
+use Rattle.lwb_member.specs.Places.{IsPartOfSlot, kind_for}
 use Rattle.lwb_member.specs.Said.{MaySay}
 use Rattle.lwb_member.proofs.HostPlanned.{closing_fits}
 use Rattle.air_log.proofs.SmallPlans.{few_slots}
@@ -37,17 +38,17 @@ pub few_owners : (p : Plan) → IsWholePlan p → length p.owners ≤ 40
 few_owners p whole = leb-true (length p.owners) 40 (and_parts _ _ (and_parts _ _ whole.owners).0).0
 
 -- where each slot stands
-pub placed : (p : Plan) (j : ℕ) → IsWholePlan p → j ≤ last_slot p → IsPlaced p j (part_of p j)
+pub placed : (p : Plan) (j : ℕ) → IsWholePlan p → j ≤ last_slot p → IsPartOfSlot p j (part_of p j)
 placed p j whole within =
     let owners = few_owners p whole in
     let last = few_slots p owners whole.contend in
     let rest : Part = if nat_lt j (last_slot p) then Contention (j - length p.owners) else Closing in
-    cond_both (j == 0) Opening (if nat_le j (length p.owners) then DataSlot (slice_index p.owners (j - 1)) else rest) (IsPlaced p j) (λ is. eqb-true j 0 is)
+    cond_both (j == 0) Opening (if nat_le j (length p.owners) then DataSlot (slice_index p.owners (j - 1)) else rest) (IsPartOfSlot p j) (λ is. eqb-true j 0 is)
     (λ some.
     let past = eqb-false j 0 some in
-    cond_both (nat_le j (length p.owners)) (DataSlot (slice_index p.owners (j - 1))) rest (IsPlaced p j)
+    cond_both (nat_le j (length p.owners)) (DataSlot (slice_index p.owners (j - 1))) rest (IsPartOfSlot p j)
     (λ own. let few = leb-true j (length p.owners) own in (omega arith, omega arith))
-    (λ other. cond_both (nat_lt j (last_slot p)) (Contention (j - length p.owners)) Closing (IsPlaced p j)
+    (λ other. cond_both (nat_lt j (last_slot p)) (Contention (j - length p.owners)) Closing (IsPartOfSlot p j)
     (λ less. let before = ltb-true j (last_slot p) less in (omega arith, omega arith))
     (λ end. let from = ltb-false j (last_slot p) end in omega arith)))
 
@@ -59,8 +60,8 @@ found : (P : ℕ → Type 0) (test : ℕ → Bool) (xs : List ℕ) → AllByRecu
 found P test [] all = tt
 found P test (x ∷ xs) all = cond_both (test x) (Some x) (find test xs) (λ (o : Option ℕ). IfSome o P) (λ this. all.0) (λ other. found P test xs all.1)
 
-few_due : (s : Streams) → IfSome (due s) (λ i. i ≤ 3)
-few_due s = found (λ i. i ≤ 3) (is_due s) (0 ∷ 1 ∷ 2 ∷ 3 ∷ []) (omega arith, (omega arith, (omega arith, (omega arith, tt))))
+few_due : (s : Streams) → IfSome (due_stream s) (λ i. i ≤ 3)
+few_due s = found (λ i. i ≤ 3) (request_is_due s) (0 ∷ 1 ∷ 2 ∷ 3 ∷ []) (omega arith, (omega arith, (omega arith, (omega arith, tt))))
 
 module _ (s : Setup) (set : IsSetup s) where
   abbrev Says : Part → ℕ → Option Message → Type 0
@@ -90,7 +91,7 @@ module _ (s : Setup) (set : IsSetup s) where
       }
 
   -- a packet that waits
-  data_says : (j i : ℕ) (c : Core) (o : Option Waiting) → IsCore s c → 1 ≤ j → j ≤ 40 → i ≤ 3 → (next : ℕ) → next ≤ 65535
+  data_says : (j i : ℕ) (c : Core) (o : Option WaitingPacket) → IsCore s c → 1 ≤ j → j ≤ 40 → i ≤ 3 → (next : ℕ) → next ≤ 65535
       → IfSome o (IsWaiting s.profile next) → Says (DataSlot i) j (option_map (data_of s.id c i) o)
   data_says j i c None is low high few next most waits = tt
   data_says j i c (Some w) is low high few next most waits =
@@ -155,7 +156,7 @@ module _ (s : Setup) (set : IsSetup s) where
         kind = refl;
       }
 
-  pub says : (f j : ℕ) (part : Part) (c : Core) → IsCore s c → IsPlaced c.plan j part → Says part j (opened s f part c).message
+  pub says : (f j : ℕ) (part : Part) (c : Core) → IsCore s c → IsPartOfSlot c.plan j part → Says part j (opened_slot s f part c).message
   says f j Opening c is at = cond_both (hosts_now f c) (Some (ScheduleOf (opening c.plan))) None (Says Opening j) (λ now. opening_says f j c is at now)
       (λ not. tt)
   says f j (DataSlot owner) c is at =
@@ -169,7 +170,7 @@ module _ (s : Setup) (set : IsSetup s) where
       (λ other. tt)
   says f j (Contention i) c is at =
       let few : IfSome (requested c.streams) (λ n. n ≤ 3) =
-      cond_both (c.streams.skips == 0) (due c.streams) None (λ (o : Option ℕ). IfSome o (λ n. n ≤ 3)) (λ now. few_due c.streams) (λ later. tt) in
+      cond_both (c.streams.skips == 0) (due_stream c.streams) None (λ (o : Option ℕ). IfSome o (λ n. n ≤ 3)) (λ now. few_due c.streams) (λ later. tt) in
       cond_both (is_own c.own_slot i) (option_map (request_of s.id c) (requested c.streams)) None (Says (Contention i) j)
       (λ own. request_says j c (requested c.streams) i is at.0 at.1 few)
       (λ other. tt)

@@ -11,7 +11,7 @@ use Rattle.lwb_packets.specs.Requests.{is_request}
 use Rattle.lwb_packets.specs.declared.kind.Kind.{Kind}
 use Rattle.lwb_packets.specs.declared.kind.Kind.TheVariants as kinds
 use Rattle.schedule_codec.specs.Reading.{schedule_of}
-use Rattle.schedule_codec.specs.Spelling.{spelling}
+use Rattle.schedule_codec.specs.Spelling.{schedule_spelling}
 use Rattle.schedule_codec.proofs.Readings.{Parts, spelled_by, range_from, bytes_same, length-spelling}
 use Rattle.schedule_codec.proofs.Heads.{heads_of}
 use Rattle.glossy_relay.specs.FloodState.{kind_named}
@@ -128,7 +128,7 @@ schedule_packet_of p s is =
     let none : 0 ≤ 11 = omega arith in
     let parts = parts_in p s is in
     let both = and_parts _ _ (spelled_by p s is) in
-    let same : spelling s (slot_of p) (counter_of p) ≡ p = bytes_same (spelling s (slot_of p) (counter_of p)) p both.1 in
+    let same : schedule_spelling s (slot_of p) (counter_of p) ≡ p = bytes_same (schedule_spelling s (slot_of p) (counter_of p)) p both.1 in
     let first = schedule_first p s is in
     record {
       counter = parts.count;

@@ -10,7 +10,7 @@ use Rattle.scenario_text.specs.ScenarioParts.{ScenarioParts}
 use Rattle.scenario_text.specs.FloodParts.{knows}
 use Rattle.air_log.specs.declared.entry.Entry.{Entry}
 use Rattle.air_log.specs.Entries.{sendings_of}
-use Rattle.air_log.specs.Devices.{Device, Listening, Ordered}
+use Rattle.air_log.specs.Devices.{Device, Listening, OrderedPacket}
 use Rattle.air_log.specs.Lawful.{FollowsTrails, heard_by, sent_by}
 use Rattle.air_log.specs.TrailEntries.{IsSentBefore}
 use Rattle.air_log.specs.Trails.{Reception, setup_of, run_end, begun_by, starts, sending_from, before_start, before_tick}
@@ -33,7 +33,7 @@ module _ (s : ScenarioParts) (v : ℕ) (clock : ℕ → ℕ) (hs : List Receptio
   starts_more t packet d (Some l) (Some y) = inl refl
   starts_more t packet d (Some l) None = inr (sending_from (setup_of s v) t packet l, refl, refl)
 
-  begun_more : (t : ℕ) (d : Device) (o : Option Ordered) → MoreAt t d.made.sent (begun_by (setup_of s v) t d o).made.sent
+  begun_more : (t : ℕ) (d : Device) (o : Option OrderedPacket) → MoreAt t d.made.sent (begun_by (setup_of s v) t d o).made.sent
   begun_more t d None = inl refl
   begun_more t d (Some o) =
       cond_both (o.tick == t) (starts (setup_of s v) t o.packet d d.listening d.sending) d (λ (e : Device). MoreAt t d.made.sent e.made.sent)

@@ -5,13 +5,13 @@ use Rattle.std.specs.Prelude.{slice_index, slice_set, bytes_eq}
 use Rattle.std.proofs.lemmas.Bool.{cond_both, and_parts, or_left, or_right, leb-true, ltb-true, eqb-true, false≢true}
 use Rattle.std.proofs.lemmas.List.{length-set, length-drop}
 use Rattle.lwb_base.specs.Profile.{Numbers, IsProfile}
-use Rattle.lwb_base.specs.Messages.{Schedule, least, width_of, differences, owners_length, length_of}
+use Rattle.lwb_base.specs.Messages.{Schedule, least_passing, width_of, differences, owners_length, length_of}
 use Rattle.lwb_packets.specs.DataPackets.{is_data}
 use Rattle.lwb_packets.specs.Requests.{is_request}
 use Rattle.lwb_packets.specs.declared.kind.Kind.{Kind}
 use Rattle.lwb_packets.specs.declared.kind.Kind.TheVariants as Kinds
 use Rattle.schedule_codec.specs.Packing.{fit}
-use Rattle.schedule_codec.specs.Spelling.{spelling, in_range}
+use Rattle.schedule_codec.specs.Spelling.{schedule_spelling, schedule_in_range}
 use Rattle.schedule_codec.specs.Reading.{schedule_of, is_schedule}
 use Rattle.schedule_codec.proofs.Readings.{range_from, spelled_by, bytes_same, length-spelling, schedule_spelled}
 use Rattle.glossy_relay.specs.FloodState.{FloodState}
@@ -20,7 +20,7 @@ use Rattle.glossy_relay.specs.declared.flood.Reply.TheVariants.{Relay}
 use Rattle.glossy_relay.proofs.CountedPackets.{relayed_parts}
 use Rattle.glossy_relay.proofs.Spellings.{spelled_again}
 use Rattle.bus_rules.specs.Slots.{Message, ScheduleOf, DataOf, RequestOf, message_length}
-use Rattle.lwb_member.specs.Said.{IsSaid, MaySay, bytes_of, message_of, data_in, request_in, data_packet, request_packet}
+use Rattle.lwb_member.specs.Said.{IsInitialPacket, MaySay, bytes_of, message_of, data_in, request_in, data_packet, request_packet}
 use Rattle.lwb_member.proofs.Spoken.{data_spoken, request_spoken, schedule_spoken}
 use Rattle.lwb_member.proofs.Lengths.{said_long}
 use Rattle.law_trails.specs.PlanRanges.{IsWholePlan}
@@ -105,9 +105,9 @@ schedule_long x =
 schedule_may : (q : List ℕ) (x : Schedule) → schedule_of q ≡ Some x → IsSized q × MaySay (slot_of q) (ScheduleOf x)
 schedule_may q x is =
     let parts = parts_in q x is in
-    let same : spelling x (slot_of q) (counter_of q) ≡ q =
-    bytes_same (spelling x (slot_of q) (counter_of q)) q
-    (and_parts (in_range x (slot_of q) (counter_of q)) (bytes_eq (spelling x (slot_of q) (counter_of q)) q) (spelled_by q x is)).1 in
+    let same : schedule_spelling x (slot_of q) (counter_of q) ≡ q =
+    bytes_same (schedule_spelling x (slot_of q) (counter_of q)) q
+    (and_parts (schedule_in_range x (slot_of q) (counter_of q)) (bytes_eq (schedule_spelling x (slot_of q) (counter_of q)) q) (spelled_by q x is)).1 in
     let long = length-spelling x (slot_of q) (counter_of q) in (
       record { least = omega (arith, ap length same, long, schedule_long x); counter = parts.count },
       range_from x (slot_of q) 0 (record {
@@ -196,8 +196,8 @@ kind_of (ScheduleOf x) = Kinds.Schedule
 kind_of (DataOf d) = Kinds.Payload
 kind_of (RequestOf a) = Kinds.Request
 
-pub said_is : (m : Message) (j : ℕ) → MaySay j m → IsSaid (kind_of m) (bytes_of m j)
-said_is (ScheduleOf x) j may = schedule_spoken (spelling x j 0) x j (schedule_spelled x j 0 may) refl
+pub said_is : (m : Message) (j : ℕ) → MaySay j m → IsInitialPacket (kind_of m) (bytes_of m j)
+said_is (ScheduleOf x) j may = schedule_spoken (schedule_spelling x j 0) x j (schedule_spelled x j 0 may) refl
 said_is (DataOf d) j may = data_spoken (data_packet d j) may.0 refl may.1 may.2 may.3
 said_is (RequestOf a) j may = request_spoken (request_packet a j) may.0 refl may.1 may.2
 
@@ -210,10 +210,10 @@ pub own_spoken : (p : Numbers) (m : Message) (j : ℕ) → MaySay j m → messag
 own_spoken p m j may few = spoken p (bytes_of m j) (said_is m j may).packet (omega (arith, said_long m j, few))
 
 -- how long they are
-least_most : (n w : ℕ) (passes : ℕ → Bool) → least n w passes ≤ w + n
-unfolding least
+least_most : (n w : ℕ) (passes : ℕ → Bool) → least_passing n w passes ≤ w + n
+unfolding least_passing
 least_most zero w passes = omega arith
-least_most (suc n) w passes = cond_both (passes w) w (least n (w + 1) passes) (λ (k : ℕ). k ≤ w + suc n) (λ here. omega arith)
+least_most (suc n) w passes = cond_both (passes w) w (least_passing n (w + 1) passes) (λ (k : ℕ). k ≤ w + suc n) (λ here. omega arith)
     (λ further. omega (arith, least_most n (w + 1) passes))
 
 few_owners : (cs : List ℕ) → length cs ≤ 40 → owners_length cs ≤ 52

@@ -22,22 +22,22 @@ use Rattle.lwb_member.specs.Said.{message_of}
 use Rattle.node_core.specs.declared.stage.Stage.{Stage}
 use Rattle.node_core.specs.declared.stage.Stage.TheVariants.{Idle, Scanning, AwaitFrame, AwaitSlot, InWindow}
 use Rattle.node_core.specs.Nodes.{Node}
-use Rattle.node_core.specs.Rows.{Stepped, at_alarm, at_heard, at_sent, scanner_hears, joins, sends}
-use Rattle.node_core.specs.Rows.{orders_by}
-use Rattle.air_log.specs.Devices.{Device, Power, PowerOff, PowerOn, Listening, Ordered, obeyed, moved, event, event_by}
-use Rattle.air_log.specs.ScriptedDevices.{after_act, after_line, dropped, with_new_core}
+use Rattle.node_core.specs.Rows.{Stepped, at_alarm, at_heard, at_sent, scanner_hears, joins, sends, orders_by}
+use Rattle.air_log.specs.Devices.{Device, Power, PowerOff, PowerOn, Listening, OrderedPacket, obeyed, moved, event, event_by}
+use Rattle.air_log.specs.ScriptedDevices.{device_after_act, device_after_line, dropped, with_new_core}
 use Rattle.air_log.specs.AlarmRuns.{IsAlarmRun, after_alarms}
-use Rattle.air_log.specs.Trails.{Reception, setup_of, run_end, lines_at, ending_at, hears, ended, ended_by, is_due, begun, begun_by, starts, before_tick}
+use Rattle.air_log.specs.Trails.{Reception, setup_of, run_end, lines_at, ending_at, device_after_reception, device_after_end, device_ended_by, alarm_is_due}
+use Rattle.air_log.specs.Trails.{device_after_start, begun_by, starts, before_tick}
 use Rattle.air_log.proofs.AlarmRuns.{alarms_are_run}
 use Rattle.air_log.proofs.NextDue.{some_byte}
 use Rattle.lwb_base.proofs.Elements.{contains_head, filtered}
-use Rattle.law_trails.specs.Phases.{Phase, Lines, Hearings, End, Alarms, Start, Over, device_at, IsKnown, SilentBy, IsNextLine, IsNextHearing, IsNextAlarm}
+use Rattle.law_trails.specs.Phases.{Phase, Lines, Hearings, End, Alarms, Start, Over, device_at, NothingDue, SilentBy, IsNextLineOf, IsNextHearing, IsNextAlarm}
 use Rattle.law_trails.specs.Walks.{AwaitsFrame, NoWindow, HasNoWindow, IsLost, Now, Keeps}
 use Rattle.law_trails.proofs.KnownDevices.{line_known, told_known, hearing_known, taken_known, end_known, alarm_known, over_known, begun_known, passed_known}
 use Rattle.law_trails.proofs.LinesOfTick.{is_told}
 use Rattle.law_trails.proofs.UnmovedDevices.{unmoved}
 
-due_now : (t : ℕ) (alarm : Option ℕ) → is_due t alarm ≡ true → alarm ≡ Some t
+due_now : (t : ℕ) (alarm : Option ℕ) → alarm_is_due t alarm ≡ true → alarm ≡ Some t
 due_now t None due = absurd (true≢false (sym due))
 due_now t (Some k) due = ap (λ (i : ℕ). Some i) (eqb-true k t due)
 
@@ -50,7 +50,7 @@ module _ (P : ℕ → Phase → Device → Type 0) (s : ScenarioParts) (v : ℕ)
   In phase d = Now P s t phase d
 
   abbrev ToldNext : ScriptLine → Device → Type 0
-  ToldNext l d = IsNextLine s v clock hs t l d
+  ToldNext l d = IsNextLineOf s v clock hs t l d
 
   abbrev HeardNext : Reception → Device → Type 0
   HeardNext h d = IsNextHearing s v clock hs t h d
@@ -65,7 +65,7 @@ module _ (P : ℕ → Phase → Device → Type 0) (s : ScenarioParts) (v : ℕ)
   after e x d n r = fold (obeyed clock v t) (moved t e x d n r) (orders_by r)
 
   abbrev Holds : Phase → Device → Type 0
-  Holds phase d = IsKnown t phase d × P t phase d
+  Holds phase d = NothingDue t phase d × P t phase d
 
   now : (phase : Phase) (d : Device) → Holds phase d → In phase d
   now phase d all = record { in_run = in_run; known = all.0; holds = all.1 }
@@ -77,7 +77,7 @@ module _ (P : ℕ → Phase → Device → Type 0) (s : ScenarioParts) (v : ℕ)
 
   -- script lines
   by_line : (d : Device) (l : ScriptLine) → In Lines d → ToldNext l d → (a : Act) (p : Power) → l.act ≡ a → d.power ≡ p
-      → P t Lines (after_act clock node t l.frame d a p)
+      → P t Lines (device_after_act clock node t l.frame d a p)
   by_line d l here next On (PowerOff count) act on = keeps.boot d l count here next act on
   by_line d l here next On (PowerOn n) act on = here.holds
   by_line d l here next Off (PowerOff count) act on = here.holds
@@ -92,8 +92,8 @@ module _ (P : ℕ → Phase → Device → Type 0) (s : ScenarioParts) (v : ℕ)
       (λ lost. keeps.loss d l i payload here next act (subst (IsLost i) (sym on) lost))
       (λ kept. keeps.putting d l n i payload here next act on kept)
 
-  lines_from : (told rest : List ScriptLine) (d : Device) → lines_at s v t ≡ told ++ rest → d ≡ fold (after_line clock node t) (before_tick s v clock hs t) told
-      → Holds Lines d → Holds Lines (fold (after_line clock node t) d rest)
+  lines_from : (told rest : List ScriptLine) (d : Device) → lines_at s v t ≡ told ++ rest
+      → d ≡ fold (device_after_line clock node t) (before_tick s v clock hs t) told → Holds Lines d → Holds Lines (fold (device_after_line clock node t) d rest)
   lines_from told [] d lines is all = all
   lines_from told (l ∷ rest) d lines is all =
       let there = subst (λ (ls : List ScriptLine). Contains ls l) (sym lines) (Contains-append_right told (l ∷ rest) l (contains_head l rest)) in
@@ -108,9 +108,10 @@ module _ (P : ℕ → Phase → Device → Type 0) (s : ScenarioParts) (v : ℕ)
         now = of.now;
         line = All-contains (IsScriptLine s) s.script l sound.script of.there;
       } in
-      lines_from (told ++ l ∷ []) rest (after_line clock node t d l)
+      lines_from (told ++ l ∷ []) rest (device_after_line clock node t d l)
       (lines ∙ sym (append_assoc told (l ∷ []) rest))
-      (ap (λ (e : Device). after_line clock node t e l) is ∙ sym (fold-append (after_line clock node t) (before_tick s v clock hs t) told (l ∷ [])))
+      (ap (λ (e : Device). device_after_line clock node t e l) is
+          ∙ sym (fold-append (device_after_line clock node t) (before_tick s v clock hs t) told (l ∷ [])))
       (line_known clock node t d l all.0, by_line d l (now Lines d all) next l.act d.power refl refl)
 
   -- hearings
@@ -141,16 +142,18 @@ module _ (P : ℕ → Phase → Device → Type 0) (s : ScenarioParts) (v : ℕ)
   by_hearing d h here next (PowerOff count) on = here.holds
   by_hearing d h here next (PowerOn n) on = by_place d h n here next on n.stage refl
 
-  hearings_from : (taken rest : List Reception) (d : Device) → ending_at t hs ≡ taken ++ rest → d ≡ fold (hears clock node t) (enters Hearings) taken
-      → Holds Hearings d → Holds Hearings (fold (hears clock node t) d rest)
+  hearings_from : (taken rest : List Reception) (d : Device) → ending_at t hs ≡ taken ++ rest
+      → d ≡ fold (device_after_reception clock node t) (enters Hearings) taken
+      → Holds Hearings d → Holds Hearings (fold (device_after_reception clock node t) d rest)
   hearings_from taken [] d hearings is all = all
   hearings_from taken (h ∷ rest) d hearings is all =
       let there = subst (λ (ks : List Reception). Contains ks h) (sym hearings) (Contains-append_right taken (h ∷ rest) h (contains_head h rest)) in
       let of = filtered (λ (k : Reception). k.end == t) hs h there in
       let next : HeardNext h d = record { taken = taken; rest = rest; hearings = hearings; is = is; there = of.0; now = eqb-true h.end t of.1 } in
-      hearings_from (taken ++ h ∷ []) rest (hears clock node t d h)
+      hearings_from (taken ++ h ∷ []) rest (device_after_reception clock node t d h)
       (hearings ∙ sym (append_assoc taken (h ∷ []) rest))
-      (ap (λ (e : Device). hears clock node t e h) is ∙ sym (fold-append (hears clock node t) (enters Hearings) taken (h ∷ [])))
+      (ap (λ (e : Device). device_after_reception clock node t e h) is
+          ∙ sym (fold-append (device_after_reception clock node t) (enters Hearings) taken (h ∷ [])))
       (hearing_known clock node t d h all.0, by_hearing d h (now Hearings d all) next d.power refl)
 
   -- the end of the own sending
@@ -182,23 +185,23 @@ module _ (P : ℕ → Phase → Device → Type 0) (s : ScenarioParts) (v : ℕ)
     sent_by x own ends (PowerOn n) on = sent_at x n own ends on n.stage refl
 
     -- nothing ends
-    runs_on : ended clock node t d ≡ d → P t Alarms (ended clock node t d)
+    runs_on : device_after_end clock node t d ≡ d → P t Alarms (device_after_end clock node t d)
     runs_on same =
-        let at : d ≡ enters Alarms = sym same ∙ ap (ended clock node t) is in
-        subst (P t Alarms) (sym same) (keeps.onwards End d here at (subst (IsKnown t Alarms) same (end_known clock node t d all.0)))
+        let at : d ≡ enters Alarms = sym same ∙ ap (device_after_end clock node t) is in
+        subst (P t Alarms) (sym same) (keeps.onwards End d here at (subst (NothingDue t Alarms) same (end_known clock node t d all.0)))
 
-    end_by : (x : Option Sending) → d.sending ≡ x → P t Alarms (ended_by clock node t d x)
-    end_by None own = subst (λ (x : Option Sending). P t Alarms (ended_by clock node t d x)) own (runs_on (ap (ended_by clock node t d) own))
+    end_by : (x : Option Sending) → d.sending ≡ x → P t Alarms (device_ended_by clock node t d x)
+    end_by None own = subst (λ (x : Option Sending). P t Alarms (device_ended_by clock node t d x)) own (runs_on (ap (device_ended_by clock node t d) own))
     end_by (Some x) own = of_test (x.end == t) refl
       where
         of_test : (b : Bool) → (x.end == t) ≡ b → P t Alarms (if b then event clock node t Sent (Some x) silent_now else d)
         of_test true ends = sent_by x own (eqb-true x.end t ends) d.power refl
         of_test false runs =
-            let same : ended clock node t d ≡ d =
-            ap (ended_by clock node t d) own ∙ cond-false (x.end == t) (event clock node t Sent (Some x) silent_now) d runs in
+            let same : device_after_end clock node t d ≡ d =
+            ap (device_ended_by clock node t d) own ∙ cond-false (x.end == t) (event clock node t Sent (Some x) silent_now) d runs in
             subst (P t Alarms) same (runs_on same)
 
-    pub end_holds : Holds Alarms (ended clock node t d)
+    pub end_holds : Holds Alarms (device_after_end clock node t d)
     end_holds = (end_known clock node t d all.0, end_by d.sending refl)
 
   -- alarms
@@ -233,32 +236,32 @@ module _ (P : ℕ → Phase → Device → Type 0) (s : ScenarioParts) (v : ℕ)
     ready : In Start d
     ready = now Start d all
 
-    known_over : IsKnown t Over (begun node t d)
+    known_over : NothingDue t Over (device_after_start node t d)
     known_over = begun_known clock node t (some_byte s v clock hs sound drifts) d all.0
 
-    start_by : (o : Ordered) → d.ordered ≡ Some o → o.tick ≡ t → (l : Option Listening) (x : Option Sending) → d.listening ≡ l → d.sending ≡ x
+    start_by : (o : OrderedPacket) → d.ordered ≡ Some o → o.tick ≡ t → (l : Option Listening) (x : Option Sending) → d.listening ≡ l → d.sending ≡ x
         → P t Over (starts node t o.packet d l x)
     start_by o order due None x on own = keeps.missed_start d o ready is order due (inl on)
     start_by o order due (Some l) (Some x) on own = keeps.missed_start d o ready is order due (inr (x, own))
     start_by o order due (Some l) None on own = keeps.beginning d o l ready is order due on own
 
-    waits_on : begun node t d ≡ d → P t Over (begun node t d)
+    waits_on : device_after_start node t d ≡ d → P t Over (device_after_start node t d)
     waits_on same =
-        let at : d ≡ enters Over = sym same ∙ ap (begun node t) is in
-        subst (P t Over) (sym same) (keeps.onwards Start d ready at (subst (IsKnown t Over) same known_over))
+        let at : d ≡ enters Over = sym same ∙ ap (device_after_start node t) is in
+        subst (P t Over) (sym same) (keeps.onwards Start d ready at (subst (NothingDue t Over) same known_over))
 
-    order_by : (o : Option Ordered) → d.ordered ≡ o → P t Over (begun_by node t d o)
-    order_by None order = subst (λ (o : Option Ordered). P t Over (begun_by node t d o)) order (waits_on (ap (begun_by node t d) order))
+    order_by : (o : Option OrderedPacket) → d.ordered ≡ o → P t Over (begun_by node t d o)
+    order_by None order = subst (λ (o : Option OrderedPacket). P t Over (begun_by node t d o)) order (waits_on (ap (begun_by node t d) order))
     order_by (Some o) order = of_test (o.tick == t) refl
       where
         of_test : (b : Bool) → (o.tick == t) ≡ b → P t Over (if b then starts node t o.packet d d.listening d.sending else d)
         of_test true due = start_by o order (eqb-true o.tick t due) d.listening d.sending refl refl
         of_test false waits =
-            let same : begun node t d ≡ d =
+            let same : device_after_start node t d ≡ d =
             ap (begun_by node t d) order ∙ cond-false (o.tick == t) (starts node t o.packet d d.listening d.sending) d waits in
             subst (P t Over) same (waits_on same)
 
-    pub start_holds : Holds Over (begun node t d)
+    pub start_holds : Holds Over (device_after_start node t d)
     start_holds = (known_over, order_by d.ordered refl)
 
   -- the whole tick
@@ -270,7 +273,7 @@ module _ (P : ℕ → Phase → Device → Type 0) (s : ScenarioParts) (v : ℕ)
     pub start : Holds Start (enters Start)
     pub over : Holds Over (enters Over)
 
-  pub all_hold : IsKnown t Lines (before_tick s v clock hs t) → P t Lines (before_tick s v clock hs t) → HoldsAll
+  pub all_hold : NothingDue t Lines (before_tick s v clock hs t) → P t Lines (before_tick s v clock hs t) → HoldsAll
   all_hold known holds =
       let d0 = enters Lines in
       let d1 = enters Hearings in
@@ -290,7 +293,7 @@ module _ (P : ℕ → Phase → Device → Type 0) (s : ScenarioParts) (v : ℕ)
       let four : Holds Start d4 = (known4, keeps.onwards Alarms d4 (now Alarms d4 gone) refl known4) in
       record { lines = (known, holds); hearings = one; end = two; alarms = three; start = four; over = start_holds d4 refl four }
 
-  pub next_holds : HoldsAll → Holds Over (enters Over) → (let d = before_tick s v clock hs (suc t) in IsKnown (suc t) Lines d × P (suc t) Lines d)
+  pub next_holds : HoldsAll → Holds Over (enters Over) → (let d = before_tick s v clock hs (suc t) in NothingDue (suc t) Lines d × P (suc t) Lines d)
   unfolding before_tick
   next_holds all over =
       let d = enters Over in

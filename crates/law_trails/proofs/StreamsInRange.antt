@@ -8,9 +8,10 @@ use Rattle.std.proofs.lemmas.List.Elements.{All-nil, All-set, All-map, All-push,
 use Rattle.lwb_base.specs.Profile.{Numbers}
 use Rattle.lwb_base.specs.Messages.{Ask, Schedule, node_of, stream_of}
 use Rattle.schedule_codec.specs.AckLists.{ask_in_range}
-use Rattle.bus_rules.specs.Streams.{Waiting, Stream, Streams, no_stream, cleared, stream_at, with_stream, queued, put_to, put, declared, left, taken}
-use Rattle.bus_rules.specs.Streams.{without_first, unbound, heard_host, is_host, names, acknowledged, owns, forgets, forgotten, agrees, with_agreed}
-use Rattle.bus_rules.specs.Streams.{after_contention, tries_after, due, schedule_heard, granted, named_in, wishes, emptied}
+use Rattle.bus_rules.specs.Streams.{WaitingPacket, Stream, Streams, no_stream, cleared, stream_at, with_stream, queued, put_to, put, declared}
+use Rattle.bus_rules.specs.Streams.{streams_after_leaving, taken, without_first, unbound, heard_host, is_host, names, acknowledged, owns, forgets, forgotten}
+use Rattle.bus_rules.specs.Streams.{with_granted_interval, with_agreed, after_contention, tries_after, due_stream, schedule_heard, granted_stream, named_in}
+use Rattle.bus_rules.specs.Streams.{wishes, emptied}
 use Rattle.law_trails.specs.StreamRanges.{IsWaiting, IsStream, AreStreams}
 
 -- the element at a place, or another
@@ -44,7 +45,7 @@ module _ (p : Numbers) where
       let x = stream_is s i are in
       with_are s i (wishes interval (stream_at s i)) are (record { wish = few; agreed = x.agreed; few = x.few; next = x.next; queue = x.queue })
 
-  pub left_are : (s : Streams) (i : ℕ) → AreStreams p s → AreStreams p (left i s)
+  pub left_are : (s : Streams) (i : ℕ) → AreStreams p s → AreStreams p (streams_after_leaving i s)
   left_are s i are =
       let x = stream_is s i are in
       with_are s i (emptied (stream_at s i)) are (record {
@@ -59,7 +60,7 @@ module _ (p : Numbers) where
   queued_is : (x : Stream) (payload : List ℕ) → length payload ≤ p.payload_max → length x.queue < 16 → x.next < 65535 → IsStream p x
       → IsStream p (queued payload x)
   queued_is x payload short few more is =
-      let w : Waiting = record { seq = x.next; payload = payload } in
+      let w : WaitingPacket = record { seq = x.next; payload = payload } in
       let long = length_push x.queue w in
       record {
         wish = is.wish;
@@ -99,11 +100,12 @@ module _ (p : Numbers) where
       })
 
   -- what is agreed
-  agrees_is : (x : Stream) (interval : ℕ) → interval ≤ 120 → IsStream p x → IsStream p (agrees interval x)
+  agrees_is : (x : Stream) (interval : ℕ) → interval ≤ 120 → IsStream p x → IsStream p (with_granted_interval interval x)
   agrees_is x interval few is = record { wish = is.wish; agreed = few; few = is.few; next = is.next; queue = is.queue }
 
   pub agreed_are : (s : Streams) (i interval : ℕ) → interval ≤ 120 → AreStreams p s → AreStreams p (with_agreed i interval s)
-  agreed_are s i interval few are = with_are s i (agrees interval (stream_at s i)) are (agrees_is (stream_at s i) interval few (stream_is s i are))
+  agreed_are s i interval few are =
+      with_are s i (with_granted_interval interval (stream_at s i)) are (agrees_is (stream_at s i) interval few (stream_is s i are))
 
   each_are : (f : Stream → Stream) (s : Streams) → ((x : Stream) → IsStream p x → IsStream p (f x)) → AreStreams p s
       → AreStreams p (record s { all = map f s.all })
@@ -115,12 +117,12 @@ module _ (p : Numbers) where
 
   pub unbound_are : (s : Streams) → AreStreams p s → AreStreams p (unbound s)
   unbound_are s are =
-      let each = each_are (agrees 0) s (λ x is. agrees_is x 0 (omega arith) is) are in
+      let each = each_are (with_granted_interval 0) s (λ x is. agrees_is x 0 (omega arith) is) are in
       record { four = each.four; each = each.each; tries = omega arith }
 
   pub contention_are : (s : Streams) (node : ℕ) → AreStreams p s → AreStreams p (after_contention node s)
   contention_are s node are =
-      cond_both (is_none (due s)) s
+      cond_both (is_none (due_stream s)) s
       (if s.skips == 0 then record s { tries = tries_after s; skips = node % 2 ^ tries_after s } else record s { skips = s.skips - 1 }) (AreStreams p)
       (λ none. are)
       (λ some. cond_both (s.skips == 0) (record s { tries = tries_after s; skips = node % 2 ^ tries_after s }) (record s { skips = s.skips - 1 }) (AreStreams p)
@@ -135,12 +137,12 @@ module _ (p : Numbers) where
       (λ same. are)
       (λ other. record { four = new.four; each = new.each; tries = new.tries })
 
-  granted_is : (x : Stream) (interval frame : ℕ) → interval ≤ 120 → IsStream p x → IsStream p (granted interval frame x)
+  granted_is : (x : Stream) (interval frame : ℕ) → interval ≤ 120 → IsStream p x → IsStream p (granted_stream interval frame x)
   granted_is x interval frame few is = record { wish = is.wish; agreed = few; few = is.few; next = is.next; queue = is.queue }
 
   ack_are : (node boot frame : ℕ) (s : Streams) (a : Ask) → ask_in_range a ≡ true → AreStreams p s → AreStreams p (acknowledged node boot frame s a)
   ack_are node boot frame s a range are =
-      let x = granted a.interval frame (stream_at s a.stream) in
+      let x = granted_stream a.interval frame (stream_at s a.stream) in
       let new = with_are s a.stream x are (granted_is (stream_at s a.stream) a.interval frame (interval_few a range) (stream_is s a.stream are)) in
       cond_both (names node boot a) (record (with_stream a.stream x s) { tries = 0; skips = 0 }) s (AreStreams p)
       (λ mine. record { four = new.four; each = new.each; tries = omega arith })

@@ -11,8 +11,8 @@ use Rattle.lwb_packets.specs.Ranges.{between}
 use Rattle.lwb_base.specs.Messages.{Ask, code_of}
 use Rattle.lwb_base.proofs.Lists.{length_cond, length_filtered, length_sifted}
 use Rattle.schedule_codec.specs.AckLists.{ask_in_range}
-use Rattle.bus_rules.specs.Tables.{Entry, Table, AreEntries, Above, Ascends, no_table, has_code, entry_of, without, with_entry, is_full, new_entry}
-use Rattle.bus_rules.specs.Tables.{after_request, interval_in, interval_of, seen, missed}
+use Rattle.bus_rules.specs.Tables.{Entry, Table, AreEntries, EntriesAreAbove, EntriesAscend, no_table, has_code, entry_of, without, with_entry, is_full}
+use Rattle.bus_rules.specs.Tables.{new_entry, after_request, interval_in, interval_of, entry_after_data, missed}
 use Rattle.bus_rules.specs.Slots.{owner_heard}
 use Rattle.stream_table.proofs.Order.{Keeps, none_above, ascends_map, ascends_filter_map, ascends_filter, ascends_with}
 use Rattle.stream_table.proofs.Changes.{seen_keeps, missed_sifts}
@@ -69,7 +69,8 @@ missed_is : (c : ℕ) (e : Entry) → IsEntry e → IfSome (missed c e) IsEntry
 missed_is c e is = missed_cases (λ o. IfSome o IsEntry) c e (record { code = is.code; boot = is.boot; interval = is.interval }) tt is
 
 pub owner_is : (owner : ℕ) (heard : Bool) (t : Table) → IsTable t → IsTable (owner_heard heard owner t)
-owner_is owner true t is = mapped_is (seen owner) t t.place (seen_keeps owner) (λ e x. record { code = x.code; boot = x.boot; interval = x.interval }) is
+owner_is owner true t is =
+    mapped_is (entry_after_data owner) t t.place (seen_keeps owner) (λ e x. record { code = x.code; boot = x.boot; interval = x.interval }) is
 owner_is owner false t is = record {
   entries = record {
     few = omega (arith, length_sifted (missed owner) t.entries, is.entries.few);
@@ -89,11 +90,11 @@ with_few e (x ∷ es) =
     (λ less. omega arith) (λ more. omega (arith, with_few e es)))
 
 -- an entry instead of one of the same code
-above_lower : (low high : ℕ) (es : List Entry) → low ≤ high → Above high es → Above low es
+above_lower : (low high : ℕ) (es : List Entry) → low ≤ high → EntriesAreAbove high es → EntriesAreAbove low es
 above_lower low high [] le above = tt
 above_lower low high (e ∷ es) le above = (omega (arith, above.0), above_lower low high es le above.1)
 
-with_same : (e : Entry) (es : List Entry) → Ascends es → is_none (entry_of es e.code) ≡ false → length (with_entry e es) ≤ length es
+with_same : (e : Entry) (es : List Entry) → EntriesAscend es → is_none (entry_of es e.code) ≡ false → length (with_entry e es) ≤ length es
 with_same e [] up there = absurd (cc)
 with_same e (x ∷ es) up there =
     cond_both (e.code == x.code) (e ∷ es) (if nat_lt e.code x.code then e ∷ x ∷ es else x ∷ with_entry e es)

@@ -8,7 +8,7 @@ use Rattle.scenario_text.specs.ScenarioFacts.{IsSoundScenario, IsScriptLine, tur
 use Rattle.scenario_text.specs.declared.script.ScriptLine.{ScriptLine}
 use Rattle.bus_rules.specs.Cores.{own_rank}
 use Rattle.air_log.specs.Devices.{Device, at_rest}
-use Rattle.air_log.specs.Trails.{Reception, setup_of, lines_at, scripted, heard, before_alarms, before_start, before_tick}
+use Rattle.air_log.specs.Trails.{Reception, setup_of, lines_at, device_after_script, device_after_receptions, before_alarms, before_start, before_tick}
 use Rattle.law_trails.specs.CoreRanges.{IsSetup}
 use Rattle.law_trails.specs.DeviceRanges.{IsRanged, HeardBefore, HoldsThrough}
 use Rattle.law_trails.proofs.RowsInRange.{AreRules}
@@ -57,15 +57,16 @@ module _ (s : ScenarioParts) (sound : IsSoundScenario s) (v : ℕ) (low : 1 ≤ 
       turned = sym (ap (turned v (false, 0)) (none_earlier s 0 0 s.script (omega arith) (rises s s.script sound.script_ascends)));
     }
 
-    scripted_well : (t : ℕ) (d : Device) → IsSoFar t d → IsRanged Q (setup_of s v) (scripted s v clock t d)
+    scripted_well : (t : ℕ) (d : Device) → IsSoFar t d → IsRanged Q (setup_of s v) (device_after_script s v clock t d)
     scripted_well t d is = lines_are (setup_of s v) set Q H rules clock t (lines_at s v t) d (lines t) (few_turned s sound v t d is.turned) is.well
 
     heard_well : (t : ℕ) (d : Device) → HeardBefore H hs (suc t) → IsSoFar t d
-        → IsRanged Q (setup_of s v) (heard clock (setup_of s v) t hs (scripted s v clock t d))
-    heard_well t d short is = heard_is (setup_of s v) set Q H rules clock t hs (scripted s v clock t d) (now_short t short) (scripted_well t d is)
+        → IsRanged Q (setup_of s v) (device_after_receptions clock (setup_of s v) t hs (device_after_script s v clock t d))
+    heard_well t d short is = heard_is (setup_of s v) set Q H rules clock t hs (device_after_script s v clock t d) (now_short t short) (scripted_well t d is)
 
     ended_well : (t : ℕ) (d : Device) → HeardBefore H hs (suc t) → IsSoFar t d → IsRanged Q (setup_of s v) (before_alarms s v clock hs t d)
-    ended_well t d short is = ended_is (setup_of s v) set Q H rules clock t (heard clock (setup_of s v) t hs (scripted s v clock t d)) (heard_well t d short is)
+    ended_well t d short is = ended_is (setup_of s v) set Q H rules clock t
+        (device_after_receptions clock (setup_of s v) t hs (device_after_script s v clock t d)) (heard_well t d short is)
 
     alarmed_well : (t : ℕ) (d : Device) → HeardBefore H hs (suc t) → IsSoFar t d → IsRanged Q (setup_of s v) (before_start s v clock hs t d)
     alarmed_well t d short is = alarmed_is (setup_of s v) set Q H rules clock t (before_alarms s v clock hs t d) (ended_well t d short is)

@@ -10,7 +10,7 @@ use Rattle.link_trace.specs.Passes.{passes}
 use Rattle.schedule_codec.proofs.Readings.{bytes_same}
 use Rattle.radio_model.specs.declared.sending.Sending.{Sending}
 use Rattle.radio_model.specs.OnAir.{Hearing, Tuning}
-use Rattle.radio_model.specs.Hearing.{Scene, Hears, Meets, IsTuned, TunedThrough, Arrives, Before, frame_of, slot_of, counter_of}
+use Rattle.radio_model.specs.Hearing.{Scene, HearsInScene, Meets, IsTuned, TunedThrough, Arrives, Before, frame_of_sending, slot_of_sending, counter_of_sending}
 use Rattle.scenario_text.specs.ScenarioParts.{ScenarioParts}
 use Rattle.air_log.specs.Trails.{run_end}
 use Rattle.lwb_base.proofs.Elements.{not_in_none, contains_cases, all_passes, some_of}
@@ -75,7 +75,7 @@ module _ (s : ScenarioParts) (sent : List Sending) (heard : List Hearing) (tuned
   tunes h e = (e.node == h.node) && ((e.rank == h.sending.rank) && (nat_le e.start h.sending.start && nat_le h.sending.end e.end))
 
   abbrev arrives : ℕ → Sending → Bool
-  arrives v x = passes s.trace (frame_of s.profile x) (slot_of x) (counter_of x) x.node v
+  arrives v x = passes s.trace (frame_of_sending s.profile x) (slot_of_sending x) (counter_of_sending x) x.node v
 
   abbrev is_good : Hearing → Bool
   is_good h =
@@ -143,7 +143,7 @@ module _ (s : ScenarioParts) (sent : List Sending) (heard : List Hearing) (tuned
     good_at : (h : Hearing) → Contains heard h → IsGood h
     good_at h there = good_from h (all_passes is_good heard turned.good h there)
 
-    hears_it : (h : Hearing) → IsGood h → Hears scene h.node h.sending
+    hears_it : (h : Hearing) → IsGood h → HearsInScene scene h.node h.sending
     hears_it h good = record {
       sent = good.sent_there;
       tuned = good.tuned_in;
@@ -156,7 +156,7 @@ module _ (s : ScenarioParts) (sent : List Sending) (heard : List Hearing) (tuned
       chosen = inl (λ y rival. ap (λ (w : Sending). w.packet) (sym (alone h.sending y good.sent_there rival.sent rival.meets)));
     }
 
-    heard_there : (v : ℕ) (x : Sending) → Hears scene v x → Contains heard (record { node = v; sending = x })
+    heard_there : (v : ℕ) (x : Sending) → HearsInScene scene v x → Contains heard (record { node = v; sending = x })
     heard_there v x hears =
         let long : x.start < x.end = takes_time x hears.sent in
         let on : IsTuned scene v x.rank x.start = hears.tuned x.start (omega arith) long in
@@ -178,7 +178,7 @@ module _ (s : ScenarioParts) (sent : List Sending) (heard : List Hearing) (tuned
         subst (λ (g : Hearing). Contains heard g) is h.1
 
     -- so what stands there is what is heard
-    pub hears_all : (v : ℕ) (x : Sending) → Contains heard (record { node = v; sending = x }) ↔ ((x.end < run_end s) × Hears scene v x)
+    pub hears_all : (v : ℕ) (x : Sending) → Contains heard (record { node = v; sending = x }) ↔ ((x.end < run_end s) × HearsInScene scene v x)
     hears_all v x = (
       λ there. (let good = good_at (record { node = v; sending = x }) there in (good.in_run, hears_it (record { node = v; sending = x }) good)),
       λ is. heard_there v x is.1,

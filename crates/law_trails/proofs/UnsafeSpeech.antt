@@ -1,8 +1,8 @@
 -- Logs that break silence alone.
 use Rattle.std.proofs.Common.{◌≡◌, ℕ, ◌+◌, ◌/◌, List, [], ◌∷◌, Some, true, false, Contains, refl, sym, ◌∙◌, ap, subst, arith, inl, inr}
-use Rattle.schedule_codec.specs.Packing.{digits, number}
+use Rattle.schedule_codec.specs.Packing.{digits, packed_number}
 use Rattle.schedule_codec.specs.Reading.{schedule_of, asks_in}
-use Rattle.lwb_base.specs.Messages.{Ask, Plan, Schedule, least}
+use Rattle.lwb_base.specs.Messages.{Ask, Plan, Schedule, least_passing}
 use Rattle.lwb_member.specs.Said.{message_of}
 use Rattle.bus_rules.specs.Slots.{ScheduleOf, part_of}
 use Rattle.bus_rules.specs.declared.part.Part.TheVariants.{Data, Contention}
@@ -11,17 +11,17 @@ use Rattle.scenario_text.specs.declared.script.Act.TheVariants.{Off}
 use Rattle.radio_model.specs.declared.sending.Sending.{Sending}
 use Rattle.radio_model.specs.OnAir.{Hearing}
 use Rattle.air_log.specs.declared.entry.Entry.{Entry}
-use Rattle.air_log.specs.Entries.{hearings_of, IsHeard}
+use Rattle.air_log.specs.Entries.{hearings_of, HasHeardEntry}
 use Rattle.air_log.specs.Devices.{Device, Power, PowerOff, at_rest}
 use Rattle.air_log.specs.Trails.{Reception, alarms, before_tick, before_start, tune_of}
 use Rattle.air_log.specs.Lawful.{heard_by}
-use Rattle.air_log.specs.Safe.{Silence, is_hosting, by_host}
+use Rattle.air_log.specs.Safe.{Silence, is_hosting, sender_hosts}
 use Rattle.air_log.specs.TwoNodeLog.{true_time}
 use Rattle.lwb_base.proofs.Elements.{not_in_none, contains_cases}
 use Rattle.air_log.proofs.ComputedTrails.{goes_through, after_ticks, computed, true_due}
 use Rattle.law_trails.specs.BrokenClauses.{BreaksOnly, Silent}
-use Rattle.law_trails.specs.UnsafeLogs.{no_power, switched_off, data_said, later_data, asked, opened, closed, granted, unheard, not_the_owner, not_due}
-use Rattle.law_trails.specs.UnsafeLogs.{not_opened, gone_off}
+use Rattle.law_trails.specs.UnsafeLogs.{no_power, scenario_with_off_line, data_said, later_data, asked, opening_transmission, closing_transmission}
+use Rattle.law_trails.specs.UnsafeLogs.{grant_transmission, unheard, not_the_owner, not_due, not_opened, gone_off}
 use Rattle.law_trails.proofs.BrokenClauses.{breaks}
 use Rattle.law_trails.proofs.SafeTests.{in_frame_by, apart_by, alike_by, one_by}
 
@@ -37,26 +37,26 @@ module _ (s : ScenarioParts) where
   power_at hs t d = (before_start s 2 (true_time 2) hs t d).power
 
   guest : (air : List Entry) (x : Sending) (bs : List ℕ) → x.node ≡ 2 → Goes (heard_by air 2) x.start bs → StaysOff (heard_by air 2) bs
-      → power_at (heard_by air 2) x.start at_rest ≡ PowerOff 0 → by_host s true_time air x ≡ false
+      → power_at (heard_by air 2) x.start at_rest ≡ PowerOff 0 → sender_hosts s true_time air x ≡ false
   guest air x bs node goes off still =
       let hs : List Reception = heard_by air 2 in
       let rests : before_tick s 2 (true_time 2) hs x.start ≡ at_rest = computed (λ t. t) (λ x. x) true_due s 2 hs x.start bs goes ∙ off in
       let power : power_at hs x.start (before_tick s 2 (true_time 2) hs x.start) ≡ PowerOff 0 = ap (power_at hs x.start) rests ∙ still in
-      subst (λ (v : ℕ). by_host s true_time air (record x { node = v }) ≡ false) (sym node) (ap (λ (p : Power). is_hosting (tune_of p)) power)
+      subst (λ (v : ℕ). sender_hosts s true_time air (record x { node = v }) ≡ false) (sym node) (ap (λ (p : Power). is_hosting (tune_of p)) power)
 
   abbrev hearing : Sending → Hearing
   hearing x = record { node = 2; sending = x }
 
   -- what node 2 heard is x alone, which says y
   module _ (air : List Entry) (x : Sending) (y : Schedule) (says : message_of x.packet ≡ Some (ScheduleOf y)) (heard : hearings_of air ≡ hearing x ∷ []) where
-    heard_is : (z : Sending) → IsHeard air 2 z → x ≡ z
+    heard_is : (z : Sending) → HasHeardEntry air 2 z → x ≡ z
     heard_is z there =
         elim (contains_cases (hearing x) [] (hearing z) (subst (λ (hs : List Hearing). Contains hs (hearing z)) heard there)) [
           | inl is ↦ ap (λ (h : Hearing). h.sending) is
           | inr none ↦ absurd (not_in_none (hearing z) none)
         ]
 
-    schedule_is : (z : Sending) (w : Schedule) → IsHeard air 2 z → message_of z.packet ≡ Some (ScheduleOf w) → y ≡ w
+    schedule_is : (z : Sending) (w : Schedule) → HasHeardEntry air 2 z → message_of z.packet ≡ Some (ScheduleOf w) → y ≡ w
     schedule_is z w there is =
         let same : Some (ScheduleOf y) ≡ Some (ScheduleOf w) = sym says ∙ ap (λ (v : Sending). message_of v.packet) (heard_is z there) ∙ is in
         cc same
@@ -70,108 +70,110 @@ opening = record { plan = plan_with [] []; gap = 0 }
 abbrev closing : Schedule
 closing = record { plan = plan_with [] []; gap = 4 }
 
-opened_says : message_of opened.packet ≡ Some (ScheduleOf opening)
-unfolding digits number schedule_of asks_in
+opened_says : message_of opening_transmission.packet ≡ Some (ScheduleOf opening)
+unfolding digits packed_number schedule_of asks_in
 opened_says = refl
 
-closed_says : message_of closed.packet ≡ Some (ScheduleOf closing)
-unfolding digits number schedule_of asks_in
+closed_says : message_of closing_transmission.packet ≡ Some (ScheduleOf closing)
+unfolding digits packed_number schedule_of asks_in
 closed_says = refl
 
-unheard_guest : by_host no_power true_time unheard data_said ≡ false
+unheard_guest : sender_hosts no_power true_time unheard data_said ≡ false
 unfolding alarms
 unheard_guest = guest no_power unheard data_said [] refl refl refl refl
 
 unheard_is : Silence no_power true_time unheard → ⊥
-unfolding digits number schedule_of asks_in
+unfolding digits packed_number schedule_of asks_in
 unheard_is keeps = let word = keeps data_said (0, omega arith, refl) refl refl unheard_guest in not_in_none _ word.there
 
 pub unheard_breaks : BreaksOnly Silent no_power true_time unheard
-unfolding least digits number schedule_of asks_in
+unfolding least_passing digits packed_number schedule_of asks_in
 unheard_breaks = breaks Silent no_power unheard unheard_is
     (λ is. in_frame_by no_power unheard refl) (λ is. apart_by no_power unheard refl)
     (λ is. alike_by no_power unheard refl) (λ is. one_by no_power unheard refl refl) (λ is. absurd (is refl))
 
-not_the_owner_guest : by_host no_power true_time not_the_owner data_said ≡ false
+not_the_owner_guest : sender_hosts no_power true_time not_the_owner data_said ≡ false
 unfolding alarms
 not_the_owner_guest = guest no_power not_the_owner data_said (1344100864 ∷ []) refl refl refl refl
 
 not_the_owner_is : Silence no_power true_time not_the_owner → ⊥
-unfolding digits number schedule_of asks_in
+unfolding digits packed_number schedule_of asks_in
 not_the_owner_is keeps =
     let word = keeps data_said (1, omega arith, refl) refl refl not_the_owner_guest in
-    let is : opening ≡ word.schedule = schedule_is no_power not_the_owner opened opening opened_says refl word.heard word.schedule word.there word.says in
+    let is : opening ≡ word.schedule =
+        schedule_is no_power not_the_owner opening_transmission opening opened_says refl word.heard word.schedule word.there word.says in
     let part : Contention 1 ≡ Data 8 = ap (λ (y : Schedule). part_of y.plan 1) is ∙ word.allows in
     cc part
 
 pub not_the_owner_breaks : BreaksOnly Silent no_power true_time not_the_owner
-unfolding least digits number schedule_of asks_in
+unfolding least_passing digits packed_number schedule_of asks_in
 not_the_owner_breaks = breaks Silent no_power not_the_owner not_the_owner_is
     (λ is. in_frame_by no_power not_the_owner refl) (λ is. apart_by no_power not_the_owner refl)
     (λ is. alike_by no_power not_the_owner refl) (λ is. one_by no_power not_the_owner refl refl) (λ is. absurd (is refl))
 
-not_due_guest : by_host no_power true_time not_due asked ≡ false
+not_due_guest : sender_hosts no_power true_time not_due asked ≡ false
 unfolding alarms
 not_due_guest = guest no_power not_due asked (1344100864 ∷ []) refl refl refl refl
 
 not_due_is : Silence no_power true_time not_due → ⊥
-unfolding digits number schedule_of asks_in
+unfolding digits packed_number schedule_of asks_in
 not_due_is keeps =
     let word = keeps asked (1, omega arith, refl) refl refl not_due_guest in
     let gap : 0 ≡ word.schedule.gap =
-    ap (λ (y : Schedule). y.gap) (schedule_is no_power not_due opened opening opened_says refl word.heard word.schedule word.there word.says) in
+    ap (λ (y : Schedule). y.gap) (schedule_is no_power not_due opening_transmission opening opened_says refl word.heard word.schedule word.there word.says) in
     let frame : 5 ≡ word.heard.start / 256000000 =
-    ap (λ (x : Sending). x.start / 256000000) (heard_is no_power not_due opened opening opened_says refl word.heard word.there) in
+    ap (λ (x : Sending). x.start / 256000000) (heard_is no_power not_due opening_transmission opening opened_says refl word.heard word.there) in
     let due : word.heard.start / 256000000 + word.schedule.gap ≡ 9 = word.due in
     absurd (omega (arith, gap, frame, due))
 
 pub not_due_breaks : BreaksOnly Silent no_power true_time not_due
-unfolding least digits number schedule_of asks_in
+unfolding least_passing digits packed_number schedule_of asks_in
 not_due_breaks = breaks Silent no_power not_due not_due_is
     (λ is. in_frame_by no_power not_due refl) (λ is. apart_by no_power not_due refl)
     (λ is. alike_by no_power not_due refl) (λ is. one_by no_power not_due refl refl) (λ is. absurd (is refl))
 
-not_opened_guest : by_host no_power true_time not_opened asked ≡ false
+not_opened_guest : sender_hosts no_power true_time not_opened asked ≡ false
 unfolding alarms
 not_opened_guest = guest no_power not_opened asked (1348324864 ∷ []) refl refl refl refl
 
 not_opened_is : Silence no_power true_time not_opened → ⊥
-unfolding digits number schedule_of asks_in
+unfolding digits packed_number schedule_of asks_in
 not_opened_is keeps =
     let word = keeps asked (1, omega arith, refl) refl refl not_opened_guest in
     let gap : 4 ≡ word.schedule.gap =
-    ap (λ (y : Schedule). y.gap) (schedule_is no_power not_opened closed closing closed_says refl word.heard word.schedule word.there word.says) in
+    ap (λ (y : Schedule). y.gap)
+        (schedule_is no_power not_opened closing_transmission closing closed_says refl word.heard word.schedule word.there word.says) in
     let none : word.schedule.gap ≡ 0 = word.allows in
     absurd (omega (arith, gap, none))
 
 pub not_opened_breaks : BreaksOnly Silent no_power true_time not_opened
-unfolding least digits number schedule_of asks_in
+unfolding least_passing digits packed_number schedule_of asks_in
 not_opened_breaks = breaks Silent no_power not_opened not_opened_is
     (λ is. in_frame_by no_power not_opened refl) (λ is. apart_by no_power not_opened refl)
     (λ is. alike_by no_power not_opened refl) (λ is. one_by no_power not_opened refl refl) (λ is. absurd (is refl))
 
 -- the heard closing gives node 2 its slot, but a line switches it off
-gone_off_guest : by_host switched_off true_time gone_off later_data ≡ false
+gone_off_guest : sender_hosts scenario_with_off_line true_time gone_off later_data ≡ false
 unfolding alarms
-gone_off_guest = guest switched_off gone_off later_data (1348328960 ∷ 2304000000 ∷ []) refl refl refl refl
+gone_off_guest = guest scenario_with_off_line gone_off later_data (1348328960 ∷ 2304000000 ∷ []) refl refl refl refl
 
 abbrev grant : Schedule
 grant = record { plan = plan_with (record { node = 2; boot = 1; stream = 0; interval = 4 } ∷ []) (8 ∷ 8 ∷ 8 ∷ 8 ∷ []); gap = 4 }
 
-granted_says : message_of granted.packet ≡ Some (ScheduleOf grant)
-unfolding least digits number schedule_of asks_in
+granted_says : message_of grant_transmission.packet ≡ Some (ScheduleOf grant)
+unfolding least_passing digits packed_number schedule_of asks_in
 granted_says = refl
 
-gone_off_is : Silence switched_off true_time gone_off → ⊥
-unfolding digits number schedule_of asks_in
+gone_off_is : Silence scenario_with_off_line true_time gone_off → ⊥
+unfolding digits packed_number schedule_of asks_in
 gone_off_is keeps =
     let word = keeps later_data (1, omega arith, refl) refl refl gone_off_guest in
     let frame : 5 ≡ word.heard.start / 256000000 = ap (λ (x : Sending). x.start / 256000000)
-    (heard_is switched_off gone_off granted grant granted_says refl word.heard word.there) in
+    (heard_is scenario_with_off_line gone_off grant_transmission grant granted_says refl word.heard word.there) in
     word.stays_on (record { frame = 9; node = 2; act = Off }) (0, omega arith, refl) refl (omega (arith, frame)) (omega arith) refl
 
-pub gone_off_breaks : BreaksOnly Silent switched_off true_time gone_off
-unfolding least digits number schedule_of asks_in
-gone_off_breaks = breaks Silent switched_off gone_off gone_off_is
-    (λ is. in_frame_by switched_off gone_off refl) (λ is. apart_by switched_off gone_off refl)
-    (λ is. alike_by switched_off gone_off refl) (λ is. one_by switched_off gone_off refl refl) (λ is. absurd (is refl))
+pub gone_off_breaks : BreaksOnly Silent scenario_with_off_line true_time gone_off
+unfolding least_passing digits packed_number schedule_of asks_in
+gone_off_breaks = breaks Silent scenario_with_off_line gone_off gone_off_is
+    (λ is. in_frame_by scenario_with_off_line gone_off refl) (λ is. apart_by scenario_with_off_line gone_off refl)
+    (λ is. alike_by scenario_with_off_line gone_off refl) (λ is. one_by scenario_with_off_line gone_off refl refl) (λ is. absurd (is refl))

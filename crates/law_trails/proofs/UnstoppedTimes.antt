@@ -6,7 +6,7 @@ use Rattle.tick_clock.specs.Clocks.{Near, IsClock, due}
 use Rattle.tick_clock.proofs.DueTicks.{turn}
 use Rattle.time_reference.specs.Budgets.{Budget, Fits}
 use Rattle.time_reference.specs.Reference.{stopped, host_zero}
-use Rattle.time_reference.specs.Zeros.{started, Ref, Good}
+use Rattle.time_reference.specs.Zeros.{start_tick, Ref, Good}
 use Rattle.time_reference.proofs.BudgetRoom.{frame_order, window_order}
 use Rattle.time_reference.proofs.Rounds.{start}
 use Rattle.time_reference.proofs.Run.{in_run, at_boot, no_stop_reading}
@@ -19,7 +19,7 @@ module _ (p : Numbers) (b : Budget) (fits : Fits p b) where
   pub zero_low : (H L : ℕ → ℕ) (z f c j : ℕ) → IsClock H → IsClock L → Ref p b H L z f c j → z ≤ f * p.frame + p.lead + 2 * b.clock
   zero_low H L z f c j host clock ref =
       let w = start p b fits H c j host ref.begun ref.in_run ref.slot in
-      let reads = in_run p b fits L clock (started p H c j) (omega (arith, w.in_run)) in
+      let reads = in_run p b fits L clock (start_tick p H c j) (omega (arith, w.in_run)) in
       omega (arith, ref.near, w.below, reads)
 
   pub slots_are_sums : (H L : ℕ → ℕ) (z f from j : ℕ) → IsClock H → IsClock L → Good p b H L z f from → j ≤ b.last → AreSums p z j

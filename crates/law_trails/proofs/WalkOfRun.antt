@@ -6,7 +6,7 @@ use Rattle.scenario_text.specs.ScenarioParts.{ScenarioParts}
 use Rattle.scenario_text.specs.ScenarioFacts.{IsSoundScenario}
 use Rattle.air_log.specs.Devices.{Device, at_rest}
 use Rattle.air_log.specs.Trails.{Reception, run_end, before_tick}
-use Rattle.law_trails.specs.Phases.{Phase, Lines, Hearings, End, Alarms, Start, Over, device_at, IsKnown}
+use Rattle.law_trails.specs.Phases.{Phase, Lines, Hearings, End, Alarms, Start, Over, device_at, NothingDue}
 use Rattle.law_trails.specs.Walks.{Keeps, HoldAll, HoldsInTick, HoldsAlong, HoldsInRun}
 use Rattle.law_trails.proofs.StepsOfTick.{HoldsAll, all_hold, next_holds}
 
@@ -39,7 +39,7 @@ keeps_nothing s v clock hs t = record {
 
 -- what is known of all devices of a trail
 pub known_before : (s : ScenarioParts) (v : ℕ) (clock : ℕ → ℕ) (hs : List Reception) → IsSoundScenario s → IsClock clock
-    → (t : ℕ) → t ≤ run_end s → IsKnown t Lines (before_tick s v clock hs t)
+    → (t : ℕ) → t ≤ run_end s → NothingDue t Lines (before_tick s v clock hs t)
 unfolding before_tick
 known_before s v clock hs sound drifts zero within = record {
   sending = tt;
@@ -71,13 +71,13 @@ module _ (P : ℕ → Phase → Device → Type 0) where
 
 -- what is known in each phase
 pub known_in_phase : (s : ScenarioParts) (v : ℕ) (clock : ℕ → ℕ) (hs : List Reception) → IsSoundScenario s → IsClock clock
-    → (t : ℕ) → t < run_end s → (phase : Phase) → IsKnown t phase (device_at s v clock hs t phase)
+    → (t : ℕ) → t < run_end s → (phase : Phase) → NothingDue t phase (device_at s v clock hs t phase)
 known_in_phase s v clock hs sound drifts t in_run phase =
     let keeps = keeps_nothing s v clock hs t in
     of_phase phase (all_hold Nothing s v clock hs t sound drifts in_run keeps (known_before s v clock hs sound drifts t (omega (arith, in_run))) tt)
   where
     of_phase : (phase : Phase) → HoldsAll Nothing s v clock hs t sound drifts in_run (keeps_nothing s v clock hs t)
-        → IsKnown t phase (device_at s v clock hs t phase)
+        → NothingDue t phase (device_at s v clock hs t phase)
     of_phase Lines all = all.lines.0
     of_phase Hearings all = all.hearings.0
     of_phase End all = all.end.0

@@ -19,16 +19,16 @@ use Rattle.bus_rules.specs.declared.part.Part.TheVariants.{Opening, Data as Data
 use Rattle.bus_rules.specs.Plans.{last_slot, opening}
 use Rattle.bus_rules.specs.Tuning.{rank_of, hosts}
 use Rattle.bus_rules.specs.Cores.{Core, Setup}
-use Rattle.bus_rules.specs.Slots.{Opened, Message, ScheduleOf, DataOf, RequestOf, hosts_now, part_of, opened, host_closes, silent, is_schedule_part}
-use Rattle.lwb_member.specs.Places.{IsPlaced, kind_for}
+use Rattle.bus_rules.specs.Slots.{Opened, Message, ScheduleOf, DataOf, RequestOf, hosts_now, part_of, opened_slot, host_closes, silent, is_schedule_part}
+use Rattle.lwb_member.specs.Places.{IsPartOfSlot, kind_for}
 use Rattle.lwb_member.specs.Said.{message_of, data_in, request_in, MaySay}
 use Rattle.node_core.specs.Windows.{Window}
 use Rattle.node_core.specs.Rows.{flood_for, last_by, part_by, is_foreign, flood_by, hearing, accepted_in}
-use Rattle.node_core.specs.Standing.{IsOwn}
+use Rattle.node_core.specs.Standing.{IsInOwnRound}
 use Rattle.air_log.proofs.SmallPlans.{few_slots, read_few}
 use Rattle.law_trails.specs.PlanRanges.{IsWholePlan}
 use Rattle.law_trails.specs.CoreRanges.{IsSetup, IsCore}
-use Rattle.law_trails.specs.NodeRanges.{IsCarried, IsFlood, IsOpen}
+use Rattle.law_trails.specs.NodeRanges.{IsCarried, IsFloodOfSlot, IsOpenInRange}
 use Rattle.law_trails.proofs.SpokenInRange.{read_may}
 use Rattle.law_trails.proofs.SaidInRange.{IsSayable, few_owners, placed, says as says_in}
 use Rattle.law_trails.proofs.CoresInRange.{MayTake}
@@ -83,7 +83,7 @@ ask_of a j may =
 
 module _ (s : Setup) (set : IsSetup s) where
   -- a window opens at its alarm
-  flood_is : (part : Part) (j : ℕ) (o : Option Message) → IfSome o (IsSayable s (kind_for part) j) → IsFlood s (kind_for part) j (flood_for s part j o)
+  flood_is : (part : Part) (j : ℕ) (o : Option Message) → IfSome o (IsSayable s (kind_for part) j) → IsFloodOfSlot s (kind_for part) j (flood_for s part j o)
   flood_is part j None said = listening_is s (kind_for part) j
   flood_is part j (Some m) said = initiating_is s (kind_for part) j m set.sends.0 said
 
@@ -95,21 +95,22 @@ module _ (s : Setup) (set : IsSetup s) where
   abbrev begun : Core → ℕ → ℕ → Part → Opened → Window
   begun c f j part o = record { part = part; last = last_slot c.plan; flood = flood_for s part j o.message; reference = None }
 
-  next_is : (f j : ℕ) (part : Part) (c : Core) → IsPlaced c.plan j part → j < last_slot c.plan
-      → (j ≡ 0) ⊎ ((is_schedule_part part ≡ false) × (last_slot c.plan ≡ last_slot (opened s f part c).core.plan))
+  next_is : (f j : ℕ) (part : Part) (c : Core) → IsPartOfSlot c.plan j part → j < last_slot c.plan
+      → (j ≡ 0) ⊎ ((is_schedule_part part ≡ false) × (last_slot c.plan ≡ last_slot (opened_slot s f part c).core.plan))
   next_is f j Opening c at less = inl at
   next_is f j (DataSlot owner) c at less = inr (refl, refl)
   next_is f j (Contention i) c at less = inr (refl, refl)
   next_is f j Closing c at less = absurd (omega (arith, at, less))
 
-  goes_is : (f j : ℕ) (part : Part) (c : Core) → IsPlaced c.plan j part → IsOwn f c → j < last_slot c.plan → IsOwn f (opened s f part c).core
+  goes_is : (f j : ℕ) (part : Part) (c : Core) → IsPartOfSlot c.plan j part → IsInOwnRound f c → j < last_slot c.plan
+      → IsInOwnRound f (opened_slot s f part c).core
   goes_is f j Opening c at own less = own
   goes_is f j (DataSlot owner) c at own less = own
   goes_is f j (Contention i) c at own less = own
   goes_is f j Closing c at own less = absurd (omega (arith, at, less))
 
-  hosted_is : (f j : ℕ) (part : Part) (c : Core) → IsOwn f c → hosts (opened s f part c).core.tune ≡ true → is_schedule_part part ≡ true
-      → (flood_for s part j (opened s f part c).message).initiated ≡ true
+  hosted_is : (f j : ℕ) (part : Part) (c : Core) → IsInOwnRound f c → hosts (opened_slot s f part c).core.tune ≡ true → is_schedule_part part ≡ true
+      → (flood_for s part j (opened_slot s f part c).message).initiated ≡ true
   hosted_is f j Opening c own host is =
       subst (λ (b : Bool). (flood_for s Opening j (if b then Some (ScheduleOf (opening c.plan)) else None)).initiated ≡ true) (sym (own host)) refl
   hosted_is f j (DataSlot owner) c own host is = absurd (cc)
@@ -120,12 +121,12 @@ module _ (s : Setup) (set : IsSetup s) where
       (λ not host. (let none : true ≡ false = sym (own host) ∙ not in absurd (cc)))
       host
 
-  pub opens_is : (f j : ℕ) (c : Core) → IsCore s c → j ≤ last_slot c.plan → IsOwn f c
-      → IsOpen s f (opened s f (part_of c.plan j) c).core j (begun c f j (part_of c.plan j) (opened s f (part_of c.plan j) c))
+  pub opens_is : (f j : ℕ) (c : Core) → IsCore s c → j ≤ last_slot c.plan → IsInOwnRound f c
+      → IsOpenInRange s f (opened_slot s f (part_of c.plan j) c).core j (begun c f j (part_of c.plan j) (opened_slot s f (part_of c.plan j) c))
   opens_is f j c is within own =
       let part = part_of c.plan j in
       let at = placed c.plan j is.plan within in
-      let o = opened s f part c in
+      let o = opened_slot s f part c in
       record {
         slot = within;
         last = few_slots c.plan (few_owners c.plan is.plan) is.plan.contend;
@@ -150,7 +151,7 @@ module _ (s : Setup) (set : IsSetup s) where
 
   pub joins_is : (f : ℕ) (c : Core) (q : List ℕ) (x : Schedule) (z : ℕ) → hosts c.tune ≡ false → length q ≤ s.profile.packet_max
       → message_of q ≡ Some (ScheduleOf x) → (x.plan.rank == rank_of c.tune) ≡ true
-      → IsOpen s f c (slot_of q) (record {
+      → IsOpenInRange s f c (slot_of q) (record {
         part = part_by x;
         last = last_by x (slot_of q);
         flood = after_heard (listening Kinds.Schedule (slot_of q) s.sends) q;
@@ -167,7 +168,7 @@ module _ (s : Setup) (set : IsSetup s) where
         slot = within_last (x.gap == 0) _ j (last_slot x.plan) parts.place;
         last = cond_both (x.gap == 0) (last_slot x.plan) j (λ (l : ℕ). l ≤ 45) (λ opens. small.0) (λ closes. small.1);
         next = λ less. inl (first_slot (x.gap == 0) _ j (last_slot x.plan) parts.place less);
-        flood = subst (λ (k : Kind). IsFlood s k j (after_heard start q)) (of_schedules x)
+        flood = subst (λ (k : Kind). IsFloodOfSlot s k j (after_heard start q)) (of_schedules x)
             (heard_is s Kinds.Schedule j start q few (listening_is s Kinds.Schedule j));
         own = λ other. heard_first (λ p. is_foreign (rank_of c.tune) (message_of p) ≡ false) start q mine tt;
         goes_on = λ less host. absurd (none host);
@@ -175,8 +176,8 @@ module _ (s : Setup) (set : IsSetup s) where
       }
 
   -- a packet is heard
-  pub hears_is : (p : Numbers) (f now j : ℕ) (c : Core) (w : Window) (q : List ℕ) → length q ≤ s.profile.packet_max → IsOpen s f c j w
-      → IsOpen s f c j (hearing p (rank_of c.tune) now w q)
+  pub hears_is : (p : Numbers) (f now j : ℕ) (c : Core) (w : Window) (q : List ℕ) → length q ≤ s.profile.packet_max → IsOpenInRange s f c j w
+      → IsOpenInRange s f c j (hearing p (rank_of c.tune) now w q)
   hears_is p f now j c w q few is =
       let rank = rank_of c.tune in
       let Mine : List ℕ → Type 0 = λ x. is_foreign rank (message_of x) ≡ false in
@@ -188,7 +189,7 @@ module _ (s : Setup) (set : IsSetup s) where
         slot = is.slot;
         last = is.last;
         next = is.next;
-        flood = cond_both (is_foreign rank (message_of q)) w.flood (after_heard w.flood q) (IsFlood s (kind_for w.part) j) (λ foreign. is.flood)
+        flood = cond_both (is_foreign rank (message_of q)) w.flood (after_heard w.flood q) (IsFloodOfSlot s (kind_for w.part) j) (λ foreign. is.flood)
             (λ own. heard_is s (kind_for w.part) j w.flood q few is.flood);
         own = λ other. cond_both (is_foreign rank (message_of q)) w.flood (after_heard w.flood q) (λ (g : FloodState). IfSome g.first Mine)
             (λ foreign. is.own (sym same ∙ other)) (λ mine. heard_first Mine w.flood q mine (is.own (sym same ∙ other)));
@@ -197,7 +198,8 @@ module _ (s : Setup) (set : IsSetup s) where
       }
 
   -- a sending ends
-  pub ends_is : (f j : ℕ) (c : Core) (w : Window) → w.flood.waiting ≡ true → IsOpen s f c j w → IsOpen s f c j (record w { flood = after_sent w.flood })
+  pub ends_is : (f j : ℕ) (c : Core) (w : Window) → w.flood.waiting ≡ true → IsOpenInRange s f c j w
+      → IsOpenInRange s f c j (record w { flood = after_sent w.flood })
   ends_is f j c w waits is = record {
     slot = is.slot;
     last = is.last;
@@ -209,7 +211,7 @@ module _ (s : Setup) (set : IsSetup s) where
   }
 
   -- what it accepted
-  taken_by : (f j : ℕ) (c : Core) (w : Window) (q : List ℕ) (m : Message) → IsOpen s f c j w → w.flood.initiated ≡ false
+  taken_by : (f j : ℕ) (c : Core) (w : Window) (q : List ℕ) (m : Message) → IsOpenInRange s f c j w → w.flood.initiated ≡ false
       → is_spelling (kind_for w.part) q ≡ true → is_foreign (rank_of c.tune) (message_of q) ≡ false → message_of q ≡ Some m → MayTake c m
   taken_by f j c w q (DataOf d) is other spelled own says = tt
   taken_by f j c w q (RequestOf a) is other spelled own says = ask_of a (slot_of q) (read_may q (RequestOf a) says)
@@ -225,12 +227,12 @@ module _ (s : Setup) (set : IsSetup s) where
   abbrev accepted_by : Bool → Option (List ℕ) → Option Message
   accepted_by b first = option_and_then (λ a. message_of a.0) (if b then None else option_map {U = List ℕ × ℕ} (λ p. (p, counter_of p)) first)
 
-  by_message : (f j : ℕ) (c : Core) (w : Window) (q : List ℕ) (o : Option Message) → IsOpen s f c j w → w.flood.initiated ≡ false
+  by_message : (f j : ℕ) (c : Core) (w : Window) (q : List ℕ) (o : Option Message) → IsOpenInRange s f c j w → w.flood.initiated ≡ false
       → is_spelling (kind_for w.part) q ≡ true → is_foreign (rank_of c.tune) (message_of q) ≡ false → message_of q ≡ o → IfSome o (MayTake c)
   by_message f j c w q None is other spelled own says = tt
   by_message f j c w q (Some m) is other spelled own says = taken_by f j c w q m is other spelled own says
 
-  pub by_first : (f j : ℕ) (c : Core) (w : Window) (b : Bool) (first : Option (List ℕ)) → IsOpen s f c j w → w.flood.initiated ≡ b
+  pub by_first : (f j : ℕ) (c : Core) (w : Window) (b : Bool) (first : Option (List ℕ)) → IsOpenInRange s f c j w → w.flood.initiated ≡ b
       → w.flood.first ≡ first → IfSome (accepted_by b first) (MayTake c)
   by_first f j c w true first is begun at = tt
   by_first f j c w false None is begun at = tt
@@ -240,5 +242,5 @@ module _ (s : Setup) (set : IsSetup s) where
       subst (λ (o : Option (List ℕ)). IfSome o (λ p. is_foreign (rank_of c.tune) (message_of p) ≡ false)) at (is.own begun) in
       by_message f j c w q (message_of q) is begun carried.spelled own refl
 
-  pub accepted_may : (f j : ℕ) (c : Core) (w : Window) → IsOpen s f c j w → IfSome (accepted_in w) (MayTake c)
+  pub accepted_may : (f j : ℕ) (c : Core) (w : Window) → IsOpenInRange s f c j w → IfSome (accepted_in w) (MayTake c)
   accepted_may f j c w is = by_first f j c w w.flood.initiated w.flood.first is refl refl

@@ -3,15 +3,15 @@ use Rattle.std.specs.Prelude.{ℕ, ◌<◌, ◌≤◌, List, All, length}
 use Rattle.std.specs.Option.{IfSome}
 use Rattle.bus_rules.specs.Cores.{Setup}
 use Rattle.air_log.specs.Devices.{Device, Power, PowerOff, PowerOn}
-use Rattle.air_log.specs.Trails.{Reception, setup_of, scripted, heard, before_alarms, before_start, before_tick}
+use Rattle.air_log.specs.Trails.{Reception, setup_of, device_after_script, device_after_receptions, before_alarms, before_start, before_tick}
 use Rattle.scenario_text.specs.ScenarioParts.{ScenarioParts}
-use Rattle.law_trails.specs.NodeRanges.{IsNode}
+use Rattle.law_trails.specs.NodeRanges.{IsNodeInRange}
 use Rattle.law_trails.specs.SpokenRanges.{IsSpoken, IsProper}
 
 -- at most 200 boots
 abbrev pub IsPower : Setup → Power → Type 0
 IsPower s (PowerOff boots) = boots ≤ 200
-IsPower s (PowerOn n) = IsNode s n
+IsPower s (PowerOn n) = IsNodeInRange s n
 
 -- Q holds of each packet that is ordered, sent or was sent
 pub record IsRanged (Q : List ℕ → Type 0) (s : Setup) (d : Device) : Type 0 where
@@ -39,7 +39,7 @@ AreShort s hs t = HeardBefore (λ q. length q ≤ s.profile.packet_max) hs t
 -- the own sending, and the alarms
 pub record HoldsThrough (P : Device → Type 0) (s : ScenarioParts) (v : ℕ) (clock : ℕ → ℕ) (hs : List Reception) (t : ℕ) : Type 0 where
   pub before : P (before_tick s v clock hs t)
-  pub told : P (scripted s v clock t (before_tick s v clock hs t))
-  pub hearing : P (heard clock (setup_of s v) t hs (scripted s v clock t (before_tick s v clock hs t)))
+  pub told : P (device_after_script s v clock t (before_tick s v clock hs t))
+  pub hearing : P (device_after_receptions clock (setup_of s v) t hs (device_after_script s v clock t (before_tick s v clock hs t)))
   pub end : P (before_alarms s v clock hs t (before_tick s v clock hs t))
   pub alarms : P (before_start s v clock hs t (before_tick s v clock hs t))

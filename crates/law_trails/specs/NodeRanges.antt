@@ -15,7 +15,7 @@ use Rattle.node_core.specs.declared.stage.Stage.TheVariants.{Idle, Scanning, Awa
 use Rattle.node_core.specs.Windows.{Window}
 use Rattle.node_core.specs.Nodes.{Node}
 use Rattle.node_core.specs.Rows.{is_foreign}
-use Rattle.node_core.specs.Standing.{IsOwn}
+use Rattle.node_core.specs.Standing.{IsInOwnRound}
 use Rattle.law_trails.specs.CoreRanges.{IsCore}
 
 -- what a flood carries
@@ -25,7 +25,7 @@ pub record IsCarried (s : Setup) (k : Kind) (j : ℕ) (q : List ℕ) : Type 0 wh
   pub most : length q ≤ s.profile.packet_max
 
 -- the flood of a window of slot j, which is for packets of kind k
-pub record IsFlood (s : Setup) (k : Kind) (j : ℕ) (f : FloodState) : Type 0 where
+pub record IsFloodOfSlot (s : Setup) (k : Kind) (j : ℕ) (f : FloodState) : Type 0 where
   pub kind : f.kind ≡ k
   pub slot : f.slot ≡ j
   pub limit : f.limit ≡ s.sends
@@ -34,23 +34,23 @@ pub record IsFlood (s : Setup) (k : Kind) (j : ℕ) (f : FloodState) : Type 0 wh
   pub first : IfSome f.first (IsCarried s k j)
 
 -- the window of slot j. own: what it accepted is of its rank; hosted: a host says the schedules of its round itself
-pub record IsOpen (s : Setup) (f : ℕ) (c : Core) (j : ℕ) (w : Window) : Type 0 where
+pub record IsOpenInRange (s : Setup) (f : ℕ) (c : Core) (j : ℕ) (w : Window) : Type 0 where
   pub slot : j ≤ w.last
   pub last : w.last ≤ 45
   pub next : j < w.last → (j ≡ 0) ⊎ ((is_schedule_part w.part ≡ false) × (w.last ≡ last_slot c.plan))
-  pub flood : IsFlood s (kind_for w.part) j w.flood
+  pub flood : IsFloodOfSlot s (kind_for w.part) j w.flood
   pub own : w.flood.initiated ≡ false → IfSome w.flood.first (λ q. is_foreign (rank_of c.tune) (message_of q) ≡ false)
-  pub goes_on : j < w.last → IsOwn f c
+  pub goes_on : j < w.last → IsInOwnRound f c
   pub hosted : hosts c.tune ≡ true → is_schedule_part w.part ≡ true → w.flood.initiated ≡ true
 
-abbrev pub IsAt : Setup → ℕ → Core → Stage → Type 0
-IsAt s f c Idle = ⊤
-IsAt s f c Scanning = hosts c.tune ≡ false
-IsAt s f c AwaitFrame = ⊤
-IsAt s f c (AwaitSlot j) = (j ≤ last_slot c.plan) × IsOwn f c
-IsAt s f c (InWindow j w) = IsOpen s f c j w
+abbrev pub IsInStage : Setup → ℕ → Core → Stage → Type 0
+IsInStage s f c Idle = ⊤
+IsInStage s f c Scanning = hosts c.tune ≡ false
+IsInStage s f c AwaitFrame = ⊤
+IsInStage s f c (AwaitSlot j) = (j ≤ last_slot c.plan) × IsInOwnRound f c
+IsInStage s f c (InWindow j w) = IsOpenInRange s f c j w
 
-pub record IsNode (s : Setup) (n : Node) : Type 0 where
+pub record IsNodeInRange (s : Setup) (n : Node) : Type 0 where
   pub core : IsCore s n.core
   pub frame : n.frame ≤ 16777215
-  pub stage : IsAt s n.frame n.core n.stage
+  pub stage : IsInStage s n.frame n.core n.stage

@@ -4,14 +4,14 @@ use Rattle.std.specs.Prelude.{◌≡◌, ℕ, ◌+◌, ◌*◌, ◌≤◌, max}
 use Rattle.lwb_base.specs.Profile.{Numbers, step}
 use Rattle.tick_clock.specs.Clocks.{Near, due}
 use Rattle.time_reference.specs.Reference.{stopped}
-use Rattle.time_reference.specs.Zeros.{opening, starting, closing, point}
+use Rattle.time_reference.specs.Zeros.{opening_offset, starting_offset, closing_offset, tick_at_offset}
 use Rattle.node_core.specs.Nodes.{opens_at, starts_at, closes_at}
 
 -- the times of slot j by the zero z are sums of the zero and their offsets
 pub record AreSums (p : Numbers) (z j : ℕ) : Type 0 where
-  pub opens : opens_at p z j ≡ z + opening p j
-  pub starts : starts_at p z j ≡ z + starting p j
-  pub closes : closes_at p z j ≡ z + closing p j
+  pub opens : opens_at p z j ≡ z + opening_offset p j
+  pub starts : starts_at p z j ≡ z + starting_offset p j
+  pub closes : closes_at p z j ≡ z + closing_offset p j
 
 -- the tick at which a relay begins whose hearing ended at tick t: it is ordered for a turnaround later by the clock,
 -- and begins at once where that has passed
@@ -22,4 +22,4 @@ relay_tick p own t = max (due own (stopped (own t + p.turn))) t
 -- steps behind it, but for k ticks
 pub record InFlood (p : Numbers) (own : ℕ → ℕ) (z j n k s : ℕ) : Type 0 where
   pub few : k ≤ 11
-  pub near : Near s (point own z (starting p j) + k * step p n) k
+  pub near : Near s (tick_at_offset own z (starting_offset p j) + k * step p n) k

@@ -57,8 +57,8 @@ reopening_with counter = 1 ∷ 0 ∷ counter ∷ 0 ∷ 1 ∷ 2 ∷ 1 ∷ 0 ∷ 4
 abbrev pub data_with : ℕ → List ℕ
 data_with counter = 2 ∷ 1 ∷ counter ∷ 2 ∷ 1 ∷ 0 ∷ 0 ∷ 0 ∷ 170 ∷ []
 
-abbrev pub closing_with : ℕ → List ℕ
-closing_with counter = 1 ∷ 6 ∷ counter ∷ 4 ∷ 1 ∷ 0 ∷ 0 ∷ 0 ∷ 0 ∷ 4 ∷ 0 ∷ 128 ∷ []
+abbrev pub data_closing_with : ℕ → List ℕ
+data_closing_with counter = 1 ∷ 6 ∷ counter ∷ 4 ∷ 1 ∷ 0 ∷ 0 ∷ 0 ∷ 0 ∷ 4 ∷ 0 ∷ 128 ∷ []
 
 -- each sending, by what it says and its counter
 abbrev pub opening_0 : Sending
@@ -116,16 +116,16 @@ abbrev pub data_3 : Sending
 data_3 = sent_at 1 2370269993 2370304809 (data_with 3)
 
 abbrev pub closing_0 : Sending
-closing_0 = sent_at 1 2380688387 2380729347 (closing_with 0)
+closing_0 = sent_at 1 2380688387 2380729347 (data_closing_with 0)
 
 abbrev pub closing_1 : Sending
-closing_1 = sent_at 2 2380741635 2380782595 (closing_with 1)
+closing_1 = sent_at 2 2380741635 2380782595 (data_closing_with 1)
 
 abbrev pub closing_2 : Sending
-closing_2 = sent_at 1 2380794883 2380835843 (closing_with 2)
+closing_2 = sent_at 1 2380794883 2380835843 (data_closing_with 2)
 
 abbrev pub closing_3 : Sending
-closing_3 = sent_at 2 2380848131 2380889091 (closing_with 3)
+closing_3 = sent_at 2 2380848131 2380889091 (data_closing_with 3)
 
 -- as they begin
 abbrev pub sent_in_rounds : List Sending
@@ -150,28 +150,29 @@ sent_by_member =
     ∷ reopening_1 ∷ data_0 ∷ data_2 ∷ closing_1 ∷ closing_3
     ∷ []
 
-abbrev pub hears : ℕ → Sending → Hearing
-hears v x = record { node = v; sending = x }
+abbrev pub reception_at : ℕ → Sending → Hearing
+reception_at v x = record { node = v; sending = x }
 
 -- as they end
 abbrev pub heard_in_rounds : List Hearing
 heard_in_rounds =
-    hears 2 opening_0 ∷ hears 1 opening_1 ∷ hears 2 opening_2 ∷ hears 1 request_0
-    ∷ hears 2 request_1 ∷ hears 1 request_2 ∷ hears 2 grant_0 ∷ hears 1 grant_1
-    ∷ hears 2 grant_2 ∷ hears 2 reopening_0 ∷ hears 1 data_0 ∷ hears 2 data_1
-    ∷ hears 1 data_2 ∷ hears 2 closing_0 ∷ hears 1 closing_1 ∷ hears 2 closing_2
+    reception_at 2 opening_0 ∷ reception_at 1 opening_1 ∷ reception_at 2 opening_2 ∷ reception_at 1 request_0
+    ∷ reception_at 2 request_1 ∷ reception_at 1 request_2 ∷ reception_at 2 grant_0 ∷ reception_at 1 grant_1
+    ∷ reception_at 2 grant_2 ∷ reception_at 2 reopening_0 ∷ reception_at 1 data_0 ∷ reception_at 2 data_1
+    ∷ reception_at 1 data_2 ∷ reception_at 2 closing_0 ∷ reception_at 1 closing_1 ∷ reception_at 2 closing_2
     ∷ []
 
 -- what each node hears
 abbrev pub heard_by_host : List Reception
 heard_by_host =
-    map reception_of (hears 1 opening_1 ∷ hears 1 request_0 ∷ hears 1 request_2 ∷ hears 1 grant_1 ∷ hears 1 data_0 ∷ hears 1 data_2 ∷ hears 1 closing_1 ∷ [])
+    map reception_of (reception_at 1 opening_1 ∷ reception_at 1 request_0 ∷ reception_at 1 request_2 ∷ reception_at 1 grant_1 ∷ reception_at 1 data_0
+        ∷ reception_at 1 data_2 ∷ reception_at 1 closing_1 ∷ [])
 
 abbrev pub heard_by_member : List Reception
 heard_by_member =
     map reception_of (
-    hears 2 opening_0 ∷ hears 2 opening_2 ∷ hears 2 request_1 ∷ hears 2 grant_0 ∷ hears 2 grant_2
-    ∷ hears 2 reopening_0 ∷ hears 2 data_1 ∷ hears 2 closing_0 ∷ hears 2 closing_2 ∷ []
+    reception_at 2 opening_0 ∷ reception_at 2 opening_2 ∷ reception_at 2 request_1 ∷ reception_at 2 grant_0 ∷ reception_at 2 grant_2
+    ∷ reception_at 2 reopening_0 ∷ reception_at 2 data_1 ∷ reception_at 2 closing_0 ∷ reception_at 2 closing_2 ∷ []
     )
 
 -- the last first

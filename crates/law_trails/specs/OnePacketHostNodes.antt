@@ -5,12 +5,12 @@ use Rattle.bus_rules.specs.declared.part.Part.TheVariants.{Opening, Data, Conten
 use Rattle.node_core.specs.declared.stage.Stage.TheVariants.{Scanning, AwaitFrame, AwaitSlot}
 use Rattle.node_core.specs.Nodes.{Node}
 use Rattle.air_log.specs.FirstRound.{opening_with}
-use Rattle.law_trails.specs.OnePacket.{request_with, grant_with, reopening_with, data_with, closing_with}
-use Rattle.law_trails.specs.OnePacketNodes.{request, scans, hosts_first, hosts_granted, hosts_next, node, window, flood}
+use Rattle.law_trails.specs.OnePacket.{request_with, grant_with, reopening_with, data_with, data_closing_with}
+use Rattle.law_trails.specs.OnePacketNodes.{request, scanning_core, hosts_first, hosts_granted, hosts_next, node, window, flood}
 
 -- nodes by frame and slot: before the window of a slot, while it listens, and after so many sendings of its flood
 abbrev pub scanning : ℕ → Node
-scanning waited = node (scans waited) waited 0 Scanning
+scanning waited = node (scanning_core waited) waited 0 Scanning
 
 abbrev pub awaits_5_0 : Node
 awaits_5_0 = node (hosts_first []) 5 1344000000 (AwaitSlot 0)
@@ -79,7 +79,7 @@ abbrev pub awaits_9_6 : Node
 awaits_9_6 = node (hosts_granted 3) 9 2368000000 (AwaitSlot 6)
 
 abbrev pub floods_9_6 : ℕ → Bool → Node
-floods_9_6 sent waits = node hosts_next 9 2368000000 (window 6 Closing 6 (flood Schedule 6 sent waits true (Some (closing_with 0))) None)
+floods_9_6 sent waits = node hosts_next 9 2368000000 (window 6 Closing 6 (flood Schedule 6 sent waits true (Some (data_closing_with 0))) None)
 
 abbrev pub waits_for_13 : ℕ → Node
 waits_for_13 frame = node hosts_next frame 3392000000 AwaitFrame

@@ -5,9 +5,9 @@ use Rattle.node_core.specs.declared.stage.Stage.TheVariants.{AwaitSlot}
 use Rattle.air_log.specs.WindowLogs.{WindowLog}
 use Rattle.air_log.specs.Devices.{Device}
 use Rattle.air_log.specs.FirstRound.{opening_with, tuned_at}
-use Rattle.law_trails.specs.DueDevices.{Due}
-use Rattle.law_trails.specs.OnePacket.{request_with, grant_with, reopening_with, data_with, closing_with, opening_1, opening_3, request_0, request_2, grant_1}
-use Rattle.law_trails.specs.OnePacket.{grant_3, reopening_1, data_0, data_2, closing_1, closing_3, sent_by_member, tuned_by_member}
+use Rattle.law_trails.specs.DueDevices.{DueDevice}
+use Rattle.law_trails.specs.OnePacket.{request_with, grant_with, reopening_with, data_with, data_closing_with, opening_1, opening_3, request_0, request_2}
+use Rattle.law_trails.specs.OnePacket.{grant_1, grant_3, reopening_1, data_0, data_2, closing_1, closing_3, sent_by_member, tuned_by_member}
 use Rattle.law_trails.specs.OnePacketNodes.{reopened, waiting, made_with, node, since, to_send, by_member, device, rests}
 use Rattle.law_trails.specs.OnePacketMemberNodes.{scanning, floods_5_0, awaits_5_1, floods_5_1, awaits_5_2, listens_5_2, floods_5_2, rests_after_5, waits_for_9}
 use Rattle.law_trails.specs.OnePacketMemberNodes.{awaits_9_0, listens_9_0, floods_9_0, floods_9_1, awaits_9_2, listens_9_2, awaits_9_3, listens_9_3, awaits_9_4}
@@ -174,7 +174,7 @@ abbrev pub member_52 : List WindowLog → Device
 member_52 w = device listens_9_6 (Some (since 2380624891)) (Some 2382720933) None None (by_member 9 1 w)
 
 abbrev pub member_53 : List WindowLog → Device
-member_53 w = device (floods_9_6 0 true) (Some (since 2380624891)) (Some 2382720933) (Some (to_send 2380741635 (closing_with 1))) None (by_member 9 1 w)
+member_53 w = device (floods_9_6 0 true) (Some (since 2380624891)) (Some 2382720933) (Some (to_send 2380741635 (data_closing_with 1))) None (by_member 9 1 w)
 
 abbrev pub member_54 : List WindowLog → Device
 member_54 w = device (floods_9_6 0 true) (Some (since 2380624891)) (Some 2382720933) None (Some closing_1) (by_member 10 1 w)
@@ -183,7 +183,7 @@ abbrev pub member_55 : List WindowLog → Device
 member_55 w = device (floods_9_6 1 false) (Some (since 2380624891)) (Some 2382720933) None None (by_member 10 1 w)
 
 abbrev pub member_56 : List WindowLog → Device
-member_56 w = device (floods_9_6 1 true) (Some (since 2380624891)) (Some 2382720933) (Some (to_send 2380848131 (closing_with 3))) None (by_member 10 1 w)
+member_56 w = device (floods_9_6 1 true) (Some (since 2380624891)) (Some 2382720933) (Some (to_send 2380848131 (data_closing_with 3))) None (by_member 10 1 w)
 
 abbrev pub member_57 : List WindowLog → Device
 member_57 w = device (floods_9_6 1 true) (Some (since 2380624891)) (Some 2382720933) None (Some closing_3) (by_member 11 1 w)
@@ -210,7 +210,7 @@ member_late w =
     (made_with (take 7 sent_by_member) (tuned_at 2 2367993428 2370089470 ∷ drop 6 tuned_by_member) [] w)
 
 -- the due ticks, and the end of the run
-abbrev pub member_dues : List Due
+abbrev pub member_dues : List DueDevice
 member_dues =
     record { tick = 0; device = member_0 }
     ∷ record { tick = 204804097; device = member_1 }

@@ -5,8 +5,8 @@ use Rattle.bus_rules.specs.declared.part.Part.TheVariants.{Opening, Data, Conten
 use Rattle.node_core.specs.declared.stage.Stage.TheVariants.{Scanning, AwaitFrame, AwaitSlot}
 use Rattle.node_core.specs.Nodes.{Node}
 use Rattle.air_log.specs.FirstRound.{opening_with}
-use Rattle.law_trails.specs.OnePacket.{request_with, grant_with, reopening_with, data_with, closing_with}
-use Rattle.law_trails.specs.OnePacketNodes.{scans_waiting, joins, holds, reopened, holds_on, node, window, flood}
+use Rattle.law_trails.specs.OnePacket.{request_with, grant_with, reopening_with, data_with, data_closing_with}
+use Rattle.law_trails.specs.OnePacketNodes.{scans_waiting, joining_core, holding_core, reopened, holds_on, node, window, flood}
 
 -- nodes by frame and slot: before the window of a slot, while it listens, and after so many sendings of its flood
 abbrev pub scanning : ℕ → Node
@@ -16,34 +16,35 @@ abbrev pub floods_5_0 : ℕ → Bool → Node
 floods_5_0 sent waits = node (scans_waiting 5) 5 1343946238 (window 0 Opening 2 (flood Schedule 0 sent waits false (Some (opening_with 0))) (Some 1343946238))
 
 abbrev pub awaits_5_1 : Node
-awaits_5_1 = node (joins 0) 5 1343946238 (AwaitSlot 1)
+awaits_5_1 = node (joining_core 0) 5 1343946238 (AwaitSlot 1)
 
 abbrev pub floods_5_1 : ℕ → Bool → Node
-floods_5_1 sent waits = node (joins 1) 5 1343946238 (window 1 (Contention 1) 2 (flood Request 1 sent waits true (Some (request_with 0))) None)
+floods_5_1 sent waits = node (joining_core 1) 5 1343946238 (window 1 (Contention 1) 2 (flood Request 1 sent waits true (Some (request_with 0))) None)
 
 abbrev pub awaits_5_2 : Node
-awaits_5_2 = node (joins 1) 5 1343946238 (AwaitSlot 2)
+awaits_5_2 = node (joining_core 1) 5 1343946238 (AwaitSlot 2)
 
 abbrev pub listens_5_2 : Node
-listens_5_2 = node (joins 1) 5 1343946238 (window 2 Closing 2 (flood Schedule 2 0 false false None) None)
+listens_5_2 = node (joining_core 1) 5 1343946238 (window 2 Closing 2 (flood Schedule 2 0 false false None) None)
 
 abbrev pub floods_5_2 : ℕ → Bool → Node
-floods_5_2 sent waits = node (joins 1) 5 1343946238 (window 2 Closing 2 (flood Schedule 2 sent waits false (Some (grant_with 0))) (Some 1343946068))
+floods_5_2 sent waits = node (joining_core 1) 5 1343946238 (window 2 Closing 2 (flood Schedule 2 sent waits false (Some (grant_with 0))) (Some 1343946068))
 
 abbrev pub rests_after_5 : ℕ → Node
-rests_after_5 frame = node (holds (Some 1)) frame 2367946068 AwaitFrame
+rests_after_5 frame = node (holding_core (Some 1)) frame 2367946068 AwaitFrame
 
 abbrev pub waits_for_9 : ℕ → Node
-waits_for_9 frame = node (holds None) frame 2367946068 AwaitFrame
+waits_for_9 frame = node (holding_core None) frame 2367946068 AwaitFrame
 
 abbrev pub awaits_9_0 : Node
-awaits_9_0 = node (holds None) 9 2367946068 (AwaitSlot 0)
+awaits_9_0 = node (holding_core None) 9 2367946068 (AwaitSlot 0)
 
 abbrev pub listens_9_0 : Node
-listens_9_0 = node (holds None) 9 2367946068 (window 0 Opening 6 (flood Schedule 0 0 false false None) None)
+listens_9_0 = node (holding_core None) 9 2367946068 (window 0 Opening 6 (flood Schedule 0 0 false false None) None)
 
 abbrev pub floods_9_0 : ℕ → Bool → Node
-floods_9_0 sent waits = node (holds None) 9 2367946068 (window 0 Opening 6 (flood Schedule 0 sent waits false (Some (reopening_with 0))) (Some 2367905278))
+floods_9_0 sent waits =
+    node (holding_core None) 9 2367946068 (window 0 Opening 6 (flood Schedule 0 sent waits false (Some (reopening_with 0))) (Some 2367905278))
 
 abbrev pub floods_9_1 : ℕ → Bool → Node
 floods_9_1 sent waits = node (reopened []) 9 2367905278 (window 1 (Data 8) 6 (flood Payload 1 sent waits true (Some (data_with 0))) None)
@@ -79,7 +80,7 @@ abbrev pub listens_9_6 : Node
 listens_9_6 = node (reopened []) 9 2367905278 (window 6 Closing 6 (flood Schedule 6 0 false false None) None)
 
 abbrev pub floods_9_6 : ℕ → Bool → Node
-floods_9_6 sent waits = node (reopened []) 9 2367905278 (window 6 Closing 6 (flood Schedule 6 sent waits false (Some (closing_with 0))) (Some 2367904772))
+floods_9_6 sent waits = node (reopened []) 9 2367905278 (window 6 Closing 6 (flood Schedule 6 sent waits false (Some (data_closing_with 0))) (Some 2367904772))
 
 abbrev pub rests_after_9 : ℕ → Node
 rests_after_9 frame = node (holds_on (Some 1)) frame 3391904772 AwaitFrame

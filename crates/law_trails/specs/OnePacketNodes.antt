@@ -10,13 +10,13 @@ use Rattle.bus_rules.specs.declared.delivery.Delivery.{Delivery}
 use Rattle.bus_rules.specs.declared.part.Part.{Part}
 use Rattle.bus_rules.specs.declared.tune.Tune.{Tune}
 use Rattle.bus_rules.specs.declared.tune.Tune.TheVariants.{Scan, Hold, Host}
-use Rattle.bus_rules.specs.Streams.{Streams, Waiting, no_stream}
+use Rattle.bus_rules.specs.Streams.{Streams, WaitingPacket, no_stream}
 use Rattle.bus_rules.specs.Cores.{Core, booted, no_plan}
 use Rattle.node_core.specs.declared.stage.Stage.{Stage}
 use Rattle.node_core.specs.declared.stage.Stage.TheVariants.{InWindow}
 use Rattle.node_core.specs.Nodes.{Node}
 use Rattle.air_log.specs.WindowLogs.{WindowLog}
-use Rattle.air_log.specs.Devices.{Device, PowerOn, Listening, Ordered, Made, at_rest, nothing_made}
+use Rattle.air_log.specs.Devices.{Device, PowerOn, Listening, OrderedPacket, Made, at_rest, nothing_made}
 use Rattle.law_trails.specs.OnePacket.{sent_by_host, sent_by_member, tuned_by_host, tuned_by_member}
 
 -- the host's plans, the first without owners, and the request of node 2
@@ -34,8 +34,8 @@ granted_plan = record next_plan { acks = request ∷ [] }
 
 -- the host while it scans, hosts its first round with what it kept, and goes by its next two plans, node 2 having been
 -- unheard in so many slots
-abbrev pub scans : ℕ → Core
-scans waited = record (booted 1) { tune = Scan 0 waited }
+abbrev pub scanning_core : ℕ → Core
+scanning_core waited = record (booted 1) { tune = Scan 0 waited }
 
 abbrev pub hosts_first : List Ask → Core
 hosts_first kept = record (booted 1) { tune = Host 0 5; plan = first_plan; kept = kept }
@@ -54,10 +54,10 @@ abbrev pub hosts_next : Core
 hosts_next = hosts_by 13 next_plan 8 3
 
 -- node 2, with its one stream
-abbrev pub waiting : List Waiting
+abbrev pub waiting : List WaitingPacket
 waiting = record { seq = 0; payload = 170 ∷ [] } ∷ []
 
-abbrev pub streams_with : ℕ → ℕ → List Waiting → ℕ → Option (ℕ × ℕ) → Streams
+abbrev pub streams_with : ℕ → ℕ → List WaitingPacket → ℕ → Option (ℕ × ℕ) → Streams
 streams_with agreed last queue tries host = record {
   all = record { wish = 4; agreed = agreed; last = last; queue = queue; next = 1 } ∷ no_stream ∷ no_stream ∷ no_stream ∷ [];
   tries = tries;
@@ -72,13 +72,13 @@ member tune plan streams own_slot = record (booted 1) { tune = tune; plan = plan
 abbrev pub scans_waiting : ℕ → Core
 scans_waiting waited = member (Scan 0 waited) no_plan (streams_with 0 0 waiting 0 None) None
 
-abbrev pub joins : ℕ → Core
-joins tries = member (Scan 0 5) first_plan (streams_with 0 0 waiting tries (Some (0, 1))) (Some 1)
+abbrev pub joining_core : ℕ → Core
+joining_core tries = member (Scan 0 5) first_plan (streams_with 0 0 waiting tries (Some (0, 1))) (Some 1)
 
-abbrev pub holds : Option ℕ → Core
-holds own_slot = member (Hold 0 9) granted_plan (streams_with 4 5 waiting 0 (Some (0, 1))) own_slot
+abbrev pub holding_core : Option ℕ → Core
+holding_core own_slot = member (Hold 0 9) granted_plan (streams_with 4 5 waiting 0 (Some (0, 1))) own_slot
 
-abbrev pub reopened : List Waiting → Core
+abbrev pub reopened : List WaitingPacket → Core
 reopened queue = member (Hold 0 9) granted_plan (streams_with 4 9 queue 0 (Some (0, 1))) (Some 1)
 
 abbrev pub holds_on : Option ℕ → Core
@@ -98,15 +98,15 @@ flood kind slot sent waits initiated first = record { kind = kind; slot = slot; 
 abbrev pub since : ℕ → Listening
 since tick = record { rank = 0; since = tick }
 
-abbrev pub to_send : ℕ → List ℕ → Ordered
+abbrev pub to_send : ℕ → List ℕ → OrderedPacket
 to_send tick packet = record { tick = tick; packet = packet }
 
 abbrev pub made_with : List Sending → List Tuning → List Delivery → List WindowLog → Made
 made_with sent tuned deliveries windows = record { sent = sent; tuned = tuned; deliveries = deliveries; drops = []; windows = windows }
 
 -- the first so many sendings, and all but the last so many tunings
-abbrev pub by_host : ℕ → ℕ → List Delivery → List WindowLog → Made
-by_host sent tuned deliveries windows = made_with (take sent sent_by_host) (drop tuned tuned_by_host) deliveries windows
+abbrev pub made_by_host : ℕ → ℕ → List Delivery → List WindowLog → Made
+made_by_host sent tuned deliveries windows = made_with (take sent sent_by_host) (drop tuned tuned_by_host) deliveries windows
 
 abbrev pub by_member : ℕ → ℕ → List WindowLog → Made
 by_member sent tuned windows = made_with (take sent sent_by_member) (drop tuned tuned_by_member) [] windows
@@ -114,7 +114,7 @@ by_member sent tuned windows = made_with (take sent sent_by_member) (drop tuned 
 abbrev pub delivered : List Delivery
 delivered = record { frame = 9; rank = 0; slot = 1; node = 1; from = 2; boot = 1; stream = 0; seq = 0; payload = 170 ∷ [] } ∷ []
 
-abbrev pub device : Node → Option Listening → Option ℕ → Option Ordered → Option Sending → Made → Device
+abbrev pub device : Node → Option Listening → Option ℕ → Option OrderedPacket → Option Sending → Made → Device
 device n listening alarm ordered sending made =
     record { power = PowerOn n; listening = listening; alarm = alarm; ordered = ordered; sending = sending; made = made }
 

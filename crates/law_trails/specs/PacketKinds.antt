@@ -9,24 +9,24 @@ use Rattle.bus_rules.specs.Slots.{Message, ScheduleOf, DataOf, RequestOf, messag
 use Rattle.lwb_member.specs.Said.{MaySay, message_of}
 
 -- the kind of the packets that say it
-abbrev pub kind_of : Message → Kind.Kind
-kind_of (ScheduleOf x) = Kind.TheVariants.Schedule
-kind_of (DataOf d) = Kind.TheVariants.Payload
-kind_of (RequestOf a) = Kind.TheVariants.Request
+abbrev pub kind_of_message : Message → Kind.Kind
+kind_of_message (ScheduleOf x) = Kind.TheVariants.Schedule
+kind_of_message (DataOf d) = Kind.TheVariants.Payload
+kind_of_message (RequestOf a) = Kind.TheVariants.Request
 
 -- what the bytes of a packet are that says this message
 pub record IsPacketOf (m : Message) (p : List ℕ) : Type 0 where
   pub counter : counter_of p ≤ 11
   pub place : MaySay (slot_of p) m
-  pub spelled : is_spelling (kind_of m) p ≡ true
-  pub named : kind_named p ≡ kind_of m
+  pub spelled : is_spelling (kind_of_message m) p ≡ true
+  pub named : kind_named p ≡ kind_of_message m
   pub counted : length p ≡ message_length m
 
 -- the bytes say something, of this kind
 pub record SaysOfKind (kind : Kind.Kind) (p : List ℕ) : Type 0 where
   pub message : Message
   pub says : message_of p ≡ Some message
-  pub of_kind : kind_of message ≡ kind
+  pub of_kind : kind_of_message message ≡ kind
 
 -- the ranges of a schedule that stands in this slot: an opening opens its round, and a closing has a data slot or a
 -- contention slot before it

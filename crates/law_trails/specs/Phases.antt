@@ -5,9 +5,10 @@ use Rattle.scenario_text.specs.ScenarioParts.{ScenarioParts}
 use Rattle.scenario_text.specs.ScenarioFacts.{IsScriptLine}
 use Rattle.scenario_text.specs.declared.script.ScriptLine.{ScriptLine}
 use Rattle.air_log.specs.Devices.{Device, Power, PowerOff, PowerOn}
-use Rattle.air_log.specs.ScriptedDevices.{after_line}
+use Rattle.air_log.specs.ScriptedDevices.{device_after_line}
 use Rattle.air_log.specs.AlarmRuns.{after_alarms}
-use Rattle.air_log.specs.Trails.{Reception, setup_of, frame_start, lines_at, scripted, ending_at, hears, heard, before_alarms, before_start, tick, before_tick}
+use Rattle.air_log.specs.Trails.{Reception, setup_of, frame_start, lines_at, device_after_script, ending_at, device_after_reception, device_after_receptions}
+use Rattle.air_log.specs.Trails.{before_alarms, before_start, tick, before_tick}
 
 -- what is done next: script lines are told, hearings are taken, the end of the own sending, alarms, the start of the
 -- ordered sending; or all is over
@@ -30,8 +31,8 @@ next_phase Over = Over
 -- the device of v that enters a phase of tick t
 abbrev pub device_at : ScenarioParts → ℕ → (ℕ → ℕ) → List Reception → ℕ → Phase → Device
 device_at s v clock hs t Lines = before_tick s v clock hs t
-device_at s v clock hs t Hearings = scripted s v clock t (before_tick s v clock hs t)
-device_at s v clock hs t End = heard clock (setup_of s v) t hs (scripted s v clock t (before_tick s v clock hs t))
+device_at s v clock hs t Hearings = device_after_script s v clock t (before_tick s v clock hs t)
+device_at s v clock hs t End = device_after_receptions clock (setup_of s v) t hs (device_after_script s v clock t (before_tick s v clock hs t))
 device_at s v clock hs t Alarms = before_alarms s v clock hs t (before_tick s v clock hs t)
 device_at s v clock hs t Start = before_start s v clock hs t (before_tick s v clock hs t)
 device_at s v clock hs t Over = tick s v clock hs t (before_tick s v clock hs t)
@@ -72,19 +73,19 @@ SilentBy d (PowerOff boots) = IsSilent d
 SilentBy d (PowerOn n) = ⊤
 
 -- what is known of each device in a phase of tick t: nothing that was due is left
-pub record IsKnown (t : ℕ) (phase : Phase) (d : Device) : Type 0 where
+pub record NothingDue (t : ℕ) (phase : Phase) (d : Device) : Type 0 where
   pub sending : IfSome d.sending (λ x. ends_from t phase ≤ x.end)
   pub alarm : IfSome d.alarm (λ due. alarms_from t phase ≤ due)
   pub ordered : IfSome d.ordered (λ o. starts_from t phase ≤ o.tick)
   pub off : SilentBy d d.power
 
 -- the line l of v is told next at tick t, to d
-pub record IsNextLine (s : ScenarioParts) (v : ℕ) (clock : ℕ → ℕ) (hs : List Reception) (t : ℕ)
+pub record IsNextLineOf (s : ScenarioParts) (v : ℕ) (clock : ℕ → ℕ) (hs : List Reception) (t : ℕ)
     (l : ScriptLine) (d : Device) : Type 0 where
   pub told : List ScriptLine
   pub rest : List ScriptLine
   pub lines : lines_at s v t ≡ told ++ l ∷ rest
-  pub is : d ≡ fold (after_line clock (setup_of s v) t) (before_tick s v clock hs t) told
+  pub is : d ≡ fold (device_after_line clock (setup_of s v) t) (before_tick s v clock hs t) told
   pub there : Contains s.script l
   pub node : l.node ≡ v
   pub now : frame_start s l.frame ≡ t
@@ -96,7 +97,7 @@ pub record IsNextHearing (s : ScenarioParts) (v : ℕ) (clock : ℕ → ℕ) (hs
   pub taken : List Reception
   pub rest : List Reception
   pub hearings : ending_at t hs ≡ taken ++ h ∷ rest
-  pub is : d ≡ fold (hears clock (setup_of s v) t) (scripted s v clock t (before_tick s v clock hs t)) taken
+  pub is : d ≡ fold (device_after_reception clock (setup_of s v) t) (device_after_script s v clock t (before_tick s v clock hs t)) taken
   pub there : Contains hs h
   pub now : h.end ≡ t
 

@@ -8,26 +8,26 @@ use Rattle.lwb_base.specs.declared.order.Order.{Order}
 use Rattle.lwb_base.specs.declared.order.Order.TheVariants.{Listen, Off, SendAt, Alarm as AlarmAt}
 use Rattle.bus_rules.specs.Cores.{Setup}
 use Rattle.node_core.specs.Rows.{Stepped}
-use Rattle.law_trails.specs.NodeRanges.{IsNode}
+use Rattle.law_trails.specs.NodeRanges.{IsNodeInRange}
 
 -- H holds of a packet that is heard
-abbrev pub IsBrought : (List ℕ → Type 0) → Event → Type 0
-IsBrought H Boot = ⊤
-IsBrought H Alarm = ⊤
-IsBrought H (Heard q) = H q
-IsBrought H Sent = ⊤
+abbrev pub HoldsOfHeard : (List ℕ → Type 0) → Event → Type 0
+HoldsOfHeard H Boot = ⊤
+HoldsOfHeard H Alarm = ⊤
+HoldsOfHeard H (Heard q) = H q
+HoldsOfHeard H Sent = ⊤
 
 -- Q holds of each packet that is ordered
-abbrev pub IsOrder : (List ℕ → Type 0) → Order → Type 0
-IsOrder Q (Listen rank) = ⊤
-IsOrder Q Off = ⊤
-IsOrder Q (SendAt local q) = Q q
-IsOrder Q (AlarmAt local) = ⊤
+abbrev pub HoldsOfOrdered : (List ℕ → Type 0) → Order → Type 0
+HoldsOfOrdered Q (Listen rank) = ⊤
+HoldsOfOrdered Q Off = ⊤
+HoldsOfOrdered Q (SendAt local q) = Q q
+HoldsOfOrdered Q (AlarmAt local) = ⊤
 
 abbrev pub AreOrders : (List ℕ → Type 0) → List Order → Type 0
-AreOrders Q os = AllByRecursion (IsOrder Q) os
+AreOrders Q os = AllByRecursion (HoldsOfOrdered Q) os
 
 -- what a row leaves, if one fits
 abbrev pub IsStepped : (List ℕ → Type 0) → Setup → Option Stepped → Type 0
 IsStepped Q s None = ⊤
-IsStepped Q s (Some r) = IsNode s r.node × AreOrders Q r.orders
+IsStepped Q s (Some r) = IsNodeInRange s r.node × AreOrders Q r.orders

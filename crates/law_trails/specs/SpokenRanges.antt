@@ -7,7 +7,7 @@ use Rattle.lwb_member.specs.Said.{message_of, MaySay}
 use Rattle.law_trails.specs.PacketKinds.{IsOfProfile}
 
 -- the packet says a message that may be said in its slot
-pub record Says (q : List ℕ) : Type 0 where
+pub record SaysInItsSlot (q : List ℕ) : Type 0 where
   pub message : Message
   pub read : message_of q ≡ Some message
   pub may : MaySay (slot_of q) message
@@ -17,7 +17,7 @@ pub record IsSpoken (p : Numbers) (q : List ℕ) : Type 0 where
   pub least : 7 ≤ length q
   pub most : length q ≤ p.packet_max
   pub counter : counter_of q ≤ 11
-  pub says : Says q
+  pub says : SaysInItsSlot q
 
 -- the profile has room for the packet, and what it says, if it says something, is of the profile
 pub record IsFitting (p : Numbers) (q : List ℕ) : Type 0 where

@@ -1,10 +1,10 @@
 -- The streams of a node in their ranges.
 use Rattle.std.specs.Prelude.{◌≡◌, ℕ, ◌<◌, ◌≤◌, All, length}
 use Rattle.lwb_base.specs.Profile.{Numbers}
-use Rattle.bus_rules.specs.Streams.{Waiting, Stream, Streams}
+use Rattle.bus_rules.specs.Streams.{WaitingPacket, Stream, Streams}
 
 -- a packet that waits: its number is one of those given so far
-pub record IsWaiting (p : Numbers) (next : ℕ) (w : Waiting) : Type 0 where
+pub record IsWaiting (p : Numbers) (next : ℕ) (w : WaitingPacket) : Type 0 where
   pub seq : w.seq < next
   pub payload : length w.payload ≤ p.payload_max
 

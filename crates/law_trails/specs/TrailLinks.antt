@@ -10,10 +10,10 @@ use Rattle.node_core.specs.declared.stage.Stage.TheVariants.{Scanning}
 use Rattle.node_core.specs.Nodes.{Node, stopped_frame, frame_alarm}
 use Rattle.node_core.specs.Nodes.{with_streams}
 use Rattle.air_log.specs.declared.entry.Entry.{Entry}
-use Rattle.air_log.specs.Entries.{sendings_of, IsHeard}
+use Rattle.air_log.specs.Entries.{sendings_of, HasHeardEntry}
 use Rattle.air_log.specs.Devices.{Device, Power, PowerOff, PowerOn, Listening}
 use Rattle.air_log.specs.Lawful.{heard_by}
-use Rattle.law_trails.specs.Obeying.{channel_of}
+use Rattle.law_trails.specs.Obeying.{channel_if_on}
 use Rattle.air_log.specs.Trails.{Reception, frame_start, before_tick}
 
 -- the device of v before tick t, by its trail over what it heard in the log
@@ -21,7 +21,7 @@ abbrev pub device_in : ScenarioParts → (ℕ → ℕ → ℕ) → List Entry �
 device_in s clocks air v t = before_tick s v (clocks v) (heard_by air v) t
 
 -- a script line of v is told at tick t
-pub record IsTold (s : ScenarioParts) (v t : ℕ) (l : ScriptLine) : Type 0 where
+pub record IsLineOfTick (s : ScenarioParts) (v t : ℕ) (l : ScriptLine) : Type 0 where
   pub there : Contains s.script l
   pub node : l.node ≡ v
   pub now : frame_start s l.frame ≡ t
@@ -42,7 +42,7 @@ pub record ListensSince (rank k : ℕ) (d : Device) : Type 0 where
 -- h came of a Heard entry of v
 pub record IsReceptionOf (air : List Entry) (v : ℕ) (h : Reception) : Type 0 where
   pub sending : Sending
-  pub there : IsHeard air v sending
+  pub there : HasHeardEntry air v sending
   pub packet : h.packet ≡ sending.packet
   pub end : h.end ≡ sending.end
 
@@ -57,14 +57,14 @@ pub record IsBooted (clock : ℕ → ℕ) (s : Setup) (t : ℕ) (boot : ℕ) (n 
 -- and its device: it scans the channel of rank 0 until the alarm of its frame, and nothing is ordered
 pub record HasBooted (clock : ℕ → ℕ) (s : Setup) (t : ℕ) (boot : ℕ) (d : Device) (n : Node) : Type 0 where
   pub node : IsBooted clock s t boot n
-  pub channel : channel_of d.listening ≡ Some 0
+  pub channel : channel_if_on d.listening ≡ Some 0
   pub alarm : d.alarm ≡ Some (max (due clock (frame_alarm s.profile n.frame)) t)
   pub ordered : d.ordered ≡ None
 
 -- how often the node of a device booted
-abbrev pub boots_of : Power → ℕ
-boots_of (PowerOff boots) = boots
-boots_of (PowerOn n) = n.core.boot
+abbrev pub boots_of_power : Power → ℕ
+boots_of_power (PowerOff boots) = boots
+boots_of_power (PowerOn n) = n.core.boot
 
 -- off, with no boot less than these; or on with a boot more, as that has left it
 abbrev pub WentOffBy : (ℕ → ℕ) → Setup → ℕ → ℕ → Device → Power → Type 0
@@ -75,7 +75,7 @@ abbrev pub WentOff : (ℕ → ℕ) → Setup → ℕ → ℕ → Device → Type
 WentOff clock s t before d = WentOffBy clock s t before d d.power
 
 -- still on, with other streams at most; its radio and what is set at it are as they were
-pub record StaysOn (n : Node) (d e : Device) : Type 0 where
+pub record DeviceStaysOn (n : Node) (d e : Device) : Type 0 where
   pub streams : Streams
   pub power : e.power ≡ PowerOn (with_streams n streams)
   pub listening : e.listening ≡ d.listening

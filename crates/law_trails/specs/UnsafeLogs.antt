@@ -8,12 +8,12 @@ use Rattle.air_log.specs.Entries.{sent_entry, heard_entry}
 use Rattle.air_log.specs.FirstRound.{first_round, sent_at, opening_with, closing_with}
 use Rattle.law_trails.specs.OnePacket.{grant_with}
 
-abbrev pub log_of : List Sending → List Entry
-log_of xs = map sent_entry xs
+abbrev pub log_of_sendings : List Sending → List Entry
+log_of_sendings xs = map sent_entry xs
 
 -- the opening of frame 5 by the host, and by node 2 as well; and one that ends as the next frame starts
-abbrev pub opened : Sending
-opened = sent_at 1 1344064000 1344100864 (opening_with 0)
+abbrev pub opening_transmission : Sending
+opening_transmission = sent_at 1 1344064000 1344100864 (opening_with 0)
 
 abbrev pub opened_too : Sending
 opened_too = sent_at 2 1344064000 1344100864 (opening_with 0)
@@ -40,35 +40,35 @@ relayed_late = sent_at 2 1344113185 1344150049 (opening_with 1)
 
 -- within one frame
 abbrev pub ends_late : List Entry
-ends_late = log_of (opened_late ∷ [])
+ends_late = log_of_sendings (opened_late ∷ [])
 
 -- no overlap
 abbrev pub slots_meet : List Entry
-slots_meet = log_of (opened ∷ closed_early ∷ [])
+slots_meet = log_of_sendings (opening_transmission ∷ closed_early ∷ [])
 
 abbrev pub steps_meet : List Entry
-steps_meet = log_of (opened ∷ relayed_early ∷ [])
+steps_meet = log_of_sendings (opening_transmission ∷ relayed_early ∷ [])
 
 -- same but for the counter
 abbrev pub starts_apart : List Entry
-starts_apart = log_of (relayed ∷ relayed_late ∷ [])
+starts_apart = log_of_sendings (relayed ∷ relayed_late ∷ [])
 
 abbrev pub other_bytes : List Entry
-other_bytes = log_of (opened ∷ relayed_otherwise ∷ [])
+other_bytes = log_of_sendings (opening_transmission ∷ relayed_otherwise ∷ [])
 
 -- one initiator
 abbrev pub two_begin : List Entry
-two_begin = log_of (opened ∷ opened_too ∷ [])
+two_begin = log_of_sendings (opening_transmission ∷ opened_too ∷ [])
 
 abbrev pub not_the_host : List Entry
-not_the_host = log_of (opened_too ∷ [])
+not_the_host = log_of_sendings (opened_too ∷ [])
 
 -- silence: of node 2, which the script never switches on
 abbrev pub no_power : ScenarioParts
 no_power = record first_round { frames = 10; script = [] }
 
-abbrev pub switched_off : ScenarioParts
-switched_off = record no_power { script = record { frame = 9; node = 2; act = Off } ∷ [] }
+abbrev pub scenario_with_off_line : ScenarioParts
+scenario_with_off_line = record no_power { script = record { frame = 9; node = 2; act = Off } ∷ [] }
 
 -- data in slot 1 of frame 5, and data and a request in slot 1 of frame 9
 abbrev pub data_said : Sending
@@ -81,28 +81,28 @@ abbrev pub asked : Sending
 asked = sent_at 2 2370176000 2370206720 (3 ∷ 1 ∷ 0 ∷ 2 ∷ 1 ∷ 0 ∷ 4 ∷ [])
 
 -- closings of that round which are for frame 9, without owners, and with slots of node 2
-abbrev pub closed : Sending
-closed = sent_at 1 1348288000 1348324864 (closing_with 0)
+abbrev pub closing_transmission : Sending
+closing_transmission = sent_at 1 1348288000 1348324864 (closing_with 0)
 
-abbrev pub granted : Sending
-granted = sent_at 1 1348288000 1348328960 (grant_with 0)
+abbrev pub grant_transmission : Sending
+grant_transmission = sent_at 1 1348288000 1348328960 (grant_with 0)
 
 -- it heard no schedule
 abbrev pub unheard : List Entry
-unheard = log_of (data_said ∷ [])
+unheard = log_of_sendings (data_said ∷ [])
 
 -- it heard an opening, by which slot 1 is not its own
 abbrev pub not_the_owner : List Entry
-not_the_owner = log_of (opened ∷ data_said ∷ []) ++ heard_entry 2 opened ∷ []
+not_the_owner = log_of_sendings (opening_transmission ∷ data_said ∷ []) ++ heard_entry 2 opening_transmission ∷ []
 
 -- it heard an opening of another frame
 abbrev pub not_due : List Entry
-not_due = log_of (opened ∷ asked ∷ []) ++ heard_entry 2 opened ∷ []
+not_due = log_of_sendings (opening_transmission ∷ asked ∷ []) ++ heard_entry 2 opening_transmission ∷ []
 
 -- it heard the closing for this frame, and no opening
 abbrev pub not_opened : List Entry
-not_opened = log_of (closed ∷ asked ∷ []) ++ heard_entry 2 closed ∷ []
+not_opened = log_of_sendings (closing_transmission ∷ asked ∷ []) ++ heard_entry 2 closing_transmission ∷ []
 
 -- slot 1 is its own, but where the script switches it off since
 abbrev pub gone_off : List Entry
-gone_off = log_of (granted ∷ later_data ∷ []) ++ heard_entry 2 granted ∷ []
+gone_off = log_of_sendings (grant_transmission ∷ later_data ∷ []) ++ heard_entry 2 grant_transmission ∷ []

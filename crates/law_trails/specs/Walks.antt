@@ -21,14 +21,15 @@ use Rattle.node_core.specs.declared.stage.Stage.TheVariants.{Idle, Scanning, Awa
 use Rattle.node_core.specs.Windows.{Window}
 use Rattle.node_core.specs.Nodes.{Node}
 use Rattle.node_core.specs.Rows.{Stepped, frame_alarms, window_opens, window_closes, window_hears, joins, sends}
-use Rattle.air_log.specs.Devices.{Device, Power, PowerOff, PowerOn, Listening, Ordered, at_rest, obeyed, moved}
-use Rattle.air_log.specs.ScriptedDevices.{dropped, switched_on, switched_off, with_new_core}
+use Rattle.air_log.specs.Devices.{Device, Power, PowerOff, PowerOn, Listening, OrderedPacket, at_rest, obeyed, moved}
+use Rattle.air_log.specs.ScriptedDevices.{dropped, device_after_on, device_after_off, with_new_core}
 use Rattle.air_log.specs.Trails.{Reception, setup_of, run_end, sending_from, before_tick}
-use Rattle.law_trails.specs.Phases.{Phase, Lines, Hearings, End, Alarms, Start, Over, next_phase, device_at, IsKnown, IsNextLine, IsNextHearing, IsNextAlarm}
+use Rattle.law_trails.specs.Phases.{Phase, Lines, Hearings, End, Alarms, Start, Over, next_phase, device_at, NothingDue, IsNextLineOf, IsNextHearing}
+use Rattle.law_trails.specs.Phases.{IsNextAlarm}
 
 -- the device after this row of the node table, with its orders
-abbrev pub after_row : (ℕ → ℕ) → Setup → ℕ → Event → Option Sending → Device → Node → Stepped → Device
-after_row clock s t e ended d n r = fold (obeyed clock s.id t) (moved t e ended d n (Some r)) r.orders
+abbrev pub device_after_row : (ℕ → ℕ) → Setup → ℕ → Event → Option Sending → Device → Node → Stepped → Device
+device_after_row clock s t e ended d n r = fold (obeyed clock s.id t) (moved t e ended d n (Some r)) r.orders
 
 -- a place at which a frame alarm is awaited
 abbrev pub AwaitsFrame : Stage → Type 0
@@ -60,13 +61,13 @@ abbrev pub CannotSend : Device → Type 0
 CannotSend d = (d.listening ≡ None) ⊎ ((x : Sending) × (d.sending ≡ Some x))
 
 -- the ordered sending starts
-abbrev pub begins : Device → Sending → Device
-begins d x = record d { ordered = None; sending = Some x; made = record (d.made) { sent = d.made.sent ++ x ∷ [] } }
+abbrev pub with_start : Device → Sending → Device
+with_start d x = record d { ordered = None; sending = Some x; made = record (d.made) { sent = d.made.sent ++ x ∷ [] } }
 
 -- in this phase of tick t, of the run, the property holds of d
 pub record Now (P : ℕ → Phase → Device → Type 0) (s : ScenarioParts) (t : ℕ) (phase : Phase) (d : Device) : Type 0 where
   pub in_run : t < run_end s
-  pub known : IsKnown t phase d
+  pub known : NothingDue t phase d
   pub holds : P t phase d
 
 -- what each step of tick t at v keeps, a name each. Left out is what changes nothing: a line that switches on a node that
@@ -76,7 +77,7 @@ module _ (P : ℕ → Phase → Device → Type 0) (s : ScenarioParts) (v : ℕ)
   Here phase d = Now P s t phase d
 
   abbrev pub ToldNext : ScriptLine → Device → Type 0
-  ToldNext l d = IsNextLine s v clock hs t l d
+  ToldNext l d = IsNextLineOf s v clock hs t l d
 
   abbrev pub HeardNext : Reception → Device → Type 0
   HeardNext h d = IsNextHearing s v clock hs t h d
@@ -88,17 +89,17 @@ module _ (P : ℕ → Phase → Device → Type 0) (s : ScenarioParts) (v : ℕ)
   Enters phase d = d ≡ device_at s v clock hs t phase
 
   abbrev pub after : Event → Option Sending → Device → Node → Stepped → Device
-  after e ended d n r = after_row clock (setup_of s v) t e ended d n r
+  after e ended d n r = device_after_row clock (setup_of s v) t e ended d n r
 
   -- the script, with the row boot
   abbrev pub BootKept : Type 0
   BootKept = (d : Device) (l : ScriptLine) (count : ℕ) → Here Lines d → ToldNext l d
       → l.act ≡ On → d.power ≡ PowerOff count
-      → P t Lines (switched_on clock (setup_of s v) t count d)
+      → P t Lines (device_after_on clock (setup_of s v) t count d)
 
   abbrev pub OffKept : Type 0
   OffKept = (d : Device) (l : ScriptLine) (n : Node) → Here Lines d → ToldNext l d → l.act ≡ Off → d.power ≡ PowerOn n
-      → P t Lines (switched_off v t n d)
+      → P t Lines (device_after_off v t n d)
 
   abbrev pub DeclareKept : Type 0
   DeclareKept = (d : Device) (l : ScriptLine) (n : Node) (i interval : ℕ) → Here Lines d → ToldNext l d
@@ -164,18 +165,18 @@ module _ (P : ℕ → Phase → Device → Type 0) (s : ScenarioParts) (v : ℕ)
 
   -- the start of the ordered sending, and a start that is missed
   abbrev pub BeginningKept : Type 0
-  BeginningKept = (d : Device) (o : Ordered) (l : Listening) → Here Start d → Enters Start d
+  BeginningKept = (d : Device) (o : OrderedPacket) (l : Listening) → Here Start d → Enters Start d
       → d.ordered ≡ Some o → o.tick ≡ t → d.listening ≡ Some l → d.sending ≡ None
-      → P t Over (begins d (sending_from (setup_of s v) t o.packet l))
+      → P t Over (with_start d (sending_from (setup_of s v) t o.packet l))
 
   abbrev pub MissedStartKept : Type 0
-  MissedStartKept = (d : Device) (o : Ordered) → Here Start d → Enters Start d
+  MissedStartKept = (d : Device) (o : OrderedPacket) → Here Start d → Enters Start d
       → d.ordered ≡ Some o → o.tick ≡ t → CannotSend d → P t Over (record d { ordered = None })
 
   -- what goes on to the next phase, nothing more being due in this one, stays as it is; and so does what goes on to the
   -- next tick
   abbrev pub OnwardsKept : Type 0
-  OnwardsKept = (phase : Phase) (d : Device) → Here phase d → Enters (next_phase phase) d → IsKnown t (next_phase phase) d
+  OnwardsKept = (phase : Phase) (d : Device) → Here phase d → Enters (next_phase phase) d → NothingDue t (next_phase phase) d
       → P t (next_phase phase) d
 
   abbrev pub PassingKept : Type 0
@@ -230,16 +231,16 @@ HoldsInRun P = (s : ScenarioParts) (clocks : ℕ → ℕ → ℕ) (heard : ℕ �
     → (t : ℕ) → t ≤ run_end s → HoldAll P s clocks heard t
 
 -- a node that is on is at a place, never waiting to be booted, and its alarm is set
-abbrev pub IsPlaced : Stage → Type 0
-IsPlaced Idle = ⊥
-IsPlaced Scanning = ⊤
-IsPlaced AwaitFrame = ⊤
-IsPlaced (AwaitSlot j) = ⊤
-IsPlaced (InWindow j w) = ⊤
+abbrev pub IsAwakeStage : Stage → Type 0
+IsAwakeStage Idle = ⊥
+IsAwakeStage Scanning = ⊤
+IsAwakeStage AwaitFrame = ⊤
+IsAwakeStage (AwaitSlot j) = ⊤
+IsAwakeStage (InWindow j w) = ⊤
 
 abbrev pub AwakeBy : Device → Power → Type 0
 AwakeBy d (PowerOff boots) = ⊤
-AwakeBy d (PowerOn n) = IsPlaced n.stage × (is_some d.alarm ≡ true)
+AwakeBy d (PowerOn n) = IsAwakeStage n.stage × (is_some d.alarm ≡ true)
 
 abbrev pub IsAwake : Device → Type 0
 IsAwake d = AwakeBy d d.power

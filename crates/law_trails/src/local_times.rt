@@ -11,7 +11,7 @@ ghost use Rattle.tick_clock.specs.Clocks.{Near, IsClock, due};
 ghost use Rattle.time_reference.specs.Budgets.{Budget, Fits, budget_of, span};
 ghost use Rattle.time_reference.specs.Drift.{drift};
 ghost use Rattle.time_reference.specs.Reference.{stopped, host_zero};
-ghost use Rattle.time_reference.specs.Zeros.{started, starting, closing, point, Ref, Good};
+ghost use Rattle.time_reference.specs.Zeros.{start_tick, starting_offset, closing_offset, tick_at_offset, Ref, Good};
 ghost use Rattle.glossy_relay.specs.Relaying.{slot_of, counter_of};
 ghost use Rattle.bus_rules.specs.Slots.{ScheduleOf};
 ghost use Rattle.lwb_member.specs.Said.{message_of};
@@ -39,7 +39,7 @@ pub fn times_of_frames_are_sums()
 
 /// A host starts the packet of a slot, by its own zero for the frame, where its clock first reads the nominal time.
 pub fn hosts_start_at_nominal_times()
-    ensures { (p : Numbers) (host : ℕ → ℕ) (c j : ℕ) → point host (host_zero p c) (starting p j) ≡ started p host c j }
+    ensures { (p : Numbers) (host : ℕ → ℕ) (c j : ℕ) → tick_at_offset host (host_zero p c) (starting_offset p j) ≡ start_tick p host c j }
 {}
 
 /// A schedule that is received whole gives a reference to whoever receives it, whatever its counter: the host started its flood
@@ -49,12 +49,12 @@ pub fn schedules_heard_whole_give_references()
     ensures any { (p : Numbers) (b : Budget) → Fits p b → (host own : ℕ → ℕ) (c s e : ℕ) (q : List ℕ) → IsClock host
         → IsClock own → 1 ≤ c → c ≤ 4095 → slot_of q ≤ b.last → counter_of q ≤ 11 → length q ≤ b.packet
         → drift (span p (length q) + 11) + 12 ≤ 55
-        → Near s (started p host c (slot_of q) + counter_of q * step p (length q)) (counter_of q)
+        → Near s (start_tick p host c (slot_of q) + counter_of q * step p (length q)) (counter_of q)
         → e ≡ s + airtime p (length q) → Ref p b host own (zero_from p (own e) q) c c (slot_of q) }
     ensures of_profile { (p : Numbers) → IsProfile p → (host own : ℕ → ℕ) (c s e : ℕ) (q : List ℕ) (x : Schedule)
         → IsClock host → IsClock own → 1 ≤ c → c ≤ 4095 → message_of q ≡ Some (ScheduleOf x)
         → IsOfProfile p (ScheduleOf x)
-        → Near s (started p host c (slot_of q) + counter_of q * step p (length q)) (counter_of q)
+        → Near s (start_tick p host c (slot_of q) + counter_of q * step p (length q)) (counter_of q)
         → e ≡ s + airtime p (length q) → Ref p (budget_of p) host own (zero_from p (own e) q) c c (slot_of q) }
 {}
 
@@ -68,7 +68,7 @@ pub fn references_move_on_by_gaps()
     ensures sum { (p : Numbers) (b : Budget) → Fits p b → (host own : ℕ → ℕ) (z f c j g : ℕ) → IsClock host
         → IsClock own → Ref p b host own z f c j → f + g ≤ c + 4 → stopped (z + g * p.frame) ≡ z + g * p.frame }
     ensures now { (p : Numbers) (b : Budget) → Fits p b → (host own : ℕ → ℕ) (z c j : ℕ) → Ref p b host own z c c j
-        → Good p b host own z c (closing p j) }
+        → Good p b host own z c (closing_offset p j) }
     ensures ahead { (p : Numbers) (b : Budget) → Fits p b → (host own : ℕ → ℕ) (z c j g : ℕ) → IsClock host
         → IsClock own → Ref p b host own z c c j → 1 ≤ g → g ≤ 4
         → Good p b host own (stopped (z + g * p.frame)) (c + g) 0 }
@@ -96,24 +96,24 @@ pub fn relays_begin_after_a_turnaround()
 pub fn sendings_keep_to_their_slot()
     ensures slot { (p : Numbers) (b : Budget) → Fits p b → (host first own : ℕ → ℕ) (y z f j n k s : ℕ)
         → IsClock host → IsClock first → IsClock own → j ≤ b.last → n ≤ b.packet
-        → Good p b host first y f (starting p j) → Good p b host own z f (closing p j) → InFlood p first y j n k s
-        → s + airtime p n + 175 ≤ point own z (closing p j) }
+        → Good p b host first y f (starting_offset p j) → Good p b host own z f (closing_offset p j) → InFlood p first y j n k s
+        → s + airtime p n + 175 ≤ tick_at_offset own z (closing_offset p j) }
     ensures start { (p : Numbers) (b : Budget) → Fits p b → (host first : ℕ → ℕ) (y f j n k s : ℕ) → IsClock host
-        → IsClock first → j ≤ b.last → Good p b host first y f (starting p j) → InFlood p first y j n k s
+        → IsClock first → j ≤ b.last → Good p b host first y f (starting_offset p j) → InFlood p first y j n k s
         → f * p.frame < s }
     ensures alarm { (p : Numbers) (b : Budget) → Fits p b → (host first own : ℕ → ℕ) (y f j n k s : ℕ)
         → IsClock host → IsClock first → IsClock own → j ≤ b.last → n ≤ b.packet → f ≤ 4095
-        → Good p b host first y f (starting p j) → InFlood p first y j n k s
+        → Good p b host first y f (starting_offset p j) → InFlood p first y j n k s
         → s + airtime p n < due own (f * p.frame + p.end) }
     ensures frame { (p : Numbers) (b : Budget) → Fits p b → (host first : ℕ → ℕ) (y f j n k s : ℕ) → IsClock host
-        → IsClock first → j ≤ b.last → n ≤ b.packet → f ≤ 4095 → Good p b host first y f (starting p j)
+        → IsClock first → j ≤ b.last → n ≤ b.packet → f ≤ 4095 → Good p b host first y f (starting_offset p j)
         → InFlood p first y j n k s → s + airtime p n < (f + 1) * p.frame }
     ensures relay { (p : Numbers) (b : Budget) → Fits p b → (host first own : ℕ → ℕ) (y f j n k s t : ℕ)
         → IsClock host → IsClock first → IsClock own → j ≤ b.last → n ≤ b.packet → f ≤ 4095
-        → Good p b host first y f (starting p j) → InFlood p first y j n k s → k < 11 → t ≡ s + airtime p n
+        → Good p b host first y f (starting_offset p j) → InFlood p first y j n k s → k < 11 → t ≡ s + airtime p n
         → InFlood p first y j n (k + 1) (relay_tick p own t) }
     ensures later { (p : Numbers) (b : Budget) → Fits p b → (host first other : ℕ → ℕ) (y z f i j n m k l s t : ℕ)
         → IsClock host → IsClock first → IsClock other → i < j → j ≤ b.last → n ≤ b.packet
-        → Good p b host first y f (starting p i) → Good p b host other z f (starting p j)
+        → Good p b host first y f (starting_offset p i) → Good p b host other z f (starting_offset p j)
         → InFlood p first y i n k s → InFlood p other z j m l t → s + airtime p n < t }
 {}

@@ -10,7 +10,7 @@ ghost use Rattle.air_log.specs.TwoNodeLog.{true_time};
 ghost use Rattle.air_log.specs.FirstRound.{first_round, first_round_log};
 ghost use Rattle.law_trails.specs.BrokenClauses.{BreaksOnly, InFrame, Apart, Alike, OneBegins, Silent};
 ghost use Rattle.law_trails.specs.UnsafeLogs.{ends_late, slots_meet, steps_meet, starts_apart, other_bytes, two_begin};
-ghost use Rattle.law_trails.specs.UnsafeLogs.{not_the_host, no_power, switched_off, unheard, not_the_owner, not_due, not_opened, gone_off};
+ghost use Rattle.law_trails.specs.UnsafeLogs.{not_the_host, no_power, scenario_with_off_line, unheard, not_the_owner, not_due, not_opened, gone_off};
 
 /// Valid (`Lawful`) logs are protocol-obedient: that is what safety is based on.
 pub fn lawful_logs_are_heedful()
@@ -42,5 +42,5 @@ pub fn guests_break_silence()
     ensures not_the_owner { BreaksOnly Silent no_power true_time not_the_owner }
     ensures not_due { BreaksOnly Silent no_power true_time not_due }
     ensures not_opened { BreaksOnly Silent no_power true_time not_opened }
-    ensures gone_off { BreaksOnly Silent switched_off true_time gone_off }
+    ensures gone_off { BreaksOnly Silent scenario_with_off_line true_time gone_off }
 {}

@@ -18,10 +18,10 @@ ghost use Rattle.air_log.specs.HearsAir.{scene_of};
 ghost use Rattle.air_log.specs.Devices.{Device, PowerOn};
 ghost use Rattle.air_log.specs.Lawful.{FollowsTrails, heard_by};
 ghost use Rattle.air_log.specs.TrailEntries.{IsSentBefore, StartsBefore};
-ghost use Rattle.air_log.specs.Trails.{Reception, setup_of, run_end, lines_at, scripted, before_tick};
-ghost use Rattle.law_trails.specs.Obeying.{channel_of};
+ghost use Rattle.air_log.specs.Trails.{Reception, setup_of, run_end, lines_at, device_after_script, before_tick};
+ghost use Rattle.law_trails.specs.Obeying.{channel_if_on};
 ghost use Rattle.law_trails.specs.Phases.{Hearings, SilentBy, IsNextHearing, device_at};
-ghost use Rattle.law_trails.specs.TrailLinks.{IsSentBelow, ListensSince, IsReceptionOf, IsTold, WentOff, StaysOn, boots_of, device_in};
+ghost use Rattle.law_trails.specs.TrailLinks.{IsSentBelow, ListensSince, IsReceptionOf, IsLineOfTick, WentOff, DeviceStaysOn, boots_of_power, device_in};
 
 /// What a node has sent before a tick is what the log has of it: a `Sent` entry of it starts below tick t if and only if it is
 /// among what its trace has sent before t. Only nodes of the scenario send, each transmission starts in the run and lasts its
@@ -57,11 +57,11 @@ pub fn tuned_devices_listen()
 pub fn hearings_leave_the_channel()
     ensures kept { (s : ScenarioParts) (v : ℕ) (clock : ℕ → ℕ) (hs : List Reception) (t : ℕ) (h : Reception) (d : Device)
         → IsNextHearing s v clock hs t h d
-        → channel_of d.listening ≡ channel_of (device_at s v clock hs t Hearings).listening }
+        → channel_if_on d.listening ≡ channel_if_on (device_at s v clock hs t Hearings).listening }
     ensures tuned { (s : ScenarioParts) (clocks : ℕ → ℕ → ℕ) (air : List Entry) → FollowsTrails s clocks air
         → (v t : ℕ) (h : Reception) (d : Device) → IsNextHearing s v (clocks v) (heard_by air v) t h d → lines_at s v t ≡ []
         → (rank k : ℕ) → suc k ≡ t → IsTuned (scene_of s.profile s.trace air) v rank k
-        → channel_of d.listening ≡ Some rank }
+        → channel_if_on d.listening ≡ Some rank }
 {}
 
 /// What a trace takes as received are the `Heard` entries of its node, each with its packet and its end.
@@ -80,11 +80,11 @@ pub fn a_host_is_of_its_rank()
 pub fn lines_of_a_tick()
     ensures off { (s : ScenarioParts) (v : ℕ) (clock : ℕ → ℕ) (t : ℕ) (d : Device) → SilentBy d d.power → (l : ScriptLine)
         → Contains (lines_at s v t) l → l.act ≡ Off
-        → WentOff clock (setup_of s v) t (boots_of d.power) (scripted s v clock t d) }
+        → WentOff clock (setup_of s v) t (boots_of_power d.power) (device_after_script s v clock t d) }
     ensures on { (s : ScenarioParts) (v : ℕ) (clock : ℕ → ℕ) (t : ℕ) (d : Device) (n : Node) → d.power ≡ PowerOn n
-        → ((l : ScriptLine) → Contains (lines_at s v t) l → l.act ≢ Off) → StaysOn n d (scripted s v clock t d) }
+        → ((l : ScriptLine) → Contains (lines_at s v t) l → l.act ≢ Off) → DeviceStaysOn n d (device_after_script s v clock t d) }
     ensures either { (s : ScenarioParts) (v t : ℕ)
         → ((l : ScriptLine) × Contains (lines_at s v t) l × (l.act ≡ Off))
         ⊎ ((l : ScriptLine) → Contains (lines_at s v t) l → l.act ≢ Off) }
-    ensures told { (s : ScenarioParts) (v t : ℕ) (l : ScriptLine) → Contains (lines_at s v t) l ↔ IsTold s v t l }
+    ensures told { (s : ScenarioParts) (v t : ℕ) (l : ScriptLine) → Contains (lines_at s v t) l ↔ IsLineOfTick s v t l }
 {}

@@ -10,7 +10,7 @@ ghost use Rattle.glossy_relay.specs.FloodState.{FloodState};
 ghost use Rattle.glossy_relay.specs.Relaying.{is_packet, reply_to};
 ghost use Rattle.glossy_relay.specs.declared.flood.Reply.TheVariants.{Relay};
 ghost use Rattle.bus_rules.specs.Plans.{slots_named};
-ghost use Rattle.bus_rules.specs.Streams.{Streams, after_contention, cleared, declared, left, put, schedule_heard, taken, unbound};
+ghost use Rattle.bus_rules.specs.Streams.{Streams, after_contention, cleared, declared, streams_after_leaving, put, schedule_heard, taken, unbound};
 ghost use Rattle.bus_rules.specs.Tables.{Table};
 ghost use Rattle.bus_rules.specs.HostPlans.{host_plan};
 ghost use Rattle.bus_rules.specs.Cores.{Setup};
@@ -31,8 +31,8 @@ ghost use Rattle.law_trails.specs.TableRanges.{IsTable};
 ghost use Rattle.law_trails.specs.PlanRanges.{IsHostPlan};
 ghost use Rattle.law_trails.specs.CoreRanges.{IsSetup};
 ghost use Rattle.law_trails.specs.SpokenRanges.{IsFitting, IsProper, IsSpoken};
-ghost use Rattle.law_trails.specs.NodeRanges.{IsNode};
-ghost use Rattle.law_trails.specs.RowRanges.{IsBrought, IsStepped};
+ghost use Rattle.law_trails.specs.NodeRanges.{IsNodeInRange};
+ghost use Rattle.law_trails.specs.RowRanges.{HoldsOfHeard, IsStepped};
 ghost use Rattle.law_trails.specs.DeviceRanges.{AreShort, HeardBefore, HoldsThrough, IsWellAndProper, IsWell};
 ghost use Rattle.law_trails.specs.LogRanges.{HearsWhatIsSent};
 
@@ -43,7 +43,7 @@ pub fn streams_stay_in_range()
     ensures boot { (p : Numbers) → AreStreams p cleared }
     ensures declare { (p : Numbers) (s : Streams) (i interval : ℕ) → interval ≤ 120
         → AreStreams p s → AreStreams p (declared i interval s) }
-    ensures leave { (p : Numbers) (s : Streams) (i : ℕ) → AreStreams p s → AreStreams p (left i s) }
+    ensures leave { (p : Numbers) (s : Streams) (i : ℕ) → AreStreams p s → AreStreams p (streams_after_leaving i s) }
     ensures queue { (p : Numbers) (s : Streams) (i : ℕ) (payload : List ℕ) → length payload ≤ p.payload_max
         → AreStreams p s → AreStreams p (put i payload s) }
     ensures take { (p : Numbers) (s : Streams) (i : ℕ) → AreStreams p s → AreStreams p (taken i s) }
@@ -80,10 +80,10 @@ pub fn spellings_say_what_may_be_said()
 /// is of the profile, what is ordered is, too (`proper`).
 pub fn rows_stay_in_range()
     ensures spoken { (s : Setup) → IsSetup s → (n : Node) (now : ℕ) (e : Event)
-        → IsBrought (λ q. length q ≤ s.profile.packet_max) e
-        → IsNode s n → IsStepped (IsSpoken s.profile) s (row s n now e) }
-    ensures proper { (s : Setup) → IsSetup s → (n : Node) (now : ℕ) (e : Event) → IsBrought (IsFitting s.profile) e
-        → IsNode s n → IsStepped (IsProper s.profile) s (row s n now e) }
+        → HoldsOfHeard (λ q. length q ≤ s.profile.packet_max) e
+        → IsNodeInRange s n → IsStepped (IsSpoken s.profile) s (row s n now e) }
+    ensures proper { (s : Setup) → IsSetup s → (n : Node) (now : ℕ) (e : Event) → HoldsOfHeard (IsFitting s.profile) e
+        → IsNodeInRange s n → IsStepped (IsProper s.profile) s (row s n now e) }
 {}
 
 /// Whatever a node receives, valid (`Lawful`) or not, and whatever its clock reads: before each tick all that it keeps is in

@@ -9,7 +9,7 @@ ghost use Rattle.bus_rules.specs.Cores.{Setup};
 ghost use Rattle.air_log.specs.Devices.{Device, obeyed};
 ghost use Rattle.air_log.specs.Trails.{Reception, run_end, before_tick};
 ghost use Rattle.law_trails.specs.Obeying.{HasObeyed};
-ghost use Rattle.law_trails.specs.Phases.{Phase, Lines, IsKnown, device_at};
+ghost use Rattle.law_trails.specs.Phases.{Phase, Lines, NothingDue, device_at};
 ghost use Rattle.law_trails.specs.RowEffects.{BootLeaves, JoiningLeaves, HearingLeaves, SentLeaves, FrameAlarmLeaves, OpeningLeaves, ClosingLeaves};
 ghost use Rattle.law_trails.specs.Walks.{HoldsInTick, HoldsAlong, HoldsInRun, IsAwake};
 
@@ -45,9 +45,9 @@ pub fn rows_leave_devices_so()
 /// set.
 pub fn nothing_due_is_left()
     ensures before { (s : ScenarioParts) (v : ℕ) (clock : ℕ → ℕ) (hs : List Reception) → IsSoundScenario s → IsClock clock
-        → (t : ℕ) → t ≤ run_end s → IsKnown t Lines (before_tick s v clock hs t) }
+        → (t : ℕ) → t ≤ run_end s → NothingDue t Lines (before_tick s v clock hs t) }
     ensures within { (s : ScenarioParts) (v : ℕ) (clock : ℕ → ℕ) (hs : List Reception) → IsSoundScenario s → IsClock clock
-        → (t : ℕ) → t < run_end s → (phase : Phase) → IsKnown t phase (device_at s v clock hs t phase) }
+        → (t : ℕ) → t < run_end s → (phase : Phase) → NothingDue t phase (device_at s v clock hs t phase) }
 {}
 
 /// A node that is on is at a place, never waiting to be booted, and its alarm is set, in each phase of each tick.

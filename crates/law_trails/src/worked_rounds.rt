@@ -9,7 +9,7 @@ ghost use Rattle.air_log.specs.WindowLogs.{WindowLog};
 ghost use Rattle.air_log.specs.Trails.{setup_of, one_alarm};
 ghost use Rattle.air_log.specs.Lawful.{Lawful, heard_by};
 ghost use Rattle.air_log.specs.Safe.{Safe};
-ghost use Rattle.law_trails.specs.DueDevices.{Shows, StandsAs};
+ghost use Rattle.law_trails.specs.DueDevices.{IsDeviceWithWindows, StandsAs};
 ghost use Rattle.law_trails.specs.OnePacket.{one_packet, drifting, one_packet_log};
 ghost use Rattle.law_trails.specs.OnePacketHost.{host_dues};
 ghost use Rattle.law_trails.specs.OnePacketMember.{member_dues, member_36, member_late, member_37};
@@ -36,8 +36,8 @@ pub fn trails_of_one_packet()
 /// schedule that it accepted, by which slot 1 opens in the past; so by the second it opens the window of slot 1, and both
 /// tunings are one.
 pub fn a_window_opens_late()
-    ensures closes { (w : List WindowLog) → Shows (one_alarm (drifting 2) (setup_of one_packet 2) 2370089470 (member_36 w)) member_late }
-    ensures opens { (w : List WindowLog) → Shows (one_alarm (drifting 2) (setup_of one_packet 2) 2370089470 (member_late w)) member_37 }
+    ensures closes { (w : List WindowLog) → IsDeviceWithWindows (one_alarm (drifting 2) (setup_of one_packet 2) 2370089470 (member_36 w)) member_late }
+    ensures opens { (w : List WindowLog) → IsDeviceWithWindows (one_alarm (drifting 2) (setup_of one_packet 2) 2370089470 (member_late w)) member_37 }
 {}
 
 /// The log of both is valid (`Lawful`), and it is safe.

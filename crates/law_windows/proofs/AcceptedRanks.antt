@@ -6,7 +6,7 @@ use Rattle.glossy_relay.specs.Relaying.{accepted_of}
 use Rattle.bus_rules.specs.declared.part.Part.{Part}
 use Rattle.bus_rules.specs.Tuning.{rank_of}
 use Rattle.bus_rules.specs.Cores.{Core, Setup, opening_accepted, closing_accepted}
-use Rattle.bus_rules.specs.Slots.{Message, ScheduleOf, DataOf, RequestOf, closed}
+use Rattle.bus_rules.specs.Slots.{Message, ScheduleOf, DataOf, RequestOf, closed_slot}
 use Rattle.bus_rules.proofs.Ranks.{heard_rank}
 use Rattle.lwb_member.specs.Said.{message_of}
 use Rattle.node_core.specs.Windows.{Window}
@@ -14,10 +14,10 @@ use Rattle.node_core.specs.Nodes.{Node}
 use Rattle.node_core.specs.Rows.{accepted_in}
 use Rattle.scenario_text.specs.ScenarioParts.{ScenarioParts}
 use Rattle.radio_model.specs.declared.sending.Sending.{Sending}
-use Rattle.radio_model.specs.Hearing.{frame_of, slot_of}
+use Rattle.radio_model.specs.Hearing.{frame_of_sending, slot_of_sending}
 use Rattle.air_log.specs.declared.entry.Entry.{Entry}
 use Rattle.air_log.specs.Entries.{sendings_of}
-use Rattle.air_log.specs.Safe.{by_host}
+use Rattle.air_log.specs.Safe.{sender_hosts}
 use Rattle.air_log.proofs.SendingsKept.{profile_lasts}
 use Rattle.law_trails.proofs.SentInTrails.{sent_lasts}
 use Rattle.law_trails.proofs.OtherCounters.{bodies_same}
@@ -35,7 +35,7 @@ IsOfRank r (Some (DataOf d)) = Unit {0}
 IsOfRank r (Some (RequestOf a)) = Unit {0}
 
 pub closed_rank : (s : Setup) (f : ℕ) (part : Part) (initiated : Bool) (c : Core) (m : Option Message) → IsOfRank (rank_of c.tune) m
-    → rank_of (closed s f part initiated c m).core.tune ≡ rank_of c.tune
+    → rank_of (closed_slot s f part initiated c m).core.tune ≡ rank_of c.tune
 closed_rank s f part initiated c None is = heard_rank f part initiated c
 closed_rank s f part initiated c (Some (DataOf d)) is = heard_rank f part true c
 closed_rank s f part initiated c (Some (RequestOf a)) is = refl
@@ -60,8 +60,8 @@ module _ (s : ScenarioParts) (clocks : ℕ → ℕ → ℕ) (air : List Entry) (
       let first = flood.begins.start.first in
       let same : message_of p ≡ message_of o.packet = ap message_of is.is ∙ bodies_same x.packet o.packet flood.few (omega (arith, first)) flood.same in
       subst (IsOfRank (rank_at n)) (sym same)
-      (said_rank (message_of o.packet) o.node o.rank (frame_of s.profile o) flood.zero (slot_of o) (rank_at n)
-      (by_host s clocks air o) flood.begins.start.says (sym flood.slot.channel ∙ is.in_slot.rank))
+      (said_rank (message_of o.packet) o.node o.rank (frame_of_sending s.profile o) flood.zero (slot_of_sending o) (rank_at n)
+      (sender_hosts s clocks air o) flood.begins.start.says (sym flood.slot.channel ∙ is.in_slot.rank))
     where
       started : (x : Sending) → Contains (sendings_of air) x → x.end < suc t → x.start < t
       started x sent by =

@@ -7,15 +7,15 @@ use Rattle.time_reference.specs.Budgets.{budget_of}
 use Rattle.scenario_text.specs.FloodParts.{knows}
 use Rattle.scenario_text.specs.ScenarioParts.{ScenarioParts}
 use Rattle.air_log.specs.declared.entry.Entry.{Entry}
-use Rattle.air_log.specs.Charges.{charge, counted, sent_packets}
+use Rattle.air_log.specs.Charges.{charge_of_window, charge_by_last, sent_packets}
 use Rattle.air_log.specs.Lawful.{trail_in}
 use Rattle.air_log.specs.Trails.{frame_start, run_end}
 use Rattle.air_log.specs.WindowLogs.{WindowLog, Closing}
 use Rattle.lwb_base.proofs.Elements.{contains_head, contains_tail}
 use Rattle.law_trails.proofs.HeedfulLogs.{lawful_is_heedful}
-use Rattle.law_safety.specs.Invariant.{IsRun}
+use Rattle.law_safety.specs.Invariant.{IsObedientRun}
 use Rattle.law_safety.proofs.RunFacts.{frame_is, frame_lasts}
-use Rattle.bus_rules.specs.Charges.{last_of}
+use Rattle.bus_rules.specs.Charges.{last_if_all_sent}
 use Rattle.law_windows.specs.OpenWindows.{AreClosed}
 use Rattle.law_windows.proofs.ClosedByFrame.{closed_in_frames}
 use Rattle.law_windows.specs.ChargeLaws.{on_in, on_until, WindowsTogether}
@@ -43,20 +43,20 @@ near_sum e f g (w ∷ ws) each =
 
 module _ (s : ScenarioParts) (air : List Entry) (v : ℕ) (w : WindowLog) (e : ℕ) where
   none_open : (b : Bool) → b ≡ false
-      → Near (if b then on_until air v w w.closed else 0) (if b then counted s.profile (last_of s.sends (sent_packets w)) else 0) (allowed e b)
+      → Near (if b then on_until air v w w.closed else 0) (if b then charge_by_last s.profile (last_if_all_sent s.sends (sent_packets w)) else 0) (allowed e b)
   none_open true is = absurd (true≢false is)
   none_open false is = record { below = omega arith; above = omega arith }
 
-  has_closed : (o : Option Closing) → is_some o ≡ true → IfSome o (λ c. Near (on_within air v w.opened c.tick) (charge s w) e)
-      → Near (on_until air v w o) (charge s w) e
+  has_closed : (o : Option Closing) → is_some o ≡ true → IfSome o (λ c. Near (on_within air v w.opened c.tick) (charge_of_window s w) e)
+      → Near (on_until air v w o) (charge_of_window s w) e
   has_closed None some near = absurd (true≢false (sym some))
   has_closed (Some c) some near = near
 
-  each_window : is_some w.closed ≡ true → (w.by_alarm ≡ true → IfSome w.closed (λ c. Near (on_within air v w.opened c.tick) (charge s w) e))
-      → Near (on_in air v w) (charge s w) (allowed e w.by_alarm)
+  each_window : is_some w.closed ≡ true → (w.by_alarm ≡ true → IfSome w.closed (λ c. Near (on_within air v w.opened c.tick) (charge_of_window s w) e))
+      → Near (on_in air v w) (charge_of_window s w) (allowed e w.by_alarm)
   each_window some near = by_alarm w.by_alarm refl
     where
-      by_alarm : (b : Bool) → w.by_alarm ≡ b → Near (on_in air v w) (charge s w) (allowed e w.by_alarm)
+      by_alarm : (b : Bool) → w.by_alarm ≡ b → Near (on_in air v w) (charge_of_window s w) (allowed e w.by_alarm)
       by_alarm false is = none_open w.by_alarm is
       by_alarm true is =
           let time = has_closed w.closed some (near is) in
@@ -65,7 +65,7 @@ module _ (s : ScenarioParts) (air : List Entry) (v : ℕ) (w : WindowLog) (e : �
           omega (arith, time, on, most)
 
 -- each has closed when the run ends, as a frame would start then
-closed_at_end : (s : ScenarioParts) (clocks : ℕ → ℕ → ℕ) (air : List Entry) → IsRun s clocks air → (v : ℕ) → knows s.nodes v ≡ true
+closed_at_end : (s : ScenarioParts) (clocks : ℕ → ℕ → ℕ) (air : List Entry) → IsObedientRun s clocks air → (v : ℕ) → knows s.nodes v ≡ true
     → AreClosed (trail_in s clocks air v).made.windows
 closed_at_end s clocks air run v known =
     let lasts = frame_lasts s run.driven.sound in
@@ -74,7 +74,7 @@ closed_at_end s clocks air run v known =
 
 pub together : WindowsTogether
 together s clocks air driven lawful v known =
-    let run : IsRun s clocks air = record { driven = driven; heedful = lawful_is_heedful s clocks air lawful } in
-    near_sum (budget_of s.profile).zeros (on_in air v) (charge s) (trail_in s clocks air v).made.windows
+    let run : IsObedientRun s clocks air = record { driven = driven; heedful = lawful_is_heedful s clocks air lawful } in
+    near_sum (budget_of s.profile).zeros (on_in air v) (charge_of_window s) (trail_in s clocks air v).made.windows
     (λ w there. each_window s air v w (budget_of s.profile).zeros (closed_at_end s clocks air run v known w there)
     (near_charge_by_budget s clocks air driven lawful v known w there))

@@ -11,7 +11,7 @@ use Rattle.glossy_relay.specs.declared.flood.Reply.TheVariants.{Relay}
 use Rattle.node_core.specs.Windows.{Window}
 use Rattle.scenario_text.specs.ScenarioParts.{ScenarioParts}
 use Rattle.radio_model.specs.declared.sending.Sending.{Sending}
-use Rattle.air_log.specs.Devices.{Ordered}
+use Rattle.air_log.specs.Devices.{OrderedPacket}
 use Rattle.air_log.specs.Trails.{setup_of}
 use Rattle.air_log.specs.WindowLogs.{WindowLog, Happening, HeardAt, SentAt, Closing}
 use Rattle.lwb_base.proofs.Elements.{contains_head, contains_tail, contains_cases}
@@ -27,26 +27,26 @@ pub none_some : {A : Type 0} (o : Option A) (a : A) → o ≡ None → o ≡ Som
 none_some o a none some = cc
 
 -- what an order says
-abbrev order_tick : Option Ordered → ℕ
+abbrev order_tick : Option OrderedPacket → ℕ
 order_tick None = 0
 order_tick (Some o) = o.tick
 
-abbrev order_packet : Option Ordered → List ℕ
+abbrev order_packet : Option OrderedPacket → List ℕ
 order_packet None = []
 order_packet (Some o) = o.packet
 
 module _ (s : ScenarioParts) (clocks : ℕ → ℕ → ℕ) (v : ℕ) where
-  abbrev R : List WindowLog → Option Ordered → Option Sending → List Sending → Type 0
+  abbrev R : List WindowLog → Option OrderedPacket → Option Sending → List Sending → Type 0
   R logs o x sent = SendsAsCalled s clocks v logs o x sent
 
   abbrev Calls : WindowLog → ℕ → List ℕ → Type 0
   Calls w tick packet = CallsFor s clocks v w tick packet
 
-  abbrev Answered : List Sending → Option Ordered → WindowLog → ℕ → List ℕ → Type 0
+  abbrev Answered : List Sending → Option OrderedPacket → WindowLog → ℕ → List ℕ → Type 0
   Answered sent o w tick packet = IsSent s clocks v sent w tick packet ⊎ IsStillOrdered s clocks v o w tick packet
 
   -- a window that has closed has what it called for
-  sent_by_closed : (logs : List WindowLog) (o : Option Ordered) (x : Option Sending) (sent : List Sending) → R logs o x sent
+  sent_by_closed : (logs : List WindowLog) (o : Option OrderedPacket) (x : Option Sending) (sent : List Sending) → R logs o x sent
       → (w : WindowLog) (tick : ℕ) (packet : List ℕ)
       → Contains logs w → is_some w.closed ≡ true → Calls w tick packet → IsSent s clocks v sent w tick packet
   sent_by_closed logs o x sent has w tick packet there closed call = elim (has.answered w tick packet there call) [
@@ -64,7 +64,7 @@ module _ (s : ScenarioParts) (clocks : ℕ → ℕ → ℕ) (v : ℕ) where
     ended_more y e = record { window = e.window; there = contains_tail x logs e.window e.there; of_slot = e.of_slot; event = e.event }
 
     -- which may call for what is ordered now
-    pub opens_with : (o : Option Ordered) (running : Option Sending) (sent : List Sending) → R logs None running sent → AreClosed logs
+    pub opens_with : (o : Option OrderedPacket) (running : Option Sending) (sent : List Sending) → R logs None running sent → AreClosed logs
         → IfSome o (λ p. (x.closed ≡ None) × Calls x p.tick p.packet)
         → ((tick : ℕ) (packet : List ℕ) → Calls x tick packet → IsStillOrdered s clocks v o x tick packet)
         → R (x ∷ logs) o running sent
@@ -79,13 +79,13 @@ module _ (s : ScenarioParts) (clocks : ℕ → ℕ → ℕ) (v : ℕ) where
       ended = λ y there. elim (has.ended y there) [ inl runs ↦ inl runs | inr e ↦ inr (ended_more y e) ];
     }
       where
-        by_order : (o : Option Ordered) → IfSome o (λ p. (x.closed ≡ None) × Calls x p.tick p.packet) → IfSome o (IsOrderedIn s clocks v (x ∷ logs))
+        by_order : (o : Option OrderedPacket) → IfSome o (λ p. (x.closed ≡ None) × Calls x p.tick p.packet) → IfSome o (IsOrderedIn s clocks v (x ∷ logs))
         by_order None is = tt
         by_order (Some p) is = record { window = x; there = contains_head x logs; open_ = is.0; call = is.1 }
 
   -- ---- the open window goes on
 
-  module _ (x : WindowLog) (earlier : List WindowLog) (o : Option Ordered) (running : Option Sending) (sent : List Sending)
+  module _ (x : WindowLog) (earlier : List WindowLog) (o : Option OrderedPacket) (running : Option Sending) (sent : List Sending)
       (has : R (x ∷ earlier) o running sent) (open_ : x.closed ≡ None) (closed : AreClosed earlier) where
     old_answered : (w : WindowLog) (tick : ℕ) (packet : List ℕ) → Contains earlier w → Calls w tick packet → IsSent s clocks v sent w tick packet
     old_answered w tick packet old call = sent_by_closed (x ∷ earlier) o running sent has w tick packet (contains_tail x earlier w old) (closed w old) call
@@ -98,7 +98,7 @@ module _ (s : ScenarioParts) (clocks : ℕ → ℕ → ℕ) (v : ℕ) where
       abbrev flood : FloodState
       flood = fold after_happening (flood_at_first (setup_of s v) x.by_alarm x) x.happenings
 
-      heard_with : (o' : Option Ordered) → IfSome o' (IsOrderedIn s clocks v (hears ∷ earlier))
+      heard_with : (o' : Option OrderedPacket) → IfSome o' (IsOrderedIn s clocks v (hears ∷ earlier))
           → ((tick : ℕ) (packet : List ℕ) → Calls x tick packet → Answered sent o' hears tick packet)
           → ((tick : ℕ) (packet : List ℕ) → NewRelay s clocks v x (HeardAt t p) tick packet → Answered sent o' hears tick packet)
           → R (hears ∷ earlier) o' running sent
@@ -162,7 +162,7 @@ module _ (s : ScenarioParts) (clocks : ℕ → ℕ → ℕ) (v : ℕ) where
           flood_same es = ap (λ (f : FloodState). fold after_happening f es) (first_same (setup_of s v) x.by_alarm x hears.happenings last x.closed)
 
           same_order : (other : ℕ) (packet : List ℕ) → NewRelay s clocks v x (HeardAt t p) other packet
-              → ◌≡◌ {A = Option Ordered} (Some (record { tick = tick; packet = q })) (Some (record { tick = other; packet = packet }))
+              → ◌≡◌ {A = Option OrderedPacket} (Some (record { tick = tick; packet = q })) (Some (record { tick = other; packet = packet }))
           same_order other packet relay =
               let same : HeardAt t p ≡ HeardAt relay.until relay.heard = relay.is in
               let until : t ≡ relay.until = cc in
@@ -224,7 +224,7 @@ module _ (s : ScenarioParts) (clocks : ℕ → ℕ → ℕ) (v : ℕ) where
             ])
         | inr before ↦ inl (old_answered w tick packet before call)
       ];
-      ordered_for = subst (λ (p : Option Ordered). IfSome p (IsOrderedIn s clocks v (shut ∷ earlier))) (sym none) tt;
+      ordered_for = subst (λ (p : Option OrderedPacket). IfSome p (IsOrderedIn s clocks v (shut ∷ earlier))) (sym none) tt;
       ended = λ z there. elim (has.ended z there) [
         | inl is ↦ inl is
         | inr e ↦ inr (ended_on s clocks v x x.happenings x.last (Some c) [] (sym (append-nil x.happenings)) earlier z e)
@@ -269,7 +269,7 @@ module _ (s : ScenarioParts) (clocks : ℕ → ℕ → ℕ) (v : ℕ) where
           | inr old ↦ absurd (none_not_some w.closed not_closed (closed w old))
         ]
 
-        by_order : (p : Option Ordered) → p ≡ Some (record { tick = y.start; packet = y.packet }) → IfSome p (IsOrderedIn s clocks v (x ∷ earlier))
+        by_order : (p : Option OrderedPacket) → p ≡ Some (record { tick = y.start; packet = y.packet }) → IfSome p (IsOrderedIn s clocks v (x ∷ earlier))
             → IsCalled s clocks v (x ∷ earlier) y
         by_order None is for_none = absurd cc
         by_order (Some p) is for_this =

@@ -8,14 +8,14 @@ use Rattle.lwb_base.specs.Messages.{Schedule}
 use Rattle.lwb_packets.specs.declared.kind.Kind as Kind
 use Rattle.tick_clock.specs.Clocks.{IsClock, due}
 use Rattle.time_reference.specs.Budgets.{budget_of}
-use Rattle.time_reference.specs.Zeros.{closing, starting}
+use Rattle.time_reference.specs.Zeros.{closing_offset, starting_offset}
 use Rattle.time_reference.specs.Reference.{stopped}
 use Rattle.glossy_relay.specs.FloodState.{FloodState, listening}
 use Rattle.glossy_relay.specs.Relaying.{reply_to, fits, relay_of, counter_of, slot_of}
 use Rattle.glossy_relay.specs.declared.flood.Reply.{Reply}
 use Rattle.glossy_relay.specs.declared.flood.Reply.TheVariants.{Relay, Keep, Ignore}
 use Rattle.bus_rules.specs.Cores.{Setup}
-use Rattle.bus_rules.specs.Slots.{Message, Opened, part_of, opened}
+use Rattle.bus_rules.specs.Slots.{Message, Opened, part_of, opened_slot}
 use Rattle.lwb_member.specs.Said.{bytes_of}
 use Rattle.node_core.specs.declared.stage.Stage.{Stage}
 use Rattle.node_core.specs.declared.stage.Stage.TheVariants.{Scanning, InWindow}
@@ -25,7 +25,7 @@ use Rattle.node_core.specs.Rows.{reply_by}
 use Rattle.scenario_text.specs.ScenarioParts.{ScenarioParts}
 use Rattle.radio_model.specs.declared.sending.Sending.{Sending}
 use Rattle.air_log.specs.declared.entry.Entry.{Entry}
-use Rattle.air_log.specs.Devices.{Device, PowerOn, Listening, Ordered, listens_to}
+use Rattle.air_log.specs.Devices.{Device, PowerOn, Listening, OrderedPacket, listens_to}
 use Rattle.air_log.specs.Lawful.{heard_by}
 use Rattle.air_log.specs.Trails.{Reception, setup_of, sending_from}
 use Rattle.air_log.specs.WindowLogs.{WindowLog, HeardAt, Closing}
@@ -45,7 +45,7 @@ use Rattle.law_safety.proofs.AwaitedSlots.{Awaits, awaits, starts_then}
 use Rattle.law_safety.proofs.OpenWindows.{IsAbout, where_ordered}
 use Rattle.law_windows.specs.OpenWindows.{AreClosed, IsOpenFirst, StandAt, StandBy}
 use Rattle.law_windows.specs.WindowCalls.{CallsFor, IsStillOrdered, SendsAsCalled}
-use Rattle.law_windows.specs.WindowFloods.{HasFlood, after_happening, flood_at_first}
+use Rattle.law_windows.specs.WindowFloods.{WindowHasFlood, after_happening, flood_at_first}
 use Rattle.law_windows.specs.WindowSteps.{begun_log, joined_log}
 use Rattle.law_windows.specs.WindowTimes.{IsOfSlot}
 use Rattle.law_windows.specs.SendingSteps.{KeepsSendings}
@@ -69,7 +69,7 @@ relays_idle f p q is =
     let e = and_parts _ _ c.0 in
     not-true f.waiting e.1
 
-idle_none : (o : Option Ordered) (b : Bool) → (is_some o || b) ≡ false → o ≡ None
+idle_none : (o : Option OrderedPacket) (b : Bool) → (is_some o || b) ≡ false → o ≡ None
 idle_none None b is = refl
 idle_none (Some o) b is = absurd (true≢false is)
 
@@ -77,7 +77,7 @@ module _ (s : ScenarioParts) (clocks : ℕ → ℕ → ℕ) (air : List Entry) (
   abbrev S : Setup
   S = setup_of s v
 
-  abbrev R : List WindowLog → Option Ordered → Option Sending → List Sending → Type 0
+  abbrev R : List WindowLog → Option OrderedPacket → Option Sending → List Sending → Type 0
   R logs o x sent = SendsAsCalled s clocks v logs o x sent
 
   own_drifts : IsClock (clocks v)
@@ -93,8 +93,8 @@ module _ (s : ScenarioParts) (clocks : ℕ → ℕ → ℕ) (air : List Entry) (
   relay_at : max (due (clocks v) (stopped (clocks v t + s.profile.turn))) t ≡ due (clocks v) (clocks v t + s.profile.turn)
   relay_at = relay_is s.profile (budget_of s.profile) (run_fits s at.run.driven.sound) (clocks v) own_drifts t tick_in_run
 
-  with_none : (logs : List WindowLog) (o : Option Ordered) (x : Option Sending) (sent : List Sending) → o ≡ None → R logs o x sent → R logs None x sent
-  with_none logs o x sent none has = subst (λ (p : Option Ordered). R logs p x sent) none has
+  with_none : (logs : List WindowLog) (o : Option OrderedPacket) (x : Option Sending) (sent : List Sending) → o ≡ None → R logs o x sent → R logs None x sent
+  with_none logs o x sent none has = subst (λ (p : Option OrderedPacket). R logs p x sent) none has
 
   -- ---- a window opens by its alarm
 
@@ -103,15 +103,15 @@ module _ (s : ScenarioParts) (clocks : ℕ → ℕ → ℕ) (air : List Entry) (
     x = begun_log (setup_of s v) t n j
 
     abbrev spoken : Opened
-    spoken = opened (setup_of s v) n.frame (part_of n.core.plan j) n.core
+    spoken = opened_slot (setup_of s v) n.frame (part_of n.core.plan j) n.core
 
     abbrev start : ℕ
     start = max (due (clocks v) (starts_at s.profile n.zero j)) t
 
-    starts_at_point : start ≡ tick_by s clocks v n (starting s.profile j)
+    starts_at_point : start ≡ tick_by s clocks v n (starting_offset s.profile j)
     starts_at_point = starts_then s clocks air v t at d n j is
 
-    calls_none : spoken.message ≡ None → (o : Option Ordered) (tick : ℕ) (packet : List ℕ) → CallsFor s clocks v x tick packet
+    calls_none : spoken.message ≡ None → (o : Option OrderedPacket) (tick : ℕ) (packet : List ℕ) → CallsFor s clocks v x tick packet
         → IsStillOrdered s clocks v o x tick packet
     calls_none none o tick packet (inl begins) = absurd (none_some spoken.message begins.message none begins.said)
     calls_none none o tick packet (inr relays) = absurd (nothing_in (HeardAt relays.until relays.heard) relays.earlier relays.later relays.is)
@@ -140,13 +140,14 @@ module _ (s : ScenarioParts) (clocks : ℕ → ℕ → ℕ) (air : List Entry) (
         → R (x ∷ d.made.windows) (said (clocks v) (setup_of s v) t n.zero j d.ordered spoken.message) d.sending d.made.sent
     opens closed has =
         let none = is.still.ordered in
-        subst (λ (o : Option Ordered). R (x ∷ d.made.windows) (said (clocks v) S t n.zero j o spoken.message) d.sending d.made.sent) (sym none)
+        subst (λ (o : Option OrderedPacket). R (x ∷ d.made.windows) (said (clocks v) S t n.zero j o spoken.message) d.sending d.made.sent) (sym none)
         (by_message closed (with_none d.made.windows d.ordered d.sending d.made.sent none has) spoken.message refl)
 
   -- ---- something is heard in a window that is open
 
-  module _ (h : Reception) (x : WindowLog) (earlier : List WindowLog) (o : Option Ordered) (running : Option Sending) (sent : List Sending) (w u : Window)
-      (has : R (x ∷ earlier) o running sent) (open_ : x.closed ≡ None) (closed : AreClosed earlier) (flood : HasFlood (setup_of s v) x) (last : x.last ≡ w)
+  module _ (h : Reception) (x : WindowLog) (earlier : List WindowLog) (o : Option OrderedPacket) (running : Option Sending) (sent : List Sending) (w u : Window)
+      (has : R (x ∷ earlier) o running sent) (open_ : x.closed ≡ None) (closed : AreClosed earlier) (flood : WindowHasFlood (setup_of s v) x)
+          (last : x.last ≡ w)
       (idle : w.flood.waiting ≡ false → o ≡ None) where
     from_flood : reply_to (fold after_happening (flood_at_first (setup_of s v) x.by_alarm x) x.happenings) h.packet ≡ reply_to w.flood h.packet
     from_flood = ap (λ (f : FloodState). reply_to f h.packet) (sym flood ∙ ap (λ (y : Window). y.flood) last)
@@ -164,8 +165,8 @@ module _ (s : ScenarioParts) (clocks : ℕ → ℕ → ℕ) (air : List Entry) (
   -- ---- at each device
 
   -- nothing is ordered at a window that closes
-  none_left : (o : Option Ordered) (n : Node) (j : ℕ) (w : Window) → IfSome o (HasOrder s clocks air v (suc t) n j w) → IfSome o (λ p. t ≤ p.tick)
-      → t ≡ tick_by s clocks v n (closing s.profile j) → o ≡ None
+  none_left : (o : Option OrderedPacket) (n : Node) (j : ℕ) (w : Window) → IfSome o (HasOrder s clocks air v (suc t) n j w) → IfSome o (λ p. t ≤ p.tick)
+      → t ≡ tick_by s clocks v n (closing_offset s.profile j) → o ≡ None
   none_left None n j w order ahead now = refl
   none_left (Some o) n j w order ahead now = absurd (let over = order.over in omega (arith, over, ahead, now))
 
@@ -189,12 +190,12 @@ module _ (s : ScenarioParts) (clocks : ℕ → ℕ → ℕ) (air : List Entry) (
       let first : R (x ∷ d.made.windows) None d.sending d.made.sent =
       opens_with s clocks v d.made.windows x None d.sending d.made.sent (with_none d.made.windows d.ordered d.sending d.made.sent still.ordered has) closed tt
       (λ tick packet call. no_call d h n y None tick packet call) in
-      subst (λ (o : Option Ordered). R (full ∷ d.made.windows) (relayed (clocks v) S t o (reply_to listens.flood h.packet)) d.sending d.made.sent)
+      subst (λ (o : Option OrderedPacket). R (full ∷ d.made.windows) (relayed (clocks v) S t o (reply_to listens.flood h.packet)) d.sending d.made.sent)
       (sym still.ordered)
       (by_reply h x d.made.windows None d.sending d.made.sent listens full.last first refl closed refl refl (λ idle. refl)
       (reply_to listens.flood h.packet) refl)
     where
-      no_call : (d : Device) (h : Reception) (n : Node) (y : Schedule) (o : Option Ordered) (tick : ℕ) (packet : List ℕ)
+      no_call : (d : Device) (h : Reception) (n : Node) (y : Schedule) (o : Option OrderedPacket) (tick : ℕ) (packet : List ℕ)
           → (let full = joined_log (setup_of s v) t (clocks v t) n h.packet y in
           let x : WindowLog = record full {
             happenings = [];
@@ -206,7 +207,7 @@ module _ (s : ScenarioParts) (clocks : ℕ → ℕ → ℕ) (air : List Entry) (
 
   heard_so : (d : Device) (h : Reception) (n : Node) (j : ℕ) (w u : Window) → IsOn s clocks air v t (suc t) d n → IsHeardNow s clocks air v t h d
       → n.stage ≡ InWindow j w
-      → (is : IsOpenFirst d.made.windows n j w) → HasFlood (setup_of s v) is.first → R d.made.windows d.ordered d.sending d.made.sent
+      → (is : IsOpenFirst d.made.windows n j w) → WindowHasFlood (setup_of s v) is.first → R d.made.windows d.ordered d.sending d.made.sent
       → R (record (is.first) { happenings = is.first.happenings ++ HeardAt t h.packet ∷ []; last = u } ∷ is.earlier)
       (relayed (clocks v) (setup_of s v) t d.ordered (reply_by (rank_at n) w h.packet)) d.sending d.made.sent
   heard_so d h n j w u on now stage is flood has =
@@ -228,11 +229,11 @@ module _ (s : ScenarioParts) (clocks : ℕ → ℕ → ℕ) (air : List Entry) (
       let other : d.alarm ≡ Some alarm.alarm = alarm.set in
       let set : d.alarm ≡ Some t = due.due in
       let same : alarm.alarm ≡ t = cc in
-      let now : t ≡ tick_by s clocks v n (closing s.profile j) = sym same ∙ subst (AlarmFor s clocks v n alarm.alarm) stage alarm.at in
+      let now : t ≡ tick_by s clocks v n (closing_offset s.profile j) = sym same ∙ subst (AlarmFor s clocks v n alarm.alarm) stage alarm.at in
       closes s clocks v is.first is.earlier d.ordered d.sending d.made.sent (R_first d n j w is has) is.now.open_ is.closed c
       (none_left d.ordered n j w window.order here.known.ordered now)
 
-  starts_so : (d : Device) (o : Ordered) (l : Listening) → Now (IsFine s clocks air v) s t Start d → d.ordered ≡ Some o → o.tick ≡ t
+  starts_so : (d : Device) (o : OrderedPacket) (l : Listening) → Now (IsFine s clocks air v) s t Start d → d.ordered ≡ Some o → o.tick ≡ t
       → d.listening ≡ Some l → d.sending ≡ None
       → StandBy d.made.windows d.power → R d.made.windows d.ordered d.sending d.made.sent
       → R d.made.windows None (Some (sending_from (setup_of s v) t o.packet l)) (d.made.sent ++ sending_from (setup_of s v) t o.packet l ∷ [])

@@ -18,23 +18,23 @@ use Rattle.scenario_text.specs.declared.script.ScriptLine.{ScriptLine}
 use Rattle.air_log.specs.declared.entry.Entry.{Entry}
 use Rattle.air_log.specs.WindowLogs.{WindowLog, Closing}
 use Rattle.air_log.specs.Devices.{Device, Power, PowerOff, PowerOn}
-use Rattle.air_log.specs.ScriptedDevices.{switched_on, with_new_core}
+use Rattle.air_log.specs.ScriptedDevices.{device_after_on, with_new_core}
 use Rattle.air_log.specs.Lawful.{heard_by}
 use Rattle.air_log.specs.Trails.{setup_of, run_end, before_tick}
 use Rattle.lwb_base.proofs.Elements.{not_in_none, contains_head, contains_tail}
-use Rattle.law_trails.specs.Phases.{Phase, Lines, Hearings, End, Alarms, Start, Over, IsNextLine}
-use Rattle.law_trails.specs.Walks.{Now, Keeps, AwaitsFrame, after_row}
+use Rattle.law_trails.specs.Phases.{Phase, Lines, Hearings, End, Alarms, Start, Over, IsNextLineOf}
+use Rattle.law_trails.specs.Walks.{Now, Keeps, AwaitsFrame, device_after_row}
 use Rattle.law_trails.specs.TrailLinks.{device_in}
 use Rattle.law_trails.proofs.RowsOfDevices.{row_obeyed}
 use Rattle.law_trails.proofs.WalkOfRun.{holds_in_tick}
 use Rattle.law_safety.specs.SetAlarms.{rank_at}
 use Rattle.law_safety.specs.NodesInOrder.{IsOn, InOpenWindow, WindowAt}
-use Rattle.law_safety.specs.Invariant.{IsRun}
+use Rattle.law_safety.specs.Invariant.{IsObedientRun}
 use Rattle.law_safety.specs.Rows.{IsFine, AtTick, AllRows}
 use Rattle.law_safety.proofs.FrameStarts.{line_starts, rests_at_start}
 use Rattle.law_windows.specs.OpenWindows.{IsOpenFirst}
-use Rattle.law_windows.specs.WindowChains.{Follows, IsBetween, AwaitsAt, AwaitsBy, IsWaiting, AreChained}
-use Rattle.law_windows.specs.WindowSteps.{HasWindows, begun_log, joined_log, closed_log}
+use Rattle.law_windows.specs.WindowChains.{IsNextWindow, IsBetween, AwaitsAt, AwaitsBy, IsBetweenWindows, AreChained}
+use Rattle.law_windows.specs.WindowSteps.{HasWindows, begun_log, joined_log, log_after_closing}
 use Rattle.law_windows.proofs.AcceptedRanks.{closed_rank, accepted_rank}
 use Rattle.law_windows.proofs.ChainedWindows.{IsFree, resting_free, awaiting_free, free_awaits, frame_free, followed_on, followed_off, chained_still}
 use Rattle.law_windows.proofs.ChainedWindows.{chained_more}
@@ -63,58 +63,58 @@ module _ (s : ScenarioParts) (clocks : ℕ → ℕ → ℕ) (air : List Entry) (
 
   -- a node that is told something rests
   rests : (t : ℕ) → AtTick s clocks air v t → (d : Device) (l : ScriptLine) (n : Node) → Now All s t Lines d
-      → IsNextLine s v (clocks v) (heard_by air v) t l d → d.power ≡ PowerOn n → IsFree n.stage
+      → IsNextLineOf s v (clocks v) (heard_by air v) t l d → d.power ≡ PowerOn n → IsFree n.stage
   rests t at d l n here next on =
       resting_free n.stage (rests_at_start s clocks v t n (line_starts s at.run.driven.sound t l next.now)
       (on_in s clocks air v t Lines d n here.holds.0.0 on).frame)
 
   told : (t : ℕ) → AtTick s clocks air v t → (d : Device) (l : ScriptLine) (n : Node) (core : Core) → Now All s t Lines d
-      → IsNextLine s v (clocks v) (heard_by air v) t l d → d.power ≡ PowerOn n
+      → IsNextLineOf s v (clocks v) (heard_by air v) t l d → d.power ≡ PowerOn n
       → Chained (with_new_core d n core)
   told t at d l n core here next on =
       let free = rests t at d l n here next on in
       chained_still d.made.windows d.power (PowerOn (record n { core = core })) here.holds.1 (followed_on d.made.windows d.power n here.holds.1 on free)
       (free_awaits d.made.windows (record n { core = core }) n.stage free)
 
-  comes_on : (t count : ℕ) (d : Device) → d.power ≡ PowerOff count → Chained d → Chained (switched_on (clocks v) (setup_of s v) t count d)
+  comes_on : (t count : ℕ) (d : Device) → d.power ≡ PowerOff count → Chained d → Chained (device_after_on (clocks v) (setup_of s v) t count d)
   comes_on t count d off has =
       let n = rebooted (count + 1) in
       let r = boots S n (clocks v t) in
       let is = row_obeyed (clocks v) S t Boot None (record d { power = PowerOn n }) n r in
-      moved_on d.made.windows (PowerOn r.node) (switched_on (clocks v) S t count d) is.windows is.power
+      moved_on d.made.windows (PowerOn r.node) (device_after_on (clocks v) S t count d) is.windows is.power
       (chained_still d.made.windows d.power (PowerOn r.node) has (followed_off d.made.windows d.power count has off) tt)
 
   ends_frame : (t : ℕ) (d : Device) (n : Node) → d.power ≡ PowerOn n → AwaitsFrame n.stage → Chained d
-      → Chained (after_row (clocks v) (setup_of s v) t Alarm None (record d { alarm = None }) n (frame_alarms (setup_of s v) n))
+      → Chained (device_after_row (clocks v) (setup_of s v) t Alarm None (record d { alarm = None }) n (frame_alarms (setup_of s v) n))
   ends_frame t d n on awaits has =
       let r = frame_alarms S n in
       let is = row_obeyed (clocks v) S t Alarm None (record d { alarm = None }) n r in
       let core = frame_ended S n.frame n.core in
-      moved_on d.made.windows (PowerOn r.node) (after_row (clocks v) S t Alarm None (record d { alarm = None }) n r)
+      moved_on d.made.windows (PowerOn r.node) (device_after_row (clocks v) S t Alarm None (record d { alarm = None }) n r)
       (is.windows ∙ unchanged t Alarm None n r.node n.stage r.node.stage d.made.windows (awaiting n.stage awaits)
       (after_frame core.tune (stopped_frame (n.frame + 1)))) is.power
       (chained_still d.made.windows d.power (PowerOn r.node) has (followed_on d.made.windows d.power n has on (awaiting_free n.stage awaits))
       (free_awaits d.made.windows r.node r.node.stage (frame_free core.tune (stopped_frame (n.frame + 1)))))
 
   joins_so : (t : ℕ) (d : Device) (p : List ℕ) (n : Node) (y : Schedule) → d.power ≡ PowerOn n → n.stage ≡ Scanning → Chained d
-      → Chained (after_row (clocks v) (setup_of s v) t (Heard p) None d n (joins (setup_of s v) n (clocks v t) p y))
+      → Chained (device_after_row (clocks v) (setup_of s v) t (Heard p) None d n (joins (setup_of s v) n (clocks v t) p y))
   joins_so t d p n y on stage has =
       let r = joins S n (clocks v t) p y in
       let is = row_obeyed (clocks v) S t (Heard p) None d n r in
       let x = joined_log S t (clocks v t) n p y in
-      moved_on (x ∷ d.made.windows) (PowerOn r.node) (after_row (clocks v) S t (Heard p) None d n r)
+      moved_on (x ∷ d.made.windows) (PowerOn r.node) (device_after_row (clocks v) S t (Heard p) None d n r)
       (is.windows ∙ joined_after S (clocks v t) t n p y d.made.windows stage) is.power
       (chained_more d.made.windows x d.power (PowerOn r.node) has refl (λ alarm. absurd (true≢false (sym alarm)))
       (next_kept d.made.windows x (followed_on d.made.windows d.power n has on (subst IsFree (sym stage) tt))) tt)
 
   opens_so : (t : ℕ) (d : Device) (n : Node) (j : ℕ) → d.power ≡ PowerOn n → n.stage ≡ AwaitSlot j → Chained d
-      → Chained (after_row (clocks v) (setup_of s v) t Alarm None (record d { alarm = None }) n (window_opens (setup_of s v) n j))
+      → Chained (device_after_row (clocks v) (setup_of s v) t Alarm None (record d { alarm = None }) n (window_opens (setup_of s v) n j))
   opens_so t d n j on stage has =
       let logs = d.made.windows in
       let r = window_opens S n j in
       let is = row_obeyed (clocks v) S t Alarm None (record d { alarm = None }) n r in
       let x = begun_log S t n j in
-      moved_on (x ∷ logs) (PowerOn r.node) (after_row (clocks v) S t Alarm None (record d { alarm = None }) n r)
+      moved_on (x ∷ logs) (PowerOn r.node) (device_after_row (clocks v) S t Alarm None (record d { alarm = None }) n r)
       (is.windows ∙ begun_after S (clocks v t) t n j logs stage) is.power
       (chained_more logs x d.power (PowerOn r.node) has refl
       (λ alarm. elim (subst (AwaitsAt logs n) stage (subst (AwaitsBy logs) on has.awaits)) [
@@ -143,7 +143,7 @@ module _ (s : ScenarioParts) (clocks : ℕ → ℕ → ℕ) (air : List Entry) (
       slot_is j k is = cc
 
       follows : (t : ℕ) (n : Node) (j : ℕ) (u : WindowLog) (c : Closing) → n.stage ≡ AwaitSlot j → IsBetween u c n
-          → Follows u c (begun_log (setup_of s v) t n j)
+          → IsNextWindow u c (begun_log (setup_of s v) t n j)
       follows t n j u c stage between = record {
         by_alarm = refl;
         node = sym between.node;
@@ -172,12 +172,12 @@ module _ (s : ScenarioParts) (clocks : ℕ → ℕ → ℕ) (air : List Entry) (
   closes_so : (t : ℕ) → AtTick s clocks air v t → (d : Device) (n : Node) (j : ℕ) (w : Window) → IsFine s clocks air v t Alarms d → d.power ≡ PowerOn n
       → n.stage ≡ InWindow j w
       → (is : IsOpenFirst d.made.windows n j w) → Chained d
-      → Chained (after_row (clocks v) (setup_of s v) t Alarm None (record d { alarm = None }) n (window_closes (setup_of s v) n j w))
+      → Chained (device_after_row (clocks v) (setup_of s v) t Alarm None (record d { alarm = None }) n (window_closes (setup_of s v) n j w))
   closes_so t at d n j w fine on stage is has =
       let x = is.first in
       let r = window_closes S n j w in
       let c : Closing = record { tick = t; after = r.node } in
-      let y = closed_log S t n j w x in
+      let y = log_after_closing S t n j w x in
       let row = row_obeyed (clocks v) S t Alarm None (record d { alarm = None }) n r in
       let node : IsOn s clocks air v t (suc t) d n = on_in s clocks air v t Alarms d n fine on in
       let window : InOpenWindow s clocks air v (suc t) n d j w = subst (λ (st : Stage). WindowAt s clocks air v (suc t) n d st) stage node.window in
@@ -190,11 +190,11 @@ module _ (s : ScenarioParts) (clocks : ℕ → ℕ → ℕ) (air : List Entry) (
         rank = rank ∙ sym is.now.rank;
       } in
       let before : AreChained (x ∷ is.earlier) d.power = subst (λ (l : List WindowLog). AreChained l d.power) is.is has in
-      moved_on (y ∷ is.earlier) (PowerOn r.node) (after_row (clocks v) S t Alarm None (record d { alarm = None }) n r)
+      moved_on (y ∷ is.earlier) (PowerOn r.node) (device_after_row (clocks v) S t Alarm None (record d { alarm = None }) n r)
       (row.windows ∙ closed_after S (clocks v t) t n j w d.made.windows x is.earlier stage is.is) row.power
       (chained_on x is.earlier x.happenings x.last (Some c) d.power (PowerOn r.node) before is.now.open_
       (followed_on (x ∷ is.earlier) d.power n before on (subst IsFree (sym stage) tt))
-      (λ b closed more. subst (λ (k : Closing). IsWaiting y k (PowerOn r.node)) (same_closing c b closed)
+      (λ b closed more. subst (λ (k : Closing). IsBetweenWindows y k (PowerOn r.node)) (same_closing c b closed)
       (record {
         node = r.node;
         on = refl;
@@ -241,7 +241,7 @@ module _ (s : ScenarioParts) (clocks : ℕ → ℕ → ℕ) (air : List Entry) (
               let r = window_hears S n (c t) j w h.packet in
               let u = hearing s.profile (rank_of n.core.tune) (c t) w h.packet in
               let row = row_obeyed c S t (Heard h.packet) None d n r in
-              on_so t d (after_row c S t (Heard h.packet) None d n r) n r.node j w u is _ on stage
+              on_so t d (device_after_row c S t (Heard h.packet) None d n r) n r.node j w u is _ on stage
               (row.windows ∙ gone_on_after S (c t) t
               (Heard h.packet) None n j w u r.node d.made.windows is.first is.earlier stage refl is.is) row.power refl here.holds.1),
         );
@@ -252,7 +252,7 @@ module _ (s : ScenarioParts) (clocks : ℕ → ℕ → ℕ) (air : List Entry) (
               let r = sends n j w in
               let u : Window = record w { flood = after_sent w.flood } in
               let row = row_obeyed c S t Sent (Some x) dd n r in
-              on_so t d (after_row c S t Sent (Some x) dd n r) n r.node j w u is _ on stage
+              on_so t d (device_after_row c S t Sent (Some x) dd n r) n r.node j w u is _ on stage
               (row.windows ∙ gone_on_after S (c t) t Sent
               (Some x) n j w u r.node d.made.windows is.first is.earlier stage refl is.is) row.power refl here.holds.1),
         );
@@ -274,7 +274,7 @@ module _ (s : ScenarioParts) (clocks : ℕ → ℕ → ℕ) (air : List Entry) (
         passing = λ d here is. (k.passing d (base t Over d here) is, here.holds.1);
       }
 
-  module _ (rows : AllRows) (run : IsRun s clocks air) (known : knows s.nodes v ≡ true) where
+  module _ (rows : AllRows) (run : IsObedientRun s clocks air) (known : knows s.nodes v ≡ true) where
     -- before each tick
     pub chained_before : (t : ℕ) → t ≤ run_end s → Chained (device_in s clocks air v t)
     unfolding before_tick

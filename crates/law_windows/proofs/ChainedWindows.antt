@@ -14,7 +14,7 @@ use Rattle.air_log.specs.Devices.{Power, PowerOff, PowerOn}
 use Rattle.lwb_base.proofs.Elements.{contains_head, contains_tail, contains_cases}
 use Rattle.law_trails.specs.Walks.{AwaitsFrame}
 use Rattle.law_safety.specs.CountedFrames.{IsResting}
-use Rattle.law_windows.specs.WindowChains.{Follows, HasNext, HasLast, AwaitsAt, AwaitsBy, IsWaiting, AreChained}
+use Rattle.law_windows.specs.WindowChains.{IsNextWindow, HasNext, HasLast, AwaitsAt, AwaitsBy, IsBetweenWindows, AreChained}
 
 -- a place at which no later slot is awaited
 abbrev pub IsFree : Stage → Type 0
@@ -130,7 +130,7 @@ module _ (x : WindowLog) (earlier : List WindowLog) (happenings : List Happening
 
   next_there : (u : WindowLog) (c : Closing) → HasNext (x ∷ earlier) u c → HasNext (later ∷ earlier) u c
   next_there u c is = elim (contains_cases x earlier is.next is.there) [
-    | inl same ↦ (let f : Follows u c x = subst (Follows u c) (sym same) is.follows in
+    | inl same ↦ (let f : IsNextWindow u c x = subst (IsNextWindow u c) (sym same) is.follows in
         record {
           next = later;
           there = contains_head later earlier;
@@ -149,7 +149,7 @@ module _ (x : WindowLog) (earlier : List WindowLog) (happenings : List Happening
       none_closed c is = cc
 
   pub chained_on : (p q : Power) → AreChained (x ∷ earlier) p → x.closed ≡ None → AllFollowed (x ∷ earlier)
-      → ((c : Closing) → closed ≡ Some c → x.slot < last.last → IsWaiting later c q)
+      → ((c : Closing) → closed ≡ Some c → x.slot < last.last → IsBetweenWindows later c q)
       → AwaitsBy (later ∷ earlier) q → AreChained (later ∷ earlier) q
   chained_on p q has open_ all waits awaits = record {
     behind = λ w there alarm. elim (contains_cases later earlier w there) [
@@ -161,7 +161,7 @@ module _ (x : WindowLog) (earlier : List WindowLog) (happenings : List Happening
       | inr old ↦ elim (has.behind w (contains_tail x earlier w old) alarm) [ inl first ↦ inl first | inr is ↦ inr (last_there open_ w is) ]
     ];
     ahead = λ u c there is more. elim (contains_cases later earlier u there) [
-      | inl same ↦ inr (subst (λ (y : WindowLog). IsWaiting y c q) same
+      | inl same ↦ inr (subst (λ (y : WindowLog). IsBetweenWindows y c q) same
           (waits c (ap (λ (y : WindowLog). y.closed) same ∙ is) (subst (λ (y : WindowLog). y.slot < y.last.last) (sym same) more)))
       | inr old ↦ inl (next_there u c (all u c (contains_tail x earlier u old) is more))
     ];

@@ -11,7 +11,7 @@ use Rattle.air_log.specs.Trails.{run_end, frame_start}
 use Rattle.air_log.specs.WindowLogs.{WindowLog}
 use Rattle.law_trails.specs.TrailLinks.{device_in}
 use Rattle.law_safety.specs.CountedFrames.{IsResting}
-use Rattle.law_safety.specs.Invariant.{IsRun}
+use Rattle.law_safety.specs.Invariant.{IsObedientRun}
 use Rattle.law_safety.specs.NodesInOrder.{InOrderBy}
 use Rattle.law_safety.proofs.FrameStarts.{rests_at_start}
 use Rattle.law_safety.proofs.InvariantHolds.{holds_throughout}
@@ -39,7 +39,7 @@ closed_in_frames s clocks air run v known t within start =
     ((holds_throughout s clocks air run t within).nodes v known).by_power (stand_by_power s clocks air run v known t within)
 
 -- and so at the end of a run
-pub closed_at_end : (s : ScenarioParts) (clocks : ℕ → ℕ → ℕ) (air : List Entry) → IsRun s clocks air → (v : ℕ) → knows s.nodes v ≡ true
+pub closed_at_end : (s : ScenarioParts) (clocks : ℕ → ℕ → ℕ) (air : List Entry) → IsObedientRun s clocks air → (v : ℕ) → knows s.nodes v ≡ true
     → AreClosed (device_in s clocks air v (run_end s)).made.windows
 closed_at_end s clocks air run v known =
     let lasts = frame_lasts s run.driven.sound in

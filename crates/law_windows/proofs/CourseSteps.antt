@@ -20,10 +20,10 @@ use Rattle.air_log.specs.declared.entry.Entry.{Entry}
 use Rattle.air_log.specs.Lawful.{heard_by}
 use Rattle.air_log.specs.WindowLogs.{WindowLog}
 use Rattle.air_log.specs.Devices.{Device, Power, PowerOn}
-use Rattle.air_log.specs.ScriptedDevices.{switched_on}
+use Rattle.air_log.specs.ScriptedDevices.{device_after_on}
 use Rattle.air_log.specs.Trails.{Reception, setup_of}
-use Rattle.law_trails.specs.Phases.{Phase, Lines, Hearings, End, Alarms, IsNextLine}
-use Rattle.law_trails.specs.Walks.{AwaitsFrame, NoWindow, after_row}
+use Rattle.law_trails.specs.Phases.{Phase, Lines, Hearings, End, Alarms, IsNextLineOf}
+use Rattle.law_trails.specs.Walks.{AwaitsFrame, NoWindow, device_after_row}
 use Rattle.law_trails.proofs.RowsOfDevices.{row_obeyed, row_power}
 use Rattle.law_safety.specs.CountedFrames.{IsResting}
 use Rattle.law_safety.specs.SetAlarms.{rank_at}
@@ -34,7 +34,7 @@ use Rattle.law_safety.proofs.FrameStarts.{line_starts}
 use Rattle.law_safety.proofs.HeardPlaces.{frame_now, began_now}
 use Rattle.law_safety.proofs.NextFrames.{frame_true, next as next_frame}
 use Rattle.law_windows.specs.OpenWindows.{IsOpenFirst}
-use Rattle.law_windows.specs.WindowSteps.{begun_log, joined_log, heard_log, sent_log, closed_log}
+use Rattle.law_windows.specs.WindowSteps.{begun_log, joined_log, heard_log, sent_log, log_after_closing}
 use Rattle.law_windows.proofs.PlacesWithout.{awaiting, after_frame, unchanged}
 use Rattle.law_windows.proofs.RowsOfWindows.{begun_after, joined_after, gone_on_after, closed_after}
 use Rattle.law_windows.proofs.WindowWalk.{on_in}
@@ -86,13 +86,13 @@ module _ (s : ScenarioParts) (clocks : ℕ → ℕ → ℕ) (air : List Entry) (
   }
 
   -- at the first tick of a frame, the script lines are not yet told
-  pub at_line : (l : ScriptLine) (d e : Device) → IsNextLine s v (clocks v) (heard_by air v) t l d → e.made.windows ≡ d.made.windows
+  pub at_line : (l : ScriptLine) (d e : Device) → IsNextLineOf s v (clocks v) (heard_by air v) t l d → e.made.windows ≡ d.made.windows
       → IsUnderWay s clocks air v t Lines d → IsUnderWay s clocks air v t Lines e
   at_line l d e next same is =
       let start = line_starts s at.run.driven.sound t l next.now in
       under_way Lines d.made.windows e.power e same refl is.windows (λ told. absurd (omega (arith, start, told)))
 
-  pub comes_on : (count : ℕ) (d : Device) → (switched_on (clocks v) S t count d).made.windows ≡ d.made.windows
+  pub comes_on : (count : ℕ) (d : Device) → (device_after_on (clocks v) S t count d).made.windows ≡ d.made.windows
   comes_on count d =
       let n = rebooted (count + 1) in
       (row_obeyed (clocks v) S t Boot None (record d { power = PowerOn n }) n (boots S n (clocks v t))).windows
@@ -149,7 +149,7 @@ module _ (s : ScenarioParts) (clocks : ℕ → ℕ → ℕ) (air : List Entry) (
 
   pub joins_in : (d : Device) (h : Reception) (n : Node) (y : Schedule) → IsFine s clocks air v t Hearings d → IsHeardNow s clocks air v t h d
       → d.power ≡ PowerOn n → n.stage ≡ Scanning → IsUnderWay s clocks air v t Hearings d
-      → IsUnderWay s clocks air v t Hearings (after_row (clocks v) S t (Heard h.packet) None d n (joins S n (clocks v t) h.packet y))
+      → IsUnderWay s clocks air v t Hearings (device_after_row (clocks v) S t (Heard h.packet) None d n (joins S n (clocks v t) h.packet y))
   joins_in d h n y fine heard on stage is =
       let known = on_in s clocks air v t Hearings d n fine on in
       let now : n.frame ≡ F = frame_now s clocks air v t h d heard n known in
@@ -157,7 +157,7 @@ module _ (s : ScenarioParts) (clocks : ℕ → ℕ → ℕ) (air : List Entry) (
       let r = joins S n (clocks v t) h.packet y in
       let x = joined_log S t (clocks v t) n h.packet y in
       let stands = stands_now logs n (subst NoWindow (sym stage) tt) now (subst (Standing logs) on (is.stands tt)) in
-      under_way Hearings (x ∷ logs) (PowerOn r.node) (after_row (clocks v) S t (Heard h.packet) None d n r)
+      under_way Hearings (x ∷ logs) (PowerOn r.node) (device_after_row (clocks v) S t (Heard h.packet) None d n r)
       ((row_obeyed (clocks v) S t (Heard h.packet) None d n r).windows ∙ joined_after S (clocks v t) t n h.packet y logs stage)
       (row_power (clocks v) S t (Heard h.packet) None d n r)
       (one_more s clocks air v at.run.driven.sound t logs x is.windows (joined_link d h n y now stage stands) now
@@ -176,7 +176,7 @@ module _ (s : ScenarioParts) (clocks : ℕ → ℕ → ℕ) (air : List Entry) (
 
   pub opens_in : (d : Device) (n : Node) (j : ℕ) → IsFine s clocks air v t Alarms d → d.alarm ≡ Some t
       → d.power ≡ PowerOn n → n.stage ≡ AwaitSlot j → IsUnderWay s clocks air v t Alarms d
-      → IsUnderWay s clocks air v t Alarms (after_row (clocks v) S t Alarm None (record d { alarm = None }) n (window_opens S n j))
+      → IsUnderWay s clocks air v t Alarms (device_after_row (clocks v) S t Alarm None (record d { alarm = None }) n (window_opens S n j))
   opens_in d n j fine set on stage is =
       let known = awaits s clocks air v t d n j (on_in s clocks air v t Alarms d n fine on) stage set in
       let now : n.frame ≡ F = opens_in_frame s clocks air v t at d n j known in
@@ -185,7 +185,7 @@ module _ (s : ScenarioParts) (clocks : ℕ → ℕ → ℕ) (air : List Entry) (
       let x = begun_log S t n j in
       let dd : Device = record d { alarm = None } in
       let stands = stands_now logs n (subst NoWindow (sym stage) tt) now (subst (Standing logs) on (is.stands tt)) in
-      under_way Alarms (x ∷ logs) (PowerOn r.node) (after_row (clocks v) S t Alarm None dd n r)
+      under_way Alarms (x ∷ logs) (PowerOn r.node) (device_after_row (clocks v) S t Alarm None dd n r)
       ((row_obeyed (clocks v) S t Alarm None dd n r).windows ∙ begun_after S (clocks v t) t n j logs stage)
       (row_power (clocks v) S t Alarm None dd n r)
       (one_more s clocks air v at.run.driven.sound t logs x is.windows (begun_link d n j now stage stands) now (has_begun s clocks air v t at d n j known))
@@ -194,18 +194,18 @@ module _ (s : ScenarioParts) (clocks : ℕ → ℕ → ℕ) (air : List Entry) (
   -- what happens in the open window
   goes_on : (phase : Phase) (e : Event) (y : Option Sending) (d dd : Device) (n : Node) (j : ℕ) (w u : Window) (r : Stepped) (x : WindowLog)
       → dd.made.windows ≡ d.made.windows → n.stage ≡ InWindow j w → r.node.stage ≡ InWindow j u → (open_ : IsOpenFirst d.made.windows n j w)
-      → (after_row (clocks v) S t e y dd n r).made.windows ≡ x ∷ open_.earlier
+      → (device_after_row (clocks v) S t e y dd n r).made.windows ≡ x ∷ open_.earlier
       → x.frame ≡ open_.first.frame → (LinksTo s clocks air v open_.first open_.earlier → LinksTo s clocks air v x open_.earlier)
-      → IsUnderWay s clocks air v t phase d → IsUnderWay s clocks air v t phase (after_row (clocks v) S t e y dd n r)
+      → IsUnderWay s clocks air v t phase d → IsUnderWay s clocks air v t phase (device_after_row (clocks v) S t e y dd n r)
   goes_on phase e y d dd n j w u r x same stage later open_ windows frame links is =
-      under_way phase (x ∷ open_.earlier) (PowerOn r.node) (after_row (clocks v) S t e y dd n r) windows
+      under_way phase (x ∷ open_.earlier) (PowerOn r.node) (device_after_row (clocks v) S t e y dd n r) windows
       (row_power (clocks v) S t e y dd n r)
       (one_changed s clocks air v t d.made.windows open_.first open_.earlier x open_.is open_.now.open_ frame links is.windows)
       (λ told. in_window (x ∷ open_.earlier) r.node j u later)
 
   pub hears_in : (d : Device) (h : Reception) (n : Node) (j : ℕ) (w : Window) → n.stage ≡ InWindow j w → IsOpenFirst d.made.windows n j w
       → IsUnderWay s clocks air v t Hearings d
-      → IsUnderWay s clocks air v t Hearings (after_row (clocks v) S t (Heard h.packet) None d n (window_hears S n (clocks v t) j w h.packet))
+      → IsUnderWay s clocks air v t Hearings (device_after_row (clocks v) S t (Heard h.packet) None d n (window_hears S n (clocks v t) j w h.packet))
   hears_in d h n j w stage open_ is =
       let u = hearing s.profile (rank_at n) (clocks v t) w h.packet in
       let r = window_hears S n (clocks v t) j w h.packet in
@@ -216,7 +216,7 @@ module _ (s : ScenarioParts) (clocks : ℕ → ℕ → ℕ) (air : List Entry) (
 
   pub sends_in : (d : Device) (x : Sending) (n : Node) (j : ℕ) (w : Window) → n.stage ≡ InWindow j w → IsOpenFirst d.made.windows n j w
       → IsUnderWay s clocks air v t End d
-      → IsUnderWay s clocks air v t Alarms (after_row (clocks v) S t Sent (Some x) (record d { sending = None }) n (sends n j w))
+      → IsUnderWay s clocks air v t Alarms (device_after_row (clocks v) S t Sent (Some x) (record d { sending = None }) n (sends n j w))
   sends_in d x n j w stage open_ is =
       let u : Window = record w { flood = after_sent w.flood } in
       let r = sends n j w in
@@ -229,13 +229,13 @@ module _ (s : ScenarioParts) (clocks : ℕ → ℕ → ℕ) (air : List Entry) (
   -- a window closes
   pub closes_in : (d : Device) (n : Node) (j : ℕ) (w : Window) → IsFine s clocks air v t Alarms d → d.power ≡ PowerOn n → n.stage ≡ InWindow j w
       → (open_ : IsOpenFirst d.made.windows n j w) → HasOwnFlood open_.first.rank open_.first.last.flood → IsUnderWay s clocks air v t Alarms d
-      → IsUnderWay s clocks air v t Alarms (after_row (clocks v) S t Alarm None (record d { alarm = None }) n (window_closes S n j w))
+      → IsUnderWay s clocks air v t Alarms (device_after_row (clocks v) S t Alarm None (record d { alarm = None }) n (window_closes S n j w))
   closes_in d n j w fine on stage open_ own is =
       let known = on_in s clocks air v t Alarms d n fine on in
       let now : n.frame ≡ F = elim known.frame.at [ inl same ↦ same | inr over ↦ absurd (subst IsResting stage over.rests) ] in
       let r = window_closes S n j w in
       let dd : Device = record d { alarm = None } in
-      let x : WindowLog = closed_log S t n j w open_.first in
+      let x : WindowLog = log_after_closing S t n j w open_.first in
       let own_here : HasOwnFlood (rank_at n) w.flood =
       subst (λ (k : ℕ). HasOwnFlood k w.flood) open_.now.rank (subst (λ (u : Window). HasOwnFlood open_.first.rank u.flood) open_.now.last own) in
       let left : IsLeft s clocks air v F (x ∷ open_.earlier) r.node = record {
@@ -249,7 +249,7 @@ module _ (s : ScenarioParts) (clocks : ℕ → ℕ → ℕ) (air : List Entry) (
         node = refl;
         stage = subst (λ (i : ℕ). (r.node.stage ≡ AwaitSlot (suc i)) ⊎ (r.node.stage ≡ AwaitFrame)) (sym open_.now.slot) (next_place j (nat_lt j w.last));
       } in
-      under_way Alarms (x ∷ open_.earlier) (PowerOn r.node) (after_row (clocks v) S t Alarm None dd n r)
+      under_way Alarms (x ∷ open_.earlier) (PowerOn r.node) (device_after_row (clocks v) S t Alarm None dd n r)
       ((row_obeyed (clocks v) S t Alarm None dd n r).windows ∙ closed_after S (clocks v t) t n j w d.made.windows open_.first open_.earlier stage open_.is)
       (row_power (clocks v) S t Alarm None dd n r)
       (one_changed s clocks air v t d.made.windows open_.first open_.earlier x open_.is open_.now.open_ refl (λ links. links) is.windows)
@@ -258,7 +258,7 @@ module _ (s : ScenarioParts) (clocks : ℕ → ℕ → ℕ) (air : List Entry) (
   -- the alarm of the frame
   pub ends_frame : (d : Device) (n : Node) → IsFine s clocks air v t Alarms d → d.alarm ≡ Some t → d.power ≡ PowerOn n → AwaitsFrame n.stage
       → IsUnderWay s clocks air v t Alarms d
-      → IsUnderWay s clocks air v t Alarms (after_row (clocks v) S t Alarm None (record d { alarm = None }) n (frame_alarms S n))
+      → IsUnderWay s clocks air v t Alarms (device_after_row (clocks v) S t Alarm None (record d { alarm = None }) n (frame_alarms S n))
   ends_frame d n fine set on awaited is =
       let known = on_in s clocks air v t Alarms d n fine on in
       let past : (x : Sending) → Contains d.made.sent x → x.start < t = fine.before in
@@ -268,7 +268,7 @@ module _ (s : ScenarioParts) (clocks : ℕ → ℕ → ℕ) (air : List Entry) (
       let r = frame_alarms S n in
       let dd : Device = record d { alarm = None } in
       let stands = stands_now logs n (awaiting n.stage awaited) now (subst (Standing logs) on (is.stands tt)) in
-      under_way Alarms logs (PowerOn r.node) (after_row (clocks v) S t Alarm None dd n r)
+      under_way Alarms logs (PowerOn r.node) (device_after_row (clocks v) S t Alarm None dd n r)
       ((row_obeyed (clocks v) S t Alarm None dd n r).windows
       ∙ unchanged t Alarm None n r.node n.stage r.node.stage logs (awaiting n.stage awaited) (after_frame r.node.core.tune (stopped_frame (n.frame + 1))))
       (row_power (clocks v) S t Alarm None dd n r) is.windows

@@ -8,13 +8,13 @@ use Rattle.air_log.specs.declared.entry.Entry.{Entry}
 use Rattle.air_log.specs.WindowLogs.{WindowLog}
 use Rattle.air_log.specs.Devices.{Device, Power, PowerOff, PowerOn, at_rest}
 use Rattle.air_log.specs.Lawful.{heard_by}
-use Rattle.air_log.specs.Trails.{run_end, before_tick, frame_start, scripted}
+use Rattle.air_log.specs.Trails.{run_end, before_tick, frame_start, device_after_script}
 use Rattle.lwb_base.proofs.Elements.{not_in_none}
 use Rattle.law_trails.specs.Phases.{Phase, Lines, Hearings, End, Alarms, Start, Over, device_at, next_phase}
 use Rattle.law_trails.specs.TrailLinks.{device_in}
 use Rattle.law_trails.specs.Walks.{HasNoWindow, Keeps, Now}
 use Rattle.law_trails.proofs.WalkOfRun.{holds_in_tick}
-use Rattle.law_safety.specs.Invariant.{IsRun}
+use Rattle.law_safety.specs.Invariant.{IsObedientRun}
 use Rattle.law_safety.specs.NodesInOrder.{InOrderBy}
 use Rattle.law_safety.specs.Rows.{IsFine, AtTick, AllRows}
 use Rattle.law_safety.proofs.FrameStarts.{frame_before, rests_at_start, counts_at_start}
@@ -41,7 +41,7 @@ module _ (s : ScenarioParts) (clocks : ℕ → ℕ → ℕ) (air : List Entry) (
   base t phase d now = record { in_run = now.in_run; known = now.known; holds = now.holds.0 }
 
   -- at the first tick of a frame all nodes rest, and those that are on count it
-  module _ (run : IsRun s clocks air) (known : knows s.nodes v ≡ true) (t : ℕ)
+  module _ (run : IsObedientRun s clocks air) (known : knows s.nodes v ≡ true) (t : ℕ)
       (early : t / s.profile.frame ≤ 4096) (start : frame_start s (t / s.profile.frame) ≡ t) where
     none_by : (told : ℕ) (d : Device) (p : Power) → InOrderBy s clocks air v t told d p → HasNoWindow p
     none_by told d (PowerOff boots) is = tt
@@ -82,7 +82,7 @@ module _ (s : ScenarioParts) (clocks : ℕ → ℕ → ℕ) (air : List Entry) (
             let begins = frame_begins s at.run.driven.sound t in
             let start : frame_start s (t / s.profile.frame) ≡ t = omega (arith, begins, not_yet) in
             let same : power_at s clocks air v (t / s.profile.frame) ≡ d.power =
-            ap (λ (u : ℕ). (scripted s v (clocks v) u (before_tick s v (clocks v) (heard_by air v) u)).power) start
+            ap (λ (u : ℕ). (device_after_script s v (clocks v) u (before_tick s v (clocks v) (heard_by air v) u)).power) start
             ∙ ap (λ (e : Device). e.power) (sym enters) in
             stands_at_start at.run at.known t early start (suc t) d d.power same later.node.by_power is.windows
             )
@@ -209,7 +209,7 @@ module _ (s : ScenarioParts) (clocks : ℕ → ℕ → ℕ) (air : List Entry) (
     stands = λ began. absurd (omega (arith, began));
   }
 
-  module _ (rows : AllRows) (run : IsRun s clocks air) (known : knows s.nodes v ≡ true) where
+  module _ (rows : AllRows) (run : IsObedientRun s clocks air) (known : knows s.nodes v ≡ true) where
     in_tick : (t : ℕ) (in_run : t < run_end s) → IsUnderWay s clocks air v t Lines (device_in s clocks air v t)
         → ((phase : Phase) → All t phase (device_at s v (clocks v) (heard_by air v) t phase)) × All (suc t) Lines (device_in s clocks air v (suc t))
     in_tick t in_run is =

@@ -7,12 +7,12 @@ use Rattle.node_core.specs.Nodes.{Node}
 use Rattle.scenario_text.specs.ScenarioParts.{ScenarioParts}
 use Rattle.air_log.specs.declared.entry.Entry.{Entry}
 use Rattle.air_log.specs.WindowLogs.{WindowLog, Closing}
-use Rattle.air_log.specs.Devices.{Power, PowerOff, PowerOn, seen}
+use Rattle.air_log.specs.Devices.{Power, PowerOff, PowerOn, state_of_power}
 use Rattle.air_log.specs.Trails.{setup_of}
 use Rattle.lwb_base.proofs.Elements.{contains_head}
 use Rattle.law_trails.specs.Walks.{AwaitsFrame}
 use Rattle.law_trails.proofs.HeedfulLogs.{lawful_is_heedful}
-use Rattle.law_safety.specs.Invariant.{IsRun}
+use Rattle.law_safety.specs.Invariant.{IsObedientRun}
 use Rattle.law_safety.specs.SetAlarms.{rank_at}
 use Rattle.law_safety.proofs.InvariantHolds.{all_rows}
 use Rattle.law_terms.specs.LawfulRuns.{IsLawfulRun}
@@ -69,7 +69,7 @@ module _ (s : ScenarioParts) (clocks : ℕ → ℕ → ℕ) (air : List Entry) (
     no_stand n (inl is) = not_off (power_at s clocks air v f) boots n off is.node
     no_stand n (inr is) = none_at is.last (left_in n is) is.frame
 
-    still_off : (p : Power) → EndsAs s clocks air v f L p → seen p ≡ StateOff boots
+    still_off : (p : Power) → EndsAs s clocks air v f L p → state_of_power p ≡ StateOff boots
     still_off (PowerOff after) is = ap (λ (b : ℕ). StateOff b) (same_boots (power_at s clocks air v f) after boots is.0 off)
     still_off (PowerOn n) is = absurd (no_stand is.before is.stands)
 
@@ -195,13 +195,13 @@ module _ (s : ScenarioParts) (clocks : ℕ → ℕ → ℕ) (air : List Entry) (
         ]
 
     ends : (w : WindowLog) (c : Closing) → In w → w.closed ≡ Some c → (c.after.stage ≡ AwaitSlot (suc w.slot) → ⊥)
-        → seen (power_after s clocks air v f) ≡ StateOn (frame_ended (setup_of s v) f c.after.core)
+        → state_of_power (power_after s clocks air v f) ≡ StateOn (frame_ended (setup_of s v) f c.after.core)
     ends w c is closed rests =
         elim (behind s clocks air v L end.linked w (end.all w is)) [
           | inl last ↦ (
               let o = over in
               let same = last_left w c is closed last o.ended.before o.ended.stands in
-              ap seen o.power ∙ ap (λ (k : Core). StateOn k) o.ended.core ∙ ap (λ (k : Node). StateOn (frame_ended (setup_of s v) f k.core)) same
+              ap state_of_power o.power ∙ ap (λ (k : Core). StateOn k) o.ended.core ∙ ap (λ (k : Node). StateOn (frame_ended (setup_of s v) f k.core)) same
               )
           | inr more ↦ elim more [
             | inl next ↦ absurd (
@@ -228,7 +228,7 @@ module _ (s : ScenarioParts) (clocks : ℕ → ℕ → ℕ) (air : List Entry) (
       follows = λ w j is alarm slot. (let of = link w is in follows_by w j is alarm slot of of.link);
       rests = λ none.
           (let o = over in
-          ap seen o.power ∙ ap (λ (k : Core). StateOn k) o.ended.core
+          ap state_of_power o.power ∙ ap (λ (k : Core). StateOn k) o.ended.core
           ∙ ap (λ (k : Node). StateOn (frame_ended (setup_of s v) f k.core)) (rests_by none o.ended.before o.ended.stands));
       ends = ends;
     }
@@ -239,7 +239,7 @@ goes_through : (s : ScenarioParts) (clocks : ℕ → ℕ → ℕ) (air : List En
 goes_through s clocks air v f end counts (PowerOff boots) is = stays_off s clocks air v f end boots is
 goes_through s clocks air v f end counts (PowerOn n) is = is_course s clocks air v f end n is (counts n is)
 
-pub run_of : (s : ScenarioParts) (clocks : ℕ → ℕ → ℕ) (air : List Entry) → IsLawfulRun s clocks air → IsRun s clocks air
+pub run_of : (s : ScenarioParts) (clocks : ℕ → ℕ → ℕ) (air : List Entry) → IsLawfulRun s clocks air → IsObedientRun s clocks air
 run_of s clocks air lawful = record {
   driven = record { sound = lawful.sound; drift = lawful.drift };
   heedful = lawful_is_heedful s clocks air lawful.lawful;

@@ -7,26 +7,26 @@ use Rattle.scenario_text.specs.ScenarioParts.{ScenarioParts}
 use Rattle.scenario_text.specs.FloodParts.{knows}
 use Rattle.scenario_text.specs.declared.script.ScriptLine.{ScriptLine}
 use Rattle.radio_model.specs.declared.sending.Sending.{Sending}
-use Rattle.radio_model.specs.Hearing.{frame_of}
+use Rattle.radio_model.specs.Hearing.{frame_of_sending}
 use Rattle.air_log.specs.declared.entry.Entry.{Entry}
 use Rattle.air_log.specs.Entries.{sendings_of}
 use Rattle.air_log.specs.Devices.{Device}
-use Rattle.air_log.specs.ScriptedDevices.{after_line}
+use Rattle.air_log.specs.ScriptedDevices.{device_after_line}
 use Rattle.air_log.specs.Lawful.{Lawful, heard_by}
-use Rattle.air_log.specs.Trails.{Reception, setup_of, run_end, before_tick, frame_start, ending_at, hears, scripted}
+use Rattle.air_log.specs.Trails.{Reception, setup_of, run_end, before_tick, frame_start, ending_at, device_after_reception, device_after_script}
 use Rattle.air_log.specs.WindowLogs.{WindowLog, Happening, HeardAt, SentAt}
 use Rattle.lwb_base.proofs.Elements.{Distinct, not_in_none, contains_head, contains_cases, map_from, filtered}
 use Rattle.lwb_base.proofs.Options.{none_not_some}
 use Rattle.law_trails.specs.Phases.{End, IsNextHearing, device_at}
 use Rattle.law_trails.specs.TrailLinks.{device_in}
-use Rattle.law_safety.specs.Invariant.{IsRun}
+use Rattle.law_safety.specs.Invariant.{IsObedientRun}
 use Rattle.law_safety.specs.FloodSendings.{IsOfFlood}
 use Rattle.law_safety.specs.KnownInRows.{IsHeardNow}
 use Rattle.law_safety.specs.Rows.{AtTick, AllRows, IsFine}
 use Rattle.law_safety.proofs.RunFacts.{frame_is}
 use Rattle.law_safety.proofs.FloodTimes.{after_frame_start, before_frame_end}
 use Rattle.law_safety.proofs.HeardNow.{none_in_frame}
-use Rattle.law_windows.specs.WindowHistory.{tick_of}
+use Rattle.law_windows.specs.WindowHistory.{tick_of_happening}
 use Rattle.law_windows.specs.WindowSteps.{HasWindows, KeepsWindows}
 use Rattle.law_windows.proofs.DistinctHearings.{split_distinct, distinct_receptions}
 use Rattle.law_windows.proofs.GrownWindows.{HasComeOf, heard_at, grown}
@@ -60,14 +60,14 @@ packet_of t u p q is = cc
 not_sent : (t u : ℕ) (p q : List ℕ) → HeardAt t p ≡ SentAt u q → ⊥
 not_sent t u p q is = cc
 
-module _ (rows : AllRows) (s : ScenarioParts) (clocks : ℕ → ℕ → ℕ) (air : List Entry) (run : IsRun s clocks air) (lawful : Lawful s clocks air) (v : ℕ)
+module _ (rows : AllRows) (s : ScenarioParts) (clocks : ℕ → ℕ → ℕ) (air : List Entry) (run : IsObedientRun s clocks air) (lawful : Lawful s clocks air) (v : ℕ)
     (known : knows s.nodes v ≡ true) where
   abbrev Histories : ℕ → ℕ → WindowLog → Type 0
   Histories now taken w = IsHistory s clocks air v now w
 
   -- before a tick all that happened is past
   past : (t : ℕ) → t ≤ run_end s → (w : WindowLog) → Contains (device_in s clocks air v t).made.windows w → (e : Happening) → Contains w.happenings e
-      → tick_of e < t
+      → tick_of_happening e < t
   unfolding before_tick
   past zero within w there e in_it = absurd (not_in_none w there)
   past (suc t) within w there e in_it =
@@ -88,12 +88,12 @@ module _ (rows : AllRows) (s : ScenarioParts) (clocks : ℕ → ℕ → ℕ) (ai
         record { each = λ w there. tt; past = have.past; apart = have.apart; stand = have.stand; delivered = have.delivered }
 
     -- an open window, behind some of the hearings of the tick: what happened in it now are some of these
-    module _ (taken : List Reception) (d : Device) (is : d ≡ fold (hears (clocks v) (setup_of s v) t) d0 taken) (w : WindowLog)
+    module _ (taken : List Reception) (d : Device) (is : d ≡ fold (device_after_reception (clocks v) (setup_of s v) t) d0 taken) (w : WindowLog)
         (there : Contains d.made.windows w) (open_ : w.closed ≡ None) where
       come : HasComeOf t d0.made.windows taken w
       come = (grown s clocks v t taken d0 has).1 w (subst (λ (e : Device). Contains e.made.windows w) is there)
 
-      pub heard_now : (e : Happening) → Contains w.happenings e → tick_of e ≡ t → (h : Reception) × Contains taken h × (heard_at t h ≡ e)
+      pub heard_now : (e : Happening) → Contains w.happenings e → tick_of_happening e ≡ t → (h : Reception) × Contains taken h × (heard_at t h ≡ e)
       heard_now e in_it now = elim come [
         | inl old ↦ absurd (none_not_some w.closed open_ old.1)
         | inr (inl grew) ↦ elim
@@ -115,8 +115,9 @@ module _ (rows : AllRows) (s : ScenarioParts) (clocks : ℕ → ℕ → ℕ) (ai
     hears_new : (d : Device) (h : Reception) (w : WindowLog) → IsNextHearing s v (clocks v) (heard_by air v) t h d → IsHeardNow s clocks air v t h d
         → Contains d.made.windows w → w.closed ≡ None → Contains w.happenings (HeardAt t h.packet) → ⊥
     hears_new d h w next now there open_ in_it =
-        let is : d ≡ fold (hears (clocks v) (setup_of s v) t) d0 next.taken =
-        next.is ∙ ap (λ (e : Device). fold (hears (clocks v) (setup_of s v) t) e next.taken) (nothing_told s clocks air v t at now.sending now.there now.end) in
+        let is : d ≡ fold (device_after_reception (clocks v) (setup_of s v) t) d0 next.taken =
+        next.is ∙ ap (λ (e : Device). fold (device_after_reception (clocks v) (setup_of s v) t) e next.taken)
+            (nothing_told s clocks air v t at now.sending now.there now.end) in
         let one = heard_now next.taken d is w there open_ (HeardAt t h.packet) in_it refl in
         let ends : Contains (ending_at t (heard_by air v)) one.0 =
         subst (λ (l : List Reception). Contains l one.0) (sym next.hearings) (Contains-append_left next.taken (h ∷ next.rest) one.0 one.1) in
@@ -139,13 +140,14 @@ module _ (rows : AllRows) (s : ScenarioParts) (clocks : ℕ → ℕ → ℕ) (ai
     ends_new d y w fine enters sent early ends flood there open_ in_it =
         let from = after_frame_start s clocks air at.run y flood sent in
         let until = before_frame_end s clocks air at.run y flood sent in
-        let frame : t / s.profile.frame ≡ frame_of s.profile y =
-        frame_is s (frame_of s.profile y) t (omega (arith, from, early)) (omega (arith, until, ends)) in
+        let frame : t / s.profile.frame ≡ frame_of_sending s.profile y =
+        frame_is s (frame_of_sending s.profile y) t (omega (arith, from, early)) (omega (arith, until, ends)) in
         let began : frame_start s (t / s.profile.frame) < t = omega (arith, from, early, ap (λ (f : ℕ). f * s.profile.frame) frame) in
-        let untold : scripted s v (clocks v) t d0 ≡ d0 =
-        ap (λ (ls : List ScriptLine). fold (after_line (clocks v) (setup_of s v) t) d0 ls) (none_in_frame s clocks air v t at began) in
+        let untold : device_after_script s v (clocks v) t d0 ≡ d0 =
+        ap (λ (ls : List ScriptLine). fold (device_after_line (clocks v) (setup_of s v) t) d0 ls) (none_in_frame s clocks air v t at began) in
         let hs = ending_at t (heard_by air v) in
-        let is : d ≡ fold (hears (clocks v) (setup_of s v) t) d0 hs = enters ∙ ap (λ (e : Device). fold (hears (clocks v) (setup_of s v) t) e hs) untold in
+        let is : d ≡ fold (device_after_reception (clocks v) (setup_of s v) t) d0 hs =
+            enters ∙ ap (λ (e : Device). fold (device_after_reception (clocks v) (setup_of s v) t) e hs) untold in
         let one = heard_now hs d is w there open_ (SentAt t y.packet) in_it refl in
         not_sent t t one.0.packet y.packet one.2
 

@@ -8,17 +8,17 @@ use Rattle.radio_model.specs.OnAir.{Hearing}
 use Rattle.radio_model.specs.Hearing.{Meets, Before}
 use Rattle.scenario_text.specs.ScenarioParts.{ScenarioParts}
 use Rattle.air_log.specs.declared.entry.Entry.{Entry}
-use Rattle.air_log.specs.Entries.{hearings_of, IsHeard}
+use Rattle.air_log.specs.Entries.{hearings_of, HasHeardEntry}
 use Rattle.air_log.specs.Devices.{Listening}
-use Rattle.air_log.specs.Lawful.{Lawful, comes_before, put_in, by_end, reception_of, hearings_by, heard_by}
+use Rattle.air_log.specs.Lawful.{Lawful, reception_comes_before, put_in, by_end, reception_of, hearings_by, heard_by}
 use Rattle.air_log.specs.Trails.{Reception, ending_at}
 use Rattle.lwb_base.proofs.Elements.{Distinct, not_in_none, contains_head, contains_tail, contains_cases, distinct_from_pairs, map_from, filtered}
 use Rattle.air_log.proofs.SendingsKept.{profile_lasts}
-use Rattle.law_trails.specs.Obeying.{channel_of}
+use Rattle.law_trails.specs.Obeying.{channel_if_on}
 use Rattle.law_trails.specs.TrailLinks.{ListensSince, device_in}
 use Rattle.law_trails.proofs.SentInTrails.{sent_lasts}
 use Rattle.law_trails.proofs.TunedInTrails.{tuned_listens}
-use Rattle.law_safety.specs.Invariant.{IsRun}
+use Rattle.law_safety.specs.Invariant.{IsObedientRun}
 
 -- ---- lists without repetition
 
@@ -50,7 +50,7 @@ split_distinct {X = X} (z ∷ xs) ys x all there = elim (contains_cases z xs x t
 put_cases : (h : Hearing) (gs : List Hearing) (y : Hearing) → Contains (put_in h gs) y → (h ≡ y) ⊎ Contains gs y
 put_cases h [] y there = contains_cases h [] y there
 put_cases h (g ∷ gs) y there =
-    cond_both (comes_before g h) (g ∷ put_in h gs) (h ∷ g ∷ gs) (λ (l : List Hearing). Contains l y → (h ≡ y) ⊎ Contains (g ∷ gs) y)
+    cond_both (reception_comes_before g h) (g ∷ put_in h gs) (h ∷ g ∷ gs) (λ (l : List Hearing). Contains l y → (h ≡ y) ⊎ Contains (g ∷ gs) y)
     (λ before is. elim (contains_cases g (put_in h gs) y is) [
       | inl same ↦ inr (subst (Contains (g ∷ gs)) same (contains_head g gs))
       | inr later ↦ elim (put_cases h gs y later) [ inl here ↦ inl here | inr old ↦ inr (contains_tail g gs y old) ]
@@ -60,7 +60,7 @@ put_cases h (g ∷ gs) y there =
 put_distinct : (h : Hearing) (gs : List Hearing) → (Contains gs h → ⊥) → Distinct gs → Distinct (put_in h gs)
 put_distinct h [] none all = (none, tt)
 put_distinct h (g ∷ gs) none all =
-    cond_both (comes_before g h) (g ∷ put_in h gs) (h ∷ g ∷ gs) (λ (l : List Hearing). Distinct l)
+    cond_both (reception_comes_before g h) (g ∷ put_in h gs) (h ∷ g ∷ gs) (λ (l : List Hearing). Distinct l)
     (λ before. (
       λ there. elim (put_cases h gs g there) [ inl same ↦ none (subst (Contains (g ∷ gs)) (sym same) (contains_head g gs)) | inr old ↦ all.0 old ],
       put_distinct h gs (λ there. none (contains_tail g gs h there)) all.1,
@@ -80,9 +80,9 @@ sorted_distinct (h ∷ hs) all = put_distinct h (by_end hs) (λ there. all.0 (so
 
 -- ---- hearings of one node
 
-module _ (s : ScenarioParts) (clocks : ℕ → ℕ → ℕ) (air : List Entry) (run : IsRun s clocks air) (lawful : Lawful s clocks air) (v : ℕ) where
+module _ (s : ScenarioParts) (clocks : ℕ → ℕ → ℕ) (air : List Entry) (run : IsObedientRun s clocks air) (lawful : Lawful s clocks air) (v : ℕ) where
   -- what ends at one tick came over one channel
-  pub one_channel : (x y : Sending) → IsHeard air v x → IsHeard air v y → x.end ≡ y.end → x.rank ≡ y.rank
+  pub one_channel : (x y : Sending) → HasHeardEntry air v x → HasHeardEntry air v y → x.end ≡ y.end → x.rank ≡ y.rank
   one_channel x y first second same =
       let a = run.heedful.heard v x first in
       let b = run.heedful.heard v y second in
@@ -96,14 +96,14 @@ module _ (s : ScenarioParts) (clocks : ℕ → ℕ → ℕ) (air : List Entry) (
       let on_y : ListensSince y.rank k (device_in s clocks air v (suc k)) =
       tuned_listens s clocks air run.heedful.trails v y.rank k
       (b.tuned k (omega (arith, y_lasts.1, y_some, same)) (omega (arith, y_lasts.1, y_some, same))) in
-      let of_x : channel_of (device_in s clocks air v (suc k)).listening ≡ Some x.rank = ap (λ (l : Option Listening). channel_of l) on_x.is
+      let of_x : channel_if_on (device_in s clocks air v (suc k)).listening ≡ Some x.rank = ap (λ (l : Option Listening). channel_if_on l) on_x.is
       ∙ ap (λ (r : ℕ). Some r) on_x.channel in
-      let of_y : channel_of (device_in s clocks air v (suc k)).listening ≡ Some y.rank = ap (λ (l : Option Listening). channel_of l) on_y.is
+      let of_y : channel_if_on (device_in s clocks air v (suc k)).listening ≡ Some y.rank = ap (λ (l : Option Listening). channel_if_on l) on_y.is
       ∙ ap (λ (r : ℕ). Some r) on_y.channel in
       same_Some x.rank y.rank (sym of_x ∙ of_y)
 
   -- and is one, if it is the same packet
-  pub same_heard : (x y : Sending) → IsHeard air v x → IsHeard air v y → x.end ≡ y.end → x.packet ≡ y.packet → x ≡ y
+  pub same_heard : (x y : Sending) → HasHeardEntry air v x → HasHeardEntry air v y → x.end ≡ y.end → x.packet ≡ y.packet → x ≡ y
   same_heard x y first second same packet =
       let a = ((lawful.hearing.heard v x).0 first).1 in
       let b = ((lawful.hearing.heard v y).0 second).1 in
@@ -139,7 +139,7 @@ module _ (s : ScenarioParts) (clocks : ℕ → ℕ → ℕ) (air : List Entry) (
       filter_distinct (λ (h : Reception). h.end == t) (heard_by air v)
       (map_distinct reception_of (by_end (hearings_by air v)) tells (sorted_distinct (hearings_by air v) own))
     where
-      of_v : (g : Hearing) → Contains (by_end (hearings_by air v)) g → IsHeard air v g.sending × (g.node ≡ v)
+      of_v : (g : Hearing) → Contains (by_end (hearings_by air v)) g → HasHeardEntry air v g.sending × (g.node ≡ v)
       of_v g there =
           let both = filtered (λ (h : Hearing). h.node == v) (hearings_of air) g (sorted_from (hearings_by air v) g there) in
           let node : g.node ≡ v = eqb-true g.node v both.1 in

@@ -1,7 +1,7 @@
 -- Events of a window, and what happened in it.
 use Rattle.std.proofs.Common.{◌≡◌, inl, inr, List, [], ◌∷◌, ◌++◌, Contains, fold, map, refl, sym, ◌∙◌, ap}
 use Rattle.glossy_relay.specs.FloodState.{FloodState}
-use Rattle.air_log.specs.NodeEvents.{Event, Heard, Ended, Occasion, after, after_all, occasions}
+use Rattle.air_log.specs.NodeEvents.{Event, Heard, Ended, EventOccasion, flood_after_event, flood_after_events, event_occasions}
 use Rattle.lwb_base.proofs.Elements.{not_in_none, contains_head, contains_tail, contains_cases}
 use Rattle.law_windows.specs.WindowEvents.{happening_of}
 use Rattle.law_windows.specs.WindowFloods.{after_happening}
@@ -37,31 +37,31 @@ map_parts f [] x ys = refl
 map_parts {Y = Y} f (z ∷ xs) x ys = ap (λ (l : List Y). f z ∷ l) (map_parts f xs x ys)
 
 -- what events make of a flood, their happenings make of it
-pub same_flood : (f : FloodState) (es : List Event) → after_all f es ≡ fold after_happening f (map happening_of es)
+pub same_flood : (f : FloodState) (es : List Event) → flood_after_events f es ≡ fold after_happening f (map happening_of es)
 same_flood f [] = refl
-same_flood f (Heard x ∷ es) = same_flood (after f (Heard x)) es
-same_flood f (Ended x ∷ es) = same_flood (after f (Ended x)) es
+same_flood f (Heard x ∷ es) = same_flood (flood_after_event f (Heard x)) es
+same_flood f (Ended x ∷ es) = same_flood (flood_after_event f (Ended x)) es
 
 -- the occasion of an event among others
-pub occasion_at : (f : FloodState) (first : List Event) (e : Event) (rest : List Event) → Contains (occasions f (first ++ e ∷ rest)) (record {
-  before = after_all f first;
+pub occasion_at : (f : FloodState) (first : List Event) (e : Event) (rest : List Event) → Contains (event_occasions f (first ++ e ∷ rest)) (record {
+  before = flood_after_events f first;
   event = e;
 })
-occasion_at f [] e rest = contains_head (record { before = f; event = e }) (occasions (after f e) rest)
-occasion_at f (d ∷ first) e rest = contains_tail (record { before = f; event = d }) (occasions (after f d) (first ++ e ∷ rest)) _
-    (occasion_at (after f d) first e rest)
+occasion_at f [] e rest = contains_head (record { before = f; event = e }) (event_occasions (flood_after_event f e) rest)
+occasion_at f (d ∷ first) e rest = contains_tail (record { before = f; event = d }) (event_occasions (flood_after_event f d) (first ++ e ∷ rest)) _
+    (occasion_at (flood_after_event f d) first e rest)
 
-pub record IsOccasion (f : FloodState) (es : List Event) (o : Occasion) : Type 0 where
+pub record IsOccasion (f : FloodState) (es : List Event) (o : EventOccasion) : Type 0 where
   pub first : List Event
   pub rest : List Event
   pub is : es ≡ first ++ o.event ∷ rest
-  pub before : o.before ≡ after_all f first
+  pub before : o.before ≡ flood_after_events f first
 
-pub occasion_of : (f : FloodState) (es : List Event) (o : Occasion) → Contains (occasions f es) o → IsOccasion f es o
+pub occasion_of : (f : FloodState) (es : List Event) (o : EventOccasion) → Contains (event_occasions f es) o → IsOccasion f es o
 occasion_of f [] o there = absurd (not_in_none o there)
-occasion_of f (e ∷ es) o there = elim (contains_cases (record { before = f; event = e }) (occasions (after f e) es) o there) [
-  | inl same ↦ record { first = []; rest = es; is = ap (λ (p : Occasion). p.event ∷ es) same; before = sym (ap (λ (p : Occasion). p.before) same) }
-  | inr later ↦ (let c = occasion_of (after f e) es o later in record {
+occasion_of f (e ∷ es) o there = elim (contains_cases (record { before = f; event = e }) (event_occasions (flood_after_event f e) es) o there) [
+  | inl same ↦ record { first = []; rest = es; is = ap (λ (p : EventOccasion). p.event ∷ es) same; before = sym (ap (λ (p : EventOccasion). p.before) same) }
+  | inr later ↦ (let c = occasion_of (flood_after_event f e) es o later in record {
     first = e ∷ c.first;
     rest = c.rest;
     is = ap (λ (l : List Event). e ∷ l) c.is;

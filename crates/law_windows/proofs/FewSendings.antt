@@ -6,7 +6,7 @@ use Rattle.std.proofs.lemmas.List.Elements.{filter_map-append}
 use Rattle.lwb_packets.specs.declared.kind.Kind as Kind
 use Rattle.glossy_relay.specs.FloodState.{FloodState, listening}
 use Rattle.glossy_relay.specs.Relaying.{after_heard, slot_of}
-use Rattle.bus_rules.specs.Slots.{part_of, opened}
+use Rattle.bus_rules.specs.Slots.{part_of, opened_slot}
 use Rattle.bus_rules.specs.Tuning.{rank_of}
 use Rattle.lwb_member.specs.Said.{message_of}
 use Rattle.node_core.specs.declared.stage.Stage.{Stage}
@@ -23,7 +23,7 @@ use Rattle.air_log.specs.Trails.{run_end, setup_of}
 use Rattle.air_log.specs.WindowLogs.{WindowLog, Happening, HeardAt, SentAt}
 use Rattle.law_trails.specs.Phases.{End}
 use Rattle.law_trails.specs.TrailLinks.{device_in}
-use Rattle.law_safety.specs.Invariant.{IsRun}
+use Rattle.law_safety.specs.Invariant.{IsObedientRun}
 use Rattle.law_safety.specs.NodesInOrder.{InOpenWindow, WindowAt}
 use Rattle.law_safety.specs.Rows.{IsFine}
 use Rattle.law_safety.proofs.InvariantHolds.{all_rows}
@@ -73,7 +73,7 @@ module _ (s : ScenarioParts) (clocks : ℕ → ℕ → ℕ) (air : List Entry) (
   few_steps = record {
     begun = λ d n j fine due on stage.
         (let part = part_of n.core.plan j in
-        record { counted = flood_unsent (setup_of s v) part j (opened (setup_of s v) n.frame part n.core).message; few = omega arith });
+        record { counted = flood_unsent (setup_of s v) part j (opened_slot (setup_of s v) n.frame part n.core).message; few = omega arith });
     joined = λ d h n y fine next now on stage says rank.
         record { counted = heard_sent (listening Kind.TheVariants.Schedule (slot_of h.packet) s.sends) h.packet; few = omega arith };
     heard = λ d h n j w x fine next now on stage is in_it known.
@@ -94,7 +94,7 @@ module _ (s : ScenarioParts) (clocks : ℕ → ℕ → ℕ) (air : List Entry) (
     closed = λ d n j w x fine due on stage is known. record { counted = known.counted; few = known.few };
   }
 
-pub few_sent : (s : ScenarioParts) (clocks : ℕ → ℕ → ℕ) (air : List Entry) → IsRun s clocks air → (v : ℕ) → knows s.nodes v ≡ true
+pub few_sent : (s : ScenarioParts) (clocks : ℕ → ℕ → ℕ) (air : List Entry) → IsObedientRun s clocks air → (v : ℕ) → knows s.nodes v ≡ true
     → (t : ℕ) → t ≤ run_end s → (w : WindowLog) → Contains (device_in s clocks air v t).made.windows w → length (sent_packets w) ≤ s.sends
 few_sent s clocks air run v known t within w there =
     ((windows_before s clocks air v (λ now taken x. SendsFew s x) all_rows run known (λ u at. few_steps s clocks air v u) t within).each w there).few

@@ -19,16 +19,16 @@ use Rattle.scenario_text.specs.declared.script.ScriptLine.{ScriptLine}
 use Rattle.air_log.specs.declared.entry.Entry.{Entry}
 use Rattle.air_log.specs.WindowLogs.{WindowLog, Happening, Closing}
 use Rattle.air_log.specs.Devices.{Device, Power, PowerOff, PowerOn}
-use Rattle.air_log.specs.ScriptedDevices.{switched_on}
+use Rattle.air_log.specs.ScriptedDevices.{device_after_on}
 use Rattle.air_log.specs.Lawful.{heard_by}
 use Rattle.air_log.specs.Trails.{Reception, setup_of, run_end, before_tick}
 use Rattle.lwb_base.proofs.Elements.{not_in_none, contains_head, contains_tail, contains_cases}
-use Rattle.law_trails.specs.Phases.{Phase, Lines, Hearings, End, Alarms, Start, Over, IsNextLine}
-use Rattle.law_trails.specs.Walks.{Now, Keeps, after_row}
+use Rattle.law_trails.specs.Phases.{Phase, Lines, Hearings, End, Alarms, Start, Over, IsNextLineOf}
+use Rattle.law_trails.specs.Walks.{Now, Keeps, device_after_row}
 use Rattle.law_trails.specs.TrailLinks.{device_in}
 use Rattle.law_trails.proofs.RowsOfDevices.{row_obeyed}
 use Rattle.law_trails.proofs.WalkOfRun.{holds_in_tick}
-use Rattle.law_safety.specs.Invariant.{IsRun}
+use Rattle.law_safety.specs.Invariant.{IsObedientRun}
 use Rattle.law_safety.specs.KnownInRows.{IsHeardNow}
 use Rattle.law_safety.specs.Rows.{AtTick, AllRows}
 use Rattle.law_safety.proofs.AwaitedSlots.{awaits, frame_now as opens_now}
@@ -61,13 +61,13 @@ module _ (s : ScenarioParts) (clocks : ℕ → ℕ → ℕ) (air : List Entry) (
   abbrev base : (t : ℕ) (phase : Phase) (d : Device) → Now All s t phase d → Now (P s clocks air v (Rows s clocks v)) s t phase d
   base = UnchangedNodes.base s clocks air v
 
-  abbrev at_lines : (t : ℕ) → AtTick s clocks air v t → (d : Device) (l : ScriptLine) → IsNextLine s v (clocks v) (heard_by air v) t l d → (p : Power)
+  abbrev at_lines : (t : ℕ) → AtTick s clocks air v t → (d : Device) (l : ScriptLine) → IsNextLineOf s v (clocks v) (heard_by air v) t l d → (p : Power)
       → UnchangedIn s clocks air v t Lines p
   at_lines = UnchangedNodes.at_lines s clocks air v
 
   abbrev row_leaves : (t : ℕ) (e : Event) (x : Option Sending) (d : Device) (n : Node) (r : Stepped)
       → UnchangedAt s clocks air v (t / s.profile.frame) r.node r.node.stage
-      → UnchangedBy s clocks air v (t / s.profile.frame) (after_row (clocks v) (setup_of s v) t e x d n r).power
+      → UnchangedBy s clocks air v (t / s.profile.frame) (device_after_row (clocks v) (setup_of s v) t e x d n r).power
   row_leaves = UnchangedNodes.row_leaves s clocks air v
 
   -- the windows behind a row
@@ -121,7 +121,7 @@ module _ (s : ScenarioParts) (clocks : ℕ → ℕ → ℕ) (air : List Entry) (
       record {
         boot = λ d l count here next act off. (
           k.boot d l count (base t Lines d here) next act off,
-          at_lines t at d l next (switched_on c S t count d).power,
+          at_lines t at d l next (device_after_on c S t count d).power,
           (let n = rebooted (count + 1) in
               same_firsts d.made.windows _ (row_obeyed c S t Boot None (record d { power = PowerOn n }) n (boots S n (c t))).windows here.holds.2),
         );
@@ -206,7 +206,7 @@ module _ (s : ScenarioParts) (clocks : ℕ → ℕ → ℕ) (air : List Entry) (
         passing = λ d here is. (k.passing d (base t Over d here) is, passes s clocks air v t at d here.holds.1, here.holds.2);
       }
 
-  module _ (rows : AllRows) (run : IsRun s clocks air) (known : knows s.nodes v ≡ true) where
+  module _ (rows : AllRows) (run : IsObedientRun s clocks air) (known : knows s.nodes v ≡ true) where
     -- before each tick
     firsts_before : (t : ℕ) → t ≤ run_end s → Unchanged t Lines (device_in s clocks air v t) × Firsts (device_in s clocks air v t).made.windows
     unfolding before_tick

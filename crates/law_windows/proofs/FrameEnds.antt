@@ -13,7 +13,7 @@ use Rattle.air_log.specs.Trails.{run_end, frame_start}
 use Rattle.law_trails.specs.Phases.{Hearings, Over, device_at}
 use Rattle.law_trails.specs.TrailLinks.{device_in}
 use Rattle.law_trails.specs.Walks.{NoWindow}
-use Rattle.law_safety.specs.Invariant.{Invariant, IsRun}
+use Rattle.law_safety.specs.Invariant.{Invariant, IsObedientRun}
 use Rattle.law_safety.specs.NodesInOrder.{InOrderBy}
 use Rattle.law_safety.specs.Rows.{AllRows}
 use Rattle.law_safety.proofs.FrameStarts.{frame_before, rests_at_start, counts_at_start}
@@ -46,7 +46,7 @@ module _ (s : ScenarioParts) (clocks : ℕ → ℕ → ℕ) (air : List Entry) (
   linked_rest [] logs linked = linked
   linked_rest (x ∷ newer) logs linked = linked_rest newer logs linked.1
 
-  module _ (rows : AllRows) (run : IsRun s clocks air) (known : knows s.nodes v ≡ true) (in_run : f < s.frames) where
+  module _ (rows : AllRows) (run : IsObedientRun s clocks air) (known : knows s.nodes v ≡ true) (in_run : f < s.frames) where
     abbrev next : ℕ
     next = frame_start s (suc f)
 

@@ -13,11 +13,11 @@ use Rattle.scenario_text.specs.declared.script.ScriptLine.{ScriptLine}
 use Rattle.air_log.specs.declared.entry.Entry.{Entry}
 use Rattle.air_log.specs.Devices.{Device, Power, PowerOff, PowerOn}
 use Rattle.air_log.specs.Lawful.{heard_by}
-use Rattle.air_log.specs.ScriptedDevices.{after_act, after_line, dropped, with_new_core}
+use Rattle.air_log.specs.ScriptedDevices.{device_after_act, device_after_line, dropped, with_new_core}
 use Rattle.air_log.specs.Trails.{before_tick, frame_start, lines_at, setup_of}
 use Rattle.law_trails.specs.TrailLinks.{device_in}
 use Rattle.law_trails.proofs.RowsOfDevices.{switched_on_is}
-use Rattle.law_safety.specs.Invariant.{IsRun}
+use Rattle.law_safety.specs.Invariant.{IsObedientRun}
 use Rattle.law_safety.proofs.InvariantHolds.{all_rows}
 use Rattle.law_terms.specs.FrameCourses.{power_at}
 use Rattle.law_windows.specs.FramePlaces.{PlacesLaw, StandsByTune}
@@ -31,13 +31,13 @@ PlacedBy (PowerOn n) = StandsByTune n
 module _ (clock : ℕ → ℕ) (s : Setup) (t : ℕ) where
   -- a line that is told
   put_place : (f i : ℕ) (payload : List ℕ) (d : Device) (n : Node) → d.power ≡ PowerOn n → StandsByTune n
-      → PlacedBy (after_act clock s t f d (Put i payload) (PowerOn n)).power
+      → PlacedBy (device_after_act clock s t f d (Put i payload) (PowerOn n)).power
   put_place f i payload d n is placed =
       cond_both (refuses i n.core) (dropped s.id f i d) (with_new_core d n (queues i payload n.core)) (λ (e : Device). PlacedBy e.power)
       (λ refused. subst PlacedBy (sym is) placed)
       (λ taken. record { place = placed.place; fresh = placed.fresh })
 
-  act_place : (f : ℕ) (d : Device) (a : Act) (p : Power) → d.power ≡ p → PlacedBy p → PlacedBy (after_act clock s t f d a p).power
+  act_place : (f : ℕ) (d : Device) (a : Act) (p : Power) → d.power ≡ p → PlacedBy p → PlacedBy (device_after_act clock s t f d a p).power
   act_place f d On (PowerOff boots) is placed = subst PlacedBy (sym (switched_on_is clock s t boots d).power) (record { place = refl; fresh = refl })
   act_place f d On (PowerOn n) is placed = subst PlacedBy (sym is) placed
   act_place f d Off (PowerOff boots) is placed = subst PlacedBy (sym is) tt
@@ -49,9 +49,9 @@ module _ (clock : ℕ → ℕ) (s : Setup) (t : ℕ) where
   act_place f d (Put i payload) (PowerOff boots) is placed = subst PlacedBy (sym is) tt
   act_place f d (Put i payload) (PowerOn n) is placed = put_place f i payload d n is placed
 
-  lines_place : (ls : List ScriptLine) (d : Device) → PlacedBy d.power → PlacedBy (fold (after_line clock s t) d ls).power
+  lines_place : (ls : List ScriptLine) (d : Device) → PlacedBy d.power → PlacedBy (fold (device_after_line clock s t) d ls).power
   lines_place [] d placed = placed
-  lines_place (l ∷ ls) d placed = lines_place ls (after_line clock s t d l) (act_place l.frame d l.act d.power refl placed)
+  lines_place (l ∷ ls) d placed = lines_place ls (device_after_line clock s t d l) (act_place l.frame d l.act d.power refl placed)
 
 module _ (s : ScenarioParts) (clocks : ℕ → ℕ → ℕ) (air : List Entry) (v : ℕ) where
   -- before the script lines
@@ -63,13 +63,13 @@ module _ (s : ScenarioParts) (clocks : ℕ → ℕ → ℕ) (air : List Entry) (
   unfolding before_tick
   at_first = tt
 
-  before_lines : IsRun s clocks air → knows s.nodes v ≡ true → (f : ℕ) → f < s.frames → PlacedBy (device_in s clocks air v (frame_start s f)).power
+  before_lines : IsObedientRun s clocks air → knows s.nodes v ≡ true → (f : ℕ) → f < s.frames → PlacedBy (device_in s clocks air v (frame_start s f)).power
   before_lines run known zero in_run = subst (λ (t : ℕ). PlacedBy (before_tick s v (clocks v) (heard_by air v) t).power) (omega arith) at_first
   before_lines run known (suc f) in_run =
       let end = is_end s clocks air v f all_rows run known (omega (arith, in_run)) in
       ended_place f _ (device_in s clocks air v (frame_start s (suc f))).power end.ends
 
-  behind_lines : IsRun s clocks air → knows s.nodes v ≡ true → (f : ℕ) → f < s.frames → PlacedBy (power_at s clocks air v f)
+  behind_lines : IsObedientRun s clocks air → knows s.nodes v ≡ true → (f : ℕ) → f < s.frames → PlacedBy (power_at s clocks air v f)
   behind_lines run known f in_run =
       lines_place (clocks v) (setup_of s v) (frame_start s f) (lines_at s v (frame_start s f)) (device_in s clocks air v (frame_start s f))
       (before_lines run known f in_run)

@@ -19,9 +19,9 @@ use Rattle.node_core.specs.Rows.{orders_by}
 use Rattle.scenario_text.specs.ScenarioParts.{ScenarioParts}
 use Rattle.air_log.specs.WindowLogs.{WindowLog, Happening, HeardAt, Closing}
 use Rattle.air_log.specs.Devices.{Device, Power, PowerOff, PowerOn, event_by, moved, stepped, obeyed}
-use Rattle.air_log.specs.Trails.{Reception, setup_of, hears}
+use Rattle.air_log.specs.Trails.{Reception, setup_of, device_after_reception}
 use Rattle.lwb_base.proofs.Elements.{contains_head, contains_tail, contains_cases}
-use Rattle.law_trails.specs.Walks.{NoWindow, after_row}
+use Rattle.law_trails.specs.Walks.{NoWindow, device_after_row}
 use Rattle.law_trails.proofs.UnmovedDevices.{unmoved}
 use Rattle.law_trails.proofs.RowsOfDevices.{row_obeyed}
 use Rattle.law_windows.specs.OpenWindows.{AreClosed, StandAt, StandBy}
@@ -64,7 +64,7 @@ module _ (s : ScenarioParts) (clocks : ℕ → ℕ → ℕ) (v t : ℕ) where
   Has d = HasWindows s v (λ w. ⊤) t d
 
   abbrev next : Device → Reception → Device
-  next d h = hears (clocks v) (setup_of s v) t d h
+  next d h = device_after_reception (clocks v) (setup_of s v) t d h
 
   -- one hearing
   abbrev Step : Device → Reception → Device → Type 0
@@ -82,10 +82,10 @@ module _ (s : ScenarioParts) (clocks : ℕ → ℕ → ℕ) (v t : ℕ) where
       (all_closed d.made.windows n st none (subst (StandAt d.made.windows n) stage (subst (StandBy d.made.windows) on has.stand))) has
 
   joins_now : (d : Device) (h : Reception) (n : Node) (y : Schedule) → d.power ≡ PowerOn n → n.stage ≡ Scanning → Has d
-      → Step d h (after_row (clocks v) (setup_of s v) t (Heard h.packet) None d n (joins (setup_of s v) n (clocks v t) h.packet y))
+      → Step d h (device_after_row (clocks v) (setup_of s v) t (Heard h.packet) None d n (joins (setup_of s v) n (clocks v t) h.packet y))
   joins_now d h n y on stage has =
       let r = joins S n (clocks v t) h.packet y in
-      let e = after_row (clocks v) S t (Heard h.packet) None d n r in
+      let e = device_after_row (clocks v) S t (Heard h.packet) None d n r in
       let x = joined_log S t (clocks v t) n h.packet y in
       let logs : e.made.windows ≡ x ∷ d.made.windows = (row_obeyed (clocks v) S t (Heard h.packet) None d n r).windows
       ∙ joined_after S (clocks v t) t n h.packet y d.made.windows stage in
@@ -106,10 +106,10 @@ module _ (s : ScenarioParts) (clocks : ℕ → ℕ → ℕ) (v t : ℕ) where
       )
 
   goes_on : (d : Device) (h : Reception) (n : Node) (j : ℕ) (w : Window) → d.power ≡ PowerOn n → n.stage ≡ InWindow j w → Has d
-      → Step d h (after_row (clocks v) (setup_of s v) t (Heard h.packet) None d n (window_hears (setup_of s v) n (clocks v t) j w h.packet))
+      → Step d h (device_after_row (clocks v) (setup_of s v) t (Heard h.packet) None d n (window_hears (setup_of s v) n (clocks v t) j w h.packet))
   goes_on d h n j w on stage has =
       let r = window_hears S n (clocks v t) j w h.packet in
-      let e = after_row (clocks v) S t (Heard h.packet) None d n r in
+      let e = device_after_row (clocks v) S t (Heard h.packet) None d n r in
       let u = hearing s.profile (rank_of n.core.tune) (clocks v t) w h.packet in
       let is = open_first s clocks v (λ w. ⊤) t d n j w on stage has in
       let x : WindowLog = record (is.first) { happenings = is.first.happenings ++ HeardAt t h.packet ∷ []; last = u } in
@@ -212,8 +212,8 @@ module _ (s : ScenarioParts) (clocks : ℕ → ℕ → ℕ) (v t : ℕ) where
 
   -- all hearings of the tick, and those before one of them
   pub grown : (hs : List Reception) (d : Device) → Has d
-      → Has (fold (hears (clocks v) (setup_of s v) t) d hs)
-      × ((x : WindowLog) → Contains (fold (hears (clocks v) (setup_of s v) t) d hs).made.windows x → HasComeOf t d.made.windows hs x)
+      → Has (fold (device_after_reception (clocks v) (setup_of s v) t) d hs)
+      × ((x : WindowLog) → Contains (fold (device_after_reception (clocks v) (setup_of s v) t) d hs).made.windows x → HasComeOf t d.made.windows hs x)
   grown [] d has = (has, λ x there. by_closed d has x there)
     where
       by_closed : (d : Device) → Has d → (x : WindowLog) → Contains d.made.windows x → HasComeOf t d.made.windows [] x

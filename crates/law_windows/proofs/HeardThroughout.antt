@@ -8,13 +8,13 @@ use Rattle.std.proofs.lemmas.List.Elements.{Contains-append_left, Contains-appen
 use Rattle.scenario_text.specs.ScenarioParts.{ScenarioParts}
 use Rattle.scenario_text.specs.declared.script.ScriptLine.{ScriptLine}
 use Rattle.radio_model.specs.declared.sending.Sending.{Sending}
-use Rattle.radio_model.specs.Hearing.{frame_of}
+use Rattle.radio_model.specs.Hearing.{frame_of_sending}
 use Rattle.air_log.specs.declared.entry.Entry.{Entry}
-use Rattle.air_log.specs.Entries.{IsHeard}
+use Rattle.air_log.specs.Entries.{HasHeardEntry}
 use Rattle.air_log.specs.Devices.{Device}
-use Rattle.air_log.specs.ScriptedDevices.{after_line}
+use Rattle.air_log.specs.ScriptedDevices.{device_after_line}
 use Rattle.air_log.specs.Lawful.{heard_by}
-use Rattle.air_log.specs.Trails.{Reception, setup_of, frame_start, ending_at, hears, heard, scripted}
+use Rattle.air_log.specs.Trails.{Reception, setup_of, frame_start, ending_at, device_after_reception, device_after_receptions, device_after_script}
 use Rattle.air_log.specs.WindowLogs.{WindowLog, Happening, HeardAt, SentAt, Closing}
 use Rattle.lwb_base.proofs.Elements.{in_filtered, map_contains}
 use Rattle.law_trails.specs.Phases.{End, device_at}
@@ -33,13 +33,14 @@ use Rattle.law_windows.proofs.GrownWindows.{HasComeOf, heard_at, grown}
 module _ (s : ScenarioParts) (clocks : ℕ → ℕ → ℕ) (air : List Entry) (v : ℕ) where
   -- in a window that is the same but for what follows
   more : (taken : ℕ) (w : WindowLog) (e : Happening) → HearsAll air v taken w
-      → (x : Sending) → IsHeard air v x → w.opened < x.end → x.end < taken → IfSome w.closed (λ c. x.end < c.tick)
+      → (x : Sending) → HasHeardEntry air v x → w.opened < x.end → x.end < taken → IfSome w.closed (λ c. x.end < c.tick)
       → Contains (w.happenings ++ e ∷ []) (HeardAt x.end x.packet)
   more taken w e all x there since until before = Contains-append_left w.happenings (e ∷ []) (HeardAt x.end x.packet) (all x there since until before)
 
   module _ (t : ℕ) (at : AtTick s clocks air v t) where
     -- at a tick at which something is heard no line is told
-    pub nothing_told : (x : Sending) → IsHeard air v x → x.end ≡ t → scripted s v (clocks v) t (device_in s clocks air v t) ≡ device_in s clocks air v t
+    pub nothing_told : (x : Sending) → HasHeardEntry air v x → x.end ≡ t
+        → device_after_script s v (clocks v) t (device_in s clocks air v t) ≡ device_in s clocks air v t
     nothing_told x there ends =
         let reach = at.run.heedful.heard v x there in
         let lasts = sent_lasts s clocks air at.run.heedful.trails x reach.sent in
@@ -47,13 +48,14 @@ module _ (s : ScenarioParts) (clocks : ℕ → ℕ → ℕ) (air : List Entry) (
         let flood = at.before.sendings x reach.sent before in
         let from = after_frame_start s clocks air at.run x flood reach.sent in
         let until = before_frame_end s clocks air at.run x flood reach.sent in
-        let frame : t / s.profile.frame ≡ frame_of s.profile x =
-        frame_is s (frame_of s.profile x) t (omega (arith, from, before)) (omega (arith, until, ends)) in
+        let frame : t / s.profile.frame ≡ frame_of_sending s.profile x =
+        frame_is s (frame_of_sending s.profile x) t (omega (arith, from, before)) (omega (arith, until, ends)) in
         let began : frame_start s (t / s.profile.frame) < t = omega (arith, from, before, ap (λ (f : ℕ). f * s.profile.frame) frame) in
-        ap (λ (ls : List ScriptLine). fold (after_line (clocks v) (setup_of s v) t) (device_in s clocks air v t) ls) (none_in_frame s clocks air v t at began)
+        ap (λ (ls : List ScriptLine). fold (device_after_line (clocks v) (setup_of s v) t) (device_in s clocks air v t) ls)
+            (none_in_frame s clocks air v t at began)
 
     -- it is among the hearings of the tick
-    among : (x : Sending) → IsHeard air v x → x.end ≡ t → Contains (map (heard_at t) (ending_at t (heard_by air v))) (HeardAt x.end x.packet)
+    among : (x : Sending) → HasHeardEntry air v x → x.end ≡ t → Contains (map (heard_at t) (ending_at t (heard_by air v))) (HeardAt x.end x.packet)
     among x there ends =
         let h : Reception = record { packet = x.packet; end = x.end } in
         let known : Contains (heard_by air v) h = (reception_is air v h).1 (record { sending = x; there = there; packet = refl; end = refl }) in
@@ -66,7 +68,7 @@ module _ (s : ScenarioParts) (clocks : ℕ → ℕ → ℕ) (air : List Entry) (
     closed_later (Some c) end ends before by some = omega (arith, ends, before, by)
 
     happened : (w : WindowLog) → HasComeOf t (device_in s clocks air v t).made.windows (ending_at t (heard_by air v)) w → IfSome w.closed (λ c. c.tick ≤ t)
-        → (x : Sending) → IsHeard air v x → w.opened < x.end → IfSome w.closed (λ c. x.end < c.tick) → x.end ≡ t
+        → (x : Sending) → HasHeardEntry air v x → w.opened < x.end → IfSome w.closed (λ c. x.end < c.tick) → x.end ≡ t
         → Contains w.happenings (HeardAt x.end x.packet)
     happened w (inl old) past x heard since before ends = absurd (closed_later w.closed x.end ends before past old.1)
     happened w (inr (inl grown)) past x heard since before ends =
@@ -83,8 +85,8 @@ module _ (s : ScenarioParts) (clocks : ℕ → ℕ → ℕ) (air : List Entry) (
           let ends : x.end ≡ t = omega (arith, late, until) in
           let d0 = device_in s clocks air v t in
           let hs = ending_at t (heard_by air v) in
-          let all : d ≡ fold (hears (clocks v) (setup_of s v) t) d0 hs =
-          enters ∙ ap (λ (e : Device). fold (hears (clocks v) (setup_of s v) t) e hs) (nothing_told x heard ends) in
+          let all : d ≡ fold (device_after_reception (clocks v) (setup_of s v) t) d0 hs =
+          enters ∙ ap (λ (e : Device). fold (device_after_reception (clocks v) (setup_of s v) t) e hs) (nothing_told x heard ends) in
           let has : HasWindows s v (λ w. ⊤) t d0 = record {
             each = λ y in_it. tt;
             past = before.past;

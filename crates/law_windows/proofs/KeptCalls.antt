@@ -10,7 +10,7 @@ use Rattle.glossy_relay.specs.declared.flood.Reply.TheVariants.{Relay}
 use Rattle.node_core.specs.Windows.{Window}
 use Rattle.scenario_text.specs.ScenarioParts.{ScenarioParts}
 use Rattle.radio_model.specs.declared.sending.Sending.{Sending}
-use Rattle.air_log.specs.Devices.{Ordered}
+use Rattle.air_log.specs.Devices.{OrderedPacket}
 use Rattle.air_log.specs.Trails.{setup_of}
 use Rattle.air_log.specs.WindowLogs.{WindowLog, Happening, HeardAt, SentAt, Closing}
 use Rattle.lwb_base.proofs.Elements.{contains_head, contains_tail, contains_cases}
@@ -101,7 +101,7 @@ module _ (s : ScenarioParts) (clocks : ℕ → ℕ → ℕ) (v : ℕ) where
         ]
 
         -- while it stays open
-        pub ordered_on : closed ≡ None → (o : Option Ordered) → IfSome o (IsOrderedIn s clocks v (x ∷ earlier))
+        pub ordered_on : closed ≡ None → (o : Option OrderedPacket) → IfSome o (IsOrderedIn s clocks v (x ∷ earlier))
             → IfSome o (IsOrderedIn s clocks v (later ∷ earlier))
         ordered_on none None is_for = tt
         ordered_on none (Some o) is_for = elim (contains_cases x earlier is_for.window is_for.there) [

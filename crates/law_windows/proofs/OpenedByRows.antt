@@ -1,7 +1,7 @@
 -- Each window opens and closes by a row of the node table.
 use Rattle.std.proofs.Common.{◌≡◌, ℕ, List, [], Bool, true, false, Option, Contains, refl, sym, ◌∙◌, ap, subst, IfSome}
 use Rattle.std.proofs.lemmas.List.Elements.{Contains-append_left}
-use Rattle.bus_rules.specs.Slots.{part_of, opened}
+use Rattle.bus_rules.specs.Slots.{part_of, opened_slot}
 use Rattle.node_core.specs.Windows.{Window}
 use Rattle.node_core.specs.Nodes.{Node}
 use Rattle.node_core.specs.Rows.{window_closes}
@@ -11,8 +11,8 @@ use Rattle.air_log.specs.WindowLogs.{WindowLog, Happening, HeardAt, Closing}
 use Rattle.air_log.specs.Trails.{setup_of}
 use Rattle.lwb_base.proofs.Elements.{contains_head}
 use Rattle.law_safety.proofs.OpeningRoles.{same_standing, role_of}
-use Rattle.law_windows.specs.WindowRows.{in_window, OpensBy, IsOpened, ClosesAs}
-use Rattle.law_windows.specs.OpenWindows.{IsOpen}
+use Rattle.law_windows.specs.WindowRows.{node_in_window, OpensBy, IsOpened, ClosesAs}
+use Rattle.law_windows.specs.OpenWindows.{IsOpenWindow}
 use Rattle.law_windows.specs.WindowSteps.{KeepsWindows}
 
 module _ (s : ScenarioParts) (clocks : ℕ → ℕ → ℕ) (v : ℕ) where
@@ -49,17 +49,17 @@ module _ (s : ScenarioParts) (clocks : ℕ → ℕ → ℕ) (v : ℕ) where
     }
 
   -- a window that is open has not closed
-  pub not_closed : (Q : Closing → Type 0) (n : Node) (j : ℕ) (w : Window) (x : WindowLog) → IsOpen n j w x → IfSome x.closed Q
+  pub not_closed : (Q : Closing → Type 0) (n : Node) (j : ℕ) (w : Window) (x : WindowLog) → IsOpenWindow n j w x → IfSome x.closed Q
   not_closed Q n j w x is = subst (λ (c : Option Closing). IfSome c Q) (sym is.open_) tt
 
   -- the row of the closing, by the names of the window
-  closes_as : (n : Node) (j : ℕ) (w : Window) (x : WindowLog) → IsOpen n j w x
-      → (window_closes (setup_of s v) n j w).node ≡ (window_closes (setup_of s v) (in_window x) x.slot x.last).node
+  closes_as : (n : Node) (j : ℕ) (w : Window) (x : WindowLog) → IsOpenWindow n j w x
+      → (window_closes (setup_of s v) n j w).node ≡ (window_closes (setup_of s v) (node_in_window x) x.slot x.last).node
   closes_as n j w x is =
       let S = setup_of s v in
       ap (λ (m : Node). (window_closes S m j w).node) is.node
-      ∙ ap (λ (i : ℕ). (window_closes S (in_window x) i w).node) (sym is.slot)
-      ∙ ap (λ (u : Window). (window_closes S (in_window x) x.slot u).node) (sym is.last)
+      ∙ ap (λ (i : ℕ). (window_closes S (node_in_window x) i w).node) (sym is.slot)
+      ∙ ap (λ (u : Window). (window_closes S (node_in_window x) x.slot u).node) (sym is.last)
 
   pub rows_steps : (air : List Entry) (t : ℕ) → KeepsWindows s clocks air v (λ now taken w. IsOfRows w) t
   rows_steps air t = record {
@@ -70,7 +70,7 @@ module _ (s : ScenarioParts) (clocks : ℕ → ℕ → ℕ) (v : ℕ) where
             frame_before = refl;
             frame_after = refl;
             rank_before = refl;
-            rank_after = (same_standing S n.frame n.core j (opened S n.frame (part_of n.core.plan j) n.core) (role_of S n.frame n.core j)).rank;
+            rank_after = (same_standing S n.frame n.core j (opened_slot S n.frame (part_of n.core.plan j) n.core) (role_of S n.frame n.core j)).rank;
             by = record { awaited = stage; after = refl };
           };
           closes = tt;

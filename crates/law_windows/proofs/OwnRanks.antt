@@ -9,7 +9,7 @@ use Rattle.glossy_relay.specs.FloodState.{FloodState, listening}
 use Rattle.glossy_relay.specs.Relaying.{fits, first_of, after_heard, counter_of, slot_of}
 use Rattle.bus_rules.specs.declared.part.Part.{Part}
 use Rattle.bus_rules.specs.Cores.{Setup}
-use Rattle.bus_rules.specs.Slots.{Message, ScheduleOf, DataOf, RequestOf, part_of, opened}
+use Rattle.bus_rules.specs.Slots.{Message, ScheduleOf, DataOf, RequestOf, part_of, opened_slot}
 use Rattle.lwb_member.specs.Said.{message_of}
 use Rattle.node_core.specs.Windows.{Window}
 use Rattle.node_core.specs.Nodes.{Node}
@@ -78,7 +78,7 @@ module _ (s : ScenarioParts) (clocks : ℕ → ℕ → ℕ) (air : List Entry) (
     begun = λ d n j fine due on stage.
         (let S = setup_of s v in
         let part = part_of n.core.plan j in
-        begun_own S part j (rank_at n) (opened S n.frame part n.core).message);
+        begun_own S part j (rank_at n) (opened_slot S n.frame part n.core).message);
     joined = λ d h n y fine next now on stage says rank.
         heard_own (rank_at n) (listening Kind.TheVariants.Schedule (slot_of h.packet) s.sends) h.packet tt
         (λ z says_z. (let same : y ≡ z = cc in subst (λ (u : Schedule). u.plan.rank ≡ rank_at n) same rank));

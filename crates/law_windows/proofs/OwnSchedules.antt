@@ -7,11 +7,11 @@ use Rattle.node_core.specs.declared.stage.Stage.TheVariants.{InWindow}
 use Rattle.node_core.specs.Windows.{Window}
 use Rattle.node_core.specs.Nodes.{Node}
 use Rattle.node_core.specs.Rows.{is_foreign}
-use Rattle.radio_model.specs.Hearing.{frame_of, slot_of}
+use Rattle.radio_model.specs.Hearing.{frame_of_sending, slot_of_sending}
 use Rattle.scenario_text.specs.ScenarioParts.{ScenarioParts}
 use Rattle.air_log.specs.declared.entry.Entry.{Entry}
 use Rattle.air_log.specs.Devices.{Device, listens_to}
-use Rattle.air_log.specs.Safe.{by_host}
+use Rattle.air_log.specs.Safe.{sender_hosts}
 use Rattle.air_log.specs.Trails.{Reception}
 use Rattle.law_trails.proofs.OtherCounters.{bodies_same}
 use Rattle.law_safety.specs.Beginnings.{MaySay}
@@ -51,5 +51,5 @@ module _ (s : ScenarioParts) (clocks : ℕ → ℕ → ℕ) (air : List Entry) (
       let same : message_of h.packet ≡ message_of o.packet =
       ap message_of now.packet ∙ bodies_same now.sending.packet o.packet flood.few (omega (arith, first)) flood.same in
       ap (is_foreign (rank_at n)) same
-      ∙ not_foreign_by (message_of o.packet) o.node o.rank (frame_of s.profile o) flood.zero (slot_of o)
-      (by_host s clocks air o) flood.begins.start.says (sym flood.slot.channel ∙ own)
+      ∙ not_foreign_by (message_of o.packet) o.node o.rank (frame_of_sending s.profile o) flood.zero (slot_of_sending o)
+      (sender_hosts s clocks air o) flood.begins.start.says (sym flood.slot.channel ∙ own)

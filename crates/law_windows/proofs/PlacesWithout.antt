@@ -9,7 +9,7 @@ use Rattle.node_core.specs.declared.stage.Stage.TheVariants.{Idle, Scanning, Awa
 use Rattle.node_core.specs.Nodes.{Node}
 use Rattle.node_core.specs.Rows.{stage_for}
 use Rattle.node_core.specs.Windows.{Window}
-use Rattle.air_log.specs.WindowLogs.{WindowLog, window_of, windows_after, windows_by}
+use Rattle.air_log.specs.WindowLogs.{WindowLog, window_of_stage, windows_after, windows_by}
 use Rattle.air_log.specs.Devices.{Power, PowerOff, PowerOn}
 use Rattle.law_trails.specs.Walks.{AwaitsFrame, HasNoWindow, NoWindow}
 use Rattle.law_safety.specs.CountedFrames.{IsResting}
@@ -58,7 +58,7 @@ after_frame (Scan r waited) f = tt
 after_frame (Hold r due) f = rests_either (due == f)
 after_frame (Host r due) f = rests_either (due == f)
 
-no_window_of : (stage : Stage) → NoWindow stage → window_of stage ≡ None
+no_window_of : (stage : Stage) → NoWindow stage → window_of_stage stage ≡ None
 no_window_of Idle none = refl
 no_window_of Scanning none = refl
 no_window_of AwaitFrame none = refl
@@ -69,5 +69,5 @@ no_window_of (InWindow j w) none = absurd none
 pub unchanged : (t : ℕ) (e : Event) (x : Option Sending) (n m : Node) (from to : Stage) (logs : List WindowLog) → NoWindow from → NoWindow to
     → windows_after t e x n m from to logs ≡ logs
 unchanged t e x n m from to logs none later =
-    ap (λ (old : Option (ℕ × Window)). windows_by t e x n m old (window_of to) logs) (no_window_of from none)
+    ap (λ (old : Option (ℕ × Window)). windows_by t e x n m old (window_of_stage to) logs) (no_window_of from none)
     ∙ ap (λ (new : Option (ℕ × Window)). windows_by t e x n m None new logs) (no_window_of to later)

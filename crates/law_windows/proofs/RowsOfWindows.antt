@@ -10,7 +10,7 @@ use Rattle.radio_model.specs.declared.sending.Sending.{Sending}
 use Rattle.bus_rules.specs.declared.delivery.Delivery.{Delivery}
 use Rattle.bus_rules.specs.Tuning.{rank_of}
 use Rattle.bus_rules.specs.Cores.{Core, Setup}
-use Rattle.bus_rules.specs.Slots.{part_of, opened, closed, delivery_of}
+use Rattle.bus_rules.specs.Slots.{part_of, opened_slot, closed_slot, delivery_of}
 use Rattle.node_core.specs.declared.stage.Stage.{Stage}
 use Rattle.node_core.specs.declared.stage.Stage.TheVariants.{Scanning, AwaitFrame, AwaitSlot, InWindow}
 use Rattle.node_core.specs.Windows.{Window}
@@ -21,13 +21,13 @@ use Rattle.air_log.specs.WindowLogs.{WindowLog, Closing, happening, windows_afte
 use Rattle.air_log.specs.Devices.{Device, Power, PowerOn}
 use Rattle.air_log.specs.Trails.{setup_of}
 use Rattle.lwb_base.proofs.Elements.{contains_head, contains_tail, contains_cases}
-use Rattle.law_trails.specs.Walks.{after_row, NoWindow}
+use Rattle.law_trails.specs.Walks.{device_after_row, NoWindow}
 use Rattle.law_trails.proofs.RowsOfDevices.{row_obeyed}
 use Rattle.law_safety.specs.SetAlarms.{rank_at}
 use Rattle.law_safety.proofs.OpeningRoles.{same_standing, role_of}
 use Rattle.law_windows.specs.WindowDeliveries.{delivered_by, delivered_in}
-use Rattle.law_windows.specs.OpenWindows.{AreApart, AreClosed, ClosedBy, HasClosedBy, IsOpen, IsOpenFirst, StandAt, StandBy}
-use Rattle.law_windows.specs.WindowSteps.{begun_window, joined_window, begun_log, joined_log, heard_log, sent_log, closed_log, HaveWindows, HasWindows}
+use Rattle.law_windows.specs.OpenWindows.{CloseBeforeNext, AreClosed, ClosedBy, HasClosedBy, IsOpenWindow, IsOpenFirst, StandAt, StandBy}
+use Rattle.law_windows.specs.WindowSteps.{begun_window, joined_window, begun_log, joined_log, heard_log, sent_log, log_after_closing, HaveWindows, HasWindows}
 use Rattle.law_windows.proofs.PlacesWithout.{all_closed, stand_there, unchanged}
 
 -- the closing of a window, whether the round has more slots or not
@@ -43,9 +43,9 @@ rests_then i false = tt
 
 -- what a window delivers as it closes, by what it is of
 abbrev delivers : Setup → ℕ → ℕ → ℕ → Core → Window → Option Delivery
-delivers s f rank j c w = option_map (delivery_of s.id f rank j) (closed s f w.part w.flood.initiated c (accepted_in w)).delivered
+delivers s f rank j c w = option_map (delivery_of s.id f rank j) (closed_slot s f w.part w.flood.initiated c (accepted_in w)).delivered
 
-delivers_same : (s : Setup) (n : Node) (j : ℕ) (w : Window) (x : WindowLog) → IsOpen n j w x
+delivers_same : (s : Setup) (n : Node) (j : ℕ) (w : Window) (x : WindowLog) → IsOpenWindow n j w x
     → delivers s n.frame (rank_at n) j n.core w ≡ delivers s x.frame x.rank x.slot x.after.core x.last
 delivers_same s n j w x is =
     ap (λ (f : ℕ). delivers s f (rank_at n) j n.core w) (sym is.frame)
@@ -88,7 +88,7 @@ module _ (s : Setup) (now t : ℕ) where
 
   pub closed_after : (n : Node) (j : ℕ) (w : Window) (logs : List WindowLog) (first : WindowLog) (earlier : List WindowLog)
       → n.stage ≡ InWindow j w → logs ≡ first ∷ earlier
-      → windows_after t Alarm None n (window_closes s n j w).node n.stage (window_closes s n j w).node.stage logs ≡ closed_log s t n j w first ∷ earlier
+      → windows_after t Alarm None n (window_closes s n j w).node n.stage (window_closes s n j w).node.stage logs ≡ log_after_closing s t n j w first ∷ earlier
   closed_after n j w logs first earlier stage is =
       let m = (window_closes s n j w).node in
       ap (λ (st : Stage). windows_after t Alarm None n m st m.stage logs) stage
@@ -104,7 +104,7 @@ module _ (s : ScenarioParts) (clocks : ℕ → ℕ → ℕ) (v : ℕ) (K : Windo
   same_windows logs logs' ds ds' p p' same_logs same_ds same_p have = record {
     each = λ x there. have.each x (subst (λ (l : List WindowLog). Contains l x) same_logs there);
     past = λ x there. have.past x (subst (λ (l : List WindowLog). Contains l x) same_logs there);
-    apart = subst AreApart (sym same_logs) have.apart;
+    apart = subst CloseBeforeNext (sym same_logs) have.apart;
     stand = subst (λ (l : List WindowLog). StandBy l p') (sym same_logs) (subst (StandBy logs) (sym same_p) have.stand);
     delivered = same_ds ∙ have.delivered ∙ ap (delivered_in (setup_of s v)) (sym same_logs);
   }
@@ -113,17 +113,17 @@ module _ (s : ScenarioParts) (clocks : ℕ → ℕ → ℕ) (v : ℕ) (K : Windo
   of_row : (e : Event) (x : Option Sending) (d : Device) (n : Node) (r : Stepped) (logs : List WindowLog)
       → windows_after t e x n r.node n.stage r.node.stage d.made.windows ≡ logs
       → HaveWindows s v K t logs (d.made.deliveries ++ option_to_list r.delivery) (PowerOn r.node)
-      → HasWindows s v K t (after_row (clocks v) (setup_of s v) t e x d n r)
+      → HasWindows s v K t (device_after_row (clocks v) (setup_of s v) t e x d n r)
   of_row e x d n r logs is have =
       let all = row_obeyed (clocks v) (setup_of s v) t e x d n r in
-      let e' = after_row (clocks v) (setup_of s v) t e x d n r in
+      let e' = device_after_row (clocks v) (setup_of s v) t e x d n r in
       same_windows logs e'.made.windows (d.made.deliveries ++ option_to_list r.delivery) e'.made.deliveries (PowerOn r.node) e'.power
       (all.windows ∙ is) all.deliveries all.power have
 
   -- a node that has no window open before and after
   pub rests_on : (e : Event) (x : Option Sending) (d : Device) (n : Node) (r : Stepped) → d.power ≡ PowerOn n
       → NoWindow n.stage → NoWindow r.node.stage → r.delivery ≡ None → HasWindows s v K t d
-      → HasWindows s v K t (after_row (clocks v) (setup_of s v) t e x d n r)
+      → HasWindows s v K t (device_after_row (clocks v) (setup_of s v) t e x d n r)
   rests_on e x d n r on none later nothing have =
       let logs = d.made.windows in
       let closed = all_closed logs n n.stage none (subst (StandBy logs) on have.stand) in
@@ -138,8 +138,8 @@ module _ (s : ScenarioParts) (clocks : ℕ → ℕ → ℕ) (v : ℕ) (K : Windo
   -- a window more
   one_more : (logs : List WindowLog) (ds : List Delivery) (n : Node) (j : ℕ) (w : Window) (x : WindowLog)
       → ((y : WindowLog) → Contains logs y → K y) → K x → AreClosed logs → ds ≡ delivered_in (setup_of s v) logs
-      → ((y : WindowLog) → Contains logs y → ClosedBy t y) → AreApart (x ∷ logs)
-      → n.stage ≡ InWindow j w → IsOpen n j w x
+      → ((y : WindowLog) → Contains logs y → ClosedBy t y) → CloseBeforeNext (x ∷ logs)
+      → n.stage ≡ InWindow j w → IsOpenWindow n j w x
       → HaveWindows s v K t (x ∷ logs) (ds ++ []) (PowerOn n)
   one_more logs ds n j w x each known closed delivered past apart stage is = record {
     each = λ y there. elim (contains_cases x logs y there) [ inl same ↦ subst K same known | inr old ↦ each y old ];
@@ -155,12 +155,12 @@ module _ (s : ScenarioParts) (clocks : ℕ → ℕ → ℕ) (v : ℕ) (K : Windo
 
   pub begins : (d : Device) (n : Node) (j : ℕ) → d.power ≡ PowerOn n → n.stage ≡ AwaitSlot j → K (begun_log (setup_of s v) t n j)
       → HasWindows s v K t d
-      → HasWindows s v K t (after_row (clocks v) (setup_of s v) t Alarm None (record d { alarm = None }) n (window_opens (setup_of s v) n j))
+      → HasWindows s v K t (device_after_row (clocks v) (setup_of s v) t Alarm None (record d { alarm = None }) n (window_opens (setup_of s v) n j))
   begins d n j on stage known have =
       let logs = d.made.windows in
       let r = window_opens S n j in
       let closed = all_closed logs n (AwaitSlot j) tt (subst (StandAt logs n) stage (subst (StandBy logs) on have.stand)) in
-      let rank = (same_standing S n.frame n.core j (opened S n.frame (part_of n.core.plan j) n.core) (role_of S n.frame n.core j)).rank in
+      let rank = (same_standing S n.frame n.core j (opened_slot S n.frame (part_of n.core.plan j) n.core) (role_of S n.frame n.core j)).rank in
       of_row Alarm None (record d { alarm = None }) n r (begun_log S t n j ∷ logs)
       (begun_after S (clocks v t) t n j logs stage)
       (one_more logs d.made.deliveries r.node j (begun_window S n j) (begun_log S t n j) have.each known closed have.delivered have.past
@@ -169,7 +169,7 @@ module _ (s : ScenarioParts) (clocks : ℕ → ℕ → ℕ) (v : ℕ) (K : Windo
 
   pub joins_in : (d : Device) (n : Node) (p : List ℕ) (y : Schedule) → d.power ≡ PowerOn n → n.stage ≡ Scanning
       → K (joined_log (setup_of s v) t (clocks v t) n p y) → HasWindows s v K t d
-      → HasWindows s v K t (after_row (clocks v) (setup_of s v) t (Heard p) None d n (joins (setup_of s v) n (clocks v t) p y))
+      → HasWindows s v K t (device_after_row (clocks v) (setup_of s v) t (Heard p) None d n (joins (setup_of s v) n (clocks v t) p y))
   joins_in d n p y on stage known have =
       let logs = d.made.windows in
       let r = joins S n (clocks v t) p y in
@@ -193,7 +193,7 @@ module _ (s : ScenarioParts) (clocks : ℕ → ℕ → ℕ) (v : ℕ) (K : Windo
       → n.stage ≡ InWindow j w → r.node ≡ record n { stage = InWindow j u } → r.delivery ≡ None
       → (is : IsOpenFirst d.made.windows n j w) → HasWindows s v K t d
       → K (record (is.first) { happenings = is.first.happenings ++ happening t e x; last = u })
-      → HasWindows s v K t (after_row (clocks v) (setup_of s v) t e x d n r)
+      → HasWindows s v K t (device_after_row (clocks v) (setup_of s v) t e x d n r)
   goes_on e x d n j w u r stage node nothing is have known =
       let logs = d.made.windows in
       let first = is.first in
@@ -205,7 +205,7 @@ module _ (s : ScenarioParts) (clocks : ℕ → ℕ → ℕ) (v : ℕ) (K : Windo
       let all = one_more is.earlier d.made.deliveries m j u later
       (λ y there. have.each y (subst (λ (l : List WindowLog). Contains l y) (sym is.is) (contains_tail first is.earlier y there))) known is.closed before
       (λ y there. have.past y (subst (λ (l : List WindowLog). Contains l y) (sym is.is) (contains_tail first is.earlier y there)))
-      (subst AreApart is.is have.apart) refl
+      (subst CloseBeforeNext is.is have.apart) refl
       (record {
         slot = is.now.slot;
         last = refl;
@@ -223,26 +223,26 @@ module _ (s : ScenarioParts) (clocks : ℕ → ℕ → ℕ) (v : ℕ) (K : Windo
 
   pub hears_in : (d : Device) (n : Node) (j : ℕ) (w : Window) (p : List ℕ) → n.stage ≡ InWindow j w → (is : IsOpenFirst d.made.windows n j w)
       → HasWindows s v K t d → K (heard_log (setup_of s v) t (clocks v t) n w p is.first)
-      → HasWindows s v K t (after_row (clocks v) (setup_of s v) t (Heard p) None d n (window_hears (setup_of s v) n (clocks v t) j w p))
+      → HasWindows s v K t (device_after_row (clocks v) (setup_of s v) t (Heard p) None d n (window_hears (setup_of s v) n (clocks v t) j w p))
   hears_in d n j w p stage is have known =
       goes_on (Heard p) None d n j w (hearing s.profile (rank_of n.core.tune) (clocks v t) w p)
       (window_hears S n (clocks v t) j w p) stage refl refl is have known
 
   pub sends_in : (d : Device) (y : Sending) (n : Node) (j : ℕ) (w : Window) → n.stage ≡ InWindow j w → (is : IsOpenFirst d.made.windows n j w)
       → HasWindows s v K t d → K (sent_log t w y.packet is.first)
-      → HasWindows s v K t (after_row (clocks v) (setup_of s v) t Sent (Some y) (record d { sending = None }) n (sends n j w))
+      → HasWindows s v K t (device_after_row (clocks v) (setup_of s v) t Sent (Some y) (record d { sending = None }) n (sends n j w))
   sends_in d y n j w stage is have known =
       goes_on Sent (Some y) (record d { sending = None }) n j w (record w { flood = after_sent w.flood }) (sends n j w) stage refl refl is
       (record { each = have.each; past = have.past; apart = have.apart; stand = have.stand; delivered = have.delivered }) known
 
   pub closes_in : (d : Device) (n : Node) (j : ℕ) (w : Window) → n.stage ≡ InWindow j w → (is : IsOpenFirst d.made.windows n j w)
-      → HasWindows s v K t d → K (closed_log (setup_of s v) t n j w is.first)
-      → HasWindows s v K t (after_row (clocks v) (setup_of s v) t Alarm None (record d { alarm = None }) n (window_closes (setup_of s v) n j w))
+      → HasWindows s v K t d → K (log_after_closing (setup_of s v) t n j w is.first)
+      → HasWindows s v K t (device_after_row (clocks v) (setup_of s v) t Alarm None (record d { alarm = None }) n (window_closes (setup_of s v) n j w))
   closes_in d n j w stage is have known =
       let logs = d.made.windows in
       let first = is.first in
       let r = window_closes S n j w in
-      let later : WindowLog = closed_log S t n j w first in
+      let later : WindowLog = log_after_closing S t n j w first in
       let rests = rests_then (j + 1) (nat_lt j w.last) in
       let before : d.made.deliveries ≡ delivered_in S is.earlier =
       have.delivered ∙ ap (delivered_in S) is.is ∙ ap (λ (l : List Delivery). delivered_in S is.earlier ++ l)
@@ -262,7 +262,7 @@ module _ (s : ScenarioParts) (clocks : ℕ → ℕ → ℕ) (v : ℕ) (K : Windo
           | inl same ↦ subst (ClosedBy t) same (omega arith)
           | inr old ↦ have.past y (subst (λ (l : List WindowLog). Contains l y) (sym is.is) (contains_tail first is.earlier y old))
         ];
-        apart = subst AreApart is.is have.apart;
+        apart = subst CloseBeforeNext is.is have.apart;
         stand = stand_there (later ∷ is.earlier) r.node r.node.stage rests closed;
         delivered =
             ap (λ (l : List Delivery). l ++ option_to_list r.delivery) before

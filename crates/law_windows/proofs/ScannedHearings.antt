@@ -15,7 +15,7 @@ use Rattle.node_core.specs.Nodes.{Node}
 use Rattle.node_core.specs.Rows.{Stepped, at_heard, scanner_hears, joins}
 use Rattle.node_core.specs.Rows.{node_after}
 use Rattle.air_log.specs.Devices.{Device, Power, PowerOff, PowerOn, event_by}
-use Rattle.air_log.specs.Trails.{Reception, hears}
+use Rattle.air_log.specs.Trails.{Reception, device_after_reception}
 use Rattle.air_log.proofs.EventPower.{stepped_power}
 use Rattle.lwb_base.proofs.Elements.{not_in_none, contains_cases}
 use Rattle.law_safety.specs.SetAlarms.{rank_at}
@@ -33,9 +33,9 @@ module _ (clock : ℕ → ℕ) (s : Setup) (t : ℕ) where
   abbrev all_after : Power → List Reception → Power
   all_after p hs = fold (λ q h. power_after q h.packet) p hs
 
-  all_power : (hs : List Reception) (d : Device) → (fold (hears clock s t) d hs).power ≡ all_after d.power hs
+  all_power : (hs : List Reception) (d : Device) → (fold (device_after_reception clock s t) d hs).power ≡ all_after d.power hs
   all_power [] d = refl
-  all_power (h ∷ hs) d = all_power hs (hears clock s t d h) ∙ ap (λ (p : Power). all_after p hs) (heard_power d h d.power refl)
+  all_power (h ∷ hs) d = all_power hs (device_after_reception clock s t d h) ∙ ap (λ (p : Power). all_after p hs) (heard_power d h d.power refl)
 
   -- a node in a window stays in it
   abbrev pub InSome : Power → Type 0
@@ -133,7 +133,7 @@ module _ (clock : ℕ → ℕ) (s : Setup) (t : ℕ) where
         ],
       )
 
-  pub scanned_device : (hs : List Reception) (d : Device) (n : Node) → (fold (hears clock s t) d hs).power ≡ PowerOn n → n.stage ≡ Scanning
+  pub scanned_device : (hs : List Reception) (d : Device) (n : Node) → (fold (device_after_reception clock s t) d hs).power ≡ PowerOn n → n.stage ≡ Scanning
       → (d.power ≡ PowerOn n) × ((h : Reception) → Contains hs h → NotOurs n (message_of h.packet))
   scanned_device hs d n on scans = scanned hs d.power n (sym (all_power hs d) ∙ on) scans
 
@@ -156,9 +156,9 @@ module _ (clock : ℕ → ℕ) (s : Setup) (t : ℕ) where
   ]
 
   pub joined_device : (hs : List Reception) (d : Device) (n : Node) → d.power ≡ PowerOn n → n.stage ≡ Scanning
-      → (h : Reception) → Contains hs h → (NotOurs n (message_of h.packet) → ⊥) → InSome (fold (hears clock s t) d hs).power
+      → (h : Reception) → Contains hs h → (NotOurs n (message_of h.packet) → ⊥) → InSome (fold (device_after_reception clock s t) d hs).power
   joined_device hs d n on scans h there ours =
       subst InSome (sym (all_power hs d ∙ ap (λ (p : Power). all_after p hs) on)) (joins_by hs n scans h there ours)
 
-  pub stays_device : (hs : List Reception) (d : Device) → InSome d.power → InSome (fold (hears clock s t) d hs).power
+  pub stays_device : (hs : List Reception) (d : Device) → InSome d.power → InSome (fold (device_after_reception clock s t) d hs).power
   stays_device hs d is = subst InSome (sym (all_power hs d)) (stay_in hs d.power is)

@@ -6,7 +6,7 @@ use Rattle.std.proofs.lemmas.Bool.{cases_lt}
 use Rattle.lwb_base.specs.declared.event.Event.{Event}
 use Rattle.lwb_base.specs.declared.event.Event.TheVariants.{Boot, Alarm, Heard, Sent}
 use Rattle.glossy_relay.specs.Relaying.{after_sent}
-use Rattle.radio_model.specs.Hearing.{frame_of}
+use Rattle.radio_model.specs.Hearing.{frame_of_sending}
 use Rattle.radio_model.specs.declared.sending.Sending.{Sending}
 use Rattle.bus_rules.specs.Tuning.{rank_of}
 use Rattle.bus_rules.specs.Cores.{Core, Setup, frame_ended}
@@ -22,12 +22,12 @@ use Rattle.scenario_text.specs.declared.script.ScriptLine.{ScriptLine}
 use Rattle.air_log.specs.declared.entry.Entry.{Entry}
 use Rattle.air_log.specs.WindowLogs.{WindowLog, Happening, Closing}
 use Rattle.air_log.specs.Devices.{Device, Power, PowerOff, PowerOn}
-use Rattle.air_log.specs.ScriptedDevices.{switched_on}
+use Rattle.air_log.specs.ScriptedDevices.{device_after_on}
 use Rattle.air_log.specs.Lawful.{heard_by}
-use Rattle.air_log.specs.Trails.{Reception, ending_at, heard as heard_all, setup_of, run_end, frame_start, scripted, before_tick}
+use Rattle.air_log.specs.Trails.{Reception, ending_at, device_after_receptions as heard_all, setup_of, run_end, frame_start, device_after_script, before_tick}
 use Rattle.lwb_base.proofs.Elements.{in_filtered, not_in_none, contains_head, contains_tail, contains_cases}
-use Rattle.law_trails.specs.Phases.{Phase, Lines, Hearings, End, Alarms, Start, Over, IsNextLine, next_phase, device_at}
-use Rattle.law_trails.specs.Walks.{Now, Keeps, after_row}
+use Rattle.law_trails.specs.Phases.{Phase, Lines, Hearings, End, Alarms, Start, Over, IsNextLineOf, next_phase, device_at}
+use Rattle.law_trails.specs.Walks.{Now, Keeps, device_after_row}
 use Rattle.law_trails.specs.TrailLinks.{device_in}
 use Rattle.law_trails.proofs.RowsOfDevices.{row_obeyed, row_power, switched_on_is}
 use Rattle.law_trails.proofs.HeardInTrails.{reception_is}
@@ -35,7 +35,7 @@ use Rattle.law_trails.proofs.SentInTrails.{sent_lasts}
 use Rattle.law_trails.proofs.WalkOfRun.{holds_in_tick}
 use Rattle.law_safety.specs.CountedFrames.{InFrame}
 use Rattle.law_safety.specs.SetAlarms.{rank_at}
-use Rattle.law_safety.specs.Invariant.{IsRun}
+use Rattle.law_safety.specs.Invariant.{IsObedientRun}
 use Rattle.law_safety.specs.Rows.{AtTick, AllRows, IsFine}
 use Rattle.law_safety.proofs.FrameStarts.{line_starts}
 use Rattle.law_safety.proofs.RunFacts.{frame_begins, frame_ends, frame_in_run}
@@ -72,7 +72,7 @@ module _ (s : ScenarioParts) (clocks : ℕ → ℕ → ℕ) (air : List Entry) (
       let reach = at.run.heedful.heard v x heard in
       let lasts = (sent_lasts s clocks air at.run.heedful.trails x reach.sent).1 in
       let begins = frame_begins s at.run.driven.sound x.start in
-      let start : frame_start s (frame_of s.profile x) ≡ frame_start s frame = ap (λ (f : ℕ). frame_start s f) of_frame in
+      let start : frame_start s (frame_of_sending s.profile x) ≡ frame_start s frame = ap (λ (f : ℕ). frame_start s f) of_frame in
       omega (arith, lasts, begins, start, early, ends)
 
   in_frame : (t : ℕ) → AtTick s clocks air v t → (until : ℕ) → until ≤ suc t → (n : Node) → until ≤ frame_start s n.frame → (st : Stage)
@@ -92,27 +92,27 @@ module _ (s : ScenarioParts) (clocks : ℕ → ℕ → ℕ) (air : List Entry) (
       omega (arith, start, frames)
 
   told : (t : ℕ) → AtTick s clocks air v t → (d : Device) (l : ScriptLine) (n : Node) (core : Core) → Now All s t Lines d
-      → IsNextLine s v (clocks v) (heard_by air v) t l d → d.power ≡ PowerOn n
+      → IsNextLineOf s v (clocks v) (heard_by air v) t l d → d.power ≡ PowerOn n
       → ScansBy s air v t (PowerOn (record n { core = core }))
   told t at d l n core here next on =
       in_frame t at t (omega arith) (record n { core = core }) (at_start t at l next.now n (on_in s clocks air v t Lines d n here.holds.0.0 on).frame) n.stage
 
-  comes_on : (t : ℕ) → AtTick s clocks air v t → (count : ℕ) (d : Device) (l : ScriptLine) → IsNextLine s v (clocks v) (heard_by air v) t l d
-      → IsFine s clocks air v t Lines (switched_on (clocks v) (setup_of s v) t count d)
-      → ScansBy s air v t (switched_on (clocks v) (setup_of s v) t count d).power
+  comes_on : (t : ℕ) → AtTick s clocks air v t → (count : ℕ) (d : Device) (l : ScriptLine) → IsNextLineOf s v (clocks v) (heard_by air v) t l d
+      → IsFine s clocks air v t Lines (device_after_on (clocks v) (setup_of s v) t count d)
+      → ScansBy s air v t (device_after_on (clocks v) (setup_of s v) t count d).power
   comes_on t at count d l next fine =
-      let e = switched_on (clocks v) S t count d in
+      let e = device_after_on (clocks v) S t count d in
       let n = (boots S (rebooted (count + 1)) (clocks v t)).node in
       let power : e.power ≡ PowerOn n = (switched_on_is (clocks v) S t count d).power in
       subst (ScansBy s air v t) (sym power)
       (in_frame t at t (omega arith) n (at_start t at l next.now n (on_in s clocks air v t Lines e n fine power).frame) Scanning)
 
   row_leaves : (t until : ℕ) (e : Event) (x : Option Sending) (d : Device) (n : Node) (r : Stepped) → ScansAt s air v until r.node r.node.stage
-      → ScansBy s air v until (after_row (clocks v) (setup_of s v) t e x d n r).power
+      → ScansBy s air v until (device_after_row (clocks v) (setup_of s v) t e x d n r).power
   row_leaves t until e x d n r is = subst (ScansBy s air v until) (sym (row_power (clocks v) S t e x d n r)) is
 
   ends_frame : (t : ℕ) → AtTick s clocks air v t → (d : Device) (n : Node) → InFrame s clocks v t n
-      → ScansBy s air v (suc t) (after_row (clocks v) (setup_of s v) t Alarm None (record d { alarm = None }) n (frame_alarms (setup_of s v) n)).power
+      → ScansBy s air v (suc t) (device_after_row (clocks v) (setup_of s v) t Alarm None (record d { alarm = None }) n (frame_alarms (setup_of s v) n)).power
   ends_frame t at d n frame =
       let r = frame_alarms S n in
       let early = frame_in_run s at.run.driven.sound t at.in_run in
@@ -151,10 +151,10 @@ module _ (s : ScenarioParts) (clocks : ℕ → ℕ → ℕ) (air : List Entry) (
                 let known : Contains (heard_by air v) h = (reception_is air v h).1 (record { sending = x; there = heard; packet = refl; end = refl }) in
                 let among : Contains (ending_at t (heard_by air v)) h =
                 in_filtered (λ (r : Reception). r.end == t) (heard_by air v) h known (eq-eqb x.end t now) in
-                let power : (heard_all (clocks v) S t (heard_by air v) (scripted s v (clocks v) t (device_in s clocks air v t))).power ≡ PowerOn n =
+                let power : (heard_all (clocks v) S t (heard_by air v) (device_after_script s v (clocks v) t (device_in s clocks air v t))).power ≡ PowerOn n =
                 ap (λ (e : Device). e.power) (sym enters) ∙ on in
                 (scanned_device (clocks v) S t (ending_at t (heard_by air v))
-                (scripted s v (clocks v) t (device_in s clocks air v t)) n power stage).1 h among y says own
+                (device_after_script s v (clocks v) t (device_in s clocks air v t)) n power stage).1 h among y says own
                 )
           ]
 
@@ -271,7 +271,7 @@ module _ (s : ScenarioParts) (clocks : ℕ → ℕ → ℕ) (air : List Entry) (
         passing = λ d here is. (k.passing d (base t Over d here) is, here.holds.1, here.holds.2);
       }
 
-  module _ (rows : AllRows) (run : IsRun s clocks air) (known : knows s.nodes v ≡ true) where
+  module _ (rows : AllRows) (run : IsObedientRun s clocks air) (known : knows s.nodes v ≡ true) where
     -- before each tick
     firsts_before : (t : ℕ) → t ≤ run_end s → Scanned t Lines (device_in s clocks air v t) × Firsts (device_in s clocks air v t).made.windows
     unfolding before_tick

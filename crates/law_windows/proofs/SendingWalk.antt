@@ -14,12 +14,12 @@ use Rattle.scenario_text.specs.FloodParts.{knows}
 use Rattle.scenario_text.specs.declared.script.ScriptLine.{ScriptLine}
 use Rattle.air_log.specs.declared.entry.Entry.{Entry}
 use Rattle.air_log.specs.WindowLogs.{WindowLog}
-use Rattle.air_log.specs.Devices.{Device, Power, PowerOff, PowerOn, Ordered, listens_to}
-use Rattle.air_log.specs.ScriptedDevices.{switched_on}
+use Rattle.air_log.specs.Devices.{Device, Power, PowerOff, PowerOn, OrderedPacket, listens_to}
+use Rattle.air_log.specs.ScriptedDevices.{device_after_on}
 use Rattle.air_log.specs.Lawful.{heard_by}
 use Rattle.air_log.specs.Trails.{setup_of, run_end, before_tick}
-use Rattle.law_trails.specs.Phases.{Phase, Lines, Hearings, End, Alarms, Start, Over, IsNextLine}
-use Rattle.law_trails.specs.Walks.{Now, Keeps, AwaitsFrame, CannotSend, HasNoWindow, NoWindow, after_row}
+use Rattle.law_trails.specs.Phases.{Phase, Lines, Hearings, End, Alarms, Start, Over, IsNextLineOf}
+use Rattle.law_trails.specs.Walks.{Now, Keeps, AwaitsFrame, CannotSend, HasNoWindow, NoWindow, device_after_row}
 use Rattle.law_trails.specs.TrailLinks.{device_in}
 use Rattle.law_trails.proofs.RowsLeave.{joining_leaves, hearing_leaves, sent_leaves, frame_alarm_leaves, opening_leaves, closing_leaves}
 use Rattle.law_trails.proofs.RowsOfDevices.{row_obeyed, switched_on_is}
@@ -27,13 +27,13 @@ use Rattle.law_trails.proofs.WalkOfRun.{holds_in_tick}
 use Rattle.law_safety.specs.StillDevices.{IsStill}
 use Rattle.law_safety.specs.SetAlarms.{rank_at}
 use Rattle.law_safety.specs.RadiosOn.{RadioFor}
-use Rattle.law_safety.specs.Invariant.{IsRun}
+use Rattle.law_safety.specs.Invariant.{IsObedientRun}
 use Rattle.law_safety.specs.NodesInOrder.{InOrderBy}
 use Rattle.law_safety.specs.Rows.{IsFine, AtTick, AllRows}
 use Rattle.law_safety.proofs.HeardNow.{heard_in_floods}
 use Rattle.law_safety.proofs.OpenWindows.{where_ordered}
 use Rattle.law_windows.specs.OpenWindows.{AreClosed, StandAt, StandBy}
-use Rattle.law_windows.specs.WindowFloods.{HasFlood}
+use Rattle.law_windows.specs.WindowFloods.{WindowHasFlood}
 use Rattle.law_windows.proofs.WindowFloods.{flood_steps}
 use Rattle.law_windows.specs.WindowSteps.{HasWindows}
 use Rattle.law_windows.specs.SendingSteps.{Of, KeepsSendings}
@@ -43,7 +43,7 @@ use Rattle.law_windows.proofs.WindowWalk.{P, keeps, on_in, fine_before, told_res
 
 -- what is known of windows: their floods
 abbrev Flooded : ScenarioParts → ℕ → ℕ → ℕ → WindowLog → Type 0
-Flooded s v now taken w = HasFlood (setup_of s v) w
+Flooded s v now taken w = WindowHasFlood (setup_of s v) w
 
 -- a device that is off or at a place without a window sends nothing
 no_sending : {A : Type 0} (o : Option Sending) (x : Sending) → o ≡ None → o ≡ Some x → A
@@ -57,7 +57,7 @@ still_at n d (AwaitSlot j) none radio = radio.1
 still_at n d (InWindow j w) none radio = absurd none
 
 module _ (s : ScenarioParts) (clocks : ℕ → ℕ → ℕ) (air : List Entry) (v : ℕ)
-    (R : List WindowLog → Option Ordered → Option Sending → List Sending → Type 0) where
+    (R : List WindowLog → Option OrderedPacket → Option Sending → List Sending → Type 0) where
   abbrev Has : Device → Type 0
   Has d = Of s clocks air v R d
 
@@ -71,38 +71,38 @@ module _ (s : ScenarioParts) (clocks : ℕ → ℕ → ℕ) (air : List Entry) (
   fine t phase d now = record { in_run = now.in_run; known = now.known; holds = now.holds.0.0 }
 
   -- from one device to another, by what R speaks of
-  moved_on : (logs : List WindowLog) (o : Option Ordered) (x : Option Sending) (xs : List Sending) (e : Device)
+  moved_on : (logs : List WindowLog) (o : Option OrderedPacket) (x : Option Sending) (xs : List Sending) (e : Device)
       → e.made.windows ≡ logs → e.ordered ≡ o → e.sending ≡ x → e.made.sent ≡ xs → R logs o x xs → Has e
   moved_on logs o x xs e same_logs same_o same_x same_xs has =
       subst (λ (ls : List WindowLog). R ls e.ordered e.sending e.made.sent) (sym same_logs)
-      (subst (λ (p : Option Ordered). R logs p e.sending e.made.sent) (sym same_o)
+      (subst (λ (p : Option OrderedPacket). R logs p e.sending e.made.sent) (sym same_o)
       (subst (λ (y : Option Sending). R logs o y e.made.sent) (sym same_x)
       (subst (R logs o x) (sym same_xs) has)))
 
   -- a node that rests has nothing ordered, so going off takes nothing from it
   goes_off : (t : ℕ) → AtTick s clocks air v t → (d : Device) (l : ScriptLine) (n : Node) → Now All s t Lines d
-      → IsNextLine s v (clocks v) (heard_by air v) t l d → d.power ≡ PowerOn n → R d.made.windows None d.sending d.made.sent
+      → IsNextLineOf s v (clocks v) (heard_by air v) t l d → d.power ≡ PowerOn n → R d.made.windows None d.sending d.made.sent
   goes_off t at d l n here next on =
       let still = still_at n d n.stage (told_rests s clocks air v t at d l n here.holds.0.0 next on)
       (on_in s clocks air v t Lines d n here.holds.0.0 on).radio.at in
-      subst (λ (o : Option Ordered). R d.made.windows o d.sending d.made.sent) still.ordered here.holds.1
+      subst (λ (o : Option OrderedPacket). R d.made.windows o d.sending d.made.sent) still.ordered here.holds.1
 
-  comes_on : (t count : ℕ) (d : Device) → Has d → Has (switched_on (clocks v) (setup_of s v) t count d)
+  comes_on : (t count : ℕ) (d : Device) → Has d → Has (device_after_on (clocks v) (setup_of s v) t count d)
   comes_on t count d has =
       let n = rebooted (count + 1) in
       let dd : Device = record d { power = PowerOn n } in
       let r = boots (setup_of s v) n (clocks v t) in
-      let e = switched_on (clocks v) (setup_of s v) t count d in
+      let e = device_after_on (clocks v) (setup_of s v) t count d in
       let is = switched_on_is (clocks v) (setup_of s v) t count d in
       moved_on d.made.windows d.ordered d.sending d.made.sent e
       (row_obeyed (clocks v) (setup_of s v) t Boot None dd n r).windows is.ordered is.sending is.sent has
 
   ends_frame : (t : ℕ) (d : Device) (n : Node) → AwaitsFrame n.stage → Has d
-      → Has (after_row (clocks v) (setup_of s v) t Alarm None (record d { alarm = None }) n (frame_alarms (setup_of s v) n))
+      → Has (device_after_row (clocks v) (setup_of s v) t Alarm None (record d { alarm = None }) n (frame_alarms (setup_of s v) n))
   ends_frame t d n awaits has =
       let dd : Device = record d { alarm = None } in
       let r = frame_alarms (setup_of s v) n in
-      let e = after_row (clocks v) (setup_of s v) t Alarm None dd n r in
+      let e = device_after_row (clocks v) (setup_of s v) t Alarm None dd n r in
       let is = frame_alarm_leaves (clocks v) (setup_of s v) t dd n in
       let core = frame_ended (setup_of s v) n.frame n.core in
       moved_on d.made.windows d.ordered d.sending d.made.sent e
@@ -112,7 +112,7 @@ module _ (s : ScenarioParts) (clocks : ℕ → ℕ → ℕ) (air : List Entry) (
 
   -- no window is open where one opens
   none_open : (t : ℕ) (d : Device) (n : Node) (st : Stage) → d.power ≡ PowerOn n → n.stage ≡ st → NoWindow st
-      → HasWindows s v (HasFlood (setup_of s v)) t d → AreClosed d.made.windows
+      → HasWindows s v (WindowHasFlood (setup_of s v)) t d → AreClosed d.made.windows
   none_open t d n st on stage none have = all_closed d.made.windows n st none
       (subst (StandAt d.made.windows n) stage (subst (StandBy d.made.windows) on have.stand))
 
@@ -122,7 +122,7 @@ module _ (s : ScenarioParts) (clocks : ℕ → ℕ → ℕ) (air : List Entry) (
   silent_by t d (PowerOn n) none is = (still_at n d n.stage none is.radio.at).sending
 
   -- what is ordered is not missed
-  cannot_miss : {A : Type 0} (t : ℕ) (d : Device) (o : Ordered) → IsFine s clocks air v t Start d → d.ordered ≡ Some o → CannotSend d → A
+  cannot_miss : {A : Type 0} (t : ℕ) (d : Device) (o : OrderedPacket) → IsFine s clocks air v t Start d → d.ordered ≡ Some o → CannotSend d → A
   cannot_miss t d o holds order cannot =
       let about = where_ordered s clocks air v t d o order holds in
       elim cannot [
@@ -130,7 +130,7 @@ module _ (s : ScenarioParts) (clocks : ℕ → ℕ → ℕ) (air : List Entry) (
         | inr other ↦ absurd (about.silent other.0 other.1)
       ]
 
-  keeps_all : (t : ℕ) → AtTick s clocks air v t → AllRows → HasWindows s v (HasFlood (setup_of s v)) t (device_in s clocks air v t)
+  keeps_all : (t : ℕ) → AtTick s clocks air v t → AllRows → HasWindows s v (WindowHasFlood (setup_of s v)) t (device_in s clocks air v t)
       → KeepsSendings s clocks air v R t
       → Keeps All s v (clocks v) (heard_by air v) t
   keeps_all t at rows before steps =
@@ -147,7 +147,7 @@ module _ (s : ScenarioParts) (clocks : ℕ → ℕ → ℕ) (air : List Entry) (
         joining = λ d h n y here next on stage says rank. (
           k.joining d h n y (base t Hearings d here) next on stage says rank,
           (let is = joining_leaves c S t d n h.packet y in
-              moved_on _ _ _ _ (after_row c S t (Heard h.packet) None d n (joins S n (c t) h.packet y))
+              moved_on _ _ _ _ (device_after_row c S t (Heard h.packet) None d n (joins S n (c t) h.packet y))
               ((row_obeyed c S t (Heard h.packet) None d n (joins S n (c t) h.packet y)).windows ∙ joined_after S (c t) t n h.packet y d.made.windows stage)
               is.ordered_is is.sending is.sent
               (steps.joined_kept d h n y (fine t Hearings d here) next (heard_in_floods s clocks air v t at h d next) on stage says rank
@@ -156,23 +156,23 @@ module _ (s : ScenarioParts) (clocks : ℕ → ℕ → ℕ) (air : List Entry) (
         hearing = λ d h n j w here next on stage. (
           k.hearing d h n j w (base t Hearings d here) next on stage,
           (let is = hearing_leaves c S t d n j w h.packet in
-              let open_ = open_first s clocks v (HasFlood (setup_of s v)) t d n j w on stage here.holds.0.1 in
+              let open_ = open_first s clocks v (WindowHasFlood (setup_of s v)) t d n j w on stage here.holds.0.1 in
               let r = window_hears S n (c t) j w h.packet in
-              moved_on _ _ _ _ (after_row c S t (Heard h.packet) None d n r)
+              moved_on _ _ _ _ (device_after_row c S t (Heard h.packet) None d n r)
               ((row_obeyed c S t (Heard h.packet) None d n r).windows
               ∙ gone_on_after S (c t) t (Heard h.packet) None n j w
               (hearing s.profile (rank_of n.core.tune) (c t) w h.packet) r.node d.made.windows open_.first open_.earlier stage refl open_.is)
               is.ordered_is is.sending is.sent
               (steps.heard_kept d h n j w (fine t Hearings d here) next (heard_in_floods s clocks air v t at h d next) on stage open_
-              (first_known s clocks v (HasFlood (setup_of s v)) t d n j w here.holds.0.1 open_) here.holds.1)),
+              (first_known s clocks v (WindowHasFlood (setup_of s v)) t d n j w here.holds.0.1 open_) here.holds.1)),
         );
         sent = λ d x n j w here enters own ends on stage waiting. (
           k.sent d x n j w (base t End d here) enters own ends on stage waiting,
           (let dd : Device = record d { sending = None } in
               let is = sent_leaves c S t dd x n j w in
-              let open_ = open_first s clocks v (HasFlood (setup_of s v)) t d n j w on stage here.holds.0.1 in
+              let open_ = open_first s clocks v (WindowHasFlood (setup_of s v)) t d n j w on stage here.holds.0.1 in
               let r = sends n j w in
-              moved_on _ _ _ _ (after_row c S t Sent (Some x) dd n r)
+              moved_on _ _ _ _ (device_after_row c S t Sent (Some x) dd n r)
               ((row_obeyed c S t Sent (Some x) dd n r).windows
               ∙ gone_on_after S (c t) t Sent (Some x) n j w
               (record w { flood = after_sent w.flood }) r.node d.made.windows open_.first open_.earlier stage refl open_.is)
@@ -193,7 +193,7 @@ module _ (s : ScenarioParts) (clocks : ℕ → ℕ → ℕ) (air : List Entry) (
           (let dd : Device = record d { alarm = None } in
               let is = opening_leaves c S t dd n j in
               let r = window_opens S n j in
-              moved_on _ _ _ _ (after_row c S t Alarm None dd n r)
+              moved_on _ _ _ _ (device_after_row c S t Alarm None dd n r)
               ((row_obeyed c S t Alarm None dd n r).windows ∙ begun_after S (c t) t n j d.made.windows stage)
               is.ordered_is is.sending is.sent
               (steps.opened_kept d n j (fine t Alarms d here) due on stage (none_open t d n (AwaitSlot j) on stage tt here.holds.0.1) here.holds.1)),
@@ -202,9 +202,9 @@ module _ (s : ScenarioParts) (clocks : ℕ → ℕ → ℕ) (air : List Entry) (
           k.closing d n j w (base t Alarms d here) due on stage,
           (let dd : Device = record d { alarm = None } in
               let is = closing_leaves c S t dd n j w in
-              let open_ = open_first s clocks v (HasFlood (setup_of s v)) t d n j w on stage here.holds.0.1 in
+              let open_ = open_first s clocks v (WindowHasFlood (setup_of s v)) t d n j w on stage here.holds.0.1 in
               let r = window_closes S n j w in
-              moved_on _ _ _ _ (after_row c S t Alarm None dd n r)
+              moved_on _ _ _ _ (device_after_row c S t Alarm None dd n r)
               ((row_obeyed c S t Alarm None dd n r).windows ∙ closed_after S (c t) t n j w d.made.windows open_.first open_.earlier stage open_.is)
               is.ordered_is is.sending is.sent
               (steps.closed_kept d n j w (fine t Alarms d here) due on stage open_ here.holds.1)),
@@ -222,7 +222,7 @@ module _ (s : ScenarioParts) (clocks : ℕ → ℕ → ℕ) (air : List Entry) (
         passing = λ d here is. (k.passing d (base t Over d here) is, here.holds.1);
       }
 
-  module _ (rows : AllRows) (run : IsRun s clocks air) (known : knows s.nodes v ≡ true) (first : R [] None None [])
+  module _ (rows : AllRows) (run : IsObedientRun s clocks air) (known : knows s.nodes v ≡ true) (first : R [] None None [])
       (steps : (t : ℕ) → AtTick s clocks air v t → KeepsSendings s clocks air v R t) where
     -- before each tick
     pub sendings_before : (t : ℕ) → t ≤ run_end s → Of s clocks air v R (device_in s clocks air v t)

@@ -7,7 +7,7 @@ use Rattle.air_log.specs.Charges.{sent_in}
 use Rattle.air_log.specs.WindowLogs.{Happening, HeardAt, SentAt}
 use Rattle.lwb_base.proofs.Elements.{not_in_none, contains_head, contains_tail, contains_cases, pairs_head, pairs_tail}
 use Rattle.lwb_base.proofs.Truths.{one_if}
-use Rattle.law_windows.specs.WindowHistory.{tick_of}
+use Rattle.law_windows.specs.WindowHistory.{tick_of_happening}
 use Rattle.law_windows.specs.WindowRadios.{sendings_in}
 use Rattle.law_windows.proofs.CountedEnds.{not_by}
 
@@ -34,7 +34,7 @@ fewer_before k (HeardAt u q ∷ es) t p there later = elim (contains_cases (Hear
 ]
 fewer_before k (SentAt u q ∷ es) t p there later = elim (contains_cases (SentAt u q) es (SentAt t p) there) [
   | inl same ↦ (
-      let tick : u ≡ t = ap tick_of same in
+      let tick : u ≡ t = ap tick_of_happening same in
       let few = few_by k es in
       let none : one_if (nat_le u k) ≡ 0 = ap one_if (not_by u k (omega (arith, tick, later))) in
       omega (arith, few, none)
@@ -67,10 +67,10 @@ none_sent (HeardAt u q ∷ es) t p none there = elim (contains_cases (HeardAt u 
 ]
 none_sent (SentAt u q ∷ es) t p none there = absurd cc
 
-pub has_last : (es : List Happening) → AllPairs (λ (d e : Happening). tick_of d ≤ tick_of e) es → 1 ≤ length (packets es) → HasLast es
+pub has_last : (es : List Happening) → AllPairs (λ (d e : Happening). tick_of_happening d ≤ tick_of_happening e) es → 1 ≤ length (packets es) → HasLast es
 has_last [] turn some = absurd (omega (arith, some))
 has_last (HeardAt t p ∷ es) turn some =
-    let rest = has_last es (pairs_tail (λ (d e : Happening). tick_of d ≤ tick_of e) (HeardAt t p) es turn) some in
+    let rest = has_last es (pairs_tail (λ (d e : Happening). tick_of_happening d ≤ tick_of_happening e) (HeardAt t p) es turn) some in
     record {
       tick = rest.tick;
       packet = rest.packet;
@@ -79,7 +79,7 @@ has_last (HeardAt t p ∷ es) turn some =
       last = λ u q in_it. elim (contains_cases (HeardAt t p) es (SentAt u q) in_it) [ inl same ↦ absurd cc | inr later ↦ rest.last u q later ];
     }
 has_last (SentAt t p ∷ es) turn some =
-    by_rest (packets es) refl (λ more. has_last es (pairs_tail (λ (d e : Happening). tick_of d ≤ tick_of e) (SentAt t p) es turn) more)
+    by_rest (packets es) refl (λ more. has_last es (pairs_tail (λ (d e : Happening). tick_of_happening d ≤ tick_of_happening e) (SentAt t p) es turn) more)
   where
     by_rest : (ps : List (List ℕ)) → packets es ≡ ps → (1 ≤ length (packets es) → HasLast es) → HasLast (SentAt t p ∷ es)
     by_rest [] none more = record {
@@ -88,7 +88,7 @@ has_last (SentAt t p ∷ es) turn some =
       there = contains_head (SentAt t p) es;
       is = ap (λ (ps : List (List ℕ)). last_or (Some p) ps) none;
       last = λ u q in_it. elim (contains_cases (SentAt t p) es (SentAt u q) in_it) [
-        | inl same ↦ (let tick : t ≡ u = ap tick_of same in omega (arith, tick))
+        | inl same ↦ (let tick : t ≡ u = ap tick_of_happening same in omega (arith, tick))
         | inr later ↦ absurd (none_sent es u q none later)
       ];
     }
@@ -101,8 +101,9 @@ has_last (SentAt t p ∷ es) turn some =
           is = ap (λ (ps : List (List ℕ)). last_or (Some p) ps) are ∙ sym (ap (λ (ps : List (List ℕ)). last_or None ps) are) ∙ rest.is;
           last = λ u q in_it. elim (contains_cases (SentAt t p) es (SentAt u q) in_it) [
             | inl same ↦ (
-                let tick : t ≡ u = ap tick_of same in
-                let after = pairs_head (λ (d e : Happening). tick_of d ≤ tick_of e) (SentAt t p) es turn (SentAt rest.tick rest.packet) rest.there in
+                let tick : t ≡ u = ap tick_of_happening same in
+                let after = pairs_head (λ (d e : Happening). tick_of_happening d ≤ tick_of_happening e) (SentAt t p) es turn (SentAt rest.tick rest.packet)
+                    rest.there in
                 omega (arith, tick, after)
                 )
             | inr later ↦ rest.last u q later

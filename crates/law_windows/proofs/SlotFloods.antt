@@ -22,7 +22,7 @@ use Rattle.air_log.specs.Lawful.{heard_by}
 use Rattle.air_log.specs.Trails.{setup_of}
 use Rattle.air_log.specs.WindowLogs.{WindowLog}
 use Rattle.law_trails.specs.DeviceRanges.{IsPower}
-use Rattle.law_trails.specs.NodeRanges.{IsNode, IsAt, IsFlood}
+use Rattle.law_trails.specs.NodeRanges.{IsNodeInRange, IsInStage, IsFloodOfSlot}
 use Rattle.law_trails.specs.Phases.{Alarms, IsNextAlarm}
 use Rattle.law_trails.proofs.WindowsInRange.{opens_is}
 use Rattle.law_safety.specs.Rows.{IsFine, AtTick}
@@ -66,11 +66,11 @@ module _ (s : ScenarioParts) (clocks : ℕ → ℕ → ℕ) (air : List Entry) (
 
   opens_flood : (d : Device) (n : Node) (j : ℕ) → IsFine s clocks air v t Alarms d → IsNextAlarm s v (clocks v) (heard_by air v) t d
       → d.power ≡ PowerOn n → n.stage ≡ AwaitSlot j
-      → IsFlood S (kind_for (begun_window S n j).part) j (begun_window S n j).flood
+      → IsFloodOfSlot S (kind_for (begun_window S n j).part) j (begun_window S n j).flood
   opens_flood d n j fine due on stage =
       let is : Awaits s clocks air v t d n j = awaits s clocks air v t d n j (on_in s clocks air v t Alarms d n fine on) stage due.due in
-      let ranged : IsNode S n = subst (IsPower S) on (well_at_alarms s clocks air v t at d due).power in
-      let own = (subst (IsAt S n.frame n.core) stage ranged.stage).1 in
+      let ranged : IsNodeInRange S n = subst (IsPower S) on (well_at_alarms s clocks air v t at d due).power in
+      let own = (subst (IsInStage S n.frame n.core) stage ranged.stage).1 in
       (opens_is S (is_set s clocks air v t at) n.frame j n.core ranged.core is.member.slot own).flood
 
   flood_steps : KeepsWindows s clocks air v (λ now taken w. IsOfItsSlot s w) t

@@ -11,16 +11,16 @@ use Rattle.lwb_member.specs.Said.{message_of}
 use Rattle.scenario_text.specs.ScenarioParts.{ScenarioParts}
 use Rattle.scenario_text.specs.FloodParts.{knows}
 use Rattle.radio_model.specs.declared.sending.Sending.{Sending}
-use Rattle.radio_model.specs.Hearing.{Meets, counter_of}
+use Rattle.radio_model.specs.Hearing.{Meets, counter_of_sending}
 use Rattle.air_log.specs.declared.entry.Entry.{Entry}
-use Rattle.air_log.specs.Entries.{sendings_of, IsHeard}
+use Rattle.air_log.specs.Entries.{sendings_of, HasHeardEntry}
 use Rattle.air_log.specs.Safe.{SameSlot, SameStep}
 use Rattle.air_log.specs.Trails.{run_end}
 use Rattle.air_log.specs.WindowLogs.{WindowLog, Happening, HeardAt}
 use Rattle.law_trails.specs.TrailLinks.{device_in}
 use Rattle.air_log.proofs.SendingsKept.{profile_lasts}
 use Rattle.law_trails.proofs.SentInTrails.{sent_lasts}
-use Rattle.law_safety.specs.Invariant.{IsRun}
+use Rattle.law_safety.specs.Invariant.{IsObedientRun}
 use Rattle.law_safety.proofs.InvariantHolds.{holds_throughout}
 use Rattle.law_safety.specs.Endings.{EndsInOrder}
 use Rattle.law_safety.proofs.FloodPackets.{one_flood_says, says_as_origin}
@@ -35,7 +35,7 @@ use Rattle.law_windows.proofs.WindowFacts.{open_by_rows, history_on_air, slot_co
 no_request : (y : Schedule) (a : Ask) → Some (ScheduleOf y) ≡ Some (RequestOf a) → ⊥
 no_request y a same = absurd cc
 
-module _ (s : ScenarioParts) (clocks : ℕ → ℕ → ℕ) (air : List Entry) (run : IsRun s clocks air) (v : ℕ) (known : knows s.nodes v ≡ true)
+module _ (s : ScenarioParts) (clocks : ℕ → ℕ → ℕ) (air : List Entry) (run : IsObedientRun s clocks air) (v : ℕ) (known : knows s.nodes v ≡ true)
     (w : WindowLog) (there : Contains (device_in s clocks air v (run_end s)).made.windows w) where
   within : run_end s ≤ run_end s
   within = omega arith
@@ -93,7 +93,7 @@ module _ (s : ScenarioParts) (clocks : ℕ → ℕ → ℕ) (air : List Entry) (
         ∙ sym (of_flood s clocks air whole was.heard sent).same
 
     -- the scanner heard nothing of it before
-    none_before : (x : Sending) → IsHeard air v x → IsOfSlot s w x → w.opened ≤ x.end
+    none_before : (x : Sending) → HasHeardEntry air v x → IsOfSlot s w x → w.opened ≤ x.end
     none_before x is of_slot = elim (cases_lt x.end w.opened) [
       | inl before ↦ absurd (scanners_join_first s clocks air run v known (run_end s) within w there scans x opens.schedule is of_slot.frame before
           (says_same x (run.heedful.heard v x is).sent of_slot) opens.of_rank)
@@ -101,7 +101,7 @@ module _ (s : ScenarioParts) (clocks : ℕ → ℕ → ℕ) (air : List Entry) (
     ]
 
     -- and as the window opens it hears this one alone
-    as_it_opens : (x : Sending) → IsHeard air v x → IsOfSlot s w x → x.end ≡ w.opened → Contains w.happenings (HeardAt x.end x.packet)
+    as_it_opens : (x : Sending) → HasHeardEntry air v x → IsOfSlot s w x → x.end ≡ w.opened → Contains w.happenings (HeardAt x.end x.packet)
     as_it_opens x is of_slot now =
         let mine = (run.heedful.heard v x is).sent in
         let meets : Meets x was.heard = (
@@ -110,18 +110,18 @@ module _ (s : ScenarioParts) (clocks : ℕ → ℕ → ℕ) (air : List Entry) (
         ) in
         let step : SameStep s.profile x was.heard = no_overlap s clocks air whole x was.heard mine sent (of_slot.channel ∙ sym was.channel) meets in
         let packet : x.packet ≡ was.heard.packet =
-        sym (set_same x.packet (counter_of x) refl)
-        ∙ sym (set_set x.packet (counter_of x))
-        ∙ ap (λ (p : List ℕ). slice_set p 2 (counter_of x)) (same_body x mine of_slot)
-        ∙ set_set was.heard.packet (counter_of x)
-        ∙ set_same was.heard.packet (counter_of x) (sym step.counter) in
+        sym (set_same x.packet (counter_of_sending x) refl)
+        ∙ sym (set_set x.packet (counter_of_sending x))
+        ∙ ap (λ (p : List ℕ). slice_set p 2 (counter_of_sending x)) (same_body x mine of_slot)
+        ∙ set_set was.heard.packet (counter_of_sending x)
+        ∙ set_same was.heard.packet (counter_of_sending x) (sym step.counter) in
         subst (λ (e : Happening). Contains w.happenings e)
         (sym (ap (λ (k : ℕ). HeardAt k x.packet) now ∙ ap (λ (p : List ℕ). HeardAt w.opened p) (packet ∙ was.packet_is))) opens.happened
       where
         set_set : (p : List ℕ) (k : ℕ) → slice_set (body p) 2 k ≡ slice_set p 2 k
         set_set p k = set-set p 2 0 k
 
-  pub since_or_happened : (x : Sending) → IsHeard air v x → IsOfSlot s w x → (w.opened < x.end) ⊎ Contains w.happenings (HeardAt x.end x.packet)
+  pub since_or_happened : (x : Sending) → HasHeardEntry air v x → IsOfSlot s w x → (w.opened < x.end) ⊎ Contains w.happenings (HeardAt x.end x.packet)
   since_or_happened x is of_slot = by_test w.by_alarm refl
     where
       by_test : (b : Bool) → w.by_alarm ≡ b → (w.opened < x.end) ⊎ Contains w.happenings (HeardAt x.end x.packet)

@@ -10,10 +10,10 @@ use Rattle.node_core.specs.Windows.{Window}
 use Rattle.node_core.specs.Nodes.{Node}
 use Rattle.node_core.specs.Rows.{part_by}
 use Rattle.scenario_text.specs.ScenarioParts.{ScenarioParts}
-use Rattle.radio_model.specs.Hearing.{frame_of, slot_of}
+use Rattle.radio_model.specs.Hearing.{frame_of_sending, slot_of_sending}
 use Rattle.air_log.specs.declared.entry.Entry.{Entry}
 use Rattle.air_log.specs.Devices.{Device}
-use Rattle.air_log.specs.Safe.{by_host}
+use Rattle.air_log.specs.Safe.{sender_hosts}
 use Rattle.air_log.specs.Trails.{run_end}
 use Rattle.air_log.specs.WindowLogs.{WindowLog}
 use Rattle.law_trails.specs.Phases.{Alarms}
@@ -65,14 +65,14 @@ module _ (s : ScenarioParts) (clocks : ℕ → ℕ → ℕ) (air : List Entry) (
         let o = flood.origin in
         let same : message_of o.packet ≡ Some (ScheduleOf y) = sym (says_as_origin s clocks air x flood)
         ∙ sym (ap (λ (p : List ℕ). message_of p) now.packet) ∙ says in
-        let is = joins_for o.node o.rank (frame_of s.profile o) flood.zero (slot_of o) (by_host s clocks air o)
+        let is = joins_for o.node o.rank (frame_of_sending s.profile o) flood.zero (slot_of_sending o) (sender_hosts s clocks air o)
         (message_of o.packet) y flood.begins.start.says same in
-        let of_frame : frame_of s.profile o ≡ n.frame = sym flood.slot.frame ∙ now.frame
+        let of_frame : frame_of_sending s.profile o ≡ n.frame = sym flood.slot.frame ∙ now.frame
         ∙ sym (frame s clocks air v t at d h n y fine next now on stage says) in
-        let of_slot : slot_of o ≡ slice_index h.packet 1 = sym flood.slot.slot ∙ sym (ap (λ (p : List ℕ). slice_index p 1) now.packet) in
+        let of_slot : slot_of_sending o ≡ slice_index h.packet 1 = sym flood.slot.slot ∙ sym (ap (λ (p : List ℕ). slice_index p 1) now.packet) in
         subst (λ (r : ℕ). IsPartOf s air r n.frame (slice_index h.packet 1) (part_by y)) (sym is.0 ∙ of_rank)
         (subst (λ (f : ℕ). IsPartOf s air o.rank f (slice_index h.packet 1) (part_by y)) of_frame
-        (subst (λ (j : ℕ). IsPartOf s air o.rank (frame_of s.profile o) j (part_by y)) of_slot is.1)));
+        (subst (λ (j : ℕ). IsPartOf s air o.rank (frame_of_sending s.profile o) j (part_by y)) of_slot is.1)));
     heard = λ d h n j w x fine next now on stage is in_it known. goes_on x w is.last known;
     taken = λ d fine is before now x there. now.each x there;
     passed = λ x known. known;

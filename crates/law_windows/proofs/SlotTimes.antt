@@ -5,14 +5,14 @@ use Rattle.std.proofs.lemmas.Bool.{cases_order, true≢false}
 use Rattle.lwb_base.specs.Profile.{Numbers, airtime}
 use Rattle.tick_clock.specs.Clocks.{IsClock}
 use Rattle.time_reference.specs.Budgets.{Budget, Fits, budget_of, span}
-use Rattle.time_reference.specs.Zeros.{Good, opening, starting, closing, point}
+use Rattle.time_reference.specs.Zeros.{Good, opening_offset, starting_offset, closing_offset, tick_at_offset}
 use Rattle.time_reference.proofs.BudgetRoom.{packets_last}
 use Rattle.time_reference.proofs.Points.{good_later, opens_before_starts, closes_before_next_starts, relays_before_next_opens}
 use Rattle.time_reference.proofs.Steps.{flood_end}
 use Rattle.scenario_text.specs.ScenarioParts.{ScenarioParts}
 use Rattle.scenario_text.specs.FloodParts.{knows}
 use Rattle.radio_model.specs.declared.sending.Sending.{Sending}
-use Rattle.radio_model.specs.Hearing.{frame_of, slot_of, counter_of}
+use Rattle.radio_model.specs.Hearing.{frame_of_sending, slot_of_sending, counter_of_sending}
 use Rattle.air_log.specs.declared.entry.Entry.{Entry}
 use Rattle.air_log.specs.Entries.{sendings_of}
 use Rattle.air_log.specs.WindowLogs.{WindowLog}
@@ -22,7 +22,7 @@ use Rattle.law_trails.proofs.SlotBounds.{ends_in_slot, slots_apart}
 use Rattle.law_safety.specs.RoundZeros.{GoodFor}
 use Rattle.law_safety.specs.SetAlarms.{OpensLate, rank_at}
 use Rattle.law_safety.specs.FloodSendings.{IsOfFlood}
-use Rattle.law_safety.specs.Invariant.{IsRun}
+use Rattle.law_safety.specs.Invariant.{IsObedientRun}
 use Rattle.law_safety.specs.Rows.{AllRows}
 use Rattle.law_safety.proofs.Induction.{rows_suffice}
 use Rattle.law_safety.proofs.RunFacts.{run_fits, host_clock}
@@ -31,7 +31,7 @@ use Rattle.law_windows.specs.WindowRows.{IsOpened}
 use Rattle.law_windows.specs.WindowTimes.{OpensInTime, IsInTime, closing_of}
 use Rattle.law_windows.specs.SlotTimes.{EndsInSlot, LiesInWindow}
 
-module _ (rows : AllRows) (s : ScenarioParts) (clocks : ℕ → ℕ → ℕ) (air : List Entry) (run : IsRun s clocks air) where
+module _ (rows : AllRows) (s : ScenarioParts) (clocks : ℕ → ℕ → ℕ) (air : List Entry) (run : IsObedientRun s clocks air) where
   abbrev p : Numbers
   p = s.profile
 
@@ -57,22 +57,22 @@ module _ (rows : AllRows) (s : ScenarioParts) (clocks : ℕ → ℕ → ℕ) (ai
     host_is_clock : IsClock host
     host_is_clock = host_clock s clocks run.driven w.rank is.hosted
 
-    closes_by : (by : Bool) → OpensInTime s clocks air v by w → GoodFor s clocks w.rank v w.after.zero w.frame (closing s.profile w.slot)
-    closes_by true opens = good_later p b fits host (clocks v) w.after.zero w.frame (opening p w.slot) (closing p w.slot) (omega arith) opens.good
+    closes_by : (by : Bool) → OpensInTime s clocks air v by w → GoodFor s clocks w.rank v w.after.zero w.frame (closing_offset s.profile w.slot)
+    closes_by true opens = good_later p b fits host (clocks v) w.after.zero w.frame (opening_offset p w.slot) (closing_offset p w.slot) (omega arith) opens.good
     closes_by false opens = good_now p b fits host (clocks v) w.after.zero w.frame w.slot opens.ref
 
-    pub closes_good : Good s.profile (budget_of s.profile) host (clocks v) w.after.zero w.frame (closing s.profile w.slot)
+    pub closes_good : Good s.profile (budget_of s.profile) host (clocks v) w.after.zero w.frame (closing_offset s.profile w.slot)
     closes_good = closes_by w.by_alarm is.by
 
     -- the zero of a window before that closed late
     pub before_good : (late : OpensLate s clocks v w.before w.slot w.opened)
-        → Good s.profile (budget_of s.profile) host (clocks v) late.zero w.frame (closing s.profile late.before)
+        → Good s.profile (budget_of s.profile) host (clocks v) late.zero w.frame (closing_offset s.profile late.before)
     before_good late =
-        subst (λ (r : ℕ). GoodFor s clocks r v late.zero w.frame (closing s.profile late.before)) by_row.rank_before
-        (subst (λ (f : ℕ). GoodFor s clocks (rank_at w.before) v late.zero f (closing s.profile late.before)) by_row.frame_before late.good)
+        subst (λ (r : ℕ). GoodFor s clocks r v late.zero w.frame (closing_offset s.profile late.before)) by_row.rank_before
+        (subst (λ (f : ℕ). GoodFor s clocks (rank_at w.before) v late.zero f (closing_offset s.profile late.before)) by_row.frame_before late.good)
 
     -- a sending of the channel and frame, by the names of the window
-    module _ (x : Sending) (there : Contains (sendings_of air) x) (channel : x.rank ≡ w.rank) (frame : frame_of s.profile x ≡ w.frame) where
+    module _ (x : Sending) (there : Contains (sendings_of air) x) (channel : x.rank ≡ w.rank) (frame : frame_of_sending s.profile x ≡ w.frame) where
       flood : IsOfFlood s clocks air x
       flood = of_flood x there
 
@@ -82,19 +82,20 @@ module _ (rows : AllRows) (s : ScenarioParts) (clocks : ℕ → ℕ → ℕ) (ai
       first_drifts : IsClock first
       first_drifts = origin_drifts s clocks air run x flood
 
-      begins : Good s.profile (budget_of s.profile) host first flood.zero w.frame (starting s.profile (slot_of x))
+      begins : Good s.profile (budget_of s.profile) host first flood.zero w.frame (starting_offset s.profile (slot_of_sending x))
       begins =
           subst (λ (r : ℕ). Good s.profile (budget_of s.profile) (clocks (slice_index s.hosts r)) first flood.zero w.frame
-          (starting s.profile (slot_of x))) channel
+          (starting_offset s.profile (slot_of_sending x))) channel
           (subst (λ (f : ℕ). Good s.profile (budget_of s.profile) (clocks (slice_index s.hosts x.rank)) first flood.zero f
-          (starting s.profile (slot_of x))) frame (zero_good s clocks air run x flood))
+          (starting_offset s.profile (slot_of_sending x))) frame (zero_good s clocks air run x flood))
 
-      bounds : (x.start + airtime s.profile (length x.packet) ≤ point first flood.zero (starting s.profile (slot_of x)) + span s.profile
-          (length x.packet) + 11) × (point first flood.zero (starting s.profile (slot_of x)) ≤ x.start)
+      bounds : (x.start + airtime s.profile (length x.packet) ≤ tick_at_offset first flood.zero (starting_offset s.profile (slot_of_sending x)) + span s.profile
+          (length x.packet) + 11) × (tick_at_offset first flood.zero (starting_offset s.profile (slot_of_sending x)) ≤ x.start)
       bounds =
           let inside = in_flood s clocks air run x flood in
           let some = packets_last p b fits (length x.packet) in
-          flood_end p (length x.packet) (counter_of x) x.start (point first flood.zero (starting p (slot_of x))) (omega arith) inside.few inside.near
+          flood_end p (length x.packet) (counter_of_sending x) x.start (tick_at_offset first flood.zero (starting_offset p (slot_of_sending x)))
+              (omega arith) inside.few inside.near
 
       lasts : x.end ≡ x.start + airtime s.profile (length x.packet)
       lasts = flood.lasts
@@ -103,24 +104,24 @@ module _ (rows : AllRows) (s : ScenarioParts) (clocks : ℕ → ℕ → ℕ) (ai
       short = packet_short s clocks air run x flood
 
       -- a sending of a later slot starts when the window has closed
-      not_later : w.slot < slot_of x → closing_of s clocks air v w < x.start
+      not_later : w.slot < slot_of_sending x → closing_of s clocks air v w < x.start
       not_later less =
           let starts = closes_before_next_starts p b fits host
-          (clocks v) first w.after.zero flood.zero w.frame host_is_clock own_drifts first_drifts w.slot (slot_of x) less
+          (clocks v) first w.after.zero flood.zero w.frame host_is_clock own_drifts first_drifts w.slot (slot_of_sending x) less
           (slot_in_round s clocks air run x flood) closes_good begins in
           let begun = bounds in
           omega (arith, starts, begun)
 
       -- one of an earlier slot has ended before the window opens
-      ends_before : (by : Bool) → OpensInTime s clocks air v by w → slot_of x < w.slot → x.end < w.opened
+      ends_before : (by : Bool) → OpensInTime s clocks air v by w → slot_of_sending x < w.slot → x.end < w.opened
       ends_before true opens less =
           let before = relays_before_next_opens p b fits host first (clocks v) flood.zero w.after.zero w.frame host_is_clock first_drifts own_drifts
-          (slot_of x) w.slot (length x.packet) less
+          (slot_of_sending x) w.slot (length x.packet) less
           is.in_round short begins opens.good in
           let ends = bounds in
           let end = lasts in
-          let here : point (clocks v) w.before.zero (opening p w.slot) ≡ point (clocks v) w.after.zero (opening p w.slot) =
-          ap (λ (z : ℕ). point (clocks v) z (opening p w.slot)) opens.zero in
+          let here : tick_at_offset (clocks v) w.before.zero (opening_offset p w.slot) ≡ tick_at_offset (clocks v) w.after.zero (opening_offset p w.slot) =
+          ap (λ (z : ℕ). tick_at_offset (clocks v) z (opening_offset p w.slot)) opens.zero in
           elim opens.at [
             | inl now ↦ omega (arith, before, ends, end, here, now)
             | inr late ↦ (let past = late.late in omega (arith, before, ends, end, here, past))
@@ -130,14 +131,14 @@ module _ (rows : AllRows) (s : ScenarioParts) (clocks : ℕ → ℕ → ℕ) (ai
           let sent = (run.heedful.heard v y opens.there).sent in
           let other = of_flood y sent in
           let apart : x.start + airtime p (length x.packet) < y.start =
-          slots_apart p b fits host first (clocks other.origin.node) flood.zero other.zero w.frame (slot_of x) (slot_of y) (length x.packet)
-          (length y.packet) (counter_of x) (counter_of y)
+          slots_apart p b fits host first (clocks other.origin.node) flood.zero other.zero w.frame (slot_of_sending x) (slot_of_sending y) (length x.packet)
+          (length y.packet) (counter_of_sending x) (counter_of_sending y)
           x.start y.start host_is_clock first_drifts (origin_drifts s clocks air run y other)
           (let same = opens.of_slot.slot in omega (arith, less, same)) (slot_in_round s clocks air run y other) short begins
           (subst (λ (r : ℕ). Good s.profile (budget_of s.profile) (clocks (slice_index s.hosts r)) (clocks other.origin.node) other.zero w.frame
-          (starting s.profile (slot_of y))) opens.of_slot.channel
+          (starting_offset s.profile (slot_of_sending y))) opens.of_slot.channel
           (subst (λ (f : ℕ). Good s.profile (budget_of s.profile) (clocks (slice_index s.hosts y.rank)) (clocks other.origin.node) other.zero f
-          (starting s.profile (slot_of y))) opens.of_slot.frame
+          (starting_offset s.profile (slot_of_sending y))) opens.of_slot.frame
           (zero_good s clocks air run y other)))
           (in_flood s clocks air run x flood) (in_flood s clocks air run y other) in
           let end = lasts in
@@ -145,30 +146,31 @@ module _ (rows : AllRows) (s : ScenarioParts) (clocks : ℕ → ℕ → ℕ) (ai
           let lasting = other.lasts in
           omega (arith, apart, end, ends, lasting)
 
-      pub of_slot : w.opened ≤ x.end → x.end ≤ closing_of s clocks air v w → slot_of x ≡ w.slot
-      of_slot after before = elim (cases_order (slot_of x) w.slot) [
+      pub of_slot : w.opened ≤ x.end → x.end ≤ closing_of s clocks air v w → slot_of_sending x ≡ w.slot
+      of_slot after before = elim (cases_order (slot_of_sending x) w.slot) [
         | inl at ↦ at
         | inr (inl less) ↦ absurd (let early = ends_before w.by_alarm is.by less in omega (arith, early, after))
         | inr (inr more) ↦ absurd (let late = not_later more in let end = lasts in omega (arith, late, end, before))
       ]
 
       -- what is of the slot lies in the window
-      module _ (at : slot_of x ≡ w.slot) where
-        begins_here : Good s.profile (budget_of s.profile) host first flood.zero w.frame (starting s.profile w.slot)
-        begins_here = subst (λ (i : ℕ). Good s.profile (budget_of s.profile) host first flood.zero w.frame (starting s.profile i)) at begins
+      module _ (at : slot_of_sending x ≡ w.slot) where
+        begins_here : Good s.profile (budget_of s.profile) host first flood.zero w.frame (starting_offset s.profile w.slot)
+        begins_here = subst (λ (i : ℕ). Good s.profile (budget_of s.profile) host first flood.zero w.frame (starting_offset s.profile i)) at begins
 
-        from_start : point first flood.zero (starting s.profile w.slot) ≤ x.start
-        from_start = subst (λ (i : ℕ). point first flood.zero (starting s.profile i) ≤ x.start) at bounds.1
+        from_start : tick_at_offset first flood.zero (starting_offset s.profile w.slot) ≤ x.start
+        from_start = subst (λ (i : ℕ). tick_at_offset first flood.zero (starting_offset s.profile i) ≤ x.start) at bounds.1
 
         pub ends_early : x.end < closing_of s clocks air v w
         ends_early =
-            let ends = ends_in_slot p b fits host first (clocks v) flood.zero w.after.zero w.frame (slot_of x) (length x.packet) (counter_of x) x.start
+            let ends =
+                ends_in_slot p b fits host first (clocks v) flood.zero w.after.zero w.frame (slot_of_sending x) (length x.packet) (counter_of_sending x) x.start
             host_is_clock first_drifts own_drifts (slot_in_round s clocks air run x flood) short begins
-            (subst (λ (i : ℕ). Good s.profile (budget_of s.profile) host (clocks v) w.after.zero w.frame (closing s.profile i)) (sym at) closes_good)
+            (subst (λ (i : ℕ). Good s.profile (budget_of s.profile) host (clocks v) w.after.zero w.frame (closing_offset s.profile i)) (sym at) closes_good)
             (in_flood s clocks air run x flood) in
             let end = lasts in
-            let same : point (clocks v) w.after.zero (closing p (slot_of x)) ≡ closing_of s clocks air v w =
-            ap (λ (i : ℕ). point (clocks v) w.after.zero (closing p i)) at in
+            let same : tick_at_offset (clocks v) w.after.zero (closing_offset p (slot_of_sending x)) ≡ closing_of s clocks air v w =
+            ap (λ (i : ℕ). tick_at_offset (clocks v) w.after.zero (closing_offset p i)) at in
             omega (arith, ends, end, same)
 
         starts_by : (by : Bool) → by ≡ true → OpensInTime s clocks air v by w → w.opened < x.start
@@ -176,8 +178,9 @@ module _ (rows : AllRows) (s : ScenarioParts) (clocks : ℕ → ℕ → ℕ) (ai
             let from = from_start in
             elim opens.at [
               | inl now ↦ (
-                  let here : point (clocks v) w.before.zero (opening p w.slot) ≡ point (clocks v) w.after.zero (opening p w.slot) =
-                  ap (λ (z : ℕ). point (clocks v) z (opening p w.slot)) opens.zero in
+                  let here : tick_at_offset (clocks v) w.before.zero (opening_offset p w.slot) ≡ tick_at_offset (clocks v) w.after.zero (opening_offset p
+                      w.slot) =
+                  ap (λ (z : ℕ). tick_at_offset (clocks v) z (opening_offset p w.slot)) opens.zero in
                   let starts = opens_before_starts p b fits host
                   (clocks v) first w.after.zero flood.zero w.frame host_is_clock own_drifts first_drifts w.slot is.in_round opens.good begins_here in
                   omega (arith, starts, from, here, now)

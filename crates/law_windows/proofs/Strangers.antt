@@ -10,8 +10,9 @@ use Rattle.bus_rules.specs.Cores.{Setup}
 use Rattle.air_log.specs.declared.entry.Entry.{Entry}
 use Rattle.air_log.specs.Devices.{Device, at_rest}
 use Rattle.air_log.specs.Lawful.{heard_by}
-use Rattle.air_log.specs.ScriptedDevices.{after_line}
-use Rattle.air_log.specs.Trails.{Reception, alarmed, alarms, before_tick, begun, ended, ending_at, frame_start, hears, lines_at, run_end, setup_of, tick}
+use Rattle.air_log.specs.ScriptedDevices.{device_after_line}
+use Rattle.air_log.specs.Trails.{Reception, alarmed, alarms, before_tick, device_after_start, device_after_end, ending_at, frame_start, device_after_reception}
+use Rattle.air_log.specs.Trails.{lines_at, run_end, setup_of, tick}
 use Rattle.lwb_base.proofs.Elements.{not_in_none, contains_head, contains_tail}
 use Rattle.law_terms.specs.LawfulRuns.{IsLawfulRun}
 use Rattle.law_windows.specs.FramePlaces.{StrangersLaw}
@@ -27,7 +28,7 @@ none_of s v t (l ∷ ls) none = by_node (l.node == v) refl (none_of s v t ls (λ
     by_node true is empty = absurd (none l (contains_head l ls) (eqb-true l.node v is))
 
 -- off, it hears nothing
-hears_nothing : (clock : ℕ → ℕ) (s : Setup) (t : ℕ) (hs : List Reception) → fold (hears clock s t) at_rest hs ≡ at_rest
+hears_nothing : (clock : ℕ → ℕ) (s : Setup) (t : ℕ) (hs : List Reception) → fold (device_after_reception clock s t) at_rest hs ≡ at_rest
 hears_nothing clock s t [] = refl
 hears_nothing clock s t (h ∷ hs) = hears_nothing clock s t hs
 
@@ -40,16 +41,16 @@ module _ (s : ScenarioParts) (v : ℕ) (clock : ℕ → ℕ) (hs : List Receptio
   S = setup_of s v
 
   abbrev told : ℕ → List ScriptLine → Device
-  told t ls = fold (hears clock S t) (fold (after_line clock S t) at_rest ls) (ending_at t hs)
+  told t ls = fold (device_after_reception clock S t) (fold (device_after_line clock S t) at_rest ls) (ending_at t hs)
 
   abbrev behind : ℕ → Device → Device
-  behind t d = begun S t (alarmed clock S t (ended clock S t d))
+  behind t d = device_after_start S t (alarmed clock S t (device_after_end clock S t d))
 
   rests : (t : ℕ) → tick s v clock hs t at_rest ≡ at_rest
   rests t =
       ap (λ (ls : List ScriptLine). behind t (told t ls)) (none t)
       ∙ ap (behind t) (hears_nothing clock S t (ending_at t hs))
-      ∙ ap (begun S t) (no_alarm clock S t (clock t + 300))
+      ∙ ap (device_after_start S t) (no_alarm clock S t (clock t + 300))
 
   stays : (t : ℕ) → before_tick s v clock hs t ≡ at_rest
   unfolding before_tick

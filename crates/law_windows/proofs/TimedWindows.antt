@@ -3,13 +3,13 @@ use Rattle.std.proofs.Common.{◌≡◌, ℕ, suc, ◌/◌, List, Bool, true, fa
 use Rattle.std.specs.Prelude.{slice_index}
 use Rattle.lwb_base.specs.Messages.{Schedule}
 use Rattle.time_reference.specs.Budgets.{budget_of}
-use Rattle.time_reference.specs.Zeros.{closing, point}
+use Rattle.time_reference.specs.Zeros.{closing_offset, tick_at_offset}
 use Rattle.node_core.specs.declared.stage.Stage.TheVariants.{Scanning, AwaitSlot, InWindow}
 use Rattle.node_core.specs.Windows.{Window}
 use Rattle.node_core.specs.Nodes.{Node, zero_from}
 use Rattle.bus_rules.specs.Slots.{ScheduleOf}
 use Rattle.lwb_member.specs.Said.{message_of}
-use Rattle.radio_model.specs.Hearing.{slot_of}
+use Rattle.radio_model.specs.Hearing.{slot_of_sending}
 use Rattle.scenario_text.specs.ScenarioParts.{ScenarioParts}
 use Rattle.air_log.specs.declared.entry.Entry.{Entry}
 use Rattle.air_log.specs.Devices.{Device, PowerOn, listens_to}
@@ -31,7 +31,7 @@ use Rattle.law_safety.proofs.HeardPlaces.{listened, frame_now, began_now}
 use Rattle.law_safety.proofs.HeardRelays.{ends_before}
 use Rattle.law_safety.proofs.HeardSchedules.{reference}
 use Rattle.law_windows.specs.WindowTimes.{IsOfSlot, OpensInTime, IsInTime, ClosesInTime, closing_of}
-use Rattle.law_windows.specs.OpenWindows.{IsOpen}
+use Rattle.law_windows.specs.OpenWindows.{IsOpenWindow}
 use Rattle.law_windows.specs.WindowSteps.{KeepsWindows, begun_log, joined_log}
 use Rattle.law_windows.proofs.OpenedByRows.{not_closed}
 use Rattle.law_windows.proofs.WindowWalk.{on_in}
@@ -66,11 +66,11 @@ module _ (s : ScenarioParts) (clocks : ℕ → ℕ → ℕ) (air : List Entry) (
     }
 
   -- the alarm that closes it
-  closes_then : (t : ℕ) (n : Node) (j : ℕ) (w : Window) (x : WindowLog) → IsOpen n j w x → t ≡ tick_by s clocks v n (closing s.profile j)
+  closes_then : (t : ℕ) (n : Node) (j : ℕ) (w : Window) (x : WindowLog) → IsOpenWindow n j w x → t ≡ tick_by s clocks v n (closing_offset s.profile j)
       → t ≡ closing_of s clocks air v x
   closes_then t n j w x is at =
-      at ∙ ap (λ (m : Node). tick_by s clocks v m (closing s.profile j)) is.node
-      ∙ ap (λ (i : ℕ). point (clocks v) x.after.zero (closing s.profile i)) (sym is.slot)
+      at ∙ ap (λ (m : Node). tick_by s clocks v m (closing_offset s.profile j)) is.node
+      ∙ ap (λ (i : ℕ). tick_at_offset (clocks v) x.after.zero (closing_offset s.profile i)) (sym is.slot)
 
   module _ (t : ℕ) (at : AtTick s clocks air v t) where
     opens_timed : (d : Device) (n : Node) (j : ℕ) → IsFine s clocks air v t Alarms d → IsNextAlarm s v (clocks v) (heard_by air v) t d
@@ -117,11 +117,11 @@ module _ (s : ScenarioParts) (clocks : ℕ → ℕ → ℕ) (air : List Entry) (
           (subst (λ (f : ℕ). RefFor s clocks now.sending.rank v zero_now f f slot) (sym frame)
           (reference s clocks air v t at h d now y next.there next.now says))
 
-      good : GoodFor s clocks (rank_at n) v zero_now n.frame (closing s.profile slot)
+      good : GoodFor s clocks (rank_at n) v zero_now n.frame (closing_offset s.profile slot)
       good = good_now s.profile (budget_of s.profile) (run_fits s at.run.driven.sound) (clocks (slice_index s.hosts (rank_at n)))
           (clocks v) zero_now n.frame slot ref
 
-      same_slot : slot_of now.sending ≡ slot
+      same_slot : slot_of_sending now.sending ≡ slot
       same_slot = ap (λ (q : List ℕ). slice_index q 1) (sym now.packet)
 
       of_slot : IsOfSlot s (joined_log (setup_of s v) t (clocks v t) n h.packet y) now.sending
@@ -143,7 +143,8 @@ module _ (s : ScenarioParts) (clocks : ℕ → ℕ → ℕ) (air : List Entry) (
           }
 
     closes_timed : (d : Device) (n : Node) (j : ℕ) (w : Window) (x : WindowLog) → IsFine s clocks air v t Alarms d
-        → IsNextAlarm s v (clocks v) (heard_by air v) t d → d.power ≡ PowerOn n → n.stage ≡ InWindow j w → IsOpen n j w x → t ≡ closing_of s clocks air v x
+        → IsNextAlarm s v (clocks v) (heard_by air v) t d → d.power ≡ PowerOn n → n.stage ≡ InWindow j w → IsOpenWindow n j w x
+            → t ≡ closing_of s clocks air v x
     closes_timed d n j w x fine due on stage is =
         let alarm = (on_in s clocks air v t Alarms d n fine on).alarm in
         let other : d.alarm ≡ Some alarm.alarm = alarm.set in

@@ -14,7 +14,7 @@ use Rattle.air_log.specs.Lawful.{FollowsTrails, heard_by, tuned_by}
 use Rattle.air_log.specs.TunedTimes.{listened}
 use Rattle.air_log.specs.Trails.{Reception, run_end, before_tick, trail}
 use Rattle.air_log.proofs.TunedBefore.{silenced_stays, tick_by}
-use Rattle.law_trails.specs.Obeying.{channel_of}
+use Rattle.law_trails.specs.Obeying.{channel_if_on}
 use Rattle.law_trails.specs.TrailLinks.{device_in}
 use Rattle.law_trails.proofs.SentInTrails.{holds_if}
 use Rattle.law_trails.proofs.TunedInTrails.{Tuned, step_stays}
@@ -30,7 +30,7 @@ module _ (s : ScenarioParts) (v : ℕ) (clock : ℕ → ℕ) (hs : List Receptio
       ]
 
   -- a device that listens has done so since its last tick at the latest
-  since_by : (k r : ℕ) (l : Option Listening) → (before_tick s v clock hs (suc k)).listening ≡ l → channel_of l ≡ Some r → listened r k l
+  since_by : (k r : ℕ) (l : Option Listening) → (before_tick s v clock hs (suc k)).listening ≡ l → channel_if_on l ≡ Some r → listened r k l
   since_by k r None is on = absurd cc
   since_by k r (Some l) is on =
       let all = (step_stays s v clock hs k).by.since in
@@ -38,7 +38,7 @@ module _ (s : ScenarioParts) (v : ℕ) (clock : ℕ → ℕ) (hs : List Receptio
       let same : l.rank ≡ r = cc in
       (same, since)
 
-  pub in_trail : (k r : ℕ) → k < run_end s → channel_of (before_tick s v clock hs (suc k)).listening ≡ Some r
+  pub in_trail : (k r : ℕ) → k < run_end s → channel_if_on (before_tick s v clock hs (suc k)).listening ≡ Some r
       → (e : Tuning) × Contains (trail s v clock hs).made.tuned e × (e.rank ≡ r) × (e.start ≤ k) × (k < e.end)
   in_trail k r below on =
       let d = before_tick s v clock hs (suc k) in
@@ -51,7 +51,7 @@ module _ (s : ScenarioParts) (v : ℕ) (clock : ℕ → ℕ) (hs : List Receptio
       ]
 
 module _ (s : ScenarioParts) (clocks : ℕ → ℕ → ℕ) (air : List Entry) (follows : FollowsTrails s clocks air) where
-  pub listens_tuned : (v rank k : ℕ) → knows s.nodes v ≡ true → k < run_end s → channel_of (device_in s clocks air v (suc k)).listening ≡ Some rank
+  pub listens_tuned : (v rank k : ℕ) → knows s.nodes v ≡ true → k < run_end s → channel_if_on (device_in s clocks air v (suc k)).listening ≡ Some rank
       → IsTuned (scene_of s.profile s.trace air) v rank k
   listens_tuned v rank k known below on =
       let hs = heard_by air v in

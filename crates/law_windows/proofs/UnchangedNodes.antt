@@ -18,9 +18,9 @@ use Rattle.air_log.specs.declared.entry.Entry.{Entry}
 use Rattle.air_log.specs.WindowLogs.{WindowLog}
 use Rattle.air_log.specs.Devices.{Device, Power, PowerOff, PowerOn}
 use Rattle.air_log.specs.Lawful.{heard_by}
-use Rattle.air_log.specs.Trails.{setup_of, frame_start, at_frame, scripted, before_tick}
-use Rattle.law_trails.specs.Phases.{Phase, Lines, Hearings, End, Alarms, Start, Over, IsNextLine, next_phase, device_at}
-use Rattle.law_trails.specs.Walks.{Now, after_row}
+use Rattle.air_log.specs.Trails.{setup_of, frame_start, at_frame, device_after_script, before_tick}
+use Rattle.law_trails.specs.Phases.{Phase, Lines, Hearings, End, Alarms, Start, Over, IsNextLineOf, next_phase, device_at}
+use Rattle.law_trails.specs.Walks.{Now, device_after_row}
 use Rattle.law_trails.proofs.RowsOfDevices.{row_power}
 use Rattle.law_safety.specs.CountedFrames.{InFrame}
 use Rattle.law_safety.specs.Rows.{AtTick}
@@ -50,14 +50,14 @@ module _ (s : ScenarioParts) (clocks : ℕ → ℕ → ℕ) (air : List Entry) (
   base t phase d now = record { in_run = now.in_run; known = now.known; holds = now.holds.0 }
 
   -- no line is told within a frame
-  pub at_lines : (t : ℕ) → AtTick s clocks air v t → (d : Device) (l : ScriptLine) → IsNextLine s v (clocks v) (heard_by air v) t l d → (p : Power)
+  pub at_lines : (t : ℕ) → AtTick s clocks air v t → (d : Device) (l : ScriptLine) → IsNextLineOf s v (clocks v) (heard_by air v) t l d → (p : Power)
       → UnchangedIn s clocks air v t Lines p
   at_lines t at d l next p began = absurd (let start = line_starts s at.run.driven.sound t l next.now in omega (arith, began, start))
 
   -- behind a row whose node is at another place
   pub row_leaves : (t : ℕ) (e : Event) (x : Option Sending) (d : Device) (n : Node) (r : Stepped)
       → UnchangedAt s clocks air v (t / s.profile.frame) r.node r.node.stage
-      → UnchangedBy s clocks air v (t / s.profile.frame) (after_row (clocks v) (setup_of s v) t e x d n r).power
+      → UnchangedBy s clocks air v (t / s.profile.frame) (device_after_row (clocks v) (setup_of s v) t e x d n r).power
   row_leaves t e x d n r is = subst (UnchangedBy s clocks air v (t / s.profile.frame)) (sym (row_power (clocks v) S t e x d n r)) is
 
   -- the next frame is not this one
@@ -76,7 +76,7 @@ module _ (s : ScenarioParts) (clocks : ℕ → ℕ → ℕ) (air : List Entry) (
 
   pub ends_frame : (t : ℕ) → AtTick s clocks air v t → (d : Device) (n : Node) → InFrame s clocks v t n
       → UnchangedBy s clocks air v (t / s.profile.frame)
-      (after_row (clocks v) (setup_of s v) t Alarm None (record d { alarm = None }) n (frame_alarms (setup_of s v) n)).power
+      (device_after_row (clocks v) (setup_of s v) t Alarm None (record d { alarm = None }) n (frame_alarms (setup_of s v) n)).power
   ends_frame t at d n frame =
       let r = frame_alarms S n in
       let core = frame_ended S n.frame n.core in
@@ -104,7 +104,8 @@ module _ (s : ScenarioParts) (clocks : ℕ → ℕ → ℕ) (air : List Entry) (
         let begins = frame_begins s at.run.driven.sound t in
         let start : frame_start s (t / s.profile.frame) ≡ t = omega (arith, late, begins) in
         let found : (at_frame s v (clocks v) (heard_by air v) (t / s.profile.frame)).power ≡ d.power =
-        ap (λ (u : ℕ). (scripted s v (clocks v) u (before_tick s v (clocks v) (heard_by air v) u)).power) start ∙ sym (ap (λ (e : Device). e.power) enters) in
+        ap (λ (u : ℕ). (device_after_script s v (clocks v) u (before_tick s v (clocks v) (heard_by air v) u)).power) start
+            ∙ sym (ap (λ (e : Device). e.power) enters) in
         as_found d.power found
         )
   ]

@@ -8,11 +8,11 @@ use Rattle.glossy_relay.specs.Relaying.{after_heard}
 use Rattle.scenario_text.specs.ScenarioParts.{ScenarioParts}
 use Rattle.scenario_text.specs.FloodParts.{knows}
 use Rattle.radio_model.specs.declared.sending.Sending.{Sending}
-use Rattle.radio_model.specs.Hearing.{frame_of}
+use Rattle.radio_model.specs.Hearing.{frame_of_sending}
 use Rattle.air_log.specs.declared.entry.Entry.{Entry}
-use Rattle.air_log.specs.Entries.{sendings_of, IsHeard}
+use Rattle.air_log.specs.Entries.{sendings_of, HasHeardEntry}
 use Rattle.air_log.specs.Lawful.{Lawful, heard_by}
-use Rattle.air_log.specs.NodeEvents.{Event, Heard, Ended, sending_of, InOrder, after_all}
+use Rattle.air_log.specs.NodeEvents.{Event, Heard, Ended, sending_of_event, EventsInOrder, flood_after_events}
 use Rattle.air_log.specs.Trails.{run_end, setup_of}
 use Rattle.air_log.specs.WindowLogs.{WindowLog, Happening, HeardAt, SentAt, Closing}
 use Rattle.lwb_base.proofs.Elements.{Distinct, not_in_none, contains_head, contains_tail, contains_cases, map_contains, map_from, pairs_head, pairs_tail}
@@ -20,12 +20,12 @@ use Rattle.lwb_base.proofs.Elements.{pairs_cons}
 use Rattle.law_trails.specs.TrailLinks.{device_in}
 use Rattle.law_trails.proofs.SentInTrails.{sent_below, sent_lasts}
 use Rattle.law_trails.proofs.WalkOfRun.{known_before}
-use Rattle.law_safety.specs.Invariant.{IsRun}
+use Rattle.law_safety.specs.Invariant.{IsObedientRun}
 use Rattle.law_safety.proofs.InvariantHolds.{all_rows}
 use Rattle.law_windows.specs.OpenWindows.{SameWindowSlot}
-use Rattle.law_windows.specs.WindowEvents.{happening_of, HasEvents}
+use Rattle.law_windows.specs.WindowEvents.{happening_of, WindowHasEvents}
 use Rattle.law_windows.specs.WindowFloods.{after_happening, flood_at_first}
-use Rattle.law_windows.specs.WindowHistory.{tick_of, WasThen, HasHappened}
+use Rattle.law_windows.specs.WindowHistory.{tick_of_happening, WasThen, HasHappened}
 use Rattle.law_windows.specs.WindowLaws.{WindowsHaveEvents}
 use Rattle.law_trails.proofs.HeedfulLogs.{lawful_is_heedful}
 use Rattle.law_windows.specs.WindowTimes.{IsOfSlot, ClosesInTime, closing_of}
@@ -67,7 +67,7 @@ module _ (s : ScenarioParts) (air : List Entry) (v : ℕ) (w : WindowLog) where
 
   -- what an event is
   abbrev IsEvent : Event → Type 0
-  IsEvent (Heard x) = IsHeard air v x × (x.rank ≡ w.rank) × (frame_of s.profile x ≡ w.frame)
+  IsEvent (Heard x) = HasHeardEntry air v x × (x.rank ≡ w.rank) × (frame_of_sending s.profile x ≡ w.frame)
   IsEvent (Ended x) = Contains (sendings_of air) x × (x.node ≡ v) × IsOfSlot s w x
 
   is_event : (e : Happening) (is : WasThen s air v w e) → IsEvent (event_of e is)
@@ -82,38 +82,40 @@ module _ (s : ScenarioParts) (air : List Entry) (v : ℕ) (w : WindowLog) where
         | inr later ↦ are_events es (λ d there. were d (contains_tail e es d there)) d later
       ]
 
-  one_flood : (f : FloodState) (e : Happening) (is : WasThen s air v w e) → after_all f (event_of e is ∷ []) ≡ after_happening f e
+  one_flood : (f : FloodState) (e : Happening) (is : WasThen s air v w e) → flood_after_events f (event_of e is ∷ []) ≡ after_happening f e
   one_flood f (HeardAt t p) is = ap (λ (q : List ℕ). after_heard f q) is.packet_is
   one_flood f (SentAt t p) is = refl
 
-  all_floods : (f : FloodState) (es : List Happening) (were : AllWere es) → after_all f (events_of es were) ≡ fold after_happening f es
+  all_floods : (f : FloodState) (es : List Happening) (were : AllWere es) → flood_after_events f (events_of es were) ≡ fold after_happening f es
   all_floods f [] were = refl
   all_floods f (e ∷ es) were =
-      ap (λ (g : FloodState). after_all g (events_of es (λ d there. were d (contains_tail e es d there)))) (one_flood f e (were e (contains_head e es)))
+      ap (λ (g : FloodState). flood_after_events g (events_of es (λ d there. were d (contains_tail e es d there))))
+          (one_flood f e (were e (contains_head e es)))
       ∙ all_floods (after_happening f e) es (λ d there. were d (contains_tail e es d there))
 
-  tick_is : (d : Event) → tick_of (happening_of d) ≡ (sending_of d).end
+  tick_is : (d : Event) → tick_of_happening (happening_of d) ≡ (sending_of_event d).end
   tick_is (Heard x) = refl
   tick_is (Ended x) = refl
 
   -- in the order of their happenings
-  ordered : (es : List Happening) (were : AllWere es) → AllPairs (λ (d e : Happening). tick_of d ≤ tick_of e) es → Distinct es → InOrder (events_of es were)
+  ordered : (es : List Happening) (were : AllWere es) → AllPairs (λ (d e : Happening). tick_of_happening d ≤ tick_of_happening e) es → Distinct es
+      → EventsInOrder (events_of es were)
   ordered [] were turn distinct = λ i j d before within. absurd (omega (arith, within))
   ordered (e ∷ es) were turn distinct =
       let rest : AllWere es = λ d there. were d (contains_tail e es d there) in
       let now = event_of e (were e (contains_head e es)) in
-      pairs_cons (λ (d e : Event). ((sending_of d).end ≤ (sending_of e).end) × (d ≢ e)) now (events_of es rest)
+      pairs_cons (λ (d e : Event). ((sending_of_event d).end ≤ (sending_of_event e).end) × (d ≢ e)) now (events_of es rest)
       (λ d there.
       (let happened : Contains es (happening_of d) = subst (λ (ds : List Happening). Contains ds (happening_of d)) (all_happenings es rest)
       (map_contains happening_of (events_of es rest) d there) in
       let first : happening_of now ≡ e = one_happening e (were e (contains_head e es)) in
-      let tick = pairs_head (λ (d e : Happening). tick_of d ≤ tick_of e) e es turn (happening_of d) happened in (
-        omega (arith, tick, tick_is d, tick_is now, ap tick_of first),
+      let tick = pairs_head (λ (d e : Happening). tick_of_happening d ≤ tick_of_happening e) e es turn (happening_of d) happened in (
+        omega (arith, tick, tick_is d, tick_is now, ap tick_of_happening first),
         λ same. distinct.0 (subst (Contains es) (sym (ap happening_of same) ∙ first) happened),
       )))
-      (ordered es rest (pairs_tail (λ (d e : Happening). tick_of d ≤ tick_of e) e es turn) distinct.1)
+      (ordered es rest (pairs_tail (λ (d e : Happening). tick_of_happening d ≤ tick_of_happening e) e es turn) distinct.1)
 
-module _ (s : ScenarioParts) (clocks : ℕ → ℕ → ℕ) (air : List Entry) (run : IsRun s clocks air) (lawful : Lawful s clocks air) (v : ℕ)
+module _ (s : ScenarioParts) (clocks : ℕ → ℕ → ℕ) (air : List Entry) (run : IsObedientRun s clocks air) (lawful : Lawful s clocks air) (v : ℕ)
     (known : knows s.nodes v ≡ true)
     (w : WindowLog) (there : Contains (device_in s clocks air v (run_end s)).made.windows w) where
   abbrev t : ℕ
@@ -157,14 +159,14 @@ module _ (s : ScenarioParts) (clocks : ℕ → ℕ → ℕ) (air : List Entry) (
   closing_known = (closing.0, closing.1, closing_tick, in_run)
 
   -- what was heard in it is of its slot
-  heard_of : (x : Sending) → Contains events (Heard x) → IsHeard air v x × IsOfSlot s w x
+  heard_of : (x : Sending) → Contains events (Heard x) → HasHeardEntry air v x × IsOfSlot s w x
   heard_of x in_it =
       let is = are_events s air v w w.happenings history.then_ (Heard x) in_it in
       let then_ : Contains w.happenings (HeardAt x.end x.packet) =
       subst (λ (ds : List Happening). Contains ds (HeardAt x.end x.packet)) happened (map_contains happening_of events (Heard x) in_it) in
       let since = history.since (HeardAt x.end x.packet) then_ in
       let until = subst (λ (c : Option Closing). IfSome c
-      (λ c. (e : Happening) → Contains w.happenings e → tick_of e ≤ c.tick)) closing.1 history.until (HeardAt x.end x.packet) then_ in
+      (λ c. (e : Happening) → Contains w.happenings e → tick_of_happening e ≤ c.tick)) closing.1 history.until (HeardAt x.end x.packet) then_ in
       let sent = (run.heedful.heard v x is.0).sent in
       let closes = closing_tick in
       let slot = slots_apart s clocks air run v known (run_end s) within w there x sent is.1 is.2 since (omega (arith, until, closes)) in
@@ -174,7 +176,7 @@ module _ (s : ScenarioParts) (clocks : ℕ → ℕ → ℕ) (air : List Entry) (
   find : (e : Happening) → Contains w.happenings e → (d : Event) × Contains events d × (happening_of d ≡ e)
   find e in_it = map_from happening_of events e (subst (λ (ds : List Happening). Contains ds e) (sym happened) in_it)
 
-  as_heard : (x : Sending) → IsHeard air v x → (d : Event) → Contains events d → happening_of d ≡ HeardAt x.end x.packet → Contains events (Heard x)
+  as_heard : (x : Sending) → HasHeardEntry air v x → (d : Event) → Contains events d → happening_of d ≡ HeardAt x.end x.packet → Contains events (Heard x)
   as_heard x is (Heard y) in_it same =
       let other = (heard_of y in_it).0 in
       let end : y.end ≡ x.end = cc in
@@ -182,7 +184,7 @@ module _ (s : ScenarioParts) (clocks : ℕ → ℕ → ℕ) (air : List Entry) (
       subst (λ (z : Sending). Contains events (Heard z)) (same_heard s clocks air run lawful v y x other is end packet) in_it
   as_heard x is (Ended y) in_it same = let not_same : SentAt y.end y.packet ≡ HeardAt x.end x.packet = same in absurd cc
 
-  heard_all : (x : Sending) → IsHeard air v x → IsOfSlot s w x → Contains events (Heard x)
+  heard_all : (x : Sending) → HasHeardEntry air v x → IsOfSlot s w x → Contains events (Heard x)
   heard_all x is of_slot =
       let reach = (lawful.hearing.heard v x).0 is in
       let lies = (slot_covered s clocks air run v known (run_end s) within w there x reach.1.sent of_slot).0 in
@@ -245,7 +247,7 @@ module _ (s : ScenarioParts) (clocks : ℕ → ℕ → ℕ) (air : List Entry) (
             )
       ]
 
-  pub events_in_window : HasEvents s air v w
+  pub events_in_window : WindowHasEvents s air v w
   events_in_window = record {
     events = events;
     happened = happened;

@@ -8,7 +8,7 @@ use Rattle.law_windows.specs.WindowLaws.{NodesSendAsCalled, HearingsHappen, Roun
 use Rattle.law_windows.proofs.OpenedByRows.{IsOfRows, rows_steps}
 use Rattle.law_windows.proofs.TimedWindows.{IsTimed, times_steps}
 use Rattle.air_log.specs.Trails.{setup_of}
-use Rattle.law_windows.specs.WindowFloods.{HasFlood}
+use Rattle.law_windows.specs.WindowFloods.{WindowHasFlood}
 use Rattle.law_windows.proofs.WindowFloods.{flood_steps}
 use Rattle.law_windows.proofs.WindowHistory.{IsHistory, history_steps}
 use Rattle.law_windows.specs.WindowCalls.{SendsAsCalled}
@@ -66,7 +66,7 @@ slot_covered s clocks air run v known t within w there =
 
 pub floods_of_windows : FloodsAreHistory
 floods_of_windows s clocks air run v known t within w there =
-    (windows_before s clocks air v (λ now taken w. HasFlood (setup_of s v) w) all_rows run known
+    (windows_before s clocks air v (λ now taken w. WindowHasFlood (setup_of s v) w) all_rows run known
     (λ u at. flood_steps s clocks air v u at) t within).each w there
 
 pub history_on_air : HistoryIsOnAir

@@ -14,7 +14,7 @@ use Rattle.air_log.specs.Trails.{setup_of}
 use Rattle.law_trails.specs.Phases.{Hearings}
 use Rattle.law_safety.specs.SetAlarms.{rank_at}
 use Rattle.law_safety.specs.Rows.{AtTick}
-use Rattle.law_windows.specs.WindowFloods.{after_happening, flood_at_first, HasFlood}
+use Rattle.law_windows.specs.WindowFloods.{after_happening, flood_at_first, WindowHasFlood}
 use Rattle.law_windows.specs.WindowSteps.{KeepsWindows}
 use Rattle.law_windows.proofs.OwnSchedules.{own_channel, not_foreign}
 use Rattle.law_windows.proofs.WindowWalk.{on_in}
@@ -29,15 +29,15 @@ own_flood : (foreign : Bool) (f g : FloodState) → foreign ≡ false → (if fo
 own_flood foreign f g is = ap (λ (b : Bool). if b then f else g) is
 
 -- one happening more
-one_more : (s : Setup) (x : WindowLog) (e : Happening) (u : Window) → HasFlood s x → u.flood ≡ after_happening x.last.flood e
-    → HasFlood s (record x { happenings = x.happenings ++ e ∷ []; last = u })
+one_more : (s : Setup) (x : WindowLog) (e : Happening) (u : Window) → WindowHasFlood s x → u.flood ≡ after_happening x.last.flood e
+    → WindowHasFlood s (record x { happenings = x.happenings ++ e ∷ []; last = u })
 one_more s x e u has is =
     is ∙ ap (λ (f : FloodState). after_happening f e) has
     ∙ sym (fold-append after_happening (flood_at_first s x.by_alarm x) x.happenings (e ∷ []))
     ∙ ap (λ (f : FloodState). fold after_happening f (x.happenings ++ e ∷ [])) (sym (first_same s x.by_alarm x (x.happenings ++ e ∷ []) u x.closed))
 
 pub flood_steps : (s : ScenarioParts) (clocks : ℕ → ℕ → ℕ) (air : List Entry) (v t : ℕ) → AtTick s clocks air v t
-    → KeepsWindows s clocks air v (λ now taken w. HasFlood (setup_of s v) w) t
+    → KeepsWindows s clocks air v (λ now taken w. WindowHasFlood (setup_of s v) w) t
 flood_steps s clocks air v t at = record {
   begun = λ d n j fine due on stage. refl;
   joined = λ d h n y fine next now on stage says rank. refl;

@@ -10,7 +10,7 @@ use Rattle.node_core.specs.Windows.{Window}
 use Rattle.node_core.specs.Nodes.{Node}
 use Rattle.scenario_text.specs.ScenarioParts.{ScenarioParts}
 use Rattle.radio_model.specs.declared.sending.Sending.{Sending}
-use Rattle.radio_model.specs.Hearing.{frame_of}
+use Rattle.radio_model.specs.Hearing.{frame_of_sending}
 use Rattle.air_log.specs.declared.entry.Entry.{Entry}
 use Rattle.air_log.specs.Entries.{sendings_of}
 use Rattle.air_log.specs.Devices.{Device, PowerOn}
@@ -32,8 +32,8 @@ use Rattle.law_safety.specs.Rows.{IsFine, AtTick}
 use Rattle.law_safety.proofs.RunFacts.{frame_is}
 use Rattle.law_safety.proofs.FloodTimes.{after_frame_start, before_frame_end}
 use Rattle.law_safety.proofs.HeardPlaces.{frame_now}
-use Rattle.law_windows.specs.OpenWindows.{IsOpen}
-use Rattle.law_windows.specs.WindowHistory.{tick_of, SentThen, WasThen, HasHappened}
+use Rattle.law_windows.specs.OpenWindows.{IsOpenWindow}
+use Rattle.law_windows.specs.WindowHistory.{tick_of_happening, SentThen, WasThen, HasHappened}
 use Rattle.law_windows.specs.WindowSteps.{KeepsWindows, joined_log}
 use Rattle.law_windows.specs.WindowTimes.{IsOfSlot}
 use Rattle.law_windows.proofs.OwnSchedules.{own_channel}
@@ -42,15 +42,16 @@ use Rattle.law_windows.proofs.WindowWalk.{on_in}
 
 -- by their ticks
 abbrev InTurn : List Happening → Type 0
-InTurn es = AllPairs (λ (d e : Happening). tick_of d ≤ tick_of e) es
+InTurn es = AllPairs (λ (d e : Happening). tick_of_happening d ≤ tick_of_happening e) es
 
 at_place : (es : List Happening) (k : ℕ) (d e : Happening) → k < length es → get_or es k e ≡ get_or es k d
 at_place [] k d e less = absurd (omega arith)
 at_place (x ∷ es) zero d e less = refl
 at_place (x ∷ es) (suc k) d e less = at_place es k d e (omega arith)
 
-turn_pushed : (es : List Happening) (e : Happening) → InTurn es → ((d : Happening) → Contains es d → tick_of d ≤ tick_of e) → InTurn (es ++ e ∷ [])
-turn_pushed es e turn last = all_pairs_push (λ (d e : Happening). tick_of d ≤ tick_of e) es e turn
+turn_pushed : (es : List Happening) (e : Happening) → InTurn es → ((d : Happening) → Contains es d → tick_of_happening d ≤ tick_of_happening e)
+    → InTurn (es ++ e ∷ [])
+turn_pushed es e turn last = all_pairs_push (λ (d e : Happening). tick_of_happening d ≤ tick_of_happening e) es e turn
     (λ k d less. last (get_or es k d) (k, less, at_place es k d (get_or es k d) less))
 
 no_turn : InTurn []
@@ -60,7 +61,7 @@ module _ (s : ScenarioParts) (clocks : ℕ → ℕ → ℕ) (air : List Entry) (
   -- all of it lies before the present tick, or is of it
   pub record IsHistory (now : ℕ) (w : WindowLog) : Type 0 where
     pub happened : HasHappened s air v w
-    pub past : (e : Happening) → Contains w.happenings e → tick_of e ≤ now
+    pub past : (e : Happening) → Contains w.happenings e → tick_of_happening e ≤ now
     pub opened : w.opened ≤ now
 
   module _ (w : WindowLog) (happenings : List Happening) (last : Window) (closed : Option Closing) where
@@ -79,7 +80,7 @@ module _ (s : ScenarioParts) (clocks : ℕ → ℕ → ℕ) (air : List Entry) (
     }
 
   -- something more happens now
-  happens : (now : ℕ) (w : WindowLog) (e : Happening) (last : Window) → w.closed ≡ None → IsHistory now w → tick_of e ≡ now → WasThen s air v w e
+  happens : (now : ℕ) (w : WindowLog) (e : Happening) (last : Window) → w.closed ≡ None → IsHistory now w → tick_of_happening e ≡ now → WasThen s air v w e
       → IsHistory now (record w { happenings = w.happenings ++ e ∷ []; last = last })
   happens now w e last open_ known at was = record {
     happened = record {
@@ -89,14 +90,15 @@ module _ (s : ScenarioParts) (clocks : ℕ → ℕ → ℕ) (air : List Entry) (
       ]);
       since = λ d there. elim (Contains-push_cases w.happenings e d there) [
         | inl old ↦ known.happened.since d old
-        | inr same ↦ (let begun = known.opened in omega (arith, begun, at, ap tick_of same))
+        | inr same ↦ (let begun = known.opened in omega (arith, begun, at, ap tick_of_happening same))
       ];
-      until = subst (λ (c : Option Closing). IfSome c (λ c. (d : Happening) → Contains (w.happenings ++ e ∷ []) d → tick_of d ≤ c.tick)) (sym open_) tt;
+      until =
+          subst (λ (c : Option Closing). IfSome c (λ c. (d : Happening) → Contains (w.happenings ++ e ∷ []) d → tick_of_happening d ≤ c.tick)) (sym open_) tt;
       in_turn = turn_pushed w.happenings e known.happened.in_turn (λ d old. (let before = known.past d old in omega (arith, before, at)));
     };
     past = λ d there. elim (Contains-push_cases w.happenings e d there) [
       | inl old ↦ known.past d old
-      | inr same ↦ omega (arith, at, ap tick_of same)
+      | inr same ↦ omega (arith, at, ap tick_of_happening same)
     ];
     opened = known.opened;
   }
@@ -110,7 +112,7 @@ module _ (s : ScenarioParts) (clocks : ℕ → ℕ → ℕ) (air : List Entry) (
           happened = record {
             then_ = λ e there. absurd (never e there);
             since = λ e there. absurd (never e there);
-            until = subst (λ (c : Option Closing). IfSome c (λ c. (d : Happening) → Contains w.happenings d → tick_of d ≤ c.tick)) (sym open_) tt;
+            until = subst (λ (c : Option Closing). IfSome c (λ c. (d : Happening) → Contains w.happenings d → tick_of_happening d ≤ c.tick)) (sym open_) tt;
             in_turn = subst InTurn (sym none) no_turn;
           };
           past = λ e there. absurd (never e there);
@@ -128,7 +130,7 @@ module _ (s : ScenarioParts) (clocks : ℕ → ℕ → ℕ) (air : List Entry) (
     -- the sending that ends is of the window
     module _ (d : Device) (y : Sending) (n : Node) (j : ℕ) (w : Window) (x : WindowLog) (fine : IsFine s clocks air v t End d)
         (enters : d ≡ device_at s v (clocks v) (heard_by air v) t End) (own : d.sending ≡ Some y) (ends : y.end ≡ t)
-        (on : d.power ≡ PowerOn n) (stage : n.stage ≡ InWindow j w) (is : IsOpen n j w x) where
+        (on : d.power ≡ PowerOn n) (stage : n.stage ≡ InWindow j w) (is : IsOpenWindow n j w x) where
       pub made : Contains d.made.sent y
       made =
           let owns : SendsOwn d = subst SendsOwn (sym enters) (own_heard s v (clocks v) (heard_by air v) t) in
@@ -150,14 +152,14 @@ module _ (s : ScenarioParts) (clocks : ℕ → ℕ → ℕ) (air : List Entry) (
       running : HasSending s clocks air v n j y
       running = subst (λ (o : Option Sending). IfSome o (HasSending s clocks air v n j)) own window.sending
 
-      in_frame : frame_of s.profile y ≡ x.frame
+      in_frame : frame_of_sending s.profile y ≡ x.frame
       in_frame =
           let flood : IsOfFlood s clocks air y = fine.sent y made in
           let early = fine.before y made in
           let from = after_frame_start s clocks air at.run y flood in_air.0 in
           let until = before_frame_end s clocks air at.run y flood in_air.0 in
-          let true_frame : t / s.profile.frame ≡ frame_of s.profile y =
-          frame_is s (frame_of s.profile y) t (omega (arith, from, early)) (omega (arith, until, ends)) in
+          let true_frame : t / s.profile.frame ≡ frame_of_sending s.profile y =
+          frame_is s (frame_of_sending s.profile y) t (omega (arith, from, early)) (omega (arith, until, ends)) in
           let counted : n.frame ≡ t / s.profile.frame = elim node_on.frame.at [
             | inl now ↦ now
             | inr over ↦ absurd (subst IsResting stage over.rests)

@@ -3,7 +3,7 @@ use Rattle.std.proofs.Common.{◌≡◌, ◌≢◌, ℕ, ◌+◌, ◌-◌, ◌<�
 use Rattle.std.proofs.Common.{Contains, fold, map, refl, sym, ◌∙◌, ap, subst, arith}
 use Rattle.lwb_base.proofs.Options.{none_not_some}
 use Rattle.tick_clock.specs.Clocks.{due}
-use Rattle.time_reference.specs.Zeros.{point, starting}
+use Rattle.time_reference.specs.Zeros.{tick_at_offset, starting_offset}
 use Rattle.glossy_relay.specs.FloodState.{FloodState}
 use Rattle.glossy_relay.specs.Relaying.{reply_to, fits, relay_of, counter_of as count_of}
 use Rattle.glossy_relay.specs.declared.flood.Reply.TheVariants.{Relay, Keep, Ignore}
@@ -12,23 +12,23 @@ use Rattle.lwb_member.specs.Said.{bytes_of}
 use Rattle.scenario_text.specs.ScenarioParts.{ScenarioParts}
 use Rattle.scenario_text.specs.FloodParts.{knows}
 use Rattle.radio_model.specs.declared.sending.Sending.{Sending}
-use Rattle.radio_model.specs.Hearing.{IsTuned, counter_of}
+use Rattle.radio_model.specs.Hearing.{IsTuned, counter_of_sending}
 use Rattle.air_log.specs.declared.entry.Entry.{Entry}
 use Rattle.air_log.specs.Entries.{sendings_of}
 use Rattle.air_log.specs.HearsAir.{scene_of}
 use Rattle.air_log.specs.Lawful.{Lawful}
 use Rattle.air_log.proofs.SendingsKept.{profile_lasts}
-use Rattle.air_log.specs.NodeEvents.{Event, Heard, Ended, after_all, occasions}
+use Rattle.air_log.specs.NodeEvents.{Event, Heard, Ended, flood_after_events, event_occasions}
 use Rattle.air_log.specs.Trails.{run_end, setup_of}
 use Rattle.air_log.specs.WindowLogs.{WindowLog, HeardAt, SentAt, Closing}
 use Rattle.law_trails.specs.TrailLinks.{device_in}
 use Rattle.law_trails.proofs.HeedfulLogs.{lawful_is_heedful}
 use Rattle.law_trails.proofs.OtherCounters.{first_place}
 use Rattle.law_trails.proofs.SentInTrails.{sent_below, sent_lasts}
-use Rattle.law_safety.specs.Invariant.{IsRun}
+use Rattle.law_safety.specs.Invariant.{IsObedientRun}
 use Rattle.law_windows.specs.OpenWindows.{SameWindowSlot}
 use Rattle.law_windows.specs.WindowCalls.{RelaysIn, CallsFor}
-use Rattle.law_windows.specs.WindowEvents.{happening_of, HasEvents}
+use Rattle.law_windows.specs.WindowEvents.{happening_of, WindowHasEvents}
 use Rattle.law_windows.specs.WindowFloods.{after_happening, flood_at_first}
 use Rattle.law_windows.specs.WindowLaws.{NodesTakePart}
 use Rattle.law_windows.specs.WindowParts.{SendsAt, IsSaid, IsAnswer, IsTunedBy, TakesPart}
@@ -53,9 +53,9 @@ not_first f p q is first =
     let same : count_of (relay_of p) ≡ count_of q = ap count_of both.1 in
     omega (arith, next, same, first)
 
-module _ (s : ScenarioParts) (clocks : ℕ → ℕ → ℕ) (air : List Entry) (run : IsRun s clocks air) (lawful : Lawful s clocks air) (v : ℕ)
+module _ (s : ScenarioParts) (clocks : ℕ → ℕ → ℕ) (air : List Entry) (run : IsObedientRun s clocks air) (lawful : Lawful s clocks air) (v : ℕ)
     (known : knows s.nodes v ≡ true)
-    (w : WindowLog) (there : Contains (device_in s clocks air v (run_end s)).made.windows w) (has : HasEvents s air v w) where
+    (w : WindowLog) (there : Contains (device_in s clocks air v (run_end s)).made.windows w) (has : WindowHasEvents s air v w) where
   within : run_end s ≤ run_end s
   within = omega arith
 
@@ -86,7 +86,7 @@ module _ (s : ScenarioParts) (clocks : ℕ → ℕ → ℕ) (air : List Entry) (
       let this : is.window ≡ w = one_a_slot s clocks air run v known (run_end s) within is.window w is.there there same in
       subst (λ (u : WindowLog). CallsFor s clocks v u x.start x.packet) this is.call
 
-  begins_by : (x : Sending) → counter_of x ≡ 0 → CallsFor s clocks v w x.start x.packet → IsSaid s clocks air v w x
+  begins_by : (x : Sending) → counter_of_sending x ≡ 0 → CallsFor s clocks v w x.start x.packet → IsSaid s clocks air v w x
   begins_by x zero (inl begins) = record {
     by_alarm = begins.by_alarm;
     message = begins.message;
@@ -97,7 +97,7 @@ module _ (s : ScenarioParts) (clocks : ℕ → ℕ → ℕ) (air : List Entry) (
   begins_by x zero (inr relays) = absurd (not_first (fold after_happening first relays.earlier) relays.heard x.packet relays.answer zero)
 
   -- an occasion of the events for a relay
-  answers_by : (x : Sending) → counter_of x ≢ 0 → CallsFor s clocks v w x.start x.packet → IsAnswer s clocks air v w has.events x
+  answers_by : (x : Sending) → counter_of_sending x ≢ 0 → CallsFor s clocks v w x.start x.packet → IsAnswer s clocks air v w has.events x
   answers_by x more (inl begins) = absurd (more (ap count_of begins.packet_is ∙ (first_place begins.message w.slot).1))
   answers_by x more (inr relays) =
       let from = comes_from happening_of has.events relays.earlier (HeardAt relays.until relays.heard) relays.later (has.happened ∙ relays.is) in
@@ -110,18 +110,19 @@ module _ (s : ScenarioParts) (clocks : ℕ → ℕ → ℕ) (air : List Entry) (
       by_event x relays from (Heard h) is same =
           let until : h.end ≡ relays.until = cc in
           let heard : h.packet ≡ relays.heard = cc in
-          let flood : after_all first from.first ≡ fold after_happening first relays.earlier = same_flood first from.first
+          let flood : flood_after_events first from.first ≡ fold after_happening first relays.earlier = same_flood first from.first
           ∙ ap (fold after_happening first) from.before_is in
           record {
             heard = h;
-            flood = after_all first from.first;
-            occasion = subst (λ (es : List Event). Contains (occasions first es) (record { before = after_all first from.first; event = Heard h }))
+            flood = flood_after_events first from.first;
+            occasion =
+                subst (λ (es : List Event). Contains (event_occasions first es) (record { before = flood_after_events first from.first; event = Heard h }))
                 (sym is) (occasion_at first from.first (Heard h) from.rest);
             answer = ap (λ (f : FloodState). reply_to f h.packet) flood ∙ ap (reply_to (fold after_happening first relays.earlier)) heard ∙ relays.answer;
             at = relays.at ∙ ap (λ (e : ℕ). due (clocks v) (clocks v e + s.profile.turn)) (sym until);
           }
 
-  relays_by : (h : Sending) (f : FloodState) (q : List ℕ) → Contains (occasions first has.events) (record { before = f; event = Heard h })
+  relays_by : (h : Sending) (f : FloodState) (q : List ℕ) → Contains (event_occasions first has.events) (record { before = f; event = Heard h })
       → reply_to f h.packet ≡ Relay q
       → RelaysIn s clocks v w (due (clocks v) (clocks v h.end + s.profile.turn)) q
   relays_by h f q in_it answer =
@@ -187,7 +188,7 @@ module _ (s : ScenarioParts) (clocks : ℕ → ℕ → ℕ) (air : List Entry) (
   takes_part : TakesPart s clocks air v w
   takes_part = record {
     has = has;
-    begun = λ m alarm said. sent_for (point (clocks v) w.after.zero (starting s.profile w.slot)) (bytes_of m w.slot)
+    begun = λ m alarm said. sent_for (tick_at_offset (clocks v) w.after.zero (starting_offset s.profile w.slot)) (bytes_of m w.slot)
         (inl (record { by_alarm = alarm; message = m; said = said; packet_is = refl; at = refl }));
     beginnings = λ x sent node of_slot zero. begins_by x zero (called_for x sent node of_slot);
     relayed = λ h f q in_it answer. sent_for (due (clocks v) (clocks v h.end + s.profile.turn)) q (inr (relays_by h f q in_it answer));

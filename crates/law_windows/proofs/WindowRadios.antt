@@ -21,21 +21,21 @@ use Rattle.air_log.specs.WindowLogs.{WindowLog, Happening, HeardAt, SentAt, Clos
 use Rattle.lwb_base.proofs.Elements.{contains_head, contains_tail, contains_cases}
 use Rattle.lwb_base.proofs.Options.{none_not_some}
 use Rattle.lwb_base.proofs.Truths.{one_if}
-use Rattle.law_trails.specs.Obeying.{channel_of}
+use Rattle.law_trails.specs.Obeying.{channel_if_on}
 use Rattle.law_trails.specs.Phases.{Over}
 use Rattle.law_trails.specs.TrailLinks.{ListensSince, device_in}
 use Rattle.law_trails.proofs.TunedInTrails.{tuned_listens}
 use Rattle.law_trails.proofs.ObeyedOrders.{channel_is}
-use Rattle.law_safety.specs.Invariant.{IsRun}
+use Rattle.law_safety.specs.Invariant.{IsObedientRun}
 use Rattle.law_safety.specs.NodesInOrder.{IsOn, InOpenWindow, WindowAt}
 use Rattle.law_safety.specs.RadiosOn.{RadioFor}
 use Rattle.law_safety.specs.SetAlarms.{rank_at}
 use Rattle.law_safety.specs.TunedNodes.{Either}
 use Rattle.law_safety.specs.Rows.{AllRows, IsFine}
 use Rattle.law_safety.proofs.OpenedNodes.{flood_unsent}
-use Rattle.law_windows.specs.OpenWindows.{AreClosed, IsOpen, StandAt, StandBy}
-use Rattle.law_windows.specs.WindowFloods.{HasFlood, after_happening, flood_at_first, said_in}
-use Rattle.law_windows.specs.WindowHistory.{tick_of}
+use Rattle.law_windows.specs.OpenWindows.{AreClosed, IsOpenWindow, StandAt, StandBy}
+use Rattle.law_windows.specs.WindowFloods.{WindowHasFlood, after_happening, flood_at_first, initial_message}
+use Rattle.law_windows.specs.WindowHistory.{tick_of_happening}
 use Rattle.law_windows.specs.WindowRadios.{sendings_in, sendings_by, IsOpenAt, IsTunedThen}
 use Rattle.law_windows.specs.WindowSteps.{HasWindows}
 use Rattle.law_windows.proofs.TunedByDevices.{listens_tuned}
@@ -53,7 +53,7 @@ heard_sent f p = of_test (fits f p)
     of_test true = refl
     of_test false = refl
 
-counted : (k : ℕ) (es : List Happening) (f : FloodState) → ((e : Happening) → Contains es e → tick_of e ≤ k)
+counted : (k : ℕ) (es : List Happening) (f : FloodState) → ((e : Happening) → Contains es e → tick_of_happening e ≤ k)
     → (fold after_happening f es).sent ≡ f.sent + sendings_in k es
 counted k [] f by = omega arith
 counted k (HeardAt t p ∷ es) f by =
@@ -66,7 +66,7 @@ counted k (SentAt t p ∷ es) f by =
     omega (arith, rest, one)
 
 -- those that are later do not count
-none_later : (k : ℕ) (es : List Happening) → ((e : Happening) → Contains es e → suc k ≤ tick_of e) → sendings_in k es ≡ 0
+none_later : (k : ℕ) (es : List Happening) → ((e : Happening) → Contains es e → suc k ≤ tick_of_happening e) → sendings_in k es ≡ 0
 none_later k [] later = refl
 none_later k (HeardAt t p ∷ es) later = let rest = none_later k es (λ e there. later e (contains_tail (HeardAt t p) es e there)) in omega (arith, rest)
 none_later k (SentAt t p ∷ es) later =
@@ -87,10 +87,11 @@ both_parts k [] ds = omega arith
 both_parts k (e ∷ es) ds = let rest = both_parts k es ds in omega (arith, rest)
 
 first_unsent : (s : Setup) (b : Bool) (w : WindowLog) → (flood_at_first s b w).sent ≡ 0
-first_unsent s true w = flood_unsent s _ w.slot (said_in s w)
+first_unsent s true w = flood_unsent s _ w.slot (initial_message s w)
 first_unsent s false w = refl
 
-module _ (rows : AllRows) (s : ScenarioParts) (clocks : ℕ → ℕ → ℕ) (air : List Entry) (run : IsRun s clocks air) (v : ℕ) (known : knows s.nodes v ≡ true)
+module _ (rows : AllRows) (s : ScenarioParts) (clocks : ℕ → ℕ → ℕ) (air : List Entry) (run : IsObedientRun s clocks air) (v : ℕ)
+    (known : knows s.nodes v ≡ true)
     (t : ℕ) (within : t ≤ run_end s) (w : WindowLog) (there : Contains (device_in s clocks air v t).made.windows w) (k : ℕ) (before : k < t)
     (open_at : IsOpenAt w k) where
   in_run : k < run_end s
@@ -106,8 +107,8 @@ module _ (rows : AllRows) (s : ScenarioParts) (clocks : ℕ → ℕ → ℕ) (ai
     | inr is ↦ is
   ]
 
-  floods : IsFine s clocks air v k Over d × HasWindows s v (HasFlood (setup_of s v)) k d
-  floods = windows_behind s clocks air v (λ now taken x. HasFlood (setup_of s v) x) rows run known (λ u at. flood_steps s clocks air v u at) k in_run
+  floods : IsFine s clocks air v k Over d × HasWindows s v (WindowHasFlood (setup_of s v)) k d
+  floods = windows_behind s clocks air v (λ now taken x. WindowHasFlood (setup_of s v) x) rows run known (λ u at. flood_steps s clocks air v u at) k in_run
 
   history : HasWindows s v (IsHistory s clocks air v k) k d
   history = (windows_behind s clocks air v (λ now taken x. IsHistory s clocks air v now x) rows run known
@@ -131,7 +132,7 @@ module _ (rows : AllRows) (s : ScenarioParts) (clocks : ℕ → ℕ → ℕ) (ai
     window : Window
     on : d.power ≡ PowerOn node
     stage : node.stage ≡ InWindow slot window
-    is : IsOpen node slot window old.old
+    is : IsOpenWindow node slot window old.old
 
   closed_none : {A : Type 0} → AreClosed d.made.windows → A
   closed_none closed = absurd (none_not_some old.old.closed open_ (closed old.old old.there))
@@ -143,7 +144,7 @@ module _ (rows : AllRows) (s : ScenarioParts) (clocks : ℕ → ℕ → ℕ) (ai
   by_stage n (AwaitSlot j) on stage stand = closed_none stand
   by_stage n (InWindow j u) on stage stand =
       elim (contains_cases stand.first stand.earlier old.old (subst (λ (l : List WindowLog). Contains l old.old) stand.is old.there)) [
-        | inl same ↦ record { node = n; slot = j; window = u; on = on; stage = stage; is = subst (IsOpen n j u) same stand.now }
+        | inl same ↦ record { node = n; slot = j; window = u; on = on; stage = stage; is = subst (IsOpenWindow n j u) same stand.now }
         | inr earlier ↦ absurd (none_not_some old.old.closed open_ (stand.closed old.old earlier))
       ]
 
@@ -197,13 +198,13 @@ module _ (rows : AllRows) (s : ScenarioParts) (clocks : ℕ → ℕ → ℕ) (ai
       listens : ListensSince r k d
       listens = tuned_listens s clocks air run.heedful.trails v r k tuned
 
-      channel : channel_of d.listening ≡ Some r
-      channel = ap (λ (l : Option Listening). channel_of l) listens.is ∙ ap (λ (x : ℕ). Some x) listens.channel
+      channel : channel_if_on d.listening ≡ Some r
+      channel = ap (λ (l : Option Listening). channel_if_on l) listens.is ∙ ap (λ (x : ℕ). Some x) listens.channel
 
       some_same : (a b : ℕ) → Some a ≡ Some b → a ≡ b
       some_same a b is = cc
 
-      none_some : (l : Option Listening) → l ≡ None → channel_of l ≡ Some r → ⊥
+      none_some : (l : Option Listening) → l ≡ None → channel_if_on l ≡ Some r → ⊥
       none_some None none is = cc
       none_some (Some l) none is = cc
 
@@ -215,8 +216,8 @@ module _ (rows : AllRows) (s : ScenarioParts) (clocks : ℕ → ℕ → ℕ) (ai
         (let less = ltb-true here.window.flood.sent here.window.flood.limit is in let sent = counted_so in let most = limit in omega (arith, less, sent, most)),
       )
 
-pub tuned_in_windows : (rows : AllRows) (s : ScenarioParts) (clocks : ℕ → ℕ → ℕ) (air : List Entry) → IsRun s clocks air → (v : ℕ) → knows s.nodes v ≡ true
-    → (t : ℕ) → t ≤ run_end s → (w : WindowLog) → Contains (device_in s clocks air v t).made.windows w → IsTunedThen s air v t w
+pub tuned_in_windows : (rows : AllRows) (s : ScenarioParts) (clocks : ℕ → ℕ → ℕ) (air : List Entry) → IsObedientRun s clocks air → (v : ℕ)
+    → knows s.nodes v ≡ true → (t : ℕ) → t ≤ run_end s → (w : WindowLog) → Contains (device_in s clocks air v t).made.windows w → IsTunedThen s air v t w
 tuned_in_windows rows s clocks air run v known t within w there = record {
   tuned = λ k before open_at few. tuned_then rows s clocks air run v known t within w there k before open_at few;
   only = λ k rank before open_at tuned. only_then rows s clocks air run v known t within w there k before open_at rank tuned;

@@ -18,17 +18,17 @@ use Rattle.scenario_text.specs.declared.script.ScriptLine.{ScriptLine}
 use Rattle.air_log.specs.declared.entry.Entry.{Entry}
 use Rattle.air_log.specs.WindowLogs.{WindowLog, Closing}
 use Rattle.air_log.specs.Devices.{Device, Power, PowerOff, PowerOn}
-use Rattle.air_log.specs.ScriptedDevices.{switched_on, with_new_core}
+use Rattle.air_log.specs.ScriptedDevices.{device_after_on, with_new_core}
 use Rattle.air_log.specs.Lawful.{heard_by}
 use Rattle.air_log.specs.Trails.{setup_of, run_end, before_tick}
 use Rattle.lwb_base.proofs.Elements.{not_in_none, contains_head}
-use Rattle.law_trails.specs.Phases.{Phase, Lines, Hearings, End, Alarms, Start, Over, IsNextLine, device_at, next_phase}
-use Rattle.law_trails.specs.Walks.{Now, Keeps, AwaitsFrame, NoWindow, after_row}
+use Rattle.law_trails.specs.Phases.{Phase, Lines, Hearings, End, Alarms, Start, Over, IsNextLineOf, device_at, next_phase}
+use Rattle.law_trails.specs.Walks.{Now, Keeps, AwaitsFrame, NoWindow, device_after_row}
 use Rattle.law_trails.specs.TrailLinks.{device_in}
 use Rattle.law_trails.proofs.WalkOfRun.{holds_in_tick}
 use Rattle.law_trails.proofs.SentInTrails.{sent_below}
 use Rattle.law_safety.specs.NodesInOrder.{IsOn, InOpenWindow, InOrderBy, WindowAt}
-use Rattle.law_safety.specs.Invariant.{Invariant, IsRun}
+use Rattle.law_safety.specs.Invariant.{Invariant, IsObedientRun}
 use Rattle.law_safety.specs.Rows.{IsFine, AtTick, AllRows, told_in}
 use Rattle.law_safety.proofs.Induction.{rows_suffice}
 use Rattle.law_safety.proofs.FrameStarts.{line_starts, rests_at_start}
@@ -53,7 +53,7 @@ module _ (s : ScenarioParts) (clocks : ℕ → ℕ → ℕ) (air : List Entry) (
   on_in t phase d n fine on = subst (λ (p : Power). InOrderBy s clocks air v t (told_in t phase) d p) on fine.node.by_power
 
   -- the invariant before a tick is that of each device
-  pub fine_before : (t : ℕ) → t ≤ run_end s → IsRun s clocks air → knows s.nodes v ≡ true → Invariant s clocks air t
+  pub fine_before : (t : ℕ) → t ≤ run_end s → IsObedientRun s clocks air → knows s.nodes v ≡ true → Invariant s clocks air t
       → IsFine s clocks air v t Lines (device_in s clocks air v t)
   fine_before t within run known inv =
       let there : (x : Sending) → Contains (device_in s clocks air v t).made.sent x
@@ -67,7 +67,7 @@ module _ (s : ScenarioParts) (clocks : ℕ → ℕ → ℕ) (air : List Entry) (
 
   -- a node that a script line is told rests
   pub told_rests : (t : ℕ) → AtTick s clocks air v t → (d : Device) (l : ScriptLine) (n : Node) → IsFine s clocks air v t Lines d
-      → IsNextLine s v (clocks v) (heard_by air v) t l d → d.power ≡ PowerOn n → NoWindow n.stage
+      → IsNextLineOf s v (clocks v) (heard_by air v) t l d → d.power ≡ PowerOn n → NoWindow n.stage
   told_rests t at d l n fine next on =
       no_window n.stage (rests_at_start s clocks v t n (line_starts s at.run.driven.sound t l next.now) (on_in t Lines d n fine on).frame)
 
@@ -100,14 +100,14 @@ module _ (s : ScenarioParts) (clocks : ℕ → ℕ → ℕ) (air : List Entry) (
       delivered = have.delivered;
     }
 
-    comes_on : (t count : ℕ) (d : Device) → d.power ≡ PowerOff count → Has t Lines d → Has t Lines (switched_on (clocks v) (setup_of s v) t count d)
+    comes_on : (t count : ℕ) (d : Device) → d.power ≡ PowerOff count → Has t Lines d → Has t Lines (device_after_on (clocks v) (setup_of s v) t count d)
     comes_on t count d off have =
         let n = rebooted (count + 1) in
         rests_on s clocks v (K t t) t Boot None (record d { power = PowerOn n }) n (boots (setup_of s v) n (clocks v t)) refl tt tt refl
         (record { each = have.each; past = have.past; apart = have.apart; stand = subst (StandBy d.made.windows) off have.stand; delivered = have.delivered })
 
     ends_frame : (t : ℕ) (d : Device) (n : Node) → d.power ≡ PowerOn n → AwaitsFrame n.stage → Has t Alarms d
-        → Has t Alarms (after_row (clocks v) (setup_of s v) t Alarm None (record d { alarm = None }) n (frame_alarms (setup_of s v) n))
+        → Has t Alarms (device_after_row (clocks v) (setup_of s v) t Alarm None (record d { alarm = None }) n (frame_alarms (setup_of s v) n))
     ends_frame t d n on awaits have =
         let core = frame_ended (setup_of s v) n.frame n.core in
         rests_on s clocks v (K t (suc t)) t Alarm None (record d { alarm = None }) n (frame_alarms (setup_of s v) n) on (awaiting n.stage awaits)
@@ -235,7 +235,7 @@ module _ (s : ScenarioParts) (clocks : ℕ → ℕ → ℕ) (air : List Entry) (
         holds_in_tick P s v (clocks v) (heard_by air v) t at.run.driven.sound (at.run.driven.drift v at.known) in_run (keeps t at rows steps have)
         (fine_before t (omega (arith, in_run)) at.run at.known at.before, have)
 
-    module _ (rows : AllRows) (run : IsRun s clocks air) (known : knows s.nodes v ≡ true) where
+    module _ (rows : AllRows) (run : IsObedientRun s clocks air) (known : knows s.nodes v ≡ true) where
       pub at_tick : (t : ℕ) → t < run_end s → AtTick s clocks air v t
       at_tick t in_run = record { run = run; known = known; in_run = in_run; before = rows_suffice rows s clocks air run t (omega (arith, in_run)) }
 

@@ -7,16 +7,16 @@ use Rattle.std.proofs.lemmas.Bool.{cases_eq, ne_eqb}
 use Rattle.lwb_base.specs.Profile.{step}
 use Rattle.tick_clock.specs.Clocks.{Near, IsClock}
 use Rattle.time_reference.specs.Budgets.{Budget, Fits, budget_of}
-use Rattle.time_reference.specs.Zeros.{Good, opening, starting, closing, point, apart}
+use Rattle.time_reference.specs.Zeros.{Good, opening_offset, starting_offset, closing_offset, tick_at_offset, apart}
 use Rattle.time_reference.proofs.BudgetRoom.{window_order}
 use Rattle.time_reference.proofs.ProfileSizes.{sizes}
-use Rattle.bus_rules.specs.Charges.{last_of}
+use Rattle.bus_rules.specs.Charges.{last_if_all_sent}
 use Rattle.scenario_text.specs.FloodParts.{knows}
 use Rattle.scenario_text.specs.ScenarioParts.{ScenarioParts}
 use Rattle.radio_model.specs.declared.sending.Sending.{Sending}
-use Rattle.radio_model.specs.Hearing.{counter_of, frame_of}
+use Rattle.radio_model.specs.Hearing.{counter_of_sending, frame_of_sending}
 use Rattle.air_log.specs.declared.entry.Entry.{Entry}
-use Rattle.air_log.specs.Charges.{charge, counted, sent_packets}
+use Rattle.air_log.specs.Charges.{charge_of_window, charge_by_last, sent_packets}
 use Rattle.air_log.specs.Lawful.{Lawful}
 use Rattle.air_log.specs.Trails.{run_end}
 use Rattle.air_log.specs.WindowLogs.{WindowLog, Closing, SentAt}
@@ -24,7 +24,7 @@ use Rattle.law_trails.specs.TrailLinks.{device_in}
 use Rattle.law_trails.proofs.HeedfulLogs.{lawful_is_heedful}
 use Rattle.law_trails.proofs.SentInTrails.{sent_lasts}
 use Rattle.law_safety.specs.FloodSendings.{IsOfFlood}
-use Rattle.law_safety.specs.Invariant.{IsRun}
+use Rattle.law_safety.specs.Invariant.{IsObedientRun}
 use Rattle.law_safety.specs.RoundZeros.{GoodFor}
 use Rattle.law_safety.specs.SetAlarms.{OpensLate, rank_at}
 use Rattle.law_safety.proofs.FloodTimes.{in_flood, origin_drifts, zero_good}
@@ -44,7 +44,7 @@ use Rattle.law_windows.proofs.SendingsEnded.{all_by, few_by, fewer_before, has_l
 use Rattle.law_windows.proofs.TimesInLogs.{on_until}
 use Rattle.law_windows.proofs.WindowLengths.{OpenedLate, open_for, sent_for}
 
-module _ (s : ScenarioParts) (clocks : ℕ → ℕ → ℕ) (air : List Entry) (run : IsRun s clocks air) (lawful : Lawful s clocks air)
+module _ (s : ScenarioParts) (clocks : ℕ → ℕ → ℕ) (air : List Entry) (run : IsObedientRun s clocks air) (lawful : Lawful s clocks air)
     (v : ℕ) (known : knows s.nodes v ≡ true) (w : WindowLog) (there : Contains (device_in s clocks air v (run_end s)).made.windows w)
     (alarm : w.by_alarm ≡ true) (c : Closing) (shut : w.closed ≡ Some c) where
   abbrev b : Budget
@@ -101,30 +101,31 @@ module _ (s : ScenarioParts) (clocks : ℕ → ℕ → ℕ) (air : List Entry) (
     next = is.next;
     zero = is.zero;
     old =
-        subst (λ (r : ℕ). GoodFor s clocks r v is.zero w.frame (closing s.profile is.before)) row.rank_before
-        (subst (λ (f : ℕ). GoodFor s clocks (rank_at w.before) v is.zero f (closing s.profile is.before)) row.frame_before is.good);
+        subst (λ (r : ℕ). GoodFor s clocks r v is.zero w.frame (closing_offset s.profile is.before)) row.rank_before
+        (subst (λ (f : ℕ). GoodFor s clocks (rank_at w.before) v is.zero f (closing_offset s.profile is.before)) row.frame_before is.good);
     at = is.at;
-    late = subst (λ (z : ℕ). point (clocks v) z (opening s.profile w.slot) ≤ w.opened) opens.zero is.late;
+    late = subst (λ (z : ℕ). tick_at_offset (clocks v) z (opening_offset s.profile w.slot) ≤ w.opened) opens.zero is.late;
   }
 
-  at : (w.opened ≡ point (clocks v) zero (opening s.profile w.slot)) ⊎ Late
+  at : (w.opened ≡ tick_at_offset (clocks v) zero (opening_offset s.profile w.slot)) ⊎ Late
   at = elim opens.at [
-    | inl now ↦ inl (now ∙ ap (λ (z : ℕ). point (clocks v) z (opening s.profile w.slot)) opens.zero)
+    | inl now ↦ inl (now ∙ ap (λ (z : ℕ). tick_at_offset (clocks v) z (opening_offset s.profile w.slot)) opens.zero)
     | inr late ↦ inr (opened_late late)
   ]
 
   open_at : (k : ℕ) → w.opened ≤ k → k < c.tick → IsOpenAt w k
   open_at k from until = record { since = from; until = subst (λ (o : Option Closing). IfSome o (λ c. k < c.tick)) (sym shut) until }
 
-  charge_is : charge s w ≡ counted s.profile (last_of s.sends (sent_packets w))
-  charge_is = ap (λ (by : Bool). if by then counted s.profile (last_of s.sends (sent_packets w)) else 0) alarm
+  charge_is : charge_of_window s w ≡ charge_by_last s.profile (last_if_all_sent s.sends (sent_packets w))
+  charge_is = ap (λ (by : Bool). if by then charge_by_last s.profile (last_if_all_sent s.sends (sent_packets w)) else 0) alarm
 
-  last_is : (x : Bool) → (length (sent_packets w) == s.sends) ≡ x → last_of s.sends (sent_packets w) ≡ (if x then last_or None (sent_packets w) else None)
+  last_is : (x : Bool) → (length (sent_packets w) == s.sends) ≡ x
+      → last_if_all_sent s.sends (sent_packets w) ≡ (if x then last_or None (sent_packets w) else None)
   last_is x is = ap (λ (y : Bool). if y then last_or None (sent_packets w) else None) is
 
   -- ---- it sent less often than it may
 
-  open_all : length (sent_packets w) ≢ s.sends → Near (on_within air v w.opened c.tick) (charge s w) (apart b + 11)
+  open_all : length (sent_packets w) ≢ s.sends → Near (on_within air v w.opened c.tick) (charge_of_window s w) (apart b + 11)
   open_all less =
       let few = few_sent s clocks air run v known (run_end s) within w there in
       let early = timed.early in
@@ -137,7 +138,8 @@ module _ (s : ScenarioParts) (clocks : ℕ → ℕ → ℕ) (air : List Entry) (
       radio.tuned k (omega (arith, until, last)) (open_at k from until) (omega (arith, ended, few, less))))
       (λ k from until. absurd (omega (arith, from, until))) in
       let long = open_for s.profile b fits host (clocks v) host_drifts own_drifts zero w.frame w.slot w.opened timed.in_round opens.good at in
-      let charged : charge s w ≡ s.profile.close = charge_is ∙ ap (counted s.profile) (last_is false (ne_eqb (length (sent_packets w)) s.sends less)) in
+      let charged : charge_of_window s w ≡ s.profile.close =
+          charge_is ∙ ap (charge_by_last s.profile) (last_is false (ne_eqb (length (sent_packets w)) s.sends less)) in
       omega (arith, all, long, charged, tick)
 
   -- ---- it sent as often as it may
@@ -158,30 +160,32 @@ module _ (s : ScenarioParts) (clocks : ℕ → ℕ → ℕ) (air : List Entry) (
     abbrev first : ℕ → ℕ
     first = clocks flood.origin.node
 
-    begins : Good s.profile b host first flood.zero w.frame (starting s.profile w.slot)
+    begins : Good s.profile b host first flood.zero w.frame (starting_offset s.profile w.slot)
     begins =
-        subst (λ (r : ℕ). Good s.profile b (clocks (slice_index s.hosts r)) first flood.zero w.frame (starting s.profile w.slot)) sent.of_slot.channel
-        (subst (λ (f : ℕ). Good s.profile b (clocks (slice_index s.hosts x.rank)) first flood.zero f (starting s.profile w.slot)) sent.of_slot.frame
-        (subst (λ (j : ℕ). Good s.profile b (clocks (slice_index s.hosts x.rank)) first flood.zero (frame_of s.profile x) (starting s.profile j))
+        subst (λ (r : ℕ). Good s.profile b (clocks (slice_index s.hosts r)) first flood.zero w.frame (starting_offset s.profile w.slot)) sent.of_slot.channel
+        (subst (λ (f : ℕ). Good s.profile b (clocks (slice_index s.hosts x.rank)) first flood.zero f (starting_offset s.profile w.slot)) sent.of_slot.frame
+        (subst (λ (j : ℕ). Good s.profile b (clocks (slice_index s.hosts x.rank)) first flood.zero (frame_of_sending s.profile x) (starting_offset s.profile j))
         sent.of_slot.slot
         (zero_good s clocks air run x flood)))
 
-    near : Near x.start (point first flood.zero (starting s.profile w.slot) + counter_of x * step s.profile (length x.packet)) (counter_of x)
+    near : Near x.start (tick_at_offset first flood.zero (starting_offset s.profile w.slot) + counter_of_sending x * step s.profile (length x.packet))
+        (counter_of_sending x)
     near =
-        subst (λ (j : ℕ). Near x.start (point first flood.zero (starting s.profile j) + counter_of x * step s.profile (length x.packet)) (counter_of x))
+        subst (λ (j : ℕ). Near x.start
+            (tick_at_offset first flood.zero (starting_offset s.profile j) + counter_of_sending x * step s.profile (length x.packet)) (counter_of_sending x))
         sent.of_slot.slot
         (in_flood s clocks air run x flood).near
 
-    charged : charge s w ≡ s.profile.listen + (counter_of x + 1) * step s.profile (length x.packet) - s.profile.turn
+    charged : charge_of_window s w ≡ s.profile.listen + (counter_of_sending x + 1) * step s.profile (length x.packet) - s.profile.turn
     charged =
         charge_is
-        ∙ ap (counted s.profile) (last_is true (eq-eqb (length (sent_packets w)) s.sends full) ∙ last.is)
-        ∙ ap (λ (q : List ℕ). counted s.profile (Some q)) (sym sent.packet_is)
+        ∙ ap (charge_by_last s.profile) (last_is true (eq-eqb (length (sent_packets w)) s.sends full) ∙ last.is)
+        ∙ ap (λ (q : List ℕ). charge_by_last s.profile (Some q)) (sym sent.packet_is)
 
     off_after : (k : ℕ) → last.tick ≤ k → sendings_by k w ≡ length (sent_packets w)
     off_after k from = all_by k w.happenings (λ t q in_it. (let ends = last.last t q in_it in omega (arith, ends, from)))
 
-    sent_all : Near (on_within air v w.opened c.tick) (charge s w) (apart b + 11)
+    sent_all : Near (on_within air v w.opened c.tick) (charge_of_window s w) (apart b + 11)
     sent_all =
         let since = history.since (SentAt last.tick last.packet) last.there in
         let lies = (slot_covered s clocks air run v known (run_end s) within w there x sent.there sent.of_slot).0 in
@@ -200,22 +204,22 @@ module _ (s : ScenarioParts) (clocks : ℕ → ℕ → ℕ) (air : List Entry) (
         omega (arith, all, few, full))) in
         let long =
         sent_for s.profile b fits host (clocks v) host_drifts own_drifts zero w.frame w.slot w.opened timed.in_round opens.good at
-        first flood.zero (counter_of x) (length x.packet) x.start (origin_drifts s clocks air run x flood) begins near in
+        first flood.zero (counter_of_sending x) (length x.packet) x.start (origin_drifts s clocks air run x flood) begins near in
         let lasts = flood.lasts in
         let few = flood.few in
         let is = charged in
         omega (arith, on, long, lasts, few, is, end)
 
-  near_charge : Near (on_within air v w.opened c.tick) (charge s w) (apart b + 11)
+  near_charge : Near (on_within air v w.opened c.tick) (charge_of_window s w) (apart b + 11)
   near_charge = elim (cases_eq (length (sent_packets w)) s.sends) [ inl full ↦ sent_all full | inr less ↦ open_all less ]
 
-  pub by_budget : Near (on_within air v w.opened c.tick) (charge s w) ((budget_of s.profile).zeros)
+  pub by_budget : Near (on_within air v w.opened c.tick) (charge_of_window s w) ((budget_of s.profile).zeros)
   by_budget =
       let near = near_charge in
       let window = window_order s.profile b fits in
       omega (arith, near, window)
 
-  pub by_listen : Near (on_within air v w.opened c.tick) (charge s w) 64000
+  pub by_listen : Near (on_within air v w.opened c.tick) (charge_of_window s w) 64000
   by_listen =
       let near = near_charge in
       let window = window_order s.profile b fits in
@@ -229,10 +233,10 @@ by_closed P (Some c) known = known c refl
 
 pub near_charge_by_budget : WindowsCostByBudget
 near_charge_by_budget s clocks air driven lawful v known w there alarm =
-    by_closed (λ c. Near (on_within air v w.opened c.tick) (charge s w) ((budget_of s.profile).zeros)) w.closed
+    by_closed (λ c. Near (on_within air v w.opened c.tick) (charge_of_window s w) ((budget_of s.profile).zeros)) w.closed
     (λ c shut. by_budget s clocks air (record { driven = driven; heedful = lawful_is_heedful s clocks air lawful }) lawful v known w there alarm c shut)
 
 pub near_charge_always : WindowsCostTheirCharge
 near_charge_always s clocks air driven lawful v known w there alarm =
-    by_closed (λ c. Near (on_within air v w.opened c.tick) (charge s w) 64000) w.closed
+    by_closed (λ c. Near (on_within air v w.opened c.tick) (charge_of_window s w) 64000) w.closed
     (λ c shut. by_listen s clocks air (record { driven = driven; heedful = lawful_is_heedful s clocks air lawful }) lawful v known w there alarm c shut)

@@ -10,9 +10,9 @@ use Rattle.air_log.specs.WindowLogs.{WindowLog, Happening, HeardAt, SentAt, Clos
 use Rattle.air_log.specs.Trails.{run_end}
 use Rattle.lwb_base.proofs.Elements.{not_in_none}
 use Rattle.law_trails.specs.TrailLinks.{device_in}
-use Rattle.law_safety.specs.Invariant.{IsRun}
+use Rattle.law_safety.specs.Invariant.{IsObedientRun}
 use Rattle.law_safety.specs.Rows.{AllRows}
-use Rattle.law_windows.specs.WindowHistory.{tick_of}
+use Rattle.law_windows.specs.WindowHistory.{tick_of_happening}
 use Rattle.law_windows.specs.WindowSteps.{HasWindows, KeepsWindows}
 use Rattle.law_windows.proofs.OpenedByRows.{IsOfRows, rows_steps}
 use Rattle.law_windows.proofs.WindowWalk.{windows_before, windows_since}
@@ -25,7 +25,7 @@ pub record HasEvolved (since : ℕ) (logs : List WindowLog) (w : WindowLog) : Ty
   pub rank : w.rank ≡ old.rank
   pub more : List Happening
   pub is : w.happenings ≡ old.happenings ++ more
-  pub later : (e : Happening) → Contains more e → since ≤ tick_of e
+  pub later : (e : Happening) → Contains more e → since ≤ tick_of_happening e
   pub kept : (c : Closing) → old.closed ≡ Some c → w ≡ old
 
 -- or it opened since
@@ -39,7 +39,7 @@ module _ (s : ScenarioParts) (clocks : ℕ → ℕ → ℕ) (air : List Entry) (
       none_some : None ≡ Some c → ⊥
       none_some is = cc
 
-  happens : (x : WindowLog) (e : Happening) (u : Window) → x.closed ≡ None → since ≤ tick_of e → IsSince since logs x → IsSince since logs (record x {
+  happens : (x : WindowLog) (e : Happening) (u : Window) → x.closed ≡ None → since ≤ tick_of_happening e → IsSince since logs x → IsSince since logs (record x {
     happenings = x.happenings ++ e ∷ [];
     last = u;
   })
@@ -53,7 +53,7 @@ module _ (s : ScenarioParts) (clocks : ℕ → ℕ → ℕ) (air : List Entry) (
     is = ap (λ (l : List Happening). l ++ e ∷ []) is.is ∙ append_assoc is.old.happenings is.more (e ∷ []);
     later = λ d there. elim (Contains-push_cases is.more e d there) [
       | inl before ↦ is.later d before
-      | inr same ↦ subst (λ (h : Happening). since ≤ tick_of h) same now
+      | inr same ↦ subst (λ (h : Happening). since ≤ tick_of_happening h) same now
     ];
     kept = λ c closed. absurd (none_closed x is.old c open_ closed (is.kept c closed));
   })
@@ -82,7 +82,8 @@ module _ (s : ScenarioParts) (clocks : ℕ → ℕ → ℕ) (air : List Entry) (
     passed = λ x known. known;
   }
 
-module _ (rows : AllRows) (s : ScenarioParts) (clocks : ℕ → ℕ → ℕ) (air : List Entry) (run : IsRun s clocks air) (v : ℕ) (known : knows s.nodes v ≡ true) where
+module _ (rows : AllRows) (s : ScenarioParts) (clocks : ℕ → ℕ → ℕ) (air : List Entry) (run : IsObedientRun s clocks air) (v : ℕ)
+    (known : knows s.nodes v ≡ true) where
   -- each window is one of those that were there at a tick, or opened since
   pub since_then : (k t : ℕ) → k ≤ t → t ≤ run_end s → (w : WindowLog) → Contains (device_in s clocks air v t).made.windows w
       → IsSince k (device_in s clocks air v k).made.windows w

@@ -1,8 +1,8 @@
 -- The worked windows, by computation.
 use Rattle.std.proofs.Common.{◌≡◌, ℕ, arith, refl, sym, subst}
 use Rattle.std.specs.Option.{IfSome}
-use Rattle.lwb_base.specs.Messages.{least}
-use Rattle.schedule_codec.specs.Packing.{digits, number}
+use Rattle.lwb_base.specs.Messages.{least_passing}
+use Rattle.schedule_codec.specs.Packing.{digits, packed_number}
 use Rattle.schedule_codec.specs.Reading.{schedule_of, asks_in}
 use Rattle.bus_rules.specs.Streams.{schedule_heard}
 use Rattle.bus_rules.specs.Granting.{plan_round, turns}
@@ -13,12 +13,12 @@ use Rattle.air_log.specs.Trails.{setup_of}
 use Rattle.law_trails.specs.OnePacket.{drifting, one_packet}
 use Rattle.law_trails.specs.OnePacketNodes.{first_plan}
 use Rattle.law_trails.proofs.DriftingClocks.{member_clock}
-use Rattle.law_windows.specs.WindowFloods.{HasFlood}
+use Rattle.law_windows.specs.WindowFloods.{WindowHasFlood}
 use Rattle.law_windows.specs.WindowRows.{ClosesAs, IsOpened}
 use Rattle.law_windows.specs.WorkedWindows.{asking_window, joined_window}
 
 pub joins : IsOpened one_packet drifting 2 joined_window
-unfolding least digits number schedule_of asks_in schedule_heard host_plan plan_round turns
+unfolding least_passing digits packed_number schedule_of asks_in schedule_heard host_plan plan_round turns
 joins = record {
   frame_before = refl;
   frame_after = refl;
@@ -39,15 +39,15 @@ joins = record {
 }
 
 pub joins_closing : IfSome joined_window.closed (ClosesAs one_packet drifting 2 joined_window)
-unfolding least digits number schedule_of asks_in schedule_heard host_plan plan_round turns
+unfolding least_passing digits packed_number schedule_of asks_in schedule_heard host_plan plan_round turns
 joins_closing = refl
 
-pub joins_flood : HasFlood (setup_of one_packet 2) joined_window
-unfolding least digits number schedule_of asks_in schedule_heard host_plan plan_round turns
+pub joins_flood : WindowHasFlood (setup_of one_packet 2) joined_window
+unfolding least_passing digits packed_number schedule_of asks_in schedule_heard host_plan plan_round turns
 joins_flood = refl
 
 pub asks : IsOpened one_packet drifting 2 asking_window
-unfolding least digits number schedule_of asks_in schedule_heard host_plan plan_round turns
+unfolding least_passing digits packed_number schedule_of asks_in schedule_heard host_plan plan_round turns
 asks = record {
   frame_before = refl;
   frame_after = refl;
@@ -57,9 +57,9 @@ asks = record {
 }
 
 pub asks_closing : IfSome asking_window.closed (ClosesAs one_packet drifting 2 asking_window)
-unfolding least digits number schedule_of asks_in schedule_heard host_plan plan_round turns
+unfolding least_passing digits packed_number schedule_of asks_in schedule_heard host_plan plan_round turns
 asks_closing = refl
 
-pub asks_flood : HasFlood (setup_of one_packet 2) asking_window
-unfolding least digits number schedule_of asks_in schedule_heard host_plan plan_round turns
+pub asks_flood : WindowHasFlood (setup_of one_packet 2) asking_window
+unfolding least_passing digits packed_number schedule_of asks_in schedule_heard host_plan plan_round turns
 asks_flood = refl

@@ -7,7 +7,7 @@ use Rattle.time_reference.specs.Budgets.{budget_of}
 use Rattle.scenario_text.specs.FloodParts.{knows}
 use Rattle.scenario_text.specs.ScenarioParts.{ScenarioParts}
 use Rattle.air_log.specs.declared.entry.Entry.{Entry}
-use Rattle.air_log.specs.Charges.{charge}
+use Rattle.air_log.specs.Charges.{charge_of_window}
 use Rattle.air_log.specs.Lawful.{Lawful, trail_in}
 use Rattle.air_log.specs.Trails.{run_end}
 use Rattle.air_log.specs.WindowLogs.{WindowLog, Closing}
@@ -19,7 +19,7 @@ use Rattle.law_windows.specs.RadioTimes.{on_within}
 -- from its opening by its alarm to its closing the radio of v was on for its charge, but for so many ticks
 abbrev pub IsNearCharge : ℕ → ScenarioParts → List Entry → ℕ → WindowLog → Type 0
 IsNearCharge bound s air v w =
-    w.by_alarm ≡ true → IfSome w.closed (λ c. Near (on_within air v w.opened c.tick) (charge s w) bound)
+    w.by_alarm ≡ true → IfSome w.closed (λ c. Near (on_within air v w.opened c.tick) (charge_of_window s w) bound)
 
 -- in each window
 abbrev pub WindowsCostTheirCharge : Type 0

@@ -8,7 +8,7 @@ use Rattle.node_core.specs.Nodes.{Node}
 use Rattle.air_log.specs.WindowLogs.{WindowLog, Closing}
 use Rattle.air_log.specs.Devices.{Power, PowerOff, PowerOn}
 use Rattle.law_safety.specs.SetAlarms.{rank_at}
-use Rattle.law_windows.specs.WindowRows.{in_window}
+use Rattle.law_windows.specs.WindowRows.{node_in_window}
 
 -- all have closed
 abbrev pub AreClosed : List WindowLog → Type 0
@@ -24,9 +24,9 @@ pub record HasClosedBy (t : ℕ) (x : WindowLog) : Type 0 where
   pub by : closing.tick ≤ t
 
 -- each has closed before the next opened; the last stands first
-abbrev pub AreApart : List WindowLog → Type 0
-AreApart [] = ⊤
-AreApart (x ∷ xs) = ((y : WindowLog) → Contains xs y → HasClosedBy x.opened y) × AreApart xs
+abbrev pub CloseBeforeNext : List WindowLog → Type 0
+CloseBeforeNext [] = ⊤
+CloseBeforeNext (x ∷ xs) = ((y : WindowLog) → Contains xs y → HasClosedBy x.opened y) × CloseBeforeNext xs
 
 -- both are of one slot of one round
 pub record SameWindowSlot (x y : WindowLog) : Type 0 where
@@ -35,11 +35,11 @@ pub record SameWindowSlot (x y : WindowLog) : Type 0 where
   pub slot : x.slot ≡ y.slot
 
 -- x is the window of slot j in which the node is
-pub record IsOpen (n : Node) (j : ℕ) (w : Window) (x : WindowLog) : Type 0 where
+pub record IsOpenWindow (n : Node) (j : ℕ) (w : Window) (x : WindowLog) : Type 0 where
   pub slot : x.slot ≡ j
   pub last : x.last ≡ w
   pub open_ : x.closed ≡ None
-  pub node : n ≡ in_window x
+  pub node : n ≡ node_in_window x
   pub frame : x.frame ≡ n.frame
   pub rank : x.rank ≡ rank_at n
 
@@ -48,7 +48,7 @@ pub record IsOpenFirst (logs : List WindowLog) (n : Node) (j : ℕ) (w : Window)
   pub first : WindowLog
   pub earlier : List WindowLog
   pub is : logs ≡ first ∷ earlier
-  pub now : IsOpen n j w first
+  pub now : IsOpenWindow n j w first
   pub closed : AreClosed earlier
 
 abbrev pub StandAt : List WindowLog → Node → Stage → Type 0

@@ -8,17 +8,17 @@ use Rattle.node_core.specs.declared.stage.Stage.TheVariants.{Idle, Scanning, Awa
 use Rattle.node_core.specs.Nodes.{Node}
 use Rattle.scenario_text.specs.ScenarioParts.{ScenarioParts}
 use Rattle.radio_model.specs.declared.sending.Sending.{Sending}
-use Rattle.radio_model.specs.Hearing.{frame_of}
+use Rattle.radio_model.specs.Hearing.{frame_of_sending}
 use Rattle.air_log.specs.declared.entry.Entry.{Entry}
 use Rattle.air_log.specs.Devices.{Power, PowerOff, PowerOn}
-use Rattle.air_log.specs.Entries.{IsHeard}
+use Rattle.air_log.specs.Entries.{HasHeardEntry}
 use Rattle.air_log.specs.WindowLogs.{WindowLog}
 use Rattle.law_safety.specs.SetAlarms.{rank_at}
 
 -- in this frame v has heard no schedule of this rank that ended before this tick
 abbrev pub NoneHeard : ScenarioParts → List Entry → ℕ → ℕ → ℕ → ℕ → Type 0
 NoneHeard s air v rank frame until =
-    (x : Sending) (y : Schedule) → IsHeard air v x → frame_of s.profile x ≡ frame → x.end < until
+    (x : Sending) (y : Schedule) → HasHeardEntry air v x → frame_of_sending s.profile x ≡ frame → x.end < until
     → message_of x.packet ≡ Some (ScheduleOf y) → y.plan.rank ≡ rank → ⊥
 
 -- while it scans

@@ -3,17 +3,17 @@ use Rattle.std.specs.Prelude.{◌≡◌, ℕ, ◌+◌, ◌⊎◌, List, ◌∷�
 use Rattle.std.specs.declared.option.Option.{Option}
 use Rattle.std.specs.Option.{IfSome}
 use Rattle.tick_clock.specs.Clocks.{due}
-use Rattle.time_reference.specs.Zeros.{point, starting}
+use Rattle.time_reference.specs.Zeros.{tick_at_offset, starting_offset}
 use Rattle.glossy_relay.specs.Relaying.{reply_to}
 use Rattle.glossy_relay.specs.declared.flood.Reply.TheVariants.{Relay}
 use Rattle.bus_rules.specs.Slots.{Message}
 use Rattle.lwb_member.specs.Said.{bytes_of}
 use Rattle.scenario_text.specs.ScenarioParts.{ScenarioParts}
 use Rattle.radio_model.specs.declared.sending.Sending.{Sending}
-use Rattle.air_log.specs.Devices.{Ordered}
+use Rattle.air_log.specs.Devices.{OrderedPacket}
 use Rattle.air_log.specs.Trails.{setup_of}
 use Rattle.air_log.specs.WindowLogs.{WindowLog, Happening, HeardAt, SentAt}
-use Rattle.law_windows.specs.WindowFloods.{said_in, flood_at_first, after_happening}
+use Rattle.law_windows.specs.WindowFloods.{initial_message, flood_at_first, after_happening}
 use Rattle.law_windows.specs.WindowTimes.{IsOfSlot}
 
 module _ (s : ScenarioParts) (clocks : ℕ → ℕ → ℕ) (v : ℕ) where
@@ -22,9 +22,9 @@ module _ (s : ScenarioParts) (clocks : ℕ → ℕ → ℕ) (v : ℕ) where
     pub record BeginsIn : Type 0 where
       pub by_alarm : w.by_alarm ≡ true
       pub message : Message
-      pub said : said_in (setup_of s v) w ≡ Some message
+      pub said : initial_message (setup_of s v) w ≡ Some message
       pub packet_is : packet ≡ bytes_of message w.slot
-      pub at : tick ≡ point (clocks v) w.after.zero (starting s.profile w.slot)
+      pub at : tick ≡ tick_at_offset (clocks v) w.after.zero (starting_offset s.profile w.slot)
 
     -- the flood answers what was heard with a relay, a turnaround after it
     pub record RelaysIn : Type 0 where
@@ -55,7 +55,7 @@ module _ (s : ScenarioParts) (clocks : ℕ → ℕ → ℕ) (v : ℕ) where
     pub event : Contains window.happenings (SentAt x.end x.packet)
 
   -- the open window called for what is ordered
-  pub record IsOrderedIn (logs : List WindowLog) (o : Ordered) : Type 0 where
+  pub record IsOrderedIn (logs : List WindowLog) (o : OrderedPacket) : Type 0 where
     pub window : WindowLog
     pub there : Contains logs window
     pub open_ : window.closed ≡ None
@@ -70,12 +70,12 @@ module _ (s : ScenarioParts) (clocks : ℕ → ℕ → ℕ) (v : ℕ) where
     pub packet_is : sending.packet ≡ packet
 
   -- or will be, while the window is open
-  pub record IsStillOrdered (ordered : Option Ordered) (w : WindowLog) (tick : ℕ) (packet : List ℕ) : Type 0 where
+  pub record IsStillOrdered (ordered : Option OrderedPacket) (w : WindowLog) (tick : ℕ) (packet : List ℕ) : Type 0 where
     pub open_ : w.closed ≡ None
     pub is : ordered ≡ Some (record { tick = tick; packet = packet })
 
   -- a node with these windows sends what they call for, and nothing else
-  pub record SendsAsCalled (logs : List WindowLog) (ordered : Option Ordered) (sending : Option Sending) (sent : List Sending) : Type 0 where
+  pub record SendsAsCalled (logs : List WindowLog) (ordered : Option OrderedPacket) (sending : Option Sending) (sent : List Sending) : Type 0 where
     pub called : (x : Sending) → Contains sent x → IsCalled logs x
     pub answered : (w : WindowLog) (tick : ℕ) (packet : List ℕ) → Contains logs w → CallsFor w tick packet
         → IsSent sent w tick packet ⊎ IsStillOrdered ordered w tick packet

@@ -8,7 +8,7 @@ use Rattle.air_log.specs.Devices.{Power, PowerOff, PowerOn}
 use Rattle.law_safety.specs.SetAlarms.{rank_at}
 
 -- w opened by its alarm at the node as the closing of u left it, one slot later in the same round
-pub record Follows (u : WindowLog) (c : Closing) (w : WindowLog) : Type 0 where
+pub record IsNextWindow (u : WindowLog) (c : Closing) (w : WindowLog) : Type 0 where
   pub by_alarm : w.by_alarm ≡ true
   pub node : w.before ≡ c.after
   pub frame : w.frame ≡ u.frame
@@ -18,14 +18,14 @@ pub record Follows (u : WindowLog) (c : Closing) (w : WindowLog) : Type 0 where
 pub record HasNext (logs : List WindowLog) (u : WindowLog) (c : Closing) : Type 0 where
   pub next : WindowLog
   pub there : Contains logs next
-  pub follows : Follows u c next
+  pub follows : IsNextWindow u c next
 
 pub record HasLast (logs : List WindowLog) (w : WindowLog) : Type 0 where
   pub last : WindowLog
   pub there : Contains logs last
   pub closing : Closing
   pub closed : last.closed ≡ Some closing
-  pub follows : Follows last closing w
+  pub follows : IsNextWindow last closing w
 
 -- the node is as the closing of u left it: it awaits the next slot
 pub record IsBetween (u : WindowLog) (c : Closing) (n : Node) : Type 0 where
@@ -53,7 +53,7 @@ abbrev pub AwaitsBy : List WindowLog → Power → Type 0
 AwaitsBy logs (PowerOff boots) = ⊤
 AwaitsBy logs (PowerOn n) = AwaitsAt logs n n.stage
 
-pub record IsWaiting (u : WindowLog) (c : Closing) (p : Power) : Type 0 where
+pub record IsBetweenWindows (u : WindowLog) (c : Closing) (p : Power) : Type 0 where
   pub node : Node
   pub on : p ≡ PowerOn node
   pub between : IsBetween u c node
@@ -63,5 +63,5 @@ pub record IsWaiting (u : WindowLog) (c : Closing) (p : Power) : Type 0 where
 pub record AreChained (logs : List WindowLog) (p : Power) : Type 0 where
   pub behind : (w : WindowLog) → Contains logs w → w.by_alarm ≡ true → (w.slot ≡ 0) ⊎ HasLast logs w
   pub ahead : (u : WindowLog) (c : Closing) → Contains logs u → u.closed ≡ Some c → u.slot < u.last.last
-      → HasNext logs u c ⊎ IsWaiting u c p
+      → HasNext logs u c ⊎ IsBetweenWindows u c p
   pub awaits : AwaitsBy logs p

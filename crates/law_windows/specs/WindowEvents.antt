@@ -3,8 +3,8 @@ use Rattle.std.specs.Prelude.{◌≡◌, ◌↔◌, ℕ, List, Contains, map}
 use Rattle.scenario_text.specs.ScenarioParts.{ScenarioParts}
 use Rattle.radio_model.specs.declared.sending.Sending.{Sending}
 use Rattle.air_log.specs.declared.entry.Entry.{Entry}
-use Rattle.air_log.specs.Entries.{sendings_of, IsHeard}
-use Rattle.air_log.specs.NodeEvents.{Event, Heard, Ended, InOrder, after_all}
+use Rattle.air_log.specs.Entries.{sendings_of, HasHeardEntry}
+use Rattle.air_log.specs.NodeEvents.{Event, Heard, Ended, EventsInOrder, flood_after_events}
 use Rattle.air_log.specs.Trails.{setup_of}
 use Rattle.air_log.specs.WindowLogs.{WindowLog, Happening, HeardAt, SentAt}
 use Rattle.law_windows.specs.WindowFloods.{flood_at_first}
@@ -15,10 +15,10 @@ happening_of (Heard x) = HeardAt x.end x.packet
 happening_of (Ended x) = SentAt x.end x.packet
 
 -- its events: all hearings of its slot, and all own sendings of it. The flood of the window is what they have made of it
-pub record HasEvents (s : ScenarioParts) (air : List Entry) (v : ℕ) (w : WindowLog) : Type 0 where
+pub record WindowHasEvents (s : ScenarioParts) (air : List Entry) (v : ℕ) (w : WindowLog) : Type 0 where
   pub events : List Event
   pub happened : map happening_of events ≡ w.happenings
-  pub flood : w.last.flood ≡ after_all (flood_at_first (setup_of s v) w.by_alarm w) events
-  pub in_order : InOrder events
-  pub heard : (x : Sending) → Contains events (Heard x) ↔ (IsHeard air v x × IsOfSlot s w x)
+  pub flood : w.last.flood ≡ flood_after_events (flood_at_first (setup_of s v) w.by_alarm w) events
+  pub in_order : EventsInOrder events
+  pub heard : (x : Sending) → Contains events (Heard x) ↔ (HasHeardEntry air v x × IsOfSlot s w x)
   pub ended : (x : Sending) → Contains events (Ended x) ↔ (Contains (sendings_of air) x × (x.node ≡ v) × IsOfSlot s w x)

@@ -5,17 +5,17 @@ use Rattle.lwb_packets.specs.declared.kind.Kind as Kind
 use Rattle.glossy_relay.specs.FloodState.{FloodState, listening}
 use Rattle.glossy_relay.specs.Relaying.{after_heard, after_sent}
 use Rattle.bus_rules.specs.Cores.{Setup}
-use Rattle.bus_rules.specs.Slots.{Message, part_of, opened}
+use Rattle.bus_rules.specs.Slots.{Message, part_of, opened_slot}
 use Rattle.node_core.specs.Rows.{flood_for}
 use Rattle.air_log.specs.WindowLogs.{WindowLog, Happening, HeardAt, SentAt}
 
 -- what its node says in it, if it begins the flood
-abbrev pub said_in : Setup → WindowLog → Option Message
-said_in s w = (opened s w.before.frame (part_of w.before.core.plan w.slot) w.before.core).message
+abbrev pub initial_message : Setup → WindowLog → Option Message
+initial_message s w = (opened_slot s w.before.frame (part_of w.before.core.plan w.slot) w.before.core).message
 
 -- as it opens by its alarm; a scanner listens, and the schedule by which its window opens is the first that happens
 abbrev pub flood_at_first : Setup → Bool → WindowLog → FloodState
-flood_at_first s true w = flood_for s (part_of w.before.core.plan w.slot) w.slot (said_in s w)
+flood_at_first s true w = flood_for s (part_of w.before.core.plan w.slot) w.slot (initial_message s w)
 flood_at_first s false w = listening Kind.TheVariants.Schedule w.slot s.sends
 
 abbrev pub after_happening : FloodState → Happening → FloodState
@@ -23,5 +23,5 @@ after_happening f (HeardAt t p) = after_heard f p
 after_happening f (SentAt t p) = after_sent f
 
 -- it is what all that happened has made of it
-abbrev pub HasFlood : Setup → WindowLog → Type 0
-HasFlood s w = w.last.flood ≡ fold after_happening (flood_at_first s w.by_alarm w) w.happenings
+abbrev pub WindowHasFlood : Setup → WindowLog → Type 0
+WindowHasFlood s w = w.last.flood ≡ fold after_happening (flood_at_first s w.by_alarm w) w.happenings

@@ -3,23 +3,23 @@ use Rattle.std.specs.Prelude.{◌≡◌, ℕ, ◌<◌, ◌≤◌, List, Contains
 use Rattle.std.specs.Option.{IfSome}
 use Rattle.scenario_text.specs.ScenarioParts.{ScenarioParts}
 use Rattle.radio_model.specs.declared.sending.Sending.{Sending}
-use Rattle.radio_model.specs.Hearing.{frame_of}
+use Rattle.radio_model.specs.Hearing.{frame_of_sending}
 use Rattle.air_log.specs.declared.entry.Entry.{Entry}
-use Rattle.air_log.specs.Entries.{sendings_of, IsHeard}
+use Rattle.air_log.specs.Entries.{sendings_of, HasHeardEntry}
 use Rattle.air_log.specs.WindowLogs.{WindowLog, Happening, HeardAt, SentAt}
 use Rattle.law_windows.specs.WindowTimes.{IsOfSlot}
 
-abbrev pub tick_of : Happening → ℕ
-tick_of (HeardAt t p) = t
-tick_of (SentAt t p) = t
+abbrev pub tick_of_happening : Happening → ℕ
+tick_of_happening (HeardAt t p) = t
+tick_of_happening (SentAt t p) = t
 
 module _ (s : ScenarioParts) (air : List Entry) (v : ℕ) (w : WindowLog) where
   -- v heard this packet until then, in the frame and on the channel of the window
   pub record HeardThen (tick : ℕ) (packet : List ℕ) : Type 0 where
     pub heard : Sending
-    pub there : IsHeard air v heard
+    pub there : HasHeardEntry air v heard
     pub channel : heard.rank ≡ w.rank
-    pub frame : frame_of s.profile heard ≡ w.frame
+    pub frame : frame_of_sending s.profile heard ≡ w.frame
     pub end : heard.end ≡ tick
     pub packet_is : heard.packet ≡ packet
 
@@ -39,11 +39,11 @@ module _ (s : ScenarioParts) (air : List Entry) (v : ℕ) (w : WindowLog) where
   -- from its opening to its closing, one after another
   pub record HasHappened : Type 0 where
     pub then_ : (e : Happening) → Contains w.happenings e → WasThen e
-    pub since : (e : Happening) → Contains w.happenings e → w.opened ≤ tick_of e
-    pub until : IfSome w.closed (λ c. (e : Happening) → Contains w.happenings e → tick_of e ≤ c.tick)
-    pub in_turn : AllPairs (λ d e. tick_of d ≤ tick_of e) w.happenings
+    pub since : (e : Happening) → Contains w.happenings e → w.opened ≤ tick_of_happening e
+    pub until : IfSome w.closed (λ c. (e : Happening) → Contains w.happenings e → tick_of_happening e ≤ c.tick)
+    pub in_turn : AllPairs (λ d e. tick_of_happening d ≤ tick_of_happening e) w.happenings
 
 -- whatever v hears while the window is open, up to a tick, has happened in it
 abbrev pub HearsAll : List Entry → ℕ → ℕ → WindowLog → Type 0
-HearsAll air v until w = (x : Sending) → IsHeard air v x → w.opened < x.end → x.end < until → IfSome w.closed (λ c. x.end < c.tick)
+HearsAll air v until w = (x : Sending) → HasHeardEntry air v x → w.opened < x.end → x.end < until → IfSome w.closed (λ c. x.end < c.tick)
     → Contains w.happenings (HeardAt x.end x.packet)

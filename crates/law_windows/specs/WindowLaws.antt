@@ -9,16 +9,16 @@ use Rattle.air_log.specs.Devices.{Device}
 use Rattle.air_log.specs.Lawful.{Lawful, trail_in}
 use Rattle.air_log.specs.Trails.{run_end, frame_start, setup_of}
 use Rattle.law_trails.specs.TrailLinks.{device_in}
-use Rattle.law_safety.specs.Invariant.{IsDrivenWell, IsRun}
+use Rattle.law_safety.specs.Invariant.{IsDrivenWell, IsObedientRun}
 use Rattle.law_windows.specs.WindowRows.{IsOpened, ClosesAs}
 use Rattle.law_windows.specs.WindowTimes.{IsInTime, ClosesInTime}
 use Rattle.law_windows.specs.WindowDeliveries.{delivered_in}
-use Rattle.law_windows.specs.OpenWindows.{AreApart, AreClosed, SameWindowSlot, StandBy}
-use Rattle.law_windows.specs.WindowEvents.{HasEvents}
+use Rattle.law_windows.specs.OpenWindows.{CloseBeforeNext, AreClosed, SameWindowSlot, StandBy}
+use Rattle.law_windows.specs.WindowEvents.{WindowHasEvents}
 use Rattle.law_windows.specs.ScannedSchedules.{JoinsFirst}
 use Rattle.law_windows.specs.WindowStarts.{ComesFirst}
 use Rattle.law_windows.specs.WindowParts.{TakesPart}
-use Rattle.law_windows.specs.WindowFloods.{HasFlood}
+use Rattle.law_windows.specs.WindowFloods.{WindowHasFlood}
 use Rattle.law_windows.specs.WindowHistory.{HasHappened, HearsAll}
 use Rattle.law_windows.specs.WindowChains.{AreChained}
 use Rattle.law_windows.specs.WindowRadios.{IsTunedThen}
@@ -28,7 +28,7 @@ use Rattle.law_windows.specs.SlotTimes.{EndsInSlot, LiesInWindow}
 
 -- a law of each device of a run, before each tick
 abbrev pub OfAllDevices : (ScenarioParts → (ℕ → ℕ → ℕ) → List Entry → ℕ → ℕ → Device → Type 0) → Type 0
-OfAllDevices Is = (s : ScenarioParts) (clocks : ℕ → ℕ → ℕ) (air : List Entry) → IsRun s clocks air
+OfAllDevices Is = (s : ScenarioParts) (clocks : ℕ → ℕ → ℕ) (air : List Entry) → IsObedientRun s clocks air
     → (v : ℕ) → knows s.nodes v ≡ true → (t : ℕ) → t ≤ run_end s → Is s clocks air v t (device_in s clocks air v t)
 
 -- a law of each window, as it stands before a tick
@@ -55,7 +55,7 @@ WindowsStandByPower = OfAllDevices (λ s clocks air v t d. StandBy d.made.window
 
 -- each has closed before the next opened
 abbrev pub WindowsAreApart : Type 0
-WindowsAreApart = OfAllDevices (λ s clocks air v t d. AreApart d.made.windows)
+WindowsAreApart = OfAllDevices (λ s clocks air v t d. CloseBeforeNext d.made.windows)
 
 -- and before the next frame starts
 abbrev pub WindowsCloseInTheirFrames : Type 0
@@ -80,7 +80,7 @@ WindowsCoverTheirSlot = OfAllWindows (λ s clocks air v w. LiesInWindow s clocks
 
 -- the flood of each is what happened in it
 abbrev pub FloodsAreHistory : Type 0
-FloodsAreHistory = OfAllWindows (λ s clocks air v w. HasFlood (setup_of s v) w)
+FloodsAreHistory = OfAllWindows (λ s clocks air v w. WindowHasFlood (setup_of s v) w)
 
 -- and that is on the air
 abbrev pub HistoryIsOnAir : Type 0
@@ -120,7 +120,7 @@ FloodsAreOfTheirSlot = OfAllWindows (λ s clocks air v w. IsOfItsSlot s w)
 
 -- so at all nodes windows of one slot go by one part
 abbrev pub OnePartASlot : Type 0
-OnePartASlot = (s : ScenarioParts) (clocks : ℕ → ℕ → ℕ) (air : List Entry) → IsRun s clocks air
+OnePartASlot = (s : ScenarioParts) (clocks : ℕ → ℕ → ℕ) (air : List Entry) → IsObedientRun s clocks air
     → (v u : ℕ) → knows s.nodes v ≡ true → knows s.nodes u ≡ true
     → (w x : WindowLog) → Contains (trail_in s clocks air v).made.windows w → Contains (trail_in s clocks air u).made.windows x
     → SameWindowSlot w x → w.last.part ≡ x.last.part
@@ -133,7 +133,7 @@ OfLawfulWindows Is = (s : ScenarioParts) (clocks : ℕ → ℕ → ℕ) (air : L
 
 -- its events are what its node hears and sends in its slot
 abbrev pub WindowsHaveEvents : Type 0
-WindowsHaveEvents = OfLawfulWindows (λ s clocks air v w. HasEvents s air v w)
+WindowsHaveEvents = OfLawfulWindows (λ s clocks air v w. WindowHasEvents s air v w)
 
 -- and by these its node takes part in the flood of the slot
 abbrev pub NodesTakePart : Type 0

@@ -1,7 +1,7 @@
 -- A node's part in the flood of a slot, by its window: what it begins with, and what it relays.
 use Rattle.std.specs.Prelude.{◌≡◌, ◌≢◌, ℕ, ◌+◌, ◌-◌, ◌≤◌, get_or, List, Contains, true, Some}
 use Rattle.tick_clock.specs.Clocks.{due}
-use Rattle.time_reference.specs.Zeros.{point, starting}
+use Rattle.time_reference.specs.Zeros.{tick_at_offset, starting_offset}
 use Rattle.glossy_relay.specs.FloodState.{FloodState}
 use Rattle.glossy_relay.specs.Relaying.{reply_to}
 use Rattle.glossy_relay.specs.declared.flood.Reply.TheVariants.{Relay}
@@ -9,15 +9,15 @@ use Rattle.bus_rules.specs.Slots.{Message}
 use Rattle.lwb_member.specs.Said.{bytes_of}
 use Rattle.scenario_text.specs.ScenarioParts.{ScenarioParts}
 use Rattle.radio_model.specs.declared.sending.Sending.{Sending}
-use Rattle.radio_model.specs.Hearing.{TunedThrough, counter_of}
+use Rattle.radio_model.specs.Hearing.{TunedThrough, counter_of_sending}
 use Rattle.air_log.specs.declared.entry.Entry.{Entry}
 use Rattle.air_log.specs.Entries.{sendings_of}
 use Rattle.air_log.specs.HearsAir.{scene_of}
-use Rattle.air_log.specs.NodeEvents.{Event, Heard, occasions, own_ends}
+use Rattle.air_log.specs.NodeEvents.{Event, Heard, event_occasions, own_ends}
 use Rattle.air_log.specs.Trails.{setup_of}
 use Rattle.air_log.specs.WindowLogs.{WindowLog}
-use Rattle.law_windows.specs.WindowEvents.{HasEvents}
-use Rattle.law_windows.specs.WindowFloods.{flood_at_first, said_in}
+use Rattle.law_windows.specs.WindowEvents.{WindowHasEvents}
+use Rattle.law_windows.specs.WindowFloods.{flood_at_first, initial_message}
 use Rattle.law_windows.specs.WindowTimes.{IsOfSlot}
 
 module _ (s : ScenarioParts) (clocks : ℕ → ℕ → ℕ) (air : List Entry) (v : ℕ) (w : WindowLog) where
@@ -34,15 +34,15 @@ module _ (s : ScenarioParts) (clocks : ℕ → ℕ → ℕ) (air : List Entry) (
   pub record IsSaid (x : Sending) : Type 0 where
     pub by_alarm : w.by_alarm ≡ true
     pub message : Message
-    pub said : said_in (setup_of s v) w ≡ Some message
+    pub said : initial_message (setup_of s v) w ≡ Some message
     pub packet_is : x.packet ≡ bytes_of message w.slot
-    pub at : x.start ≡ point (clocks v) w.after.zero (starting s.profile w.slot)
+    pub at : x.start ≡ tick_at_offset (clocks v) w.after.zero (starting_offset s.profile w.slot)
 
   -- the flood answered a hearing among these events with its packet, a turnaround before it starts
   pub record IsAnswer (events : List Event) (x : Sending) : Type 0 where
     pub heard : Sending
     pub flood : FloodState
-    pub occasion : Contains (occasions (flood_at_first (setup_of s v) w.by_alarm w) events) (record { before = flood; event = Heard heard })
+    pub occasion : Contains (event_occasions (flood_at_first (setup_of s v) w.by_alarm w) events) (record { before = flood; event = Heard heard })
     pub answer : reply_to flood heard.packet ≡ Relay x.packet
     pub at : x.start ≡ due (clocks v) (clocks v heard.end + s.profile.turn)
 
@@ -59,12 +59,12 @@ module _ (s : ScenarioParts) (clocks : ℕ → ℕ → ℕ) (air : List Entry) (
 
   -- with counter 0 a node sends what it says, and with another counter exactly what its flood relays
   pub record TakesPart : Type 0 where
-    pub has : HasEvents s air v w
-    pub begun : (m : Message) → w.by_alarm ≡ true → said_in (setup_of s v) w ≡ Some m
-        → SendsAt (point (clocks v) w.after.zero (starting s.profile w.slot)) (bytes_of m w.slot)
-    pub beginnings : (x : Sending) → Contains (sendings_of air) x → x.node ≡ v → IsOfSlot s w x → counter_of x ≡ 0 → IsSaid x
+    pub has : WindowHasEvents s air v w
+    pub begun : (m : Message) → w.by_alarm ≡ true → initial_message (setup_of s v) w ≡ Some m
+        → SendsAt (tick_at_offset (clocks v) w.after.zero (starting_offset s.profile w.slot)) (bytes_of m w.slot)
+    pub beginnings : (x : Sending) → Contains (sendings_of air) x → x.node ≡ v → IsOfSlot s w x → counter_of_sending x ≡ 0 → IsSaid x
     pub relayed : (h : Sending) (f : FloodState) (q : List ℕ)
-        → Contains (occasions (flood_at_first (setup_of s v) w.by_alarm w) has.events) (record { before = f; event = Heard h })
+        → Contains (event_occasions (flood_at_first (setup_of s v) w.by_alarm w) has.events) (record { before = f; event = Heard h })
         → reply_to f h.packet ≡ Relay q → SendsAt (due (clocks v) (clocks v h.end + s.profile.turn)) q
-    pub relays : (x : Sending) → Contains (sendings_of air) x → x.node ≡ v → IsOfSlot s w x → counter_of x ≢ 0 → IsAnswer has.events x
+    pub relays : (x : Sending) → Contains (sendings_of air) x → x.node ≡ v → IsOfSlot s w x → counter_of_sending x ≢ 0 → IsAnswer has.events x
     pub radio : IsTunedBy has.events

@@ -7,14 +7,14 @@ use Rattle.air_log.specs.declared.entry.Entry.{Entry}
 use Rattle.air_log.specs.HearsAir.{scene_of}
 use Rattle.air_log.specs.WindowLogs.{WindowLog, Happening, HeardAt, SentAt}
 
-abbrev pub ended_by : ℕ → Happening → Bool
-ended_by k (HeardAt t p) = false
-ended_by k (SentAt t p) = nat_le t k
+abbrev pub is_sent_by : ℕ → Happening → Bool
+is_sent_by k (HeardAt t p) = false
+is_sent_by k (SentAt t p) = nat_le t k
 
 -- how many of the own sendings have ended by tick k
 abbrev pub sendings_in : ℕ → List Happening → ℕ
 sendings_in k [] = 0
-sendings_in k (e ∷ es) = (if ended_by k e then 1 else 0) + sendings_in k es
+sendings_in k (e ∷ es) = (if is_sent_by k e then 1 else 0) + sendings_in k es
 
 abbrev pub sendings_by : ℕ → WindowLog → ℕ
 sendings_by k w = sendings_in k w.happenings

@@ -13,8 +13,8 @@ use Rattle.air_log.specs.Trails.{setup_of}
 use Rattle.law_safety.specs.SetAlarms.{rank_at}
 
 -- the node in a window, as the last event in it left it: since the opening nothing but the window has changed
-abbrev pub in_window : WindowLog → Node
-in_window w = record (w.after) { stage = InWindow w.slot w.last }
+abbrev pub node_in_window : WindowLog → Node
+node_in_window w = record (w.after) { stage = InWindow w.slot w.last }
 
 module _ (s : ScenarioParts) (clocks : ℕ → ℕ → ℕ) (v : ℕ) where
   -- the alarm of the slot that the node awaited
@@ -47,4 +47,4 @@ module _ (s : ScenarioParts) (clocks : ℕ → ℕ → ℕ) (v : ℕ) where
 
   -- and it closes by its row
   abbrev pub ClosesAs : WindowLog → Closing → Type 0
-  ClosesAs w c = c.after ≡ (window_closes (setup_of s v) (in_window w) w.slot w.last).node
+  ClosesAs w c = c.after ≡ (window_closes (setup_of s v) (node_in_window w) w.slot w.last).node

@@ -9,7 +9,7 @@ use Rattle.bus_rules.specs.declared.delivery.Delivery.{Delivery}
 use Rattle.bus_rules.specs.Plans.{last_slot}
 use Rattle.bus_rules.specs.Tuning.{rank_of}
 use Rattle.bus_rules.specs.Cores.{Setup}
-use Rattle.bus_rules.specs.Slots.{ScheduleOf, part_of, opened}
+use Rattle.bus_rules.specs.Slots.{ScheduleOf, part_of, opened_slot}
 use Rattle.lwb_member.specs.Said.{message_of}
 use Rattle.node_core.specs.declared.stage.Stage.TheVariants.{Scanning, AwaitSlot, InWindow}
 use Rattle.node_core.specs.Windows.{Window}
@@ -28,14 +28,14 @@ use Rattle.law_trails.specs.Walks.{Now}
 use Rattle.law_safety.specs.SetAlarms.{rank_at}
 use Rattle.law_safety.specs.KnownInRows.{IsHeardNow}
 use Rattle.law_safety.specs.Rows.{IsFine}
-use Rattle.law_windows.specs.OpenWindows.{AreApart, ClosedBy, IsOpen, StandBy}
+use Rattle.law_windows.specs.OpenWindows.{CloseBeforeNext, ClosedBy, IsOpenWindow, StandBy}
 use Rattle.law_windows.specs.WindowDeliveries.{delivered_in}
 
 -- the window that the row makes, where a slot's alarm is due and where a scanner hears a schedule
 abbrev pub begun_window : Setup → Node → ℕ → Window
 begun_window s n j =
     let part = part_of n.core.plan j in
-    record { part = part; last = last_slot n.core.plan; flood = flood_for s part j (opened s n.frame part n.core).message; reference = None }
+    record { part = part; last = last_slot n.core.plan; flood = flood_for s part j (opened_slot s n.frame part n.core).message; reference = None }
 
 abbrev pub joined_window : Setup → ℕ → List ℕ → Schedule → Window
 joined_window s now p y =
@@ -61,8 +61,8 @@ heard_log s t now n w p x =
 abbrev pub sent_log : ℕ → Window → List ℕ → WindowLog → WindowLog
 sent_log t w p x = record x { happenings = x.happenings ++ SentAt t p ∷ []; last = record w { flood = after_sent w.flood } }
 
-abbrev pub closed_log : Setup → ℕ → Node → ℕ → Window → WindowLog → WindowLog
-closed_log s t n j w x = record x { closed = Some (record { tick = t; after = (window_closes s n j w).node }) }
+abbrev pub log_after_closing : Setup → ℕ → Node → ℕ → Window → WindowLog → WindowLog
+log_after_closing s t n j w x = record x { closed = Some (record { tick = t; after = (window_closes s n j w).node }) }
 
 -- up to which tick all hearings have been taken in a phase of tick t
 abbrev pub taken_in : ℕ → Phase → ℕ
@@ -78,7 +78,7 @@ module _ (s : ScenarioParts) (v : ℕ) (Q : WindowLog → Type 0) (now : ℕ) wh
   pub record HaveWindows (logs : List WindowLog) (deliveries : List Delivery) (p : Power) : Type 0 where
     pub each : (x : WindowLog) → Contains logs x → Q x
     pub past : (x : WindowLog) → Contains logs x → ClosedBy now x
-    pub apart : AreApart logs
+    pub apart : CloseBeforeNext logs
     pub stand : StandBy logs p
     pub delivered : deliveries ≡ delivered_in (setup_of s v) logs
 
@@ -104,7 +104,7 @@ module _ (s : ScenarioParts) (clocks : ℕ → ℕ → ℕ) (air : List Entry) (
     abbrev pub HeardKept : Type 0
     HeardKept = (d : Device) (h : Reception) (n : Node) (j : ℕ) (w : Window) (x : WindowLog) → Now (IsFine s clocks air v) s t Hearings d
         → IsNextHearing s v (clocks v) (heard_by air v) t h d → IsHeardNow s clocks air v t h d
-        → d.power ≡ PowerOn n → n.stage ≡ InWindow j w → IsOpen n j w x → Contains d.made.windows x → K t t x
+        → d.power ≡ PowerOn n → n.stage ≡ InWindow j w → IsOpenWindow n j w x → Contains d.made.windows x → K t t x
         → K t t (heard_log (setup_of s v) t (clocks v t) n w h.packet x)
 
     abbrev pub TakenKept : Type 0
@@ -115,13 +115,13 @@ module _ (s : ScenarioParts) (clocks : ℕ → ℕ → ℕ) (air : List Entry) (
     abbrev pub SentKept : Type 0
     SentKept = (d : Device) (y : Sending) (n : Node) (j : ℕ) (w : Window) (x : WindowLog) → IsFine s clocks air v t End d
         → d ≡ device_at s v (clocks v) (heard_by air v) t End → d.sending ≡ Some y → y.end ≡ t → d.power ≡ PowerOn n
-        → n.stage ≡ InWindow j w → w.flood.waiting ≡ true → IsOpen n j w x
+        → n.stage ≡ InWindow j w → w.flood.waiting ≡ true → IsOpenWindow n j w x
         → Contains d.made.windows x → K t (suc t) x → K t (suc t) (sent_log t w y.packet x)
 
     abbrev pub ClosedKept : Type 0
     ClosedKept = (d : Device) (n : Node) (j : ℕ) (w : Window) (x : WindowLog) → IsFine s clocks air v t Alarms d
-        → IsNextAlarm s v (clocks v) (heard_by air v) t d → d.power ≡ PowerOn n → n.stage ≡ InWindow j w → IsOpen n j w x
-        → K t (suc t) x → K t (suc t) (closed_log (setup_of s v) t n j w x)
+        → IsNextAlarm s v (clocks v) (heard_by air v) t d → d.power ≡ PowerOn n → n.stage ≡ InWindow j w → IsOpenWindow n j w x
+        → K t (suc t) x → K t (suc t) (log_after_closing (setup_of s v) t n j w x)
 
     abbrev pub PassedKept : Type 0
     PassedKept = (x : WindowLog) → K t (suc t) x → K (suc t) (suc t) x

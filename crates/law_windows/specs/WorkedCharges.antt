@@ -7,7 +7,7 @@ use Rattle.bus_rules.specs.declared.part.Part.TheVariants.{Data}
 use Rattle.node_core.specs.declared.stage.Stage.TheVariants.{AwaitSlot}
 use Rattle.node_core.specs.Windows.{Window}
 use Rattle.glossy_relay.specs.FloodState.{FloodState}
-use Rattle.air_log.specs.Charges.{charge}
+use Rattle.air_log.specs.Charges.{charge_of_window}
 use Rattle.air_log.specs.WindowLogs.{WindowLog, HeardAt, SentAt}
 use Rattle.law_trails.specs.OnePacket.{drifting, one_packet, one_packet_log, data_0, data_1, data_2, data_with}
 use Rattle.law_trails.specs.OnePacketMemberNodes.{awaits_9_2, awaits_9_3, floods_9_1, listens_9_2}
@@ -22,8 +22,8 @@ asking = asking_window
 abbrev last_of_9 : FloodState → Window
 last_of_9 f = record { part = Data 8; last = 6; flood = f; reference = None }
 
-abbrev pub listening : WindowLog
-listening = record {
+abbrev pub listening_window : WindowLog
+listening_window = record {
   frame = 9;
   rank = 0;
   slot = 2;
@@ -37,8 +37,8 @@ listening = record {
 }
 
 -- the window of slot 0 closed at this tick by the zero that the node had before
-abbrev pub late : WindowLog
-late = record {
+abbrev pub window_closed_late : WindowLog
+window_closed_late = record {
   frame = 9;
   rank = 0;
   slot = 1;
@@ -57,4 +57,4 @@ GoesByRows w = IsOpened one_packet drifting 2 w × IfSome w.closed (ClosesAs one
 
 -- by the log of the rounds the radio was on for so many ticks in it, and it is charged so many
 abbrev pub Costs : WindowLog → ℕ → ℕ → Type 0
-Costs w on charged = IfSome w.closed (λ c. on_within one_packet_log 2 w.opened c.tick ≡ on) × (charge one_packet w ≡ charged)
+Costs w on charged = IfSome w.closed (λ c. on_within one_packet_log 2 w.opened c.tick ≡ on) × (charge_of_window one_packet w ≡ charged)

@@ -9,7 +9,7 @@ use Rattle.bus_rules.specs.States.{StateOn}
 use Rattle.node_core.specs.declared.stage.Stage.TheVariants.{AwaitSlot}
 use Rattle.node_core.specs.Nodes.{Node}
 use Rattle.node_core.specs.Windows.{Window}
-use Rattle.air_log.specs.Devices.{Device, PowerOn, seen}
+use Rattle.air_log.specs.Devices.{Device, PowerOn, state_of_power}
 use Rattle.air_log.specs.Trails.{one_alarm, setup_of}
 use Rattle.air_log.specs.WindowLogs.{WindowLog, opened_log}
 use Rattle.law_trails.specs.OnePacket.{data_with, drifting, one_packet, one_packet_log}
@@ -21,13 +21,13 @@ use Rattle.law_windows.specs.FramePlaces.{StandsByTune}
 
 -- frame 5 ends as the closing of its last window has left the node
 abbrev pub EndsFrame5 : Type 0
-EndsFrame5 = seen (power_after one_packet drifting one_packet_log 2 5) ≡ StateOn (frame_ended (setup_of one_packet 2) 5 (rests_after_5 5).core)
+EndsFrame5 = state_of_power (power_after one_packet drifting one_packet_log 2 5) ≡ StateOn (frame_ended (setup_of one_packet 2) 5 (rests_after_5 5).core)
 
 -- in frame 7 it has no window
 abbrev pub RestsInFrame7 : Type 0
 RestsInFrame7 =
     (power_at one_packet drifting one_packet_log 2 7 ≡ PowerOn (waits_for_9 7))
-    × (seen (power_after one_packet drifting one_packet_log 2 7) ≡ StateOn (frame_ended (setup_of one_packet 2) 7 (waits_for_9 7).core))
+    × (state_of_power (power_after one_packet drifting one_packet_log 2 7) ≡ StateOn (frame_ended (setup_of one_packet 2) 7 (waits_for_9 7).core))
 
 -- in frame 9 it awaits slot 0, whose window opens at that node
 abbrev pub AwaitsInFrame9 : Type 0

@@ -1,6 +1,6 @@
 //! Worked examples of windows, each law a function that does nothing and has the law as its contract.
 
-ghost use Rattle.law_windows.specs.WorkedCharges.{asking, late, listening, Costs, GoesByRows};
+ghost use Rattle.law_windows.specs.WorkedCharges.{asking, window_closed_late, listening_window, Costs, GoesByRows};
 
 /// Three windows of node 2 in the worked rounds of one packet, over clocks that drift apart. In the first it sends twice, as
 /// often as it may, and its radio is on for a tick more than is charged (`asking`). In the second nothing happens, and its slow
@@ -9,7 +9,7 @@ ghost use Rattle.law_windows.specs.WorkedCharges.{asking, late, listening, Costs
 /// and close by their rows (`rows`), as the first does by `a_guest_asks`.
 pub fn windows_of_a_worked_round_cost()
     ensures asking { Costs asking 180737 180736 }
-    ensures listening { Costs listening 2096042 2096000 }
-    ensures late { Costs late 168235 193024 }
-    ensures rows { GoesByRows listening × GoesByRows late }
+    ensures listening { Costs listening_window 2096042 2096000 }
+    ensures late { Costs window_closed_late 168235 193024 }
+    ensures rows { GoesByRows listening_window × GoesByRows window_closed_late }
 {}

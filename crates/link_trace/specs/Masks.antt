@@ -32,7 +32,7 @@ pub record AreLinkMasks (links : List LinkLine) (nodes : List ℕ) (masks : List
       → IsMask (λ to. list_any (is_link (slice_index nodes at) to) links) nodes (slice_index_or masks at d).from_it
 
 -- what is true of each trace
-pub record AreKept (t : Lines) (nodes : List ℕ) (masks : List LinkMasks) (starts : Starts) : Type 0 where
+pub record AreTraceParts (t : Lines) (nodes : List ℕ) (masks : List LinkMasks) (starts : Starts) : Type 0 where
   pub in_order : AreInOrder t
   pub few : length nodes ≤ 64
   pub ascending : AllPairs (λ a b. a < b) nodes

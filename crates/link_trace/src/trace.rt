@@ -30,7 +30,7 @@ pub struct Trace {
 }
 
 impl Model for Trace {
-    ghost use Rattle.link_trace.specs.Masks.{AreKept};
+    ghost use Rattle.link_trace.specs.Masks.{AreTraceParts};
     ghost use Rattle.link_trace.specs.Sealed.{Traced};
 
     ghost Value = { Traced };
@@ -40,7 +40,7 @@ impl Model for Trace {
       nodes = t.nodes.items;
     } };
 
-    ghost invariant = { λ t. AreKept
+    ghost invariant = { λ t. AreTraceParts
         (record { links = t.links.items; losses = t.losses.items; cuts = t.cuts.items; captures = t.captures.items })
         t.nodes.items t.masks.items t.starts };
 }

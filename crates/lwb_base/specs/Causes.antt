@@ -11,6 +11,6 @@ pub record HasCause {T E : Type 0} (before now : ℕ) (result : Result T E) : Ty
   pub failed : OnErr result (Rose before now)
 
 -- the count after a call, where each failure counts once and nothing else does. It stops at the last value of a `u64`
-abbrev pub counted : {T E : Type 0} → ℕ → Result T E → ℕ
-counted before (Ok v) = before
-counted before (Err e) = min (before + 1) (2 ^ 64 - 1)
+abbrev pub fault_count_after : {T E : Type 0} → ℕ → Result T E → ℕ
+fault_count_after before (Ok v) = before
+fault_count_after before (Err e) = min (before + 1) (2 ^ 64 - 1)

@@ -46,13 +46,13 @@ abbrev pub fit : ℕ → List ℕ → Bool
 fit w ds = list_all (λ d. nat_lt d (2 ^ w)) ds
 
 -- the least number from w on that passes; w + n where the first n do not
-unfoldable pub least : ℕ → ℕ → (ℕ → Bool) → ℕ
-least zero w passes = w
-least (suc n) w passes = if passes w then w else least n (w + 1) passes
+unfoldable pub least_passing : ℕ → ℕ → (ℕ → Bool) → ℕ
+least_passing zero w passes = w
+least_passing (suc n) w passes = if passes w then w else least_passing n (w + 1) passes
 
 -- the least width that all of them fit. A difference of two codes fits 10 bits
 abbrev pub width_of : List ℕ → ℕ
-width_of ds = least 10 0 (λ w. fit w ds)
+width_of ds = least_passing 10 0 (λ w. fit w ds)
 
 -- of successive codes
 abbrev pub differences : List ℕ → List ℕ

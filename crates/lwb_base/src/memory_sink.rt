@@ -3,7 +3,7 @@
 ghost use Rattle.std.specs.Prelude.{◌≡◌, ◌<◌, ◌≤◌, ◌-◌, ◌^◌, ◌↔◌, ◌⊎◌, ℕ, [], All, Contains, IsErr, IfOk, Some, length, min};
 ghost use Rattle.std.specs.Io.{WritesAtMost};
 ghost use Rattle.std.specs.Io.KnownBytes.{WriteAppends};
-ghost use Rattle.lwb_base.specs.Causes.{HasCause, counted};
+ghost use Rattle.lwb_base.specs.Causes.{HasCause, fault_count_after};
 ghost use Rattle.lwb_base.specs.Outside.{next_call, PutsOnce};
 
 use crate::{Failed, Memory, Sink};
@@ -68,7 +68,7 @@ impl Sink for MemorySink {
         ensures some { 0 < length piece.now → IfOk result (λ n. 0 < n) }
         ensures bytes { WriteAppends (Some self.old.held) (Some self.new.held) result piece.now }
         ensures cause { HasCause self.old.faults self.new.faults result }
-        ensures counted { self.new.faults ≡ counted self.old.faults result }
+        ensures counted { self.new.faults ≡ fault_count_after self.old.faults result }
         ensures failed { IsErr result
             ↔ (Contains self.old.fails (next_call self.old.calls) ⊎ ((0 < length piece.now) × (self.old.room ≤ length self.old.held))) }
         ensures most { IfOk result (λ n. n ≡ min (length piece.now) (min self.old.most (self.old.room - length self.old.held))) }

@@ -3,7 +3,7 @@
 ghost use Rattle.std.specs.Prelude.{◌≡◌, ◌<◌, ◌-◌, ◌^◌, ◌↔◌, ℕ, All, Contains, IsErr, IfOk, Some, length, min};
 ghost use Rattle.std.specs.Io.{ReadsAtMost};
 ghost use Rattle.std.specs.Io.KnownBytes.{ReadConsumes};
-ghost use Rattle.lwb_base.specs.Causes.{HasCause, counted};
+ghost use Rattle.lwb_base.specs.Causes.{HasCause, fault_count_after};
 ghost use Rattle.lwb_base.specs.Outside.{next_call, TakesOnce};
 
 use crate::{Failed, Memory, Source};
@@ -64,7 +64,7 @@ impl Source for MemorySource {
         ensures bound { ReadsAtMost result room.new }
         ensures bytes { ReadConsumes (Some self.old.left) (Some self.new.left) result room.new }
         ensures cause { HasCause self.old.faults self.new.faults result }
-        ensures counted { self.new.faults ≡ counted self.old.faults result }
+        ensures counted { self.new.faults ≡ fault_count_after self.old.faults result }
         ensures failed { IsErr result ↔ Contains self.old.fails (next_call self.old.calls) }
         ensures most { IfOk result (λ n. n ≡ min (length room.new) (min self.old.most (length self.old.left))) }
         ensures once { TakesOnce self.old self.new }

@@ -3,7 +3,7 @@
 ghost use Rattle.std.specs.Prelude.{◌≡◌, ◌<◌, length, IfOk, Ok};
 ghost use Rattle.std.specs.Io.{ReadsAtMost, WritesAtMost};
 ghost use Rattle.std.specs.Io.KnownBytes.{ReadConsumes, WriteAppends};
-ghost use Rattle.lwb_base.specs.Causes.{HasCause, counted};
+ghost use Rattle.lwb_base.specs.Causes.{HasCause, fault_count_after};
 
 use crate::{Failed, Sink, Source};
 use std::io::{Read, Write};
@@ -33,7 +33,7 @@ impl<R: Read + Drop> Source for ReaderSource<R> {
         ensures bound { ReadsAtMost result room.new }
         ensures bytes { ReadConsumes (R.remaining self.old.reader) (R.remaining self.new.reader) result room.new }
         ensures cause { HasCause self.old.faults self.new.faults result }
-        ensures counted { self.new.faults ≡ counted self.old.faults result }
+        ensures counted { self.new.faults ≡ fault_count_after self.old.faults result }
     {
         match self.reader.read(room) {
             Ok(count) => Ok(count),
@@ -72,7 +72,7 @@ impl<W: Write + Drop> Sink for WriterSink<W> {
         ensures some { 0 < length piece.now → IfOk result (λ n. 0 < n) }
         ensures bytes { WriteAppends (W.contents self.old.writer) (W.contents self.new.writer) result piece.now }
         ensures cause { HasCause self.old.faults self.new.faults result }
-        ensures counted { self.new.faults ≡ counted self.old.faults result }
+        ensures counted { self.new.faults ≡ fault_count_after self.old.faults result }
         ensures nothing { length piece.now ≡ 0 → result ≡ Ok 0 }
     {
         if piece.is_empty() {

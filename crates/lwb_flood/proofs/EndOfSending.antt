@@ -8,16 +8,16 @@ use Rattle.glossy_relay.specs.declared.flood.After.{After}
 use Rattle.glossy_relay.specs.declared.flood.After.TheVariants.{Off, More}
 use Rattle.radio_model.specs.declared.sending.Sending.{Sending}
 use Rattle.radio_model.specs.declared.station.Station.{Station}
-use Rattle.radio_model.specs.Hearing.{Scene, Hears}
+use Rattle.radio_model.specs.Hearing.{Scene, HearsInScene}
 use Rattle.radio_model.specs.Holding.{Holds, as_it_stands}
-use Rattle.radio_model.specs.Stations.{MediumState, IsTime, nodes_of, after, changed_at, finished, retuned}
+use Rattle.radio_model.specs.Stations.{MediumState, IsTime, nodes_of, medium_after_change, station_changed_at, station_after_end, station_after_tuning}
 use Rattle.radio_model.proofs.OneStation.{same_nodes}
 use Rattle.radio_model.proofs.Changes.{finished_keeps, retuned_keeps}
 use Rattle.air_log.specs.declared.entry.Entry.{Entry}
 use Rattle.lwb_base.proofs.Elements.{map_contains, map_from, pairs_of_map}
 use Rattle.lwb_flood.specs.declared.member.Member.{Member}
-use Rattle.lwb_flood.specs.FloodWorlds.{World, IsShape, IsHeardBy, Ended, node_of, with_change, with_act, after_own, is_last, own_ended, gone, ended}
-use Rattle.lwb_flood.specs.FloodWorlds.{heard_by_all, readings_at}
+use Rattle.lwb_flood.specs.FloodWorlds.{World, IsShape, IsHeardBy, Ended, node_of_member, with_change, member_with_act, after_own, is_last, own_ended, gone}
+use Rattle.lwb_flood.specs.FloodWorlds.{world_after_end, heard_by_all, readings_of_node}
 use Rattle.lwb_flood.proofs.WorldLists.{nodes_kept}
 use Rattle.lwb_flood.proofs.FloodShapes.{own_ended_shape}
 
@@ -37,7 +37,7 @@ in_list P xs all x (k, below, at) = subst P at (all k x below)
 -- the medium's answer says who hears
 pub heard_by : (lines : Lines) (x : Sending) (w : World) (ps : List (ℕ × ℕ)) → All (λ p. p.1 ≡ x.node) ps → AllPairs (λ p q. p.0 < q.0) ps
     → ((a : Scene) → Holds w.medium a → a.lines ≡ lines → (v : ℕ) → Contains ps (v, x.node)
-    ↔ (Contains (nodes_of w.medium) v × Hears (as_it_stands w.medium x.end a) v x)) → IsHeardBy lines x w (map (λ p. p.0) ps)
+    ↔ (Contains (nodes_of w.medium) v × HearsInScene (as_it_stands w.medium x.end a) v x)) → IsHeardBy lines x w (map (λ p. p.0) ps)
 heard_by lines x w ps sender ascend clause = record {
   ascending = pairs_of_map (λ (p : ℕ × ℕ). p.0) (λ u v. u < v) ps ascend;
   hearers = λ a h same v.
@@ -47,7 +47,7 @@ heard_by lines x w ps sender ascend clause = record {
 }
 
 pub hearers_known : (x : Sending) (m : MediumState) (ps : List (ℕ × ℕ)) → All (λ p. p.1 ≡ x.node) ps → (a : Scene)
-    → ((v : ℕ) → Contains ps (v, x.node) ↔ (Contains (nodes_of m) v × Hears a v x)) → All (λ p. Contains (nodes_of m) p.0) ps
+    → ((v : ℕ) → Contains ps (v, x.node) ↔ (Contains (nodes_of m) v × HearsInScene a v x)) → All (λ p. Contains (nodes_of m) p.0) ps
 hearers_known x m ps sender a clause k d below =
     let p : ℕ × ℕ = get_or ps k d in
     let there : Contains ps p = (k, below, same ps k p d below) in
@@ -60,17 +60,17 @@ hearers_known x m ps sender a clause k d below =
     same (y ∷ ys) (suc k) d e less = same ys k d e (omega arith)
 
 -- no time is after the end of what still runs
-pub time_after : (m : MediumState) (v t : ℕ) → IsTime m t → IsTime (after t v finished m) t
+pub time_after : (m : MediumState) (v t : ℕ) → IsTime m t → IsTime (medium_after_change t v station_after_end m) t
 time_after m v t is = record {
   later = omega arith;
   small = is.small;
   running = λ st x there sends.
-      let was = map_from (changed_at v finished) m.stations st there in
+      let was = map_from (station_changed_at v station_after_end) m.stations st there in
       by_change was.0 was.1 x (ap (λ (s : Station). s.sending) was.2 ∙ sends);
 }
   where
-    by_change : (s : Station) → Contains m.stations s → (x : Sending) → (changed_at v finished s).sending ≡ Some x → t ≤ x.end
-    by_change s there x = cond_both (Rattle.std.proofs.Common.nat_eq s.node v) (finished s) s (λ (z : Station). z.sending ≡ Some x → t ≤ x.end)
+    by_change : (s : Station) → Contains m.stations s → (x : Sending) → (station_changed_at v station_after_end s).sending ≡ Some x → t ≤ x.end
+    by_change s there x = cond_both (Rattle.std.proofs.Common.nat_eq s.node v) (station_after_end s) s (λ (z : Station). z.sending ≡ Some x → t ≤ x.end)
         (λ _ sends. none sends) (λ _ sends. is.running s x there sends)
       where
         none : (let o : Option Sending = None in o ≡ Some x) → t ≤ x.end
@@ -86,41 +86,43 @@ off_is false same = cc
 
 -- the world when its node has ended it
 module _ (x : Sending) (old : World) (after : After) (last : after ≡ (if is_last x.node old.members then Off else More)) where
-  pub ended_more : after ≡ More → own_ended x old ≡ ended x old
+  pub ended_more : after ≡ More → own_ended x old ≡ world_after_end x old
   ended_more is = sym (cond-false (is_last x.node old.members) (gone x.node x.end (own_ended x old)) (own_ended x old)
       (more_is (is_last x.node old.members) (sym last ∙ is)))
 
-  pub ended_off : after ≡ Off → gone x.node x.end (own_ended x old) ≡ ended x old
+  pub ended_off : after ≡ Off → gone x.node x.end (own_ended x old) ≡ world_after_end x old
   ended_off is = sym (cond-true (is_last x.node old.members) (gone x.node x.end (own_ended x old)) (own_ended x old)
       (off_is (is_last x.node old.members) (sym last ∙ is)))
 
-own_nodes : (x : Sending) (old : World) → map node_of (own_ended x old).members ≡ map node_of old.members
+own_nodes : (x : Sending) (old : World) → map node_of_member (own_ended x old).members ≡ map node_of_member old.members
 own_nodes x old = nodes_kept x.node after_own (λ m. refl) old.members
 
-ended_nodes : (x : Sending) (old : World) → map node_of (ended x old).members ≡ map node_of old.members
+ended_nodes : (x : Sending) (old : World) → map node_of_member (world_after_end x old).members ≡ map node_of_member old.members
 ended_nodes x old =
     cond_both (is_last x.node old.members) (gone x.node x.end (own_ended x old)) (own_ended x old)
-    (λ (w : World). map node_of w.members ≡ map node_of old.members)
-    (λ _. nodes_kept x.node (with_act Rattle.lwb_flood.specs.declared.member.Act.TheVariants.Off) (λ m. refl) (own_ended x old).members ∙ own_nodes x old)
+    (λ (w : World). map node_of_member w.members ≡ map node_of_member old.members)
+    (λ _. nodes_kept x.node (member_with_act Rattle.lwb_flood.specs.declared.member.Act.TheVariants.Off) (λ m. refl) (own_ended x old).members
+        ∙ own_nodes x old)
     (λ _. own_nodes x old)
 
 pub ended_by : {C : Type 0} (R : C → ℕ → ℕ) (cs : List C) (lines : Lines) (x : Sending) (old mid new : World) (vs : List ℕ) → IsHeardBy lines x old vs
-    → mid ≡ ended x old
-    → new ≡ heard_by_all (readings_at R cs (map node_of mid.members)) x vs mid → Ended lines (readings_at R cs (map node_of old.members)) x old new
+    → mid ≡ world_after_end x old
+    → new ≡ heard_by_all (readings_of_node R cs (map node_of_member mid.members)) x vs mid
+        → Ended lines (readings_of_node R cs (map node_of_member old.members)) x old new
 ended_by R cs lines x old mid new vs by same is = record {
   hearers = vs;
   heard = by;
-  is = is ∙ ap (λ (w : World). heard_by_all (readings_at R cs (map node_of w.members)) x vs w) same
-      ∙ ap (λ (us : List ℕ). heard_by_all (readings_at R cs us) x vs (ended x old)) (ended_nodes x old);
+  is = is ∙ ap (λ (w : World). heard_by_all (readings_of_node R cs (map node_of_member w.members)) x vs w) same
+      ∙ ap (λ (us : List ℕ). heard_by_all (readings_of_node R cs us) x vs (world_after_end x old)) (ended_nodes x old);
 }
 
 pub own_shape : (inside : World) → IsShape inside → (x : Sending) (medium : MediumState) (members : List Member) (air : List Entry)
-    → medium ≡ after x.end x.node finished inside.medium → members ≡ with_change x.node after_own inside.members
+    → medium ≡ medium_after_change x.end x.node station_after_end inside.medium → members ≡ with_change x.node after_own inside.members
     → IsShape (record { medium = medium; members = members; air = air })
 own_shape inside is x medium members air medium_is members_is =
     let shape = own_ended_shape inside is x in
     record {
-      nodes = ap (map node_of) members_is ∙ shape.nodes ∙ ap nodes_of (sym medium_is);
+      nodes = ap (map node_of_member) members_is ∙ shape.nodes ∙ ap nodes_of (sym medium_is);
       medium = subst Rattle.radio_model.specs.Stations.IsMedium (sym medium_is) shape.medium;
     }
 
@@ -130,21 +132,21 @@ on_ok (Err e) P Q to is = is
 
 -- what the code has of the world when its node has ended the sending
 module _ (inside old : World) (view : inside ≡ old) (x : Sending) (lines : Lines) (ps : List (ℕ × ℕ)) (medium : MediumState) (members : List Member)
-    (state : medium ≡ after x.end x.node finished inside.medium) (changed : members ≡ with_change x.node after_own inside.members)
+    (state : medium ≡ medium_after_change x.end x.node station_after_end inside.medium) (changed : members ≡ with_change x.node after_own inside.members)
     (sender : All (λ p. p.1 ≡ x.node) ps) (ascend : AllPairs (λ p q. p.0 < q.0) ps)
     (clause : (a : Scene) → Holds inside.medium a → a.lines ≡ lines → (v : ℕ) → Contains ps (v, x.node)
-    ↔ (Contains (nodes_of inside.medium) v × Hears (as_it_stands inside.medium x.end a) v x)) where
+    ↔ (Contains (nodes_of inside.medium) v × HearsInScene (as_it_stands inside.medium x.end a) v x)) where
   abbrev pub mid : World
   mid = record { medium = medium; members = members; air = inside.air }
 
   pub mid_is : mid ≡ own_ended x old
   mid_is =
       ap (λ (m : MediumState). record { medium = m; members = members; air = inside.air }) state
-      ∙ ap (λ (l : List Member). record { medium = after x.end x.node finished inside.medium; members = l; air = inside.air }) changed
+      ∙ ap (λ (l : List Member). record { medium = medium_after_change x.end x.node station_after_end inside.medium; members = l; air = inside.air }) changed
       ∙ ap (own_ended x) view
 
   pub mid_nodes : nodes_of medium ≡ nodes_of old.medium
-  mid_nodes = ap nodes_of state ∙ same_nodes inside.medium x.end x.node finished finished_keeps.node ∙ ap (λ (w : World). nodes_of w.medium) view
+  mid_nodes = ap nodes_of state ∙ same_nodes inside.medium x.end x.node station_after_end finished_keeps.node ∙ ap (λ (w : World). nodes_of w.medium) view
 
   pub mid_node : Contains (nodes_of old.medium) x.node → Contains (nodes_of medium) x.node
   mid_node there = subst (λ (l : List ℕ). Contains l x.node) (sym mid_nodes) there
@@ -167,13 +169,14 @@ module _ (inside old : World) (view : inside ≡ old) (x : Sending) (lines : Lin
     last_old : after ≡ (if is_last x.node old.members then Off else More)
     last_old = last ∙ ap (λ (w : World). if is_last x.node w.members then Off else More) view
 
-    pub is_ended_more : after ≡ More → mid ≡ ended x old
+    pub is_ended_more : after ≡ More → mid ≡ world_after_end x old
     is_ended_more is = mid_is ∙ ended_more x old after last_old is
 
-    pub is_ended_off : after ≡ Off → (new : World) → new ≡ gone x.node x.end mid → new ≡ ended x old
+    pub is_ended_off : after ≡ Off → (new : World) → new ≡ gone x.node x.end mid → new ≡ world_after_end x old
     is_ended_off is new same = same ∙ ap (gone x.node x.end) mid_is ∙ ended_off x old after last_old is
 
     pub gone_nodes : (new : World) → new ≡ gone x.node x.end mid → nodes_of new.medium ≡ nodes_of old.medium
     gone_nodes new same =
         let none : Option ℕ = None in
-        ap (λ (w : World). nodes_of w.medium) same ∙ same_nodes medium x.end x.node (retuned none x.end) (retuned_keeps none x.end).node ∙ mid_nodes
+        ap (λ (w : World). nodes_of w.medium) same ∙ same_nodes medium x.end x.node (station_after_tuning none x.end) (retuned_keeps none x.end).node
+            ∙ mid_nodes

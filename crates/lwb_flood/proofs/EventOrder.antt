@@ -6,30 +6,31 @@ use Rattle.glossy_relay.specs.FloodState.{FloodState}
 use Rattle.bus_terms.specs.Flooding.{has}
 use Rattle.radio_model.specs.declared.sending.Sending.{Sending}
 use Rattle.radio_model.specs.Hearing.{Before}
-use Rattle.air_log.specs.NodeEvents.{Event, sending_of, after, after_all, Occasion, occasions, InOrder}
+use Rattle.air_log.specs.NodeEvents.{Event, sending_of_event, flood_after_event, flood_after_events, EventOccasion, event_occasions, EventsInOrder}
 use Rattle.lwb_base.proofs.Elements.{not_in_none, contains_head, contains_tail, contains_cases, pairs_head, pairs_tail}
 
-pub after_all_append : (s : FloodState) (es fs : List Event) → after_all s (es ++ fs) ≡ after_all (after_all s es) fs
+pub after_all_append : (s : FloodState) (es fs : List Event) → flood_after_events s (es ++ fs) ≡ flood_after_events (flood_after_events s es) fs
 after_all_append s [] fs = refl
-after_all_append s (e ∷ es) fs = after_all_append (after s e) es fs
+after_all_append s (e ∷ es) fs = after_all_append (flood_after_event s e) es fs
 
-pub occasions_append : (s : FloodState) (es fs : List Event) → occasions s (es ++ fs) ≡ occasions s es ++ occasions (after_all s es) fs
+pub occasions_append : (s : FloodState) (es fs : List Event)
+    → event_occasions s (es ++ fs) ≡ event_occasions s es ++ event_occasions (flood_after_events s es) fs
 occasions_append s [] fs = refl
-occasions_append s (e ∷ es) fs = ap (λ (l : List Occasion). record { before = s; event = e } ∷ l) (occasions_append (after s e) es fs)
+occasions_append s (e ∷ es) fs = ap (λ (l : List EventOccasion). record { before = s; event = e } ∷ l) (occasions_append (flood_after_event s e) es fs)
 
-pub order_head : (e : Event) (es : List Event) → InOrder (e ∷ es) → (later : Event) → Contains es later
-    → ((sending_of e).end ≤ (sending_of later).end) × (e ≢ later)
-order_head e es ordered = pairs_head (λ d e. ((sending_of d).end ≤ (sending_of e).end) × (d ≢ e)) e es ordered
+pub order_head : (e : Event) (es : List Event) → EventsInOrder (e ∷ es) → (later : Event) → Contains es later
+    → ((sending_of_event e).end ≤ (sending_of_event later).end) × (e ≢ later)
+order_head e es ordered = pairs_head (λ d e. ((sending_of_event d).end ≤ (sending_of_event e).end) × (d ≢ e)) e es ordered
 
-pub order_tail : (e : Event) (es : List Event) → InOrder (e ∷ es) → InOrder es
-order_tail e es ordered = pairs_tail (λ d e. ((sending_of d).end ≤ (sending_of e).end) × (d ≢ e)) e es ordered
+pub order_tail : (e : Event) (es : List Event) → EventsInOrder (e ∷ es) → EventsInOrder es
+order_tail e es ordered = pairs_tail (λ d e. ((sending_of_event d).end ≤ (sending_of_event e).end) × (d ≢ e)) e es ordered
 
-pub in_order_rest : (es fs : List Event) → InOrder (es ++ fs) → InOrder fs
+pub in_order_rest : (es fs : List Event) → EventsInOrder (es ++ fs) → EventsInOrder fs
 in_order_rest [] fs ordered = ordered
 in_order_rest (e ∷ es) fs ordered = in_order_rest es fs (order_tail e (es ++ fs) ordered)
 
 -- each event has its occasion
-pub occasion_of : (s : FloodState) (es : List Event) (e : Event) → Contains es e → (t : FloodState) × Contains (occasions s es) (record {
+pub occasion_of : (s : FloodState) (es : List Event) (e : Event) → Contains es e → (t : FloodState) × Contains (event_occasions s es) (record {
   before = t;
   event = e;
 })
@@ -38,10 +39,11 @@ occasion_of s (d ∷ es) e there =
     elim (contains_cases d es e there) [
       | inl is ↦ (
         s,
-        subst (λ (x : Event). Contains (occasions s (d ∷ es)) (record { before = s; event = x })) is
-            (contains_head (record { before = s; event = d }) (occasions (after s d) es)),
+        subst (λ (x : Event). Contains (event_occasions s (d ∷ es)) (record { before = s; event = x })) is
+            (contains_head (record { before = s; event = d }) (event_occasions (flood_after_event s d) es)),
       )
-      | inr later ↦ (let o = occasion_of (after s d) es e later in (o.0, contains_tail (record { before = s; event = d }) (occasions (after s d) es) _ o.1))
+      | inr later ↦ (let o = occasion_of (flood_after_event s d) es e later in
+          (o.0, contains_tail (record { before = s; event = d }) (event_occasions (flood_after_event s d) es) _ o.1))
     ]
 
 before_itself : (x y : Sending) → x ≡ y → Before x y

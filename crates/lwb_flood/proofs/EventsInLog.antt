@@ -8,7 +8,7 @@ use Rattle.radio_model.specs.OnAir.{Hearing}
 use Rattle.lwb_base.proofs.Elements.{in_filter, contains_head, contains_tail, filter_from}
 use Rattle.air_log.specs.declared.entry.Entry.{Entry}
 use Rattle.air_log.specs.declared.entry.Entry.TheVariants.{Sent, Heard as HeardOf, Tuned}
-use Rattle.air_log.specs.Entries.{hearing_in, sendings_of, IsHeard, sending_in}
+use Rattle.air_log.specs.Entries.{hearing_in, sendings_of, HasHeardEntry, sending_in}
 use Rattle.air_log.specs.NodeEvents.{Event, Heard, Ended, own_ends}
 use Rattle.lwb_flood.proofs.FloodSoFar.{event_in, events_in}
 
@@ -39,7 +39,7 @@ event_hearing u (HeardOf h) y is = heard_is h.node u (h.node == u)
     (record { rank = h.rank; node = h.from; start = h.start; end = h.end; packet = h.packet }) y (λ same. eqb-true h.node u same) is
 event_hearing u (Tuned t) y is = absurd (cc)
 
-pub heard_event : (air : List Entry) (u : ℕ) (y : Sending) → Contains (events_in air u) (Heard y) → IsHeard air u y
+pub heard_event : (air : List Entry) (u : ℕ) (y : Sending) → Contains (events_in air u) (Heard y) → HasHeardEntry air u y
 heard_event air u y there =
     let e = filter_from (event_in u) air (Heard y) there in
     in_filter hearing_in air e.0 (record { node = u; sending = y }) e.1 (event_hearing u e.0 y e.2)

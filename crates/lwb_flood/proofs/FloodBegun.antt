@@ -8,19 +8,19 @@ use Rattle.tick_clock.specs.Clocks.{due}
 use Rattle.scenario_text.specs.FloodParts.{FloodParts}
 use Rattle.radio_model.specs.declared.sending.Sending.{Sending}
 use Rattle.radio_model.specs.OnAir.{Tuning}
-use Rattle.radio_model.specs.Stations.{IsMedium, started}
+use Rattle.radio_model.specs.Stations.{IsMedium, station_after_start}
 use Rattle.radio_model.proofs.Changes.{started_keeps}
 use Rattle.radio_model.proofs.OneStation.{same_nodes, changed_station, other_station}
 use Rattle.lwb_base.proofs.Elements.{in_filter as filter_contains, not_in_none}
 use Rattle.air_log.specs.declared.entry.Entry.{Entry}
-use Rattle.air_log.specs.Entries.{sending_in, sendings_of, tunings_of, IsHeard, sent_entry}
-use Rattle.air_log.specs.NodeEvents.{Event, Ended, sending_of, InOrder}
+use Rattle.air_log.specs.Entries.{sending_in, sendings_of, tunings_of, HasHeardEntry, sent_entry}
+use Rattle.air_log.specs.NodeEvents.{Event, Ended, sending_of_event, EventsInOrder}
 use Rattle.air_log.specs.FloodLaw.{START, first_packet, sending_at, tuning_by}
 use Rattle.lwb_flood.specs.declared.member.Act.{Act}
 use Rattle.lwb_flood.specs.declared.member.Act.TheVariants.{Listens, Waits, Sends, Off}
 use Rattle.lwb_flood.specs.declared.member.Member.{Member}
 use Rattle.lwb_flood.specs.FloodLog.{HasClocks}
-use Rattle.lwb_flood.specs.FloodWorlds.{World, node_of, moment_of, NotAfter, IsNext, with_act, begun}
+use Rattle.lwb_flood.specs.FloodWorlds.{World, node_of_member, moment_of, NotAfter, ActsNext, member_with_act, world_after_start}
 use Rattle.lwb_flood.proofs.WorldLists.{each_changed, same_there, nodes_kept, events_sent_other, pairs_push, in_order_push}
 use Rattle.air_log.proofs.LoggedEntries.{tunings_sent}
 use Rattle.lwb_flood.proofs.FloodSoFar.{running, IsWaiting, Stands, IsAnswered, IsMember, WasHeard, WasTuned, WaitsToBegin, IsFloodSoFar}
@@ -31,12 +31,12 @@ use Rattle.lwb_flood.proofs.SendingBegun.{holds, each_sent}
 use Rattle.lwb_flood.proofs.SendingBegun as SendingBegun
 
 module _ (f : FloodParts) (clocks : ℕ → ℕ → ℕ) (has : HasClocks f clocks) (w : World) (medium : IsMedium w.medium) (so : IsFloodSoFar f clocks [] [] w)
-    (m : Member) (there : Contains w.members m) (t : ℕ) (packet : List ℕ) (act : m.act ≡ Waits t packet) (next : IsNext w.members m) where
+    (m : Member) (there : Contains w.members m) (t : ℕ) (packet : List ℕ) (act : m.act ≡ Waits t packet) (next : ActsNext w.members m) where
   abbrev x : Sending
   x = sending_at m.node t packet
 
   abbrev behind : World
-  behind = begun x w
+  behind = world_after_start x w
 
   abbrev is : IsMember f clocks [] w m
   is = SendingBegun.is f clocks has w medium so m there t packet act next
@@ -58,17 +58,17 @@ module _ (f : FloodParts) (clocks : ℕ → ℕ → ℕ) (has : HasClocks f cloc
   sent_new = SendingBegun.sent_new f clocks has w medium so m there t packet act next
 
   -- the node that sends
-  own_order : InOrder (is.past ++ Ended x ∷ [])
+  own_order : EventsInOrder (is.past ++ Ended x ∷ [])
   own_order =
       in_order_push is.past (Ended x)
-      (subst (λ (l : List Event). InOrder l) (ap (λ (a : Act). is.past ++ running a) act ∙ append-nil is.past) is.in_order) (λ d in_it.
+      (subst (λ (l : List Event). EventsInOrder l) (ap (λ (a : Act). is.past ++ running a) act ∙ append-nil is.past) is.in_order) (λ d in_it.
       let over = is.over d in_it in
       let later = waits.later in (
         omega (arith, over, later, lasts),
-        λ same. (let end : (sending_of d).end ≡ x.end = ap (λ (e : Event). (sending_of e).end) same in omega (arith, over, later, lasts, end)),
+        λ same. (let end : (sending_of_event d).end ≡ x.end = ap (λ (e : Event). (sending_of_event e).end) same in omega (arith, over, later, lasts, end)),
       ))
 
-  own_answered : IsAnswered f (clocks m.node) behind is.past (with_act (Sends x) m)
+  own_answered : IsAnswered f (clocks m.node) behind is.past (member_with_act (Sends x) m)
   own_answered h s p occasion answer =
       elim (is.answered h s p occasion answer) [
         | inl sent ↦ inl (sent_old (sending_at m.node (due (clocks m.node) (clocks m.node h.end + 12288)) p) sent)
@@ -78,12 +78,12 @@ module _ (f : FloodParts) (clocks : ℕ → ℕ → ℕ) (has : HasClocks f cloc
       now : (u : ℕ) → Waits t packet ≡ Waits u p → Contains (sendings_of behind.air) (sending_at m.node u p)
       now u same = subst (λ (y : Sending). Contains (sendings_of behind.air) y) (same_waits m.node t u packet p same) sent_new
 
-  own_member : IsMember f clocks [] behind (with_act (Sends x) m)
+  own_member : IsMember f clocks [] behind (member_with_act (Sends x) m)
   own_member = record {
     known = is.known;
-    station = started w.medium.numbers t packet is.station;
-    found = changed_station w.medium t m.node (started w.medium.numbers t packet) (started_keeps w.medium.numbers t packet).node
-        ∙ ap (option_map (started w.medium.numbers t packet)) is.found;
+    station = station_after_start w.medium.numbers t packet is.station;
+    found = changed_station w.medium t m.node (station_after_start w.medium.numbers t packet) (started_keeps w.medium.numbers t packet).node
+        ∙ ap (option_map (station_after_start w.medium.numbers t packet)) is.found;
     tuned = tuned f clocks has w medium so m there t packet act next;
     sends = started_is w.medium.numbers t packet is.station x (silent f clocks has w medium so m there t packet act next)
         (its_next f clocks has w medium so m there t packet act next);
@@ -140,7 +140,8 @@ module _ (f : FloodParts) (clocks : ℕ → ℕ → ℕ) (has : HasClocks f cloc
     other_member = record {
       known = its.known;
       station = its.station;
-      found = other_station w.medium t m.node (started w.medium.numbers t packet) (started_keeps w.medium.numbers t packet).node n.node other ∙ its.found;
+      found = other_station w.medium t m.node (station_after_start w.medium.numbers t packet) (started_keeps w.medium.numbers t packet).node n.node other
+          ∙ its.found;
       tuned = its.tuned;
       sends = its.sends;
       past = its.past;
@@ -155,15 +156,15 @@ module _ (f : FloodParts) (clocks : ℕ → ℕ → ℕ) (has : HasClocks f cloc
       ];
     }
 
-  its_own : (n : Member) → Contains w.members n → n.node ≡ m.node → IsMember f clocks [] behind (with_act (Sends x) n)
-  its_own n in_it node = subst (λ (k : Member). IsMember f clocks [] behind (with_act (Sends x) k))
+  its_own : (n : Member) → Contains w.members n → n.node ≡ m.node → IsMember f clocks [] behind (member_with_act (Sends x) n)
+  its_own n in_it node = subst (λ (k : Member). IsMember f clocks [] behind (member_with_act (Sends x) k))
       (one_member f clocks has [] [] w medium so m n there in_it (sym node)) own_member
 
   each_member : (n : Member) → Contains behind.members n → IsMember f clocks [] behind n
-  each_member = each_changed m.node (with_act (Sends x)) w.members (λ n. IsMember f clocks [] behind n) its_own other_member
+  each_member = each_changed m.node (member_with_act (Sends x)) w.members (λ n. IsMember f clocks [] behind n) its_own other_member
 
   -- the log
-  heard_still : (v : ℕ) (y : Sending) → IsHeard behind.air v y → WasHeard f behind v y
+  heard_still : (v : ℕ) (y : Sending) → HasHeardEntry behind.air v y → WasHeard f behind v y
   heard_still v y in_it =
       let h = so.heard v y (heard_same f clocks has w medium so m there t packet act next v y in_it) in
       record { known = h.known; sent = sent_old y h.sent; over = over_still f clocks has w medium so m there t packet act next y h.sent h.over }
@@ -175,7 +176,7 @@ module _ (f : FloodParts) (clocks : ℕ → ℕ → ℕ) (has : HasClocks f cloc
       (sym act ∙ ap (λ (k : Member). k.act) (one_member f clocks has [] [] w medium so m g.member there g.there (sym node)) ∙ g.off) in
       record {
         member = g.member;
-        there = same_there m.node (with_act (Sends x)) w.members g.member g.there other;
+        there = same_there m.node (member_with_act (Sends x)) w.members g.member g.there other;
         node = g.node;
         off = g.off;
         is = g.is ∙ ap (tuning_by f.sends u.node) (sym (events_sent_other w.air x u.node (λ same. other (g.node ∙ sym same))));
@@ -201,18 +202,18 @@ module _ (f : FloodParts) (clocks : ℕ → ℕ → ℕ) (has : HasClocks f cloc
           → Contains (sendings_of behind.air) (sending_at f.start START (first_packet f.start)) ⊎ WaitsToBegin f behind
       by_node b (inl node) =
           let same = one_member f clocks has [] [] w medium so m b.member there b.there (sym node) in
-          inl (now START f.start (first_packet f.start) (ap node_of same ∙ b.node) (sym act ∙ ap (λ (k : Member). k.act) same ∙ b.act))
+          inl (now START f.start (first_packet f.start) (ap node_of_member same ∙ b.node) (sym act ∙ ap (λ (k : Member). k.act) same ∙ b.act))
       by_node b (inr other) = inr (record {
         member = b.member;
-        there = same_there m.node (with_act (Sends x)) w.members b.member b.there other;
+        there = same_there m.node (member_with_act (Sends x)) w.members b.member b.there other;
         node = b.node;
         act = b.act;
       })
 
-  pub begun_keeps : IsFloodSoFar f clocks [] [] (begun (sending_at m.node t packet) w)
+  pub begun_keeps : IsFloodSoFar f clocks [] [] (world_after_start (sending_at m.node t packet) w)
   begun_keeps = record {
-    nodes = nodes_kept m.node (with_act (Sends x)) (λ n. refl) w.members ∙ so.nodes;
-    stations = same_nodes w.medium t m.node (started w.medium.numbers t packet) (started_keeps w.medium.numbers t packet).node ∙ so.stations;
+    nodes = nodes_kept m.node (member_with_act (Sends x)) (λ n. refl) w.members ∙ so.nodes;
+    stations = same_nodes w.medium t m.node (station_after_start w.medium.numbers t packet) (started_keeps w.medium.numbers t packet).node ∙ so.stations;
     numbers = so.numbers;
     since = (let since = so.since in let later = waits.later in omega (arith, since, later));
     holds = holds f clocks has w medium so m there t packet act next;

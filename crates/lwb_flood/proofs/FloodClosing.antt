@@ -13,10 +13,10 @@ use Rattle.scenario_text.specs.FloodParts.{FloodParts}
 use Rattle.bus_terms.specs.FloodOfText.{ids}
 use Rattle.radio_model.specs.declared.sending.Sending.{Sending}
 use Rattle.radio_model.specs.declared.station.Station.{Station}
-use Rattle.radio_model.specs.Stations.{MediumState, IsMedium, IsTime, after, changed_at, retuned, nodes_of}
+use Rattle.radio_model.specs.Stations.{MediumState, IsMedium, IsTime, medium_after_change, station_changed_at, station_after_tuning, nodes_of}
 use Rattle.radio_model.specs.OnAir.{Hearing}
 use Rattle.air_log.specs.Entries.{sendings_of}
-use Rattle.air_log.specs.NodeEvents.{Event, Heard, Ended, after as after_event, after_all, own_ends}
+use Rattle.air_log.specs.NodeEvents.{Event, Heard, Ended, flood_after_event as after_event, flood_after_events, own_ends}
 use Rattle.air_log.specs.FloodLaw.{FloodLaw, CLOSING, first_packet, first_flood}
 use Rattle.lwb_base.proofs.Elements.{not_in_none, contains_head, contains_tail, contains_cases, map_contains, map_from, Distinct, any_of, some_of}
 use Rattle.lwb_base.proofs.Truths.{same_truth}
@@ -24,7 +24,7 @@ use Rattle.lwb_flood.specs.declared.member.Act.{Act}
 use Rattle.lwb_flood.specs.declared.member.Act.TheVariants.{Listens, Waits, Sends, Off}
 use Rattle.lwb_flood.specs.declared.member.Member.{Member}
 use Rattle.lwb_flood.specs.FloodLog.{HasClocks}
-use Rattle.lwb_flood.specs.FloodWorlds.{World, IsShape, node_of, moment_of, with_act, gone, is_off, stays, closed_by, closed_all}
+use Rattle.lwb_flood.specs.FloodWorlds.{World, IsShape, node_of_member, moment_of, member_with_act, gone, is_off, stays, world_closed_at, closed_all}
 use Rattle.lwb_flood.proofs.ActsTold.{sends_by}
 use Rattle.lwb_flood.proofs.FloodGone.{gone_keeps}
 use Rattle.lwb_flood.proofs.FloodHearers.{ascend_distinct}
@@ -36,44 +36,44 @@ use Rattle.lwb_flood.proofs.TunedWindows.{sent_among}
 use Rattle.lwb_flood.proofs.WorldLists.{one_of_mark, each_changed, nodes_kept}
 
 -- one node after another
-closed_push : (us : List ℕ) (v : ℕ) (w : World) → closed_all (us ++ v ∷ []) w ≡ closed_by v (closed_all us w)
+closed_push : (us : List ℕ) (v : ℕ) (w : World) → closed_all (us ++ v ∷ []) w ≡ world_closed_at v (closed_all us w)
 closed_push [] v w = refl
-closed_push (u ∷ us) v w = closed_push us v (closed_by u w)
+closed_push (u ∷ us) v w = closed_push us v (world_closed_at u w)
 
 pub closed_more : (vs : List ℕ) (i v : ℕ) (w : World) → i < length vs → v ≡ get_or vs i v
-    → closed_all (take (i + 1) vs) w ≡ closed_by v (closed_all (take i vs) w)
+    → closed_all (take (i + 1) vs) w ≡ world_closed_at v (closed_all (take i vs) w)
 closed_more vs i v w below at = ap (λ (l : List ℕ). closed_all l w) (take_more vs i v below ∙ ap (λ (n : ℕ). take i vs ++ n ∷ []) (sym at))
     ∙ closed_push (take i vs) v w
 
 -- what holds of a world and stays so when a node goes off at the closing holds in the end
 closed_stays : (P : World → Type 0) → ((v : ℕ) (w : World) → P w → P (gone v CLOSING w)) → (us : List ℕ) (w : World) → P w → P (closed_all us w)
 closed_stays P goes [] w is = is
-closed_stays P goes (u ∷ us) w is = closed_stays P goes us (closed_by u w)
+closed_stays P goes (u ∷ us) w is = closed_stays P goes us (world_closed_at u w)
     (cond_both (list_any (stays u) w.members) w (gone u CLOSING w) P (λ _. is) (λ _. goes u w is))
 
-pub closed_nodes : (us : List ℕ) (w : World) → map node_of (closed_all us w).members ≡ map node_of w.members
-closed_nodes us w = closed_stays (λ (z : World). map node_of z.members ≡ map node_of w.members)
-    (λ v z is. nodes_kept v (with_act Off) (λ m. refl) z.members ∙ is) us w refl
+pub closed_nodes : (us : List ℕ) (w : World) → map node_of_member (closed_all us w).members ≡ map node_of_member w.members
+closed_nodes us w = closed_stays (λ (z : World). map node_of_member z.members ≡ map node_of_member w.members)
+    (λ v z is. nodes_kept v (member_with_act Off) (λ m. refl) z.members ∙ is) us w refl
 
 pub closed_shape : (us : List ℕ) (w : World) → IsShape w → IsShape (closed_all us w)
 closed_shape us w is = closed_stays IsShape (λ v z shape. gone_shape z shape v CLOSING) us w is
 
-gone_time : (m : MediumState) (v : ℕ) → IsTime m CLOSING → IsTime (after CLOSING v (retuned None CLOSING) m) CLOSING
+gone_time : (m : MediumState) (v : ℕ) → IsTime m CLOSING → IsTime (medium_after_change CLOSING v (station_after_tuning None CLOSING) m) CLOSING
 gone_time m v is = record {
   later = omega arith;
   small = is.small;
   running = λ st x there sends.
-      let s = map_from (changed_at v (retuned None CLOSING)) m.stations st there in
+      let s = map_from (station_changed_at v (station_after_tuning None CLOSING)) m.stations st there in
       is.running s.0 x s.1 (sym (same s.0) ∙ ap (λ (k : Station). k.sending) s.2 ∙ sends);
 }
   where
-    same : (s : Station) → (changed_at v (retuned None CLOSING) s).sending ≡ s.sending
-    same s = cond_both (s.node == v) (retuned None CLOSING s) s (λ (k : Station). k.sending ≡ s.sending) (λ _. refl) (λ _. refl)
+    same : (s : Station) → (station_changed_at v (station_after_tuning None CLOSING) s).sending ≡ s.sending
+    same s = cond_both (s.node == v) (station_after_tuning None CLOSING s) s (λ (k : Station). k.sending ≡ s.sending) (λ _. refl) (λ _. refl)
 
 pub closed_time : (us : List ℕ) (w : World) → IsTime w.medium CLOSING → IsTime (closed_all us w).medium CLOSING
 closed_time us w is = closed_stays (λ (z : World). IsTime z.medium CLOSING) (λ v z time. gone_time z.medium v time) us w is
 
-stays_is : (ms : List Member) → Distinct (map node_of ms) → (m : Member) → Contains ms m → list_any (stays m.node) ms ≡ is_off m.act
+stays_is : (ms : List Member) → Distinct (map node_of_member ms) → (m : Member) → Contains ms m → list_any (stays m.node) ms ≡ is_off m.act
 stays_is ms distinct m there = same_truth (list_any (stays m.node) ms) (is_off m.act) itself
     (λ off. any_of (stays m.node) ms m there (and_from (m.node == m.node) (is_off m.act) (eq-eqb m.node m.node refl) off))
   where
@@ -81,38 +81,39 @@ stays_is ms distinct m there = same_truth (list_any (stays m.node) ms) (is_off m
     itself some =
         let n = some_of (stays m.node) ms some in
         let both = and_parts (n.0.node == m.node) (is_off n.0.act) n.2 in
-        subst (λ (k : Member). is_off k.act ≡ true) (one_of_mark node_of ms distinct n.0 m n.1 there (eqb-true n.0.node m.node both.0)) both.1
+        subst (λ (k : Member). is_off k.act ≡ true) (one_of_mark node_of_member ms distinct n.0 m n.1 there (eqb-true n.0.node m.node both.0)) both.1
 
 pub closed_at : (w : World) → IsShape w → (i : ℕ) (m : Member) → i < length w.members → m ≡ get_or w.members i m
-    → closed_by m.node w ≡ (if is_off m.act then w else gone m.node CLOSING w)
+    → world_closed_at m.node w ≡ (if is_off m.act then w else gone m.node CLOSING w)
 closed_at w is i m below at =
     ap (λ (b : Bool). if b then w else gone m.node CLOSING w)
-    (stays_is w.members (ascend_distinct (map node_of w.members) (subst (AllPairs (λ a b. a < b)) (sym is.nodes) is.medium.nodes.ascending)) m
+    (stays_is w.members (ascend_distinct (map node_of_member w.members) (subst (AllPairs (λ a b. a < b)) (sym is.nodes) is.medium.nodes.ascending)) m
     (i, below, sym at))
 
 -- a loop over the members by place: the world before the turn of the member at place i
-module _ (w : World) (is : IsShape w) (i : ℕ) (z : World) (so_far : z ≡ closed_all (take i (map node_of w.members)) w) (m : Member)
+module _ (w : World) (is : IsShape w) (i : ℕ) (z : World) (so_far : z ≡ closed_all (take i (map node_of_member w.members)) w) (m : Member)
     (below : i < length z.members) (at : m ≡ get_or z.members i m) where
-  nodes_still : map node_of z.members ≡ map node_of w.members
-  nodes_still = ap (λ (x : World). map node_of x.members) so_far ∙ closed_nodes (take i (map node_of w.members)) w
+  nodes_still : map node_of_member z.members ≡ map node_of_member w.members
+  nodes_still = ap (λ (x : World). map node_of_member x.members) so_far ∙ closed_nodes (take i (map node_of_member w.members)) w
 
   shape_still : IsShape z
-  shape_still = subst IsShape (sym so_far) (closed_shape (take i (map node_of w.members)) w is)
+  shape_still = subst IsShape (sym so_far) (closed_shape (take i (map node_of_member w.members)) w is)
 
-  node_is : m.node ≡ get_or (map node_of w.members) i m.node
-  node_is = ap node_of at ∙ sym (get_or-map node_of z.members i m m.node below) ∙ ap (λ (l : List ℕ). get_or l i m.node) nodes_still
+  node_is : m.node ≡ get_or (map node_of_member w.members) i m.node
+  node_is = ap node_of_member at ∙ sym (get_or-map node_of_member z.members i m m.node below) ∙ ap (λ (l : List ℕ). get_or l i m.node) nodes_still
 
-  inside : i < length (map node_of w.members)
-  inside = omega (arith, below, length-map z.members node_of, ap (λ (l : List ℕ). length l) nodes_still)
+  inside : i < length (map node_of_member w.members)
+  inside = omega (arith, below, length-map z.members node_of_member, ap (λ (l : List ℕ). length l) nodes_still)
 
-  pub turn_closes : (if is_off m.act then z else gone m.node CLOSING z) ≡ closed_all (take (i + 1) (map node_of w.members)) w
-  turn_closes = sym (closed_at z shape_still i m below at) ∙ ap (closed_by m.node) so_far ∙ sym (closed_more (map node_of w.members) i m.node w inside node_is)
+  pub turn_closes : (if is_off m.act then z else gone m.node CLOSING z) ≡ closed_all (take (i + 1) (map node_of_member w.members)) w
+  turn_closes = sym (closed_at z shape_still i m below at) ∙ ap (world_closed_at m.node) so_far
+      ∙ sym (closed_more (map node_of_member w.members) i m.node w inside node_is)
 
   pub turn_node : Contains (nodes_of z.medium) m.node
-  turn_node = subst (λ (l : List ℕ). Contains l m.node) shape_still.nodes (map_contains node_of z.members m (i, below, sym at))
+  turn_node = subst (λ (l : List ℕ). Contains l m.node) shape_still.nodes (map_contains node_of_member z.members m (i, below, sym at))
 
   pub turn_time : IsTime w.medium CLOSING → IsTime z.medium CLOSING
-  turn_time time = subst (λ (x : World). IsTime x.medium CLOSING) (sym so_far) (closed_time (take i (map node_of w.members)) w time)
+  turn_time time = subst (λ (x : World). IsTime x.medium CLOSING) (sym so_far) (closed_time (take i (map node_of_member w.members)) w time)
 
 off_is : (a : Act) → is_off a ≡ true → a ≡ Off
 off_is Listens is = absurd (false≢true is)
@@ -136,7 +137,7 @@ none_then : {X : Type 0} (o : Option X) (P : X → Type 0) → o ≡ None → If
 none_then o P is = subst (λ (p : Option _). IfSome p P) (sym is) tt
 
 -- the limit of a flood stays
-pub kept_limit : (s : FloodState) (es : List Event) → (after_all s es).limit ≡ s.limit
+pub kept_limit : (s : FloodState) (es : List Event) → (flood_after_events s es).limit ≡ s.limit
 kept_limit s [] = refl
 kept_limit s (Heard x ∷ es) = kept_limit (after_heard s x.packet) es ∙ limit_kept (fits s x.packet) _ _
   where
@@ -193,7 +194,7 @@ module _ (f : FloodParts) (clocks : ℕ → ℕ → ℕ) (has : HasClocks f cloc
 
         sent_is : m.flood.sent ≡ length (own_ends each.past)
         sent_is =
-            let flood : m.flood.sent ≡ (after_all (first_flood f m.node) each.past).sent = ap (λ (s : FloodState). s.sent) each.flood in
+            let flood : m.flood.sent ≡ (flood_after_events (first_flood f m.node) each.past).sent = ap (λ (s : FloodState). s.sent) each.flood in
             omega (arith, flood, sent_among (first_flood f m.node) each.past, first_sent)
 
         limit_is : m.flood.limit ≡ f.sends
@@ -208,28 +209,29 @@ module _ (f : FloodParts) (clocks : ℕ → ℕ → ℕ) (has : HasClocks f cloc
           (λ n in_it. none_then (moment_of n.act) (λ l. CLOSING ≤ l.0) (is.quiet n in_it)) (λ h in_it. absurd (not_in_none h in_it))
           (closes_late m there act) (inr (omega arith));
       medium = (gone_shape w shape m.node CLOSING).medium;
-      quiet = each_changed m.node (with_act Off) w.members (λ (n : Member). moment_of n.act ≡ None) (λ n in_it at. refl) (λ n in_it other. is.quiet n in_it);
+      quiet =
+          each_changed m.node (member_with_act Off) w.members (λ (n : Member). moment_of n.act ≡ None) (λ n in_it at. refl) (λ n in_it other. is.quiet n in_it);
       early = omega arith;
     }
 
-    closing_member : (m : Member) → Contains w.members m → IsClosing f clocks (closed_by m.node w)
+    closing_member : (m : Member) → Contains w.members m → IsClosing f clocks (world_closed_at m.node w)
     closing_member m there =
         cond_both (list_any (stays m.node) w.members) w (gone m.node CLOSING w) (IsClosing f clocks) (λ _. is)
         (λ none. gone_closing m there
         (listens_by m.act (is.quiet m there)
         (sym (stays_is w.members
-        (ascend_distinct (map node_of w.members) (subst (AllPairs (λ a b. a < b)) (sym shape.nodes) is.medium.nodes.ascending)) m there) ∙ none)))
+        (ascend_distinct (map node_of_member w.members) (subst (AllPairs (λ a b. a < b)) (sym shape.nodes) is.medium.nodes.ascending)) m there) ∙ none)))
 
-    pub closing_more : (v : ℕ) → Contains (ids f.nodes) v → IsClosing f clocks (closed_by v w)
+    pub closing_more : (v : ℕ) → Contains (ids f.nodes) v → IsClosing f clocks (world_closed_at v w)
     closing_more v there =
-        let m = map_from node_of w.members v (subst (λ (l : List ℕ). Contains l v) (sym is.so.nodes) there) in
-        subst (λ (u : ℕ). IsClosing f clocks (closed_by u w)) m.2 (closing_member m.0 m.1)
+        let m = map_from node_of_member w.members v (subst (λ (l : List ℕ). Contains l v) (sym is.so.nodes) there) in
+        subst (λ (u : ℕ). IsClosing f clocks (world_closed_at u w)) m.2 (closing_member m.0 m.1)
 
   -- the nodes that are not off are among these
   abbrev Rest : List ℕ → World → Type 0
   Rest us w = (m : Member) → Contains w.members m → Contains us m.node ⊎ (m.act ≡ Off)
 
-  rest_more : (v : ℕ) (us : List ℕ) (w : World) → IsClosing f clocks w → Rest (v ∷ us) w → Rest us (closed_by v w)
+  rest_more : (v : ℕ) (us : List ℕ) (w : World) → IsClosing f clocks w → Rest (v ∷ us) w → Rest us (world_closed_at v w)
   rest_more v us w is rest = cond_both (list_any (stays v) w.members) w (gone v CLOSING w) (Rest us) was_off (λ _. goes_off)
     where
       fewer : (m : Member) → (v ≡ m.node → Contains us m.node ⊎ (m.act ≡ Off)) → Contains (v ∷ us) m.node ⊎ (m.act ≡ Off) → Contains us m.node ⊎ (m.act ≡ Off)
@@ -246,14 +248,14 @@ module _ (f : FloodParts) (clocks : ℕ → ℕ → ℕ) (has : HasClocks f cloc
           (rest m there)
 
       goes_off : Rest us (gone v CLOSING w)
-      goes_off = each_changed v (with_act Off) w.members (λ (m : Member). Contains us m.node ⊎ (m.act ≡ Off)) (λ m there at. inr refl)
+      goes_off = each_changed v (member_with_act Off) w.members (λ (m : Member). Contains us m.node ⊎ (m.act ≡ Off)) (λ m there at. inr refl)
           (λ m there other. fewer m (λ here. absurd (other (sym here))) (rest m there))
 
   closing_all : (us : List ℕ) (w : World) → IsClosing f clocks w → ((u : ℕ) → Contains us u → Contains (ids f.nodes) u) → Rest us w
       → IsClosing f clocks (closed_all us w) × Rest [] (closed_all us w)
   closing_all [] w is of_text rest = (is, rest)
   closing_all (u ∷ us) w is of_text rest =
-      closing_all us (closed_by u w) (closing_more w is u (of_text u (contains_head u us))) (λ n there. of_text n (contains_tail u us n there))
+      closing_all us (world_closed_at u w) (closing_more w is u (of_text u (contains_head u us))) (λ n there. of_text n (contains_tail u us n there))
       (rest_more u us w is rest)
 
   -- all of them

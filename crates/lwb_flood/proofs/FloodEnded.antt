@@ -12,20 +12,20 @@ use Rattle.glossy_relay.specs.Relaying.{after_sent}
 use Rattle.scenario_text.specs.FloodParts.{FloodParts}
 use Rattle.radio_model.specs.declared.sending.Sending.{Sending}
 use Rattle.radio_model.specs.OnAir.{Tuning}
-use Rattle.radio_model.specs.Hearing.{Hears}
-use Rattle.radio_model.specs.Stations.{IsMedium, nodes_of, station_of, finished}
+use Rattle.radio_model.specs.Hearing.{HearsInScene}
+use Rattle.radio_model.specs.Stations.{IsMedium, nodes_of, station_of, station_after_end}
 use Rattle.radio_model.specs.Holding.{as_it_stands}
 use Rattle.radio_model.proofs.Changes.{finished_keeps}
 use Rattle.radio_model.proofs.OneStation.{same_nodes, changed_station, other_station}
 use Rattle.lwb_base.proofs.Elements.{any_of, not_in_none, contains_head, Distinct}
-use Rattle.air_log.specs.Entries.{sendings_of, tunings_of, IsHeard}
-use Rattle.air_log.specs.NodeEvents.{Event, Heard, Ended, sending_of, InOrder, after_all, Occasion}
+use Rattle.air_log.specs.Entries.{sendings_of, tunings_of, HasHeardEntry}
+use Rattle.air_log.specs.NodeEvents.{Event, Heard, Ended, sending_of_event, EventsInOrder, flood_after_events, EventOccasion}
 use Rattle.air_log.specs.FloodLaw.{START, first_packet, first_flood, sending_at}
 use Rattle.lwb_flood.specs.declared.member.Act.{Act}
 use Rattle.lwb_flood.specs.declared.member.Act.TheVariants.{Listens, Waits, Sends, Off}
 use Rattle.lwb_flood.specs.declared.member.Member.{Member}
 use Rattle.lwb_flood.specs.FloodLog.{HasClocks}
-use Rattle.lwb_flood.specs.FloodWorlds.{World, moment_of, NotAfter, IsNext, after_own, is_last_of, is_last, own_ended}
+use Rattle.lwb_flood.specs.FloodWorlds.{World, moment_of, NotAfter, ActsNext, after_own, is_last_of, is_last, own_ended}
 use Rattle.lwb_flood.proofs.ActsTold.{waits_differ, sends_off}
 use Rattle.lwb_flood.proofs.EventOrder.{after_all_append}
 use Rattle.lwb_flood.proofs.FloodSoFar.{scene, running, tuned_by, IsSending, Stands, IsAnswered, IsMember, WasHeard, WasTuned, WaitsToBegin, IsFloodSoFar}
@@ -33,8 +33,9 @@ use Rattle.lwb_flood.proofs.WorldLists.{each_changed, same_there, nodes_kept, oc
 use Rattle.lwb_flood.proofs.SendingOver.{heard_at, heard_distinct, not_before, no_later, ends_later, found, ran, holds, each_sent, each_due}
 use Rattle.lwb_flood.proofs.SendingOver as SendingOver
 
-not_heard : (s t : FloodState) (x y : Sending) → (let o : Occasion = record { before = s; event = Ended x } in o ≡ record { before = t; event = Heard y }) → ⊥
-not_heard s t x y is = no_event (ap (λ (o : Occasion). o.event) is)
+not_heard : (s t : FloodState) (x y : Sending)
+    → (let o : EventOccasion = record { before = s; event = Ended x } in o ≡ record { before = t; event = Heard y }) → ⊥
+not_heard s t x y is = no_event (ap (λ (o : EventOccasion). o.event) is)
   where
     no_event : Ended x ≡ Heard y → ⊥
     no_event same = absurd (cc)
@@ -44,7 +45,7 @@ leaving_by : (v : ℕ) (last : Bool) → last ≡ true → Contains (if last the
 leaving_by v last is = subst (λ (l : List ℕ). Contains l v) (sym (cond-true last (v ∷ []) [] is)) (contains_head v [])
 
 module _ (f : FloodParts) (clocks : ℕ → ℕ → ℕ) (has : HasClocks f clocks) (w : World) (medium : IsMedium w.medium) (so : IsFloodSoFar f clocks [] [] w)
-    (m : Member) (there : Contains w.members m) (x : Sending) (act : m.act ≡ Sends x) (next : IsNext w.members m) where
+    (m : Member) (there : Contains w.members m) (x : Sending) (act : m.act ≡ Sends x) (next : ActsNext w.members m) where
   abbrev behind : World
   behind = own_ended x w
 
@@ -71,15 +72,15 @@ module _ (f : FloodParts) (clocks : ℕ → ℕ → ℕ) (has : HasClocks f cloc
   unfolding own_past
   own_running = ap (λ (a : Act). is.past ++ running a) act ∙ sym (append-nil (is.past ++ Ended x ∷ []))
 
-  own_over : (e : Event) → Contains own_past e → (sending_of e).end ≤ x.end
+  own_over : (e : Event) → Contains own_past e → (sending_of_event e).end ≤ x.end
   unfolding own_past
   own_over e in_it =
       elim (Contains-push_cases is.past (Ended x) e in_it) [
         | inl old ↦ (let over = is.over e old in let later = sends.later in omega (arith, over, later))
-        | inr now ↦ omega (arith, ap (λ (d : Event). (sending_of d).end) now)
+        | inr now ↦ omega (arith, ap (λ (d : Event). (sending_of_event d).end) now)
       ]
 
-  own_flood : after_sent m.flood ≡ after_all (first_flood f m.node) own_past
+  own_flood : after_sent m.flood ≡ flood_after_events (first_flood f m.node) own_past
   unfolding own_past
   own_flood = ap after_sent is.flood ∙ sym (after_all_append (first_flood f m.node) is.past (Ended x ∷ []))
 
@@ -102,20 +103,20 @@ module _ (f : FloodParts) (clocks : ℕ → ℕ → ℕ) (has : HasClocks f cloc
           | inl sent ↦ inl sent
           | inr about ↦ absurd (waits_differ (due (clocks m.node) (clocks m.node h.end + 12288)) p x (sym about ∙ act))
         ]
-        | inr now ↦ absurd (not_heard (after_all (first_flood f m.node) is.past) s x h now)
+        | inr now ↦ absurd (not_heard (flood_after_events (first_flood f m.node) is.past) s x h now)
       ]
 
   own_member : IsMember f clocks leaving behind (after_own m)
   own_member = record {
     known = is.known;
-    station = finished is.station;
-    found = ap (station_of behind.medium) (sym own_node) ∙ changed_station w.medium x.end x.node finished finished_keeps.node
-        ∙ ap (option_map finished) (found f clocks has w medium so m there x act next);
+    station = station_after_end is.station;
+    found = ap (station_of behind.medium) (sym own_node) ∙ changed_station w.medium x.end x.node station_after_end finished_keeps.node
+        ∙ ap (option_map station_after_end) (found f clocks has w medium so m there x act next);
     tuned = is.tuned ∙ ap tuned_by act;
     sends = refl;
     past = own_past;
     happened = is.happened ∙ own_running;
-    in_order = subst InOrder own_running is.in_order;
+    in_order = subst EventsInOrder own_running is.in_order;
     over = own_over;
     flood = own_flood;
     stands = record { waits = refl; left = own_left };
@@ -158,7 +159,7 @@ module _ (f : FloodParts) (clocks : ℕ → ℕ → ℕ) (has : HasClocks f cloc
     other_member = record {
       known = its.known;
       station = its.station;
-      found = other_station w.medium x.end x.node finished finished_keeps.node n.node other ∙ its.found;
+      found = other_station w.medium x.end x.node station_after_end finished_keeps.node n.node other ∙ its.found;
       tuned = its.tuned;
       sends = its.sends;
       past = its.past;
@@ -177,7 +178,7 @@ module _ (f : FloodParts) (clocks : ℕ → ℕ → ℕ) (has : HasClocks f cloc
   each_member = each_changed x.node after_own w.members (λ n. IsMember f clocks leaving behind n) its_own other_member
 
   -- the log
-  heard_still : (v : ℕ) (y : Sending) → IsHeard w.air v y → WasHeard f behind v y
+  heard_still : (v : ℕ) (y : Sending) → HasHeardEntry w.air v y → WasHeard f behind v y
   heard_still v y in_it = let h = so.heard v y in_it in record {
     known = h.known;
     sent = h.sent;
@@ -200,11 +201,11 @@ module _ (f : FloodParts) (clocks : ℕ → ℕ → ℕ) (has : HasClocks f cloc
   ]
 
   pub own_ended_keeps : (vs : List ℕ) → Distinct vs
-      → ((v : ℕ) → Contains vs v ↔ (Contains (nodes_of w.medium) v × Hears (as_it_stands w.medium x.end (scene f w)) v x))
+      → ((v : ℕ) → Contains vs v ↔ (Contains (nodes_of w.medium) v × HearsInScene (as_it_stands w.medium x.end (scene f w)) v x))
       → IsFloodSoFar f clocks (map (heard_at x) vs) (if is_last x.node w.members then x.node ∷ [] else []) (own_ended x w)
   own_ended_keeps vs distinct hear = record {
     nodes = nodes_kept x.node after_own (λ n. refl) w.members ∙ so.nodes;
-    stations = same_nodes w.medium x.end x.node finished finished_keeps.node ∙ so.stations;
+    stations = same_nodes w.medium x.end x.node station_after_end finished_keeps.node ∙ so.stations;
     numbers = so.numbers;
     since = (let since = so.since in let later = sends.later in omega (arith, since, later));
     holds = holds f clocks has w medium so m there x act next;

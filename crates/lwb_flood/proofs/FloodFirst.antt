@@ -15,23 +15,23 @@ use Rattle.radio_model.specs.declared.station.Station.{Station}
 use Rattle.radio_model.specs.declared.station.Tuned.{Tuned as TunedTo}
 use Rattle.radio_model.specs.OnAir.{Tuning}
 use Rattle.radio_model.specs.Hearing.{Scene}
-use Rattle.radio_model.specs.Stations.{MediumState, IsMedium, station_of, node_of as station_node, retuned, first_state}
-use Rattle.radio_model.specs.Stations.{stations_from, fresh, is_of}
-use Rattle.radio_model.specs.Holding.{Holds, closed, tuned_of, after_tuning, nothing_yet}
+use Rattle.radio_model.specs.Stations.{MediumState, IsMedium, station_of, id_of_station as station_node, station_after_tuning, first_state}
+use Rattle.radio_model.specs.Stations.{stations_from, fresh, is_station_of}
+use Rattle.radio_model.specs.Holding.{Holds, ended_tuning, tuned_of, after_tuning, nothing_yet}
 use Rattle.radio_model.proofs.AtFirst.{holds_at_first}
 use Rattle.radio_model.proofs.AfterTuning.{holds_after_tuning}
 use Rattle.radio_model.proofs.Changes.{retuned_keeps}
 use Rattle.radio_model.proofs.TunedStations.{tuned_anew, tuned_still}
 use Rattle.radio_model.proofs.OneCall.{found_member, each_after}
 use Rattle.radio_model.proofs.Places.{first_is_medium, nodes_from}
-use Rattle.air_log.specs.NodeEvents.{InOrder}
+use Rattle.air_log.specs.NodeEvents.{EventsInOrder}
 use Rattle.air_log.specs.FloodLaw.{OPENING, START, first_packet}
 use Rattle.lwb_base.proofs.Elements.{not_in_none, contains_head, contains_tail, contains_cases, map_contains, map_from}
 use Rattle.lwb_flood.specs.declared.member.Act.{Act}
 use Rattle.lwb_flood.specs.declared.member.Act.TheVariants.{Listens, Waits}
 use Rattle.lwb_flood.specs.declared.member.Member.{Member}
 use Rattle.lwb_flood.specs.FloodLog.{HasClocks}
-use Rattle.lwb_flood.specs.FloodWorlds.{World, opened, first_member, first_world}
+use Rattle.lwb_flood.specs.FloodWorlds.{World, medium_at_opening, first_member, first_world}
 use Rattle.lwb_flood.proofs.FloodOpening.{IsOpening, at_first, opened_is, opened_medium, tuned_one, sound_nodes, first_shape}
 use Rattle.lwb_flood.proofs.FloodSoFar.{running, tuned_by, sending_by, Stands, IsMember, WaitsToBegin, IsFloodSoFar}
 use Rattle.lwb_flood.proofs.LogEntries.{known_of, known_there}
@@ -70,28 +70,28 @@ first_tuned p vs st there =
 
 -- a station that is tuned in
 module _ (us : List ℕ) (st : Station) where
-  new_tuned : IsNew us st → (retuned (Some 0) OPENING st).tuned ≡ from_opening
+  new_tuned : IsNew us st → (station_after_tuning (Some 0) OPENING st).tuned ≡ from_opening
   new_tuned new = tuned_anew 0 OPENING st new.tuned new.last
 
-  is_tuned : IsTunedIn us st → (retuned (Some 0) OPENING st).tuned ≡ from_opening
+  is_tuned : IsTunedIn us st → (station_after_tuning (Some 0) OPENING st).tuned ≡ from_opening
   is_tuned (inl new) = new_tuned new
   is_tuned (inr is) = tuned_still 0 OPENING OPENING st is ∙ is
 
-  closes_none : IsTunedIn us st → (v : ℕ) → closed v (Some 0) OPENING st.tuned ≡ None
-  closes_none (inl new) v = ap (λ (o : Option TunedTo). closed v (Some 0) OPENING o) new.tuned
-  closes_none (inr is) v = ap (λ (o : Option TunedTo). closed v (Some 0) OPENING o) is
+  closes_none : IsTunedIn us st → (v : ℕ) → ended_tuning v (Some 0) OPENING st.tuned ≡ None
+  closes_none (inl new) v = ap (λ (o : Option TunedTo). ended_tuning v (Some 0) OPENING o) new.tuned
+  closes_none (inr is) v = ap (λ (o : Option TunedTo). ended_tuning v (Some 0) OPENING o) is
 
 -- what a look finds is one of them
-found_by : (P : Option Station → Type 0) (xs : List Station) (v : ℕ) → P None → ((st : Station) → Contains xs st → P (Some st)) → P (find (is_of v) xs)
+found_by : (P : Option Station → Type 0) (xs : List Station) (v : ℕ) → P None → ((st : Station) → Contains xs st → P (Some st)) → P (find (is_station_of v) xs)
 found_by P [] v none some = none
 found_by P (s ∷ xs) v none some =
-    cond_both (s.node == v) (Some s) (find (is_of v) xs) P (λ _. some s (contains_head s xs))
+    cond_both (s.node == v) (Some s) (find (is_station_of v) xs) P (λ _. some s (contains_head s xs))
     (λ _. found_by P xs v none (λ st there. some st (contains_tail s xs st there)))
 
 -- one node more is tuned in
 module _ (v : ℕ) (us : List ℕ) (m : MediumState) (medium : IsMedium m) (early : m.now ≤ OPENING) (ready : AreTunedIn (v ∷ us) m) where
   tuned_more : AreTunedIn us (tuned_one v m)
-  tuned_more = each_after m medium (retuned (Some 0) OPENING) (retuned_keeps (Some 0) OPENING) v OPENING (IsTunedIn us)
+  tuned_more = each_after m medium (station_after_tuning (Some 0) OPENING) (retuned_keeps (Some 0) OPENING) v OPENING (IsTunedIn us)
       (λ st there node. inr (is_tuned (v ∷ us) st (ready st there)))
       (λ st there other. elim (ready st there) [
         | inl new ↦ elim (contains_cases v us st.node new.node) [
@@ -101,8 +101,8 @@ module _ (v : ℕ) (us : List ℕ) (m : MediumState) (medium : IsMedium m) (earl
         | inr is ↦ inr is
       ])
 
-  no_end : closed v (Some 0) OPENING (tuned_of (station_of m v)) ≡ None
-  no_end = found_by (λ (o : Option Station). closed v (Some 0) OPENING (tuned_of o) ≡ None) m.stations v refl
+  no_end : ended_tuning v (Some 0) OPENING (tuned_of (station_of m v)) ≡ None
+  no_end = found_by (λ (o : Option Station). ended_tuning v (Some 0) OPENING (tuned_of o) ≡ None) m.stations v refl
       (λ st there. closes_none (v ∷ us) st (ready st there) v)
 
   holds_more : (a : Scene) → Holds m a → Holds (tuned_one v m) a
@@ -114,21 +114,21 @@ module _ (v : ℕ) (us : List ℕ) (m : MediumState) (medium : IsMedium m) (earl
 
 -- all nodes are tuned in
 opened_ready : (us : List ℕ) (m : MediumState) → IsMedium m → m.now ≤ OPENING → AreTunedIn us m → (a : Scene) → Holds m a
-    → AreTunedIn [] (opened us m) × Holds (opened us m) a
+    → AreTunedIn [] (medium_at_opening us m) × Holds (medium_at_opening us m) a
 opened_ready [] m medium early ready a h = (ready, h)
 opened_ready (u ∷ us) m medium early ready a h =
     opened_ready us (tuned_one u m) (opened_medium (u ∷ []) m medium) (omega arith) (tuned_more u us m medium early ready) a
     (holds_more u us m medium early ready a h)
 
-opened_numbers : (us : List ℕ) (m : MediumState) → (opened us m).numbers ≡ m.numbers
+opened_numbers : (us : List ℕ) (m : MediumState) → (medium_at_opening us m).numbers ≡ m.numbers
 opened_numbers [] m = refl
 opened_numbers (u ∷ us) m = opened_numbers us (tuned_one u m)
 
-opened_now : (us : List ℕ) (m : MediumState) → m.now ≡ OPENING → (opened us m).now ≡ OPENING
+opened_now : (us : List ℕ) (m : MediumState) → m.now ≡ OPENING → (medium_at_opening us m).now ≡ OPENING
 opened_now [] m is = is
 opened_now (u ∷ us) m is = opened_now us (tuned_one u m) refl
 
-first_now : (us : List ℕ) (m : MediumState) → 1 ≤ length us → (opened us m).now ≡ OPENING
+first_now : (us : List ℕ) (m : MediumState) → 1 ≤ length us → (medium_at_opening us m).now ≡ OPENING
 first_now [] m some = absurd (omega arith)
 first_now (u ∷ us) m some = opened_now us (tuned_one u m) refl
 
@@ -140,7 +140,7 @@ member_with f n begins = record {
   act = if begins then Waits START (first_packet f.start) else Listens;
 }
 
-no_order : InOrder []
+no_order : EventsInOrder []
 no_order i j d less within = absurd (omega arith)
 
 module _ (f : FloodParts) (clocks : ℕ → ℕ → ℕ) (has : HasClocks f clocks) where
@@ -188,7 +188,7 @@ module _ (f : FloodParts) (clocks : ℕ → ℕ → ℕ) (has : HasClocks f cloc
         (λ _. opening.silent st.0 st.1) (λ _. opening.silent st.0 st.1);
     past = [];
     happened = cond_both (f.start == n.node) (Waits START (first_packet f.start)) Listens (λ (a : Act). [] ≡ [] ++ running a) (λ _. refl) (λ _. refl);
-    in_order = cond_both (f.start == n.node) (Waits START (first_packet f.start)) Listens (λ (a : Act). InOrder ([] ++ running a)) (λ _. no_order)
+    in_order = cond_both (f.start == n.node) (Waits START (first_packet f.start)) Listens (λ (a : Act). EventsInOrder ([] ++ running a)) (λ _. no_order)
         (λ _. no_order);
     over = λ e known. absurd (not_in_none e known);
     flood = refl;

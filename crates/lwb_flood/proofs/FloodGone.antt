@@ -8,8 +8,8 @@ use Rattle.scenario_text.specs.FloodParts.{FloodParts}
 use Rattle.radio_model.specs.declared.sending.Sending.{Sending}
 use Rattle.radio_model.specs.declared.station.Station.{Station}
 use Rattle.radio_model.specs.OnAir.{Hearing, Tuning}
-use Rattle.radio_model.specs.Hearing.{Scene, Hears}
-use Rattle.radio_model.specs.Stations.{IsMedium, retuned}
+use Rattle.radio_model.specs.Hearing.{Scene, HearsInScene}
+use Rattle.radio_model.specs.Stations.{IsMedium, station_after_tuning}
 use Rattle.radio_model.specs.Holding.{Agree, as_it_stands}
 use Rattle.lwb_base.proofs.Elements.{in_filter}
 use Rattle.radio_model.proofs.OneStation.{same_nodes, changed_station, other_station}
@@ -17,14 +17,14 @@ use Rattle.radio_model.proofs.Changes.{retuned_keeps}
 use Rattle.radio_model.proofs.Settled.{settled}
 use Rattle.radio_model.proofs.Agreement.{agree_on, agree_earlier}
 use Rattle.radio_model.proofs.NothingBefore.{by_tuning, by_waiting}
-use Rattle.air_log.specs.Entries.{tuning_in, sendings_of, tunings_of, IsHeard}
-use Rattle.air_log.specs.NodeEvents.{Event, InOrder, own_ends}
+use Rattle.air_log.specs.Entries.{tuning_in, sendings_of, tunings_of, HasHeardEntry}
+use Rattle.air_log.specs.NodeEvents.{Event, EventsInOrder, own_ends}
 use Rattle.air_log.specs.FloodLaw.{OPENING, START, CLOSING, first_packet, tuning_by, sending_at}
 use Rattle.lwb_flood.specs.declared.member.Act.{Act}
 use Rattle.lwb_flood.specs.declared.member.Act.TheVariants.{Listens, Waits, Sends, Off}
 use Rattle.lwb_flood.specs.declared.member.Member.{Member}
 use Rattle.lwb_flood.specs.FloodLog.{HasClocks}
-use Rattle.lwb_flood.specs.FloodWorlds.{World, moment_of, with_act, tuned_entry, gone}
+use Rattle.lwb_flood.specs.FloodWorlds.{World, moment_of, member_with_act, flood_tuned_entry, gone}
 use Rattle.lwb_flood.proofs.FloodSoFar.{scene, standing, events_in, running, sending_by, HasCause, IsListening, Stands, IsMember, Runs, IsSettled, IsSent}
 use Rattle.lwb_flood.proofs.FloodSoFar.{WasHeard, IsDue, WasTuned, WaitsToBegin, IsFloodSoFar}
 use Rattle.lwb_flood.proofs.WorldLists.{each_changed, changed_there, nodes_kept, tunings_tuned, events_tuned, pairs_push}
@@ -61,7 +61,7 @@ module _ (f : FloodParts) (clocks : ℕ → ℕ → ℕ) (is : HasClocks f clock
   abbrev sent_back : (y : Sending) → Contains (sendings_of next.air) y → Contains (sendings_of w.air) y
   sent_back = NodeGone.sent_back f clocks is todo leaving w medium so m only there act t later opened none_before due end_is why
 
-  abbrev heard_back : (u : ℕ) (y : Sending) → IsHeard next.air u y → IsHeard w.air u y
+  abbrev heard_back : (u : ℕ) (y : Sending) → HasHeardEntry next.air u y → HasHeardEntry w.air u y
   heard_back = NodeGone.heard_back f clocks is todo leaving w medium so m only there act t later opened none_before due end_is why
 
   -- who sends
@@ -78,7 +78,7 @@ module _ (f : FloodParts) (clocks : ℕ → ℕ → ℕ) (is : HasClocks f clock
       record {
         known = each.known;
         station = each.station;
-        found = other_station w.medium t m.node (retuned None t) (retuned_keeps None t).node n.node not ∙ each.found;
+        found = other_station w.medium t m.node (station_after_tuning None t) (retuned_keeps None t).node n.node not ∙ each.found;
         tuned = each.tuned;
         sends = each.sends;
         past = each.past;
@@ -107,17 +107,17 @@ module _ (f : FloodParts) (clocks : ℕ → ℕ → ℕ) (is : HasClocks f clock
         tuned = tuned_on f clocks is todo leaving w medium so m only there act t later opened none_before due end_is why _ s.tuned;
       }
 
-  itself : IsMember f clocks [] next (with_act Off m)
+  itself : IsMember f clocks [] next (member_with_act Off m)
   itself = record {
     known = old.known;
-    station = retuned None t old.station;
-    found = changed_station w.medium t m.node (retuned None t) (retuned_keeps None t).node
-        ∙ ap (λ (o : Option Station). option_map (retuned None t) o) old.found;
+    station = station_after_tuning None t old.station;
+    found = changed_station w.medium t m.node (station_after_tuning None t) (retuned_keeps None t).node
+        ∙ ap (λ (o : Option Station). option_map (station_after_tuning None t) o) old.found;
     tuned = refl;
     sends = old.sends ∙ ap sending_by act;
     past = old.past;
     happened = events_tuned w.air m.node t m.node ∙ past_is;
-    in_order = subst (λ (a : Act). InOrder (old.past ++ running a)) act old.in_order;
+    in_order = subst (λ (a : Act). EventsInOrder (old.past ++ running a)) act old.in_order;
     over = λ e known. (let by = old.over e known in omega arith);
     flood = old.flood;
     stands = record {
@@ -143,10 +143,10 @@ module _ (f : FloodParts) (clocks : ℕ → ℕ → ℕ) (is : HasClocks f clock
       not_waiting k q same = cc
 
   each_member : (n : Member) → Contains next.members n → IsMember f clocks [] next n
-  each_member = each_changed m.node (with_act Off) w.members (IsMember f clocks [] next)
-      (λ n in_it at. subst (λ (k : Member). IsMember f clocks [] next (with_act Off k)) (sym (one n in_it at)) itself) other
+  each_member = each_changed m.node (member_with_act Off) w.members (IsMember f clocks [] next)
+      (λ n in_it at. subst (λ (k : Member). IsMember f clocks [] next (member_with_act Off k)) (sym (one n in_it at)) itself) other
 
-  each_heard : (u : ℕ) (y : Sending) → IsHeard next.air u y → WasHeard f next u y
+  each_heard : (u : ℕ) (y : Sending) → HasHeardEntry next.air u y → WasHeard f next u y
   each_heard u y known = let h = so.heard u y (heard_back u y known) in record {
     known = h.known;
     sent = sent_on y h.sent;
@@ -178,8 +178,8 @@ module _ (f : FloodParts) (clocks : ℕ → ℕ → ℕ) (is : HasClocks f clock
 
   now_tuned : WasTuned f next span
   now_tuned = record {
-    member = with_act Off m;
-    there = changed_there m.node (with_act Off) w.members m there refl;
+    member = member_with_act Off m;
+    there = changed_there m.node (member_with_act Off) w.members m there refl;
     node = refl;
     off = refl;
     is = ap span_until (sym end_is ∙ ap (λ (es : List Event). get_or (own_ends es) (f.sends - 1) CLOSING) (sym (events_tuned w.air m.node t m.node)));
@@ -202,7 +202,7 @@ module _ (f : FloodParts) (clocks : ℕ → ℕ → ℕ) (is : HasClocks f clock
       off_not same = cc
 
   once_more : AllPairs (λ d e. d ≢ e) next.air
-  once_more = pairs_push (λ d e. d ≢ e) w.air (tuned_entry m.node t) so.once
+  once_more = pairs_push (λ d e. d ≢ e) w.air (flood_tuned_entry m.node t) so.once
       (λ e in_it same. not_before (in_filter tuning_in w.air e span in_it (ap tuning_in same)))
 
   begins_on : Contains (sendings_of next.air) (sending_at f.start START (first_packet f.start)) ⊎ WaitsToBegin f next
@@ -237,7 +237,7 @@ module _ (f : FloodParts) (clocks : ℕ → ℕ → ℕ) (is : HasClocks f clock
     );
   }
     where
-      same : (u : ℕ) → Hears (standing f w) u y ↔ Hears (standing f next) u y
+      same : (u : ℕ) → HearsInScene (standing f w) u y ↔ HearsInScene (standing f next) u y
       same u = settled (standing f w) (standing f next) u y lasts (agree_earlier y.end w.medium.now (standing f w) (standing f next) s.ended agree)
 
   each_sent : (y : Sending) → Contains (sendings_of next.air) y → IsSent f clocks todo next y
@@ -255,8 +255,8 @@ module _ (f : FloodParts) (clocks : ℕ → ℕ → ℕ) (is : HasClocks f clock
 
   pub gone_keeps : IsFloodSoFar f clocks todo [] (gone m.node t w)
   gone_keeps = record {
-    nodes = nodes_kept m.node (with_act Off) (λ n. refl) w.members ∙ so.nodes;
-    stations = same_nodes w.medium t m.node (retuned None t) (retuned_keeps None t).node ∙ so.stations;
+    nodes = nodes_kept m.node (member_with_act Off) (λ n. refl) w.members ∙ so.nodes;
+    stations = same_nodes w.medium t m.node (station_after_tuning None t) (retuned_keeps None t).node ∙ so.stations;
     numbers = so.numbers;
     since = omega arith;
     holds = still_holds f clocks is todo leaving w medium so m only there act t later opened none_before due end_is why;

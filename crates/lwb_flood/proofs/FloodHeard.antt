@@ -8,7 +8,7 @@ use Rattle.radio_model.specs.Hearing.{Scene}
 use Rattle.radio_model.specs.Holding.{Holds}
 use Rattle.air_log.specs.FloodLaw.{CLOSING}
 use Rattle.lwb_flood.specs.FloodLog.{HasClocks}
-use Rattle.lwb_flood.specs.FloodWorlds.{World, hearing_by, heard, heard_by_all}
+use Rattle.lwb_flood.specs.FloodWorlds.{World, hearing_by, world_after_reception, heard_by_all}
 use Rattle.lwb_flood.proofs.FloodHearer.{here}
 use Rattle.lwb_flood.proofs.FloodReplies.{heard_runs_back}
 use Rattle.lwb_flood.proofs.FloodSoFar.{IsMember, Runs, IsFloodSoFar}
@@ -19,9 +19,9 @@ use Rattle.lwb_flood.proofs.WorldLists.{each_changed, nodes_kept}
 module _ (f : FloodParts) (clocks : ℕ → ℕ → ℕ) (is : HasClocks f clocks) (v : ℕ) (x : Sending) (todo : List Hearing) (leaving : List ℕ) (w : World)
     (so : IsFloodSoFar f clocks (record { node = v; sending = x } ∷ todo) leaving w) (early : w.medium.now < CLOSING) (over : Runs w x → ⊥) where
   abbrev next : World
-  next = heard (clocks v) x v w
+  next = world_after_reception (clocks v) x v w
 
-  pub heard_keeps : IsFloodSoFar f clocks todo leaving (heard (clocks v) x v w)
+  pub heard_keeps : IsFloodSoFar f clocks todo leaving (world_after_reception (clocks v) x v w)
   heard_keeps = record {
     nodes = nodes_kept v (hearing_by (clocks v) x) (λ m. refl) w.members ∙ so.nodes;
     stations = so.stations;
@@ -48,7 +48,7 @@ module _ (f : FloodParts) (clocks : ℕ → ℕ → ℕ) (is : HasClocks f clock
       → IsFloodSoFar f clocks (heard_at vs) leaving (heard_by_all clocks x us w)
   heard_by_some [] vs w so early over = so
   heard_by_some (u ∷ us) vs w so early over =
-      heard_by_some us vs (heard (clocks u) x u w) (heard_keeps f clocks is u x (heard_at (us ++ vs)) leaving w so early over) early
+      heard_by_some us vs (world_after_reception (clocks u) x u w) (heard_keeps f clocks is u x (heard_at (us ++ vs)) leaving w so early over) early
       (λ r. over (heard_runs_back (clocks u) x u w x r))
 
   pub heard_by_all_keeps : (vs : List ℕ) (w : World) → IsFloodSoFar f clocks (heard_at vs) leaving w → w.medium.now < CLOSING → (Runs w x → ⊥)

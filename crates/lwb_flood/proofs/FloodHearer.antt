@@ -14,14 +14,14 @@ use Rattle.glossy_relay.specs.declared.flood.Reply.TheVariants.{Relay, Keep, Ign
 use Rattle.scenario_text.specs.FloodParts.{FloodParts}
 use Rattle.radio_model.specs.declared.sending.Sending.{Sending}
 use Rattle.radio_model.specs.OnAir.{Hearing}
-use Rattle.air_log.specs.Entries.{sendings_of, IsHeard}
-use Rattle.air_log.specs.NodeEvents.{Event, Heard, sending_of, InOrder, after_all, Occasion, occasions}
+use Rattle.air_log.specs.Entries.{sendings_of, HasHeardEntry}
+use Rattle.air_log.specs.NodeEvents.{Event, Heard, sending_of_event, EventsInOrder, flood_after_events, EventOccasion, event_occasions}
 use Rattle.air_log.specs.FloodLaw.{CLOSING, first_flood}
 use Rattle.lwb_flood.specs.declared.member.Act.{Act}
 use Rattle.lwb_flood.specs.declared.member.Act.TheVariants.{Listens, Waits}
 use Rattle.lwb_flood.specs.declared.member.Member.{Member}
 use Rattle.lwb_flood.specs.FloodLog.{HasClocks}
-use Rattle.lwb_flood.specs.FloodWorlds.{World, act_by, hearing_by, heard}
+use Rattle.lwb_flood.specs.FloodWorlds.{World, act_by, hearing_by, world_after_reception}
 use Rattle.lwb_flood.proofs.EventOrder.{after_all_append}
 use Rattle.lwb_flood.proofs.EventsInLog.{heard_event}
 use Rattle.lwb_flood.proofs.FloodReplies.{fitting, ignored, left_as, taken_as, relays, keeps}
@@ -39,7 +39,7 @@ module _ (f : FloodParts) (clocks : ℕ → ℕ → ℕ) (is : HasClocks f clock
   hearing = record { node = v; sending = x }
 
   abbrev next : World
-  next = heard (clocks v) x v w
+  next = world_after_reception (clocks v) x v w
 
   abbrev just : IsDue w hearing
   just = HearingLogged.just f clocks is v x todo leaving w so early over
@@ -67,42 +67,42 @@ module _ (f : FloodParts) (clocks : ℕ → ℕ → ℕ) (is : HasClocks f clock
     more_is : events_in next.air m.node ≡ more
     more_is = events_heard_own w.air v x m.node (sym at) ∙ ap (λ (l : List Event). l ++ Heard x ∷ []) past_is
 
-    past_ordered : InOrder old.past
-    past_ordered = subst (λ (l : List Event). InOrder l) (ap (λ (l : List Event). old.past ++ l) (idle m there at) ∙ append-nil old.past) old.in_order
+    past_ordered : EventsInOrder old.past
+    past_ordered = subst (λ (l : List Event). EventsInOrder l) (ap (λ (l : List Event). old.past ++ l) (idle m there at) ∙ append-nil old.past) old.in_order
 
     not_twice : (d : Event) → Contains old.past d → d ≢ Heard x
     not_twice d in_past same =
-        just.new (subst (λ (u : ℕ). IsHeard w.air u x) at
+        just.new (subst (λ (u : ℕ). HasHeardEntry w.air u x) at
         (heard_event w.air m.node x
         (subst (λ (l : List Event). Contains l (Heard x)) (sym past_is) (subst (λ (e : Event). Contains old.past e) same in_past))))
 
-    more_ordered : InOrder more
+    more_ordered : EventsInOrder more
     more_ordered = in_order_push old.past (Heard x) past_ordered
         (λ d in_past. (let by = old.over d in_past in let now : x.end ≡ w.medium.now = just.now in omega arith, not_twice d in_past))
 
-    more_over : (e : Event) → Contains more e → (sending_of e).end ≤ w.medium.now
+    more_over : (e : Event) → Contains more e → (sending_of_event e).end ≤ w.medium.now
     more_over e in_more =
         elim (Contains-push_cases old.past (Heard x) e in_more) [
           | inl earlier ↦ old.over e earlier
-          | inr is ↦ subst (λ (d : Event). (sending_of d).end ≤ w.medium.now) is (let now : x.end ≡ w.medium.now = just.now in omega arith)
+          | inr is ↦ subst (λ (d : Event). (sending_of_event d).end ≤ w.medium.now) is (let now : x.end ≡ w.medium.now = just.now in omega arith)
         ]
 
-    more_kept : (o : Occasion) → Contains (occasions first old.past) o → Contains (occasions first more) o
+    more_kept : (o : EventOccasion) → Contains (event_occasions first old.past) o → Contains (event_occasions first more) o
     more_kept o known = occasion_kept first old.past (Heard x ∷ []) o known
 
-    flood_more : after_heard m.flood x.packet ≡ after_all first more
+    flood_more : after_heard m.flood x.packet ≡ flood_after_events first more
     flood_more = ap (λ (s : FloodState). after_heard s x.packet) old.flood ∙ sym (after_all_append first old.past (Heard x ∷ []))
 
     -- what the flood answered to what was heard now
-    answer_now : (h : Sending) (s : FloodState) → ◌≡◌ {A = Occasion} (record { before = after_all first old.past; event = Heard x })
+    answer_now : (h : Sending) (s : FloodState) → ◌≡◌ {A = EventOccasion} (record { before = flood_after_events first old.past; event = Heard x })
         (record { before = s; event = Heard h }) → (m.flood ≡ s) × (x ≡ h)
-    answer_now h s same = (old.flood ∙ ap (λ (o : Occasion). o.before) same, heard_same x h (ap (λ (o : Occasion). o.event) same))
+    answer_now h s same = (old.flood ∙ ap (λ (o : EventOccasion). o.before) same, heard_same x h (ap (λ (o : EventOccasion). o.event) same))
       where
         heard_same : (y z : Sending) → Heard y ≡ Heard z → y ≡ z
         heard_same y z is = cc
 
     reply_now : (h : Sending) (s : FloodState) (r : Reply)
-        → ◌≡◌ {A = Occasion} (record { before = after_all first old.past; event = Heard x }) (record { before = s; event = Heard h })
+        → ◌≡◌ {A = EventOccasion} (record { before = flood_after_events first old.past; event = Heard x }) (record { before = s; event = Heard h })
         → reply_to s h.packet ≡ r → reply_to m.flood x.packet ≡ r
     reply_now h s r same answer =
         let now = answer_now h s same in ap (λ (t : FloodState). reply_to t x.packet) now.0 ∙ ap (λ (y : Sending). reply_to s y.packet) now.1 ∙ answer
@@ -117,7 +117,7 @@ module _ (f : FloodParts) (clocks : ℕ → ℕ → ℕ) (is : HasClocks f clock
       sends = old.sends;
       past = more;
       happened = more_is ∙ sym (ap (λ (l : List Event). more ++ l) (idle m there at) ∙ append-nil more);
-      in_order = subst (λ (l : List Event). InOrder l) (sym (ap (λ (l : List Event). more ++ l) (idle m there at) ∙ append-nil more)) more_ordered;
+      in_order = subst (λ (l : List Event). EventsInOrder l) (sym (ap (λ (l : List Event). more ++ l) (idle m there at) ∙ append-nil more)) more_ordered;
       over = more_over;
       flood = sym (left_as m.flood x.packet not) ∙ flood_more;
       stands = stands_on f clocks is v x todo leaving w so early over m old.past more more_kept
@@ -165,7 +165,7 @@ module _ (f : FloodParts) (clocks : ℕ → ℕ → ℕ) (is : HasClocks f clock
         sends = old.sends ∙ ap sending_by act ∙ sym none ∙ sym (ap sending_by is_next);
         past = more;
         happened = more_is ∙ sym no_more;
-        in_order = subst (λ (l : List Event). InOrder l) (sym no_more) more_ordered;
+        in_order = subst (λ (l : List Event). EventsInOrder l) (sym no_more) more_ordered;
         over = more_over;
         flood = flood_more;
         stands = subst (λ (a : Act). Stands f clocks next leaving more after_it a) (sym is_next) stands;
@@ -238,10 +238,10 @@ module _ (f : FloodParts) (clocks : ℕ → ℕ → ℕ) (is : HasClocks f clock
         heard = x;
         flood = m.flood;
         occasion =
-            subst (λ (l : List Occasion). Contains l (record { before = m.flood; event = Heard x })) (sym (occasion_more first old.past (Heard x)))
-            (subst (λ (s : FloodState). Contains (occasions first old.past ++ record { before = after_all first old.past; event = Heard x } ∷ [])
+            subst (λ (l : List EventOccasion). Contains l (record { before = m.flood; event = Heard x })) (sym (occasion_more first old.past (Heard x)))
+            (subst (λ (s : FloodState). Contains (event_occasions first old.past ++ record { before = flood_after_events first old.past; event = Heard x } ∷ [])
             (record { before = s; event = Heard x })) (sym old.flood)
-            (Contains-push (occasions first old.past) (record { before = after_all first old.past; event = Heard x })));
+            (Contains-push (event_occasions first old.past) (record { before = flood_after_events first old.past; event = Heard x })));
         answer = relays m.flood x.packet fit less;
         start = refl;
         later = (let raised : counter_of packet ≡ step_now.step + 1 = ap counter_of packet_is in omega (arith, raised));

@@ -14,7 +14,8 @@ use Rattle.std.proofs.lemmas.Option.{slice_get_within, get_or_from_slice_get}
 use Rattle.lwb_base.proofs.Elements.{contains_cases, contains_head, contains_tail, not_in_none, map_contains, pairs_head, pairs_tail, Distinct}
 use Rattle.lwb_flood.specs.declared.member.Act.{Act}
 use Rattle.lwb_flood.specs.declared.member.Member.{Member}
-use Rattle.lwb_flood.specs.FloodWorlds.{World, IsShape, node_of, with_change, hearing_by, act_by, heard, heard_by_all, readings_at, is_last}
+use Rattle.lwb_flood.specs.FloodWorlds.{World, IsShape, node_of_member, with_change, hearing_by, act_by, world_after_reception, heard_by_all, readings_of_node}
+use Rattle.lwb_flood.specs.FloodWorlds.{is_last}
 use Rattle.lwb_flood.proofs.MemberPlaces.{Ascend, set_is_change}
 use Rattle.lwb_flood.proofs.WorldLists.{nodes_kept}
 
@@ -31,33 +32,33 @@ or_false : (b : Bool) → (b || false) ≡ b
 or_false true = refl
 or_false false = refl
 
-none_last : (v : ℕ) (ms : List Member) → (Contains (map node_of ms) v → ⊥) → is_last v ms ≡ false
+none_last : (v : ℕ) (ms : List Member) → (Contains (map node_of_member ms) v → ⊥) → is_last v ms ≡ false
 none_last v [] none = refl
 none_last v (m ∷ ms) none =
     ap (λ (b : Bool). (b && (m.flood.sent + 1 == m.flood.limit)) || is_last v ms)
-    (ne_eqb m.node v (λ is. none (subst (Contains (map node_of (m ∷ ms))) is (contains_head m.node (map node_of ms)))))
-    ∙ none_last v ms (λ there. none (contains_tail m.node (map node_of ms) v there))
+    (ne_eqb m.node v (λ is. none (subst (Contains (map node_of_member (m ∷ ms))) is (contains_head m.node (map node_of_member ms)))))
+    ∙ none_last v ms (λ there. none (contains_tail m.node (map node_of_member ms) v there))
 
-pub last_is : (v : ℕ) (ms : List Member) (m : Member) → Distinct (map node_of ms) → Contains ms m → m.node ≡ v
+pub last_is : (v : ℕ) (ms : List Member) (m : Member) → Distinct (map node_of_member ms) → Contains ms m → m.node ≡ v
     → is_last v ms ≡ (m.flood.sent + 1 == m.flood.limit)
 last_is v [] m distinct there is = absurd (not_in_none m there)
 last_is v (n ∷ ms) m distinct there is =
     elim (contains_cases n ms m there) [
       | inl here ↦
-          let node : n.node ≡ v = ap node_of here ∙ is in
+          let node : n.node ≡ v = ap node_of_member here ∙ is in
           ap (λ (b : Bool). (b && (n.flood.sent + 1 == n.flood.limit)) || is_last v ms) (eq-eqb n.node v node)
           ∙ ap (λ (b : Bool). (n.flood.sent + 1 == n.flood.limit) || b)
-          (none_last v ms (λ later. distinct.0 (subst (Contains (map node_of ms)) (sym node) later)))
+          (none_last v ms (λ later. distinct.0 (subst (Contains (map node_of_member ms)) (sym node) later)))
           ∙ or_false (n.flood.sent + 1 == n.flood.limit)
           ∙ ap (λ (k : Member). k.flood.sent + 1 == k.flood.limit) here
       | inr later ↦
-          let other : n.node ≢ v = λ same. distinct.0 (subst (Contains (map node_of ms)) (is ∙ sym same) (map_contains node_of ms m later)) in
+          let other : n.node ≢ v = λ same. distinct.0 (subst (Contains (map node_of_member ms)) (is ∙ sym same) (map_contains node_of_member ms m later)) in
           ap (λ (b : Bool). (b && (n.flood.sent + 1 == n.flood.limit)) || is_last v ms) (ne_eqb n.node v other) ∙ last_is v ms m distinct.1 later is
     ]
 
 pub last_at : (v : ℕ) (ms : List Member) (i : ℕ) (m : Member) → Ascend ms → i < length ms → m ≡ get_or ms i m
     → ((d : Member) → (get_or ms i d).node ≡ v) → is_last v ms ≡ (m.flood.sent + 1 == m.flood.limit)
-last_at v ms i m ascend below at node = last_is v ms m (ascend_distinct (map node_of ms) ascend) (i, below, sym at) (ap node_of at ∙ node m)
+last_at v ms i m ascend below at node = last_is v ms m (ascend_distinct (map node_of_member ms) ascend) (i, below, sym at) (ap node_of_member at ∙ node m)
 
 -- what the code makes of a node that hears
 hearing_is : (clock : ℕ → ℕ) (x : Sending) (m : Member) (flood : FloodState) (reply : Reply) (act : Act) → flood ≡ after_heard m.flood x.packet
@@ -75,85 +76,88 @@ pub heard_at : (clock : ℕ → ℕ) (x : Sending) (ms : List Member) (i : ℕ) 
     (hearing_by clock x) ms
 heard_at clock x ms i m flood reply act ascend below at flood_is reply_is act_is d =
     set_is_change (hearing_by clock x) ms ascend (get_or ms i d).node i m (record { node = m.node; flood = flood; act = act }) below at
-    (λ e. ap node_of (get_or_default ms i e d below)) (hearing_is clock x m flood reply act flood_is reply_is act_is)
+    (λ e. ap node_of_member (get_or_default ms i e d below)) (hearing_is clock x m flood reply act flood_is reply_is act_is)
 
 -- one more hears
 pub heard_push : (clocks : ℕ → ℕ → ℕ) (x : Sending) (vs : List ℕ) (v : ℕ) (w : World)
-    → heard_by_all clocks x (vs ++ v ∷ []) w ≡ heard (clocks v) x v (heard_by_all clocks x vs w)
+    → heard_by_all clocks x (vs ++ v ∷ []) w ≡ world_after_reception (clocks v) x v (heard_by_all clocks x vs w)
 heard_push clocks x [] v w = refl
-heard_push clocks x (u ∷ vs) v w = heard_push clocks x vs v (heard (clocks u) x u w)
+heard_push clocks x (u ∷ vs) v w = heard_push clocks x vs v (world_after_reception (clocks u) x u w)
 
 pub heard_medium : (clocks : ℕ → ℕ → ℕ) (x : Sending) (vs : List ℕ) (w : World) → (heard_by_all clocks x vs w).medium ≡ w.medium
 heard_medium clocks x [] w = refl
-heard_medium clocks x (v ∷ vs) w = heard_medium clocks x vs (heard (clocks v) x v w)
+heard_medium clocks x (v ∷ vs) w = heard_medium clocks x vs (world_after_reception (clocks v) x v w)
 
-pub heard_nodes : (clocks : ℕ → ℕ → ℕ) (x : Sending) (vs : List ℕ) (w : World) → map node_of (heard_by_all clocks x vs w).members ≡ map node_of w.members
+pub heard_nodes : (clocks : ℕ → ℕ → ℕ) (x : Sending) (vs : List ℕ) (w : World)
+    → map node_of_member (heard_by_all clocks x vs w).members ≡ map node_of_member w.members
 heard_nodes clocks x [] w = refl
-heard_nodes clocks x (v ∷ vs) w = heard_nodes clocks x vs (heard (clocks v) x v w) ∙ nodes_kept v (hearing_by (clocks v) x) (λ m. refl) w.members
+heard_nodes clocks x (v ∷ vs) w =
+    heard_nodes clocks x vs (world_after_reception (clocks v) x v w) ∙ nodes_kept v (hearing_by (clocks v) x) (λ m. refl) w.members
 
 -- the clock at a place
 pub readings_there : {C : Type 0} (R : C → ℕ → ℕ) (cs : List C) (us : List ℕ) (i v : ℕ) (c : C) → length cs ≡ length us → Distinct us → i < length us
-    → c ≡ get_or cs i c → ((d : ℕ) → get_or us i d ≡ v) → R c ≡ readings_at R cs us v
+    → c ≡ get_or cs i c → ((d : ℕ) → get_or us i d ≡ v) → R c ≡ readings_of_node R cs us v
 readings_there R cs [] i v c long distinct below at is = absurd (omega arith)
 readings_there R [] (u ∷ us) i v c long distinct below at is = absurd (omega arith)
 readings_there {C} R (d ∷ cs) (u ∷ us) zero v c long distinct below at is =
-    ap R at ∙ sym (cond-true (u == v) (R d) (readings_at R cs us v) (eq-eqb u v (is 0)))
+    ap R at ∙ sym (cond-true (u == v) (R d) (readings_of_node R cs us v) (eq-eqb u v (is 0)))
 readings_there {C} R (d ∷ cs) (u ∷ us) (suc i) v c long distinct below at is =
     readings_there R cs us i v c (omega arith) distinct.1 (omega arith) at is
-    ∙ sym (cond-false (u == v) (R d) (readings_at R cs us v) (ne_eqb u v (λ same. distinct.0 (i, omega arith, is u ∙ sym same))))
+    ∙ sym (cond-false (u == v) (R d) (readings_of_node R cs us v) (ne_eqb u v (λ same. distinct.0 (i, omega arith, is u ∙ sym same))))
 
 -- in the loop over those who hear
 module _ (clocks : ℕ → ℕ → ℕ) (x : Sending) (vs : List ℕ) (first now inside : World) (ms : List Member) (so : now ≡ heard_by_all clocks x vs first)
     (view : inside ≡ now) (slice : ms ≡ inside.members) where
-  pub loop_nodes : map node_of ms ≡ map node_of first.members
-  loop_nodes = ap (map node_of) slice ∙ ap (λ (w : World). map node_of w.members) (view ∙ so) ∙ heard_nodes clocks x vs first
+  pub loop_nodes : map node_of_member ms ≡ map node_of_member first.members
+  loop_nodes = ap (map node_of_member) slice ∙ ap (λ (w : World). map node_of_member w.members) (view ∙ so) ∙ heard_nodes clocks x vs first
 
   pub loop_long : length ms ≡ length first.members
-  loop_long = sym (length-map ms node_of) ∙ ap length loop_nodes ∙ length-map first.members node_of
+  loop_long = sym (length-map ms node_of_member) ∙ ap length loop_nodes ∙ length-map first.members node_of_member
 
-  module _ (nodes : map node_of inside.members ≡ nodes_of inside.medium) (ps : List (ℕ × ℕ))
+  module _ (nodes : map node_of_member inside.members ≡ nodes_of inside.medium) (ps : List (ℕ × ℕ))
       (known : All (λ p. Contains (nodes_of first.medium) p.0) ps) (i : ℕ) (p : ℕ × ℕ) (at : slice_get ps i ≡ Some p) where
-    pub hearer_there : Contains (map node_of ms) p.0
+    pub hearer_there : Contains (map node_of_member ms) p.0
     hearer_there =
         let within : i < length ps = slice_get_within ps i p at in
         let there : Contains (nodes_of first.medium) p.0 =
         subst (λ (q : ℕ × ℕ). Contains (nodes_of first.medium) q.0) (get_or_from_slice_get ps i p p at) (known i p within) in
-        let same : nodes_of first.medium ≡ map node_of ms = ap nodes_of (sym (heard_medium clocks x vs first))
-        ∙ ap (λ (w : World). nodes_of w.medium) (sym (view ∙ so)) ∙ sym nodes ∙ ap (map node_of) (sym slice) in
+        let same : nodes_of first.medium ≡ map node_of_member ms = ap nodes_of (sym (heard_medium clocks x vs first))
+        ∙ ap (λ (w : World). nodes_of w.medium) (sym (view ∙ so)) ∙ sym nodes ∙ ap (map node_of_member) (sym slice) in
         subst (λ (l : List ℕ). Contains l p.0) same there
 
-    pub first_more : (clock : ℕ → ℕ) (new : World) → clock ≡ clocks p.0 → new ≡ heard clock x p.0 now → vs ≡ map (λ q. q.0) (take i ps)
+    pub first_more : (clock : ℕ → ℕ) (new : World) → clock ≡ clocks p.0 → new ≡ world_after_reception clock x p.0 now → vs ≡ map (λ q. q.0) (take i ps)
         → new ≡ heard_by_all clocks x (map (λ q. q.0) (take (i + 1) ps)) first
     first_more clock new clock_is new_is vs_is =
         let within : i < length ps = slice_get_within ps i p at in
         let more : map (λ (q : ℕ × ℕ). q.0) (take (i + 1) ps) ≡ vs ++ p.0 ∷ [] = map_more (λ (q : ℕ × ℕ). q.0) ps i p within
         ∙ ap (λ (q : ℕ × ℕ). map (λ (r : ℕ × ℕ). r.0) (take i ps) ++ q.0 ∷ []) (get_or_from_slice_get ps i p p at)
         ∙ ap (λ (l : List ℕ). l ++ p.0 ∷ []) (sym vs_is) in
-        new_is ∙ ap (λ (k : ℕ → ℕ). heard k x p.0 now) clock_is ∙ ap (heard (clocks p.0) x p.0) so ∙ sym (heard_push clocks x vs p.0 first)
+        new_is ∙ ap (λ (k : ℕ → ℕ). world_after_reception k x p.0 now) clock_is ∙ ap (world_after_reception (clocks p.0) x p.0) so
+            ∙ sym (heard_push clocks x vs p.0 first)
         ∙ ap (λ (l : List ℕ). heard_by_all clocks x l first) (sym more)
 
-node_there : (ms : List Member) (i v : ℕ) → i < length ms → ((d : Member) → (get_or ms i d).node ≡ v) → (d : ℕ) → get_or (map node_of ms) i d ≡ v
+node_there : (ms : List Member) (i v : ℕ) → i < length ms → ((d : Member) → (get_or ms i d).node ≡ v) → (d : ℕ) → get_or (map node_of_member ms) i d ≡ v
 node_there [] i v below there d = absurd (omega arith)
 node_there (m ∷ ms) zero v below there d = there m
 node_there (m ∷ ms) (suc i) v below there d = node_there ms i v (omega arith) there d
 
 module _ {C : Type 0} (R : C → ℕ → ℕ) (cs : List C) (x : Sending) (vs : List ℕ) (first now inside : World) (ms : List Member)
-    (so : now ≡ heard_by_all (readings_at R cs (map node_of first.members)) x vs first) (view : inside ≡ now) (slice : ms ≡ inside.members)
+    (so : now ≡ heard_by_all (readings_of_node R cs (map node_of_member first.members)) x vs first) (view : inside ≡ now) (slice : ms ≡ inside.members)
     (shape : IsShape inside) (long : length cs ≡ length first.members)
     (place v : ℕ) (below : place < length ms) (there : (d : Member) → (get_or ms place d).node ≡ v) where
   abbrev clocks : ℕ → ℕ → ℕ
-  clocks = readings_at R cs (map node_of first.members)
+  clocks = readings_of_node R cs (map node_of_member first.members)
 
   pub place_below : place < length cs
   place_below = omega (arith, loop_long clocks x vs first now inside ms so view slice)
 
   pub clock_there : (c : C) → c ≡ get_or cs place c → R c ≡ clocks v
   clock_there c at =
-      let same : map node_of ms ≡ map node_of first.members = loop_nodes clocks x vs first now inside ms so view slice in
-      let apart : Distinct (map node_of first.members) =
-      subst Distinct (sym shape.nodes ∙ ap (map node_of) (sym slice) ∙ same) (ascend_distinct (nodes_of inside.medium) shape.medium.nodes.ascending) in
-      readings_there R cs (map node_of first.members) place v c (long ∙ sym (length-map first.members node_of)) apart
-      (omega (arith, loop_long clocks x vs first now inside ms so view slice, length-map first.members node_of)) at
+      let same : map node_of_member ms ≡ map node_of_member first.members = loop_nodes clocks x vs first now inside ms so view slice in
+      let apart : Distinct (map node_of_member first.members) =
+      subst Distinct (sym shape.nodes ∙ ap (map node_of_member) (sym slice) ∙ same) (ascend_distinct (nodes_of inside.medium) shape.medium.nodes.ascending) in
+      readings_there R cs (map node_of_member first.members) place v c (long ∙ sym (length-map first.members node_of_member)) apart
+      (omega (arith, loop_long clocks x vs first now inside ms so view slice, length-map first.members node_of_member)) at
       (λ d. subst (λ (l : List ℕ). get_or l place d ≡ v) same (node_there ms place v below there d))
 
   pub node_now : (d : Member) → (get_or now.members place d).node ≡ v

@@ -18,11 +18,12 @@ use Rattle.radio_model.specs.declared.sending.Sending.{Sending}
 use Rattle.radio_model.specs.OnAir.{Tuning}
 use Rattle.air_log.specs.Entries.{sendings_of, tunings_of}
 use Rattle.air_log.specs.HearsAir.{scene_of}
-use Rattle.radio_model.specs.Hearing.{Scene, frame_of, TunedThrough}
-use Rattle.air_log.specs.NodeEvents.{Heard, occasions}
+use Rattle.radio_model.specs.Hearing.{Scene, frame_of_sending, TunedThrough}
+use Rattle.air_log.specs.NodeEvents.{Heard, event_occasions}
 use Rattle.air_log.specs.FloodLaw.{FloodLaw, IsRelay, OPENING, START, CLOSING, first_packet, first_flood, tuning_by, sending_at as lasting_at}
-use Rattle.lwb_flood.specs.FloodRun.{Run, FloodRun, HasTimes, initiates, takes_part, counter, sending_at, begins, Relayed, TurnsAround}
-use Rattle.lwb_flood.specs.Windows.{IsWindow}
+use Rattle.lwb_flood.specs.FloodRun.{Run, FloodRun, RunHasTimes, initiates, IsParticipant, counter, sending_of_run, flood_at_beginning, RelayedInRun}
+use Rattle.lwb_flood.specs.FloodRun.{TurnsAround}
+use Rattle.lwb_flood.specs.Windows.{IsListeningWindow}
 use Rattle.lwb_flood.specs.FloodLog.{HasClocks, run_of}
 use Rattle.lwb_flood.specs.RunOnAir.{IsPart}
 use Rattle.lwb_flood.proofs.RuleInRun.{rule_in_run}
@@ -53,13 +54,13 @@ module _ (f : FloodParts) (clocks : ℕ → ℕ → ℕ) (air : List Entry) (is 
   abbrev scene : Scene
   scene = scene_of one f.trace air
 
-  begins_is : (v : ℕ) → begins r v ≡ first_flood f v
+  begins_is : (v : ℕ) → flood_at_beginning r v ≡ first_flood f v
   begins_is v = begins_by (f.start == v) f.start f.sends
 
-  known : (v : ℕ) → takes_part r v → knows f.nodes v ≡ true
+  known : (v : ℕ) → IsParticipant r v → knows f.nodes v ≡ true
   known v here = sym (ids_known f.nodes v) ∙ here
 
-  pub here_of : (v : ℕ) → knows f.nodes v ≡ true → takes_part r v
+  pub here_of : (v : ℕ) → knows f.nodes v ≡ true → IsParticipant r v
   here_of v there = ids_known f.nodes v ∙ there
 
   pub starter : (o : ℕ) → initiates r o → f.start ≡ o
@@ -72,48 +73,49 @@ module _ (f : FloodParts) (clocks : ℕ → ℕ → ℕ) (air : List Entry) (is 
   starts_data = let range = is.start in rw (le-leb 1 f.start range.0, le-leb f.start 200 range.1) refl
 
   -- what is relayed
-  to_relay : (v start : ℕ) (p : List ℕ) → Relayed r v (sending_at r v start p) → IsRelay f (clocks v) (law.events v) (sending_at r v start p)
+  to_relay : (v start : ℕ) (p : List ℕ) → RelayedInRun r v (sending_of_run r v start p) → IsRelay f (clocks v) (law.events v) (sending_of_run r v start p)
   to_relay v start p z = record {
     heard = z.heard;
     flood = z.flood;
-    occasion = subst (λ (w : FloodState). Contains (occasions w (law.events v)) (record { before = z.flood; event = Heard z.heard })) (begins_is v) z.occasion;
+    occasion =
+        subst (λ (w : FloodState). Contains (event_occasions w (law.events v)) (record { before = z.flood; event = Heard z.heard })) (begins_is v) z.occasion;
     answer = z.answer;
     start = z.start;
   }
 
-  from_relay : (x : Sending) → IsRelay f (clocks x.node) (law.events x.node) x → Relayed r x.node x
+  from_relay : (x : Sending) → IsRelay f (clocks x.node) (law.events x.node) x → RelayedInRun r x.node x
   from_relay x z = record {
     heard = z.heard;
     flood = z.flood;
-    occasion = subst (λ (w : FloodState). Contains (occasions w (law.events x.node)) (record { before = z.flood; event = Heard z.heard }))
+    occasion = subst (λ (w : FloodState). Contains (event_occasions w (law.events x.node)) (record { before = z.flood; event = Heard z.heard }))
         (sym (begins_is x.node)) z.occasion;
     answer = z.answer;
     start = z.start;
   }
 
-  relay_sent : (v start : ℕ) (p : List ℕ) → takes_part r v → Relayed r v (sending_at r v start p) → Contains r.sendings (sending_at r v start p)
+  relay_sent : (v start : ℕ) (p : List ℕ) → IsParticipant r v → RelayedInRun r v (sending_of_run r v start p) → Contains r.sendings (sending_of_run r v start p)
   relay_sent v start p here z =
       let there = known v here in
       let parts = relayed_parts z.flood z.heard.packet p z.answer in
-      let event : Contains (law.events v) (Heard z.heard) = occasion_event (begins r v) (law.events v) (record {
+      let event : Contains (law.events v) (Heard z.heard) = occasion_event (flood_at_beginning r v) (law.events v) (record {
         before = z.flood;
         event = Heard z.heard;
       }) z.occasion in
       let size : length p ≡ 8 = ap (λ (q : List ℕ). length q) parts.2 ∙ length-set z.heard.packet 2 (counter_of z.heard.packet + 1)
       ∙ eight f clocks air law z.heard (event_was_sent f clocks air law v z.heard there event) in
       let end : start + 32768 ≡ start + airtime one (length p) = omega (arith, size) in
-      law.relayed (sending_at r v start p) there
+      law.relayed (sending_of_run r v start p) there
       (ap (λ (e : ℕ). record { rank = 0; node = v; start = start; end = e; packet = p }) end)
       (to_relay v start p z)
 
   turns : TurnsAround r
   turns v x here there time = let until = time.until in turn (clocks v) 12288 x.end (is.drift v (known v here)) (omega arith) (omega arith) (omega arith)
 
-  pub log_times : HasTimes r
+  pub log_times : RunHasTimes r
   log_times = record {
     room = record { room_to_turn = omega arith; room_to_overlap = omega arith; displacement = omega arith };
     initiators = record {
-      there = λ o begun. subst (λ (v : ℕ). takes_part r v) (starter o begun) (here_of f.start is.sound.start_known);
+      there = λ o begun. subst (λ (v : ℕ). IsParticipant r v) (starter o begun) (here_of f.start is.sound.start_known);
       counter_zero = λ o begun. refl;
       spelled = λ o k begun few. data_again (first_packet f.start) k starts_data few;
       slot = λ o begun. refl;
@@ -122,7 +124,7 @@ module _ (f : FloodParts) (clocks : ℕ → ℕ → ℕ) (air : List Entry) (is 
     };
     sent = record {
       lasts = λ x sent. lasting f clocks air law x sent;
-      begun = λ o begun. subst (λ (v : ℕ). Contains r.sendings (sending_at r v START (first_packet f.start))) (starter o begun)
+      begun = λ o begun. subst (λ (v : ℕ). Contains r.sendings (sending_of_run r v START (first_packet f.start))) (starter o begun)
           ((law.begun (lasting_at f.start START (first_packet f.start))).1 refl).0;
       beginnings = λ x sent at. (let same = (law.begun x).0 (sent, at) in (
         subst (λ (v : ℕ). initiates r v) (sym (ap (λ (y : Sending). y.node) same)) start_begins,
@@ -142,7 +144,7 @@ module _ (f : FloodParts) (clocks : ℕ → ℕ → ℕ) (air : List Entry) (is 
   }
 
   -- all sendings are of frame 5 and slot 1
-  pub frame_is : (x : Sending) → Contains (sendings_of air) x → frame_of one x ≡ 5
+  pub frame_is : (x : Sending) → Contains (sendings_of air) x → frame_of_sending one x ≡ 5
   frame_is x sent =
       let t = timed r log_times x sent in
       let few = t.few in
@@ -154,12 +156,12 @@ module _ (f : FloodParts) (clocks : ℕ → ℕ → ℕ) (air : List Entry) (is 
 
   -- so a link passes at the key of a sending where it does in the step of its counter
   arrives_at : (v : ℕ) (x : Sending) → Contains (sendings_of air) x
-      → passes f.trace (frame_of one x) (slot_of x.packet) (counter x) x.node v ≡ r.setting.passes (counter x) x.node v
+      → passes f.trace (frame_of_sending one x) (slot_of x.packet) (counter x) x.node v ≡ r.setting.passes (counter x) x.node v
   arrives_at v x sent = ap (λ (i : ℕ). passes f.trace i (slot_of x.packet) (counter x) x.node v) (frame_is x sent)
       ∙ ap (λ (i : ℕ). passes f.trace 5 i (counter x) x.node v) (slot_is x sent)
 
   captured_at : (v : ℕ) (x : Sending) → Contains (sendings_of air) x
-      → captured f.trace (frame_of one x) (slot_of x.packet) (counter x) v ≡ r.setting.captured (counter x) v
+      → captured f.trace (frame_of_sending one x) (slot_of x.packet) (counter x) v ≡ r.setting.captured (counter x) v
   captured_at v x sent = ap (λ (i : ℕ). captured f.trace i (slot_of x.packet) (counter x) v) (frame_is x sent)
       ∙ ap (λ (i : ℕ). captured f.trace 5 i (counter x) v) (slot_is x sent)
 
@@ -179,7 +181,7 @@ module _ (f : FloodParts) (clocks : ℕ → ℕ → ℕ) (air : List Entry) (is 
   off_is : (v : ℕ) (t : Tuning) → Contains (tunings_of air) t → t.node ≡ v → t.end ≡ (tuning_by f.sends v (law.events v)).end
   off_is v t there node = ap (λ (i : Tuning). i.end) ((law.tuned t).0 there).1 ∙ ap (λ (w : ℕ). (tuning_by f.sends w (law.events w)).end) node
 
-  window : (v : ℕ) → takes_part r v → IsWindow r Tuned v OPENING CLOSING
+  window : (v : ℕ) → IsParticipant r v → IsListeningWindow r Tuned v OPENING CLOSING
   window v here = record {
     some = is.sound.some_sends;
     since = λ x time. (let since = time.since in omega arith);

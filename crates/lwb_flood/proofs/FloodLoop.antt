@@ -18,8 +18,9 @@ use Rattle.lwb_flood.specs.declared.member.Act.{Act}
 use Rattle.lwb_flood.specs.declared.member.Act.TheVariants.{Listens, Waits, Sends, Off}
 use Rattle.lwb_flood.specs.declared.member.Member.{Member}
 use Rattle.lwb_flood.specs.FloodLog.{HasClocks}
-use Rattle.lwb_flood.specs.FloodWorlds.{World, IsShape, node_of, first_world, moment_of, NotAfter, IsNext, begun, own_ended, gone, ended, heard, heard_by_all}
-use Rattle.lwb_flood.specs.FloodWorlds.{is_last, after_own, CanStep, Stepped, Ended as EndedTo, IsHeardBy}
+use Rattle.lwb_flood.specs.FloodWorlds.{World, IsShape, node_of_member, first_world, moment_of, NotAfter, ActsNext, world_after_start, own_ended, gone}
+use Rattle.lwb_flood.specs.FloodWorlds.{world_after_end, world_after_reception, heard_by_all, is_last, after_own, CanStep, WorldSteps, Ended as EndedTo}
+use Rattle.lwb_flood.specs.FloodWorlds.{IsHeardBy}
 use Rattle.lwb_flood.proofs.FloodBegun.{begun_keeps}
 use Rattle.lwb_flood.proofs.FloodClosing.{IsClosing, starts_early, ends_early, kept_limit}
 use Rattle.lwb_flood.proofs.FloodEnded.{own_ended_keeps}
@@ -63,7 +64,7 @@ module _ (f : FloodParts) (clocks : ℕ → ℕ → ℕ) (has : HasClocks f cloc
         (at_first one (ids f.nodes))).early in omega arith);
   }
 
-  module _ (w : World) (is : IsRunning f clocks w) (m : Member) (there : Contains w.members m) (next : IsNext w.members m) where
+  module _ (w : World) (is : IsRunning f clocks w) (m : Member) (there : Contains w.members m) (next : ActsNext w.members m) where
     medium : Rattle.radio_model.specs.Stations.IsMedium w.medium
     medium = is.shape.medium
 
@@ -98,10 +99,10 @@ module _ (f : FloodParts) (clocks : ℕ → ℕ → ℕ) (has : HasClocks f cloc
       can_start : CanStep f.trace w m (Waits t packet)
       can_start = begun_time f clocks has w medium is.so m there t packet act next
 
-      started_on : (new : World) → new ≡ begun (sending_at m.node t packet) w → IsRunning f clocks new × (remaining new < remaining w)
+      started_on : (new : World) → new ≡ world_after_start (sending_at m.node t packet) w → IsRunning f clocks new × (remaining new < remaining w)
       started_on new same =
           let x : Sending = sending_at m.node t packet in
-          let on : IsRunning f clocks (begun x w) = record {
+          let on : IsRunning f clocks (world_after_start x w) = record {
             so = begun_keeps f clocks has w medium is.so m there t packet act next;
             shape = begun_shape w is.shape x;
             early = (let early = starts_early f t packet waits.step in omega arith);
@@ -188,7 +189,7 @@ module _ (f : FloodParts) (clocks : ℕ → ℕ → ℕ) (has : HasClocks f cloc
             let lasts = old_lasts f clocks has [] [] w medium is.so x sends.sent in omega (arith, start, lasts)) late (λ h in_it. refl) at_end
             (inl last_one))
           where
-            ascend_distinct_nodes : Distinct (map node_of w.members)
+            ascend_distinct_nodes : Distinct (map node_of_member w.members)
             ascend_distinct_nodes = subst Distinct (sym is.shape.nodes) (ascend_distinct (nodes_of w.medium) medium.nodes.ascending)
 
             only : (u : ℕ) → Contains (if is_last x.node w.members then x.node ∷ [] else []) u → u ≡ m.node
@@ -199,11 +200,13 @@ module _ (f : FloodParts) (clocks : ℕ → ℕ → ℕ) (has : HasClocks f cloc
                 ])
                 (λ _ in_it. absurd (Rattle.lwb_base.proofs.Elements.not_in_none u in_it))
 
-        left_off : IsFloodSoFar f clocks (map (heard_at x) vs) [] (ended x w) × IsShape (ended x w) × ((ended x w).medium.now < CLOSING)
+        left_off : IsFloodSoFar f clocks (map (heard_at x) vs) [] (world_after_end x w) × IsShape (world_after_end x w)
+            × ((world_after_end x w).medium.now < CLOSING)
         left_off = by_last (is_last x.node w.members) refl
           where
             by_last : (b : Bool) → is_last x.node w.members ≡ b
-                → IsFloodSoFar f clocks (map (heard_at x) vs) [] (ended x w) × IsShape (ended x w) × ((ended x w).medium.now < CLOSING)
+                → IsFloodSoFar f clocks (map (heard_at x) vs) [] (world_after_end x w) × IsShape (world_after_end x w)
+                    × ((world_after_end x w).medium.now < CLOSING)
             by_last true last =
                 subst (λ (n : World). IsFloodSoFar f clocks (map (heard_at x) vs) [] n × IsShape n × (n.medium.now < CLOSING))
                 (sym (cond-true (is_last x.node w.members) (gone x.node x.end (own_ended x w)) (own_ended x w) last))
@@ -217,24 +220,26 @@ module _ (f : FloodParts) (clocks : ℕ → ℕ → ℕ) (has : HasClocks f cloc
                   early_end,
                 )
 
-        ended_so : IsFloodSoFar f clocks [] [] (heard_by_all clocks x vs (ended x w))
-        ended_so = heard_by_all_keeps f clocks has x [] vs (ended x w) left_off.0 left_off.2 (ended_over f clocks [] [] w is.so x)
+        ended_so : IsFloodSoFar f clocks [] [] (heard_by_all clocks x vs (world_after_end x w))
+        ended_so = heard_by_all_keeps f clocks has x [] vs (world_after_end x w) left_off.0 left_off.2 (ended_over f clocks [] [] w is.so x)
 
         heard_now : (us : List ℕ) (z : World) → IsShape z → z.medium.now < CLOSING
             → IsShape (heard_by_all clocks x us z) × ((heard_by_all clocks x us z).medium.now < CLOSING)
         heard_now [] z shape early = (shape, early)
-        heard_now (v ∷ us) z shape early = heard_now us (heard (clocks v) x v z) (heard_shape z shape (clocks v) x v) early
+        heard_now (v ∷ us) z shape early = heard_now us (world_after_reception (clocks v) x v z) (heard_shape z shape (clocks v) x v) early
 
-        ended_running : IsRunning f clocks (heard_by_all clocks x vs (ended x w))
-        ended_running = (let on = heard_now vs (ended x w) left_off.1 left_off.2 in record { so = ended_so; shape = on.0; early = on.1 })
+        ended_running : IsRunning f clocks (heard_by_all clocks x vs (world_after_end x w))
+        ended_running = (let on = heard_now vs (world_after_end x w) left_off.1 left_off.2 in record { so = ended_so; shape = on.0; early = on.1 })
 
-        ended_smaller : remaining (heard_by_all clocks x vs (ended x w)) < remaining w
-        ended_smaller = (let less = ended_less x w m there (sym node) end_room in let at_most = all_heard_at_most clocks x vs (ended x w) in omega arith)
+        ended_smaller : remaining (heard_by_all clocks x vs (world_after_end x w)) < remaining w
+        ended_smaller =
+            (let less = ended_less x w m there (sym node) end_room in let at_most = all_heard_at_most clocks x vs (world_after_end x w) in omega arith)
 
       ended_on : (others : ℕ → ℕ → ℕ) → ((v : ℕ) → clocks v ≡ others v) → (new : World) → EndedTo f.trace others x w new
           → IsRunning f clocks new × (remaining new < remaining w)
       ended_on others same new e =
-          let is_new : heard_by_all clocks x e.hearers (ended x w) ≡ new = heard_by_same clocks others same x e.hearers (ended x w) ∙ sym e.is in (
+          let is_new : heard_by_all clocks x e.hearers (world_after_end x w) ≡ new =
+              heard_by_same clocks others same x e.hearers (world_after_end x w) ∙ sym e.is in (
             subst (IsRunning f clocks) is_new (ended_running e.hearers e.heard),
             subst (λ (n : World). remaining n < remaining w) is_new (ended_smaller e.hearers e.heard),
           )
@@ -248,11 +253,11 @@ module _ (f : FloodParts) (clocks : ℕ → ℕ → ℕ) (has : HasClocks f cloc
         by_act (Sends x) is_act = can_end x is_act
         by_act Off is_act = tt
 
-    pub step_on : (others : ℕ → ℕ → ℕ) → ((v : ℕ) → clocks v ≡ others v) → (new : World) → Stepped f.trace others w new m m.act
+    pub step_on : (others : ℕ → ℕ → ℕ) → ((v : ℕ) → clocks v ≡ others v) → (new : World) → WorldSteps f.trace others w new m m.act
         → IsRunning f clocks new × (remaining new < remaining w)
     step_on others same new = by_act m.act refl
       where
-        by_act : (a : Act) → m.act ≡ a → Stepped f.trace others w new m a → IsRunning f clocks new × (remaining new < remaining w)
+        by_act : (a : Act) → m.act ≡ a → WorldSteps f.trace others w new m a → IsRunning f clocks new × (remaining new < remaining w)
         by_act Listens is_act stepped = absurd (none_busy next.moment (sym (ap moment_of is_act) ∙ next.own))
         by_act (Waits t packet) is_act stepped = started_on t packet is_act new stepped
         by_act (Sends x) is_act stepped = ended_on x is_act others same new stepped

@@ -13,8 +13,8 @@ use Rattle.air_log.specs.NodeEvents.{Event, Heard, Ended, own_end, own_ends}
 use Rattle.lwb_base.proofs.Elements.{not_in_none, contains_head, contains_tail, contains_cases}
 use Rattle.lwb_flood.specs.declared.member.Act.TheVariants.{Sends, Off}
 use Rattle.lwb_flood.specs.declared.member.Member.{Member}
-use Rattle.lwb_flood.specs.FloodWorlds.{World, changed_at, with_change, with_act, after_own, hearing_by, tuned_entry, begun, own_ended, gone, ended, heard}
-use Rattle.lwb_flood.specs.FloodWorlds.{heard_by_all, is_last}
+use Rattle.lwb_flood.specs.FloodWorlds.{World, member_changed_at, with_change, member_with_act, after_own, hearing_by, flood_tuned_entry, world_after_start}
+use Rattle.lwb_flood.specs.FloodWorlds.{own_ended, gone, world_after_end, world_after_reception, heard_by_all, is_last}
 use Rattle.air_log.specs.Entries.{sent_entry, heard_entry}
 use Rattle.lwb_flood.proofs.FloodSoFar.{events_in}
 use Rattle.lwb_flood.proofs.WorldLists.{events_sent_own, events_sent_other, events_heard_own, events_heard_other, events_tuned}
@@ -33,7 +33,7 @@ total air (m ∷ ms) = left air m + total air ms
 
 module _ (air more : List Entry) (v : ℕ) (change : Member → Member) where
   one : (m : Member) → (m.node ≢ v → left more m ≤ left air m) → (m.node ≡ v → left more (change m) ≤ left air m)
-      → left more (changed_at v change m) ≤ left air m
+      → left more (member_changed_at v change m) ≤ left air m
   one m other own = elim (cases_eq m.node v) [
     | inl is ↦ subst (λ (n : Member). left more n ≤ left air m) (sym (cond-true (nat_eq m.node v) (change m) m (eq-eqb m.node v is))) (own is)
     | inr not ↦ subst (λ (n : Member). left more n ≤ left air m) (sym (cond-false (nat_eq m.node v) (change m) m (ne_eqb m.node v not))) (other not)
@@ -55,8 +55,8 @@ module _ (air more : List Entry) (v : ℕ) (change : Member → Member) where
       elim (contains_cases n ms m there) [
         | inl here ↦
             let rest = total_at_most ms (λ k in_it. other k (contains_tail n ms k in_it)) (λ k in_it. own k (contains_tail n ms k in_it)) in
-            let down : left more (changed_at v change n) < left air n =
-            subst (λ (k : Member). left more (changed_at v change k) < left air k) (sym here)
+            let down : left more (member_changed_at v change n) < left air n =
+            subst (λ (k : Member). left more (member_changed_at v change k) < left air k) (sym here)
             (subst (λ (k : Member). left more k < left air m) (sym (cond-true (nat_eq m.node v) (change m) m (eq-eqb m.node v is))) less) in
             omega arith
         | inr later ↦
@@ -85,7 +85,7 @@ started_heard air u x v =
       | inr not ↦ ap (λ (es : List Event). length (own_ends es)) (events_heard_other air u x v not)
     ]
 
-pub started_tuned : (air : List Entry) (u t v : ℕ) → started (air ++ tuned_entry u t ∷ []) v ≡ started air v
+pub started_tuned : (air : List Entry) (u t v : ℕ) → started (air ++ flood_tuned_entry u t ∷ []) v ≡ started air v
 started_tuned air u t v = ap (λ (es : List Event). length (own_ends es)) (events_tuned air u t v)
 
 heard_limits : (s : FloodState) (p : List ℕ) → ((after_heard s p).limit ≡ s.limit) × ((after_heard s p).sent ≡ s.sent)
@@ -97,9 +97,9 @@ remaining w = total w.air w.members
 
 -- a sending that begins, at a node that may begin one
 pub begun_less : (x : Sending) (w : World) (m : Member) → Contains w.members m → m.node ≡ x.node
-    → m.flood.sent + started w.air m.node < m.flood.limit + m.flood.limit → remaining (begun x w) < remaining w
+    → m.flood.sent + started w.air m.node < m.flood.limit + m.flood.limit → remaining (world_after_start x w) < remaining w
 begun_less x w m there is room =
-    total_less w.air (w.air ++ sent_entry x ∷ []) x.node (with_act (Sends x)) w.members
+    total_less w.air (w.air ++ sent_entry x ∷ []) x.node (member_with_act (Sends x)) w.members
     (λ n in_it not. omega (arith, started_sent_other w.air x n.node (λ same. not (sym same))))
     (λ n in_it same. let up = started_sent_own w.air x in omega (arith, ap (started (w.air ++ sent_entry x ∷ [])) same, ap (started w.air) same))
     m there is (let up = started_sent_own w.air x in omega (arith, ap (started (w.air ++ sent_entry x ∷ [])) is, ap (started w.air) is))
@@ -111,11 +111,11 @@ own_ended_less x w m there is room =
 
 gone_at_most : (v t : ℕ) (w : World) → remaining (gone v t w) ≤ remaining w
 gone_at_most v t w =
-    total_at_most w.air (w.air ++ tuned_entry v t ∷ []) v (with_act Off) w.members
+    total_at_most w.air (w.air ++ flood_tuned_entry v t ∷ []) v (member_with_act Off) w.members
     (λ n in_it not. omega (arith, started_tuned w.air v t n.node))
     (λ n in_it same. omega (arith, started_tuned w.air v t n.node))
 
-heard_at_most : (clock : ℕ → ℕ) (x : Sending) (v : ℕ) (w : World) → remaining (heard clock x v w) ≤ remaining w
+heard_at_most : (clock : ℕ → ℕ) (x : Sending) (v : ℕ) (w : World) → remaining (world_after_reception clock x v w) ≤ remaining w
 heard_at_most clock x v w =
     total_at_most w.air (w.air ++ heard_entry v x ∷ []) v (hearing_by clock x) w.members
     (λ n in_it not. omega (arith, started_heard w.air v x n.node))
@@ -124,10 +124,10 @@ heard_at_most clock x v w =
 pub all_heard_at_most : (clocks : ℕ → ℕ → ℕ) (x : Sending) (vs : List ℕ) (w : World) → remaining (heard_by_all clocks x vs w) ≤ remaining w
 all_heard_at_most clocks x [] w = omega arith
 all_heard_at_most clocks x (v ∷ vs) w =
-    let one = heard_at_most (clocks v) x v w in let rest = all_heard_at_most clocks x vs (heard (clocks v) x v w) in omega arith
+    let one = heard_at_most (clocks v) x v w in let rest = all_heard_at_most clocks x vs (world_after_reception (clocks v) x v w) in omega arith
 
 pub ended_less : (x : Sending) (w : World) (m : Member) → Contains w.members m → m.node ≡ x.node
-    → m.flood.sent + started w.air m.node < m.flood.limit + m.flood.limit → remaining (ended x w) < remaining w
+    → m.flood.sent + started w.air m.node < m.flood.limit + m.flood.limit → remaining (world_after_end x w) < remaining w
 ended_less x w m there is room =
     let less = own_ended_less x w m there is room in
     cond_both (is_last x.node w.members) (gone x.node x.end (own_ended x w)) (own_ended x w) (λ (n : World). remaining n < remaining w)

@@ -11,7 +11,7 @@ use Rattle.scenario_text.specs.declared.lines.NodeLine.{NodeLine}
 use Rattle.bus_terms.specs.FloodOfText.{ids}
 use Rattle.radio_model.specs.declared.sending.Sending.{Sending}
 use Rattle.radio_model.specs.declared.station.Station.{Station}
-use Rattle.radio_model.specs.Stations.{MediumState, IsMedium, IsTime, nodes_of, after, changed_at, retuned, first_state}
+use Rattle.radio_model.specs.Stations.{MediumState, IsMedium, IsTime, nodes_of, medium_after_change, station_changed_at, station_after_tuning, first_state}
 use Rattle.radio_model.specs.Stations.{stations_from, fresh}
 use Rattle.radio_model.proofs.Places.{nodes_from, still_medium, first_is_medium}
 use Rattle.radio_model.proofs.Changes.{retuned_keeps}
@@ -19,7 +19,7 @@ use Rattle.radio_model.proofs.OneStation.{same_nodes}
 use Rattle.radio_model.proofs.TunedStations.{sends_still}
 use Rattle.air_log.specs.FloodLaw.{OPENING}
 use Rattle.lwb_base.proofs.Elements.{not_in_none, contains_cases, map_from, pairs_of_map}
-use Rattle.lwb_flood.specs.FloodWorlds.{opened, first_member, first_world, IsShape, node_of as member_node}
+use Rattle.lwb_flood.specs.FloodWorlds.{medium_at_opening, first_member, first_world, IsShape, node_of_member as member_node}
 
 -- nobody sends yet
 pub record IsOpening (vs : List ℕ) (m : MediumState) : Type 0 where
@@ -39,30 +39,30 @@ pub at_first : (p : Numbers) (vs : List ℕ) → IsOpening vs (first_state p vs)
 at_first p vs = record { nodes = nodes_from 0 vs; early = omega arith; silent = fresh_silent 0 vs }
 
 abbrev pub tuned_one : ℕ → MediumState → MediumState
-tuned_one v m = after OPENING v (retuned (Some 0) OPENING) m
+tuned_one v m = medium_after_change OPENING v (station_after_tuning (Some 0) OPENING) m
 
 pub one_more : (vs : List ℕ) (m : MediumState) (v : ℕ) → IsOpening vs m → IsOpening vs (tuned_one v m)
 one_more vs m v is = record {
-  nodes = same_nodes m OPENING v (retuned (Some 0) OPENING) (retuned_keeps (Some 0) OPENING).node ∙ is.nodes;
+  nodes = same_nodes m OPENING v (station_after_tuning (Some 0) OPENING) (retuned_keeps (Some 0) OPENING).node ∙ is.nodes;
   early = omega arith;
   silent = λ st there.
-      let was = map_from (changed_at v (retuned (Some 0) OPENING)) m.stations st there in
+      let was = map_from (station_changed_at v (station_after_tuning (Some 0) OPENING)) m.stations st there in
       subst (λ (s : Station). s.sending ≡ None) was.2
-      (cond_both (was.0.node == v) (retuned (Some 0) OPENING was.0) was.0 (λ (s : Station). s.sending ≡ None)
+      (cond_both (was.0.node == v) (station_after_tuning (Some 0) OPENING was.0) was.0 (λ (s : Station). s.sending ≡ None)
       (λ _. sends_still (Some 0) OPENING was.0 ∙ is.silent was.0 was.1) (λ _. is.silent was.0 was.1));
 }
 
-pub opened_is : (us vs : List ℕ) (m : MediumState) → IsOpening vs m → IsOpening vs (opened us m)
+pub opened_is : (us vs : List ℕ) (m : MediumState) → IsOpening vs m → IsOpening vs (medium_at_opening us m)
 opened_is [] vs m is = is
 opened_is (u ∷ us) vs m is = opened_is us vs (tuned_one u m) (one_more vs m u is)
 
-opened_push : (us : List ℕ) (v : ℕ) (m : MediumState) → opened (us ++ v ∷ []) m ≡ tuned_one v (opened us m)
+opened_push : (us : List ℕ) (v : ℕ) (m : MediumState) → medium_at_opening (us ++ v ∷ []) m ≡ tuned_one v (medium_at_opening us m)
 opened_push [] v m = refl
 opened_push (u ∷ us) v m = opened_push us v (tuned_one u m)
 
 pub opened_more : (vs : List ℕ) (i v : ℕ) (m : MediumState) → i < length vs → v ≡ get_or vs i v
-    → opened (take (i + 1) vs) m ≡ tuned_one v (opened (take i vs) m)
-opened_more vs i v m below at = ap (λ (l : List ℕ). opened l m) (take_more vs i v below ∙ ap (λ (n : ℕ). take i vs ++ n ∷ []) (sym at))
+    → medium_at_opening (take (i + 1) vs) m ≡ tuned_one v (medium_at_opening (take i vs) m)
+opened_more vs i v m below at = ap (λ (l : List ℕ). medium_at_opening l m) (take_more vs i v below ∙ ap (λ (n : ℕ). take i vs ++ n ∷ []) (sym at))
     ∙ opened_push (take i vs) v m
 
 pub in_time : (vs : List ℕ) (m : MediumState) → IsOpening vs m → IsTime m OPENING
@@ -75,9 +75,10 @@ in_time vs m is = record {
     no_sending : {x : Sending} → (let o : Option Sending = None in o ≡ Some x) → OPENING ≤ x.end
     no_sending is = cc
 
-pub opened_medium : (us : List ℕ) (m : MediumState) → IsMedium m → IsMedium (opened us m)
+pub opened_medium : (us : List ℕ) (m : MediumState) → IsMedium m → IsMedium (medium_at_opening us m)
 opened_medium [] m is = is
-opened_medium (u ∷ us) m is = opened_medium us (tuned_one u m) (still_medium (retuned (Some 0) OPENING) (retuned_keeps (Some 0) OPENING) u OPENING m is)
+opened_medium (u ∷ us) m is =
+    opened_medium us (tuned_one u m) (still_medium (station_after_tuning (Some 0) OPENING) (retuned_keeps (Some 0) OPENING) u OPENING m is)
 
 first_nodes : (f : FloodParts) (ns : List NodeLine) → map member_node (map (first_member f) ns) ≡ ids ns
 first_nodes f [] = refl

@@ -14,23 +14,23 @@ use Rattle.scenario_text.specs.FloodParts.{FloodParts, knows}
 use Rattle.radio_model.specs.declared.sending.Sending.{Sending}
 use Rattle.radio_model.specs.declared.station.Station.{Station}
 use Rattle.radio_model.specs.OnAir.{Hearing, Tuning}
-use Rattle.radio_model.specs.Hearing.{Scene, Hears}
-use Rattle.radio_model.specs.Stations.{nodes_of, station_of, node_of as station_node}
+use Rattle.radio_model.specs.Hearing.{Scene, HearsInScene}
+use Rattle.radio_model.specs.Stations.{nodes_of, station_of, id_of_station as station_node}
 use Rattle.radio_model.specs.Holding.{lasting, lasting_at}
 use Rattle.radio_model.specs.declared.station.Tuned.{Tuned as TunedTo}
 use Rattle.lwb_base.proofs.Elements.{in_filter, not_in_none, contains_head, contains_tail, map_contains, map_from, filter_from}
 use Rattle.radio_model.proofs.OneCall.{found_member}
 use Rattle.air_log.specs.declared.entry.Entry.{Entry}
 use Rattle.air_log.specs.declared.entry.Entry.TheVariants.{Sent, Heard as HeardOf, Tuned}
-use Rattle.air_log.specs.Entries.{sending_in, hearing_in, tuning_in, sendings_of, tunings_of, node_of as entry_node, IsHeard}
+use Rattle.air_log.specs.Entries.{sending_in, hearing_in, tuning_in, sendings_of, tunings_of, node_of_entry as entry_node, HasHeardEntry}
 use Rattle.air_log.specs.HearsAir.{HearsAir}
-use Rattle.air_log.specs.NodeEvents.{Event, Heard, Ended, InOrder, occasions}
+use Rattle.air_log.specs.NodeEvents.{Event, Heard, Ended, EventsInOrder, event_occasions}
 use Rattle.air_log.specs.FloodLaw.{FloodLaw, first_flood, AreEventsOf, IsRelay, START, first_packet, sending_at, Lasts, tuning_by}
 use Rattle.lwb_flood.specs.declared.member.Act.{Act}
 use Rattle.lwb_flood.specs.declared.member.Act.TheVariants.{Off}
 use Rattle.lwb_flood.specs.declared.member.Member.{Member}
 use Rattle.lwb_flood.specs.FloodLog.{HasClocks}
-use Rattle.lwb_flood.specs.FloodWorlds.{World, node_of}
+use Rattle.lwb_flood.specs.FloodWorlds.{World, node_of_member}
 use Rattle.lwb_flood.proofs.ActsTold.{waits_off, sends_off}
 use Rattle.lwb_flood.proofs.EventsInLog.{ended_event, heard_event, heard_is_not}
 use Rattle.lwb_flood.proofs.FloodOpening.{sound_nodes}
@@ -78,7 +78,7 @@ module _ (f : FloodParts) (clocks : ℕ → ℕ → ℕ) (has : HasClocks f cloc
     (off : (m : Member) → Contains w.members m → m.act ≡ Off) where
   -- each known node is a member
   member_at : (v : ℕ) → knows f.nodes v ≡ true → (m : Member) × Contains w.members m × (m.node ≡ v)
-  member_at v known = map_from node_of w.members v (subst (λ (l : List ℕ). Contains l v) (sym so.nodes) (known_there f.nodes v known))
+  member_at v known = map_from node_of_member w.members v (subst (λ (l : List ℕ). Contains l v) (sym so.nodes) (known_there f.nodes v known))
 
   past_is : (m : Member) (there : Contains w.members m) → events_in w.air m.node ≡ (so.each m there).past
   past_is m there = let each = so.each m there in each.happened ∙ ap (λ (a : Act). each.past ++ running a) (off m there) ∙ append-nil each.past
@@ -92,7 +92,7 @@ module _ (f : FloodParts) (clocks : ℕ → ℕ → ℕ) (has : HasClocks f cloc
   -- what stands is the log
   untuned : (st : Station) → Contains w.medium.stations st → st.tuned ≡ None
   untuned st there =
-      let m = map_from node_of w.members st.node
+      let m = map_from node_of_member w.members st.node
       (subst (λ (l : List ℕ). Contains l st.node) (so.stations ∙ sym so.nodes) (map_contains station_node w.medium.stations st there)) in
       let each = so.each m.0 m.1 in
       let same : each.station ≡ st = same_Some each.station st
@@ -109,14 +109,14 @@ module _ (f : FloodParts) (clocks : ℕ → ℕ → ℕ) (has : HasClocks f cloc
   settled : (x : Sending) → Contains (sendings_of w.air) x → IsSettled f [] w x
   settled x sent = elim (so.sent x sent).fate [ inl runs ↦ absurd (nothing_runs x runs) | inr is ↦ is ]
 
-  hears_back : (v : ℕ) (x : Sending) → IsHeard w.air v x → (knows f.nodes v ≡ true) × HearsAir one f.trace w.air v x
+  hears_back : (v : ℕ) (x : Sending) → HasHeardEntry w.air v x → (knows f.nodes v ≡ true) × HearsAir one f.trace w.air v x
   hears_back v x heard =
       let rule = ((settled x (so.heard v x heard).sent).heard v).0 (inl heard) in
-      (rule.0, subst (λ (a : Scene). Hears a v x) stands_is rule.1)
+      (rule.0, subst (λ (a : Scene). HearsInScene a v x) stands_is rule.1)
 
-  hears_on : (v : ℕ) (x : Sending) → knows f.nodes v ≡ true → HearsAir one f.trace w.air v x → IsHeard w.air v x
+  hears_on : (v : ℕ) (x : Sending) → knows f.nodes v ≡ true → HearsAir one f.trace w.air v x → HasHeardEntry w.air v x
   hears_on v x known hears =
-      elim (((settled x hears.sent).heard v).1 (known, subst (λ (a : Scene). Hears a v x) (sym stands_is) hears)) [
+      elim (((settled x hears.sent).heard v).1 (known, subst (λ (a : Scene). HearsInScene a v x) (sym stands_is) hears)) [
         | inl heard ↦ heard
         | inr none ↦ absurd (not_in_none _ none)
       ]
@@ -137,7 +137,7 @@ module _ (f : FloodParts) (clocks : ℕ → ℕ → ℕ) (has : HasClocks f cloc
     in_order =
         let m = member_at v known in
         let each = so.each m.0 m.1 in
-        subst (λ (u : ℕ). InOrder (events_in w.air u)) m.2 (subst InOrder (sym each.happened) each.in_order);
+        subst (λ (u : ℕ). EventsInOrder (events_in w.air u)) m.2 (subst EventsInOrder (sym each.happened) each.in_order);
   }
 
   known_entry : (e : Entry) → Contains w.air e → knows f.nodes (entry_node e) ≡ true
@@ -190,8 +190,9 @@ module _ (f : FloodParts) (clocks : ℕ → ℕ → ℕ) (has : HasClocks f cloc
       by_member : (m : Member) × Contains w.members m × (m.node ≡ x.node) → Contains (sendings_of w.air) x
       by_member (m, there, is) =
           let answered = (so.each m there).answered r.heard r.flood x.packet (
-          subst (λ (es : List Event). Contains (occasions (first_flood f m.node) es) (record { before = r.flood; event = Heard r.heard })) (past_is m there)
-          (subst (λ (v : ℕ). Contains (occasions (first_flood f v) (events_in w.air v)) (record { before = r.flood; event = Heard r.heard }))
+          subst (λ (es : List Event). Contains (event_occasions (first_flood f m.node) es) (record { before = r.flood; event = Heard r.heard }))
+              (past_is m there)
+          (subst (λ (v : ℕ). Contains (event_occasions (first_flood f v) (events_in w.air v)) (record { before = r.flood; event = Heard r.heard }))
           (sym is) r.occasion)) r.answer in
           let at : sending_at m.node (due (clocks m.node) (clocks m.node r.heard.end + 12288)) x.packet ≡ x =
           ap (λ (v : ℕ). sending_at v (due (clocks v) (clocks v r.heard.end + 12288)) x.packet) is

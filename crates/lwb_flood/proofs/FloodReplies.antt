@@ -9,7 +9,7 @@ use Rattle.radio_model.specs.declared.sending.Sending.{Sending}
 use Rattle.lwb_flood.specs.declared.member.Act.{Act}
 use Rattle.lwb_flood.specs.declared.member.Act.TheVariants.{Sends}
 use Rattle.lwb_flood.specs.declared.member.Member.{Member}
-use Rattle.lwb_flood.specs.FloodWorlds.{World, act_by, hearing_by, heard}
+use Rattle.lwb_flood.specs.FloodWorlds.{World, act_by, hearing_by, world_after_reception}
 use Rattle.lwb_flood.proofs.FloodSoFar.{Runs}
 use Rattle.lwb_flood.proofs.WorldLists.{each_changed}
 
@@ -49,7 +49,7 @@ act_back c e (Relay p) a y is = absurd (cc)
 act_back c e Keep a y is = is
 act_back c e Ignore a y is = is
 
-pub heard_runs_back : (clock : ℕ → ℕ) (x : Sending) (v : ℕ) (w : World) (y : Sending) → Runs (heard clock x v w) y → Runs w y
+pub heard_runs_back : (clock : ℕ → ℕ) (x : Sending) (v : ℕ) (w : World) (y : Sending) → Runs (world_after_reception clock x v w) y → Runs w y
 heard_runs_back clock x v w y r =
     each_changed v (hearing_by clock x) w.members (λ (n : Member). n.act ≡ Sends y → Runs w y)
     (λ m there at act. record { member = m; there = there; act = act_back clock x.end (reply_to m.flood x.packet) m.act y act })

@@ -12,20 +12,20 @@ use Rattle.radio_model.specs.declared.sending.Sending.{Sending}
 use Rattle.radio_model.specs.declared.station.Station.{Station}
 use Rattle.radio_model.specs.declared.station.Tuned.{Tuned as TunedTo}
 use Rattle.radio_model.specs.OnAir.{Hearing, Tuning}
-use Rattle.radio_model.specs.Hearing.{Scene, Hears}
+use Rattle.radio_model.specs.Hearing.{Scene, HearsInScene}
 use Rattle.radio_model.specs.Stations.{nodes_of, station_of}
 use Rattle.radio_model.specs.Holding.{Holds, as_it_stands}
 use Rattle.air_log.specs.declared.entry.Entry.{Entry}
 use Rattle.air_log.specs.declared.entry.Entry.TheVariants.{Sent, Heard as HeardOf, Tuned}
-use Rattle.air_log.specs.Entries.{sendings_of, tunings_of, IsHeard}
+use Rattle.air_log.specs.Entries.{sendings_of, tunings_of, HasHeardEntry}
 use Rattle.air_log.specs.HearsAir.{scene_of}
-use Rattle.air_log.specs.NodeEvents.{Event, Heard, Ended, sending_of, InOrder, after_all, occasions}
+use Rattle.air_log.specs.NodeEvents.{Event, Heard, Ended, sending_of_event, EventsInOrder, flood_after_events, event_occasions}
 use Rattle.air_log.specs.FloodLaw.{OPENING, START, CLOSING, first_packet, first_flood, sending_at, Lasts, tuning_by}
 use Rattle.lwb_base.proofs.Elements.{Distinct}
 use Rattle.lwb_flood.specs.declared.member.Act.{Act}
 use Rattle.lwb_flood.specs.declared.member.Act.TheVariants.{Listens, Waits, Sends, Off}
 use Rattle.lwb_flood.specs.declared.member.Member.{Member}
-use Rattle.lwb_flood.specs.FloodWorlds.{World, node_of}
+use Rattle.lwb_flood.specs.FloodWorlds.{World, node_of_member}
 use Rattle.lwb_flood.specs.TwoNodes.{packet_of}
 
 abbrev pub scene : FloodParts → World → Scene
@@ -80,7 +80,7 @@ pub record Begins (f : FloodParts) (v t : ℕ) (packet : List ℕ) : Type 0 wher
 pub record Answers (f : FloodParts) (clock : ℕ → ℕ) (v : ℕ) (events : List Event) (t : ℕ) (packet : List ℕ) : Type 0 where
   pub heard : Sending
   pub flood : FloodState
-  pub occasion : Contains (occasions (first_flood f v) events) (record { before = flood; event = Heard heard })
+  pub occasion : Contains (event_occasions (first_flood f v) events) (record { before = flood; event = Heard heard })
   pub answer : reply_to flood heard.packet ≡ Relay packet
   pub start : t ≡ due clock (clock heard.end + 12288)
   pub later : 1 ≤ counter_of packet
@@ -121,7 +121,7 @@ Stands f clocks w leaving past m Off = IsGone f w past m
 
 -- what a node's flood answered, the node has sent or waits to send
 abbrev pub IsAnswered : FloodParts → (ℕ → ℕ) → World → List Event → Member → Type 0
-IsAnswered f clock w past m = (h : Sending) (s : FloodState) (packet : List ℕ) → Contains (occasions (first_flood f m.node) past) (record {
+IsAnswered f clock w past m = (h : Sending) (s : FloodState) (packet : List ℕ) → Contains (event_occasions (first_flood f m.node) past) (record {
   before = s;
   event = Heard h;
 })
@@ -136,9 +136,9 @@ pub record IsMember (f : FloodParts) (clocks : ℕ → ℕ → ℕ) (leaving : L
   pub sends : station.sending ≡ sending_by m.act
   pub past : List Event
   pub happened : events_in w.air m.node ≡ past ++ running m.act
-  pub in_order : InOrder (past ++ running m.act)
-  pub over : (e : Event) → Contains past e → (sending_of e).end ≤ w.medium.now
-  pub flood : m.flood ≡ after_all (first_flood f m.node) past
+  pub in_order : EventsInOrder (past ++ running m.act)
+  pub over : (e : Event) → Contains past e → (sending_of_event e).end ≤ w.medium.now
+  pub flood : m.flood ≡ flood_after_events (first_flood f m.node) past
   pub stands : Stands f clocks w leaving past m m.act
   pub answered : IsAnswered f (clocks m.node) w past m
 
@@ -152,7 +152,8 @@ pub record Runs (w : World) (x : Sending) : Type 0 where
 pub record IsSettled (f : FloodParts) (todo : List Hearing) (w : World) (x : Sending) : Type 0 where
   pub ended : x.end ≤ w.medium.now
   pub over : Runs w x → ⊥
-  pub heard : (v : ℕ) → (IsHeard w.air v x ⊎ Contains todo (record { node = v; sending = x })) ↔ ((knows f.nodes v ≡ true) × Hears (standing f w) v x)
+  pub heard : (v : ℕ) → (HasHeardEntry w.air v x ⊎ Contains todo (record { node = v; sending = x }))
+      ↔ ((knows f.nodes v ≡ true) × HearsInScene (standing f w) v x)
 
 pub record IsSent (f : FloodParts) (clocks : ℕ → ℕ → ℕ) (todo : List Hearing) (w : World) (x : Sending) : Type 0 where
   pub known : knows f.nodes x.node ≡ true
@@ -172,7 +173,7 @@ pub record IsDue (w : World) (h : Hearing) : Type 0 where
   pub sent : Contains (sendings_of w.air) h.sending
   pub now : h.sending.end ≡ w.medium.now
   pub begun : (y : Sending) → Contains (sendings_of w.air) y → y.start < h.sending.end
-  pub new : IsHeard w.air h.node h.sending → ⊥
+  pub new : HasHeardEntry w.air h.node h.sending → ⊥
 
 pub record WasTuned (f : FloodParts) (w : World) (t : Tuning) : Type 0 where
   pub member : Member
@@ -188,14 +189,14 @@ pub record WaitsToBegin (f : FloodParts) (w : World) : Type 0 where
   pub act : member.act ≡ Waits START (first_packet f.start)
 
 pub record IsFloodSoFar (f : FloodParts) (clocks : ℕ → ℕ → ℕ) (todo : List Hearing) (leaving : List ℕ) (w : World) : Type 0 where
-  pub nodes : map node_of w.members ≡ ids f.nodes
+  pub nodes : map node_of_member w.members ≡ ids f.nodes
   pub stations : nodes_of w.medium ≡ ids f.nodes
   pub numbers : w.medium.numbers ≡ one
   pub since : OPENING ≤ w.medium.now
   pub holds : Holds w.medium (scene f w)
   pub each : (m : Member) → Contains w.members m → IsMember f clocks leaving w m
   pub sent : (x : Sending) → Contains (sendings_of w.air) x → IsSent f clocks todo w x
-  pub heard : (v : ℕ) (x : Sending) → IsHeard w.air v x → WasHeard f w v x
+  pub heard : (v : ℕ) (x : Sending) → HasHeardEntry w.air v x → WasHeard f w v x
   pub due_now : (h : Hearing) → Contains todo h → IsDue w h
   pub due_once : Distinct todo
   pub tunings : (t : Tuning) → Contains (tunings_of w.air) t → WasTuned f w t

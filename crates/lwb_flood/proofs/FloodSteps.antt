@@ -7,7 +7,7 @@ use Rattle.radio_model.specs.Stations.{nodes_of}
 use Rattle.lwb_base.proofs.Elements.{map_contains}
 use Rattle.lwb_flood.specs.declared.member.Act.TheVariants.{Sends}
 use Rattle.lwb_flood.specs.declared.member.Member.{Member}
-use Rattle.lwb_flood.specs.FloodWorlds.{World, IsShape, node_of, CanStep, CanEnd}
+use Rattle.lwb_flood.specs.FloodWorlds.{World, IsShape, node_of_member, CanStep, CanEnd}
 
 pub can_sends : (lines : Lines) (w : World) (m : Member) (x : Sending) → m.act ≡ Sends x → CanStep lines w m m.act → CanEnd lines w m x
 can_sends lines w m x is can = subst (CanStep lines w m) is can
@@ -24,4 +24,5 @@ module _ (inside old : World) (shape : IsShape inside) (view : inside ≡ old) (
   at_old = at ∙ ap (λ (w : World). get_or w.members place m) view
 
   pub node_at : Contains (nodes_of old.medium) m.node
-  node_at = subst (λ (l : List ℕ). Contains l m.node) (shape.nodes ∙ ap (λ (w : World). nodes_of w.medium) view) (map_contains node_of inside.members m there)
+  node_at =
+      subst (λ (l : List ℕ). Contains l m.node) (shape.nodes ∙ ap (λ (w : World). nodes_of w.medium) view) (map_contains node_of_member inside.members m there)

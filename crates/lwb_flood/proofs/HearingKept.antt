@@ -5,17 +5,17 @@ use Rattle.glossy_relay.specs.Relaying.{fits}
 use Rattle.scenario_text.specs.FloodParts.{FloodParts, knows}
 use Rattle.radio_model.specs.declared.sending.Sending.{Sending}
 use Rattle.radio_model.specs.OnAir.{Hearing, Tuning}
-use Rattle.radio_model.specs.Hearing.{Scene, Hears}
+use Rattle.radio_model.specs.Hearing.{Scene, HearsInScene}
 use Rattle.radio_model.specs.Holding.{as_it_stands}
 use Rattle.lwb_base.proofs.Elements.{in_filter, contains_head, contains_tail, contains_cases}
-use Rattle.air_log.specs.Entries.{hearing_in, sendings_of, tunings_of, IsHeard, heard_entry}
-use Rattle.air_log.specs.NodeEvents.{Event, Occasion, occasions, own_ends}
+use Rattle.air_log.specs.Entries.{hearing_in, sendings_of, tunings_of, HasHeardEntry, heard_entry}
+use Rattle.air_log.specs.NodeEvents.{Event, EventOccasion, event_occasions, own_ends}
 use Rattle.air_log.specs.FloodLaw.{START, CLOSING, first_packet, first_flood, tuning_by, sending_at}
 use Rattle.lwb_flood.specs.declared.member.Act.{Act}
 use Rattle.lwb_flood.specs.declared.member.Act.TheVariants.{Listens, Waits, Sends, Off}
 use Rattle.lwb_flood.specs.declared.member.Member.{Member}
 use Rattle.lwb_flood.specs.FloodLog.{HasClocks}
-use Rattle.lwb_flood.specs.FloodWorlds.{World, node_of, heard}
+use Rattle.lwb_flood.specs.FloodWorlds.{World, node_of_member, world_after_reception}
 use Rattle.lwb_flood.proofs.FloodSoFar.{scene, standing, events_in, Stands, IsMember, Runs, IsSettled, IsSent, WasHeard, IsDue, WasTuned}
 use Rattle.lwb_flood.proofs.FloodSoFar.{WaitsToBegin, IsFloodSoFar}
 use Rattle.lwb_flood.proofs.WorldLists.{events_heard_other, pairs_push}
@@ -31,12 +31,12 @@ module _ (f : FloodParts) (clocks : ℕ → ℕ → ℕ) (is : HasClocks f clock
   hearing = record { node = v; sending = x }
 
   abbrev next : World
-  next = heard (clocks v) x v w
+  next = world_after_reception (clocks v) x v w
 
   abbrev just : IsDue w hearing
   just = HearingLogged.just f clocks is v x todo leaving w so early over
 
-  abbrev by_rule : (knows f.nodes v ≡ true) × Hears (standing f w) v x
+  abbrev by_rule : (knows f.nodes v ≡ true) × HearsInScene (standing f w) v x
   by_rule = HearingLogged.by_rule f clocks is v x todo leaving w so early over
 
   abbrev same_tunings : tunings_of next.air ≡ tunings_of w.air
@@ -51,7 +51,7 @@ module _ (f : FloodParts) (clocks : ℕ → ℕ → ℕ) (is : HasClocks f clock
   abbrev sent_back : (y : Sending) → Contains (sendings_of next.air) y → Contains (sendings_of w.air) y
   sent_back = HearingLogged.sent_back f clocks is v x todo leaving w so early over
 
-  abbrev heard_cases : (u : ℕ) (y : Sending) → IsHeard next.air u y → IsHeard w.air u y ⊎ (hearing ≡ record { node = u; sending = y })
+  abbrev heard_cases : (u : ℕ) (y : Sending) → HasHeardEntry next.air u y → HasHeardEntry w.air u y ⊎ (hearing ≡ record { node = u; sending = y })
   heard_cases = HearingLogged.heard_cases f clocks is v x todo leaving w so early over
 
   abbrev tuning_same : (u : ℕ) (es fs : List Event) → own_ends fs ≡ own_ends es → tuning_by f.sends u es ≡ tuning_by f.sends u fs
@@ -71,7 +71,8 @@ module _ (f : FloodParts) (clocks : ℕ → ℕ → ℕ) (is : HasClocks f clock
     heard = λ u. (there u, back u);
   }
     where
-      there : (u : ℕ) → (IsHeard next.air u y ⊎ Contains todo (record { node = u; sending = y })) → (knows f.nodes u ≡ true) × Hears (standing f next) u y
+      there : (u : ℕ) → (HasHeardEntry next.air u y ⊎ Contains todo (record { node = u; sending = y }))
+          → (knows f.nodes u ≡ true) × HearsInScene (standing f next) u y
       there u is =
           let rule = (s.heard u).0 (elim is [
             | inl known ↦ elim (heard_cases u y known) [
@@ -79,14 +80,15 @@ module _ (f : FloodParts) (clocks : ℕ → ℕ → ℕ) (is : HasClocks f clock
               | inr new ↦ inr (subst (λ (h : Hearing). Contains (hearing ∷ todo) h) new (contains_head hearing todo))
             ]
             | inr coming ↦ inr (contains_tail hearing todo (record { node = u; sending = y }) coming)
-          ]) in (rule.0, subst (λ (a : Scene). Hears (as_it_stands w.medium w.medium.now a) u y) (sym same_scene) rule.1)
+          ]) in (rule.0, subst (λ (a : Scene). HearsInScene (as_it_stands w.medium w.medium.now a) u y) (sym same_scene) rule.1)
 
-      back : (u : ℕ) → (knows f.nodes u ≡ true) × Hears (standing f next) u y → IsHeard next.air u y ⊎ Contains todo (record { node = u; sending = y })
+      back : (u : ℕ) → (knows f.nodes u ≡ true) × HearsInScene (standing f next) u y
+          → HasHeardEntry next.air u y ⊎ Contains todo (record { node = u; sending = y })
       back u rule =
-          elim ((s.heard u).1 (rule.0, subst (λ (a : Scene). Hears (as_it_stands w.medium w.medium.now a) u y) same_scene rule.1)) [
+          elim ((s.heard u).1 (rule.0, subst (λ (a : Scene). HearsInScene (as_it_stands w.medium w.medium.now a) u y) same_scene rule.1)) [
             | inl old ↦ inl (heard_on f clocks is v x todo leaving w so early over u y old)
             | inr coming ↦ elim (contains_cases hearing todo (record { node = u; sending = y }) coming) [
-              | inl now ↦ inl (subst (λ (h : Hearing). IsHeard next.air h.node h.sending) now (heard_new f clocks is v x todo leaving w so early over))
+              | inl now ↦ inl (subst (λ (h : Hearing). HasHeardEntry next.air h.node h.sending) now (heard_new f clocks is v x todo leaving w so early over))
               | inr later ↦ inr later
             ]
           ]
@@ -104,7 +106,7 @@ module _ (f : FloodParts) (clocks : ℕ → ℕ → ℕ) (is : HasClocks f clock
         fate = elim s.fate [ inl runs ↦ inl (runs_on f clocks is v x todo leaving w so early over y runs) | inr done ↦ inr (settled_on y done) ];
       }
 
-  pub each_heard : (u : ℕ) (y : Sending) → IsHeard next.air u y → WasHeard f next u y
+  pub each_heard : (u : ℕ) (y : Sending) → HasHeardEntry next.air u y → WasHeard f next u y
   each_heard u y there =
       elim (heard_cases u y there) [
         | inl old ↦ let h = so.heard u y old in record { known = h.known; sent = sent_on y h.sent; over = λ r. h.over (heard_runs_back (clocks v) x v w y r) }
@@ -164,12 +166,12 @@ module _ (f : FloodParts) (clocks : ℕ → ℕ → ℕ) (is : HasClocks f clock
   pub heard_in_range : x.end ≤ 2 ^ 45
   heard_in_range = let now : x.end ≡ w.medium.now = just.now in omega arith
 
-  pub heard_here : Contains (map node_of w.members) v
+  pub heard_here : Contains (map node_of_member w.members) v
   heard_here = subst (λ (l : List ℕ). Contains l v) (sym so.nodes) (known_there f.nodes v by_rule.0)
 
   -- how each node stands
   module _ (m : Member) (past more : List Event)
-      (kept : (o : Occasion) → Contains (occasions (first_flood f m.node) past) o → Contains (occasions (first_flood f m.node) more) o)
+      (kept : (o : EventOccasion) → Contains (event_occasions (first_flood f m.node) past) o → Contains (event_occasions (first_flood f m.node) more) o)
       (ends : own_ends more ≡ own_ends past) where
     pub stands_on : (a : Act) → Stands f clocks w leaving past m a → Stands f clocks next leaving more m a
     stands_on Listens s = s

@@ -11,16 +11,16 @@ use Rattle.glossy_relay.specs.declared.flood.Reply.{Reply}
 use Rattle.scenario_text.specs.FloodParts.{FloodParts, knows}
 use Rattle.radio_model.specs.declared.sending.Sending.{Sending}
 use Rattle.radio_model.specs.OnAir.{Hearing, Tuning}
-use Rattle.radio_model.specs.Hearing.{Hears}
-use Rattle.air_log.specs.Entries.{sendings_of, hearings_of, tunings_of, IsHeard}
-use Rattle.air_log.specs.NodeEvents.{Event, Heard, Occasion, occasions, own_end, own_ends}
+use Rattle.radio_model.specs.Hearing.{HearsInScene}
+use Rattle.air_log.specs.Entries.{sendings_of, hearings_of, tunings_of, HasHeardEntry}
+use Rattle.air_log.specs.NodeEvents.{Event, Heard, EventOccasion, event_occasions, own_end, own_ends}
 use Rattle.air_log.specs.FloodLaw.{OPENING, CLOSING, tuning_by}
 use Rattle.lwb_base.proofs.Elements.{contains_head}
 use Rattle.lwb_flood.specs.declared.member.Act.{Act}
 use Rattle.lwb_flood.specs.declared.member.Act.TheVariants.{Listens, Waits, Sends, Off}
 use Rattle.lwb_flood.specs.declared.member.Member.{Member}
 use Rattle.lwb_flood.specs.FloodLog.{HasClocks}
-use Rattle.lwb_flood.specs.FloodWorlds.{World, act_by, hearing_by, heard}
+use Rattle.lwb_flood.specs.FloodWorlds.{World, act_by, hearing_by, world_after_reception}
 use Rattle.lwb_flood.proofs.FloodSoFar.{scene, standing, events_in, running, IsSending, Stands, Runs, IsSettled, IsDue}
 use Rattle.lwb_flood.proofs.FloodSoFar.{IsFloodSoFar}
 use Rattle.lwb_flood.proofs.WorldLists.{changed_there, same_there, events_heard_own, events_heard_other, occasion_kept}
@@ -33,7 +33,7 @@ module _ (f : FloodParts) (clocks : ℕ → ℕ → ℕ) (is : HasClocks f clock
   hearing = record { node = v; sending = x }
 
   abbrev next : World
-  next = heard (clocks v) x v w
+  next = world_after_reception (clocks v) x v w
 
   pub just : IsDue w hearing
   just = so.due_now hearing (contains_head hearing todo)
@@ -41,7 +41,7 @@ module _ (f : FloodParts) (clocks : ℕ → ℕ → ℕ) (is : HasClocks f clock
   settled : IsSettled f (hearing ∷ todo) w x
   settled = elim (so.sent x just.sent).fate [ inl runs ↦ absurd (over runs) | inr done ↦ done ]
 
-  pub by_rule : (knows f.nodes v ≡ true) × Hears (standing f w) v x
+  pub by_rule : (knows f.nodes v ≡ true) × HearsInScene (standing f w) v x
   by_rule = (settled.heard v).0 (inr (contains_head hearing todo))
 
   -- the log with the entry
@@ -62,23 +62,24 @@ module _ (f : FloodParts) (clocks : ℕ → ℕ → ℕ) (is : HasClocks f clock
   pub sent_back : (y : Sending) → Contains (sendings_of next.air) y → Contains (sendings_of w.air) y
   sent_back y there = subst (λ (l : List Sending). Contains l y) same_sendings there
 
-  pub heard_on : (u : ℕ) (y : Sending) → IsHeard w.air u y → IsHeard next.air u y
+  pub heard_on : (u : ℕ) (y : Sending) → HasHeardEntry w.air u y → HasHeardEntry next.air u y
   heard_on u y there = subst (λ (l : List Hearing). Contains l (record { node = u; sending = y })) (sym (hearings_heard w.air v x))
       (Contains-append_left (hearings_of w.air) (hearing ∷ []) (record { node = u; sending = y }) there)
 
-  pub heard_new : IsHeard next.air v x
+  pub heard_new : HasHeardEntry next.air v x
   heard_new = subst (λ (l : List Hearing). Contains l hearing) (sym (hearings_heard w.air v x)) (Contains-push (hearings_of w.air) hearing)
 
-  pub heard_cases : (u : ℕ) (y : Sending) → IsHeard next.air u y → IsHeard w.air u y ⊎ (hearing ≡ record { node = u; sending = y })
+  pub heard_cases : (u : ℕ) (y : Sending) → HasHeardEntry next.air u y → HasHeardEntry w.air u y ⊎ (hearing ≡ record { node = u; sending = y })
   heard_cases u y there = Contains-push_cases (hearings_of w.air) hearing (record { node = u; sending = y })
       (subst (λ (l : List Hearing). Contains l (record { node = u; sending = y })) (hearings_heard w.air v x) there)
 
-  pub occasions_on : (u : ℕ) (s : FloodState) (o : Occasion) → Contains (occasions s (events_in w.air u)) o → Contains (occasions s (events_in next.air u)) o
+  pub occasions_on : (u : ℕ) (s : FloodState) (o : EventOccasion) → Contains (event_occasions s (events_in w.air u)) o
+      → Contains (event_occasions s (events_in next.air u)) o
   occasions_on u s o there =
       elim (cases_eq v u) [
-        | inl at ↦ subst (λ (l : List Event). Contains (occasions s l) o) (sym (events_heard_own w.air v x u at))
+        | inl at ↦ subst (λ (l : List Event). Contains (event_occasions s l) o) (sym (events_heard_own w.air v x u at))
             (occasion_kept s (events_in w.air u) (Heard x ∷ []) o there)
-        | inr not ↦ subst (λ (l : List Event). Contains (occasions s l) o) (sym (events_heard_other w.air v x u not)) there
+        | inr not ↦ subst (λ (l : List Event). Contains (event_occasions s l) o) (sym (events_heard_other w.air v x u not)) there
       ]
 
   pub ends_more : (es : List Event) → own_ends (es ++ Heard x ∷ []) ≡ own_ends es

@@ -17,9 +17,9 @@ use Rattle.radio_model.specs.declared.sending.Sending.{Sending}
 use Rattle.air_log.specs.Entries.{sendings_of, hearings_of}
 use Rattle.air_log.specs.NodeEvents.{Heard}
 use Rattle.air_log.specs.FloodLaw.{FloodLaw}
-use Rattle.lwb_flood.specs.FloodRun.{Run, HearsIn, takes_part, counter, begins, packet}
+use Rattle.lwb_flood.specs.FloodRun.{Run, HearsIn, IsParticipant, counter, flood_at_beginning, packet}
 use Rattle.lwb_flood.specs.FloodBySteps.{IsFloodBySteps}
-use Rattle.lwb_flood.specs.FloodLog.{HasClocks, run_of, HasSent, HasHeard, HeardFirst, IsAcceptance, accepting}
+use Rattle.lwb_flood.specs.FloodLog.{HasClocks, run_of, HasSentEntry, HasHeard, HeardFirst, IsAcceptanceStep, accepting}
 use Rattle.lwb_base.proofs.Elements.{filter_same}
 use Rattle.lwb_flood.proofs.FloodLogRun.{Tuned, here_of, start_begins, log_times, log_run}
 use Rattle.lwb_flood.proofs.LogEntries.{known_of, ids_distinct, sendings_distinct, heard_was_sent, lasting}
@@ -57,17 +57,17 @@ module _ (f : FloodParts) (clocks : ℕ → ℕ → ℕ) (air : List Entry) (is 
   packet_is x sent = let t = timed r (log_times f clocks air is law) x sent in (t.few, t.packet)
 
   -- sendings
-  pub sent_by_steps : (v k : ℕ) → HasSent air v k ↔ Sends s v k f.start
+  pub sent_by_steps : (v k : ℕ) → HasSentEntry air v k ↔ Sends s v k f.start
   sent_by_steps v k = (to, from)
     where
-      to : HasSent air v k → Sends s v k f.start
+      to : HasSentEntry air v k → Sends s v k f.start
       to h =
           let p = packet_is h.sending h.there in
           let at = h.counter in
           (by_steps.sends v k f.start (start_begins f clocks air is law) (omega (arith, p.0, at))).0
           (record { sending = h.sending; sent = h.there; node = h.node; packet = p.1 ∙ ap (λ (i : ℕ). packet r f.start i) h.counter })
 
-      from : Sends s v k f.start → HasSent air v k
+      from : Sends s v k f.start → HasSentEntry air v k
       from sends =
           let z = (by_steps.sends v k f.start (start_begins f clocks air is law) (sent_early s k v f.start sends)).1 sends in
           record {
@@ -78,7 +78,7 @@ module _ (f : FloodParts) (clocks : ℕ → ℕ → ℕ) (air : List Entry) (is 
           }
 
   -- hearings: with one initiator all of them fit
-  heard_in : (v : ℕ) (x : Sending) (k : ℕ) → takes_part r v → Contains (hearings_of air) (record { node = v; sending = x }) → counter x ≡ k
+  heard_in : (v : ℕ) (x : Sending) (k : ℕ) → IsParticipant r v → Contains (hearings_of air) (record { node = v; sending = x }) → counter x ≡ k
       → Hears s v k f.start
   heard_in v x k here there step =
       let p = packet_is x (heard_was_sent f clocks air law v x there) in
@@ -100,14 +100,14 @@ module _ (f : FloodParts) (clocks : ℕ → ℕ → ℕ) (air : List Entry) (is 
   pub heard_by_steps : (v k : ℕ) → knows f.nodes v ≡ true → HasHeard air v k ↔ Hears s v k f.start
   heard_by_steps v k known = (λ h. heard_in v h.sending k here h.there h.counter, from)
     where
-      here : takes_part r v
+      here : IsParticipant r v
       here = here_of f clocks air is law v known
 
       from : Hears s v k f.start → HasHeard air v k
       from hears =
           let less = heard_in_time s k v f.start hears in
           let h = (by_steps.hears v k f.start here (start_begins f clocks air is law) (omega arith)).1 hears in
-          let event : Contains (law.events v) (Heard h.sending) = occasion_event (begins r v) (law.events v) (record {
+          let event : Contains (law.events v) (Heard h.sending) = occasion_event (flood_at_beginning r v) (law.events v) (record {
             before = h.flood;
             event = Heard h.sending;
           }) h.occasion in
@@ -184,7 +184,7 @@ module _ (f : FloodParts) (clocks : ℕ → ℕ → ℕ) (air : List Entry) (is 
       let a = (accepted_first s v o k).0 at in
       (of_some f.start o _ (sym (hears-one s f.start (moment s k) k v refl (has_one s f.start k refl)) ∙ a.hears), a)
 
-  none_accepted : (v : ℕ) → knows f.nodes v ≡ true → IsAcceptance f air v None → accepted s v ≡ None
+  none_accepted : (v : ℕ) → knows f.nodes v ≡ true → IsAcceptanceStep f air v None → accepted s v ≡ None
   none_accepted v known none =
       elim (inspect (accepted s v)) [
         | inl nothing ↦ nothing
@@ -205,13 +205,13 @@ module _ (f : FloodParts) (clocks : ℕ → ℕ → ℕ) (air : List Entry) (is 
           no_both b is_true is_false = cc
 
   -- what is read off is what was accepted
-  pub acceptance_is : (v : ℕ) (step : Option ℕ) → knows f.nodes v ≡ true → IsAcceptance f air v step
+  pub acceptance_is : (v : ℕ) (step : Option ℕ) → knows f.nodes v ≡ true → IsAcceptanceStep f air v step
       → ◌≡◌ {A = Option (ℕ × ℕ)} (option_map {U = ℕ × ℕ} (λ k. (v, k)) step) (acceptance s v)
   acceptance_is v None known none = ap (λ (o : Option (ℕ × ℕ)). option_map {U = ℕ × ℕ} (λ a. (v, a.1)) o) (sym (none_accepted v known none))
   acceptance_is v (Some k) known (other, first) = ap (λ (o : Option (ℕ × ℕ)). option_map {U = ℕ × ℕ} (λ a. (v, a.1)) o)
       (sym ((accepted_as v k known other).0 first))
 
-  pub accepts_read_off : (step : ℕ → Option ℕ) → ((v : ℕ) → knows f.nodes v ≡ true → IsAcceptance f air v (step v))
+  pub accepts_read_off : (step : ℕ → Option ℕ) → ((v : ℕ) → knows f.nodes v ≡ true → IsAcceptanceStep f air v (step v))
       → accepting step (ids f.nodes) ≡ filter_map (acceptance s) s.everyone
   accepts_read_off step read = filter_same (λ v. option_map {U = ℕ × ℕ} (λ k. (v, k)) (step v)) (acceptance s) (ids f.nodes)
       (λ v there. let known = known_of f.nodes v there in acceptance_is v (step v) known (read v known))

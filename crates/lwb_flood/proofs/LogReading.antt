@@ -19,9 +19,9 @@ use Rattle.bus_terms.specs.Flooding.{Setting, moment, sendings, steps}
 use Rattle.bus_terms.specs.FloodOfText.{ids}
 use Rattle.lwb_base.proofs.Elements.{not_in_none}
 use Rattle.lwb_base.proofs.Truths.{one_if}
-use Rattle.lwb_flood.specs.FloodLog.{IsAcceptance, accepting}
+use Rattle.lwb_flood.specs.FloodLog.{IsAcceptanceStep, accepting}
 use Rattle.lwb_flood.specs.declared.flood_outcome.FirstHearing.{FirstHearing}
-use Rattle.lwb_flood.specs.LogReading.{EndsFirst, IsFirst, AreFirst, kept_of, hearing_of, earlier, with_earlier, step_of}
+use Rattle.lwb_flood.specs.LogReading.{EndsFirst, IsFirstReception, AreFirst, kept_of, reception_of_entry, earlier_reception, with_earlier, step_of}
 
 -- one entry more
 entry_at : (air : List Entry) (i : ℕ) → i < length air → (e : Entry) × (slice_get air i ≡ Some e) × (take (i + 1) air ≡ take i air ++ e ∷ [])
@@ -54,7 +54,7 @@ counted_more air i n b within count at =
 
 -- hearings of v
 module _ (hs : List Hearing) (h : Hearing) (v : ℕ) where
-  other_added : h.node ≢ v → (o : Option FirstHearing) → IsFirst hs v o → IsFirst (hs ++ h ∷ []) v o
+  other_added : h.node ≢ v → (o : Option FirstHearing) → IsFirstReception hs v o → IsFirstReception (hs ++ h ∷ []) v o
   other_added other = by_cases
     where
       still : (x : Sending) → Contains (hs ++ h ∷ []) (record { node = v; sending = x }) → Contains hs (record { node = v; sending = x })
@@ -63,7 +63,7 @@ module _ (hs : List Hearing) (h : Hearing) (v : ℕ) where
         | inr is ↦ absurd (other (ap (λ (g : Hearing). g.node) is))
       ]
 
-      by_cases : (o : Option FirstHearing) → IsFirst hs v o → IsFirst (hs ++ h ∷ []) v o
+      by_cases : (o : Option FirstHearing) → IsFirstReception hs v o → IsFirstReception (hs ++ h ∷ []) v o
       by_cases None none = λ x there. none x (still x there)
       by_cases (Some g) is = record {
         sending = is.sending;
@@ -73,7 +73,7 @@ module _ (hs : List Hearing) (h : Hearing) (v : ℕ) where
         first = λ y there. is.first y (still y there);
       }
 
-  own_added : h.node ≡ v → (o : Option FirstHearing) → IsFirst hs v o → EndsFirst (hs ++ h ∷ []) v (earlier o (kept_of h).1)
+  own_added : h.node ≡ v → (o : Option FirstHearing) → IsFirstReception hs v o → EndsFirst (hs ++ h ∷ []) v (earlier_reception o (kept_of h).1)
   own_added own = by_cases
     where
       here : Contains (hs ++ h ∷ []) (record { node = v; sending = h.sending })
@@ -111,58 +111,60 @@ module _ (hs : List Hearing) (h : Hearing) (v : ℕ) where
           let own_end = is.end in
           newest (λ y old. let first = is.first y old in omega (arith, late, own_end, first))
 
-      by_cases : (o : Option FirstHearing) → IsFirst hs v o → EndsFirst (hs ++ h ∷ []) v (earlier o (kept_of h).1)
+      by_cases : (o : Option FirstHearing) → IsFirstReception hs v o → EndsFirst (hs ++ h ∷ []) v (earlier_reception o (kept_of h).1)
       by_cases None none = newest (λ y old. absurd (none y old))
       by_cases (Some g) is = by_test g is (nat_le g.end h.sending.end) refl
 
 -- a hearing more
 added : (hs : List Hearing) (firsts : List (Option FirstHearing)) (h : Hearing) → length firsts ≡ 201 → h.node ≤ 200
-    → ((v : ℕ) → IsFirst hs v (get_or firsts v None)) → (v : ℕ) → IsFirst (hs ++ h ∷ []) v (get_or (with_earlier firsts (Some (kept_of h))) v None)
+    → ((v : ℕ) → IsFirstReception hs v (get_or firsts v None)) → (v : ℕ)
+        → IsFirstReception (hs ++ h ∷ []) v (get_or (with_earlier firsts (Some (kept_of h))) v None)
 added hs firsts h long small are v = by_test (h.node == v) refl
   where
     kept : Option FirstHearing
-    kept = Some (earlier (get_or firsts h.node None) (kept_of h).1)
+    kept = Some (earlier_reception (get_or firsts h.node None) (kept_of h).1)
 
-    by_test : (b : Bool) → (h.node == v) ≡ b → IsFirst (hs ++ h ∷ []) v (get_or (with_earlier firsts (Some (kept_of h))) v None)
+    by_test : (b : Bool) → (h.node == v) ≡ b → IsFirstReception (hs ++ h ∷ []) v (get_or (with_earlier firsts (Some (kept_of h))) v None)
     by_test true at =
         let own : h.node ≡ v = eqb-true h.node v at in
         let here : get_or (set firsts h.node kept) v None ≡ kept = ap (λ (w : ℕ). get_or (set firsts h.node kept) w None) (sym own)
         ∙ get_or-set_same firsts h.node kept None (omega (arith, long, small)) in
         let is = own_added hs h v own (get_or firsts v None) (are v) in
-        subst (λ (o : Option FirstHearing). IsFirst (hs ++ h ∷ []) v o)
-        (ap (λ (w : ℕ). Some (earlier (get_or firsts w None) (kept_of h).1)) (sym own) ∙ sym here) is
+        subst (λ (o : Option FirstHearing). IsFirstReception (hs ++ h ∷ []) v o)
+        (ap (λ (w : ℕ). Some (earlier_reception (get_or firsts w None) (kept_of h).1)) (sym own) ∙ sym here) is
     by_test false at =
         let other : h.node ≢ v = eqb-false h.node v at in
         let here : get_or (set firsts h.node kept) v None ≡ get_or firsts v None = get_or-set_other firsts h.node v kept None (λ same. other (sym same)) in
-        subst (λ (o : Option FirstHearing). IsFirst (hs ++ h ∷ []) v o) (sym here) (other_added hs h v other (get_or firsts v None) (are v))
+        subst (λ (o : Option FirstHearing). IsFirstReception (hs ++ h ∷ []) v o) (sym here) (other_added hs h v other (get_or firsts v None) (are v))
 
 -- an entry more
 entry_added : (hs : List Hearing) (firsts : List (Option FirstHearing)) (o : Option Hearing) → length firsts ≡ 201
     → ((h : ℕ × FirstHearing) → option_map kept_of o ≡ Some h → h.0 ≤ 200)
-    → ((v : ℕ) → IsFirst hs v (get_or firsts v None)) → (v : ℕ)
-    → IsFirst (hs ++ cons_option o []) v (get_or (with_earlier firsts (option_map kept_of o)) v None)
-entry_added hs firsts None long small are v = subst (λ (l : List Hearing). IsFirst l v (get_or firsts v None)) (sym (append-nil hs)) (are v)
+    → ((v : ℕ) → IsFirstReception hs v (get_or firsts v None)) → (v : ℕ)
+    → IsFirstReception (hs ++ cons_option o []) v (get_or (with_earlier firsts (option_map kept_of o)) v None)
+entry_added hs firsts None long small are v = subst (λ (l : List Hearing). IsFirstReception l v (get_or firsts v None)) (sym (append-nil hs)) (are v)
 entry_added hs firsts (Some h) long small are v = added hs firsts h long (small (kept_of h) refl) are v
 
 long_still : (firsts : List (Option FirstHearing)) (o : Option (ℕ × FirstHearing)) → length (with_earlier firsts o) ≡ length firsts
 long_still firsts None = refl
-long_still firsts (Some h) = length-set firsts h.0 (Some (earlier (get_or firsts h.0 None) h.1))
+long_still firsts (Some h) = length-set firsts h.0 (Some (earlier_reception (get_or firsts h.0 None) h.1))
 
 pub firsts_more : (air : List Entry) (i : ℕ) (firsts : List (Option FirstHearing)) (o : Option (ℕ × FirstHearing)) → i < length air
     → AreFirst (take i air) firsts
-    → o ≡ option_and_then hearing_of (slice_get air i) → ((h : ℕ × FirstHearing) → o ≡ Some h → h.0 ≤ 200)
+    → o ≡ option_and_then reception_of_entry (slice_get air i) → ((h : ℕ × FirstHearing) → o ≡ Some h → h.0 ≤ 200)
     → AreFirst (take (i + 1) air) (with_earlier firsts o)
 firsts_more air i firsts o within are at small =
     let e = entry_at air i within in
     let hs = hearings_of (take i air) in
-    let is : o ≡ hearing_of e.0 = at ∙ ap (λ (x : Option Entry). option_and_then hearing_of x) e.1 in
+    let is : o ≡ reception_of_entry e.0 = at ∙ ap (λ (x : Option Entry). option_and_then reception_of_entry x) e.1 in
     let all : hearings_of (take (i + 1) air) ≡ hs ++ hearings_of (e.0 ∷ []) = ap hearings_of e.2 ∙ filter_map-append hearing_in (take i air) (e.0 ∷ []) in
-    let each : (v : ℕ) → IsFirst (hs ++ hearings_of (e.0 ∷ [])) v (get_or (with_earlier firsts (hearing_of e.0)) v None) =
+    let each : (v : ℕ) → IsFirstReception (hs ++ hearings_of (e.0 ∷ [])) v (get_or (with_earlier firsts (reception_of_entry e.0)) v None) =
     entry_added hs firsts (hearing_in e.0) are.ids (λ h here. small h (is ∙ here)) are.each in
     record {
       ids = long_still firsts o ∙ are.ids;
-      each = λ v. subst (λ (l : List Hearing). IsFirst l v (get_or (with_earlier firsts o) v None)) (sym all)
-          (subst (λ (p : Option (ℕ × FirstHearing)). IsFirst (hs ++ hearings_of (e.0 ∷ [])) v (get_or (with_earlier firsts p) v None)) (sym is) (each v));
+      each = λ v. subst (λ (l : List Hearing). IsFirstReception l v (get_or (with_earlier firsts o) v None)) (sym all)
+          (subst (λ (p : Option (ℕ × FirstHearing)). IsFirstReception (hs ++ hearings_of (e.0 ∷ [])) v (get_or (with_earlier firsts p) v None)) (sym is)
+              (each v));
     }
 
 nothing_kept : (n v : ℕ) → (let none : Option FirstHearing = None in get_or (replicate n none) v none ≡ none)
@@ -173,7 +175,7 @@ nothing_kept (suc n) (suc v) = nothing_kept n v
 pub none_first : AreFirst [] (replicate 201 None)
 none_first = record {
   ids = length-replicate 201 none;
-  each = λ v. subst (λ (o : Option FirstHearing). IsFirst [] v o) (sym (nothing_kept 201 v)) (λ x there. not_in_none _ there);
+  each = λ v. subst (λ (o : Option FirstHearing). IsFirstReception [] v o) (sym (nothing_kept 201 v)) (λ x there. not_in_none _ there);
 }
   where
     none : Option FirstHearing
@@ -194,11 +196,11 @@ accepting_more step nodes i line items below at is =
 
 -- what is kept of the whole log is what is asked
 pub step_is : (f : FloodParts) (air : List Entry) (firsts : List (Option FirstHearing)) → AreFirst air firsts → (v : ℕ)
-    → IsAcceptance f air v (step_of f.start firsts v)
+    → IsAcceptanceStep f air v (step_of f.start firsts v)
 step_is f air firsts are v = by_test (v == f.start) refl (get_or firsts v None) (are.each v)
   where
-    by_test : (b : Bool) → (v == f.start) ≡ b → (o : Option FirstHearing) → IsFirst (hearings_of air) v o
-        → IsAcceptance f air v (if b then None else option_map (λ g. g.counter) o)
+    by_test : (b : Bool) → (v == f.start) ≡ b → (o : Option FirstHearing) → IsFirstReception (hearings_of air) v o
+        → IsAcceptanceStep f air v (if b then None else option_map (λ g. g.counter) o)
     by_test true at o is = inl (eqb-true v f.start at)
     by_test false at None is = inr is
     by_test false at (Some g) is = (eqb-false v f.start at, record { sending = is.sending; there = is.there; counter = is.counter; first = is.first })

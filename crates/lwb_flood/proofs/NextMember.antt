@@ -5,7 +5,7 @@ use Rattle.std.specs.Prelude.{IfSome}
 use Rattle.std.proofs.lemmas.Bool.{cases_lt, cond_both, or_cases, and_parts, ltb-true, eqb-true, ltb-false, eq-eqb, or_parts}
 use Rattle.std.proofs.lemmas.List.{get_or_default}
 use Rattle.lwb_flood.specs.declared.member.Member.{Member}
-use Rattle.lwb_flood.specs.FloodWorlds.{moment_of, NotAfter, comes_before, sooner, IsNext}
+use Rattle.lwb_flood.specs.FloodWorlds.{moment_of, NotAfter, moment_comes_before, sooner, ActsNext}
 
 abbrev pub IsFirst : List Member → ℕ → Option (ℕ × ℕ × Bool) → Type 0
 IsFirst ms i None = (k : ℕ) (d : Member) → k < i → moment_of (get_or ms k d).act ≡ None
@@ -21,7 +21,7 @@ not_after_both a b c (inl ab) (inr bc) = inl (omega (arith, ab, bc.0))
 not_after_both a b c (inr ab) (inl bc) = inl (omega (arith, ab.0, bc))
 not_after_both a b c (inr ab) (inr bc) = inr (ab.0 ∙ bc.0, λ is. bc.1 (ab.1 is))
 
-before_not_after : (a b : ℕ × Bool) → comes_before a b ≡ true → NotAfter a b
+before_not_after : (a b : ℕ × Bool) → moment_comes_before a b ≡ true → NotAfter a b
 before_not_after a b is =
     elim (or_cases (nat_lt a.0 b.0) _ is) [
       | inl less ↦ inl (ltb-true a.0 b.0 less)
@@ -40,7 +40,7 @@ and_false : (x y : Bool) → (x && y) ≡ false → x ≡ true → y ≡ false
 and_false true y is up = is
 and_false false y is up = cc
 
-not_before_after : (a b : ℕ × Bool) → comes_before a b ≡ false → NotAfter b a
+not_before_after : (a b : ℕ × Bool) → moment_comes_before a b ≡ false → NotAfter b a
 not_before_after a b is =
     let both = or_parts (nat_lt a.0 b.0) _ is in
     let above = ltb-false a.0 b.0 both.0 in
@@ -73,7 +73,7 @@ first_more ms i None (Some m) at is = (
       (λ k d less. subst (λ (o : Option (ℕ × Bool)). IfSome o (NotAfter m)) (sym (is k d less)) tt),
 )
 first_more ms i (Some n) (Some m) at is =
-    cond_both (comes_before m (n.1, n.2)) (Some (i, m.0, m.1)) (Some n) (IsFirst ms (i + 1))
+    cond_both (moment_comes_before m (n.1, n.2)) (Some (i, m.0, m.1)) (Some n) (IsFirst ms (i + 1))
     (λ before. (
       omega arith,
       at,
@@ -91,7 +91,7 @@ first_more ms i (Some n) (Some m) at is =
     later None before all = tt
     later (Some k) before all = not_after_both m (n.1, n.2) k before all
 
-pub is_next : (ms : List Member) (n : ℕ × ℕ × Bool) → IsFirst ms (length ms) (Some n) → (d : Member) → IsNext ms (get_or ms n.0 d)
+pub is_next : (ms : List Member) (n : ℕ × ℕ × Bool) → IsFirst ms (length ms) (Some n) → (d : Member) → ActsNext ms (get_or ms n.0 d)
 is_next ms n is d = record { moment = (n.1, n.2); own = is.1 d; first = λ k e less. is.2 k e less }
 
 pub first_with : (ms : List Member) (i : ℕ) (m : Member) (next result : Option (ℕ × ℕ × Bool)) → i < length ms → m ≡ get_or ms i m → IsFirst ms i next
@@ -101,7 +101,7 @@ first_with ms i m next result below at is same =
     (first_more ms i next (moment_of m.act) (λ d. ap (λ (n : Member). moment_of n.act) (get_or_default ms i d m below ∙ sym at)) is)
 
 pub next_is : (ms ys : List Member) (i : ℕ) (next : Option (ℕ × ℕ × Bool)) (n : ℕ × ℕ × Bool) → ys ≡ ms → i ≡ length ys → IsFirst ys i next
-    → next ≡ Some n → (n.0 < length ms) × ((d : Member) → IsNext ms (get_or ms n.0 d))
+    → next ≡ Some n → (n.0 < length ms) × ((d : Member) → ActsNext ms (get_or ms n.0 d))
 next_is ms ys i next n same end first at =
     let is : IsFirst ms (length ms) (Some n) = subst (λ (o : Option (ℕ × ℕ × Bool)). IsFirst ms (length ms) o) at
     (subst (λ (l : List Member). IsFirst l (length l) next) same (subst (λ (k : ℕ). IsFirst ys k next) end first)) in

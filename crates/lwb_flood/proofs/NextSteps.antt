@@ -9,8 +9,8 @@ use Rattle.glossy_relay.specs.FloodState.{FloodState}
 use Rattle.glossy_relay.specs.Relaying.{fits, after_heard, after_sent}
 use Rattle.bus_terms.specs.Flooding.{Setting, Moment, has, hears, first_heard, next, STEPS}
 use Rattle.radio_model.specs.declared.sending.Sending.{Sending}
-use Rattle.air_log.specs.NodeEvents.{Event, Heard, Ended, sending_of, after, InOrder}
-use Rattle.lwb_flood.specs.FloodRun.{counter, Run, FloodRun, sending_at, initiates, takes_part, packet, begins, HearsIn}
+use Rattle.air_log.specs.NodeEvents.{Event, Heard, Ended, sending_of_event, flood_after_event, EventsInOrder}
+use Rattle.lwb_flood.specs.FloodRun.{counter, Run, FloodRun, sending_of_run, initiates, IsParticipant, packet, flood_at_beginning, HearsIn}
 use Rattle.lwb_base.proofs.Elements.{not_in_none, contains_head, contains_tail, contains_cases}
 use Rattle.lwb_base.proofs.Options.{not_both}
 use Rattle.bus_terms.proofs.Options.{inspect, sends_parts}
@@ -30,24 +30,24 @@ module _ (r : Run) (Tuned : ℕ → Sending → Type 0) (f : FloodRun r Tuned) (
   abbrev m' : Moment
   m' = next s k m
 
-  abbrev hears_is : (v o : ℕ) (x : Sending) → takes_part r v → HearsIn r Tuned v x → counter x ≡ k → initiates r o → x.packet ≡ packet r o k
+  abbrev hears_is : (v o : ℕ) (x : Sending) → IsParticipant r v → HearsIn r Tuned v x → counter x ≡ k → initiates r o → x.packet ≡ packet r o k
       → hears s m k v ≡ (if fits (station r m v) x.packet then Some o else None)
   hears_is = StepOccasions.hears_is r Tuned f k few m at
 
-  abbrev in_rest : (v : ℕ) (t : Turn r k v m) (e : Event) → Contains (r.events v) e → k ≤ counter (sending_of e) → Contains t.rest e
+  abbrev in_rest : (v : ℕ) (t : Turn r k v m) (e : Event) → Contains (r.events v) e → k ≤ counter (sending_of_event e) → Contains t.rest e
   in_rest = StepOccasions.in_rest r Tuned f k few m at
 
   abbrev of_rest : (v : ℕ) (t : Turn r k v m) (e : Event) → Contains t.rest e → Contains (r.events v) e
   of_rest = StepOccasions.of_rest r Tuned f k few m at
 
-  abbrev rest_in_order : (v : ℕ) → takes_part r v → (t : Turn r k v m) → InOrder t.rest
+  abbrev rest_in_order : (v : ℕ) → IsParticipant r v → (t : Turn r k v m) → EventsInOrder t.rest
   rest_in_order = StepOccasions.rest_in_order r Tuned f k few m at
 
-  abbrev heard_event : (v : ℕ) (x : Sending) → takes_part r v → HearsIn r Tuned v x → Contains (r.events v) (Heard x)
+  abbrev heard_event : (v : ℕ) (x : Sending) → IsParticipant r v → HearsIn r Tuned v x → Contains (r.events v) (Heard x)
   heard_event = StepOccasions.heard_event r Tuned f k few m at
 
   -- nothing happens at v in this step
-  quiet_sends : (v : ℕ) → takes_part r v → (t : Turn r k v m) → ((e : Event) → Contains t.rest e → k < counter (sending_of e)) → m.sends v ≡ None
+  quiet_sends : (v : ℕ) → IsParticipant r v → (t : Turn r k v m) → ((e : Event) → Contains t.rest e → k < counter (sending_of_event e)) → m.sends v ≡ None
   quiet_sends v here t none =
       elim (inspect (m.sends v)) [
         | inl is ↦ is
@@ -57,7 +57,7 @@ module _ (r : Run) (Tuned : ℕ → Sending → Type 0) (f : FloodRun r Tuned) (
             absurd (omega arith))
       ]
 
-  quiet_hears : (v : ℕ) → takes_part r v → (t : Turn r k v m) → ((e : Event) → Contains t.rest e → k < counter (sending_of e)) → hears s m k v ≡ None
+  quiet_hears : (v : ℕ) → IsParticipant r v → (t : Turn r k v m) → ((e : Event) → Contains t.rest e → k < counter (sending_of_event e)) → hears s m k v ≡ None
   quiet_hears v here t none =
       elim (inspect (hears s m k v)) [
         | inl is ↦ is
@@ -95,7 +95,7 @@ module _ (r : Run) (Tuned : ℕ → Sending → Type 0) (f : FloodRun r Tuned) (
       ∙ ended_state r.kind s.limit r.slot (has s.initiators v) (r.message v) (spell r) (m.times v) k (nat_lt (k + 1) STEPS) o (m.heard v)
       ∙ ap (λ (w : Option ℕ). then_at v w None) (sym is) ∙ ap (then_at v (m.sends v)) (sym (sends_hears v o is))
 
-  after_hearing : (v : ℕ) (x : Sending) → takes_part r v → HearsIn r Tuned v x → counter x ≡ k → after_heard (station r m v) x.packet ≡ station r m' v
+  after_hearing : (v : ℕ) (x : Sending) → IsParticipant r v → HearsIn r Tuned v x → counter x ≡ k → after_heard (station r m v) x.packet ≡ station r m' v
   after_hearing v x here h step =
       let quiet = silent_in r Tuned f k few m at v x h step in
       let o = origin_at r Tuned f k few m at x h.sent step in
@@ -106,11 +106,11 @@ module _ (r : Run) (Tuned : ℕ → Sending → Type 0) (f : FloodRun r Tuned) (
       ∙ ap (λ (w : Option ℕ). then_at v w (if fits (station r m v) x.packet then Some o.0 else None)) (sym quiet) ∙ ap (then_at v (m.sends v)) (sym got)
 
   -- the events from the next step on
-  next_after : (v : ℕ) → takes_part r v → (t : Turn r k v m) (e : Event) (es : List Event) → t.rest ≡ e ∷ es → counter (sending_of e) ≡ k
-      → after (station r m v) e ≡ station r m' v → Turn r (suc k) v m'
+  next_after : (v : ℕ) → IsParticipant r v → (t : Turn r k v m) (e : Event) (es : List Event) → t.rest ≡ e ∷ es → counter (sending_of_event e) ≡ k
+      → flood_after_event (station r m v) e ≡ station r m' v → Turn r (suc k) v m'
   next_after v here t e es is step becomes =
       let whole : r.events v ≡ (t.before ++ e ∷ []) ++ es = t.whole ∙ ap (λ (l : List Event). t.before ++ l) is ∙ sym (append_assoc t.before (e ∷ []) es) in
-      let ordered = subst (λ (l : List Event). InOrder l) is (rest_in_order v here t) in
+      let ordered = subst (λ (l : List Event). EventsInOrder l) is (rest_in_order v here t) in
       record {
         before = t.before ++ e ∷ [];
         rest = es;
@@ -118,28 +118,28 @@ module _ (r : Run) (Tuned : ℕ → Sending → Type 0) (f : FloodRun r Tuned) (
         earlier = λ d there. elim (Contains-append_cases t.before (e ∷ []) d there) [
           | inl old ↦ (let less = t.earlier d old in omega arith)
           | inr now ↦ elim (contains_cases e [] d now) [
-            | inl same ↦ (let at_d : counter (sending_of d) ≡ k = ap (λ (i : Event). counter (sending_of i)) (sym same) ∙ step in omega arith)
+            | inl same ↦ (let at_d : counter (sending_of_event d) ≡ k = ap (λ (i : Event). counter (sending_of_event i)) (sym same) ∙ step in omega arith)
             | inr none ↦ absurd (not_in_none d none)
           ]
         ];
         later = λ d there. later_on ordered d there;
-        state = after_all_append (begins r v) t.before (e ∷ []) ∙ ap (λ (w : FloodState). after w e) t.state ∙ becomes;
+        state = after_all_append (flood_at_beginning r v) t.before (e ∷ []) ∙ ap (λ (w : FloodState). flood_after_event w e) t.state ∙ becomes;
       }
     where
       in_t : (d : Event) → Contains (e ∷ es) d → Contains t.rest d
       in_t d there = subst (λ (l : List Event). Contains l d) (sym is) there
 
-      later_on : InOrder (e ∷ es) → (d : Event) → Contains es d → suc k ≤ counter (sending_of d)
+      later_on : EventsInOrder (e ∷ es) → (d : Event) → Contains es d → suc k ≤ counter (sending_of_event d)
       later_on ordered d there =
           let in_d = in_t d (contains_tail e es d there) in
-          elim (cases_lt k (counter (sending_of d))) [
+          elim (cases_lt k (counter (sending_of_event d))) [
             | inl more ↦ more
             | inr less ↦ (let above = t.later d in_d in
                 absurd ((order_head e es ordered d there).1
                 (event_once r Tuned f k few m at v here e d (of_rest v t e (in_t e (contains_head e es))) (of_rest v t d in_d) step (omega arith))))
           ]
 
-  next_quiet : (v : ℕ) → takes_part r v → (t : Turn r k v m) → ((e : Event) → Contains t.rest e → k < counter (sending_of e)) → Turn r (suc k) v m'
+  next_quiet : (v : ℕ) → IsParticipant r v → (t : Turn r k v m) → ((e : Event) → Contains t.rest e → k < counter (sending_of_event e)) → Turn r (suc k) v m'
   next_quiet v here t none = record {
     before = t.before;
     rest = t.rest;
@@ -149,7 +149,8 @@ module _ (r : Run) (Tuned : ℕ → Sending → Type 0) (f : FloodRun r Tuned) (
     state = t.state ∙ stays v (quiet_sends v here t none) (quiet_hears v here t none);
   }
 
-  next_event : (v : ℕ) → takes_part r v → (t : Turn r k v m) (e : Event) (es : List Event) → t.rest ≡ e ∷ es → counter (sending_of e) ≡ k → Turn r (suc k) v m'
+  next_event : (v : ℕ) → IsParticipant r v → (t : Turn r k v m) (e : Event) (es : List Event) → t.rest ≡ e ∷ es → counter (sending_of_event e) ≡ k
+      → Turn r (suc k) v m'
   next_event v here t (Heard x) es is step =
       let there = of_rest v t (Heard x) (subst (λ (l : List Event). Contains l (Heard x)) (sym is) (contains_head (Heard x) es)) in
       next_after v here t (Heard x) es is step (after_hearing v x here (heard_by_rule r Tuned f v x here there) step)
@@ -159,10 +160,10 @@ module _ (r : Run) (Tuned : ℕ → Sending → Type 0) (f : FloodRun r Tuned) (
       let o = origin_at r Tuned f k few m at x z.0 step in
       next_after v here t (Ended x) es is step (after_ended v o.0 (subst (λ (w : ℕ). m.sends w ≡ Some o.0) z.1 (at.sends x o.0 z.0 o.1 o.2)))
 
-  next_turn : (v : ℕ) → takes_part r v → (t : Turn r k v m) (rest : List Event) → t.rest ≡ rest → Turn r (suc k) v m'
+  next_turn : (v : ℕ) → IsParticipant r v → (t : Turn r k v m) (rest : List Event) → t.rest ≡ rest → Turn r (suc k) v m'
   next_turn v here t [] is = next_quiet v here t (λ e there. absurd (not_in_none e (subst (λ (l : List Event). Contains l e) is there)))
   next_turn v here t (e ∷ es) is =
-      elim (cases_lt k (counter (sending_of e))) [
+      elim (cases_lt k (counter (sending_of_event e))) [
         | inl more ↦ next_quiet v here t (λ d there. all_more more d (subst (λ (l : List Event). Contains l d) is there))
         | inr less ↦ (let above = t.later e (in_t e (contains_head e es)) in next_event v here t e es is (omega arith))
       ]
@@ -170,20 +171,20 @@ module _ (r : Run) (Tuned : ℕ → Sending → Type 0) (f : FloodRun r Tuned) (
       in_t : (d : Event) → Contains (e ∷ es) d → Contains t.rest d
       in_t d there = subst (λ (l : List Event). Contains l d) (sym is) there
 
-      ordered : InOrder (e ∷ es)
-      ordered = subst (λ (l : List Event). InOrder l) is (rest_in_order v here t)
+      ordered : EventsInOrder (e ∷ es)
+      ordered = subst (λ (l : List Event). EventsInOrder l) is (rest_in_order v here t)
 
-      all_more : k < counter (sending_of e) → (d : Event) → Contains (e ∷ es) d → k < counter (sending_of d)
+      all_more : k < counter (sending_of_event e) → (d : Event) → Contains (e ∷ es) d → k < counter (sending_of_event d)
       all_more more d there =
           elim (contains_cases e es d there) [
-            | inl same ↦ subst (λ (i : Event). k < counter (sending_of i)) same more
+            | inl same ↦ subst (λ (i : Event). k < counter (sending_of_event i)) same more
             | inr later ↦ (let below = no_later_step r Tuned f k few m at v here e d (of_rest v t e (in_t e (contains_head e es)))
                 (of_rest v t d (in_t d there)) (order_head e es ordered d later).0 in omega arith)
           ]
 
   -- a sending of the next step, by its hearing
   next_sending : (x : Sending) → Contains r.sendings x → counter x ≡ suc k
-      → takes_part r x.node × ((y : Sending) × HearsIn r Tuned x.node y × (counter y ≡ k) × (fits (station r m x.node) y.packet ≡ true) × (k < 11)
+      → IsParticipant r x.node × ((y : Sending) × HearsIn r Tuned x.node y × (counter y ≡ k) × (fits (station r m x.node) y.packet ≡ true) × (k < 11)
       × (x.packet ≡ slice_set y.packet 2 (k + 1)) × (x.start ≡ r.relay_start x.node y.end))
   next_sending x sent step =
       let both = f.times.relays x sent (omega arith) in
@@ -191,7 +192,8 @@ module _ (r : Run) (Tuned : ℕ → Sending → Type 0) (f : FloodRun r Tuned) (
       let c = both.1 in
       let y = c.heard in
       let parts = relayed_parts c.flood y.packet x.packet c.answer in
-      let there : Contains (r.events v) (Heard y) = occasion_event (begins r v) (r.events v) (record { before = c.flood; event = Heard y }) c.occasion in
+      let there : Contains (r.events v) (Heard y) =
+          occasion_event (flood_at_beginning r v) (r.events v) (record { before = c.flood; event = Heard y }) c.occasion in
       let raised : counter x ≡ counter y + 1 = ap (λ (p : List ℕ). slice_index p 2) parts.2
       ∙ counter_set y.packet (counter y + 1) (fitting_long c.flood y.packet parts.0) in
       let at_y : counter y ≡ k = omega (arith, raised) in
@@ -232,7 +234,7 @@ module _ (r : Run) (Tuned : ℕ → Sending → Type 0) (f : FloodRun r Tuned) (
       let got = hears_is v o y p.here z.hears z.step z.initiator z.packet in
       let fitting : fits (station r m v) y.packet ≡ true = fit_of (fits (station r m v) y.packet) (sym got ∙ parts.1) in
       let answer = relay_of (station r m v) y.packet fitting (subst (λ (i : ℕ). i < 11) (sym z.step) less) in
-      let x : Sending = sending_at r v (r.relay_start v y.end) (slice_set y.packet 2 (counter y + 1)) in
+      let x : Sending = sending_of_run r v (r.relay_start v y.end) (slice_set y.packet 2 (counter y + 1)) in
       let there = occasion_now r Tuned f k few m at v y p.here (heard_event v y p.here z.hears) z.step in
       let sent : Contains r.sendings x = f.times.relayed v (r.relay_start v y.end) (slice_set y.packet 2 (counter y + 1)) p.here (record {
         heard = y;

@@ -11,11 +11,11 @@ use Rattle.radio_model.specs.declared.station.Station.{Station}
 use Rattle.radio_model.specs.declared.station.Tuned.{Tuned as TunedTo}
 use Rattle.radio_model.specs.OnAir.{Hearing, Tuning}
 use Rattle.radio_model.specs.Hearing.{Scene}
-use Rattle.radio_model.specs.Stations.{IsMedium, IsTime, station_of, node_of as station_node}
-use Rattle.radio_model.specs.Holding.{Holds, closed, tuned_of, after_tuning}
+use Rattle.radio_model.specs.Stations.{IsMedium, IsTime, station_of, id_of_station as station_node}
+use Rattle.radio_model.specs.Holding.{Holds, ended_tuning, tuned_of, after_tuning}
 use Rattle.radio_model.proofs.OneCall.{found_member}
 use Rattle.radio_model.proofs.AfterTuning.{holds_after_tuning}
-use Rattle.air_log.specs.Entries.{sendings_of, tunings_of, IsHeard}
+use Rattle.air_log.specs.Entries.{sendings_of, tunings_of, HasHeardEntry}
 use Rattle.air_log.specs.NodeEvents.{own_ends}
 use Rattle.air_log.specs.FloodLaw.{OPENING, CLOSING}
 use Rattle.lwb_base.proofs.Elements.{map_contains, map_from, Distinct}
@@ -23,7 +23,7 @@ use Rattle.lwb_flood.specs.declared.member.Act.{Act}
 use Rattle.lwb_flood.specs.declared.member.Act.TheVariants.{Listens, Waits, Sends, Off}
 use Rattle.lwb_flood.specs.declared.member.Member.{Member}
 use Rattle.lwb_flood.specs.FloodLog.{HasClocks}
-use Rattle.lwb_flood.specs.FloodWorlds.{World, node_of, moment_of, with_act, gone, after_own, own_ended, is_last, ended}
+use Rattle.lwb_flood.specs.FloodWorlds.{World, node_of_member, moment_of, member_with_act, gone, after_own, own_ended, is_last, world_after_end}
 use Rattle.lwb_flood.proofs.LogEntries.{ids_distinct}
 use Rattle.lwb_flood.proofs.FloodSoFar.{scene, events_in, tuned_by, sending_by, IsSending, Stands, IsMember, Runs, IsFloodSoFar}
 use Rattle.lwb_flood.proofs.WorldLists.{one_of_mark, each_changed, same_there, sendings_tuned, hearings_tuned, tunings_tuned}
@@ -32,7 +32,7 @@ use Rattle.lwb_flood.proofs.EventsInLog.{end_within, ended_event}
 -- what runs has run before
 pub gone_runs_back : (v t : ℕ) (w : World) (y : Sending) → Runs (gone v t w) y → Runs w y
 gone_runs_back v t w y r =
-    each_changed v (with_act Off) w.members (λ (n : Member). n.act ≡ Sends y → Runs w y)
+    each_changed v (member_with_act Off) w.members (λ (n : Member). n.act ≡ Sends y → Runs w y)
     (λ n in_it at sends. absurd (off_not sends))
     (λ n in_it other sends. record { member = n; there = in_it; act = sends })
     r.member r.there r.act
@@ -56,7 +56,7 @@ module _ (f : FloodParts) (clocks : ℕ → ℕ → ℕ) (todo : List Hearing) (
       sending : (n : Member) (in_it : Contains w.members n) → n.act ≡ Sends x → IsSending w n x
       sending n in_it sends = subst (λ (a : Act). Stands f clocks w leaving (so.each n in_it).past n a) sends (so.each n in_it).stands
 
-  pub ended_over : Runs (ended x w) x → ⊥
+  pub ended_over : Runs (world_after_end x w) x → ⊥
   ended_over = cond_both (is_last x.node w.members) (gone x.node x.end (own_ended x w)) (own_ended x w) (λ (z : World). Runs z x → ⊥)
       (λ last r. own_ended_over (gone_runs_back x.node x.end (own_ended x w) x r))
       (λ more. own_ended_over)
@@ -81,7 +81,7 @@ module _ (f : FloodParts) (clocks : ℕ → ℕ → ℕ) (is : HasClocks f clock
 
   -- no two nodes are one
   pub one : (n : Member) → Contains w.members n → n.node ≡ m.node → n ≡ m
-  one n in_it same = one_of_mark node_of w.members
+  one n in_it same = one_of_mark node_of_member w.members
       (subst (λ (l : List ℕ). Distinct l) (sym so.nodes) (ids_distinct f.nodes is.sound.ascending)) n m in_it there same
 
   -- a node that is about something else is another
@@ -89,7 +89,7 @@ module _ (f : FloodParts) (clocks : ℕ → ℕ → ℕ) (is : HasClocks f clock
   other_than n in_it not same = not (ap (λ (k : Member). k.act) (one n in_it same) ∙ act)
 
   pub still_there : (n : Member) → Contains w.members n → (n.act ≡ Listens → ⊥) → Contains next.members n
-  still_there n in_it not = same_there m.node (with_act Off) w.members n in_it (other_than n in_it not)
+  still_there n in_it not = same_there m.node (member_with_act Off) w.members n in_it (other_than n in_it not)
 
   -- the log with the entry
   same_sendings : sendings_of next.air ≡ sendings_of w.air
@@ -101,10 +101,10 @@ module _ (f : FloodParts) (clocks : ℕ → ℕ → ℕ) (is : HasClocks f clock
   pub sent_back : (y : Sending) → Contains (sendings_of next.air) y → Contains (sendings_of w.air) y
   sent_back y known = subst (λ (l : List Sending). Contains l y) same_sendings known
 
-  pub heard_on : (u : ℕ) (y : Sending) → IsHeard w.air u y → IsHeard next.air u y
+  pub heard_on : (u : ℕ) (y : Sending) → HasHeardEntry w.air u y → HasHeardEntry next.air u y
   heard_on u y known = subst (λ (l : List Hearing). Contains l (record { node = u; sending = y })) (sym (hearings_tuned w.air m.node t)) known
 
-  pub heard_back : (u : ℕ) (y : Sending) → IsHeard next.air u y → IsHeard w.air u y
+  pub heard_back : (u : ℕ) (y : Sending) → HasHeardEntry next.air u y → HasHeardEntry w.air u y
   heard_back u y known = subst (λ (l : List Hearing). Contains l (record { node = u; sending = y })) (hearings_tuned w.air m.node t) known
 
   pub tuned_on : (k : Tuning) → Contains (tunings_of w.air) k → Contains (tunings_of next.air) k
@@ -115,10 +115,10 @@ module _ (f : FloodParts) (clocks : ℕ → ℕ → ℕ) (is : HasClocks f clock
   tuned_new = subst (λ (l : List Tuning). Contains l span) (sym (tunings_tuned w.air m.node t)) (Contains-push (tunings_of w.air) span)
 
   -- the medium holds the new scene
-  closes : closed m.node None t (tuned_of (station_of w.medium m.node)) ≡ Some span
+  closes : ended_tuning m.node None t (tuned_of (station_of w.medium m.node)) ≡ Some span
   closes =
-      ap (λ (o : Option Station). closed m.node None t (tuned_of o)) old.found
-      ∙ ap (λ (o : Option TunedTo). closed m.node None t o) (old.tuned ∙ ap tuned_by act)
+      ap (λ (o : Option Station). ended_tuning m.node None t (tuned_of o)) old.found
+      ∙ ap (λ (o : Option TunedTo). ended_tuning m.node None t o) (old.tuned ∙ ap tuned_by act)
       ∙ cond-true (nat_lt OPENING t) (Some span) None (lt-ltb OPENING t opened)
 
   pub next_scene : after_tuning w.medium m.node None t (scene f w) ≡ scene f next
@@ -161,7 +161,7 @@ module _ (f : FloodParts) (clocks : ℕ → ℕ → ℕ) (is : HasClocks f clock
 
       running_on : (st : Station) (y : Sending) → Contains w.medium.stations st → st.sending ≡ Some y → t ≤ y.end
       running_on st y in_it runs =
-          let n = map_from node_of w.members st.node
+          let n = map_from node_of_member w.members st.node
           (subst (λ (l : List ℕ). Contains l st.node) (so.stations ∙ sym so.nodes) (map_contains station_node w.medium.stations st in_it)) in
           let each = so.each n.0 n.1 in
           let same : each.station ≡ st = same_station each.station st

@@ -11,7 +11,7 @@ use Rattle.air_log.specs.FloodLaw.{Lasts}
 use Rattle.lwb_base.proofs.Elements.{map_contains, map_from, Distinct}
 use Rattle.lwb_flood.specs.declared.member.Member.{Member}
 use Rattle.lwb_flood.specs.FloodLog.{HasClocks}
-use Rattle.lwb_flood.specs.FloodWorlds.{World, node_of}
+use Rattle.lwb_flood.specs.FloodWorlds.{World, node_of_member}
 use Rattle.radio_model.specs.declared.station.Station.{Station}
 use Rattle.radio_model.specs.Stations.{IsMedium, nodes_of, station_of}
 use Rattle.radio_model.specs.Stations as stations
@@ -33,10 +33,10 @@ lasting_in_step f x lasts step =
 module _ (f : FloodParts) (clocks : ℕ → ℕ → ℕ) (has : HasClocks f clocks) (todo : List Hearing) (leaving : List ℕ) (w : World)
     (medium : IsMedium w.medium) (so : IsFloodSoFar f clocks todo leaving w) where
   pub one_member : (a b : Member) → Contains w.members a → Contains w.members b → a.node ≡ b.node → a ≡ b
-  one_member = one_of_mark node_of w.members (subst Distinct (sym so.nodes) (ids_distinct f.nodes has.sound.ascending))
+  one_member = one_of_mark node_of_member w.members (subst Distinct (sym so.nodes) (ids_distinct f.nodes has.sound.ascending))
 
   pub known_member : (n : Member) → Contains w.members n → Contains (ids f.nodes) n.node
-  known_member n there = subst (λ (l : List ℕ). Contains l n.node) so.nodes (map_contains node_of w.members n there)
+  known_member n there = subst (λ (l : List ℕ). Contains l n.node) so.nodes (map_contains node_of_member w.members n there)
 
   pub of_medium : (n : Member) → Contains w.members n → Contains (nodes_of w.medium) n.node
   of_medium n there = subst (λ (l : List ℕ). Contains l n.node) (sym so.stations) (known_member n there)
@@ -45,17 +45,17 @@ module _ (f : FloodParts) (clocks : ℕ → ℕ → ℕ) (has : HasClocks f cloc
   pub station_there : (n : Member) → Contains w.members n → (st : Station) → station_of w.medium n.node ≡ Some st
       → Contains w.medium.stations st × (st.node ≡ n.node)
   station_there n there st is =
-      let s = map_from stations.node_of w.medium.stations n.node (of_medium n there) in
+      let s = map_from stations.id_of_station w.medium.stations n.node (of_medium n there) in
       let same : s.0 ≡ st = same_Some s.0 st (sym (found_member w.medium.stations s.0 medium.nodes.ascending s.1) ∙ ap (station_of w.medium) s.2 ∙ is) in (
         subst (λ (x : Station). Contains w.medium.stations x) same s.1,
-        ap stations.node_of (sym same) ∙ s.2,
+        ap stations.id_of_station (sym same) ∙ s.2,
       )
 
   -- each station is one of a node
   pub member_of : (st : Station) → Contains w.medium.stations st → (n : Member) × Contains w.members n × (n.node ≡ st.node) × (st.sending ≡ sending_by n.act)
   member_of st there =
-      let n = map_from node_of w.members st.node
-      (subst (λ (l : List ℕ). Contains l st.node) (so.stations ∙ sym so.nodes) (map_contains stations.node_of w.medium.stations st there)) in
+      let n = map_from node_of_member w.members st.node
+      (subst (λ (l : List ℕ). Contains l st.node) (so.stations ∙ sym so.nodes) (map_contains stations.id_of_station w.medium.stations st there)) in
       let is = so.each n.0 n.1 in
       let same : is.station ≡ st = same_Some is.station st
       (sym is.found ∙ ap (station_of w.medium) n.2 ∙ found_member w.medium.stations st medium.nodes.ascending there) in

@@ -15,20 +15,20 @@ use Rattle.radio_model.specs.declared.station.Station.{Station}
 use Rattle.radio_model.specs.declared.station.Tuned.{Tuned as TunedTo}
 use Rattle.radio_model.specs.OnAir.{Hearing, Tuning}
 use Rattle.radio_model.specs.Hearing.{Scene}
-use Rattle.radio_model.specs.Stations.{IsMedium, IsTime, station_of, started, first_sending, next_sending}
-use Rattle.radio_model.specs.Holding.{Holds, Agree, as_it_stands, after_starting, begun as starts}
+use Rattle.radio_model.specs.Stations.{IsMedium, IsTime, station_of, station_after_start, current_or_next, next_sending}
+use Rattle.radio_model.specs.Holding.{Holds, Agree, as_it_stands, after_starting, sending_at_start as starts}
 use Rattle.radio_model.proofs.Agreement.{agree_on, agree_earlier}
 use Rattle.radio_model.proofs.NothingBefore.{by_waiting, by_starting}
 use Rattle.radio_model.proofs.AfterStarting.{holds_after_starting}
 use Rattle.radio_model.proofs.Settled.{settled}
-use Rattle.air_log.specs.Entries.{sendings_of, IsHeard}
+use Rattle.air_log.specs.Entries.{sendings_of, HasHeardEntry}
 use Rattle.air_log.specs.NodeEvents.{Event, Ended}
 use Rattle.air_log.specs.FloodLaw.{OPENING, sending_at}
 use Rattle.lwb_flood.specs.declared.member.Act.{Act}
 use Rattle.lwb_flood.specs.declared.member.Act.TheVariants.{Waits, Sends}
 use Rattle.lwb_flood.specs.declared.member.Member.{Member}
 use Rattle.lwb_flood.specs.FloodLog.{HasClocks}
-use Rattle.lwb_flood.specs.FloodWorlds.{World, moment_of, NotAfter, IsNext, with_act, begun}
+use Rattle.lwb_flood.specs.FloodWorlds.{World, moment_of, NotAfter, ActsNext, member_with_act, world_after_start}
 use Rattle.lwb_flood.proofs.WorldLists.{each_changed, changed_there, same_there, events_sent_own, events_sent_other}
 use Rattle.air_log.proofs.LoggedEntries.{sendings_sent, hearings_sent, tunings_sent}
 use Rattle.lwb_flood.proofs.FloodSoFar.{scene, standing, events_in, running, tuned_by, sending_by, IsWaiting, IsSending, Stands, IsMember, Runs, IsSettled}
@@ -49,16 +49,16 @@ begun_is : (p : Numbers) (t : ℕ) (packet : List ℕ) (st : Station) (y : Sendi
 begun_is p t packet st y silent is = ap (λ (s : Option Sending). if is_none s then next_sending p t packet st.node st.tuned else None) silent ∙ is
 
 pub started_is : (p : Numbers) (t : ℕ) (packet : List ℕ) (st : Station) (y : Sending) → st.sending ≡ None
-    → next_sending p t packet st.node st.tuned ≡ Some y → (started p t packet st).sending ≡ Some y
-started_is p t packet st y silent is = ap (λ (s : Option Sending). first_sending s (next_sending p t packet st.node st.tuned)) silent ∙ is
+    → next_sending p t packet st.node st.tuned ≡ Some y → (station_after_start p t packet st).sending ≡ Some y
+started_is p t packet st y silent is = ap (λ (s : Option Sending). current_or_next s (next_sending p t packet st.node st.tuned)) silent ∙ is
 
 module _ (f : FloodParts) (clocks : ℕ → ℕ → ℕ) (has : HasClocks f clocks) (w : World) (medium : IsMedium w.medium) (so : IsFloodSoFar f clocks [] [] w)
-    (m : Member) (there : Contains w.members m) (t : ℕ) (packet : List ℕ) (act : m.act ≡ Waits t packet) (next : IsNext w.members m) where
+    (m : Member) (there : Contains w.members m) (t : ℕ) (packet : List ℕ) (act : m.act ≡ Waits t packet) (next : ActsNext w.members m) where
   abbrev x : Sending
   x = sending_at m.node t packet
 
   abbrev behind : World
-  behind = begun x w
+  behind = world_after_start x w
 
   pub is : IsMember f clocks [] w m
   is = so.each m there
@@ -112,20 +112,20 @@ module _ (f : FloodParts) (clocks : ℕ → ℕ → ℕ) (has : HasClocks f cloc
   still_runs : (y : Sending) → Runs w y → Runs behind y
   still_runs y runs = record {
     member = runs.member;
-    there = same_there m.node (with_act (Sends x)) w.members runs.member runs.there (λ node.
+    there = same_there m.node (member_with_act (Sends x)) w.members runs.member runs.there (λ node.
         let same = one_member f clocks has [] [] w medium so runs.member m runs.there there node in
         waits_differ t packet y (sym act ∙ ap (λ (k : Member). k.act) (sym same) ∙ runs.act));
     act = runs.act;
   }
 
   x_runs : Runs behind x
-  x_runs = record { member = with_act (Sends x) m; there = changed_there m.node (with_act (Sends x)) w.members m there refl; act = refl }
+  x_runs = record { member = member_with_act (Sends x) m; there = changed_there m.node (member_with_act (Sends x)) w.members m there refl; act = refl }
 
   ran : (y : Sending) → Runs behind y → Runs w y ⊎ (x ≡ y)
   ran y runs = by_member runs.member runs.there runs.act
     where
       by_member : (n : Member) → Contains behind.members n → n.act ≡ Sends y → Runs w y ⊎ (x ≡ y)
-      by_member = each_changed m.node (with_act (Sends x)) w.members (λ n. n.act ≡ Sends y → Runs w y ⊎ (x ≡ y))
+      by_member = each_changed m.node (member_with_act (Sends x)) w.members (λ n. n.act ≡ Sends y → Runs w y ⊎ (x ≡ y))
           (λ n in_it node sends. inr (same_sends x y sends))
           (λ n in_it other sends. inl (record { member = n; there = in_it; act = sends }))
 
@@ -150,10 +150,10 @@ module _ (f : FloodParts) (clocks : ℕ → ℕ → ℕ) (has : HasClocks f cloc
   pub sent_new : Contains (sendings_of behind.air) x
   sent_new = subst (λ (l : List Sending). Contains l x) (sym (sendings_sent w.air x)) (Contains-push (sendings_of w.air) x)
 
-  pub heard_same : (v : ℕ) (y : Sending) → IsHeard behind.air v y → IsHeard w.air v y
+  pub heard_same : (v : ℕ) (y : Sending) → HasHeardEntry behind.air v y → HasHeardEntry w.air v y
   heard_same v y in_it = subst (λ (l : List Hearing). Contains l (record { node = v; sending = y })) (hearings_sent w.air x) in_it
 
-  heard_back : (v : ℕ) (y : Sending) → IsHeard w.air v y → IsHeard behind.air v y
+  heard_back : (v : ℕ) (y : Sending) → HasHeardEntry w.air v y → HasHeardEntry behind.air v y
   heard_back v y in_it = subst (λ (l : List Hearing). Contains l (record { node = v; sending = y })) (sym (hearings_sent w.air x)) in_it
 
   pub begun_before : (y : Sending) → Contains (sendings_of w.air) y → y.start ≤ t

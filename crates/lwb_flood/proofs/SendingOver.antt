@@ -10,8 +10,8 @@ use Rattle.lwb_base.specs.Profile.{Numbers, airtime}
 use Rattle.scenario_text.specs.FloodParts.{FloodParts}
 use Rattle.radio_model.specs.declared.sending.Sending.{Sending}
 use Rattle.radio_model.specs.OnAir.{Hearing}
-use Rattle.radio_model.specs.Hearing.{Hears}
-use Rattle.radio_model.specs.Stations.{IsMedium, IsTime, Ends, nodes_of, station_of, sending_of as sending_by_station}
+use Rattle.radio_model.specs.Hearing.{HearsInScene}
+use Rattle.radio_model.specs.Stations.{IsMedium, IsTime, Ends, nodes_of, station_of, sending_of_station as sending_by_station}
 use Rattle.radio_model.specs.Holding.{Holds, Agree, as_it_stands}
 use Rattle.radio_model.proofs.Agreement.{agree_on, agree_earlier}
 use Rattle.radio_model.proofs.NothingBefore.{by_waiting, by_ending}
@@ -23,7 +23,7 @@ use Rattle.lwb_flood.specs.declared.member.Act.{Act}
 use Rattle.lwb_flood.specs.declared.member.Act.TheVariants.{Sends}
 use Rattle.lwb_flood.specs.declared.member.Member.{Member}
 use Rattle.lwb_flood.specs.FloodLog.{HasClocks}
-use Rattle.lwb_flood.specs.FloodWorlds.{World, moment_of, NotAfter, IsNext, after_own, is_last, own_ended}
+use Rattle.lwb_flood.specs.FloodWorlds.{World, moment_of, NotAfter, ActsNext, after_own, is_last, own_ended}
 use Rattle.lwb_flood.proofs.ActsTold.{same_sends, sends_by, listens_differ}
 use Rattle.lwb_flood.proofs.FloodSoFar.{scene, standing, sending_by, IsSending, Stands, IsMember, Runs, IsSettled, IsSent, IsDue, IsFloodSoFar}
 use Rattle.lwb_flood.proofs.LogEntries.{known_of, known_there}
@@ -46,7 +46,7 @@ heard_distinct x [] all = tt
 heard_distinct x (v ∷ vs) all = (λ there. all.0 (heard_from x x vs v there).1, heard_distinct x vs all.1)
 
 module _ (f : FloodParts) (clocks : ℕ → ℕ → ℕ) (has : HasClocks f clocks) (w : World) (medium : IsMedium w.medium) (so : IsFloodSoFar f clocks [] [] w)
-    (m : Member) (there : Contains w.members m) (x : Sending) (act : m.act ≡ Sends x) (next : IsNext w.members m) where
+    (m : Member) (there : Contains w.members m) (x : Sending) (act : m.act ≡ Sends x) (next : ActsNext w.members m) where
   abbrev behind : World
   behind = own_ended x w
 
@@ -153,7 +153,7 @@ module _ (f : FloodParts) (clocks : ℕ → ℕ → ℕ) (has : HasClocks f cloc
 
   -- those that hear it
   module _ (vs : List ℕ) (distinct : Distinct vs)
-      (hear : (v : ℕ) → Contains vs v ↔ (Contains (nodes_of w.medium) v × Hears (as_it_stands w.medium x.end (scene f w)) v x)) where
+      (hear : (v : ℕ) → Contains vs v ↔ (Contains (nodes_of w.medium) v × HearsInScene (as_it_stands w.medium x.end (scene f w)) v x)) where
     abbrev todo : List Hearing
     todo = map (heard_at x) vs
 

@@ -8,21 +8,21 @@ use Rattle.lwb_packets.specs.Body.{body}
 use Rattle.glossy_relay.specs.Relaying.{is_spelling}
 use Rattle.tick_clock.specs.Clocks.{Near}
 use Rattle.radio_model.specs.declared.sending.Sending.{Sending}
-use Rattle.air_log.specs.NodeEvents.{Event, Heard, Ended, sending_of, after, Occasion, occasions}
+use Rattle.air_log.specs.NodeEvents.{Event, Heard, Ended, sending_of_event, flood_after_event, EventOccasion, event_occasions}
 use Rattle.air_log.proofs.SameSendings.{same_sending as equal_sendings}
-use Rattle.lwb_flood.specs.FloodRun.{counter, Run, HasTimes, initiates, takes_part, packet, begins, InTime}
+use Rattle.lwb_flood.specs.FloodRun.{counter, Run, RunHasTimes, initiates, IsParticipant, packet, flood_at_beginning, InTime}
 use Rattle.radio_model.specs.Hearing.{Meets}
 use Rattle.lwb_base.proofs.Elements.{not_in_none, contains_head, contains_tail, contains_cases}
 use Rattle.glossy_relay.proofs.CountedPackets.{counter_set, body_set, set_same, long_spelling, fitting_long, relayed_parts}
 use Rattle.lwb_flood.proofs.StepTimes.{chained, in_order, meet, within}
 
 -- the event of an occasion
-pub occasion_event : (s : FloodState) (es : List Event) (c : Occasion) → Contains (occasions s es) c → Contains es c.event
+pub occasion_event : (s : FloodState) (es : List Event) (c : EventOccasion) → Contains (event_occasions s es) c → Contains es c.event
 occasion_event s [] c there = absurd (not_in_none c there)
 occasion_event s (e ∷ es) c there =
-    elim (contains_cases (record { before = s; event = e }) (occasions (after s e) es) c there) [
-      | inl is ↦ subst (λ (x : Event). Contains (e ∷ es) x) (ap (λ (o : Occasion). o.event) is) (contains_head e es)
-      | inr later ↦ contains_tail e es c.event (occasion_event (after s e) es c later)
+    elim (contains_cases (record { before = s; event = e }) (event_occasions (flood_after_event s e) es) c there) [
+      | inl is ↦ subst (λ (x : Event). Contains (e ∷ es) x) (ap (λ (o : EventOccasion). o.event) is) (contains_head e es)
+      | inr later ↦ contains_tail e es c.event (occasion_event (flood_after_event s e) es c later)
     ]
 
 -- the steps of a run
@@ -32,9 +32,9 @@ pub record Timed (r : Run) (x : Sending) : Type 0 where
   pub few : counter x ≤ 11
   pub packet : x.packet ≡ packet r origin (counter x)
   pub near : Near x.start (r.starts origin + counter x * (r.air + r.turn)) (counter x)
-  pub here : takes_part r x.node
+  pub here : IsParticipant r x.node
 
-module _ (r : Run) (f : HasTimes r) where
+module _ (r : Run) (f : RunHasTimes r) where
   pub message_is : (o : ℕ) → initiates r o → packet r o 0 ≡ r.message o
   message_is o is = set_same (r.message o) 0 (f.counter_zero o is)
 
@@ -48,7 +48,7 @@ module _ (r : Run) (f : HasTimes r) where
   pub same_origin : (o p k l : ℕ) → initiates r o → initiates r p → packet r o k ≡ packet r p l → o ≡ p
   same_origin o p k l is is' at = f.different o p is is' (sym (body_set (r.message o) k) ∙ ap body at ∙ body_set (r.message p) l)
 
-  pub heard_sent : (v : ℕ) (y : Sending) → takes_part r v → Contains (r.events v) (Heard y) → Contains r.sendings y
+  pub heard_sent : (v : ℕ) (y : Sending) → IsParticipant r v → Contains (r.events v) (Heard y) → Contains r.sendings y
   heard_sent v y here there = f.heard_sent v y here ((f.heard_events v y here).0 there)
 
   pub in_time : (x : Sending) → Contains r.sendings x → Timed r x → InTime r x
@@ -69,7 +69,7 @@ module _ (r : Run) (f : HasTimes r) where
       let c = both.1 in
       let y = c.heard in
       let parts = relayed_parts c.flood y.packet x.packet c.answer in
-      let event : Contains (r.events x.node) (Heard y) = occasion_event (begins r x.node) (r.events x.node) _ c.occasion in
+      let event : Contains (r.events x.node) (Heard y) = occasion_event (flood_at_beginning r x.node) (r.events x.node) _ c.occasion in
       let was_sent = heard_sent x.node y both.0 event in
       let hearing = (f.heard_events x.node y both.0).0 event in
       let raised : counter x ≡ counter y + 1 = ap (λ (p : List ℕ). slice_index p 2) parts.2
@@ -149,7 +149,7 @@ module _ (r : Run) (f : HasTimes r) where
         | inr at ↦ (let m = meets x y sent_x sent_y (omega arith) in omega (arith, m.before))
       ]
 
-  pub event_sent : (v : ℕ) (e : Event) → takes_part r v → Contains (r.events v) e → Contains r.sendings (sending_of e)
+  pub event_sent : (v : ℕ) (e : Event) → IsParticipant r v → Contains (r.events v) e → Contains r.sendings (sending_of_event e)
   event_sent v (Heard y) here there = heard_sent v y here there
   event_sent v (Ended y) here there = ((f.ended_events v y here).0 there).0
 

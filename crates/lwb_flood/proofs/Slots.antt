@@ -7,11 +7,11 @@ use Rattle.tick_clock.specs.Clocks.{Near, due}
 use Rattle.tick_clock.proofs.DueTicks.{turn}
 use Rattle.radio_model.specs.declared.sending.Sending.{Sending}
 use Rattle.lwb_flood.specs.FloodRun.{Run, FloodRun, TurnsAround}
-use Rattle.lwb_flood.specs.Windows.{IsSlot}
+use Rattle.lwb_flood.specs.Windows.{IsSlotFlood}
 use Rattle.lwb_flood.proofs.TunedWindows.{tuned_in_window}
 
 module _ (p : Numbers) (b : Budget) (fits : Fits p b) (n : ℕ) (clocks : ℕ → ℕ → ℕ) (r : Run) (Tuned : ℕ → Sending → Type 0)
-    (slot : IsSlot p b n clocks r Tuned) where
+    (slot : IsSlotFlood p b n clocks r Tuned) where
   turns : TurnsAround r
   turns v x here there time =
       let air = slot.air in

@@ -12,8 +12,9 @@ use Rattle.bus_terms.specs.Flooding.{Setting, Moment, has, offer, candidates, na
 use Rattle.tick_clock.specs.Clocks.{Near}
 use Rattle.radio_model.specs.declared.sending.Sending.{Sending}
 use Rattle.radio_model.specs.Hearing.{Before}
-use Rattle.air_log.specs.NodeEvents.{Event, Heard, sending_of, after_all}
-use Rattle.lwb_flood.specs.FloodRun.{counter, Run, FloodRun, initiates, takes_part, packet, begins, Rival, Silent, Alone, Captured, HearsIn}
+use Rattle.air_log.specs.NodeEvents.{Event, Heard, sending_of_event, flood_after_events}
+use Rattle.lwb_flood.specs.FloodRun.{counter, Run, FloodRun, initiates, IsParticipant, packet, flood_at_beginning, RivalInRun, SilentInRun, AloneInRun}
+use Rattle.lwb_flood.specs.FloodRun.{CapturedInRun, HearsIn}
 use Rattle.bus_terms.proofs.Options.{inspect, only_when, only_from, in_filter, from_filter, sends_parts, named_parts}
 use Rattle.lwb_flood.proofs.StepTimes.{close}
 use Rattle.lwb_flood.proofs.SendingTimes.{timed, in_time, counter_is, same_origin, over, meets, one_step, not_over, event_sent}
@@ -35,7 +36,7 @@ pub record HeardIn (r : Run) (Tuned : ℕ → Sending → Type 0) (k v o : ℕ) 
   pub initiator : initiates r o
 
 -- what happened as a hearing is heard by the rule
-pub heard_by_rule : (r : Run) (Tuned : ℕ → Sending → Type 0) → FloodRun r Tuned → (v : ℕ) (y : Sending) → takes_part r v
+pub heard_by_rule : (r : Run) (Tuned : ℕ → Sending → Type 0) → FloodRun r Tuned → (v : ℕ) (y : Sending) → IsParticipant r v
     → Contains (r.events v) (Heard y) → HearsIn r Tuned v y
 heard_by_rule r Tuned f v y here there = (f.hears v y here).0 ((f.times.heard_events v y here).0 there)
 
@@ -57,7 +58,7 @@ module _ (r : Run) (Tuned : ℕ → Sending → Type 0) (f : FloodRun r Tuned) (
   counter_sent v o z = counter_is r f.times o k z.sending z.initiator z.packet
 
   pub rival : (v : ℕ) (x y : Sending) → Contains r.sendings x → Contains r.sendings y → counter x ≡ k → counter y ≡ k → s.passes k y.node v ≡ true
-      → Rival r v x y
+      → RivalInRun r v x y
   rival v x y sent_x sent_y at_x at_y passes = record {
     sent = sent_y;
     meets = meets r f.times x y sent_x sent_y (at_x ∙ sym at_y);
@@ -65,7 +66,7 @@ module _ (r : Run) (Tuned : ℕ → Sending → Type 0) (f : FloodRun r Tuned) (
   }
 
   -- what meets a sending of this step is of this step
-  pub rival_step : (v : ℕ) (x y : Sending) → Contains r.sendings x → counter x ≡ k → Rival r v x y → counter y ≡ k
+  pub rival_step : (v : ℕ) (x y : Sending) → Contains r.sendings x → counter x ≡ k → RivalInRun r v x y → counter y ≡ k
   rival_step v x y sent_x at_x is = sym (one_step r f.times x y sent_x is.sent is.meets) ∙ at_x
 
   pub silent_in : (v : ℕ) (x : Sending) → HearsIn r Tuned v x → counter x ≡ k → m.sends v ≡ None
@@ -88,14 +89,14 @@ module _ (r : Run) (Tuned : ℕ → Sending → Type 0) (f : FloodRun r Tuned) (
         | inr c ↦ inr (chosen c)
       ])
     where
-      only : (p : ℕ) → Alone r v x → (u : ℕ) × (has s.everyone u ≡ true) × (offer_to v u ≡ Some p) → p ≡ o
+      only : (p : ℕ) → AloneInRun r v x → (u : ℕ) × (has s.everyone u ≡ true) × (offer_to v u ≡ Some p) → p ≡ o
       only p alone u =
           let parts = sends_parts (s.passes k u.0 v) (m.sends u.0) p u.2 in
           let z = at.sent u.0 p parts.1 in
           let close = rival v x z.sending h.sent z.sent step (counter_sent u.0 p z) (subst (λ (w : ℕ). s.passes k w v ≡ true) (sym z.node) parts.0) in
           same_origin r f.times p o k k z.initiator begun (sym z.packet ∙ alone z.sending close ∙ is)
 
-      chosen : Captured r v x → named s m k v ≡ Some o
+      chosen : CapturedInRun r v x → named s m k v ≡ Some o
       chosen c =
           let at_step = rival_step v x c.winner h.sent step c.rival in
           let sends : m.sends c.winner.node ≡ Some o = at.sends c.winner o c.rival.sent begun (c.same ∙ is) in
@@ -104,24 +105,24 @@ module _ (r : Run) (Tuned : ℕ → Sending → Type 0) (f : FloodRun r Tuned) (
           ap (λ (w : Option ℕ). option_and_then (offer_to v) w) is_named ∙ offered v c.winner.node o passes sends
 
   -- the events of a node around a sending of this step
-  early : (v : ℕ) (x : Sending) → takes_part r v → Contains r.sendings x → counter x ≡ k → (t : Turn r k v m) → (e : Event) → Contains t.before e
-      → (sending_of e).end ≤ x.start
+  early : (v : ℕ) (x : Sending) → IsParticipant r v → Contains r.sendings x → counter x ≡ k → (t : Turn r k v m) → (e : Event) → Contains t.before e
+      → (sending_of_event e).end ≤ x.start
   early v x here sent step t e there =
       let event = subst (λ (l : List Event). Contains l e) (sym t.whole) (Contains-append_left t.before t.rest e there) in
       let less = t.earlier e there in
-      omega (arith, over r f.times (sending_of e) x (event_sent r f.times v e here event) sent (omega arith))
+      omega (arith, over r f.times (sending_of_event e) x (event_sent r f.times v e here event) sent (omega arith))
 
-  late : (v : ℕ) (x : Sending) → takes_part r v → Contains r.sendings x → counter x ≡ k → (t : Turn r k v m) → (e : Event) → Contains t.rest e
-      → x.start < (sending_of e).end
+  late : (v : ℕ) (x : Sending) → IsParticipant r v → Contains r.sendings x → counter x ≡ k → (t : Turn r k v m) → (e : Event) → Contains t.rest e
+      → x.start < (sending_of_event e).end
   late v x here sent step t e there =
       let event = subst (λ (l : List Event). Contains l e) (sym t.whole) (Contains-append_right t.before t.rest e there) in
       let more = t.later e there in
-      not_over r f.times x (sending_of e) sent (event_sent r f.times v e here event) (omega arith)
+      not_over r f.times x (sending_of_event e) sent (event_sent r f.times v e here event) (omega arith)
 
-  sent_is : (v : ℕ) (t : Turn r k v m) → (after_all (begins r v) t.before).sent ≡ m.times v
+  sent_is : (v : ℕ) (t : Turn r k v m) → (flood_after_events (flood_at_beginning r v) t.before).sent ≡ m.times v
   sent_is v t = ap (λ (w : FloodState). w.sent) t.state
 
-  pub few_sent : (v : ℕ) (x : Sending) → takes_part r v → HearsIn r Tuned v x → counter x ≡ k → m.times v < s.limit
+  pub few_sent : (v : ℕ) (x : Sending) → IsParticipant r v → HearsIn r Tuned v x → counter x ≡ k → m.times v < s.limit
   few_sent v x here h step =
       let t = at.turns v here in
       let less = (f.tuned v here x t.before t.rest h.sent (in_time r f.times x h.sent (timed r f.times x h.sent)) (record {
@@ -131,7 +132,7 @@ module _ (r : Run) (Tuned : ℕ → Sending → Type 0) (f : FloodRun r Tuned) (
       }) h.silent).0 h.tuned in
       subst (λ (n : ℕ). n < s.limit) (sent_is v t) less
 
-  tuned_in : (v : ℕ) (x : Sending) → takes_part r v → Contains r.sendings x → counter x ≡ k → Silent r v x → m.times v < s.limit → Tuned v x
+  tuned_in : (v : ℕ) (x : Sending) → IsParticipant r v → Contains r.sendings x → counter x ≡ k → SilentInRun r v x → m.times v < s.limit → Tuned v x
   tuned_in v x here sent step silent less =
       let t = at.turns v here in
       (f.tuned v here x t.before t.rest sent (in_time r f.times x sent (timed r f.times x sent))
@@ -175,7 +176,7 @@ module _ (r : Run) (Tuned : ℕ → Sending → Type 0) (f : FloodRun r Tuned) (
   offered_once v o begun x y is is' node = at.once x y is.sent is'.sent (counter_is r f.times o k x begun is.packet)
       (counter_is r f.times o k y begun is'.packet) node
 
-  hears_first : (v o : ℕ) → takes_part r v → pick s m k v ≡ Some o → m.sends v ≡ None → m.times v < s.limit
+  hears_first : (v o : ℕ) → IsParticipant r v → pick s m k v ≡ Some o → m.sends v ≡ None → m.times v < s.limit
       → (x : Sending) → Offered r k v o x → ((y : Sending) → Offered r k v o y → has s.everyone y.node ≡ true → Before x y) → HearsIn r Tuned v x
   hears_first v o here is quiet less x mine first =
       let begun = begun_of v o is in
@@ -194,19 +195,19 @@ module _ (r : Run) (Tuned : ℕ → Sending → Type 0) (f : FloodRun r Tuned) (
         ];
       }
     where
-      silent : counter x ≡ k → Silent r v x
+      silent : counter x ≡ k → SilentInRun r v x
       silent step y sent node meet =
           let at_y : counter y ≡ k = sym (one_step r f.times x y mine.sent sent meet) ∙ step in
           let p = origin_at y sent at_y in
           not_both (m.sends v) p.0 quiet (subst (λ (w : ℕ). m.sends w ≡ Some p.0) node (at.sends y p.0 sent p.1 p.2))
 
-      passes_of : (y : Sending) → counter y ≡ k → Rival r v x y → s.passes k y.node v ≡ true
+      passes_of : (y : Sending) → counter y ≡ k → RivalInRun r v x y → s.passes k y.node v ≡ true
       passes_of y at_y rival = subst (λ (i : ℕ). s.passes i y.node v ≡ true) at_y rival.passes
 
-      offer_of : counter x ≡ k → (y : Sending) → Rival r v x y → y.packet ≡ x.packet → Offered r k v o y
+      offer_of : counter x ≡ k → (y : Sending) → RivalInRun r v x y → y.packet ≡ x.packet → Offered r k v o y
       offer_of step y rival same = record { sent = rival.sent; packet = same ∙ mine.packet; passes = passes_of y (rival_step v x y mine.sent step rival) rival }
 
-      near : initiates r o → counter x ≡ k → (y : Sending) → Rival r v x y → y.packet ≡ x.packet → y.start ≤ x.start + r.delta
+      near : initiates r o → counter x ≡ k → (y : Sending) → RivalInRun r v x y → y.packet ≡ x.packet → y.start ≤ x.start + r.delta
       near begun step y rival same =
           let t = timed r f.times x mine.sent in
           let u = timed r f.times y rival.sent in
@@ -219,7 +220,7 @@ module _ (r : Run) (Tuned : ℕ → Sending → Type 0) (f : FloodRun r Tuned) (
           let room = f.times.displacement in
           omega (arith, close r.air r.turn (counter x) x.start y.start (r.starts t.origin) t.few t.near near_y, room)
 
-      alone : initiates r o → counter x ≡ k → ((p : ℕ) → has (candidates s m k v) p ≡ true → p ≡ o) → Alone r v x
+      alone : initiates r o → counter x ≡ k → ((p : ℕ) → has (candidates s m k v) p ≡ true → p ≡ o) → AloneInRun r v x
       alone begun step all y rival =
           let at_y = rival_step v x y mine.sent step rival in
           let p = origin_at y rival.sent at_y in
@@ -227,7 +228,7 @@ module _ (r : Run) (Tuned : ℕ → Sending → Type 0) (f : FloodRun r Tuned) (
           let same : p.0 ≡ o = all p.0 (in_filter (offer_to v) s.everyone y.node p.0 (timed r f.times y rival.sent).here offer_y) in
           p.2 ∙ ap (λ (i : ℕ). packet r i k) same ∙ sym mine.packet
 
-      winner : initiates r o → counter x ≡ k → named s m k v ≡ Some o → Captured r v x
+      winner : initiates r o → counter x ≡ k → named s m k v ≡ Some o → CapturedInRun r v x
       winner begun step other =
           let u = named_parts (offer_to v) (s.captured k v) o other in
           let parts = sends_parts (s.passes k u.0 v) (m.sends u.0) o u.2 in
@@ -240,7 +241,7 @@ module _ (r : Run) (Tuned : ℕ → Sending → Type 0) (f : FloodRun r Tuned) (
             named = ap (λ (i : ℕ). s.captured i v) step ∙ u.1 ∙ ap (λ (w : ℕ). Some w) (sym z.node);
           }
 
-  pub hearing_from : (v o : ℕ) → takes_part r v → pick s m k v ≡ Some o → m.sends v ≡ None → m.times v < s.limit → HeardIn r Tuned k v o
+  pub hearing_from : (v o : ℕ) → IsParticipant r v → pick s m k v ≡ Some o → m.sends v ≡ None → m.times v < s.limit → HeardIn r Tuned k v o
   hearing_from v o here is quiet less =
       let begun = begun_of v o is in
       let w = witness v o is in

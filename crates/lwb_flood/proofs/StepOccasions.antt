@@ -10,8 +10,9 @@ use Rattle.glossy_relay.specs.Relaying.{fits, reply_to, counter_of}
 use Rattle.glossy_relay.specs.declared.flood.Reply.TheVariants.{Relay}
 use Rattle.bus_terms.specs.Flooding.{Setting, Moment, has, pick, agrees, may_hear, hears, next}
 use Rattle.radio_model.specs.declared.sending.Sending.{Sending}
-use Rattle.air_log.specs.NodeEvents.{Event, Heard, Ended, sending_of, after, after_all, Occasion, occasions, InOrder}
-use Rattle.lwb_flood.specs.FloodRun.{counter, Run, FloodRun, initiates, takes_part, packet, begins, HearsIn}
+use Rattle.air_log.specs.NodeEvents.{Event, Heard, Ended, sending_of_event, flood_after_event, flood_after_events, EventOccasion, event_occasions}
+use Rattle.air_log.specs.NodeEvents.{EventsInOrder}
+use Rattle.lwb_flood.specs.FloodRun.{counter, Run, FloodRun, initiates, IsParticipant, packet, flood_at_beginning, HearsIn}
 use Rattle.lwb_base.proofs.Elements.{not_in_none, contains_head, contains_tail, contains_cases}
 use Rattle.lwb_base.proofs.Options.{none_is}
 use Rattle.bus_terms.proofs.Options.{heard_parts}
@@ -24,7 +25,7 @@ use Rattle.lwb_flood.proofs.StepsOnAir.{Turn, IsAt}
 
 -- what hearing in this step says
 pub record HearsParts (r : Run) (k v o : ℕ) (m : Moment) : Type 0 where
-  pub here : takes_part r v
+  pub here : IsParticipant r v
   pub quiet : m.sends v ≡ None
   pub few : m.times v < r.setting.limit
   pub picked : pick r.setting m k v ≡ Some o
@@ -57,7 +58,7 @@ pub relay_of : (w : FloodState) (p : List ℕ) → fits w p ≡ true → counter
 relay_of w p fitting less = rw (fitting, lt-ltb (counter_of p) 11 less) refl
 
 heard_same : (x y : Sending) → Heard x ≡ Heard y → x ≡ y
-heard_same x y is = ap sending_of is
+heard_same x y is = ap sending_of_event is
 
 module _ (r : Run) (Tuned : ℕ → Sending → Type 0) (f : FloodRun r Tuned) (k : ℕ) (few : k ≤ 11) (m : Moment) (at : IsAt r k m) where
   abbrev s : Setting
@@ -67,7 +68,7 @@ module _ (r : Run) (Tuned : ℕ → Sending → Type 0) (f : FloodRun r Tuned) (
   m' = next s k m
 
   -- v hears by steps what it heard on the air, exactly where it fits
-  pub hears_is : (v o : ℕ) (x : Sending) → takes_part r v → HearsIn r Tuned v x → counter x ≡ k → initiates r o → x.packet ≡ packet r o k
+  pub hears_is : (v o : ℕ) (x : Sending) → IsParticipant r v → HearsIn r Tuned v x → counter x ≡ k → initiates r o → x.packet ≡ packet r o k
       → hears s m k v ≡ (if fits (station r m v) x.packet then Some o else None)
   hears_is v o x here h step begun is =
       let quiet = silent_in r Tuned f k few m at v x h step in
@@ -96,8 +97,8 @@ module _ (r : Run) (Tuned : ℕ → Sending → Type 0) (f : FloodRun r Tuned) (
   never_both : (v : ℕ) (x y : Sending) → HearsIn r Tuned v x → Contains r.sendings y → y.node ≡ v → counter x ≡ k → counter y ≡ k → ⊥
   never_both v x y h sent node at_x at_y = h.silent y sent node (meets r f.times x y h.sent sent (at_x ∙ sym at_y))
 
-  pub event_once : (v : ℕ) → takes_part r v → (d e : Event) → Contains (r.events v) d → Contains (r.events v) e → counter (sending_of d) ≡ k
-      → counter (sending_of e) ≡ k → d ≡ e
+  pub event_once : (v : ℕ) → IsParticipant r v → (d e : Event) → Contains (r.events v) d → Contains (r.events v) e → counter (sending_of_event d) ≡ k
+      → counter (sending_of_event e) ≡ k → d ≡ e
   event_once v here (Heard x) (Heard y) in_d in_e at_d at_e =
       ap (λ (z : Sending). Heard z) (heard_once v x y (heard_by_rule r Tuned f v x here in_d) (heard_by_rule r Tuned f v y here in_e) at_d at_e)
   event_once v here (Heard x) (Ended y) in_d in_e at_d at_e =
@@ -109,7 +110,7 @@ module _ (r : Run) (Tuned : ℕ → Sending → Type 0) (f : FloodRun r Tuned) (
       let w = (f.times.ended_events v y here).0 in_e in
       ap (λ (i : Sending). Ended i) (at.once x y z.0 w.0 at_d at_e (z.1 ∙ sym w.1))
 
-  pub in_rest : (v : ℕ) (t : Turn r k v m) (e : Event) → Contains (r.events v) e → k ≤ counter (sending_of e) → Contains t.rest e
+  pub in_rest : (v : ℕ) (t : Turn r k v m) (e : Event) → Contains (r.events v) e → k ≤ counter (sending_of_event e) → Contains t.rest e
   in_rest v t e there more =
       elim (Contains-append_cases t.before t.rest e (subst (λ (l : List Event). Contains l e) t.whole there)) [
         | inl old ↦ (let less = t.earlier e old in absurd (omega arith))
@@ -119,19 +120,19 @@ module _ (r : Run) (Tuned : ℕ → Sending → Type 0) (f : FloodRun r Tuned) (
   pub of_rest : (v : ℕ) (t : Turn r k v m) (e : Event) → Contains t.rest e → Contains (r.events v) e
   of_rest v t e there = subst (λ (l : List Event). Contains l e) (sym t.whole) (Contains-append_right t.before t.rest e there)
 
-  pub rest_in_order : (v : ℕ) → takes_part r v → (t : Turn r k v m) → InOrder t.rest
-  rest_in_order v here t = in_order_rest t.before t.rest (subst (λ (l : List Event). InOrder l) t.whole (f.times.in_order v here))
+  pub rest_in_order : (v : ℕ) → IsParticipant r v → (t : Turn r k v m) → EventsInOrder t.rest
+  rest_in_order v here t = in_order_rest t.before t.rest (subst (λ (l : List Event). EventsInOrder l) t.whole (f.times.in_order v here))
 
   -- an event that ends no later is of no later step
-  pub no_later_step : (v : ℕ) → takes_part r v → (d e : Event) → Contains (r.events v) d → Contains (r.events v) e
-      → (sending_of d).end ≤ (sending_of e).end → counter (sending_of d) ≤ counter (sending_of e)
+  pub no_later_step : (v : ℕ) → IsParticipant r v → (d e : Event) → Contains (r.events v) d → Contains (r.events v) e
+      → (sending_of_event d).end ≤ (sending_of_event e).end → counter (sending_of_event d) ≤ counter (sending_of_event e)
   no_later_step v here d e in_d in_e order =
-      elim (cases_lt (counter (sending_of e)) (counter (sending_of d))) [
+      elim (cases_lt (counter (sending_of_event e)) (counter (sending_of_event d))) [
         | inl less ↦
-            (let ends = f.times.lasts (sending_of d) (event_sent r f.times v d here in_d) in
+            (let ends = f.times.lasts (sending_of_event d) (event_sent r f.times v d here in_d) in
             absurd (omega (
               arith,
-              over r f.times (sending_of e) (sending_of d) (event_sent r f.times v e here in_e)
+              over r f.times (sending_of_event e) (sending_of_event d) (event_sent r f.times v e here in_e)
                   (event_sent r f.times v d here in_d) less,
               ends.1,
             )))
@@ -139,15 +140,15 @@ module _ (r : Run) (Tuned : ℕ → Sending → Type 0) (f : FloodRun r Tuned) (
       ]
 
   -- the occasion of this step comes first
-  current_in : (v : ℕ) → takes_part r v → (w : FloodState) (rest : List Event) → ((e : Event) → Contains rest e → Contains (r.events v) e)
-      → ((e : Event) → Contains rest e → k ≤ counter (sending_of e)) → InOrder rest
-      → (c : Occasion) → Contains (occasions w rest) c → counter (sending_of c.event) ≡ k → c.before ≡ w
+  current_in : (v : ℕ) → IsParticipant r v → (w : FloodState) (rest : List Event) → ((e : Event) → Contains rest e → Contains (r.events v) e)
+      → ((e : Event) → Contains rest e → k ≤ counter (sending_of_event e)) → EventsInOrder rest
+      → (c : EventOccasion) → Contains (event_occasions w rest) c → counter (sending_of_event c.event) ≡ k → c.before ≡ w
   current_in v here w [] real later ordered c there step = absurd (not_in_none c there)
   current_in v here w (e ∷ es) real later ordered c there step =
-      elim (contains_cases (record { before = w; event = e }) (occasions (after w e) es) c there) [
-        | inl is ↦ ap (λ (o : Occasion). o.before) (sym is)
+      elim (contains_cases (record { before = w; event = e }) (event_occasions (flood_after_event w e) es) c there) [
+        | inl is ↦ ap (λ (o : EventOccasion). o.before) (sym is)
         | inr after_it ↦
-            (let in_es : Contains es c.event = occasion_event (after w e) es c after_it in
+            (let in_es : Contains es c.event = occasion_event (flood_after_event w e) es c after_it in
             let order = order_head e es ordered c.event in_es in
             let in_c = real c.event (contains_tail e es c.event in_es) in
             let in_e = real e (contains_head e es) in
@@ -156,26 +157,29 @@ module _ (r : Run) (Tuned : ℕ → Sending → Type 0) (f : FloodRun r Tuned) (
             absurd (order.1 (event_once v here e c.event in_e in_c (omega arith) step)))
       ]
 
-  pub current : (v : ℕ) → takes_part r v → (c : Occasion) → Contains (occasions (begins r v) (r.events v)) c → counter (sending_of c.event) ≡ k
-      → c.before ≡ station r m v
+  pub current : (v : ℕ) → IsParticipant r v → (c : EventOccasion) → Contains (event_occasions (flood_at_beginning r v) (r.events v)) c
+      → counter (sending_of_event c.event) ≡ k → c.before ≡ station r m v
   current v here c there step =
       let t = at.turns v here in
-      elim (Contains-append_cases (occasions (begins r v) t.before) (occasions (after_all (begins r v) t.before) t.rest) c
-      (subst (λ (l : List Occasion). Contains l c)
-      (ap (λ (l : List Event). occasions (begins r v) l) t.whole ∙ occasions_append (begins r v) t.before t.rest) there)) [
-        | inl old ↦ (let less = t.earlier c.event (occasion_event (begins r v) t.before c old) in absurd (omega arith))
-        | inr now ↦ current_in v here (after_all (begins r v) t.before) t.rest (of_rest v t) t.later (rest_in_order v here t) c now step ∙ t.state
+      elim (Contains-append_cases (event_occasions (flood_at_beginning r v) t.before)
+          (event_occasions (flood_after_events (flood_at_beginning r v) t.before) t.rest) c
+      (subst (λ (l : List EventOccasion). Contains l c)
+      (ap (λ (l : List Event). event_occasions (flood_at_beginning r v) l) t.whole ∙ occasions_append (flood_at_beginning r v) t.before t.rest) there)) [
+        | inl old ↦ (let less = t.earlier c.event (occasion_event (flood_at_beginning r v) t.before c old) in absurd (omega arith))
+        | inr now ↦ current_in v here (flood_after_events (flood_at_beginning r v) t.before) t.rest (of_rest v t) t.later (rest_in_order v here t) c now step
+            ∙ t.state
       ]
 
   -- each hearing of this step has its occasion now
-  pub occasion_now : (v : ℕ) (x : Sending) → takes_part r v → Contains (r.events v) (Heard x) → counter x ≡ k
-      → Contains (occasions (begins r v) (r.events v)) (record { before = station r m v; event = Heard x })
+  pub occasion_now : (v : ℕ) (x : Sending) → IsParticipant r v → Contains (r.events v) (Heard x) → counter x ≡ k
+      → Contains (event_occasions (flood_at_beginning r v) (r.events v)) (record { before = station r m v; event = Heard x })
   occasion_now v x here there step =
-      let o = occasion_of (begins r v) (r.events v) (Heard x) there in
-      subst (λ (w : FloodState). Contains (occasions (begins r v) (r.events v)) (record { before = w; event = Heard x })) (current v here (record {
+      let o = occasion_of (flood_at_beginning r v) (r.events v) (Heard x) there in
+      subst (λ (w : FloodState). Contains (event_occasions (flood_at_beginning r v) (r.events v)) (record { before = w; event = Heard x }))
+          (current v here (record {
         before = o.0;
         event = Heard x;
       }) o.1 step) o.1
 
-  pub heard_event : (v : ℕ) (x : Sending) → takes_part r v → HearsIn r Tuned v x → Contains (r.events v) (Heard x)
+  pub heard_event : (v : ℕ) (x : Sending) → IsParticipant r v → HearsIn r Tuned v x → Contains (r.events v) (Heard x)
   heard_event v x here h = (f.times.heard_events v x here).1 ((f.hears v x here).1 h)

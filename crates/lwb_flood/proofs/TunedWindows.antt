@@ -7,9 +7,9 @@ use Rattle.std.proofs.lemmas.List.Elements.{filter_map-append, Contains-append_r
 use Rattle.glossy_relay.specs.FloodState.{FloodState}
 use Rattle.glossy_relay.specs.Relaying.{fits, after_heard, first_of}
 use Rattle.radio_model.specs.declared.sending.Sending.{Sending}
-use Rattle.air_log.specs.NodeEvents.{Event, Heard, Ended, after, after_all, own_end, own_ends}
-use Rattle.lwb_flood.specs.FloodRun.{Run, begins, TunedByCount}
-use Rattle.lwb_flood.specs.Windows.{off_at, IsWindow}
+use Rattle.air_log.specs.NodeEvents.{Event, Heard, Ended, flood_after_event, flood_after_events, own_end, own_ends}
+use Rattle.lwb_flood.specs.FloodRun.{Run, flood_at_beginning, TunedByCount}
+use Rattle.lwb_flood.specs.Windows.{off_at, IsListeningWindow}
 use Rattle.lwb_base.proofs.Elements.{contains_head, contains_tail}
 
 -- the end at a place is that of an own sending, or the other if the place is past all of them
@@ -48,15 +48,15 @@ heard_keeps w p true c = refl
 heard_keeps w p false c = refl
 
 -- a flood counts the own sendings that ended
-pub sent_among : (w : FloodState) (es : List Event) → (after_all w es).sent ≡ w.sent + length (own_ends es)
+pub sent_among : (w : FloodState) (es : List Event) → (flood_after_events w es).sent ≡ w.sent + length (own_ends es)
 sent_among w [] = omega arith
 sent_among w (Heard x ∷ es) =
     let kept : (after_heard w x.packet).sent ≡ w.sent = heard_keeps w x.packet (fits w x.packet) _ in
     omega (arith, kept, sent_among (after_heard w x.packet) es)
-sent_among w (Ended x ∷ es) = omega (arith, sent_among (after w (Ended x)) es)
+sent_among w (Ended x ∷ es) = omega (arith, sent_among (flood_after_event w (Ended x)) es)
 
 module _ (r : Run) (Tuned : ℕ → Sending → Type 0) (v opening closing : ℕ) (lasts : (x : Sending) → Contains r.sendings x → x.start < x.end)
-    (window : IsWindow r Tuned v opening closing)
+    (window : IsListeningWindow r Tuned v opening closing)
     (own : (z : Sending) → Contains (r.events v) (Ended z) → Contains r.sendings z × (z.node ≡ v)) where
   pub tuned_in_window : TunedByCount r Tuned v
   tuned_in_window x before rest sent time cut silent = (there, back)
@@ -64,13 +64,13 @@ module _ (r : Run) (Tuned : ℕ → Sending → Type 0) (v opening closing : ℕ
       limit : ℕ
       limit = r.setting.limit
 
-      number : (after_all (begins r v) before).sent ≡ length (own_ends before)
-      number = (let n = sent_among (begins r v) before in omega (arith, n))
+      number : (flood_after_events (flood_at_beginning r v) before).sent ≡ length (own_ends before)
+      number = (let n = sent_among (flood_at_beginning r v) before in omega (arith, n))
 
       off_is : off_at r v closing ≡ get_or (own_ends before ++ own_ends rest) (r.setting.limit - 1) closing
       off_is = ap (λ (l : List ℕ). get_or l (r.setting.limit - 1) closing) (ap own_ends cut.whole ∙ own_ends_append before rest)
 
-      there : Tuned v x → (after_all (begins r v) before).sent < r.setting.limit
+      there : Tuned v x → (flood_after_events (flood_at_beginning r v) before).sent < r.setting.limit
       there t =
           let until = window.only x sent time t in
           let some = window.some in
@@ -86,7 +86,7 @@ module _ (r : Run) (Tuned : ℕ → Sending → Type 0) (v opening closing : ℕ
               omega (arith, until, off, ended, lasts x sent)
           over less until (Past is past) = omega arith
 
-      back : (after_all (begins r v) before).sent < r.setting.limit → Tuned v x
+      back : (flood_after_events (flood_at_beginning r v) before).sent < r.setting.limit → Tuned v x
       back less = window.tuned x sent (window.since x time)
           (not_off (r.setting.limit - 1 - length (own_ends before)) (omega (arith, number, less))
           (end_at rest (r.setting.limit - 1 - length (own_ends before)) closing))

@@ -11,9 +11,9 @@ use Rattle.glossy_relay.specs.FloodState.{FloodState}
 use Rattle.glossy_relay.specs.Relaying.{fits, counter_of, accepted_of}
 use Rattle.bus_terms.specs.Flooding.{Setting, moment, beginning, has, Sends, Hears, Accepts}
 use Rattle.radio_model.specs.declared.sending.Sending.{Sending}
-use Rattle.air_log.specs.NodeEvents.{Event, Heard, sending_of, after_all}
-use Rattle.lwb_flood.specs.FloodRun.{counter, Run, FloodRun, sending_at, initiates, takes_part, packet, begins}
-use Rattle.lwb_flood.specs.FloodBySteps.{SendsOnAir, HearsOnAir, ended, IsFloodBySteps}
+use Rattle.air_log.specs.NodeEvents.{Event, Heard, sending_of_event, flood_after_events}
+use Rattle.lwb_flood.specs.FloodRun.{counter, Run, FloodRun, sending_of_run, initiates, IsParticipant, packet, flood_at_beginning}
+use Rattle.lwb_flood.specs.FloodBySteps.{SendsOnAir, HearsOnAir, flood_at_end, IsFloodBySteps}
 use Rattle.lwb_base.proofs.Elements.{not_in_none, contains_head}
 use Rattle.glossy_relay.proofs.CountedPackets.{counter_set}
 use Rattle.bus_terms.proofs.FirstHearings.{first_hearing, kept_hearing, heard_in_time}
@@ -65,7 +65,7 @@ module _ (r : Run) (Tuned : ℕ → Sending → Type 0) (f : FloodRun r Tuned) w
   first_sent v o is =
       let p = begun_parts (has s.initiators v) v o is in
       record {
-        sending = sending_at r v (r.starts v) (r.message v);
+        sending = sending_of_run r v (r.starts v) (r.message v);
         sent = f.times.begun v p.0;
         node = refl;
         packet = sym (message_is r f.times v p.0) ∙ ap (λ (i : ℕ). packet r i 0) p.1;
@@ -121,14 +121,14 @@ module _ (r : Run) (Tuned : ℕ → Sending → Type 0) (f : FloodRun r Tuned) w
       (at_step (counter x) (omega arith)).once x y sent_x sent_y refl (sym step) node
 
   -- hearings
-  hears_once : (v : ℕ) (x y : Sending) → takes_part r v → Contains (r.events v) (Heard x) → Contains (r.events v) (Heard y) → counter x ≡ counter y → x ≡ y
+  hears_once : (v : ℕ) (x y : Sending) → IsParticipant r v → Contains (r.events v) (Heard x) → Contains (r.events v) (Heard y) → counter x ≡ counter y → x ≡ y
   hears_once v x y here in_x in_y step =
       let h = heard_by_rule r Tuned f v x here in_x in
       let g = heard_by_rule r Tuned f v y here in_y in
       let few = (timed r f.times x h.sent).few in
       heard_once r Tuned f (counter x) few (moment s (counter x)) (at_step (counter x) (omega arith)) v x y h g refl (sym step)
 
-  hears_on_air : (v k o : ℕ) → takes_part r v → initiates r o → k ≤ 11 → HearsOnAir r v k o ↔ Hears s v k o
+  hears_on_air : (v k o : ℕ) → IsParticipant r v → initiates r o → k ≤ 11 → HearsOnAir r v k o ↔ Hears s v k o
   hears_on_air v k o here begun few = (there, back)
     where
       at : IsAt r k (moment s k)
@@ -137,7 +137,8 @@ module _ (r : Run) (Tuned : ℕ → Sending → Type 0) (f : FloodRun r Tuned) w
       there : HearsOnAir r v k o → Hears s v k o
       there h =
           let x = h.sending in
-          let event : Contains (r.events v) (Heard x) = occasion_event (begins r v) (r.events v) (record { before = h.flood; event = Heard x }) h.occasion in
+          let event : Contains (r.events v) (Heard x) =
+              occasion_event (flood_at_beginning r v) (r.events v) (record { before = h.flood; event = Heard x }) h.occasion in
           let air = heard_by_rule r Tuned f v x here event in
           let step = counter_is r f.times o k x begun h.packet in
           let now : h.flood ≡ station r (moment s k) v = current r Tuned f k few (moment s k) at v here (record {
@@ -167,21 +168,21 @@ module _ (r : Run) (Tuned : ℕ → Sending → Type 0) (f : FloodRun r Tuned) w
           }
 
   -- the end
-  last_state : (v : ℕ) → takes_part r v → (t : Turn r 12 v (moment s 12)) (rest : List Event) → t.rest ≡ rest → ended r v ≡ station r (moment s 12) v
-  last_state v here t [] is = ap (λ (l : List Event). after_all (begins r v) l)
+  last_state : (v : ℕ) → IsParticipant r v → (t : Turn r 12 v (moment s 12)) (rest : List Event) → t.rest ≡ rest → flood_at_end r v ≡ station r (moment s 12) v
+  last_state v here t [] is = ap (λ (l : List Event). flood_after_events (flood_at_beginning r v) l)
       (t.whole ∙ ap (λ (l : List Event). t.before ++ l) is ∙ append-nil t.before) ∙ t.state
   last_state v here t (e ∷ es) is =
       let there : Contains t.rest e = subst (λ (l : List Event). Contains l e) (sym is) (contains_head e es) in
       let more = t.later e there in
       let sent = event_sent r f.times v e here (subst (λ (l : List Event). Contains l e) (sym t.whole) (Contains-append_right t.before t.rest e there)) in
-      let few = (timed r f.times (sending_of e) sent).few in
+      let few = (timed r f.times (sending_of_event e) sent).few in
       absurd (omega arith)
 
-  ended_is : (v : ℕ) → takes_part r v → ended r v ≡ station r (moment s 12) v
+  ended_is : (v : ℕ) → IsParticipant r v → flood_at_end r v ≡ station r (moment s 12) v
   ended_is v here = let t = (at_step 12 (omega arith)).turns v here in last_state v here t t.rest refl
 
-  accepted_is : (v : ℕ) → takes_part r v → has s.initiators v ≡ false
-      → accepted_of (ended r v) ≡ option_map {U = List ℕ × ℕ} (λ h. (spell r h, counter_of (spell r h))) ((moment s 12).heard v)
+  accepted_is : (v : ℕ) → IsParticipant r v → has s.initiators v ≡ false
+      → accepted_of (flood_at_end r v) ≡ option_map {U = List ℕ × ℕ} (λ h. (spell r h, counter_of (spell r h))) ((moment s 12).heard v)
   accepted_is v here listens = ap (λ (w : FloodState). accepted_of w) (ended_is v here)
       ∙ first_kept r.kind s.limit r.slot (has s.initiators v) (r.message v) (spell r) ((moment s 12).times v) ((moment s 12).sends v)
       ((moment s 12).heard v) listens
@@ -192,7 +193,7 @@ module _ (r : Run) (Tuned : ℕ → Sending → Type 0) (f : FloodRun r Tuned) w
   counter_of_spelled : (h : ℕ × ℕ) → initiates r h.0 → counter_of (spell r h) ≡ h.1
   counter_of_spelled h begun = counter_set (r.message h.0) h.1 (long r f.times h.0 begun)
 
-  accepts_only : (v : ℕ) (p : List ℕ) (k : ℕ) → takes_part r v → has s.initiators v ≡ false → accepted_of (ended r v) ≡ Some (p, k)
+  accepts_only : (v : ℕ) (p : List ℕ) (k : ℕ) → IsParticipant r v → has s.initiators v ≡ false → accepted_of (flood_at_end r v) ≡ Some (p, k)
       → (o : ℕ) × initiates r o × (p ≡ packet r o k) × Accepts s v o k
   accepts_only v p k here listens is = by_cases ((moment s 12).heard v) refl (sym (accepted_is v here listens) ∙ is)
     where
@@ -217,11 +218,11 @@ module _ (r : Run) (Tuned : ℕ → Sending → Type 0) (f : FloodRun r Tuned) w
             }),
           )
 
-  accepts_on_air : (v k o : ℕ) → takes_part r v → has s.initiators v ≡ false → initiates r o → accepted_of (ended r v) ≡ Some (packet r o k, k)
+  accepts_on_air : (v k o : ℕ) → IsParticipant r v → has s.initiators v ≡ false → initiates r o → accepted_of (flood_at_end r v) ≡ Some (packet r o k, k)
       ↔ Accepts s v o k
   accepts_on_air v k o here listens begun = (there, back)
     where
-      there : accepted_of (ended r v) ≡ Some (packet r o k, k) → Accepts s v o k
+      there : accepted_of (flood_at_end r v) ≡ Some (packet r o k, k) → Accepts s v o k
       there is =
           let a = accepts_only v (packet r o k) k here listens is in
           subst (λ (p : ℕ). Accepts s v p k) (same_origin r f.times a.0 o k k a.1 begun (sym a.2)) a.3
@@ -229,7 +230,7 @@ module _ (r : Run) (Tuned : ℕ → Sending → Type 0) (f : FloodRun r Tuned) w
       with_step : ℕ → Option (List ℕ × ℕ)
       with_step i = Some (packet r o k, i)
 
-      back : Accepts s v o k → accepted_of (ended r v) ≡ Some (packet r o k, k)
+      back : Accepts s v o k → accepted_of (flood_at_end r v) ≡ Some (packet r o k, k)
       back a =
           let kept : (moment s 12).heard v ≡ Some (o, k) = kept_hearing s 12 v o k (heard_in_time s k v o a.hears) a in
           accepted_is v here listens ∙ ap (λ (h : Option (ℕ × ℕ)). option_map {U = List ℕ × ℕ} (λ h. (spell r h, counter_of (spell r h))) h) kept

@@ -11,10 +11,10 @@ use Rattle.glossy_relay.specs.FloodState.{FloodState}
 use Rattle.radio_model.specs.declared.sending.Sending.{Sending}
 use Rattle.air_log.specs.declared.entry.Entry.{Entry}
 use Rattle.air_log.specs.Entries.{sending_in, hearing_in, tuning_in, sendings_of, hearings_of, tunings_of, sent_entry, heard_entry}
-use Rattle.air_log.specs.NodeEvents.{Event, Heard, Ended, sending_of, InOrder, after_all, Occasion, occasions}
+use Rattle.air_log.specs.NodeEvents.{Event, Heard, Ended, sending_of_event, EventsInOrder, flood_after_events, EventOccasion, event_occasions}
 use Rattle.lwb_base.proofs.Elements.{not_in_none, contains_cases, map_contains, map_from, Distinct}
 use Rattle.lwb_flood.specs.declared.member.Member.{Member}
-use Rattle.lwb_flood.specs.FloodWorlds.{node_of, changed_at, with_change, tuned_entry}
+use Rattle.lwb_flood.specs.FloodWorlds.{node_of_member, member_changed_at, with_change, flood_tuned_entry}
 use Rattle.lwb_flood.proofs.EventOrder.{occasions_append}
 use Rattle.lwb_flood.proofs.FloodSoFar.{event_in, events_in}
 
@@ -38,23 +38,23 @@ module _ (v : ℕ) (change : Member → Member) (ms : List Member) where
   pub each_changed : (P : Member → Type 0) → ((m : Member) → Contains ms m → m.node ≡ v → P (change m))
       → ((m : Member) → Contains ms m → m.node ≢ v → P m) → (m : Member) → Contains (with_change v change ms) m → P m
   each_changed P here other m there =
-      let was = map_from (changed_at v change) ms m there in
+      let was = map_from (member_changed_at v change) ms m there in
       subst P was.2 (cond_both (was.0.node == v) (change was.0) was.0 P (λ is. here was.0 was.1 (eqb-true was.0.node v is))
       (λ not. other was.0 was.1 (eqb-false was.0.node v not)))
 
   pub changed_there : (m : Member) → Contains ms m → m.node ≡ v → Contains (with_change v change ms) (change m)
   changed_there m there is = subst (λ (n : Member). Contains (with_change v change ms) n) (cond-true (m.node == v) (change m) m (eq-eqb m.node v is))
-      (map_contains (changed_at v change) ms m there)
+      (map_contains (member_changed_at v change) ms m there)
 
   pub same_there : (m : Member) → Contains ms m → m.node ≢ v → Contains (with_change v change ms) m
   same_there m there not = subst (λ (n : Member). Contains (with_change v change ms) n) (cond-false (m.node == v) (change m) m (ne_eqb m.node v not))
-      (map_contains (changed_at v change) ms m there)
+      (map_contains (member_changed_at v change) ms m there)
 
 pub nodes_kept : (v : ℕ) (change : Member → Member) → ((m : Member) → (change m).node ≡ m.node) → (ms : List Member)
-    → map node_of (with_change v change ms) ≡ map node_of ms
+    → map node_of_member (with_change v change ms) ≡ map node_of_member ms
 nodes_kept v change keeps [] = refl
 nodes_kept v change keeps (m ∷ ms) =
-    ap (λ (n : ℕ). n ∷ map node_of (with_change v change ms))
+    ap (λ (n : ℕ). n ∷ map node_of_member (with_change v change ms))
     (cond_both (m.node == v) (change m) m (λ (n : Member). n.node ≡ m.node) (λ _. keeps m) (λ _. refl))
     ∙ ap (λ (l : List ℕ). m.node ∷ l) (nodes_kept v change keeps ms)
 
@@ -84,31 +84,31 @@ module _ (air : List Entry) (u : ℕ) (x : Sending) where
       ∙ append-nil (events_in air v)
 
 module _ (air : List Entry) (u t : ℕ) where
-  pub sendings_tuned : sendings_of (air ++ tuned_entry u t ∷ []) ≡ sendings_of air
-  sendings_tuned = filter_map-append sending_in air (tuned_entry u t ∷ []) ∙ append-nil (sendings_of air)
+  pub sendings_tuned : sendings_of (air ++ flood_tuned_entry u t ∷ []) ≡ sendings_of air
+  sendings_tuned = filter_map-append sending_in air (flood_tuned_entry u t ∷ []) ∙ append-nil (sendings_of air)
 
-  pub hearings_tuned : hearings_of (air ++ tuned_entry u t ∷ []) ≡ hearings_of air
-  hearings_tuned = filter_map-append hearing_in air (tuned_entry u t ∷ []) ∙ append-nil (hearings_of air)
+  pub hearings_tuned : hearings_of (air ++ flood_tuned_entry u t ∷ []) ≡ hearings_of air
+  hearings_tuned = filter_map-append hearing_in air (flood_tuned_entry u t ∷ []) ∙ append-nil (hearings_of air)
 
-  pub tunings_tuned : tunings_of (air ++ tuned_entry u t ∷ []) ≡ tunings_of air ++ record { rank = 0; node = u; start = 1344000000; end = t } ∷ []
-  tunings_tuned = filter_map-append tuning_in air (tuned_entry u t ∷ [])
+  pub tunings_tuned : tunings_of (air ++ flood_tuned_entry u t ∷ []) ≡ tunings_of air ++ record { rank = 0; node = u; start = 1344000000; end = t } ∷ []
+  tunings_tuned = filter_map-append tuning_in air (flood_tuned_entry u t ∷ [])
 
-  pub events_tuned : (v : ℕ) → events_in (air ++ tuned_entry u t ∷ []) v ≡ events_in air v
-  events_tuned v = filter_map-append (event_in v) air (tuned_entry u t ∷ []) ∙ append-nil (events_in air v)
+  pub events_tuned : (v : ℕ) → events_in (air ++ flood_tuned_entry u t ∷ []) v ≡ events_in air v
+  events_tuned v = filter_map-append (event_in v) air (flood_tuned_entry u t ∷ []) ∙ append-nil (events_in air v)
 
 -- an event more
 pub occasion_more : (s : FloodState) (es : List Event) (e : Event)
-    → occasions s (es ++ e ∷ []) ≡ occasions s es ++ record { before = after_all s es; event = e } ∷ []
+    → event_occasions s (es ++ e ∷ []) ≡ event_occasions s es ++ record { before = flood_after_events s es; event = e } ∷ []
 occasion_more s es e = occasions_append s es (e ∷ [])
 
-pub occasion_kept : (s : FloodState) (es fs : List Event) (o : Occasion) → Contains (occasions s es) o → Contains (occasions s (es ++ fs)) o
-occasion_kept s es fs o there = subst (λ (l : List Occasion). Contains l o) (sym (occasions_append s es fs))
-    (Contains-append_left (occasions s es) (occasions (after_all s es) fs) o there)
+pub occasion_kept : (s : FloodState) (es fs : List Event) (o : EventOccasion) → Contains (event_occasions s es) o → Contains (event_occasions s (es ++ fs)) o
+occasion_kept s es fs o there = subst (λ (l : List EventOccasion). Contains l o) (sym (occasions_append s es fs))
+    (Contains-append_left (event_occasions s es) (event_occasions (flood_after_events s es) fs) o there)
 
-pub occasion_cases : (s : FloodState) (es : List Event) (e : Event) (o : Occasion) → Contains (occasions s (es ++ e ∷ [])) o
-    → Contains (occasions s es) o ⊎ (record { before = after_all s es; event = e } ≡ o)
-occasion_cases s es e o there = Contains-push_cases (occasions s es) (record { before = after_all s es; event = e }) o
-    (subst (λ (l : List Occasion). Contains l o) (occasion_more s es e) there)
+pub occasion_cases : (s : FloodState) (es : List Event) (e : Event) (o : EventOccasion) → Contains (event_occasions s (es ++ e ∷ [])) o
+    → Contains (event_occasions s es) o ⊎ (record { before = flood_after_events s es; event = e } ≡ o)
+occasion_cases s es e o there = Contains-push_cases (event_occasions s es) (record { before = flood_after_events s es; event = e }) o
+    (subst (λ (l : List EventOccasion). Contains l o) (occasion_more s es e) there)
 
 -- pairs with one element more
 pub pairs_push : {X : Type 0} (R : X → X → Type 0) (xs : List X) (y : X) → AllPairs R xs → ((x : X) → Contains xs x → R x y) → AllPairs R (xs ++ y ∷ [])
@@ -119,6 +119,6 @@ pairs_push R xs y all last = all_pairs_push R xs y all (λ k d less. last (get_o
     same (y ∷ ys) zero d e less = refl
     same (y ∷ ys) (suc k) d e less = same ys k d e (omega arith)
 
-pub in_order_push : (es : List Event) (e : Event) → InOrder es → ((d : Event) → Contains es d → ((sending_of d).end ≤ (sending_of e).end) × (d ≢ e))
-    → InOrder (es ++ e ∷ [])
-in_order_push es e order last = pairs_push (λ d e. ((sending_of d).end ≤ (sending_of e).end) × (d ≢ e)) es e order last
+pub in_order_push : (es : List Event) (e : Event) → EventsInOrder es
+    → ((d : Event) → Contains es d → ((sending_of_event d).end ≤ (sending_of_event e).end) × (d ≢ e)) → EventsInOrder (es ++ e ∷ [])
+in_order_push es e order last = pairs_push (λ d e. ((sending_of_event d).end ≤ (sending_of_event e).end) × (d ≢ e)) es e order last

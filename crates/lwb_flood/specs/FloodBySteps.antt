@@ -5,8 +5,8 @@ use Rattle.glossy_relay.specs.FloodState.{FloodState}
 use Rattle.glossy_relay.specs.Relaying.{fits, accepted_of}
 use Rattle.bus_terms.specs.Flooding.{moment, has, Sends, Hears, Accepts, STEPS}
 use Rattle.radio_model.specs.declared.sending.Sending.{Sending}
-use Rattle.air_log.specs.NodeEvents.{Heard, after_all, occasions}
-use Rattle.lwb_flood.specs.FloodRun.{Run, initiates, takes_part, counter, packet, begins}
+use Rattle.air_log.specs.NodeEvents.{Heard, flood_after_events, event_occasions}
+use Rattle.lwb_flood.specs.FloodRun.{Run, initiates, IsParticipant, counter, packet, flood_at_beginning}
 
 -- v sends o's packet with counter k
 pub record SendsOnAir (r : Run) (v k o : ℕ) : Type 0 where
@@ -19,13 +19,13 @@ pub record SendsOnAir (r : Run) (v k o : ℕ) : Type 0 where
 pub record HearsOnAir (r : Run) (v k o : ℕ) : Type 0 where
   pub sending : Sending
   pub flood : FloodState
-  pub occasion : Contains (occasions (begins r v) (r.events v)) (record { before = flood; event = Heard sending })
+  pub occasion : Contains (event_occasions (flood_at_beginning r v) (r.events v)) (record { before = flood; event = Heard sending })
   pub fitting : fits flood sending.packet ≡ true
   pub packet : sending.packet ≡ packet r o k
 
 -- v's flood after all of its events
-abbrev pub ended : Run → ℕ → FloodState
-ended r v = after_all (begins r v) (r.events v)
+abbrev pub flood_at_end : Run → ℕ → FloodState
+flood_at_end r v = flood_after_events (flood_at_beginning r v) (r.events v)
 
 pub record IsFloodBySteps (r : Run) : Type 0 where
   -- each sending is an initiator's packet with a counter k up to 11, and starts within k ticks of k steps after it
@@ -35,12 +35,12 @@ pub record IsFloodBySteps (r : Run) : Type 0 where
   pub sends : (v k o : ℕ) → initiates r o → k ≤ 11 → SendsOnAir r v k o ↔ Sends r.setting v k o
   pub sends_once : (x y : Sending) → Contains r.sendings x → Contains r.sendings y
       → x.node ≡ y.node → counter x ≡ counter y → x ≡ y
-  pub hears_once : (v : ℕ) (x y : Sending) → takes_part r v → Contains (r.events v) (Heard x) → Contains (r.events v) (Heard y)
+  pub hears_once : (v : ℕ) (x y : Sending) → IsParticipant r v → Contains (r.events v) (Heard x) → Contains (r.events v) (Heard y)
       → counter x ≡ counter y → x ≡ y
-  pub hears : (v k o : ℕ) → takes_part r v → initiates r o → k ≤ 11 → HearsOnAir r v k o ↔ Hears r.setting v k o
+  pub hears : (v k o : ℕ) → IsParticipant r v → initiates r o → k ≤ 11 → HearsOnAir r v k o ↔ Hears r.setting v k o
   -- a listener's flood has accepted at the end what the node accepts by steps, and nothing else
-  pub accepts : (v k o : ℕ) → takes_part r v → has r.setting.initiators v ≡ false → initiates r o
-      → accepted_of (ended r v) ≡ Some (packet r o k, k) ↔ Accepts r.setting v o k
-  pub accepts_only : (v : ℕ) (p : List ℕ) (k : ℕ) → takes_part r v → has r.setting.initiators v ≡ false
-      → accepted_of (ended r v) ≡ Some (p, k) → (o : ℕ) × initiates r o × (p ≡ packet r o k) × Accepts r.setting v o k
-  pub times : (v : ℕ) → takes_part r v → (ended r v).sent ≡ (moment r.setting STEPS).times v
+  pub accepts : (v k o : ℕ) → IsParticipant r v → has r.setting.initiators v ≡ false → initiates r o
+      → accepted_of (flood_at_end r v) ≡ Some (packet r o k, k) ↔ Accepts r.setting v o k
+  pub accepts_only : (v : ℕ) (p : List ℕ) (k : ℕ) → IsParticipant r v → has r.setting.initiators v ≡ false
+      → accepted_of (flood_at_end r v) ≡ Some (p, k) → (o : ℕ) × initiates r o × (p ≡ packet r o k) × Accepts r.setting v o k
+  pub times : (v : ℕ) → IsParticipant r v → (flood_at_end r v).sent ≡ (moment r.setting STEPS).times v

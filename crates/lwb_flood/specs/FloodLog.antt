@@ -10,7 +10,7 @@ use Rattle.scenario_text.specs.FloodParts.{FloodParts, IsSound, knows}
 use Rattle.bus_terms.specs.FloodOfText.{setting}
 use Rattle.air_log.specs.declared.entry.Entry.{Entry}
 use Rattle.radio_model.specs.declared.sending.Sending.{Sending}
-use Rattle.air_log.specs.Entries.{sendings_of, hearings_of, IsHeard}
+use Rattle.air_log.specs.Entries.{sendings_of, hearings_of, HasHeardEntry}
 use Rattle.air_log.specs.FloodLaw.{FloodLaw, START, first_packet}
 use Rattle.lwb_flood.specs.FloodRun.{Run}
 
@@ -40,7 +40,7 @@ run_of f clocks air law = record {
 }
 
 -- v has a Sent entry with counter k
-pub record HasSent (air : List Entry) (v k : ℕ) : Type 0 where
+pub record HasSentEntry (air : List Entry) (v k : ℕ) : Type 0 where
   pub sending : Sending
   pub there : Contains (sendings_of air) sending
   pub node : sending.node ≡ v
@@ -49,20 +49,20 @@ pub record HasSent (air : List Entry) (v k : ℕ) : Type 0 where
 -- v has a Heard entry with counter k
 pub record HasHeard (air : List Entry) (v k : ℕ) : Type 0 where
   pub sending : Sending
-  pub there : IsHeard air v sending
+  pub there : HasHeardEntry air v sending
   pub counter : counter_of sending.packet ≡ k
 
 -- the Heard entry of v that ends first has counter k
 pub record HeardFirst (air : List Entry) (v k : ℕ) : Type 0 where
   pub sending : Sending
-  pub there : IsHeard air v sending
+  pub there : HasHeardEntry air v sending
   pub counter : counter_of sending.packet ≡ k
-  pub first : (y : Sending) → IsHeard air v y → sending.end ≤ y.end
+  pub first : (y : Sending) → HasHeardEntry air v y → sending.end ≤ y.end
 
 -- the step at which v accepts: the counter of its first hearing. The starting node accepts nothing
-abbrev pub IsAcceptance : FloodParts → List Entry → ℕ → Option ℕ → Type 0
-IsAcceptance f air v None = (v ≡ f.start) ⊎ ((x : Sending) → IsHeard air v x → ⊥)
-IsAcceptance f air v (Some k) = (v ≢ f.start) × HeardFirst air v k
+abbrev pub IsAcceptanceStep : FloodParts → List Entry → ℕ → Option ℕ → Type 0
+IsAcceptanceStep f air v None = (v ≡ f.start) ⊎ ((x : Sending) → HasHeardEntry air v x → ⊥)
+IsAcceptanceStep f air v (Some k) = (v ≢ f.start) × HeardFirst air v k
 
 -- the nodes that accept, each with its step, in the order of these nodes
 abbrev pub accepting : (ℕ → Option ℕ) → List ℕ → List (ℕ × ℕ)

@@ -10,7 +10,7 @@ use Rattle.bus_terms.specs.Flooding.{Setting, has}
 use Rattle.radio_model.specs.declared.sending.Sending.{Sending}
 use Rattle.radio_model.specs.OnAir.{Hearing}
 use Rattle.radio_model.specs.Hearing.{Meets, Before}
-use Rattle.air_log.specs.NodeEvents.{Event, Heard, Ended, sending_of, InOrder, after_all, occasions}
+use Rattle.air_log.specs.NodeEvents.{Event, Heard, Ended, sending_of_event, EventsInOrder, flood_after_events, event_occasions}
 
 -- What is given: the setting of the flood by steps (its limit, links, capture lines, initiators, and all that take part);
 -- the kind, slot and channel of its packets; each initiator's packet, and when it starts.
@@ -37,8 +37,8 @@ pub record Run : Type 0 where
 abbrev pub initiates : Run → ℕ → Type 0
 initiates r o = has r.setting.initiators o ≡ true
 
-abbrev pub takes_part : Run → ℕ → Type 0
-takes_part r v = has r.setting.everyone v ≡ true
+abbrev pub IsParticipant : Run → ℕ → Type 0
+IsParticipant r v = has r.setting.everyone v ≡ true
 
 abbrev pub counter : Sending → ℕ
 counter x = counter_of x.packet
@@ -51,12 +51,12 @@ abbrev pub WasHeard : Run → ℕ → Sending → Type 0
 WasHeard r v x = Contains r.hearings (record { node = v; sending = x })
 
 -- a sending that lasts as long as the run's packets do
-abbrev pub sending_at : Run → ℕ → ℕ → List ℕ → Sending
-sending_at r v start p = record { rank = r.rank; node = v; start = start; end = start + r.air; packet = p }
+abbrev pub sending_of_run : Run → ℕ → ℕ → List ℕ → Sending
+sending_of_run r v start p = record { rank = r.rank; node = v; start = start; end = start + r.air; packet = p }
 
 -- a node's flood at its beginning
-abbrev pub begins : Run → ℕ → FloodState
-begins r v = record {
+abbrev pub flood_at_beginning : Run → ℕ → FloodState
+flood_at_beginning r v = record {
   kind = r.kind;
   slot = r.slot;
   limit = r.setting.limit;
@@ -74,22 +74,22 @@ pub record InTime (r : Run) (x : Sending) : Type 0 where
   pub until : x.end ≤ r.starts origin + 12 * (r.air + r.turn)
 
 -- y is on the air together with x and reaches v; if x does, it is a rival of itself
-pub record Rival (r : Run) (v : ℕ) (x y : Sending) : Type 0 where
+pub record RivalInRun (r : Run) (v : ℕ) (x y : Sending) : Type 0 where
   pub sent : Contains r.sendings y
   pub meets : Meets x y
   pub passes : r.setting.passes (counter y) y.node v ≡ true
 
 -- v sends nothing while x is sent
-abbrev pub Silent : Run → ℕ → Sending → Type 0
-Silent r v x = (y : Sending) → Contains r.sendings y → y.node ≡ v → Meets x y → ⊥
+abbrev pub SilentInRun : Run → ℕ → Sending → Type 0
+SilentInRun r v x = (y : Sending) → Contains r.sendings y → y.node ≡ v → Meets x y → ⊥
 
 -- all that reaches v is the same packet, or the capture line names a node whose packet it is
-abbrev pub Alone : Run → ℕ → Sending → Type 0
-Alone r v x = (y : Sending) → Rival r v x y → y.packet ≡ x.packet
+abbrev pub AloneInRun : Run → ℕ → Sending → Type 0
+AloneInRun r v x = (y : Sending) → RivalInRun r v x y → y.packet ≡ x.packet
 
-pub record Captured (r : Run) (v : ℕ) (x : Sending) : Type 0 where
+pub record CapturedInRun (r : Run) (v : ℕ) (x : Sending) : Type 0 where
   pub winner : Sending
-  pub rival : Rival r v x winner
+  pub rival : RivalInRun r v x winner
   pub same : winner.packet ≡ x.packet
   pub named : r.setting.captured (counter x) v ≡ Some winner.node
 
@@ -97,21 +97,21 @@ pub record Captured (r : Run) (v : ℕ) (x : Sending) : Type 0 where
 pub record HearsIn (r : Run) (Tuned : ℕ → Sending → Type 0) (v : ℕ) (x : Sending) : Type 0 where
   pub sent : Contains r.sendings x
   pub tuned : Tuned v x
-  pub silent : Silent r v x
+  pub silent : SilentInRun r v x
   pub passes : r.setting.passes (counter x) x.node v ≡ true
-  pub first : (y : Sending) → Rival r v x y → y.packet ≡ x.packet → Before x y
-  pub close : (y : Sending) → Rival r v x y → y.packet ≡ x.packet → y.start ≤ x.start + r.delta
-  pub chosen : Alone r v x ⊎ Captured r v x
+  pub first : (y : Sending) → RivalInRun r v x y → y.packet ≡ x.packet → Before x y
+  pub close : (y : Sending) → RivalInRun r v x y → y.packet ≡ x.packet → y.start ≤ x.start + r.delta
+  pub chosen : AloneInRun r v x ⊎ CapturedInRun r v x
 
 -- v's flood answered a hearing with the packet of x, which starts a turnaround later
-pub record Relayed (r : Run) (v : ℕ) (x : Sending) : Type 0 where
+pub record RelayedInRun (r : Run) (v : ℕ) (x : Sending) : Type 0 where
   pub heard : Sending
   pub flood : FloodState
-  pub occasion : Contains (occasions (begins r v) (r.events v)) (record { before = flood; event = Heard heard })
+  pub occasion : Contains (event_occasions (flood_at_beginning r v) (r.events v)) (record { before = flood; event = Heard heard })
   pub answer : reply_to flood heard.packet ≡ Relay x.packet
   pub start : x.start ≡ r.relay_start v heard.end
 
-pub record HasRoom (r : Run) : Type 0 where
+pub record RunHasRoom (r : Run) : Type 0 where
   pub room_to_turn : r.spread + 23 < r.turn
   pub room_to_overlap : r.spread + 22 < r.air
   pub displacement : 22 ≤ r.delta
@@ -119,7 +119,7 @@ pub record HasRoom (r : Run) : Type 0 where
 -- the initiators' packets are spelled in this slot with any counter, begin with counter 0, and differ in more than the
 -- counter; they start together
 pub record HasInitiators (r : Run) : Type 0 where
-  pub there : (o : ℕ) → initiates r o → takes_part r o
+  pub there : (o : ℕ) → initiates r o → IsParticipant r o
   pub counter_zero : (o : ℕ) → initiates r o → counter_of (r.message o) ≡ 0
   pub spelled : (o k : ℕ) → initiates r o → k ≤ 11 → is_spelling r.kind (packet r o k) ≡ true
   pub slot : (o : ℕ) → initiates r o → slot_of (r.message o) ≡ r.slot
@@ -129,28 +129,28 @@ pub record HasInitiators (r : Run) : Type 0 where
 -- with counter 0 the initiators send, and with another who relays
 pub record HasSendings (r : Run) : Type 0 where
   pub lasts : (x : Sending) → Contains r.sendings x → (x.rank ≡ r.rank) × (x.end ≡ x.start + r.air)
-  pub begun : (o : ℕ) → initiates r o → Contains r.sendings (sending_at r o (r.starts o) (r.message o))
+  pub begun : (o : ℕ) → initiates r o → Contains r.sendings (sending_of_run r o (r.starts o) (r.message o))
   pub beginnings : (x : Sending) → Contains r.sendings x → counter x ≡ 0
       → initiates r x.node × (x.start ≡ r.starts x.node) × (x.packet ≡ r.message x.node)
-  pub relayed : (v start : ℕ) (p : List ℕ) → takes_part r v → Relayed r v (sending_at r v start p)
-      → Contains r.sendings (sending_at r v start p)
-  pub relays : (x : Sending) → Contains r.sendings x → counter x ≢ 0 → takes_part r x.node × Relayed r x.node x
+  pub relayed : (v start : ℕ) (p : List ℕ) → IsParticipant r v → RelayedInRun r v (sending_of_run r v start p)
+      → Contains r.sendings (sending_of_run r v start p)
+  pub relays : (x : Sending) → Contains r.sendings x → counter x ≢ 0 → IsParticipant r x.node × RelayedInRun r x.node x
 
 -- the events of a node are its hearings and its own sendings
 pub record HasEvents (r : Run) : Type 0 where
-  pub heard_events : (v : ℕ) (x : Sending) → takes_part r v → Contains (r.events v) (Heard x) ↔ WasHeard r v x
-  pub ended_events : (v : ℕ) (x : Sending) → takes_part r v
+  pub heard_events : (v : ℕ) (x : Sending) → IsParticipant r v → Contains (r.events v) (Heard x) ↔ WasHeard r v x
+  pub ended_events : (v : ℕ) (x : Sending) → IsParticipant r v
       → Contains (r.events v) (Ended x) ↔ (Contains r.sendings x × (x.node ≡ v))
-  pub in_order : (v : ℕ) → takes_part r v → InOrder (r.events v)
+  pub in_order : (v : ℕ) → IsParticipant r v → EventsInOrder (r.events v)
 
 -- a relay starts a turnaround after the end of what was heard, but for one tick
 abbrev pub TurnsAround : Run → Type 0
-TurnsAround r = (v : ℕ) (x : Sending) → takes_part r v → WasHeard r v x → InTime r x
+TurnsAround r = (v : ℕ) (x : Sending) → IsParticipant r v → WasHeard r v x → InTime r x
     → Near (r.relay_start v x.end) (x.end + r.turn) 1
 
 -- all from which the times of the sendings follow: hearings are only asked to be of sendings
-pub record HasTimes (r : Run) : Type 0 where
-  pub room : HasRoom r
+pub record RunHasTimes (r : Run) : Type 0 where
+  pub room : RunHasRoom r
   pub open room use *
   pub initiators : HasInitiators r
   pub open initiators use *
@@ -158,25 +158,25 @@ pub record HasTimes (r : Run) : Type 0 where
   pub open sent use *
   pub happened : HasEvents r
   pub open happened use *
-  pub heard_sent : (v : ℕ) (x : Sending) → takes_part r v → WasHeard r v x → Contains r.sendings x
+  pub heard_sent : (v : ℕ) (x : Sending) → IsParticipant r v → WasHeard r v x → Contains r.sendings x
   pub turned : TurnsAround r
 
 -- what is heard is what the air's rule says
 abbrev pub HearsByRule : Run → (ℕ → Sending → Type 0) → Type 0
-HearsByRule r Tuned = (v : ℕ) (x : Sending) → takes_part r v → WasHeard r v x ↔ HearsIn r Tuned v x
+HearsByRule r Tuned = (v : ℕ) (x : Sending) → IsParticipant r v → WasHeard r v x ↔ HearsIn r Tuned v x
 
 -- these events of v have ended when x starts, and the rest have not
-pub record IsCut (r : Run) (v : ℕ) (x : Sending) (before rest : List Event) : Type 0 where
+pub record IsSplitAtStart (r : Run) (v : ℕ) (x : Sending) (before rest : List Event) : Type 0 where
   pub whole : r.events v ≡ before ++ rest
-  pub ended : (e : Event) → Contains before e → (sending_of e).end ≤ x.start
-  pub later : (e : Event) → Contains rest e → x.start < (sending_of e).end
+  pub ended : (e : Event) → Contains before e → (sending_of_event e).end ≤ x.start
+  pub later : (e : Event) → Contains rest e → x.start < (sending_of_event e).end
 
 -- while it does not send, v is tuned exactly where fewer than its limit of own sendings have ended
 abbrev pub TunedByCount : Run → (ℕ → Sending → Type 0) → ℕ → Type 0
 TunedByCount r Tuned v = (x : Sending) (before rest : List Event) → Contains r.sendings x → InTime r x
-    → IsCut r v x before rest → Silent r v x → Tuned v x ↔ ((after_all (begins r v) before).sent < r.setting.limit)
+    → IsSplitAtStart r v x before rest → SilentInRun r v x → Tuned v x ↔ ((flood_after_events (flood_at_beginning r v) before).sent < r.setting.limit)
 
 pub record FloodRun (r : Run) (Tuned : ℕ → Sending → Type 0) : Type 0 where
-  pub times : HasTimes r
+  pub times : RunHasTimes r
   pub hears : HearsByRule r Tuned
-  pub tuned : (v : ℕ) → takes_part r v → TunedByCount r Tuned v
+  pub tuned : (v : ℕ) → IsParticipant r v → TunedByCount r Tuned v

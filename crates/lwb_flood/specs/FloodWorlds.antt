@@ -13,10 +13,11 @@ use Rattle.scenario_text.specs.FloodParts.{FloodParts}
 use Rattle.scenario_text.specs.declared.lines.NodeLine.{NodeLine}
 use Rattle.bus_terms.specs.FloodOfText.{ids}
 use Rattle.radio_model.specs.declared.sending.Sending.{Sending}
-use Rattle.radio_model.specs.Hearing.{Scene, Hears}
+use Rattle.radio_model.specs.Hearing.{Scene, HearsInScene}
 use Rattle.radio_model.specs.Holding.{Holds, as_it_stands}
 use Rattle.link_trace.specs.Passes.{Lines}
-use Rattle.radio_model.specs.Stations.{MediumState, IsMedium, IsTime, Ends, nodes_of, sending_of, station_of, after, retuned, started, finished, first_state}
+use Rattle.radio_model.specs.Stations.{MediumState, IsMedium, IsTime, Ends, nodes_of, sending_of_station, station_of, medium_after_change}
+use Rattle.radio_model.specs.Stations.{station_after_tuning, station_after_start, station_after_end, first_state}
 use Rattle.air_log.specs.declared.entry.Entry.{Entry}
 use Rattle.air_log.specs.declared.entry.Entry.TheVariants.{Tuned}
 use Rattle.air_log.specs.Entries.{sent_entry, heard_entry}
@@ -30,25 +31,25 @@ pub record World : Type 0 where
   pub members : List Member
   pub air : List Entry
 
-abbrev pub node_of : Member → ℕ
-node_of m = m.node
+abbrev pub node_of_member : Member → ℕ
+node_of_member m = m.node
 
 -- its medium is one of the same nodes
 pub record IsShape (w : World) : Type 0 where
-  pub nodes : map node_of w.members ≡ nodes_of w.medium
+  pub nodes : map node_of_member w.members ≡ nodes_of w.medium
   pub medium : IsMedium w.medium
 
 -- a change at one node
-abbrev pub changed_at : ℕ → (Member → Member) → Member → Member
-changed_at v change m = if m.node == v then change m else m
+abbrev pub member_changed_at : ℕ → (Member → Member) → Member → Member
+member_changed_at v change m = if m.node == v then change m else m
 
 abbrev pub with_change : ℕ → (Member → Member) → List Member → List Member
-with_change v change ms = map (changed_at v change) ms
+with_change v change ms = map (member_changed_at v change) ms
 
 -- at the beginning all nodes are tuned in, and the starting node waits to send
-abbrev pub opened : List ℕ → MediumState → MediumState
-opened [] m = m
-opened (v ∷ vs) m = opened vs (after OPENING v (retuned (Some 0) OPENING) m)
+abbrev pub medium_at_opening : List ℕ → MediumState → MediumState
+medium_at_opening [] m = m
+medium_at_opening (v ∷ vs) m = medium_at_opening vs (medium_after_change OPENING v (station_after_tuning (Some 0) OPENING) m)
 
 abbrev pub first_member : FloodParts → NodeLine → Member
 first_member f n = record {
@@ -59,7 +60,7 @@ first_member f n = record {
 
 abbrev pub first_world : FloodParts → World
 first_world f = record {
-  medium = opened (ids f.nodes) (first_state one (ids f.nodes));
+  medium = medium_at_opening (ids f.nodes) (first_state one (ids f.nodes));
   members = map (first_member f) f.nodes;
   air = [];
 }
@@ -75,41 +76,41 @@ moment_of Off = None
 abbrev pub NotAfter : ℕ × Bool → ℕ × Bool → Type 0
 NotAfter k l = (k.0 < l.0) ⊎ ((k.0 ≡ l.0) × (k.1 ≡ true → l.1 ≡ true))
 
-abbrev pub comes_before : ℕ × Bool → ℕ × Bool → Bool
-comes_before k l = nat_lt k.0 l.0 || ((k.0 == l.0) && (not k.1 && l.1))
+abbrev pub moment_comes_before : ℕ × Bool → ℕ × Bool → Bool
+moment_comes_before k l = nat_lt k.0 l.0 || ((k.0 == l.0) && (not k.1 && l.1))
 
 -- what comes first of what was first, with its place, and the moment of place i
 abbrev pub sooner : Option (ℕ × ℕ × Bool) → ℕ → Option (ℕ × Bool) → Option (ℕ × ℕ × Bool)
 sooner next i None = next
 sooner None i (Some m) = Some (i, m.0, m.1)
-sooner (Some n) i (Some m) = if comes_before m (n.1, n.2) then Some (i, m.0, m.1) else Some n
+sooner (Some n) i (Some m) = if moment_comes_before m (n.1, n.2) then Some (i, m.0, m.1) else Some n
 
 -- no other node does something before
-pub record IsNext (ms : List Member) (m : Member) : Type 0 where
+pub record ActsNext (ms : List Member) (m : Member) : Type 0 where
   pub moment : ℕ × Bool
   pub own : moment_of m.act ≡ Some moment
   pub first : All (λ n. IfSome (moment_of n.act) (λ l. NotAfter moment l)) ms
 
 -- a sending starts
-abbrev pub with_act : Act → Member → Member
-with_act act m = record m { act = act }
+abbrev pub member_with_act : Act → Member → Member
+member_with_act act m = record m { act = act }
 
-abbrev pub begun : Sending → World → World
-begun x w = record {
-  medium = after x.start x.node (started w.medium.numbers x.start x.packet) w.medium;
-  members = with_change x.node (with_act (Sends x)) w.members;
+abbrev pub world_after_start : Sending → World → World
+world_after_start x w = record {
+  medium = medium_after_change x.start x.node (station_after_start w.medium.numbers x.start x.packet) w.medium;
+  members = with_change x.node (member_with_act (Sends x)) w.members;
   air = w.air ++ sent_entry x ∷ [];
 }
 
 -- a node goes off at t
-abbrev pub tuned_entry : ℕ → ℕ → Entry
-tuned_entry v t = Tuned (record { rank = 0; node = v; start = OPENING; end = t })
+abbrev pub flood_tuned_entry : ℕ → ℕ → Entry
+flood_tuned_entry v t = Tuned (record { rank = 0; node = v; start = OPENING; end = t })
 
 abbrev pub gone : ℕ → ℕ → World → World
 gone v t w = record {
-  medium = after t v (retuned None t) w.medium;
-  members = with_change v (with_act Off) w.members;
-  air = w.air ++ tuned_entry v t ∷ [];
+  medium = medium_after_change t v (station_after_tuning None t) w.medium;
+  members = with_change v (member_with_act Off) w.members;
+  air = w.air ++ flood_tuned_entry v t ∷ [];
 }
 
 -- a sending ends: at its node, which goes off if it was the last, and then at those who heard it
@@ -118,7 +119,7 @@ after_own m = record m { flood = after_sent m.flood; act = Listens }
 
 abbrev pub own_ended : Sending → World → World
 own_ended x w = record w {
-  medium = after x.end x.node finished w.medium;
+  medium = medium_after_change x.end x.node station_after_end w.medium;
   members = with_change x.node after_own w.members;
 }
 
@@ -129,8 +130,8 @@ is_last_of v m = (m.node == v) && (m.flood.sent + 1 == m.flood.limit)
 abbrev pub is_last : ℕ → List Member → Bool
 is_last v ms = list_any (is_last_of v) ms
 
-abbrev pub ended : Sending → World → World
-ended x w = if is_last x.node w.members then gone x.node x.end (own_ended x w) else own_ended x w
+abbrev pub world_after_end : Sending → World → World
+world_after_end x w = if is_last x.node w.members then gone x.node x.end (own_ended x w) else own_ended x w
 
 abbrev pub act_by : (ℕ → ℕ) → ℕ → Reply → Act → Act
 act_by clock end (Relay packet) act = Waits (due clock (clock end + 12288)) packet
@@ -140,30 +141,30 @@ act_by clock end Ignore act = act
 abbrev pub hearing_by : (ℕ → ℕ) → Sending → Member → Member
 hearing_by clock x m = record m { flood = after_heard m.flood x.packet; act = act_by clock x.end (reply_to m.flood x.packet) m.act }
 
-abbrev pub heard : (ℕ → ℕ) → Sending → ℕ → World → World
-heard clock x v w = record w { members = with_change v (hearing_by clock x) w.members; air = w.air ++ heard_entry v x ∷ [] }
+abbrev pub world_after_reception : (ℕ → ℕ) → Sending → ℕ → World → World
+world_after_reception clock x v w = record w { members = with_change v (hearing_by clock x) w.members; air = w.air ++ heard_entry v x ∷ [] }
 
 abbrev pub heard_by_all : (ℕ → ℕ → ℕ) → Sending → List ℕ → World → World
 heard_by_all clocks x [] w = w
-heard_by_all clocks x (v ∷ vs) w = heard_by_all clocks x vs (heard (clocks v) x v w)
+heard_by_all clocks x (v ∷ vs) w = heard_by_all clocks x vs (world_after_reception (clocks v) x v w)
 
 -- what the clock at the place of a node reads. Where there is none, it is the true tick
-abbrev pub readings_at : {C : Type 0} → (C → ℕ → ℕ) → List C → List ℕ → ℕ → ℕ → ℕ
-readings_at R cs [] v = λ t. t
-readings_at R [] (u ∷ us) v = λ t. t
-readings_at R (c ∷ cs) (u ∷ us) v = if u == v then R c else readings_at R cs us v
+abbrev pub readings_of_node : {C : Type 0} → (C → ℕ → ℕ) → List C → List ℕ → ℕ → ℕ → ℕ
+readings_of_node R cs [] v = λ t. t
+readings_of_node R [] (u ∷ us) v = λ t. t
+readings_of_node R (c ∷ cs) (u ∷ us) v = if u == v then R c else readings_of_node R cs us v
 
 -- these nodes hear a sending that ends: by the rule of the air, in a scene that the medium holds
 pub record IsHeardBy (lines : Lines) (x : Sending) (w : World) (vs : List ℕ) : Type 0 where
   pub ascending : AllPairs (λ u v. u < v) vs
   pub hearers : (a : Scene) → Holds w.medium a → a.lines ≡ lines → (v : ℕ) → Contains vs v
-      ↔ (Contains (nodes_of w.medium) v × Hears (as_it_stands w.medium x.end a) v x)
+      ↔ (Contains (nodes_of w.medium) v × HearsInScene (as_it_stands w.medium x.end a) v x)
 
 pub record CanEnd (lines : Lines) (w : World) (m : Member) (x : Sending) : Type 0 where
   pub node : x.node ≡ m.node
   pub time : IsTime w.medium x.end
   pub ends : Ends w.medium x.node x.end
-  pub sends : sending_of (station_of w.medium x.node) ≡ Some x
+  pub sends : sending_of_station (station_of w.medium x.node) ≡ Some x
   pub held : (a : Scene) × Holds w.medium a × (a.lines ≡ lines)
   pub waits : All (λ n. n.node ≡ x.node → n.flood.waiting ≡ true) w.members
   pub early : x.end ≤ 2 ^ 45
@@ -172,7 +173,7 @@ pub record CanEnd (lines : Lines) (w : World) (m : Member) (x : Sending) : Type 
 pub record Ended (lines : Lines) (clocks : ℕ → ℕ → ℕ) (x : Sending) (old new : World) : Type 0 where
   pub hearers : List ℕ
   pub heard : IsHeardBy lines x old hearers
-  pub is : new ≡ heard_by_all clocks x hearers (ended x old)
+  pub is : new ≡ heard_by_all clocks x hearers (world_after_end x old)
 
 -- what the medium asks for where the next thing that a node does comes to pass, and what the world is then
 abbrev pub CanStep : Lines → World → Member → Act → Type 0
@@ -181,11 +182,11 @@ CanStep lines w m (Waits t packet) = IsTime w.medium t
 CanStep lines w m (Sends x) = CanEnd lines w m x
 CanStep lines w m Off = Unit {0}
 
-abbrev pub Stepped : Lines → (ℕ → ℕ → ℕ) → World → World → Member → Act → Type 0
-Stepped lines clocks old new m Listens = new ≡ old
-Stepped lines clocks old new m (Waits t packet) = new ≡ begun (sending_at m.node t packet) old
-Stepped lines clocks old new m (Sends x) = Ended lines clocks x old new
-Stepped lines clocks old new m Off = new ≡ old
+abbrev pub WorldSteps : Lines → (ℕ → ℕ → ℕ) → World → World → Member → Act → Type 0
+WorldSteps lines clocks old new m Listens = new ≡ old
+WorldSteps lines clocks old new m (Waits t packet) = new ≡ world_after_start (sending_at m.node t packet) old
+WorldSteps lines clocks old new m (Sends x) = Ended lines clocks x old new
+WorldSteps lines clocks old new m Off = new ≡ old
 
 -- at the end those that are still tuned in go off
 abbrev pub is_off : Act → Bool
@@ -197,9 +198,9 @@ is_off Off = true
 abbrev pub stays : ℕ → Member → Bool
 stays v m = (m.node == v) && is_off m.act
 
-abbrev pub closed_by : ℕ → World → World
-closed_by v w = if list_any (stays v) w.members then w else gone v CLOSING w
+abbrev pub world_closed_at : ℕ → World → World
+world_closed_at v w = if list_any (stays v) w.members then w else gone v CLOSING w
 
 abbrev pub closed_all : List ℕ → World → World
 closed_all [] w = w
-closed_all (v ∷ vs) w = closed_all vs (closed_by v w)
+closed_all (v ∷ vs) w = closed_all vs (world_closed_at v w)

@@ -17,28 +17,28 @@ pub record EndsFirst (hearings : List Hearing) (v : ℕ) (g : FirstHearing) : Ty
   pub first : (y : Sending) → Contains hearings (record { node = v; sending = y }) → sending.end ≤ y.end
 
 -- what is kept of the hearings of v
-abbrev pub IsFirst : List Hearing → ℕ → Option FirstHearing → Type 0
-IsFirst hearings v None = (x : Sending) → Contains hearings (record { node = v; sending = x }) → ⊥
-IsFirst hearings v (Some g) = EndsFirst hearings v g
+abbrev pub IsFirstReception : List Hearing → ℕ → Option FirstHearing → Type 0
+IsFirstReception hearings v None = (x : Sending) → Contains hearings (record { node = v; sending = x }) → ⊥
+IsFirstReception hearings v (Some g) = EndsFirst hearings v g
 
 -- at the place of each id
 pub record AreFirst (air : List Entry) (firsts : List (Option FirstHearing)) : Type 0 where
   pub ids : length firsts ≡ 201
-  pub each : (v : ℕ) → IsFirst (hearings_of air) v (get_or firsts v None)
+  pub each : (v : ℕ) → IsFirstReception (hearings_of air) v (get_or firsts v None)
 
 abbrev pub kept_of : Hearing → ℕ × FirstHearing
 kept_of h = (h.node, record { end = h.sending.end; counter = counter_of h.sending.packet })
 
-abbrev pub hearing_of : Entry → Option (ℕ × FirstHearing)
-hearing_of e = option_map kept_of (hearing_in e)
+abbrev pub reception_of_entry : Entry → Option (ℕ × FirstHearing)
+reception_of_entry e = option_map kept_of (hearing_in e)
 
-abbrev pub earlier : Option FirstHearing → FirstHearing → FirstHearing
-earlier None h = h
-earlier (Some g) h = if nat_le g.end h.end then g else h
+abbrev pub earlier_reception : Option FirstHearing → FirstHearing → FirstHearing
+earlier_reception None h = h
+earlier_reception (Some g) h = if nat_le g.end h.end then g else h
 
 abbrev pub with_earlier : List (Option FirstHearing) → Option (ℕ × FirstHearing) → List (Option FirstHearing)
 with_earlier firsts None = firsts
-with_earlier firsts (Some h) = set firsts h.0 (Some (earlier (get_or firsts h.0 None) h.1))
+with_earlier firsts (Some h) = set firsts h.0 (Some (earlier_reception (get_or firsts h.0 None) h.1))
 
 -- the step at which a node accepts: the starting node accepts nothing
 abbrev pub step_of : ℕ → List (Option FirstHearing) → ℕ → Option ℕ

@@ -8,19 +8,19 @@ use Rattle.lwb_flood.specs.FloodRun.{Run}
 abbrev pub packet_of : ℕ → ℕ → List ℕ
 packet_of start k = 2 ∷ 1 ∷ k ∷ start ∷ 1 ∷ 0 ∷ 0 ∷ 0 ∷ []
 
-abbrev pub first_sending : Sending
-first_sending = record { rank = 0; node = 1; start = 0; end = 32768; packet = packet_of 1 0 }
+abbrev pub first_transmission : Sending
+first_transmission = record { rank = 0; node = 1; start = 0; end = 32768; packet = packet_of 1 0 }
 
 abbrev pub second_sending : Sending
 second_sending = record { rank = 0; node = 2; start = 45056; end = 77824; packet = packet_of 1 1 }
 
 abbrev pub two_events : ℕ → List Event
 two_events v =
-    if v == 1 then Ended first_sending ∷ []
-    else (if v == 2 then Heard first_sending ∷ Ended second_sending ∷ [] else [])
+    if v == 1 then Ended first_transmission ∷ []
+    else (if v == 2 then Heard first_transmission ∷ Ended second_sending ∷ [] else [])
 
-abbrev pub two_nodes : Run
-two_nodes = record {
+abbrev pub two_node_run : Run
+two_node_run = record {
   setting = record {
     limit = 1;
     passes = λ k u v. true;
@@ -37,8 +37,8 @@ two_nodes = record {
   turn = 12288;
   delta = 32;
   spread = 0;
-  sendings = first_sending ∷ second_sending ∷ [];
-  hearings = record { node = 2; sending = first_sending } ∷ [];
+  sendings = first_transmission ∷ second_sending ∷ [];
+  hearings = record { node = 2; sending = first_transmission } ∷ [];
   events = two_events;
   relay_start = λ v e. e + 12288;
 }

@@ -7,7 +7,7 @@ ghost use Rattle.glossy_relay.specs.Relaying.{is_packet};
 ghost use Rattle.bus_terms.specs.FloodOfText.{ids};
 ghost use Rattle.radio_model.specs.Stations.{first_state};
 ghost use Rattle.air_log.specs.FloodLaw.{first_packet as first_packet_of};
-ghost use Rattle.lwb_flood.specs.FloodWorlds.{opened, first_world, first_member as first_member_of};
+ghost use Rattle.lwb_flood.specs.FloodWorlds.{medium_at_opening, first_world, first_member as first_member_of};
 
 use crate::flood_world::{FloodWorld, channel};
 use crate::member::{Act, Member};
@@ -55,7 +55,7 @@ fn node_ids(alloc: Global, lines: &[NodeLine]) -> Result<Vec<NodeId>, Memory>
 
 fn open(medium: &mut Medium, nodes: &[NodeId])
     requires first { medium.old ≡ first_state one nodes.now }
-    ensures { medium.new ≡ opened nodes.now medium.old }
+    ensures { medium.new ≡ medium_at_opening nodes.now medium.old }
 {
     for node in nodes {
         medium.tune(*node, Some(channel()), OPENING);

@@ -7,13 +7,13 @@ ghost use Rattle.lwb_packets.specs.declared.kind.Kind.{Kind};
 ghost use Rattle.glossy_relay.specs.Relaying.{is_spelling};
 ghost use Rattle.bus_terms.specs.Flooding.{sendings};
 ghost use Rattle.radio_model.specs.declared.sending.Sending.{Sending};
-ghost use Rattle.radio_model.specs.Hearing.{Scene, Hears, TunedThrough};
+ghost use Rattle.radio_model.specs.Hearing.{Scene, HearsInScene, TunedThrough};
 ghost use Rattle.air_log.specs.NodeEvents.{Ended};
-ghost use Rattle.lwb_flood.specs.FloodRun.{Run, FloodRun, HearsIn, TunedByCount, takes_part};
+ghost use Rattle.lwb_flood.specs.FloodRun.{Run, FloodRun, HearsIn, TunedByCount, IsParticipant};
 ghost use Rattle.lwb_flood.specs.RunOnAir.{IsPart};
 ghost use Rattle.lwb_flood.specs.FloodBySteps.{IsFloodBySteps};
-ghost use Rattle.lwb_flood.specs.Windows.{IsWindow, IsSlot};
-ghost use Rattle.lwb_flood.specs.TwoNodes.{two_nodes, two_tuned};
+ghost use Rattle.lwb_flood.specs.Windows.{IsListeningWindow, IsSlotFlood};
+ghost use Rattle.lwb_flood.specs.TwoNodes.{two_node_run, two_tuned};
 
 /// What nodes do in one flood on the air is the flood by steps, for any number of initiators: where nodes are tuned by
 /// the tunings of a scene, and where they are tuned by any test.
@@ -32,8 +32,8 @@ pub fn sendings_are_counted()
 
 /// Among all that is on the air, a node receives a transmission of a run that is a part of it by the rule of that run.
 pub fn runs_hear_by_the_rule_of_the_air()
-    ensures { (a : Scene) (r : Run) → IsPart a r → (v : ℕ) (x : Sending) → takes_part r v → Contains r.sendings x
-        → Hears a v x ↔ HearsIn r (TunedThrough a) v x }
+    ensures { (a : Scene) (r : Run) → IsPart a r → (v : ℕ) (x : Sending) → IsParticipant r v → Contains r.sendings x
+        → HearsInScene a v x ↔ HearsIn r (TunedThrough a) v x }
 {}
 
 /// The numbers of a profile leave the room that a run asks for, and a packet of any kind is spelled with each counter.
@@ -48,12 +48,12 @@ pub fn premises_are_met()
 /// its own if and only if it has sent less often than its limit.
 pub fn windows_give_tuning()
     ensures scene { (a : Scene) (r : Run) (v opening closing : ℕ)
-        → ((x : Sending) → Contains r.sendings x → x.start < x.end) → IsWindow r (TunedThrough a) v opening closing
+        → ((x : Sending) → Contains r.sendings x → x.start < x.end) → IsListeningWindow r (TunedThrough a) v opening closing
         → ((z : Sending) → Contains (r.events v) (Ended z) → Contains r.sendings z × (z.node ≡ v))
         → TunedByCount r (TunedThrough a) v }
     ensures test { (r : Run) (tuned : ℕ → Sending → Bool) (v opening closing : ℕ)
         → ((x : Sending) → Contains r.sendings x → x.start < x.end)
-        → IsWindow r (λ v x. tuned v x ≡ true) v opening closing
+        → IsListeningWindow r (λ v x. tuned v x ≡ true) v opening closing
         → ((z : Sending) → Contains (r.events v) (Ended z) → Contains r.sendings z × (z.node ≡ v))
         → TunedByCount r (λ v x. tuned v x ≡ true) v }
 {}
@@ -61,13 +61,13 @@ pub fn windows_give_tuning()
 /// A flood of a slot is such a run: its numbers fit, its nodes turn around by their clocks and listen in windows.
 pub fn slots_are_runs()
     ensures scene { (p : Numbers) (b : Budget) → Fits p b → (n : ℕ) (clocks : ℕ → ℕ → ℕ) (a : Scene) (r : Run)
-        → IsSlot p b n clocks r (TunedThrough a) → FloodRun r (TunedThrough a) }
+        → IsSlotFlood p b n clocks r (TunedThrough a) → FloodRun r (TunedThrough a) }
     ensures test { (p : Numbers) (b : Budget) → Fits p b
         → (n : ℕ) (clocks : ℕ → ℕ → ℕ) (r : Run) (tuned : ℕ → Sending → Bool)
-        → IsSlot p b n clocks r (λ v x. tuned v x ≡ true) → FloodRun r (λ v x. tuned v x ≡ true) }
+        → IsSlotFlood p b n clocks r (λ v x. tuned v x ≡ true) → FloodRun r (λ v x. tuned v x ≡ true) }
 {}
 
 /// The record is met: by a run in which one node relays what another initiates.
 pub fn two_nodes_are_a_run()
-    ensures { FloodRun two_nodes (λ v x. two_tuned v x ≡ true) }
+    ensures { FloodRun two_node_run (λ v x. two_tuned v x ≡ true) }
 {}

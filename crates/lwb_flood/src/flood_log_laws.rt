@@ -10,11 +10,11 @@ ghost use Rattle.bus_terms.specs.RelayPaths.{IsLeast};
 ghost use Rattle.air_log.specs.declared.entry.Entry.{Entry};
 ghost use Rattle.radio_model.specs.declared.sending.Sending.{Sending};
 ghost use Rattle.air_log.specs.Entries.{sendings_of};
-ghost use Rattle.radio_model.specs.Hearing.{frame_of, slot_of, counter_of};
+ghost use Rattle.radio_model.specs.Hearing.{frame_of_sending, slot_of_sending, counter_of_sending};
 ghost use Rattle.air_log.specs.FloodLaw.{FloodLaw};
 ghost use Rattle.lwb_flood.specs.FloodBySteps.{IsFloodBySteps};
 ghost use Rattle.scenario_clocks.specs.StatedClocks.{stated_clock};
-ghost use Rattle.lwb_flood.specs.FloodLog.{HasClocks, run_of, HasSent, HasHeard, HeardFirst, IsAcceptance, accepting};
+ghost use Rattle.lwb_flood.specs.FloodLog.{HasClocks, run_of, HasSentEntry, HasHeard, HeardFirst, IsAcceptanceStep, accepting};
 
 /// A log that keeps the law of one flood is the flood by steps: a node has a `Sent` entry with counter k if and only if it
 /// sends in step k, and a `Heard` entry with counter k if and only if it receives in step k.
@@ -23,12 +23,12 @@ pub fn flood_logs_are_floods_by_steps()
         → (law : FloodLaw f clocks air)
         → IsFloodBySteps (run_of f clocks air law) }
     ensures sends { (f : FloodParts) (clocks : ℕ → ℕ → ℕ) (air : List Entry) → HasClocks f clocks
-        → FloodLaw f clocks air → (v k : ℕ) → HasSent air v k ↔ Sends (setting f) v k f.start }
+        → FloodLaw f clocks air → (v k : ℕ) → HasSentEntry air v k ↔ Sends (setting f) v k f.start }
     ensures hears { (f : FloodParts) (clocks : ℕ → ℕ → ℕ) (air : List Entry) → HasClocks f clocks
         → FloodLaw f clocks air → (v k : ℕ) → knows f.nodes v ≡ true → HasHeard air v k ↔ Hears (setting f) v k f.start }
     ensures keys { (f : FloodParts) (clocks : ℕ → ℕ → ℕ) (air : List Entry) → HasClocks f clocks
         → FloodLaw f clocks air → (x : Sending) → Contains (sendings_of air) x
-        → (frame_of one x ≡ 5) × (slot_of x ≡ 1) × (counter_of x ≤ 11) }
+        → (frame_of_sending one x ≡ 5) × (slot_of_sending x ≡ 1) × (counter_of_sending x ≤ 11) }
 {}
 
 /// What is read off such a log is the outcome of the flood: the nodes that accept with the counters of their first receptions,
@@ -36,7 +36,7 @@ pub fn flood_logs_are_floods_by_steps()
 pub fn flood_logs_have_the_outcome()
     ensures accepts { (f : FloodParts) (clocks : ℕ → ℕ → ℕ) (air : List Entry) → HasClocks f clocks
         → FloodLaw f clocks air → (step : ℕ → Option ℕ)
-        → ((v : ℕ) → knows f.nodes v ≡ true → IsAcceptance f air v (step v)) → accepting step (ids f.nodes) ≡ (outcome f).accepts }
+        → ((v : ℕ) → knows f.nodes v ≡ true → IsAcceptanceStep f air v (step v)) → accepting step (ids f.nodes) ≡ (outcome f).accepts }
     ensures sent { (f : FloodParts) (clocks : ℕ → ℕ → ℕ) (air : List Entry) → HasClocks f clocks
         → FloodLaw f clocks air → length (sendings_of air) ≡ (outcome f).sent }
 {}

@@ -2,7 +2,7 @@
 
 ghost use Rattle.std.specs.Prelude.{◌≡◌, ◌<◌, ◌≤◌, ◌^◌, All, Contains, AllPairs, length, map, slice_index_or, true, if◌then◌else◌};
 ghost use Rattle.radio_model.specs.declared.sending.Sending.{Sending};
-ghost use Rattle.lwb_flood.specs.FloodWorlds.{node_of, is_last, with_change, with_act, hearing_by, after_own};
+ghost use Rattle.lwb_flood.specs.FloodWorlds.{node_of_member, is_last, with_change, member_with_act, hearing_by, after_own};
 ghost use Rattle.lwb_flood.specs.declared.member.Member.{Member};
 ghost use Rattle.glossy_relay.specs.declared.flood.After.TheVariants.{More, Off as After_Off};
 
@@ -14,9 +14,9 @@ use tick_clock::{DriftClock, turn_bounds};
 
 // What the node is about from now on.
 pub(crate) fn set_act(members: &mut Vec<Member>, node: NodeId, act: Act)
-    requires node { Contains (map node_of members.old.items) node }
-    requires ascend { AllPairs (λ a b. a < b) (map node_of members.old.items) }
-    ensures { members.new.items ≡ with_change node (with_act act) members.old.items }
+    requires node { Contains (map node_of_member members.old.items) node }
+    requires ascend { AllPairs (λ a b. a < b) (map node_of_member members.old.items) }
+    ensures { members.new.items ≡ with_change node (member_with_act act) members.old.items }
 {
     let place = place_of(members, node);
     members[place].act = act;
@@ -24,8 +24,8 @@ pub(crate) fn set_act(members: &mut Vec<Member>, node: NodeId, act: Act)
 
 // The node's sending ended.
 pub(crate) fn end_own(members: &mut Vec<Member>, node: NodeId) -> After
-    requires node { Contains (map node_of members.old.items) node }
-    requires ascend { AllPairs (λ a b. a < b) (map node_of members.old.items) }
+    requires node { Contains (map node_of_member members.old.items) node }
+    requires ascend { AllPairs (λ a b. a < b) (map node_of_member members.old.items) }
     requires waits { All (λ m. m.node ≡ node → m.flood.waiting ≡ true) members.old.items }
     ensures last { result ≡ (if is_last node members.old.items then After_Off else More) }
     ensures members { members.new.items ≡ with_change node after_own members.old.items }
@@ -44,7 +44,7 @@ pub(crate) fn hear_at<C: DriftClock>(
     x: &Sending,
 )
     requires place { place < length members.old.items }
-    requires ascend { AllPairs (λ a b. a < b) (map node_of members.old.items) }
+    requires ascend { AllPairs (λ a b. a < b) (map node_of_member members.old.items) }
     requires early { x.now.end ≤ 2 ^ 45 }
     ensures { (d : Member)
         → members.new.items ≡ with_change (slice_index_or members.old.items place d).node (hearing_by (C.readings clock.now) x.now) members.old.items }
@@ -58,7 +58,7 @@ pub(crate) fn hear_at<C: DriftClock>(
 
 // The place of a node.
 pub(crate) fn place_of(members: &[Member], node: NodeId) -> usize
-    requires { Contains (map node_of members.now) node }
+    requires { Contains (map node_of_member members.now) node }
     ensures below { result < length members.now }
     ensures there { (d : Member) → (slice_index_or members.now result d).node ≡ node }
 {

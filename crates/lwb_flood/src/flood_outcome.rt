@@ -5,7 +5,7 @@ ghost use Rattle.bus_terms.specs.FloodOfText.{ids, outcome};
 ghost use Rattle.air_log.specs.Entries.{sendings_of, sending_in};
 ghost use Rattle.air_log.specs.FloodLaw.{FloodLaw};
 ghost use Rattle.lwb_flood.specs.FloodLog.{HasClocks, accepting};
-ghost use Rattle.lwb_flood.specs.LogReading.{AreFirst, hearing_of, earlier as earlier_of, with_earlier, step_of as step_by};
+ghost use Rattle.lwb_flood.specs.LogReading.{AreFirst, reception_of_entry, earlier_reception as earlier_of, with_earlier, step_of as step_by};
 
 use air_log::{Air, Entry};
 use bus_rules::FloodResult;
@@ -68,7 +68,7 @@ fn first_hearings(air: &Air) -> [Option<FirstHearing>; IDS]
 }
 
 fn hearing_at(air: &Air, i: usize) -> Option<(NodeId, FirstHearing)>
-    ensures { result ≡ option_and_then hearing_of (slice_get air.now i) }
+    ensures { result ≡ option_and_then reception_of_entry (slice_get air.now i) }
 {
     match air.at(i) {
         Some(Entry::Heard(heard)) => {

@@ -5,10 +5,11 @@ ghost use Rattle.lwb_base.specs.Profile.{one};
 ghost use Rattle.radio_model.specs.declared.sending.Sending.{Sending};
 ghost use Rattle.radio_model.specs.Hearing.{Scene};
 ghost use Rattle.radio_model.specs.Holding.{Holds};
-ghost use Rattle.radio_model.specs.Stations.{IsTime, Ends, nodes_of, sending_of, station_of};
+ghost use Rattle.radio_model.specs.Stations.{IsTime, Ends, nodes_of, sending_of_station, station_of};
 ghost use Rattle.air_log.specs.FloodLaw.{sending_at};
-ghost use Rattle.lwb_flood.specs.FloodWorlds.{World, node_of, moment_of, IsNext, begun, gone, heard, sooner as sooner_of};
-ghost use Rattle.lwb_flood.specs.FloodWorlds.{comes_before as comes_before_of, heard_by_all, readings_at, Ended, CanStep, Stepped, closed_by, closed_all};
+ghost use Rattle.lwb_flood.specs.FloodWorlds.{World, node_of_member, moment_of, ActsNext, world_after_start, gone, world_after_reception, sooner as sooner_of};
+ghost use Rattle.lwb_flood.specs.FloodWorlds.{moment_comes_before as comes_before_of, heard_by_all, readings_of_node, Ended, CanStep, WorldSteps};
+ghost use Rattle.lwb_flood.specs.FloodWorlds.{world_closed_at, closed_all};
 ghost use Rattle.air_log.specs.Entries.{sent_entry as sent_entry_of, heard_entry as heard_entry_of};
 ghost use Rattle.lwb_flood.specs.declared.member.Member.{Member};
 ghost use Rattle.glossy_relay.specs.declared.flood.After.TheVariants.{More};
@@ -52,7 +53,7 @@ impl FloodWorld {
     // The place of the node that is the next to do something, or of one of them. None exactly where none has anything to do.
     pub(crate) fn next(&self) -> Option<usize>
         ensures none { IfNone result (All (λ m. moment_of m.act ≡ None) self.now.members) }
-        ensures some { IfSome result (λ i. (i < length self.now.members) × ((d : Member) → IsNext self.now.members (slice_index_or self.now.members i d))) }
+        ensures some { IfSome result (λ i. (i < length self.now.members) × ((d : Member) → ActsNext self.now.members (slice_index_or self.now.members i d))) }
     {
         let mut next = None;
         for (i, member) in self.members.iter().enumerate() {
@@ -75,7 +76,8 @@ impl FloodWorld {
         requires seal { trace.now.nodes ≡ nodes_of self.old.medium }
         requires clocks { length clocks.now ≡ length self.old.members }
         requires can { (d : Member) → CanStep trace.now.lines self.old (slice_index_or self.old.members place d) (slice_index_or self.old.members place d).act }
-        ensures { (d : Member) → OnOk result (Stepped trace.now.lines (readings_at C.readings clocks.now (map node_of self.old.members)) self.old self.new
+        ensures { (d : Member) → OnOk result
+            (WorldSteps trace.now.lines (readings_of_node C.readings clocks.now (map node_of_member self.old.members)) self.old self.new
             (slice_index_or self.old.members place d) (slice_index_or self.old.members place d).act) }
     {
         let node = self.members[place].node;
@@ -89,7 +91,7 @@ impl FloodWorld {
     // Those that are still tuned in go off.
     pub(crate) fn close(&mut self) -> Result<(), Memory>
         requires { IsTime self.old.medium 1346096000 }
-        ensures { OnOk result (self.new ≡ closed_all (map node_of self.old.members) self.old) }
+        ensures { OnOk result (self.new ≡ closed_all (map node_of_member self.old.members) self.old) }
     {
         for place in 0..self.members.as_slice().len() {
             self.close_one(place)?;
@@ -100,7 +102,7 @@ impl FloodWorld {
     fn close_one(&mut self, place: usize) -> Result<(), Memory>
         requires place { place < length self.old.members }
         requires time { IsTime self.old.medium 1346096000 }
-        ensures { (d : Member) → OnOk result (self.new ≡ closed_by (slice_index_or self.old.members place d).node self.old) }
+        ensures { (d : Member) → OnOk result (self.new ≡ world_closed_at (slice_index_or self.old.members place d).node self.old) }
     {
         let node = self.members[place].node;
         if is_off(&self.members[place].act) {
@@ -119,7 +121,7 @@ impl FloodWorld {
     pub(crate) fn begin(&mut self, node: NodeId, start: u64, packet: Packet) -> Result<(), Memory>
         requires node { Contains (nodes_of self.old.medium) node }
         requires time { IsTime self.old.medium start }
-        ensures { OnOk result (self.new ≡ begun (sending_at node start packet) self.old) }
+        ensures { OnOk result (self.new ≡ world_after_start (sending_at node start packet) self.old) }
     {
         let x = Sending {
             rank: channel(),
@@ -162,13 +164,13 @@ impl FloodWorld {
         requires node { Contains (nodes_of self.old.medium) x.node }
         requires time { IsTime self.old.medium x.end }
         requires ends { Ends self.old.medium x.node x.end }
-        requires sends { sending_of (station_of self.old.medium x.node) ≡ Some x }
+        requires sends { sending_of_station (station_of self.old.medium x.node) ≡ Some x }
         requires held { (a : Scene) × Holds self.old.medium a × (a.lines ≡ trace.now.lines) }
         requires seal { trace.now.nodes ≡ nodes_of self.old.medium }
         requires waits { All (λ m. m.node ≡ x.node → m.flood.waiting ≡ true) self.old.members }
         requires early { x.end ≤ 2 ^ 45 }
         requires clocks { length clocks.now ≡ length self.old.members }
-        ensures { OnOk result (Ended trace.now.lines (readings_at C.readings clocks.now (map node_of self.old.members)) x self.old self.new) }
+        ensures { OnOk result (Ended trace.now.lines (readings_of_node C.readings clocks.now (map node_of_member self.old.members)) x self.old self.new) }
     {
         let hearers = self.medium.end(trace, x.node, x.end);
         match end_own(&mut self.members, x.node) {
@@ -191,7 +193,8 @@ impl FloodWorld {
         requires early { x.now.end ≤ 2 ^ 45 }
         requires clocks { length clocks.now ≡ length self.old.members }
         ensures { OnOk result
-            (self.new ≡ heard_by_all (readings_at C.readings clocks.now (map node_of self.old.members)) x.now (map (λ p. p.0) hearers.now) self.old) }
+            (self.new ≡ heard_by_all (readings_of_node C.readings clocks.now (map node_of_member self.old.members)) x.now (map (λ p. p.0) hearers.now)
+                self.old) }
     {
         for i in 0..usize::from(hearers.count()) {
             let (node, _) = hearers.at(i).unwrap();
@@ -205,7 +208,8 @@ impl FloodWorld {
     fn hear<C: DriftClock>(&mut self, place: usize, clock: &C, x: &Sending) -> Result<(), Memory>
         requires place { place < length self.old.members }
         requires early { x.now.end ≤ 2 ^ 45 }
-        ensures { (d : Member) → OnOk result (self.new ≡ heard (C.readings clock.now) x.now (slice_index_or self.old.members place d).node self.old) }
+        ensures { (d : Member) → OnOk result
+            (self.new ≡ world_after_reception (C.readings clock.now) x.now (slice_index_or self.old.members place d).node self.old) }
     {
         let node = self.members[place].node;
         self.air.push(heard_entry(node, x))?;

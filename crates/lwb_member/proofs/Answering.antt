@@ -10,7 +10,7 @@ use Rattle.lwb_base.specs.Messages.{Ask, code, code_of, node_of, stream_of}
 use Rattle.schedule_codec.specs.AckLists.{are_acks, strictly_ascend, ask_in_range, may_follow, takes_ack}
 use Rattle.bus_rules.specs.Streams.{Streams}
 use Rattle.bus_rules.specs.Tables.{Entry, Table, new_entry, with_entry, without, is_full, has_code, after_request}
-use Rattle.bus_rules.specs.HostPlans.{Answered, Served, with_ack, answer, answered, serve}
+use Rattle.bus_rules.specs.HostPlans.{Answered, Served, with_ack, answer, answers_to, serve}
 use Rattle.lwb_member.specs.Planning.{AreAnswers, IsEarly}
 
 -- the order by codes stays
@@ -128,11 +128,11 @@ abbrev pub collected : Table → List Ask → Answered
 collected t acks = record { table = t; acks = acks }
 
 pub answered_more : (frame : ℕ) (kept : List Ask) (i : ℕ) (a : Ask) (start t t' : Table) (acks acks' : List Ask) → i < length kept → a ≡ get_or kept i a
-    → collected t acks ≡ answered frame (take i kept) start → t' ≡ after_request frame t a → acks' ≡ (answer frame (collected t acks) a).acks
-    → collected t' acks' ≡ answered frame (take (i + 1) kept) start
+    → collected t acks ≡ answers_to frame (take i kept) start → t' ≡ after_request frame t a → acks' ≡ (answer frame (collected t acks) a).acks
+    → collected t' acks' ≡ answers_to frame (take (i + 1) kept) start
 answered_more frame kept i a start t t' acks acks' within is before table acked =
     let now : collected t' acks' ≡ answer frame (collected t acks) a = cc (table, acked) in
-    now ∙ ap (λ (x : Answered). answer frame x a) before ∙ ap (λ (x : Ask). answer frame (answered frame (take i kept) start) x) is
+    now ∙ ap (λ (x : Answered). answer frame x a) before ∙ ap (λ (x : Ask). answer frame (answers_to frame (take i kept) start) x) is
     ∙ sym (fold_more (answer frame) (collected start []) kept i a within)
 
 abbrev pub four : List ℕ

@@ -1,16 +1,16 @@
 -- Acknowledgements as a list in the order of its codes, and one that is put in its place.
 use Rattle.std.proofs.Common.{◌≡◌, ◌∙◌, ◌<◌, List, [], ◌∷◌, Bool, true, ◌==◌, nat_lt, if◌then◌else◌, length, refl, ap, arith}
 use Rattle.std.proofs.lemmas.Bool.{and_parts, ltb-true}
-use Rattle.stream_table.specs.CodeOrder.{Above, Ascends, placed, finds_room}
+use Rattle.stream_table.specs.CodeOrder.{CodesAreAbove, AscendsByCode, placed, finds_room}
 use Rattle.stream_table.proofs.CodeOrder.{above_more, room_found}
 use Rattle.lwb_base.specs.Messages.{Ask, code_of}
 use Rattle.schedule_codec.specs.AckLists.{strictly_ascend}
 use Rattle.bus_rules.specs.HostPlans.{with_ack}
 
-above_first : (a b : Ask) (xs : List Ask) → code_of a < code_of b → Above code_of (code_of b) xs → Above code_of (code_of a) (b ∷ xs)
+above_first : (a b : Ask) (xs : List Ask) → code_of a < code_of b → CodesAreAbove code_of (code_of b) xs → CodesAreAbove code_of (code_of a) (b ∷ xs)
 above_first a b xs less above = (less, above_more code_of (code_of a) (code_of b) xs (omega arith) above)
 
-pub in_order : (xs : List Ask) → strictly_ascend xs ≡ true → Ascends code_of xs
+pub in_order : (xs : List Ask) → strictly_ascend xs ≡ true → AscendsByCode code_of xs
 in_order [] up = tt
 in_order (a ∷ []) up = (tt, tt)
 in_order (a ∷ b ∷ xs) up =

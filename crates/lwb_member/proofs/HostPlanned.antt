@@ -9,7 +9,7 @@ use Rattle.lwb_base.specs.Messages.{Ask, Plan}
 use Rattle.bus_rules.specs.Streams.{Streams}
 use Rattle.bus_rules.specs.Tables.{Entry, Table}
 use Rattle.bus_rules.specs.Granting.{gap_of, total, owed_to, grant, grants_for, granted_by, share_in, given, last_code, plan_round, Grants}
-use Rattle.bus_rules.specs.HostPlans.{HostPlan, Served, answered, served, host_plan}
+use Rattle.bus_rules.specs.HostPlans.{HostPlan, Served, answers_to, served, host_plan}
 use Rattle.lwb_packets.specs.Ranges.{between}
 use Rattle.schedule_codec.specs.Spelling.{slot_fits, most_acks}
 use Rattle.bus_rules.specs.declared.tune.Tune.{Tune}
@@ -26,7 +26,7 @@ use Rattle.lwb_member.proofs.Answering.{Early}
 module _ (p : Numbers) (node boot rank frame : ℕ) (kept : List Ask) (t first own after : Table) (s streams : Streams) (acks : List Ask) (host contend gap : ℕ)
     (owners : List ℕ)
     (ranked : host ≡ rank) (named : contend ≡ p.contend)
-    (answers : first ≡ (answered frame kept t).table) (acked : acks ≡ (answered frame kept t).acks)
+    (answers : first ≡ (answers_to frame kept t).table) (acked : acks ≡ (answers_to frame kept t).acks)
     (served_table : own ≡ (served frame node boot first s).table) (served_streams : streams ≡ (served frame node boot first s).streams)
     (gapped : gap ≡ (plan_round p.seconds frame own).gap) (owned : owners ≡ (plan_round p.seconds frame own).owners)
     (granted : after ≡ (plan_round p.seconds frame own).table) where
@@ -34,10 +34,10 @@ module _ (p : Numbers) (node boot rank frame : ℕ) (kept : List Ask) (t first o
   made = record { gap = gap; plan = record { rank = host; boot = boot; contend = contend; acks = acks; owners = owners }; table = after; streams = streams }
 
   abbrev all_acks : List Ask
-  all_acks = (answered frame kept t).acks
+  all_acks = (answers_to frame kept t).acks
 
   abbrev all_served : Served
-  all_served = served frame node boot (answered frame kept t).table s
+  all_served = served frame node boot (answers_to frame kept t).table s
 
   abbrev all_grants : Grants
   all_grants = plan_round p.seconds frame all_served.table

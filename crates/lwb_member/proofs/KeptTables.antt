@@ -7,7 +7,7 @@ use Rattle.std.specs.List.{cons_option}
 use Rattle.std.specs.Option.{IfSome}
 use Rattle.bus_rules.specs.declared.part.Part.{Part}
 use Rattle.bus_rules.specs.declared.part.Part.TheVariants.{Opening, Data as DataSlot, Contention, Closing}
-use Rattle.bus_rules.specs.Tables.{Entry, Table, has_code, seen, missed}
+use Rattle.bus_rules.specs.Tables.{Entry, Table, has_code, entry_after_data, missed}
 use Rattle.bus_rules.specs.Cores.{Core}
 use Rattle.bus_rules.specs.Slots.{hosts_now, owner_heard, slot_heard}
 use Rattle.lwb_member.specs.Planning.{IsEarly}
@@ -32,7 +32,7 @@ each_missed frame c (e ∷ es) all =
     (each_missed frame c es (All-tail (Early frame) e es all))
 
 owner_early : (frame owner : ℕ) (heard : Bool) (t : Table) → IsEarly frame t → IsEarly frame (owner_heard heard owner t)
-owner_early frame owner true t all = All-map (Early frame) (seen owner) t.entries all
+owner_early frame owner true t all = All-map (Early frame) (entry_after_data owner) t.entries all
 owner_early frame owner false t all = each_missed frame owner t.entries all
 
 pub slot_early : (frame : ℕ) (part : Part) (heard : Bool) (c : Core) → IsEarly frame c.table → IsEarly frame (slot_heard frame part heard c).table

@@ -1,6 +1,6 @@
 -- What is read off the bytes of a packet is what was spelled.
 use Rattle.std.proofs.Common.{◌≡◌, ℕ, ◌+◌, ◌*◌, ◌/◌, ◌%◌, List, refl, subst, ap, arith}
-use Rattle.lwb_packets.specs.DataPackets.{SpellsData, spelling as data_spelling}
+use Rattle.lwb_packets.specs.DataPackets.{SpellsData, data_spelling}
 use Rattle.lwb_packets.specs.Requests.{SpellsRequest}
 use Rattle.lwb_packets.specs.declared.data_packet.DataPacket.{DataPacket}
 use Rattle.lwb_packets.specs.declared.request.Request.{Request}

@@ -36,10 +36,10 @@ pub record IsMember (s : Setup) (c : Core) (joined : Bool) : Type 0 where
   pub kept : list_all ask_in_range c.kept ≡ true
 
 -- what was read is in its ranges
-abbrev pub IsHeard : Heard → Type 0
-IsHeard (Schedule s) = IsPlan s.plan × IsBoot s.plan.boot
-IsHeard (Data d) = ⊤
-IsHeard (Request r) = InRange r
+abbrev pub IsHeardInRange : Heard → Type 0
+IsHeardInRange (Schedule s) = IsPlan s.plan × IsBoot s.plan.boot
+IsHeardInRange (Data d) = ⊤
+IsHeardInRange (Request r) = InRange r
 
 -- a schedule was read in a slot that it may stand in
 abbrev pub StandsIn : ℕ → Heard → Type 0

@@ -6,11 +6,11 @@ use Rattle.bus_rules.specs.declared.part.Part.{Part}
 use Rattle.bus_rules.specs.declared.part.Part.TheVariants.{Opening, Data, Contention, Closing}
 use Rattle.bus_rules.specs.Plans.{last_slot}
 
-abbrev pub IsPlaced : Plan → ℕ → Part → Type 0
-IsPlaced p j Opening = j ≡ 0
-IsPlaced p j (Data owner) = (1 ≤ j) × (j ≤ 40)
-IsPlaced p j (Contention i) = (1 ≤ j) × (j ≤ 44)
-IsPlaced p j Closing = j ≡ last_slot p
+abbrev pub IsPartOfSlot : Plan → ℕ → Part → Type 0
+IsPartOfSlot p j Opening = j ≡ 0
+IsPartOfSlot p j (Data owner) = (1 ≤ j) × (j ≤ 40)
+IsPartOfSlot p j (Contention i) = (1 ≤ j) × (j ≤ 44)
+IsPartOfSlot p j Closing = j ≡ last_slot p
 
 abbrev pub kind_for : Part → Kind.Kind
 kind_for Opening = Kind.TheVariants.Schedule

@@ -11,7 +11,7 @@ pub record AreAnswers (acks : List Ask) : Type 0 where
   pub ranges : list_all ask_in_range acks ≡ true
 
 -- each of these requests can be put to a table, and no more than a host keeps
-pub record AreKept (kept : List Ask) : Type 0 where
+pub record AreKeptRequests (kept : List Ask) : Type 0 where
   pub few : length kept ≤ 4
   pub ranges : list_all ask_in_range kept ≡ true
 

@@ -2,14 +2,14 @@
 use Rattle.std.specs.Prelude.{◌≡◌, ℕ, true, ◌+◌, ◌*◌, ◌≤◌, List, length, if◌then◌else◌, slice_index, drop, Some, option_map}
 use Rattle.std.specs.declared.option.Option.{Option}
 use Rattle.lwb_base.specs.Messages.{Ask}
-use Rattle.lwb_packets.specs.DataPackets.{is_data, spelling as data_spelling, InRange as IsData}
-use Rattle.lwb_packets.specs.Requests.{is_request, spelling as request_spelling, InRange as IsRequest}
+use Rattle.lwb_packets.specs.DataPackets.{is_data, data_spelling, InRange as IsData}
+use Rattle.lwb_packets.specs.Requests.{is_request, request_spelling, InRange as IsRequest}
 use Rattle.lwb_packets.specs.declared.data_packet.DataPacket.{DataPacket}
 use Rattle.lwb_packets.specs.declared.request.Request as Requested
 use Rattle.lwb_packets.specs.declared.kind.Kind.{Kind}
 use Rattle.glossy_relay.specs.FloodState.{kind_named}
 use Rattle.glossy_relay.specs.Relaying.{is_packet, is_spelling}
-use Rattle.schedule_codec.specs.Spelling.{spelling as schedule_spelling, in_range}
+use Rattle.schedule_codec.specs.Spelling.{schedule_spelling, schedule_in_range}
 use Rattle.schedule_codec.specs.Reading.{schedule_of}
 use Rattle.lwb_member.specs.declared.message.Heard.{Heard}
 use Rattle.lwb_member.specs.declared.message.Heard.TheVariants.{Schedule, Data, Request}
@@ -36,12 +36,12 @@ bytes_of (RequestOf a) j = request_spelling (request_packet a j)
 
 -- what may be said in slot j: each part is in its range
 abbrev pub MaySay : ℕ → Message → Type 0
-MaySay j (ScheduleOf x) = in_range x j 0 ≡ true
+MaySay j (ScheduleOf x) = schedule_in_range x j 0 ≡ true
 MaySay j (DataOf d) = IsData (data_packet d j) × (1 ≤ d.node) × (d.node ≤ 200) × (length d.payload ≤ 96)
 MaySay j (RequestOf a) = IsRequest (request_packet a j) × (1 ≤ a.node) × (a.node ≤ 200)
 
-abbrev pub said_in : ℕ → Message → List ℕ
-said_in j m = bytes_of m j
+abbrev pub bytes_in_slot : ℕ → Message → List ℕ
+bytes_in_slot j m = bytes_of m j
 
 abbrev pub data_in : List ℕ → DataSaid
 data_in p = record {
@@ -63,7 +63,7 @@ message_of p =
     else option_map ScheduleOf (schedule_of p)
 
 -- a packet of this kind, as its initiator sends it
-pub record IsSaid (kind : Kind) (p : List ℕ) : Type 0 where
+pub record IsInitialPacket (kind : Kind) (p : List ℕ) : Type 0 where
   pub packet : is_packet p ≡ true
   pub counter : slice_index p 2 ≡ 0
   pub named : kind_named p ≡ kind

@@ -7,9 +7,9 @@ ghost use Rattle.schedule_codec.specs.AckLists.{ask_in_range};
 ghost use Rattle.bus_rules.specs.Plans.{slots_named};
 ghost use Rattle.bus_rules.specs.Tuning.{hosts, rank_of as rank_in};
 ghost use Rattle.bus_rules.specs.Cores.{schedule_accepted, opening_accepted, closing_accepted};
-ghost use Rattle.bus_rules.specs.Slots.{slot_heard, closed, delivery_of, RequestOf};
+ghost use Rattle.bus_rules.specs.Slots.{slot_heard, closed_slot, delivery_of, RequestOf};
 ghost use Rattle.bus_rules.specs.declared.part.Part.TheVariants.{Contention};
-ghost use Rattle.lwb_member.specs.Members.{IsBoot, IsHeard, IsPlan, MayAccept};
+ghost use Rattle.lwb_member.specs.Members.{IsBoot, IsHeardInRange, IsPlan, MayAccept};
 ghost use Rattle.lwb_member.specs.Planning.{IsEarly};
 ghost use Rattle.lwb_member.specs.Said.{meaning};
 
@@ -32,12 +32,13 @@ impl Member {
         accepted: Option<Heard>,
     ) -> Option<Delivery>
         requires frame { frame ≤ 16777215 }
-        requires ranges { IfSome accepted IsHeard }
+        requires ranges { IfSome accepted IsHeardInRange }
         requires host { MayAccept self.old.core (option_map meaning accepted) }
         requires early { IsEarly frame self.old.core.table }
-        ensures core { self.new ≡ record self.old { core = (closed self.old.setup frame part initiated self.old.core (option_map meaning accepted)).core } }
+        ensures core { self.new ≡ record self.old
+            { core = (closed_slot self.old.setup frame part initiated self.old.core (option_map meaning accepted)).core } }
         ensures delivery { result ≡ option_map (delivery_of self.old.setup.id frame (rank_in self.old.core.tune) slot)
-            (closed self.old.setup frame part initiated self.old.core (option_map meaning accepted)).delivered }
+            (closed_slot self.old.setup frame part initiated self.old.core (option_map meaning accepted)).delivered }
         ensures early { IsEarly frame self.new.core.table }
     {
         match accepted {
@@ -65,7 +66,7 @@ impl Member {
     pub fn pass(&mut self, frame: u32, part: Part, initiated: bool)
         requires frame { frame ≤ 16777215 }
         requires early { IsEarly frame self.old.core.table }
-        ensures core { self.new ≡ record self.old { core = (closed self.old.setup frame part initiated self.old.core None).core } }
+        ensures core { self.new ≡ record self.old { core = (closed_slot self.old.setup frame part initiated self.old.core None).core } }
         ensures early { IsEarly frame self.new.core.table }
     {
         self.hear_owner(frame, part, initiated);
@@ -120,7 +121,7 @@ impl Member {
     #[tactic(auto, using(crate::proofs::HostPlanned::contend_few))]
     fn keep(&mut self, frame: u32, ask: Ack)
         requires { ask_in_range ask ≡ true }
-        ensures { self.new ≡ record self.old { core = (closed self.old.setup frame (Contention 1) false self.old.core (Some (RequestOf ask))).core } }
+        ensures { self.new ≡ record self.old { core = (closed_slot self.old.setup frame (Contention 1) false self.old.core (Some (RequestOf ask))).core } }
     {
         if self.hosts_now(frame)
             && self.kept.len() < usize::from(contention_slots(self.profile.contend()))

@@ -8,7 +8,7 @@ ghost use Rattle.bus_rules.specs.Slots.{part_of, hosts_now};
 ghost use Rattle.bus_rules.specs.Streams as rule;
 ghost use Rattle.stream_source.specs.declared.stream.Put.TheVariants.{Queued, Dropped};
 ghost use Rattle.lwb_member.specs.Members.{IsBoot};
-ghost use Rattle.lwb_member.specs.Places.{IsPlaced};
+ghost use Rattle.lwb_member.specs.Places.{IsPartOfSlot};
 
 use crate::kept::Kept;
 use crate::round_end::last_slot;
@@ -163,7 +163,7 @@ impl Member {
     /// The stream requests nothing more, and what waits in it is gone.
     pub fn leave(&mut self, stream: u8)
         requires { stream ≤ 3 }
-        ensures { self.new ≡ record self.old { core = record self.old.core { streams = rule.left stream self.old.core.streams } } }
+        ensures { self.new ≡ record self.old { core = record self.old.core { streams = rule.streams_after_leaving stream self.old.core.streams } } }
     {
         self.streams.leave(stream);
     }
@@ -244,7 +244,7 @@ impl Member {
     pub fn part(&self, slot: u8) -> Part
         requires { slot ≤ last_slot_of self.now.core.plan }
         ensures value { result ≡ part_of self.now.core.plan slot }
-        ensures placed { IsPlaced self.now.core.plan slot result }
+        ensures placed { IsPartOfSlot self.now.core.plan slot result }
     {
         let owners = self.plan.owners.count();
         if slot == 0 {

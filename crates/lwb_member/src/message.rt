@@ -3,7 +3,7 @@
 ghost use Rattle.std.specs.Prelude.{◌≡◌, IfSome};
 ghost use Rattle.std.specs.Option.{option_map};
 ghost use Rattle.glossy_relay.specs.Relaying.{slot_of};
-ghost use Rattle.lwb_member.specs.Members.{IsHeard, StandsIn};
+ghost use Rattle.lwb_member.specs.Members.{IsHeardInRange, StandsIn};
 ghost use Rattle.lwb_member.specs.Said.{meaning, message_of};
 
 use lwb_base::Packet;
@@ -25,7 +25,7 @@ pub enum Heard {
 #[tactic(auto, using(crate::proofs::Meanings::says_data, crate::proofs::Meanings::says_request))]
 pub fn message_in(p: &Packet) -> Option<Heard>
     ensures value { option_map meaning result ≡ message_of p.now }
-    ensures ranges { IfSome result IsHeard }
+    ensures ranges { IfSome result IsHeardInRange }
     ensures place { IfSome result (StandsIn (slot_of p.now)) }
 {
     if let Some(data) = decode_payload(p) {

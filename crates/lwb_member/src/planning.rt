@@ -9,11 +9,11 @@ ghost use Rattle.schedule_codec.specs.AckLists.{are_acks, ask_in_range};
 ghost use Rattle.bus_rules.specs.Plans.{last_slot as last_slot_of};
 ghost use Rattle.bus_rules.specs.Tuning.{hosts};
 ghost use Rattle.bus_rules.specs.Tables.{after_request};
-ghost use Rattle.bus_rules.specs.HostPlans.{with_ack, answer, answered, serve, served};
+ghost use Rattle.bus_rules.specs.HostPlans.{with_ack, answer, answers_to, serve, served};
 ghost use Rattle.bus_rules.specs.Slots.{host_closes};
 ghost use Rattle.lwb_member.specs.Members.{IsBoot};
-ghost use Rattle.lwb_member.specs.Said.{said_in, message_of, IsSaid};
-ghost use Rattle.lwb_member.specs.Planning.{AreAnswers, AreKept, IsEarly};
+ghost use Rattle.lwb_member.specs.Said.{bytes_in_slot, message_of, IsInitialPacket};
+ghost use Rattle.lwb_member.specs.Planning.{AreAnswers, AreKeptRequests, IsEarly};
 
 use crate::kept::Kept;
 use crate::member::Member;
@@ -28,10 +28,10 @@ use stream_table::{Answer, Table, code_order};
 
 // The requests that were kept are put to the table, in their order. What is acknowledged of them.
 pub(crate) fn answer_kept(table: &mut Table, kept: &[Kept], frame: u32) -> Acks
-    requires kept { AreKept kept.now }
+    requires kept { AreKeptRequests kept.now }
     requires early { IsEarly frame table.old }
-    ensures table { table.new ≡ (answered frame kept.now table.old).table }
-    ensures acks { result ≡ (answered frame kept.now table.old).acks }
+    ensures table { table.new ≡ (answers_to frame kept.now table.old).table }
+    ensures acks { result ≡ (answers_to frame kept.now table.old).acks }
     ensures few { length result ≤ length kept.now }
     ensures ranges { list_all ask_in_range result ≡ true }
     ensures early { IsEarly frame table.new }
@@ -41,10 +41,10 @@ pub(crate) fn answer_kept(table: &mut Table, kept: &[Kept], frame: u32) -> Acks
 }
 
 fn answer_each(table: &mut Table, kept: &[Kept], frame: u32) -> ArrayVec<Kept, 4>
-    requires kept { AreKept kept.now }
+    requires kept { AreKeptRequests kept.now }
     requires early { IsEarly frame table.old }
-    ensures table { table.new ≡ (answered frame kept.now table.old).table }
-    ensures acks { result.items ≡ (answered frame kept.now table.old).acks }
+    ensures table { table.new ≡ (answers_to frame kept.now table.old).table }
+    ensures acks { result.items ≡ (answers_to frame kept.now table.old).acks }
     ensures few { length result.items ≤ length kept.now }
     ensures are { AreAnswers result.items }
     ensures early { IsEarly frame table.new }
@@ -155,9 +155,9 @@ impl Member {
         requires host { hosts self.old.core.tune ≡ true }
         requires frame { frame ≤ 16777215 }
         requires early { IsEarly frame self.old.core.table }
-        ensures packet { Some result ≡ option_map (said_in (last_slot_of self.old.core.plan)) (host_closes self.old.setup frame self.old.core).message }
+        ensures packet { Some result ≡ option_map (bytes_in_slot (last_slot_of self.old.core.plan)) (host_closes self.old.setup frame self.old.core).message }
         ensures told { message_of result ≡ (host_closes self.old.setup frame self.old.core).message }
-        ensures said { IsSaid OfSchedule result }
+        ensures said { IsInitialPacket OfSchedule result }
         ensures core { self.new ≡ record self.old { core = (host_closes self.old.setup frame self.old.core).core } }
         ensures early { IsEarly frame self.new.core.table }
     {

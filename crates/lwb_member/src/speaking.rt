@@ -3,11 +3,11 @@
 ghost use Rattle.std.specs.Prelude.{◌≡◌, ◌≤◌, IfSome};
 ghost use Rattle.std.specs.Option.{option_map, option_and_then};
 ghost use Rattle.lwb_packets.specs.declared.kind.Kind.TheVariants.{Schedule as OfSchedule, Payload as OfData, Request as OfRequest};
-ghost use Rattle.bus_rules.specs.Slots.{opened, data_opened, contention_opened};
+ghost use Rattle.bus_rules.specs.Slots.{opened_slot, data_opened, contention_opened};
 ghost use Rattle.bus_rules.specs.declared.part.Part.TheVariants.{Opening, Closing};
-ghost use Rattle.lwb_member.specs.Said.{said_in, message_of, IsSaid};
+ghost use Rattle.lwb_member.specs.Said.{bytes_in_slot, message_of, IsInitialPacket};
 ghost use Rattle.lwb_member.specs.Planning.{IsEarly};
-ghost use Rattle.lwb_member.specs.Places.{IsPlaced, kind_for};
+ghost use Rattle.lwb_member.specs.Places.{IsPartOfSlot, kind_for};
 
 use crate::member::Member;
 use bus_rules::Part;
@@ -19,12 +19,12 @@ impl Member {
     /// The slot of this part opens in its round, in this frame, which is at most 16,777,215. What it says in the slot, if it
     /// says something: the packet with counter 0. A host plans its next round where it closes one.
     pub fn speak(&mut self, part: &Part, slot: u8, frame: u32) -> Option<Packet>
-        requires placed { IsPlaced self.old.core.plan slot part.now }
+        requires placed { IsPartOfSlot self.old.core.plan slot part.now }
         requires frame { frame ≤ 16777215 }
         requires early { IsEarly frame self.old.core.table }
-        ensures packet { result ≡ option_map (said_in slot) (opened self.old.setup frame part.now self.old.core).message }
-        ensures said { IfSome result (IsSaid (kind_for part.now)) }
-        ensures core { self.new ≡ record self.old { core = (opened self.old.setup frame part.now self.old.core).core } }
+        ensures packet { result ≡ option_map (bytes_in_slot slot) (opened_slot self.old.setup frame part.now self.old.core).message }
+        ensures said { IfSome result (IsInitialPacket (kind_for part.now)) }
+        ensures core { self.new ≡ record self.old { core = (opened_slot self.old.setup frame part.now self.old.core).core } }
         ensures early { IsEarly frame self.new.core.table }
     {
         match part {
@@ -39,8 +39,8 @@ impl Member {
     pub fn say(&mut self, part: &Part, frame: u32) -> Option<Packet>
         requires frame { frame ≤ 16777215 }
         requires early { IsEarly frame self.old.core.table }
-        ensures told { option_and_then message_of result ≡ (opened self.old.setup frame part.now self.old.core).message }
-        ensures core { self.new ≡ record self.old { core = (opened self.old.setup frame part.now self.old.core).core } }
+        ensures told { option_and_then message_of result ≡ (opened_slot self.old.setup frame part.now self.old.core).message }
+        ensures core { self.new ≡ record self.old { core = (opened_slot self.old.setup frame part.now self.old.core).core } }
         ensures early { IsEarly frame self.new.core.table }
     {
         match part {
@@ -54,12 +54,12 @@ impl Member {
 
     // The last slot: a host plans, and closes its round.
     fn close_round(&mut self, frame: u32, slot: u8) -> Option<Packet>
-        requires slot { IsPlaced self.old.core.plan slot Closing }
+        requires slot { IsPartOfSlot self.old.core.plan slot Closing }
         requires frame { frame ≤ 16777215 }
         requires early { IsEarly frame self.old.core.table }
-        ensures packet { result ≡ option_map (said_in slot) (opened self.old.setup frame Closing self.old.core).message }
-        ensures said { IfSome result (IsSaid OfSchedule) }
-        ensures core { self.new ≡ record self.old { core = (opened self.old.setup frame Closing self.old.core).core } }
+        ensures packet { result ≡ option_map (bytes_in_slot slot) (opened_slot self.old.setup frame Closing self.old.core).message }
+        ensures said { IfSome result (IsInitialPacket OfSchedule) }
+        ensures core { self.new ≡ record self.old { core = (opened_slot self.old.setup frame Closing self.old.core).core } }
         ensures early { IsEarly frame self.new.core.table }
     {
         if !self.hosts_now(frame) {
@@ -71,9 +71,9 @@ impl Member {
     // Slot 0: a host opens its round.
     #[tactic(auto, using(crate::proofs::Spoken::schedule_spoken, crate::proofs::Told::told_schedule))]
     fn open_round(&mut self, frame: u32) -> Option<Packet>
-        ensures packet { result ≡ option_map (said_in 0) (opened self.old.setup frame Opening self.old.core).message }
-        ensures told { option_and_then message_of result ≡ (opened self.old.setup frame Opening self.old.core).message }
-        ensures said { IfSome result (IsSaid OfSchedule) }
+        ensures packet { result ≡ option_map (bytes_in_slot 0) (opened_slot self.old.setup frame Opening self.old.core).message }
+        ensures told { option_and_then message_of result ≡ (opened_slot self.old.setup frame Opening self.old.core).message }
+        ensures said { IfSome result (IsInitialPacket OfSchedule) }
         ensures core { self.new ≡ self.old }
     {
         if !self.hosts_now(frame) {
@@ -87,9 +87,9 @@ impl Member {
     #[tactic(auto, using(crate::proofs::Spoken::data_spoken, crate::proofs::Told::told_data))]
     fn send_data(&mut self, owner: Owner, slot: u8) -> Option<Packet>
         requires { (1 ≤ slot) × (slot ≤ 40) }
-        ensures packet { result ≡ option_map (said_in slot) (data_opened self.old.setup.id owner self.old.core).message }
+        ensures packet { result ≡ option_map (bytes_in_slot slot) (data_opened self.old.setup.id owner self.old.core).message }
         ensures told { option_and_then message_of result ≡ (data_opened self.old.setup.id owner self.old.core).message }
-        ensures said { IfSome result (IsSaid OfData) }
+        ensures said { IfSome result (IsInitialPacket OfData) }
         ensures core { self.new ≡ record self.old { core = (data_opened self.old.setup.id owner self.old.core).core } }
     {
         if owner.node() != self.id {
@@ -113,8 +113,8 @@ impl Member {
     #[tactic(auto, using(crate::proofs::Spoken::request_spoken))]
     fn request(&mut self, own: u8, slot: u8) -> Option<Packet>
         requires { (1 ≤ slot) × (slot ≤ 44) }
-        ensures packet { result ≡ option_map (said_in slot) (contention_opened self.old.setup.id own self.old.core).message }
-        ensures said { IfSome result (IsSaid OfRequest) }
+        ensures packet { result ≡ option_map (bytes_in_slot slot) (contention_opened self.old.setup.id own self.old.core).message }
+        ensures said { IfSome result (IsInitialPacket OfRequest) }
         ensures core { self.new ≡ record self.old { core = (contention_opened self.old.setup.id own self.old.core).core } }
     {
         if self.own_slot != Some(own) {

@@ -12,15 +12,15 @@ pub record InRange (d : DataPacket) : Type 0 where
   pub seq : d.seq ≤ 65534
 
 -- kind, slot, counter, node, boot, stream, number in two bytes with the high one first, payload
-abbrev pub spelling : DataPacket → List ℕ
-spelling d = 2 ∷ d.slot ∷ d.counter ∷ d.node ∷ d.boot ∷ d.stream ∷ d.seq / 256 ∷ d.seq % 256 ∷ d.payload
+abbrev pub data_spelling : DataPacket → List ℕ
+data_spelling d = 2 ∷ d.slot ∷ d.counter ∷ d.node ∷ d.boot ∷ d.stream ∷ d.seq / 256 ∷ d.seq % 256 ∷ d.payload
 
 -- d is a data packet with each part in its range, and these are its bytes
 pub record SpellsData (p : List ℕ) (d : DataPacket) : Type 0 where
   pub in_range : InRange d
   pub node : (1 ≤ d.node) × (d.node ≤ 200)
   pub payload : length d.payload ≤ 96
-  pub bytes : spelling d ≡ p
+  pub bytes : data_spelling d ≡ p
 
 -- whether these bytes are a spelling: the length, the kind, and the range of each byte and of the number
 abbrev pub is_data : List ℕ → Bool

@@ -12,14 +12,14 @@ pub record InRange (r : Request) : Type 0 where
   pub interval : r.interval ≤ 120
 
 -- kind, slot, counter, node, boot, stream, interval
-abbrev pub spelling : Request → List ℕ
-spelling r = 3 ∷ r.slot ∷ r.counter ∷ r.node ∷ r.boot ∷ r.stream ∷ r.interval ∷ []
+abbrev pub request_spelling : Request → List ℕ
+request_spelling r = 3 ∷ r.slot ∷ r.counter ∷ r.node ∷ r.boot ∷ r.stream ∷ r.interval ∷ []
 
 -- r is a request with each part in its range, and these are its bytes
 pub record SpellsRequest (p : List ℕ) (r : Request) : Type 0 where
   pub in_range : InRange r
   pub node : (1 ≤ r.node) × (r.node ≤ 200)
-  pub bytes : spelling r ≡ p
+  pub bytes : request_spelling r ≡ p
 
 -- whether these bytes are a spelling: the length, the kind, and the range of each byte
 abbrev pub is_request : List ℕ → Bool

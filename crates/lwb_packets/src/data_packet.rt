@@ -1,7 +1,7 @@
 //! Data packets and their bytes.
 
 ghost use Rattle.std.specs.Prelude.{◌≡◌, IfSome, is_some, Some};
-ghost use Rattle.lwb_packets.specs.DataPackets.{InRange, SpellsData, spelling, is_data};
+ghost use Rattle.lwb_packets.specs.DataPackets.{InRange, SpellsData, data_spelling, is_data};
 ghost use Rattle.lwb_packets.specs.declared.data_packet.DataPacket.{DataPacket};
 
 use byteorder::{BigEndian, ByteOrder};
@@ -29,7 +29,7 @@ pub struct DataPacket {
 /// The one spelling of a data packet.
 pub fn encode_payload(d: &DataPacket) -> Packet
     requires { InRange d.now }
-    ensures { result ≡ spelling d.now }
+    ensures { result ≡ data_spelling d.now }
 {
     let payload = d.payload.bytes();
     let end = 8 + payload.len();

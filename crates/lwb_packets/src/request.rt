@@ -1,7 +1,7 @@
 //! Requests and their bytes.
 
 ghost use Rattle.std.specs.Prelude.{◌≡◌, IfSome, is_some, Some};
-ghost use Rattle.lwb_packets.specs.Requests.{InRange, SpellsRequest, spelling, is_request};
+ghost use Rattle.lwb_packets.specs.Requests.{InRange, SpellsRequest, request_spelling, is_request};
 ghost use Rattle.lwb_packets.specs.declared.request.Request.{Request};
 
 use lwb_base::{NodeId, Packet};
@@ -26,7 +26,7 @@ pub struct Request {
 /// The one spelling of a request.
 pub fn encode_request(r: &Request) -> Packet
     requires { InRange r.now }
-    ensures { result ≡ spelling r.now }
+    ensures { result ≡ request_spelling r.now }
 {
     let bytes = [
         3,

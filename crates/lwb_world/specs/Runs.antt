@@ -11,7 +11,7 @@ use Rattle.air_log.specs.declared.entry.Entry.{Entry}
 use Rattle.air_log.specs.Lawful.{Lawful, trail_in}
 use Rattle.air_log.specs.Safe.{Safe}
 use Rattle.air_log.specs.Deliveries.{deliveries_of}
-use Rattle.law_bus.specs.BusRuns.{IsBusRun}
+use Rattle.law_bus.specs.BusRuns.{AgreesWithBus}
 use Rattle.world_engine.specs.Runs.{IsCoreOf}
 
 -- a log that is lawful and safe, the deliveries of its trails and the drops of the bus, and the cores where the trails leave
@@ -22,5 +22,5 @@ pub record IsRun (s : ScenarioParts) (clocks : ℕ → ℕ → ℕ) (air : List 
   pub safe : Safe s clocks air
   pub deliveries : made ≡ deliveries_of s clocks air
   pub drops : lost ≡ bus_drops s
-  pub bus : IsBusRun s clocks air
+  pub bus : AgreesWithBus s clocks air
   pub cores : (v : ℕ) → knows s.nodes v ≡ true → IsCoreOf (core v) (trail_in s clocks air v).power

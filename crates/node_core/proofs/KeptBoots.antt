@@ -6,7 +6,7 @@ use Rattle.lwb_base.specs.declared.event.Event.TheVariants.{Boot, Alarm, Heard, 
 use Rattle.bus_rules.specs.declared.part.Part.{Part}
 use Rattle.bus_rules.specs.declared.part.Part.TheVariants.{Opening, Data as DataSlot, Contention, Closing}
 use Rattle.bus_rules.specs.Cores.{Core, Setup, as_host, opening_accepted, closing_accepted}
-use Rattle.bus_rules.specs.Slots.{Message, ScheduleOf, DataOf, RequestOf, opened, closed, host_closes, silent, hosts_now, slot_heard, part_of}
+use Rattle.bus_rules.specs.Slots.{Message, ScheduleOf, DataOf, RequestOf, opened_slot, closed_slot, host_closes, silent, hosts_now, slot_heard, part_of}
 use Rattle.bus_rules.specs.Tuning.{rank_of}
 use Rattle.node_core.specs.Nodes.{Node}
 use Rattle.node_core.specs.Rows.{Stepped, row, at_alarm, at_heard, at_sent, scanner_hears, joins, sends, accepted_in}
@@ -21,7 +21,7 @@ at_host : (s : Setup) (rank : Option ℕ) (c : Core) → (as_host s.profile rank
 at_host s None c = refl
 at_host s (Some rank) c = refl
 
-at_opening : (s : Setup) (f : ℕ) (part : Part) (c : Core) → (opened s f part c).core.boot ≡ c.boot
+at_opening : (s : Setup) (f : ℕ) (part : Part) (c : Core) → (opened_slot s f part c).core.boot ≡ c.boot
 at_opening s f Opening c = refl
 at_opening s f (DataSlot owner) c = refl
 at_opening s f (Contention i) c = refl
@@ -33,7 +33,7 @@ in_slot f (DataSlot owner) heard c = refl
 in_slot f (Contention i) heard c = refl
 in_slot f Closing heard c = refl
 
-at_closing : (s : Setup) (f : ℕ) (part : Part) (initiated : Bool) (c : Core) (m : Option Message) → (closed s f part initiated c m).core.boot ≡ c.boot
+at_closing : (s : Setup) (f : ℕ) (part : Part) (initiated : Bool) (c : Core) (m : Option Message) → (closed_slot s f part initiated c m).core.boot ≡ c.boot
 at_closing s f part initiated c None = in_slot f part initiated c
 at_closing s f part initiated c (Some (ScheduleOf x)) =
     cond_both (x.gap == 0) (opening_accepted s.id f x c) (closing_accepted s.id f x c) (λ (k : Core). k.boot ≡ c.boot) (λ is. refl) (λ is. refl)

@@ -5,7 +5,7 @@ use Rattle.lwb_base.specs.declared.event.Event.{Event}
 use Rattle.lwb_base.specs.declared.event.Event.TheVariants.{Boot, Alarm, Heard, Sent}
 use Rattle.bus_rules.specs.declared.delivery.Delivery.{Delivery}
 use Rattle.bus_rules.specs.Cores.{Setup}
-use Rattle.bus_rules.specs.Slots.{Data, Message, ScheduleOf, DataOf, RequestOf, closed}
+use Rattle.bus_rules.specs.Slots.{Data, Message, ScheduleOf, DataOf, RequestOf, closed_slot}
 use Rattle.bus_rules.specs.Tuning.{rank_of}
 use Rattle.node_core.specs.Nodes.{Node}
 use Rattle.node_core.specs.Rows.{Stepped, row, at_alarm, at_heard, at_sent, scanner_hears, joins, sends, accepted_in}
@@ -29,7 +29,7 @@ by_alarm s n Idle = tt
 by_alarm s n Scanning = tt
 by_alarm s n AwaitFrame = tt
 by_alarm s n (AwaitSlot j) = tt
-by_alarm s n (InWindow j w) = in_slot s n.frame (rank_of n.core.tune) j (closed s n.frame w.part w.flood.initiated n.core (accepted_in w)).delivered
+by_alarm s n (InWindow j w) = in_slot s n.frame (rank_of n.core.tune) j (closed_slot s n.frame w.part w.flood.initiated n.core (accepted_in w)).delivered
 
 by_schedule : (s : Setup) (n : Node) (now : ℕ) (p : List ℕ) (m : Option Message) → DeliversTo s.id (scanner_hears s n now p m)
 by_schedule s n now p None = tt

@@ -4,25 +4,25 @@ use Rattle.lwb_base.specs.Profile.{Numbers}
 use Rattle.lwb_base.specs.declared.order.Order.{Order}
 use Rattle.lwb_base.specs.declared.order.Order.TheVariants.{Listen, Alarm}
 use Rattle.time_reference.specs.Reference.{times_of}
-use Rattle.round_runner.specs.Rounds.{Round, round_of, window_of}
+use Rattle.round_runner.specs.Rounds.{Round, round_of, window_of_slot}
 use Rattle.round_runner.specs.declared.window.Window.{Window}
 use Rattle.glossy_relay.specs.FloodState.{FloodState}
 use Rattle.bus_rules.specs.Cores.{Setup}
 use Rattle.bus_rules.specs.Slots.{Message}
 use Rattle.bus_rules.specs.declared.part.Part.{Part}
 use Rattle.lwb_member.specs.Places.{kind_for}
-use Rattle.lwb_member.specs.Said.{said_in}
+use Rattle.lwb_member.specs.Said.{bytes_in_slot}
 use Rattle.node_core.specs.Nodes.{starts_at, closes_at}
-use Rattle.node_core.specs.Rows.{first_sending, flood_for}
+use Rattle.node_core.specs.Rows.{initiating_orders, flood_for}
 use Rattle.node_core.specs.WindowOpening.{flood_with, sent_first}
 use Rattle.node_core.specs.declared.stage.Stage.{Stage}
 use Rattle.node_core.specs.declared.stage.Stage.TheVariants.{InWindow}
 
-sending_is : (p : Numbers) (z j : ℕ) (m : Option Message) → sent_first (starts_at p z j) (option_map (said_in j) m) ≡ first_sending p z j m
+sending_is : (p : Numbers) (z j : ℕ) (m : Option Message) → sent_first (starts_at p z j) (option_map (bytes_in_slot j) m) ≡ initiating_orders p z j m
 sending_is p z j None = refl
 sending_is p z j (Some m) = refl
 
-flood_is : (s : Setup) (j : ℕ) (part : Part) (m : Option Message) → flood_with (kind_for part) j s.sends (option_map (said_in j) m) ≡ flood_for s part j m
+flood_is : (s : Setup) (j : ℕ) (part : Part) (m : Option Message) → flood_with (kind_for part) j s.sends (option_map (bytes_in_slot j) m) ≡ flood_for s part j m
 flood_is s j part None = refl
 flood_is s j part (Some m) = refl
 
@@ -34,16 +34,16 @@ abbrev stage_with : ℕ → ℕ → Part → ℕ → Option (List ℕ) → Stage
 stage_with j n part last packet = InWindow j (record { part = part; last = last; flood = flood_with (kind_for part) j n packet; reference = None })
 
 pub stage_is : (s : Setup) (j n last last' : ℕ) (part part' : Part) (packet : Option (List ℕ)) (m : Option Message)
-    → n ≡ s.sends → last ≡ last' → part ≡ part' → packet ≡ option_map (said_in j) m → stage_with j n part last packet ≡ opened_stage s j last' part' m
+    → n ≡ s.sends → last ≡ last' → part ≡ part' → packet ≡ option_map (bytes_in_slot j) m → stage_with j n part last packet ≡ opened_stage s j last' part' m
 stage_is s j n last last' part part' packet m often ends for_this said =
     let of : FloodState → Stage = λ f. InWindow j (record { part = part'; last = last'; flood = f; reference = None }) in
     ap (λ (x : ℕ). stage_with j x part last packet) often ∙ ap (λ (x : ℕ). stage_with j s.sends part x packet) ends
     ∙ ap (λ (x : Part). stage_with j s.sends x last' packet) for_this ∙ ap (stage_with j s.sends part' last') said ∙ ap of (flood_is s j part' m)
 
 module _ (p : Numbers) (z j owners contend : ℕ) (round : Round) (times : Window) (rounded : round ≡ round_of p (times_of p z) owners contend)
-    (timed : times ≡ window_of round j) where
-  window : times ≡ window_of (round_of p (times_of p z) owners contend) j
-  window = timed ∙ ap (λ (r : Round). window_of r j) rounded
+    (timed : times ≡ window_of_slot round j) where
+  window : times ≡ window_of_slot (round_of p (times_of p z) owners contend) j
+  window = timed ∙ ap (λ (r : Round). window_of_slot r j) rounded
 
   start_is : times.start ≡ starts_at p z j
   start_is = ap (λ (w : Window). w.start) window ∙ omega arith
@@ -54,10 +54,10 @@ module _ (p : Numbers) (z j owners contend : ℕ) (round : Round) (times : Windo
   abbrev of : ℕ → List Order → ℕ → List Order
   of rank sending until = Listen rank ∷ sending ++ Alarm until ∷ []
 
-  pub orders_are : (rank tuned : ℕ) (packet : Option (List ℕ)) (m : Option Message) → rank ≡ tuned → packet ≡ option_map (said_in j) m
-      → Listen rank ∷ sent_first times.start packet ++ Alarm times.until ∷ [] ≡ Listen tuned ∷ first_sending p z j m ++ Alarm (closes_at p z j) ∷ []
+  pub orders_are : (rank tuned : ℕ) (packet : Option (List ℕ)) (m : Option Message) → rank ≡ tuned → packet ≡ option_map (bytes_in_slot j) m
+      → Listen rank ∷ sent_first times.start packet ++ Alarm times.until ∷ [] ≡ Listen tuned ∷ initiating_orders p z j m ++ Alarm (closes_at p z j) ∷ []
   orders_are rank tuned packet m ranked said =
-      let sending : sent_first times.start packet ≡ first_sending p z j m =
+      let sending : sent_first times.start packet ≡ initiating_orders p z j m =
       ap (λ (t : ℕ). sent_first t packet) start_is ∙ ap (sent_first (starts_at p z j)) said ∙ sending_is p z j m in
       ap (λ (r : ℕ). of r (sent_first times.start packet) times.until) ranked ∙ ap (λ (l : List Order). of tuned l times.until) sending
-      ∙ ap (of tuned (first_sending p z j m)) until_is
+      ∙ ap (of tuned (initiating_orders p z j m)) until_is

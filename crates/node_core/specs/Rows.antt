@@ -22,7 +22,7 @@ use Rattle.bus_rules.specs.declared.tune.Tune.TheVariants.{Scan, Hold, Host}
 use Rattle.bus_rules.specs.Plans.{last_slot}
 use Rattle.bus_rules.specs.Tuning.{rank_of}
 use Rattle.bus_rules.specs.Cores.{Setup, booted, frame_ended, begins_host}
-use Rattle.bus_rules.specs.Slots.{Message, ScheduleOf, DataOf, RequestOf, part_of, opened, closed, delivery_of, is_schedule_part}
+use Rattle.bus_rules.specs.Slots.{Message, ScheduleOf, DataOf, RequestOf, part_of, opened_slot, closed_slot, delivery_of, is_schedule_part}
 use Rattle.lwb_member.specs.Places.{kind_for}
 use Rattle.lwb_member.specs.Said.{bytes_of, message_of}
 use Rattle.node_core.specs.declared.stage.Stage.{Stage}
@@ -80,20 +80,20 @@ abbrev pub flood_for : Setup → Part → ℕ → Option Message → FloodState
 flood_for s part j None = listening (kind_for part) j s.sends
 flood_for s part j (Some m) = initiating (bytes_of m j) s.sends
 
-abbrev pub first_sending : Numbers → ℕ → ℕ → Option Message → List Order
-first_sending p z j None = []
-first_sending p z j (Some m) = SendAt (starts_at p z j) (bytes_of m j) ∷ []
+abbrev pub initiating_orders : Numbers → ℕ → ℕ → Option Message → List Order
+initiating_orders p z j None = []
+initiating_orders p z j (Some m) = SendAt (starts_at p z j) (bytes_of m j) ∷ []
 
 abbrev pub window_opens : Setup → Node → ℕ → Stepped
 window_opens s n j =
     let part = part_of n.core.plan j in
-    let o = opened s n.frame part n.core in
+    let o = opened_slot s n.frame part n.core in
     record {
       node = record n {
         core = o.core;
         stage = InWindow j (record { part = part; last = last_slot n.core.plan; flood = flood_for s part j o.message; reference = None });
       };
-      orders = Listen (rank_of n.core.tune) ∷ first_sending s.profile n.zero j o.message ++ AlarmAt (closes_at s.profile n.zero j) ∷ [];
+      orders = Listen (rank_of n.core.tune) ∷ initiating_orders s.profile n.zero j o.message ++ AlarmAt (closes_at s.profile n.zero j) ∷ [];
       delivery = None;
     }
 
@@ -186,8 +186,8 @@ zero_next p z (Host r due) = zero_of_host p due
 zero_next p z (Hold r due) = z
 zero_next p z (Scan r waited) = z
 
-abbrev pub goes_on : Setup → ℕ → ℕ → Node → Option Delivery → Stepped
-goes_on s j last n delivery =
+abbrev pub row_to_next_slot : Setup → ℕ → ℕ → Node → Option Delivery → Stepped
+row_to_next_slot s j last n delivery =
     let more = nat_lt j last in
     record {
       node = record n { stage = if more then AwaitSlot (j + 1) else AwaitFrame; zero = if more then n.zero else zero_next s.profile n.zero n.core.tune };
@@ -201,8 +201,8 @@ accepted_in w = option_and_then (λ a. message_of a.0) (accepted_of w.flood)
 
 abbrev pub window_closes : Setup → Node → ℕ → Window → Stepped
 window_closes s n j w =
-    let c = closed s n.frame w.part w.flood.initiated n.core (accepted_in w) in
-    goes_on s j w.last (record n { core = c.core; zero = zero_by s.profile n.zero w.reference (accepted_in w) })
+    let c = closed_slot s n.frame w.part w.flood.initiated n.core (accepted_in w) in
+    row_to_next_slot s j w.last (record n { core = c.core; zero = zero_by s.profile n.zero w.reference (accepted_in w) })
     (option_map (delivery_of s.id n.frame (rank_of n.core.tune) j) c.delivered)
 
 -- the row that fits, by the place and the event; none where no row fits
@@ -213,16 +213,16 @@ at_alarm s n AwaitFrame = Some (frame_alarms s n)
 at_alarm s n (AwaitSlot j) = Some (window_opens s n j)
 at_alarm s n (InWindow j w) = Some (window_closes s n j w)
 
-abbrev pub in_window : Setup → Node → ℕ → List ℕ → Stage → Option Stepped
-in_window s n now p (InWindow j w) = Some (window_hears s n now j w p)
-in_window s n now p Idle = None
-in_window s n now p Scanning = None
-in_window s n now p AwaitFrame = None
-in_window s n now p (AwaitSlot j) = None
+abbrev pub row_in_window : Setup → Node → ℕ → List ℕ → Stage → Option Stepped
+row_in_window s n now p (InWindow j w) = Some (window_hears s n now j w p)
+row_in_window s n now p Idle = None
+row_in_window s n now p Scanning = None
+row_in_window s n now p AwaitFrame = None
+row_in_window s n now p (AwaitSlot j) = None
 
 abbrev pub at_heard : Setup → Node → ℕ → List ℕ → Stage → Option Stepped
 at_heard s n now p Scanning = scanner_hears s n now p (message_of p)
-at_heard s n now p (InWindow j w) = in_window s n now p (InWindow j w)
+at_heard s n now p (InWindow j w) = row_in_window s n now p (InWindow j w)
 at_heard s n now p Idle = None
 at_heard s n now p AwaitFrame = None
 at_heard s n now p (AwaitSlot j) = None

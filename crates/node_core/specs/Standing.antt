@@ -44,16 +44,16 @@ IsStage c (AwaitSlot j) = j ≤ last_slot c.plan
 IsStage c (InWindow j w) = IsWindow c j w
 
 -- a host that is in a round is in its own
-abbrev pub IsOwn : ℕ → Core → Type 0
-IsOwn frame c = hosts c.tune ≡ true → hosts_now frame c ≡ true
+abbrev pub IsInOwnRound : ℕ → Core → Type 0
+IsInOwnRound frame c = hosts c.tune ≡ true → hosts_now frame c ≡ true
 
 -- what is so where a node hosts: it does not scan, and the schedules of its round are its own
 abbrev pub HostsIn : ℕ → Core → Stage → Type 0
 HostsIn frame c Idle = ⊤
 HostsIn frame c Scanning = hosts c.tune ≡ false
 HostsIn frame c AwaitFrame = ⊤
-HostsIn frame c (AwaitSlot j) = IsOwn frame c
-HostsIn frame c (InWindow j w) = (j < w.last → IsOwn frame c) × (hosts c.tune ≡ true → is_schedule_part w.part ≡ true → w.flood.initiated ≡ true)
+HostsIn frame c (AwaitSlot j) = IsInOwnRound frame c
+HostsIn frame c (InWindow j w) = (j < w.last → IsInOwnRound frame c) × (hosts c.tune ≡ true → is_schedule_part w.part ≡ true → w.flood.initiated ≡ true)
 
 -- reference: when the slots of its round begin, with the lengths of the profile
 pub record IsNode (p : Numbers) (c : Core) (frame : ℕ) (reference : RoundTimes) (stage : Stage) : Type 0 where
@@ -70,6 +70,6 @@ IsDue f (Hold r due) = due ≡ f
 IsDue f (Host r due) = due ≡ f
 
 -- the row that fits was gone through; where none fits, nothing changed and nothing was ordered
-abbrev pub Follows : NodeState → NodeState → Told → Told → Option Stepped → Type 0
-Follows old new before after None = (new ≡ old) × Gives before after []
-Follows old new before after (Some r) = (new ≡ record old { node = r.node; delivery = r.delivery }) × Gives before after r.orders
+abbrev pub GoesThroughRow : NodeState → NodeState → Told → Told → Option Stepped → Type 0
+GoesThroughRow old new before after None = (new ≡ old) × Gives before after []
+GoesThroughRow old new before after (Some r) = (new ≡ record old { node = r.node; delivery = r.delivery }) × Gives before after r.orders

@@ -7,9 +7,9 @@ use Rattle.node_core.specs.declared.stage.Stage.TheVariants.{Idle, Scanning, Awa
 use Rattle.node_core.specs.Nodes.{Node}
 use Rattle.node_core.specs.Rows.{Stepped, window_closes}
 
-abbrev pub at_closing : Setup → Node → Stage → Option Stepped
-at_closing s n (InWindow j w) = Some (window_closes s n j w)
-at_closing s n Idle = None
-at_closing s n Scanning = None
-at_closing s n AwaitFrame = None
-at_closing s n (AwaitSlot j) = None
+abbrev pub row_at_closing : Setup → Node → Stage → Option Stepped
+row_at_closing s n (InWindow j w) = Some (window_closes s n j w)
+row_at_closing s n Idle = None
+row_at_closing s n Scanning = None
+row_at_closing s n AwaitFrame = None
+row_at_closing s n (AwaitSlot j) = None

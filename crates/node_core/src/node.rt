@@ -111,7 +111,7 @@ impl Node {
     /// The stream requests nothing more, and what waits in it is gone.
     pub fn leave(&mut self, stream: u8)
         requires { stream ≤ 3 }
-        ensures { self.new ≡ record self.old { node = with_streams self.old.node (rule.left stream self.old.node.core.streams) } }
+        ensures { self.new ≡ record self.old { node = with_streams self.old.node (rule.streams_after_leaving stream self.old.node.core.streams) } }
     {
         self.member.leave(stream);
     }

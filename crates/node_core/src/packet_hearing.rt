@@ -5,8 +5,8 @@ ghost use Rattle.schedule_codec.specs.Spelling.{slot_fits};
 ghost use Rattle.glossy_relay.specs.Relaying.{slot_of};
 ghost use Rattle.bus_rules.specs.Tuning.{hosts};
 ghost use Rattle.lwb_member.specs.Said.{message_of};
-ghost use Rattle.node_core.specs.Rows.{at_heard, in_window, joins, last_by as last_slot_by, part_by as part_of_slot_by, scanner_hears};
-ghost use Rattle.node_core.specs.Standing.{Follows};
+ghost use Rattle.node_core.specs.Rows.{at_heard, row_in_window, joins, last_by as last_slot_by, part_by as part_of_slot_by, scanner_hears};
+ghost use Rattle.node_core.specs.Standing.{GoesThroughRow};
 ghost use Rattle.lwb_base.specs.Orders.{Gives};
 
 use crate::node::{Node, forget};
@@ -26,7 +26,8 @@ impl Node {
     pub(crate) fn hear<R: Radio>(&mut self, now: u64, packet: &Packet, radio: &mut R)
         requires now { now < 2 ^ 46 }
         requires room { 2 ≤ (R.told radio.old).room }
-        ensures { Follows self.old self.new (R.told radio.old) (R.told radio.new) (at_heard self.old.setup self.old.node now packet.now self.old.node.stage) }
+        ensures { GoesThroughRow self.old self.new (R.told radio.old) (R.told radio.new)
+            (at_heard self.old.setup self.old.node now packet.now self.old.node.stage) }
     {
         match self.stage {
             Stage::Scanning => self.hear_while_scanning(now, packet, radio),
@@ -40,7 +41,7 @@ impl Node {
         requires host { hosts self.old.node.core.tune ≡ false }
         requires now { now < 2 ^ 46 }
         requires room { 2 ≤ (R.told radio.old).room }
-        ensures { Follows self.old self.new (R.told radio.old) (R.told radio.new)
+        ensures { GoesThroughRow self.old self.new (R.told radio.old) (R.told radio.new)
             (scanner_hears self.old.setup self.old.node now packet.now (message_of packet.now)) }
     {
         match message_in(packet) {
@@ -87,7 +88,8 @@ impl Node {
     pub(crate) fn hear_in_window<R: Radio>(&mut self, now: u64, packet: &Packet, radio: &mut R)
         requires now { now < 2 ^ 46 }
         requires room { 1 ≤ (R.told radio.old).room }
-        ensures { Follows self.old self.new (R.told radio.old) (R.told radio.new) (in_window self.old.setup self.old.node now packet.now self.old.node.stage) }
+        ensures { GoesThroughRow self.old self.new (R.told radio.old) (R.told radio.new)
+            (row_in_window self.old.setup self.old.node now packet.now self.old.node.stage) }
     {
         let profile = self.member.profile();
         let rank = self.member.rank();

@@ -2,7 +2,7 @@
 
 ghost use Rattle.std.specs.Prelude.{◌≤◌, ◌<◌, ◌^◌};
 ghost use Rattle.node_core.specs.Rows.{at_sent, relaying};
-ghost use Rattle.node_core.specs.Standing.{Follows};
+ghost use Rattle.node_core.specs.Standing.{GoesThroughRow};
 ghost use Rattle.lwb_base.specs.Orders.{Gives};
 
 use crate::node::{Node, forget};
@@ -14,7 +14,7 @@ impl Node {
     // Sent, where the flood of a window waits for it.
     pub(crate) fn end_sending<R: Radio>(&mut self, radio: &mut R)
         requires { 1 ≤ (R.told radio.old).room }
-        ensures { Follows self.old self.new (R.told radio.old) (R.told radio.new) (at_sent self.old.node self.old.node.stage) }
+        ensures { GoesThroughRow self.old self.new (R.told radio.old) (R.told radio.new) (at_sent self.old.node self.old.node.stage) }
     {
         let Stage::InWindow(_, window) = &mut self.stage else {
             return;

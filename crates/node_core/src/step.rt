@@ -2,7 +2,7 @@
 
 ghost use Rattle.std.specs.Prelude.{◌≡◌, ◌≤◌, ◌<◌, ◌^◌};
 ghost use Rattle.node_core.specs.Rows.{at_alarm, row};
-ghost use Rattle.node_core.specs.Standing.{Follows};
+ghost use Rattle.node_core.specs.Standing.{GoesThroughRow};
 
 use crate::node::Node;
 use crate::stage::Stage;
@@ -14,7 +14,7 @@ impl Node {
     /// order.
     pub fn step<C: LocalClock, R: Radio>(&mut self, clock: &C, radio: &mut R, event: Event)
         requires { 4 ≤ (R.told radio.old).room }
-        ensures row { Follows self.old self.new (R.told radio.old) (R.told radio.new) (row self.old.setup self.old.node (C.time clock.now) event) }
+        ensures row { GoesThroughRow self.old self.new (R.told radio.old) (R.told radio.new) (row self.old.setup self.old.node (C.time clock.now) event) }
         ensures setup { self.new.setup ≡ self.old.setup }
     {
         self.handle(clock, radio, &event);
@@ -23,7 +23,7 @@ impl Node {
     /// As `step`, with an event that stays where it is.
     pub fn handle<C: LocalClock, R: Radio>(&mut self, clock: &C, radio: &mut R, event: &Event)
         requires { 4 ≤ (R.told radio.old).room }
-        ensures row { Follows self.old self.new (R.told radio.old) (R.told radio.new) (row self.old.setup self.old.node (C.time clock.now) event.now) }
+        ensures row { GoesThroughRow self.old self.new (R.told radio.old) (R.told radio.new) (row self.old.setup self.old.node (C.time clock.now) event.now) }
         ensures setup { self.new.setup ≡ self.old.setup }
     {
         self.go_through(clock, radio, event);
@@ -32,7 +32,7 @@ impl Node {
     // The clock is read only where a time is needed.
     fn go_through<C: LocalClock, R: Radio>(&mut self, clock: &C, radio: &mut R, event: &Event)
         requires { 4 ≤ (R.told radio.old).room }
-        ensures { Follows self.old self.new (R.told radio.old) (R.told radio.new) (row self.old.setup self.old.node (C.time clock.now) event.now) }
+        ensures { GoesThroughRow self.old self.new (R.told radio.old) (R.told radio.new) (row self.old.setup self.old.node (C.time clock.now) event.now) }
     {
         match event {
             Event::Boot => self.boot(clock.now(), radio),
@@ -45,7 +45,7 @@ impl Node {
     // The alarm is due.
     fn alarm<R: Radio>(&mut self, radio: &mut R)
         requires { 3 ≤ (R.told radio.old).room }
-        ensures { Follows self.old self.new (R.told radio.old) (R.told radio.new) (at_alarm self.old.setup self.old.node self.old.node.stage) }
+        ensures { GoesThroughRow self.old self.new (R.told radio.old) (R.told radio.new) (at_alarm self.old.setup self.old.node self.old.node.stage) }
     {
         match self.stage {
             Stage::Idle => {}

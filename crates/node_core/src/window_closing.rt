@@ -4,11 +4,11 @@ ghost use Rattle.std.specs.Prelude.{◌≡◌, ◌≤◌, ◌<◌, ◌^◌, ◌+
 ghost use Rattle.std.specs.Option.{option_map};
 ghost use Rattle.time_reference.specs.Reference.{times_of};
 ghost use Rattle.bus_rules.specs.Plans.{last_slot};
-ghost use Rattle.node_core.specs.WindowClosing.{at_closing};
-ghost use Rattle.lwb_member.specs.Members.{IsHeard};
-ghost use Rattle.node_core.specs.Rows.{accepted_in, goes_on, window_closes, zero_by as zero_taken};
+ghost use Rattle.node_core.specs.WindowClosing.{row_at_closing};
+ghost use Rattle.lwb_member.specs.Members.{IsHeardInRange};
+ghost use Rattle.node_core.specs.Rows.{accepted_in, row_to_next_slot, window_closes, zero_by as zero_taken};
 ghost use Rattle.lwb_member.specs.Said.{meaning};
-ghost use Rattle.node_core.specs.Standing.{Follows, HostsIn, IsOwn, IsWindow};
+ghost use Rattle.node_core.specs.Standing.{GoesThroughRow, HostsIn, IsInOwnRound, IsWindow};
 ghost use Rattle.lwb_base.specs.Orders.{Gives};
 ghost use Rattle.node_core.specs.declared.stage.Stage.TheVariants.{InWindow};
 
@@ -26,7 +26,7 @@ impl Node {
     #[tactic(auto, using(crate::proofs::PassedWindows::window_passes))]
     pub(crate) fn close_window<R: Radio>(&mut self, radio: &mut R)
         requires { 2 ≤ (R.told radio.old).room }
-        ensures { Follows self.old self.new (R.told radio.old) (R.told radio.new) (at_closing self.old.setup self.old.node self.old.node.stage) }
+        ensures { GoesThroughRow self.old self.new (R.told radio.old) (R.told radio.new) (row_at_closing self.old.setup self.old.node self.old.node.stage) }
     {
         let Stage::InWindow(slot, window) = &self.stage else {
             return;
@@ -47,7 +47,7 @@ impl Node {
     // As `close_window`, for a window that may have accepted something.
     fn close_heard<R: Radio>(&mut self, radio: &mut R)
         requires { 2 ≤ (R.told radio.old).room }
-        ensures { Follows self.old self.new (R.told radio.old) (R.told radio.new) (at_closing self.old.setup self.old.node self.old.node.stage) }
+        ensures { GoesThroughRow self.old self.new (R.told radio.old) (R.told radio.new) (row_at_closing self.old.setup self.old.node self.old.node.stage) }
     {
         let Stage::InWindow(slot, window) = &self.stage else {
             return;
@@ -81,10 +81,10 @@ impl Node {
     #[tactic(auto, using(crate::proofs::Timed::opening_is))]
     fn go_on<R: Radio>(&mut self, slot: u8, last: u8, radio: &mut R)
         requires next { slot < last → slot + 1 ≤ last_slot self.old.node.core.plan }
-        requires own { slot < last → IsOwn self.old.node.frame self.old.node.core }
+        requires own { slot < last → IsInOwnRound self.old.node.frame self.old.node.core }
         requires room { 2 ≤ (R.told radio.old).room }
-        ensures node { self.new ≡ record self.old { node = (goes_on self.old.setup slot last self.old.node self.old.delivery).node } }
-        ensures orders { Gives (R.told radio.old) (R.told radio.new) (goes_on self.old.setup slot last self.old.node self.old.delivery).orders }
+        ensures node { self.new ≡ record self.old { node = (row_to_next_slot self.old.setup slot last self.old.node self.old.delivery).node } }
+        ensures orders { Gives (R.told radio.old) (R.told radio.new) (row_to_next_slot self.old.setup slot last self.old.node self.old.delivery).orders }
     {
         let profile = self.member.profile();
         radio.off();
@@ -105,7 +105,7 @@ impl Window {
     // What its flood accepted.
     fn accepted(&self) -> Option<Heard>
         ensures value { option_map meaning result ≡ accepted_in self.now }
-        ensures ranges { IfSome result IsHeard }
+        ensures ranges { IfSome result IsHeardInRange }
     {
         let packet = self.flood.first_accepted()?;
         message_in(packet)

@@ -5,7 +5,7 @@ ghost use Rattle.lwb_base.specs.declared.order.Order.TheVariants.{Listen, Alarm}
 ghost use Rattle.node_core.specs.declared.stage.Stage.TheVariants.{AwaitSlot, InWindow};
 ghost use Rattle.lwb_member.specs.Places.{kind_for};
 ghost use Rattle.node_core.specs.Rows.{window_opens};
-ghost use Rattle.lwb_member.specs.Said.{IsSaid};
+ghost use Rattle.lwb_member.specs.Said.{IsInitialPacket};
 ghost use Rattle.node_core.specs.WindowOpening.{flood_with, sent_first};
 ghost use Rattle.lwb_base.specs.Orders.{Gives};
 
@@ -49,7 +49,7 @@ impl Node {
 // The window of a slot opens, whose flood begins here with this packet or listens. A flood is long: where each of the two
 // makes its own stage, it is made in its place, and not moved there.
 fn open(stage: &mut Stage, slot: u8, part: Part, last: u8, sends: u8, packet: &Option<Packet>)
-    requires said { IfSome packet.now (IsSaid (kind_for part)) }
+    requires said { IfSome packet.now (IsInitialPacket (kind_for part)) }
     requires sends { (1 ≤ sends) × (sends ≤ 4) }
     ensures { stage.new ≡ InWindow slot (record { part = part; last = last; flood = flood_with (kind_for part) slot sends packet.now; reference = None }) }
 {

@@ -9,7 +9,7 @@ use Rattle.bus_rules.specs.declared.part.Part.{Part}
 use Rattle.bus_terms.specs.Flooding.{has}
 use Rattle.plain_bus.specs.BusNodes.{BusNode, MayAcceptIn}
 use Rattle.plain_bus.specs.Closings.{Behind, IsBehind, AllMay, heard_in, heard_at, closed_node, delivers_node}
-use Rattle.plain_bus.specs.SlotFloods.{Seen, seen, node_closed, node_delivers}
+use Rattle.plain_bus.specs.SlotFloods.{Seen, seen_window, node_closed, node_delivers}
 use Rattle.plain_bus.specs.declared.station.Station.{Station}
 use Rattle.plain_bus.specs.declared.window.Window.{Window}
 use Rattle.plain_bus.proofs.ListsInPlace.{one_more_mapped}
@@ -32,7 +32,7 @@ module _ (b : Behind) (ids : List ℕ) (ws : List Window) (xs : List Station) (b
   node_is : m ≡ n v
   node_is = m_at ∙ ap (λ (l : List BusNode). get_or l i m) are ∙ get_or-map n ids i 0 m in_ids
 
-  window_is : seen w ≡ b.window v
+  window_is : seen_window w ≡ b.window v
   window_is = window_at b ids ws xs behind i w (subst (λ (k : ℕ). i < k) (sym same) here) in_ids w_at
 
   module _ (h : Option Message) (heard : h ≡ heard_in b w.initiates x.heard) where
@@ -48,7 +48,7 @@ module _ (b : Behind) (ids : List ℕ) (ws : List Window) (xs : List Station) (b
     v_at : v ≡ get_or ids i v
     v_at = get_or_default ids i 0 v in_ids
 
-    pub closed_more : (f : ℕ) (part : Part) (now : List BusNode) (y : BusNode) → i < length now → y ≡ node_closed f part (seen w) h m
+    pub closed_more : (f : ℕ) (part : Part) (now : List BusNode) (y : BusNode) → i < length now → y ≡ node_closed f part (seen_window w) h m
         → take i now ≡ take i (map (closed_node b f part n) ids) → take (i + 1) (set now i y) ≡ take (i + 1) (map (closed_node b f part n) ids)
     closed_more f part now y there is done =
         take_more_set now i y there
@@ -56,7 +56,8 @@ module _ (b : Behind) (ids : List ℕ) (ws : List Window) (xs : List Station) (b
         (is ∙ ap (λ (s : Seen). node_closed f part s h m) window_is ∙ ap (λ (g : Option Message). node_closed f part (b.window v) g m) heard_is
         ∙ ap (node_closed f part (b.window v) (heard_at b v)) node_is)
 
-    pub delivered_more : (rank f j : ℕ) (part : Part) (before old new : List Delivery) (d : Option Delivery) → d ≡ node_delivers rank f j part (seen w) h m
+    pub delivered_more : (rank f j : ℕ) (part : Part) (before old new : List Delivery) (d : Option Delivery)
+        → d ≡ node_delivers rank f j part (seen_window w) h m
         → old ≡ before ++ filter_map (delivers_node b rank f j part n) (take i ids) → new ≡ old ++ option_to_list d
         → new ≡ before ++ filter_map (delivers_node b rank f j part n) (take (i + 1) ids)
     delivered_more rank f j part before old new d is so_far more =

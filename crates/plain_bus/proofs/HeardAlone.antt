@@ -8,14 +8,14 @@ use Rattle.link_trace.specs.Passes.{passes}
 use Rattle.link_trace.specs.Sealed.{Traced}
 use Rattle.bus_terms.specs.Flooding.{Setting, Moment, has, offer, pick, hears}
 use Rattle.bus_terms.proofs.Options.{inspect}
-use Rattle.plain_bus.specs.FloodMasks.{AreAt, AreReached, IsFlood, IsKnown, IsLone, heard_alone, may_hear_at, station_at, takes_at}
+use Rattle.plain_bus.specs.FloodMasks.{AreAt, AreReached, IsMaskedFlood, SendsForInitiators, IsLone, heard_alone, may_hear_at, station_at, takes_at}
 use Rattle.plain_bus.proofs.HeardByMasks.{bit_tells, place_of, deaf, unreached, refused, heard}
 use Rattle.plain_bus.proofs.Picks.{nothing_picked, only_picked, alone}
 use Rattle.plain_bus.specs.declared.station.Flood.{Flood}
 use Rattle.plain_bus.specs.declared.station.Station.{Station}
 use Rattle.plain_bus.specs.declared.station.Stations.{Stations}
 
-module _ (s : Setting) (m : Moment) (t : Traced) (f : Flood) (k : ℕ) (flood : IsFlood s t f) (known : IsKnown s m) (xs : Stations)
+module _ (s : Setting) (m : Moment) (t : Traced) (f : Flood) (k : ℕ) (flood : IsMaskedFlood s t f) (known : SendsForInitiators s m) (xs : Stations)
     (at : AreAt m t.nodes xs) (o : ℕ) (lone : IsLone s o) (reached : ℕ) (are : AreReached t f k xs.senders reached) (place : ℕ)
     (below : place < length t.nodes) where
   abbrev v : ℕ
@@ -95,7 +95,7 @@ module _ (s : Setting) (m : Moment) (t : Traced) (f : Flood) (k : ℕ) (flood : 
           ∙ none_anyway (bit_at reached place == 1) (takes_at f x place o)
 
 -- who initiates where the mask of the initiators has one bit
-pub only_initiator : (s : Setting) (t : Traced) (f : Flood) → IsFlood s t f → (place rest : ℕ) → rest ≡ 0
+pub only_initiator : (s : Setting) (t : Traced) (f : Flood) → IsMaskedFlood s t f → (place rest : ℕ) → rest ≡ 0
     → ((i : ℕ) → i ≢ place → bit_at rest i ≡ bit_at f.initiators i) → (v : ℕ) → has s.initiators v ≡ true → v ≡ get_or t.nodes place 0
 only_initiator s t f flood place rest none others v there =
     let p = place_of t.nodes v (flood.here v (flood.inside v there)) in

@@ -12,7 +12,7 @@ use Rattle.link_trace.specs.Passes.{passes}
 use Rattle.link_trace.specs.Sealed.{Traced}
 use Rattle.bus_terms.specs.Flooding.{Setting, Moment, has, offer, pick, may_hear, agrees, takes, hears}
 use Rattle.bus_terms.proofs.Options.{sends_parts}
-use Rattle.plain_bus.specs.FloodMasks.{IsFlood, IsKnown, AreOffers, station_at, sent_at, may_hear_at, takes_at}
+use Rattle.plain_bus.specs.FloodMasks.{IsMaskedFlood, SendsForInitiators, AreOffers, station_at, origin_sent_at, may_hear_at, takes_at}
 use Rattle.plain_bus.specs.declared.station.Flood.{Flood}
 use Rattle.plain_bus.specs.declared.station.Station.{Station}
 
@@ -53,13 +53,14 @@ place_of (x ∷ nodes) u there = elim (or_cases (x == u) _ there) [
   | inr later ↦ (let p = place_of nodes u later in (suc p.0, omega (arith, p.1), p.2))
 ]
 
-module _ (s : Setting) (m : Moment) (t : Traced) (f : Flood) (k : ℕ) (flood : IsFlood s t f) (known : IsKnown s m) where
+module _ (s : Setting) (m : Moment) (t : Traced) (f : Flood) (k : ℕ) (flood : IsMaskedFlood s t f) (known : SendsForInitiators s m) where
   station_there : (i : ℕ) (d : Station) → i < length t.nodes → get_or (map (station_at m) t.nodes) i d ≡ station_at m (get_or t.nodes i 0)
   station_there i d below = get_or-map (station_at m) t.nodes i 0 d below
 
   module _ (v reaching senders : ℕ) (reach : IsMask (λ u. passes t.lines f.frame f.slot k u v) t.nodes reaching)
       (sends : IsMask (λ u. is_some (m.sends u)) t.nodes senders) where
-    given : (i : ℕ) (d : Station) → i < length t.nodes → offer s m k v (get_or (map (station_at m) t.nodes) i d).node ≡ sent_at (map (station_at m) t.nodes)
+    given : (i : ℕ) (d : Station) → i < length t.nodes
+        → offer s m k v (get_or (map (station_at m) t.nodes) i d).node ≡ origin_sent_at (map (station_at m) t.nodes)
         (bit_and reaching senders) i d
     given i d below =
         let u = get_or t.nodes i 0 in

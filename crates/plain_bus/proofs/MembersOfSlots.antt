@@ -9,39 +9,40 @@ use Rattle.link_trace.specs.Passes.{Lines, passes, captured}
 use Rattle.link_trace.specs.Sealed.{Traced}
 use Rattle.scenario_text.specs.FloodParts.{IsSealed}
 use Rattle.scenario_text.specs.ScenarioParts.{ScenarioParts}
-use Rattle.bus_rules.specs.Slots.{Message, Opened, opened}
+use Rattle.bus_rules.specs.Slots.{Message, Opened, opened_slot}
 use Rattle.bus_rules.specs.Cores.{is_member}
 use Rattle.bus_rules.specs.declared.part.Part.{Part}
 use Rattle.bus_rules.specs.States.{State, StateOff, StateOn}
 use Rattle.bus_terms.specs.Flooding.{has}
 use Rattle.bus_terms.specs.FloodOfText.{ids}
-use Rattle.bus_terms.specs.Rounds.{opened_at, said_in, takes_part, closed_by, flood_of}
+use Rattle.bus_terms.specs.Rounds.{opened_at, message_said, takes_part, closed_slot_of, flood_in_slot}
 use Rattle.bus_terms.specs.ScriptedStates.{setup_in}
-use Rattle.plain_bus.specs.BusNodes.{window_of, state_opened, closed_of}
-use Rattle.plain_bus.specs.SlotFloods.{AreWindows, Seen, seen, seen_by}
+use Rattle.plain_bus.specs.BusNodes.{window_of_state, state_opened, closed_of}
+use Rattle.plain_bus.specs.SlotFloods.{AreWindows, Seen, seen_window, seen_by}
 use Rattle.plain_bus.specs.declared.window.Window.{Window}
-use Rattle.plain_bus.specs.FloodMasks.{IsFlood}
+use Rattle.plain_bus.specs.FloodMasks.{IsMaskedFlood}
 use Rattle.plain_bus.specs.declared.station.Flood.{Flood}
 use Rattle.plain_bus.proofs.TextFloods.{has_element}
 
 -- a node's window is that of its state
-pub window_at : (s : ScenarioParts) (rank f : ℕ) (part : Part) (v : ℕ) (x : State) → window_of (setup_in s v) rank f part x ≡ opened_at s rank f part v x
+pub window_at : (s : ScenarioParts) (rank f : ℕ) (part : Part) (v : ℕ) (x : State) → window_of_state (setup_in s v) rank f part x ≡ opened_at s rank f part v x
 window_at s rank f part v (StateOff boots) = refl
 window_at s rank f part v (StateOn c) = refl
 
 -- and so is its closing, from the state that its opening left
 pub closing_at : (s : ScenarioParts) (rank f : ℕ) (part : Part) (v : ℕ) (x : State) (heard : Option Message)
-    → closed_of (setup_in s v) f part (is_some (opened_at s rank f part v x)) (is_some (said_in (opened_at s rank f part v x))) heard
+    → closed_of (setup_in s v) f part (is_some (opened_at s rank f part v x)) (is_some (message_said (opened_at s rank f part v x))) heard
     (state_opened (setup_in s v) rank f part x)
-    ≡ closed_by s f part v (opened_at s rank f part v x) heard x
+    ≡ closed_slot_of s f part v (opened_at s rank f part v x) heard x
 closing_at s rank f part v (StateOff boots) None = refl
 closing_at s rank f part v (StateOff boots) (Some m) = refl
 closing_at s rank f part v (StateOn c) heard = by_member (is_member rank f c) heard
   where
     by_member : (b : Bool) (heard : Option Message)
-        → (let window : Option Opened = if b then Some (opened (setup_in s v) f part c) else None in
-        closed_of (setup_in s v) f part (is_some window) (is_some (said_in window)) heard (StateOn (if b then (opened (setup_in s v) f part c).core else c))
-        ≡ closed_by s f part v window heard (StateOn c))
+        → (let window : Option Opened = if b then Some (opened_slot (setup_in s v) f part c) else None in
+        closed_of (setup_in s v) f part (is_some window) (is_some (message_said window)) heard
+            (StateOn (if b then (opened_slot (setup_in s v) f part c).core else c))
+        ≡ closed_slot_of s f part v window heard (StateOn c))
     by_member true heard = refl
     by_member false None = refl
     by_member false (Some m) = refl
@@ -80,7 +81,7 @@ second_of true b is = is
 second_of false b is = absurd (false≢true is)
 
 -- who says something takes part
-saying : (rank : ℕ) (part : Part) (x : State) (window : Option Opened) → is_some (said_in window) ≡ true → takes_part rank part x window ≡ true
+saying : (rank : ℕ) (part : Part) (x : State) (window : Option Opened) → is_some (message_said window) ≡ true → takes_part rank part x window ≡ true
 saying rank part x None is = absurd (false≢true is)
 saying rank part x (Some o) is = refl
 
@@ -89,14 +90,14 @@ module _ (s : ScenarioParts) (t : Traced) (rank f j : ℕ) (part : Part) (states
   window v = opened_at s rank f part v (states v)
 
   abbrev says : ℕ → Bool
-  says v = is_some (said_in (window v))
+  says v = is_some (message_said (window v))
 
   abbrev joins : ℕ → Bool
   joins v = takes_part rank part (states v) (window v)
 
   pub flood_of_slot : t.lines ≡ s.trace → IsSealed t s.nodes
       → x ≡ record { frame = f; slot = j; limit = s.sends; initiators = x.initiators; everyone = x.everyone; lone = None }
-      → IsMask says (ids s.nodes) x.initiators → IsMask joins (ids s.nodes) x.everyone → IsFlood (flood_of s rank f j part states window) t x
+      → IsMask says (ids s.nodes) x.initiators → IsMask joins (ids s.nodes) x.everyone → IsMaskedFlood (flood_in_slot s rank f j part states window) t x
   flood_of_slot lines sealed is initiators everyone = record {
     limit = sym (ap (λ (y : Flood). y.limit) is);
     links = λ k u v. ap (λ (l : Lines). passes l f j k u v) (sym lines) ∙ ap (λ (y : Flood). passes t.lines y.frame y.slot k u v) (sym is);
@@ -134,9 +135,9 @@ pub map_same : {X Y : Type 0} (g h : X → Y) → ((x : X) → g x ≡ h x) → 
 map_same g h same xs i = map (λ x. same x i) xs
 
 module _ (s : ScenarioParts) (rank f : ℕ) (part : Part) (states : ℕ → State) (ws : List Window)
-    (are : map seen ws ≡ map (λ v. seen_by rank part (states v) (opened_at s rank f part v (states v))) (ids s.nodes)) where
-  told : (g : Seen → Bool) → map (λ w. g (seen w)) ws ≡ map (λ v. g (seen_by rank part (states v) (opened_at s rank f part v (states v)))) (ids s.nodes)
-  told g = map_of_map g seen ws ∙ ap (map g) are
+    (are : map seen_window ws ≡ map (λ v. seen_by rank part (states v) (opened_at s rank f part v (states v))) (ids s.nodes)) where
+  told : (g : Seen → Bool) → map (λ w. g (seen_window w)) ws ≡ map (λ v. g (seen_by rank part (states v) (opened_at s rank f part v (states v)))) (ids s.nodes)
+  told g = map_of_map g seen_window ws ∙ ap (map g) are
       ∙ sym (map_of_map g (λ (v : ℕ). seen_by rank part (states v) (opened_at s rank f part v (states v))) (ids s.nodes))
 
   pub windows_seen : AreWindows s rank f part states ws

@@ -8,7 +8,7 @@ use Rattle.std.proofs.lemmas.List.{get_or_default}
 use Rattle.std.proofs.lemmas.Option.{same_Some}
 use Rattle.lwb_base.proofs.Options.{not_both}
 use Rattle.bus_terms.proofs.Options.{inspect, sends_parts}
-use Rattle.plain_bus.specs.FloodMasks.{AreOffers, IsOffer, AllOffer, sent_at}
+use Rattle.plain_bus.specs.FloodMasks.{AreOffers, IsOffer, AllOffer, origin_sent_at}
 use Rattle.plain_bus.specs.declared.station.Station.{Station}
 
 anyone : Station
@@ -26,13 +26,13 @@ IsNot xs node k = (d : Station) → k < length xs → (get_or xs k d).node ≡ n
 
 module _ (give : ℕ → Option ℕ) (xs : List Station) (from : ℕ) (are : AreOffers give xs from) where
   -- whoever gives is one of the stations
-  given_at : (u o : ℕ) → give u ≡ Some o → (k : ℕ) × (k < length xs) × (sent_at xs from k anyone ≡ Some o) × ((get_or xs k anyone).node ≡ u)
+  given_at : (u o : ℕ) → give u ≡ Some o → (k : ℕ) × (k < length xs) × (origin_sent_at xs from k anyone ≡ Some o) × ((get_or xs k anyone).node ≡ u)
   given_at u o is =
       let at = are.only u o is in
       (at.0, at.1, sym (are.each at.0 anyone at.1) ∙ ap give (at.2 anyone) ∙ is, at.2 anyone)
 
   -- and it is of the mask
-  bit_of : (k o : ℕ) → sent_at xs from k anyone ≡ Some o → (bit_at from k ≡ 1) × ((get_or xs k anyone).sends ≡ Some o)
+  bit_of : (k o : ℕ) → origin_sent_at xs from k anyone ≡ Some o → (bit_at from k ≡ 1) × ((get_or xs k anyone).sends ≡ Some o)
   bit_of k o sent = let parts = sends_parts (bit_at from k == 1) (get_or xs k anyone).sends o sent in (eqb-true (bit_at from k) 1 parts.0, parts.1)
 
   pub nothing_given : ((k : ℕ) → k < length xs → bit_at from k ≡ 1 → SendsNone xs k) → (u : ℕ) → give u ≡ None

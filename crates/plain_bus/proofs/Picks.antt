@@ -5,7 +5,7 @@ use Rattle.std.specs.List.{list_all, cons_option}
 use Rattle.std.proofs.lemmas.Bool.{cases_Bool, or_cases, or_right, eqb-true, false≢true, cond-true, cond-false}
 use Rattle.bus_terms.specs.Flooding.{Setting, Moment, has, offer, candidates, named, only_one, pick}
 use Rattle.bus_terms.proofs.Options.{only_when, only_from, in_filter, from_filter, sends_parts, all_are}
-use Rattle.plain_bus.specs.FloodMasks.{IsKnown}
+use Rattle.plain_bus.specs.FloodMasks.{SendsForInitiators}
 
 none_given : (give : ℕ → Option ℕ) → ((u : ℕ) → give u ≡ None) → (us : List ℕ) → filter_map give us ≡ []
 none_given give none [] = refl
@@ -23,7 +23,7 @@ other_one (c ∷ os) other o p first second differ =
       | inr not ↦ cond-false (list_all (λ x. x == c) os) (Some c) other not
     ]
 
-module _ (s : Setting) (m : Moment) (k v : ℕ) (known : IsKnown s m) where
+module _ (s : Setting) (m : Moment) (k v : ℕ) (known : SendsForInitiators s m) where
   abbrev give : ℕ → Option ℕ
   give = offer s m k v
 

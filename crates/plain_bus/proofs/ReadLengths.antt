@@ -7,7 +7,7 @@ use Rattle.lwb_base.specs.Messages.{Schedule, length_of}
 use Rattle.lwb_packets.specs.DataPackets.{is_data}
 use Rattle.lwb_packets.specs.Requests.{is_request}
 use Rattle.schedule_codec.specs.Reading.{schedule_of}
-use Rattle.schedule_codec.specs.Spelling.{spelling, in_range}
+use Rattle.schedule_codec.specs.Spelling.{schedule_spelling, schedule_in_range}
 use Rattle.schedule_codec.proofs.Readings.{spelled_by, bytes_same, length-spelling}
 use Rattle.bus_rules.specs.Slots.{Message, ScheduleOf, DataOf, RequestOf, message_length}
 use Rattle.lwb_member.specs.Said.{message_of, data_in, request_in}
@@ -25,8 +25,8 @@ schedule_long : (p : List ℕ) (x : Schedule) → schedule_of p ≡ Some x → l
 schedule_long p x is =
     let j = slice_index p 1 in
     let k = slice_index p 2 in
-    let spelled = (and_parts (in_range x j k) _ (spelled_by p x is)).1 in
-    sym (length-spelling x j k) ∙ ap length (bytes_same (spelling x j k) p spelled)
+    let spelled = (and_parts (schedule_in_range x j k) _ (spelled_by p x is)).1 in
+    sym (length-spelling x j k) ∙ ap length (bytes_same (schedule_spelling x j k) p spelled)
 
 module _ (p : List ℕ) where
   of_schedule : (o : Option Schedule) → schedule_of p ≡ o → is_some (option_map ScheduleOf o) ≡ true

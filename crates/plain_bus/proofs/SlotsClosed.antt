@@ -2,9 +2,9 @@
 use Rattle.std.proofs.Common.{◌≡◌, ℕ, Bool, true, false, ◌&&◌, ◌||◌, ◌==◌, Option, Some, None, is_some, refl, sym, ◌∙◌, ap, if◌then◌else◌, option_map}
 use Rattle.std.proofs.lemmas.Bool.{false≢true, eq-eqb, and_parts, and_right}
 use Rattle.lwb_base.specs.Messages.{Schedule, node_of, stream_of}
-use Rattle.bus_rules.specs.Streams.{Waiting, first_waiting, requested}
+use Rattle.bus_rules.specs.Streams.{WaitingPacket, first_waiting, requested}
 use Rattle.scenario_text.specs.ScenarioParts.{ScenarioParts}
-use Rattle.bus_rules.specs.Slots.{Message, ScheduleOf, DataOf, RequestOf, Opened, opened, data_of, request_of, is_own, is_schedule_part}
+use Rattle.bus_rules.specs.Slots.{Message, ScheduleOf, DataOf, RequestOf, Opened, opened_slot, data_of, request_of, is_own, is_schedule_part}
 use Rattle.bus_rules.specs.Cores.{Core, is_member, is_fresh}
 use Rattle.bus_rules.specs.Tuning.{rank_of, hosts, hosts_in, holds_in, scans}
 use Rattle.bus_rules.specs.declared.tune.Tune.{Tune}
@@ -13,10 +13,10 @@ use Rattle.bus_rules.specs.declared.part.Part.{Part}
 use Rattle.bus_rules.specs.declared.part.Part.TheVariants.{Opening, Data as DataSlot, Contention, Closing}
 use Rattle.bus_rules.specs.States.{State, StateOff, StateOn}
 use Rattle.bus_rules.proofs.Ranks.{not_scanner, hosts_own}
-use Rattle.bus_terms.specs.Rounds.{opened_at, said_in, takes_part, closed_by, left_by}
+use Rattle.bus_terms.specs.Rounds.{opened_at, message_said, takes_part, closed_slot_of, left_by}
 use Rattle.bus_terms.specs.ScriptedStates.{setup_in}
 use Rattle.bus_terms.proofs.OtherRanks.{IsElsewhere, no_window}
-use Rattle.plain_bus.specs.BusNodes.{window_of, state_opened, closed_of, MayAcceptIn}
+use Rattle.plain_bus.specs.BusNodes.{window_of_state, state_opened, closed_of, MayAcceptIn}
 use Rattle.plain_bus.specs.SlotFloods.{seen_by}
 use Rattle.plain_bus.proofs.MembersOfSlots.{window_at}
 
@@ -30,7 +30,7 @@ module _ (s : ScenarioParts) (rank f : ℕ) (part : Part) (v : ℕ) (x : State) 
   window = opened_at s rank f part v x
 
   pub seen_mixed : (b : Bool) (o : State) → (b ≡ false → IsElsewhere rank x)
-      → (let y : State = if b then (if b then x else o) else StateOff 0 in seen_by rank part y (window_of (setup_in s v) rank f part y))
+      → (let y : State = if b then (if b then x else o) else StateOff 0 in seen_by rank part y (window_of_state (setup_in s v) rank f part y))
       ≡ seen_by rank part x window
   seen_mixed true o other = ap (λ (w : Option Opened). seen_by rank part x w) (window_at s rank f part v x)
   seen_mixed false o other =
@@ -39,16 +39,16 @@ module _ (s : ScenarioParts) (rank f : ℕ) (part : Part) (v : ℕ) (x : State) 
 
 -- what a closing leaves of the state that the opening left
 pub left_opened : (s : ScenarioParts) (rank f : ℕ) (part : Part) (v : ℕ) (x : State) (heard : Option Message)
-    → left_by (state_opened (setup_in s v) rank f part x) (closed_by s f part v (opened_at s rank f part v x) heard x)
-    ≡ left_by x (closed_by s f part v (opened_at s rank f part v x) heard x)
+    → left_by (state_opened (setup_in s v) rank f part x) (closed_slot_of s f part v (opened_at s rank f part v x) heard x)
+    ≡ left_by x (closed_slot_of s f part v (opened_at s rank f part v x) heard x)
 left_opened s rank f part v (StateOff boots) None = refl
 left_opened s rank f part v (StateOff boots) (Some m) = refl
 left_opened s rank f part v (StateOn c) heard = by_member (is_member rank f c) heard
   where
     by_member : (b : Bool) (heard : Option Message)
-        → (let window : Option Opened = if b then Some (opened (setup_in s v) f part c) else None in
-        left_by (StateOn (if b then (opened (setup_in s v) f part c).core else c)) (closed_by s f part v window heard (StateOn c))
-        ≡ left_by (StateOn c) (closed_by s f part v window heard (StateOn c)))
+        → (let window : Option Opened = if b then Some (opened_slot (setup_in s v) f part c) else None in
+        left_by (StateOn (if b then (opened_slot (setup_in s v) f part c).core else c)) (closed_slot_of s f part v window heard (StateOn c))
+        ≡ left_by (StateOn c) (closed_slot_of s f part v window heard (StateOn c)))
     by_member true heard = refl
     by_member false None = refl
     by_member false (Some m) = refl
@@ -60,7 +60,7 @@ untouched s f part v (StateOn c) = refl
 
 -- a host of this round says its schedule
 host_says : (s : ScenarioParts) (rank f : ℕ) (part : Part) (v : ℕ) (c : Core) → is_schedule_part part ≡ true → hosts_in rank f c.tune ≡ true
-    → is_some (opened (setup_in s v) f part c).message ≡ true
+    → is_some (opened_slot (setup_in s v) f part c).message ≡ true
 host_says s rank f (DataSlot o) v c sched host = absurd (false≢true sched)
 host_says s rank f (Contention o) v c sched host = absurd (false≢true sched)
 host_says s rank f Opening v c sched host = rw (hosts_own rank f c.tune host) refl
@@ -72,7 +72,8 @@ hosts_none rank f (Hold r d) is = refl
 hosts_none rank f (Host r d) is = absurd (false≢true (sym is))
 
 -- who does not host does not by an opening
-tune_opened : (s : ScenarioParts) (f : ℕ) (part : Part) (v : ℕ) (c : Core) → hosts c.tune ≡ false → hosts (opened (setup_in s v) f part c).core.tune ≡ false
+tune_opened : (s : ScenarioParts) (f : ℕ) (part : Part) (v : ℕ) (c : Core) → hosts c.tune ≡ false
+    → hosts (opened_slot (setup_in s v) f part c).core.tune ≡ false
 tune_opened s f Opening v c is = is
 tune_opened s f (DataSlot o) v c is = is
 tune_opened s f (Contention i) v c is = is
@@ -98,7 +99,8 @@ never m is = cc
 
 -- a host accepts no schedule: in its own round it says one itself, and otherwise it takes no part
 pub may_accept : (s : ScenarioParts) (rank f : ℕ) (part : Part) (v : ℕ) (x : State) (heard : Option Message)
-    → (is_some (said_in (opened_at s rank f part v x)) ≡ true → heard ≡ None) → (takes_part rank part x (opened_at s rank f part v x) ≡ false → heard ≡ None)
+    → (is_some (message_said (opened_at s rank f part v x)) ≡ true → heard ≡ None)
+        → (takes_part rank part x (opened_at s rank f part v x) ≡ false → heard ≡ None)
     → (is_schedule_part part ≡ false → (m : Schedule) → heard ≡ Some (ScheduleOf m) → ⊥)
     → MayAcceptIn (state_opened (setup_in s v) rank f part x) heard
 may_accept s rank f part v (StateOff boots) heard quiet outside plain = tt
@@ -109,10 +111,10 @@ may_accept s rank f part v (StateOn c) (Some (ScheduleOf m)) quiet outside plain
     by_tests (is_member rank f c) (hosts c.tune) (is_schedule_part part) refl refl refl quiet outside
   where
     by_tests : (b h t : Bool) → is_member rank f c ≡ b → hosts c.tune ≡ h → is_schedule_part part ≡ t
-        → (is_some (said_in (if b then Some (opened (setup_in s v) f part c) else None)) ≡ true → ◌≡◌ {A = Option Message} (Some (ScheduleOf m)) None)
-        → (takes_part rank part (StateOn c) (if b then Some (opened (setup_in s v) f part c) else None) ≡ false
+        → (is_some (message_said (if b then Some (opened_slot (setup_in s v) f part c) else None)) ≡ true → ◌≡◌ {A = Option Message} (Some (ScheduleOf m)) None)
+        → (takes_part rank part (StateOn c) (if b then Some (opened_slot (setup_in s v) f part c) else None) ≡ false
         → ◌≡◌ {A = Option Message} (Some (ScheduleOf m)) None)
-        → hosts (if b then (opened (setup_in s v) f part c).core else c).tune ≡ false
+        → hosts (if b then (opened_slot (setup_in s v) f part c).core else c).tune ≡ false
     by_tests b h false is host sched quiet outside = absurd (plain sched m refl)
     by_tests true false true is host sched quiet outside = tune_opened s f part v c host
     by_tests false false true is host sched quiet outside = host
@@ -123,16 +125,16 @@ may_accept s rank f part v (StateOn c) (Some (ScheduleOf m)) quiet outside plain
 
 -- a schedule is said in the first slot and the last alone
 pub no_schedule : (s : ScenarioParts) (rank f : ℕ) (part : Part) (v : ℕ) (x : State) (m : Schedule) → is_schedule_part part ≡ false
-    → said_in (opened_at s rank f part v x) ≡ Some (ScheduleOf m) → ⊥
+    → message_said (opened_at s rank f part v x) ≡ Some (ScheduleOf m) → ⊥
 no_schedule s rank f part v (StateOff boots) m plain is = cc
 no_schedule s rank f part v (StateOn c) m plain is = by_member (is_member rank f c) is
   where
-    by_part : (part : Part) → is_schedule_part part ≡ false → (opened (setup_in s v) f part c).message ≡ Some (ScheduleOf m) → ⊥
+    by_part : (part : Part) → is_schedule_part part ≡ false → (opened_slot (setup_in s v) f part c).message ≡ Some (ScheduleOf m) → ⊥
     by_part Opening plain is = false≢true (sym plain)
     by_part Closing plain is = false≢true (sym plain)
     by_part (DataSlot owner) plain is = by_owner (node_of owner == v) (first_waiting c.streams (stream_of owner)) is
       where
-        by_owner : (b : Bool) (w : Option Waiting) → (if b then option_map (data_of v c (stream_of owner)) w else None) ≡ Some (ScheduleOf m) → ⊥
+        by_owner : (b : Bool) (w : Option WaitingPacket) → (if b then option_map (data_of v c (stream_of owner)) w else None) ≡ Some (ScheduleOf m) → ⊥
         by_owner false w is = cc
         by_owner true None is = cc
         by_owner true (Some w) is = cc
@@ -143,6 +145,6 @@ no_schedule s rank f part v (StateOn c) m plain is = by_member (is_member rank f
         by_own true None is = cc
         by_own true (Some w) is = cc
 
-    by_member : (b : Bool) → said_in (if b then Some (opened (setup_in s v) f part c) else None) ≡ Some (ScheduleOf m) → ⊥
+    by_member : (b : Bool) → message_said (if b then Some (opened_slot (setup_in s v) f part c) else None) ≡ Some (ScheduleOf m) → ⊥
     by_member true is = by_part part plain is
     by_member false is = cc

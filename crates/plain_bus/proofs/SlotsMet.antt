@@ -11,12 +11,12 @@ use Rattle.bus_rules.specs.Slots.{part_of}
 use Rattle.bus_rules.specs.States.{State}
 use Rattle.bus_terms.specs.FloodOfText.{ids}
 use Rattle.bus_terms.specs.Flooding.{Setting, moment, has, STEPS}
-use Rattle.bus_terms.specs.Rounds.{said_in, slot_at, opened_at, before_slot}
+use Rattle.bus_terms.specs.Rounds.{message_said, slot_at, opened_at, before_slot}
 use Rattle.bus_terms.proofs.ReceivedByPaths.{in_whole}
 use Rattle.bus_terms.proofs.ReceivedInRounds.{ids_rise}
 use Rattle.plain_bus.specs.Closings.{IsBehind}
 use Rattle.plain_bus.specs.FloodMasks.{station_at}
-use Rattle.plain_bus.specs.SlotFloods.{seen}
+use Rattle.plain_bus.specs.SlotFloods.{seen_window}
 use Rattle.plain_bus.specs.declared.station.Station.{Station}
 use Rattle.plain_bus.specs.declared.window.Window.{Window}
 use Rattle.bus_terms.proofs.HeardOrigins.{first_origin}
@@ -46,14 +46,14 @@ module _ (s : ScenarioParts) (rank f : ℕ) (p : Plan) (start others : ℕ → S
   flood = (slot_at s rank f p start j).flood
 
   pub behind_slot : (ws : List Window) (xs : List Station) → ((v : ℕ) → has flood.initiators v ≡ true → has flood.everyone v ≡ true)
-      → map seen ws ≡ map (window_seen s rank f p start others j) (ids s.nodes) → xs ≡ map (station_at (moment flood STEPS)) (ids s.nodes)
+      → map seen_window ws ≡ map (window_seen s rank f p start others j) (ids s.nodes) → xs ≡ map (station_at (moment flood STEPS)) (ids s.nodes)
       → IsBehind (behind s rank f p start others j) (ids s.nodes) ws xs
   behind_slot ws xs inside windows are = record {
     windows = windows;
     ids = ap (map (λ (x : Station). x.node)) are ∙ sym (map_of_map (λ (x : Station). x.node) (station_at (moment flood STEPS)) (ids s.nodes))
         ∙ same_list (ids s.nodes);
     firsts = ap (map (λ (x : Station). x.heard)) are ∙ sym (map_of_map (λ (x : Station). x.heard) (station_at (moment flood STEPS)) (ids s.nodes));
-    here = λ v o k is. in_whole (λ u. is_some (said_in (opened_at s rank f (part_of p j) u (before_slot s rank f p start j u)))) (ids s.nodes) o
+    here = λ v o k is. in_whole (λ u. is_some (message_said (opened_at s rank f (part_of p j) u (before_slot s rank f p start j u)))) (ids s.nodes) o
         (first_origin flood v o k is);
   }
     where

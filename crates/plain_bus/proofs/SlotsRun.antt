@@ -11,8 +11,8 @@ use Rattle.bus_rules.specs.Slots.{Message, ScheduleOf, Opened, Closed, part_of, 
 use Rattle.bus_rules.specs.States.{State, StateOff, StateOn}
 use Rattle.bus_terms.specs.FloodOfText.{ids}
 use Rattle.bus_terms.specs.Flooding.{moment, has, STEPS}
-use Rattle.bus_terms.specs.Rounds.{Slot, opened_at, said_in, takes_part, closed_by, closed_at, left_by, accepted_at, before_slot, after_slot, slot_at, rank_in}
-use Rattle.bus_terms.specs.Rounds.{delivered_at}
+use Rattle.bus_terms.specs.Rounds.{Slot, opened_at, message_said, takes_part, closed_slot_of, closed_at, left_by, accepted_at, before_slot, after_slot}
+use Rattle.bus_terms.specs.Rounds.{slot_at, rank_in, delivery_in_slot}
 use Rattle.bus_terms.specs.ScriptedStates.{setup_in}
 use Rattle.bus_terms.proofs.OtherRanks.{IsElsewhere, no_window, slots_elsewhere}
 use Rattle.bus_terms.proofs.ReceivedByPaths.{of_filtered}
@@ -96,23 +96,23 @@ module _ (s : ScenarioParts) (rank f : ℕ) (p : Plan) (start others : ℕ → S
       ∙ sym (map_of_map (node_opened rank f part) (bus_node s (ranks_in start) (mixed rank (ranks_in start) states others)) (ids s.nodes))
 
   -- what a node accepts
-  turned_round : (c : Bool) (o : Option (ℕ × ℕ)) → (if c then None else option_and_then (λ (a : ℕ × ℕ). said_in (window a.0)) o)
-      ≡ option_and_then (λ (a : ℕ × ℕ). said_in (window a.0)) (if c then None else o)
+  turned_round : (c : Bool) (o : Option (ℕ × ℕ)) → (if c then None else option_and_then (λ (a : ℕ × ℕ). message_said (window a.0)) o)
+      ≡ option_and_then (λ (a : ℕ × ℕ). message_said (window a.0)) (if c then None else o)
   turned_round true o = refl
   turned_round false o = refl
 
   accepts_as : (v : ℕ) → has (ids s.nodes) v ≡ true → heard_at behind v ≡ accepted_at x v
   accepts_as v there =
-      let says : ℕ → Bool = λ u. is_some (said_in (window u)) in
+      let says : ℕ → Bool = λ u. is_some (message_said (window u)) in
       let first : Option (ℕ × ℕ) = (moment x.flood STEPS).heard v in
       turned_round (says v) first
-      ∙ ap (λ (c : Bool). option_and_then (λ (a : ℕ × ℕ). said_in (window a.0)) (if c then None else first))
+      ∙ ap (λ (c : Bool). option_and_then (λ (a : ℕ × ℕ). message_said (window a.0)) (if c then None else first))
       (sym (has_filtered says (ids s.nodes) v ∙ ap (λ (c : Bool). c && says v) there))
 
   outside : (v : ℕ) → has (ids s.nodes) v ≡ true → takes_part rank part (states v) (window v) ≡ false → heard_at behind v ≡ None
   outside v there out =
       accepts_as v there
-      ∙ ap (option_and_then (λ (a : ℕ × ℕ). said_in (window a.0)))
+      ∙ ap (option_and_then (λ (a : ℕ × ℕ). message_said (window a.0)))
       (accepted_none x.flood v (λ o k a. false≢true (sym out ∙ of_filtered (λ (u : ℕ). takes_part rank part (states u) (window u)) (ids s.nodes) v a.here)))
 
   apart : (v : ℕ) → has (ids s.nodes) v ≡ true → (ranks_in start v == rank) ≡ false → heard_at behind v ≡ None
@@ -123,9 +123,9 @@ module _ (s : ScenarioParts) (rank f : ℕ) (p : Plan) (start others : ℕ → S
       ∙ and_false (is_schedule_part part))
 
   plain : (v : ℕ) → is_schedule_part part ≡ false → (m : Schedule) → heard_at behind v ≡ Some (ScheduleOf m) → ⊥
-  plain v no_sched m is = by_first (is_some (said_in (window v))) ((moment x.flood STEPS).heard v) is
+  plain v no_sched m is = by_first (is_some (message_said (window v))) ((moment x.flood STEPS).heard v) is
     where
-      by_first : (c : Bool) (o : Option (ℕ × ℕ)) → (if c then None else option_and_then (λ (a : ℕ × ℕ). said_in (window a.0)) o) ≡ Some (ScheduleOf m) → ⊥
+      by_first : (c : Bool) (o : Option (ℕ × ℕ)) → (if c then None else option_and_then (λ (a : ℕ × ℕ). message_said (window a.0)) o) ≡ Some (ScheduleOf m) → ⊥
       by_first true o is = cc
       by_first false None is = cc
       by_first false (Some a) is = no_schedule s rank f part a.0 (states a.0) m no_sched is
@@ -138,38 +138,38 @@ module _ (s : ScenarioParts) (rank f : ℕ) (p : Plan) (start others : ℕ → S
           → MayAcceptIn (if c then state_opened (setup_in s v) rank f part (if c then states v else others v) else (if c then states v else others v))
           (heard_at behind v)
       by_rank true is = may_accept s rank f part v (states v) (heard_at behind v)
-          (λ says. ap (λ (c : Bool). if c then None else option_and_then (λ (a : ℕ × ℕ). said_in (window a.0)) ((moment x.flood STEPS).heard v)) says)
+          (λ says. ap (λ (c : Bool). if c then None else option_and_then (λ (a : ℕ × ℕ). message_said (window a.0)) ((moment x.flood STEPS).heard v)) says)
           (outside v there) (plain v)
       by_rank false is = subst (λ (h : Option Message). MayAcceptIn (others v) h) (sym (apart v there is)) (may_none (others v))
 
   -- the closing of a node
   closes : (v : ℕ) → has (ids s.nodes) v ≡ true → (c : Bool) → (ranks_in start v == rank) ≡ c
       → (let y : State = if c then state_opened (setup_in s v) rank f part (if c then states v else others v) else (if c then states v else others v) in
-      closed_of (setup_in s v) f part (is_some (window v)) (is_some (said_in (window v))) (heard_at behind v) y) ≡ closed_by s f part v (window v)
+      closed_of (setup_in s v) f part (is_some (window v)) (is_some (message_said (window v))) (heard_at behind v) y) ≡ closed_slot_of s f part v (window v)
       (heard_at behind v) (states v)
   closes v there true is = closing_at s rank f part v (states v) (heard_at behind v)
   closes v there false is =
       let shut = no_window s rank f part v (states v) (other_rank v is) in
       let deaf = apart v there is in
-      ap (λ (w : Option Opened). closed_of (setup_in s v) f part (is_some w) (is_some (said_in w)) (heard_at behind v) (others v)) shut
+      ap (λ (w : Option Opened). closed_of (setup_in s v) f part (is_some w) (is_some (message_said w)) (heard_at behind v) (others v)) shut
       ∙ ap (λ (h : Option Message). closed_of (setup_in s v) f part false false h (others v)) deaf ∙ untouched s f part v (others v)
-      ∙ ap (λ (h : Option Message). closed_by s f part v None h (states v)) (sym deaf)
-      ∙ ap (λ (w : Option Opened). closed_by s f part v w (heard_at behind v) (states v)) (sym shut)
+      ∙ ap (λ (h : Option Message). closed_slot_of s f part v None h (states v)) (sym deaf)
+      ∙ ap (λ (w : Option Opened). closed_slot_of s f part v w (heard_at behind v) (states v)) (sym shut)
 
-  closed_as : (v : ℕ) → has (ids s.nodes) v ≡ true → closed_by s f part v (window v) (heard_at behind v) (states v) ≡ closed_at s f x states v
-  closed_as v there = ap (λ (h : Option Message). closed_by s f part v (window v) h (states v)) (accepts_as v there)
+  closed_as : (v : ℕ) → has (ids s.nodes) v ≡ true → closed_slot_of s f part v (window v) (heard_at behind v) (states v) ≡ closed_at s f x states v
+  closed_as v there = ap (λ (h : Option Message). closed_slot_of s f part v (window v) h (states v)) (accepts_as v there)
 
   leaves : (v : ℕ) → has (ids s.nodes) v ≡ true → (c : Bool) → (ranks_in start v == rank) ≡ c
       → (let y : State = if c then state_opened (setup_in s v) rank f part (if c then states v else others v) else (if c then states v else others v) in
-      left_by y (closed_of (setup_in s v) f part (is_some (window v)) (is_some (said_in (window v))) (heard_at behind v) y))
+      left_by y (closed_of (setup_in s v) f part (is_some (window v)) (is_some (message_said (window v))) (heard_at behind v) y))
       ≡ (if c then after_slot s rank f p j states v else others v)
   leaves v there true is =
       ap (left_by (state_opened (setup_in s v) rank f part (states v))) (closes v there true is)
       ∙ left_opened s rank f part v (states v) (heard_at behind v) ∙ ap (left_by (states v)) (closed_as v there)
   leaves v there false is =
       let shut = no_window s rank f part v (states v) (other_rank v is) in
-      ap (left_by (others v)) (closes v there false is ∙ ap (λ (w : Option Opened). closed_by s f part v w (heard_at behind v) (states v)) shut
-      ∙ ap (λ (h : Option Message). closed_by s f part v None h (states v)) (apart v there is))
+      ap (left_by (others v)) (closes v there false is ∙ ap (λ (w : Option Opened). closed_slot_of s f part v w (heard_at behind v) (states v)) shut
+      ∙ ap (λ (h : Option Message). closed_slot_of s f part v None h (states v)) (apart v there is))
 
   pub nodes_closed : map (closed_node behind f part node_at) (ids s.nodes) ≡ nodes_before s rank f p start others (j + 1)
   nodes_closed =
@@ -178,7 +178,7 @@ module _ (s : ScenarioParts) (rank f : ℕ) (p : Plan) (start others : ℕ → S
       (λ v there. ap (λ (y : State). record { setup = setup_in s v; rank = ranks_in start v; state = y }) (leaves v there (ranks_in start v == rank) refl))
       ∙ ap (λ (g : ℕ → State). map (bus_node s (ranks_in start) (mixed rank (ranks_in start) g others)) (ids s.nodes)) (sym (slot_more s rank f p start j))
 
-  pub nodes_delivered : filter_map (delivers_node behind rank f j part node_at) (ids s.nodes) ≡ filter_map (delivered_at s rank f p start j) (ids s.nodes)
-  nodes_delivered = kept_same_in (delivers_node behind rank f j part node_at) (delivered_at s rank f p start j) (ids s.nodes)
+  pub nodes_delivered : filter_map (delivers_node behind rank f j part node_at) (ids s.nodes) ≡ filter_map (delivery_in_slot s rank f p start j) (ids s.nodes)
+  nodes_delivered = kept_same_in (delivers_node behind rank f j part node_at) (delivery_in_slot s rank f p start j) (ids s.nodes)
       (λ v there. ap (λ (c : Option Closed). option_map (delivery_of v f rank j) (option_and_then (λ (d : Closed). d.delivered) c))
       (closes v there (ranks_in start v == rank) refl ∙ closed_as v there))

@@ -14,7 +14,7 @@ use Rattle.link_trace.proofs.MaskBits.{one_set, one_unset, same_tests}
 use Rattle.bus_terms.specs.Flooding.{Setting, Moment, STEPS, has, offer, pick, may_hear, takes, hears, first_heard, next, beginning, moment}
 use Rattle.bus_terms.proofs.HeardOrigins.{heard_of}
 use Rattle.bus_terms.proofs.Options.{inspect, sends_parts, heard_parts}
-use Rattle.plain_bus.specs.FloodMasks.{IsFlood, IsKnown, AreAt, station_at, station_after, station_first, with_sender}
+use Rattle.plain_bus.specs.FloodMasks.{IsMaskedFlood, SendsForInitiators, AreAt, station_at, station_after, station_first, with_sender}
 use Rattle.plain_bus.proofs.HeardByMasks.{bit_tells, place_of}
 use Rattle.plain_bus.proofs.Picks.{nothing_picked}
 use Rattle.plain_bus.specs.declared.station.Flood.{Flood}
@@ -22,7 +22,7 @@ use Rattle.plain_bus.specs.declared.station.Station.{Station}
 use Rattle.plain_bus.specs.declared.station.Stations.{Stations}
 
 -- who sends takes part, for an initiator, at each moment
-known_next : (s : Setting) (k : ℕ) (m : Moment) → IsKnown s m → IsKnown s (next s k m)
+known_next : (s : Setting) (k : ℕ) (m : Moment) → SendsForInitiators s m → SendsForInitiators s (next s k m)
 known_next s k m known = record {
   senders = λ v o is. here v o (sends_parts (nat_lt (k + 1) STEPS) (hears s m k v) o is).1;
   origins = λ v o is. heard_of s k m known.origins v o (sends_parts (nat_lt (k + 1) STEPS) (hears s m k v) o is).1;
@@ -31,13 +31,13 @@ known_next s k m known = record {
     here : (v o : ℕ) → hears s m k v ≡ Some o → has s.everyone v ≡ true
     here v o is = (and_parts _ _ (and_parts _ _ (heard_parts (may_hear s m v) (takes s m v) (pick s m k v) o is).0).0).0
 
-known_first : (s : Setting) → ((v : ℕ) → has s.initiators v ≡ true → has s.everyone v ≡ true) → IsKnown s (beginning s)
+known_first : (s : Setting) → ((v : ℕ) → has s.initiators v ≡ true → has s.everyone v ≡ true) → SendsForInitiators s (beginning s)
 known_first s inside = record {
   senders = λ v o is. inside v (sends_parts (has s.initiators v) (Some v) o is).0;
   origins = λ v o is. let p = sends_parts (has s.initiators v) (Some v) o is in subst (λ (u : ℕ). has s.initiators u ≡ true) (same_Some v o p.1) p.0;
 }
 
-pub known_at : (s : Setting) → ((v : ℕ) → has s.initiators v ≡ true → has s.everyone v ≡ true) → (k : ℕ) → IsKnown s (moment s k)
+pub known_at : (s : Setting) → ((v : ℕ) → has s.initiators v ≡ true → has s.everyone v ≡ true) → (k : ℕ) → SendsForInitiators s (moment s k)
 unfolding moment
 known_at s inside zero = known_first s inside
 known_at s inside (suc k) = known_next s k (moment s k) (known_at s inside k)
@@ -93,7 +93,7 @@ no_station test nodes i = bit_at-zero i ∙ sym (nothing i)
     nothing i = rw (below_none i) refl
 
 -- a node at the beginning
-pub begun : (s : Setting) (t : Traced) (f : Flood) (place : ℕ) → IsFlood s t f → place < length t.nodes → station_first f place (get_or t.nodes place 0)
+pub begun : (s : Setting) (t : Traced) (f : Flood) (place : ℕ) → IsMaskedFlood s t f → place < length t.nodes → station_first f place (get_or t.nodes place 0)
     ≡ station_at (beginning s) (get_or t.nodes place 0)
 begun s t f place flood below =
     let v = get_or t.nodes place 0 in
@@ -101,7 +101,8 @@ begun s t f place flood below =
     ap first (bit_tells t.nodes (has s.initiators) f.initiators place flood.initiators below)
 
 -- where nobody sends nothing changes
-module _ (s : Setting) (t : Traced) (f : Flood) (k : ℕ) (m : Moment) (flood : IsFlood s t f) (known : IsKnown s m) (x : Stations) (at : AreAt m t.nodes x)
+module _ (s : Setting) (t : Traced) (f : Flood) (k : ℕ) (m : Moment) (flood : IsMaskedFlood s t f) (known : SendsForInitiators s m) (x : Stations)
+    (at : AreAt m t.nodes x)
     (none : x.senders ≡ 0) where
   silent : (u : ℕ) → m.sends u ≡ None
   silent u = elim (inspect (m.sends u)) [

@@ -17,7 +17,7 @@ use Rattle.scenario_text.specs.declared.lines.NodeLine.{NodeLine}
 use Rattle.bus_terms.specs.Flooding.{STEPS, has, moment}
 use Rattle.bus_terms.specs.FloodOfText.{ids, setting, acceptance, outcome}
 use Rattle.bus_terms.proofs.SendingCounts.{all_sendings}
-use Rattle.plain_bus.specs.FloodMasks.{IsFlood, station_at, accepted_from}
+use Rattle.plain_bus.specs.FloodMasks.{IsMaskedFlood, station_at, accepted_from}
 use Rattle.plain_bus.specs.declared.station.Flood.{Flood}
 use Rattle.plain_bus.specs.declared.station.Station.{Station}
 
@@ -57,7 +57,7 @@ all_here nodes mask is i = is i ∙ elim (cases_lt i (length nodes)) [
 module _ (f : FloodParts) (known : knows f.nodes f.start ≡ true) where
   pub flood_of_text : (t : Traced) (x : Flood) → t.lines ≡ f.trace → IsSealed t f.nodes
       → x ≡ record { frame = 5; slot = 1; limit = f.sends; initiators = x.initiators; everyone = x.everyone; lone = Some f.start }
-      → IsMask (λ v. v == f.start) (ids f.nodes) x.initiators → IsMask (λ v. true) (ids f.nodes) x.everyone → IsFlood (setting f) t x
+      → IsMask (λ v. v == f.start) (ids f.nodes) x.initiators → IsMask (λ v. true) (ids f.nodes) x.everyone → IsMaskedFlood (setting f) t x
   flood_of_text t x lines sealed is initiators everyone = record {
     limit = sym (ap (λ (y : Flood). y.limit) is);
     links = λ k u v.

@@ -7,7 +7,7 @@ use Rattle.std.proofs.Math.Nat.{mul-le-mul_right}
 use Rattle.std.proofs.lemmas.Bool.{eq-eqb, ne_eqb}
 use Rattle.std.proofs.lemmas.List.{length-map}
 use Rattle.lwb_base.specs.Profile.{Numbers, IsProfile, step, airtime}
-use Rattle.bus_rules.specs.Charges.{charge, last_of}
+use Rattle.bus_rules.specs.Charges.{charge, last_if_all_sent}
 use Rattle.plain_bus.specs.SlotCosts.{sent_as, window_charge}
 
 pub record Small (p : Numbers) : Type 0 where
@@ -52,7 +52,7 @@ last_mapped g o (k ∷ ks) = last_mapped g (Some k) ks
 
 -- what the last sending is by the count and the last step
 pub last_told : (limit bytes count : ℕ) (last : Option ℕ) (ks : List ℕ) → count ≡ length ks → last ≡ last_or None ks
-    → last_of limit (sent_as bytes ks) ≡ (if count == limit then option_map (λ (k : ℕ). (k, bytes)) last else None)
+    → last_if_all_sent limit (sent_as bytes ks) ≡ (if count == limit then option_map (λ (k : ℕ). (k, bytes)) last else None)
 last_told limit bytes count last ks size is =
     let g : ℕ → ℕ × ℕ = λ k. (k, bytes) in
     ap (λ (n : ℕ). if n == limit then last_or None (map g ks) else None) (length-map ks g ∙ sym size)
@@ -61,7 +61,8 @@ last_told limit bytes count last ks size is =
 module _ (p : Numbers) (limit bytes count : ℕ) (is_open : Bool) (last : Option ℕ) (ks : List ℕ) (opened : is_open ≡ true) (size : count ≡ length ks)
     (is : last ≡ last_or None ks) where
   told : window_charge p limit is_open bytes ks ≡ charge p (if count == limit then option_map (λ (k : ℕ). (k, bytes)) last else None)
-  told = ap (λ (b : Bool). if b then charge p (last_of limit (sent_as bytes ks)) else 0) opened ∙ ap (charge p) (last_told limit bytes count last ks size is)
+  told = ap (λ (b : Bool). if b then charge p (last_if_all_sent limit (sent_as bytes ks)) else 0) opened
+      ∙ ap (charge p) (last_told limit bytes count last ks size is)
 
   -- the node sent as often as it may
   pub window_full : (k : ℕ) → last ≡ Some k → count ≡ limit → window_charge p limit is_open bytes ks ≡ p.listen + (k + 1) * step p bytes - p.turn

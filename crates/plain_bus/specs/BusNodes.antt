@@ -2,7 +2,7 @@
 use Rattle.std.specs.Prelude.{◌<◌, ◌==◌, ℕ, List, map, Bool, true, false, Some, None, if◌then◌else◌, option_map, option_and_then, ⊤}
 use Rattle.std.specs.declared.option.Option.{Option}
 use Rattle.bus_rules.specs.Cores.{Core, Setup, is_member}
-use Rattle.bus_rules.specs.Slots.{Message, Opened, Closed, opened, closed, delivery_of}
+use Rattle.bus_rules.specs.Slots.{Message, Opened, Closed, opened_slot, closed_slot, delivery_of}
 use Rattle.bus_rules.specs.declared.delivery.Delivery.{Delivery}
 use Rattle.bus_rules.specs.declared.part.Part.{Part}
 use Rattle.bus_rules.specs.States.{State, StateOff, StateOn, loses}
@@ -59,22 +59,22 @@ IsEarlyState f (StateOff boots) = ⊤
 IsEarlyState f (StateOn c) = IsEarly f c.table
 
 -- its window in a slot of the round of this rank and frame, if it is a member
-abbrev pub window_of : Setup → ℕ → ℕ → Part → State → Option Opened
-window_of s rank f part (StateOff boots) = None
-window_of s rank f part (StateOn c) = if is_member rank f c then Some (opened s f part c) else None
+abbrev pub window_of_state : Setup → ℕ → ℕ → Part → State → Option Opened
+window_of_state s rank f part (StateOff boots) = None
+window_of_state s rank f part (StateOn c) = if is_member rank f c then Some (opened_slot s f part c) else None
 
 -- and its state where the window is open
 abbrev pub state_opened : Setup → ℕ → ℕ → Part → State → State
 state_opened s rank f part (StateOff boots) = StateOff boots
-state_opened s rank f part (StateOn c) = StateOn (if is_member rank f c then (opened s f part c).core else c)
+state_opened s rank f part (StateOn c) = StateOn (if is_member rank f c then (opened_slot s f part c).core else c)
 
 -- what the closing of the slot leaves at a node in that state: a member's window always closes, another node has one only
 -- if it accepted something
 abbrev pub closed_of : Setup → ℕ → Part → Bool → Bool → Option Message → State → Option Closed
 closed_of s f part is_open initiated heard (StateOff boots) = None
-closed_of s f part true initiated heard (StateOn c) = Some (closed s f part initiated c heard)
+closed_of s f part true initiated heard (StateOn c) = Some (closed_slot s f part initiated c heard)
 closed_of s f part false initiated None (StateOn c) = None
-closed_of s f part false initiated (Some m) (StateOn c) = Some (closed s f part false c (Some m))
+closed_of s f part false initiated (Some m) (StateOn c) = Some (closed_slot s f part false c (Some m))
 
 -- a host accepts no schedule
 abbrev pub MayAcceptIn : State → Option Message → Type 0

@@ -6,7 +6,7 @@ use Rattle.bus_rules.specs.declared.part.Part.{Part}
 use Rattle.bus_rules.specs.Slots.{Message}
 use Rattle.bus_terms.specs.Flooding.{has}
 use Rattle.plain_bus.specs.BusNodes.{BusNode, MayAcceptIn}
-use Rattle.plain_bus.specs.SlotFloods.{Seen, seen, node_closed, node_delivers}
+use Rattle.plain_bus.specs.SlotFloods.{Seen, seen_window, node_closed, node_delivers}
 use Rattle.plain_bus.specs.declared.station.Station.{Station}
 use Rattle.plain_bus.specs.declared.window.Window.{Window}
 
@@ -17,7 +17,7 @@ pub record Behind : Type 0 where
 
 -- the code has this of the nodes, and each origin is one of them
 pub record IsBehind (b : Behind) (nodes : List ℕ) (ws : List Window) (xs : List Station) : Type 0 where
-  pub windows : map seen ws ≡ map b.window nodes
+  pub windows : map seen_window ws ≡ map b.window nodes
   pub ids : map (λ (x : Station). x.node) xs ≡ nodes
   pub firsts : map (λ (x : Station). x.heard) xs ≡ map b.first nodes
   pub here : (v o k : ℕ) → b.first v ≡ Some (o, k) → has nodes o ≡ true

@@ -12,7 +12,7 @@ use Rattle.plain_bus.specs.declared.station.Station.{Station}
 use Rattle.plain_bus.specs.declared.station.Stations.{Stations}
 
 -- the flood is this one, among the nodes of the seal
-pub record IsFlood (s : Setting) (t : Traced) (f : Flood) : Type 0 where
+pub record IsMaskedFlood (s : Setting) (t : Traced) (f : Flood) : Type 0 where
   pub limit : s.limit ≡ f.limit
   pub links : (k u v : ℕ) → s.passes k u v ≡ passes t.lines f.frame f.slot k u v
   pub captures : (k v : ℕ) → s.captured k v ≡ captured t.lines f.frame f.slot k v
@@ -23,7 +23,7 @@ pub record IsFlood (s : Setting) (t : Traced) (f : Flood) : Type 0 where
   pub lone : (o v : ℕ) → f.lone ≡ Some o → has s.initiators v ≡ true → v ≡ o
 
 -- only nodes that take part send, and each sends for an initiator
-pub record IsKnown (s : Setting) (m : Moment) : Type 0 where
+pub record SendsForInitiators (s : Setting) (m : Moment) : Type 0 where
   pub senders : (v o : ℕ) → m.sends v ≡ Some o → has s.everyone v ≡ true
   pub origins : (v o : ℕ) → m.sends v ≡ Some o → has s.initiators o ≡ true
 
@@ -46,12 +46,12 @@ abbrev pub AreSenders : Setting → List ℕ → List ℕ → Type 0
 AreSenders s nodes masks = AreSendersOf (sends_in s) nodes masks
 
 -- what the node at place i sends, if it is one of the mask
-abbrev pub sent_at : List Station → ℕ → ℕ → Station → Option ℕ
-sent_at xs from i d = if bit_at from i == 1 then (slice_index_or xs i d).sends else None
+abbrev pub origin_sent_at : List Station → ℕ → ℕ → Station → Option ℕ
+origin_sent_at xs from i d = if bit_at from i == 1 then (slice_index_or xs i d).sends else None
 
 -- the nodes of the mask give what they send, and nobody else gives anything
 pub record AreOffers (give : ℕ → Option ℕ) (xs : List Station) (from : ℕ) : Type 0 where
-  pub each : (i : ℕ) (d : Station) → i < length xs → give (slice_index_or xs i d).node ≡ sent_at xs from i d
+  pub each : (i : ℕ) (d : Station) → i < length xs → give (slice_index_or xs i d).node ≡ origin_sent_at xs from i d
   pub only : (u o : ℕ) → give u ≡ Some o → (i : ℕ) × (i < length xs) × ((d : Station) → (slice_index_or xs i d).node ≡ u)
 
 -- one of the origins that are given, and none where there is none

@@ -23,8 +23,8 @@ abbrev pub no_cost : Cost
 no_cost = record { sent = 0; windows = 0; scanned = 0 }
 
 -- a node before it did anything
-abbrev pub off_at : ScenarioParts → ℕ → BusNode
-off_at s = bus_node s (λ (v : ℕ). 0) (λ (v : ℕ). StateOff 0)
+abbrev pub node_at_first : ScenarioParts → ℕ → BusNode
+node_at_first s = bus_node s (λ (v : ℕ). 0) (λ (v : ℕ). StateOff 0)
 
 -- it has the nodes of the scenario, none of which accepted a stream after this frame, and no more than so many slots cost
 pub record IsReady (s : ScenarioParts) (frame slots : ℕ) (n : Network) : Type 0 where

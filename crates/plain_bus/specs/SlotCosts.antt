@@ -5,7 +5,7 @@ use Rattle.std.specs.Int.{bit_at}
 use Rattle.std.specs.List.{range_with_len}
 use Rattle.std.specs.Option.{option_map_or}
 use Rattle.lwb_base.specs.Profile.{Numbers, airtime}
-use Rattle.bus_rules.specs.Charges.{charge, last_of}
+use Rattle.bus_rules.specs.Charges.{charge, last_if_all_sent}
 use Rattle.bus_rules.specs.Slots.{message_length}
 use Rattle.bus_terms.specs.Bus.{Cost}
 use Rattle.plain_bus.specs.BusNodes.{BusNode}
@@ -25,7 +25,7 @@ abbrev pub sent_as : ℕ → List ℕ → List (ℕ × ℕ)
 sent_as bytes ks = map (λ k. (k, bytes)) ks
 
 abbrev pub window_charge : Numbers → ℕ → Bool → ℕ → List ℕ → ℕ
-window_charge p limit is_open bytes ks = if is_open then charge p (last_of limit (sent_as bytes ks)) else 0
+window_charge p limit is_open bytes ks = if is_open then charge p (last_if_all_sent limit (sent_as bytes ks)) else 0
 
 -- a cost with that of a slot, in which a node sent so many bytes in each of these steps, and had a window or none
 abbrev pub with_slot : Numbers → ℕ → Bool → ℕ → List ℕ → Cost → Cost
@@ -39,12 +39,12 @@ said_bytes w = option_map_or message_length w.message 0
 abbrev pub bytes_in : Behind → Seen → Option (ℕ × ℕ) → ℕ
 bytes_in b w first = if w.initiates then said_bytes w else option_map_or (λ a. said_bytes (b.window a.0)) first 0
 
-abbrev pub bytes_of : Behind → ℕ → ℕ
-bytes_of b v = bytes_in b (b.window v) (b.first v)
+abbrev pub bytes_sent_by : Behind → ℕ → ℕ
+bytes_sent_by b v = bytes_in b (b.window v) (b.first v)
 
 -- a cost of node v behind a slot in which it took part or might have done so
 abbrev pub charged : Numbers → ℕ → Behind → (ℕ → ℕ → Bool) → ℕ → Cost → Cost
-charged p limit b sends v c = with_slot p limit (b.window v).is_open (bytes_of b v) (steps_in (sends v)) c
+charged p limit b sends v c = with_slot p limit (b.window v).is_open (bytes_sent_by b v) (steps_in (sends v)) c
 
 -- the costs of a node behind a slot of the round of this rank
 abbrev pub slot_charged : Numbers → ℕ → ℕ → Behind → (ℕ → ℕ → Bool) → (ℕ → BusNode) → (ℕ → Cost) → ℕ → Cost

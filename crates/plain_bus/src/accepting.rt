@@ -5,7 +5,7 @@ ghost use Rattle.link_trace.specs.Masks.{IsMask};
 ghost use Rattle.link_trace.specs.Sealed.{Traced};
 ghost use Rattle.scenario_text.specs.FloodParts.{IsSealed};
 ghost use Rattle.bus_terms.specs.FloodOfText.{ids, outcome, setting};
-ghost use Rattle.plain_bus.specs.FloodMasks.{IsFlood, accepted_from};
+ghost use Rattle.plain_bus.specs.FloodMasks.{IsMaskedFlood, accepted_from};
 
 use crate::station::{Flood, Station};
 use crate::stepping::flooded;
@@ -27,7 +27,7 @@ pub fn accepts(alloc: Global, f: &FloodText) -> Result<FloodResult, Memory>
 
 // The flood of the text: the starting node initiates, and all take part.
 fn flood_of(f: &FloodText) -> Flood
-    ensures { (t : Traced) → t.lines ≡ f.now.trace → IsSealed t f.now.nodes → IsFlood (setting f.now) t result }
+    ensures { (t : Traced) → t.lines ≡ f.now.trace → IsSealed t f.now.nodes → IsMaskedFlood (setting f.now) t result }
 {
     let start = f.start();
     Flood {

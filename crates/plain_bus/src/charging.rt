@@ -8,7 +8,7 @@ ghost use Rattle.plain_bus.specs.BusNodes.{BusNode as NodeOf};
 ghost use Rattle.plain_bus.specs.Closings.{Behind, IsBehind};
 ghost use Rattle.plain_bus.specs.FloodMasks.{AreSendersOf};
 ghost use Rattle.plain_bus.specs.SlotCosts.{IsBelow, bytes_in, charged, said_bytes, slot_charged};
-ghost use Rattle.plain_bus.specs.SlotFloods.{seen};
+ghost use Rattle.plain_bus.specs.SlotFloods.{seen_window};
 
 use crate::cost::{Cost, steps_of};
 use crate::node::BusNode;
@@ -81,7 +81,7 @@ fn charge(
     requires place { place < length ids.now }
     requires windows { length windows.now ≡ length ids.now }
     requires stations { length end.now.stations.each.items ≡ length ids.now }
-    requires lengths { lengths.now ≡ map (λ w. said_bytes (seen w)) windows.now }
+    requires lengths { lengths.now ≡ map (λ w. said_bytes (seen_window w)) windows.now }
     requires ascending { AllPairs (λ a b. a < b) ids.now }
     requires steps { length end.now.senders.items ≡ 12 }
     requires room { IsBelow 1048576 cost.old }
@@ -103,10 +103,10 @@ fn charge(
 // How long what the node of this window and station sends is, in bytes. `own` is the length of what it says itself.
 fn bytes_sent(window: &Window, station: &Station, own: u8, ids: &[NodeId], lengths: &[u8]) -> u8
     requires lengths { length lengths.now ≡ length ids.now }
-    requires own { own ≡ said_bytes (seen window.now) }
+    requires own { own ≡ said_bytes (seen_window window.now) }
     requires ascending { AllPairs (λ a b. a < b) ids.now }
     ensures { (b : Behind) → lengths.now ≡ map (λ v. said_bytes (b.window v)) ids.now → ((o k : ℕ) → station.now.heard ≡ Some (o, k) → has ids.now o ≡ true)
-        → result ≡ bytes_in b (seen window.now) station.now.heard }
+        → result ≡ bytes_in b (seen_window window.now) station.now.heard }
 {
     if window.initiates {
         return own;
@@ -132,7 +132,7 @@ fn length_at(ids: &[NodeId], lengths: &[u8], node: NodeId) -> u8
 // The lengths of what is said in the windows, and 0 where nothing is.
 fn lengths_of(windows: &[Window]) -> ArrayVec<u8, 64>
     requires { length windows.now ≤ 64 }
-    ensures { result.items ≡ map (λ w. said_bytes (seen w)) windows.now }
+    ensures { result.items ≡ map (λ w. said_bytes (seen_window w)) windows.now }
 {
     let mut lengths = ArrayVec::new();
     for window in windows {
@@ -142,7 +142,7 @@ fn lengths_of(windows: &[Window]) -> ArrayVec<u8, 64>
 }
 
 fn length_of(window: &Window) -> u8
-    ensures { result ≡ said_bytes (seen window.now) }
+    ensures { result ≡ said_bytes (seen_window window.now) }
 {
     match &window.said {
         Some(packet) if message_in(packet).is_some() => packet.length(),

@@ -3,11 +3,11 @@
 ghost use Rattle.std.specs.Prelude.{◌≡◌, ◌≤◌, ◌<◌, ◌++◌, ℕ, All, IfSome, OnOk, true, Some, length, map, take, filter_map, option_to_list};
 ghost use Rattle.std.specs.List.{AllPairs};
 ghost use Rattle.std.specs.Option.{option_map};
-ghost use Rattle.lwb_member.specs.Members.{IsHeard};
+ghost use Rattle.lwb_member.specs.Members.{IsHeardInRange};
 ghost use Rattle.lwb_member.specs.Said.{meaning};
 ghost use Rattle.bus_terms.specs.Flooding.{has};
 ghost use Rattle.plain_bus.specs.BusNodes.{BusNode as NodeOf, IsEarlyState};
-ghost use Rattle.plain_bus.specs.SlotFloods.{seen};
+ghost use Rattle.plain_bus.specs.SlotFloods.{seen_window};
 ghost use Rattle.plain_bus.specs.Closings.{Behind, IsBehind, AllMay, heard_in, closed_node, delivers_node};
 
 use crate::node::BusNode;
@@ -59,9 +59,9 @@ pub fn close_all(
 fn heard_by(window: &Window, station: &Station, windows: &[Window], ids: &[NodeId]) -> Option<Heard>
     requires windows { length windows.now ≡ length ids.now }
     requires ascending { AllPairs (λ a b. a < b) ids.now }
-    ensures value { (b : Behind) → map seen windows.now ≡ map b.window ids.now → ((o k : ℕ) → station.now.heard ≡ Some (o, k) → has ids.now o ≡ true)
+    ensures value { (b : Behind) → map seen_window windows.now ≡ map b.window ids.now → ((o k : ℕ) → station.now.heard ≡ Some (o, k) → has ids.now o ≡ true)
         → option_map meaning result ≡ heard_in b window.now.initiates station.now.heard }
-    ensures ranges { IfSome result IsHeard }
+    ensures ranges { IfSome result IsHeardInRange }
 {
     if window.initiates {
         return None;
@@ -76,9 +76,9 @@ fn heard_by(window: &Window, station: &Station, windows: &[Window], ids: &[NodeI
 fn said_by(windows: &[Window], ids: &[NodeId], origin: NodeId) -> Option<Heard>
     requires windows { length windows.now ≡ length ids.now }
     requires ascending { AllPairs (λ a b. a < b) ids.now }
-    ensures value { (b : Behind) → map seen windows.now ≡ map b.window ids.now → has ids.now origin ≡ true
+    ensures value { (b : Behind) → map seen_window windows.now ≡ map b.window ids.now → has ids.now origin ≡ true
         → option_map meaning result ≡ (b.window origin).message }
-    ensures ranges { IfSome result IsHeard }
+    ensures ranges { IfSome result IsHeardInRange }
 {
     match place_of(ids, origin) {
         Some(place) => said_in(&windows[place]),
@@ -88,8 +88,8 @@ fn said_by(windows: &[Window], ids: &[NodeId], origin: NodeId) -> Option<Heard>
 
 // What is said in a window.
 fn said_in(window: &Window) -> Option<Heard>
-    ensures value { option_map meaning result ≡ (seen window.now).message }
-    ensures ranges { IfSome result IsHeard }
+    ensures value { option_map meaning result ≡ (seen_window window.now).message }
+    ensures ranges { IfSome result IsHeardInRange }
 {
     match &window.said {
         Some(packet) => message_in(packet),

@@ -2,7 +2,7 @@
 
 ghost use Rattle.std.specs.Prelude.{◌≡◌, ◌<◌, ◌≤◌, length, slice_index};
 ghost use Rattle.bus_terms.specs.Flooding.{Setting, Moment, hears as hears_in, agrees as agrees_with};
-ghost use Rattle.plain_bus.specs.FloodMasks.{AreAt, IsFlood, IsKnown, heard_alone, may_hear_at, takes_at};
+ghost use Rattle.plain_bus.specs.FloodMasks.{AreAt, IsMaskedFlood, SendsForInitiators, heard_alone, may_hear_at, takes_at};
 
 use crate::bits::has_bit;
 use crate::offers::picked;
@@ -15,7 +15,7 @@ pub fn hears(trace: &Trace, flood: &Flood, now: &Stations, step: u8, place: u8) 
     requires place { place < length now.now.each.items }
     requires sealed { length now.now.each.items ≡ length trace.now.nodes }
     requires few { length trace.now.nodes ≤ 64 }
-    ensures { (s : Setting) (m : Moment) → IsFlood s trace.now flood.now → IsKnown s m → AreAt m trace.now.nodes now.now
+    ensures { (s : Setting) (m : Moment) → IsMaskedFlood s trace.now flood.now → SendsForInitiators s m → AreAt m trace.now.nodes now.now
         → result ≡ hears_in s m step (slice_index trace.now.nodes place) }
 {
     let station = now.each[usize::from(place)];

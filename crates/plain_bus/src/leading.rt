@@ -6,7 +6,7 @@ ghost use Rattle.bus_rules.specs.States.{State};
 ghost use Rattle.bus_terms.specs.Rounds.{round_plan};
 ghost use Rattle.scenario_text.specs.ScenarioParts.{ScenarioParts};
 ghost use Rattle.plain_bus.specs.BusNodes.{nodes_in};
-ghost use Rattle.plain_bus.specs.Leaders.{leads, holds, parts_at, parts_in, parts_of};
+ghost use Rattle.plain_bus.specs.Leaders.{leads, holds, parts_at, parts_in, slot_parts};
 
 use crate::node::BusNode;
 use bus_rules::{Part, Tune};
@@ -24,7 +24,7 @@ pub fn parts_of_round(
 ) -> Result<Option<Vec<Part>>, Memory>
     ensures few { IfOk result (λ o. IfSome o (λ x. length x.items ≤ 46)) }
     ensures parts { IfOk result (λ o. (s : ScenarioParts) (start others : ℕ → State) → nodes.now ≡ nodes_in s rank start start others
-        → option_map (λ x. x.items) o ≡ option_map parts_of (round_plan s rank frame start)) }
+        → option_map (λ x. x.items) o ≡ option_map slot_parts (round_plan s rank frame start)) }
 {
     match parts_of_host(alloc, nodes, rank, frame)? {
         Some(parts) => Ok(Some(parts)),
@@ -108,7 +108,7 @@ impl BusNode {
 // What the slots of the round of its plan are for.
 fn parts_of_member(alloc: Global, member: &Member) -> Result<Vec<Part>, Memory>
     ensures few { IfOk result (λ x. length x.items ≤ 46) }
-    ensures parts { IfOk result (λ x. x.items ≡ parts_of member.now.core.plan) }
+    ensures parts { IfOk result (λ x. x.items ≡ slot_parts member.now.core.plan) }
 {
     let mut parts = Vec::new(alloc);
     let count = member.last_slot() + 1;

@@ -9,7 +9,7 @@ ghost use Rattle.bus_terms.specs.Bus.{Cost as CostOf};
 ghost use Rattle.bus_terms.specs.FloodOfText.{ids};
 ghost use Rattle.bus_terms.specs.Rounds.{slot_deliveries};
 ghost use Rattle.plain_bus.specs.BusNodes.{nodes_before, ranks_in};
-ghost use Rattle.plain_bus.specs.Networks.{IsReady, no_cost, off_at, with_slot_at};
+ghost use Rattle.plain_bus.specs.Networks.{IsReady, no_cost, node_at_first, with_slot_at};
 
 use crate::charging::charge_all;
 use crate::closing::close_all;
@@ -48,7 +48,7 @@ impl Network {
     pub fn new(alloc: Global, s: &Scenario) -> Result<Network, Memory>
         ensures { IfOk result (λ n. n ≡ record {
           ids = ids s.now.nodes;
-          nodes = map (off_at s.now) (ids s.now.nodes);
+          nodes = map (node_at_first s.now) (ids s.now.nodes);
           costs = map (λ v. no_cost) (ids s.now.nodes);
           deliveries = [];
         }) }
@@ -139,7 +139,7 @@ impl Network {
 
 // The node of this id, off and without a boot.
 fn new_node(alloc: Global, s: &Scenario, id: NodeId) -> Result<BusNode, Memory>
-    ensures { IfOk result (λ n. n ≡ off_at s.now id) }
+    ensures { IfOk result (λ n. n ≡ node_at_first s.now id) }
 {
     let profile = s.profile();
     let hosts = s.hosts();

@@ -2,11 +2,11 @@
 
 ghost use Rattle.std.specs.Prelude.{◌≡◌, ◌≤◌, ◌<◌, IfOk, IfSome};
 ghost use Rattle.bus_rules.specs.Cores.{frame_ended as core_ended};
-ghost use Rattle.bus_rules.specs.States.{StateOff, at_core, switched_on, switched_off, declares, leaves, puts, loses};
+ghost use Rattle.bus_rules.specs.States.{StateOff, at_core, state_after_on, state_after_off, declares, leaves, puts, loses};
 ghost use Rattle.scenario_text.specs.ScenarioFacts.{IsAct};
 ghost use Rattle.bus_terms.specs.Rounds.{rank_in};
 ghost use Rattle.bus_rules.specs.Tuning.{is_scan};
-ghost use Rattle.bus_terms.specs.ScriptedStates.{after_act, is_on};
+ghost use Rattle.bus_terms.specs.ScriptedStates.{state_after_act, is_on_and};
 ghost use Rattle.plain_bus.specs.BusNodes.{MayBoot, MayDo, loses_by};
 
 use bus_rules::Tune;
@@ -64,7 +64,7 @@ impl BusNode {
     pub fn tell(&mut self, act: &Act) -> bool
         requires act { IsAct self.old.setup.profile act.now }
         requires boot { MayDo act.now self.old.state }
-        ensures state { self.new ≡ record self.old { state = after_act act.now self.old.state } }
+        ensures state { self.new ≡ record self.old { state = state_after_act act.now self.old.state } }
         ensures lost { result ≡ loses_by act.now self.old.state }
     {
         match act {
@@ -80,7 +80,7 @@ impl BusNode {
     // Power comes on, where it was off.
     fn switch_on(&mut self)
         requires { MayBoot self.old.state }
-        ensures { self.new ≡ record self.old { state = switched_on self.old.state } }
+        ensures { self.new ≡ record self.old { state = state_after_on self.old.state } }
     {
         if !self.is_on {
             self.member.reboot(self.boots + 1);
@@ -90,7 +90,7 @@ impl BusNode {
 
     // Power goes off, where it was on.
     fn switch_off(&mut self)
-        ensures { self.new ≡ record self.old { state = switched_off self.old.state } }
+        ensures { self.new ≡ record self.old { state = state_after_off self.old.state } }
     {
         if self.is_on {
             self.boots = self.member.boot();
@@ -134,7 +134,7 @@ impl BusNode {
 
     /// It is on and scans for a host.
     pub fn scans(&self) -> bool
-        ensures { result ≡ is_on (λ c. is_scan c.tune) self.now.state }
+        ensures { result ≡ is_on_and (λ c. is_scan c.tune) self.now.state }
     {
         self.is_on && matches!(self.member.tune(), Tune::Scan(..))
     }

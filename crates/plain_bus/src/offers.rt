@@ -4,7 +4,7 @@ ghost use Rattle.std.specs.Prelude.{◌≡◌, ◌≤◌, ◌<◌, ℕ, Option, 
 ghost use Rattle.std.specs.Int.{bit_at};
 ghost use Rattle.std.specs.Option.{option_map_or};
 ghost use Rattle.bus_terms.specs.Flooding.{Setting, Moment, offer, pick};
-ghost use Rattle.plain_bus.specs.FloodMasks.{AreOffers, IsOffer, AllOffer, IsFlood, IsKnown};
+ghost use Rattle.plain_bus.specs.FloodMasks.{AreOffers, IsOffer, AllOffer, IsMaskedFlood, SendsForInitiators};
 
 use crate::bits::{lowest, without_bit};
 use crate::station::{Flood, Station};
@@ -89,7 +89,7 @@ pub(crate) fn picked(
     from: u64,
 ) -> Option<NodeId>
     requires few { length stations.now ≤ 64 }
-    ensures { (s : Setting) (m : Moment) → IsFlood s trace.now flood.now → IsKnown s m
+    ensures { (s : Setting) (m : Moment) → IsMaskedFlood s trace.now flood.now → SendsForInitiators s m
         → AreOffers (offer s m step at) stations.now from → result ≡ pick s m step at }
 {
     let Some(first) = first_sent(stations, from) else {

@@ -10,10 +10,10 @@ ghost use Rattle.bus_rules.specs.States.{State};
 ghost use Rattle.bus_rules.specs.Slots.{part_of};
 ghost use Rattle.lwb_base.specs.Messages.{Plan};
 ghost use Rattle.bus_terms.specs.FloodOfText.{ids};
-ghost use Rattle.bus_terms.specs.Rounds.{flood_of, opened_at, slot_at};
-ghost use Rattle.plain_bus.specs.FloodMasks.{IsFlood};
+ghost use Rattle.bus_terms.specs.Rounds.{flood_in_slot, opened_at, slot_at};
+ghost use Rattle.plain_bus.specs.FloodMasks.{IsMaskedFlood};
 ghost use Rattle.plain_bus.specs.BusNodes.{IsEarlyState, nodes_before, node_opened};
-ghost use Rattle.plain_bus.specs.SlotFloods.{AreWindows, seen, seen_of};
+ghost use Rattle.plain_bus.specs.SlotFloods.{AreWindows, seen_window, seen_of};
 
 use crate::node::BusNode;
 use crate::slot_windows::open_all;
@@ -39,10 +39,10 @@ pub fn open_slot(
     requires early { All (λ n. IsEarlyState frame n.state) nodes.old }
     ensures early { OnOk result (All (λ n. IsEarlyState frame n.state) nodes.new) }
     ensures nodes { OnOk result (nodes.new ≡ map (node_opened rank frame part.now) nodes.old) }
-    ensures windows { OnOk result (map seen windows.new.items ≡ map (seen_of rank frame part.now) nodes.old) }
+    ensures windows { OnOk result (map seen_window windows.new.items ≡ map (seen_of rank frame part.now) nodes.old) }
     ensures flood { IfOk result
         (λ x. (s : ScenarioParts) (t : Traced) (p : Plan) (start others : ℕ → State) → nodes.old ≡ nodes_before s rank frame p start others slot
-        → part.now ≡ part_of p slot → t.lines ≡ s.trace → IsSealed t s.nodes → limit ≡ s.sends → IsFlood (slot_at s rank frame p start slot).flood t x) }
+        → part.now ≡ part_of p slot → t.lines ≡ s.trace → IsSealed t s.nodes → limit ≡ s.sends → IsMaskedFlood (slot_at s rank frame p start slot).flood t x) }
 {
     open_all(nodes, windows, rank, frame, part)?;
     Ok(flood_in(windows, frame, slot, limit))
@@ -53,7 +53,7 @@ pub fn flood_in(windows: &[Window], frame: u32, slot: u8, limit: u8) -> Flood
     requires { length windows.now ≤ 64 }
     ensures { (s : ScenarioParts) (t : Traced) (rank : ℕ) (part : PartOf) (states : ℕ → State) → AreWindows s rank frame part states windows.now
         → t.lines ≡ s.trace → IsSealed t s.nodes → limit ≡ s.sends
-        → IsFlood (flood_of s rank frame slot part states (λ v. opened_at s rank frame part v (states v))) t result }
+        → IsMaskedFlood (flood_in_slot s rank frame slot part states (λ v. opened_at s rank frame part v (states v))) t result }
 {
     Flood {
         frame,

@@ -2,7 +2,7 @@
 
 ghost use Rattle.std.specs.Prelude.{◌≡◌, ◌≤◌, All, OnOk, map};
 ghost use Rattle.plain_bus.specs.BusNodes.{IsEarlyState, node_opened};
-ghost use Rattle.plain_bus.specs.SlotFloods.{seen, seen_of};
+ghost use Rattle.plain_bus.specs.SlotFloods.{seen_window, seen_of};
 
 use crate::node::BusNode;
 use crate::window::Window;
@@ -22,7 +22,7 @@ pub fn open_all(
     requires early { All (λ n. IsEarlyState frame n.state) nodes.old }
     ensures early { OnOk result (All (λ n. IsEarlyState frame n.state) nodes.new) }
     ensures nodes { OnOk result (nodes.new ≡ map (node_opened rank frame part.now) nodes.old) }
-    ensures windows { OnOk result (map seen windows.new.items ≡ map (seen_of rank frame part.now) nodes.old) }
+    ensures windows { OnOk result (map seen_window windows.new.items ≡ map (seen_of rank frame part.now) nodes.old) }
 {
     windows.clear();
     for node in nodes.iter_mut() {

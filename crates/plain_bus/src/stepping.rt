@@ -4,8 +4,8 @@ ghost use Rattle.std.specs.Prelude.{◌≡◌, ◌<◌, ◌≤◌, ◌+◌, ◌+
 ghost use Rattle.bus_terms.specs.Flooding.{Setting, Moment, moment, beginning, next as next_moment, STEPS};
 ghost use Rattle.link_trace.specs.Sealed.{Traced};
 ghost use Rattle.scenario_text.specs.FloodParts.{IsSealed};
-ghost use Rattle.plain_bus.specs.FloodMasks.{AreAt, AreSenders, IsFlood, IsKnown, IsLone, heard_alone, station_at, station_after, station_first};
-ghost use Rattle.plain_bus.specs.FloodMasks.{with_sender};
+ghost use Rattle.plain_bus.specs.FloodMasks.{AreAt, AreSenders, IsMaskedFlood, SendsForInitiators, IsLone, heard_alone, station_at, station_after};
+ghost use Rattle.plain_bus.specs.FloodMasks.{station_first, with_sender};
 
 use crate::bits::{has_bit, lowest, without_bit};
 use crate::hearing::{hears, hears_alone};
@@ -66,7 +66,7 @@ impl Stations {
         requires sealed { length self.now.each.items ≡ length trace.now.nodes }
         requires few { length trace.now.nodes ≤ 64 }
         requires times { All (λ x. x.times ≤ step) self.now.each.items }
-        ensures at { (s : Setting) (m : Moment) → IsFlood s trace.now flood.now → IsKnown s m → AreAt m trace.now.nodes self.now
+        ensures at { (s : Setting) (m : Moment) → IsMaskedFlood s trace.now flood.now → SendsForInitiators s m → AreAt m trace.now.nodes self.now
             → AreAt (next_moment s step m) trace.now.nodes result }
         ensures length { length result.each.items ≡ length trace.now.nodes }
         ensures times { All (λ x. x.times ≤ step + 1) result.each.items }
@@ -104,8 +104,8 @@ impl Stations {
         requires sealed { length self.old.each.items ≡ length trace.now.nodes }
         requires few { length trace.now.nodes ≤ 64 }
         requires times { All (λ x. x.times ≤ step) self.old.each.items }
-        ensures at { (s : Setting) (m : Moment) → IsFlood s trace.now flood.now → IsLone s origin → IsKnown s m → AreAt m trace.now.nodes self.old
-            → AreAt (next_moment s step m) trace.now.nodes self.new }
+        ensures at { (s : Setting) (m : Moment) → IsMaskedFlood s trace.now flood.now → IsLone s origin → SendsForInitiators s m
+            → AreAt m trace.now.nodes self.old → AreAt (next_moment s step m) trace.now.nodes self.new }
         ensures length { length self.new.each.items ≡ length trace.now.nodes }
         ensures times { All (λ x. x.times ≤ step + 1) self.new.each.items }
     {
@@ -129,7 +129,7 @@ impl Stations {
         requires sealed { length self.old.each.items ≡ length trace.now.nodes }
         requires few { length trace.now.nodes ≤ 64 }
         requires times { All (λ x. x.times ≤ step) self.old.each.items }
-        ensures at { (s : Setting) (m : Moment) → IsFlood s trace.now flood.now → IsKnown s m → AreAt m trace.now.nodes self.old
+        ensures at { (s : Setting) (m : Moment) → IsMaskedFlood s trace.now flood.now → SendsForInitiators s m → AreAt m trace.now.nodes self.old
             → AreAt (next_moment s step m) trace.now.nodes self.new }
         ensures length { length self.new.each.items ≡ length trace.now.nodes }
         ensures times { All (λ x. x.times ≤ step + 1) self.new.each.items }
@@ -147,7 +147,7 @@ impl Stations {
 // The flood with its initiator, if there is one alone.
 fn with_lone(flood: &Flood, nodes: &[NodeLine]) -> Flood
     requires { length nodes.now ≤ 64 }
-    ensures { (s : Setting) (t : Traced) → t.nodes ≡ map (λ n. n.node) nodes.now → IsFlood s t flood.now → IsFlood s t result }
+    ensures { (s : Setting) (t : Traced) → t.nodes ≡ map (λ n. n.node) nodes.now → IsMaskedFlood s t flood.now → IsMaskedFlood s t result }
 {
     let mut flood = *flood;
     if flood.initiators == 0 {
@@ -163,7 +163,7 @@ fn with_lone(flood: &Flood, nodes: &[NodeLine]) -> Flood
 // All nodes at the beginning of the flood: the initiators send.
 fn first(flood: &Flood, nodes: &[NodeLine]) -> Stations
     requires few { length nodes.now ≤ 64 }
-    ensures at { (s : Setting) (t : Traced) → t.nodes ≡ map (λ n. n.node) nodes.now → IsFlood s t flood.now → AreAt (beginning s) t.nodes result }
+    ensures at { (s : Setting) (t : Traced) → t.nodes ≡ map (λ n. n.node) nodes.now → IsMaskedFlood s t flood.now → AreAt (beginning s) t.nodes result }
     ensures length { length result.each.items ≡ length nodes.now }
     ensures times { All (λ x. x.times ≤ 0) result.each.items }
 {
@@ -204,8 +204,8 @@ pub struct FloodEnd {
 pub fn flooded(trace: &Trace, flood: &Flood, nodes: &[NodeLine]) -> FloodEnd
     requires sealed { IsSealed trace.now nodes.now }
     requires few { length nodes.now ≤ 64 }
-    ensures each { (s : Setting) → IsFlood s trace.now flood.now → result.stations.each.items ≡ map (station_at (moment s STEPS)) trace.now.nodes }
-    ensures senders { (s : Setting) → IsFlood s trace.now flood.now → AreSenders s trace.now.nodes result.senders.items }
+    ensures each { (s : Setting) → IsMaskedFlood s trace.now flood.now → result.stations.each.items ≡ map (station_at (moment s STEPS)) trace.now.nodes }
+    ensures senders { (s : Setting) → IsMaskedFlood s trace.now flood.now → AreSenders s trace.now.nodes result.senders.items }
     ensures length { length result.stations.each.items ≡ length nodes.now }
     ensures steps { length result.senders.items ≡ STEPS }
     ensures times { All (λ x. x.times ≤ STEPS) result.stations.each.items }

@@ -4,11 +4,11 @@ ghost use Rattle.std.specs.Prelude.{◌≡◌, ◌≤◌, ◌↔◌, IfSome, is_
 ghost use Rattle.std.specs.Option.{option_map, option_and_then};
 ghost use Rattle.bus_rules.specs.Cores.{is_member as is_core_member};
 ghost use Rattle.bus_rules.specs.Tuning.{hosts, scans as scans_rank};
-ghost use Rattle.bus_terms.specs.Rounds.{said_in, takes_part, left_by, rank_in};
-ghost use Rattle.lwb_member.specs.Members.{IsHeard};
+ghost use Rattle.bus_terms.specs.Rounds.{message_said, takes_part, left_by, rank_in};
+ghost use Rattle.lwb_member.specs.Members.{IsHeardInRange};
 ghost use Rattle.lwb_member.specs.Said.{meaning, message_of};
-ghost use Rattle.plain_bus.specs.SlotFloods.{seen, seen_of, node_closed, node_delivers};
-ghost use Rattle.plain_bus.specs.BusNodes.{window_of, state_opened, closed_of, delivered_of, node_opened, MayAcceptIn, IsEarlyState};
+ghost use Rattle.plain_bus.specs.SlotFloods.{seen_window, seen_of, node_closed, node_delivers};
+ghost use Rattle.plain_bus.specs.BusNodes.{window_of_state, state_opened, closed_of, delivered_of, node_opened, MayAcceptIn, IsEarlyState};
 
 use crate::node::BusNode;
 use bus_rules::{Delivery, Part, Tune};
@@ -31,7 +31,7 @@ pub struct Window {
 impl Window {
     // Of a node that has nothing to do with the slot.
     fn shut() -> Window
-        ensures { seen result ≡ record { is_open = false; takes_part = false; initiates = false; message = None } }
+        ensures { seen_window result ≡ record { is_open = false; takes_part = false; initiates = false; message = None } }
     {
         Window {
             is_open: false,
@@ -60,7 +60,7 @@ impl Window {
 
     // Of a member that says nothing.
     fn silent() -> Window
-        ensures { seen result ≡ record { is_open = true; takes_part = true; initiates = false; message = None } }
+        ensures { seen_window result ≡ record { is_open = true; takes_part = true; initiates = false; message = None } }
     {
         Window {
             is_open: true,
@@ -78,7 +78,7 @@ impl BusNode {
         requires frame { frame ≤ 16777215 }
         requires early { IsEarlyState frame self.old.state }
         ensures state { self.new ≡ node_opened rank frame part.now self.old }
-        ensures seen { seen result ≡ seen_of rank frame part.now self.old }
+        ensures seen { seen_window result ≡ seen_of rank frame part.now self.old }
         ensures early { IsEarlyState frame self.new.state }
     {
         if self.rank != rank {
@@ -92,10 +92,10 @@ impl BusNode {
         requires frame { frame ≤ 16777215 }
         requires early { IsEarlyState frame self.old.state }
         ensures state { self.new ≡ record self.old { state = state_opened self.old.setup rank frame part.now self.old.state } }
-        ensures is_open { result.is_open ≡ is_some (window_of self.old.setup rank frame part.now self.old.state) }
-        ensures takes_part { result.takes_part ≡ takes_part rank part.now self.old.state (window_of self.old.setup rank frame part.now self.old.state) }
-        ensures initiates { result.initiates ≡ is_some (said_in (window_of self.old.setup rank frame part.now self.old.state)) }
-        ensures said { option_and_then message_of result.said ≡ said_in (window_of self.old.setup rank frame part.now self.old.state) }
+        ensures is_open { result.is_open ≡ is_some (window_of_state self.old.setup rank frame part.now self.old.state) }
+        ensures takes_part { result.takes_part ≡ takes_part rank part.now self.old.state (window_of_state self.old.setup rank frame part.now self.old.state) }
+        ensures initiates { result.initiates ≡ is_some (message_said (window_of_state self.old.setup rank frame part.now self.old.state)) }
+        ensures said { option_and_then message_of result.said ≡ message_said (window_of_state self.old.setup rank frame part.now self.old.state) }
         ensures early { IsEarlyState frame self.new.state }
     {
         if !self.is_on {
@@ -127,12 +127,12 @@ impl BusNode {
         accepted: Option<Heard>,
     ) -> Option<Delivery>
         requires frame { frame ≤ 16777215 }
-        requires ranges { IfSome accepted IsHeard }
+        requires ranges { IfSome accepted IsHeardInRange }
         requires early { IsEarlyState frame self.old.state }
         ensures state { MayAcceptIn self.old.state (option_map meaning accepted)
-            → self.new ≡ node_closed frame part (seen window.now) (option_map meaning accepted) self.old }
+            → self.new ≡ node_closed frame part (seen_window window.now) (option_map meaning accepted) self.old }
         ensures delivery { MayAcceptIn self.old.state (option_map meaning accepted)
-            → result ≡ node_delivers rank frame slot part (seen window.now) (option_map meaning accepted) self.old }
+            → result ≡ node_delivers rank frame slot part (seen_window window.now) (option_map meaning accepted) self.old }
         ensures early { IsEarlyState frame self.new.state }
     {
         if self.refuses(&accepted) {
@@ -174,7 +174,7 @@ impl BusNode {
         accepted: Option<Heard>,
     ) -> Option<Delivery>
         requires frame { frame ≤ 16777215 }
-        requires ranges { IfSome accepted IsHeard }
+        requires ranges { IfSome accepted IsHeardInRange }
         requires host { MayAcceptIn self.old.state (option_map meaning accepted) }
         requires early { IsEarlyState frame self.old.state }
         ensures state { self.new ≡ record self.old {

@@ -8,7 +8,8 @@ use Rattle.circular_buffer.specs.Buffer.{Buffer, keep_last}
 use Rattle.lwb_base.specs.Profile.{Numbers}
 use Rattle.radio_model.specs.OnAir.{Sending}
 use Rattle.radio_model.specs.Hearing.{Scene}
-use Rattle.radio_model.specs.Stations.{MediumState, IsMedium, station_of, sending_of, on_air, finished, with_ended, after, changed_at, Ends}
+use Rattle.radio_model.specs.Stations.{MediumState, IsMedium, station_of, sending_of_station, on_air, station_after_end, with_ended, medium_after_change}
+use Rattle.radio_model.specs.Stations.{station_changed_at, Ends}
 use Rattle.radio_model.specs.Holding.{Holds, IsOrderly, IsOwn, InTurn, longest, shortest}
 use Rattle.radio_model.specs.declared.station.Station.{Station}
 use Rattle.lwb_base.proofs.Elements.{not_in_none, contains_head, contains_tail, contains_cases}
@@ -111,10 +112,10 @@ module _ (p : Numbers) (now t : ℕ) (st : Station) (room : st.ended.capacity �
             ]
       ]
 
-  pub kept_finished : (y : Sending) → Contains (on_air st) y → Contains (on_air (finished st)) y ⊎ (y.end + longest p ≤ t)
+  pub kept_finished : (y : Sending) → Contains (on_air st) y → Contains (on_air (station_after_end st)) y ⊎ (y.end + longest p ≤ t)
   kept_finished y there = kept_by st.sending refl y there
 
-  pub air_back : (y : Sending) → Contains (on_air (finished st)) y → Contains (on_air st) y
+  pub air_back : (y : Sending) → Contains (on_air (station_after_end st)) y → Contains (on_air st) y
   air_back y there = in_drop (forgotten st.ended st.sending) (on_air st) y (subst (λ (l : List Sending). Contains l y) (air_less st.ended st.sending) there)
 
   over_by_now : (o : Option Sending) → st.sending ≡ o → now ≤ t → (y : Sending) → Contains (with_ended st.ended o).items y → y.end ≤ t
@@ -129,7 +130,7 @@ module _ (p : Numbers) (now t : ℕ) (st : Station) (room : st.ended.capacity �
         ]
       ]
 
-  pub orderly_finished : now ≤ t → IsOrderly p t (finished st)
+  pub orderly_finished : now ≤ t → IsOrderly p t (station_after_end st)
   orderly_finished later = record {
     own = λ y there. is.own y (air_back y there);
     in_turn = subst (InTurn 0) (sym (air_less st.ended st.sending)) (turn_drop (forgotten st.ended st.sending) 0 (on_air st) is.in_turn);
@@ -144,7 +145,7 @@ module _ (m : MediumState) (is : IsMedium m) (a : Scene) (h : Holds m a) (v t : 
   ends_of : (st : Station) → Contains m.stations st → st.node ≡ v → (x : Sending) → st.sending ≡ Some x → x.end ≡ t
   ends_of st there node x same =
       let found : station_of m v ≡ Some st = ap (station_of m) (sym node) ∙ found_member m.stations st is.nodes.ascending there in
-      let runs : st.sending ≡ Some sends.sending = sym (ap sending_of found) ∙ sends.runs in
+      let runs : st.sending ≡ Some sends.sending = sym (ap sending_of_station found) ∙ sends.runs in
       let one : x ≡ sends.sending = some_same x sends.sending (sym same ∙ runs) in
       ap (λ (z : Sending). z.end) one ∙ sends.until
     where
@@ -164,31 +165,32 @@ module _ (m : MediumState) (is : IsMedium m) (a : Scene) (h : Holds m a) (v t : 
   held_old st there y kept = h.sent y (record { station = st; there = there; kept = kept })
 
   stays : (st : Station) → Contains m.stations st → (y : Sending) → Contains (on_air st) y
-      → Contains (on_air (changed_at v finished st)) y ⊎ (y.end + longest m.numbers ≤ t)
+      → Contains (on_air (station_changed_at v station_after_end st)) y ⊎ (y.end + longest m.numbers ≤ t)
   stays st there y kept =
-      cond_both (st.node == v) (finished st) st (λ (s : Station). Contains (on_air s) y ⊎ (y.end + longest m.numbers ≤ t))
+      cond_both (st.node == v) (station_after_end st) st (λ (s : Station). Contains (on_air s) y ⊎ (y.end + longest m.numbers ≤ t))
       (λ same. kept_finished m.numbers m.now t st (room_of st there) (h.orderly st there) (ends_of st there (eqb-true st.node v same)) y kept)
       (λ _. inl kept)
 
-  pub holds_after_ending : Holds (after t v finished m) a
+  pub holds_after_ending : Holds (medium_after_change t v station_after_end m) a
   holds_after_ending = record {
     numbers = h.numbers;
-    orderly = each_after m is finished finished_keeps v t (IsOrderly m.numbers t)
+    orderly = each_after m is station_after_end finished_keeps v t (IsOrderly m.numbers t)
         (λ st there node. orderly_finished m.numbers m.now t st (room_of st there) (h.orderly st there) (ends_of st there node) later)
         (λ st there other. orderly_later m.numbers m.now t st st later (h.orderly st there) refl refl refl
         (order_later m.now t st.tuned st.last later (h.orderly st there).tunings));
     known = λ y there. elim (h.known y there) [
       | inl kept ↦ elim (stays kept.station kept.there y kept.kept) [
         | inl on ↦
-            inl (record { station = changed_at v finished kept.station; there = is_there m is finished finished_keeps v t kept.station kept.there; kept = on })
+            inl (record { station = station_changed_at v station_after_end kept.station;
+                there = is_there m is station_after_end finished_keeps v t kept.station kept.there; kept = on })
         | inr over ↦ inr over
       ]
       | inr over ↦ inr (omega arith)
     ];
-    sent = λ y kept. each_after m is finished finished_keeps v t held
+    sent = λ y kept. each_after m is station_after_end finished_keeps v t held
         (λ st there node z on. held_old st there z (air_back m.numbers m.now t st (room_of st there) (h.orderly st there) (ends_of st there node) z on))
         (λ st there other. held_old st there) kept.station kept.there y kept.kept;
     past = λ k there. let by = h.past k there in omega arith;
-    tuned = λ st there. right_by (after t v finished m) a (ascend_after m is finished finished_keeps v t) st there t
-        (each_after m is finished finished_keeps v t now_tells (λ s old node. still s old) (λ s old other. still s old) st there);
+    tuned = λ st there. right_by (medium_after_change t v station_after_end m) a (ascend_after m is station_after_end finished_keeps v t) st there t
+        (each_after m is station_after_end finished_keeps v t now_tells (λ s old node. still s old) (λ s old other. still s old) st there);
   }

@@ -6,8 +6,9 @@ use Rattle.std.proofs.lemmas.Bool.{cond_both}
 use Rattle.lwb_base.specs.Profile.{Numbers, airtime}
 use Rattle.radio_model.specs.OnAir.{Sending}
 use Rattle.radio_model.specs.Hearing.{Scene}
-use Rattle.radio_model.specs.Stations.{MediumState, IsMedium, nodes_of, node_of, station_of, on_air, started, first_sending, next_sending, after, changed_at}
-use Rattle.radio_model.specs.Holding.{Holds, IsKept, IsOrderly, IsOwn, InTurn, begun, after_starting}
+use Rattle.radio_model.specs.Stations.{MediumState, IsMedium, nodes_of, id_of_station, station_of, on_air, station_after_start, current_or_next, next_sending}
+use Rattle.radio_model.specs.Stations.{medium_after_change, station_changed_at}
+use Rattle.radio_model.specs.Holding.{Holds, IsKept, IsOrderly, IsOwn, InTurn, sending_at_start, after_starting}
 use Rattle.radio_model.specs.declared.station.Tuned.{Tuned}
 use Rattle.radio_model.specs.declared.station.Station.{Station}
 use Rattle.lwb_base.proofs.Elements.{in_option, of_option, map_from, contains_head, contains_tail}
@@ -19,7 +20,7 @@ use Rattle.radio_model.proofs.OneCall.{found_member, lit_moves, tells_by, right_
 use Rattle.radio_model.proofs.AfterTuning.{orderly_later}
 
 with_next : (ys : List Sending) (s n : Option Sending)
-    → ys ++ option_to_list (first_sending s n) ≡ (ys ++ option_to_list s) ++ option_to_list (if is_none s then n else None)
+    → ys ++ option_to_list (current_or_next s n) ≡ (ys ++ option_to_list s) ++ option_to_list (if is_none s then n else None)
 with_next ys None n = sym (ap (λ (l : List Sending). l ++ option_to_list n) (append-nil ys))
 with_next ys (Some x) n = sym (append-nil (ys ++ x ∷ []))
 
@@ -31,9 +32,9 @@ in_turn_push from (y ∷ ys) x turn first over =
 
 module _ (p : Numbers) (t : ℕ) (packet : List ℕ) (short : 3 ≤ length packet) (long : length packet ≤ 125) where
   abbrev next : Station → Option Sending
-  next st = begun p t packet (Some st)
+  next st = sending_at_start p t packet (Some st)
 
-  air_more : (st : Station) → on_air (started p t packet st) ≡ on_air st ++ option_to_list (next st)
+  air_more : (st : Station) → on_air (station_after_start p t packet st) ≡ on_air st ++ option_to_list (next st)
   air_more st = with_next st.ended.items st.sending (next_sending p t packet st.node st.tuned)
 
   next_is : (v : ℕ) (s : Option Sending) (tuned : Option Tuned) (y : Sending) → (if is_none s then next_sending p t packet v tuned else None) ≡ Some y
@@ -48,7 +49,7 @@ module _ (p : Numbers) (t : ℕ) (packet : List ℕ) (short : 3 ≤ length packe
   next_is v (Some x) tuned y is = cc
 
   -- the station with its new sending
-  orderly_started : (now : ℕ) (st : Station) → now ≤ t → IsOrderly p now st → IsOrderly p t (started p t packet st)
+  orderly_started : (now : ℕ) (st : Station) → now ≤ t → IsOrderly p now st → IsOrderly p t (station_after_start p t packet st)
   orderly_started now st later is = record {
     own = λ y there. elim (Contains-append_cases (on_air st) (option_to_list (next st)) y (subst (λ (l : List Sending). Contains l y) (air_more st) there)) [
       | inl old ↦ is.own y old
@@ -71,16 +72,16 @@ module _ (p : Numbers) (t : ℕ) (packet : List ℕ) (short : 3 ≤ length packe
 module _ (m : MediumState) (is : IsMedium m) (a : Scene) (h : Holds m a) (v : ℕ) (member : Contains (nodes_of m) v) (t : ℕ) (later : m.now ≤ t)
     (packet : List ℕ) (short : 3 ≤ length packet) (long : length packet ≤ 125) where
   abbrev change : Station → Station
-  change = started m.numbers t packet
+  change = station_after_start m.numbers t packet
 
   abbrev new : Option Sending
-  new = begun m.numbers t packet (station_of m v)
+  new = sending_at_start m.numbers t packet (station_of m v)
 
   of_v : (st : Station) → Contains m.stations st → st.node ≡ v → station_of m v ≡ Some st
   of_v st there node = ap (station_of m) (sym node) ∙ found_member m.stations st is.nodes.ascending there
 
   new_of : (st : Station) → Contains m.stations st → st.node ≡ v → new ≡ next m.numbers t packet short long st
-  new_of st there node = ap (begun m.numbers t packet) (of_v st there node)
+  new_of st there node = ap (sending_at_start m.numbers t packet) (of_v st there node)
 
   abbrev now_tells : Station → Type 0
   now_tells s = Tells (Lit (record a { sendings = a.sendings ++ option_to_list new }) s.node) s.tuned s.last t
@@ -94,18 +95,18 @@ module _ (m : MediumState) (is : IsMedium m) (a : Scene) (h : Holds m a) (v : �
       ))
       (tells_later (Lit a st.node) st.tuned st.last m.now t later (tells_by m a is.nodes.ascending st there m.now (h.tuned st there)))
 
-  air_grows : (st : Station) (y : Sending) → Contains (on_air st) y → Contains (on_air (changed_at v change st)) y
+  air_grows : (st : Station) (y : Sending) → Contains (on_air st) y → Contains (on_air (station_changed_at v change st)) y
   air_grows st y there =
       cond_both (st.node == v) (change st) st (λ (s : Station). Contains (on_air s) y)
       (λ _. subst (λ (l : List Sending). Contains l y) (sym (air_more m.numbers t packet short long st))
       (Contains-append_left (on_air st) (option_to_list (next m.numbers t packet short long st)) y there))
       (λ _. there)
 
-  known_new : (y : Sending) → new ≡ Some y → IsKept (after t v change m) y
+  known_new : (y : Sending) → new ≡ Some y → IsKept (medium_after_change t v change m) y
   known_new y same =
-      let w = map_from node_of m.stations v member in
+      let w = map_from id_of_station m.stations v member in
       record {
-        station = changed_at v change w.0;
+        station = station_changed_at v change w.0;
         there = is_there m is change (started_keeps m.numbers t packet) v t w.0 w.1;
         kept = subst (λ (s : Station). Contains (on_air s) y) (sym (at_v m is change (started_keeps m.numbers t packet) v t w.0 w.2))
             (subst (λ (l : List Sending). Contains l y) (sym (air_more m.numbers t packet short long w.0))
@@ -128,7 +129,7 @@ module _ (m : MediumState) (is : IsMedium m) (a : Scene) (h : Holds m a) (v : �
             (subst (λ (o : Option Sending). Contains (option_to_list o) y) (sym (new_of st there node)) now)
       ]
 
-  pub holds_after_starting : Holds (after t v change m) (after_starting m v t packet a)
+  pub holds_after_starting : Holds (medium_after_change t v change m) (after_starting m v t packet a)
   holds_after_starting =
       let keeps = started_keeps m.numbers t packet in
       record {
@@ -140,7 +141,7 @@ module _ (m : MediumState) (is : IsMedium m) (a : Scene) (h : Holds m a) (v : �
         known = λ y there. elim (Contains-append_cases a.sendings (option_to_list new) y there) [
           | inl old ↦ elim (h.known y old) [
             | inl kept ↦ inl (record {
-              station = changed_at v change kept.station;
+              station = station_changed_at v change kept.station;
               there = is_there m is change keeps v t kept.station kept.there;
               kept = air_grows kept.station y kept.kept;
             })
@@ -151,6 +152,7 @@ module _ (m : MediumState) (is : IsMedium m) (a : Scene) (h : Holds m a) (v : �
         sent = λ y kept. each_after m is change keeps v t sends sent_new (λ st there other. sent_old st there) kept.station kept.there y kept.kept;
         past = λ k there. let by = h.past k there in omega arith;
         tuned =
-            λ st there. right_by (after t v change m) (record a { sendings = a.sendings ++ option_to_list new }) (ascend_after m is change keeps v t) st there t
+            λ st there. right_by (medium_after_change t v change m) (record a { sendings = a.sendings ++ option_to_list new })
+                (ascend_after m is change keeps v t) st there t
             (each_after m is change keeps v t now_tells (λ s old node. still s old) (λ s old other. still s old) st there);
       }

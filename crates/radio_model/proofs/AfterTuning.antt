@@ -5,8 +5,8 @@ use Rattle.std.proofs.lemmas.List.Elements.{Contains-append_cases}
 use Rattle.lwb_base.specs.Profile.{Numbers}
 use Rattle.radio_model.specs.OnAir.{Sending, Tuning}
 use Rattle.radio_model.specs.Hearing.{Scene}
-use Rattle.radio_model.specs.Stations.{MediumState, IsMedium, station_of, on_air, is_tuned_to, retuned, tuned_in, tuned_out, after}
-use Rattle.radio_model.specs.Holding.{Holds, IsOrderly, IsOrder, InTurn, closed, tuned_of, after_tuning}
+use Rattle.radio_model.specs.Stations.{MediumState, IsMedium, station_of, on_air, is_tuned_to, station_after_tuning, tuned_in, tuned_out, medium_after_change}
+use Rattle.radio_model.specs.Holding.{Holds, IsOrderly, IsOrder, InTurn, ended_tuning, tuned_of, after_tuning}
 use Rattle.radio_model.specs.declared.station.Station.{Station}
 use Rattle.lwb_base.proofs.Elements.{in_option}
 use Rattle.radio_model.proofs.Changes.{retuned_keeps}
@@ -16,7 +16,7 @@ use Rattle.radio_model.proofs.Retuned.{told_after, order_later, tells_same}
 use Rattle.radio_model.proofs.OneCall.{found_member, tells_by, right_by, past_lit, each_after, ascend_after, kept_on, kept_back}
 use Rattle.radio_model.proofs.Marked.{retuned_on_air}
 
-same_ended : (rank : Option ℕ) (t : ℕ) (st : Station) → (retuned rank t st).ended.items ≡ st.ended.items
+same_ended : (rank : Option ℕ) (t : ℕ) (st : Station) → (station_after_tuning rank t st).ended.items ≡ st.ended.items
 same_ended None t st = refl
 same_ended (Some r) t st =
     cond_both (is_tuned_to st.tuned r) st (tuned_in r t (tuned_out t st)) (λ (s : Station). s.ended.items ≡ st.ended.items) (λ _. refl) (λ _. refl)
@@ -34,18 +34,18 @@ orderly_later p now t s st later is node air ended order = record {
 
 module _ (m : MediumState) (is : IsMedium m) (a : Scene) (h : Holds m a) (v : ℕ) (rank : Option ℕ) (t : ℕ) (later : m.now ≤ t) where
   abbrev change : Station → Station
-  change = retuned rank t
+  change = station_after_tuning rank t
 
   abbrev ending : Option Tuning
-  ending = closed v rank t (tuned_of (station_of m v))
+  ending = ended_tuning v rank t (tuned_of (station_of m v))
 
   abbrev now_told : Station → Type 0
   now_told s = Tells (Lit (with_tuning a ending) s.node) s.tuned s.last t × IsOrder t s.tuned s.last
 
   here : (st : Station) → Contains m.stations st → st.node ≡ v → now_told (change st)
   here st there node =
-      let at : ending ≡ closed v rank t st.tuned =
-      ap (λ (o : Option Station). closed v rank t (tuned_of o)) (ap (station_of m) (sym node) ∙ found_member m.stations st is.nodes.ascending there) in
+      let at : ending ≡ ended_tuning v rank t st.tuned =
+      ap (λ (o : Option Station). ended_tuning v rank t (tuned_of o)) (ap (station_of m) (sym node) ∙ found_member m.stations st is.nodes.ascending there) in
       let old : Tells (Lit a v) st.tuned st.last m.now =
       subst (λ (n : ℕ). Tells (Lit a n) st.tuned st.last m.now) node (tells_by m a is.nodes.ascending st there m.now (h.tuned st there)) in
       let told = told_after a v m.now t later (λ c k. past_lit m a h v c k) rank st (h.orderly st there).tunings old in
@@ -63,10 +63,10 @@ module _ (m : MediumState) (is : IsMedium m) (a : Scene) (h : Holds m a) (v : �
     order_later m.now t st.tuned st.last later (h.orderly st there).tunings,
   )
 
-  told_each : (st : Station) → Contains (after t v change m).stations st → now_told st
+  told_each : (st : Station) → Contains (medium_after_change t v change m).stations st → now_told st
   told_each = each_after m is change (retuned_keeps rank t) v t now_told here elsewhere
 
-  pub holds_after_tuning : Holds (after t v change m) (after_tuning m v rank t a)
+  pub holds_after_tuning : Holds (medium_after_change t v change m) (after_tuning m v rank t a)
   holds_after_tuning = record {
     numbers = h.numbers;
     orderly = each_after m is change (retuned_keeps rank t) v t (IsOrderly m.numbers t)
@@ -84,6 +84,6 @@ module _ (m : MediumState) (is : IsMedium m) (a : Scene) (h : Holds m a) (v : �
       | inr new ↦ omega (arith, (closed_is v rank t (tuned_of (station_of m v)) k (in_option ending k new)).end)
     ];
     tuned =
-        λ st there. right_by (after t v change m) (with_tuning a ending) (ascend_after m is change (retuned_keeps rank t) v t) st there t
+        λ st there. right_by (medium_after_change t v change m) (with_tuning a ending) (ascend_after m is change (retuned_keeps rank t) v t) st there t
         (told_each st there).0;
   }

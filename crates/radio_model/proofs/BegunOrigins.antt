@@ -7,9 +7,9 @@ use Rattle.std.proofs.lemmas.Slice.Eq.{bytes_eq-Decides}
 use Rattle.std.specs.Str.{bytes_eq}
 use Rattle.lwb_base.specs.Profile.{Numbers, airtime}
 use Rattle.radio_model.specs.Hearing.{Meets}
-use Rattle.radio_model.specs.Stations.{on_air, begins_on, started, first_sending, next_sending}
+use Rattle.radio_model.specs.Stations.{on_air, begins_on, station_after_start, current_or_next, next_sending}
 use Rattle.radio_model.specs.Ages.{IsAged}
-use Rattle.radio_model.specs.Marks.{IsMark, AreMarks, IsNewest, Stands, HasSent, AreAlike, Joins, IsOrigin, next_mark, next_marks, no_mark, sends_packet}
+use Rattle.radio_model.specs.Marks.{IsMark, AreMarks, IsNewest, StandAtPlace, HasSent, AreAlike, Joins, IsOrigin, next_mark, next_marks, no_mark, sends_packet}
 use Rattle.radio_model.specs.declared.mark.Mark.{Mark}
 use Rattle.radio_model.specs.declared.mark.Origin.{Origin}
 use Rattle.radio_model.specs.declared.sending.Sending.{Sending}
@@ -90,7 +90,7 @@ module _ (now t end : ℕ) (sts : List Station) (mks : List Mark) (i : ℕ) (old
       let before = (aged.over newest.place h.newest (omega (arith, newest.last))).0 in
       omega (arith, before, ap (λ (y : Sending). y.start) newest.there, h.since, later)
 
-  same_as_x : (j : ℕ) (su : Station) (ml : Mark) (z : Sending) → Stands sts mks j su ml → IsNewest (on_air su) z → origin ≡ ml.origin → Meets x z
+  same_as_x : (j : ℕ) (su : Station) (ml : Mark) (z : Sending) → StandAtPlace sts mks j su ml → IsNewest (on_air su) z → origin ≡ ml.origin → Meets x z
       → x.packet ≡ z.packet
   same_as_x j su ml z stands newest same meets =
       let z_began = (is.own j su ml z stands newest).1 in
@@ -151,7 +151,7 @@ can_start (Some u) (Some x) r is = absurd (false≢true (sym (ap is_some is)))
 can_start None s r is = absurd (false≢true (sym (ap is_some is)))
 
 pub can't_start : (o : Option Tuned) (s : Option Sending) (p : Numbers) (t : ℕ) (packet : List ℕ) (v : ℕ) → None ≡ begins_on o s
-    → first_sending s (next_sending p t packet v o) ≡ s
+    → current_or_next s (next_sending p t packet v o) ≡ s
 can't_start (Some u) None p t packet v is = absurd (false≢true (ap is_some is))
 can't_start (Some u) (Some x) p t packet v is = refl
 can't_start None None p t packet v is = refl
@@ -165,7 +165,7 @@ begins_if (Some o) (Some x) = refl
 -- a station starts to send, or can't
 module _ (p : Numbers) (now t end : ℕ) (packet : List ℕ) (sts : List Station) (mks : List Mark) (i : ℕ) (old new : Station) (origin : Origin)
     (below : i < length sts) (at : old ≡ get_or sts i old)
-    (is_started : new ≡ started p t packet old) (end_is : end ≡ t + airtime p (length packet)) (aged : IsAged now old.ended.items) (later : now ≤ t)
+    (is_started : new ≡ station_after_start p t packet old) (end_is : end ≡ t + airtime p (length packet)) (aged : IsAged now old.ended.items) (later : now ≤ t)
     (are : AreMarks sts mks) (alike : AreAlike now sts mks) (from : IsOrigin sts mks i t packet origin) where
   abbrev raised : Option ℕ → List Mark
   raised o = next_marks o t end origin i mks no_mark
@@ -176,7 +176,7 @@ module _ (p : Numbers) (now t end : ℕ) (packet : List ℕ) (sts : List Station
   was_marked : (e : Mark) → IsMark (on_air old) (get_or mks i e)
   was_marked e = subst (λ (s : Station). IsMark (on_air s) (get_or mks i e)) (sym at) (are.each i old e below)
 
-  on_air_is : on_air new ≡ old.ended.items ++ option_to_list (first_sending old.sending (next_sending p t packet old.node old.tuned))
+  on_air_is : on_air new ≡ old.ended.items ++ option_to_list (current_or_next old.sending (next_sending p t packet old.node old.tuned))
   on_air_is = ap on_air is_started
 
   pub after_start : (o : Option ℕ) → o ≡ begins_on old.tuned old.sending → AreMarks (set sts i new) (raised o) × AreAlike t (set sts i new) (raised o)
@@ -186,8 +186,8 @@ module _ (p : Numbers) (now t end : ℕ) (packet : List ℕ) (sts : List Station
       let x : Sending = record { rank = rank; node = old.node; start = t; end = t + airtime p (length packet); packet = packet } in
       let silent : on_air old ≡ old.ended.items = ap (λ (o : Option Sending). old.ended.items ++ option_to_list o) can.2 ∙ append-nil old.ended.items in
       let sends : on_air new ≡ old.ended.items ++ x ∷ [] =
-      on_air_is ∙ ap (λ (o : Option Tuned). old.ended.items ++ option_to_list (first_sending old.sending (next_sending p t packet old.node o))) can.1
-      ∙ ap (λ (o : Option Sending). old.ended.items ++ option_to_list (first_sending o (next_sending p t packet old.node (Some u)))) can.2
+      on_air_is ∙ ap (λ (o : Option Tuned). old.ended.items ++ option_to_list (current_or_next old.sending (next_sending p t packet old.node o))) can.1
+      ∙ ap (λ (o : Option Sending). old.ended.items ++ option_to_list (current_or_next o (next_sending p t packet old.node (Some u)))) can.2
       ∙ ap (λ (n : ℕ). let z : Sending = record {
         rank = n;
         node = old.node;
@@ -212,7 +212,7 @@ module _ (p : Numbers) (now t end : ℕ) (packet : List ℕ) (sts : List Station
       )
 
 -- who sends that packet past t
-pub sender_joins : (sts : List Station) (mks : List Mark) (i t : ℕ) (packet : List ℕ) (st : Station) (mk : Mark) → Stands sts mks i st mk
+pub sender_joins : (sts : List Station) (mks : List Mark) (i t : ℕ) (packet : List ℕ) (st : Station) (mk : Mark) → StandAtPlace sts mks i st mk
     → sends_packet t packet st.sending ≡ true → Joins sts mks t packet mk.origin
 sender_joins sts mks i t packet st mk stands so = by_sending st.sending refl so
   where

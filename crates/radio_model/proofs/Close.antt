@@ -8,7 +8,7 @@ use Rattle.link_trace.specs.Passes.{Lines}
 use Rattle.radio_model.specs.Hearing.{Meets}
 use Rattle.radio_model.specs.Stations.{on_air, overlaps}
 use Rattle.radio_model.specs.Marks.{IsMark, IsAlike, IsNewest, is_same, comes_close}
-use Rattle.radio_model.specs.Meetings.{key_of, IsFrameStart, comes_in_time, passes_at, reaches, differs, spoils, rival_to, rivals_in}
+use Rattle.radio_model.specs.Meetings.{key_of, IsInOneFrame, comes_in_time, passes_at, reaches, differs, spoils, rival_to, rivals_in}
 use Rattle.radio_model.specs.declared.mark.Mark.{Mark}
 use Rattle.radio_model.specs.declared.mark.Origin.{Origin}
 use Rattle.radio_model.specs.declared.rivals.Key.{Key}
@@ -20,7 +20,7 @@ use Rattle.lwb_base.proofs.Elements.{some_of, filter_from}
 use Rattle.radio_model.proofs.RivalFacts.{rival, of_test, meets_true, same_from}
 
 module _ (p : Numbers) (x : Sending) (st : Station) (mk : Mark) (origin : Origin) (opens delta : ℕ) (is : IsMark (on_air st) mk) (alike : IsAlike
-    (on_air st) st.node mk origin x) (starts : IsFrameStart p.frame x.start opens) (by : delta ≡ p.delta)
+    (on_air st) st.node mk origin x) (starts : IsInOneFrame p.frame x.start opens) (by : delta ≡ p.delta)
     (so : comes_close opens (x.start + delta) x origin mk ≡ true) where
   record Told : Type 0 where
     before : mk.before ≤ x.start

@@ -9,8 +9,8 @@ use Rattle.link_trace.specs.Masks.{IsMask}
 use Rattle.link_trace.specs.Passes.{Lines}
 use Rattle.link_trace.proofs.MaskBits.{empty_mask, joined, same_tests}
 use Rattle.radio_model.specs.Stations.{on_air, overlaps}
-use Rattle.radio_model.specs.Meetings.{rival_to, rivals_in, passes_at, reaches, comes_from, spoils, differs, repeats, IsPlaced}
-use Rattle.radio_model.specs.Meetings.{IsBrought, nothing, both_brought, brought_by, IsCrowd, no_crowd}
+use Rattle.radio_model.specs.Meetings.{rival_to, rivals_in, passes_at, reaches, comes_from, spoils, differs, repeats, IsPlaceOf}
+use Rattle.radio_model.specs.Meetings.{IsBrought, nothing_brought, both_brought, brought_by, IsCrowd, no_crowd}
 use Rattle.radio_model.specs.declared.sending.Sending.{Sending}
 use Rattle.radio_model.specs.declared.station.Station.{Station}
 use Rattle.radio_model.specs.declared.brought.Brought.{Brought}
@@ -38,7 +38,7 @@ of_sender true s r is = let same : s ≡ r = cc in ap (λ (w : Rival). w.node) (
 of_sender false s r is = cc
 
 module _ (lines : Lines) (nodes : List ℕ) where
-  pub nothing_comes : IsBrought lines nodes [] nothing
+  pub nothing_comes : IsBrought lines nodes [] nothing_brought
   nothing_comes = record { mixed = empty_mask nodes; spoiled = empty_mask nodes; same = empty_mask nodes }
 
   pub nobody_comes : IsCrowd lines nodes [] no_crowd
@@ -81,7 +81,7 @@ module _ (lines : Lines) (nodes : List ℕ) where
   }
 
   -- a rival of this station, by the reach of its node
-  pub rival_comes : (p : Numbers) (x y : Sending) (st : Station) (r : Rival) (reach : ℕ) → IsPlaced nodes st.place st.node → Some r ≡ rival_to p x st y
+  pub rival_comes : (p : Numbers) (x y : Sending) (st : Station) (r : Rival) (reach : ℕ) → IsPlaceOf nodes st.place st.node → Some r ≡ rival_to p x st y
       → IsMask (λ v. passes_at lines r.key (get_or nodes st.place 0) v) nodes reach
       → IsBrought lines nodes (option_to_list (rival_to p x st y)) (brought_by r reach)
   rival_comes p x y st r reach placed is reach_is =

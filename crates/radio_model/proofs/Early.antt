@@ -12,7 +12,7 @@ use Rattle.link_trace.proofs.MaskBits.{empty_mask, same_tests}
 use Rattle.radio_model.specs.Hearing.{Meets}
 use Rattle.radio_model.specs.Stations.{on_air, overlaps}
 use Rattle.radio_model.specs.Marks.{IsMark, IsAlike, IsNewest, is_same, is_aside, comes_early}
-use Rattle.radio_model.specs.Meetings.{IsFrameStart, key_of, comes_in_time, reaches, differs, spoils, passes_at, rival_to, rivals_in, IsCrowd}
+use Rattle.radio_model.specs.Meetings.{IsInOneFrame, key_of, comes_in_time, reaches, differs, spoils, passes_at, rival_to, rivals_in, IsCrowd}
 use Rattle.radio_model.specs.declared.mark.Mark.{Mark}
 use Rattle.radio_model.specs.declared.mark.Origin.{Origin}
 use Rattle.radio_model.specs.declared.rivals.Key.{Key}
@@ -25,7 +25,7 @@ use Rattle.lwb_base.proofs.Truths.{same_truth}
 use Rattle.radio_model.proofs.RivalFacts.{rival, of_test, meets_true, meets_from, same_from, before_true}
 
 module _ (p : Numbers) (x : Sending) (st : Station) (mk : Mark) (origin : Origin) (opens : ℕ) (is : IsMark (on_air st) mk) (alike : IsAlike
-    (on_air st) st.node mk origin x) (starts : IsFrameStart p.frame x.start opens)
+    (on_air st) st.node mk origin x) (starts : IsInOneFrame p.frame x.start opens)
     (apart : is_aside x.start x.end mk ≡ false) (so : comes_early opens x origin st.node mk ≡ true) where
   record Told : Type 0 where
     before : mk.before ≤ x.start

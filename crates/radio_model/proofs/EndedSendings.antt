@@ -10,7 +10,7 @@ use Rattle.std.proofs.lemmas.Option.{slice_get-get_or, get_or_from_slice_get, sl
 use Rattle.std.specs.List.{cons_option, list_any, slice_get}
 use Rattle.circular_buffer.specs.Buffer.{Buffer}
 use Rattle.lwb_base.specs.Profile.{Numbers}
-use Rattle.radio_model.specs.Stations.{overlaps, retuned, tuned_in, tuned_out, is_tuned_to, finished, fresh, stations_from}
+use Rattle.radio_model.specs.Stations.{overlaps, station_after_tuning, tuned_in, tuned_out, is_tuned_to, station_after_end, fresh, stations_from}
 use Rattle.radio_model.specs.Ages.{IsAged, ByEnd}
 use Rattle.radio_model.specs.Meetings.{rival_to}
 use Rattle.radio_model.specs.declared.sending.Sending.{Sending}
@@ -119,7 +119,7 @@ aged_same now t i sts old new later all below at same =
     (subst (λ (b : Buffer Sending). IsAged t b.items) (ap (λ (st : Station). st.ended) (sym at) ∙ sym same)
     (aged_later now t (get_or sts i old).ended.items later (all i old below)))
 
-pub retuned_ended : (rank : Option ℕ) (t : ℕ) (st : Station) → (retuned rank t st).ended ≡ st.ended
+pub retuned_ended : (rank : Option ℕ) (t : ℕ) (st : Station) → (station_after_tuning rank t st).ended ≡ st.ended
 retuned_ended None t st = refl
 retuned_ended (Some r) t st =
     cond_both (is_tuned_to st.tuned r) st (tuned_in r t (tuned_out t st)) (λ (s : Station). s.ended ≡ st.ended) (λ _. refl) (λ _. refl)
@@ -161,7 +161,7 @@ dropped t n ys is = record {
 
 -- the sending of a station ends at t
 pub aged_finished : (t : ℕ) (st : Station) (x : Sending) → IsAged t st.ended.items → st.sending ≡ Some x → x.start < t → x.end ≡ t
-    → IsAged t (finished st).ended.items
+    → IsAged t (station_after_end st).ended.items
 aged_finished t st x is runs began ends =
-    subst (λ (o : Option Sending). IsAged t (finished (record st { sending = o })).ended.items) (sym runs)
+    subst (λ (o : Option Sending). IsAged t (station_after_end (record st { sending = o })).ended.items) (sym runs)
     (dropped t (length (st.ended.items ++ x ∷ []) - st.ended.capacity) (st.ended.items ++ x ∷ []) (pushed t st.ended.items x is began ends))

@@ -10,8 +10,8 @@ use Rattle.lwb_base.specs.Profile.{Numbers}
 use Rattle.link_trace.specs.Masks.{IsMask}
 use Rattle.link_trace.specs.Passes.{Lines, passes}
 use Rattle.radio_model.specs.Marks.{AreMarks, AreAlikeTo, comes_close, no_mark}
-use Rattle.radio_model.specs.Meetings.{rivals_in, rivals_to, differs, spoils, passes_at, key_of, IsCrowd, IsFrameStart, IsPlaced, both_crowds}
-use Rattle.radio_model.specs.Meetings.{IsFrom, AddsTo, Tells, TellsAt, IsNear, AreThose}
+use Rattle.radio_model.specs.Meetings.{rivals_in, rivals_to, differs, spoils, passes_at, key_of, IsCrowd, IsInOneFrame, IsPlaceOf, both_crowds}
+use Rattle.radio_model.specs.Meetings.{IsFrom, AddsTo, HasBitsOf, TellsAt, IsNear, AreThose}
 use Rattle.radio_model.specs.Recent.{AreAmong}
 use Rattle.radio_model.specs.declared.crowd.Crowd.{Crowd}
 use Rattle.radio_model.specs.declared.mark.Mark.{Mark}
@@ -90,8 +90,8 @@ module _ (lines : Lines) (nodes : List ℕ) (p : Numbers) (x : Sending) (sts : L
       (ap (λ (s : Station). list_any test (rivals_in p x s)) (sym st.1.2) ∙ none st.1.0 st.0 st.1.1) (any_of test (rivals_in p x st.0) r.0 st.2 r.2))
 
   -- all stations, one by one
-  pub tells_all : (i : ℕ) (c : Crowd) → ((k : ℕ) (d : Station) → k < length sts → Tells lines nodes (rivals_in p x (get_or sts k d)) i c)
-      → Tells lines nodes all i c
+  pub tells_all : (i : ℕ) (c : Crowd) → ((k : ℕ) (d : Station) → k < length sts → HasBitsOf lines nodes (rivals_in p x (get_or sts k d)) i c)
+      → HasBitsOf lines nodes all i c
   tells_all i c each = record {
     mixed = λ none. none_in (differs lines (get_or nodes i 0)) (λ k d below. (each k d below).mixed none);
     spoiled = λ none. none_in (spoils lines (get_or nodes i 0)) (λ k d below. (each k d below).spoiled none);
@@ -124,9 +124,9 @@ module _ (lines : Lines) (nodes : List ℕ) (p : Numbers) (x : Sending) (sts : L
       spoiled = λ i none. was.spoiled i (neither_bit a.spoiled b.spoiled i none).0;
     }
 
-    tells_one : (i : ℕ) (d : Station) → i < length nodes → Tells lines nodes (rivals_in p x (get_or sts k d)) i (both_crowds a b)
+    tells_one : (i : ℕ) (d : Station) → i < length nodes → HasBitsOf lines nodes (rivals_in p x (get_or sts k d)) i (both_crowds a b)
     tells_one i d inside =
-        subst (λ (s : Station). Tells lines nodes (rivals_in p x s) i (both_crowds a b)) (at ∙ get_or_default sts k st d below) (record {
+        subst (λ (s : Station). HasBitsOf lines nodes (rivals_in p x s) i (both_crowds a b)) (at ∙ get_or_default sts k st d below) (record {
           mixed = λ none. if_unset nodes (λ v. list_any (differs lines v) (rivals_in p x st)) b.mixed is.mixed i inside (neither_bit a.mixed b.mixed i none).1;
           spoiled = λ none. if_unset nodes (λ v. list_any (spoils lines v) (rivals_in p x st)) b.spoiled is.spoiled i inside
               (neither_bit a.spoiled b.spoiled i none).1;
@@ -136,7 +136,7 @@ module _ (lines : Lines) (nodes : List ℕ) (p : Numbers) (x : Sending) (sts : L
         → TellsAt lines nodes p x sts (λ j. (bit_at places j ≡ 1) × (bit_at rest j ≡ 0)) a
         → TellsAt lines nodes p x sts (λ j. (bit_at places j ≡ 1) × (bit_at new j ≡ 0)) (both_crowds a b)
     tells_more places rest new others was j i d inside done = elim (cases_eq j k) [
-      | inl here ↦ subst (λ (n : ℕ). Tells lines nodes (rivals_in p x (get_or sts n d)) i (both_crowds a b)) (sym here) (tells_one i d inside)
+      | inl here ↦ subst (λ (n : ℕ). HasBitsOf lines nodes (rivals_in p x (get_or sts n d)) i (both_crowds a b)) (sym here) (tells_one i d inside)
       | inr other ↦
           let old = was j i d inside (done.0, sym (others j other) ∙ done.1) in
           record {
@@ -161,8 +161,8 @@ near_more lines key nodes ready rest new place near mask was others is i k to in
     ]
 
 -- what is told stays so
-pub tells_more_of : (lines : Lines) (nodes : List ℕ) (rs : List Rival) (i : ℕ) (old new : Crowd) → AddsTo old new → Tells lines nodes rs i old
-    → Tells lines nodes rs i new
+pub tells_more_of : (lines : Lines) (nodes : List ℕ) (rs : List Rival) (i : ℕ) (old new : Crowd) → AddsTo old new → HasBitsOf lines nodes rs i old
+    → HasBitsOf lines nodes rs i new
 tells_more_of lines nodes rs i old new adds was = record {
   mixed = λ none. was.mixed (adds.mixed i none);
   spoiled = λ none. was.spoiled (adds.spoiled i none);
@@ -170,20 +170,20 @@ tells_more_of lines nodes rs i old new adds was = record {
 
 -- the stations from which no link passes to a node tell nothing, where their marks show that they come close
 module _ (lines : Lines) (nodes : List ℕ) (p : Numbers) (x : Sending) (sts : List Station) (mks : List Mark) (origin : Origin) (opens delta places near far
-    strange : ℕ) (i : ℕ) (inside : i < length nodes) (few : length sts ≤ 64) (starts : IsFrameStart p.frame x.start opens) (by : delta ≡ p.delta)
-    (placed : All (λ (st : Station). IsPlaced nodes st.place st.node) sts) (in_order : InOrder sts) (marks : AreMarks sts mks)
+    strange : ℕ) (i : ℕ) (inside : i < length nodes) (few : length sts ≤ 64) (starts : IsInOneFrame p.frame x.start opens) (by : delta ≡ p.delta)
+    (placed : All (λ (st : Station). IsPlaceOf nodes st.place st.node) sts) (in_order : InOrder sts) (marks : AreMarks sts mks)
     (alike : AreAlikeTo sts mks origin x) (among : AreAmong p x sts places)
     (no_link : (k : ℕ) → k < length nodes → bit_at near k ≡ 0 → passes_at lines (key_of p x) (get_or nodes k 0) (get_or nodes i 0) ≡ false)
     (is_far : (k : ℕ) → k < 64 → bit_at far k ≡ min (bit_at places k) (1 - bit_at near k))
     (those : (d : Mark) → AreThose (λ k. not (comes_close opens (x.start + delta) x origin (get_or mks k d))) far strange) (c : Crowd) where
-  no_rivals : (rs : List Rival) → rs ≡ [] → Tells lines nodes rs i c
+  no_rivals : (rs : List Rival) → rs ≡ [] → HasBitsOf lines nodes rs i c
   no_rivals rs is = record {
     mixed = λ none. ap (list_any (differs lines (get_or nodes i 0))) is;
     spoiled = λ none. ap (list_any (spoils lines (get_or nodes i 0))) is;
   }
 
   far_tells : (k : ℕ) (d : Station) → k < length sts → bit_at near k ≡ 0 → bit_at far k ≡ 1 → bit_at strange k ≡ 0
-      → Tells lines nodes (rivals_in p x (get_or sts k d)) i c
+      → HasBitsOf lines nodes (rivals_in p x (get_or sts k d)) i c
   far_tells k d below not_near far_one none =
       let st = get_or sts k d in
       let mk = get_or mks k no_mark in
@@ -208,12 +208,12 @@ module _ (lines : Lines) (nodes : List ℕ) (p : Numbers) (x : Sending) (sts : L
       not_false true is = refl
       not_false false is = sym is
 
-  pub near_and_far : ((k : ℕ) (d : Station) → bit_at places k ≡ 1 → bit_at near k ≡ 1 → Tells lines nodes (rivals_in p x (get_or sts k d)) i c)
-      → ((k : ℕ) (d : Station) → bit_at strange k ≡ 1 → Tells lines nodes (rivals_in p x (get_or sts k d)) i c)
-      → Tells lines nodes (rivals_to p x sts) i c
+  pub near_and_far : ((k : ℕ) (d : Station) → bit_at places k ≡ 1 → bit_at near k ≡ 1 → HasBitsOf lines nodes (rivals_in p x (get_or sts k d)) i c)
+      → ((k : ℕ) (d : Station) → bit_at strange k ≡ 1 → HasBitsOf lines nodes (rivals_in p x (get_or sts k d)) i c)
+      → HasBitsOf lines nodes (rivals_to p x sts) i c
   near_and_far near_tells strange_tells = tells_all lines nodes p x sts i c each
     where
-      each : (k : ℕ) (d : Station) → k < length sts → Tells lines nodes (rivals_in p x (get_or sts k d)) i c
+      each : (k : ℕ) (d : Station) → k < length sts → HasBitsOf lines nodes (rivals_in p x (get_or sts k d)) i c
       each k d below = elim (bit_cases (bit_at places k) (bit_at-lt places k)) [
         | inl none ↦ no_rivals (rivals_in p x (get_or sts k d)) (among.others k d below none)
         | inr one ↦ elim (bit_cases (bit_at near k) (bit_at-lt near k)) [

@@ -8,9 +8,9 @@ use Rattle.std.specs.List.{list_any}
 use Rattle.lwb_base.specs.Profile.{Numbers, IsProfile}
 use Rattle.link_trace.specs.Passes.{Lines, passes, captured}
 use Rattle.radio_model.specs.OnAir.{Sending}
-use Rattle.radio_model.specs.Hearing.{Scene, Hears, Rival as RivalIn, Arrives, Meets, Before, slot_of, counter_of}
-use Rattle.radio_model.specs.Stations.{MediumState, IsMedium, node_of, nodes_of, on_air, overlaps, covers}
-use Rattle.radio_model.specs.Meetings.{key_of, rivals_to, reaches, spoils, differs, comes_from, is_chosen, is_heard, heard_by, hearers_to, passes_at}
+use Rattle.radio_model.specs.Hearing.{Scene, HearsInScene, Rival as RivalIn, Arrives, Meets, Before, slot_of_sending, counter_of_sending}
+use Rattle.radio_model.specs.Stations.{MediumState, IsMedium, id_of_station, nodes_of, on_air, overlaps, covers}
+use Rattle.radio_model.specs.Meetings.{key_of, rivals_to, reaches, spoils, differs, comes_from, is_chosen, is_heard, reception_pair, hearers_to, passes_at}
 use Rattle.radio_model.specs.Holding.{Holds, IsKept, IsOwn, as_it_stands, longest}
 use Rattle.radio_model.specs.declared.rivals.Key.{Key}
 use Rattle.radio_model.specs.declared.rivals.Rival.{Rival}
@@ -72,14 +72,14 @@ module _ (m : MediumState) (is : IsMedium m) (a : Scene) (h : Holds m a) (u : �
   -- the same key by the numbers of the scene
   reach_on : (s : Station) (y : Sending) (v : ℕ) → Contains m.stations s → Contains (on_air s) y → Arrives scene v y → reaches a.lines v (rival p x s y) ≡ true
   reach_on s y v there kept arrives =
-      ap (λ (n : ℕ). passes a.lines (y.start / p.frame) (slot_of y) (counter_of y) n v) (sym ((h.orderly s there).own y kept).node)
-      ∙ ap (λ (q : Numbers). passes a.lines (y.start / q.frame) (slot_of y) (counter_of y) y.node v) (sym h.numbers) ∙ arrives
+      ap (λ (n : ℕ). passes a.lines (y.start / p.frame) (slot_of_sending y) (counter_of_sending y) n v) (sym ((h.orderly s there).own y kept).node)
+      ∙ ap (λ (q : Numbers). passes a.lines (y.start / q.frame) (slot_of_sending y) (counter_of_sending y) y.node v) (sym h.numbers) ∙ arrives
 
   reach_back : (s : Station) (y : Sending) (v : ℕ) → Contains m.stations s → Contains (on_air s) y → reaches a.lines v (rival p x s y) ≡ true
       → Arrives scene v y
   reach_back s y v there kept reaches_it =
-      ap (λ (q : Numbers). passes a.lines (y.start / q.frame) (slot_of y) (counter_of y) y.node v) h.numbers
-      ∙ ap (λ (n : ℕ). passes a.lines (y.start / p.frame) (slot_of y) (counter_of y) n v) ((h.orderly s there).own y kept).node ∙ reaches_it
+      ap (λ (q : Numbers). passes a.lines (y.start / q.frame) (slot_of_sending y) (counter_of_sending y) y.node v) h.numbers
+      ∙ ap (λ (n : ℕ). passes a.lines (y.start / p.frame) (slot_of_sending y) (counter_of_sending y) n v) ((h.orderly s there).own y kept).node ∙ reaches_it
 
   -- what meets x is kept
   kept_meeting : (y : Sending) → Contains a.sendings y → Meets x y → IsKept m y
@@ -189,7 +189,7 @@ module _ (m : MediumState) (is : IsMedium m) (a : Scene) (h : Holds m a) (u : �
               (not_from_false w.in_time late)))
         ]
 
-    heard_hears : heard ≡ true → Hears scene v x
+    heard_hears : heard ≡ true → HearsInScene scene v x
     heard_hears so =
         let q = parts so in
         record {
@@ -226,13 +226,13 @@ module _ (m : MediumState) (is : IsMedium m) (a : Scene) (h : Holds m a) (u : �
                   rival = rival_back v s.0 c two.0;
                   same = same_true c.sending x (ap (λ (r : Rival). r.same) c.is ∙ two.1);
                   named =
-                      ap (λ (n : Numbers). captured a.lines (x.start / n.frame) (slot_of x) (counter_of x) v) h.numbers ∙ o.1
+                      ap (λ (n : Numbers). captured a.lines (x.start / n.frame) (slot_of_sending x) (counter_of_sending x) v) h.numbers ∙ o.1
                       ∙ ap (λ (n : ℕ). Some n) (sym sender);
                 })
           ];
         }
 
-    hears_heard : Hears scene v x → heard ≡ true
+    hears_heard : HearsInScene scene v x → heard ≡ true
     hears_heard hears = whole (record {
       tuned = (h.tuned st there x.rank x.start x.end later early).0 hears.tuned;
       quiet = false_from_ne_true (list_any (overlaps x) (on_air st)) (λ some.
@@ -261,7 +261,7 @@ module _ (m : MediumState) (is : IsMedium m) (a : Scene) (h : Holds m a) (u : �
             let w = rival p x f.station won.winner in
             let sender : w.node ≡ won.winner.node = sym ((h.orderly f.station f.there).own won.winner f.kept).node in
             inr (chosen_from a.lines v rs (captured a.lines key.frame key.slot key.counter v) won.winner.node
-            (ap (λ (n : Numbers). captured a.lines (x.start / n.frame) (slot_of x) (counter_of x) v) (sym h.numbers) ∙ won.named)
+            (ap (λ (n : Numbers). captured a.lines (x.start / n.frame) (slot_of_sending x) (counter_of_sending x) v) (sym h.numbers) ∙ won.named)
             (any_of (comes_from a.lines v won.winner.node) rs w f.in_it
             (and_from (reaches a.lines v w && w.same) (w.node == won.winner.node)
             (and_from (reaches a.lines v w) w.same f.reaches_it (same_from won.winner x won.same)) (eq-eqb w.node won.winner.node sender))))
@@ -272,17 +272,18 @@ module _ (m : MediumState) (is : IsMedium m) (a : Scene) (h : Holds m a) (u : �
   of_heard true n q is = (refl, cc)
   of_heard false n q is = cc
 
-  pub hearers_are : (w : ℕ) → Contains (hearers_to p a.lines u x m.stations) (w, u) ↔ (Contains (nodes_of m) w × Hears scene w x)
+  pub hearers_are : (w : ℕ) → Contains (hearers_to p a.lines u x m.stations) (w, u) ↔ (Contains (nodes_of m) w × HearsInScene scene w x)
   hearers_are w = (
     λ there.
-        let s = filter_from (heard_by a.lines u x key rs) m.stations (w, u) there in
+        let s = filter_from (reception_pair a.lines u x key rs) m.stations (w, u) there in
         let both = of_heard (is_heard a.lines u x key rs s.0) s.0.node (w, u) s.2 in
         let node : s.0.node ≡ w = sym (ap (λ (q : ℕ × ℕ). q.0) both.1) in
-        (subst (Contains (nodes_of m)) node (map_contains node_of m.stations s.0 s.1), subst (λ (n : ℕ). Hears scene n x) node (heard_hears s.0 s.1 both.0)),
+        (subst (Contains (nodes_of m)) node (map_contains id_of_station m.stations s.0 s.1),
+            subst (λ (n : ℕ). HearsInScene scene n x) node (heard_hears s.0 s.1 both.0)),
     λ is_one.
-        let s = map_from node_of m.stations w is_one.0 in
-        let so : is_heard a.lines u x key rs s.0 ≡ true = hears_heard s.0 s.1 (subst (λ (n : ℕ). Hears scene n x) (sym s.2) is_one.1) in
-        in_filter (heard_by a.lines u x key rs) m.stations s.0 (w, u) s.1
+        let s = map_from id_of_station m.stations w is_one.0 in
+        let so : is_heard a.lines u x key rs s.0 ≡ true = hears_heard s.0 s.1 (subst (λ (n : ℕ). HearsInScene scene n x) (sym s.2) is_one.1) in
+        in_filter (reception_pair a.lines u x key rs) m.stations s.0 (w, u) s.1
         (ap (λ (b : Bool). let some : Option (ℕ × ℕ) = if b then Some (s.0.node, u) else None in some) so
         ∙ ap (λ (n : ℕ). let some : Option (ℕ × ℕ) = Some (n, u) in some) s.2),
   )

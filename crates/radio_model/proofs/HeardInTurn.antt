@@ -8,7 +8,7 @@ use Rattle.std.specs.Int.{bit_at}
 use Rattle.std.specs.List.{cons_option}
 use Rattle.link_trace.specs.Masks.{IsMask}
 use Rattle.link_trace.specs.Passes.{Lines}
-use Rattle.radio_model.specs.Meetings.{heard_by, is_heard}
+use Rattle.radio_model.specs.Meetings.{reception_pair, is_heard}
 use Rattle.radio_model.specs.OnAir.{Sending}
 use Rattle.radio_model.specs.declared.rivals.Key.{Key}
 use Rattle.radio_model.specs.declared.rivals.Rival.{Rival}
@@ -47,16 +47,16 @@ left_bits a b left k bits above one = elim (cases_lt k 64) [
 module _ (lines : Lines) (u : ℕ) (x : Sending) (key : Key) (rs : List Rival) where
   -- who hears at a place that is left
   abbrev pub heard_at : ℕ → Station → Option (ℕ × ℕ)
-  heard_at rest st = if bit_at rest st.place == 1 then heard_by lines u x key rs st else None
+  heard_at rest st = if bit_at rest st.place == 1 then reception_pair lines u x key rs st else None
 
-  at_left : (rest : ℕ) (st : Station) (k : ℕ) → st.place ≡ k → bit_at rest k ≡ 1 → heard_at rest st ≡ heard_by lines u x key rs st
-  at_left rest st k place is = ap (λ (b : ℕ). if b == 1 then heard_by lines u x key rs st else None) (ap (bit_at rest) place ∙ is)
+  at_left : (rest : ℕ) (st : Station) (k : ℕ) → st.place ≡ k → bit_at rest k ≡ 1 → heard_at rest st ≡ reception_pair lines u x key rs st
+  at_left rest st k place is = ap (λ (b : ℕ). if b == 1 then reception_pair lines u x key rs st else None) (ap (bit_at rest) place ∙ is)
 
   at_done : (rest : ℕ) (st : Station) (k : ℕ) → st.place ≡ k → bit_at rest k ≡ 0 → heard_at rest st ≡ None
-  at_done rest st k place is = ap (λ (b : ℕ). if b == 1 then heard_by lines u x key rs st else None) (ap (bit_at rest) place ∙ is)
+  at_done rest st k place is = ap (λ (b : ℕ). if b == 1 then reception_pair lines u x key rs st else None) (ap (bit_at rest) place ∙ is)
 
   at_same : (rest new : ℕ) (st : Station) (k : ℕ) → st.place ≡ k → bit_at new k ≡ bit_at rest k → heard_at rest st ≡ heard_at new st
-  at_same rest new st k place is = ap (λ (b : ℕ). if b == 1 then heard_by lines u x key rs st else None) (ap (bit_at rest) place ∙ sym is
+  at_same rest new st k place is = ap (λ (b : ℕ). if b == 1 then reception_pair lines u x key rs st else None) (ap (bit_at rest) place ∙ sym is
       ∙ ap (bit_at new) (sym place))
 
   none_heard : (sts : List Station) (d : Station) (n : ℕ) → ((i : ℕ) → i < length sts → heard_at 0 (get_or sts i d) ≡ None) → filter_map (heard_at 0) sts ≡ []
@@ -74,9 +74,9 @@ module _ (lines : Lines) (u : ℕ) (x : Sending) (key : Key) (rs : List Rival) w
   -- all that hear are left
   pub heard_of_left : (sts : List Station) (d : Station) (left : ℕ) → InOrder sts
       → ((k : ℕ) → k < length sts → bit_at left k ≡ 0 → is_heard lines u x key rs (get_or sts k d) ≡ false)
-      → filter_map (heard_at left) sts ≡ filter_map (heard_by lines u x key rs) sts
+      → filter_map (heard_at left) sts ≡ filter_map (reception_pair lines u x key rs) sts
   heard_of_left sts d left in_order none_else =
-      same_filter (heard_at left) (heard_by lines u x key rs) sts d (λ i below.
+      same_filter (heard_at left) (reception_pair lines u x key rs) sts d (λ i below.
       let st = get_or sts i d in
       elim (bit_cases (bit_at left i) (bit_at-lt left i)) [
         | inl none ↦ at_done left st i (in_order i d below) none ∙ sym (cond-false (is_heard lines u x key rs st) _ None (none_else i below none))
@@ -87,7 +87,7 @@ module _ (lines : Lines) (u : ℕ) (x : Sending) (key : Key) (rs : List Rival) w
   pub heard_next : (sts : List Station) → InOrder sts → (rest new k : ℕ) (st : Station) → k < length sts → st ≡ get_or sts k st → bit_at rest k ≡ 1
       → ((i : ℕ) → i < k → bit_at rest i ≡ 0) → bit_at new k ≡ 0
       → ((i : ℕ) → i ≢ k → bit_at new i ≡ bit_at rest i) → filter_map (heard_at rest) sts
-      ≡ option_to_list (heard_by lines u x key rs st) ++ filter_map (heard_at new) sts
+      ≡ option_to_list (reception_pair lines u x key rs st) ++ filter_map (heard_at new) sts
   heard_next sts in_order rest new k st below at was first now others =
       next_one (heard_at rest) (heard_at new) sts k st below
       (λ i less. at_done rest (get_or sts i st) i (in_order i st (omega arith)) (first i less))
@@ -95,7 +95,7 @@ module _ (lines : Lines) (u : ℕ) (x : Sending) (key : Key) (rs : List Rival) w
       (at_done new (get_or sts k st) k (in_order k st below) now)
       (λ i more inside. at_same rest new (get_or sts i st) i (in_order i st inside) (others i (λ is. omega (arith, is))))
       ∙ ap (λ (o : Option (ℕ × ℕ)). option_to_list o ++ filter_map (heard_at new) sts)
-      (at_left rest (get_or sts k st) k (in_order k st below) was ∙ ap (heard_by lines u x key rs) (sym at))
+      (at_left rest (get_or sts k st) k (in_order k st below) was ∙ ap (reception_pair lines u x key rs) (sym at))
 
 -- one more has been looked at
 module _ {Y : Type 0} where
@@ -123,7 +123,7 @@ module _ (lines : Lines) (u : ℕ) (x : Sending) (key : Key) (rs : List Rival) (
     (below : k < length sts) (at : st ≡ get_or sts k st) (was : bit_at rest k ≡ 1)
     (first : (i : ℕ) → i < k → bit_at rest i ≡ 0) (now : bit_at new k ≡ 0) (others : (i : ℕ) → i ≢ k → bit_at new i ≡ bit_at rest i) (b : Bool) (is : b
     ≡ is_heard lines u x key rs st) (hearers : List (ℕ × ℕ))
-    (so : hearers ++ filter_map (heard_at lines u x key rs rest) sts ≡ filter_map (heard_by lines u x key rs) sts) where
+    (so : hearers ++ filter_map (heard_at lines u x key rs rest) sts ≡ filter_map (reception_pair lines u x key rs) sts) where
   next_is : filter_map (heard_at lines u x key rs rest) sts ≡ option_to_list (if b then Some (st.node, u) else None) ++ filter_map
       (heard_at lines u x key rs new) sts
   next_is =
@@ -131,13 +131,13 @@ module _ (lines : Lines) (u : ℕ) (x : Sending) (key : Key) (rs : List Rival) (
       ∙ ap (λ (c : Bool). option_to_list (if c then Some (st.node, u) else None) ++ filter_map (heard_at lines u x key rs new) sts) (sym is)
 
   pub looked_at : (more : List (ℕ × ℕ)) → more ≡ (if b then hearers ++ (st.node, u) ∷ [] else hearers)
-      → more ++ filter_map (heard_at lines u x key rs new) sts ≡ filter_map (heard_by lines u x key rs) sts
+      → more ++ filter_map (heard_at lines u x key rs new) sts ≡ filter_map (reception_pair lines u x key rs) sts
   looked_at more adds =
       pushed b (st.node, u) more hearers (filter_map (heard_at lines u x key rs new) sts) (filter_map (heard_at lines u x key rs rest) sts) (filter_map
-      (heard_by lines u x key rs) sts) adds next_is so
+      (reception_pair lines u x key rs) sts) adds next_is so
 
   pub room_for_it : b ≡ true → length sts ≤ 64 → length hearers < 64
   room_for_it true_is few =
       room_left b (st.node, u) hearers (filter_map (heard_at lines u x key rs new) sts) (filter_map (heard_at lines u x key rs rest) sts) (filter_map
-      (heard_by lines u x key rs) sts) (length sts) true_is next_is so
-      (few_kept (heard_by lines u x key rs) sts) few
+      (reception_pair lines u x key rs) sts) (length sts) true_is next_is so
+      (few_kept (reception_pair lines u x key rs) sts) few

@@ -3,7 +3,7 @@ use Rattle.std.proofs.Common.{◌≡◌, ℕ, ◌<◌, List, [], ◌∷◌, map,
 use Rattle.std.proofs.Common.{Some, None, filter_map, sym, ap, subst, arith, All, AllPairs}
 use Rattle.std.proofs.lemmas.List.Elements.{Contains-get_or}
 use Rattle.std.specs.List.{cons_option}
-use Rattle.radio_model.specs.Stations.{node_of}
+use Rattle.radio_model.specs.Stations.{id_of_station}
 use Rattle.radio_model.specs.declared.station.Station.{Station}
 use Rattle.lwb_base.proofs.Elements.{map_contains, filter_from, pairs_cons, pairs_tail, pairs_head}
 
@@ -21,10 +21,10 @@ module _ (test : Station → Bool) (u : ℕ) where
       let s = filter_from pair sts q (Contains-get_or (filter_map pair sts) k d below) in
       ap (λ (z : ℕ × ℕ). z.1) (of_pair (test s.0) s.0.node q s.2)
 
-  pub by_hearer : (sts : List Station) → AllPairs (λ a b. a < b) (map node_of sts) → AllPairs (λ (q r : ℕ × ℕ). q.0 < r.0) (filter_map pair sts)
+  pub by_hearer : (sts : List Station) → AllPairs (λ a b. a < b) (map id_of_station sts) → AllPairs (λ (q r : ℕ × ℕ). q.0 < r.0) (filter_map pair sts)
   by_hearer [] ascend = λ i j d less below. absurd (omega arith)
   by_hearer (st ∷ sts) ascend =
-      next (test st) (by_hearer sts (pairs_tail (λ a b. a < b) st.node (map node_of sts) ascend))
+      next (test st) (by_hearer sts (pairs_tail (λ a b. a < b) st.node (map id_of_station sts) ascend))
     where
       next : (b : Bool) → AllPairs (λ (q r : ℕ × ℕ). q.0 < r.0) (filter_map pair sts)
           → AllPairs (λ (q r : ℕ × ℕ). q.0 < r.0) (cons_option {X = ℕ × ℕ} (if b then Some (st.node, u) else None) (filter_map pair sts))
@@ -33,4 +33,4 @@ module _ (test : Station → Bool) (u : ℕ) where
           let s = filter_from pair sts q there in
           let is = of_pair (test s.0) s.0.node q s.2 in
           subst (λ (n : ℕ). st.node < n) (sym (ap (λ (z : ℕ × ℕ). z.0) is))
-          (pairs_head (λ a b. a < b) st.node (map node_of sts) ascend s.0.node (map_contains node_of sts s.0 s.1))) rest
+          (pairs_head (λ a b. a < b) st.node (map id_of_station sts) ascend s.0.node (map_contains id_of_station sts s.0 s.1))) rest

@@ -8,7 +8,8 @@ use Rattle.std.proofs.lemmas.List.Folds.{list_any_none}
 use Rattle.std.proofs.Math.Seq.{get_or-append_seam}
 use Rattle.std.specs.List.{list_any}
 use Rattle.lwb_base.specs.Profile.{Numbers}
-use Rattle.radio_model.specs.Stations.{node_of, on_air, overlaps, retuned, tuned_in, tuned_out, is_tuned_to, finished, stations_from}
+use Rattle.radio_model.specs.Stations.{id_of_station, on_air, overlaps, station_after_tuning, tuned_in, tuned_out, is_tuned_to, station_after_end}
+use Rattle.radio_model.specs.Stations.{stations_from}
 use Rattle.radio_model.specs.Ages.{IsAged}
 use Rattle.radio_model.specs.Marks.{IsMark, AreMarks, is_aside, next_mark}
 use Rattle.radio_model.specs.Meetings.{rival_to, rivals_in}
@@ -91,15 +92,15 @@ mark_pushed now ys x origin mk aged later is = record {
     seam k d here = ap (λ (n : ℕ). get_or (ys ++ x ∷ []) n d) here ∙ get_or-append_seam ys x [] d
 
 -- a station that ends what it sends, or forgets
-pub mark_finished : (st : Station) (mk : Mark) → st.ended.capacity ≡ 13 → IsMark (on_air st) mk → IsMark (on_air (finished st)) mk
+pub mark_finished : (st : Station) (mk : Mark) → st.ended.capacity ≡ 13 → IsMark (on_air st) mk → IsMark (on_air (station_after_end st)) mk
 mark_finished st mk room is = by_sending st.sending refl
   where
-    by_sending : (o : Option Sending) → st.sending ≡ o → IsMark (on_air (finished st)) mk
+    by_sending : (o : Option Sending) → st.sending ≡ o → IsMark (on_air (station_after_end st)) mk
     by_sending None none =
-        subst (λ (o : Option Sending). IsMark (on_air (finished (record st { sending = o }))) mk) (sym none)
+        subst (λ (o : Option Sending). IsMark (on_air (station_after_end (record st { sending = o }))) mk) (sym none)
         (subst (λ (o : Option Sending). IsMark (st.ended.items ++ option_to_list o) mk) none is)
     by_sending (Some x) some =
-        subst (λ (o : Option Sending). IsMark (on_air (finished (record st { sending = o }))) mk) (sym some)
+        subst (λ (o : Option Sending). IsMark (on_air (station_after_end (record st { sending = o }))) mk) (sym some)
         (subst (λ (l : List Sending). IsMark l mk) (sym (append-nil _))
         (mark_dropped (length (st.ended.items ++ x ∷ []) - st.ended.capacity) (st.ended.items ++ x ∷ []) mk (λ some. omega (arith, some, room))
         (subst (λ (o : Option Sending). IsMark (st.ended.items ++ option_to_list o) mk) some is)))
@@ -135,7 +136,7 @@ marks_stay sts mks i new are is = record {
   ];
 }
 
-pub retuned_on_air : (rank : Option ℕ) (t : ℕ) (st : Station) → on_air (retuned rank t st) ≡ on_air st
+pub retuned_on_air : (rank : Option ℕ) (t : ℕ) (st : Station) → on_air (station_after_tuning rank t st) ≡ on_air st
 retuned_on_air None t st = refl
 retuned_on_air (Some r) t st =
     cond_both (is_tuned_to st.tuned r) st (tuned_in r t (tuned_out t st)) (λ (s : Station). on_air s ≡ on_air st) (λ _. refl) (λ _. refl)
@@ -166,4 +167,4 @@ marks_first vs mks same none = record {
 }
   where
     long : length (stations_from 0 vs) ≡ length vs
-    long = sym (length-map (stations_from 0 vs) node_of) ∙ ap length (nodes_from 0 vs)
+    long = sym (length-map (stations_from 0 vs) id_of_station) ∙ ap length (nodes_from 0 vs)

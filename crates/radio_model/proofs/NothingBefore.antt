@@ -7,8 +7,9 @@ use Rattle.std.proofs.lemmas.List.Elements.{Contains-append_cases, Contains-appe
 use Rattle.lwb_base.specs.Profile.{Numbers}
 use Rattle.radio_model.specs.OnAir.{Sending, Tuning}
 use Rattle.radio_model.specs.Hearing.{Scene, IsTuned}
-use Rattle.radio_model.specs.Stations.{MediumState, node_of, nodes_of, is_of, station_of, retuned, started, finished, next_sending, changed_at, after}
-use Rattle.radio_model.specs.Holding.{Agree, Holds, lasting_at, as_it_stands, closed, tuned_of, begun, after_tuning, after_starting}
+use Rattle.radio_model.specs.Stations.{MediumState, id_of_station, nodes_of, is_station_of, station_of, station_after_tuning, station_after_start}
+use Rattle.radio_model.specs.Stations.{station_after_end, next_sending, station_changed_at, medium_after_change}
+use Rattle.radio_model.specs.Holding.{Agree, Holds, lasting_at, as_it_stands, ended_tuning, tuned_of, sending_at_start, after_tuning, after_starting}
 use Rattle.radio_model.specs.declared.station.Tuned.{Tuned}
 use Rattle.radio_model.specs.declared.station.Station.{Station}
 use Rattle.lwb_base.proofs.Elements.{in_option, contains_head, contains_tail, map_contains, map_from}
@@ -33,33 +34,33 @@ by_waiting m s t a later = record {
 
 -- a change that leaves the tunings
 module _ (f : Station → Station) (v t : ℕ) (same : (st : Station) → lasting_at t (f st) ≡ lasting_at t st) where
-  same_lasting : (xs : List Station) → filter_map (lasting_at t) (map (changed_at v f) xs) ≡ filter_map (lasting_at t) xs
+  same_lasting : (xs : List Station) → filter_map (lasting_at t) (map (station_changed_at v f) xs) ≡ filter_map (lasting_at t) xs
   same_lasting [] = refl
   same_lasting (st ∷ xs) =
-      ap (λ (o : Option Tuning). cons_option o (filter_map (lasting_at t) (map (changed_at v f) xs)))
+      ap (λ (o : Option Tuning). cons_option o (filter_map (lasting_at t) (map (station_changed_at v f) xs)))
       (cond_both (st.node == v) (f st) st (λ (s : Station). lasting_at t s ≡ lasting_at t st) (λ _. same st) (λ _. refl))
       ∙ ap (λ (l : List Tuning). cons_option (lasting_at t st) l) (same_lasting xs)
 
   same_tunings : (m : MediumState) (a : Scene)
-      → a.tunings ++ filter_map (lasting_at t) m.stations ≡ a.tunings ++ filter_map (lasting_at t) (after t v f m).stations
+      → a.tunings ++ filter_map (lasting_at t) m.stations ≡ a.tunings ++ filter_map (lasting_at t) (medium_after_change t v f m).stations
   same_tunings m a = ap (λ (l : List Tuning). a.tunings ++ l) (sym (same_lasting m.stations))
 
-pub by_ending : (m : MediumState) (v t : ℕ) (a : Scene) → Agree t (as_it_stands m t a) (as_it_stands (after t v finished m) t a)
+pub by_ending : (m : MediumState) (v t : ℕ) (a : Scene) → Agree t (as_it_stands m t a) (as_it_stands (medium_after_change t v station_after_end m) t a)
 by_ending m v t a =
-    let same = same_tunings finished v t (λ st. refl) m a in
+    let same = same_tunings station_after_end v t (λ st. refl) m a in
     record {
       numbers = refl;
       lines = refl;
       sendings = λ y early. (λ there. there, λ there. there);
       tuned =
           λ u c k early. (
-            lit_moves (as_it_stands m t a) (as_it_stands (after t v finished m) t a) u c k same,
-            lit_moves (as_it_stands (after t v finished m) t a) (as_it_stands m t a) u c k (sym same),
+            lit_moves (as_it_stands m t a) (as_it_stands (medium_after_change t v station_after_end m) t a) u c k same,
+            lit_moves (as_it_stands (medium_after_change t v station_after_end m) t a) (as_it_stands m t a) u c k (sym same),
           );
     }
 
 -- what begins at t
-begins_at : (p : Numbers) (t : ℕ) (packet : List ℕ) (o : Option Station) (y : Sending) → begun p t packet o ≡ Some y → y.start ≡ t
+begins_at : (p : Numbers) (t : ℕ) (packet : List ℕ) (o : Option Station) (y : Sending) → sending_at_start p t packet o ≡ Some y → y.start ≡ t
 begins_at p t packet None y = none
   where
     none : (let e : Option Sending = None in e ≡ Some y) → y.start ≡ t
@@ -76,10 +77,10 @@ begins_at p t packet (Some st) y =
     next (Some o) same = cc
 
 pub by_starting : (m : MediumState) (v t : ℕ) (packet : List ℕ) (a : Scene)
-    → Agree t (as_it_stands m t a) (as_it_stands (after t v (started m.numbers t packet) m) t (after_starting m v t packet a))
+    → Agree t (as_it_stands m t a) (as_it_stands (medium_after_change t v (station_after_start m.numbers t packet) m) t (after_starting m v t packet a))
 by_starting m v t packet a =
-    let f = started m.numbers t packet in
-    let new = begun m.numbers t packet (station_of m v) in
+    let f = station_after_start m.numbers t packet in
+    let new = sending_at_start m.numbers t packet (station_of m v) in
     let same = same_tunings f v t (λ st. refl) m a in
     record {
       numbers = refl;
@@ -93,19 +94,19 @@ by_starting m v t packet a =
       );
       tuned =
           λ u c k early. (
-            lit_moves (as_it_stands m t a) (as_it_stands (after t v f m) t (after_starting m v t packet a)) u c k same,
-            lit_moves (as_it_stands (after t v f m) t (after_starting m v t packet a)) (as_it_stands m t a) u c k (sym same),
+            lit_moves (as_it_stands m t a) (as_it_stands (medium_after_change t v f m) t (after_starting m v t packet a)) u c k same,
+            lit_moves (as_it_stands (medium_after_change t v f m) t (after_starting m v t packet a)) (as_it_stands m t a) u c k (sym same),
           );
     }
 
 -- what is found is the node's
-found_is : (xs : List Station) (v : ℕ) (st : Station) → find (is_of v) xs ≡ Some st → Contains xs st × (st.node ≡ v)
+found_is : (xs : List Station) (v : ℕ) (st : Station) → find (is_station_of v) xs ≡ Some st → Contains xs st × (st.node ≡ v)
 found_is [] v st = λ is. none is
   where
     none : (let o : Option Station = None in o ≡ Some st) → Contains [] st × (st.node ≡ v)
     none is = cc
 found_is (x ∷ xs) v st =
-    cond_both (x.node == v) (Some x) (find (is_of v) xs) (λ (o : Option Station). o ≡ Some st → Contains (x ∷ xs) st × (st.node ≡ v))
+    cond_both (x.node == v) (Some x) (find (is_station_of v) xs) (λ (o : Option Station). o ≡ Some st → Contains (x ∷ xs) st × (st.node ≡ v))
     (λ same is. here (eqb-true x.node v same) is)
     (λ _ is. let rest = found_is xs v st is in (contains_tail x xs st rest.0, rest.1))
   where
@@ -115,27 +116,27 @@ found_is (x ∷ xs) v st =
 module _ (m : MediumState) (ascend : AllPairs (λ a b. a < b) (nodes_of m)) (a : Scene) (h : Holds m a) (v : ℕ) (rank : Option ℕ) (t : ℕ) (later : m.now ≤ t)
   where
     abbrev change : Station → Station
-    change = retuned rank t
+    change = station_after_tuning rank t
 
     abbrev ending : Option Tuning
-    ending = closed v rank t (tuned_of (station_of m v))
+    ending = ended_tuning v rank t (tuned_of (station_of m v))
 
     abbrev behind : MediumState
-    behind = after t v change m
+    behind = medium_after_change t v change m
 
     abbrev scene : Scene
     scene = with_tuning a ending
 
     here : (st : Station) → Contains m.stations st → st.node ≡ v → SameBefore a scene v t st.tuned (change st).tuned
     here st there node =
-        let at : ending ≡ closed v rank t st.tuned =
-        ap (λ (o : Option Station). closed v rank t (tuned_of o)) (ap (station_of m) (sym node) ∙ found_member m.stations st ascend there) in
+        let at : ending ≡ ended_tuning v rank t st.tuned =
+        ap (λ (o : Option Station). ended_tuning v rank t (tuned_of o)) (ap (station_of m) (sym node) ∙ found_member m.stations st ascend there) in
         let old : Tells (Lit a v) st.tuned st.last m.now =
         subst (λ (n : ℕ). Tells (Lit a n) st.tuned st.last m.now) node (tells_by m a ascend st there m.now (h.tuned st there)) in
         subst (λ (e : Option Tuning). SameBefore a (with_tuning a e) v t st.tuned (change st).tuned) (sym at)
         (same_after a v m.now t later (λ c k. past_lit m a h v c k) rank st (h.orderly st there).tunings old)
 
-    each : (st : Station) → Contains m.stations st → SameBefore a scene st.node t st.tuned (changed_at v change st).tuned
+    each : (st : Station) → Contains m.stations st → SameBefore a scene st.node t st.tuned (station_changed_at v change st).tuned
     each st there =
         cond_both (st.node == v) (change st) st (λ (s : Station). SameBefore a scene st.node t st.tuned s.tuned)
         (λ same. let node = eqb-true st.node v same in subst (λ (n : ℕ). SameBefore a scene n t st.tuned (change st).tuned) (sym node) (here st there node))
@@ -152,8 +153,8 @@ module _ (m : MediumState) (ascend : AllPairs (λ a b. a < b) (nodes_of m)) (a :
           | inr l ↦ elim ((each l.station l.there c k early).0 (inr l.goes)) [
             | inl ended ↦ lit_stands behind scene t u c k (subst (λ (n : ℕ). Lit scene n c k) l.node ended)
             | inr goes ↦ lasts_stands behind scene t u c k early (record {
-              station = changed_at v change l.station;
-              there = map_contains (changed_at v change) m.stations l.station l.there;
+              station = station_changed_at v change l.station;
+              there = map_contains (station_changed_at v change) m.stations l.station l.there;
               node = node_stays change v (retuned_keeps rank t).node l.station ∙ l.node;
               goes = goes;
             })
@@ -161,7 +162,7 @@ module _ (m : MediumState) (ascend : AllPairs (λ a b. a < b) (nodes_of m)) (a :
         ]
 
     -- what a station before the call has lit
-    was : (st : Station) (u c k : ℕ) → Contains m.stations st → st.node ≡ u → k < t → (Lit scene st.node c k ⊎ Goes (changed_at v change st).tuned c k)
+    was : (st : Station) (u c k : ℕ) → Contains m.stations st → st.node ≡ u → k < t → (Lit scene st.node c k ⊎ Goes (station_changed_at v change st).tuned c k)
         → IsTuned (as_it_stands m t a) u c k
     was st u c k there node early is =
         elim ((each st there c k early).1 is) [
@@ -169,7 +170,7 @@ module _ (m : MediumState) (ascend : AllPairs (λ a b. a < b) (nodes_of m)) (a :
           | inr goes ↦ lasts_stands m a t u c k early (record { station = st; there = there; node = node; goes = goes })
         ]
 
-    closed_was : (o : Option Station) → station_of m v ≡ o → (y : Tuning) → closed v rank t (tuned_of o) ≡ Some y
+    closed_was : (o : Option Station) → station_of m v ≡ o → (y : Tuning) → ended_tuning v rank t (tuned_of o) ≡ Some y
         → (st : Station) × Contains m.stations st × (st.node ≡ v)
     closed_was None found y is = cc
     closed_was (Some st) found y is = let w = found_is m.stations v st found in (st, w.0, w.1)
@@ -185,8 +186,8 @@ module _ (m : MediumState) (ascend : AllPairs (λ a b. a < b) (nodes_of m)) (a :
                 was w.0 u c k w.1 node early (inl (subst (λ (n : ℕ). Lit scene n c k) (sym node) lit))
           ]
           | inr l ↦
-              let w = map_from (changed_at v change) m.stations l.station l.there in
-              let node : w.0.node ≡ u = sym (node_stays change v (retuned_keeps rank t).node w.0) ∙ ap node_of w.2 ∙ l.node in
+              let w = map_from (station_changed_at v change) m.stations l.station l.there in
+              let node : w.0.node ≡ u = sym (node_stays change v (retuned_keeps rank t).node w.0) ∙ ap id_of_station w.2 ∙ l.node in
               was w.0 u c k w.1 node early (inr (subst (λ (s : Station). Goes s.tuned c k) (sym w.2) l.goes))
         ]
 

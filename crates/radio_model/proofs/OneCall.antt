@@ -3,7 +3,7 @@ use Rattle.std.proofs.Common.{◌≡◌, ◌≢◌, ℕ, ◌<◌, ◌≤◌, ◌
 use Rattle.std.proofs.lemmas.Bool.{cond_both, eqb-true, eqb-false, eq-eqb, cond-true}
 use Rattle.radio_model.specs.OnAir.{Sending, Tuning}
 use Rattle.radio_model.specs.Hearing.{Scene}
-use Rattle.radio_model.specs.Stations.{MediumState, IsMedium, node_of, is_of, on_air, covers, changed_at, after}
+use Rattle.radio_model.specs.Stations.{MediumState, IsMedium, id_of_station, is_station_of, on_air, covers, station_changed_at, medium_after_change}
 use Rattle.radio_model.specs.Holding.{Holds, IsKept, TunedFrom, as_it_stands}
 use Rattle.radio_model.specs.declared.station.Station.{Station}
 use Rattle.lwb_base.proofs.Elements.{map_contains, map_from}
@@ -12,7 +12,8 @@ use Rattle.radio_model.proofs.Tunings.{Tells}
 use Rattle.radio_model.proofs.Scenes.{Lit, stands}
 
 -- the node's station is the one that is found
-pub found_member : (xs : List Station) (st : Station) → AllPairs (λ a b. a < b) (map node_of xs) → Contains xs st → find (is_of st.node) xs ≡ Some st
+pub found_member : (xs : List Station) (st : Station) → AllPairs (λ a b. a < b) (map id_of_station xs) → Contains xs st
+    → find (is_station_of st.node) xs ≡ Some st
 found_member xs st ascend (k, below, at) = found xs st.node k st ascend below (sym at) refl
 
 -- the scene has the same tunings
@@ -27,7 +28,7 @@ lit_moves a b v c k same is = record {
 }
 
 -- what the scene says of a station's tunings, with and without those that last
-module _ (m : MediumState) (a : Scene) (ascend : AllPairs (λ a b. a < b) (map node_of m.stations)) (st : Station) (there : Contains m.stations st) where
+module _ (m : MediumState) (a : Scene) (ascend : AllPairs (λ a b. a < b) (map id_of_station m.stations)) (st : Station) (there : Contains m.stations st) where
   abbrev pub Tuned_right : ℕ → Type 0
   Tuned_right now = (channel start t : ℕ) → now ≤ t → start < t → TunedFrom (as_it_stands m t a) st.node channel start t ↔ (covers st channel start t ≡ true)
 
@@ -49,17 +50,17 @@ past_lit m a h v c k is = let until = is.until in let past = h.past is.tuning is
 -- a call at t that changes the station of v
 module _ (m : MediumState) (is : IsMedium m) (f : Station → Station) (keeps : Keeps f) (v t : ℕ) where
   abbrev pub changed : MediumState
-  changed = after t v f m
+  changed = medium_after_change t v f m
 
-  pub ascend_after : AllPairs (λ a b. a < b) (map node_of changed.stations)
+  pub ascend_after : AllPairs (λ a b. a < b) (map id_of_station changed.stations)
   ascend_after = (still_medium f keeps v t m is).nodes.ascending
 
   -- each station was one before
-  pub was : (st : Station) → Contains changed.stations st → (s : Station) × Contains m.stations s × (changed_at v f s ≡ st)
-  was st there = map_from (changed_at v f) m.stations st there
+  pub was : (st : Station) → Contains changed.stations st → (s : Station) × Contains m.stations s × (station_changed_at v f s ≡ st)
+  was st there = map_from (station_changed_at v f) m.stations st there
 
-  pub is_there : (st : Station) → Contains m.stations st → Contains changed.stations (changed_at v f st)
-  is_there st there = map_contains (changed_at v f) m.stations st there
+  pub is_there : (st : Station) → Contains m.stations st → Contains changed.stations (station_changed_at v f st)
+  is_there st there = map_contains (station_changed_at v f) m.stations st there
 
   -- what is true of the changed one and of all others is true of each
   pub each_after : (P : Station → Type 0) → ((st : Station) → Contains m.stations st → st.node ≡ v → P (f st))
@@ -69,17 +70,17 @@ module _ (m : MediumState) (is : IsMedium m) (f : Station → Station) (keeps : 
       subst P w.2
       (cond_both (w.0.node == v) (f w.0) w.0 P (λ same. here w.0 w.1 (eqb-true w.0.node v same)) (λ other. there w.0 w.1 (eqb-false w.0.node v other)))
 
-  pub at_v : (st : Station) → st.node ≡ v → changed_at v f st ≡ f st
+  pub at_v : (st : Station) → st.node ≡ v → station_changed_at v f st ≡ f st
   at_v st same = cond-true (st.node == v) (f st) st (eq-eqb st.node v same)
 
   -- where the change leaves all that is on the air
   module _ (same_air : (st : Station) → on_air (f st) ≡ on_air st) where
-    air_same : (st : Station) → on_air (changed_at v f st) ≡ on_air st
+    air_same : (st : Station) → on_air (station_changed_at v f st) ≡ on_air st
     air_same st = cond_both (st.node == v) (f st) st (λ (s : Station). on_air s ≡ on_air st) (λ _. same_air st) (λ _. refl)
 
     pub kept_on : (y : Sending) → IsKept m y → IsKept changed y
     kept_on y kept = record {
-      station = changed_at v f kept.station;
+      station = station_changed_at v f kept.station;
       there = is_there kept.station kept.there;
       kept = subst (λ (l : List Sending). Contains l y) (sym (air_same kept.station)) kept.kept;
     }

@@ -4,8 +4,8 @@ use Rattle.std.proofs.Common.{sym, ◌∙◌, ap, subst, arith, inl, inr, length
 use Rattle.std.proofs.lemmas.Bool.{cases_eq}
 use Rattle.std.proofs.lemmas.List.{get_or-drop, length-drop, length-set, get_or-set_same, get_or-set_other, get_or_default}
 use Rattle.std.proofs.Math.Seq.{get_or-append_seam}
-use Rattle.radio_model.specs.Stations.{on_air, finished, stations_from}
-use Rattle.radio_model.specs.Marks.{IsNewest, Stands, HasSent, AreAlike, AreAlikeTo}
+use Rattle.radio_model.specs.Stations.{on_air, station_after_end, stations_from}
+use Rattle.radio_model.specs.Marks.{IsNewest, StandAtPlace, HasSent, AreAlike, AreAlikeTo}
 use Rattle.radio_model.specs.declared.mark.Mark.{Mark}
 use Rattle.radio_model.specs.declared.mark.Origin.{Origin}
 use Rattle.radio_model.specs.declared.sending.Sending.{Sending}
@@ -39,7 +39,8 @@ module _ (sts : List Station) (mks : List Mark) (i : ℕ) (new : Station) (mk : 
     pub station : su ≡ new
     pub mark : ml ≡ mk
 
-  pub stands_then : (j : ℕ) (su : Station) (ml : Mark) → Stands (set sts i new) (set mks i mk) j su ml → IsNew j su ml ⊎ ((j ≢ i) × Stands sts mks j su ml)
+  pub stands_then : (j : ℕ) (su : Station) (ml : Mark) → StandAtPlace (set sts i new) (set mks i mk) j su ml
+      → IsNew j su ml ⊎ ((j ≢ i) × StandAtPlace sts mks j su ml)
   stands_then j su ml is =
       elim (cases_eq j i) [
         | inl here ↦ inl (record {
@@ -64,11 +65,11 @@ module _ (now t : ℕ) (sts : List Station) (mks : List Mark) (i : ℕ) (old new
     (later : now ≤ t) (is : AreAlike now sts mks) where
   record Was (j : ℕ) (su : Station) (ml : Mark) : Type 0 where
     so : Station
-    stood : Stands sts mks j so ml
+    stood : StandAtPlace sts mks j so ml
     node_is : su.node ≡ so.node
     newest : (y : Sending) → IsNewest (on_air su) y → IsNewest (on_air so) y
 
-  was : (j : ℕ) (su : Station) (ml : Mark) → Stands (set sts i new) mks j su ml → Was j su ml
+  was : (j : ℕ) (su : Station) (ml : Mark) → StandAtPlace (set sts i new) mks j su ml → Was j su ml
   was j su ml stands =
       elim (cases_eq j i) [
         | inl here ↦
@@ -136,7 +137,7 @@ module _ (now t : ℕ) (sts : List Station) (mks : List Mark) (i : ℕ) (old new
 -- the newest sending stays the newest as it ends
 record Drops (st : Station) : Type 0 where
   count : ℕ
-  is : on_air (finished st) ≡ drop count (on_air st)
+  is : on_air (station_after_end st) ≡ drop count (on_air st)
   some : 0 < length (on_air st) → count < length (on_air st)
 
 finished_drops : (st : Station) → st.ended.capacity ≡ 13 → Drops st
@@ -146,7 +147,7 @@ finished_drops st room = by_sending st.sending refl
     by_sending None none = record {
       count = 0;
       is =
-          ap (λ (o : Option Sending). on_air (finished (record st { sending = o }))) none
+          ap (λ (o : Option Sending). on_air (station_after_end (record st { sending = o }))) none
           ∙ ap (λ (o : Option Sending). st.ended.items ++ option_to_list o) (sym none);
       some = λ some. some;
     }
@@ -154,17 +155,17 @@ finished_drops st room = by_sending st.sending refl
         let all : on_air st ≡ st.ended.items ++ x ∷ [] = ap (λ (o : Option Sending). st.ended.items ++ option_to_list o) some in
         record {
           count = length (st.ended.items ++ x ∷ []) - st.ended.capacity;
-          is = ap (λ (o : Option Sending). on_air (finished (record st { sending = o }))) some ∙ append-nil _
+          is = ap (λ (o : Option Sending). on_air (station_after_end (record st { sending = o }))) some ∙ append-nil _
               ∙ ap (drop (length (st.ended.items ++ x ∷ []) - st.ended.capacity)) (sym all);
           some = λ any. omega (arith, any, ap length all, room);
         }
 
-pub newest_finished : (st : Station) → st.ended.capacity ≡ 13 → (y : Sending) → IsNewest (on_air (finished st)) y → IsNewest (on_air st) y
+pub newest_finished : (st : Station) → st.ended.capacity ≡ 13 → (y : Sending) → IsNewest (on_air (station_after_end st)) y → IsNewest (on_air st) y
 newest_finished st room y newest =
     let d = finished_drops st room in
     newest_dropped (on_air st) d.count y (subst (λ (l : List Sending). IsNewest l y) d.is newest)
 
-pub newest_unfinished : (st : Station) → st.ended.capacity ≡ 13 → (y : Sending) → IsNewest (on_air st) y → IsNewest (on_air (finished st)) y
+pub newest_unfinished : (st : Station) → st.ended.capacity ≡ 13 → (y : Sending) → IsNewest (on_air st) y → IsNewest (on_air (station_after_end st)) y
 newest_unfinished st room y newest =
     let d = finished_drops st room in
     subst (λ (l : List Sending). IsNewest l y) (sym d.is) (newest_after_drop (on_air st) d.count y (d.some (omega (arith, newest.last))) newest)
@@ -177,14 +178,14 @@ alike_first vs mks = record {
   alike = λ i j st su mk ml y z left right y_is z_is same meets. absurd (none i st mk y left y_is);
 }
   where
-    none : (i : ℕ) (st : Station) (mk : Mark) (y : Sending) → Stands (stations_from 0 vs) mks i st mk → IsNewest (on_air st) y → ⊥
+    none : (i : ℕ) (st : Station) (mk : Mark) (y : Sending) → StandAtPlace (stations_from 0 vs) mks i st mk → IsNewest (on_air st) y → ⊥
     none i st mk y stands newest =
         let silent : on_air st ≡ [] = ap on_air (sym stands.station) ∙ silent_from 0 vs i st stands.below in
         omega (arith, newest.last, ap length silent)
 
 -- what is alike is alike to what runs
-pub alike_to : (now : ℕ) (sts : List Station) (mks : List Mark) (i : ℕ) (st : Station) (mk : Mark) (x : Sending) → AreAlike now sts mks → Stands sts mks i st mk
-    → st.sending ≡ Some x → AreAlikeTo sts mks mk.origin x
+pub alike_to : (now : ℕ) (sts : List Station) (mks : List Mark) (i : ℕ) (st : Station) (mk : Mark) (x : Sending) → AreAlike now sts mks
+    → StandAtPlace sts mks i st mk → st.sending ≡ Some x → AreAlikeTo sts mks mk.origin x
 alike_to now sts mks i st mk x are stands runs j su ml right y newest =
     let x_is : IsNewest (on_air st) x =
     subst (λ (o : Option Sending). IsNewest (st.ended.items ++ option_to_list o) x) (sym runs) (pushed_is_newest st.ended.items x) in (

@@ -6,17 +6,18 @@ use Rattle.std.proofs.lemmas.List.Elements.{All-map}
 use Rattle.std.proofs.lemmas.Bool.{cond-true, cond-false, cond_both, cases_eq, cases_order, ne_eqb}
 use Rattle.lwb_base.specs.Profile.{Numbers, IsProfile}
 use Rattle.link_trace.specs.Masks.{AreNodes}
-use Rattle.radio_model.specs.Stations.{MediumState, IsMedium, node_of, nodes_of, is_of, changed_at, after, fresh, stations_from, first_state}
+use Rattle.radio_model.specs.Stations.{MediumState, IsMedium, id_of_station, nodes_of, is_station_of, station_changed_at, medium_after_change, fresh}
+use Rattle.radio_model.specs.Stations.{stations_from, first_state}
 use Rattle.radio_model.specs.declared.station.Station.{Station}
 use Rattle.radio_model.proofs.OneStation.{nodes_stay}
 
 -- no node stands at two places
-pub apart : (xs : List Station) → AllPairs (λ a b. a < b) (map node_of xs) → (i j : ℕ) (d : Station) → i < length xs → j < length xs
+pub apart : (xs : List Station) → AllPairs (λ a b. a < b) (map id_of_station xs) → (i j : ℕ) (d : Station) → i < length xs → j < length xs
     → (get_or xs i d).node ≡ (get_or xs j d).node → i ≡ j
 apart xs ascend i j d left right same =
-    let at_i = get_or-map node_of xs i d 0 left in
-    let at_j = get_or-map node_of xs j d 0 right in
-    let long = length-map xs node_of in
+    let at_i = get_or-map id_of_station xs i d 0 left in
+    let at_j = get_or-map id_of_station xs j d 0 right in
+    let long = length-map xs id_of_station in
     elim (cases_order i j) [
       | inl is ↦ is
       | inr less ↦ elim less [
@@ -31,51 +32,52 @@ same_at (y ∷ ys) zero d e below = refl
 same_at (y ∷ ys) (suc k) d e below = same_at ys k d e (omega arith)
 
 -- two stations of one node are one
-pub one_station : (xs : List Station) → AllPairs (λ a b. a < b) (map node_of xs) → (s u : Station) → Contains xs s → Contains xs u → s.node ≡ u.node → s ≡ u
+pub one_station : (xs : List Station) → AllPairs (λ a b. a < b) (map id_of_station xs) → (s u : Station) → Contains xs s → Contains xs u → s.node ≡ u.node
+    → s ≡ u
 one_station xs ascend s u (i, left, at_s) (j, right, at_u) same =
     let there_u : get_or xs j s ≡ u = same_at xs j s u right ∙ at_u in
-    let is : i ≡ j = apart xs ascend i j s left right (ap node_of at_s ∙ same ∙ sym (ap node_of there_u)) in
+    let is : i ≡ j = apart xs ascend i j s left right (ap id_of_station at_s ∙ same ∙ sym (ap id_of_station there_u)) in
     sym at_s ∙ ap (λ (k : ℕ). get_or xs k s) is ∙ there_u
 
 -- a change of the station at a place is one of the node that stands there
-pub changed_there : (f : Station → Station) (xs : List Station) → AllPairs (λ a b. a < b) (map node_of xs) → (v i : ℕ) (old new : Station) → i < length xs
+pub changed_there : (f : Station → Station) (xs : List Station) → AllPairs (λ a b. a < b) (map id_of_station xs) → (v i : ℕ) (old new : Station) → i < length xs
     → old ≡ get_or xs i old → old.node ≡ v → new ≡ f old
-    → set xs i new ≡ map (changed_at v f) xs
+    → set xs i new ≡ map (station_changed_at v f) xs
 changed_there f xs ascend v i old new below at is change =
-    same_lists (set xs i new) (map (changed_at v f) xs) (length-set xs i new ∙ sym (length-map xs (changed_at v f)))
+    same_lists (set xs i new) (map (station_changed_at v f) xs) (length-set xs i new ∙ sym (length-map xs (station_changed_at v f)))
     (λ k d within. each k d (omega (arith, length-set xs i new)))
   where
     node_there : (d : Station) → (get_or xs i d).node ≡ v
-    node_there d = sym (get_or-map node_of xs i d v below) ∙ get_or-map node_of xs i old v below ∙ ap node_of (sym at) ∙ is
+    node_there d = sym (get_or-map id_of_station xs i d v below) ∙ get_or-map id_of_station xs i old v below ∙ ap id_of_station (sym at) ∙ is
 
-    each : (k : ℕ) (d : Station) → k < length xs → get_or (set xs i new) k d ≡ get_or (map (changed_at v f) xs) k d
+    each : (k : ℕ) (d : Station) → k < length xs → get_or (set xs i new) k d ≡ get_or (map (station_changed_at v f) xs) k d
     each k d within =
         elim (cases_eq k i) [
           | inl here ↦
               ap (λ (n : ℕ). get_or (set xs i new) n d) here ∙ get_or-set_same xs i new d below ∙ change
               ∙ sym (cond-true (old.node == v) (f old) old (eq-eqb old.node v is))
-              ∙ ap (changed_at v f) at
-              ∙ sym (get_or-map (changed_at v f) xs i old d below) ∙ ap (λ (n : ℕ). get_or (map (changed_at v f) xs) n d) (sym here)
+              ∙ ap (station_changed_at v f) at
+              ∙ sym (get_or-map (station_changed_at v f) xs i old d below) ∙ ap (λ (n : ℕ). get_or (map (station_changed_at v f) xs) n d) (sym here)
           | inr there ↦
               get_or-set_other xs i k new d there
               ∙ sym (cond-false ((get_or xs k d).node == v) (f (get_or xs k d)) (get_or xs k d)
               (ne_eqb (get_or xs k d).node v (λ e. there (apart xs ascend k i d within below (e ∙ sym (node_there d))))))
-              ∙ sym (get_or-map (changed_at v f) xs k d d within)
+              ∙ sym (get_or-map (station_changed_at v f) xs k d d within)
         ]
 
 -- the node's station is found
-pub found : (xs : List Station) (v i : ℕ) (st : Station) → AllPairs (λ a b. a < b) (map node_of xs) → i < length xs → st ≡ get_or xs i st → st.node ≡ v
-    → find (is_of v) xs ≡ Some st
+pub found : (xs : List Station) (v i : ℕ) (st : Station) → AllPairs (λ a b. a < b) (map id_of_station xs) → i < length xs → st ≡ get_or xs i st → st.node ≡ v
+    → find (is_station_of v) xs ≡ Some st
 found xs v i st ascend below at is =
-    by_place xs i below at (λ k less same. omega (arith, apart xs ascend k i st (omega arith) below (same ∙ sym is ∙ ap node_of at)))
+    by_place xs i below at (λ k less same. omega (arith, apart xs ascend k i st (omega arith) below (same ∙ sym is ∙ ap id_of_station at)))
   where
     by_place : (ys : List Station) (j : ℕ) → j < length ys → st ≡ get_or ys j st → ((k : ℕ) → k < j → (get_or ys k st).node ≡ v → ⊥)
-        → find (is_of v) ys ≡ Some st
+        → find (is_station_of v) ys ≡ Some st
     by_place [] j below at before = absurd (omega arith)
     by_place (y ∷ ys) zero below at before =
-        cond-true (y.node == v) (Some y) (find (is_of v) ys) (eq-eqb y.node v (sym (ap node_of at) ∙ is)) ∙ ap (λ (s : Station). Some s) (sym at)
+        cond-true (y.node == v) (Some y) (find (is_station_of v) ys) (eq-eqb y.node v (sym (ap id_of_station at) ∙ is)) ∙ ap (λ (s : Station). Some s) (sym at)
     by_place (y ∷ ys) (suc j) below at before =
-        cond-false (y.node == v) (Some y) (find (is_of v) ys) (ne_eqb y.node v (λ e. before 0 (omega arith) e))
+        cond-false (y.node == v) (Some y) (find (is_station_of v) ys) (ne_eqb y.node v (λ e. before 0 (omega arith) e))
         ∙ by_place ys j (omega arith) at (λ k less same. before (suc k) (omega arith) same)
 
 -- a change keeps the node, its place and its room
@@ -85,20 +87,22 @@ pub record Keeps (f : Station → Station) : Type 0 where
   pub room : (st : Station) → (f st).ended.capacity ≡ st.ended.capacity
 
 module _ (f : Station → Station) (keeps : Keeps f) (v : ℕ) where
-  pub place_kept : (st : Station) → (changed_at v f st).place ≡ st.place
+  pub place_kept : (st : Station) → (station_changed_at v f st).place ≡ st.place
   place_kept st = cond_both (st.node == v) (f st) st (λ (s : Station). s.place ≡ st.place) (λ is. keeps.place st) (λ other. refl)
 
-  pub room_kept : (st : Station) → (changed_at v f st).ended.capacity ≡ st.ended.capacity
+  pub room_kept : (st : Station) → (station_changed_at v f st).ended.capacity ≡ st.ended.capacity
   room_kept st = cond_both (st.node == v) (f st) st (λ (s : Station). s.ended.capacity ≡ st.ended.capacity) (λ is. keeps.room st) (λ other. refl)
 
-  pub still_medium : (t : ℕ) (m : MediumState) → IsMedium m → IsMedium (after t v f m)
+  pub still_medium : (t : ℕ) (m : MediumState) → IsMedium m → IsMedium (medium_after_change t v f m)
   still_medium t m is = record {
     profile = is.profile;
     nodes = subst AreNodes (sym (nodes_stay f v keeps.node m.stations)) is.nodes;
     places =
-        λ k d below. ap (λ (s : Station). s.place) (get_or-map (changed_at v f) m.stations k d d (omega (arith, length-map m.stations (changed_at v f))))
-        ∙ place_kept (get_or m.stations k d) ∙ is.places k d (omega (arith, length-map m.stations (changed_at v f)));
-    rooms = All-map (λ (s : Station). s.ended.capacity ≡ 13) (changed_at v f) m.stations (λ k d below. room_kept (get_or m.stations k d) ∙ is.rooms k d below);
+        λ k d below. ap (λ (s : Station). s.place)
+            (get_or-map (station_changed_at v f) m.stations k d d (omega (arith, length-map m.stations (station_changed_at v f))))
+        ∙ place_kept (get_or m.stations k d) ∙ is.places k d (omega (arith, length-map m.stations (station_changed_at v f)));
+    rooms = All-map (λ (s : Station). s.ended.capacity ≡ 13) (station_changed_at v f) m.stations
+        (λ k d below. room_kept (get_or m.stations k d) ∙ is.rooms k d below);
   }
 
 -- the nodes at first
@@ -114,7 +118,7 @@ stations_more vs i v below at =
     ∙ one_more_station 0 (take i vs) v
     ∙ ap (λ (n : ℕ). stations_from 0 (take i vs) ++ fresh v n ∷ []) (omega (arith, length-take-le i vs (omega arith)))
 
-pub nodes_from : (k : ℕ) (vs : List ℕ) → map node_of (stations_from k vs) ≡ vs
+pub nodes_from : (k : ℕ) (vs : List ℕ) → map id_of_station (stations_from k vs) ≡ vs
 nodes_from k [] = refl
 nodes_from k (v ∷ vs) = ap (λ (l : List ℕ). v ∷ l) (nodes_from (k + 1) vs)
 
@@ -142,7 +146,7 @@ module _ (m : MediumState) (is : IsMedium m) (f : Station → Station) (keeps : 
   abbrev changed : List Station → MediumState
   changed xs = record { numbers = m.numbers; now = t; stations = xs }
 
-  pub after_is : changed (set m.stations i new) ≡ after t v f m
+  pub after_is : changed (set m.stations i new) ≡ medium_after_change t v f m
   after_is = ap changed (changed_there f m.stations is.nodes.ascending v i old new below at of change)
 
   pub after_medium : IsMedium (changed (set m.stations i new))

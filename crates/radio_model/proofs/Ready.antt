@@ -7,7 +7,7 @@ use Rattle.std.specs.Int.{bit_at}
 use Rattle.std.specs.List.{list_any}
 use Rattle.link_trace.specs.Masks.{IsMask}
 use Rattle.link_trace.specs.Passes.{Lines, captured}
-use Rattle.radio_model.specs.Meetings.{differs, heard_by, is_chosen, is_heard, is_ready, passes_at, spoils, AreThose, IsFrom, IsPlaced, Tells}
+use Rattle.radio_model.specs.Meetings.{differs, reception_pair, is_chosen, is_heard, is_ready, passes_at, spoils, AreThose, IsFrom, IsPlaceOf, HasBitsOf}
 use Rattle.radio_model.specs.declared.crowd.Crowd.{Crowd}
 use Rattle.radio_model.specs.declared.rivals.Key.{Key}
 use Rattle.radio_model.specs.declared.rivals.Rival.{Rival}
@@ -48,7 +48,7 @@ bit_says n b small none one = elim (bit_cases n small) [
 ]
 
 module _ (lines : Lines) (nodes : List ℕ) (u : ℕ) (x : Sending) (key : Key) (rs : List Rival) (sts : List Station) (few : length sts ≤ 64)
-    (placed : All (λ (st : Station). IsPlaced nodes st.place st.node) sts) (in_order : InOrder sts) where
+    (placed : All (λ (st : Station). IsPlaceOf nodes st.place st.node) sts) (in_order : InOrder sts) where
   -- the node of a station is that of its place
   node_at : (k : ℕ) (d : Station) → k < length sts → (get_or nodes k 0 ≡ (get_or sts k d).node) × (k < length nodes)
   node_at k d below =
@@ -88,7 +88,7 @@ module _ (lines : Lines) (nodes : List ℕ) (u : ℕ) (x : Sending) (key : Key) 
 
     -- what the test of another packet leaves
     pub taken_is_heard : (k : ℕ) (d : Station) (c : Crowd) → k < length sts → bit_at ready k ≡ 1 → bit_at c.spoiled k ≡ 0 → IsFrom lines nodes rs c
-        → Tells lines nodes rs k c
+        → HasBitsOf lines nodes rs k c
         → (not (bit_at c.mixed k == 1)
         || is_chosen lines (get_or sts k d).node rs (captured lines key.frame key.slot key.counter (get_or sts k d).node))
         ≡ is_heard lines u x key rs (get_or sts k d)
@@ -113,9 +113,10 @@ module _ (lines : Lines) (nodes : List ℕ) (u : ℕ) (x : Sending) (key : Key) 
           (sym (bits k (omega (arith, few, below))) ∙ none) one))
     ]
 
-    pub nobody_hears : ((i : ℕ) → bit_at ready i ≡ 1 → list_any (spoils lines (get_or nodes i 0)) rs ≡ true) → [] ≡ filter_map (heard_by lines u x key rs) sts
+    pub nobody_hears : ((i : ℕ) → bit_at ready i ≡ 1 → list_any (spoils lines (get_or nodes i 0)) rs ≡ true)
+        → [] ≡ filter_map (reception_pair lines u x key rs) sts
     nobody_hears all_spoiled =
-        sym (none_kept (heard_by lines u x key rs) sts (λ k d below.
+        sym (none_kept (reception_pair lines u x key rs) sts (λ k d below.
         cond-false (is_heard lines u x key rs (get_or sts k d)) _ _ (elim (bit_cases (bit_at ready k) (bit_at-lt ready k)) [
           | inl out ↦ not_where_unready k d below out
           | inr one ↦ not_where_spoiled k d below (all_spoiled k one)

@@ -8,7 +8,7 @@ use Rattle.std.specs.Str.{bytes_eq}
 use Rattle.lwb_base.specs.Profile.{Numbers}
 use Rattle.link_trace.specs.Passes.{Lines, captured}
 use Rattle.radio_model.specs.OnAir.{Sending}
-use Rattle.radio_model.specs.Hearing.{Scene, Hears, Rival, Before, TunedThrough, frame_of, slot_of, counter_of}
+use Rattle.radio_model.specs.Hearing.{Scene, HearsInScene, Rival, Before, TunedThrough, frame_of_sending, slot_of_sending, counter_of_sending}
 use Rattle.radio_model.specs.Meetings.{comes_in_time}
 use Rattle.radio_model.specs.Stations.{overlaps}
 use Rattle.lwb_base.proofs.Elements.{any_of, some_of}
@@ -53,7 +53,7 @@ module _ (p : Numbers) (lines : Lines) (a : Scene) (numbers : a.numbers ≡ p) (
   mixed = list_any (differs p lines v x) near
 
   abbrev named : Option ℕ
-  named = captured lines (frame_of p x) (slot_of x) (counter_of x) v
+  named = captured lines (frame_of_sending p x) (slot_of_sending x) (counter_of_sending x) v
 
   abbrev chosen : Bool
   chosen = is_captured p lines v x near named
@@ -101,10 +101,10 @@ module _ (p : Numbers) (lines : Lines) (a : Scene) (numbers : a.numbers ≡ p) (
         (and_from (meets_on x y) (not (bytes_eq y.packet x.packet)) (meets_so y r) (not_from_false (bytes_eq y.packet x.packet) other)) (comes_so y r)))
   ]
 
-  named_is : captured a.lines (frame_of a.numbers x) (slot_of x) (counter_of x) v ≡ named
+  named_is : captured a.lines (frame_of_sending a.numbers x) (slot_of_sending x) (counter_of_sending x) v ≡ named
   named_is =
-      ap (λ (l : Lines). captured l (frame_of a.numbers x) (slot_of x) (counter_of x) v) trace
-      ∙ ap (λ (q : Numbers). captured lines (frame_of q x) (slot_of x) (counter_of x) v) numbers
+      ap (λ (l : Lines). captured l (frame_of_sending a.numbers x) (slot_of_sending x) (counter_of_sending x) v) trace
+      ∙ ap (λ (q : Numbers). captured lines (frame_of_sending q x) (slot_of_sending x) (counter_of_sending x) v) numbers
 
   captured_parts : (o : Option ℕ) → is_captured p lines v x near o ≡ true
       → (u : ℕ) × (o ≡ Some u) × (list_any (repeats_from p lines v x u) near ≡ true)
@@ -114,7 +114,7 @@ module _ (p : Numbers) (lines : Lines) (a : Scene) (numbers : a.numbers ≡ p) (
   captured_from : (o : Option ℕ) (u : ℕ) → o ≡ Some u → list_any (repeats_from p lines v x u) near ≡ true → is_captured p lines v x near o ≡ true
   captured_from o u same any = ap (is_captured p lines v x near) same ∙ any
 
-  pub gives : Contains a.sendings x → TunedThrough a v x → comes_through p lines v x near ≡ true → Hears a v x
+  pub gives : Contains a.sendings x → TunedThrough a v x → comes_through p lines v x near ≡ true → HearsInScene a v x
   gives sent tuned so =
       let q = parts so in
       record {
@@ -143,7 +143,7 @@ module _ (p : Numbers) (lines : Lines) (a : Scene) (numbers : a.numbers ≡ p) (
         ];
       }
 
-  pub asks : Hears a v x → comes_through p lines v x near ≡ true
+  pub asks : HearsInScene a v x → comes_through p lines v x near ≡ true
   asks hears = whole (record {
     arrives_so = ap (λ (q : Numbers). arrives q lines v x) (sym numbers) ∙ ap (λ (l : Lines). arrives a.numbers l v x) (sym trace) ∙ hears.arrives;
     quiet = false_from_ne_true busy (λ some.

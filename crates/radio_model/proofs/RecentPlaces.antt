@@ -8,10 +8,10 @@ use Rattle.std.proofs.lemmas.Nat.Bits.{bit_at-zero}
 use Rattle.std.proofs.Math.Nat.{le-max_left, le-max_right}
 use Rattle.std.specs.Int.{bit_at}
 use Rattle.lwb_base.specs.Profile.{Numbers, airtime}
-use Rattle.radio_model.specs.Stations.{on_air, begins_on, node_of, started, first_sending, next_sending}
+use Rattle.radio_model.specs.Stations.{on_air, begins_on, id_of_station, station_after_start, current_or_next, next_sending}
 use Rattle.radio_model.specs.Stations.{stations_from}
 use Rattle.radio_model.specs.Marks.{AreMarks, no_mark, next_mark, next_marks}
-use Rattle.radio_model.specs.Recent.{AreRecent, AreAmong, IsNext, no_recent}
+use Rattle.radio_model.specs.Recent.{AreRecent, AreAmong, IsRecentAfter, no_recent}
 use Rattle.radio_model.specs.declared.mark.Mark.{Mark}
 use Rattle.radio_model.specs.declared.mark.Origin.{Origin}
 use Rattle.radio_model.specs.declared.station.Tuned.{Tuned}
@@ -58,7 +58,7 @@ recent_stay now t sts mks r i old new below at back later are = record {
 module _ (now t : ℕ) (sts : List Station) (mks : List Mark) (r s : Recent) (i : ℕ) (new : Station) (x : Sending) (mk : Mark) (below : i < length sts)
     (one_each : length mks ≡ length sts) (sends : new.sending ≡ Some x) (starts : x.start ≡ t)
     (marks : AreMarks sts mks) (still : (k : ℕ) (d : Station) (y : Sending) → k < length sts → (get_or sts k d).sending ≡ Some y
-    → t ≤ y.end) (later : now ≤ t) (is : IsNext i t mk.end r s) (are : AreRecent now sts mks r) where
+    → t ≤ y.end) (later : now ≤ t) (is : IsRecentAfter i t mk.end r s) (are : AreRecent now sts mks r) where
   mark_at : (k : ℕ) (e : Mark) → k ≢ i → get_or (set mks i mk) k e ≡ get_or mks k e
   mark_at k e other = get_or-set_other mks i k mk e other
 
@@ -139,17 +139,18 @@ module _ (now t : ℕ) (sts : List Station) (mks : List Mark) (r s : Recent) (i 
 -- a station starts to send, or can't
 pub recent_after_start : (p : Numbers) (now t end : ℕ) (packet : List ℕ) (sts : List Station) (mks : List Mark) (i : ℕ) (old new : Station)
     (origin : Origin) (r s : Recent) → i < length sts → old ≡ get_or sts i old
-    → new ≡ started p t packet old → now ≤ t → AreMarks sts mks → ((k : ℕ) (d : Station) (y : Sending) → k < length sts → (get_or sts k d).sending ≡ Some y
+    → new ≡ station_after_start p t packet old → now ≤ t → AreMarks sts mks
+        → ((k : ℕ) (d : Station) (y : Sending) → k < length sts → (get_or sts k d).sending ≡ Some y
     → t ≤ y.end) → AreRecent now sts mks r
-    → (o : Option ℕ) → o ≡ begins_on old.tuned old.sending → (is_some o ≡ true → IsNext i t end r s) → (is_some o ≡ false → s ≡ r)
+    → (o : Option ℕ) → o ≡ begins_on old.tuned old.sending → (is_some o ≡ true → IsRecentAfter i t end r s) → (is_some o ≡ false → s ≡ r)
     → AreRecent t (set sts i new) (next_marks o t end origin i mks no_mark) s
 recent_after_start p now t end packet sts mks i old new origin r s below at is_started later marks still are (Some rank) is next stays =
     let can = can_start old.tuned old.sending rank is in
     let u = can.0 in
     let x : Sending = record { rank = u.rank; node = old.node; start = t; end = t + airtime p (length packet); packet = packet } in
     let sends : new.sending ≡ Some x =
-    ap (λ (st : Station). st.sending) is_started ∙ ap (λ (o : Option Tuned). first_sending old.sending (next_sending p t packet old.node o)) can.1
-    ∙ ap (λ (o : Option Sending). first_sending o (Some x)) can.2 in
+    ap (λ (st : Station). st.sending) is_started ∙ ap (λ (o : Option Tuned). current_or_next old.sending (next_sending p t packet old.node o)) can.1
+    ∙ ap (λ (o : Option Sending). current_or_next o (Some x)) can.2 in
     recent_begun now t sts mks r s i new x (next_mark rank t end origin (get_or mks i no_mark)) below marks.one_each sends refl marks still later
     (next refl) are
 recent_after_start p now t end packet sts mks i old new origin r s below at is_started later marks still are None is next stays =
@@ -170,4 +171,4 @@ recent_first vs mks none = record {
 }
   where
     long : length (stations_from 0 vs) ≡ length vs
-    long = sym (length-map (stations_from 0 vs) node_of) ∙ ap length (nodes_from 0 vs)
+    long = sym (length-map (stations_from 0 vs) id_of_station) ∙ ap length (nodes_from 0 vs)

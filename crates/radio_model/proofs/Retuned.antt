@@ -4,8 +4,8 @@ use Rattle.std.proofs.Common.{if◌then◌else◌, Option, Some, None, refl, sym
 use Rattle.std.proofs.lemmas.Bool.{cases_lt, cond_both, ltb-true, ltb-false, and_parts, and_from, eqb-true, both_ways}
 use Rattle.radio_model.specs.OnAir.{Tuning}
 use Rattle.radio_model.specs.Hearing.{Scene}
-use Rattle.radio_model.specs.Stations.{retuned, tuned_in, tuned_out, last_at, meets_at, since_with, is_tuned_to}
-use Rattle.radio_model.specs.Holding.{IsOrder, closed}
+use Rattle.radio_model.specs.Stations.{station_after_tuning, tuned_in, tuned_out, last_at, meets_at, since_with, is_tuned_to}
+use Rattle.radio_model.specs.Holding.{IsOrder, ended_tuning}
 use Rattle.radio_model.specs.declared.station.Tuned.{Tuned}
 use Rattle.radio_model.specs.declared.station.Past.{Past}
 use Rattle.radio_model.specs.declared.station.Station.{Station}
@@ -98,13 +98,13 @@ pub record Told (a : Scene) (v t : ℕ) (tuned : Option Tuned) (last : Option Pa
 
 module _ (a : Scene) (v now t : ℕ) (later : now ≤ t) (past : (c k : ℕ) → Lit a v c k → k < now) where
   told_out : (tuned : Option Tuned) (last : Option Past) → IsOrder now tuned last → Tells (Lit a v) tuned last now
-      → Told (with_tuning a (closed v None t tuned)) v t None (last_at tuned last t)
+      → Told (with_tuning a (ended_tuning v None t tuned)) v t None (last_at tuned last t)
   told_out None last order tells = record {
     tells = tells_same (Lit a v) (Lit (with_tuning a None) v) None last t (lit_same a v) (tells_later (Lit a v) None last now t later tells);
     order = order_off now t None last later order;
   }
   told_out (Some o) last order tells =
-      let P' = Lit (with_tuning a (closed v None t (Some o))) v in
+      let P' = Lit (with_tuning a (ended_tuning v None t (Some o))) v in
       let closes = closes_out a v t o in
       record {
         tells = cond_both (nat_lt o.since t) (Some (record { rank = o.rank; since = o.since; until = t })) last (λ (l : Option Past). Tells P' None l t)
@@ -123,11 +123,11 @@ module _ (a : Scene) (v now t : ℕ) (later : now ≤ t) (past : (c k : ℕ) →
       ]
 
   pub told_after : (rank : Option ℕ) (st : Station) → IsOrder now st.tuned st.last → Tells (Lit a v) st.tuned st.last now
-      → Told (with_tuning a (closed v rank t st.tuned)) v t (retuned rank t st).tuned (retuned rank t st).last
+      → Told (with_tuning a (ended_tuning v rank t st.tuned)) v t (station_after_tuning rank t st).tuned (station_after_tuning rank t st).last
   told_after None st order tells = told_out st.tuned st.last order tells
   told_after (Some r) st order tells =
       cond_both (is_tuned_to st.tuned r) st (tuned_in r t (tuned_out t st))
-      (λ (s : Station). Told (with_tuning a (closed v (Some r) t st.tuned)) v t s.tuned s.last)
+      (λ (s : Station). Told (with_tuning a (ended_tuning v (Some r) t st.tuned)) v t s.tuned s.last)
       (λ is. subst (λ (e : Option Tuning). Told (with_tuning a e) v t st.tuned st.last) (sym (closed_same v r t st.tuned is)) (record {
         tells = tells_same (Lit a v) (Lit (with_tuning a None) v) st.tuned st.last t (lit_same a v) (tells_later (Lit a v) st.tuned st.last now t later tells);
         order = order_later now t st.tuned st.last later order;
@@ -137,8 +137,8 @@ module _ (a : Scene) (v now t : ℕ) (later : now ≤ t) (past : (c k : ℕ) →
       subst (λ (e : Option Tuning). Told (with_tuning a e) v t (tuned_in r t (tuned_out t st)).tuned (tuned_in r t (tuned_out t st)).last)
       (sym (closed_other v r t st.tuned not)) (record {
         tells =
-            tells_on (Lit (with_tuning a (closed v None t st.tuned)) v) r t (last_at st.tuned st.last t)
-            (past_out (closed v None t st.tuned) (λ y is. omega (arith, (closed_is v None t st.tuned y is).end))) out.order out.tells;
+            tells_on (Lit (with_tuning a (ended_tuning v None t st.tuned)) v) r t (last_at st.tuned st.last t)
+            (past_out (ended_tuning v None t st.tuned) (λ y is. omega (arith, (closed_is v None t st.tuned y is).end))) out.order out.tells;
         order = order_on r t (last_at st.tuned st.last t) out.order;
       }))
 
@@ -152,7 +152,7 @@ same_in a v t tuned c k early = (
   λ is. elim is [ inl p ↦ inl ((lit_same a v c k).1 p) | inr goes ↦ inr goes ],
 )
 
-same_out : (a : Scene) (v t : ℕ) (tuned : Option Tuned) → SameBefore a (with_tuning a (closed v None t tuned)) v t tuned None
+same_out : (a : Scene) (v t : ℕ) (tuned : Option Tuned) → SameBefore a (with_tuning a (ended_tuning v None t tuned)) v t tuned None
 same_out a v t None c k early = same_in a v t None c k early
 same_out a v t (Some o) c k early =
     let closes = closes_out a v t o in (
@@ -183,16 +183,16 @@ none_new P r t (Some q) order tells c k early goes = by_test ((q.rank == r) && (
 
 pub same_after : (a : Scene) (v now t : ℕ) → now ≤ t → ((c k : ℕ) → Lit a v c k → k < now) → (rank : Option ℕ) (st : Station) → IsOrder now st.tuned st.last
     → Tells (Lit a v) st.tuned st.last now
-    → SameBefore a (with_tuning a (closed v rank t st.tuned)) v t st.tuned (retuned rank t st).tuned
+    → SameBefore a (with_tuning a (ended_tuning v rank t st.tuned)) v t st.tuned (station_after_tuning rank t st).tuned
 same_after a v now t later past None st order tells = same_out a v t st.tuned
 same_after a v now t later past (Some r) st order tells =
     cond_both (is_tuned_to st.tuned r) st (tuned_in r t (tuned_out t st))
-    (λ (s : Station). SameBefore a (with_tuning a (closed v (Some r) t st.tuned)) v t st.tuned s.tuned)
+    (λ (s : Station). SameBefore a (with_tuning a (ended_tuning v (Some r) t st.tuned)) v t st.tuned s.tuned)
     (λ is. subst (λ (e : Option Tuning). SameBefore a (with_tuning a e) v t st.tuned st.tuned) (sym (closed_same v r t st.tuned is)) (same_in a v t st.tuned))
     (λ not. subst (λ (e : Option Tuning). SameBefore a (with_tuning a e) v t st.tuned (tuned_in r t (tuned_out t st)).tuned)
     (sym (closed_other v r t st.tuned not)) begins)
   where
-    begins : SameBefore a (with_tuning a (closed v None t st.tuned)) v t st.tuned (tuned_in r t (tuned_out t st)).tuned
+    begins : SameBefore a (with_tuning a (ended_tuning v None t st.tuned)) v t st.tuned (tuned_in r t (tuned_out t st)).tuned
     begins c k early =
         let out = same_out a v t st.tuned c k early in
         let told = told_out a v now t later past st.tuned st.last order tells in (
@@ -200,6 +200,7 @@ same_after a v now t later past (Some r) st order tells =
           λ is. elim is [
             | inl p ↦ out.1 (inl p)
             | inr goes ↦
-                out.1 (inl (none_new (Lit (with_tuning a (closed v None t st.tuned)) v) r t (last_at st.tuned st.last t) told.order told.tells c k early goes))
+                out.1 (inl (none_new (Lit (with_tuning a (ended_tuning v None t st.tuned)) v) r t (last_at st.tuned st.last t) told.order told.tells c k
+                    early goes))
           ],
         )

@@ -5,8 +5,8 @@ use Rattle.std.proofs.lemmas.List.Elements.{Contains-append_left, Contains-appen
 use Rattle.std.proofs.lemmas.Bool.{cond_both, cond-true, cond-false, ltb-false}
 use Rattle.radio_model.specs.OnAir.{Tuning}
 use Rattle.radio_model.specs.Hearing.{Scene, IsTuned}
-use Rattle.radio_model.specs.Stations.{MediumState, node_of, is_tuned_to}
-use Rattle.radio_model.specs.Holding.{lasting, lasting_at, as_it_stands, closed}
+use Rattle.radio_model.specs.Stations.{MediumState, id_of_station, is_tuned_to}
+use Rattle.radio_model.specs.Holding.{lasting, lasting_at, as_it_stands, ended_tuning}
 use Rattle.radio_model.specs.declared.station.Tuned.{Tuned}
 use Rattle.radio_model.specs.declared.station.Station.{Station}
 use Rattle.lwb_base.proofs.Elements.{in_filter, filter_from, in_option, of_option}
@@ -80,7 +80,7 @@ lasts_stands m a t v c k early is =
       until = omega (arith, l.5);
     }
 
-pub stands : (m : MediumState) (a : Scene) (st : Station) (t c k : ℕ) → AllPairs (λ a b. a < b) (map node_of m.stations) → Contains m.stations st → k < t
+pub stands : (m : MediumState) (a : Scene) (st : Station) (t c k : ℕ) → AllPairs (λ a b. a < b) (map id_of_station m.stations) → Contains m.stations st → k < t
     → IsTuned (as_it_stands m t a) st.node c k ↔ (Lit a st.node c k ⊎ Goes st.tuned c k)
 stands m a st t c k ascend there early = (apart, together)
   where
@@ -164,18 +164,18 @@ closes_empty a v t o none = record {
   added = λ c k rank since early. absurd (omega arith);
 }
 
-pub closes_out : (a : Scene) (v t : ℕ) (o : Tuned) → Closes (Lit a v) (Lit (with_tuning a (closed v None t (Some o))) v) o t
+pub closes_out : (a : Scene) (v t : ℕ) (o : Tuned) → Closes (Lit a v) (Lit (with_tuning a (ended_tuning v None t (Some o))) v) o t
 closes_out a v t o =
     cond_both (nat_lt o.since t) (lasting v (Some o) t) None (λ (e : Option Tuning). Closes (Lit a v) (Lit (with_tuning a e) v) o t)
     (λ is. closes_late a v t o)
     (λ not. closes_empty a v t o (ltb-false o.since t not))
 
 -- what a call to tune ends
-pub closed_same : (v r t : ℕ) (tuned : Option Tuned) → is_tuned_to tuned r ≡ true → closed v (Some r) t tuned ≡ None
+pub closed_same : (v r t : ℕ) (tuned : Option Tuned) → is_tuned_to tuned r ≡ true → ended_tuning v (Some r) t tuned ≡ None
 closed_same v r t None is = refl
 closed_same v r t (Some o) is = cond-true (is_tuned_to (Some o) r) None (if nat_lt o.since t then lasting v (Some o) t else None) is
 
-pub closed_other : (v r t : ℕ) (tuned : Option Tuned) → is_tuned_to tuned r ≡ false → closed v (Some r) t tuned ≡ closed v None t tuned
+pub closed_other : (v r t : ℕ) (tuned : Option Tuned) → is_tuned_to tuned r ≡ false → ended_tuning v (Some r) t tuned ≡ ended_tuning v None t tuned
 closed_other v r t None is = refl
 closed_other v r t (Some o) is = cond-false (is_tuned_to (Some o) r) None (if nat_lt o.since t then lasting v (Some o) t else None) is
 
@@ -184,7 +184,7 @@ pub record IsClosed (v t : ℕ) (y : Tuning) : Type 0 where
   pub node : y.node ≡ v
   pub end : y.end ≡ t
 
-out_is : (v t : ℕ) (o : Tuned) (y : Tuning) → closed v None t (Some o) ≡ Some y → IsClosed v t y
+out_is : (v t : ℕ) (o : Tuned) (y : Tuning) → ended_tuning v None t (Some o) ≡ Some y → IsClosed v t y
 out_is v t o y =
     cond_both (nat_lt o.since t) (lasting v (Some o) t) None (λ (e : Option Tuning). e ≡ Some y → IsClosed v t y) (λ is same. late same) (λ not same. none same)
   where
@@ -194,15 +194,15 @@ out_is v t o y =
     none : (let e : Option Tuning = None in e ≡ Some y) → IsClosed v t y
     none same = cc
 
-in_is : (v r t : ℕ) (o : Tuned) (y : Tuning) → closed v (Some r) t (Some o) ≡ Some y → IsClosed v t y
+in_is : (v r t : ℕ) (o : Tuned) (y : Tuning) → ended_tuning v (Some r) t (Some o) ≡ Some y → IsClosed v t y
 in_is v r t o y =
-    cond_both (is_tuned_to (Some o) r) None (closed v None t (Some o)) (λ (e : Option Tuning). e ≡ Some y → IsClosed v t y) (λ is same. none same)
+    cond_both (is_tuned_to (Some o) r) None (ended_tuning v None t (Some o)) (λ (e : Option Tuning). e ≡ Some y → IsClosed v t y) (λ is same. none same)
     (λ not same. out_is v t o y same)
   where
     none : (let e : Option Tuning = None in e ≡ Some y) → IsClosed v t y
     none same = cc
 
-pub closed_is : (v : ℕ) (rank : Option ℕ) (t : ℕ) (tuned : Option Tuned) (y : Tuning) → closed v rank t tuned ≡ Some y → IsClosed v t y
+pub closed_is : (v : ℕ) (rank : Option ℕ) (t : ℕ) (tuned : Option Tuned) (y : Tuning) → ended_tuning v rank t tuned ≡ Some y → IsClosed v t y
 closed_is v rank t None y is = cc
 closed_is v None t (Some o) y is = out_is v t o y is
 closed_is v (Some r) t (Some o) y is = in_is v r t o y is

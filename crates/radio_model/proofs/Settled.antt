@@ -4,19 +4,19 @@ use Rattle.lwb_base.specs.Profile.{Numbers}
 use Rattle.link_trace.specs.Passes.{Lines, passes}
 use Rattle.link_trace.specs.Passes.{captured}
 use Rattle.radio_model.specs.OnAir.{Sending}
-use Rattle.radio_model.specs.Hearing.{Scene, Hears, Rival, Arrives, Captures, frame_of, slot_of, counter_of}
+use Rattle.radio_model.specs.Hearing.{Scene, HearsInScene, Rival, Arrives, Captures, frame_of_sending, slot_of_sending, counter_of_sending}
 use Rattle.radio_model.specs.Holding.{Agree}
 use Rattle.radio_model.proofs.Agreement.{agree_back}
 
 arrives_on : (t : ℕ) (a b : Scene) (v : ℕ) (y : Sending) → Agree t a b → Arrives a v y → Arrives b v y
 arrives_on t a b v y s is =
-    ap (λ (l : Lines). passes l (frame_of b.numbers y) (slot_of y) (counter_of y) y.node v) (sym s.lines)
-    ∙ ap (λ (p : Numbers). passes a.lines (frame_of p y) (slot_of y) (counter_of y) y.node v) (sym s.numbers) ∙ is
+    ap (λ (l : Lines). passes l (frame_of_sending b.numbers y) (slot_of_sending y) (counter_of_sending y) y.node v) (sym s.lines)
+    ∙ ap (λ (p : Numbers). passes a.lines (frame_of_sending p y) (slot_of_sending y) (counter_of_sending y) y.node v) (sym s.numbers) ∙ is
 
 captures_on : (t : ℕ) (a b : Scene) (v : ℕ) (x : Sending) (u : ℕ) → Agree t a b → Captures a v x u → Captures b v x u
 captures_on t a b v x u s is =
-    ap (λ (l : Lines). captured l (frame_of b.numbers x) (slot_of x) (counter_of x) v) (sym s.lines)
-    ∙ ap (λ (p : Numbers). captured a.lines (frame_of p x) (slot_of x) (counter_of x) v) (sym s.numbers) ∙ is
+    ap (λ (l : Lines). captured l (frame_of_sending b.numbers x) (slot_of_sending x) (counter_of_sending x) v) (sym s.lines)
+    ∙ ap (λ (p : Numbers). captured a.lines (frame_of_sending p x) (slot_of_sending x) (counter_of_sending x) v) (sym s.numbers) ∙ is
 
 rival_on : (a b : Scene) (v : ℕ) (x y : Sending) → Agree x.end a b → Rival a v x y → Rival b v x y
 rival_on a b v x y s r = record {
@@ -26,7 +26,7 @@ rival_on a b v x y s r = record {
   arrives = arrives_on x.end a b v y s r.arrives;
 }
 
-hears_on : (a b : Scene) (v : ℕ) (x : Sending) → x.start < x.end → Agree x.end a b → Hears a v x → Hears b v x
+hears_on : (a b : Scene) (v : ℕ) (x : Sending) → x.start < x.end → Agree x.end a b → HearsInScene a v x → HearsInScene b v x
 hears_on a b v x lasts s h =
     let back = agree_back x.end a b s in
     record {
@@ -47,5 +47,5 @@ hears_on a b v x lasts s h =
       ];
     }
 
-pub settled : (a b : Scene) (v : ℕ) (x : Sending) → x.start < x.end → Agree x.end a b → Hears a v x ↔ Hears b v x
+pub settled : (a b : Scene) (v : ℕ) (x : Sending) → x.start < x.end → Agree x.end a b → HearsInScene a v x ↔ HearsInScene b v x
 settled a b v x lasts s = (hears_on a b v x lasts s, hears_on b a v x lasts (agree_back x.end a b s))

@@ -2,13 +2,13 @@
 use Rattle.std.proofs.Common.{◌≡◌, ℕ, ◌≤◌, Option, Some, None, IfSome, refl, sym, ◌∙◌, ap, arith, eq-eqb}
 use Rattle.std.proofs.lemmas.Bool.{cond_both, false≢true}
 use Rattle.radio_model.specs.Holding.{IsOrder}
-use Rattle.radio_model.specs.Stations.{retuned, tuned_in, tuned_out, is_tuned_to, last_at, since_with}
+use Rattle.radio_model.specs.Stations.{station_after_tuning, tuned_in, tuned_out, is_tuned_to, last_at, since_with}
 use Rattle.radio_model.specs.declared.station.Past.{Past}
 use Rattle.radio_model.specs.declared.station.Station.{Station}
 use Rattle.radio_model.specs.declared.station.Tuned.{Tuned}
 
 -- it sends what it sent
-pub sends_still : (rank : Option ℕ) (t : ℕ) (st : Station) → (retuned rank t st).sending ≡ st.sending
+pub sends_still : (rank : Option ℕ) (t : ℕ) (st : Station) → (station_after_tuning rank t st).sending ≡ st.sending
 sends_still None t st = refl
 sends_still (Some r) t st =
     cond_both (is_tuned_to st.tuned r) st (tuned_in r t (tuned_out t st)) (λ (s : Station). s.sending ≡ st.sending) (λ _. refl) (λ _. refl)
@@ -18,7 +18,7 @@ since_then rank t last = Some (record { rank = rank; since = since_with last ran
 
 -- one that was never tuned is tuned from then on
 pub tuned_anew : (rank t : ℕ) (st : Station) → st.tuned ≡ None → st.last ≡ None
-    → (retuned (Some rank) t st).tuned ≡ Some (record { rank = rank; since = t })
+    → (station_after_tuning (Some rank) t st).tuned ≡ Some (record { rank = rank; since = t })
 tuned_anew rank t st untuned never =
     cond_both (is_tuned_to st.tuned rank) st (tuned_in rank t (tuned_out t st))
     (λ (s : Station). s.tuned ≡ Some (record { rank = rank; since = t }))
@@ -27,7 +27,7 @@ tuned_anew rank t st untuned never =
 
 -- one that is tuned to the channel already stays so
 pub tuned_still : (rank since t : ℕ) (st : Station) → st.tuned ≡ Some (record { rank = rank; since = since })
-    → (retuned (Some rank) t st).tuned ≡ st.tuned
+    → (station_after_tuning (Some rank) t st).tuned ≡ st.tuned
 tuned_still rank since t st is =
     cond_both (is_tuned_to st.tuned rank) st (tuned_in rank t (tuned_out t st)) (λ (s : Station). s.tuned ≡ st.tuned) (λ _. refl)
     (λ other. absurd (false≢true (sym other ∙ ap (λ (o : Option Tuned). is_tuned_to o rank) is ∙ eq-eqb rank rank refl)))

@@ -3,7 +3,8 @@ use Rattle.std.proofs.Common.{◌≡◌, ℕ, List, [], ◌∷◌, Option, Some,
 use Rattle.lwb_base.specs.Profile.{one}
 use Rattle.link_trace.specs.Passes.{Lines}
 use Rattle.link_trace.specs.declared.lines.CaptureLine.{CaptureLine}
-use Rattle.radio_model.specs.Stations.{MediumState, first_state, after, retuned, started, finished, station_of, sending_of}
+use Rattle.radio_model.specs.Stations.{MediumState, first_state, medium_after_change, station_after_tuning, station_after_start, station_after_end, station_of}
+use Rattle.radio_model.specs.Stations.{sending_of_station}
 use Rattle.radio_model.specs.Meetings.{hearers_to}
 use Rattle.radio_model.specs.declared.sending.Sending.{Sending}
 
@@ -19,13 +20,13 @@ abbrev packet : ℕ → List ℕ
 packet n = 2 ∷ 1 ∷ 0 ∷ 1 ∷ 1 ∷ 0 ∷ 0 ∷ n ∷ []
 
 abbrev tune : ℕ → Option ℕ → ℕ → MediumState → MediumState
-tune v rank t m = after t v (retuned rank t) m
+tune v rank t m = medium_after_change t v (station_after_tuning rank t) m
 
 abbrev send : ℕ → ℕ → ℕ → MediumState → MediumState
-send v t n m = after t v (started one t (packet n)) m
+send v t n m = medium_after_change t v (station_after_start one t (packet n)) m
 
 abbrev ends : ℕ → ℕ → MediumState → MediumState
-ends v t m = after t v finished m
+ends v t m = medium_after_change t v station_after_end m
 
 abbrev all_tuned : MediumState
 all_tuned = tune 3 (Some 0) 10 (tune 2 (Some 0) 10 (tune 1 (Some 0) 10 (first_state one (1 ∷ 2 ∷ 3 ∷ []))))
@@ -35,7 +36,7 @@ of_sending captures u m None = []
 of_sending captures u m (Some x) = hearers_to one (lines captures) u x m.stations
 
 abbrev heard : List CaptureLine → ℕ → MediumState → List (ℕ × ℕ)
-heard captures u m = of_sending captures u m (sending_of (station_of m u))
+heard captures u m = of_sending captures u m (sending_of_station (station_of m u))
 
 alone : heard [] 1 (send 1 100 0 all_tuned) ≡ (3, 1) ∷ []
 alone = refl

@@ -13,22 +13,22 @@ pub record Scene : Type 0 where
   pub tunings : List Tuning
 
 -- the key of a sending: the frame of its start, and the slot and counter of its packet
-abbrev pub frame_of : Numbers → Sending → ℕ
-frame_of p x = x.start / p.frame
+abbrev pub frame_of_sending : Numbers → Sending → ℕ
+frame_of_sending p x = x.start / p.frame
 
-abbrev pub slot_of : Sending → ℕ
-slot_of x = slice_index x.packet 1
+abbrev pub slot_of_sending : Sending → ℕ
+slot_of_sending x = slice_index x.packet 1
 
-abbrev pub counter_of : Sending → ℕ
-counter_of x = slice_index x.packet 2
+abbrev pub counter_of_sending : Sending → ℕ
+counter_of_sending x = slice_index x.packet 2
 
 -- the link to v passes at the key
 abbrev pub Arrives : Scene → ℕ → Sending → Type 0
-Arrives a v x = passes a.lines (frame_of a.numbers x) (slot_of x) (counter_of x) x.node v ≡ true
+Arrives a v x = passes a.lines (frame_of_sending a.numbers x) (slot_of_sending x) (counter_of_sending x) x.node v ≡ true
 
 -- the capture line at v for the key names this sender
 abbrev pub Captures : Scene → ℕ → Sending → ℕ → Type 0
-Captures a v x u = captured a.lines (frame_of a.numbers x) (slot_of x) (counter_of x) v ≡ Some u
+Captures a v x u = captured a.lines (frame_of_sending a.numbers x) (slot_of_sending x) (counter_of_sending x) v ≡ Some u
 
 -- both are on the air at some tick
 pub record Meets (x y : Sending) : Type 0 where
@@ -76,7 +76,7 @@ pub record Captured (a : Scene) (v : ℕ) (x : Sending) : Type 0 where
   pub named : Captures a v x winner.node
 
 -- v hears x
-pub record Hears (a : Scene) (v : ℕ) (x : Sending) : Type 0 where
+pub record HearsInScene (a : Scene) (v : ℕ) (x : Sending) : Type 0 where
   pub sent : Contains a.sendings x
   pub tuned : TunedThrough a v x
   pub silent : Silent a v x

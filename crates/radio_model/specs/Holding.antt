@@ -33,10 +33,10 @@ abbrev pub nothing_yet : Numbers → Lines → Scene
 nothing_yet p lines = record { numbers = p; lines = lines; sendings = []; tunings = [] }
 
 -- the tuning of v that the call to tune it to this channel at t ends, if it is not empty
-abbrev pub closed : ℕ → Option ℕ → ℕ → Option Tuned → Option Tuning
-closed v rank t None = None
-closed v None t (Some o) = if nat_lt o.since t then lasting v (Some o) t else None
-closed v (Some r) t (Some o) = if is_tuned_to (Some o) r then None else (if nat_lt o.since t then lasting v (Some o) t else None)
+abbrev pub ended_tuning : ℕ → Option ℕ → ℕ → Option Tuned → Option Tuning
+ended_tuning v rank t None = None
+ended_tuning v None t (Some o) = if nat_lt o.since t then lasting v (Some o) t else None
+ended_tuning v (Some r) t (Some o) = if is_tuned_to (Some o) r then None else (if nat_lt o.since t then lasting v (Some o) t else None)
 
 abbrev pub tuned_of : Option Station → Option Tuned
 tuned_of None = None
@@ -44,15 +44,15 @@ tuned_of (Some st) = st.tuned
 
 -- the scene after the node is tuned to a channel, or to nothing, at t
 abbrev pub after_tuning : MediumState → ℕ → Option ℕ → ℕ → Scene → Scene
-after_tuning m v rank t a = record a { tunings = a.tunings ++ option_to_list (closed v rank t (tuned_of (station_of m v))) }
+after_tuning m v rank t a = record a { tunings = a.tunings ++ option_to_list (ended_tuning v rank t (tuned_of (station_of m v))) }
 
 -- what the node sends if it begins at t. None where it is not tuned or already sends
-abbrev pub begun : Numbers → ℕ → List ℕ → Option Station → Option Sending
-begun p t packet None = None
-begun p t packet (Some st) = if is_none st.sending then next_sending p t packet st.node st.tuned else None
+abbrev pub sending_at_start : Numbers → ℕ → List ℕ → Option Station → Option Sending
+sending_at_start p t packet None = None
+sending_at_start p t packet (Some st) = if is_none st.sending then next_sending p t packet st.node st.tuned else None
 
 abbrev pub after_starting : MediumState → ℕ → ℕ → List ℕ → Scene → Scene
-after_starting m v t packet a = record a { sendings = a.sendings ++ option_to_list (begun m.numbers t packet (station_of m v)) }
+after_starting m v t packet a = record a { sendings = a.sendings ++ option_to_list (sending_at_start m.numbers t packet (station_of m v)) }
 
 pub record IsKept (m : MediumState) (y : Sending) : Type 0 where
   pub station : Station

@@ -71,7 +71,7 @@ pub record ArePlaces (nodes places : List ℕ) : Type 0 where
   pub each : (k : ℕ) → k < length nodes → slice_index places (slice_index nodes k) ≡ k
 
 -- this station and this mark stand at the place
-pub record Stands (sts : List Station) (mks : List Mark) (i : ℕ) (st : Station) (mk : Mark) : Type 0 where
+pub record StandAtPlace (sts : List Station) (mks : List Mark) (i : ℕ) (st : Station) (mk : Mark) : Type 0 where
   pub below : i < length sts
   pub station : slice_index_or sts i st ≡ st
   pub mark : slice_index_or mks i mk ≡ mk
@@ -87,9 +87,9 @@ pub record HasSent (sts : List Station) (o : Origin) : Type 0 where
 
 -- where newest sendings overlap and their marks have one origin, they have one packet
 pub record AreAlike (now : ℕ) (sts : List Station) (mks : List Mark) : Type 0 where
-  pub own : (i : ℕ) (st : Station) (mk : Mark) (y : Sending) → Stands sts mks i st mk → IsNewest (on_air st) y → (y.node ≡ st.node) × (y.start ≤ now)
-  pub known : (i : ℕ) (st : Station) (mk : Mark) (y : Sending) → Stands sts mks i st mk → IsNewest (on_air st) y → HasSent sts mk.origin
-  pub alike : (i j : ℕ) (st su : Station) (mk ml : Mark) (y z : Sending) → Stands sts mks i st mk → Stands sts mks j su ml → IsNewest (on_air st) y
+  pub own : (i : ℕ) (st : Station) (mk : Mark) (y : Sending) → StandAtPlace sts mks i st mk → IsNewest (on_air st) y → (y.node ≡ st.node) × (y.start ≤ now)
+  pub known : (i : ℕ) (st : Station) (mk : Mark) (y : Sending) → StandAtPlace sts mks i st mk → IsNewest (on_air st) y → HasSent sts mk.origin
+  pub alike : (i j : ℕ) (st su : Station) (mk ml : Mark) (y z : Sending) → StandAtPlace sts mks i st mk → StandAtPlace sts mks j su ml → IsNewest (on_air st) y
       → IsNewest (on_air su) z
       → mk.origin ≡ ml.origin → Meets y z → y.packet ≡ z.packet
 
@@ -98,14 +98,14 @@ abbrev pub IsAlike : List Sending → ℕ → Mark → Origin → Sending → Ty
 IsAlike ys node mk origin x = (y : Sending) → IsNewest ys y → (y.node ≡ node) × (mk.origin ≡ origin → Meets x y → y.packet ≡ x.packet)
 
 abbrev pub AreAlikeTo : List Station → List Mark → Origin → Sending → Type 0
-AreAlikeTo sts mks origin x = (i : ℕ) (st : Station) (mk : Mark) → Stands sts mks i st mk → IsAlike (on_air st) st.node mk origin x
+AreAlikeTo sts mks origin x = (i : ℕ) (st : Station) (mk : Mark) → StandAtPlace sts mks i st mk → IsAlike (on_air st) st.node mk origin x
 
 -- a newest sending has this packet, runs past t, and has this origin
 pub record Joins (sts : List Station) (mks : List Mark) (t : ℕ) (packet : List ℕ) (o : Origin) : Type 0 where
   pub place : ℕ
   pub station : Station
   pub mark : Mark
-  pub stands : Stands sts mks place station mark
+  pub stands : StandAtPlace sts mks place station mark
   pub newest : Sending
   pub is : IsNewest (on_air station) newest
   pub runs : t < newest.end

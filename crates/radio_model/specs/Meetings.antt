@@ -21,8 +21,8 @@ abbrev pub key_of : Numbers → Sending → Key
 key_of p y = record { frame = y.start / p.frame; slot = slice_index y.packet 1; counter = slice_index y.packet 2 }
 
 -- from this tick until t the frame is the same
-abbrev pub IsFrameStart : ℕ → ℕ → ℕ → Type 0
-IsFrameStart frame t opens = (k : ℕ) → opens ≤ k → k ≤ t → k / frame ≡ t / frame
+abbrev pub IsInOneFrame : ℕ → ℕ → ℕ → Type 0
+IsInOneFrame frame t opens = (k : ℕ) → opens ≤ k → k ≤ t → k / frame ≡ t / frame
 
 -- by start and then sender, x is y or comes before it, and y starts within the greatest displacement
 abbrev pub comes_in_time : Numbers → Sending → Sending → Bool
@@ -80,15 +80,15 @@ abbrev pub is_heard : Lines → ℕ → Sending → Key → List Rival → Stati
 is_heard lines u x k rs st =
     hears_by (passes_at lines k u st.node) (list_any (spoils lines st.node) rs) (list_any (differs lines st.node) rs) lines x k rs st
 
-abbrev pub heard_by : Lines → ℕ → Sending → Key → List Rival → Station → Option (ℕ × ℕ)
-heard_by lines u x k rs st = if is_heard lines u x k rs st then Some (st.node, u) else None
+abbrev pub reception_pair : Lines → ℕ → Sending → Key → List Rival → Station → Option (ℕ × ℕ)
+reception_pair lines u x k rs st = if is_heard lines u x k rs st then Some (st.node, u) else None
 
 -- all that hear x from node u, with that node
 abbrev pub hearers_to : Numbers → Lines → ℕ → Sending → List Station → List (ℕ × ℕ)
-hearers_to p lines u x sts = filter_map (heard_by lines u x (key_of p x) (rivals_to p x sts)) sts
+hearers_to p lines u x sts = filter_map (reception_pair lines u x (key_of p x) (rivals_to p x sts)) sts
 
 -- a place and a node that belong together
-pub record IsPlaced (nodes : List ℕ) (place node : ℕ) : Type 0 where
+pub record IsPlaceOf (nodes : List ℕ) (place node : ℕ) : Type 0 where
   pub below : place < length nodes
   pub there : slice_index nodes place ≡ node
 
@@ -98,8 +98,8 @@ pub record IsBrought (lines : Lines) (nodes : List ℕ) (rs : List Rival) (b : B
   pub spoiled : IsMask (λ v. list_any (spoils lines v) rs) nodes b.spoiled
   pub same : IsMask (λ v. list_any (repeats lines v) rs) nodes b.same
 
-abbrev pub nothing : Brought
-nothing = record { mixed = 0; spoiled = 0; same = 0 }
+abbrev pub nothing_brought : Brought
+nothing_brought = record { mixed = 0; spoiled = 0; same = 0 }
 
 abbrev pub both_brought : Brought → Brought → Brought
 both_brought a b = record { mixed = bit_or a.mixed b.mixed; spoiled = bit_or a.spoiled b.spoiled; same = bit_or a.same b.same }
@@ -129,13 +129,13 @@ pub record IsFrom (lines : Lines) (nodes : List ℕ) (rs : List Rival) (c : Crow
   pub spoiled : (i : ℕ) → bit_at c.spoiled i ≡ 1 → list_any (spoils lines (slice_index nodes i)) rs ≡ true
 
 -- what these rivals bring to node i has its bit
-pub record Tells (lines : Lines) (nodes : List ℕ) (rs : List Rival) (i : ℕ) (c : Crowd) : Type 0 where
+pub record HasBitsOf (lines : Lines) (nodes : List ℕ) (rs : List Rival) (i : ℕ) (c : Crowd) : Type 0 where
   pub mixed : bit_at c.mixed i ≡ 0 → list_any (differs lines (slice_index nodes i)) rs ≡ false
   pub spoiled : bit_at c.spoiled i ≡ 0 → list_any (spoils lines (slice_index nodes i)) rs ≡ false
 
 -- what the stations at these places bring to any node has its bit
 abbrev pub TellsAt : Lines → List ℕ → Numbers → Sending → List Station → (ℕ → Type 0) → Crowd → Type 0
-TellsAt lines nodes p x sts At c = (k i : ℕ) (d : Station) → i < length nodes → At k → Tells lines nodes (rivals_in p x (slice_index_or sts k d)) i c
+TellsAt lines nodes p x sts At c = (k i : ℕ) (d : Station) → i < length nodes → At k → HasBitsOf lines nodes (rivals_in p x (slice_index_or sts k d)) i c
 
 -- no bit is lost
 pub record AddsTo (old new : Crowd) : Type 0 where

@@ -12,7 +12,7 @@ abbrev pub no_recent : Recent
 no_recent = record { places = 0; latest = 0 }
 
 -- another sending begins at the place: the others stay, if one of them was not over before
-pub record IsNext (place start end : ℕ) (old new : Recent) : Type 0 where
+pub record IsRecentAfter (place start end : ℕ) (old new : Recent) : Type 0 where
   pub set : bit_at new.places place ≡ 1
   pub others : (i : ℕ) → i ≢ place → bit_at new.places i ≡ bit_at (if nat_lt old.latest start then 0 else old.places) i
   pub latest : new.latest ≡ max old.latest end

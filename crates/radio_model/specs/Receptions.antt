@@ -4,7 +4,7 @@ use Rattle.std.specs.List.{list_any}
 use Rattle.std.specs.Str.{bytes_eq}
 use Rattle.lwb_base.specs.Profile.{Numbers}
 use Rattle.link_trace.specs.Passes.{Lines, passes, captured}
-use Rattle.radio_model.specs.Hearing.{Meets, frame_of, slot_of, counter_of}
+use Rattle.radio_model.specs.Hearing.{Meets, frame_of_sending, slot_of_sending, counter_of_sending}
 use Rattle.radio_model.specs.Meetings.{comes_in_time}
 use Rattle.radio_model.specs.OnAir.{Sending}
 use Rattle.radio_model.specs.Stations.{overlaps}
@@ -20,7 +20,7 @@ transmits v x y = (y.node == v) && overlaps x y
 
 -- the link passes from the sender of y to v
 abbrev pub arrives : Numbers → Lines → ℕ → Sending → Bool
-arrives p lines v y = passes lines (frame_of p y) (slot_of y) (counter_of y) y.node v
+arrives p lines v y = passes lines (frame_of_sending p y) (slot_of_sending y) (counter_of_sending y) y.node v
 
 -- y is on the channel of x while x is on the air
 abbrev pub meets_on : Sending → Sending → Bool
@@ -51,4 +51,5 @@ is_captured p lines v x near (Some u) = list_any (repeats_from p lines v x u) ne
 abbrev pub comes_through : Numbers → Lines → ℕ → Sending → List Sending → Bool
 comes_through p lines v x near =
     arrives p lines v x && not (list_any (transmits v x) near) && not (list_any (spoils p lines v x) near)
-    && (not (list_any (differs p lines v x) near) || is_captured p lines v x near (captured lines (frame_of p x) (slot_of x) (counter_of x) v))
+    && (not (list_any (differs p lines v x) near)
+        || is_captured p lines v x near (captured lines (frame_of_sending p x) (slot_of_sending x) (counter_of_sending x) v))

@@ -15,26 +15,26 @@ pub record MediumState : Type 0 where
   pub now : ℕ
   pub stations : List Station
 
-abbrev pub node_of : Station → ℕ
-node_of st = st.node
+abbrev pub id_of_station : Station → ℕ
+id_of_station st = st.node
 
 abbrev pub nodes_of : MediumState → List ℕ
-nodes_of m = map node_of m.stations
+nodes_of m = map id_of_station m.stations
 
-abbrev pub is_of : ℕ → Station → Bool
-is_of v st = st.node == v
+abbrev pub is_station_of : ℕ → Station → Bool
+is_station_of v st = st.node == v
 
 abbrev pub station_of : MediumState → ℕ → Option Station
-station_of m v = find (is_of v) m.stations
+station_of m v = find (is_station_of v) m.stations
 
 -- the node is tuned and does not send
 abbrev pub can_send : Option Station → Bool
 can_send None = false
 can_send (Some st) = is_some st.tuned && is_none st.sending
 
-abbrev pub sending_of : Option Station → Option Sending
-sending_of None = None
-sending_of (Some st) = st.sending
+abbrev pub sending_of_station : Option Station → Option Sending
+sending_of_station None = None
+sending_of_station (Some st) = st.sending
 
 -- no time falls, none is after the end of a sending that runs, and all are small
 pub record IsTime (m : MediumState) (t : ℕ) : Type 0 where
@@ -45,7 +45,7 @@ pub record IsTime (m : MediumState) (t : ℕ) : Type 0 where
 -- the node's sending ends at t, which is its start plus its packet's airtime
 pub record Ends (m : MediumState) (v t : ℕ) : Type 0 where
   pub sending : Sending
-  pub runs : sending_of (station_of m v) ≡ Some sending
+  pub runs : sending_of_station (station_of m v) ≡ Some sending
   pub until : sending.end ≡ t
   pub lasts : t ≡ sending.start + airtime m.numbers (length sending.packet)
 
@@ -98,9 +98,9 @@ tuned_in rank t st = record st {
 abbrev pub tuned_out : ℕ → Station → Station
 tuned_out t st = record st { tuned = None; last = last_at st.tuned st.last t }
 
-abbrev pub retuned : Option ℕ → ℕ → Station → Station
-retuned None t st = tuned_out t st
-retuned (Some rank) t st = if is_tuned_to st.tuned rank then st else tuned_in rank t (tuned_out t st)
+abbrev pub station_after_tuning : Option ℕ → ℕ → Station → Station
+station_after_tuning None t st = tuned_out t st
+station_after_tuning (Some rank) t st = if is_tuned_to st.tuned rank then st else tuned_in rank t (tuned_out t st)
 
 -- what the station sends if it begins to send at t. None where it is not tuned
 abbrev pub next_sending : Numbers → ℕ → List ℕ → ℕ → Option Tuned → Option Sending
@@ -114,12 +114,12 @@ begins_on (Some o) None = Some o.rank
 begins_on (Some o) (Some x) = None
 
 -- what is sent goes on
-abbrev pub first_sending : Option Sending → Option Sending → Option Sending
-first_sending None next = next
-first_sending (Some x) next = Some x
+abbrev pub current_or_next : Option Sending → Option Sending → Option Sending
+current_or_next None next = next
+current_or_next (Some x) next = Some x
 
-abbrev pub started : Numbers → ℕ → List ℕ → Station → Station
-started p t packet st = record st { sending = first_sending st.sending (next_sending p t packet st.node st.tuned) }
+abbrev pub station_after_start : Numbers → ℕ → List ℕ → Station → Station
+station_after_start p t packet st = record st { sending = current_or_next st.sending (next_sending p t packet st.node st.tuned) }
 
 -- the ended sendings with one more. Where there is no room the oldest one is forgotten
 abbrev pub with_ended : Buffer Sending → Option Sending → Buffer Sending
@@ -127,8 +127,8 @@ with_ended b None = b
 with_ended b (Some x) = buffer (keep_last b.capacity (b.items ++ x ∷ [])) b.capacity
 
 -- the sending has ended
-abbrev pub finished : Station → Station
-finished st = record st { sending = None; ended = with_ended st.ended st.sending }
+abbrev pub station_after_end : Station → Station
+station_after_end st = record st { sending = None; ended = with_ended st.ended st.sending }
 
 -- the ended sendings that are kept, the oldest first, and what is sent
 abbrev pub on_air : Station → List Sending
@@ -138,12 +138,12 @@ on_air st = st.ended.items ++ option_to_list st.sending
 abbrev pub KeepsNode : (Station → Station) → Type 0
 KeepsNode change = (st : Station) → (change st).node ≡ st.node
 
-abbrev pub changed_at : ℕ → (Station → Station) → Station → Station
-changed_at v change st = if st.node == v then change st else st
+abbrev pub station_changed_at : ℕ → (Station → Station) → Station → Station
+station_changed_at v change st = if st.node == v then change st else st
 
 -- the medium at t, where one node's station has changed
-abbrev pub after : ℕ → ℕ → (Station → Station) → MediumState → MediumState
-after t v change m = record m { now = t; stations = map (changed_at v change) m.stations }
+abbrev pub medium_after_change : ℕ → ℕ → (Station → Station) → MediumState → MediumState
+medium_after_change t v change m = record m { now = t; stations = map (station_changed_at v change) m.stations }
 
 -- the channel's tuning in the tick before t goes back to the start or further
 abbrev pub goes_on : Option Tuned → ℕ → ℕ → Bool

@@ -2,7 +2,7 @@
 
 ghost use Rattle.std.specs.Prelude.{◌≡◌, ◌≤◌, ◌^◌, if◌then◌else◌, option_to_list};
 ghost use Rattle.radio_model.specs.Ages.{ByEnd};
-ghost use Rattle.radio_model.specs.Meetings.{rival_to as rival_by, rivals_in, IsPlaced, IsBrought, nothing, both_brought, brought_by};
+ghost use Rattle.radio_model.specs.Meetings.{rival_to as rival_by, rivals_in, IsPlaceOf, IsBrought, nothing_brought, both_brought, brought_by};
 
 use crate::rivals::{Rival, ended_at, first_after, reach_of, rival_to};
 use crate::sending::Sending;
@@ -21,7 +21,7 @@ pub struct Brought {
 
 impl Brought {
     fn none() -> Brought
-        ensures { result ≡ nothing }
+        ensures { result ≡ nothing_brought }
     {
         Brought {
             mixed: 0,
@@ -68,7 +68,7 @@ fn brought_with<M: Links>(
 ) -> Brought
     requires start { x.now.start ≤ 2 ^ 46 }
     requires end { x.now.end ≤ 2 ^ 46 }
-    requires at { IsPlaced (M.nodes links.now) station.now.place station.now.node }
+    requires at { IsPlaceOf (M.nodes links.now) station.now.place station.now.node }
     ensures { IsBrought (M.lines links.now) (M.nodes links.now) (option_to_list (rival_by profile.now x.now station.now y.now)) result }
 {
     match rival_to(profile, station, x, y) {
@@ -87,7 +87,7 @@ pub fn brought_from<M: Links>(
     requires start { x.now.start ≤ 2 ^ 46 }
     requires end { x.now.end ≤ 2 ^ 46 }
     requires by_end { ByEnd station.now.ended.items }
-    requires at { IsPlaced (M.nodes links.now) station.now.place station.now.node }
+    requires at { IsPlaceOf (M.nodes links.now) station.now.place station.now.node }
     ensures { IsBrought (M.lines links.now) (M.nodes links.now) (rivals_in profile.now x.now station.now) result }
 {
     let mut brought = Brought::none();

@@ -6,7 +6,7 @@ ghost use Rattle.link_trace.specs.Passes.{captured};
 ghost use Rattle.radio_model.specs.Ages.{IsAged, ByEnd};
 ghost use Rattle.radio_model.specs.declared.station.Station.{Station};
 ghost use Rattle.radio_model.specs.Meetings.{rivals_in, rivals_to, comes_from};
-ghost use Rattle.radio_model.specs.Meetings.{is_chosen as chosen_by, IsPlaced};
+ghost use Rattle.radio_model.specs.Meetings.{is_chosen as chosen_by, IsPlaceOf};
 
 use crate::bits::has_bit;
 use crate::brought::brought_from;
@@ -29,8 +29,8 @@ pub fn is_chosen<M: Links>(
     requires end { x.now.end ≤ 2 ^ 46 }
     requires few { length (M.nodes links.now) ≤ 64 }
     requires aged { All (λ st. IsAged x.now.end st.ended.items) stations.now }
-    requires places { All (λ st. IsPlaced (M.nodes links.now) st.place st.node) stations.now }
-    requires at { IsPlaced (M.nodes links.now) at.now.place at.now.node }
+    requires places { All (λ st. IsPlaceOf (M.nodes links.now) st.place st.node) stations.now }
+    requires at { IsPlaceOf (M.nodes links.now) at.now.place at.now.node }
     ensures { result ≡ chosen_by (M.lines links.now) at.now.node (rivals_to profile.now x.now stations.now)
         (captured (M.lines links.now) key.frame key.slot key.counter at.now.node) }
 {
@@ -58,8 +58,8 @@ fn sends_same<M: Links>(
     requires end { x.now.end ≤ 2 ^ 46 }
     requires few { length (M.nodes links.now) ≤ 64 }
     requires by_end { ByEnd station.now.ended.items }
-    requires station { IsPlaced (M.nodes links.now) station.now.place station.now.node }
-    requires at { IsPlaced (M.nodes links.now) at.now.place at.now.node }
+    requires station { IsPlaceOf (M.nodes links.now) station.now.place station.now.node }
+    requires at { IsPlaceOf (M.nodes links.now) at.now.place at.now.node }
     ensures { result ≡ list_any (comes_from (M.lines links.now) at.now.node named) (rivals_in profile.now x.now station.now) }
 {
     station.node == named && has_bit(brought_from(links, profile, station, x).same, at.place)

@@ -8,9 +8,9 @@ ghost use Rattle.radio_model.specs.Ages.{IsAged, ByEnd};
 ghost use Rattle.radio_model.specs.Marks.{IsMark, AreMarks, IsAlike, AreAlikeTo, comes_close};
 ghost use Rattle.radio_model.specs.Recent.{AreAmong};
 ghost use Rattle.radio_model.specs.declared.station.Station.{Station};
-ghost use Rattle.radio_model.specs.Meetings.{key_of, IsFrameStart, rivals_in, rivals_to, spoils};
-ghost use Rattle.radio_model.specs.Meetings.{IsPlaced, IsCrowd, no_crowd, both_crowds};
-ghost use Rattle.radio_model.specs.Meetings.{IsFrom, AddsTo, Tells, TellsAt, IsNear, AreThose};
+ghost use Rattle.radio_model.specs.Meetings.{key_of, IsInOneFrame, rivals_in, rivals_to, spoils};
+ghost use Rattle.radio_model.specs.Meetings.{IsPlaceOf, IsCrowd, no_crowd, both_crowds};
+ghost use Rattle.radio_model.specs.Meetings.{IsFrom, AddsTo, HasBitsOf, TellsAt, IsNear, AreThose};
 
 use crate::bits::{lowest, without_bit, without_bits};
 use crate::brought::brought_from;
@@ -63,12 +63,12 @@ fn crowd_at<M: Links>(
     opens: u64,
 ) -> Crowd
     requires key { key ≡ key_of profile.now x.now }
-    requires opens { IsFrameStart profile.now.frame x.now.start opens }
+    requires opens { IsInOneFrame profile.now.frame x.now.start opens }
     requires delta { (delta ≡ profile.now.delta) × (delta ≤ 2 ^ 32) }
     requires start { x.now.start ≤ 2 ^ 46 }
     requires end { x.now.end ≤ 2 ^ 46 }
     requires by_end { ByEnd station.now.ended.items }
-    requires at { IsPlaced (M.nodes links.now) station.now.place station.now.node }
+    requires at { IsPlaceOf (M.nodes links.now) station.now.place station.now.node }
     requires mark { IsMark (on_air station.now) mark }
     requires alike { IsAlike (on_air station.now) station.now.node mark origin x.now }
     ensures { IsCrowd (M.lines links.now) (M.nodes links.now) (rivals_in profile.now x.now station.now) result }
@@ -106,12 +106,12 @@ fn crowd_with<M: Links>(
     known: Crowd,
 ) -> Option<Crowd>
     requires key { key ≡ key_of profile.now x.now }
-    requires opens { IsFrameStart profile.now.frame x.now.start opens }
+    requires opens { IsInOneFrame profile.now.frame x.now.start opens }
     requires delta { (delta ≡ profile.now.delta) × (delta ≤ 2 ^ 32) }
     requires start { x.now.start ≤ 2 ^ 46 }
     requires end { x.now.end ≤ 2 ^ 46 }
     requires aged { All (λ st. IsAged x.now.end st.ended.items) stations.now }
-    requires places { All (λ st. IsPlaced (M.nodes links.now) st.place st.node) stations.now }
+    requires places { All (λ st. IsPlaceOf (M.nodes links.now) st.place st.node) stations.now }
     requires marks { AreMarks stations.now marks.now }
     requires alike { AreAlikeTo stations.now marks.now origin x.now }
     requires within { (k : ℕ) → bit_at places k ≡ 1 → k < length stations.now }
@@ -198,12 +198,12 @@ pub fn crowd_of<M: Links>(
     ready: u64,
 ) -> Option<Crowd>
     requires key { key ≡ key_of profile.now x.now }
-    requires opens { IsFrameStart profile.now.frame x.now.start opens }
+    requires opens { IsInOneFrame profile.now.frame x.now.start opens }
     requires delta { (delta ≡ profile.now.delta) × (delta ≤ 2 ^ 32) }
     requires start { x.now.start ≤ 2 ^ 46 }
     requires end { x.now.end ≤ 2 ^ 46 }
     requires aged { All (λ st. IsAged x.now.end st.ended.items) stations.now }
-    requires places { All (λ st. IsPlaced (M.nodes links.now) st.place st.node) stations.now }
+    requires places { All (λ st. IsPlaceOf (M.nodes links.now) st.place st.node) stations.now }
     requires marks { AreMarks stations.now marks.now }
     requires alike { AreAlikeTo stations.now marks.now origin x.now }
     requires in_order { (k : ℕ) (d : Station) → k < length stations.now → (slice_index_or stations.now k d).place ≡ k }
@@ -212,7 +212,7 @@ pub fn crowd_of<M: Links>(
     requires within { (i : ℕ) → bit_at ready i ≡ 1 → i < length (M.nodes links.now) }
     ensures from { IfSome result (IsFrom (M.lines links.now) (M.nodes links.now) (rivals_to profile.now x.now stations.now)) }
     ensures tells { IfSome result (λ c. (i : ℕ) → bit_at ready i ≡ 1
-        → Tells (M.lines links.now) (M.nodes links.now) (rivals_to profile.now x.now stations.now) i c) }
+        → HasBitsOf (M.lines links.now) (M.nodes links.now) (rivals_to profile.now x.now stations.now) i c) }
     ensures none { IfNone result ((i : ℕ) → bit_at ready i ≡ 1
         → list_any (spoils (M.lines links.now) (slice_index (M.nodes links.now) i)) (rivals_to profile.now x.now stations.now) ≡ true) }
 {
@@ -257,8 +257,8 @@ pub fn lost_early<M: Links>(
     opens: u64,
 ) -> u64
     requires key { key ≡ key_of profile.now x.now }
-    requires opens { IsFrameStart profile.now.frame x.now.start opens }
-    requires places { All (λ st. IsPlaced (M.nodes links.now) st.place st.node) stations.now }
+    requires opens { IsInOneFrame profile.now.frame x.now.start opens }
+    requires places { All (λ st. IsPlaceOf (M.nodes links.now) st.place st.node) stations.now }
     requires marks { AreMarks stations.now marks.now }
     requires alike { AreAlikeTo stations.now marks.now origin x.now }
     ensures { (i : ℕ) → bit_at result i ≡ 1

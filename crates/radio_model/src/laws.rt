@@ -3,15 +3,16 @@ ghost use Rattle.std.specs.Prelude.{◌≡◌, ◌≢◌, ◌↔◌, ◌<◌, �
 ghost use Rattle.lwb_base.specs.Profile.{Numbers, IsProfile};
 ghost use Rattle.link_trace.specs.Masks.{AreNodes};
 ghost use Rattle.radio_model.specs.OnAir.{Sending};
-ghost use Rattle.radio_model.specs.Hearing.{Scene, Hears};
-ghost use Rattle.radio_model.specs.Stations.{MediumState, IsMedium, KeepsNode, nodes_of, station_of, first_state, retuned, started, finished, after};
+ghost use Rattle.radio_model.specs.Hearing.{Scene, HearsInScene};
+ghost use Rattle.radio_model.specs.Stations.{MediumState, IsMedium, KeepsNode, nodes_of, station_of, first_state, station_after_tuning, station_after_start};
+ghost use Rattle.radio_model.specs.Stations.{station_after_end, medium_after_change};
 ghost use Rattle.radio_model.specs.Holding.{Agree, Holds, SameHistory, as_it_stands, after_tuning, after_starting};
 ghost use Rattle.radio_model.specs.declared.station.Station.{Station};
 
 /// Who receives a transmission is settled when it ends: nothing that happens from then on counts.
 pub fn hearing_is_settled()
     ensures { (a b : Scene) (v : ℕ) (x : Sending) → x.start < x.end → Agree x.end a b
-        → Hears a v x ↔ Hears b v x }
+        → HearsInScene a v x ↔ HearsInScene b v x }
 {}
 
 /// What a medium holds does not depend on how ended tunings that meet are split.
@@ -23,10 +24,10 @@ pub fn same_history_is_held()
 /// before the tick up to which it is compared.
 pub fn calls_change_nothing_before()
     ensures tuning { (m : MediumState) (v : ℕ) (rank : Option ℕ) (t : ℕ) (a : Scene) → AreNodes (nodes_of m) → Holds m a → m.now ≤ t
-        → Agree t (as_it_stands m t a) (as_it_stands (after t v (retuned rank t) m) t (after_tuning m v rank t a)) }
+        → Agree t (as_it_stands m t a) (as_it_stands (medium_after_change t v (station_after_tuning rank t) m) t (after_tuning m v rank t a)) }
     ensures starting { (m : MediumState) (v t : ℕ) (packet : List ℕ) (a : Scene)
-        → Agree t (as_it_stands m t a) (as_it_stands (after t v (started m.numbers t packet) m) t (after_starting m v t packet a)) }
-    ensures ending { (m : MediumState) (v t : ℕ) (a : Scene) → Agree t (as_it_stands m t a) (as_it_stands (after t v finished m) t a) }
+        → Agree t (as_it_stands m t a) (as_it_stands (medium_after_change t v (station_after_start m.numbers t packet) m) t (after_starting m v t packet a)) }
+    ensures ending { (m : MediumState) (v t : ℕ) (a : Scene) → Agree t (as_it_stands m t a) (as_it_stands (medium_after_change t v station_after_end m) t a) }
     ensures waiting { (m : MediumState) (s t : ℕ) (a : Scene) → s ≤ t → Agree s (as_it_stands m s a) (as_it_stands m t a) }
 {}
 
@@ -40,21 +41,22 @@ pub fn agreement_is_an_equivalence()
 
 /// A call changes the station of its node alone, and leaves each station its node's.
 pub fn stations_after()
-    ensures nodes { (m : MediumState) (t v : ℕ) (change : Station → Station) → KeepsNode change → nodes_of (after t v change m) ≡ nodes_of m }
+    ensures nodes { (m : MediumState) (t v : ℕ) (change : Station → Station) → KeepsNode change → nodes_of (medium_after_change t v change m) ≡ nodes_of m }
     ensures node { (m : MediumState) (t v : ℕ) (change : Station → Station) → KeepsNode change
-        → station_of (after t v change m) v ≡ option_map change (station_of m v) }
+        → station_of (medium_after_change t v change m) v ≡ option_map change (station_of m v) }
     ensures others { (m : MediumState) (t v : ℕ) (change : Station → Station) → KeepsNode change → (w : ℕ) → w ≢ v
-        → station_of (after t v change m) w ≡ station_of m w }
-    ensures tuning { (rank : Option ℕ) (t : ℕ) → KeepsNode (retuned rank t) }
-    ensures starting { (p : Numbers) (t : ℕ) (packet : List ℕ) → KeepsNode (started p t packet) }
-    ensures ending { KeepsNode finished }
+        → station_of (medium_after_change t v change m) w ≡ station_of m w }
+    ensures tuning { (rank : Option ℕ) (t : ℕ) → KeepsNode (station_after_tuning rank t) }
+    ensures starting { (p : Numbers) (t : ℕ) (packet : List ℕ) → KeepsNode (station_after_start p t packet) }
+    ensures ending { KeepsNode station_after_end }
 {}
 
 /// A medium is one from its first state on, through each call.
 pub fn mediums_stay()
     ensures first { (p : Numbers) (nodes : List ℕ) → IsProfile p → AreNodes nodes → IsMedium (first_state p nodes) }
     ensures nodes { (p : Numbers) (nodes : List ℕ) → nodes_of (first_state p nodes) ≡ nodes }
-    ensures tuning { (m : MediumState) (v : ℕ) (rank : Option ℕ) (t : ℕ) → IsMedium m → IsMedium (after t v (retuned rank t) m) }
-    ensures starting { (m : MediumState) (v t : ℕ) (packet : List ℕ) → IsMedium m → IsMedium (after t v (started m.numbers t packet) m) }
-    ensures ending { (m : MediumState) (v t : ℕ) → IsMedium m → IsMedium (after t v finished m) }
+    ensures tuning { (m : MediumState) (v : ℕ) (rank : Option ℕ) (t : ℕ) → IsMedium m → IsMedium (medium_after_change t v (station_after_tuning rank t) m) }
+    ensures starting { (m : MediumState) (v t : ℕ) (packet : List ℕ) → IsMedium m
+        → IsMedium (medium_after_change t v (station_after_start m.numbers t packet) m) }
+    ensures ending { (m : MediumState) (v t : ℕ) → IsMedium m → IsMedium (medium_after_change t v station_after_end m) }
 {}

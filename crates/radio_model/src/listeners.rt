@@ -2,14 +2,14 @@
 
 ghost use Rattle.std.specs.Prelude.{◌≡◌, ◌≤◌, ◌<◌, ◌^◌, All, length, map, ◌||◌, ◌==◌, not, ℕ, slice_index_or};
 ghost use Rattle.std.specs.List.{list_any};
-ghost use Rattle.radio_model.specs.Stations.{node_of, on_air, overlaps};
+ghost use Rattle.radio_model.specs.Stations.{id_of_station, on_air, overlaps};
 ghost use Rattle.radio_model.specs.Ages.{IsAged};
 ghost use Rattle.radio_model.specs.Marks.{IsMark, AreMarks, AreAlikeTo};
 ghost use Rattle.radio_model.specs.Recent.{AreAmong};
 ghost use Rattle.std.specs.Int.{bit_at};
 ghost use Rattle.link_trace.specs.Passes.{captured};
 ghost use Rattle.radio_model.specs.declared.station.Station.{Station};
-ghost use Rattle.radio_model.specs.Meetings.{hearers_to, is_chosen as is_chosen_by, is_ready as ready_for, AreThose, IsPlaced, rivals_to};
+ghost use Rattle.radio_model.specs.Meetings.{hearers_to, is_chosen as is_chosen_by, is_ready as ready_for, AreThose, IsPlaceOf, rivals_to};
 
 use crate::bits::{has_bit, lowest, without_bit, without_bits};
 use crate::chosen::is_chosen;
@@ -40,13 +40,13 @@ pub fn listeners<M: Links>(
     requires end { x.now.end ≤ 2 ^ 46 }
     requires few { length stations.now ≤ 64 }
     requires aged { All (λ st. IsAged x.now.end st.ended.items) stations.now }
-    requires seal { (M.nodes links.now) ≡ map node_of stations.now }
-    requires places { All (λ st. IsPlaced (M.nodes links.now) st.place st.node) stations.now }
+    requires seal { (M.nodes links.now) ≡ map id_of_station stations.now }
+    requires places { All (λ st. IsPlaceOf (M.nodes links.now) st.place st.node) stations.now }
     requires in_order { (k : ℕ) (d : Station) → k < length stations.now → (slice_index_or stations.now k d).place ≡ k }
     requires marks { AreMarks stations.now marks.now }
     requires alike { AreAlikeTo stations.now marks.now origin x.now }
     requires among { AreAmong profile.now x.now stations.now places }
-    requires from { IsPlaced (M.nodes links.now) from.now.place from.now.node }
+    requires from { IsPlaceOf (M.nodes links.now) from.now.place from.now.node }
     ensures { result ≡ hearers_to profile.now (M.lines links.now) from.now.node x.now stations.now }
 {
     let key = Key::of(profile, x);
@@ -117,8 +117,8 @@ fn is_taken<M: Links>(
     requires end { x.now.end ≤ 2 ^ 46 }
     requires few { length (M.nodes links.now) ≤ 64 }
     requires aged { All (λ st. IsAged x.now.end st.ended.items) stations.now }
-    requires places { All (λ st. IsPlaced (M.nodes links.now) st.place st.node) stations.now }
-    requires at { IsPlaced (M.nodes links.now) at.now.place at.now.node }
+    requires places { All (λ st. IsPlaceOf (M.nodes links.now) st.place st.node) stations.now }
+    requires at { IsPlaceOf (M.nodes links.now) at.now.place at.now.node }
     requires place { place ≡ at.now.place }
     ensures { result ≡ (not (bit_at mixed place == 1) || is_chosen_by (M.lines links.now) at.now.node (rivals_to profile.now x.now stations.now)
         (captured (M.lines links.now) key.frame key.slot key.counter at.now.node)) }

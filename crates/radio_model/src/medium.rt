@@ -6,12 +6,12 @@ ghost use Rattle.std.specs.List.{HoldsAt};
 ghost use Rattle.lwb_base.specs.Profile.{Numbers};
 ghost use Rattle.link_trace.specs.Masks.{AreNodes};
 ghost use Rattle.link_trace.specs.Passes.{Lines};
-ghost use Rattle.radio_model.specs.Hearing.{Scene, Hears};
+ghost use Rattle.radio_model.specs.Hearing.{Scene, HearsInScene};
 ghost use Rattle.radio_model.specs.Holding.{Holds, nothing_yet, after_tuning, after_starting, as_it_stands};
-ghost use Rattle.radio_model.specs.Stations.{MediumState, node_of, nodes_of, station_of, can_send, sending_of, retuned};
-ghost use Rattle.radio_model.specs.Stations.{started, finished, after, first_state, stations_from, IsTime, IsMedium, Ends};
+ghost use Rattle.radio_model.specs.Stations.{MediumState, id_of_station, nodes_of, station_of, can_send, sending_of_station, station_after_tuning};
+ghost use Rattle.radio_model.specs.Stations.{station_after_start, station_after_end, medium_after_change, first_state, stations_from, IsTime, IsMedium, Ends};
 ghost use Rattle.radio_model.specs.Ages.{IsAged};
-ghost use Rattle.radio_model.specs.Meetings.{hearers_to, IsPlaced};
+ghost use Rattle.radio_model.specs.Meetings.{hearers_to, IsPlaceOf};
 ghost use Rattle.radio_model.specs.Marks.{AreAlike, AreMarks, ArePlaces};
 ghost use Rattle.radio_model.specs.Recent.{AreAmong};
 ghost use Rattle.radio_model.specs.declared.sending.Sending.{Sending};
@@ -94,7 +94,7 @@ impl Medium {
     pub fn tune(&mut self, node: NodeId, rank: Option<Rank>, t: u64)
         requires node { Contains (nodes_of self.old) node }
         requires time { IsTime self.old t }
-        ensures state { self.new ≡ after t node (retuned rank t) self.old }
+        ensures state { self.new ≡ medium_after_change t node (station_after_tuning rank t) self.old }
         ensures holds { (a : Scene) → Holds self.old a → Holds self.new (after_tuning self.old node rank t a) }
     {
         let place = place_of(&self.places, node);
@@ -110,7 +110,7 @@ impl Medium {
         requires node { Contains (nodes_of self.old) node }
         requires time { IsTime self.old t }
         ensures value { result ≡ can_send (station_of self.old node) }
-        ensures state { self.new ≡ after t node (started self.old.numbers t packet.now) self.old }
+        ensures state { self.new ≡ medium_after_change t node (station_after_start self.old.numbers t packet.now) self.old }
         ensures holds { (a : Scene) → Holds self.old a
             → Holds self.new (after_starting self.old node t packet.now a) }
     {
@@ -140,11 +140,11 @@ impl Medium {
         requires time { IsTime self.old t }
         requires sends { Ends self.old node t }
         requires seal { M.nodes links.now ≡ nodes_of self.old }
-        ensures state { self.new ≡ after t node finished self.old }
+        ensures state { self.new ≡ medium_after_change t node station_after_end self.old }
         ensures holds { (a : Scene) → Holds self.old a → Holds self.new a }
         ensures hearers { (a : Scene) (x : Sending) → Holds self.old a → a.lines ≡ M.lines links.now
-            → sending_of (station_of self.old node) ≡ Some x → (v : ℕ) → Contains result (v, node)
-            ↔ (Contains (nodes_of self.old) v × Hears (as_it_stands self.old t a) v x) }
+            → sending_of_station (station_of self.old node) ≡ Some x → (v : ℕ) → Contains result (v, node)
+            ↔ (Contains (nodes_of self.old) v × HearsInScene (as_it_stands self.old t a) v x) }
         ensures sender { All (λ p. p.1 ≡ node) result }
         ensures ascending { AllPairs (λ p q. p.0 < q.0) result }
     {
@@ -163,7 +163,7 @@ impl Medium {
         requires later { self.now.now ≤ t }
         requires sends { Ends self.now node t }
         requires seal { M.nodes links.now ≡ nodes_of self.now }
-        ensures list { IfSome (sending_of (station_of self.now node)) (λ x. result
+        ensures list { IfSome (sending_of_station (station_of self.now node)) (λ x. result
             ≡ hearers_to self.now.numbers (M.lines links.now) node x self.now.stations) }
         ensures kept { IsMedium self.now }
     {
@@ -194,8 +194,8 @@ fn listeners_at<M: Links>(
     requires sends { (d : Station) → IsSomeAnd (slice_index_or stations.now place d).sending (λ x. (x.start ≤ 2 ^ 46) × (x.end ≤ 2 ^ 46)
         × All (λ st. IsAged x.end st.ended.items) stations.now) }
     requires few { length stations.now ≤ 64 }
-    requires seal { M.nodes links.now ≡ map node_of stations.now }
-    requires places { All (λ st. IsPlaced (M.nodes links.now) st.place st.node) stations.now }
+    requires seal { M.nodes links.now ≡ map id_of_station stations.now }
+    requires places { All (λ st. IsPlaceOf (M.nodes links.now) st.place st.node) stations.now }
     requires in_order { (k : ℕ) (d : Station) → k < length stations.now → (slice_index_or stations.now k d).place ≡ k }
     requires delta { (delta ≡ profile.now.delta) × (delta ≤ 2 ^ 32) }
     requires marks { AreMarks stations.now marks.now }

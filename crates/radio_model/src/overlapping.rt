@@ -4,7 +4,7 @@ ghost use Rattle.std.specs.Prelude.{◌≡◌, ◌≤◌, ◌^◌, All, true};
 ghost use Rattle.std.specs.List.{list_any};
 ghost use Rattle.std.specs.Str.{bytes_eq};
 ghost use Rattle.link_trace.specs.Passes.{captured};
-ghost use Rattle.radio_model.specs.Hearing.{frame_of, slot_of, counter_of};
+ghost use Rattle.radio_model.specs.Hearing.{frame_of_sending, slot_of_sending, counter_of_sending};
 ghost use Rattle.radio_model.specs.Meetings.{comes_in_time as in_time};
 ghost use Rattle.radio_model.specs.Stations.{overlaps as overlap_of};
 ghost use Rattle.radio_model.specs.Receptions.{transmits, arrives as arrival, meets_on as meets_on_channel, repeats as repetition};
@@ -80,7 +80,7 @@ pub fn is_captured(
     requires start { x.now.start ≤ 2 ^ 46 }
     requires starts { All (λ y. y.start ≤ 2 ^ 46) near.now }
     ensures { result ≡ captured_by profile.now trace.now.lines node x.now near.now
-        (captured trace.now.lines (frame_of profile.now x.now) (slot_of x.now) (counter_of x.now) node) }
+        (captured trace.now.lines (frame_of_sending profile.now x.now) (slot_of_sending x.now) (counter_of_sending x.now) node) }
 {
     let frame = (x.start / profile.frame()) as u32;
     match trace.captured(frame, x.packet.slot(), x.packet.counter(), node) {

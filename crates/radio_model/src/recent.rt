@@ -1,7 +1,7 @@
 //! The nodes whose transmissions can still matter.
 
 ghost use Rattle.std.specs.Prelude.{◌≡◌, ◌<◌, true, false};
-ghost use Rattle.radio_model.specs.Recent.{no_recent, IsNext};
+ghost use Rattle.radio_model.specs.Recent.{no_recent, IsRecentAfter};
 
 use crate::bits::with_bit;
 
@@ -27,7 +27,7 @@ impl Recent {
     /// Another transmission may begin at that place.
     pub(crate) fn next(self, starts: bool, place: u8, start: u64, end: u64) -> Recent
         requires { place < 64 }
-        ensures starts { starts ≡ true → IsNext place start end self result }
+        ensures starts { starts ≡ true → IsRecentAfter place start end self result }
         ensures stays { starts ≡ false → result ≡ self }
     {
         if starts {
@@ -40,7 +40,7 @@ impl Recent {
     // Where all others were over before, only this one can matter from now on.
     fn with(self, place: u8, start: u64, end: u64) -> Recent
         requires { place < 64 }
-        ensures { IsNext place start end self result }
+        ensures { IsRecentAfter place start end self result }
     {
         let others = if self.latest < start { 0 } else { self.places };
         Recent {

@@ -1,7 +1,7 @@
 //! Whether a node that is tuned receives a transmission, decided over a list of transmissions.
 
 ghost use Rattle.std.specs.Prelude.{◌≡◌, ◌↔◌, ◌≤◌, ◌^◌, All, Contains, true};
-ghost use Rattle.radio_model.specs.Hearing.{Scene, Hears, TunedThrough};
+ghost use Rattle.radio_model.specs.Hearing.{Scene, HearsInScene, TunedThrough};
 ghost use Rattle.radio_model.specs.Receptions.{AreNear, comes_through as passes_through};
 
 use crate::overlapping::{arrives, is_busy, is_captured, is_mixed, is_spoiled};
@@ -22,7 +22,7 @@ pub fn comes_through(
     requires start { x.now.start ≤ 2 ^ 46 }
     requires starts { All (λ y. y.start ≤ 2 ^ 46) near.now }
     ensures { (a : Scene) → a.numbers ≡ profile.now → a.lines ≡ trace.now.lines → AreNear a.sendings x.now near.now → Contains a.sendings x.now
-        → TunedThrough a node x.now → (result ≡ true ↔ Hears a node x.now) }
+        → TunedThrough a node x.now → (result ≡ true ↔ HearsInScene a node x.now) }
 {
     is_undisturbed(profile, trace, near, node, x)
 }

@@ -3,7 +3,7 @@
 ghost use Rattle.std.specs.Prelude.{◌≡◌, ◌≤◌, ◌/◌, ◌<◌, ◌^◌, length, All, slice_index, slice_index_or, take};
 ghost use Rattle.link_trace.specs.Masks.{IsMask};
 ghost use Rattle.radio_model.specs.Ages.{ByEnd};
-ghost use Rattle.radio_model.specs.Meetings.{key_of, IsFrameStart, rival_to as rival_by, passes_at};
+ghost use Rattle.radio_model.specs.Meetings.{key_of, IsInOneFrame, rival_to as rival_by, passes_at};
 
 use crate::sending::Sending;
 use crate::station::{Station, overlap};
@@ -43,7 +43,7 @@ impl Key {
 
 /// The tick at which the frame of a tick begins.
 pub fn frame_start(profile: &Profile, t: u64) -> u64
-    ensures { IsFrameStart profile.now.frame t result }
+    ensures { IsInOneFrame profile.now.frame t result }
 {
     t - t % profile.frame()
 }

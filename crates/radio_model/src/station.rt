@@ -4,7 +4,8 @@ ghost use Rattle.std.specs.Prelude.{◌≡◌, ◌≤◌, ◌+◌, ◌<◌, ◌^
 ghost use Rattle.std.specs.List.{list_any};
 ghost use Rattle.circular_buffer.specs.Buffer.{buffer};
 ghost use Rattle.lwb_base.specs.Profile.{airtime, Numbers};
-ghost use Rattle.radio_model.specs.Stations.{tuned_in, tuned_out, retuned, is_tuned_to, begins_on, started, finished, on_air, covers, overlaps};
+ghost use Rattle.radio_model.specs.Stations.{tuned_in, tuned_out, station_after_tuning, is_tuned_to, begins_on, station_after_start, station_after_end, on_air};
+ghost use Rattle.radio_model.specs.Stations.{covers, overlaps};
 ghost use Rattle.radio_model.specs.Ages.{IsAged};
 
 use crate::sending::Sending;
@@ -61,7 +62,7 @@ impl Station {
 
     /// It is tuned to that channel from t on, or to nothing.
     pub(crate) fn tune(&mut self, rank: Option<Rank>, t: u64)
-        ensures { self.new ≡ retuned rank t self.old }
+        ensures { self.new ≡ station_after_tuning rank t self.old }
     {
         match rank {
             None => self.tune_out(t),
@@ -116,7 +117,7 @@ impl Station {
     /// already sends, and then nothing changes.
     pub(crate) fn start(&mut self, t: u64, end: u64, packet: &Packet) -> Option<Rank>
         ensures value { result ≡ begins_on self.old.tuned self.old.sending }
-        ensures state { (p : Numbers) → end ≡ t + airtime p (length packet.now) → self.new ≡ started p t packet.now self.old }
+        ensures state { (p : Numbers) → end ≡ t + airtime p (length packet.now) → self.new ≡ station_after_start p t packet.now self.old }
     {
         let Some(tuned) = self.tuned else {
             return None;
@@ -136,7 +137,7 @@ impl Station {
 
     /// What it sends ends.
     pub(crate) fn finish(&mut self)
-        ensures { self.new ≡ finished self.old }
+        ensures { self.new ≡ station_after_end self.old }
     {
         if let Some(x) = self.sending.take() {
             self.ended.push_back(x);

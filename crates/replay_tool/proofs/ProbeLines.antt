@@ -4,7 +4,7 @@ use Rattle.std.proofs.lemmas.Bool.{false≢true}
 use Rattle.scenario_text.specs.FloodParts.{knows}
 use Rattle.scenario_text.specs.declared.lines.NodeLine.{NodeLine}
 use Rattle.lwb_base.proofs.Elements.{contains_head, contains_tail}
-use Rattle.host_return.specs.Returned.{count_of}
+use Rattle.host_return.specs.Returned.{count_of_node}
 use Rattle.replay_tool.specs.ReturnReport.{node_probes, probe_line}
 use Rattle.replay_tool.proofs.NodeLines.{known_in}
 
@@ -18,20 +18,20 @@ module _ (g : ℕ → ℕ) where
   by_test m v false rest more same is later = later is
 
   -- the count of a node
-  counted : (ns : List NodeLine) (v : ℕ) → knows ns v ≡ true → count_of (map node_count ns) v ≡ g v
+  counted : (ns : List NodeLine) (v : ℕ) → knows ns v ≡ true → count_of_node (map node_count ns) v ≡ g v
   counted [] v is = absurd (false≢true is)
-  counted (m ∷ ms) v is = by_test m.node v (m.node == v) (knows ms v) (count_of (map node_count ms) v) refl is (counted ms v)
+  counted (m ∷ ms) v is = by_test m.node v (m.node == v) (knows ms v) (count_of_node (map node_count ms) v) refl is (counted ms v)
 
-  each_line : (counts : List (ℕ × ℕ)) (ns : List NodeLine) → ((n : NodeLine) → Contains ns n → count_of counts n.node ≡ g n.node)
-      → flat_map (λ n. probe_line n.node (count_of counts n.node)) ns ≡ flat_map node_probes (map node_count ns)
+  each_line : (counts : List (ℕ × ℕ)) (ns : List NodeLine) → ((n : NodeLine) → Contains ns n → count_of_node counts n.node ≡ g n.node)
+      → flat_map (λ n. probe_line n.node (count_of_node counts n.node)) ns ≡ flat_map node_probes (map node_count ns)
   each_line counts [] all = refl
   each_line counts (n ∷ ns) all =
-      ap (λ (k : ℕ). probe_line n.node k ++ flat_map (λ (m : NodeLine). probe_line m.node (count_of counts m.node)) ns) (all n (contains_head n ns))
+      ap (λ (k : ℕ). probe_line n.node k ++ flat_map (λ (m : NodeLine). probe_line m.node (count_of_node counts m.node)) ns) (all n (contains_head n ns))
       ∙ ap (λ (l : List ℕ). probe_line n.node (g n.node) ++ l) (each_line counts ns (λ m there. all m (contains_tail n ns m there)))
 
   -- the lines of all nodes are those of the counts
   pub probe_lines : (counts : List (ℕ × ℕ)) (ns : List NodeLine) → counts ≡ map node_count ns
-      → flat_map (λ n. probe_line n.node (count_of counts n.node)) ns ≡ flat_map node_probes counts
+      → flat_map (λ n. probe_line n.node (count_of_node counts n.node)) ns ≡ flat_map node_probes counts
   probe_lines counts ns are =
-      each_line counts ns (λ n here. ap (λ (c : List (ℕ × ℕ)). count_of c n.node) are ∙ counted ns n.node (known_in ns ns n refl here))
+      each_line counts ns (λ n here. ap (λ (c : List (ℕ × ℕ)). count_of_node c n.node) are ∙ counted ns n.node (known_in ns ns n refl here))
       ∙ ap (λ (c : List (ℕ × ℕ)). flat_map node_probes c) (sym are)

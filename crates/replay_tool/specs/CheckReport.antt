@@ -8,7 +8,7 @@ use Rattle.air_log.specs.Lawful.{Lawful as LawfulLog}
 use Rattle.air_check.specs.Verdicts.{IsVerdict}
 use Rattle.air_check.specs.declared.verdict.Verdict.{Verdict}
 use Rattle.air_check.specs.declared.verdict.Verdict.TheVariants.{Lawful, Trail, Heard, Missing}
-use Rattle.law_bus.specs.BusRuns.{IsBusRun}
+use Rattle.law_bus.specs.BusRuns.{AgreesWithBus}
 
 -- `lawful`, `no trail V`, `no heard I`, or `no missing V U T`
 abbrev pub verdict_line : Verdict → List ℕ
@@ -24,4 +24,4 @@ pub record IsCheckReport (s : ScenarioParts) (log : List Entry) (text : List ℕ
   pub judged : IsVerdict s (scenario_clock s) log verdict
   pub is : text ≡ verdict_line verdict
   pub exactly : LawfulLog s (scenario_clock s) log → verdict ≡ Lawful
-  pub bus : verdict ≡ Lawful → IsBusRun s (scenario_clock s) log
+  pub bus : verdict ≡ Lawful → AgreesWithBus s (scenario_clock s) log

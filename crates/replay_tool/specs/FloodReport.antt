@@ -5,9 +5,9 @@ use Rattle.bus_rules.specs.FloodOutcome.{Outcome}
 abbrev pub accept_line : ℕ × ℕ → List ℕ
 accept_line a = codes "accept " ++ decimal a.0 ++ codes " " ++ decimal a.1 ++ 10 ∷ []
 
-abbrev pub sent_line : ℕ → List ℕ
-sent_line n = codes "sent " ++ decimal n ++ 10 ∷ []
+abbrev pub sent_count_line : ℕ → List ℕ
+sent_count_line n = codes "sent " ++ decimal n ++ 10 ∷ []
 
 -- a line for each accepting node and its step, then the number of all sendings
 abbrev pub flood_report : Outcome → List ℕ
-flood_report o = flat_map accept_line o.accepts ++ sent_line o.sent
+flood_report o = flat_map accept_line o.accepts ++ sent_count_line o.sent

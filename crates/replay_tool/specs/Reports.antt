@@ -5,7 +5,7 @@ use Rattle.scenario_text.specs.ScenarioParts.{ScenarioParts}
 use Rattle.scenario_text.specs.FloodGrammar.{flood_of}
 use Rattle.scenario_text.specs.ScenarioGrammar.{IsScenario, scenario_of}
 use Rattle.scenario_maker.specs.Made.{made}
-use Rattle.deadline_plan.specs.Admission.{Plan}
+use Rattle.deadline_plan.specs.Admission.{PlanOfDeadlines}
 use Rattle.deadline_plan.specs.DeadlineText.{plan_of}
 use Rattle.scenario_clocks.specs.StatedClocks.{stated_clock, scenario_clock}
 use Rattle.bus_rules.specs.declared.delivery.Delivery.{Delivery}
@@ -22,7 +22,7 @@ use Rattle.bus_time.specs.Stamps.{AreStamps}
 use Rattle.bus_time.specs.declared.stamp.Stamp.{Stamp}
 use Rattle.host_return.specs.AfterReturns.{AllProbed, AllQuiet}
 use Rattle.host_return.specs.Returned.{IsReturned, ReturnedParts}
-use Rattle.law_bus.specs.BusRuns.{IsBusRun}
+use Rattle.law_bus.specs.BusRuns.{AgreesWithBus}
 use Rattle.replay_tool.specs.FloodReport.{flood_report}
 use Rattle.replay_tool.specs.RunReport.{run_report}
 use Rattle.replay_tool.specs.BusReport.{bus_report}
@@ -45,8 +45,8 @@ OfScenario b P = (s : ScenarioParts) × (scenario_of b ≡ Ok s) × P s
 abbrev pub OfChecked : List ℕ → (ScenarioParts → List Entry → Type 0) → Type 0
 OfChecked b P = (s : ScenarioParts) × (log : List Entry) × (checked_text b ≡ Ok (s, log)) × P s log
 
-abbrev pub OfPlan : List ℕ → (Plan → Type 0) → Type 0
-OfPlan b P = (p : Plan) × (plan_of b ≡ Ok p) × P p
+abbrev pub OfPlan : List ℕ → (PlanOfDeadlines → Type 0) → Type 0
+OfPlan b P = (p : PlanOfDeadlines) × (plan_of b ≡ Ok p) × P p
 
 -- the report of a flood, and a log of it over the clocks that it states
 pub record IsFloodReport (f : FloodParts) (air : List Entry) (text : List ℕ) : Type 0 where
@@ -65,7 +65,7 @@ pub record IsOfRun (told : Telling) (s : ScenarioParts) (air : List Entry) (text
   -- the printed deliveries, and the printed drops, are the single-hop bus's
   pub is : text ≡ told (bus_deliveries s) (bus_drops s) s (scenario_clock s) air
   -- the trails of the log deliver and lose these, received by relay paths, each stream in order and no packet twice
-  pub bus : IsBusRun s (scenario_clock s) air
+  pub bus : AgreesWithBus s (scenario_clock s) air
 
 -- the report, with the text of the log behind it
 abbrev pub log_report : List Delivery → List DropLine → ScenarioParts → (ℕ → ℕ → ℕ) → List Entry → List ℕ

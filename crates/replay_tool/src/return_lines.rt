@@ -1,7 +1,7 @@
 //! The `return` and `probe` lines of a report.
 
 ghost use Rattle.std.specs.Prelude.{◌≡◌, ◌++◌, OnOk, flat_map, string_bytes};
-ghost use Rattle.host_return.specs.Returned.{count_of, counts_in};
+ghost use Rattle.host_return.specs.Returned.{count_of_node, counts_in};
 ghost use Rattle.replay_tool.specs.ReturnReport.{node_probes, probe_line, return_line};
 
 use host_return::{Return, Returned};
@@ -38,7 +38,7 @@ pub fn write_probes(
 
 // Nothing for a node that did not probe.
 fn write_probe(text: &mut String, returned: &Returned, line: &NodeLine) -> Result<(), AllocError>
-    ensures { OnOk result (string_bytes text.new ≡ string_bytes text.old ++ probe_line line.now.node (count_of returned.now.counts line.now.node)) }
+    ensures { OnOk result (string_bytes text.new ≡ string_bytes text.old ++ probe_line line.now.node (count_of_node returned.now.counts line.now.node)) }
 {
     let count = returned.probes(line.node);
     if count == 0 {

@@ -20,11 +20,11 @@ abbrev pub round_of : Numbers → RoundTimes → ℕ → ℕ → Round
 round_of p times owners contend = record { times = times; listen = p.listen; close = p.close; owners = owners; contend = contend }
 
 -- the slot that closes it
-abbrev pub last_of : Round → ℕ
-last_of r = last_with r.owners r.contend
+abbrev pub last_slot_of_round : Round → ℕ
+last_slot_of_round r = last_with r.owners r.contend
 
 abbrev pub kind_of_slot : Round → ℕ → Kind
-kind_of_slot r j = if (j == 0) || (j == last_of r) then Schedule else if nat_le j r.owners then Payload else Request
+kind_of_slot r j = if (j == 0) || (j == last_slot_of_round r) then Schedule else if nat_le j r.owners then Payload else Request
 
 -- the window of slot j: it opens where the slot begins
 abbrev pub window_at : RoundTimes → ℕ → ℕ → ℕ → Window
@@ -34,5 +34,5 @@ window_at times j listen close = record {
   until = stopped (slot_time times j + close);
 }
 
-abbrev pub window_of : Round → ℕ → Window
-window_of r j = window_at r.times j r.listen r.close
+abbrev pub window_of_slot : Round → ℕ → Window
+window_of_slot r j = window_at r.times j r.listen r.close

@@ -2,7 +2,7 @@
 
 ghost use Rattle.std.specs.Prelude.{◌≡◌, ◌≤◌};
 ghost use Rattle.lwb_base.specs.Profile.{IsProfile};
-ghost use Rattle.round_runner.specs.Rounds.{round_of, window_of, last_of, kind_of_slot};
+ghost use Rattle.round_runner.specs.Rounds.{round_of, window_of_slot, last_slot_of_round, kind_of_slot};
 
 use crate::Window;
 use bus_rules::last_slot;
@@ -55,15 +55,15 @@ impl Round {
 
     /// The window of a slot, which is at most the last.
     pub fn window(&self, slot: u8) -> Window
-        requires { slot ≤ last_of self.now }
-        ensures { result ≡ window_of self.now slot }
+        requires { slot ≤ last_slot_of_round self.now }
+        ensures { result ≡ window_of_slot self.now slot }
     {
         Window::of_slot(&self.reference, slot, self.listen, self.close)
     }
 
     /// The slot that closes the round, 2 to 45.
     pub fn last(&self) -> u8
-        ensures value { result ≡ last_of self.now }
+        ensures value { result ≡ last_slot_of_round self.now }
         ensures range { (2 ≤ result) × (result ≤ 45) }
     {
         last_slot(self.owners, self.contend)
@@ -71,7 +71,7 @@ impl Round {
 
     /// What a slot is for, which is at most the last.
     pub fn kind(&self, slot: u8) -> Kind
-        requires { slot ≤ last_of self.now }
+        requires { slot ≤ last_slot_of_round self.now }
         ensures { result ≡ kind_of_slot self.now slot }
     {
         if slot == 0 || slot == self.last() {

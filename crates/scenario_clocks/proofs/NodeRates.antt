@@ -15,24 +15,25 @@ use Rattle.scenario_text.specs.FloodParts.{knows}
 use Rattle.scenario_text.specs.declared.lines.NodeLine.{NodeLine}
 use Rattle.scenario_text.specs.declared.lines.RateLine.{RateLine}
 use Rattle.scenario_clocks.specs.ClockLists.{clocks_by}
-use Rattle.scenario_clocks.specs.StatedClocks.{entry_of, rates_of, stated_by}
+use Rattle.scenario_clocks.specs.StatedClocks.{rate_entry_of_line, rates_of, stated_by}
 use Rattle.scenario_clocks.specs.NodeRates.{AreRatesOf, AreClocks, IsId}
 
 -- a rate more
-rates_more : (rs : List RateLine) (r : RateLine) (v : ℕ) → rates_of (rs ++ r ∷ []) v ≡ rates_of rs v ++ map entry_of (filter (λ s. s.node == v) (r ∷ []))
+rates_more : (rs : List RateLine) (r : RateLine) (v : ℕ) → rates_of (rs ++ r ∷ []) v ≡ rates_of rs v
+    ++ map rate_entry_of_line (filter (λ s. s.node == v) (r ∷ []))
 rates_more rs r v =
-    ap (λ (l : List RateLine). map entry_of l) (filter-append (λ (s : RateLine). s.node == v) rs (r ∷ []))
-    ∙ map-append entry_of (filter (λ s. s.node == v) rs) (filter (λ s. s.node == v) (r ∷ []))
+    ap (λ (l : List RateLine). map rate_entry_of_line l) (filter-append (λ (s : RateLine). s.node == v) rs (r ∷ []))
+    ∙ map-append rate_entry_of_line (filter (λ s. s.node == v) rs) (filter (λ s. s.node == v) (r ∷ []))
 
 pub added_rate : (rs : List RateLine) (r : RateLine) (lists : List (List (ℕ × ℤ))) → AreRatesOf rs lists → r.node ≤ 200
-    → AreRatesOf (rs ++ r ∷ []) (set lists r.node (get_or lists r.node [] ++ entry_of r ∷ []))
+    → AreRatesOf (rs ++ r ∷ []) (set lists r.node (get_or lists r.node [] ++ rate_entry_of_line r ∷ []))
 added_rate rs r lists are few = record {
   ids = length-set lists r.node with_rate ∙ are.ids;
   each = λ v. by_test v (r.node == v) refl;
 }
   where
     with_rate : List (ℕ × ℤ)
-    with_rate = get_or lists r.node [] ++ entry_of r ∷ []
+    with_rate = get_or lists r.node [] ++ rate_entry_of_line r ∷ []
 
     by_test : (v : ℕ) (b : Bool) → (r.node == v) ≡ b → get_or (set lists r.node with_rate) v [] ≡ rates_of (rs ++ r ∷ []) v
     by_test v true at =
@@ -41,14 +42,14 @@ added_rate rs r lists are few = record {
         ap (λ (w : ℕ). get_or (set lists r.node with_rate) w []) (sym own) ∙ get_or-set_same lists r.node with_rate [] (omega (arith, are.ids, few)) in
         let last : filter (λ s. s.node == v) (r ∷ []) ≡ r ∷ [] = cond-true (r.node == v) (r ∷ []) [] at in
         here
-        ∙ ap (λ (l : List (ℕ × ℤ)). l ++ entry_of r ∷ []) (are.each r.node ∙ ap (λ (w : ℕ). rates_of rs w) own)
-        ∙ sym (rates_more rs r v ∙ ap (λ (l : List RateLine). rates_of rs v ++ map entry_of l) last)
+        ∙ ap (λ (l : List (ℕ × ℤ)). l ++ rate_entry_of_line r ∷ []) (are.each r.node ∙ ap (λ (w : ℕ). rates_of rs w) own)
+        ∙ sym (rates_more rs r v ∙ ap (λ (l : List RateLine). rates_of rs v ++ map rate_entry_of_line l) last)
     by_test v false at =
         let other : r.node ≢ v = eqb-false r.node v at in
         let last : filter (λ s. s.node == v) (r ∷ []) ≡ [] = cond-false (r.node == v) (r ∷ []) [] at in
         get_or-set_other lists r.node v with_rate [] (λ same. other (sym same))
         ∙ are.each v
-        ∙ sym (rates_more rs r v ∙ ap (λ (l : List RateLine). rates_of rs v ++ map entry_of l) last ∙ append-nil (rates_of rs v))
+        ∙ sym (rates_more rs r v ∙ ap (λ (l : List RateLine). rates_of rs v ++ map rate_entry_of_line l) last ∙ append-nil (rates_of rs v))
 
 nothing_yet : (n v : ℕ) → (let none : List (ℕ × ℤ) = [] in get_or (replicate n none) v none ≡ none)
 nothing_yet zero v = refl
@@ -65,11 +66,11 @@ none_yet lists is = record {
     none = []
 
 -- what holds of all rates holds of those of a node
-of_rates : (P : ℕ × ℤ → Type 0) (v : ℕ) (rs : List RateLine) → AllByRecursion (λ r. P (entry_of r)) rs → AllByRecursion P (rates_of rs v)
+of_rates : (P : ℕ × ℤ → Type 0) (v : ℕ) (rs : List RateLine) → AllByRecursion (λ r. P (rate_entry_of_line r)) rs → AllByRecursion P (rates_of rs v)
 of_rates P v [] all = tt
 of_rates P v (r ∷ rs) all =
     let fs : List RateLine = filter (λ r. r.node == v) rs in
-    cond_both (r.node == v) (r ∷ fs) fs (λ (l : List RateLine). AllByRecursion P (map entry_of l)) (λ is. (all.0, of_rates P v rs all.1))
+    cond_both (r.node == v) (r ∷ fs) fs (λ (l : List RateLine). AllByRecursion P (map rate_entry_of_line l)) (λ is. (all.0, of_rates P v rs all.1))
     (λ not. of_rates P v rs all.1)
 
 pub early_rates : (v : ℕ) (rs : List RateLine) → All (λ r. r.from < 2 ^ 47) rs → All (λ r. r.0 < 2 ^ 47) (rates_of rs v)
@@ -85,7 +86,7 @@ no_place p i (x ∷ xs) all = cond-false (p x) (Some i) (position_from p (i + 1)
 nowhere : {X : Type 0} (p : X → Bool) (xs : List X) → AllByRecursion (λ x. p x ≡ false) xs → position p xs ≡ None
 nowhere p xs all = position_from-zero p xs ∙ no_place p 0 xs all
 
-tame : (rs : List RateLine) → AllByRecursion (λ r. unsigned_abs r.ppm ≤ 20) rs → AllByRecursion (λ r. is_wild (entry_of r) ≡ false) rs
+tame : (rs : List RateLine) → AllByRecursion (λ r. unsigned_abs r.ppm ≤ 20) rs → AllByRecursion (λ r. is_wild (rate_entry_of_line r) ≡ false) rs
 tame [] all = tt
 tame (r ∷ rs) all = (le-ltb 20 (unsigned_abs r.ppm) all.0, tame rs all.1)
 
@@ -94,7 +95,7 @@ none_wild v rs all =
     nowhere is_wild (rates_of rs v) (of_rates (λ e. is_wild e ≡ false) v rs (tame rs (recursion_from_All (λ (r : RateLine). unsigned_abs r.ppm ≤ 20) rs all)))
 
 in_time : (fs : List RateLine) → AllPairs (λ a b. a.from < b.from) fs
-    → AllByRecursion (λ p. is_late p ≡ false) (zip (map entry_of fs) (drop 1 (map entry_of fs)))
+    → AllByRecursion (λ p. is_late p ≡ false) (zip (map rate_entry_of_line fs) (drop 1 (map rate_entry_of_line fs)))
 in_time [] all = tt
 in_time (a ∷ []) all = tt
 in_time (a ∷ b ∷ fs) all = (

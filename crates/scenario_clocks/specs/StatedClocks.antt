@@ -7,11 +7,11 @@ use Rattle.scenario_text.specs.declared.lines.NodeLine.{NodeLine}
 use Rattle.scenario_text.specs.declared.lines.RateLine.{RateLine}
 
 -- from that tick on, that rate
-abbrev pub entry_of : RateLine → ℕ × ℤ
-entry_of r = (r.from, r.ppm)
+abbrev pub rate_entry_of_line : RateLine → ℕ × ℤ
+rate_entry_of_line r = (r.from, r.ppm)
 
 abbrev pub rates_of : List RateLine → ℕ → List (ℕ × ℤ)
-rates_of rates v = map entry_of (filter (λ r. r.node == v) rates)
+rates_of rates v = map rate_entry_of_line (filter (λ r. r.node == v) rates)
 
 -- the clock of node v by its offset and its rates. Where the lines have no such node, it reads the true tick
 abbrev pub stated_by : List NodeLine → List RateLine → ℕ → ℕ → ℕ

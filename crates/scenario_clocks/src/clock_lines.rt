@@ -4,7 +4,7 @@ ghost use Rattle.std.specs.Prelude.{◌≡◌, ℕ, ◌^◌, ◌≤◌, ◌<◌,
 ghost use Rattle.tick_clock.specs.ClockReadings.{segment_clock_reads};
 ghost use Rattle.tick_clock.specs.Rates.{segment_reading, unordered_at, wild_at};
 ghost use Rattle.scenario_clocks.specs.ClockLists.{clocks_by};
-ghost use Rattle.scenario_clocks.specs.StatedClocks.{entry_of, stated_by};
+ghost use Rattle.scenario_clocks.specs.StatedClocks.{rate_entry_of_line, stated_by};
 ghost use Rattle.scenario_clocks.specs.NodeRates.{AreRatesOf, CanState, IsId};
 
 use crate::node_rates::NodeRates;
@@ -84,7 +84,8 @@ fn no_rates(alloc: Global) -> Result<Vec<NodeRates>, Memory>
 fn add_rate(lists: &mut Vec<NodeRates>, rate: &RateLine) -> Result<(), Memory>
     requires { length lists.old.items ≡ IDS }
     ensures range { rate.now.node ≤ 200 }
-    ensures added { OnOk result (lists.new.items ≡ set lists.old.items rate.now.node (get_or lists.old.items rate.now.node [] ++ entry_of rate.now ∷ [])) }
+    ensures added { OnOk result
+        (lists.new.items ≡ set lists.old.items rate.now.node (get_or lists.old.items rate.now.node [] ++ rate_entry_of_line rate.now ∷ [])) }
 {
     let place = rate.node.number() as usize;
     let list = &mut lists[place];

@@ -2,7 +2,7 @@
 use Rattle.std.proofs.Common.{◌≡◌, ℕ, zero, suc, ◌+◌, refl, sym, ◌∙◌, ap, arith, suc-add}
 use Rattle.rand_pcg.specs.Lcg.{Lcg, next, state_after, next_state}
 use Rattle.rand_pcg.specs.Pcg.{multiplier_64, output_xsh_rr}
-use Rattle.scenario_maker.specs.Drawn.{later, word}
+use Rattle.scenario_maker.specs.Drawn.{later, drawn_word}
 
 after_both : (m p a b s : ℕ) → state_after 64 m p b (state_after 64 m p a s) ≡ state_after 64 m p (a + b) s
 unfolding state_after
@@ -20,12 +20,12 @@ pub none_on : (g : Lcg) → later 0 g ≡ g
 unfolding later state_after
 none_on g = refl
 
-pub word_on : (a k : ℕ) (g : Lcg) → word (later a g) k ≡ word g (a + k)
-unfolding word
+pub word_on : (a k : ℕ) (g : Lcg) → drawn_word (later a g) k ≡ drawn_word g (a + k)
+unfolding drawn_word
 word_on a k g = ap (λ (h : Lcg). output_xsh_rr h.state) (twice_on a k g)
 
-pub first_word : (g : Lcg) → word g 0 ≡ output_xsh_rr g.state
-unfolding word later state_after
+pub first_word : (g : Lcg) → drawn_word g 0 ≡ output_xsh_rr g.state
+unfolding drawn_word later state_after
 first_word g = refl
 
 pub one_on : (g : Lcg) → later 1 g ≡ next 64 multiplier_64 g

@@ -15,7 +15,7 @@ use Rattle.scenario_text.specs.ScenarioParts.{ScenarioParts}
 use Rattle.scenario_text.specs.declared.lines.NodeLine.{NodeLine}
 use Rattle.scenario_text.proofs.EachPair.{climbs_pairs}
 use Rattle.scenario_text.proofs.OrderedParts.{said_in_order}
-use Rattle.scenario_maker.specs.Drawn.{seeded, later, word}
+use Rattle.scenario_maker.specs.Drawn.{seeded, later, drawn_word}
 use Rattle.scenario_maker.specs.Made.{IsSize, later_nodes, node_line, rate_line, tree_pair, tree_pairs, random_pair}
 use Rattle.scenario_maker.specs.Made.{random_pairs, with_pairs, drawn_loss, frame_losses, losses, script, made}
 use Rattle.scenario_maker.proofs.MadeNodes.{known, node_lines, nodes_ascend, rate_lines, rates_ascend}
@@ -35,16 +35,16 @@ tree_known g n ns two knows_all =
     recursion_from_All (AreKnown ns) (tree_pairs g n) (All-map (AreKnown ns) (tree_pair g) (later_nodes n)
     (all_range (λ i. AreKnown ns (tree_pair g i)) 2 (n - 1) (λ i low high. record {
       first = knows_all i (omega (arith, low)) (omega (arith, high, two));
-      second = knows_all (1 + word g (i - 2) % (i - 1)) (omega arith)
-          (let within = drawn_within (word g (i - 2)) (i - 1) (omega (arith, low)) in omega (arith, within, high, two));
+      second = knows_all (1 + drawn_word g (i - 2) % (i - 1)) (omega arith)
+          (let within = drawn_within (drawn_word g (i - 2)) (i - 1) (omega (arith, low)) in omega (arith, within, high, two));
     })))
 
 random_known : (g : Lcg) (n : ℕ) (ns : List NodeLine) → 2 ≤ n → KnowsUpto ns n → AllByRecursion (AreKnown ns) (random_pairs g n)
 random_known g n ns two knows_all =
     recursion_from_All (AreKnown ns) (random_pairs g n) (All-map (AreKnown ns) (random_pair g n) (range_with_len 0 n)
     (all_range (λ t. AreKnown ns (random_pair g n t)) 0 n (λ t low high. record {
-      first = knows_all (1 + word g (2 * t) % n) (omega arith) (drawn_within (word g (2 * t)) n (omega (arith, two)));
-      second = knows_all (1 + word g (2 * t + 1) % n) (omega arith) (drawn_within (word g (2 * t + 1)) n (omega (arith, two)));
+      first = knows_all (1 + drawn_word g (2 * t) % n) (omega arith) (drawn_within (drawn_word g (2 * t)) n (omega (arith, two)));
+      second = knows_all (1 + drawn_word g (2 * t + 1) % n) (omega arith) (drawn_within (drawn_word g (2 * t + 1)) n (omega (arith, two)));
     })))
 
 loss_drawn : (s : ScenarioParts) (g : Lcg) (n frames f t : ℕ) → 2 ≤ n → s.profile ≡ one → s.frames ≡ frames → f < frames → KnowsUpto s.nodes n
@@ -52,8 +52,8 @@ loss_drawn : (s : ScenarioParts) (g : Lcg) (n frames f t : ℕ) → 2 ≤ n → 
 loss_drawn s g n frames f t two profile is inside knows_all = record {
   step = record { in_run = omega (arith, is, inside); in_frame = rw profile (omega arith); in_slot = omega arith };
   ends = record {
-    first = knows_all (1 + word g (4 * t + 2) % n) (omega arith) (drawn_within (word g (4 * t + 2)) n (omega (arith, two)));
-    second = knows_all (1 + word g (4 * t + 3) % n) (omega arith) (drawn_within (word g (4 * t + 3)) n (omega (arith, two)));
+    first = knows_all (1 + drawn_word g (4 * t + 2) % n) (omega arith) (drawn_within (drawn_word g (4 * t + 2)) n (omega (arith, two)));
+    second = knows_all (1 + drawn_word g (4 * t + 3) % n) (omega arith) (drawn_within (drawn_word g (4 * t + 3)) n (omega (arith, two)));
   };
 }
 

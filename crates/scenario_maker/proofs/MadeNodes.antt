@@ -16,7 +16,7 @@ use Rattle.scenario_text.specs.FloodParts.{knows}
 use Rattle.scenario_text.specs.PartsInOrder.{IsNodeLine, IsRateLine, by_rate}
 use Rattle.scenario_text.specs.ScenarioParts.{ScenarioParts}
 use Rattle.scenario_text.specs.declared.lines.NodeLine.{NodeLine}
-use Rattle.scenario_maker.specs.Drawn.{word}
+use Rattle.scenario_maker.specs.Drawn.{drawn_word}
 use Rattle.scenario_maker.specs.Made.{all_nodes, node_line, rate_line}
 use Rattle.scenario_maker.proofs.Ranges.{all_range, pairs_range}
 
@@ -44,7 +44,7 @@ rate_lines g n s is =
     (all_range (λ i. IsRateLine s (rate_line g i)) 1 n (λ i low high. record {
       known = ap (λ (ns : List NodeLine). knows ns i) is ∙ known g n i low (omega arith);
       tick = omega arith;
-      millionths = small_rate (word g (2 * (i - 1) + 1));
+      millionths = small_rate (drawn_word g (2 * (i - 1) + 1));
     }))
 
 pub rates_ascend : (g : Lcg) (n : ℕ) → Ascends by_rate (map (rate_line g) (all_nodes n))

@@ -15,23 +15,23 @@ use Rattle.scenario_text.specs.declared.script.Act.TheVariants.{Off}
 use Rattle.scenario_text.specs.declared.script.ScriptLine.{ScriptLine}
 use Rattle.scenario_text.proofs.OrderedExample.{no_more_boots_than_lines}
 use Rattle.scenario_text.proofs.BootsTold.{turned_over}
-use Rattle.scenario_maker.specs.Made.{all_nodes, later_nodes, on_line, stream_line, off_lines, puts, put_line, put_lines, frame_lines, script}
+use Rattle.scenario_maker.specs.Made.{all_nodes, later_nodes, on_line, stream_line, off_lines, node_puts, made_put_line, put_lines, frame_lines, script}
 use Rattle.scenario_maker.proofs.Ranges.{all_range, all_flat, pairs_append, pairs_flat, few_flat}
 
 -- what is true of the lines of a frame where it is true of its off line and of its puts
 pub of_frame : (P : ScriptLine → Type 0) (n frames f : ℕ) → P (record { frame = f; node = 1; act = Off })
-    → ((i : ℕ) → 2 ≤ i → i < 2 + (n - 1) → P (put_line f i)) → All P (frame_lines n frames f)
+    → ((i : ℕ) → 2 ≤ i → i < 2 + (n - 1) → P (made_put_line f i)) → All P (frame_lines n frames f)
 of_frame P n frames f off each =
     All-append P (off_lines frames f) (put_lines n f)
     (cond_both (nat_le 40 frames && (f == frames / 2)) (record { frame = f; node = 1; act = Off } ∷ []) [] (All P)
     (λ is. All-cons P (record { frame = f; node = 1; act = Off }) [] off (All-nil P)) (λ not. All-nil P))
-    (All-map P (put_line f) (filter (puts f) (later_nodes n))
-    (All-filter (puts f) (λ i. P (put_line f i)) (later_nodes n) (all_range (λ i. P (put_line f i)) 2 (n - 1) each)))
+    (All-map P (made_put_line f) (filter (node_puts f) (later_nodes n))
+    (All-filter (node_puts f) (λ i. P (made_put_line f i)) (later_nodes n) (all_range (λ i. P (made_put_line f i)) 2 (n - 1) each)))
 
 -- and of the whole script
 pub of_script : (P : ScriptLine → Type 0) (g : Lcg) (n frames : ℕ) → ((i : ℕ) → 1 ≤ i → i < 1 + n → P (on_line i))
     → ((i : ℕ) → 2 ≤ i → i < 2 + (n - 1) → P (stream_line g i))
-    → ((f : ℕ) → f < frames → P (record { frame = f; node = 1; act = Off })) → ((f i : ℕ) → f < frames → 2 ≤ i → i < 2 + (n - 1) → P (put_line f i))
+    → ((f : ℕ) → f < frames → P (record { frame = f; node = 1; act = Off })) → ((f i : ℕ) → f < frames → 2 ≤ i → i < 2 + (n - 1) → P (made_put_line f i))
     → All P (script g n frames)
 of_script P g n frames on stream off put =
     All-append P (map on_line (all_nodes n) ++ map (stream_line g) (later_nodes n)) (flat_map (frame_lines n frames) (range_with_len 0 frames))
@@ -107,11 +107,11 @@ script_ascends g n frames =
     (All-weaker (λ x. x.frame ≡ 0) (λ x. All (before x) rest) (λ x first k d inside. omega (arith, first)) (opening g n) (all_first g n))
 
 -- of nodes that follow one another each fourth puts
-puts_in_turn : (f a m : ℕ) → length (filter (puts f) (range_with_len a m)) + (f + a + 3) / 4 ≡ (f + a + m + 3) / 4
+puts_in_turn : (f a m : ℕ) → length (filter (node_puts f) (range_with_len a m)) + (f + a + 3) / 4 ≡ (f + a + m + 3) / 4
 puts_in_turn f a zero = omega arith
 puts_in_turn f a (suc m) =
     let rest = puts_in_turn f (a + 1) m in
-    cond_both (puts f a) (a ∷ filter (puts f) (range_with_len (a + 1) m)) (filter (puts f) (range_with_len (a + 1) m))
+    cond_both (node_puts f a) (a ∷ filter (node_puts f) (range_with_len (a + 1) m)) (filter (node_puts f) (range_with_len (a + 1) m))
     (λ (xs : List ℕ). length xs + (f + a + 3) / 4 ≡ (f + a + suc m + 3) / 4)
     (λ is. omega (arith, rest, eqb-true ((f + a) % 4) 0 is))
     (λ not. let other = eqb-false ((f + a) % 4) 0 not in omega (arith, rest, other))
@@ -121,7 +121,8 @@ few_in_frame n frames f =
     let off : length (off_lines frames f) ≤ 1 =
     cond_both (nat_le 40 frames && (f == frames / 2)) (record { frame = f; node = 1; act = Off } ∷ []) [] (λ (xs : List ScriptLine). length xs ≤ 1)
     (λ is. omega arith) (λ not. omega arith) in
-    omega (arith, off, puts_in_turn f 2 (n - 1), length-map (filter (puts f) (later_nodes n)) (put_line f), length-append (off_lines frames f) (put_lines n f))
+    omega (arith, off, puts_in_turn f 2 (n - 1), length-map (filter (node_puts f) (later_nodes n)) (made_put_line f),
+        length-append (off_lines frames f) (put_lines n f))
 
 pub few_in_script : (g : Lcg) (n frames : ℕ) → length (script g n frames) ≤ n + n + frames * ((n + 6) / 4)
 unfolding opening

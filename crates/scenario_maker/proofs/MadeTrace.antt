@@ -14,7 +14,7 @@ use Rattle.scenario_text.specs.ScenarioFacts.{AreEnds, IsStepOf}
 use Rattle.scenario_text.specs.ScenarioParts.{ScenarioParts}
 use Rattle.scenario_text.specs.declared.lines.NodeLine.{NodeLine}
 use Rattle.scenario_text.proofs.DraftFacts.{with_line_all, with_line_climbs, with_line_length}
-use Rattle.scenario_maker.specs.Made.{with_link, with_pair, with_pairs, with_loss}
+use Rattle.scenario_maker.specs.Made.{with_new_link, with_pair, with_pairs, with_new_loss}
 
 pub record AreKnown (ns : List NodeLine) (p : ℕ × ℕ) : Type 0 where
   pub first : knows ns p.0 ≡ true
@@ -32,14 +32,15 @@ module _ (ns : List NodeLine) where
     climb = with_line_climbs by_link (is_link u v) (record { from = u; to = v }) ls by_link_total (tells_link u v) fresh are.climb;
   }
 
-  link_kept : (u v : ℕ) (ls : List LinkLine) → AreEnds ns u v → AreLinks ns ls → AreLinks ns (with_link u v ls)
+  link_kept : (u v : ℕ) (ls : List LinkLine) → AreEnds ns u v → AreLinks ns ls → AreLinks ns (with_new_link u v ls)
   link_kept u v ls ends are =
       cond_both (list_any (is_link u v) ls) ls (with_line by_link (record { from = u; to = v }) ls) (AreLinks ns) (λ there. are)
       (λ fresh. added u v ls ends fresh are)
 
   pair_kept : (p : ℕ × ℕ) (ls : List LinkLine) → AreKnown ns p → AreLinks ns ls → AreLinks ns (with_pair ls p)
   pair_kept p ls known are =
-      cond_both ((p.0 == p.1) || list_any (is_link p.0 p.1) ls) ls (with_link p.1 p.0 (with_line by_link (record { from = p.0; to = p.1 }) ls)) (AreLinks ns)
+      cond_both ((p.0 == p.1) || list_any (is_link p.0 p.1) ls) ls (with_new_link p.1 p.0 (with_line by_link (record { from = p.0; to = p.1 }) ls))
+          (AreLinks ns)
       (λ skipped. are)
       (λ goes.
       let parts = or_parts (p.0 == p.1) (list_any (is_link p.0 p.1) ls) goes in
@@ -59,7 +60,7 @@ pub record AreLosses (s : ScenarioParts) (ls : List LoseLine) : Type 0 where
   pub each : AllByRecursion (λ (l : LoseLine). IsStepOf s l.frame l.slot l.step × AreEnds s.nodes l.from l.to) ls
   pub climb : Climbs (λ a b. by_loss a b ≡ Less) ls
 
-loss_kept : (s : ScenarioParts) (l : LoseLine) (ls : List LoseLine) → IsDrawn s l → AreLosses s ls → AreLosses s (with_loss ls l)
+loss_kept : (s : ScenarioParts) (l : LoseLine) (ls : List LoseLine) → IsDrawn s l → AreLosses s ls → AreLosses s (with_new_loss ls l)
 loss_kept s l ls drawn are =
     cond_both ((l.from == l.to) || list_any (is_loss l.frame l.slot l.step l.from l.to) ls) ls (with_line by_loss l ls) (AreLosses s)
     (λ skipped. are)
@@ -72,16 +73,16 @@ loss_kept s l ls drawn are =
           (tells_loss l.frame l.slot l.step l.from l.to) parts.1 are.climb;
     })
 
-pub losses_kept : (s : ScenarioParts) (ps ls : List LoseLine) → AllByRecursion (IsDrawn s) ps → AreLosses s ls → AreLosses s (fold with_loss ls ps)
+pub losses_kept : (s : ScenarioParts) (ps ls : List LoseLine) → AllByRecursion (IsDrawn s) ps → AreLosses s ls → AreLosses s (fold with_new_loss ls ps)
 losses_kept s [] ls drawn are = are
-losses_kept s (p ∷ ps) ls drawn are = losses_kept s ps (with_loss ls p) drawn.1 (loss_kept s p ls drawn.0 are)
+losses_kept s (p ∷ ps) ls drawn are = losses_kept s ps (with_new_loss ls p) drawn.1 (loss_kept s p ls drawn.0 are)
 
-one_more : (l : LoseLine) (ls : List LoseLine) → length (with_loss ls l) ≤ length ls + 1
+one_more : (l : LoseLine) (ls : List LoseLine) → length (with_new_loss ls l) ≤ length ls + 1
 one_more l ls =
     cond_both ((l.from == l.to) || list_any (is_loss l.frame l.slot l.step l.from l.to) ls) ls (with_line by_loss l ls)
     (λ (xs : List LoseLine). length xs ≤ length ls + 1)
     (λ skipped. omega arith) (λ goes. omega (arith, with_line_length by_loss l ls))
 
-pub few_losses : (ps ls : List LoseLine) → length (fold with_loss ls ps) ≤ length ls + length ps
+pub few_losses : (ps ls : List LoseLine) → length (fold with_new_loss ls ps) ≤ length ls + length ps
 few_losses [] ls = omega arith
-few_losses (p ∷ ps) ls = omega (arith, one_more p ls, few_losses ps (with_loss ls p))
+few_losses (p ∷ ps) ls = omega (arith, one_more p ls, few_losses ps (with_new_loss ls p))

@@ -13,5 +13,5 @@ unfoldable pub later : ℕ → Lcg → Lcg
 later k g = advance 64 multiplier_64 k g
 
 -- its word k from there on, counted from 0
-unfoldable pub word : Lcg → ℕ → ℕ
-word g k = output_xsh_rr (later k g).state
+unfoldable pub drawn_word : Lcg → ℕ → ℕ
+drawn_word g k = output_xsh_rr (later k g).state

@@ -1,7 +1,7 @@
 //! Random draws from a seeded generator.
 
 ghost use Rattle.std.specs.Prelude.{◌≡◌, ◌+◌, ◌%◌, ◌<◌, ◌≤◌};
-ghost use Rattle.scenario_maker.specs.Drawn.{seeded, later, word};
+ghost use Rattle.scenario_maker.specs.Drawn.{seeded, later, drawn_word};
 
 use lwb_base::NodeId;
 use rand_core::SeedableRng;
@@ -38,7 +38,7 @@ impl Draws {
     #[tactic(auto, using(crate::proofs::LaterWords::first_word, crate::proofs::LaterWords::one_on))]
     pub fn below(&mut self, count: u32) -> u32
         requires { 0 < count }
-        ensures value { result ≡ word self.old 0 % count }
+        ensures value { result ≡ drawn_word self.old 0 % count }
         ensures left { self.new ≡ later 1 self.old }
     {
         self.words.next_word() % count
@@ -47,7 +47,7 @@ impl Draws {
     /// One of the nodes from 1 to `nodes`, which are at most 200.
     pub fn node(&mut self, nodes: u32) -> NodeId
         requires { (1 ≤ nodes) × (nodes ≤ 200) }
-        ensures value { result ≡ 1 + word self.old 0 % nodes }
+        ensures value { result ≡ 1 + drawn_word self.old 0 % nodes }
         ensures left { self.new ≡ later 1 self.old }
     {
         node_of(1 + self.below(nodes))

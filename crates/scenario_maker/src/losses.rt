@@ -3,7 +3,7 @@
 ghost use Rattle.std.specs.Prelude.{◌≡◌, ◌+◌, ◌*◌, ◌/◌, ◌≤◌, [], OnOk};
 ghost use Rattle.std.specs.List.{fold};
 ghost use Rattle.scenario_maker.specs.Drawn.{later};
-ghost use Rattle.scenario_maker.specs.Made.{with_loss, drawn_losses, drawn_loss, losses as all_losses};
+ghost use Rattle.scenario_maker.specs.Made.{with_new_loss, drawn_losses, drawn_loss, losses as all_losses};
 
 use crate::draws::Draws;
 use link_trace::{LoseLine, Trace};
@@ -30,7 +30,7 @@ pub fn add_losses(
 fn add_losses_of(trace: &mut Trace, draws: &mut Draws, nodes: u32, frame: u32) -> Result<(), Memory>
     requires { (1 ≤ nodes) × (nodes ≤ 64) }
     ensures losses { OnOk result (trace.new.lines
-        ≡ record trace.old.lines { losses = fold with_loss trace.old.lines.losses (drawn_losses draws.old nodes frame) }) }
+        ≡ record trace.old.lines { losses = fold with_new_loss trace.old.lines.losses (drawn_losses draws.old nodes frame) }) }
     ensures left { OnOk result (draws.new ≡ later (4 * (nodes / 2)) draws.old) }
 {
     for k in 0..nodes / 2 {
@@ -61,7 +61,7 @@ fn draw_loss(draws: &mut Draws, nodes: u32, frame: u32) -> LoseLine
 
 // A line whose nodes differ, unless it is there.
 fn add_loss(trace: &mut Trace, line: LoseLine) -> Result<(), Memory>
-    ensures { OnOk result (trace.new.lines ≡ record trace.old.lines { losses = with_loss trace.old.lines.losses line }) }
+    ensures { OnOk result (trace.new.lines ≡ record trace.old.lines { losses = with_new_loss trace.old.lines.losses line }) }
 {
     if line.from != line.to {
         trace.lose(line.frame, line.slot, line.step, line.from, line.to)?;

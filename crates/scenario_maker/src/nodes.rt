@@ -1,7 +1,7 @@
 //! Nodes with random clocks.
 
 ghost use Rattle.std.specs.Prelude.{◌≡◌, ◌+◌, ◌-ℤ◌, ◌*◌, ◌%◌, ◌≤◌, IfOk, OnOk, map, pos};
-ghost use Rattle.scenario_maker.specs.Drawn.{later, word};
+ghost use Rattle.scenario_maker.specs.Drawn.{later, drawn_word};
 ghost use Rattle.scenario_maker.specs.Made.{all_nodes, node_line, rate_line};
 
 use crate::draws::{Draws, node_of};
@@ -34,7 +34,7 @@ pub fn clocks(
 
 // A rate in millionths, -20 to 20.
 fn rate(draws: &mut Draws) -> i8
-    ensures value { result ≡ pos (word draws.old 0 % 41) -ℤ pos 20 }
+    ensures value { result ≡ pos (drawn_word draws.old 0 % 41) -ℤ pos 20 }
     ensures left { draws.new ≡ later 1 draws.old }
 {
     draws.below(41) as i8 - 20

@@ -4,7 +4,7 @@ ghost use Rattle.std.specs.Prelude.{◌≡◌, ◌+◌, ◌-◌, ◌≤◌, ◌<
 ghost use Rattle.std.specs.List.{flat_map, range_with_len};
 ghost use Rattle.scenario_maker.specs.Drawn.{later};
 ghost use Rattle.scenario_maker.specs.Made.{all_nodes, later_nodes, on_line, stream_line};
-ghost use Rattle.scenario_maker.specs.Made.{put_line as put_line_of, put_lines, frame_lines, script as whole_script};
+ghost use Rattle.scenario_maker.specs.Made.{made_put_line as put_line_of, put_lines, frame_lines, script as whole_script};
 
 use crate::draws::{Draws, node_of};
 use lwb_base::{Memory, Payload};

@@ -4,7 +4,7 @@ use Rattle.std.proofs.Common.{length, take, drop, get_or, refl, sym, ◌∙◌, 
 use Rattle.std.proofs.lemmas.Bool.{cond-true, cases_lt, eq-eqb}
 use Rattle.std.proofs.lemmas.List.{get_or-replicate, get_or_past, take_more, take-append-drop}
 use Rattle.std.specs.Prelude.{replicate}
-use Rattle.scenario_text.specs.AddedLines.{told}
+use Rattle.scenario_text.specs.AddedLines.{boots_so_far}
 use Rattle.scenario_text.specs.ScenarioFacts.{turned_by, turned}
 use Rattle.scenario_text.specs.declared.script.ScriptLine.{ScriptLine}
 use Rattle.scenario_text.proofs.BootsCounted.{never_less}
@@ -16,7 +16,7 @@ Boots = Bool × ℕ
 either_way : {A : Type 0} (l : List A) (d : A) (i : ℕ) → ((k : ℕ) → k < 201 → get_or l k d ≡ d) → length l ≡ 201 → get_or l i d ≡ d
 either_way l d i within long = elim (cases_lt i 201) [ inl below ↦ within i below | inr past ↦ get_or_past l i d (omega (arith, long, past)) ]
 
-pub none_told : (v : ℕ) → told (replicate 201 false) (replicate 201 0) v ≡ (false, 0)
+pub none_told : (v : ℕ) → boots_so_far (replicate 201 false) (replicate 201 0) v ≡ (false, 0)
 none_told v =
     let on : get_or (replicate 201 false) v false ≡ false = either_way (replicate 201 false) false v (λ i. get_or-replicate 201 i false false) refl in
     let count : get_or (replicate 201 0) v 0 ≡ 0 = either_way (replicate 201 0) 0 v (λ i. get_or-replicate 201 i 0 0) refl in

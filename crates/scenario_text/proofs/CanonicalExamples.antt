@@ -8,8 +8,8 @@ use Rattle.lwb_base.specs.Profile.{Numbers, one}
 use Rattle.link_trace.specs.Passes.{Lines}
 use Rattle.scenario_text.specs.Network.{network_line}
 use Rattle.text_writers.specs.HexWords.{payload_word}
-use Rattle.scenario_text.specs.ScenarioGrammar.{scenario_of, after_words, scenario_line, script_line, step_line, put_line}
-use Rattle.text_readers.specs.Reading.{after_line}
+use Rattle.scenario_text.specs.ScenarioGrammar.{scenario_of, scenario_after_words, scenario_line, script_line, step_line, put_line}
+use Rattle.text_readers.specs.Reading.{draft_after_line}
 use Rattle.scenario_text.specs.declared.lines.NodeLine.{NodeLine}
 use Rattle.scenario_text.specs.declared.lines.RateLine.{RateLine}
 use Rattle.scenario_text.specs.declared.script.ScriptLine.{ScriptLine}
@@ -26,7 +26,7 @@ unfolding canonical_lines digits
 first_round = refl
 
 first_round_again : scenario_of first_round_text ≡ Ok first_round_parts
-unfolding after_line after_words scenario_line script_line step_line put_line network_line is_utf8 chars encode
+unfolding draft_after_line scenario_after_words scenario_line script_line step_line put_line network_line is_utf8 chars encode
 first_round_again = refl
 
 first_round_is_said : IsSaid first_round_parts
@@ -48,5 +48,5 @@ unfolding canonical_lines digits
 every_line = refl
 
 every_line_again : scenario_of every_line_text ≡ Ok every_line_parts
-unfolding after_line after_words scenario_line script_line step_line put_line network_line is_utf8 chars encode
+unfolding draft_after_line scenario_after_words scenario_line script_line step_line put_line network_line is_utf8 chars encode
 every_line_again = refl

@@ -14,7 +14,7 @@ use Rattle.link_trace.specs.declared.lines.LoseLine.{LoseLine}
 use Rattle.link_trace.specs.declared.lines.CutLine.{CutLine}
 use Rattle.link_trace.specs.declared.lines.CaptureLine.{CaptureLine}
 use Rattle.scenario_text.specs.FloodParts.{knows}
-use Rattle.scenario_text.specs.FloodDrafts.{Climbs, Rises, Follows}
+use Rattle.scenario_text.specs.FloodDrafts.{Climbs, Rises, RatesBeginLater}
 use Rattle.scenario_text.specs.Network.{is_id, rates_by_node}
 use Rattle.scenario_text.specs.ScenarioGrammar.{Scenario, last_tick, line_in_range, line_knows_ids}
 use Rattle.scenario_text.specs.ScenarioParts.{ScenarioParts}
@@ -151,7 +151,7 @@ pub record KeepsRules (s : ScenarioParts) : Type 0 where
   pub nodes : AllByRecursion IsNode s.nodes
   pub rises : Rises s.nodes
   pub rates : AllByRecursion (IsRateOf s.profile s.nodes) s.rates
-  pub follows : Follows s.rates
+  pub follows : RatesBeginLater s.rates
   pub in_turn : rates_by_node s.nodes s.rates ≡ s.rates
   pub some_hosts : 1 ≤ length s.hosts
   pub few_hosts : length s.hosts ≤ 4

@@ -14,7 +14,7 @@ use Rattle.link_trace.specs.Passes.{Lines, is_link}
 use Rattle.link_trace.specs.Sealed.{no_lines}
 use Rattle.link_trace.specs.declared.lines.LinkLine.{LinkLine}
 use Rattle.scenario_text.specs.FloodParts.{knows}
-use Rattle.scenario_text.specs.FloodDrafts.{Climbs, Rises, Follows}
+use Rattle.scenario_text.specs.FloodDrafts.{Climbs, Rises, RatesBeginLater}
 use Rattle.text_readers.specs.Words.{has_minus, magnitude, number}
 use Rattle.scenario_text.specs.Network.{is_id, are_ends, last_rate}
 use Rattle.text_writers.specs.Lines.{numbered}
@@ -91,7 +91,7 @@ step_rate : (s : ScenarioParts) → KeepsRules s → (rs : List RateLine) (r : R
     → Step (with_rates s rs) (rate_words r) (with_rates s (rs ++ r ∷ []))
 step_rate s is rs r qs split =
     let rate = middle (IsRateOf s.profile s.nodes) rs r qs (subst (AllByRecursion (IsRateOf s.profile s.nodes)) (sym split) is.rates) in
-    let follows : Follows (rs ++ r ∷ qs) = subst Follows (sym split) is.follows in
+    let follows : RatesBeginLater (rs ++ r ∷ qs) = subst RatesBeginLater (sym split) is.follows in
     let before = climbs_before (λ a b. a.node ≡ b.node → a.from < b.from) rs r qs follows in
     let long : length rs + suc (length qs) ≡ length s.rates = sym (length-append rs (r ∷ qs)) ∙ ap length split in
     let few = is.scripted in

@@ -7,8 +7,8 @@ use Rattle.link_trace.specs.Passes.{Lines}
 use Rattle.text_writers.specs.Lines.{numbered}
 use Rattle.scenario_text.specs.Canonical.{canonical, canonical_lines, profile_number, contend_lines, node_words, rate_words}
 use Rattle.scenario_text.specs.Canonical.{host_lines, link_words, script_words, loss_words, cut_words, capture_words}
-use Rattle.scenario_text.specs.ScenarioGrammar.{Scenario, no_scenario, after_words, finished, finished_parts, if_small, scenario_of}
-use Rattle.text_readers.specs.Reading.{after_line}
+use Rattle.scenario_text.specs.ScenarioGrammar.{Scenario, no_scenario, scenario_after_words, whole_scenario, finished_parts, if_small, scenario_of}
+use Rattle.text_readers.specs.Reading.{draft_after_line}
 use Rattle.scenario_text.specs.ScenarioParts.{ScenarioParts}
 use Rattle.scenario_text.specs.declared.lines.RateLine.{RateLine}
 use Rattle.scenario_text.specs.declared.network_line.NetworkLine.TheVariants.{Sends}
@@ -19,7 +19,7 @@ use Rattle.scenario_text.proofs.LineRuns.{Step, step, goes_words, goes_after, Go
 use Rattle.scenario_text.proofs.CanonicalFacts.{Power, no_power, power_after, mid, KeepsRules}
 use Rattle.std.specs.Str.Lines.{lines}
 use Rattle.scenario_text.specs.Network.{Parts, network_parts, rates_by_node}
-use Rattle.text_readers.specs.Faults.{after_lines, in_line, ◌>>=◌}
+use Rattle.text_readers.specs.Faults.{draft_after_lines, in_line, ◌>>=◌}
 use Rattle.text_readers.specs.declared.fault.FaultKind.{FaultKind}
 use Rattle.text_readers.specs.declared.fault.FaultKind.TheVariants.{Missing, TooBig}
 use Rattle.scenario_text.proofs.TextBack.{lines_back}
@@ -140,7 +140,7 @@ goes_all s is =
     (counted_as s (record { links = s.trace.links; losses = s.trace.losses; cuts = s.trace.cuts; captures = [] }) s.script w (r + c + l + u)
     (r + c + l + u + 0) (omega arith)) (goes_captures s is))
 
-ends : (s : ScenarioParts) → KeepsRules s → finished (with_captures s s.trace.captures) ≡ Ok s
+ends : (s : ScenarioParts) → KeepsRules s → whole_scenario (with_captures s s.trace.captures) ≡ Ok s
 ends s is =
     let d : Scenario = with_captures s s.trace.captures in
     let p : Parts = record { sends = s.sends; nodes = s.nodes; rates = rates_by_node s.nodes s.rates; trace = s.trace } in
@@ -159,7 +159,7 @@ canonical_says s is =
     let text : List ℕ = canonical s in
     let d : Scenario = with_captures s s.trace.captures in
     let cut = lines_back (canonical_lines s) (goes_words no_scenario d (canonical_lines s) goes) in
-    let read : after_lines (after_line after_words) 1 no_scenario (lines text) ≡ Ok d =
-    ap (after_lines (after_line after_words) 1 no_scenario) cut ∙ goes_after 1 no_scenario d (canonical_lines s) goes in
-    ap (λ (r : Result Scenario (ℕ × FaultKind)). r >>= (λ e. in_line (length (lines text) + 1) (finished e))) read
+    let read : draft_after_lines (draft_after_line scenario_after_words) 1 no_scenario (lines text) ≡ Ok d =
+    ap (draft_after_lines (draft_after_line scenario_after_words) 1 no_scenario) cut ∙ goes_after 1 no_scenario d (canonical_lines s) goes in
+    ap (λ (r : Result Scenario (ℕ × FaultKind)). r >>= (λ e. in_line (length (lines text) + 1) (whole_scenario e))) read
     ∙ ap (λ (r : Result ScenarioParts FaultKind). in_line (length (lines text) + 1) r) (ends s is)

@@ -9,7 +9,7 @@ use Rattle.lwb_base.proofs.Lists.{each_append}
 use Rattle.link_trace.specs.Order.{by_loss, by_cut, by_capture}
 use Rattle.link_trace.specs.Passes.{is_loss, is_cut, is_capture}
 use Rattle.scenario_text.specs.FloodParts.{knows}
-use Rattle.scenario_text.specs.Network.{is_id, with_loss, with_cut, with_capture, has_script_room}
+use Rattle.scenario_text.specs.Network.{is_id, with_loss_at, with_cut_at, with_capture_at, has_script_room}
 use Rattle.scenario_text.specs.ScenarioGrammar.{Scenario, line_fault, with_scenario_line, is_frame}
 use Rattle.scenario_text.specs.declared.scenario_line.ScenarioLine.{ScenarioLine}
 use Rattle.scenario_text.specs.declared.scenario_line.ScenarioLine.TheVariants as line
@@ -142,20 +142,20 @@ line_fine d (line.Lose f j k u v) fine read none =
     let a = allowed d (line.Lose f j k u v) none in
     let t = d.network.trace in
     let longer = with_line_length by_loss (record { frame = f; slot = j; step = k; from = u; to = v }) t.losses in
-    trace_fine d (with_loss f j k u v t) fine (loss_trace d.profile d.frames d.network.nodes t f j k u v fine.trace
+    trace_fine d (with_loss_at f j k u v t) fine (loss_trace d.profile d.frames d.network.nodes t f j k u v fine.trace
     (record { range = a.range; known = a.known }) (not-true (list_any (is_loss f j k u v) t.losses) a.fresh)) a.order
     a.room (omega (arith, longer))
 line_fine d (line.Cut f j k i) fine read none =
     let a = allowed d (line.Cut f j k i) none in
     let t = d.network.trace in
     let longer = with_line_length by_cut (record { frame = f; slot = j; step = k; node = i }) t.cuts in
-    trace_fine d (with_cut f j k i t) fine (cut_trace d.profile d.frames d.network.nodes t f j k i fine.trace
+    trace_fine d (with_cut_at f j k i t) fine (cut_trace d.profile d.frames d.network.nodes t f j k i fine.trace
     (record { range = a.range; known = a.known }) (not-true (list_any (is_cut f j k i) t.cuts) a.fresh)) a.order
     a.room (omega (arith, longer))
 line_fine d (line.Capture f j k a b) fine read none =
     let c = allowed d (line.Capture f j k a b) none in
     let t = d.network.trace in
     let longer = with_line_length by_capture (record { frame = f; slot = j; step = k; at = a; from = b }) t.captures in
-    trace_fine d (with_capture f j k a b t) fine (capture_trace d.profile d.frames d.network.nodes t f j k a b fine.trace
+    trace_fine d (with_capture_at f j k a b t) fine (capture_trace d.profile d.frames d.network.nodes t f j k a b fine.trace
     (record { range = c.range; known = c.known }) (not-true (list_any (is_capture f j k a) t.captures) c.fresh)) c.order
     c.room (omega (arith, longer))

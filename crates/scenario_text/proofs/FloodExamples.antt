@@ -6,8 +6,8 @@ use lib.Utf8.{encode}
 use Rattle.link_trace.specs.Sealed.{no_lines}
 use Rattle.scenario_text.specs.FloodParts.{FloodParts}
 use Rattle.text_readers.specs.Words.{words, is_number, is_signed, is_skipped}
-use Rattle.scenario_text.specs.FloodGrammar.{flood_of, after_words, flood_line}
-use Rattle.text_readers.specs.Reading.{after_line}
+use Rattle.scenario_text.specs.FloodGrammar.{flood_of, flood_after_words, flood_line}
+use Rattle.text_readers.specs.Reading.{draft_after_line}
 use Rattle.scenario_text.specs.Network.{network_line}
 use Rattle.text_readers.specs.declared.fault.FaultKind.{FaultKind}
 use Rattle.text_readers.specs.declared.fault.FaultKind.TheVariants.{NotUtf8, BadWord, BadNumber, Range, UnknownNode, Order, Twice, Missing}
@@ -54,12 +54,12 @@ its_parts = record {
 }
 
 three_in_a_line : flood_of (three ++ codes "start 1\n") ≡ Ok its_parts
-unfolding after_line after_words flood_line network_line is_utf8 chars encode
+unfolding draft_after_line flood_after_words flood_line network_line is_utf8 chars encode
 three_in_a_line = refl
 
 -- without its start
 no_start : flood_of three ≡ Err (7, Missing)
-unfolding after_line after_words flood_line network_line is_utf8 chars encode
+unfolding draft_after_line flood_after_words flood_line network_line is_utf8 chars encode
 no_start = refl
 
 nothing_at_all : flood_of [] ≡ Err (1, Missing)
@@ -67,13 +67,13 @@ nothing_at_all = refl
 
 first_hop_lost : flood_of (three ++ codes "lose 0 1 2\nstart 1\n")
     ≡ Ok (record its_parts { trace = record its_parts.trace { losses = record { frame = 5; slot = 1; step = 0; from = 1; to = 2 } ∷ [] } })
-unfolding after_line after_words flood_line network_line is_utf8 chars encode
+unfolding draft_after_line flood_after_words flood_line network_line is_utf8 chars encode
 first_hop_lost = refl
 
 -- blanks, skipped lines with any bytes, nodes in any order, the rates of several nodes in turn, and no last line feed
 in_any_order : flood_of (codes "# \n" ++ (35 ∷ 255 ∷ 10 ∷ []) ++ codes "start 3\r\n")
     ≡ Err (3, UnknownNode)
-unfolding after_line after_words flood_line network_line is_utf8 chars encode
+unfolding draft_after_line flood_after_words flood_line network_line is_utf8 chars encode
 in_any_order = refl
 
 with_rates : flood_of (codes "node 9 5\nnode  2 256000\r\n\n  rate 9 7 -20\nsends 1\nrate 2 0 20\nrate 9 8 0\nstart 9")
@@ -84,7 +84,7 @@ with_rates : flood_of (codes "node 9 5\nnode  2 256000\r\n\n  rate 9 7 -20\nsend
       trace = no_lines;
       start = 9;
     })
-unfolding after_line after_words flood_line network_line is_utf8 chars encode
+unfolding draft_after_line flood_after_words flood_line network_line is_utf8 chars encode
 with_rates = refl
 
 -- behind the six lines of `three`: a line, and its fault
@@ -104,17 +104,17 @@ faults : map refused (
     ∷ Err (7, Range) ∷ Err (7, Range) ∷ Err (7, Range) ∷ Err (7, Range) ∷ Err (7, Range) ∷ Err (7, Range) ∷ Err (7, Range) ∷ Err (7, Range)
     ∷ Err (7, UnknownNode) ∷ Err (7, UnknownNode) ∷ Err (7, UnknownNode) ∷ Err (7, UnknownNode)
     ∷ Err (7, Twice) ∷ Err (7, Twice) ∷ Err (7, Twice) ∷ Err (7, Twice) ∷ []
-unfolding after_line after_words flood_line network_line is_utf8 chars encode
+unfolding draft_after_line flood_after_words flood_line network_line is_utf8 chars encode
 faults = refl
 
 second_lines : map (λ (lines : List ℕ). refused lines) (codes "start 1\nstart 2" ∷ codes "lose 0 1 2\nlose 0 1 2"
     ∷ codes "link 1 3\npair 3 1" ∷ codes "rate 1 7 1\nrate 2 7 1\nrate 1 7 1" ∷ [])
     ≡ Err (8, Twice) ∷ Err (8, Twice) ∷ Err (8, Twice) ∷ Err (9, Order) ∷ []
-unfolding after_line after_words flood_line network_line is_utf8 chars encode
+unfolding draft_after_line flood_after_words flood_line network_line is_utf8 chars encode
 second_lines = refl
 
 -- what misses nothing but sendings, or a second node
 also_missing : map (λ (text : List ℕ). flood_of text) (codes "node 1 0\nnode 2 0\nstart 1\n" ∷ codes "sends 1\nnode 1 0\nstart 1" ∷ [])
     ≡ Err (4, Missing) ∷ Err (4, Missing) ∷ []
-unfolding after_line after_words flood_line network_line is_utf8 chars encode
+unfolding draft_after_line flood_after_words flood_line network_line is_utf8 chars encode
 also_missing = refl

@@ -9,11 +9,11 @@ use Rattle.std.specs.Option.{option_map_or}
 use Rattle.lwb_base.proofs.Lists.{each_append}
 use Rattle.scenario_text.specs.FloodParts.{IsSound, knows}
 use Rattle.text_readers.specs.Words.{words}
-use Rattle.scenario_text.specs.Network.{Drafted, Parts, network_fault, with_line, with_node, network_parts, rates_by_node, is_id, last_rate, ppm}
-use Rattle.scenario_text.specs.FloodGrammar.{Flood, rule_fault, with_flood_line, after_spelled, after_words, flood_line, flood_numbers, no_flood}
-use Rattle.text_readers.specs.Faults.{after_lines}
-use Rattle.text_readers.specs.Reading.{after_line}
-use Rattle.scenario_text.specs.FloodDrafts.{Rises, IsRate, IsNetwork, IsFlood}
+use Rattle.scenario_text.specs.Network.{DraftedNetwork, Parts, network_fault, with_network_line, with_node, network_parts, rates_by_node, is_id, last_rate, ppm}
+use Rattle.scenario_text.specs.FloodGrammar.{Flood, rule_fault, with_flood_line, after_spelled, flood_after_words, flood_line, flood_numbers, no_flood}
+use Rattle.text_readers.specs.Faults.{draft_after_lines}
+use Rattle.text_readers.specs.Reading.{draft_after_line}
+use Rattle.scenario_text.specs.FloodDrafts.{Rises, IsRate, IsNetwork, IsFloodDraft}
 use Rattle.text_readers.specs.declared.fault.FaultKind.TheVariants.{Range, UnknownNode, Order, Twice, TooMany}
 use Rattle.scenario_text.specs.declared.flood_line.FloodLine.{FloodLine}
 use Rattle.scenario_text.specs.declared.flood_line.FloodLine.TheVariants.{InNetwork, Lose, Start}
@@ -26,7 +26,8 @@ use Rattle.text_readers.proofs.LinesRead.{line_keeps, lines_keep}
 use Rattle.scenario_text.proofs.NodeIds.{with_node-all, with_node-rises, with_node-length, with_node-knows, pairs_rise}
 use Rattle.scenario_text.proofs.RatesKept.{map_all, later_all, climbs_more, all_by_node, each_ascends, ppm_small}
 
-pub network_keeps : (last : ℕ) (d : Drafted) (l : NetworkLine) → last < 2 ^ 47 → IsNetwork d → network_fault last d l ≡ None → IsNetwork (with_line d l)
+pub network_keeps : (last : ℕ) (d : DraftedNetwork) (l : NetworkLine) → last < 2 ^ 47 → IsNetwork d → network_fault last d l ≡ None
+    → IsNetwork (with_network_line d l)
 network_keeps last d (Sends x) early sound none =
     let range = passed (nat_le 1 x && nat_le x 4) Range _ none in
     let ends = and_parts (nat_le 1 x) (nat_le x 4) range.0 in
@@ -75,14 +76,14 @@ network_keeps last d (Pair u v) early sound none =
     record { sends = sound.sends; few_nodes = sound.few_nodes; rises = sound.rises; offsets = sound.offsets; follows = sound.follows; rates = sound.rates }
 
 -- a node that is known stays so
-nodes_stay : (d : Drafted) (l : NetworkLine) (v : ℕ) → Rises d.nodes → knows d.nodes v ≡ true → knows (with_line d l).nodes v ≡ true
+nodes_stay : (d : DraftedNetwork) (l : NetworkLine) (v : ℕ) → Rises d.nodes → knows d.nodes v ≡ true → knows (with_network_line d l).nodes v ≡ true
 nodes_stay d (Sends x) v rises known = known
 nodes_stay d (Node i o) v rises known = with_node-knows (record { node = i; offset = o }) v d.nodes rises known
 nodes_stay d (Rate i t slow p) v rises known = known
 nodes_stay d (Link a b) v rises known = known
 nodes_stay d (Pair a b) v rises known = known
 
-flood_keeps : (f : Flood) (l : FloodLine) → IsFlood f → rule_fault f l ≡ None → IsFlood (with_flood_line f l)
+flood_keeps : (f : Flood) (l : FloodLine) → IsFloodDraft f → rule_fault f l ≡ None → IsFloodDraft (with_flood_line f l)
 flood_keeps f (InNetwork l) sound none = record {
   network = network_keeps 1048576000000 f.network l (omega arith) sound.network none;
   start_known = IfSome_then f.start sound.start_known (λ i known. nodes_stay f.network l i sound.network.rises known);
@@ -98,29 +99,29 @@ flood_keeps f (Start i) sound none =
     let known = passed (knows f.network.nodes i) UnknownNode _ range.1 in
     record { network = sound.network; start_known = known.0 }
 
-words_keep : (f : Flood) (ws : List (List ℕ)) → IsFlood f → IfOk (after_words f ws) IsFlood
-unfolding after_words
+words_keep : (f : Flood) (ws : List (List ℕ)) → IsFloodDraft f → IfOk (flood_after_words f ws) IsFloodDraft
+unfolding flood_after_words
 words_keep f ws sound =
-    spelled_keeps IsFlood (flood_line ws) (λ (l : FloodLine). flood_numbers l ws) (after_spelled f)
-    (λ l is. unless_keeps IsFlood (rule_fault f l) (with_flood_line f l) (λ none. flood_keeps f l sound none))
+    spelled_keeps IsFloodDraft (flood_line ws) (λ (l : FloodLine). flood_numbers l ws) (after_spelled f)
+    (λ l is. unless_keeps IsFloodDraft (rule_fault f l) (with_flood_line f l) (λ none. flood_keeps f l sound none))
 
-nothing_sound : IsFlood no_flood
+nothing_sound : IsFloodDraft no_flood
 nothing_sound = record {
   network = record { sends = tt; few_nodes = omega arith; rises = tt; offsets = tt; follows = tt; rates = tt };
   start_known = tt;
 }
 
 -- behind allowed lines
-pub text_sound : (f : Flood) (ls : List (List ℕ)) → after_lines (after_line after_words) 1 no_flood ls ≡ Ok f → IsFlood f
+pub text_sound : (f : Flood) (ls : List (List ℕ)) → draft_after_lines (draft_after_line flood_after_words) 1 no_flood ls ≡ Ok f → IsFloodDraft f
 text_sound f ls is =
-    lines_keep IsFlood (after_line after_words)
-    (λ d line sound. line_keeps IsFlood after_words d line sound (words_keep d (words line) sound)) 1 no_flood f ls nothing_sound is
+    lines_keep IsFloodDraft (draft_after_line flood_after_words)
+    (λ d line sound. line_keeps IsFloodDraft flood_after_words d line sound (words_keep d (words line) sound)) 1 no_flood f ls nothing_sound is
 
-abbrev parts_at : Drafted → ℕ → Parts
+abbrev parts_at : DraftedNetwork → ℕ → Parts
 parts_at d n = record { sends = n; nodes = d.nodes; rates = rates_by_node d.nodes d.rates; trace = d.trace }
 
 -- the parts of a draft that misses nothing
-pub parts_sound : (d : Drafted) (o : Option ℕ) (p : Parts) (s : ℕ) → IsNetwork d → IfSome o (λ n. (1 ≤ n) × (n ≤ 4)) → knows d.nodes s ≡ true
+pub parts_sound : (d : DraftedNetwork) (o : Option ℕ) (p : Parts) (s : ℕ) → IsNetwork d → IfSome o (λ n. (1 ≤ n) × (n ≤ 4)) → knows d.nodes s ≡ true
     → Some p ≡ network_parts d o
     → IsSound (record { sends = p.sends; nodes = p.nodes; rates = p.rates; trace = p.trace; start = s })
 parts_sound d None p s sound few known is = cc

@@ -7,11 +7,11 @@ use Rattle.std.specs.Ordering.{is_lt, is_eq}
 use Rattle.std.specs.declared.cmp.Ordering.{Ordering}
 use Rattle.std.specs.declared.cmp.Ordering.TheVariants.{Less}
 use Rattle.link_trace.specs.Order.{with_line}
-use Rattle.text_readers.specs.Faults.{first_fault, after_lines}
+use Rattle.text_readers.specs.Faults.{first_fault, draft_after_lines}
 use Rattle.scenario_text.specs.FloodDrafts.{Climbs}
-use Rattle.scenario_text.specs.ScenarioGrammar.{Scenario, line_fault, with_scenario_line, after_words, line_in_range}
+use Rattle.scenario_text.specs.ScenarioGrammar.{Scenario, line_fault, with_scenario_line, scenario_after_words, line_in_range}
 use Rattle.scenario_text.specs.ScenarioGrammar.{line_knows_ids, line_in_order, line_is_new, line_has_room}
-use Rattle.text_readers.specs.Reading.{after_line}
+use Rattle.text_readers.specs.Reading.{draft_after_line}
 use Rattle.text_readers.specs.declared.fault.FaultKind.TheVariants.{Range, UnknownNode, Order, Twice, TooMany}
 use Rattle.scenario_text.specs.declared.scenario_line.ScenarioLine.{ScenarioLine}
 use Rattle.scenario_text.proofs.TextBack.{IsWord}
@@ -22,7 +22,7 @@ use Rattle.text_readers.proofs.AllowedLines.{passed}
 -- one line
 pub record Step (d : Scenario) (ws : List (List ℕ)) (e : Scenario) : Type 0 where
   pub are_words : AllByRecursion IsWord ws
-  pub after : after_line after_words d (join_with_byte 32 ws) ≡ Ok e
+  pub after : draft_after_line scenario_after_words d (join_with_byte 32 ws) ≡ Ok e
 
 -- the lines, from one draft to another
 abbrev pub Goes : Scenario → List (List (List ℕ)) → Scenario → Type 0
@@ -38,10 +38,10 @@ goes_words d e [] goes = tt
 goes_words d e (ws ∷ ls) goes = (goes.1.0.are_words, goes_words goes.0 e ls goes.1.1)
 
 pub goes_after : (n : ℕ) (d e : Scenario) (ls : List (List (List ℕ))) → Goes d ls e
-    → after_lines (after_line after_words) n d (map (join_with_byte 32) ls) ≡ Ok e
+    → draft_after_lines (draft_after_line scenario_after_words) n d (map (join_with_byte 32) ls) ≡ Ok e
 goes_after n d e [] goes = ap Ok goes
 goes_after n d e (ws ∷ ls) goes =
-    one_line_more (after_line after_words) n d goes.0 (join_with_byte 32 ws) (map (join_with_byte 32) ls) goes.1.0.after
+    one_line_more (draft_after_line scenario_after_words) n d goes.0 (join_with_byte 32 ws) (map (join_with_byte 32) ls) goes.1.0.after
     ∙ goes_after (n + 1) goes.0 e ls goes.1.1
 
 -- an allowed line

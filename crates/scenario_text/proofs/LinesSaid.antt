@@ -8,13 +8,13 @@ use Rattle.std.specs.List.{AllByRecursion, list_all, join_with_byte}
 use Rattle.std.specs.Str.{is_utf8}
 use Rattle.text_readers.specs.Words.{is_skipped, is_number, number, has_minus, magnitude}
 use Rattle.text_readers.specs.Faults.{unless_fault, spelled, ◌>>=◌}
-use Rattle.text_readers.specs.Reading.{after_line}
+use Rattle.text_readers.specs.Reading.{draft_after_line}
 use Rattle.scenario_text.specs.Network.{network_line}
 use Rattle.text_writers.specs.HexWords.{payload_word}
 use Rattle.scenario_text.specs.Payloads.{is_payload, payload}
 use Rattle.text_writers.specs.Lines.{numbered}
 use Rattle.scenario_text.specs.ScenarioGrammar.{Scenario, scenario_line, script_line, step_line, put_line, scenario_numbers}
-use Rattle.scenario_text.specs.ScenarioGrammar.{line_fault, with_scenario_line, after_spelled, after_words}
+use Rattle.scenario_text.specs.ScenarioGrammar.{line_fault, with_scenario_line, after_spelled, scenario_after_words}
 use Rattle.text_readers.specs.declared.fault.FaultKind.{FaultKind}
 use Rattle.text_readers.specs.declared.fault.FaultKind.TheVariants.{NotUtf8, BadNumber}
 use Rattle.scenario_text.specs.declared.network_line.NetworkLine.TheVariants.{Sends, Node, Rate, Link}
@@ -33,15 +33,15 @@ pub record Says (ws : List (List ℕ)) (l : ScenarioLine) : Type 0 where
 
 -- behind a line of such words that is allowed
 pub said : (d : Scenario) (ws : List (List ℕ)) (l : ScenarioLine) → Says ws l → line_fault d l ≡ None
-    → after_line after_words d (join_with_byte 32 ws) ≡ Ok (with_scenario_line d l)
-unfolding after_line after_words
+    → draft_after_line scenario_after_words d (join_with_byte 32 ws) ≡ Ok (with_scenario_line d l)
+unfolding draft_after_line scenario_after_words
 said d ws l says none =
     let text = join_with_byte 32 ws in
     let right : ScenarioLine → Bool = λ m. scenario_numbers m ws in
-    ap (λ (vs : List (List ℕ)). if is_skipped vs then Ok d else if is_utf8 text then after_words d vs else Err NotUtf8)
+    ap (λ (vs : List (List ℕ)). if is_skipped vs then Ok d else if is_utf8 text then scenario_after_words d vs else Err NotUtf8)
     (words_back ws says.are_words)
-    ∙ cond-false (is_skipped ws) (Ok d) (if is_utf8 text then after_words d ws else Err NotUtf8) says.unskipped
-    ∙ cond-true (is_utf8 text) (after_words d ws) (Err NotUtf8) (line_is_text ws says.are_words)
+    ∙ cond-false (is_skipped ws) (Ok d) (if is_utf8 text then scenario_after_words d ws else Err NotUtf8) says.unskipped
+    ∙ cond-true (is_utf8 text) (scenario_after_words d ws) (Err NotUtf8) (line_is_text ws says.are_words)
     ∙ ap (λ (o : Option ScenarioLine). spelled o right >>= after_spelled d) says.line
     ∙ ap (λ (r : Result ScenarioLine FaultKind). r >>= after_spelled d) (cond-true (right l) (Ok l) (Err BadNumber) says.right)
     ∙ ap (λ (o : Option FaultKind). unless_fault o (with_scenario_line d l)) none

@@ -6,7 +6,7 @@ use Rattle.lwb_base.specs.Profile.{Numbers, IsProfile}
 use Rattle.lwb_base.proofs.Lists.{each_append}
 use Rattle.link_trace.specs.Passes.{Lines}
 use Rattle.scenario_text.specs.FloodParts.{knows}
-use Rattle.scenario_text.specs.Network.{ppm, is_id, with_node, with_link, has_link}
+use Rattle.scenario_text.specs.Network.{ppm, is_id, with_node, with_link_to, has_link}
 use Rattle.scenario_text.specs.ScenarioGrammar.{Scenario, last_tick, line_fault, with_scenario_line}
 use Rattle.scenario_text.specs.declared.lines.NodeLine.{NodeLine}
 use Rattle.scenario_text.specs.declared.lines.RateLine.{RateLine}
@@ -133,6 +133,6 @@ network_fine d (Pair u v) fine none =
     let known = and_parts (knows d.network.nodes u) (knows d.network.nodes v) a.known in
     let there = link_trace d.profile d.frames d.network.nodes t u v fine.trace a.range a.known (not-true (has_link t u v) fresh.0) in
     links_fine d _ fine
-    (link_trace d.profile d.frames d.network.nodes (with_link u v t) v u there (ends_back u v a.range)
+    (link_trace d.profile d.frames d.network.nodes (with_link_to u v t) v u there (ends_back u v a.range)
     (and_from (knows d.network.nodes v) (knows d.network.nodes u) known.1 known.0)
     (link_back u v t (ends_differ u v a.range) ∙ not-true (has_link t v u) fresh.1))

@@ -15,7 +15,7 @@ use Rattle.scenario_text.specs.Network.{is_id, are_ends}
 use Rattle.scenario_text.specs.Canonical.{IsSaid}
 use Rattle.scenario_text.specs.PartsInOrder.{IsNodeLine, IsRateLine, carried, IsInOrder}
 use Rattle.scenario_text.specs.ScenarioFacts.{AreEnds, IsStepOf, IsAct, IsScriptLine, IsSoundScenario}
-use Rattle.scenario_text.specs.ScenarioGrammar.{last_slot, is_step, is_short, IsScenario}
+use Rattle.scenario_text.specs.ScenarioGrammar.{greatest_slot_of, is_step, is_short, IsScenario}
 use Rattle.scenario_text.specs.ScenarioParts.{ScenarioParts}
 use Rattle.scenario_text.specs.declared.script.Act.{Act}
 use Rattle.scenario_text.specs.declared.script.Act.TheVariants.{On, Off, Declare, Leave, Put}
@@ -51,8 +51,8 @@ both_known s u v ends = and_from (knows s.nodes u) (knows s.nodes v) ends.from_k
 
 step_from : (s : ScenarioParts) (f j k : ℕ) → IsStepOf s f j k → is_step (judge s) f j k ≡ true
 step_from s f j k step =
-    and_from (nat_lt f s.frames && nat_le j (last_slot s.profile)) (nat_le k 11)
-    (and_from (nat_lt f s.frames) (nat_le j (last_slot s.profile)) (lt-ltb f s.frames step.in_run) (le-leb j (last_slot s.profile) step.in_frame))
+    and_from (nat_lt f s.frames && nat_le j (greatest_slot_of s.profile)) (nat_le k 11)
+    (and_from (nat_lt f s.frames) (nat_le j (greatest_slot_of s.profile)) (lt-ltb f s.frames step.in_run) (le-leb j (greatest_slot_of s.profile) step.in_frame))
     (le-leb k 11 step.in_slot)
 
 link_fits : (s : ScenarioParts) (l : LinkLine) → HaveIds s → AreEnds s.nodes l.from l.to → Fits (judge s) (said_link l)

@@ -9,7 +9,7 @@ use Rattle.std.specs.declared.cmp.Ordering.{Ordering}
 use Rattle.std.specs.declared.cmp.Ordering.TheVariants.{Less, Equal, Greater}
 use Rattle.lwb_base.proofs.Orders.{compares_less}
 use Rattle.scenario_text.specs.FloodParts.{knows}
-use Rattle.scenario_text.specs.FloodDrafts.{Climbs, Rises, Follows}
+use Rattle.scenario_text.specs.FloodDrafts.{Climbs, Rises, RatesBeginLater}
 use Rattle.scenario_text.specs.Network.{rates_by_node}
 use Rattle.scenario_text.specs.PartsInOrder.{by_rate}
 use Rattle.scenario_text.specs.declared.lines.NodeLine.{NodeLine}
@@ -38,7 +38,7 @@ of_same_node a b same lt =
     ap (λ (o : Ordering). ordering_then o (nat_cmp a.from b.from)) tied ∙ compares_less a.from b.from lt
 
 -- of two rates of one node the later begins later
-pub below_follows : (rs : List RateLine) → Climbs IsBelow rs → Follows rs
+pub below_follows : (rs : List RateLine) → Climbs IsBelow rs → RatesBeginLater rs
 below_follows [] climbs = tt
 below_follows (r ∷ rs) climbs = (
   map_all (IsBelow r) (λ s. r.node ≡ s.node → r.from < s.from) rs
@@ -98,7 +98,7 @@ below_in_turn ns (r ∷ rs) rises known climbs =
     first_in_turn ns r rs rises known.0 least ∙ ap (λ (l : List RateLine). r ∷ l) (below_in_turn ns rs rises known.1 climbs.1)
 
 -- and the rates of each node in turn stand by node and tick
-one_node : (i : ℕ) (rs : List RateLine) → AllByRecursion (λ r. r.node ≡ i) rs → Follows rs → Climbs IsBelow rs
+one_node : (i : ℕ) (rs : List RateLine) → AllByRecursion (λ r. r.node ≡ i) rs → RatesBeginLater rs → Climbs IsBelow rs
 one_node i [] of follows = tt
 one_node i (r ∷ rs) of follows = (above_first rs of.1 follows.0, one_node i rs of.1 follows.1)
   where
@@ -107,7 +107,7 @@ one_node i (r ∷ rs) of follows = (above_first rs of.1 follows.0, one_node i rs
     above_first [] same later = tt
     above_first (s ∷ ss) same later = let both : r.node ≡ s.node = of.0 ∙ sym same.0 in (of_same_node r s both (later.0 both), above_first ss same.1 later.1)
 
-pub turns_climb : (ns : List NodeLine) (rs : List RateLine) → Rises ns → Follows rs → Climbs IsBelow (rates_by_node ns rs)
+pub turns_climb : (ns : List NodeLine) (rs : List RateLine) → Rises ns → RatesBeginLater rs → Climbs IsBelow (rates_by_node ns rs)
 turns_climb [] rs rises follows = tt
 turns_climb (n ∷ ns) rs rises follows =
     let fs : List RateLine = filter (is_of n.node) rs in

@@ -5,7 +5,7 @@ use Rattle.std.proofs.lemmas.List.{length-append}
 use Rattle.std.specs.List.{AllByRecursion}
 use Rattle.lwb_base.proofs.Lists.{each_append}
 use Rattle.scenario_text.specs.FloodParts.{knows}
-use Rattle.scenario_text.specs.FloodDrafts.{Climbs, Rises, Follows}
+use Rattle.scenario_text.specs.FloodDrafts.{Climbs, Rises, RatesBeginLater}
 use Rattle.scenario_text.specs.Network.{rates_by_node}
 use Rattle.scenario_text.specs.declared.lines.NodeLine.{NodeLine}
 use Rattle.scenario_text.specs.declared.lines.RateLine.{RateLine}
@@ -87,7 +87,7 @@ above i (n ∷ ns) rs all =
     (map_all (λ r. r.node ≡ n.node) (λ r. i < r.node) (filter (is_of n.node) rs) (λ r is. omega (arith, first, is))
     (of_that_node n.node rs)) (above i ns rs all.1)
 
-pub turns_follow : (ns : List NodeLine) (rs : List RateLine) → Rises ns → Follows rs → Follows (rates_by_node ns rs)
+pub turns_follow : (ns : List NodeLine) (rs : List RateLine) → Rises ns → RatesBeginLater rs → RatesBeginLater (rates_by_node ns rs)
 turns_follow [] rs rises follows = tt
 turns_follow (n ∷ ns) rs rises follows =
     let fs : List RateLine = filter (is_of n.node) rs in

@@ -12,7 +12,7 @@ use Rattle.std.specs.Option.{option_or, option_map_or}
 use Rattle.lwb_base.proofs.Lists.{each_append}
 use Rattle.scenario_text.specs.FloodParts.{knows}
 use Rattle.scenario_text.specs.Network.{last_rate, rates_by_node, ppm}
-use Rattle.scenario_text.specs.FloodDrafts.{Climbs, Rises, Follows}
+use Rattle.scenario_text.specs.FloodDrafts.{Climbs, Rises, RatesBeginLater}
 use Rattle.scenario_text.specs.declared.lines.NodeLine.{NodeLine}
 use Rattle.scenario_text.specs.declared.lines.RateLine.{RateLine}
 
@@ -54,7 +54,7 @@ pub map_all : {X : Type 0} (P Q : X → Type 0) (xs : List X) → ((x : X) → P
 map_all P Q [] f all = tt
 map_all P Q (x ∷ xs) f all = (f x all.0, map_all P Q xs f all.1)
 
-tops : (i : ℕ) (rs : List RateLine) → Follows rs → Tops (last_rate rs i) i rs
+tops : (i : ℕ) (rs : List RateLine) → RatesBeginLater rs → Tops (last_rate rs i) i rs
 tops i [] follows = tt
 tops i (r ∷ rs) follows =
     subst (λ (o : Option RateLine). Tops o i (r ∷ rs)) (sym (last_more r rs i))
@@ -75,7 +75,7 @@ tops i (r ∷ rs) follows =
         )
         here false is = ((λ same. true≢false (sym (eq-eqb r.node i same) ∙ is)), none)
 
-pub later_all : (rs : List RateLine) (i t : ℕ) → Follows rs → option_map_or (λ r. nat_lt r.from t) (last_rate rs i) true ≡ true
+pub later_all : (rs : List RateLine) (i t : ℕ) → RatesBeginLater rs → option_map_or (λ r. nat_lt r.from t) (last_rate rs i) true ≡ true
     → AllByRecursion (λ r. r.node ≡ i → r.from < t) rs
 later_all rs i t follows above = by_last (last_rate rs i) (tops i rs follows) above
   where
@@ -108,7 +108,7 @@ passing_later i s (r ∷ rs) is all =
     cond_both (is_of i r) (r ∷ filter (is_of i) rs) (filter (is_of i) rs) (AllByRecursion (λ t. s.from < t.from))
     (λ same. (all.0 (is ∙ sym (eqb-true r.node i same)), passing_later i s rs is all.1)) (λ other. passing_later i s rs is all.1)
 
-pub one_ascends : (i : ℕ) (rs : List RateLine) → Follows rs → AllPairs (λ a b. a.from < b.from) (filter (is_of i) rs)
+pub one_ascends : (i : ℕ) (rs : List RateLine) → RatesBeginLater rs → AllPairs (λ a b. a.from < b.from) (filter (is_of i) rs)
 one_ascends i [] follows = λ k j d before within. absurd (omega arith)
 one_ascends i (r ∷ rs) follows =
     cond_both (is_of i r) (r ∷ filter (is_of i) rs) (filter (is_of i) rs) (AllPairs (λ a b. a.from < b.from))
@@ -158,7 +158,7 @@ of_node (n ∷ ns) rs i rises = filter-append (is_of i) (filter (is_of n.node) r
         ∙ append-nil (filter (is_of i) (filter (is_of i) rs)) ∙ filter_same i rs
     either false other others = ap (λ (l : List RateLine). l ++ filter (is_of i) (rates_by_node ns rs)) (filter_other n.node i rs other) ∙ others
 
-pub each_ascends : (ns : List NodeLine) (rs : List RateLine) (i : ℕ) → Rises ns → Follows rs
+pub each_ascends : (ns : List NodeLine) (rs : List RateLine) (i : ℕ) → Rises ns → RatesBeginLater rs
     → AllPairs (λ a b. a.from < b.from) (filter (is_of i) (rates_by_node ns rs))
 each_ascends ns rs i rises follows =
     subst (AllPairs (λ a b. a.from < b.from)) (sym (of_node ns rs i rises))

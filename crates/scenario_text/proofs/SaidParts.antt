@@ -10,14 +10,14 @@ use Rattle.std.specs.Str.Lines.{lines}
 use Rattle.lwb_base.specs.Profile.{Numbers}
 use Rattle.scenario_text.specs.FloodParts.{knows}
 use Rattle.scenario_text.specs.FloodDrafts.{IsRate}
-use Rattle.text_readers.specs.Words.{words, word, counted, number_at}
-use Rattle.text_readers.specs.Faults.{after_lines, in_line, ◌>>=◌}
-use Rattle.text_readers.specs.Reading.{after_line}
+use Rattle.text_readers.specs.Words.{words, word, line_of_words, number_at}
+use Rattle.text_readers.specs.Faults.{draft_after_lines, in_line, ◌>>=◌}
+use Rattle.text_readers.specs.Reading.{draft_after_line}
 use Rattle.scenario_text.specs.Network.{is_id, network_parts, network_line, rates_by_node}
 use Rattle.scenario_text.specs.Payloads.{is_payload, payload, payload_bytes, hex_bytes, hex_value}
 use Rattle.scenario_text.specs.ScenarioGrammar.{Scenario, no_scenario, last_tick, line_fault, with_scenario_line, after_spelled}
-use Rattle.scenario_text.specs.ScenarioGrammar.{after_words, scenario_line, script_line, step_line, put_line, scenario_numbers}
-use Rattle.scenario_text.specs.ScenarioGrammar.{begins, finished, finished_parts, if_small, scenario_of, IsScenario}
+use Rattle.scenario_text.specs.ScenarioGrammar.{scenario_after_words, scenario_line, script_line, step_line, put_line, scenario_numbers}
+use Rattle.scenario_text.specs.ScenarioGrammar.{first_word_is, whole_scenario, finished_parts, if_small, scenario_of, IsScenario}
 use Rattle.scenario_text.specs.ScenarioParts.{ScenarioParts}
 use Rattle.scenario_text.specs.Canonical.{canonical}
 use Rattle.text_readers.specs.declared.fault.FaultKind.{FaultKind}
@@ -58,7 +58,7 @@ either : (b : Bool) (x y : Option ScenarioLine) → IfSome x IsRead → IfSome y
 either true x y first second = first
 either false x y first second = second
 
-counted_read : (n : ℕ) (ws : List (List ℕ)) (l : ScenarioLine) → IsRead l → IfSome (counted n ws l) IsRead
+counted_read : (n : ℕ) (ws : List (List ℕ)) (l : ScenarioLine) → IsRead l → IfSome (line_of_words n ws l) IsRead
 counted_read n ws l is = cond_both (length ws == n) (Some l) None (λ o. IfSome o IsRead) (λ same. is) (λ other. tt)
 
 network_read : (o : Option _) → IfSome (option_map InNetwork o) IsRead
@@ -68,27 +68,28 @@ network_read (Some l) = tt
 line_read : (ws : List (List ℕ)) → IfSome (scenario_line ws) IsRead
 unfolding scenario_line script_line step_line put_line
 line_read ws =
-    either (begins ws (codes "profile")) _ _ (counted_read 2 ws (Profile (number_at ws 1)) tt)
-    (either (begins ws (codes "contend")) _ _ (counted_read 2 ws (Contend (number_at ws 1)) tt)
-    (either (begins ws (codes "frames")) _ _ (counted_read 2 ws (Frames (number_at ws 1)) tt)
-    (either (begins ws (codes "host")) _ _ (counted_read 3 ws (Host (number_at ws 1) (number_at ws 2)) tt)
-    (either (begins ws (codes "on")) _ _ (counted_read 3 ws (On (number_at ws 1) (number_at ws 2)) tt)
-    (either (begins ws (codes "off")) _ _ (counted_read 3 ws (Off (number_at ws 1) (number_at ws 2)) tt)
-    (either (begins ws (codes "stream")) _ _ (counted_read 5 ws (Stream (number_at ws 1) (number_at ws 2) (number_at ws 3) (number_at ws 4)) tt)
-    (either (begins ws (codes "leave")) _ _ (counted_read 4 ws (Leave (number_at ws 1) (number_at ws 2) (number_at ws 3)) tt)
-    (either (begins ws (codes "put")) _ _
+    either (first_word_is ws (codes "profile")) _ _ (counted_read 2 ws (Profile (number_at ws 1)) tt)
+    (either (first_word_is ws (codes "contend")) _ _ (counted_read 2 ws (Contend (number_at ws 1)) tt)
+    (either (first_word_is ws (codes "frames")) _ _ (counted_read 2 ws (Frames (number_at ws 1)) tt)
+    (either (first_word_is ws (codes "host")) _ _ (counted_read 3 ws (Host (number_at ws 1) (number_at ws 2)) tt)
+    (either (first_word_is ws (codes "on")) _ _ (counted_read 3 ws (On (number_at ws 1) (number_at ws 2)) tt)
+    (either (first_word_is ws (codes "off")) _ _ (counted_read 3 ws (Off (number_at ws 1) (number_at ws 2)) tt)
+    (either (first_word_is ws (codes "stream")) _ _ (counted_read 5 ws (Stream (number_at ws 1) (number_at ws 2) (number_at ws 3) (number_at ws 4)) tt)
+    (either (first_word_is ws (codes "leave")) _ _ (counted_read 4 ws (Leave (number_at ws 1) (number_at ws 2) (number_at ws 3)) tt)
+    (either (first_word_is ws (codes "put")) _ _
     (either (is_payload (word ws 4)) _ None
     (counted_read 5 ws (Put (number_at ws 1) (number_at ws 2) (number_at ws 3) (payload (word ws 4)))
     (payload_read (number_at ws 1) (number_at ws 2) (number_at ws 3) (word ws 4))) tt)
-    (either (begins ws (codes "lose")) _ _ (counted_read 6 ws (Lose (number_at ws 1) (number_at ws 2) (number_at ws 3) (number_at ws 4) (number_at ws 5)) tt)
-    (either (begins ws (codes "cut")) _ _ (counted_read 5 ws (Cut (number_at ws 1) (number_at ws 2) (number_at ws 3) (number_at ws 4)) tt)
-    (either (begins ws (codes "capture")) _ _
+    (either (first_word_is ws (codes "lose")) _ _
+        (counted_read 6 ws (Lose (number_at ws 1) (number_at ws 2) (number_at ws 3) (number_at ws 4) (number_at ws 5)) tt)
+    (either (first_word_is ws (codes "cut")) _ _ (counted_read 5 ws (Cut (number_at ws 1) (number_at ws 2) (number_at ws 3) (number_at ws 4)) tt)
+    (either (first_word_is ws (codes "capture")) _ _
     (counted_read 6 ws (Capture (number_at ws 1) (number_at ws 2) (number_at ws 3) (number_at ws 4) (number_at ws 5)) tt)
     (network_read (network_line ws)))))))))))))
 
 -- behind a line
-words_fine : (d : Scenario) (ws : List (List ℕ)) → IsFine d → IfOk (after_words d ws) IsFine
-unfolding after_words
+words_fine : (d : Scenario) (ws : List (List ℕ)) → IsFine d → IfOk (scenario_after_words d ws) IsFine
+unfolding scenario_after_words
 words_fine d ws fine =
     spelled_keeps IsFine (scenario_line ws) (λ (l : ScenarioLine). scenario_numbers l ws) (after_spelled d)
     (λ l is. unless_keeps IsFine (line_fault d l) (with_scenario_line d l) (λ none. line_fine d l fine (read_as ws l is) none))
@@ -96,10 +97,10 @@ words_fine d ws fine =
     read_as : (ws : List (List ℕ)) (l : ScenarioLine) → scenario_line ws ≡ Some l → IsRead l
     read_as ws l is = subst (λ (o : Option ScenarioLine). IfSome o IsRead) is (line_read ws)
 
-pub fine_lines : (d : Scenario) (texts : List (List ℕ)) → after_lines (after_line after_words) 1 no_scenario texts ≡ Ok d → IsFine d
+pub fine_lines : (d : Scenario) (texts : List (List ℕ)) → draft_after_lines (draft_after_line scenario_after_words) 1 no_scenario texts ≡ Ok d → IsFine d
 fine_lines d texts is =
-    lines_keep IsFine (after_line after_words)
-    (λ e text fine. line_keeps IsFine after_words e text fine (words_fine e (words text) fine)) 1 no_scenario d texts fine_first is
+    lines_keep IsFine (draft_after_line scenario_after_words)
+    (λ e text fine. line_keeps IsFine scenario_after_words e text fine (words_fine e (words text) fine)) 1 no_scenario d texts fine_first is
 
 -- ids of known nodes
 pub known_id : (ns : List NodeLine) (v : ℕ) → AllByRecursion (λ n. is_id n.node ≡ true) ns → knows ns v ≡ true → is_id v ≡ true
@@ -180,7 +181,7 @@ ok_where : (b : Bool) (x : ScenarioParts) (k : FaultKind) (s : ScenarioParts) �
 ok_where true x k s is = (refl, subst (λ (r : Result ScenarioParts FaultKind). IfOk r (λ y. x ≡ y)) is refl)
 ok_where false x k s is = cc
 
-finished_said : (d : Scenario) (s : ScenarioParts) → IsFine d → finished d ≡ Ok s → KeepsRules s
+finished_said : (d : Scenario) (s : ScenarioParts) → IsFine d → whole_scenario d ≡ Ok s → KeepsRules s
 finished_said d s fine is = by_parts d.network.sends d.frames refl refl is
   where
     by_parts : (o g : Option ℕ) → d.network.sends ≡ o → d.frames ≡ g → finished_parts d (network_parts d.network o) g ≡ Ok s → KeepsRules s
@@ -209,14 +210,14 @@ finished_said d s fine is = by_parts d.network.sends d.frames refl refl is
             (leb-true (length d.network.nodes * f) 16384 small.0))
 
 pub said_is : (s : ScenarioParts) → IsScenario s → KeepsRules s
-said_is s said = by_lines (after_lines (after_line after_words) 1 no_scenario (lines said.0)) refl said.1
+said_is s said = by_lines (draft_after_lines (draft_after_line scenario_after_words) 1 no_scenario (lines said.0)) refl said.1
   where
-    by_lines : (r : Result Scenario (ℕ × FaultKind)) → after_lines (after_line after_words) 1 no_scenario (lines said.0) ≡ r
-        → (r >>= (λ e. in_line (length (lines said.0) + 1) (finished e))) ≡ Ok s → KeepsRules s
+    by_lines : (r : Result Scenario (ℕ × FaultKind)) → draft_after_lines (draft_after_line scenario_after_words) 1 no_scenario (lines said.0) ≡ r
+        → (r >>= (λ e. in_line (length (lines said.0) + 1) (whole_scenario e))) ≡ Ok s → KeepsRules s
     by_lines (Err k) read is = cc
-    by_lines (Ok d) read is = by_end (finished d) refl is
+    by_lines (Ok d) read is = by_end (whole_scenario d) refl is
       where
-        by_end : (q : Result ScenarioParts FaultKind) → finished d ≡ q → in_line (length (lines said.0) + 1) q ≡ Ok s → KeepsRules s
+        by_end : (q : Result ScenarioParts FaultKind) → whole_scenario d ≡ q → in_line (length (lines said.0) + 1) q ≡ Ok s → KeepsRules s
         by_end (Err k) done is = cc
         by_end (Ok x) done is =
             finished_said d s (fine_lines d (lines said.0) read)

@@ -7,8 +7,8 @@ use Rattle.link_trace.specs.Sealed.{no_lines}
 use Rattle.scenario_text.specs.Network.{network_line}
 use Rattle.scenario_text.specs.Payloads.{is_payload, payload}
 use Rattle.scenario_text.specs.ScenarioParts.{ScenarioParts}
-use Rattle.scenario_text.specs.ScenarioGrammar.{scenario_of, after_words, scenario_line, script_line, step_line, put_line}
-use Rattle.text_readers.specs.Reading.{after_line}
+use Rattle.scenario_text.specs.ScenarioGrammar.{scenario_of, scenario_after_words, scenario_line, script_line, step_line, put_line}
+use Rattle.text_readers.specs.Reading.{draft_after_line}
 use Rattle.text_readers.specs.declared.fault.FaultKind.{FaultKind}
 use Rattle.text_readers.specs.declared.fault.FaultKind.TheVariants.{NotUtf8, BadWord, BadNumber, Range, UnknownNode, Order, Twice, Missing}
 use Rattle.scenario_text.specs.declared.script.Act.TheVariants as act
@@ -36,7 +36,7 @@ first_round_parts = record {
 }
 
 first_round : scenario_of (base ++ codes "frames 6\non 0 1\non 0 2") ≡ Ok first_round_parts
-unfolding after_line after_words scenario_line script_line step_line put_line network_line is_utf8 chars encode
+unfolding draft_after_line scenario_after_words scenario_line script_line step_line put_line network_line is_utf8 chars encode
 first_round = refl
 
 abbrev pub every_line_parts : ScenarioParts
@@ -62,7 +62,7 @@ every_line : scenario_of (codes "# all\nprofile 2\n\ncontend 3\n" ++ base
     ++ codes "frames 6\nrate 2 1310720000000 -20\non 0 2\nstream 0 2 3 120\nput 1 2 3 -\nput 1 2 0 AB\nleave 2 2 3\noff 5 2\n"
     ++ codes "lose 5 45 11 1 2\ncut 5 0 0 1\ncapture 0 45 1 1 2\n")
     ≡ Ok every_line_parts
-unfolding after_line after_words scenario_line script_line step_line put_line network_line is_utf8 chars encode
+unfolding draft_after_line scenario_after_words scenario_line script_line step_line put_line network_line is_utf8 chars encode
 every_line = refl
 
 -- whole texts and their faults
@@ -79,7 +79,7 @@ texts : map fault (
     ≡ Err (1, Missing) ∷ Err (1, Range) ∷ Err (1, Order) ∷ Err (1, BadNumber) ∷ Err (1, Range) ∷ Err (2, Order) ∷ Err (2, BadWord) ∷ Err (2, Order)
     ∷ Err (2, UnknownNode) ∷ Err (2, Range) ∷ Err (1, NotUtf8) ∷ Err (2, Missing) ∷ Err (1, BadNumber) ∷ Err (1, BadWord) ∷ Err (2, Order) ∷ Err (3, Order)
     ∷ Err (5, Order) ∷ Err (2, Order) ∷ []
-unfolding after_line after_words scenario_line script_line step_line put_line network_line is_utf8 chars encode
+unfolding draft_after_line scenario_after_words scenario_line script_line step_line put_line network_line is_utf8 chars encode
 texts = refl
 
 -- behind the base text and `frames 12`: lines, and their faults
@@ -95,15 +95,15 @@ faults : map refused (
     ≡ Err (7, BadWord) ∷ Err (7, BadWord) ∷ Err (7, BadWord) ∷ Err (7, BadWord) ∷ Err (7, BadWord) ∷ Err (7, BadNumber) ∷ Err (7, Range)
     ∷ Err (7, Range) ∷ Err (7, Range) ∷ Err (7, Range) ∷ Err (7, Range) ∷ Err (7, Range) ∷ Err (7, Range) ∷ Err (7, Range)
     ∷ Err (7, UnknownNode) ∷ Err (7, UnknownNode) ∷ Err (7, UnknownNode) ∷ Err (7, Order) ∷ Err (7, Twice) ∷ Err (7, Twice) ∷ Err (7, Twice) ∷ []
-unfolding after_line after_words scenario_line script_line step_line put_line network_line is_utf8 chars encode
+unfolding draft_after_line scenario_after_words scenario_line script_line step_line put_line network_line is_utf8 chars encode
 faults = refl
 
 second_faults : map refused (codes "off 5 1\nput 4 1 0 -" ∷ codes "cut 1 2 3 1\ncut 1 2 3 1"
     ∷ codes "capture 1 2 3 1 2\nnode 3 0\ncapture 1 2 3 1 3" ∷ codes "lose 1 2 3 1 2\nlose 1 2 3 1 2" ∷ [])
     ≡ Err (8, Order) ∷ Err (8, Twice) ∷ Err (9, Twice) ∷ Err (8, Twice) ∷ []
-unfolding after_line after_words scenario_line script_line step_line put_line network_line is_utf8 chars encode
+unfolding draft_after_line scenario_after_words scenario_line script_line step_line put_line network_line is_utf8 chars encode
 second_faults = refl
 
 no_host : scenario_of (codes "sends 2\nnode 1 0\nnode 2 0\nframes 1\n") ≡ Err (5, Missing)
-unfolding after_line after_words scenario_line script_line step_line put_line network_line is_utf8 chars encode
+unfolding draft_after_line scenario_after_words scenario_line script_line step_line put_line network_line is_utf8 chars encode
 no_host = refl

@@ -17,7 +17,7 @@ use Rattle.link_trace.specs.declared.lines.CaptureLine.{CaptureLine}
 use Rattle.scenario_text.specs.FloodDrafts.{Climbs}
 use Rattle.scenario_text.specs.Network.{is_id, are_ends}
 use Rattle.scenario_text.specs.Canonical.{script_words, act_words, loss_words, cut_words, capture_words}
-use Rattle.scenario_text.specs.ScenarioGrammar.{Scenario, last_slot, is_step, last_script_line, with_scenario_line}
+use Rattle.scenario_text.specs.ScenarioGrammar.{Scenario, greatest_slot_of, is_step, last_script_line, with_scenario_line}
 use Rattle.scenario_text.specs.ScenarioParts.{ScenarioParts}
 use Rattle.scenario_text.specs.declared.lines.RateLine.{RateLine}
 use Rattle.scenario_text.specs.declared.script.ScriptLine.{ScriptLine}
@@ -130,14 +130,14 @@ pub goes_script : (s : ScenarioParts) → KeepsRules s → Goes (with_script s [
 goes_script s is = goes_list script_words (with_script s) s.script (step_script s is) [] s.script refl
 
 -- losses
-last_slot_small : (p : Numbers) → last_slot p ≤ 45
+last_slot_small : (p : Numbers) → greatest_slot_of p ≤ 45
 last_slot_small p = cond_both (p.contend == 0) 42 45 (λ (n : ℕ). n ≤ 45) (λ none. omega arith) (λ some. omega arith)
 
 small_step : (s : ScenarioParts) (f j k : ℕ) → KeepsRules s → is_step (judge s) f j k ≡ true → Small f × (Small j × Small k)
 small_step s f j k is step =
-    let o = and_parts (nat_lt f s.frames && nat_le j (last_slot s.profile)) (nat_le k 11) step in
-    let p = and_parts (nat_lt f s.frames) (nat_le j (last_slot s.profile)) o.0 in
-    let slot = leb-true j (last_slot s.profile) p.1 in
+    let o = and_parts (nat_lt f s.frames && nat_le j (greatest_slot_of s.profile)) (nat_le k 11) step in
+    let p = and_parts (nat_lt f s.frames) (nat_le j (greatest_slot_of s.profile)) o.0 in
+    let slot = leb-true j (greatest_slot_of s.profile) p.1 in
     let most = last_slot_small s.profile in
     let few = leb-true k 11 o.1 in
     (frame_small s f is p.0, (omega (arith, slot, most), omega (arith, few)))

@@ -12,7 +12,7 @@ use Rattle.link_trace.specs.declared.lines.CaptureLine.{CaptureLine}
 use Rattle.scenario_text.specs.FloodParts.{knows}
 use Rattle.scenario_text.specs.Network.{is_id, are_ends}
 use Rattle.scenario_text.specs.ScenarioFacts.{AreEnds, IsStepOf, IsScriptLine, IsSoundScenario}
-use Rattle.scenario_text.specs.ScenarioGrammar.{last_tick, last_slot, is_step, IsScenario}
+use Rattle.scenario_text.specs.ScenarioGrammar.{last_tick, greatest_slot_of, is_step, IsScenario}
 use Rattle.scenario_text.specs.ScenarioParts.{ScenarioParts}
 use Rattle.scenario_text.specs.declared.script.Act.{Act}
 use Rattle.scenario_text.specs.declared.script.Act.TheVariants.{On, Off, Declare, Leave, Put}
@@ -37,9 +37,9 @@ ends_are s u v ends known = let p = and_parts (knows s.nodes u) (knows s.nodes v
 
 step_is : (s : ScenarioParts) (f j k : ℕ) → is_step (judge s) f j k ≡ true → IsStepOf s f j k
 step_is s f j k is =
-    let o = and_parts (nat_lt f s.frames && nat_le j (last_slot s.profile)) (nat_le k 11) is in
-    let p = and_parts (nat_lt f s.frames) (nat_le j (last_slot s.profile)) o.0 in
-    record { in_run = ltb-true f s.frames p.0; in_frame = leb-true j (last_slot s.profile) p.1; in_slot = leb-true k 11 o.1 }
+    let o = and_parts (nat_lt f s.frames && nat_le j (greatest_slot_of s.profile)) (nat_le k 11) is in
+    let p = and_parts (nat_lt f s.frames) (nat_le j (greatest_slot_of s.profile)) o.0 in
+    record { in_run = ltb-true f s.frames p.0; in_frame = leb-true j (greatest_slot_of s.profile) p.1; in_slot = leb-true k 11 o.1 }
 
 loss_is : (s : ScenarioParts) (l : LoseLine) → Fits (judge s) (said_loss l) → IsStepOf s l.frame l.slot l.step × AreEnds s.nodes l.from l.to
 loss_is s l fits =

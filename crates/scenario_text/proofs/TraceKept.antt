@@ -7,7 +7,7 @@ use Rattle.link_trace.proofs.Orders.{by_link_total, by_loss_total, by_cut_total,
 use Rattle.link_trace.specs.Order.{by_link, by_loss, by_cut, by_capture}
 use Rattle.link_trace.specs.Passes.{Lines, is_link, is_loss, is_cut, is_capture}
 use Rattle.scenario_text.specs.FloodParts.{knows}
-use Rattle.scenario_text.specs.Network.{is_id, are_ends, with_link, with_loss, with_cut, with_capture, has_link, has_script_room}
+use Rattle.scenario_text.specs.Network.{is_id, are_ends, with_link_to, with_loss_at, with_cut_at, with_capture_at, has_link, has_script_room}
 use Rattle.scenario_text.specs.ScenarioGrammar.{Scenario}
 use Rattle.scenario_text.specs.declared.lines.NodeLine.{NodeLine}
 use Rattle.scenario_text.specs.declared.scenario_line.ScenarioLine.TheVariants as line
@@ -50,7 +50,7 @@ trace_fine d t fine is some room more =
 
 pub loss_trace : (p : Numbers) (fr : Option ℕ) (ns : List NodeLine) (t : Lines) (f j k u v : ℕ) → IsTrace p fr ns t
     → Fits (judged p fr ns) (line.Lose f j k u v) → list_any (is_loss f j k u v) t.losses ≡ false
-    → IsTrace p fr ns (with_loss f j k u v t)
+    → IsTrace p fr ns (with_loss_at f j k u v t)
 loss_trace p fr ns t f j k u v is fits fresh = record {
   links = is.links;
   links_climb = is.links_climb;
@@ -66,7 +66,7 @@ loss_trace p fr ns t f j k u v is fits fresh = record {
 
 pub cut_trace : (p : Numbers) (fr : Option ℕ) (ns : List NodeLine) (t : Lines) (f j k i : ℕ) → IsTrace p fr ns t
     → Fits (judged p fr ns) (line.Cut f j k i) → list_any (is_cut f j k i) t.cuts ≡ false
-    → IsTrace p fr ns (with_cut f j k i t)
+    → IsTrace p fr ns (with_cut_at f j k i t)
 cut_trace p fr ns t f j k i is fits fresh = record {
   links = is.links;
   links_climb = is.links_climb;
@@ -81,7 +81,7 @@ cut_trace p fr ns t f j k i is fits fresh = record {
 
 pub capture_trace : (p : Numbers) (fr : Option ℕ) (ns : List NodeLine) (t : Lines) (f j k a b : ℕ) → IsTrace p fr ns t
     → Fits (judged p fr ns) (line.Capture f j k a b) → list_any (is_capture f j k a) t.captures ≡ false
-    → IsTrace p fr ns (with_capture f j k a b t)
+    → IsTrace p fr ns (with_capture_at f j k a b t)
 capture_trace p fr ns t f j k a b is fits fresh = record {
   links = is.links;
   links_climb = is.links_climb;
@@ -96,7 +96,7 @@ capture_trace p fr ns t f j k a b is fits fresh = record {
 }
 
 pub link_trace : (p : Numbers) (fr : Option ℕ) (ns : List NodeLine) (t : Lines) (u v : ℕ) → IsTrace p fr ns t → are_ends u v ≡ true
-    → (knows ns u && knows ns v) ≡ true → has_link t u v ≡ false → IsTrace p fr ns (with_link u v t)
+    → (knows ns u && knows ns v) ≡ true → has_link t u v ≡ false → IsTrace p fr ns (with_link_to u v t)
 link_trace p fr ns t u v is ends known fresh = record {
   links = with_line_all (λ l. Fits (judged p fr ns) (said_link l)) by_link (record { from = u; to = v }) t.links
       (record { range = ends; known = known }) is.links;

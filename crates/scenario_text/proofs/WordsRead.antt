@@ -5,7 +5,7 @@ use Rattle.text_readers.specs.Faults.{spelled, ◌>>=◌}
 use Rattle.scenario_text.specs.Network.{network_numbers}
 use Rattle.scenario_text.specs.Payloads.{is_payload, payload}
 use Rattle.scenario_text.specs.ScenarioGrammar.{put_line, scenario_numbers}
-use Rattle.text_readers.specs.Words.{counted, word, is_number, number, number_at, is_signed, has_minus, magnitude}
+use Rattle.text_readers.specs.Words.{line_of_words, word, is_number, number, number_at, is_signed, has_minus, magnitude}
 use Rattle.text_readers.specs.declared.fault.FaultKind.{FaultKind}
 use Rattle.text_readers.specs.declared.fault.FaultKind.TheVariants.{BadNumber}
 use Rattle.scenario_text.specs.declared.network_line.NetworkLine.{NetworkLine}
@@ -33,7 +33,7 @@ pub rate_read : (vs : List (Bor (List ℕ))) (z : Bor (List ℕ)) (p q : Result 
     → p ≡ read (get_or vs 1 z).now → q ≡ read (get_or vs 2 z).now → s ≡ read_signed (get_or vs 3 z).now
     → ◌≡◌ {A = Result NetworkLine FaultKind}
     (spelled
-    (counted 4 (bytes_of vs) (Rate (number_at (bytes_of vs) 1) (number_at (bytes_of vs) 2) (has_minus (word (bytes_of vs) 3))
+    (line_of_words 4 (bytes_of vs) (Rate (number_at (bytes_of vs) 1) (number_at (bytes_of vs) 2) (has_minus (word (bytes_of vs) 3))
     (number (magnitude (word (bytes_of vs) 3)))))
     (λ l. network_numbers l (bytes_of vs)))
     (p >>= (λ i. q >>= (λ t. s >>= (λ x. Ok (Rate i t x.0 x.1)))))

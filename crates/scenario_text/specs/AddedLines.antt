@@ -27,5 +27,5 @@ pub record HasRoom (s : ScenarioParts) : Type 0 where
   pub boots : (v : ℕ) → (turned v (false, 0) s.script).1 ≤ 200
 
 -- Internal: whether a node is on, and how often it booted, by lists over the ids of all nodes
-abbrev pub told : List Bool → List ℕ → ℕ → Bool × ℕ
-told on counts v = (slice_index_or on v false, slice_index counts v)
+abbrev pub boots_so_far : List Bool → List ℕ → ℕ → Bool × ℕ
+boots_so_far on counts v = (slice_index_or on v false, slice_index counts v)

@@ -4,7 +4,7 @@ use Rattle.std.specs.Int.RustNames.{unsigned_abs}
 use Rattle.std.specs.List.{AllByRecursion}
 use Rattle.scenario_text.specs.FloodParts.{knows}
 use Rattle.scenario_text.specs.FloodGrammar.{Flood}
-use Rattle.scenario_text.specs.Network.{Drafted}
+use Rattle.scenario_text.specs.Network.{DraftedNetwork}
 use Rattle.scenario_text.specs.declared.lines.NodeLine.{NodeLine}
 use Rattle.scenario_text.specs.declared.lines.RateLine.{RateLine}
 
@@ -18,8 +18,8 @@ abbrev pub Rises : List NodeLine → Type 0
 Rises ns = Climbs (λ n m. n.node < m.node) ns
 
 -- of two rates of one node the later begins later
-abbrev pub Follows : List RateLine → Type 0
-Follows rs = Climbs (λ r s. r.node ≡ s.node → r.from < s.from) rs
+abbrev pub RatesBeginLater : List RateLine → Type 0
+RatesBeginLater rs = Climbs (λ r s. r.node ≡ s.node → r.from < s.from) rs
 
 -- the rate is of one of these nodes, and its tick and millionths are in range
 pub record IsRate (ns : List NodeLine) (r : RateLine) : Type 0 where
@@ -27,14 +27,14 @@ pub record IsRate (ns : List NodeLine) (r : RateLine) : Type 0 where
   pub early : r.from < 2 ^ 47
   pub small : unsigned_abs r.ppm ≤ 20
 
-pub record IsNetwork (d : Drafted) : Type 0 where
+pub record IsNetwork (d : DraftedNetwork) : Type 0 where
   pub sends : IfSome d.sends (λ n. (1 ≤ n) × (n ≤ 4))
   pub few_nodes : length d.nodes ≤ 64
   pub rises : Rises d.nodes
   pub offsets : AllByRecursion (λ n. n.offset ≤ 256000) d.nodes
-  pub follows : Follows d.rates
+  pub follows : RatesBeginLater d.rates
   pub rates : AllByRecursion (IsRate d.nodes) d.rates
 
-pub record IsFlood (f : Flood) : Type 0 where
+pub record IsFloodDraft (f : Flood) : Type 0 where
   pub network : IsNetwork f.network
   pub start_known : IfSome f.start (λ i. knows f.network.nodes i ≡ true)

@@ -9,7 +9,7 @@ use Rattle.link_trace.specs.Passes.{Lines, is_link, is_loss, is_cut, is_capture}
 use Rattle.link_trace.specs.Sealed.{no_lines}
 use Rattle.scenario_text.specs.FloodParts.{knows}
 use Rattle.text_readers.specs.Faults.{first_fault}
-use Rattle.text_readers.specs.Words.{word, counted, is_number, is_signed, has_minus, magnitude, number, number_at}
+use Rattle.text_readers.specs.Words.{word, line_of_words, is_number, is_signed, has_minus, magnitude, number, number_at}
 use Rattle.text_readers.specs.declared.fault.FaultKind.{FaultKind}
 use Rattle.text_readers.specs.declared.fault.FaultKind.TheVariants.{Range, UnknownNode, Order, Twice, TooMany}
 use Rattle.scenario_text.specs.declared.lines.NodeLine.{NodeLine}
@@ -20,12 +20,12 @@ use Rattle.scenario_text.specs.declared.network_line.NetworkLine.TheVariants.{Se
 -- what the words say, if they are those of such a line
 unfoldable pub network_line : List (List ℕ) → Option NetworkLine
 network_line ws =
-    if bytes_eq (word ws 0) (codes "sends") then counted 2 ws (Sends (number_at ws 1))
-    else if bytes_eq (word ws 0) (codes "node") then counted 3 ws (Node (number_at ws 1) (number_at ws 2))
+    if bytes_eq (word ws 0) (codes "sends") then line_of_words 2 ws (Sends (number_at ws 1))
+    else if bytes_eq (word ws 0) (codes "node") then line_of_words 3 ws (Node (number_at ws 1) (number_at ws 2))
     else if bytes_eq (word ws 0) (codes "rate")
-    then counted 4 ws (Rate (number_at ws 1) (number_at ws 2) (has_minus (word ws 3)) (number (magnitude (word ws 3))))
-    else if bytes_eq (word ws 0) (codes "link") then counted 3 ws (Link (number_at ws 1) (number_at ws 2))
-    else if bytes_eq (word ws 0) (codes "pair") then counted 3 ws (Pair (number_at ws 1) (number_at ws 2))
+    then line_of_words 4 ws (Rate (number_at ws 1) (number_at ws 2) (has_minus (word ws 3)) (number (magnitude (word ws 3))))
+    else if bytes_eq (word ws 0) (codes "link") then line_of_words 3 ws (Link (number_at ws 1) (number_at ws 2))
+    else if bytes_eq (word ws 0) (codes "pair") then line_of_words 3 ws (Pair (number_at ws 1) (number_at ws 2))
     else None
 
 -- the numbers of the line are spelled right: only the last of a rate may have a `-`
@@ -38,14 +38,14 @@ network_numbers (Pair u v) ws = list_all is_number (drop 1 ws)
 
 -- What the lines above say of these lines: the sendings of a node, the nodes by id, the rates in the order of the text, the
 -- trace, and how many script lines there are
-pub record Drafted : Type 0 where
+pub record DraftedNetwork : Type 0 where
   pub sends : Option ℕ
   pub nodes : List NodeLine
   pub rates : List RateLine
   pub trace : Lines
   pub scripted : ℕ
 
-abbrev pub no_network : Drafted
+abbrev pub no_network : DraftedNetwork
 no_network = record { sends = None; nodes = []; rates = []; trace = no_lines; scripted = 0 }
 
 abbrev pub is_id : ℕ → Bool
@@ -56,15 +56,15 @@ abbrev pub are_ends : ℕ → ℕ → Bool
 are_ends u v = is_id u && is_id v && not (u == v)
 
 -- the numbers of the line are in their ranges: a tick is not above the last tick
-abbrev pub in_range : ℕ → NetworkLine → Bool
-in_range last (Sends n) = nat_le 1 n && nat_le n 4
-in_range last (Node i o) = is_id i && nat_le o 256000
-in_range last (Rate i t slow p) = is_id i && nat_le t last && nat_le p 20
-in_range last (Link u v) = are_ends u v
-in_range last (Pair u v) = are_ends u v
+abbrev pub numbers_in_range : ℕ → NetworkLine → Bool
+numbers_in_range last (Sends n) = nat_le 1 n && nat_le n 4
+numbers_in_range last (Node i o) = is_id i && nat_le o 256000
+numbers_in_range last (Rate i t slow p) = is_id i && nat_le t last && nat_le p 20
+numbers_in_range last (Link u v) = are_ends u v
+numbers_in_range last (Pair u v) = are_ends u v
 
 -- the ids of the line have lines above
-abbrev pub knows_ids : Drafted → NetworkLine → Bool
+abbrev pub knows_ids : DraftedNetwork → NetworkLine → Bool
 knows_ids n (Sends x) = true
 knows_ids n (Node i o) = true
 knows_ids n (Rate i t slow p) = knows n.nodes i
@@ -76,12 +76,12 @@ abbrev pub last_rate : List RateLine → ℕ → Option RateLine
 last_rate rates i = find (λ r. r.node == i) (reverse rates)
 
 -- the rates of a node are given with ascending ticks
-abbrev pub in_order : Drafted → NetworkLine → Bool
-in_order n (Sends x) = true
-in_order n (Node i o) = true
-in_order n (Rate i t slow p) = option_map_or (λ r. nat_lt r.from t) (last_rate n.rates i) true
-in_order n (Link u v) = true
-in_order n (Pair u v) = true
+abbrev pub rates_in_order : DraftedNetwork → NetworkLine → Bool
+rates_in_order n (Sends x) = true
+rates_in_order n (Node i o) = true
+rates_in_order n (Rate i t slow p) = option_map_or (λ r. nat_lt r.from t) (last_rate n.rates i) true
+rates_in_order n (Link u v) = true
+rates_in_order n (Pair u v) = true
 
 abbrev pub has_link : Lines → ℕ → ℕ → Bool
 has_link t u v = list_any (is_link u v) t.links
@@ -96,7 +96,7 @@ abbrev pub has_capture : Lines → ℕ → ℕ → ℕ → ℕ → Bool
 has_capture t f j k a = list_any (is_capture f j k a) t.captures
 
 -- no line above says the same
-abbrev pub is_new : Drafted → NetworkLine → Bool
+abbrev pub is_new : DraftedNetwork → NetworkLine → Bool
 is_new n (Sends x) = is_none n.sends
 is_new n (Node i o) = not (knows n.nodes i)
 is_new n (Rate i t slow p) = true
@@ -104,11 +104,11 @@ is_new n (Link u v) = not (has_link n.trace u v)
 is_new n (Pair u v) = not (has_link n.trace u v) && not (has_link n.trace v u)
 
 -- a script line more is allowed
-abbrev pub has_script_room : Drafted → Bool
+abbrev pub has_script_room : DraftedNetwork → Bool
 has_script_room n = nat_lt n.scripted 20000
 
 -- there are not too many nodes or script lines yet
-abbrev pub has_room : Drafted → NetworkLine → Bool
+abbrev pub has_room : DraftedNetwork → NetworkLine → Bool
 has_room n (Sends x) = true
 has_room n (Node i o) = nat_lt (length n.nodes) 64
 has_room n (Rate i t slow p) = has_script_room n
@@ -116,41 +116,41 @@ has_room n (Link u v) = true
 has_room n (Pair u v) = true
 
 -- the fault of the line, where its words and numbers are spelled right
-abbrev pub network_fault : ℕ → Drafted → NetworkLine → Option FaultKind
+abbrev pub network_fault : ℕ → DraftedNetwork → NetworkLine → Option FaultKind
 network_fault last n l =
     first_fault
-    ((in_range last l, Range) ∷ (knows_ids n l, UnknownNode) ∷ (in_order n l, Order) ∷ (is_new n l, Twice) ∷ (has_room n l, TooMany) ∷ [])
+    ((numbers_in_range last l, Range) ∷ (knows_ids n l, UnknownNode) ∷ (rates_in_order n l, Order) ∷ (is_new n l, Twice) ∷ (has_room n l, TooMany) ∷ [])
 
 -- a node among those with other ids, in the order of ids
 abbrev pub with_node : NodeLine → List NodeLine → List NodeLine
 with_node n ns = insert ns (count_by (λ m. nat_lt m.node n.node) ns) n
 
-abbrev pub with_link : ℕ → ℕ → Lines → Lines
-with_link u v t = record t { links = in_order_with by_link (record { from = u; to = v }) t.links }
+abbrev pub with_link_to : ℕ → ℕ → Lines → Lines
+with_link_to u v t = record t { links = in_order_with by_link (record { from = u; to = v }) t.links }
 
-abbrev pub with_loss : ℕ → ℕ → ℕ → ℕ → ℕ → Lines → Lines
-with_loss f j k u v t = record t { losses = in_order_with by_loss (record { frame = f; slot = j; step = k; from = u; to = v }) t.losses }
+abbrev pub with_loss_at : ℕ → ℕ → ℕ → ℕ → ℕ → Lines → Lines
+with_loss_at f j k u v t = record t { losses = in_order_with by_loss (record { frame = f; slot = j; step = k; from = u; to = v }) t.losses }
 
-abbrev pub with_cut : ℕ → ℕ → ℕ → ℕ → Lines → Lines
-with_cut f j k i t = record t { cuts = in_order_with by_cut (record { frame = f; slot = j; step = k; node = i }) t.cuts }
+abbrev pub with_cut_at : ℕ → ℕ → ℕ → ℕ → Lines → Lines
+with_cut_at f j k i t = record t { cuts = in_order_with by_cut (record { frame = f; slot = j; step = k; node = i }) t.cuts }
 
-abbrev pub with_capture : ℕ → ℕ → ℕ → ℕ → ℕ → Lines → Lines
-with_capture f j k a b t = record t { captures = in_order_with by_capture (record { frame = f; slot = j; step = k; at = a; from = b }) t.captures }
+abbrev pub with_capture_at : ℕ → ℕ → ℕ → ℕ → ℕ → Lines → Lines
+with_capture_at f j k a b t = record t { captures = in_order_with by_capture (record { frame = f; slot = j; step = k; at = a; from = b }) t.captures }
 
 -- by so many millionths fast, or slow
 abbrev pub ppm : Bool → ℕ → ℤ
 ppm slow p = if slow then neg_ℤ (pos p) else pos p
 
 -- what the lines say with an allowed line more
-abbrev pub with_line : Drafted → NetworkLine → Drafted
-with_line n (Sends x) = record n { sends = Some x }
-with_line n (Node i o) = record n { nodes = with_node (record { node = i; offset = o }) n.nodes }
-with_line n (Rate i t slow p) = record n { rates = n.rates ++ record { node = i; from = t; ppm = ppm slow p } ∷ []; scripted = n.scripted + 1 }
-with_line n (Link u v) = record n { trace = with_link u v n.trace }
-with_line n (Pair u v) = record n { trace = with_link v u (with_link u v n.trace) }
+abbrev pub with_network_line : DraftedNetwork → NetworkLine → DraftedNetwork
+with_network_line n (Sends x) = record n { sends = Some x }
+with_network_line n (Node i o) = record n { nodes = with_node (record { node = i; offset = o }) n.nodes }
+with_network_line n (Rate i t slow p) = record n { rates = n.rates ++ record { node = i; from = t; ppm = ppm slow p } ∷ []; scripted = n.scripted + 1 }
+with_network_line n (Link u v) = record n { trace = with_link_to u v n.trace }
+with_network_line n (Pair u v) = record n { trace = with_link_to v u (with_link_to u v n.trace) }
 
 -- a script line more, which changes the trace
-abbrev pub with_script_line : Drafted → Lines → Drafted
+abbrev pub with_script_line : DraftedNetwork → Lines → DraftedNetwork
 with_script_line n t = record n { trace = t; scripted = n.scripted + 1 }
 
 -- the rates of each node in turn, by tick
@@ -165,7 +165,7 @@ pub record Parts : Type 0 where
   pub trace : Lines
 
 -- with sendings and two nodes at least
-abbrev pub network_parts : Drafted → Option ℕ → Option Parts
+abbrev pub network_parts : DraftedNetwork → Option ℕ → Option Parts
 network_parts d None = None
 network_parts d (Some n) =
     if nat_le 2 (length d.nodes)

@@ -3,6 +3,6 @@ use Rattle.std.specs.Prelude.{◌≤◌}
 use Rattle.scenario_text.specs.FloodDrafts.{IsNetwork}
 use Rattle.scenario_text.specs.ScenarioGrammar.{Scenario}
 
-pub record IsDraft (d : Scenario) : Type 0 where
+pub record IsScenarioDraft (d : Scenario) : Type 0 where
   pub network : IsNetwork d.network
   pub frame : d.profile.frame ≤ 320000000

@@ -5,7 +5,7 @@ use Rattle.std.specs.List.{AllPairs}
 use Rattle.lwb_base.specs.Profile.{Numbers, IsProfile}
 use Rattle.link_trace.specs.Order.{Ascends, by_link, by_loss, by_cut, by_capture}
 use Rattle.scenario_text.specs.FloodParts.{knows}
-use Rattle.scenario_text.specs.ScenarioGrammar.{last_tick, last_slot}
+use Rattle.scenario_text.specs.ScenarioGrammar.{last_tick, greatest_slot_of}
 use Rattle.scenario_text.specs.ScenarioParts.{ScenarioParts}
 use Rattle.scenario_text.specs.declared.lines.NodeLine.{NodeLine}
 use Rattle.scenario_text.specs.declared.script.Act.{Act}
@@ -21,7 +21,7 @@ pub record AreEnds (ns : List NodeLine) (u v : ℕ) : Type 0 where
 -- the step is one of a slot of a frame of the scenario
 pub record IsStepOf (s : ScenarioParts) (frame slot step : ℕ) : Type 0 where
   pub in_run : frame < s.frames
-  pub in_frame : slot ≤ last_slot s.profile
+  pub in_frame : slot ≤ greatest_slot_of s.profile
   pub in_slot : step ≤ 11
 
 -- the numbers of what a node is told are in range

@@ -11,13 +11,13 @@ use Rattle.lwb_base.specs.Messages.{greatest_slot}
 use Rattle.link_trace.specs.Passes.{Lines}
 use Rattle.scenario_text.specs.FloodParts.{knows}
 use Rattle.scenario_text.specs.ScenarioParts.{ScenarioParts}
-use Rattle.text_readers.specs.Faults.{first_fault, unless_fault, spelled, in_line, ◌>>=◌, after_lines}
-use Rattle.text_readers.specs.Reading.{after_line}
+use Rattle.text_readers.specs.Faults.{first_fault, unless_fault, spelled, in_line, ◌>>=◌, draft_after_lines}
+use Rattle.text_readers.specs.Reading.{draft_after_line}
 use Rattle.scenario_text.specs.Payloads.{is_payload, payload}
-use Rattle.text_readers.specs.Words.{word, is_number, number_at, counted}
-use Rattle.scenario_text.specs.Network.{Drafted, Parts, network_parts, network_line, network_numbers, no_network, is_id, are_ends}
-use Rattle.scenario_text.specs.Network.{has_loss, has_cut, has_capture, has_script_room, with_line, with_loss, with_cut}
-use Rattle.scenario_text.specs.Network.{with_capture, with_script_line, in_range, knows_ids, in_order, is_new, has_room}
+use Rattle.text_readers.specs.Words.{word, is_number, number_at, line_of_words}
+use Rattle.scenario_text.specs.Network.{DraftedNetwork, Parts, network_parts, network_line, network_numbers, no_network, is_id, are_ends}
+use Rattle.scenario_text.specs.Network.{has_loss, has_cut, has_capture, has_script_room, with_network_line, with_loss_at, with_cut_at}
+use Rattle.scenario_text.specs.Network.{with_capture_at, with_script_line, numbers_in_range, knows_ids, rates_in_order, is_new, has_room}
 use Rattle.text_readers.specs.declared.fault.FaultKind.{FaultKind}
 use Rattle.text_readers.specs.declared.fault.FaultKind.TheVariants.{Range, UnknownNode, Order, Twice, TooMany, Missing, TooBig}
 use Rattle.scenario_text.specs.declared.scenario_line.ScenarioLine.{ScenarioLine}
@@ -27,41 +27,42 @@ use Rattle.scenario_text.specs.declared.script.ScriptLine.{ScriptLine}
 use Rattle.scenario_text.specs.declared.script.Act.{Act}
 use Rattle.scenario_text.specs.declared.script.Act.TheVariants as act
 
-abbrev pub begins : List (List ℕ) → List ℕ → Bool
-begins ws letters = bytes_eq (word ws 0) letters
+abbrev pub first_word_is : List (List ℕ) → List ℕ → Bool
+first_word_is ws letters = bytes_eq (word ws 0) letters
 
 -- what the words behind `put` say, if they are those of such a line
 unfoldable pub put_line : List (List ℕ) → Option ScenarioLine
 put_line ws =
     if is_payload (word ws 4)
-    then counted 5 ws (Put (number_at ws 1) (number_at ws 2) (number_at ws 3) (payload (word ws 4)))
+    then line_of_words 5 ws (Put (number_at ws 1) (number_at ws 2) (number_at ws 3) (payload (word ws 4)))
     else None
 
 -- a line that names a step, or one that flood texts have too
 unfoldable pub step_line : List (List ℕ) → Option ScenarioLine
 step_line ws =
-    if begins ws (codes "lose") then counted 6 ws (Lose (number_at ws 1) (number_at ws 2) (number_at ws 3) (number_at ws 4) (number_at ws 5))
-    else if begins ws (codes "cut") then counted 5 ws (Cut (number_at ws 1) (number_at ws 2) (number_at ws 3) (number_at ws 4))
-    else if begins ws (codes "capture") then counted 6 ws (Capture (number_at ws 1) (number_at ws 2) (number_at ws 3) (number_at ws 4) (number_at ws 5))
+    if first_word_is ws (codes "lose") then line_of_words 6 ws (Lose (number_at ws 1) (number_at ws 2) (number_at ws 3) (number_at ws 4) (number_at ws 5))
+    else if first_word_is ws (codes "cut") then line_of_words 5 ws (Cut (number_at ws 1) (number_at ws 2) (number_at ws 3) (number_at ws 4))
+    else if first_word_is ws (codes "capture") then line_of_words 6 ws
+        (Capture (number_at ws 1) (number_at ws 2) (number_at ws 3) (number_at ws 4) (number_at ws 5))
     else option_map InNetwork (network_line ws)
 
 -- a line of the script, or one of those
 unfoldable pub script_line : List (List ℕ) → Option ScenarioLine
 script_line ws =
-    if begins ws (codes "on") then counted 3 ws (On (number_at ws 1) (number_at ws 2))
-    else if begins ws (codes "off") then counted 3 ws (Off (number_at ws 1) (number_at ws 2))
-    else if begins ws (codes "stream") then counted 5 ws (Stream (number_at ws 1) (number_at ws 2) (number_at ws 3) (number_at ws 4))
-    else if begins ws (codes "leave") then counted 4 ws (Leave (number_at ws 1) (number_at ws 2) (number_at ws 3))
-    else if begins ws (codes "put") then put_line ws
+    if first_word_is ws (codes "on") then line_of_words 3 ws (On (number_at ws 1) (number_at ws 2))
+    else if first_word_is ws (codes "off") then line_of_words 3 ws (Off (number_at ws 1) (number_at ws 2))
+    else if first_word_is ws (codes "stream") then line_of_words 5 ws (Stream (number_at ws 1) (number_at ws 2) (number_at ws 3) (number_at ws 4))
+    else if first_word_is ws (codes "leave") then line_of_words 4 ws (Leave (number_at ws 1) (number_at ws 2) (number_at ws 3))
+    else if first_word_is ws (codes "put") then put_line ws
     else step_line ws
 
 -- what the words say, if they are those of a line
 unfoldable pub scenario_line : List (List ℕ) → Option ScenarioLine
 scenario_line ws =
-    if begins ws (codes "profile") then counted 2 ws (Profile (number_at ws 1))
-    else if begins ws (codes "contend") then counted 2 ws (Contend (number_at ws 1))
-    else if begins ws (codes "frames") then counted 2 ws (Frames (number_at ws 1))
-    else if begins ws (codes "host") then counted 3 ws (Host (number_at ws 1) (number_at ws 2))
+    if first_word_is ws (codes "profile") then line_of_words 2 ws (Profile (number_at ws 1))
+    else if first_word_is ws (codes "contend") then line_of_words 2 ws (Contend (number_at ws 1))
+    else if first_word_is ws (codes "frames") then line_of_words 2 ws (Frames (number_at ws 1))
+    else if first_word_is ws (codes "host") then line_of_words 3 ws (Host (number_at ws 1) (number_at ws 2))
     else script_line ws
 
 -- the numbers of the line are spelled right
@@ -73,7 +74,7 @@ scenario_numbers other ws = list_all is_number (drop 1 ws)
 -- what the lines above say: whether there are none, whether the last of them is `profile 2`, the profile, the frames, the
 -- hosts by rank, the script, and for each id whether the node is on and how often it booted
 pub record Scenario : Type 0 where
-  pub network : Drafted
+  pub network : DraftedNetwork
   pub first : Bool
   pub after_two : Bool
   pub profile : Numbers
@@ -100,8 +101,8 @@ no_scenario = record {
 abbrev pub last_tick : Numbers → ℕ
 last_tick p = 4096 * p.frame
 
-abbrev pub last_slot : Numbers → ℕ
-last_slot p = greatest_slot p.contend
+abbrev pub greatest_slot_of : Numbers → ℕ
+greatest_slot_of p = greatest_slot p.contend
 
 -- a frame number, which is below the number of frames once that is known
 abbrev pub is_frame : Option ℕ → ℕ → Bool
@@ -113,11 +114,11 @@ is_short p payload = option_map_or (λ bytes. nat_le (length bytes) p.payload_ma
 
 -- a step of a slot of a frame
 abbrev pub is_step : Scenario → ℕ → ℕ → ℕ → Bool
-is_step d f j k = is_frame d.frames f && nat_le j (last_slot d.profile) && nat_le k 11
+is_step d f j k = is_frame d.frames f && nat_le j (greatest_slot_of d.profile) && nat_le k 11
 
 -- the numbers of the line are in their ranges
 abbrev pub line_in_range : Scenario → ScenarioLine → Bool
-line_in_range d (InNetwork l) = in_range (last_tick d.profile) l
+line_in_range d (InNetwork l) = numbers_in_range (last_tick d.profile) l
 line_in_range d (Profile p) = nat_le 1 p && nat_le p 2
 line_in_range d (Contend c) = nat_le 1 c && nat_le c 4
 line_in_range d (Frames f) = nat_le 1 f && nat_le f 4096
@@ -156,7 +157,7 @@ in_script_order d f = is_some d.frames && option_map_or (λ l. nat_le l.frame f)
 
 -- the line may stand here
 abbrev pub line_in_order : Scenario → ScenarioLine → Bool
-line_in_order d (InNetwork l) = in_order d.network l
+line_in_order d (InNetwork l) = rates_in_order d.network l
 line_in_order d (Profile p) = d.first
 line_in_order d (Contend c) = d.after_two
 line_in_order d (Frames f) = true
@@ -186,8 +187,8 @@ line_is_new d (Lose f j k u v) = not (has_loss d.network.trace f j k u v)
 line_is_new d (Cut f j k i) = not (has_cut d.network.trace f j k i)
 line_is_new d (Capture f j k a b) = not (has_capture d.network.trace f j k a)
 
-abbrev pub is_on : Scenario → ℕ → Bool
-is_on d i = slice_index_or d.on i false
+abbrev pub node_is_on : Scenario → ℕ → Bool
+node_is_on d i = slice_index_or d.on i false
 
 abbrev pub boots_of : Scenario → ℕ → ℕ
 boots_of d i = slice_index d.boots i
@@ -199,7 +200,7 @@ line_has_room d (Profile p) = true
 line_has_room d (Contend c) = true
 line_has_room d (Frames f) = true
 line_has_room d (Host r i) = true
-line_has_room d (On f i) = has_script_room d.network && (is_on d i || nat_lt (boots_of d i) 200)
+line_has_room d (On f i) = has_script_room d.network && (node_is_on d i || nat_lt (boots_of d i) 200)
 line_has_room d (Off f i) = has_script_room d.network
 line_has_room d (Stream f i s n) = has_script_room d.network
 line_has_room d (Leave f i s) = has_script_room d.network
@@ -225,11 +226,11 @@ with_trace d t = record d { network = with_script_line d.network t }
 
 -- the node is on: it boots, where it was off
 abbrev pub with_boot : Scenario → ℕ → Scenario
-with_boot d i = record d { on = slice_set d.on i true; boots = slice_set d.boots i (if is_on d i then boots_of d i else boots_of d i + 1) }
+with_boot d i = record d { on = slice_set d.on i true; boots = slice_set d.boots i (if node_is_on d i then boots_of d i else boots_of d i + 1) }
 
 -- what the lines say with an allowed line more
 abbrev pub line_added : Scenario → ScenarioLine → Scenario
-line_added d (InNetwork l) = record d { network = with_line d.network l }
+line_added d (InNetwork l) = record d { network = with_network_line d.network l }
 line_added d (Profile p) = record d { profile = if p == 2 then contended 0 else one }
 line_added d (Contend c) = record d { profile = contended c }
 line_added d (Frames f) = record d { frames = Some f }
@@ -240,9 +241,9 @@ line_added d (Stream f i s n) = with_act d f i (act.Declare s n)
 line_added d (Leave f i s) = with_act d f i (act.Leave s)
 line_added d (Put f i s (Some p)) = with_act d f i (act.Put s p)
 line_added d (Put f i s None) = d
-line_added d (Lose f j k u v) = with_trace d (with_loss f j k u v d.network.trace)
-line_added d (Cut f j k i) = with_trace d (with_cut f j k i d.network.trace)
-line_added d (Capture f j k a b) = with_trace d (with_capture f j k a b d.network.trace)
+line_added d (Lose f j k u v) = with_trace d (with_loss_at f j k u v d.network.trace)
+line_added d (Cut f j k i) = with_trace d (with_cut_at f j k i d.network.trace)
+line_added d (Capture f j k a b) = with_trace d (with_capture_at f j k a b d.network.trace)
 
 abbrev pub is_profile_two : ScenarioLine → Bool
 is_profile_two (Profile p) = p == 2
@@ -257,8 +258,8 @@ abbrev pub after_spelled : Scenario → ScenarioLine → Result Scenario FaultKi
 after_spelled d l = unless_fault (line_fault d l) (with_scenario_line d l)
 
 -- behind a line of these words, or its fault
-unfoldable pub after_words : Scenario → List (List ℕ) → Result Scenario FaultKind
-after_words d ws = do
+unfoldable pub scenario_after_words : Scenario → List (List ℕ) → Result Scenario FaultKind
+scenario_after_words d ws = do
   l ← spelled (scenario_line ws) (λ l. scenario_numbers l ws)
   after_spelled d l
 
@@ -283,14 +284,14 @@ finished_parts d (Some p) (Some f) =
 finished_parts d None f = Err Missing
 finished_parts d (Some p) None = Err Missing
 
-abbrev pub finished : Scenario → Result ScenarioParts FaultKind
-finished d = finished_parts d (network_parts d.network d.network.sends) d.frames
+abbrev pub whole_scenario : Scenario → Result ScenarioParts FaultKind
+whole_scenario d = finished_parts d (network_parts d.network d.network.sends) d.frames
 
 -- what the bytes say, or their first fault and its line. What is missing is missing behind the last line
 abbrev pub scenario_of : List ℕ → Result ScenarioParts (ℕ × FaultKind)
 scenario_of bytes = do
-  d ← after_lines (after_line after_words) 1 no_scenario (lines bytes)
-  in_line (length (lines bytes) + 1) (finished d)
+  d ← draft_after_lines (draft_after_line scenario_after_words) 1 no_scenario (lines bytes)
+  in_line (length (lines bytes) + 1) (whole_scenario d)
 
 -- some text says it
 abbrev pub IsScenario : ScenarioParts → Type 0

@@ -1,7 +1,7 @@
 //! How often each node boots along a script.
 
 ghost use Rattle.std.specs.Prelude.{◌≡◌, ◌<◌, ◌≤◌, ◌+◌, ℕ, ◌==◌, ◌||◌, if◌then◌else◌, nat_lt, true, false, slice_set, slice_index, slice_index_or};
-ghost use Rattle.scenario_text.specs.AddedLines.{told};
+ghost use Rattle.scenario_text.specs.AddedLines.{boots_so_far};
 ghost use Rattle.scenario_text.specs.ScenarioFacts.{turned, turned_by};
 
 use crate::{Act, ScriptLine};
@@ -29,7 +29,7 @@ struct Boots {
 
 impl Boots {
     fn none() -> Boots
-        ensures { (v : ℕ) → told result.on result.counts v ≡ (false, 0) }
+        ensures { (v : ℕ) → boots_so_far result.on result.counts v ≡ (false, 0) }
     {
         Boots {
             on: [false; 201],
@@ -39,11 +39,11 @@ impl Boots {
 
     // What the line says happens. It is `false` where the node would boot for the 201st time.
     fn follow(&mut self, line: &ScriptLine) -> bool
-        requires { (v : ℕ) → (told self.old.on self.old.counts v).1 ≤ 200 }
-        ensures told { result ≡ true → (v : ℕ) → told self.new.on self.new.counts v
-            ≡ (if line.now.node == v then turned_by line.now.act (told self.old.on self.old.counts v) else told self.old.on self.old.counts v) }
-        ensures few { result ≡ true → (v : ℕ) → (told self.new.on self.new.counts v).1 ≤ 200 }
-        ensures many { result ≡ false → 200 < (turned_by line.now.act (told self.old.on self.old.counts line.now.node)).1 }
+        requires { (v : ℕ) → (boots_so_far self.old.on self.old.counts v).1 ≤ 200 }
+        ensures told { result ≡ true → (v : ℕ) → boots_so_far self.new.on self.new.counts v
+            ≡ (if line.now.node == v then turned_by line.now.act (boots_so_far self.old.on self.old.counts v) else boots_so_far self.old.on self.old.counts v) }
+        ensures few { result ≡ true → (v : ℕ) → (boots_so_far self.new.on self.new.counts v).1 ≤ 200 }
+        ensures many { result ≡ false → 200 < (turned_by line.now.act (boots_so_far self.old.on self.old.counts line.now.node)).1 }
     {
         let id = usize::from(line.node.number());
         match &line.act {

@@ -2,7 +2,7 @@
 
 ghost use Rattle.std.specs.Prelude.{◌<◌, ◌^◌, length};
 ghost use Rattle.scenario_text.specs.FloodGrammar.{flood_of};
-ghost use Rattle.text_readers.specs.Faults.{Gives};
+ghost use Rattle.text_readers.specs.Faults.{IsAsDefined};
 
 use crate::flood_draft::FloodDraft;
 use crate::{FaultKind, FloodText, ParseFault};
@@ -13,7 +13,7 @@ use text_readers::read_lines;
 /// lines plus 1, what is missing at the end.
 pub fn parse_flood(alloc: Global, bytes: &[u8]) -> Result<FloodText, ParseFault>
     requires { length bytes.now < 2 ^ 31 }
-    ensures { Gives result (flood_of bytes.now) }
+    ensures { IsAsDefined result (flood_of bytes.now) }
 {
     let (draft, count) = read_lines(alloc, FloodDraft::new(alloc), bytes)?;
     match draft.finish(alloc) {

@@ -2,8 +2,8 @@
 
 ghost use Rattle.std.specs.Prelude.{◌≡◌, IfOk, OnOk};
 ghost use Rattle.text_readers.specs.Faults.{Refuses, RefusesBy};
-ghost use Rattle.scenario_text.specs.FloodGrammar.{no_flood, rule_fault, with_flood_line, after_words, parts_of};
-ghost use Rattle.scenario_text.specs.FloodDrafts.{IsFlood};
+ghost use Rattle.scenario_text.specs.FloodGrammar.{no_flood, rule_fault, with_flood_line, flood_after_words, flood_of_parts};
+ghost use Rattle.scenario_text.specs.FloodDrafts.{IsFloodDraft};
 ghost use Rattle.scenario_text.specs.Network.{network_parts};
 ghost use Rattle.scenario_text.specs.declared.flood_line.FloodLine.TheVariants.{Lose, Start};
 
@@ -32,9 +32,9 @@ impl Model for FloodDraft {
 }
 
 impl Draft for FloodDraft {
-    ghost after = { after_words };
+    ghost after = { flood_after_words };
 
-    #[tactic(auto, unfolding(crate::specs::FloodGrammar::after_words))]
+    #[tactic(auto, unfolding(crate::specs::FloodGrammar::flood_after_words))]
     fn read(&mut self, words: &[&[u8]]) -> Result<(), Refusal> {
         let line = FloodLine::new(words)?;
         self.add(line)
@@ -88,8 +88,8 @@ impl FloodDraft {
 
     /// What the text says. Returns `None` if and only if the number of transmissions, a second node or the start is missing.
     pub fn finish(self, alloc: Global) -> Result<Option<FloodText>, Memory>
-        requires { IsFlood self }
-        ensures { IfOk result (λ f. f ≡ parts_of (network_parts self.network self.network.sends) self.start) }
+        requires { IsFloodDraft self }
+        ensures { IfOk result (λ f. f ≡ flood_of_parts (network_parts self.network self.network.sends) self.start) }
     {
         let FloodDraft { network, start } = self;
         let Some(network) = network.finish(alloc)? else {

@@ -3,8 +3,8 @@
 ghost use Rattle.std.specs.Prelude.{◌≡◌, ◌≢◌, ◌&&◌, not, if◌then◌else◌, [], ◌∷◌, Ok, Some, None, true, IfOk, OnOk};
 ghost use Rattle.scenario_text.specs.FloodDrafts.{IsNetwork};
 ghost use Rattle.scenario_text.specs.FloodParts.{knows as knows_of};
-ghost use Rattle.scenario_text.specs.Network.{no_network, network_parts, network_fault, has_link, has_loss, has_cut, has_capture};
-ghost use Rattle.scenario_text.specs.Network.{has_script_room, with_line, with_node, with_link, with_loss, with_cut, with_capture, with_script_line};
+ghost use Rattle.scenario_text.specs.Network.{no_network, network_parts, network_fault, has_link, has_loss, has_cut, has_capture, has_script_room};
+ghost use Rattle.scenario_text.specs.Network.{with_network_line, with_node, with_link_to, with_loss_at, with_cut_at, with_capture_at, with_script_line};
 ghost use Rattle.text_readers.specs.Faults.{first_fault, Refuses, RefusesBy};
 ghost use Rattle.text_readers.specs.declared.fault.FaultKind.TheVariants.{Twice, TooMany};
 ghost use Rattle.scenario_text.specs.declared.network_line.NetworkLine.TheVariants.{Sends, Node, Rate, Link, Pair};
@@ -31,9 +31,9 @@ pub struct NetworkDraft {
 }
 
 impl Model for NetworkDraft {
-    ghost use Rattle.scenario_text.specs.Network.{Drafted};
+    ghost use Rattle.scenario_text.specs.Network.{DraftedNetwork};
 
-    ghost Value = { Drafted };
+    ghost Value = { DraftedNetwork };
 
     ghost view = { λ d. record { sends = d.sends; nodes = d.nodes.items; rates = d.rates.items; trace = d.trace.lines; scripted = d.scripted } };
 }
@@ -55,7 +55,7 @@ impl NetworkDraft {
     /// Goes on by one line, unless it is rejected. No tick may be above the last tick.
     pub fn add(&mut self, last_tick: u64, line: NetworkLine) -> Result<(), Refusal>
         ensures fault { Refuses result (network_fault last_tick self.old line) }
-        ensures added { OnOk result (self.new ≡ with_line self.old line) }
+        ensures added { OnOk result (self.new ≡ with_network_line self.old line) }
     {
         match line {
             NetworkLine::Sends { count } => Ok(self.add_sends(count)?),
@@ -125,7 +125,7 @@ impl NetworkDraft {
     ) -> Result<(), Refusal>
         ensures fault { Refuses result (first_fault ((not (has_loss self.old.trace frame slot step from to), Twice)
             ∷ (has_script_room self.old, TooMany) ∷ [])) }
-        ensures added { OnOk result (self.new ≡ with_script_line self.old (with_loss frame slot step from to self.old.trace)) }
+        ensures added { OnOk result (self.new ≡ with_script_line self.old (with_loss_at frame slot step from to self.old.trace)) }
     {
         let is_new = lose(&mut self.trace, frame, slot, step, from, to)?;
         refuse_unless(is_new, FaultKind::Twice)?;
@@ -136,7 +136,7 @@ impl NetworkDraft {
     pub fn cut(&mut self, frame: u32, slot: u8, step: u8, node: NodeId) -> Result<(), Refusal>
         ensures fault { Refuses result (first_fault ((not (has_cut self.old.trace frame slot step node), Twice)
             ∷ (has_script_room self.old, TooMany) ∷ [])) }
-        ensures added { OnOk result (self.new ≡ with_script_line self.old (with_cut frame slot step node self.old.trace)) }
+        ensures added { OnOk result (self.new ≡ with_script_line self.old (with_cut_at frame slot step node self.old.trace)) }
     {
         let is_new = cut(&mut self.trace, frame, slot, step, node)?;
         refuse_unless(is_new, FaultKind::Twice)?;
@@ -154,7 +154,7 @@ impl NetworkDraft {
     ) -> Result<(), Refusal>
         ensures fault { Refuses result (first_fault ((not (has_capture self.old.trace frame slot step at), Twice)
             ∷ (has_script_room self.old, TooMany) ∷ [])) }
-        ensures added { OnOk result (self.new ≡ with_script_line self.old (with_capture frame slot step at from self.old.trace)) }
+        ensures added { OnOk result (self.new ≡ with_script_line self.old (with_capture_at frame slot step at from self.old.trace)) }
     {
         let is_new = capture(&mut self.trace, frame, slot, step, at, from)?;
         refuse_unless(is_new, FaultKind::Twice)?;
@@ -173,7 +173,7 @@ impl NetworkDraft {
 
     fn add_sends(&mut self, count: u64) -> Result<(), FaultKind>
         ensures fault { RefusesBy result (network_fault 0 self.old (Sends count)) }
-        ensures added { OnOk result (self.new ≡ with_line self.old (Sends count)) }
+        ensures added { OnOk result (self.new ≡ with_network_line self.old (Sends count)) }
     {
         refuse_unless(1 <= count && count <= 4, FaultKind::Range)?;
         refuse_unless(self.sends.is_none(), FaultKind::Twice)?;
@@ -183,7 +183,7 @@ impl NetworkDraft {
 
     fn add_node(&mut self, id: u64, offset: u64) -> Result<(), Refusal>
         ensures fault { Refuses result (network_fault 0 self.old (Node id offset)) }
-        ensures added { OnOk result (self.new ≡ with_line self.old (Node id offset)) }
+        ensures added { OnOk result (self.new ≡ with_network_line self.old (Node id offset)) }
     {
         let node = node_id(id).ok_or(FaultKind::Range)?;
         refuse_unless(offset <= 256_000, FaultKind::Range)?;
@@ -203,7 +203,7 @@ impl NetworkDraft {
         parts: u64,
     ) -> Result<(), Refusal>
         ensures fault { Refuses result (network_fault last_tick self.old (Rate id tick slow parts)) }
-        ensures added { OnOk result (self.new ≡ with_line self.old (Rate id tick slow parts)) }
+        ensures added { OnOk result (self.new ≡ with_network_line self.old (Rate id tick slow parts)) }
     {
         refuse_unless(
             is_id(id) && tick <= last_tick && parts <= 20,
@@ -223,7 +223,7 @@ impl NetworkDraft {
 
     fn add_link(&mut self, from: u64, to: u64) -> Result<(), Refusal>
         ensures fault { Refuses result (network_fault 0 self.old (Link from to)) }
-        ensures added { OnOk result (self.new ≡ with_line self.old (Link from to)) }
+        ensures added { OnOk result (self.new ≡ with_network_line self.old (Link from to)) }
     {
         refuse_unless(are_two_ids(from, to), FaultKind::Range)?;
         let (from, to) = two_nodes(&self.nodes, from, to).ok_or(FaultKind::UnknownNode)?;
@@ -233,7 +233,7 @@ impl NetworkDraft {
 
     fn add_pair(&mut self, one_end: u64, other_end: u64) -> Result<(), Refusal>
         ensures fault { Refuses result (network_fault 0 self.old (Pair one_end other_end)) }
-        ensures added { OnOk result (self.new ≡ with_line self.old (Pair one_end other_end)) }
+        ensures added { OnOk result (self.new ≡ with_network_line self.old (Pair one_end other_end)) }
     {
         refuse_unless(are_two_ids(one_end, other_end), FaultKind::Range)?;
         let (one, other) = two_nodes(&self.nodes, one_end, other_end).ok_or(
@@ -246,7 +246,7 @@ impl NetworkDraft {
 
 fn link(trace: &mut Trace, from: NodeId, to: NodeId) -> Result<bool, Memory>
     ensures fresh { IfOk result (λ b. b ≡ not (has_link trace.old.lines from to)) }
-    ensures added { result ≡ Ok true → trace.new.lines ≡ with_link from to trace.old.lines }
+    ensures added { result ≡ Ok true → trace.new.lines ≡ with_link_to from to trace.old.lines }
 {
     trace.link(from, to)
 }
@@ -256,7 +256,7 @@ fn link(trace: &mut Trace, from: NodeId, to: NodeId) -> Result<bool, Memory>
 fn pair(trace: &mut Trace, one: NodeId, other: NodeId) -> Result<bool, Memory>
     requires { one ≢ other }
     ensures fresh { IfOk result (λ b. b ≡ (not (has_link trace.old.lines one other) && not (has_link trace.old.lines other one))) }
-    ensures added { result ≡ Ok true → trace.new.lines ≡ with_link other one (with_link one other trace.old.lines) }
+    ensures added { result ≡ Ok true → trace.new.lines ≡ with_link_to other one (with_link_to one other trace.old.lines) }
 {
     if !link(trace, one, other)? {
         return Ok(false);
@@ -273,14 +273,14 @@ fn lose(
     to: NodeId,
 ) -> Result<bool, Memory>
     ensures fresh { IfOk result (λ b. b ≡ not (has_loss trace.old.lines frame slot step from to)) }
-    ensures added { result ≡ Ok true → trace.new.lines ≡ with_loss frame slot step from to trace.old.lines }
+    ensures added { result ≡ Ok true → trace.new.lines ≡ with_loss_at frame slot step from to trace.old.lines }
 {
     trace.lose(frame, slot, step, from, to)
 }
 
 fn cut(trace: &mut Trace, frame: u32, slot: u8, step: u8, node: NodeId) -> Result<bool, Memory>
     ensures fresh { IfOk result (λ b. b ≡ not (has_cut trace.old.lines frame slot step node)) }
-    ensures added { result ≡ Ok true → trace.new.lines ≡ with_cut frame slot step node trace.old.lines }
+    ensures added { result ≡ Ok true → trace.new.lines ≡ with_cut_at frame slot step node trace.old.lines }
 {
     trace.cut(frame, slot, step, node)
 }
@@ -294,7 +294,7 @@ fn capture(
     from: NodeId,
 ) -> Result<bool, Memory>
     ensures fresh { IfOk result (λ b. b ≡ not (has_capture trace.old.lines frame slot step at)) }
-    ensures added { result ≡ Ok true → trace.new.lines ≡ with_capture frame slot step at from trace.old.lines }
+    ensures added { result ≡ Ok true → trace.new.lines ≡ with_capture_at frame slot step at from trace.old.lines }
 {
     trace.capture(frame, slot, step, at, from)
 }

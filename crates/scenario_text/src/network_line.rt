@@ -3,7 +3,7 @@
 ghost use Rattle.std.specs.Prelude.{◌≡◌, map};
 ghost use Rattle.text_readers.specs.Faults.{spelled};
 ghost use Rattle.scenario_text.specs.Network.{network_line as network_line_of, network_numbers};
-ghost use Rattle.text_readers.specs.Words.{counted, has_minus, magnitude, number as number_of, number_at, word as word_of};
+ghost use Rattle.text_readers.specs.Words.{line_of_words, has_minus, magnitude, number as number_of, number_at, word as word_of};
 ghost use Rattle.scenario_text.specs.declared.network_line.NetworkLine.TheVariants.{Rate};
 
 use crate::FaultKind;
@@ -72,7 +72,7 @@ impl NetworkLine {
 fn rate_line(words: &[&[u8]]) -> Result<NetworkLine, FaultKind>
     ensures { let ws = map (λ w. w.now) words.now in
         result ≡ spelled
-        (counted 4 ws (Rate (number_at ws 1) (number_at ws 2) (has_minus (word_of ws 3)) (number_of (magnitude (word_of ws 3)))))
+        (line_of_words 4 ws (Rate (number_at ws 1) (number_at ws 2) (has_minus (word_of ws 3)) (number_of (magnitude (word_of ws 3)))))
         (λ l. network_numbers l ws) }
 {
     let [_, id, tick, ppm] = words else {

@@ -1,7 +1,7 @@
 //! Reads the text of a scenario.
 
 ghost use Rattle.std.specs.Prelude.{◌<◌, ◌^◌, length};
-ghost use Rattle.text_readers.specs.Faults.{Gives};
+ghost use Rattle.text_readers.specs.Faults.{IsAsDefined};
 ghost use Rattle.scenario_text.specs.ScenarioGrammar.{scenario_of};
 
 use crate::ParseFault;
@@ -14,7 +14,7 @@ use text_readers::read_lines;
 /// number of lines plus 1, what is missing or too big at the end.
 pub fn parse(alloc: Global, bytes: &[u8]) -> Result<Scenario, ParseFault>
     requires { length bytes.now < 2 ^ 31 }
-    ensures { Gives result (scenario_of bytes.now) }
+    ensures { IsAsDefined result (scenario_of bytes.now) }
 {
     let (draft, count) = read_lines(alloc, ScenarioDraft::new(alloc), bytes)?;
     match draft.finish(alloc) {

@@ -3,9 +3,9 @@
 ghost use Rattle.std.specs.Prelude.{◌≡◌, ◌==◌, if◌then◌else◌, Ok, Some, None, OnOk};
 ghost use Rattle.std.specs.List.{list_any};
 ghost use Rattle.text_readers.specs.Faults.{Refuses, RefusesBy, Finishes};
-ghost use Rattle.scenario_text.specs.ScenarioDrafts.{IsDraft};
+ghost use Rattle.scenario_text.specs.ScenarioDrafts.{IsScenarioDraft};
 ghost use Rattle.scenario_text.specs.ScenarioGrammar.{IsScenario, no_scenario, line_fault, line_added, with_scenario_line};
-ghost use Rattle.scenario_text.specs.ScenarioGrammar.{after_words, last_tick as last_tick_of, is_frame, finished};
+ghost use Rattle.scenario_text.specs.ScenarioGrammar.{scenario_after_words, last_tick as last_tick_of, is_frame, whole_scenario};
 ghost use Rattle.scenario_text.specs.ScenarioParts.{ScenarioParts};
 ghost use Rattle.scenario_text.specs.declared.scenario_line.ScenarioLine.TheVariants.{Profile as ProfileLine, Contend, Frames, Host};
 
@@ -57,9 +57,9 @@ impl Model for ScenarioDraft {
 }
 
 impl Draft for ScenarioDraft {
-    ghost after = { after_words };
+    ghost after = { scenario_after_words };
 
-    #[tactic(auto, unfolding(crate::specs::ScenarioGrammar::after_words))]
+    #[tactic(auto, unfolding(crate::specs::ScenarioGrammar::scenario_after_words))]
     fn read(&mut self, words: &[&[u8]]) -> Result<(), Refusal> {
         let line = ScenarioLine::new(words)?;
         self.add(line)
@@ -145,9 +145,9 @@ impl ScenarioDraft {
 
     /// What the text says, or what it misses at its end. The text is one whose lines say this.
     pub fn finish(self, alloc: Global) -> Result<Scenario, Refusal>
-        requires said { (s : ScenarioParts) → finished self ≡ Ok s → IsScenario s }
-        requires sound { IsDraft self }
-        ensures { Finishes result (finished self) }
+        requires said { (s : ScenarioParts) → whole_scenario self ≡ Ok s → IsScenario s }
+        requires sound { IsScenarioDraft self }
+        ensures { Finishes result (whole_scenario self) }
     {
         let ScenarioDraft {
             network,

@@ -1,28 +1,28 @@
 -- The definitions at worked values.
 use Rattle.std.proofs.Common.{◌≡◌, ℕ, List, [], ◌∷◌, length, Some, None, refl, replicate}
 use Rattle.lwb_base.specs.Messages.{Schedule}
-use Rattle.schedule_codec.specs.Packing.{number, digits}
-use Rattle.schedule_codec.specs.OwnerLists.{least, owners_bytes}
-use Rattle.schedule_codec.specs.Spelling.{spelling}
+use Rattle.schedule_codec.specs.Packing.{packed_number, digits}
+use Rattle.schedule_codec.specs.OwnerLists.{least_passing, owners_bytes}
+use Rattle.schedule_codec.specs.Spelling.{schedule_spelling}
 use Rattle.schedule_codec.specs.Reading.{schedule_of, asks_in}
 
 abbrev opening : List ℕ → Schedule
 opening owners = record { gap = 0; plan = record { rank = 0; boot = 1; contend = 0; acks = []; owners = owners } }
 
-three_owners : spelling (opening (4 ∷ 4 ∷ 9 ∷ [])) 0 0 ≡ 1 ∷ 0 ∷ 0 ∷ 0 ∷ 1 ∷ 0 ∷ 0 ∷ 0 ∷ 0 ∷ 3 ∷ 0 ∷ 0x43 ∷ 0x14 ∷ []
-unfolding number digits least
+three_owners : schedule_spelling (opening (4 ∷ 4 ∷ 9 ∷ [])) 0 0 ≡ 1 ∷ 0 ∷ 0 ∷ 0 ∷ 1 ∷ 0 ∷ 0 ∷ 0 ∷ 0 ∷ 3 ∷ 0 ∷ 0x43 ∷ 0x14 ∷ []
+unfolding packed_number digits least_passing
 three_owners = refl
 
 read_again : schedule_of (1 ∷ 0 ∷ 0 ∷ 0 ∷ 1 ∷ 0 ∷ 0 ∷ 0 ∷ 0 ∷ 3 ∷ 0 ∷ 0x43 ∷ 0x14 ∷ []) ≡ Some (opening (4 ∷ 4 ∷ 9 ∷ []))
-unfolding number digits least schedule_of
+unfolding packed_number digits least_passing schedule_of
 read_again = refl
 
 wider : schedule_of (1 ∷ 0 ∷ 0 ∷ 0 ∷ 1 ∷ 0 ∷ 0 ∷ 0 ∷ 0 ∷ 3 ∷ 0 ∷ 0x44 ∷ 0x05 ∷ []) ≡ None
-unfolding number digits least schedule_of
+unfolding packed_number digits least_passing schedule_of
 wider = refl
 
 longest : length (owners_bytes (4 ∷ replicate 39 803)) ≡ 52
-unfolding number digits least
+unfolding packed_number digits least_passing
 longest = refl
 
 abbrev closing : Schedule
@@ -37,10 +37,10 @@ closing = record {
   };
 }
 
-two_slots : spelling closing 3 0 ≡ 4 ∷ 3 ∷ 0 ∷ 4 ∷ 1 ∷ 0x12 ∷ 2 ∷ 1 ∷ 0 ∷ 5 ∷ 3 ∷ 1 ∷ 0 ∷ 5 ∷ 8 ∷ 0 ∷ 0x83 ∷ 0 ∷ 0x40 ∷ 0 ∷ []
-unfolding number digits least
+two_slots : schedule_spelling closing 3 0 ≡ 4 ∷ 3 ∷ 0 ∷ 4 ∷ 1 ∷ 0x12 ∷ 2 ∷ 1 ∷ 0 ∷ 5 ∷ 3 ∷ 1 ∷ 0 ∷ 5 ∷ 8 ∷ 0 ∷ 0x83 ∷ 0 ∷ 0x40 ∷ 0 ∷ []
+unfolding packed_number digits least_passing
 two_slots = refl
 
 two_slots_read : schedule_of (4 ∷ 3 ∷ 0 ∷ 4 ∷ 1 ∷ 0x12 ∷ 2 ∷ 1 ∷ 0 ∷ 5 ∷ 3 ∷ 1 ∷ 0 ∷ 5 ∷ 8 ∷ 0 ∷ 0x83 ∷ 0 ∷ 0x40 ∷ 0 ∷ []) ≡ Some closing
-unfolding number digits least schedule_of asks_in
+unfolding packed_number digits least_passing schedule_of asks_in
 two_slots_read = refl

@@ -8,7 +8,7 @@ use Rattle.std.specs.Str.{bytes_eq}
 use Rattle.lwb_base.specs.Messages.{Ask, Schedule}
 use Rattle.schedule_codec.specs.declared.ack_bytes.Acknowledged.{Acknowledged}
 use Rattle.schedule_codec.specs.OwnerLists.{owners_bytes}
-use Rattle.schedule_codec.specs.Spelling.{spelling, spells, acks_bytes, slot_fits, SpellsBody, IsWritable}
+use Rattle.schedule_codec.specs.Spelling.{schedule_spelling, spells, acks_bytes, slot_fits, SpellsBody, IsWritable}
 use Rattle.schedule_codec.specs.Reading.{schedule_of}
 use Rattle.schedule_codec.proofs.Readings.{Parts, parts_of, range_from, same_bytes, bytes_same, read_as, spelled_by}
 
@@ -25,7 +25,7 @@ heads_of p s is =
     let slot : ℕ = get_or p 1 0 in
     let counter : ℕ = get_or p 2 0 in
     let both = and_parts _ _ is in
-    let same : spelling s slot counter ≡ p = bytes_same (spelling s slot counter) p both.1 in
+    let same : schedule_spelling s slot counter ≡ p = bytes_same (schedule_spelling s slot counter) p both.1 in
     let size = ap length same in
     let parts = parts_of s slot counter both.0 in
     record {
@@ -79,14 +79,14 @@ spells_from p s h =
     let slot : ℕ = get_or p 1 0 in
     let counter : ℕ = get_or p 2 0 in
     let rest : List ℕ = acks_bytes s.plan.contend s.plan.acks ++ owners_bytes s.plan.owners in
-    let same : spelling s slot counter ≡ p =
+    let same : schedule_spelling s slot counter ≡ p =
     ap (λ (n : ℕ). n ∷ slot ∷ counter ∷ (s.plan.rank * 16 + s.gap) ∷ s.plan.boot ∷ rest) h.body.acknowledged.kind_is
     ∙ ap (λ (n : ℕ). get_or p 0 0 ∷ slot ∷ counter ∷ n ∷ s.plan.boot ∷ rest) (sym h.head)
     ∙ ap (λ (n : ℕ). get_or p 0 0 ∷ slot ∷ counter ∷ get_or p 3 0 ∷ n ∷ rest) (sym h.boot)
     ∙ ap (λ (l : List ℕ). get_or p 0 0 ∷ slot ∷ counter ∷ get_or p 3 0 ∷ get_or p 4 0 ∷ l) h.body.whole
     ∙ five_and_rest p h.long in
     and_from _ _ (range_from s slot counter h.parts)
-    (ap (λ (l : List ℕ). bytes_eq (spelling s slot counter) l) (sym same) ∙ same_bytes (spelling s slot counter))
+    (ap (λ (l : List ℕ). bytes_eq (schedule_spelling s slot counter) l) (sym same) ∙ same_bytes (schedule_spelling s slot counter))
 
 -- what answers exactly the schedules that spell the bytes is what they are read as
 pub read_value : (p : List ℕ) (o : Option Schedule) → IfSome o (λ s. spells p s ≡ true) → ((s : Schedule) → spells p s ≡ true → o ≡ Some s) → o ≡ schedule_of p
@@ -150,8 +150,8 @@ pub if_some_then : {X : Type 0} (o : Option X) (P Q : X → Type 0) → IfSome o
 if_some_then None P Q is then = tt
 if_some_then (Some x) P Q is then = then x is
 
-pub written_again : (p : List ℕ) (s : Schedule) → spells p s ≡ true → set (spelling s (get_or p 1 0) 0) 2 (get_or p 2 0) ≡ p
-written_again p s is = bytes_same (spelling s (get_or p 1 0) (get_or p 2 0)) p (and_parts _ _ is).1
+pub written_again : (p : List ℕ) (s : Schedule) → spells p s ≡ true → set (schedule_spelling s (get_or p 1 0) 0) 2 (get_or p 2 0) ≡ p
+written_again p s is = bytes_same (schedule_spelling s (get_or p 1 0) (get_or p 2 0)) p (and_parts _ _ is).1
 
 pub writable_again : (p : List ℕ) (s : Schedule) → spells p s ≡ true → IsWritable s (get_or p 1 0)
 writable_again p s is =

@@ -2,25 +2,26 @@
 use Rattle.std.proofs.Common.{◌≡◌, ℕ, zero, suc, ◌+◌, ◌-◌, ◌<◌, ◌≤◌, ◌==◌, List, Bool, true, false, not, inl, inr, sym, ◌∙◌, refl, subst, arith}
 use Rattle.std.proofs.lemmas.Bool.{cond-true, cond-false, cond_both, cases_lt, both_ways, eq-eqb, eqb-true}
 use Rattle.schedule_codec.specs.Packing.{fit}
-use Rattle.schedule_codec.specs.OwnerLists.{least, width_of}
+use Rattle.schedule_codec.specs.OwnerLists.{least_passing, width_of}
 use Rattle.schedule_codec.proofs.CodeBytes.{fit_wider}
 
-least_is : (n k w : ℕ) (passes : ℕ → Bool) → k ≤ w → w ≤ k + n → passes w ≡ true → ((v : ℕ) → v < w → passes v ≡ false) → least n k passes ≡ w
-unfolding least
+least_is : (n k w : ℕ) (passes : ℕ → Bool) → k ≤ w → w ≤ k + n → passes w ≡ true → ((v : ℕ) → v < w → passes v ≡ false) → least_passing n k passes ≡ w
+unfolding least_passing
 least_is zero k w passes low high pass fails = let same : k ≡ w = omega arith in same
 least_is (suc n) k w passes low high pass fails =
     elim (cases_lt k w) [
-      | inl before ↦ cond-false (passes k) k (least n (k + 1) passes) (fails k before) ∙ least_is n (k + 1) w passes (omega arith) (omega arith) pass fails
+      | inl before ↦ cond-false (passes k) k (least_passing n (k + 1) passes) (fails k before)
+          ∙ least_is n (k + 1) w passes (omega arith) (omega arith) pass fails
       | inr at ↦
           let same : k ≡ w = omega arith in
-          cond-true (passes k) k (least n (k + 1) passes) (subst (λ (x : ℕ). passes x ≡ true) (sym same) pass) ∙ same
+          cond-true (passes k) k (least_passing n (k + 1) passes) (subst (λ (x : ℕ). passes x ≡ true) (sym same) pass) ∙ same
     ]
 
-least_under : (n k v : ℕ) (passes : ℕ → Bool) → k ≤ v → passes v ≡ true → least n k passes ≤ v
-unfolding least
+least_under : (n k v : ℕ) (passes : ℕ → Bool) → k ≤ v → passes v ≡ true → least_passing n k passes ≤ v
+unfolding least_passing
 least_under zero k v passes low pass = low
 least_under (suc n) k v passes low pass =
-    cond_both (passes k) k (least n (k + 1) passes) (λ (x : ℕ). x ≤ v) (λ here. low)
+    cond_both (passes k) k (least_passing n (k + 1) passes) (λ (x : ℕ). x ≤ v) (λ here. low)
     (λ fails. elim (cases_lt k v) [
       | inl before ↦ least_under n (k + 1) v passes (omega arith) pass
       | inr at ↦

@@ -5,10 +5,10 @@ use Rattle.std.proofs.lemmas.Bool.{and_parts, and_from, leb-true, le-leb, eqb-tr
 use Rattle.std.proofs.lemmas.List.{drop_at, drop-drop}
 use Rattle.std.specs.List.{list_all}
 use Rattle.lwb_base.specs.Messages.{Ask, Plan, Schedule}
-use Rattle.schedule_codec.specs.Packing.{fit, number, digits, packed, bytes_for}
+use Rattle.schedule_codec.specs.Packing.{fit, packed_number, digits, packed, bytes_for}
 use Rattle.schedule_codec.specs.AckLists.{are_acks, ask_bytes, ask_in_range}
 use Rattle.schedule_codec.specs.OwnerLists.{are_owners, ascend, differences, width_of, owners_bytes, owners_length}
-use Rattle.schedule_codec.specs.Spelling.{spelling, in_range, spells, acks_bytes, single_ack, most_acks, length_of, slot_fits, IsWritable}
+use Rattle.schedule_codec.specs.Spelling.{schedule_spelling, schedule_in_range, spells, acks_bytes, single_ack, most_acks, length_of, slot_fits, IsWritable}
 use Rattle.schedule_codec.specs.Reading.{following, summed, owners_in, ask_in, asks_in, said, schedule_of}
 use Rattle.schedule_codec.proofs.Numbers.{unpacked, length-packed}
 use Rattle.schedule_codec.proofs.Widths.{codes_of, differences_fit, width_fits, length-differences}
@@ -36,7 +36,7 @@ summed_ascends c (d ∷ ds) = and_from _ _ (le-leb c (c + d) (omega arith)) (sum
 
 -- the first code and its width in one number, and the packed differences
 codes_read : (first c w n : ℕ) (ds rest : List ℕ) → first ≡ c * 16 + w → w < 16 → n ≡ length ds → rest ≡ packed w ds → fit w ds ≡ true
-    → summed (first / 16) (digits (first % 16) n (number 8 rest / 2 ^ (8 * length rest - n * (first % 16)))) ≡ summed c ds
+    → summed (first / 16) (digits (first % 16) n (packed_number 8 rest / 2 ^ (8 * length rest - n * (first % 16)))) ≡ summed c ds
 codes_read first c w n ds rest is low many packs fits =
     let code : first / 16 ≡ c = omega arith in
     let width : first % 16 ≡ w = omega arith in
@@ -93,7 +93,7 @@ pub record Parts (s : Schedule) (slot counter : ℕ) : Type 0 where
   pub ordered : are_acks s.plan.acks ≡ true
   pub owners : are_owners s.plan.owners ≡ true
 
-pub parts_of : (s : Schedule) (slot counter : ℕ) → in_range s slot counter ≡ true → Parts s slot counter
+pub parts_of : (s : Schedule) (slot counter : ℕ) → schedule_in_range s slot counter ≡ true → Parts s slot counter
 parts_of s slot counter is =
     let owners = and_parts _ _ is in
     let ordered = and_parts _ _ owners.0 in
@@ -118,7 +118,7 @@ parts_of s slot counter is =
       owners = owners.1;
     }
 
-pub range_from : (s : Schedule) (slot counter : ℕ) → Parts s slot counter → in_range s slot counter ≡ true
+pub range_from : (s : Schedule) (slot counter : ℕ) → Parts s slot counter → schedule_in_range s slot counter ≡ true
 range_from s slot counter p =
     let within = and_from _ _ (le-leb 1 _ p.boot.0) (le-leb _ 200 p.boot.1) in
     let head = and_from _ _ (and_from _ _ (le-leb counter 11 p.count) p.place) (le-leb _ 4 p.gap) in
@@ -138,7 +138,7 @@ same_parts boot rank rank' gap gap' contend contend' acks acks' owners owners' p
     ∙ ap (λ n. schedule rank' boot gap' n acks owners) r ∙ ap (λ l. schedule rank' boot gap' contend' l owners) t
     ∙ ap (λ l. schedule rank' boot gap' contend' acks' l) u
 
-module _ (s : Schedule) (slot counter : ℕ) (is : in_range s slot counter ≡ true) where
+module _ (s : Schedule) (slot counter : ℕ) (is : schedule_in_range s slot counter ≡ true) where
   abbrev p : Plan
   p = s.plan
 
@@ -175,7 +175,7 @@ module _ (s : Schedule) (slot counter : ℕ) (is : in_range s slot counter ≡ t
       (omega arith) (omega arith) (omega arith) (ap (λ n. asks_in n tail) count ∙ asks_back p.acks rest)
       (ap (λ l. owners_in l) behind ∙ owners_back p.owners parts.owners)
 
-  pub said_back : said (spelling s slot counter) ≡ s
+  pub said_back : said (schedule_spelling s slot counter) ≡ s
   said_back =
       elim (cases_eq p.contend 0) [
         | inl none ↦
@@ -207,7 +207,7 @@ read_as bs s is =
     let slot : ℕ = slice_index bs 1 in
     let counter : ℕ = slice_index bs 2 in
     let both = and_parts _ _ is in
-    let same : spelling s slot counter ≡ bs = bytes_same (spelling s slot counter) bs both.1 in
+    let same : schedule_spelling s slot counter ≡ bs = bytes_same (schedule_spelling s slot counter) bs both.1 in
     let back : said bs ≡ s = ap (λ b. said b) (sym same) ∙ said_back s slot counter both.0 in
     ap (λ t. if spells bs t then Some t else None) back ∙ cond-true (spells bs s) (Some s) None is
 
@@ -220,8 +220,8 @@ spelled_by bs s is = by_test (spells bs (said bs)) refl is
     by_test true test is = let same : said bs ≡ s = cc in subst (λ t. spells bs t ≡ true) same test
     by_test false test is = cc
 
-pub spells_own : (s : Schedule) (slot counter : ℕ) → in_range s slot counter ≡ true → spells (spelling s slot counter) s ≡ true
-spells_own s slot counter is = and_from _ _ is (same_bytes (spelling s slot counter))
+pub spells_own : (s : Schedule) (slot counter : ℕ) → schedule_in_range s slot counter ≡ true → spells (schedule_spelling s slot counter) s ≡ true
+spells_own s slot counter is = and_from _ _ is (same_bytes (schedule_spelling s slot counter))
 
 length-owners : (cs : List ℕ) → length (owners_bytes cs) ≡ owners_length cs
 length-owners [] = refl
@@ -234,7 +234,7 @@ length-single : (acks : List Ask) → length (single_ack acks) ≡ 4
 length-single [] = refl
 length-single (a ∷ acks) = refl
 
-pub length-spelling : (s : Schedule) (slot counter : ℕ) → length (spelling s slot counter) ≡ length_of s
+pub length-spelling : (s : Schedule) (slot counter : ℕ) → length (schedule_spelling s slot counter) ≡ length_of s
 length-spelling s slot counter =
     let acks = s.plan.acks in
     let rest = length-owners s.plan.owners in
@@ -251,7 +251,7 @@ length-spelling s slot counter =
 
 -- what may be written is in range
 pub writable_in_range : (s : Schedule) (slot : ℕ) → IsWritable s slot → s.plan.rank ≤ 3 → are_acks s.plan.acks ≡ true
-    → are_owners s.plan.owners ≡ true → in_range s slot 0 ≡ true
+    → are_owners s.plan.owners ≡ true → schedule_in_range s slot 0 ≡ true
 writable_in_range s slot w rank acks owners =
     range_from s slot 0 (record {
       count = omega arith;
@@ -266,5 +266,5 @@ writable_in_range s slot w rank acks owners =
       owners = owners;
     })
 
-pub schedule_spelled : (s : Schedule) (slot counter : ℕ) → in_range s slot counter ≡ true → schedule_of (spelling s slot counter) ≡ Some s
-schedule_spelled s slot counter is = read_as (spelling s slot counter) s (spells_own s slot counter is)
+pub schedule_spelled : (s : Schedule) (slot counter : ℕ) → schedule_in_range s slot counter ≡ true → schedule_of (schedule_spelling s slot counter) ≡ Some s
+schedule_spelled s slot counter is = read_as (schedule_spelling s slot counter) s (spells_own s slot counter is)

@@ -6,7 +6,7 @@ use Rattle.std.proofs.lemmas.Bool.{and_from, lt-ltb}
 use Rattle.std.proofs.lemmas.List.{take_all}
 use Rattle.std.proofs.lemmas.List.Folds.{list_all-append}
 use Rattle.std.proofs.lemmas.Nat.{pow-add, pow_pos, shl_whole, shr_split, one_shl, mod_below, shr_below, shl_below}
-use Rattle.schedule_codec.specs.Packing.{fit, number, digits, bytes_for, fill}
+use Rattle.schedule_codec.specs.Packing.{fit, packed_number, digits, bytes_for, fill}
 use Rattle.schedule_codec.proofs.Numbers.{number_push, number_cons, power_more, digits-number}
 
 pub fit_push : (w : ℕ) (ds : List ℕ) (d : ℕ) → fit w ds ≡ true → d < 2 ^ w → fit w (ds ++ d ∷ []) ≡ true
@@ -34,12 +34,12 @@ mask k few = one_shl k 32 few
 
 -- eight of the pending bits make a byte
 pub value_out : (bs : List ℕ) (p h k : ℕ) → h ≡ k + 8 → k < 32
-    → number 8 (bs ++ p / 2 ^ k ∷ []) * 2 ^ k + p % (1 * 2 ^ k % 4294967296) ≡ number 8 bs * 2 ^ h + p
+    → packed_number 8 (bs ++ p / 2 ^ k ∷ []) * 2 ^ k + p % (1 * 2 ^ k % 4294967296) ≡ packed_number 8 bs * 2 ^ h + p
 value_out bs p h k is few =
     let byte = ap (λ m. m * 2 ^ k) (number_push 8 bs (p / 2 ^ k)) in
     let rest = ap (λ m. p % m) (mask k few) in
     let split = shr_split p k in
-    let power = ap (λ m. number 8 bs * m) (ap (λ m. 2 ^ m) is ∙ pow-add 2 k 8) in
+    let power = ap (λ m. packed_number 8 bs * m) (ap (λ m. 2 ^ m) is ∙ pow-add 2 k 8) in
     omega arith
 
 pub below_out : (p k : ℕ) → k < 32 → p % (1 * 2 ^ k % 4294967296) < 2 ^ k
@@ -57,7 +57,7 @@ byte_filled p h k is below = (
   (let fits : p * 2 ^ k < 2 ^ (h + k) = shl_below p h k below in subst (λ i. p * 2 ^ k < 2 ^ i) is fits),
 )
 
-pub filled_up : (bs : List ℕ) (p h k count value : ℕ) → 8 * length bs + h ≡ count → number 8 bs * 2 ^ h + p ≡ value → 0 < h → h + k ≡ 8
+pub filled_up : (bs : List ℕ) (p h k count value : ℕ) → 8 * length bs + h ≡ count → packed_number 8 bs * 2 ^ h + p ≡ value → 0 < h → h + k ≡ 8
     → p < 2 ^ h → fit 8 bs ≡ true
     → bs ++ p * 2 ^ k % 4294967296 ∷ [] ≡ digits 8 (bytes_for count) (value * 2 ^ fill count)
 filled_up bs p h k count value counted is some left below fits =
@@ -68,29 +68,29 @@ filled_up bs p h k count value counted is some left below fits =
     let filling : k ≡ fill count = omega arith in
     let power : 2 ^ (h + k) ≡ 2 ^ h * 2 ^ k = pow-add 2 h k in
     let eight : 256 ≡ 2 ^ h * 2 ^ k = sym (ap (λ i. 2 ^ i) left) ∙ power in
-    let product = ap (λ m. number 8 bs * m) eight in
+    let product = ap (λ m. packed_number 8 bs * m) eight in
     let pushed = number_push 8 bs (p * 2 ^ k % 4294967296) in
     let worth = ap (λ n. n * 2 ^ k) (sym is) in
-    let total : number 8 whole ≡ value * 2 ^ k = omega arith in
+    let total : packed_number 8 whole ≡ value * 2 ^ k = omega arith in
     sym (digits-number 8 whole (fit_push 8 bs (p * 2 ^ k % 4294967296) fits small))
-    ∙ ap (λ i. digits 8 i (number 8 whole)) long
+    ∙ ap (λ i. digits 8 i (packed_number 8 whole)) long
     ∙ ap (λ n. digits 8 (bytes_for count) n) (total ∙ ap (λ i. value * 2 ^ i) filling)
 
 -- nothing is left
-pub filled_already : (bs : List ℕ) (p count value : ℕ) → 8 * length bs + 0 ≡ count → number 8 bs * 2 ^ 0 + p ≡ value → p < 1
+pub filled_already : (bs : List ℕ) (p count value : ℕ) → 8 * length bs + 0 ≡ count → packed_number 8 bs * 2 ^ 0 + p ≡ value → p < 1
     → fit 8 bs ≡ true → bs ≡ digits 8 (bytes_for count) (value * 2 ^ fill count)
 filled_already bs p count value counted is below fits =
     let long : length bs ≡ bytes_for count = omega arith in
     let filling : 0 ≡ fill count = omega arith in
-    let total : number 8 bs ≡ value * 2 ^ 0 = omega arith in
+    let total : packed_number 8 bs ≡ value * 2 ^ 0 = omega arith in
     sym (digits-number 8 bs fits)
-    ∙ ap (λ i. digits 8 i (number 8 bs)) long
+    ∙ ap (λ i. digits 8 i (packed_number 8 bs)) long
     ∙ ap (λ n. digits 8 (bytes_for count) n) (total ∙ ap (λ i. value * 2 ^ i) filling)
 
 -- the first byte joins the pending bits
 pub value_in : (bs : List ℕ) (p b : ℕ) → 1 ≤ length bs → b ≡ get_or bs 0 0
     → (let rest = take (length bs - 1) (drop 1 bs) in
-    (length rest + 1 ≡ length bs) × ((p * 256 + b) * 2 ^ (length rest * 8) + number 8 rest ≡ p * 2 ^ (length bs * 8) + number 8 bs))
+    (length rest + 1 ≡ length bs) × ((p * 256 + b) * 2 ^ (length rest * 8) + packed_number 8 rest ≡ p * 2 ^ (length bs * 8) + packed_number 8 bs))
 value_in [] p b some is = absurd (omega arith)
 value_in (x ∷ xs) p b some is =
     let left : take (length (x ∷ xs) - 1) xs ≡ xs = take_all (length (x ∷ xs) - 1) xs (omega arith) in
@@ -98,7 +98,7 @@ value_in (x ∷ xs) p b some is =
     let cons = number_cons 8 x xs in
     let power = ap (λ m. p * m) (power_more 8 (length xs)) in
     subst (λ (l : List ℕ). (length l + 1 ≡ length (x ∷ xs))
-    × ((p * 256 + b) * 2 ^ (length l * 8) + number 8 l ≡ p * 2 ^ (length (x ∷ xs) * 8) + number 8 (x ∷ xs))) (sym left)
+    × ((p * 256 + b) * 2 ^ (length l * 8) + packed_number 8 l ≡ p * 2 ^ (length (x ∷ xs) * 8) + packed_number 8 (x ∷ xs))) (sym left)
     (omega arith, omega arith)
 
 pub below_in : (p h b : ℕ) → p < 2 ^ h → b < 256 → p * 256 + b < 2 ^ (h + 8)
@@ -119,7 +119,7 @@ value_taken p k bytes n few =
 pub below_taken : (p h w k : ℕ) → p < 2 ^ h → h ≡ w + k → p / 2 ^ k < 2 ^ w
 below_taken p h w k below is = shr_below p w k (subst (λ i. p < 2 ^ i) is below)
 
-pub no_bytes : (bs : List ℕ) (p : ℕ) → length bs ≡ 0 → p * 2 ^ (length bs * 8) + number 8 bs ≡ p
-unfolding number
+pub no_bytes : (bs : List ℕ) (p : ℕ) → length bs ≡ 0 → p * 2 ^ (length bs * 8) + packed_number 8 bs ≡ p
+unfolding packed_number
 no_bytes [] p none = omega arith
 no_bytes (b ∷ bs) p none = absurd (omega arith)

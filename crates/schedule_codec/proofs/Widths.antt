@@ -6,35 +6,35 @@ use Rattle.std.proofs.lemmas.List.{drop_more, take_all}
 use Rattle.std.specs.List.{list_all}
 use Rattle.lwb_packets.specs.Ranges.{between}
 use Rattle.schedule_codec.specs.Packing.{fit}
-use Rattle.schedule_codec.specs.OwnerLists.{are_owners, ascend, differences, least, width_of}
+use Rattle.schedule_codec.specs.OwnerLists.{are_owners, ascend, differences, least_passing, width_of}
 
 -- one step of the search for the least
-pub least_here : (n w : ℕ) (passes : ℕ → Bool) → w < n → passes w ≡ true → least (n - w) w passes ≡ w
-unfolding least
+pub least_here : (n w : ℕ) (passes : ℕ → Bool) → w < n → passes w ≡ true → least_passing (n - w) w passes ≡ w
+unfolding least_passing
 least_here n w passes below pass =
     let more : n - w ≡ suc (n - (w + 1)) = omega arith in
-    ap (λ k. least k w passes) more ∙ cond-true (passes w) w (least (n - (w + 1)) (w + 1) passes) pass
+    ap (λ k. least_passing k w passes) more ∙ cond-true (passes w) w (least_passing (n - (w + 1)) (w + 1) passes) pass
 
-pub least_further : (n w : ℕ) (passes : ℕ → Bool) → w < n → passes w ≡ false → least (n - w) w passes ≡ least (n - (w + 1)) (w + 1) passes
-unfolding least
+pub least_further : (n w : ℕ) (passes : ℕ → Bool) → w < n → passes w ≡ false → least_passing (n - w) w passes ≡ least_passing (n - (w + 1)) (w + 1) passes
+unfolding least_passing
 least_further n w passes below fails =
     let more : n - w ≡ suc (n - (w + 1)) = omega arith in
-    ap (λ k. least k w passes) more ∙ cond-false (passes w) w (least (n - (w + 1)) (w + 1) passes) fails
+    ap (λ k. least_passing k w passes) more ∙ cond-false (passes w) w (least_passing (n - (w + 1)) (w + 1) passes) fails
 
-pub least_at_end : (n w : ℕ) (passes : ℕ → Bool) → w ≡ n → least (n - w) w passes ≡ n
-unfolding least
+pub least_at_end : (n w : ℕ) (passes : ℕ → Bool) → w ≡ n → least_passing (n - w) w passes ≡ n
+unfolding least_passing
 least_at_end n w passes is =
     let none : n - w ≡ 0 = omega arith in
-    ap (λ k. least k w passes) none ∙ is
+    ap (λ k. least_passing k w passes) none ∙ is
 
 -- the least passes, where the last one does
-pub least_passes : (n w : ℕ) (passes : ℕ → Bool) → passes (w + n) ≡ true → (passes (least n w passes) ≡ true) × (least n w passes ≤ w + n)
-unfolding least
+pub least_passes : (n w : ℕ) (passes : ℕ → Bool) → passes (w + n) ≡ true → (passes (least_passing n w passes) ≡ true) × (least_passing n w passes ≤ w + n)
+unfolding least_passing
 least_passes zero w passes last = let same : w + 0 ≡ w = omega arith in (subst (λ k. passes k ≡ true) same last, omega arith)
 least_passes (suc n) w passes last =
     let same : w + suc n ≡ (w + 1) + n = omega arith in
     let rest = least_passes n (w + 1) passes (subst (λ k. passes k ≡ true) same last) in
-    cond_both (passes w) w (least n (w + 1) passes) (λ k. (passes k ≡ true) × (k ≤ w + suc n)) (λ pass. (pass, omega arith))
+    cond_both (passes w) w (least_passing n (w + 1) passes) (λ k. (passes k ≡ true) × (k ≤ w + suc n)) (λ pass. (pass, omega arith))
     (λ fails. (rest.0, omega (arith, rest.1)))
 
 -- the next code, from the last

@@ -6,7 +6,7 @@ use Rattle.lwb_packets.specs.Ranges.{between}
 use Rattle.lwb_packets.specs.TwoBytes.{two_bytes}
 use Rattle.schedule_codec.specs.Packing.{packed}
 pub use Rattle.lwb_base.specs.Messages.{width_of, differences, owners_length}
-unfoldable pub use Rattle.lwb_base.specs.Messages.{least}
+unfoldable pub use Rattle.lwb_base.specs.Messages.{least_passing}
 
 -- each is not below the one before
 abbrev pub ascend : List ℕ → Bool

@@ -3,8 +3,8 @@ use Rattle.std.specs.Prelude.{◌≡◌, true, ℕ, zero, suc, ◌+◌, ◌-◌,
 pub use Rattle.lwb_base.specs.Messages.{fit}
 
 -- numbers of w bits each, the first one highest, as one number
-unfoldable pub number : ℕ → List ℕ → ℕ
-number w ds = fold (λ n d. n * 2 ^ w + d) 0 ds
+unfoldable pub packed_number : ℕ → List ℕ → ℕ
+packed_number w ds = fold (λ n d. n * 2 ^ w + d) 0 ds
 
 -- the k lowest numbers of w bits each in n, the highest of them first
 unfoldable pub digits : ℕ → ℕ → ℕ → List ℕ
@@ -21,7 +21,7 @@ fill bits = 8 * bytes_for bits - bits
 
 -- numbers of w bits each in bytes: the highest bit first, without gaps, filled up with zero bits to a whole byte
 abbrev pub packed : ℕ → List ℕ → List ℕ
-packed w ds = let bits = length ds * w in digits 8 (bytes_for bits) (number w ds * 2 ^ fill bits)
+packed w ds = let bits = length ds * w in digits 8 (bytes_for bits) (packed_number w ds * 2 ^ fill bits)
 
 -- so many bits as one number, the first bit highest
 pub record Bits : Type 0 where

@@ -5,7 +5,7 @@ use Rattle.std.specs.Prelude.{if◌then◌else◌, length, drop, slice_index, is
 use Rattle.std.specs.declared.option.Option.{Option}
 use Rattle.lwb_base.specs.Messages.{Ask, Schedule}
 use Rattle.lwb_packets.specs.TwoBytes.{number_of_two}
-use Rattle.schedule_codec.specs.Packing.{number, digits}
+use Rattle.schedule_codec.specs.Packing.{packed_number, digits}
 use Rattle.schedule_codec.specs.Spelling.{spells}
 
 -- the codes that follow, each by its difference from the one before
@@ -24,7 +24,7 @@ owners_in bs =
     let first = number_of_two (slice_index bs 1) (slice_index bs 2) in
     let width = first % 16 in
     let rest = drop 3 bs in
-    if count == 0 then [] else summed (first / 16) (digits width (count - 1) (number 8 rest / 2 ^ (8 * length rest - (count - 1) * width)))
+    if count == 0 then [] else summed (first / 16) (digits width (count - 1) (packed_number 8 rest / 2 ^ (8 * length rest - (count - 1) * width)))
 
 abbrev pub ask_in : List ℕ → Ask
 ask_in bs = record { node = slice_index bs 0; boot = slice_index bs 1; stream = slice_index bs 2; interval = slice_index bs 3 }

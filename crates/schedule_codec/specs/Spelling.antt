@@ -20,8 +20,8 @@ acks_bytes contend acks = if contend == 0 then single_ack acks else ((contend - 
 abbrev pub kind_byte : ℕ → ℕ
 kind_byte contend = if contend == 0 then 1 else 4
 
-abbrev pub spelling : Schedule → ℕ → ℕ → List ℕ
-spelling s slot counter = kind_byte s.plan.contend ∷ slot ∷ counter ∷ (s.plan.rank * 16 + s.gap) ∷ s.plan.boot
+abbrev pub schedule_spelling : Schedule → ℕ → ℕ → List ℕ
+schedule_spelling s slot counter = kind_byte s.plan.contend ∷ slot ∷ counter ∷ (s.plan.rank * 16 + s.gap) ∷ s.plan.boot
     ∷ acks_bytes s.plan.contend s.plan.acks ++ owners_bytes s.plan.owners
 
 abbrev pub most_acks : ℕ → ℕ
@@ -47,8 +47,8 @@ abbrev pub slot_fits : ℕ → ℕ → ℕ → Bool
 slot_fits gap contend slot = if gap == 0 then slot == 0 else between 2 (greatest_slot contend) slot
 
 -- the ranges of the fields, the slot and the counter
-abbrev pub in_range : Schedule → ℕ → ℕ → Bool
-in_range s slot counter =
+abbrev pub schedule_in_range : Schedule → ℕ → ℕ → Bool
+schedule_in_range s slot counter =
     nat_le counter 11 && slot_fits s.gap s.plan.contend slot && nat_le s.gap 4
     && nat_le s.plan.rank 3 && between 1 200 s.plan.boot && nat_le s.plan.contend 4
     && nat_le (length s.plan.acks) (most_acks s.plan.contend) && list_all ask_in_range s.plan.acks && are_acks s.plan.acks
@@ -65,4 +65,4 @@ pub record IsWritable (s : Schedule) (slot : ℕ) : Type 0 where
 
 -- these bytes are the schedule's, in some slot and with some counter
 abbrev pub spells : List ℕ → Schedule → Bool
-spells p s = in_range s (slice_index p 1) (slice_index p 2) && bytes_eq (spelling s (slice_index p 1) (slice_index p 2)) p
+spells p s = schedule_in_range s (slice_index p 1) (slice_index p 2) && bytes_eq (schedule_spelling s (slice_index p 1) (slice_index p 2)) p

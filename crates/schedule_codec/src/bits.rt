@@ -1,7 +1,7 @@
 //! Numbers of a few bits each, written and read one after another.
 
 ghost use Rattle.std.specs.Prelude.{◌≡◌, ℕ, ◌+◌, ◌*◌, ◌^◌, ◌<◌, ◌≤◌, ◌==◌, length};
-ghost use Rattle.schedule_codec.specs.Packing.{digits, number, bytes_for, fill};
+ghost use Rattle.schedule_codec.specs.Packing.{digits, packed_number, bytes_for, fill};
 
 use arrayvec::ArrayVec;
 use std::marker::Model;
@@ -18,11 +18,11 @@ pub struct BitWriter {
 
 impl Model for BitWriter {
     ghost use Rattle.std.specs.Prelude.{ℕ, ◌≡◌, ◌+◌, ◌*◌, ◌^◌, ◌<◌, ◌≤◌, length, true};
-    ghost use Rattle.schedule_codec.specs.Packing.{Bits, number, fit};
+    ghost use Rattle.schedule_codec.specs.Packing.{Bits, packed_number, fit};
 
     ghost Value = { Bits };
 
-    ghost view = { λ w. record { count = 8 * length w.bytes.items + w.held; value = number 8 w.bytes.items * 2 ^ w.held + w.pending } };
+    ghost view = { λ w. record { count = 8 * length w.bytes.items + w.held; value = packed_number 8 w.bytes.items * 2 ^ w.held + w.pending } };
 
     ghost invariant = { λ w. (w.held < 8) × (w.pending < 2 ^ w.held) × (8 * length w.bytes.items + w.held ≤ 392) × (fit 8 w.bytes.items ≡ true) };
 }
@@ -83,11 +83,11 @@ pub struct BitReader<'a> {
 
 impl<'a> Model for BitReader<'a> {
     ghost use Rattle.std.specs.Prelude.{ℕ, ◌≡◌, ◌+◌, ◌*◌, ◌^◌, ◌<◌, length};
-    ghost use Rattle.schedule_codec.specs.Packing.{Bits, number};
+    ghost use Rattle.schedule_codec.specs.Packing.{Bits, packed_number};
 
     ghost Value = { Bits };
 
-    ghost view = { λ r. record { count = 8 * length r.rest.now + r.held; value = r.pending * 2 ^ (length r.rest.now * 8) + number 8 r.rest.now } };
+    ghost view = { λ r. record { count = 8 * length r.rest.now + r.held; value = r.pending * 2 ^ (length r.rest.now * 8) + packed_number 8 r.rest.now } };
 
     ghost invariant = { λ r. (r.held < 8) × (r.pending < 2 ^ r.held) };
 }
@@ -95,7 +95,7 @@ impl<'a> Model for BitReader<'a> {
 impl<'a> BitReader<'a> {
     /// A reader of all the bits of these bytes.
     pub fn new(bytes: &'a [u8]) -> BitReader<'a>
-        ensures { result ≡ record { count = 8 * length bytes.entry.now; value = number 8 bytes.entry.now } }
+        ensures { result ≡ record { count = 8 * length bytes.entry.now; value = packed_number 8 bytes.entry.now } }
     {
         BitReader {
             rest: bytes,

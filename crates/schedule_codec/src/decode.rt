@@ -2,7 +2,7 @@
 
 ghost use Rattle.std.specs.Prelude.{◌≡◌, ◌++◌, ◌≤◌, ℕ, List, length, true, IfSome, Some, slice_index, slice_set};
 ghost use Rattle.lwb_base.specs.Messages.{Ask, Schedule as Said};
-ghost use Rattle.schedule_codec.specs.Spelling.{acks_bytes, SpellsAcks, SpellsBody, IsWritable, slot_fits as fits, spelling, spells};
+ghost use Rattle.schedule_codec.specs.Spelling.{acks_bytes, SpellsAcks, SpellsBody, IsWritable, slot_fits as fits, schedule_spelling, spells};
 ghost use Rattle.schedule_codec.specs.Reading.{schedule_of};
 
 use crate::ack_bytes::{Acknowledged, read_acks};
@@ -17,7 +17,7 @@ pub fn read(p: &Packet) -> Option<Schedule>
     ensures all { (s : Said) → spells p.now s ≡ true → result ≡ Some s }
 
     // Written again, with the counter set, it is the same packet; and it may be written.
-    ensures again { IfSome result (λ s. slice_set (spelling s (slice_index p.now 1) 0) 2 (slice_index p.now 2) ≡ p.now) }
+    ensures again { IfSome result (λ s. slice_set (schedule_spelling s (slice_index p.now 1) 0) 2 (slice_index p.now 2) ≡ p.now) }
     ensures writable { IfSome result (λ s. IsWritable s (slice_index p.now 1)) }
 {
     spelled(p)

@@ -1,7 +1,7 @@
 //! From a schedule to bytes.
 
 ghost use Rattle.std.specs.Prelude.{◌≡◌, length, Some, true};
-ghost use Rattle.schedule_codec.specs.Spelling.{IsWritable, spelling, in_range, length_of};
+ghost use Rattle.schedule_codec.specs.Spelling.{IsWritable, schedule_spelling, schedule_in_range, length_of};
 ghost use Rattle.schedule_codec.specs.Reading.{schedule_of};
 
 use crate::Schedule;
@@ -14,7 +14,7 @@ use lwb_base::Packet;
 /// 42 for a closing schedule, or 2 to 45 where the number of contention slots is named.
 pub fn write(s: &Schedule, slot: u8) -> Packet
     requires { IsWritable s.now slot }
-    ensures value { result ≡ spelling s.now slot 0 }
+    ensures value { result ≡ schedule_spelling s.now slot 0 }
     ensures many { length result ≡ length_of s.now }
     ensures reads_back { schedule_of result ≡ Some s.now }
 {
@@ -24,8 +24,8 @@ pub fn write(s: &Schedule, slot: u8) -> Packet
 // The bytes of a schedule, whose parts are all in range.
 fn spell(s: &Schedule, slot: u8) -> Packet
     requires { IsWritable s.now slot }
-    ensures value { result ≡ spelling s.now slot 0 }
-    ensures in_range { in_range s.now slot 0 ≡ true }
+    ensures value { result ≡ schedule_spelling s.now slot 0 }
+    ensures in_range { schedule_in_range s.now slot 0 ≡ true }
 {
     let kind = if s.contend == 0 { 1 } else { 4 };
     let head = [kind, slot, 0, s.host.number() * 16 + s.gap, s.host_boot];

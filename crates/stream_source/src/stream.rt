@@ -26,7 +26,7 @@ pub struct Waiting {
 
 impl Model for Waiting {
     ghost use Rattle.std.specs.Prelude.{◌≤◌};
-    ghost use Rattle.bus_rules.specs.Streams.{Waiting as Waits};
+    ghost use Rattle.bus_rules.specs.Streams.{WaitingPacket as Waits};
 
     ghost Value = { Waits };
 
@@ -140,13 +140,13 @@ impl Stream {
     }
 
     pub(crate) fn set_agreed(&mut self, interval: u8)
-        ensures { self.new ≡ rule.agrees interval self.old }
+        ensures { self.new ≡ rule.with_granted_interval interval self.old }
     {
         self.agreed = interval;
     }
 
     pub(crate) fn grant(&mut self, interval: u8, frame: u32)
-        ensures { self.new ≡ rule.granted interval frame self.old }
+        ensures { self.new ≡ rule.granted_stream interval frame self.old }
     {
         self.agreed = interval;
         self.last = frame;

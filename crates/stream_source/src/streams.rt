@@ -75,7 +75,7 @@ impl Streams {
     /// The stream requests nothing more, and what waits in it is gone.
     pub fn leave(&mut self, stream: u8)
         requires { stream ≤ 3 }
-        ensures { self.new ≡ rule.left stream self.old }
+        ensures { self.new ≡ rule.streams_after_leaving stream self.old }
     {
         self.streams[usize::from(stream)].leave();
     }
@@ -116,7 +116,7 @@ impl Streams {
 
     /// The least stream of which a request is due, with its requested interval. Returns `None` if and only if none is due.
     pub fn due(&self) -> Option<(u8, u8)>
-        ensures least { result ≡ option_map (rule.with_wish self.now) (rule.due self.now) }
+        ensures least { result ≡ option_map (rule.with_wish self.now) (rule.due_stream self.now) }
         ensures range { IfSome result (λ r. (r.0 ≤ 3) × (r.1 ≤ 120)) }
     {
         for i in 0..4_u8 {
@@ -247,7 +247,7 @@ fn clear_each(streams: &mut [Stream])
 }
 
 fn disagree(streams: &mut [Stream])
-    ensures { streams.new ≡ map (rule.agrees 0) streams.old }
+    ensures { streams.new ≡ map (rule.with_granted_interval 0) streams.old }
 {
     for stream in streams.iter_mut() {
         stream.set_agreed(0);

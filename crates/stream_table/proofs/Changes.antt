@@ -8,20 +8,20 @@ use Rattle.std.proofs.lemmas.List.{length-map}
 use Rattle.std.proofs.lemmas.Option.{get_or_from_slice_get}
 use Rattle.lwb_base.proofs.Lists.{length_filtered, length_sifted}
 use Rattle.bus_rules.specs.Granting.{grant}
-use Rattle.bus_rules.specs.Tables.{Entry, code_in, has_code, AreEntries, entry_of, without, seen, missed}
-use Rattle.stream_table.specs.CodeOrder.{IsAt, IsGap}
+use Rattle.bus_rules.specs.Tables.{Entry, code_in, has_code, AreEntries, entry_of, without, entry_after_data, missed}
+use Rattle.stream_table.specs.CodeOrder.{IsAtPlace, IsGap}
 use Rattle.stream_table.specs.Entries.{granted_once, misses_last}
 use Rattle.stream_table.proofs.Order.{Keeps, Sifts, ascends_map, ascends_filter_map, ascends_filter}
 use Rattle.stream_table.proofs.Edits.{map_none, map_at, sift_none, sift_set, sift_remove, without_none, without_at}
 
 -- what is read at the place is the entry
-pub read_is : (es : List Entry) (c n : ℕ) (at : IsAt code_in es c n) (x : Entry) → x ≡ get_or es n x → x ≡ at.item
+pub read_is : (es : List Entry) (c n : ℕ) (at : IsAtPlace code_in es c n) (x : Entry) → x ≡ get_or es n x → x ≡ at.item
 read_is es c n at x read = read ∙ get_or_from_slice_get es n at.item x at.at
 
-pub found : (es : List Entry) (c n : ℕ) (at : IsAt code_in es c n) → AreEntries es → entry_of es c ≡ Some at.item
+pub found : (es : List Entry) (c n : ℕ) (at : IsAtPlace code_in es c n) → AreEntries es → entry_of es c ≡ Some at.item
 found es c n at are = at.found
 
-seen_others : (c : ℕ) (e : Entry) → e.code ≢ c → seen c e ≡ e
+seen_others : (c : ℕ) (e : Entry) → e.code ≢ c → entry_after_data c e ≡ e
 seen_others c e other = rw (ne_eqb e.code c other) refl
 
 granted_others : (c : ℕ) (e : Entry) → e.code ≢ c → granted_once c e ≡ e
@@ -31,7 +31,7 @@ missed_others : (c : ℕ) (e : Entry) → e.code ≢ c → missed c e ≡ Some e
 missed_others c e other = rw (ne_eqb e.code c other) refl
 
 -- a change of the entry alone
-changed : (f : ℕ → Entry → Entry) (es : List Entry) (c n : ℕ) (at : IsAt code_in es c n) (x new : Entry) (out : List Entry)
+changed : (f : ℕ → Entry → Entry) (es : List Entry) (c n : ℕ) (at : IsAtPlace code_in es c n) (x new : Entry) (out : List Entry)
     → ((e : Entry) → e.code ≢ c → f c e ≡ e) → AreEntries es
     → x ≡ get_or es n x → new ≡ f x.code x → out ≡ set es n new → out ≡ map (f c) es
 changed f es c n at x new out others are read now is =
@@ -46,7 +46,7 @@ kept_map f es out keeps are is =
     let few = length-map es f in
     subst AreEntries (sym is) (record { few = omega (arith, are.few); ascends = up })
 
-pub seen_keeps : (c : ℕ) → Keeps (seen c)
+pub seen_keeps : (c : ℕ) → Keeps (entry_after_data c)
 seen_keeps c = record { code = λ e. refl }
 
 pub grant_keeps : (share : Entry → ℕ) → Keeps (grant share)
@@ -55,17 +55,17 @@ grant_keeps share = record { code = λ e. refl }
 granted_keeps : (c : ℕ) → Keeps (granted_once c)
 granted_keeps c = record { code = λ e. refl }
 
-pub heard_is : (es : List Entry) (c n : ℕ) (at : IsAt code_in es c n) (x new : Entry) (out : List Entry) → AreEntries es → x ≡ get_or es n x
-    → new ≡ seen x.code x → out ≡ set es n new → out ≡ map (seen c) es
-heard_is es c n at x new out are read now is = changed seen es c n at x new out (seen_others c) are read now is
+pub heard_is : (es : List Entry) (c n : ℕ) (at : IsAtPlace code_in es c n) (x new : Entry) (out : List Entry) → AreEntries es → x ≡ get_or es n x
+    → new ≡ entry_after_data x.code x → out ≡ set es n new → out ≡ map (entry_after_data c) es
+heard_is es c n at x new out are read now is = changed entry_after_data es c n at x new out (seen_others c) are read now is
 
-pub heard_kept : (es out : List Entry) (c : ℕ) → AreEntries es → out ≡ map (seen c) es → AreEntries out
-heard_kept es out c are is = kept_map (seen c) es out (seen_keeps c) are is
+pub heard_kept : (es out : List Entry) (c : ℕ) → AreEntries es → out ≡ map (entry_after_data c) es → AreEntries out
+heard_kept es out c are is = kept_map (entry_after_data c) es out (seen_keeps c) are is
 
-pub heard_none : (es : List Entry) (c n : ℕ) → IsGap code_in es c n → es ≡ map (seen c) es
-heard_none es c n gap = sym (map_none (seen c) c (seen_others c) es gap.missing)
+pub heard_none : (es : List Entry) (c n : ℕ) → IsGap code_in es c n → es ≡ map (entry_after_data c) es
+heard_none es c n gap = sym (map_none (entry_after_data c) c (seen_others c) es gap.missing)
 
-pub granted_is : (es : List Entry) (c n : ℕ) (at : IsAt code_in es c n) (x new : Entry) (out : List Entry) → AreEntries es
+pub granted_is : (es : List Entry) (c n : ℕ) (at : IsAtPlace code_in es c n) (x new : Entry) (out : List Entry) → AreEntries es
     → x ≡ get_or es n x → new ≡ granted_once x.code x → out ≡ set es n new → out ≡ map (granted_once c) es
 granted_is es c n at x new out are read now is = changed granted_once es c n at x new out (granted_others c) are read now is
 
@@ -75,14 +75,14 @@ granted_kept es out c are is = kept_map (granted_once c) es out (granted_keeps c
 pub granted_none : (es : List Entry) (c n : ℕ) → IsGap code_in es c n → es ≡ map (granted_once c) es
 granted_none es c n gap = sym (map_none (granted_once c) c (granted_others c) es gap.missing)
 
-pub granted_less : (es : List Entry) (c n : ℕ) (at : IsAt code_in es c n) (x : Entry) (m : ℕ) → AreEntries es → x ≡ get_or es n x
+pub granted_less : (es : List Entry) (c n : ℕ) (at : IsAtPlace code_in es c n) (x : Entry) (m : ℕ) → AreEntries es → x ≡ get_or es n x
     → IfSome (entry_of es c) (λ e. e.granted < m) → x.granted < m
 granted_less es c n at x m are read bound =
     let here : at.item.granted < m = subst (λ (o : Option Entry). IfSome o (λ e. e.granted < m)) (found es c n at are) bound in
     subst (λ (e : Entry). e.granted < m) (sym (read_is es c n at x read)) here
 
 -- a miss
-module _ (es : List Entry) (c n : ℕ) (at : IsAt code_in es c n) (x : Entry) (are : AreEntries es) (read : x ≡ get_or es n x) where
+module _ (es : List Entry) (c n : ℕ) (at : IsAtPlace code_in es c n) (x : Entry) (are : AreEntries es) (read : x ≡ get_or es n x) where
   outcome : missed x.code x ≡ missed c at.item
   outcome =
       let same = read_is es c n at x read in
@@ -140,7 +140,7 @@ pub stays_none : (es : List Entry) (c n : ℕ) → IsGap code_in es c n → fals
 stays_none es c n gap = sym (ap (λ (o : Option Entry). option_map_or (λ (e : Entry). nat_lt 14 e.unheard) o false) gap.missing)
 
 -- a removal
-pub removed_is : (es out : List Entry) (c n : ℕ) (at : IsAt code_in es c n) → AreEntries es → out ≡ remove es n → out ≡ without c es
+pub removed_is : (es out : List Entry) (c n : ℕ) (at : IsAtPlace code_in es c n) → AreEntries es → out ≡ remove es n → out ≡ without c es
 removed_is es out c n at are is = is ∙ sym (without_at c es n at.item are.ascends at.at at.is)
 
 pub removed_none : (es : List Entry) (c n : ℕ) → IsGap code_in es c n → es ≡ without c es
@@ -151,14 +151,14 @@ removed_kept es out c are is =
     let p : Entry → Bool = λ e. not (has_code c e) in
     subst AreEntries (sym is) (record { few = omega (arith, are.few, length_filtered p es); ascends = ascends_filter p es are.ascends })
 
-pub is_there : (es : List Entry) (c n : ℕ) → IsAt code_in es c n → AreEntries es → true ≡ is_some (entry_of es c)
+pub is_there : (es : List Entry) (c n : ℕ) → IsAtPlace code_in es c n → AreEntries es → true ≡ is_some (entry_of es c)
 is_there es c n at are = sym (ap is_some (found es c n at are))
 
 pub is_missing : (es : List Entry) (c n : ℕ) → IsGap code_in es c n → false ≡ is_some (entry_of es c)
 is_missing es c n gap = sym (ap is_some gap.missing)
 
 -- what is read off the entry is what the table has of its owner
-pub value_at : (f : Entry → ℕ) (es : List Entry) (c n : ℕ) (at : IsAt code_in es c n) (x : Entry) → AreEntries es → x ≡ get_or es n x
+pub value_at : (f : Entry → ℕ) (es : List Entry) (c n : ℕ) (at : IsAtPlace code_in es c n) (x : Entry) → AreEntries es → x ≡ get_or es n x
     → f x ≡ option_map_or f (entry_of es c) 0
 value_at f es c n at x are read =
     ap f (read_is es c n at x read) ∙ sym (ap (λ (o : Option Entry). option_map_or f o 0) (found es c n at are))

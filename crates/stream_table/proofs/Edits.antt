@@ -2,7 +2,7 @@
 use Rattle.std.proofs.Common.{◌≡◌, ◌≢◌, ℕ, zero, suc, List, [], ◌∷◌, set, map, filter_map, Option, Some, None, refl, ◌∙◌, ap, subst, arith, eq-eqb}
 use Rattle.std.specs.List.{slice_get, remove}
 use Rattle.std.proofs.lemmas.Bool.{ne_eqb}
-use Rattle.bus_rules.specs.Tables.{Entry, Above, Ascends, entry_of, without}
+use Rattle.bus_rules.specs.Tables.{Entry, EntriesAreAbove, EntriesAscend, entry_of, without}
 use Rattle.stream_table.proofs.Order.{above_get, none_above, apart_from}
 
 -- a change of the entries with the code c alone
@@ -11,7 +11,7 @@ module _ (f : Entry → Entry) (c : ℕ) (others : (e : Entry) → e.code ≢ c 
   map_none [] none = refl
   map_none (e ∷ es) none = let apart = apart_from c e es none in cc (others e apart.0, map_none es apart.1)
 
-  pub map_at : (es : List Entry) (n : ℕ) (x : Entry) → Ascends es → slice_get es n ≡ Some x → x.code ≡ c → map f es ≡ set es n (f x)
+  pub map_at : (es : List Entry) (n : ℕ) (x : Entry) → EntriesAscend es → slice_get es n ≡ Some x → x.code ≡ c → map f es ≡ set es n (f x)
   map_at [] n x up at is = cc
   map_at (e ∷ es) zero x up at is =
       let same : e ≡ x = cc in
@@ -32,10 +32,10 @@ module _ (g : Entry → Option Entry) (c : ℕ) (others : (e : Entry) → e.code
   sift_none [] none = refl
   sift_none (e ∷ es) none = let apart = apart_from c e es none in kept e es apart.0 ∙ ap (λ (l : List Entry). e ∷ l) (sift_none es apart.1)
 
-  rest_stays : (e : Entry) (es : List Entry) → e.code ≡ c → Above e.code es → filter_map g es ≡ es
+  rest_stays : (e : Entry) (es : List Entry) → e.code ≡ c → EntriesAreAbove e.code es → filter_map g es ≡ es
   rest_stays e es here above = sift_none es (subst (λ (d : ℕ). entry_of es d ≡ None) here (none_above e.code es above))
 
-  pub sift_set : (es : List Entry) (n : ℕ) (x y : Entry) → Ascends es → slice_get es n ≡ Some x → x.code ≡ c → g x ≡ Some y → filter_map g es ≡ set es n y
+  pub sift_set : (es : List Entry) (n : ℕ) (x y : Entry) → EntriesAscend es → slice_get es n ≡ Some x → x.code ≡ c → g x ≡ Some y → filter_map g es ≡ set es n y
   sift_set [] n x y up at is gives = cc
   sift_set (e ∷ es) zero x y up at is gives =
       let same : e ≡ x = cc in
@@ -47,7 +47,7 @@ module _ (g : Entry → Option Entry) (c : ℕ) (others : (e : Entry) → e.code
       let apart : e.code ≢ c = omega arith in
       kept e es apart ∙ ap (λ (l : List Entry). e ∷ l) (sift_set es n x y up.1 at is gives)
 
-  pub sift_remove : (es : List Entry) (n : ℕ) (x : Entry) → Ascends es → slice_get es n ≡ Some x → x.code ≡ c → g x ≡ None → filter_map g es ≡ remove es n
+  pub sift_remove : (es : List Entry) (n : ℕ) (x : Entry) → EntriesAscend es → slice_get es n ≡ Some x → x.code ≡ c → g x ≡ None → filter_map g es ≡ remove es n
   sift_remove [] n x up at is gives = cc
   sift_remove (e ∷ es) zero x up at is gives =
       let same : e ≡ x = cc in
@@ -64,7 +64,7 @@ pub without_none : (c : ℕ) (es : List Entry) → entry_of es c ≡ None → wi
 without_none c [] none = refl
 without_none c (e ∷ es) none = let apart = apart_from c e es none in rw (ne_eqb e.code c apart.0) (ap (λ (l : List Entry). e ∷ l) (without_none c es apart.1))
 
-pub without_at : (c : ℕ) (es : List Entry) (n : ℕ) (x : Entry) → Ascends es → slice_get es n ≡ Some x → x.code ≡ c → without c es ≡ remove es n
+pub without_at : (c : ℕ) (es : List Entry) (n : ℕ) (x : Entry) → EntriesAscend es → slice_get es n ≡ Some x → x.code ≡ c → without c es ≡ remove es n
 without_at c [] n x up at is = cc
 without_at c (e ∷ es) zero x up at is =
     let same : e ≡ x = cc in

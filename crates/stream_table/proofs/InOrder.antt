@@ -2,26 +2,26 @@
 use Rattle.std.proofs.Common.{◌≡◌, ◌∙◌, ℕ, ◌≤◌, List, [], ◌∷◌, Bool, true, false, not, ◌&&◌, ◌||◌, ◌==◌, nat_lt}
 use Rattle.std.proofs.Common.{if◌then◌else◌, is_some, is_none, length, Option, Some, None, refl, ap}
 use Rattle.stream_table.specs.CodeOrder as order
-use Rattle.bus_rules.specs.Tables.{Entry, Above, Ascends, AreEntries, code_in, entry_of, with_entry}
+use Rattle.bus_rules.specs.Tables.{Entry, EntriesAreAbove, EntriesAscend, AreEntries, code_in, entry_of, with_entry}
 use Rattle.stream_table.specs.Entries.{is_full_for}
 
-above_in : (c : ℕ) (es : List Entry) → Above c es → order.Above code_in c es
+above_in : (c : ℕ) (es : List Entry) → EntriesAreAbove c es → order.CodesAreAbove code_in c es
 above_in c [] above = tt
 above_in c (e ∷ es) above = (above.0, above_in c es above.1)
 
-pub in_order : (es : List Entry) → Ascends es → order.Ascends code_in es
+pub in_order : (es : List Entry) → EntriesAscend es → order.AscendsByCode code_in es
 in_order [] up = tt
 in_order (e ∷ es) up = (above_in e.code es up.0, in_order es up.1)
 
-above_out : (c : ℕ) (es : List Entry) → order.Above code_in c es → Above c es
+above_out : (c : ℕ) (es : List Entry) → order.CodesAreAbove code_in c es → EntriesAreAbove c es
 above_out c [] above = tt
 above_out c (e ∷ es) above = (above.0, above_out c es above.1)
 
-pub out_order : (es : List Entry) → order.Ascends code_in es → Ascends es
+pub out_order : (es : List Entry) → order.AscendsByCode code_in es → EntriesAscend es
 out_order [] up = tt
 out_order (e ∷ es) up = (above_out e.code es up.0, out_order es up.1)
 
-pub are_again : (es : List Entry) → length es ≤ 32 → order.Ascends code_in es → AreEntries es
+pub are_again : (es : List Entry) → length es ≤ 32 → order.AscendsByCode code_in es → AreEntries es
 are_again es few up = record { few = few; ascends = out_order es up }
 
 pub placed_is : (e : Entry) (es : List Entry) → order.placed code_in e es ≡ with_entry e es

@@ -6,14 +6,14 @@ use Rattle.stream_table.specs.declared.code_order.Placement.{Placement}
 use Rattle.stream_table.specs.declared.code_order.Placement.TheVariants.{Added, Replaced, Full}
 
 -- each code is above this one
-abbrev pub Above : {A : Type 0} → (A → ℕ) → ℕ → List A → Type 0
-Above code c [] = ⊤
-Above code c (x ∷ xs) = (c < code x) × Above code c xs
+abbrev pub CodesAreAbove : {A : Type 0} → (A → ℕ) → ℕ → List A → Type 0
+CodesAreAbove code c [] = ⊤
+CodesAreAbove code c (x ∷ xs) = (c < code x) × CodesAreAbove code c xs
 
 -- each code is below those after it
-abbrev pub Ascends : {A : Type 0} → (A → ℕ) → List A → Type 0
-Ascends code [] = ⊤
-Ascends code (x ∷ xs) = Above code (code x) xs × Ascends code xs
+abbrev pub AscendsByCode : {A : Type 0} → (A → ℕ) → List A → Type 0
+AscendsByCode code [] = ⊤
+AscendsByCode code (x ∷ xs) = CodesAreAbove code (code x) xs × AscendsByCode code xs
 
 -- in its place by code, and instead of one of the same code
 abbrev pub placed : {A : Type 0} → (A → ℕ) → A → List A → List A
@@ -27,7 +27,7 @@ abbrev pub is_below : {A : Type 0} → (A → ℕ) → ℕ → A → Bool
 is_below code c x = nat_lt (code x) c
 
 -- the item at this place has this code
-pub record IsAt {A : Type 0} (code : A → ℕ) (xs : List A) (c n : ℕ) : Type 0 where
+pub record IsAtPlace {A : Type 0} (code : A → ℕ) (xs : List A) (c n : ℕ) : Type 0 where
   pub within : n < length xs
   pub item : A
   pub at : slice_get xs n ≡ Some item

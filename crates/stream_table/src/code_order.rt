@@ -2,7 +2,7 @@
 
 ghost use Rattle.std.specs.Prelude.{◌≡◌, ℕ, ◌≤◌, ◌<◌, IfOk, IfErr, length, if◌then◌else◌, slice_set};
 ghost use Rattle.std.specs.List.{prefix_len};
-ghost use Rattle.stream_table.specs.CodeOrder.{Ascends, IsAt, IsGap, is_below, placed, finds_room, put_answer};
+ghost use Rattle.stream_table.specs.CodeOrder.{AscendsByCode, IsAtPlace, IsGap, is_below, placed, finds_room, put_answer};
 
 use arrayvec::ArrayVec;
 
@@ -30,8 +30,8 @@ pub enum Placement {
 /// The place of the item with this code, counted from 0. Returns `Err` if and only if there is none, with the place at which it
 /// would be.
 pub fn search<T: Coded>(list: &[T], code: u16) -> Result<usize, usize>
-    requires { Ascends T.code_of list.now }
-    ensures found { IfOk result (IsAt T.code_of list.now code) }
+    requires { AscendsByCode T.code_of list.now }
+    ensures found { IfOk result (IsAtPlace T.code_of list.now code) }
     ensures missing { IfErr result (IsGap T.code_of list.now code) }
 {
     let place = place_of(list, code);
@@ -44,7 +44,7 @@ pub fn search<T: Coded>(list: &[T], code: u16) -> Result<usize, usize>
 
 // How many items have a code below this one.
 fn place_of<T: Coded>(list: &[T], code: u16) -> usize
-    requires { Ascends T.code_of list.now }
+    requires { AscendsByCode T.code_of list.now }
     ensures value { result ≡ prefix_len (is_below T.code_of code) list.now }
     ensures within { result ≤ length list.now }
 {
@@ -64,10 +64,10 @@ fn place_of<T: Coded>(list: &[T], code: u16) -> usize
 /// Puts an item in its place by code, instead of the one that has its code, if there is one. Returns `Full`, and nothing
 /// changes, if and only if there is none and the list is full.
 pub fn put<T: Coded, const N: usize>(list: &mut ArrayVec<T, N>, item: T) -> Placement
-    requires { Ascends T.code_of list.old.items }
+    requires { AscendsByCode T.code_of list.old.items }
     ensures answer { result ≡ put_answer T.code_of N list.old.items (T.code_of item) }
     ensures after { list.new.items ≡ (if finds_room T.code_of N list.old.items (T.code_of item) then placed T.code_of item list.old.items else list.old.items) }
-    ensures ascends { Ascends T.code_of list.new.items }
+    ensures ascends { AscendsByCode T.code_of list.new.items }
     ensures few { length list.new.items ≤ N }
 {
     match search(list.as_slice(), item.code()) {

@@ -1,7 +1,7 @@
 //! The entry of one stream in a host's table.
 
 ghost use Rattle.std.specs.Prelude.{◌≡◌, ◌-◌, ◌≤◌, ◌<◌, ◌^◌};
-ghost use Rattle.bus_rules.specs.Tables.{seen, missed, code_in, interval_in};
+ghost use Rattle.bus_rules.specs.Tables.{entry_after_data, missed, code_in, interval_in};
 ghost use Rattle.bus_rules.specs.Granting.{owed_to};
 ghost use Rattle.stream_table.specs.Entries.{granted_once};
 
@@ -94,7 +94,7 @@ impl Entry {
 
     // The entry once a data slot of its owner was heard.
     pub(crate) fn heard(&self) -> Entry
-        ensures { result ≡ seen self.now.code self.now }
+        ensures { result ≡ entry_after_data self.now.code self.now }
     {
         let mut e = *self;
         e.unheard = 0;

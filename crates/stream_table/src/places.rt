@@ -1,8 +1,8 @@
 //! The entries of a host's table, by owner code.
 
 ghost use Rattle.std.specs.Prelude.{◌≡◌, ◌-◌, ◌<◌, ◌^◌, IfOk, IfErr, IfSome, length, is_some, if◌then◌else◌, map, filter_map, slice_set};
-ghost use Rattle.stream_table.specs.CodeOrder.{IsAt, IsGap, put_answer};
-ghost use Rattle.bus_rules.specs.Tables.{AreEntries, Ascends, code_in, entry_of, with_entry, without, seen, missed};
+ghost use Rattle.stream_table.specs.CodeOrder.{IsAtPlace, IsGap, put_answer};
+ghost use Rattle.bus_rules.specs.Tables.{AreEntries, EntriesAscend, code_in, entry_of, with_entry, without, entry_after_data, missed};
 ghost use Rattle.stream_table.specs.Entries.{granted_once, misses_last, is_full_for};
 
 use crate::code_order::{self, Placement};
@@ -12,8 +12,8 @@ use arrayvec::ArrayVec;
 // The place of the entry with this code, or the place at which it would stand.
 #[tactic(auto, using(crate::proofs::InOrder::in_order))]
 pub(crate) fn search(entries: &[Entry], code: u16) -> Result<usize, usize>
-    requires { Ascends entries.now }
-    ensures found { IfOk result (IsAt code_in entries.now code) }
+    requires { EntriesAscend entries.now }
+    ensures found { IfOk result (IsAtPlace code_in entries.now code) }
     ensures missing { IfErr result (IsGap code_in entries.now code) }
 {
     code_order::search(entries, code)
@@ -56,7 +56,7 @@ pub(crate) fn remove(entries: &mut ArrayVec<Entry, 32>, code: u16) -> bool
 // The owner with this code was heard.
 pub(crate) fn hear(entries: &mut ArrayVec<Entry, 32>, code: u16)
     requires { AreEntries entries.old.items }
-    ensures after { entries.new.items ≡ map (seen code) entries.old.items }
+    ensures after { entries.new.items ≡ map (entry_after_data code) entries.old.items }
     ensures kept { AreEntries entries.new.items }
 {
     match search(entries.as_slice(), code) {

@@ -1,7 +1,7 @@
 //! Tests of plans with deadlines.
 
 ghost use Rattle.std.specs.Prelude.{IfSome};
-ghost use Rattle.deadline_plan.specs.Jobs.{IsStream};
+ghost use Rattle.deadline_plan.specs.Jobs.{IsDeadlineStream};
 
 use deadline_plan::{Admit, DeadlineStream, Deadlines};
 use lwb_base::{NodeId, Owner};
@@ -9,7 +9,7 @@ use std::test::Fail;
 
 // A stream of that node that has no job in the first frame.
 fn late_stream(node: u8) -> Option<DeadlineStream>
-    ensures { IfSome result IsStream }
+    ensures { IfSome result IsDeadlineStream }
 {
     let node = NodeId::new(node)?;
     Some(DeadlineStream {

@@ -14,18 +14,18 @@ use Rattle.bus_rules.specs.declared.delivery.Delivery.{Delivery}
 use Rattle.bus_rules.specs.declared.tune.Tune.{Tune}
 use Rattle.bus_rules.specs.declared.tune.Tune.TheVariants.{Scan, Hold, Host}
 use Rattle.bus_rules.specs.Cores.{Setup, frame_ended, begins_host}
-use Rattle.bus_rules.specs.Slots.{Message, ScheduleOf, DataOf, RequestOf, opened, part_of}
+use Rattle.bus_rules.specs.Slots.{Message, ScheduleOf, DataOf, RequestOf, opened_slot, part_of}
 use Rattle.bus_rules.specs.Tuning.{rank_of}
 use Rattle.node_core.specs.declared.stage.Stage.{Stage}
 use Rattle.node_core.specs.declared.stage.Stage.TheVariants.{Idle, Scanning, AwaitFrame, AwaitSlot, InWindow}
 use Rattle.test_nodes.specs.declared.call.Call.{Call}
 use Rattle.lwb_member.specs.Said.{message_of}
 use Rattle.node_core.specs.Nodes.{Node, NodeState, stopped_frame}
-use Rattle.node_core.specs.Rows.{Stepped, row, at_alarm, at_heard, at_sent, orders_for, first_sending}
+use Rattle.node_core.specs.Rows.{Stepped, row, at_alarm, at_heard, at_sent, orders_for, initiating_orders}
 use Rattle.node_core.specs.Rows.{relaying, scanner_hears, joins, sends, zero_for, reply_by}
 use Rattle.node_core.specs.Rows.{orders_by}
 use Rattle.test_nodes.specs.Calls.{after_call, after_calls, delivery_after, delivery_after_calls, orders_of, orders_of_all}
-use Rattle.node_core.specs.Standing.{Follows}
+use Rattle.node_core.specs.Standing.{GoesThroughRow}
 
 abbrev Few : Option Stepped → Type 0
 Few r = length (orders_by r) ≤ 4
@@ -35,7 +35,7 @@ few_for p (Scan r waited) f z = omega arith
 few_for p (Hold r due) f z = omega arith
 few_for p (Host r due) f z = omega arith
 
-few_opens : (r a : Order) (p : Numbers) (z j : ℕ) (m : Option Message) → length (r ∷ first_sending p z j m ++ a ∷ []) ≤ 4
+few_opens : (r a : Order) (p : Numbers) (z j : ℕ) (m : Option Message) → length (r ∷ initiating_orders p z j m ++ a ∷ []) ≤ 4
 few_opens r a p z j None = omega arith
 few_opens r a p z j (Some m) = omega arith
 
@@ -57,7 +57,7 @@ few_at_alarm s n Scanning =
 few_at_alarm s n AwaitFrame =
     few_for s.profile (frame_ended s n.frame n.core).tune (stopped_frame (n.frame + 1))
     (zero_for s.profile (frame_ended s n.frame n.core).tune (begins_host n.core.tune (frame_ended s n.frame n.core).tune) n.zero)
-few_at_alarm s n (AwaitSlot j) = few_opens (Listen (rank_of n.core.tune)) _ s.profile n.zero j (opened s n.frame (part_of n.core.plan j) n.core).message
+few_at_alarm s n (AwaitSlot j) = few_opens (Listen (rank_of n.core.tune)) _ s.profile n.zero j (opened_slot s n.frame (part_of n.core.plan j) n.core).message
 few_at_alarm s n (InWindow j w) = omega arith
 
 few_scanned : (s : Setup) (n : Node) (now : ℕ) (p : List ℕ) (m : Option Message) → Few (scanner_hears s n now p m)
@@ -89,12 +89,13 @@ few_orders s n now Alarm = few_at_alarm s n n.stage
 few_orders s n now (Heard p) = few_at_heard s n now p n.stage
 few_orders s n now Sent = few_at_sent n n.stage
 
-spent : (old new : NodeState) (before after : Told) (r : Option Stepped) → Follows old new before after r → after.room + length (orders_by r) ≡ before.room
+spent : (old new : NodeState) (before after : Told) (r : Option Stepped) → GoesThroughRow old new before after r
+    → after.room + length (orders_by r) ≡ before.room
 spent old new before after None is = is.1.spent
 spent old new before after (Some r) is = is.1.spent
 
 -- a step leaves the room but for four orders
-pub room_left : (s : Setup) (n : Node) (now : ℕ) (e : Event) (old new : NodeState) (before after : Told) → Follows old new before after (row s n now e)
+pub room_left : (s : Setup) (n : Node) (now : ℕ) (e : Event) (old new : NodeState) (before after : Told) → GoesThroughRow old new before after (row s n now e)
     → before.room ≤ after.room + 4
 room_left s n now e old new before after is =
     let few = few_orders s n now e in

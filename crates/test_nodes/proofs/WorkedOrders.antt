@@ -4,8 +4,8 @@ use Rattle.lwb_base.specs.Profile.{one}
 use Rattle.lwb_base.specs.declared.event.Event.TheVariants.{Boot, Alarm, Heard, Sent}
 use Rattle.lwb_base.specs.declared.order.Order.{Order}
 use Rattle.lwb_base.specs.declared.order.Order.TheVariants.{Listen, Off, SendAt, Alarm as AlarmAt}
-use Rattle.schedule_codec.specs.OwnerLists.{least}
-use Rattle.schedule_codec.specs.Packing.{digits, number}
+use Rattle.schedule_codec.specs.OwnerLists.{least_passing}
+use Rattle.schedule_codec.specs.Packing.{digits, packed_number}
 use Rattle.schedule_codec.specs.Reading.{schedule_of, asks_in}
 use Rattle.bus_rules.specs.declared.tune.Tune.TheVariants.{Hold}
 use Rattle.bus_rules.specs.Streams.{schedule_heard}
@@ -46,7 +46,7 @@ host_orders =
     ∷ []
 
 host_boots : orders_of_each host (rebooted 1) host_calls ≡ host_orders
-unfolding least digits number
+unfolding least_passing digits packed_number
 host_boots = refl
 
 -- a node with one packet joins the first round, requests, is acknowledged, and waits for frame 9
@@ -115,14 +115,14 @@ joining_orders =
     ∷ []
 
 joins : orders_of_each other (rebooted 1) joining_calls ≡ joining_orders
-unfolding least digits number schedule_of asks_in schedule_heard
+unfolding least_passing digits packed_number schedule_of asks_in schedule_heard
 joins = refl
 
 abbrev joined : Node
 joined = after_calls other (rebooted 1) joining_calls
 
 holds_nine : joined.core.tune ≡ Hold 0 9
-unfolding least digits number schedule_of asks_in schedule_heard
+unfolding least_passing digits packed_number schedule_of asks_in schedule_heard
 holds_nine = refl
 
 -- the whole round of frame 9 at this holder: it sends its packet in slot 1, and has no other
@@ -185,7 +185,7 @@ round_orders =
     ∷ []
 
 holds_a_round : orders_of_each other joined round_calls ≡ round_orders
-unfolding least digits number schedule_of asks_in schedule_heard
+unfolding least_passing digits packed_number schedule_of asks_in schedule_heard
 holds_a_round = refl
 
 -- an own sending that ends without having been ordered fits no row
@@ -228,7 +228,7 @@ late_orders =
     ∷ []
 
 joins_late : orders_of_each other (rebooted 1) late_calls ≡ late_orders
-unfolding least digits number schedule_of asks_in schedule_heard
+unfolding least_passing digits packed_number schedule_of asks_in schedule_heard
 joins_late = refl
 
 -- a schedule of a rank that is not scanned fits no row, nor does a packet that is no schedule; in a window the first is
@@ -239,7 +239,7 @@ opening_of_one = 0x01 ∷ 0x00 ∷ 0x00 ∷ 0x10 ∷ 0x01 ∷ 0x00 ∷ 0x00 ∷ 
 not_scanned : orders_of_each other (rebooted 1)
     (Step 0 Boot ∷ Step 1100864 (Heard opening_of_one) ∷ Step 1200864 (Heard (0x03 ∷ 0x01 ∷ 0x01 ∷ 0x02 ∷ 0x01 ∷ 0x00 ∷ 0x04 ∷ [])) ∷ [])
     ≡ (Listen 0 ∷ AlarmAt 204800000 ∷ []) ∷ [] ∷ [] ∷ []
-unfolding least digits number schedule_of asks_in schedule_heard
+unfolding least_passing digits packed_number schedule_of asks_in schedule_heard
 not_scanned = refl
 
 ignored : orders_of_each other joined
@@ -249,5 +249,5 @@ ignored : orders_of_each other joined
     ∷ []
     ∷ (SendAt 2368223744 (0x01 ∷ 0x00 ∷ 0x03 ∷ 0x00 ∷ 0x01 ∷ 0x02 ∷ 0x01 ∷ 0x00 ∷ 0x04 ∷ 0x04 ∷ 0x00 ∷ 0x80 ∷ []) ∷ [])
     ∷ []
-unfolding least digits number schedule_of asks_in schedule_heard
+unfolding least_passing digits packed_number schedule_of asks_in schedule_heard
 ignored = refl

@@ -3,7 +3,7 @@ use Rattle.std.specs.Prelude.{◌<◌, ◌≤◌, ◌^◌, List, [], ◌∷◌, 
 use Rattle.std.specs.declared.option.Option.{Option}
 use Rattle.lwb_base.specs.declared.order.Order.{Order}
 use Rattle.bus_rules.specs.declared.delivery.Delivery.{Delivery}
-use Rattle.bus_rules.specs.Streams.{declared, left, put}
+use Rattle.bus_rules.specs.Streams.{declared, streams_after_leaving, put}
 use Rattle.bus_rules.specs.Cores.{Setup}
 use Rattle.node_core.specs.Nodes.{Node, rebooted, with_streams}
 use Rattle.node_core.specs.Rows.{Stepped, row, node_after, orders_by}
@@ -14,17 +14,17 @@ use Rattle.lwb_member.specs.Members.{IsBoot}
 abbrev pub after_call : Setup → Node → Call → Node
 after_call s n (Step now e) = node_after n (row s n now e)
 after_call s n (Declare i interval) = with_streams n (declared i interval n.core.streams)
-after_call s n (Leave i) = with_streams n (left i n.core.streams)
+after_call s n (Leave i) = with_streams n (streams_after_leaving i n.core.streams)
 after_call s n (Put i payload) = with_streams n (put i payload n.core.streams)
 after_call s n (Reboot boot) = rebooted boot
 
 -- the delivery after the row that fits. Where none fits, the one before stays
-abbrev pub delivery_by : Option Delivery → Option Stepped → Option Delivery
-delivery_by delivery None = delivery
-delivery_by delivery (Some r) = r.delivery
+abbrev pub delivery_after_row : Option Delivery → Option Stepped → Option Delivery
+delivery_after_row delivery None = delivery
+delivery_after_row delivery (Some r) = r.delivery
 
 abbrev pub delivery_after : Setup → Node → Option Delivery → Call → Option Delivery
-delivery_after s n delivery (Step now e) = delivery_by delivery (row s n now e)
+delivery_after s n delivery (Step now e) = delivery_after_row delivery (row s n now e)
 delivery_after s n delivery (Declare i interval) = delivery
 delivery_after s n delivery (Leave i) = delivery
 delivery_after s n delivery (Put i payload) = delivery
@@ -58,9 +58,9 @@ orders_of_all s n [] = []
 orders_of_all s n (call ∷ calls) = orders_of s n call ++ orders_of_all s (after_call s n call) calls
 
 -- what a call asks for: readings are below 2^46, there are four streams, and payloads are those of the profile
-abbrev pub IsAllowed : Setup → Call → Type 0
-IsAllowed s (Step now e) = now < 2 ^ 46
-IsAllowed s (Declare i interval) = (i ≤ 3) × (1 ≤ interval) × (interval ≤ 120)
-IsAllowed s (Leave i) = i ≤ 3
-IsAllowed s (Put i payload) = (i ≤ 3) × (length payload ≤ s.profile.payload_max)
-IsAllowed s (Reboot boot) = IsBoot boot
+abbrev pub IsAllowedCall : Setup → Call → Type 0
+IsAllowedCall s (Step now e) = now < 2 ^ 46
+IsAllowedCall s (Declare i interval) = (i ≤ 3) × (1 ≤ interval) × (interval ≤ 120)
+IsAllowedCall s (Leave i) = i ≤ 3
+IsAllowedCall s (Put i payload) = (i ≤ 3) × (length payload ≤ s.profile.payload_max)
+IsAllowedCall s (Reboot boot) = IsBoot boot

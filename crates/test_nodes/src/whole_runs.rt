@@ -1,7 +1,7 @@
 //! Whole runs of a node: all that happens to it, one after another.
 
 ghost use Rattle.std.specs.Prelude.{◌≡◌, ◌≤◌, ◌+◌, ◌*◌, ◌++◌, All, length};
-ghost use Rattle.test_nodes.specs.Calls.{IsAllowed, after_call, after_calls, delivery_after, delivery_after_calls, orders_of, orders_of_all};
+ghost use Rattle.test_nodes.specs.Calls.{IsAllowedCall, after_call, after_calls, delivery_after, delivery_after_calls, orders_of, orders_of_all};
 
 use crate::call::{Call, Reading, copy_of_event};
 use lwb_base::Radio;
@@ -10,7 +10,7 @@ use node_core::Node;
 /// Takes a node through all of this, one after another. It is then where the rows of the node table and the calls of the
 /// script leave it, and the radio, which has room for 4 orders a call, was given their orders.
 pub fn follow<R: Radio>(node: &mut Node, calls: &[Call], radio: &mut R)
-    requires allowed { All (IsAllowed node.old.setup) calls.now }
+    requires allowed { All (IsAllowedCall node.old.setup) calls.now }
     requires room { 4 * length calls.now ≤ (R.told radio.old).room }
     ensures node { node.new.node ≡ after_calls node.old.setup node.old.node calls.now }
     ensures orders { (R.told radio.new).given ≡ (R.told radio.old).given ++ orders_of_all node.old.setup node.old.node calls.now }
@@ -24,7 +24,7 @@ pub fn follow<R: Radio>(node: &mut Node, calls: &[Call], radio: &mut R)
 
 #[tactic(auto, using(crate::proofs::LeftDeliveries::delivery_follows))]
 fn undergo<R: Radio>(node: &mut Node, call: &Call, radio: &mut R)
-    requires allowed { IsAllowed node.old.setup call.now }
+    requires allowed { IsAllowedCall node.old.setup call.now }
     requires room { 4 ≤ (R.told radio.old).room }
     ensures node { node.new.node ≡ after_call node.old.setup node.old.node call.now }
     ensures orders { (R.told radio.new).given ≡ (R.told radio.old).given ++ orders_of node.old.setup node.old.node call.now }

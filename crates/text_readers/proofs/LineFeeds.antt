@@ -10,7 +10,7 @@ use Rattle.std.proofs.lemmas.Str.{IsUtf8-from_is_utf8, is_utf8-from_IsUtf8}
 use Rattle.std.specs.List.{slice_split, position_or_len, before_first, after_first}
 use Rattle.std.specs.Str.{IsUtf8, is_utf8}
 use Rattle.std.specs.Str.Lines.{lines, lines_of_parts, strip_carriage_return}
-use Rattle.text_readers.specs.LineEnds.{EndLines, IsCut}
+use Rattle.text_readers.specs.LineEnds.{EndLines, IsLineAndRest}
 
 abbrev pub is_feed : ℕ → Bool
 is_feed b = b == 10
@@ -45,7 +45,7 @@ feed_ends front none more =
 
 -- the bytes are cut behind the first line feed
 pub cut_at_feed : (bytes : List ℕ) (end : ℕ) → Some end ≡ position is_feed bytes
-    → IsCut bytes (strip_carriage_return (take end bytes)) (drop (end + 1) bytes)
+    → IsLineAndRest bytes (strip_carriage_return (take end bytes)) (drop (end + 1) bytes)
 cut_at_feed bytes end is =
     let at = cond_some (nat_lt (position_or_len is_feed bytes) (length bytes)) (position_or_len is_feed bytes) end (sym is) in
     let below : position_or_len is_feed bytes < length bytes = ltb-true _ _ at.0 in
@@ -56,13 +56,13 @@ cut_at_feed bytes end is =
     let whole : bytes ≡ front ++ after_first is_feed bytes =
     split_at_first is_feed bytes 0 below ∙ ap (λ (b : ℕ). before_first is_feed bytes ++ b ∷ after_first is_feed bytes) feed
     ∙ sym (append_assoc (before_first is_feed bytes) (10 ∷ []) (after_first is_feed bytes)) in
-    let cut : IsCut bytes (strip_carriage_return (before_first is_feed bytes)) (after_first is_feed bytes) = record {
+    let cut : IsLineAndRest bytes (strip_carriage_return (before_first is_feed bytes)) (after_first is_feed bytes) = record {
       front = front;
       whole = whole;
       is = at_feed (before_first is_feed bytes) [] none;
       ends = inl (feed_ends (before_first is_feed bytes) none);
     } in
-    subst (λ (n : ℕ). IsCut bytes (strip_carriage_return (take n bytes)) (drop (n + 1) bytes)) at.1 cut
+    subst (λ (n : ℕ). IsLineAndRest bytes (strip_carriage_return (take n bytes)) (drop (n + 1) bytes)) at.1 cut
 
 none_is : (n : ℕ) (b : Bool) → None ≡ cond b (Some n) None → b ≡ false
 none_is n true is = cc
@@ -80,7 +80,7 @@ line_is_last bytes some is =
     ap lines_of_parts (slice_split_none is_feed bytes passes) ∙ one_part bytes some
 
 -- without a line feed nothing ends it
-pub cut_at_end : (bytes : List ℕ) → 0 < length bytes → None ≡ position is_feed bytes → IsCut bytes bytes []
+pub cut_at_end : (bytes : List ℕ) → 0 < length bytes → None ≡ position is_feed bytes → IsLineAndRest bytes bytes []
 cut_at_end bytes some is = record {
   front = bytes;
   whole = sym (append-nil bytes);

@@ -3,7 +3,7 @@ use Rattle.std.proofs.Common.{◌≡◌, ℕ, ◌<◌, ◌≤◌, List, [], ◌�
 use Rattle.std.proofs.Common.{Result, Ok, Err, Bor, length, map, drop, get_or, refl, sym, arith}
 use Rattle.std.specs.List.{list_all}
 use Rattle.text_readers.specs.Faults.{spelled, ◌>>=◌}
-use Rattle.text_readers.specs.Words.{counted, is_number, number, number_at}
+use Rattle.text_readers.specs.Words.{line_of_words, is_number, number, number_at}
 use Rattle.text_readers.specs.declared.fault.FaultKind.{FaultKind}
 use Rattle.text_readers.specs.declared.fault.FaultKind.TheVariants.{BadNumber}
 
@@ -31,7 +31,7 @@ one_more false others m x next is = refl
 
 pub one_read : (vs : List (Bor (List ℕ))) (z : Bor (List ℕ)) (p : Result ℕ FaultKind) → 2 ≤ length vs → length vs < 3
     → p ≡ read (get_or vs 1 z).now
-    → spelled (counted 2 (bytes_of vs) (number_at (bytes_of vs) 1)) (λ _. are_numbers vs) ≡ p
+    → spelled (line_of_words 2 (bytes_of vs) (number_at (bytes_of vs) 1)) (λ _. are_numbers vs) ≡ p
 one_read (h ∷ u ∷ []) z p least below is_p = rw is_p (cond_same (is_number u.now) (number u.now))
 one_read [] z p least below is_p = absurd (omega (arith, least))
 one_read (h ∷ []) z p least below is_p = absurd (omega (arith, least))
@@ -39,7 +39,7 @@ one_read (h ∷ u ∷ m ∷ more) z p least below is_p = absurd (omega (arith, b
 
 pub two_read : (vs : List (Bor (List ℕ))) (z : Bor (List ℕ)) (p q : Result ℕ FaultKind) → 3 ≤ length vs → length vs < 4
     → p ≡ read (get_or vs 1 z).now → q ≡ read (get_or vs 2 z).now
-    → spelled {L = ℕ × ℕ} (counted 3 (bytes_of vs) (number_at (bytes_of vs) 1, number_at (bytes_of vs) 2)) (λ _. are_numbers vs) ≡
+    → spelled {L = ℕ × ℕ} (line_of_words 3 (bytes_of vs) (number_at (bytes_of vs) 1, number_at (bytes_of vs) 2)) (λ _. are_numbers vs) ≡
     (p >>= (λ a. (q >>= (λ b. Ok (a, b)))))
 two_read (h ∷ u ∷ v ∷ []) z p q least below is_p is_q =
     rw (is_p, is_q)
@@ -52,7 +52,7 @@ two_read (h ∷ u ∷ v ∷ m ∷ more) z p q least below is_p is_q = absurd (om
 
 pub three_read : (vs : List (Bor (List ℕ))) (z : Bor (List ℕ)) (p q r : Result ℕ FaultKind) → 4 ≤ length vs → length vs < 5
     → p ≡ read (get_or vs 1 z).now → q ≡ read (get_or vs 2 z).now → r ≡ read (get_or vs 3 z).now
-    → spelled {L = ℕ × ℕ × ℕ} (counted 4 (bytes_of vs) (number_at (bytes_of vs) 1, number_at (bytes_of vs) 2, number_at (bytes_of vs) 3))
+    → spelled {L = ℕ × ℕ × ℕ} (line_of_words 4 (bytes_of vs) (number_at (bytes_of vs) 1, number_at (bytes_of vs) 2, number_at (bytes_of vs) 3))
     (λ _. are_numbers vs) ≡ (p >>= (λ a. (q >>= (λ b. (r >>= (λ c. Ok (a, b, c)))))))
 three_read (h ∷ u ∷ v ∷ w ∷ []) z p q r least below is_p is_q is_r =
     rw (is_p, is_q, is_r)
@@ -71,7 +71,7 @@ three_read (h ∷ u ∷ v ∷ w ∷ m ∷ more) z p q r least below is_p is_q is
 pub four_read : (vs : List (Bor (List ℕ))) (z : Bor (List ℕ)) (p q r s : Result ℕ FaultKind) → 5 ≤ length vs → length vs < 6
     → p ≡ read (get_or vs 1 z).now → q ≡ read (get_or vs 2 z).now → r ≡ read (get_or vs 3 z).now → s ≡ read (get_or vs 4 z).now
     → spelled {L = ℕ × ℕ × ℕ × ℕ}
-    (counted 5 (bytes_of vs) (number_at (bytes_of vs) 1, number_at (bytes_of vs) 2, number_at (bytes_of vs) 3, number_at (bytes_of vs) 4))
+    (line_of_words 5 (bytes_of vs) (number_at (bytes_of vs) 1, number_at (bytes_of vs) 2, number_at (bytes_of vs) 3, number_at (bytes_of vs) 4))
     (λ _. are_numbers vs) ≡ (p >>= (λ a. (q >>= (λ b. (r >>= (λ c. (s >>= (λ d. Ok (a, b, c, d)))))))))
 four_read (h ∷ u ∷ v ∷ w ∷ x ∷ []) z p q r s least below is_p is_q is_r is_s =
     rw (is_p, is_q, is_r, is_s)
@@ -93,7 +93,7 @@ four_read (h ∷ u ∷ v ∷ w ∷ x ∷ m ∷ more) z p q r s least below is_p 
 pub five_read : (vs : List (Bor (List ℕ))) (z : Bor (List ℕ)) (p q r s t : Result ℕ FaultKind) → 6 ≤ length vs → length vs < 7
     → p ≡ read (get_or vs 1 z).now → q ≡ read (get_or vs 2 z).now → r ≡ read (get_or vs 3 z).now → s ≡ read (get_or vs 4 z).now → t ≡ read (get_or vs 5 z).now
     → spelled {L = ℕ × ℕ × ℕ × ℕ × ℕ}
-    (counted 6 (bytes_of vs) (
+    (line_of_words 6 (bytes_of vs) (
       number_at (bytes_of vs) 1,
       number_at (bytes_of vs) 2,
       number_at (bytes_of vs) 3,

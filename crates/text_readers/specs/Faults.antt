@@ -32,17 +32,17 @@ abbrev pub ◌>>=◌ : {A B E : Type 0} → Result A E → (A → Result B E) �
 (Err e) >>= f = Err e
 
 -- behind these lines, of which the first is line n, or the first fault: `after` says what is behind one line
-abbrev pub after_lines : {D : Type 0} → (D → List ℕ → Result D FaultKind) → ℕ → D → List (List ℕ) → Result D (ℕ × FaultKind)
-after_lines after n d [] = Ok d
-after_lines after n d (line ∷ more) = do
+abbrev pub draft_after_lines : {D : Type 0} → (D → List ℕ → Result D FaultKind) → ℕ → D → List (List ℕ) → Result D (ℕ × FaultKind)
+draft_after_lines after n d [] = Ok d
+draft_after_lines after n d (line ∷ more) = do
   e ← in_line n (after d line)
-  after_lines after (n + 1) e more
+  draft_after_lines after (n + 1) e more
 
 -- what was answered is what the definition says, unless memory ran out
-abbrev pub Gives : {A : Type 0} → Result A ParseFault → Result A (ℕ × FaultKind) → Type 0
-Gives (Ok x) said = said ≡ Ok x
-Gives (Err Memory) said = Unit {0}
-Gives (Err (Line n k)) said = said ≡ Err (n, k)
+abbrev pub IsAsDefined : {A : Type 0} → Result A ParseFault → Result A (ℕ × FaultKind) → Type 0
+IsAsDefined (Ok x) said = said ≡ Ok x
+IsAsDefined (Err Memory) said = Unit {0}
+IsAsDefined (Err (Line n k)) said = said ≡ Err (n, k)
 
 -- what is refused is what this fault refuses, unless memory ran out
 abbrev pub Refuses : {A : Type 0} → Result A Refusal → Option FaultKind → Type 0

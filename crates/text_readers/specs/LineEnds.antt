@@ -7,7 +7,7 @@ abbrev pub EndLines : List ℕ → Type 0
 EndLines front = (more : List ℕ) → lines (front ++ more) ≡ lines front ++ lines more
 
 -- the bytes are those of one line and the rest, which is empty where nothing ends the line
-pub record IsCut (bytes line rest : List ℕ) : Type 0 where
+pub record IsLineAndRest (bytes line rest : List ℕ) : Type 0 where
   pub front : List ℕ
   pub whole : bytes ≡ front ++ rest
   pub is : lines front ≡ line ∷ []

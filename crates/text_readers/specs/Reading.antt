@@ -10,8 +10,8 @@ use Rattle.text_readers.specs.declared.fault.ParseFault.{ParseFault}
 use Rattle.text_readers.specs.declared.fault.ParseFault.TheVariants.{Line, Memory}
 
 -- behind a line, or its fault
-unfoldable pub after_line : {D : Type 0} → (D → List (List ℕ) → Result D FaultKind) → D → List ℕ → Result D FaultKind
-after_line after d line =
+unfoldable pub draft_after_line : {D : Type 0} → (D → List (List ℕ) → Result D FaultKind) → D → List ℕ → Result D FaultKind
+draft_after_line after d line =
     let ws = words line in
     if is_skipped ws then Ok d else if is_utf8 line then after d ws else Err NotUtf8
 

@@ -46,5 +46,5 @@ abbrev pub number_at : List (List ℕ) → ℕ → ℕ
 number_at ws i = number (word ws i)
 
 -- the line, if it has so many words
-abbrev pub counted : {L : Type 0} → ℕ → List (List ℕ) → L → Option L
-counted n ws l = if length ws == n then Some l else None
+abbrev pub line_of_words : {L : Type 0} → ℕ → List (List ℕ) → L → Option L
+line_of_words n ws l = if length ws == n then Some l else None

@@ -5,7 +5,7 @@ ghost use Rattle.std.specs.Char.{is_ascii_digit};
 ghost use Rattle.std.specs.List.{list_all};
 ghost use Rattle.std.specs.Str.Parse.{digits_value};
 ghost use Rattle.text_readers.specs.Faults.{spelled};
-ghost use Rattle.text_readers.specs.Words.{number_at, counted, is_number as is_number_of, number as number_of};
+ghost use Rattle.text_readers.specs.Words.{number_at, line_of_words, is_number as is_number_of, number as number_of};
 ghost use Rattle.text_readers.specs.Words.{has_minus as has_minus_of, magnitude as magnitude_of, is_signed as is_signed_of};
 ghost use Rattle.text_readers.specs.declared.fault.FaultKind.TheVariants.{BadNumber};
 
@@ -74,7 +74,7 @@ pub fn signed_number(word: &[u8]) -> Result<(bool, u64), FaultKind>
 /// The number after the first word. `BadWord` unless it is the only word there, and else `BadNumber` where it is misspelled.
 pub fn one_number(words: &[&[u8]]) -> Result<u64, FaultKind>
     ensures { let ws = map (λ w. w.now) words.now in
-        result ≡ spelled (counted 2 ws (number_at ws 1)) (λ _. list_all is_number_of (drop 1 ws)) }
+        result ≡ spelled (line_of_words 2 ws (number_at ws 1)) (λ _. list_all is_number_of (drop 1 ws)) }
 {
     let [_, a] = words else {
         return Err(FaultKind::BadWord);
@@ -85,7 +85,7 @@ pub fn one_number(words: &[&[u8]]) -> Result<u64, FaultKind>
 /// The two numbers after the first word, with the faults of `one_number`.
 pub fn two_numbers(words: &[&[u8]]) -> Result<(u64, u64), FaultKind>
     ensures { let ws = map (λ w. w.now) words.now in
-        result ≡ spelled (counted 3 ws (number_at ws 1, number_at ws 2)) (λ _. list_all is_number_of (drop 1 ws)) }
+        result ≡ spelled (line_of_words 3 ws (number_at ws 1, number_at ws 2)) (λ _. list_all is_number_of (drop 1 ws)) }
 {
     let [_, a, b] = words else {
         return Err(FaultKind::BadWord);
@@ -96,7 +96,7 @@ pub fn two_numbers(words: &[&[u8]]) -> Result<(u64, u64), FaultKind>
 /// The three numbers after the first word, with the faults of `one_number`.
 pub fn three_numbers(words: &[&[u8]]) -> Result<(u64, u64, u64), FaultKind>
     ensures { let ws = map (λ w. w.now) words.now in
-        result ≡ spelled (counted 4 ws (number_at ws 1, number_at ws 2, number_at ws 3)) (λ _. list_all is_number_of (drop 1 ws)) }
+        result ≡ spelled (line_of_words 4 ws (number_at ws 1, number_at ws 2, number_at ws 3)) (λ _. list_all is_number_of (drop 1 ws)) }
 {
     let [_, a, b, c] = words else {
         return Err(FaultKind::BadWord);
@@ -107,7 +107,7 @@ pub fn three_numbers(words: &[&[u8]]) -> Result<(u64, u64, u64), FaultKind>
 /// The four numbers after the first word, with the faults of `one_number`.
 pub fn four_numbers(words: &[&[u8]]) -> Result<(u64, u64, u64, u64), FaultKind>
     ensures { let ws = map (λ w. w.now) words.now in
-        result ≡ spelled (counted 5 ws (number_at ws 1, number_at ws 2, number_at ws 3, number_at ws 4)) (λ _. list_all is_number_of (drop 1 ws)) }
+        result ≡ spelled (line_of_words 5 ws (number_at ws 1, number_at ws 2, number_at ws 3, number_at ws 4)) (λ _. list_all is_number_of (drop 1 ws)) }
 {
     let [_, a, b, c, d] = words else {
         return Err(FaultKind::BadWord);
@@ -118,7 +118,7 @@ pub fn four_numbers(words: &[&[u8]]) -> Result<(u64, u64, u64, u64), FaultKind>
 /// The five numbers after the first word, with the faults of `one_number`.
 pub fn five_numbers(words: &[&[u8]]) -> Result<(u64, u64, u64, u64, u64), FaultKind>
     ensures { let ws = map (λ w. w.now) words.now in
-        result ≡ spelled (counted 6 ws (number_at ws 1, number_at ws 2, number_at ws 3, number_at ws 4, number_at ws 5))
+        result ≡ spelled (line_of_words 6 ws (number_at ws 1, number_at ws 2, number_at ws 3, number_at ws 4, number_at ws 5))
         (λ _. list_all is_number_of (drop 1 ws)) }
 {
     let [_, a, b, c, d, e] = words else {

@@ -2,8 +2,8 @@
 
 ghost use Rattle.std.specs.Prelude.{◌≡◌, ◌<◌, ◌≤◌, ◌^◌, ℕ, IfOk, length};
 ghost use Rattle.std.specs.Str.Lines.{lines};
-ghost use Rattle.text_readers.specs.Faults.{after_lines};
-ghost use Rattle.text_readers.specs.Reading.{after_line, Reads, Drafts};
+ghost use Rattle.text_readers.specs.Faults.{draft_after_lines};
+ghost use Rattle.text_readers.specs.Reading.{draft_after_line, Reads, Drafts};
 
 use crate::draft::Draft;
 use crate::fault::{Refusal, refuse_unless};
@@ -15,7 +15,7 @@ use std::alloc::Global;
 /// `Line` names the first line that is rejected and why.
 pub fn read_lines<D: Draft>(alloc: Global, draft: D, bytes: &[u8]) -> Result<(D, u32), ParseFault>
     requires { length bytes.now < 2 ^ 31 }
-    ensures draft { Drafts result (after_lines (after_line D.after) 1 draft (lines bytes.now)) }
+    ensures draft { Drafts result (draft_after_lines (draft_after_line D.after) 1 draft (lines bytes.now)) }
     ensures count { IfOk result (λ d. (d.1 ≡ length (lines bytes.now)) × (d.1 ≤ length bytes.now)) }
 {
     let mut draft = draft;
@@ -34,9 +34,9 @@ pub fn read_lines<D: Draft>(alloc: Global, draft: D, bytes: &[u8]) -> Result<(D,
 }
 
 // Goes on by one line, unless it is refused.
-#[tactic(auto, unfolding(crate::specs::Reading::after_line))]
+#[tactic(auto, unfolding(crate::specs::Reading::draft_after_line))]
 fn read_line<D: Draft>(alloc: Global, draft: &mut D, line: &[u8]) -> Result<(), Refusal>
-    ensures { Reads result draft.new (after_line D.after draft.old line.now) }
+    ensures { Reads result draft.new (draft_after_line D.after draft.old line.now) }
 {
     let words = split_words(alloc, line)?;
     if is_skipped(&words) {

@@ -3,7 +3,7 @@
 ghost use Rattle.std.specs.Prelude.{◌≡◌, ◌<◌, ◌==◌, ℕ, ◌∷◌, IfOk, position, length, map};
 ghost use Rattle.std.specs.Str.{bytes_eq, is_utf8 as is_utf8_of};
 ghost use Rattle.std.specs.Str.Lines.{lines, strip_carriage_return};
-ghost use Rattle.text_readers.specs.LineEnds.{IsCut};
+ghost use Rattle.text_readers.specs.LineEnds.{IsLineAndRest};
 ghost use Rattle.text_readers.specs.Words.{is_blank as is_blank_of, words as words_of, word as word_of, is_skipped as is_skipped_of};
 
 use lwb_base::Memory;
@@ -13,7 +13,7 @@ use std::alloc::Global;
 pub fn first_line(bytes: &[u8]) -> (&[u8], &[u8])
     requires { 0 < length bytes.now }
     ensures cut { lines bytes.now ≡ result.0.now ∷ lines result.1.now }
-    ensures front { IsCut bytes.now result.0.now result.1.now }
+    ensures front { IsLineAndRest bytes.now result.0.now result.1.now }
     ensures shorter { length result.1.now < length bytes.now }
 {
     match line_feed(bytes) {

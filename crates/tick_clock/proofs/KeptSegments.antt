@@ -11,7 +11,7 @@ use Rattle.std.proofs.lemmas.Bool.{ltb-false, leb-false}
 use Rattle.tick_clock.specs.declared.segment.Segment.{Segment}
 use Rattle.tick_clock.specs.Rates.{is_wild, is_late, wild_at, unordered_at}
 use Rattle.tick_clock.specs.RatesLaw.{pace_range}
-use Rattle.tick_clock.specs.Segments.{entry_of, pace_of, counted, first_segment, Follows, AreKept, last_of}
+use Rattle.tick_clock.specs.Segments.{rate_entry_of, pace_of, count_until, first_segment, Follows, AreSegmentsAfter, last_segment}
 
 -- the entries are those of a clock, and none starts before tick low
 abbrev pub InOrder : ℕ → List (ℕ × ℤ) → Type 0
@@ -61,22 +61,24 @@ pub record IsSmall (s : Segment) : Type 0 where
 
 -- the next segment follows
 pub next_follows : (r s : Segment) → IsSmall r → r.start ≤ s.start → s.start < 2 ^ 47 → unsigned_abs s.ppm ≤ 20
-    → s.count ≡ counted r s.start → Follows r s × IsSmall s
+    → s.count ≡ count_until r s.start → Follows r s × IsSmall s
 next_follows r s small order start rate is =
     let most : pace_of r.ppm * (s.start - r.start) ≤ 1000020 * (s.start - r.start) = mul-le-mul_right (s.start - r.start) (pace_range r.ppm small.rate).1 in
     ((order, start, rate, omega arith, omega arith), record { start = start; rate = rate; count = omega (arith, most, small.count) })
 
-pub kept_more : (r : Segment) (ss : List Segment) (s : Segment) → AreKept r ss → Follows (last_of r ss (length ss)) s → AreKept r (ss ++ s ∷ [])
+pub kept_more : (r : Segment) (ss : List Segment) (s : Segment) → AreSegmentsAfter r ss → Follows (last_segment r ss (length ss)) s
+    → AreSegmentsAfter r (ss ++ s ∷ [])
 kept_more r [] s kept follows = (follows, tt)
 kept_more r (x ∷ xs) s kept follows = (kept.0, kept_more x xs s kept.1 follows)
 
-pub last_more : (r : Segment) (ss : List Segment) (s : Segment) → last_of r (ss ++ s ∷ []) (length (ss ++ s ∷ [])) ≡ s
+pub last_more : (r : Segment) (ss : List Segment) (s : Segment) → last_segment r (ss ++ s ∷ []) (length (ss ++ s ∷ [])) ≡ s
 last_more r [] s = refl
 last_more r (x ∷ xs) s = last_more x xs s
 
 -- one more segment, for the next entry of the rates
-module _ (ss : List Segment) (last : Segment) (x : ℕ × ℤ) (rest : List (ℕ × ℤ)) (z : ℤ) (count : ℕ) (same : z ≡ x.1) (is : count ≡ counted last x.0)
-    (kept : AreKept first_segment ss) (at : last ≡ last_of first_segment ss (length ss)) (small : IsSmall last) (todo : InOrder last.start (x ∷ rest)) where
+module _ (ss : List Segment) (last : Segment) (x : ℕ × ℤ) (rest : List (ℕ × ℤ)) (z : ℤ) (count : ℕ) (same : z ≡ x.1) (is : count ≡ count_until last x.0)
+    (kept : AreSegmentsAfter first_segment ss) (at : last ≡ last_segment first_segment ss (length ss)) (small : IsSmall last)
+        (todo : InOrder last.start (x ∷ rest)) where
   abbrev s : Segment
   s = record { start = x.0; ppm = z; count = count }
 
@@ -86,14 +88,15 @@ module _ (ss : List Segment) (last : Segment) (x : ℕ × ℤ) (rest : List (ℕ
   follows : Follows last s × IsSmall s
   follows = next_follows last s small todo.0 todo.1 tame is
 
-  pub step_kept : AreKept first_segment (ss ++ s ∷ [])
+  pub step_kept : AreSegmentsAfter first_segment (ss ++ s ∷ [])
   step_kept = kept_more first_segment ss s kept (subst (λ (r : Segment). Follows r s) at follows.0)
 
-  pub step_last : s ≡ last_of first_segment (ss ++ s ∷ []) (length (ss ++ s ∷ []))
+  pub step_last : s ≡ last_segment first_segment (ss ++ s ∷ []) (length (ss ++ s ∷ []))
   step_last = sym (last_more first_segment ss s)
 
   pub step_small : IsSmall s
   step_small = follows.1
 
-  pub step_entries : (done : List (ℕ × ℤ)) → map entry_of ss ≡ done → map entry_of (ss ++ s ∷ []) ≡ done ++ x ∷ []
-  step_entries done is = map-append entry_of ss (s ∷ []) ∙ ap (λ (l : List (ℕ × ℤ)). l ++ entry_of s ∷ []) is ∙ ap (λ (w : ℤ). done ++ (x.0, w) ∷ []) same
+  pub step_entries : (done : List (ℕ × ℤ)) → map rate_entry_of ss ≡ done → map rate_entry_of (ss ++ s ∷ []) ≡ done ++ x ∷ []
+  step_entries done is =
+      map-append rate_entry_of ss (s ∷ []) ∙ ap (λ (l : List (ℕ × ℤ)). l ++ rate_entry_of s ∷ []) is ∙ ap (λ (w : ℤ). done ++ (x.0, w) ∷ []) same

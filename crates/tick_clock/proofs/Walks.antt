@@ -15,7 +15,8 @@ use mir.Syntax.{w8}
 use Rattle.tick_clock.specs.declared.segment.Segment.{Segment}
 use Rattle.tick_clock.specs.Rates.{rate_from, rate_at, shifted}
 use Rattle.tick_clock.specs.RatesLaw.{count_before, AreTame, count_range}
-use Rattle.tick_clock.specs.Segments.{has_begun, counts_less, Splits, IsLast, entry_of, pace_of, counted, first_segment, Follows, AreKept, last_of}
+use Rattle.tick_clock.specs.Segments.{has_begun, counts_less, Splits, IsLast, rate_entry_of, pace_of, count_until, first_segment, Follows, AreSegmentsAfter}
+use Rattle.tick_clock.specs.Segments.{last_segment}
 use Rattle.tick_clock.specs.KeptLaw.{tame_of}
 
 pub splits_from : (passes : Segment → Bool) (ss : List Segment) (i : ℕ) → i ≤ length ss → AllWithin (λ s. passes s ≡ true) ss 0 i
@@ -30,20 +31,20 @@ splits_from passes (s ∷ ss) (suc i) within in_front after = (
 )
 
 chosen : (z w : ℤ) (xs : List Segment) (s : ℕ) (b : Bool) {a : Bool} → a ≡ b
-    → rate_from (if a then w else z) (map entry_of xs) s ≡ rate_from (if b then w else z) (map entry_of xs) s
-chosen z w xs s b is = ap (λ (c : Bool). rate_from (if c then w else z) (map entry_of xs) s) is
+    → rate_from (if a then w else z) (map rate_entry_of xs) s ≡ rate_from (if b then w else z) (map rate_entry_of xs) s
+chosen z w xs s b is = ap (λ (c : Bool). rate_from (if c then w else z) (map rate_entry_of xs) s) is
 
-quiet_after : (z : ℤ) (x : Segment) (xs : List Segment) (s : ℕ) → AreKept x xs → s < x.start → rate_from z (map entry_of xs) s ≡ z
+quiet_after : (z : ℤ) (x : Segment) (xs : List Segment) (s : ℕ) → AreSegmentsAfter x xs → s < x.start → rate_from z (map rate_entry_of xs) s ≡ z
 quiet_after z x [] s kept early = refl
 quiet_after z x (y ∷ ys) s kept early = let later : s < y.start = omega (arith, kept.0) in
     chosen z y.ppm ys s false (lt-leb y.start s later) ∙ quiet_after z y ys s kept.1 later
 
 -- before the next segment its rate is not in force
-quiet : (z : ℤ) (x : Segment) (xs : List Segment) (s : ℕ) → AreKept x xs → s < x.start → rate_from z (map entry_of (x ∷ xs)) s ≡ z
+quiet : (z : ℤ) (x : Segment) (xs : List Segment) (s : ℕ) → AreSegmentsAfter x xs → s < x.start → rate_from z (map rate_entry_of (x ∷ xs)) s ≡ z
 quiet z x xs s kept early = chosen z x.ppm xs s false (lt-leb x.start s early) ∙ quiet_after z x xs s kept early
 
 -- from its start on it is
-begun : (z : ℤ) (x : Segment) (xs : List Segment) (s : ℕ) → x.start ≤ s → rate_from z (map entry_of (x ∷ xs)) s ≡ rate_from x.ppm (map entry_of xs) s
+begun : (z : ℤ) (x : Segment) (xs : List Segment) (s : ℕ) → x.start ≤ s → rate_from z (map rate_entry_of (x ∷ xs)) s ≡ rate_from x.ppm (map rate_entry_of xs) s
 begun z x xs s at = chosen z x.ppm xs s true (le-leb x.start s at)
 
 -- while one rate is in force
@@ -60,18 +61,18 @@ flat rates z a (suc d) one =
 
 -- from the start of r on, the rates in force are those of r and of the segments after it
 abbrev GoesOn : List (ℕ × ℤ) → Segment → List Segment → Type 0
-GoesOn rates r ss = (s : ℕ) → r.start ≤ s → rate_at rates s ≡ rate_from r.ppm (map entry_of ss) s
+GoesOn rates r ss = (s : ℕ) → r.start ≤ s → rate_at rates s ≡ rate_from r.ppm (map rate_entry_of ss) s
 
 -- what is counted by the start of the next segment
 at_next : (rates : List (ℕ × ℤ)) (r x : Segment) (xs : List Segment) → GoesOn rates r (x ∷ xs) → count_before rates r.start ≡ r.count
-    → AreKept r (x ∷ xs) → (d : ℕ) → r.start + d ≤ x.start
+    → AreSegmentsAfter r (x ∷ xs) → (d : ℕ) → r.start + d ≤ x.start
     → count_before rates (r.start + d) ≡ r.count + pace_of r.ppm * d
 at_next rates r x xs on is kept d within =
     let f = flat rates r.ppm r.start d (λ s low high. on s low ∙ quiet r.ppm x xs s kept.1 (omega arith)) in
     omega (arith, f, is)
 
 next_is : (rates : List (ℕ × ℤ)) (r x : Segment) (xs : List Segment) → GoesOn rates r (x ∷ xs) → count_before rates r.start ≡ r.count
-    → AreKept r (x ∷ xs) → count_before rates x.start ≡ x.count
+    → AreSegmentsAfter r (x ∷ xs) → count_before rates x.start ≡ x.count
 next_is rates r x xs on is kept =
     let d : ℕ = x.start - r.start in
     let at : x.start ≡ r.start + d = omega (arith, kept.0) in
@@ -79,14 +80,14 @@ next_is rates r x xs on is kept =
     let same : count_before rates x.start ≡ count_before rates (r.start + d) = ap (count_before rates) at in
     omega (arith, c, same, kept.0)
 
-goes_on : (rates : List (ℕ × ℤ)) (r x : Segment) (xs : List Segment) → GoesOn rates r (x ∷ xs) → AreKept r (x ∷ xs) → GoesOn rates x xs
+goes_on : (rates : List (ℕ × ℤ)) (r x : Segment) (xs : List Segment) → GoesOn rates r (x ∷ xs) → AreSegmentsAfter r (x ∷ xs) → GoesOn rates x xs
 goes_on rates r x xs on kept = λ s at. on s (omega (arith, kept.0)) ∙ begun r.ppm x xs s at
 
 -- s has begun by t, and what is counted by t follows from it
 pub record InForce (rates : List (ℕ × ℤ)) (s : Segment) (t : ℕ) : Type 0 where
   pub begun : s.start ≤ t
   pub rate : unsigned_abs s.ppm ≤ 20
-  pub counted : count_before rates t ≡ counted s t
+  pub counted : count_before rates t ≡ count_until s t
   pub early : s.count ≤ count_before rates t
 
 held : (rates : List (ℕ × ℤ)) (r : Segment) (t : ℕ) → r.start ≤ t → unsigned_abs r.ppm ≤ 20
@@ -99,8 +100,8 @@ held rates r t at small by =
     record { begun = at; rate = small; counted = omega (arith, c, same); early = omega (arith, c, same) }
 
 in_force : (rates : List (ℕ × ℤ)) (r : Segment) (ss : List Segment) (i t : ℕ) → GoesOn rates r ss → count_before rates r.start ≡ r.count
-    → unsigned_abs r.ppm ≤ 20 → AreKept r ss → r.start ≤ t
-    → Splits (has_begun t) ss i → InForce rates (last_of r ss i) t
+    → unsigned_abs r.ppm ≤ 20 → AreSegmentsAfter r ss → r.start ≤ t
+    → Splits (has_begun t) ss i → InForce rates (last_segment r ss i) t
 in_force rates r [] zero t on is small kept at split =
     held rates r t at small (λ d within. (let f = flat rates r.ppm r.start d (λ s low high. on s low) in omega (arith, f, is)))
 in_force rates r [] (suc i) t on is small kept at split = absurd split
@@ -114,9 +115,9 @@ no_count : (rates : List (ℕ × ℤ)) → count_before rates 0 ≡ 0
 unfolding count_before
 no_count rates = refl
 
-pub in_force_at : (ss : List Segment) (i t : ℕ) → AreKept first_segment ss → Splits (has_begun t) ss i
-    → InForce (map entry_of ss) (last_of first_segment ss i) t
-in_force_at ss i t kept split = in_force (map entry_of ss) first_segment ss i t (λ s at. refl) (no_count (map entry_of ss))
+pub in_force_at : (ss : List Segment) (i t : ℕ) → AreSegmentsAfter first_segment ss → Splits (has_begun t) ss i
+    → InForce (map rate_entry_of ss) (last_segment first_segment ss i) t
+in_force_at ss i t kept split = in_force (map rate_entry_of ss) first_segment ss i t (λ s at. refl) (no_count (map rate_entry_of ss))
     (omega arith) kept (omega arith) split
 
 -- ---- the first tick at which so much is counted
@@ -162,8 +163,8 @@ earlier rates u t tame order =
     omega (arith, same, count_range rates u d tame)
 
 comes : (rates : List (ℕ × ℤ)) (r : Segment) (ss : List Segment) (i wanted : ℕ) → AreTame rates → GoesOn rates r ss
-    → count_before rates r.start ≡ r.count → r.start < 2 ^ 47 → unsigned_abs r.ppm ≤ 20 → AreKept r ss
-    → r.count ≤ wanted → ((u : ℕ) → u < r.start → count_before rates u < wanted) → Splits (counts_less wanted) ss i → Comes rates (last_of r ss i) wanted
+    → count_before rates r.start ≡ r.count → r.start < 2 ^ 47 → unsigned_abs r.ppm ≤ 20 → AreSegmentsAfter r ss
+    → r.count ≤ wanted → ((u : ℕ) → u < r.start → count_before rates u < wanted) → Splits (counts_less wanted) ss i → Comes rates (last_segment r ss i) wanted
 comes rates r [] zero wanted tame on is start small kept low early split = record {
   start = start;
   rate = small;
@@ -186,57 +187,58 @@ comes rates r (x ∷ xs) (suc i) wanted tame on is start small kept low early sp
     comes rates x xs i wanted tame (goes_on rates r x xs on kept) next kept.0.1 kept.0.2 kept.1 (omega arith)
     (λ u before. omega (arith, earlier rates u x.start tame (omega arith))) split.1
 
-pub comes_to : (ss : List Segment) (i wanted : ℕ) → AreKept first_segment ss → Splits (counts_less wanted) ss i
-    → Comes (map entry_of ss) (last_of first_segment ss i) wanted
+pub comes_to : (ss : List Segment) (i wanted : ℕ) → AreSegmentsAfter first_segment ss → Splits (counts_less wanted) ss i
+    → Comes (map rate_entry_of ss) (last_segment first_segment ss i) wanted
 comes_to ss i wanted kept split =
-    comes (map entry_of ss) first_segment ss i wanted (tame_of first_segment ss kept) (λ s at. refl) (no_count (map entry_of ss))
+    comes (map rate_entry_of ss) first_segment ss i wanted (tame_of first_segment ss kept) (λ s at. refl) (no_count (map rate_entry_of ss))
     (omega arith) (omega arith) kept (omega arith) (λ u before. absurd (omega arith)) split
 
 -- ---- kept segments rise
 
 module _ (key : Segment → ℕ) (rises : (r s : Segment) → Follows r s → key r ≤ key s) where
-  pub above_first : (r : Segment) (ss : List Segment) → AreKept r ss → (i : ℕ) (d : Segment) → i < length ss → key r ≤ key (get_or ss i d)
+  pub above_first : (r : Segment) (ss : List Segment) → AreSegmentsAfter r ss → (i : ℕ) (d : Segment) → i < length ss → key r ≤ key (get_or ss i d)
   above_first r [] kept i d within = absurd (omega arith)
   above_first r (s ∷ ss) kept zero d within = rises r s kept.0
   above_first r (s ∷ ss) kept (suc i) d within = omega (arith, rises r s kept.0, above_first s ss kept.1 i d (omega arith))
 
-  pub kept_rise : (r : Segment) (ss : List Segment) → AreKept r ss → IsNonDecreasingBy key ss
+  pub kept_rise : (r : Segment) (ss : List Segment) → AreSegmentsAfter r ss → IsNonDecreasingBy key ss
   kept_rise r [] kept i j d order within = absurd (omega arith)
   kept_rise r (s ∷ ss) kept zero zero d order within = omega arith
   kept_rise r (s ∷ ss) kept zero (suc j) d order within = above_first s ss kept.1 j d (omega arith)
   kept_rise r (s ∷ ss) kept (suc i) zero d order within = absurd (omega arith)
   kept_rise r (s ∷ ss) kept (suc i) (suc j) d order within = kept_rise s ss kept.1 i j d (omega arith) (omega arith)
 
-pub starts_rise : (ss : List Segment) → AreKept first_segment ss → IsNonDecreasingBy (λ s. s.start) ss
+pub starts_rise : (ss : List Segment) → AreSegmentsAfter first_segment ss → IsNonDecreasingBy (λ s. s.start) ss
 starts_rise ss kept = kept_rise (λ s. s.start) (λ r s follows. omega arith) first_segment ss kept
 
-pub counts_rise : (ss : List Segment) → AreKept first_segment ss → IsNonDecreasingBy (λ s. s.count) ss
+pub counts_rise : (ss : List Segment) → AreSegmentsAfter first_segment ss → IsNonDecreasingBy (λ s. s.count) ss
 counts_rise ss kept = kept_rise (λ s. s.count) (λ r s follows. omega arith) first_segment ss kept
 
 -- the last of some is an element
-pub last_at : (r : Segment) (ss : List Segment) (k : ℕ) (d : Segment) → k < length ss → last_of r ss (suc k) ≡ get_or ss k d
+pub last_at : (r : Segment) (ss : List Segment) (k : ℕ) (d : Segment) → k < length ss → last_segment r ss (suc k) ≡ get_or ss k d
 last_at r [] k d within = absurd (omega arith)
 last_at r (s ∷ ss) zero d within = refl
 last_at r (s ∷ ss) (suc k) d within = last_at s ss k d (omega arith)
 
 -- as a search finds it
-pub in_force_found : (ss : List Segment) (t : ℕ) (s : Segment) → AreKept first_segment ss → IsLast (has_begun t) ss s → InForce (map entry_of ss) s t
-in_force_found ss t s kept last = subst (λ (r : Segment). InForce (map entry_of ss) r t) (sym last.2) (in_force_at ss last.0 t kept last.1)
+pub in_force_found : (ss : List Segment) (t : ℕ) (s : Segment) → AreSegmentsAfter first_segment ss → IsLast (has_begun t) ss s
+    → InForce (map rate_entry_of ss) s t
+in_force_found ss t s kept last = subst (λ (r : Segment). InForce (map rate_entry_of ss) r t) (sym last.2) (in_force_at ss last.0 t kept last.1)
 
-pub comes_found : (ss : List Segment) (wanted : ℕ) (s : Segment) → AreKept first_segment ss → IsLast (counts_less wanted) ss s
-    → Comes (map entry_of ss) s wanted
-comes_found ss wanted s kept last = subst (λ (r : Segment). Comes (map entry_of ss) r wanted) (sym last.2) (comes_to ss last.0 wanted kept last.1)
+pub comes_found : (ss : List Segment) (wanted : ℕ) (s : Segment) → AreSegmentsAfter first_segment ss → IsLast (counts_less wanted) ss s
+    → Comes (map rate_entry_of ss) s wanted
+comes_found ss wanted s kept last = subst (λ (r : Segment). Comes (map rate_entry_of ss) r wanted) (sym last.2) (comes_to ss last.0 wanted kept last.1)
 
 -- so few ticks that they fit
 pub few_ticks : (n p q : ℕ) → IsCeil n p q → 999980 ≤ p → p ≤ 1000020 → n ≤ 1000000 * 2 ^ 48 → q ≤ 2 ^ 49
 few_ticks n p q ceil slow fast small = omega (arith, mul-le-mul_left q slow)
 
 -- as the clock's range has it
-pub count_small : (ss : List Segment) (t : ℕ) → AreKept first_segment ss → t ≤ 2 ^ 48 → count_before (map entry_of ss) t ≤ 1000020 * t
+pub count_small : (ss : List Segment) (t : ℕ) → AreSegmentsAfter first_segment ss → t ≤ 2 ^ 48 → count_before (map rate_entry_of ss) t ≤ 1000020 * t
 count_small ss t kept within =
-    let range = count_range (map entry_of ss) 0 t (tame_of first_segment ss kept) in
-    let same : count_before (map entry_of ss) (0 + t) ≡ count_before (map entry_of ss) t = ap (count_before (map entry_of ss)) (omega arith) in
-    omega (arith, range, same, no_count (map entry_of ss))
+    let range = count_range (map rate_entry_of ss) 0 t (tame_of first_segment ss kept) in
+    let same : count_before (map rate_entry_of ss) (0 + t) ≡ count_before (map rate_entry_of ss) t = ap (count_before (map rate_entry_of ss)) (omega arith) in
+    omega (arith, range, same, no_count (map rate_entry_of ss))
 
 pub ceil_of : (n p r q : ℕ) → 0 < p → r ≡ p → q ≡ div_ceil n r → IsCeil n p q
 ceil_of n p r q some same is =

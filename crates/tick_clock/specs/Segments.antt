@@ -7,16 +7,16 @@ use Rattle.tick_clock.specs.declared.segment.Segment.{Segment}
 use Rattle.tick_clock.specs.Rates.{shifted}
 
 -- the entry of rates that it stands for
-abbrev pub entry_of : Segment → ℕ × ℤ
-entry_of s = (s.start, s.ppm)
+abbrev pub rate_entry_of : Segment → ℕ × ℤ
+rate_entry_of s = (s.start, s.ppm)
 
 -- the millionths of a tick that the clock counts in a tick
 abbrev pub pace_of : ℤ → ℕ
 pace_of ppm = shifted 1000000 ppm
 
 -- what the clock has counted by tick t, in millionths of a tick, if this segment lasts until then
-abbrev pub counted : Segment → ℕ → ℕ
-counted s t = s.count + pace_of s.ppm * (t - s.start)
+abbrev pub count_until : Segment → ℕ → ℕ
+count_until s t = s.count + pace_of s.ppm * (t - s.start)
 
 -- before the first rate
 abbrev pub first_segment : Segment
@@ -26,22 +26,22 @@ first_segment = record { start = 0; ppm = pos 0; count = 0 }
 abbrev pub Follows : Segment → Segment → Type 0
 Follows r s =
     (r.start ≤ s.start) × (s.start < 2 ^ 47) × (unsigned_abs s.ppm ≤ 20)
-    × (s.count ≤ counted r s.start) × (counted r s.start ≤ s.count)
+    × (s.count ≤ count_until r s.start) × (count_until r s.start ≤ s.count)
 
 -- these segments come one after another, after r
-abbrev pub AreKept : Segment → List Segment → Type 0
-AreKept r [] = ⊤
-AreKept r (s ∷ ss) = Follows r s × AreKept s ss
+abbrev pub AreSegmentsAfter : Segment → List Segment → Type 0
+AreSegmentsAfter r [] = ⊤
+AreSegmentsAfter r (s ∷ ss) = Follows r s × AreSegmentsAfter s ss
 
-pub AreKept-prop : (r : Segment) (ss : List Segment) → IsProp (AreKept r ss)
+pub AreKept-prop : (r : Segment) (ss : List Segment) → IsProp (AreSegmentsAfter r ss)
 AreKept-prop r [] = Unit-prop
 AreKept-prop r (s ∷ ss) = ×_prop (hlevel props) (AreKept-prop s ss)
 
 -- the last of the first n segments, or r where n is 0
-abbrev pub last_of : Segment → List Segment → ℕ → Segment
-last_of r ss zero = r
-last_of r [] (suc n) = r
-last_of r (s ∷ ss) (suc n) = last_of s ss n
+abbrev pub last_segment : Segment → List Segment → ℕ → Segment
+last_segment r ss zero = r
+last_segment r [] (suc n) = r
+last_segment r (s ∷ ss) (suc n) = last_segment s ss n
 
 abbrev pub has_begun : ℕ → Segment → Bool
 has_begun t s = nat_le s.start t
@@ -58,4 +58,4 @@ Splits passes (s ∷ ss) (suc n) = (passes s ≡ true) × Splits passes ss n
 
 -- s is the last segment that passes, or the stretch before the first
 abbrev pub IsLast : (Segment → Bool) → List Segment → Segment → Type 0
-IsLast passes ss s = (n : ℕ) × Splits passes ss n × (s ≡ last_of first_segment ss n)
+IsLast passes ss s = (n : ℕ) × Splits passes ss n × (s ≡ last_segment first_segment ss n)

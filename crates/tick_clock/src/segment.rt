@@ -5,7 +5,8 @@ ghost use Rattle.std.specs.Int.{div_ceil};
 ghost use Rattle.std.specs.Int.RustNames.{unsigned_abs};
 ghost use Rattle.tick_clock.specs.Rates.{wild_at, unordered_at};
 ghost use Rattle.tick_clock.specs.RatesLaw.{count_before};
-ghost use Rattle.tick_clock.specs.Segments.{AreKept, IsLast, counted as counted_by, counts_less, entry_of, first_segment, has_begun, last_of, pace_of};
+ghost use Rattle.tick_clock.specs.Segments.{AreSegmentsAfter, IsLast, count_until as counted_by, counts_less, rate_entry_of, first_segment, has_begun};
+ghost use Rattle.tick_clock.specs.Segments.{last_segment, pace_of};
 
 use lwb_base::Memory;
 use std::alloc::Global;
@@ -46,8 +47,8 @@ pub fn segments_of(alloc: Global, rates: &[(u64, i8)]) -> Result<Vec<Segment>, M
     requires starts { All (λ r. r.0 < 2 ^ 47) rates.now }
     requires rates { wild_at rates.now ≡ None }
     requires order { unordered_at rates.now ≡ None }
-    ensures entries { IfOk result (λ v. map entry_of v.items ≡ rates.now) }
-    ensures kept { IfOk result (λ v. AreKept first_segment v.items) }
+    ensures entries { IfOk result (λ v. map rate_entry_of v.items ≡ rates.now) }
+    ensures kept { IfOk result (λ v. AreSegmentsAfter first_segment v.items) }
 {
     let mut segments = Vec::new(alloc);
     let mut last = segment_before(&[], 0);
@@ -61,19 +62,19 @@ pub fn segments_of(alloc: Global, rates: &[(u64, i8)]) -> Result<Vec<Segment>, M
 
 /// What a clock has counted by tick t, in millionths of a tick.
 pub fn count_at(segments: &[Segment], t: u64) -> u128
-    requires kept { AreKept first_segment segments.now }
+    requires kept { AreSegmentsAfter first_segment segments.now }
     requires range { t ≤ 2 ^ 48 }
-    ensures { result ≡ count_before (map entry_of segments.now) t }
+    ensures { result ≡ count_before (map rate_entry_of segments.now) t }
 {
     last_begun(segments, t).counted(t)
 }
 
 /// The first tick at which a clock has counted so much.
 pub fn tick_of_count(segments: &[Segment], wanted: u128) -> u64
-    requires kept { AreKept first_segment segments.now }
+    requires kept { AreSegmentsAfter first_segment segments.now }
     requires range { wanted ≤ 1000000 * 2 ^ 48 }
-    ensures reached { wanted ≤ count_before (map entry_of segments.now) result }
-    ensures before { (s : ℕ) → s < result → count_before (map entry_of segments.now) s < wanted }
+    ensures reached { wanted ≤ count_before (map rate_entry_of segments.now) result }
+    ensures before { (s : ℕ) → s < result → count_before (map rate_entry_of segments.now) s < wanted }
 {
     let last = last_below(segments, wanted);
     last.start + ticks_for(wanted - last.count, last.pace())
@@ -95,7 +96,7 @@ fn ticks_for(count: u128, pace: u64) -> u64
 
 // The last segment that has begun by tick t.
 fn last_begun(segments: &[Segment], t: u64) -> Segment
-    requires { AreKept first_segment segments.now }
+    requires { AreSegmentsAfter first_segment segments.now }
     ensures { IsLast (has_begun t) segments.now result }
 {
     segment_before(segments, segments.partition_point(|s| s.start <= t))
@@ -103,7 +104,7 @@ fn last_begun(segments: &[Segment], t: u64) -> Segment
 
 // The last segment at whose start less than this is counted.
 fn last_below(segments: &[Segment], wanted: u128) -> Segment
-    requires { AreKept first_segment segments.now }
+    requires { AreSegmentsAfter first_segment segments.now }
     ensures { IsLast (counts_less wanted) segments.now result }
 {
     segment_before(segments, segments.partition_point(|s| s.count < wanted))
@@ -112,7 +113,7 @@ fn last_below(segments: &[Segment], wanted: u128) -> Segment
 // The last of the first so many segments, or the stretch before the first.
 fn segment_before(segments: &[Segment], count: usize) -> Segment
     requires { count ≤ length segments.now }
-    ensures { result ≡ last_of first_segment segments.now count }
+    ensures { result ≡ last_segment first_segment segments.now count }
 {
     if count == 0 {
         Segment {

@@ -2,7 +2,7 @@
 
 ghost use Rattle.std.specs.Prelude.{◌≡◌, ℕ, ◌*◌, ◌/◌, ◌^◌, ◌≤◌, ◌<◌, ◌↔◌, IsErrOf, IfOk, All};
 ghost use Rattle.tick_clock.specs.Rates.{wild_at, unordered_at, segment_reading};
-ghost use Rattle.tick_clock.specs.Segments.{AreKept, AreKept-prop, first_segment};
+ghost use Rattle.tick_clock.specs.Segments.{AreSegmentsAfter, AreKept-prop, first_segment};
 
 use crate::DriftClock;
 use crate::rates::{first_unordered, first_wild};
@@ -22,7 +22,7 @@ pub struct SegmentClock {
     offset: u64,
     segments: Vec<Segment>,
     ghost early: { offset ≤ 256000 },
-    ghost kept: { AreKept first_segment segments.items } by { AreKept-prop first_segment segments.items },
+    ghost kept: { AreSegmentsAfter first_segment segments.items } by { AreKept-prop first_segment segments.items },
 }
 
 /// Why a clock is not made.

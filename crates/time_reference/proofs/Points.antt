@@ -9,7 +9,7 @@ use Rattle.time_reference.proofs.BudgetRoom.{window_order, window_room, frame_or
 use Rattle.time_reference.proofs.Rounds.{places, start, has_age, spread, point_by_age}
 use Rattle.time_reference.proofs.Run.{in_run, due_in_run}
 use Rattle.time_reference.specs.Budgets.{Budget, Fits, span}
-use Rattle.time_reference.specs.Zeros.{started, Ref, Good}
+use Rattle.time_reference.specs.Zeros.{start_tick, Ref, Good}
 
 module _ (p : Numbers) (b : Budget) (fits : Fits p b) where
   -- ---- where references come from
@@ -36,20 +36,20 @@ module _ (p : Numbers) (b : Budget) (fits : Fits p b) where
         after = inl (omega arith);
       }
 
-  pub heard_now : (H L : ℕ → ℕ) (z c j y : ℕ) → 1 ≤ c → c ≤ 4095 → j ≤ b.last → Near y (L (started p H c j)) 55
+  pub heard_now : (H L : ℕ → ℕ) (z c j y : ℕ) → 1 ≤ c → c ≤ 4095 → j ≤ b.last → Near y (L (start_tick p H c j)) 55
       → y ≡ z + j * p.slot + p.listen → Ref p b H L z c c j
   heard_now H L z c j y begun within slot near is =
       record { begun = begun; past = omega arith; young = omega arith; in_run = within; slot = slot; near = omega arith }
 
-  pub heard_ahead : (H L : ℕ → ℕ) (z c j y g : ℕ) → 1 ≤ c → c ≤ 4095 → j ≤ b.last → Near y (L (started p H c j)) 55
+  pub heard_ahead : (H L : ℕ → ℕ) (z c j y g : ℕ) → 1 ≤ c → c ≤ 4095 → j ≤ b.last → Near y (L (start_tick p H c j)) 55
       → y ≡ z + j * p.slot + p.listen → g ≤ 4 → Ref p b H L (z + g * p.frame) (c + g) c j
   heard_ahead H L z c j y g begun within slot near is few =
       record { begun = begun; past = omega arith; young = omega arith; in_run = within; slot = slot; near = omega arith }
 
-  pub no_clamp : (H L : ℕ → ℕ) (c j : ℕ) → IsClock H → IsClock L → 1 ≤ c → c ≤ 4095 → j ≤ b.last → p.listen + j * p.slot + 55 ≤ L (started p H c j)
+  pub no_clamp : (H L : ℕ → ℕ) (c j : ℕ) → IsClock H → IsClock L → 1 ≤ c → c ≤ 4095 → j ≤ b.last → p.listen + j * p.slot + 55 ≤ L (start_tick p H c j)
   no_clamp H L c j host clock begun within slot =
       let w = start p b fits H c j host begun within slot in
-      let reads = in_run p b fits L clock (started p H c j) (omega (arith, w.in_run)) in
+      let reads = in_run p b fits L clock (start_tick p H c j) (omega (arith, w.in_run)) in
       let d = mul-le-mul_right p.frame begun in
       omega (arith, w.above)
 
@@ -178,7 +178,7 @@ module _ (p : Numbers) (b : Budget) (fits : Fits p b) where
       let at = place H L z f (1 * p.slot) host clock g (omega arith) in
       let at' = place H L z' f p.close host clock g' (omega arith) in
       let w = start p b fits H g.c g.j host g.ref.begun g.ref.in_run g.ref.slot in
-      let reads = in_run p b fits L clock (started p H g.c g.j) (omega (arith, w.in_run)) in
+      let reads = in_run p b fits L clock (start_tick p H g.c g.j) (omega (arith, w.in_run)) in
       let places1 = places p b fits H L z f g.c g.j g.ref in
       let end = ages_end p b fits in
       let room = clock_room p b fits in

@@ -9,7 +9,7 @@ use Rattle.time_reference.proofs.Ages.{age, two_legs}
 use Rattle.time_reference.proofs.BudgetRoom.{window_order, frame_order, clock_room, drift_is_small, ages_end}
 use Rattle.time_reference.proofs.Run.{in_run, due_in_run}
 use Rattle.time_reference.specs.Budgets.{Budget, Fits}
-use Rattle.time_reference.specs.Zeros.{nominal, started, Ref, IsAge, Good}
+use Rattle.time_reference.specs.Zeros.{nominal, start_tick, Ref, IsAge, Good}
 
 pub by_gap : (p : Numbers) (x y f c g e : ℕ) → c + g ≡ f → Near (x + g * p.frame) y e ↔ Near (x + f * p.frame) (y + c * p.frame) e
 by_gap p x y f c g e is =
@@ -49,11 +49,11 @@ module _ (p : Numbers) (b : Budget) (fits : Fits p b) where
 
   -- the host's start of slot j in frame c: its place in the run, and what the host's clock reads there
   pub record Start (H : ℕ → ℕ) (c j : ℕ) : Type 0 where
-    pub below : started p H c j + 256001 ≤ nominal p c j + b.clock
-    pub above : nominal p c j + 1 ≤ started p H c j + b.clock
-    pub in_run : started p H c j + 256002 ≤ 4096 * p.frame
-    pub reads : Near (H (started p H c j)) (nominal p c j) 1
-    pub at_least : nominal p c j ≤ H (started p H c j)
+    pub below : start_tick p H c j + 256001 ≤ nominal p c j + b.clock
+    pub above : nominal p c j + 1 ≤ start_tick p H c j + b.clock
+    pub in_run : start_tick p H c j + 256002 ≤ 4096 * p.frame
+    pub reads : Near (H (start_tick p H c j)) (nominal p c j) 1
+    pub at_least : nominal p c j ≤ H (start_tick p H c j)
     pub small : nominal p c j ≤ 2 ^ 47
 
   pub start : (H : ℕ → ℕ) (c j : ℕ) → IsClock H → 1 ≤ c → c ≤ 4095 → j ≤ b.last → Start H c j
@@ -69,7 +69,7 @@ module _ (p : Numbers) (b : Budget) (fits : Fits p b) where
 
   pub point_by_age : (H L : ℕ → ℕ) (z f c j q m : ℕ) → IsClock H → IsClock L → Ref p b H L z f c j → q ≤ b.last * p.slot + p.close
       → (c < f) ⊎ (j * p.slot + p.close ≤ q) → IsAge p f c j q m
-      → Near (due L (z + q)) (started p H c j + m) (b.age / 50000 + 56)
+      → Near (due L (z + q)) (start_tick p H c j + m) (b.age / 50000 + 56)
   point_by_age H L z f c j q m host clock ref low after is =
       let at = places H L z f c j ref in
       let w = start H c j host ref.begun ref.in_run ref.slot in
@@ -77,9 +77,9 @@ module _ (p : Numbers) (b : Budget) (fits : Fits p b) where
       let drift = drift_is_small p b fits in
       let order = frame_order p b fits in
       let end = ages_end p b fits in
-      let reads = in_run p b fits L clock (started p H c j) (omega arith) in
-      let near : Near (L (started p H c j) + m) (z + q) 55 = omega (arith, ref.near) in
-      omega (arith, age L b.age (started p H c j) m (z + q) 55 clock near (omega arith) (omega arith) (omega arith))
+      let reads = in_run p b fits L clock (start_tick p H c j) (omega arith) in
+      let near : Near (L (start_tick p H c j) + m) (z + q) 55 = omega (arith, ref.near) in
+      omega (arith, age L b.age (start_tick p H c j) m (z + q) 55 clock near (omega arith) (omega arith) (omega arith))
 
   -- the age does not clamp
   pub has_age : (H L : ℕ → ℕ) (z f c j q : ℕ) → Ref p b H L z f c j → (c < f) ⊎ (j * p.slot + p.close ≤ q) → (m : ℕ) × IsAge p f c j q m
@@ -126,10 +126,10 @@ module _ (p : Numbers) (b : Budget) (fits : Fits p b) where
       let a2 = has_age H L2 z2 f c2 j2 q2 ref2 after2 in
       let old2 = aged H L2 z2 f c2 j2 q2 a2.0 ref2 low2 after2 a2.1 in
       let first = point_by_age H L1 z1 f c1 j1 q1 a1.0 host clock1 ref1 low1 after1 a1.1 in
-      let reads = in_run p b fits L2 clock2 (started p H c2 j2) (omega arith) in
-      let near1 : Near (H (started p H c1 j1) + gap.0) (nominal p c2 j2) 1 = omega (arith, w1.reads, gap.1) in
-      let near2 : Near (L2 (started p H c2 j2) + a2.0) (z2 + q2) 55 = omega (arith, ref2.near, a2.1) in
-      let legs = two_legs H L2 b.age (started p H c1 j1) gap.0 a2.0 (nominal p c2 j2) (z2 + q2) 55 host clock2 near1 near2 (omega arith)
+      let reads = in_run p b fits L2 clock2 (start_tick p H c2 j2) (omega arith) in
+      let near1 : Near (H (start_tick p H c1 j1) + gap.0) (nominal p c2 j2) 1 = omega (arith, w1.reads, gap.1) in
+      let near2 : Near (L2 (start_tick p H c2 j2) + a2.0) (z2 + q2) 55 = omega (arith, ref2.near, a2.1) in
+      let legs = two_legs H L2 b.age (start_tick p H c1 j1) gap.0 a2.0 (nominal p c2 j2) (z2 + q2) 55 host clock2 near1 near2 (omega arith)
       (omega arith) (omega arith) (omega arith) in
       omega (arith, legs, first, a1.1, a2.1, gap.1)
 
@@ -143,7 +143,7 @@ module _ (p : Numbers) (b : Budget) (fits : Fits p b) where
       let second = point_by_age H L2 z2 f c2 j2 q2 a2.0 host clock2 ref2 low2 after2 a2.1 in
       let frames = ap (λ (c : ℕ). c * p.frame) same_frame in
       let slots = ap (λ (j : ℕ). j * p.slot) same_slot in
-      let starts = ap (λ (c : ℕ). started p H c j1) same_frame ∙ ap (λ (j : ℕ). started p H c2 j) same_slot in
+      let starts = ap (λ (c : ℕ). start_tick p H c j1) same_frame ∙ ap (λ (j : ℕ). start_tick p H c2 j) same_slot in
       omega (arith, first, second, a1.1, a2.1, frames, slots, starts)
 
   turned : (x y q r e : ℕ) → Near (x + q) (y + r) e → Near (y + r) (x + q) e

@@ -11,7 +11,7 @@ use Rattle.time_reference.proofs.Rounds.{places, start}
 use Rattle.time_reference.proofs.Run.{in_run}
 use Rattle.time_reference.specs.Budgets.{Budget, Fits, span}
 use Rattle.time_reference.specs.Floods.{Overlap}
-use Rattle.time_reference.specs.Zeros.{started, Ref}
+use Rattle.time_reference.specs.Zeros.{start_tick, Ref}
 
 pub chain : (p : Numbers) (n k s s' s0 : ℕ) → Near s (s0 + k * step p n) k → Near s' (s + airtime p n + p.turn) 1 → Near s' (s0 + (k + 1) * step p n) (k + 1)
 chain p n k s s' s0 near one = omega arith
@@ -65,7 +65,7 @@ module _ (p : Numbers) (b : Budget) (fits : Fits p b) where
   few_drift = (b.last * p.slot + p.listen) / 50000
 
   contender : (H L : ℕ → ℕ) (z f j : ℕ) → IsClock H → IsClock L → Ref p b H L z f f 0 → 1 ≤ j → j < b.last
-      → Near (due L (z + (j * p.slot + p.listen))) (started p H f 0 + j * p.slot) (few_drift + 56)
+      → Near (due L (z + (j * p.slot + p.listen))) (start_tick p H f 0 + j * p.slot) (few_drift + 56)
   contender H L z f j host clock ref some less =
       let at = places p b fits H L z f f 0 ref in
       let w = start p b fits H f 0 host ref.begun ref.in_run ref.slot in
@@ -75,11 +75,11 @@ module _ (p : Numbers) (b : Budget) (fits : Fits p b) where
       let small = contenders_cover_drift p b fits in
       let order = frame_order p b fits in
       let end = ages_end p b fits in
-      let reads = in_run p b fits L clock (started p H f 0) (omega arith) in
-      let near : Near (L (started p H f 0) + j * p.slot) (z + (j * p.slot + p.listen)) 55 = omega (arith, ref.near) in
+      let reads = in_run p b fits L clock (start_tick p H f 0) (omega arith) in
+      let near : Near (L (start_tick p H f 0) + j * p.slot) (z + (j * p.slot + p.listen)) 55 = omega (arith, ref.near) in
       omega (
         arith,
-        age L (b.last * p.slot + p.listen) (started p H f 0) (j * p.slot) (z + (j * p.slot + p.listen)) 55 clock near
+        age L (b.last * p.slot + p.listen) (start_tick p H f 0) (j * p.slot) (z + (j * p.slot + p.listen)) 55 clock near
             (omega arith) (omega arith) (omega arith),
       )
 

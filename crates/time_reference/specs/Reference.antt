@@ -31,7 +31,7 @@ slot_time r j = stopped (r.zero + j * r.slot)
 
 -- a schedule of n bytes that is initiated in slot j at this tick, and relayed c times, is heard whole by this clock, and
 -- the clock told `start` for the start of that hearing; all within the ticks in which the clock keeps the drift law
-pub record IsHeard (p : Numbers) (own : ℕ → ℕ) (origin start c n j : ℕ) : Type 0 where
+pub record IsHeardWhole (p : Numbers) (own : ℕ → ℕ) (origin start c n j : ℕ) : Type 0 where
   pub clock : IsClock own
   pub few : c ≤ 11
   pub late : p.listen + j * p.slot + 55 ≤ own origin

@@ -10,26 +10,26 @@ abbrev pub nominal : Numbers → ℕ → ℕ → ℕ
 nominal p c j = c * p.frame + p.lead + j * p.slot + p.listen
 
 -- the tick at which the host with this clock starts it
-abbrev pub started : Numbers → (ℕ → ℕ) → ℕ → ℕ → ℕ
-started p host c j = due host (nominal p c j)
+abbrev pub start_tick : Numbers → (ℕ → ℕ) → ℕ → ℕ → ℕ
+start_tick p host c j = due host (nominal p c j)
 
 -- the offsets from a round's zero at which slot j opens, at which its initiator starts, and at which it closes
-abbrev pub opening : Numbers → ℕ → ℕ
-opening p j = j * p.slot
+abbrev pub opening_offset : Numbers → ℕ → ℕ
+opening_offset p j = j * p.slot
 
-abbrev pub starting : Numbers → ℕ → ℕ
-starting p j = j * p.slot + p.listen
+abbrev pub starting_offset : Numbers → ℕ → ℕ
+starting_offset p j = j * p.slot + p.listen
 
-abbrev pub closing : Numbers → ℕ → ℕ
-closing p j = j * p.slot + p.close
+abbrev pub closing_offset : Numbers → ℕ → ℕ
+closing_offset p j = j * p.slot + p.close
 
 -- the greatest offset of any order of a round
 abbrev pub greatest : Numbers → Budget → ℕ
-greatest p b = closing p b.last
+greatest p b = closing_offset p b.last
 
 -- the tick at which a clock with the zero z comes to the offset q
-abbrev pub point : (ℕ → ℕ) → ℕ → ℕ → ℕ
-point own z q = due own (z + q)
+abbrev pub tick_at_offset : (ℕ → ℕ) → ℕ → ℕ → ℕ
+tick_at_offset own z q = due own (z + q)
 
 -- the greatest difference of two zeros of one round
 abbrev pub apart : Budget → ℕ
@@ -47,7 +47,7 @@ pub record Ref (p : Numbers) (b : Budget) (host own : ℕ → ℕ) (z f c j : �
   pub young : f ≤ c + 4
   pub in_run : c ≤ 4095
   pub slot : j ≤ b.last
-  pub near : Near (own (started p host c j) + f * p.frame) (z + j * p.slot + p.listen + c * p.frame) 55
+  pub near : Near (own (start_tick p host c j) + f * p.frame) (z + j * p.slot + p.listen + c * p.frame) 55
 
 -- a reference from the schedule of slot j of frame c is m ticks old at the offset q of frame f
 abbrev pub IsAge : Numbers → ℕ → ℕ → ℕ → ℕ → ℕ → Type 0
@@ -56,7 +56,7 @@ IsAge p f c j q m = m + j * p.slot + p.listen + c * p.frame ≡ f * p.frame + q
 -- the reference from slot j of frame c may be used from the offset q of frame f on: it is of an earlier frame, or its
 -- slot is closed then
 abbrev pub IsUsable : Numbers → ℕ → ℕ → ℕ → ℕ → Type 0
-IsUsable p f c j q = (c < f) ⊎ (closing p j ≤ q)
+IsUsable p f c j q = (c < f) ⊎ (closing_offset p j ≤ q)
 
 -- z is a zero for frame f whose times from the offset `from` on may be used
 pub record Good (p : Numbers) (b : Budget) (host own : ℕ → ℕ) (z f from : ℕ) : Type 0 where

@@ -7,7 +7,7 @@ ghost use Rattle.time_reference.specs.Budgets.{Budget, Fits, span};
 ghost use Rattle.time_reference.specs.Drift.{drift};
 ghost use Rattle.time_reference.specs.Floods.{Overlap, Relayed};
 ghost use Rattle.time_reference.specs.Reference.{heard_zero};
-ghost use Rattle.time_reference.specs.Zeros.{starting, point, round_drift, started, Ref};
+ghost use Rattle.time_reference.specs.Zeros.{starting_offset, tick_at_offset, round_drift, start_tick, Ref};
 
 /// A relay starts a turnaround after the end of the reception, but for one tick.
 pub fn turnaround()
@@ -68,7 +68,7 @@ pub fn heard_zeros_err_little()
 /// whoever receives it.
 pub fn heard_schedules_give_zeros()
     ensures { (p : Numbers) (b : Budget) → Fits p b → (host own : ℕ → ℕ) (c j n k s start : ℕ) → IsClock host
-        → IsClock own → 1 ≤ c → c ≤ 4095 → j ≤ b.last → k ≤ 11 → Near s (started p host c j + k * step p n) k
+        → IsClock own → 1 ≤ c → c ≤ 4095 → j ≤ b.last → k ≤ 11 → Near s (start_tick p host c j + k * step p n) k
         → s + airtime p n ≤ 2 ^ 48 → own (s + airtime p n) ≡ start + airtime p n → drift (span p n + 11) + 12 ≤ 55
         → (start ≡ heard_zero p start k n j + (k * step p n + p.listen + j * p.slot))
         × Ref p b host own (heard_zero p start k n j) c c j }
@@ -91,6 +91,6 @@ pub fn one_step_overlaps()
 pub fn contenders_start_together()
     ensures { (p : Numbers) (b : Budget) → Fits p b → (host own other : ℕ → ℕ) (z y f j : ℕ) → IsClock host
         → IsClock own → IsClock other → Ref p b host own z f f 0 → Ref p b host other y f f 0 → 1 ≤ j → j < b.last
-        → Near (point own z (starting p j)) (point other y (starting p j)) (2 * round_drift p b + 112)
+        → Near (tick_at_offset own z (starting_offset p j)) (tick_at_offset other y (starting_offset p j)) (2 * round_drift p b + 112)
         × (2 * round_drift p b + 112 + 48 ≤ b.contenders) }
 {}

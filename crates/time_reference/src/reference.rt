@@ -3,7 +3,7 @@
 ghost use Rattle.std.specs.Prelude.{◌≡◌, ℕ, ◌+◌, ◌*◌, ◌^◌, ◌<◌, ◌≤◌};
 ghost use Rattle.lwb_base.specs.Profile.{IsProfile};
 ghost use Rattle.tick_clock.specs.Clocks.{Near};
-ghost use Rattle.time_reference.specs.Reference.{IsHeard, heard_zero, host_zero, slot_time, stopped, times_of};
+ghost use Rattle.time_reference.specs.Reference.{IsHeardWhole, heard_zero, host_zero, slot_time, stopped, times_of};
 
 use lwb_base::Profile;
 use std::marker::Model;
@@ -58,9 +58,9 @@ impl Reference {
     ) -> Reference
         requires { local_start < 2 ^ 46 }
         ensures value { result ≡ times_of profile.now (heard_zero profile.now local_start counter length slot) }
-        ensures within_48 { (own : ℕ → ℕ) (origin : ℕ) → IsHeard profile.now own origin local_start counter length
+        ensures within_48 { (own : ℕ → ℕ) (origin : ℕ) → IsHeardWhole profile.now own origin local_start counter length
             slot → length ≤ 61 → Near (slot_time result slot + profile.now.listen) (own origin) 48 }
-        ensures within_55 { (own : ℕ → ℕ) (origin : ℕ) → IsHeard profile.now own origin local_start counter length
+        ensures within_55 { (own : ℕ → ℕ) (origin : ℕ) → IsHeardWhole profile.now own origin local_start counter length
             slot → length ≤ 74 → Near (slot_time result slot + profile.now.listen) (own origin) 55 }
     {
         let steps = u64::from(counter) * profile.step(length);

@@ -8,15 +8,15 @@ use Rattle.radio_model.specs.declared.sending.Sending.{Sending}
 use Rattle.radio_model.specs.Stations.{IsTime}
 use Rattle.air_log.specs.Devices.{Device}
 use Rattle.air_log.specs.DeviceStates.{DeviceState}
-use Rattle.world_engine.specs.Fields.{FieldState, Shows, setup_of, id_of, setups_of, ids_of}
+use Rattle.world_engine.specs.Fields.{FieldState, FieldShows, setup_of_device, id_of, setups_of, ids_of}
 use Rattle.world_engine.specs.FieldSteps.{Acts}
 use Rattle.world_engine.proofs.GoesOn.{goes_on_nothing, goes_on_then, same_then, id_in}
 
 -- devices of the same setups have the same ids
-ids_by : (ds es : List DeviceState) → map setup_of ds ≡ map setup_of es → map id_of ds ≡ map id_of es
+ids_by : (ds es : List DeviceState) → map setup_of_device ds ≡ map setup_of_device es → map id_of ds ≡ map id_of es
 ids_by ds es same = by_setups ds ∙ ap (λ (l : List Setup). map id_in l) same ∙ sym (by_setups es)
   where
-    by_setups : (ds : List DeviceState) → map id_of ds ≡ map id_in (map setup_of ds)
+    by_setups : (ds : List DeviceState) → map id_of ds ≡ map id_in (map setup_of_device ds)
     by_setups [] = refl
     by_setups (d ∷ ds) = ap (λ (l : List ℕ). d.setup.id ∷ l) (by_setups ds)
 
@@ -50,9 +50,9 @@ acts_then t p f g xs ys ks ls v w x dv dw dx a b = record {
 
 -- a change that comes to the same at the device that the place has
 pub acts_as : (t p : ℕ) (f g : Setup → Device → Device) (xs : List Sending) (ks : List DropLine) (v w : FieldState) (dv dw : List Due)
-    → ((s : Setup) (d : Device) → Shows s t v dv p d → f s d ≡ g s d) → Acts t p f xs ks v dv w dw → Acts t p g xs ks v dv w dw
+    → ((s : Setup) (d : Device) → FieldShows s t v dv p d → f s d ≡ g s d) → Acts t p f xs ks v dv w dw → Acts t p g xs ks v dv w dw
 acts_as t p f g xs ks v w dv dw same a = record {
-  own = λ s d shows. subst (λ (e : Device). Shows s t w dw p e) (same s d shows) (a.own s d shows);
+  own = λ s d shows. subst (λ (e : Device). FieldShows s t w dw p e) (same s d shows) (a.own s d shows);
   others = a.others;
   hearings = a.hearings;
   sendings = a.sendings;

@@ -6,12 +6,12 @@ use Rattle.event_calendar.specs.declared.class.Class.TheVariants.{SendingEnd, Al
 use Rattle.radio_model.specs.declared.sending.Sending.{Sending}
 use Rattle.scenario_text.specs.ScenarioParts.{ScenarioParts}
 use Rattle.scenario_text.specs.ScenarioFacts.{IsSoundScenario}
-use Rattle.air_log.specs.Devices.{Device, Ordered}
-use Rattle.air_log.specs.Trails.{Reception, setup_of, run_end, scripted, heard, ended, alarmed, before_tick}
+use Rattle.air_log.specs.Devices.{Device, OrderedPacket}
+use Rattle.air_log.specs.Trails.{Reception, setup_of, run_end, device_after_script, device_after_receptions, device_after_end, alarmed, before_tick}
 use Rattle.air_log.specs.Ahead.{IsAhead}
 use Rattle.air_log.proofs.KeptByEvents.{in_hearings, in_end, in_alarms}
 use Rattle.air_log.proofs.NextDue.{is_ahead, Ahead, kept_ahead}
-use Rattle.world_engine.specs.Moments.{At, IsAt}
+use Rattle.world_engine.specs.Moments.{At, IsAtMoment}
 
 as_record : (t : ℕ) (d : Device) → Ahead t d → IsAhead t d
 as_record t d ahead = record { alarm = ahead.0; ordered = ahead.1; sending = ahead.2 }
@@ -20,7 +20,7 @@ earlier_alarm : (t : ℕ) (a : Option ℕ) → IfSome a (λ tick. suc t ≤ tick
 earlier_alarm t None ahead = tt
 earlier_alarm t (Some tick) ahead = omega (arith, ahead)
 
-earlier_start : (t : ℕ) (o : Option Ordered) → IfSome o (λ y. suc t ≤ y.tick) → IfSome o (λ y. t ≤ y.tick)
+earlier_start : (t : ℕ) (o : Option OrderedPacket) → IfSome o (λ y. suc t ≤ y.tick) → IfSome o (λ y. t ≤ y.tick)
 earlier_start t None ahead = tt
 earlier_start t (Some o) ahead = omega (arith, ahead)
 
@@ -41,7 +41,7 @@ module _ (s : ScenarioParts) (v : ℕ) (clock : ℕ → ℕ) (hs : List Receptio
   before = before_tick s v clock hs t
 
   abbrev heard_all : Device
-  heard_all = heard clock (setup_of s v) t hs (scripted s v clock t before)
+  heard_all = device_after_receptions clock (setup_of s v) t hs (device_after_script s v clock t before)
 
   before_ahead : Ahead t before
   before_ahead = let is = is_ahead s v clock hs sound drifts t (omega (arith, within)) in (is.alarm, is.ordered, is.sending)
@@ -49,13 +49,13 @@ module _ (s : ScenarioParts) (v : ℕ) (clock : ℕ → ℕ) (hs : List Receptio
   heard_ahead : Ahead t heard_all
   heard_ahead = in_hearings (Ahead t) s v clock hs t before (kept_ahead clock (setup_of s v) t) before_ahead
 
-  ended_ahead : Ahead t (ended clock (setup_of s v) t heard_all)
+  ended_ahead : Ahead t (device_after_end clock (setup_of s v) t heard_all)
   ended_ahead = in_end (Ahead t) clock (setup_of s v) t heard_all (kept_ahead clock (setup_of s v) t) heard_ahead
 
-  alarmed_ahead : Ahead t (alarmed clock (setup_of s v) t (ended clock (setup_of s v) t heard_all))
-  alarmed_ahead = in_alarms (Ahead t) clock (setup_of s v) t (ended clock (setup_of s v) t heard_all) (kept_ahead clock (setup_of s v) t) ended_ahead
+  alarmed_ahead : Ahead t (alarmed clock (setup_of s v) t (device_after_end clock (setup_of s v) t heard_all))
+  alarmed_ahead = in_alarms (Ahead t) clock (setup_of s v) t (device_after_end clock (setup_of s v) t heard_all) (kept_ahead clock (setup_of s v) t) ended_ahead
 
-  pub ahead_at : (c : Class) (d : Device) → IsAt s clock hs v t (At c) d → IsAhead t d
+  pub ahead_at : (c : Class) (d : Device) → IsAtMoment s clock hs v t (At c) d → IsAhead t d
   ahead_at SendingEnd d (inl at) = subst (IsAhead t) (sym at) (as_record t _ heard_ahead)
   ahead_at SendingEnd d (inr at) = subst (IsAhead t) (sym at) (as_record t _ ended_ahead)
   ahead_at Alarm d (inl at) = subst (IsAhead t) (sym at) (as_record t _ ended_ahead)

@@ -7,7 +7,7 @@ use Rattle.radio_model.specs.declared.sending.Sending.{Sending}
 use Rattle.radio_model.specs.declared.station.Station.{Station}
 use Rattle.radio_model.specs.declared.station.Tuned.{Tuned}
 use Rattle.radio_model.specs.OnAir.{Hearing}
-use Rattle.radio_model.specs.Hearing.{Scene, IsTuned, Hears}
+use Rattle.radio_model.specs.Hearing.{Scene, IsTuned, HearsInScene}
 use Rattle.radio_model.specs.Holding.{Agree, as_it_stands, nothing_yet}
 use Rattle.radio_model.specs.Stations.{MediumState, IsTime, station_of}
 use Rattle.lwb_base.proofs.Elements.{not_in_none}
@@ -25,8 +25,8 @@ use Rattle.bus_rules.specs.Cores.{Setup}
 use Rattle.air_log.specs.declared.entry.Entry.{Entry}
 use Rattle.air_log.specs.Entries.{sendings_of, hearings_of}
 use Rattle.air_log.specs.Devices.{Device, Listening}
-use Rattle.world_engine.specs.Fields.{FieldState, IsField, Shows, rank_of, channel_of}
-use Rattle.world_engine.specs.FieldSteps.{IsFirst}
+use Rattle.world_engine.specs.Fields.{FieldState, IsField, FieldShows, rank_of_tuned, channel_of}
+use Rattle.world_engine.specs.FieldSteps.{IsFirstField}
 use Rattle.world_engine.specs.Running.{Runs, HoldsScene, HasHearings, IsOnAir}
 use Rattle.air_log.specs.TunedTimes.{WasTuned, listened}
 use Rattle.air_log.proofs.TunedBefore.{HasTunedBy}
@@ -34,7 +34,7 @@ use Rattle.world_engine.proofs.ShownTunings.{AreTuned, alike, alike_back, tuned_
 use Rattle.world_engine.proofs.ScenesGoOn.{found_in}
 
 -- at first
-module _ (s : ScenarioParts) (w : FieldState) (due : List Due) (is : IsFirst s w) where
+module _ (s : ScenarioParts) (w : FieldState) (due : List Due) (is : IsFirstField s w) where
   no_entry : {X : Type 0} (f : List Entry → List X) → f [] ≡ [] → (x : X) → Contains (f w.air) x → ⊥
   no_entry {X} f none x there = not_in_none x (subst (λ (l : List X). Contains l x) (ap f is.air ∙ none) there)
 
@@ -72,14 +72,14 @@ module _ (s : ScenarioParts) (w : FieldState) (due : List Due) (is : IsFirst s w
   }
 
 -- a tuning that lasts
-goes_on : (tuned : Option Tuned) (l : Option Listening) (r k : ℕ) → option_map rank_of tuned ≡ option_map channel_of l
+goes_on : (tuned : Option Tuned) (l : Option Listening) (r k : ℕ) → option_map rank_of_tuned tuned ≡ option_map channel_of l
     → IfSome tuned (λ o. o.since ≤ k) → listened r k l → Goes tuned r k
 goes_on None None r k same since on = on
 goes_on None (Some l) r k same since on = cc
 goes_on (Some o) None r k same since on = absurd on
 goes_on (Some o) (Some l) r k same since on = (same_Some o.rank l.rank same ∙ on.0, since)
 
-listens_on : (tuned : Option Tuned) (l : Option Listening) (r k : ℕ) → option_map rank_of tuned ≡ option_map channel_of l → IfSome l (λ l. l.since ≤ k)
+listens_on : (tuned : Option Tuned) (l : Option Listening) (r k : ℕ) → option_map rank_of_tuned tuned ≡ option_map channel_of l → IfSome l (λ l. l.since ≤ k)
     → Goes tuned r k → listened r k l
 listens_on None l r k same since on = absurd on
 listens_on (Some o) None r k same since on = cc
@@ -91,7 +91,7 @@ began_by t k (Some l) order is = omega (arith, is)
 
 -- the same sendings that are over are heard
 pub heard_alike : (s : ScenarioParts) (t : ℕ) (w : FieldState) (due : List Due) (a b c : Scene) → HoldsScene s t w due a → Agree t b c
-    → (v : ℕ) (x : Sending) → Contains (sendings_of w.air) x → x.end ≤ t → Hears b v x ↔ Hears c v x
+    → (v : ℕ) (x : Sending) → Contains (sendings_of w.air) x → x.end ≤ t → HearsInScene b v x ↔ HearsInScene c v x
 heard_alike s t w due a b c h agree v x there over = settled b c v x (h.begun x there).0 (agree_earlier x.end t b c over agree)
 
 module _ (s : ScenarioParts) (t u : ℕ) (w : FieldState) (due : List Due) (a : Scene) (h : HoldsScene s t w due a) (later : t ≤ u)
@@ -100,7 +100,7 @@ module _ (s : ScenarioParts) (t u : ℕ) (w : FieldState) (due : List Due) (a : 
   waits = by_waiting w.medium t u a later
 
   -- at a place whose device is shown now, at a tick from now on
-  module _ (q : Setup) (p : ℕ) (d : Device) (shows : Shows q t w due p d) (by : HasTunedBy t d) (r k : ℕ) (from : t ≤ k) (until : k < u) where
+  module _ (q : Setup) (p : ℕ) (d : Device) (shows : FieldShows q t w due p d) (by : HasTunedBy t d) (r k : ℕ) (from : t ≤ k) (until : k < u) where
     station : Station
     station = shows.known.station
 
@@ -111,7 +111,7 @@ module _ (s : ScenarioParts) (t u : ℕ) (w : FieldState) (due : List Due) (a : 
     found : Contains w.medium.stations station × (station.node ≡ q.id)
     found = found_in q.id w.medium.stations station there
 
-    same : option_map rank_of station.tuned ≡ option_map channel_of d.listening
+    same : option_map rank_of_tuned station.tuned ≡ option_map channel_of d.listening
     unfolding station
     same = shows.known.tuned ∙ ap (λ (x : Device). option_map channel_of x.listening) shows.is
 
@@ -141,7 +141,7 @@ module _ (s : ScenarioParts) (t u : ℕ) (w : FieldState) (due : List Due) (a : 
           })
         ]
 
-  place_later : (q : Setup) (p : ℕ) (d : Device) → Shows q t w due p d → HasTunedBy t d → (r k : ℕ) → k < u
+  place_later : (q : Setup) (p : ℕ) (d : Device) → FieldShows q t w due p d → HasTunedBy t d → (r k : ℕ) → k < u
       → IsTuned (as_it_stands w.medium u a) q.id r k ↔ WasTuned d r k
   place_later q p d shows by r k early =
       elim (cases_lt k t) [
@@ -152,7 +152,7 @@ module _ (s : ScenarioParts) (t u : ℕ) (w : FieldState) (due : List Due) (a : 
         | inr from ↦ (on q p d shows by r k from early, back q p d shows by r k from early)
       ]
 
-  tuned_later : (q : Setup) (p : ℕ) (d : Device) → Shows q u w due p d → (r k : ℕ) → k < u → IsTuned (as_it_stands w.medium u a) q.id r k ↔ WasTuned d r k
+  tuned_later : (q : Setup) (p : ℕ) (d : Device) → FieldShows q u w due p d → (r k : ℕ) → k < u → IsTuned (as_it_stands w.medium u a) q.id r k ↔ WasTuned d r k
   tuned_later q p d shows r k early =
       let m = all p (shown_within q u w due p d shows) in
       let like = alike m.setup q t u w due p m.device d m.shows shows in
@@ -188,8 +188,8 @@ module _ (s : ScenarioParts) (t u : ℕ) (w : FieldState) (due : List Due) (a : 
     next = has.next;
   }
     where
-      alike_by : (v : ℕ) (x : Sending) → Contains (sendings_of w.air) x → (Runs w.medium x → ⊥) → Hears (as_it_stands w.medium t a) v x
-          ↔ Hears (as_it_stands w.medium u a) v x
+      alike_by : (v : ℕ) (x : Sending) → Contains (sendings_of w.air) x → (Runs w.medium x → ⊥) → HearsInScene (as_it_stands w.medium t a) v x
+          ↔ HearsInScene (as_it_stands w.medium u a) v x
       alike_by v x there stopped = let before = has.ended x there stopped in heard_alike s t w due a _ _ h waits v x there (omega (arith, before, now))
 
 pub time_passes : (s : ScenarioParts) (over more t u : ℕ) (w : FieldState) (due : List Due) → t ≤ u → over ≤ suc t → over ≤ more → IsTime w.medium u

@@ -15,11 +15,11 @@ use Rattle.bus_rules.specs.Cores.{Setup}
 use Rattle.node_core.specs.Rows.{row}
 use Rattle.node_core.specs.Rows.{orders_by}
 use Rattle.air_log.specs.Devices.{Device, Power, PowerOff, PowerOn, obeyed, moved, event_by, silenced, tunes, listens_to}
-use Rattle.air_log.specs.Trails.{setup_of, run_end, is_due, one_alarm, alarms, alarmed}
+use Rattle.air_log.specs.Trails.{setup_of, run_end, alarm_is_due, one_alarm, alarms, alarmed}
 use Rattle.air_log.specs.AlarmRuns.{IsAlarmRun}
 use Rattle.air_log.specs.Lawful.{heard_by}
 use Rattle.air_log.proofs.AlarmRuns.{is_run}
-use Rattle.world_engine.specs.Fields.{FieldState, Shows}
+use Rattle.world_engine.specs.Fields.{FieldState, FieldShows}
 use Rattle.world_engine.specs.Moments.{At}
 use Rattle.world_engine.specs.Running.{HasPlaces}
 use Rattle.world_engine.proofs.TickPoints.{alarm_run}
@@ -72,23 +72,23 @@ module _ (clock : ℕ → ℕ) (s : Setup) (t : ℕ) where
       let x = one_alarm clock s t d in
       let y = one_alarm clock s t e in
       let both = alarm_alike d e is in
-      subst (λ (b : Bool). AreAlike (alarms clock s t (is_due t x.alarm) more x) (alarms clock s t b more y)) (ap (is_due t) both.1)
-      (alarms_alike (is_due t x.alarm) more x y both)
+      subst (λ (b : Bool). AreAlike (alarms clock s t (alarm_is_due t x.alarm) more x) (alarms clock s t b more y)) (ap (alarm_is_due t) both.1)
+      (alarms_alike (alarm_is_due t x.alarm) more x y both)
 
   alarmed_alike : (d e : Device) → AreAlike d e → AreAlike (alarmed clock s t d) (alarmed clock s t e)
   alarmed_alike d e is =
-      subst (λ (b : Bool). AreAlike (alarmed clock s t d) (alarms clock s t b (clock t + 300) e)) (ap (is_due t) is.1)
-      (alarms_alike (is_due t d.alarm) (clock t + 300) d e is)
+      subst (λ (b : Bool). AreAlike (alarmed clock s t d) (alarms clock s t b (clock t + 300) e)) (ap (alarm_is_due t) is.1)
+      (alarms_alike (alarm_is_due t d.alarm) (clock t + 300) d e is)
 
   -- so they end at both or at none
   run_alike : (d e : Device) → AreAlike d e → IsAlarmRun clock s t e (alarmed clock s t e) → IsAlarmRun clock s t d (alarmed clock s t d)
   run_alike d e is run =
-      is_run clock s t (is_due t d.alarm) (clock t + 300) d refl (ap (is_due t) (alarmed_alike d e is).1 ∙ run.over)
+      is_run clock s t (alarm_is_due t d.alarm) (clock t + 300) d refl (ap (alarm_is_due t) (alarmed_alike d e is).1 ∙ run.over)
 
 module _ (s : ScenarioParts) (clocks : ℕ → ℕ → ℕ) (t p : ℕ) (clock : ℕ → ℕ) (own_clock : IsClockAt s clocks p clock) (w : FieldState) (due : List Due)
     (sound : IsSoundScenario s) (drifts : AreClocks clocks) (within : t < run_end s) (places : HasPlaces s w due)
     (trails : OnTrails s clocks t (At Alarm) w due) where
-  pub alarms_end : (q : Setup) (d : Device) → Shows q t w due p d → IsAlarmRun clock q t d (alarmed clock q t d)
+  pub alarms_end : (q : Setup) (d : Device) → FieldShows q t w due p d → IsAlarmRun clock q t d (alarmed clock q t d)
   alarms_end q d shows =
       let n = node_there s q t w due p d places shows in
       let v = n.0.node in

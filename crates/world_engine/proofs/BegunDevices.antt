@@ -7,10 +7,10 @@ use Rattle.std.proofs.lemmas.Bool.{cond-true}
 use Rattle.lwb_base.specs.Profile.{airtime}
 use Rattle.radio_model.specs.declared.sending.Sending.{Sending}
 use Rattle.bus_rules.specs.Cores.{Setup}
-use Rattle.air_log.specs.Devices.{Device, Listening, Ordered, Made}
-use Rattle.air_log.specs.Trails.{begun, begun_by, starts, sending_from, starting, starting_by}
+use Rattle.air_log.specs.Devices.{Device, Listening, OrderedPacket, Made}
+use Rattle.air_log.specs.Trails.{device_after_start, begun_by, starts, sending_from, sendings_starting, starting_by}
 use Rattle.air_log.specs.DeviceStates.{DeviceState, whole, with_sent}
-use Rattle.air_log.specs.Courses.{tick_of}
+use Rattle.air_log.specs.Courses.{tick_of_ordered}
 
 -- an order that is due is gone
 abbrev pub unordered : Device → Device
@@ -21,8 +21,8 @@ sends_now x d = record d { ordered = None; sending = Some x; made = record (d.ma
 
 -- the device does not begin to send
 pub record StaysSilent (s : Setup) (t : ℕ) (d : Device) : Type 0 where
-  pub is : begun s t d ≡ unordered d
-  pub starting : starting s t d ≡ []
+  pub is : device_after_start s t d ≡ unordered d
+  pub starting : sendings_starting s t d ≡ []
 
 -- the device begins to send x
 pub record BeginsToSend (s : Setup) (t : ℕ) (d : Device) (x : Sending) : Type 0 where
@@ -33,20 +33,20 @@ pub record BeginsToSend (s : Setup) (t : ℕ) (d : Device) (x : Sending) : Type 
   pub node : x.node ≡ s.id
   pub start : x.start ≡ t
   pub end : x.end ≡ t + airtime s.profile (length x.packet)
-  pub is : begun s t d ≡ sends_now x d
-  pub starting : starting s t d ≡ x ∷ []
+  pub is : device_after_start s t d ≡ sends_now x d
+  pub starting : sendings_starting s t d ≡ x ∷ []
 
 module _ (s : Setup) (t : ℕ) where
-  starting_at : (o : Ordered) (l : Listening) → o.tick ≡ t → starting_by s t (Some o) (Some l) None ≡ sending_from s t o.packet l ∷ []
+  starting_at : (o : OrderedPacket) (l : Listening) → o.tick ≡ t → starting_by s t (Some o) (Some l) None ≡ sending_from s t o.packet l ∷ []
   starting_at o l now = cond-true (o.tick == t) (sending_from s t o.packet l ∷ []) [] (eq-eqb o.tick t now)
 
-  begun_at : (d : Device) (o : Ordered) → d.ordered ≡ Some o → o.tick ≡ t → begun s t d ≡ starts s t o.packet d d.listening d.sending
+  begun_at : (d : Device) (o : OrderedPacket) → d.ordered ≡ Some o → o.tick ≡ t → device_after_start s t d ≡ starts s t o.packet d d.listening d.sending
   begun_at d o ordered now = ap (begun_by s t d) ordered ∙ cond-true (o.tick == t) (starts s t o.packet d d.listening d.sending) d (eq-eqb o.tick t now)
 
-  starting_in : (d : Device) (o : Option Ordered) (l : Option Listening) (x : Option Sending) → d.ordered ≡ o → d.listening ≡ l → d.sending ≡ x
-      → starting s t d ≡ starting_by s t o l x
+  starting_in : (d : Device) (o : Option OrderedPacket) (l : Option Listening) (x : Option Sending) → d.ordered ≡ o → d.listening ≡ l → d.sending ≡ x
+      → sendings_starting s t d ≡ starting_by s t o l x
   starting_in d o l x ordered listening sending =
-      ap (λ (p : Option Ordered). starting_by s t p d.listening d.sending) ordered
+      ap (λ (p : Option OrderedPacket). starting_by s t p d.listening d.sending) ordered
       ∙ ap (λ (p : Option Listening). starting_by s t o p d.sending) listening ∙ ap (λ (p : Option Sending). starting_by s t o l p) sending
 
   starts_in : (d : Device) (packet : List ℕ) (l : Option Listening) (x : Option Sending) → d.listening ≡ l → d.sending ≡ x
@@ -55,7 +55,7 @@ module _ (s : Setup) (t : ℕ) where
       ∙ ap (λ (p : Option Sending). starts s t packet d l p) sending
 
   -- a device at which an order is due at this tick
-  pub begins_or_not : (d : Device) (o : Ordered) → d.ordered ≡ Some o → o.tick ≡ t → StaysSilent s t d ⊎ ((x : Sending) × BeginsToSend s t d x)
+  pub begins_or_not : (d : Device) (o : OrderedPacket) → d.ordered ≡ Some o → o.tick ≡ t → StaysSilent s t d ⊎ ((x : Sending) × BeginsToSend s t d x)
   begins_or_not d o ordered now = by_cases d.listening d.sending refl refl
     where
       by_cases : (l : Option Listening) (x : Option Sending) → d.listening ≡ l → d.sending ≡ x → StaysSilent s t d ⊎ ((x : Sending) × BeginsToSend s t d x)
@@ -83,16 +83,16 @@ module _ (s : Setup) (t : ℕ) where
       )
 
 -- the order that stands at the tick
-pub ordered_then : (o : Option Ordered) (t : ℕ) → option_map tick_of o ≡ Some t → (q : Ordered) × (o ≡ Some q) × (q.tick ≡ t)
+pub ordered_then : (o : Option OrderedPacket) (t : ℕ) → option_map tick_of_ordered o ≡ Some t → (q : OrderedPacket) × (o ≡ Some q) × (q.tick ≡ t)
 ordered_then None t is = cc
 ordered_then (Some q) t is = (q, refl, let same : q.tick ≡ t = cc in same)
 
 -- what is known of a start that has the device's answer r
-module _ (t : ℕ) (st new : DeviceState) (ordered : option_map tick_of st.ordered ≡ Some t) where
+module _ (t : ℕ) (st new : DeviceState) (ordered : option_map tick_of_ordered st.ordered ≡ Some t) where
   abbrev answers : Option Sending → Type 0
-  answers r = (made : Made) → begun st.setup t (whole st made) ≡ whole new (with_sent r made)
+  answers r = (made : Made) → device_after_start st.setup t (whole st made) ≡ whole new (with_sent r made)
 
-  order : (q : Ordered) × (st.ordered ≡ Some q) × (q.tick ≡ t)
+  order : (q : OrderedPacket) × (st.ordered ≡ Some q) × (q.tick ≡ t)
   order = ordered_then st.ordered t ordered
 
   nothing_sent : answers None → (made : Made) → (x : Sending) → BeginsToSend st.setup t (whole st made) x → ⊥

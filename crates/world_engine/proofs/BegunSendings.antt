@@ -12,7 +12,7 @@ use Rattle.radio_model.specs.declared.station.Tuned.{Tuned}
 use Rattle.radio_model.specs.Hearing.{Scene}
 use Rattle.radio_model.specs.Holding.{Holds, after_starting}
 use Rattle.radio_model.specs.Holding as holding
-use Rattle.radio_model.specs.Stations.{MediumState, IsTime, station_of, nodes_of, started, after, next_sending, first_sending}
+use Rattle.radio_model.specs.Stations.{MediumState, IsTime, station_of, nodes_of, station_after_start, medium_after_change, next_sending, current_or_next}
 use Rattle.radio_model.proofs.NothingBefore.{by_starting}
 use Rattle.radio_model.proofs.Changes.{started_keeps}
 use Rattle.radio_model.proofs.OneCall.{each_after, found_member}
@@ -24,14 +24,15 @@ use Rattle.event_calendar.specs.Orders.{Due, at, changed}
 use Rattle.event_calendar.specs.declared.class.Class.TheVariants.{SendingEnd, SendingStart}
 use Rattle.bus_rules.specs.Cores.{Setup}
 use Rattle.air_log.specs.Devices.{Device, Made, nothing_made}
-use Rattle.air_log.specs.Trails.{begun, starting}
+use Rattle.air_log.specs.Trails.{device_after_start, sendings_starting}
 use Rattle.air_log.specs.Entries.{sent_entry}
 use Rattle.air_log.specs.declared.entry.Entry.{Entry}
 use Rattle.air_log.proofs.LoggedEntries.{sendings_sent, hearings_sent}
 use Rattle.radio_model.proofs.ChangedStations.{node_of_station, station_changed}
 use Rattle.air_log.specs.DeviceStates.{DeviceState, whole, with_sent, HappenedBy, IsSameNode}
-use Rattle.world_engine.specs.Fields.{FieldState, IsField, IsKnown, Shows, IsShown, due_of, id_of, ids_of, setup_of, rank_of, channel_of}
-use Rattle.world_engine.specs.FieldSteps.{GoesOn}
+use Rattle.world_engine.specs.Fields.{FieldState, IsField, IsKnownDevice, FieldShows, FieldIsShown, due_of_device, id_of, ids_of, setup_of_device}
+use Rattle.world_engine.specs.Fields.{rank_of_tuned, channel_of}
+use Rattle.world_engine.specs.FieldSteps.{MediumGoesOn}
 use Rattle.world_engine.proofs.ShownPlaces.{there_now, still_field, still_shown, shown_as}
 use Rattle.world_engine.proofs.DevicesOfNodes.{one_place}
 use Rattle.world_engine.proofs.LoggedSendings.{sent_own, sent_other, tuned_beside_sent, entry_more}
@@ -39,22 +40,22 @@ use Rattle.world_engine.proofs.BegunDevices.{BeginsToSend, sends_now, begins_wit
 use Rattle.world_engine.proofs.NothingBegun.{Begins, due_by}
 use Rattle.world_engine.proofs.NothingBegun as NothingBegun
 use Rattle.world_engine.proofs.ObeyedOrders.{due_changed}
-use Rattle.air_log.specs.Courses.{tick_of}
+use Rattle.air_log.specs.Courses.{tick_of_ordered}
 
 module _ (t p : ℕ) (w : FieldState) (field : IsField w) (due : List Due) (st new : DeviceState) (here : slice_get w.devices p ≡ Some st)
     (node : IsSameNode st new) (keeps_time : (now : ℕ) → HappenedBy now st → HappenedBy now new) (stands : at due p SendingStart ≡ Some t)
-    (shown : IsShown t w due p) (time : IsTime w.medium t) where
-  abbrev known : IsKnown w due p st
+    (shown : FieldIsShown t w due p) (time : IsTime w.medium t) where
+  abbrev known : IsKnownDevice w due p st
   known = NothingBegun.known t p w field due st new here node keeps_time stands shown time
 
-  abbrev ordered : option_map tick_of st.ordered ≡ Some t
+  abbrev ordered : option_map tick_of_ordered st.ordered ≡ Some t
   ordered = NothingBegun.ordered t p w field due st new here node keeps_time stands shown time
 
   -- where x starts
-  module _ (x : Sending) (is : (made : Made) → begun st.setup t (whole st made) ≡ whole new (with_sent (Some x) made)) where
+  module _ (x : Sending) (is : (made : Made) → device_after_start st.setup t (whole st made) ≡ whole new (with_sent (Some x) made)) where
     abbrev begun_field : FieldState
     begun_field = record {
-      medium = after t x.node (started w.medium.numbers t x.packet) w.medium;
+      medium = medium_after_change t x.node (station_after_start w.medium.numbers t x.packet) w.medium;
       devices = set w.devices p new;
       air = w.air ++ sent_entry x ∷ [];
       deliveries = w.deliveries;
@@ -66,7 +67,7 @@ module _ (t p : ℕ) (w : FieldState) (field : IsField w) (due : List Due) (st n
     begun_due = changed (changed due p SendingStart None) p SendingEnd (Some x.end)
 
     abbrev change : Station → Station
-    change = started w.medium.numbers t x.packet
+    change = station_after_start w.medium.numbers t x.packet
 
     starts : BeginsToSend st.setup t (whole st nothing_made) x
     starts = begins_with t st new ordered x is nothing_made
@@ -74,9 +75,9 @@ module _ (t p : ℕ) (w : FieldState) (field : IsField w) (due : List Due) (st n
     begun_now : whole new (with_sent (Some x) nothing_made) ≡ sends_now x (whole st nothing_made)
     begun_now = sym (is nothing_made) ∙ starts.is
 
-    begun_set : slice_get begun_due p ≡ Some (due_of new)
+    begun_set : slice_get begun_due p ≡ Some (due_of_device new)
     begun_set =
-        due_changed (changed due p SendingStart None) p SendingEnd (Some x.end) _ (due_changed due p SendingStart None (due_of st) known.set)
+        due_changed (changed due p SendingStart None) p SendingEnd (Some x.end) _ (due_changed due p SendingStart None (due_of_device st) known.set)
         ∙ ap (λ (d : Device). let o : Option Due = Some (due_by d.sending d.alarm d.ordered) in o) (sym begun_now)
 
     -- the station
@@ -86,7 +87,7 @@ module _ (t p : ℕ) (w : FieldState) (field : IsField w) (due : List Due) (st n
     numbers : st.setup.profile ≡ w.medium.numbers
     numbers = All-contains (λ (d : DeviceState). d.setup.profile ≡ w.medium.numbers) w.devices st field.numbers (contains_at w.devices p st here)
 
-    next_by : (o : Option Tuned) → known.station.tuned ≡ o → option_map rank_of o ≡ Some x.rank
+    next_by : (o : Option Tuned) → known.station.tuned ≡ o → option_map rank_of_tuned o ≡ Some x.rank
         → next_sending w.medium.numbers t x.packet known.station.node known.station.tuned ≡ Some x
     next_by None tuned rank = cc
     next_by (Some o) tuned rank =
@@ -121,23 +122,24 @@ module _ (t p : ℕ) (w : FieldState) (field : IsField w) (due : List Due) (st n
     station_silent = known.sending ∙ starts.silent
 
     station_sends : (change known.station).sending ≡ Some x
-    station_sends = ap (λ (o : Option Sending). first_sending o
+    station_sends = ap (λ (o : Option Sending). current_or_next o
         (next_sending w.medium.numbers t x.packet known.station.node known.station.tuned)) station_silent ∙ next
 
     station_of_x : station_of w.medium x.node ≡ Some known.station
     station_of_x = ap (station_of w.medium) starts.node ∙ known.there
 
     station_now : station_of begun_field.medium x.node ≡ Some (change known.station)
-    station_now = station_changed (started w.medium.numbers t x.packet) (started_keeps w.medium.numbers t x.packet) x.node w.medium t known.station station_of_x
+    station_now = station_changed (station_after_start w.medium.numbers t x.packet) (started_keeps w.medium.numbers t x.packet) x.node w.medium t
+        known.station station_of_x
 
-    scene_begins : holding.begun w.medium.numbers t x.packet (station_of w.medium x.node) ≡ Some x
+    scene_begins : holding.sending_at_start w.medium.numbers t x.packet (station_of w.medium x.node) ≡ Some x
     scene_begins =
-        ap (holding.begun w.medium.numbers t x.packet) station_of_x
+        ap (holding.sending_at_start w.medium.numbers t x.packet) station_of_x
         ∙ ap (λ (o : Option Sending).
         if is_none o then next_sending w.medium.numbers t x.packet known.station.node known.station.tuned else None) station_silent
         ∙ next
 
-    begun_own : (s : Setup) (d : Device) → Shows s t w due p d → Shows s t begun_field begun_due p (begun s t d)
+    begun_own : (s : Setup) (d : Device) → FieldShows s t w due p d → FieldShows s t begun_field begun_due p (device_after_start s t d)
     begun_own s d shows =
         let sh = shown_as s t w due p d st here shows in
         let id : x.node ≡ s.id = starts.node ∙ ap (λ (u : Setup). u.id) sh.setup in
@@ -146,7 +148,7 @@ module _ (t p : ℕ) (w : FieldState) (field : IsField w) (due : List Due) (st n
           there = there_now w.devices p st new here;
           setup = node.setup ∙ sh.setup;
           made = with_sent (Some x) sh.made;
-          is = sym (is sh.made) ∙ ap (λ (u : Setup). begun u t (whole st sh.made)) sh.setup ∙ ap (begun s t) sh.is;
+          is = sym (is sh.made) ∙ ap (λ (u : Setup). device_after_start u t (whole st sh.made)) sh.setup ∙ ap (device_after_start s t) sh.is;
           logged = record {
             sent = ap (λ (l : List Sending). l ++ x ∷ []) sh.logged.sent ∙ sym (sent_own w.air x s.id id);
             tuned = sh.logged.tuned ∙ ap reverse (sym (tuned_beside_sent w.air x s.id));
@@ -165,7 +167,7 @@ module _ (t p : ℕ) (w : FieldState) (field : IsField w) (due : List Due) (st n
           taken = node.delivery ∙ sh.taken;
         }
 
-    begun_others : (q : ℕ) → q ≢ p → (s : Setup) (d : Device) → Shows s t w due q d → Shows s t begun_field begun_due q d
+    begun_others : (q : ℕ) → q ≢ p → (s : Setup) (d : Device) → FieldShows s t w due q d → FieldShows s t begun_field begun_due q d
     begun_others q other s d shows =
         let apart : s.id ≢ x.node = λ same. other
         (one_place w field q p shows.state st shows.there here (ap (λ (u : Setup). u.id) shows.setup ∙ same ∙ starts.node)) in
@@ -174,7 +176,8 @@ module _ (t p : ℕ) (w : FieldState) (field : IsField w) (due : List Due) (st n
           sent = sent_other w.air x s.id (λ same. apart (sym same));
           tuned = tuned_beside_sent w.air x s.id;
           deliveries = refl;
-          station = other_station w.medium t x.node (started w.medium.numbers t x.packet) (started_keeps w.medium.numbers t x.packet).node s.id apart;
+          station =
+              other_station w.medium t x.node (station_after_start w.medium.numbers t x.packet) (started_keeps w.medium.numbers t x.packet).node s.id apart;
           due = set_elsewhere (changed due p SendingStart None) p q _ other ∙ set_elsewhere due p q _ other;
           sums = refl;
         }) shows
@@ -184,7 +187,7 @@ module _ (t p : ℕ) (w : FieldState) (field : IsField w) (due : List Due) (st n
       later = omega arith;
       small = time.small;
       running = λ st y in_it sends.
-          each_after w.medium field.medium (started w.medium.numbers t x.packet) (started_keeps w.medium.numbers t x.packet) x.node t
+          each_after w.medium field.medium (station_after_start w.medium.numbers t x.packet) (started_keeps w.medium.numbers t x.packet) x.node t
           (λ s. s.sending ≡ Some y → t ≤ y.end)
           (λ s there own runs. of_own s there own runs)
           (λ s there _ runs. time.running s y there runs)
@@ -198,16 +201,16 @@ module _ (t p : ℕ) (w : FieldState) (field : IsField w) (due : List Due) (st n
         same_station a b is = cc
 
         of_own : {y : Sending} (s : Station) → Contains w.medium.stations s → s.node ≡ x.node
-            → (started w.medium.numbers t x.packet s).sending ≡ Some y → t ≤ y.end
+            → (station_after_start w.medium.numbers t x.packet s).sending ≡ Some y → t ≤ y.end
         of_own {y = y} s there own runs =
             let found : station_of w.medium x.node ≡ Some s = ap (station_of w.medium) (sym own)
             ∙ found_member w.medium.stations s field.medium.nodes.ascending there in
             let same : known.station ≡ s = same_station known.station s (sym station_of_x ∙ found) in
             let end = starts.end in
-            same_end x y (sym station_sends ∙ ap (λ (k : Station). (started w.medium.numbers t x.packet k).sending) same ∙ runs) (omega arith)
+            same_end x y (sym station_sends ∙ ap (λ (k : Station). (station_after_start w.medium.numbers t x.packet k).sending) same ∙ runs) (omega arith)
 
     begun_goes_on : (held : (a : Scene) → Holds w.medium a → Holds begun_field.medium (after_starting w.medium x.node t x.packet a))
-        → GoesOn t w.medium begun_field.medium (x ∷ [])
+        → MediumGoesOn t w.medium begun_field.medium (x ∷ [])
     begun_goes_on held = record {
       scene = λ a holds. (
         after_starting w.medium x.node t x.packet a,
@@ -219,9 +222,9 @@ module _ (t p : ℕ) (w : FieldState) (field : IsField w) (due : List Due) (st n
         },
       );
       time = begun_time;
-      nodes = same_nodes w.medium t x.node (started w.medium.numbers t x.packet) (started_keeps w.medium.numbers t x.packet).node;
+      nodes = same_nodes w.medium t x.node (station_after_start w.medium.numbers t x.packet) (started_keeps w.medium.numbers t x.packet).node;
       numbers = refl;
-      still = still_medium (started w.medium.numbers t x.packet) (started_keeps w.medium.numbers t x.packet) x.node t w.medium;
+      still = still_medium (station_after_start w.medium.numbers t x.packet) (started_keeps w.medium.numbers t x.packet) x.node t w.medium;
     }
 
     begins_here : ((a : Scene) → Holds w.medium a → Holds begun_field.medium (after_starting w.medium x.node t x.packet a))
@@ -236,7 +239,7 @@ module _ (t p : ℕ) (w : FieldState) (field : IsField w) (due : List Due) (st n
         drops = sym (append-nil w.drops);
         air = begun_goes_on held;
         same = record {
-          setups = map_stays setup_of w.devices p st new here node.setup;
+          setups = map_stays setup_of_device w.devices p st new here node.setup;
           places = length-set (changed due p SendingStart None) p _ ∙ length-set due p _;
           entries = entry_more w.air (ids_of w) (sent_entry x)
               (subst (λ (n : ℕ). Contains (ids_of w) n) (sym starts.node) (map_contains id_of w.devices st (contains_at w.devices p st here)));
@@ -245,7 +248,8 @@ module _ (t p : ℕ) (w : FieldState) (field : IsField w) (due : List Due) (st n
       },
       λ s d shows.
           let sh = shown_as s t w due p d st here shows in
-          sym (ap (λ (u : Setup). starting u t d) (sym sh.setup) ∙ ap (starting st.setup t) (sym sh.is) ∙ (begins_with t st new ordered x is sh.made).starting),
+          sym (ap (λ (u : Setup). sendings_starting u t d) (sym sh.setup) ∙ ap (sendings_starting st.setup t) (sym sh.is)
+              ∙ (begins_with t st new ordered x is sh.made).starting),
     )
 
     -- with the medium and the log as the code has them
@@ -265,8 +269,8 @@ module _ (t p : ℕ) (w : FieldState) (field : IsField w) (due : List Due) (st n
     pub begun_is_field : (air : List Entry) → IsField (record begun_field { air = air })
     begun_is_field air =
         still_field w begun_field.medium p st new air w.deliveries w.drops field
-        (still_medium (started w.medium.numbers t x.packet) (started_keeps w.medium.numbers t x.packet) x.node t w.medium field.medium)
-        (same_nodes w.medium t x.node (started w.medium.numbers t x.packet) (started_keeps w.medium.numbers t x.packet).node) refl here node.setup
+        (still_medium (station_after_start w.medium.numbers t x.packet) (started_keeps w.medium.numbers t x.packet) x.node t w.medium field.medium)
+        (same_nodes w.medium t x.node (station_after_start w.medium.numbers t x.packet) (started_keeps w.medium.numbers t x.packet).node) refl here node.setup
 
 -- with the field, the place and the queue as they are given
 pub as_given : (t i p : ℕ) (w given : FieldState) (due after given_due : List Due) (new : FieldState) → w ≡ given → i ≡ p → given_due ≡ after

@@ -24,8 +24,8 @@ use Rattle.air_log.specs.Charges.{scans_with}
 use Rattle.air_log.specs.Devices.{Device, Power}
 use Rattle.air_log.specs.DeviceStates.{DeviceState}
 use Rattle.air_log.specs.Lawful.{heard_by}
-use Rattle.air_log.specs.ScriptedDevices.{after_line}
-use Rattle.air_log.specs.Trails.{Reception, setup_of, frame_start, lines_at, scripted, before_tick, tune_of, tune_at}
+use Rattle.air_log.specs.ScriptedDevices.{device_after_line}
+use Rattle.air_log.specs.Trails.{Reception, setup_of, frame_start, lines_at, device_after_script, before_tick, tune_of, tune_at}
 use Rattle.air_log.proofs.HearingMore.{earlier_stays}
 use Rattle.world_engine.specs.Counting.{TrailsStay, scans_before, all_scans_before, scans_now, AreCountedOn}
 use Rattle.world_engine.specs.Fields.{FieldState}
@@ -114,7 +114,7 @@ module _ (s : ScenarioParts) (clocks : ℕ → ℕ → ℕ) where
     where
       one : (p : ℕ) (n : NodeLine) → slice_get s.nodes p ≡ Some n → scans_before s clocks old f n ≡ scans_before s clocks new f n
       one p n at = counted_alike _ _ f (λ g less.
-          ap (λ (d : Device). scans_with (if nat_lt g s.frames then tune_of (scripted s n.node (clocks n.node) (frame_start s g) d).power else None))
+          ap (λ (d : Device). scans_with (if nat_lt g s.frames then tune_of (device_after_script s n.node (clocks n.node) (frame_start s g) d).power else None))
           (sym (stay p n at (frame_start s g) (before g less))))
 
   pub none_scanned : (air : List Entry) → replicate (length s.nodes) 0 ≡ all_scans_before s clocks air 0
@@ -165,10 +165,10 @@ module _ (s : ScenarioParts) (clocks : ℕ → ℕ → ℕ) where
         let state : d ≡ on.shows.state = same d on.shows.state (sym there ∙ on.shows.there) in
         let power : d.power ≡ on.device.power = ap (λ (x : DeviceState). x.power) state ∙ ap (λ (x : Device). x.power) on.shows.is in
         let lines = ap (λ (ls : List ScriptLine).
-        (fold (after_line (clocks v) (setup_of s v) t) (before_tick s v (clocks v) (heard_by w.air v) t) ls).power) (own_lines v) in
+        (fold (device_after_line (clocks v) (setup_of s v) t) (before_tick s v (clocks v) (heard_by w.air v) t) ls).power) (own_lines v) in
         ap (λ (x : Power). scans_with (tune_of x)) (power ∙ ap (λ (x : Device). x.power) on.at ∙ lines)
         ∙ ap scans_with (sym (cond-true (nat_lt f s.frames)
-        (tune_of (scripted s v (clocks v) t (before_tick s v (clocks v) (heard_by w.air v) t)).power) None (lt-ltb f s.frames within)))
+        (tune_of (device_after_script s v (clocks v) t (before_tick s v (clocks v) (heard_by w.air v) t)).power) None (lt-ltb f s.frames within)))
       where
         same : (x y : DeviceState) → (let o : Option DeviceState = Some x in o ≡ Some y) → x ≡ y
         same x y is = cc

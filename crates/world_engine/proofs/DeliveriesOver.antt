@@ -12,7 +12,7 @@ use Rattle.scenario_text.specs.declared.lines.NodeLine.{NodeLine}
 use Rattle.event_calendar.specs.Orders.{Due}
 use Rattle.bus_rules.specs.declared.delivery.Delivery.{Delivery}
 use Rattle.air_log.specs.Trails.{run_end}
-use Rattle.air_log.specs.Deliveries.{comes_before, delivered_at, deliveries_of}
+use Rattle.air_log.specs.Deliveries.{delivery_comes_before, deliveries_of_node, deliveries_of}
 use Rattle.air_log.specs.LogText.{in_order}
 use Rattle.lwb_base.proofs.Elements.{contains_head, contains_tail, map_contains, Distinct}
 use Rattle.world_engine.specs.Fields.{FieldState}
@@ -72,10 +72,10 @@ module _ (s : ScenarioParts) (clocks : ℕ → ℕ → ℕ) (w : FieldState) (du
   only_known v true is = refl
   only_known v false is = filter_none (λ (d : Delivery). d.node == v) closed.deliveries (λ d there. not_unknown s.nodes d.node v (deliverer_known d there) is)
 
-  delivered : (n : NodeLine) → Contains s.nodes n → delivered_at s clocks closed.air n ≡ of_node n.node closed.deliveries
+  delivered : (n : NodeLine) → Contains s.nodes n → deliveries_of_node s clocks closed.air n ≡ of_node n.node closed.deliveries
   delivered n there = (logged s clocks w due closed running over n.node (id_known s.nodes n.node (map_contains node_id s.nodes n there))).deliveries
 
-  pub deliveries_over : in_order comes_before closed.deliveries ≡ deliveries_of s clocks closed.air
-  deliveries_over = same_by_nodes closed.deliveries (flat_map (delivered_at s clocks closed.air) s.nodes) (λ v.
+  pub deliveries_over : in_order delivery_comes_before closed.deliveries ≡ deliveries_of s clocks closed.air
+  deliveries_over = same_by_nodes closed.deliveries (flat_map (deliveries_of_node s clocks closed.air) s.nodes) (λ v.
       only_known v (knows s.nodes v) refl
-      ∙ sym (of_nodes closed.deliveries (delivered_at s clocks closed.air) s.nodes v (distinct_ids s.nodes sound.ascending) delivered))
+      ∙ sym (of_nodes closed.deliveries (deliveries_of_node s clocks closed.air) s.nodes v (distinct_ids s.nodes sound.ascending) delivered))

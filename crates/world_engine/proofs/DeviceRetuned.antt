@@ -9,60 +9,63 @@ use Rattle.radio_model.specs.Hearing.{Scene}
 use Rattle.radio_model.specs.Holding.{Agree, Holds, as_it_stands, after_tuning}
 use Rattle.radio_model.specs.declared.station.Station.{Station}
 use Rattle.radio_model.specs.declared.station.Tuned.{Tuned as TunedTo}
-use Rattle.radio_model.specs.Stations.{MediumState, IsMedium, IsTime, station_of, nodes_of, changed_at, after, retuned, tuned_in, tuned_out, is_tuned_to}
+use Rattle.radio_model.specs.Stations.{MediumState, IsMedium, IsTime, station_of, nodes_of, station_changed_at, medium_after_change, station_after_tuning}
+use Rattle.radio_model.specs.Stations.{tuned_in, tuned_out, is_tuned_to}
 use Rattle.lwb_base.proofs.Elements.{map_from}
 use Rattle.radio_model.proofs.OneStation.{same_nodes, changed_station, other_station}
 use Rattle.radio_model.proofs.Changes.{retuned_keeps}
 use Rattle.radio_model.proofs.Places.{still_medium}
 use Rattle.radio_model.proofs.NothingBefore.{by_tuning}
 use Rattle.radio_model.proofs.TunedStations.{sends_still}
-use Rattle.air_log.specs.Devices.{Device, Listening, Made, silenced, tunes, obeyed, listens_to, retuned as tuned_again}
+use Rattle.air_log.specs.Devices.{Device, Listening, Made, silenced, tunes, obeyed, listens_to, device_after_tuning as tuned_again}
 use Rattle.air_log.specs.DeviceStates.{DeviceState, whole}
-use Rattle.world_engine.specs.Fields.{rank_of, channel_of}
-use Rattle.world_engine.specs.FieldSteps.{GoesOn}
+use Rattle.world_engine.specs.Fields.{rank_of_tuned, channel_of}
+use Rattle.world_engine.specs.FieldSteps.{MediumGoesOn}
 use Rattle.world_engine.proofs.DeviceSteps.{IsStationOf}
 
 -- the station is tuned to the channel then
-tuned_then : (rank : Option ℕ) (t : ℕ) (st : Station) → option_map rank_of (retuned rank t st).tuned ≡ rank
+tuned_then : (rank : Option ℕ) (t : ℕ) (st : Station) → option_map rank_of_tuned (station_after_tuning rank t st).tuned ≡ rank
 tuned_then None t st = refl
 tuned_then (Some r) t st =
-    cond_both (is_tuned_to st.tuned r) st (tuned_in r t (tuned_out t st)) (λ (s : Station). option_map rank_of s.tuned ≡ Some r)
+    cond_both (is_tuned_to st.tuned r) st (tuned_in r t (tuned_out t st)) (λ (s : Station). option_map rank_of_tuned s.tuned ≡ Some r)
     (λ is. was st.tuned is) (λ not. refl)
   where
-    was : (o : Option TunedTo) → is_tuned_to o r ≡ true → option_map rank_of o ≡ Some r
+    was : (o : Option TunedTo) → is_tuned_to o r ≡ true → option_map rank_of_tuned o ≡ Some r
     was None is = cc
     was (Some o) is = ap (λ (n : ℕ). Some n) (eqb-true o.rank r is)
 
-module _ (t v : ℕ) (rank : Option ℕ) (old new : MediumState) (is : new ≡ after t v (retuned rank t) old) where
-  sends_so : (st : Station) → (changed_at v (retuned rank t) st).sending ≡ st.sending
-  sends_so st = cond_both (st.node == v) (retuned rank t st) st (λ (s : Station). s.sending ≡ st.sending) (λ here. sends_still rank t st) (λ other. refl)
+module _ (t v : ℕ) (rank : Option ℕ) (old new : MediumState) (is : new ≡ medium_after_change t v (station_after_tuning rank t) old) where
+  sends_so : (st : Station) → (station_changed_at v (station_after_tuning rank t) st).sending ≡ st.sending
+  sends_so st =
+      cond_both (st.node == v) (station_after_tuning rank t st) st (λ (s : Station). s.sending ≡ st.sending) (λ here. sends_still rank t st) (λ other. refl)
 
   pub retuned_medium : IsMedium old → IsMedium new
-  retuned_medium medium = subst IsMedium (sym is) (still_medium (retuned rank t) (retuned_keeps rank t) v t old medium)
+  retuned_medium medium = subst IsMedium (sym is) (still_medium (station_after_tuning rank t) (retuned_keeps rank t) v t old medium)
 
   pub retuned_nodes : nodes_of new ≡ nodes_of old
-  retuned_nodes = ap nodes_of is ∙ same_nodes old t v (retuned rank t) (retuned_keeps rank t).node
+  retuned_nodes = ap nodes_of is ∙ same_nodes old t v (station_after_tuning rank t) (retuned_keeps rank t).node
 
   pub retuned_numbers : new.numbers ≡ old.numbers
   retuned_numbers = ap (λ (m : MediumState). m.numbers) is
 
   pub retuned_others : (u : ℕ) → u ≢ v → station_of new u ≡ station_of old u
-  retuned_others u other = ap (λ (m : MediumState). station_of m u) is ∙ other_station old t v (retuned rank t) (retuned_keeps rank t).node u other
+  retuned_others u other = ap (λ (m : MediumState). station_of m u) is ∙ other_station old t v (station_after_tuning rank t) (retuned_keeps rank t).node u other
 
-  pub retuned_own : (st : Station) → station_of old v ≡ Some st → station_of new v ≡ Some (retuned rank t st)
-  retuned_own st there = ap (λ (m : MediumState). station_of m v) is ∙ changed_station old t v (retuned rank t) (retuned_keeps rank t).node
-      ∙ ap (option_map (retuned rank t)) there
+  pub retuned_own : (st : Station) → station_of old v ≡ Some st → station_of new v ≡ Some (station_after_tuning rank t st)
+  retuned_own st there = ap (λ (m : MediumState). station_of m v) is ∙ changed_station old t v (station_after_tuning rank t) (retuned_keeps rank t).node
+      ∙ ap (option_map (station_after_tuning rank t)) there
 
-  retuned_time : IsTime old t → IsTime (after t v (retuned rank t) old) t
+  retuned_time : IsTime old t → IsTime (medium_after_change t v (station_after_tuning rank t) old) t
   retuned_time time = record {
     later = omega arith;
     small = time.small;
     running = λ st x there sends.
-        let was = map_from (changed_at v (retuned rank t)) old.stations st there in
+        let was = map_from (station_changed_at v (station_after_tuning rank t)) old.stations st there in
         time.running was.0 x was.1 (sym (sends_so was.0) ∙ ap (λ (s : Station). s.sending) was.2 ∙ sends);
   }
 
-  pub retuned_goes_on : AreNodes (nodes_of old) → IsTime old t → ((a : Scene) → Holds old a → Holds new (after_tuning old v rank t a)) → GoesOn t old new []
+  pub retuned_goes_on : AreNodes (nodes_of old) → IsTime old t → ((a : Scene) → Holds old a → Holds new (after_tuning old v rank t a))
+      → MediumGoesOn t old new []
   retuned_goes_on nodes time holds = record {
     scene = λ a held. (
       after_tuning old v rank t a,
@@ -84,7 +87,7 @@ module _ (t v : ℕ) (rank : Option ℕ) (old new : MediumState) (is : new ≡ a
   pub retuned_station : (d : DeviceState) (st : Station) → d.setup.id ≡ v → station_of old v ≡ Some st → st.sending ≡ d.sending
       → option_map channel_of d.listening ≡ rank → IsStationOf new d
   retuned_station d st id there sending listening = record {
-    station = retuned rank t st;
+    station = station_after_tuning rank t st;
     there = ap (station_of new) id ∙ retuned_own st there;
     tuned = tuned_then rank t st ∙ sym listening;
     sending = sends_still rank t st ∙ sending;

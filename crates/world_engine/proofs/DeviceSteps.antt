@@ -19,14 +19,14 @@ use Rattle.lwb_base.proofs.Elements.{contains_cases, not_in_none, contains_at}
 use Rattle.lwb_base.proofs.Lists.{set_elsewhere, map_stays}
 use Rattle.air_log.specs.declared.entry.Entry.{Entry}
 use Rattle.air_log.specs.declared.entry.TunedEntry.{TunedEntry}
-use Rattle.air_log.specs.Entries.{sending_in, hearing_in, tuning_in, sendings_of, hearings_of, tunings_of, node_of}
+use Rattle.air_log.specs.Entries.{sending_in, hearing_in, tuning_in, sendings_of, hearings_of, tunings_of, node_of_entry}
 use Rattle.air_log.specs.Lawful.{sent_by, tuned_by}
 use Rattle.air_log.specs.Devices.{Device, Made}
 use Rattle.air_log.specs.DeviceStates.{DeviceState, whole, tuning_of, one_more, EndedBefore, HappenedBy}
 use Rattle.air_log.proofs.CourseSteps.{ended_more}
-use Rattle.world_engine.specs.Fields.{FieldState, Shows, IsField, HasCounted, IsLogged, entries_of, setup_of, id_of, setups_of, ids_of, due_of, rank_of}
-use Rattle.world_engine.specs.Fields.{channel_of}
-use Rattle.world_engine.specs.FieldSteps.{GoesOn, AreSame, Acts}
+use Rattle.world_engine.specs.Fields.{FieldState, FieldShows, IsField, HasCounted, IsLogged, entries_of, setup_of_device, id_of, setups_of, ids_of}
+use Rattle.world_engine.specs.Fields.{due_of_device, rank_of_tuned, channel_of}
+use Rattle.world_engine.specs.FieldSteps.{MediumGoesOn, AreSame, Acts}
 use Rattle.world_engine.proofs.ActsInTurn.{same_ids}
 use Rattle.world_engine.proofs.DevicePlaces.{at_set, apart_at}
 
@@ -63,9 +63,9 @@ tuned_other air u v (Some e) own other =
 pub sent_same : (air : List Entry) (u : ℕ) (c : Option TunedEntry) → sent_by (air ++ entries_of c) u ≡ sent_by air u
 sent_same air u c = ap (λ (l : List Sending). filter (λ (x : Sending). x.node == u) l) (sendings_tuned air c)
 
-pub entries_own : (c : Option TunedEntry) (v : ℕ) (e : Entry) → IfSome c (λ e. e.node ≡ v) → Contains (entries_of c) e → node_of e ≡ v
+pub entries_own : (c : Option TunedEntry) (v : ℕ) (e : Entry) → IfSome c (λ e. e.node ≡ v) → Contains (entries_of c) e → node_of_entry e ≡ v
 entries_own None v e own there = absurd (not_in_none e there)
-entries_own (Some x) v e own there = elim (contains_cases _ [] e there) [ inl is ↦ ap node_of (sym is) ∙ own | inr none ↦ absurd (not_in_none e none) ]
+entries_own (Some x) v e own there = elim (contains_cases _ [] e there) [ inl is ↦ ap node_of_entry (sym is) ∙ own | inr none ↦ absurd (not_in_none e none) ]
 
 delivery_own : (o : Option Delivery) (v : ℕ) (d : Delivery) → IfSome o (λ e. e.node ≡ v) → Contains (option_to_list o) d → d.node ≡ v
 delivery_own None v d own there = absurd (not_in_none d there)
@@ -102,7 +102,7 @@ delivered_other ds u v o own other =
 pub record IsStationOf (m : MediumState) (d : DeviceState) : Type 0 where
   pub station : Station
   pub there : station_of m d.setup.id ≡ Some station
-  pub tuned : option_map rank_of station.tuned ≡ option_map channel_of d.listening
+  pub tuned : option_map rank_of_tuned station.tuned ≡ option_map channel_of d.listening
   pub sending : station.sending ≡ d.sending
 
 -- in a step at t the device at place p has become another of the same node; a tuning and a delivery of it are in the lists,
@@ -117,10 +117,10 @@ pub record IsStepAt (t p : ℕ) (state after : DeviceState) (closed : Option Tun
   pub drops : new.drops ≡ old.drops ++ lost
   pub own_tuning : IfSome closed (λ e. e.node ≡ state.setup.id)
   pub own_delivery : IfSome delivery (λ d. d.node ≡ state.setup.id)
-  pub medium : GoesOn t old.medium new.medium []
+  pub medium : MediumGoesOn t old.medium new.medium []
   pub station : IsStationOf new.medium after
   pub stations : (u : ℕ) → u ≢ state.setup.id → station_of new.medium u ≡ station_of old.medium u
-  pub due : slice_get new_due p ≡ Some (due_of after)
+  pub due : slice_get new_due p ≡ Some (due_of_device after)
   pub dues : (q : ℕ) → q ≢ p → slice_get new_due q ≡ slice_get old_due q
   pub places : length new_due ≡ length old_due
   pub sums : (q : ℕ) → q ≢ p → slice_get new.sums q ≡ slice_get old.sums q
@@ -138,7 +138,7 @@ module _ (t p : ℕ) (state after : DeviceState) (closed : Option TunedEntry) (d
   within = slice_get_within old.devices p state is.here
 
   same_setups : setups_of new ≡ setups_of old
-  same_setups = ap (λ (l : List DeviceState). map setup_of l) is.devices ∙ map_stays setup_of old.devices p state after is.here is.setup
+  same_setups = ap (λ (l : List DeviceState). map setup_of_device l) is.devices ∙ map_stays setup_of_device old.devices p state after is.here is.setup
 
   stands_in : Contains (ids_of old) state.setup.id
   stands_in = contains_at (ids_of old) p state.setup.id (slice_get-map id_of old.devices p ∙ ap (λ (o : Option DeviceState). option_map id_of o) is.here)
@@ -185,7 +185,7 @@ module _ (t p : ℕ) (state after : DeviceState) (closed : Option TunedEntry) (d
             ∙ sym (ap (λ (l : List Delivery). delivered_by l v) is.deliveries ∙ delivered_own old.deliveries v delivery is.own_delivery);
       }
 
-  pub shown_other : IsField old → (q : ℕ) → q ≢ p → (s : Setup) (d : Device) → Shows s t old old_due q d → Shows s t new new_due q d
+  pub shown_other : IsField old → (q : ℕ) → q ≢ p → (s : Setup) (d : Device) → FieldShows s t old old_due q d → FieldShows s t new new_due q d
   shown_other field q other s d shows =
       let apart : shows.state.setup.id ≢ state.setup.id = other_id field q other shows.state shows.there in
       let apart_s : s.id ≢ state.setup.id = λ same. apart (ap (λ (x : Setup). x.id) shows.setup ∙ same) in
@@ -211,7 +211,7 @@ module _ (t p : ℕ) (state after : DeviceState) (closed : Option TunedEntry) (d
       }
 
   -- the device at the place is the one from which the step goes out
-  pub same_state : (s : Setup) (d : Device) → (shows : Shows s t old old_due p d) → shows.state ≡ state
+  pub same_state : (s : Setup) (d : Device) → (shows : FieldShows s t old old_due p d) → shows.state ≡ state
   same_state s d shows = same (sym shows.there ∙ is.here)
     where
       same : {x y : DeviceState} → (let o : Option DeviceState = Some x in o ≡ Some y) → x ≡ y
@@ -222,7 +222,7 @@ module _ (t p : ℕ) (state after : DeviceState) (closed : Option TunedEntry) (d
       (goes : (made : Made) → GoesOnMaking closed delivery made (making made))
       (comes : (made : Made) → EndedBefore t made.tuned → change state.setup (whole state made) ≡ whole after (making made))
       (counts : (made : Made) → HasCounted old.sums p state.setup made.windows → HasCounted new.sums p state.setup (making made).windows) where
-    pub shown_own : (s : Setup) (d : Device) → Shows s t old old_due p d → Shows s t new new_due p (change s d)
+    pub shown_own : (s : Setup) (d : Device) → FieldShows s t old old_due p d → FieldShows s t new new_due p (change s d)
     shown_own s d shows =
         let same = same_state s d shows in
         let is_s : state.setup ≡ s = ap (λ (x : DeviceState). x.setup) (sym same) ∙ shows.setup in
@@ -269,7 +269,7 @@ field_stays p old new state after field here setup devices medium nodes numbers 
     All-set (λ d. d.setup.profile ≡ old.medium.numbers) old.devices p after (ap (λ (s : Setup). s.profile) setup ∙ own) field.numbers in
     record {
       medium = medium;
-      nodes = same_ids new old (ap (λ (l : List DeviceState). map setup_of l) devices ∙ map_stays setup_of old.devices p state after here setup)
+      nodes = same_ids new old (ap (λ (l : List DeviceState). map setup_of_device l) devices ∙ map_stays setup_of_device old.devices p state after here setup)
           ∙ field.nodes ∙ sym nodes;
       numbers = subst (λ (l : List DeviceState). All (λ d. d.setup.profile ≡ new.medium.numbers) l) (sym devices)
           (subst (λ (n : Numbers). All (λ d. d.setup.profile ≡ n) (set old.devices p after)) (sym numbers) all);

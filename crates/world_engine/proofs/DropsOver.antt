@@ -5,10 +5,10 @@ use Rattle.scenario_text.specs.declared.script.ScriptLine.{ScriptLine}
 use Rattle.event_calendar.specs.Orders.{Due}
 use Rattle.bus_rules.specs.declared.delivery.DropLine.{DropLine}
 use Rattle.air_log.specs.declared.entry.Entry.{Entry}
-use Rattle.air_log.specs.ScriptedDevices.{after_line}
+use Rattle.air_log.specs.ScriptedDevices.{device_after_line}
 use Rattle.air_log.specs.Trails.{Reception, setup_of, frame_start, run_end, before_tick}
 use Rattle.air_log.specs.Lawful.{heard_by}
-use Rattle.air_log.specs.Drops.{told_at_tick, drop_by, drops_below, drops_of}
+use Rattle.air_log.specs.Drops.{told_at_tick, drop_by, trail_drops_below, drops_of}
 use Rattle.world_engine.specs.Fields.{FieldState}
 use Rattle.world_engine.specs.FieldSteps.{IsClosed}
 use Rattle.world_engine.specs.Moments.{Before}
@@ -20,13 +20,13 @@ module _ (s : ScenarioParts) (clocks : ℕ → ℕ → ℕ) (a b : List Entry) (
   abbrev lost_by : List ScriptLine → ScriptLine → List Reception → List DropLine
   lost_by above l hs =
       option_to_list (drop_by l l.act
-      (fold (after_line (clocks l.node) (setup_of s l.node) (frame_start s l.frame))
+      (fold (device_after_line (clocks l.node) (setup_of s l.node) (frame_start s l.frame))
       (before_tick s l.node (clocks l.node) hs (frame_start s l.frame)) (told_at_tick s above l)).power)
 
-  pub same_drops : (above ls : List ScriptLine) → drops_below s clocks a above ls ≡ drops_below s clocks b above ls
+  pub same_drops : (above ls : List ScriptLine) → trail_drops_below s clocks a above ls ≡ trail_drops_below s clocks b above ls
   same_drops above [] = refl
   same_drops above (l ∷ ls) =
-      ap (λ (ds : List DropLine). ds ++ drops_below s clocks a (above ++ l ∷ []) ls) (ap (lost_by above l) (same l.node))
+      ap (λ (ds : List DropLine). ds ++ trail_drops_below s clocks a (above ++ l ∷ []) ls) (ap (lost_by above l) (same l.node))
       ∙ ap (λ (ds : List DropLine). lost_by above l (heard_by b l.node) ++ ds) (same_drops (above ++ l ∷ []) ls)
 
 module _ (s : ScenarioParts) (clocks : ℕ → ℕ → ℕ) (w : FieldState) (due : List Due) (closed : FieldState)

@@ -19,13 +19,13 @@ use Rattle.tick_clock.specs.Clocks.{IsClock}
 use Rattle.bus_rules.specs.Cores.{Setup}
 use Rattle.air_log.specs.Devices.{Device}
 use Rattle.air_log.specs.AlarmRuns.{IsAlarmRun}
-use Rattle.air_log.specs.Trails.{run_end, alarmed, begun, starting}
+use Rattle.air_log.specs.Trails.{run_end, alarmed, device_after_start, sendings_starting}
 use Rattle.air_log.proofs.AlarmLoop.{early_in_run}
 use Rattle.air_log.specs.ClockLists.{clocks_by}
-use Rattle.world_engine.specs.Fields.{FieldState, Shows, IsShown}
-use Rattle.world_engine.specs.FieldSteps.{Acts, EndsSending, Sends, readings_at}
+use Rattle.world_engine.specs.Fields.{FieldState, FieldShows, FieldIsShown}
+use Rattle.world_engine.specs.FieldSteps.{Acts, EndsSending, DeviceSends, readings_at}
 use Rattle.world_engine.specs.Counting.{TrailsStay}
-use Rattle.world_engine.specs.Frames.{IsPast}
+use Rattle.world_engine.specs.Frames.{AllComeLater}
 use Rattle.world_engine.specs.Moments.{At}
 use Rattle.world_engine.specs.Running.{IsRunning}
 use Rattle.world_engine.proofs.AlarmsAtPlaces.{alarms_end}
@@ -64,7 +64,7 @@ module _ {C : Type 0} (R : C → ℕ → ℕ) (law : (c : C) → IsClock (R c)) 
     node : (n : NodeLine) × (slice_get s.nodes p ≡ Some n)
     node = node_of_place s old old_due run.places p inside
 
-    pub shown : (q : ℕ) → q < length old.devices → IsShown t old old_due q
+    pub shown : (q : ℕ) → q < length old.devices → FieldIsShown t old old_due q
     shown = shown_within s clocks t (At class) old old_due run.places run.trails
 
     pub trace_sealed : (trace : Traced) → IsSealed trace s.nodes → trace.nodes ≡ nodes_of old.medium
@@ -84,15 +84,15 @@ module _ {C : Type 0} (R : C → ℕ → ℕ) (law : (c : C) → IsClock (R c)) 
       next_end : IsNext old_due (Some (t, SendingEnd, p))
       next_end = subst (λ (k : Class). IsNext old_due (Some (t, k, p))) is_end next
 
-      pub sending : (x : Sending) × (x.end ≡ t) × Sends t old old_due p x
+      pub sending : (x : Sending) × (x.end ≡ t) × DeviceSends t old old_due p x
       sending = sends_at s clocks t (At SendingEnd) old old_due run.places run_end_of.trails p node.0 node.1 next_end.0
 
-      pub ends : (x : Setup) (d : Device) → Shows x t old old_due p d → Ends old.medium x.id t
+      pub ends : (x : Setup) (d : Device) → FieldShows x t old old_due p d → Ends old.medium x.id t
       ends = ends_at_place t old old_due p run.air.scene run.air.holds.held sending.0 sending.1 sending.2
 
       pub end_done : (lines : Lines) → lines ≡ s.trace → (new : FieldState) (new_due : List Due)
-          → ((x : Sending) → Sends t old old_due p x → (hearers : List ℕ) × EndsSending lines (readings_at R cs) t p x hearers old old_due new new_due)
-          → IsRunning s clocks told t (At SendingEnd) new new_due × IsPast t SendingEnd p new_due × TrailsStay s clocks t old.air new.air
+          → ((x : Sending) → DeviceSends t old old_due p x → (hearers : List ℕ) × EndsSending lines (readings_at R cs) t p x hearers old old_due new new_due)
+          → IsRunning s clocks told t (At SendingEnd) new new_due × AllComeLater t SendingEnd p new_due × TrailsStay s clocks t old.air new.air
       end_done lines by_trace new new_due done =
           let x = sending.0 in
           let all = done x sending.2 in
@@ -120,11 +120,11 @@ module _ {C : Type 0} (R : C → ℕ → ℕ) (law : (c : C) → IsClock (R c)) 
       next_alarm : IsNext old_due (Some (t, Alarm, p))
       next_alarm = subst (λ (k : Class). IsNext old_due (Some (t, k, p))) is_alarm next
 
-      pub alarms_over : (x : Setup) (d : Device) → Shows x t old old_due p d → IsAlarmRun (R c) x t d (alarmed (R c) x t d)
+      pub alarms_over : (x : Setup) (d : Device) → FieldShows x t old old_due p d → IsAlarmRun (R c) x t d (alarmed (R c) x t d)
       alarms_over = alarms_end s clocks t p (R c) (own_clock R s sound cs count p c clock) old old_due sound drifts within run.places run_alarm_of.trails
 
       pub alarm_done : (new : FieldState) (new_due : List Due) → Acts t p (λ x d. alarmed (R c) x t d) [] [] old old_due new new_due
-          → IsRunning s clocks told t (At Alarm) new new_due × IsPast t Alarm p new_due × TrailsStay s clocks t old.air new.air
+          → IsRunning s clocks told t (At Alarm) new new_due × AllComeLater t Alarm p new_due × TrailsStay s clocks t old.air new.air
       alarm_done new new_due acts =
           let after = alarm_goes_on s clocks sound told t p node.0 node.1 old old_due new new_due drifts within (R c)
           (own_clock R s sound cs count p c clock) acts run_alarm_of in (
@@ -145,9 +145,9 @@ module _ {C : Type 0} (R : C → ℕ → ℕ) (law : (c : C) → IsClock (R c)) 
       next_start = subst (λ (k : Class). IsNext old_due (Some (t, k, p))) is_start next
 
       pub start_done : (new : FieldState) (new_due : List Due)
-          → (starts : List Sending) × Acts t p (λ x d. begun x t d) starts [] old old_due new new_due
-          × ((x : Setup) (d : Device) → Shows x t old old_due p d → starts ≡ starting x t d)
-          → IsRunning s clocks told t (At SendingStart) new new_due × IsPast t SendingStart p new_due × TrailsStay s clocks t old.air new.air
+          → (starts : List Sending) × Acts t p (λ x d. device_after_start x t d) starts [] old old_due new new_due
+          × ((x : Setup) (d : Device) → FieldShows x t old old_due p d → starts ≡ sendings_starting x t d)
+          → IsRunning s clocks told t (At SendingStart) new new_due × AllComeLater t SendingStart p new_due × TrailsStay s clocks t old.air new.air
       start_done new new_due all =
           let c = at_place cs p in_clocks in
           let after = begin_goes_on s clocks sound told t p node.0 node.1 old old_due new new_due drifts within (R c.0)
@@ -155,7 +155,7 @@ module _ {C : Type 0} (R : C → ℕ → ℕ) (law : (c : C) → IsClock (R c)) 
             after,
             past s clocks sound drifts told t within SendingStart p few new new_due after
                 (later_places t SendingStart p old_due new_due next_start
-                (were_at s clocks told t p SendingStart old old_due new new_due run_start_of after (λ x d. begun x t d) all.0 [] all.1
+                (were_at s clocks told t p SendingStart old old_due new new_due run_start_of after (λ x d. device_after_start x t d) all.0 [] all.1
                 (λ x d shows. start_gone x t d))),
-            acts_stay s clocks t p (λ x d. begun x t d) all.0 [] old old_due new new_due all.1,
+            acts_stay s clocks t p (λ x d. device_after_start x t d) all.0 [] old old_due new new_due all.1,
           )

@@ -8,7 +8,7 @@ use Rattle.radio_model.specs.declared.sending.Sending.{Sending}
 use Rattle.radio_model.specs.declared.station.Station.{Station}
 use Rattle.radio_model.specs.Hearing.{Scene}
 use Rattle.radio_model.specs.Holding.{Holds}
-use Rattle.radio_model.specs.Stations.{IsTime, Ends, station_of, sending_of, finished, after}
+use Rattle.radio_model.specs.Stations.{IsTime, Ends, station_of, sending_of_station, station_after_end, medium_after_change}
 use Rattle.radio_model.proofs.Changes.{finished_keeps}
 use Rattle.radio_model.proofs.NothingBefore.{by_ending}
 use Rattle.radio_model.proofs.OneCall.{each_after}
@@ -21,8 +21,8 @@ use Rattle.air_log.specs.Entries.{sendings_of}
 use Rattle.air_log.specs.Devices.{Device}
 use Rattle.radio_model.proofs.ChangedStations.{station_changed}
 use Rattle.air_log.specs.DeviceStates.{DeviceState}
-use Rattle.world_engine.specs.Fields.{FieldState, IsField, IsKnown, Shows, IsShown, due_of, setup_of}
-use Rattle.world_engine.specs.FieldSteps.{Acts, Sends}
+use Rattle.world_engine.specs.Fields.{FieldState, IsField, IsKnownDevice, FieldShows, FieldIsShown, due_of_device, setup_of_device}
+use Rattle.world_engine.specs.FieldSteps.{Acts, DeviceSends}
 use Rattle.world_engine.proofs.DevicesOfNodes.{one_place}
 use Rattle.world_engine.proofs.ShownPlaces.{there_now, still_field, still_shown, shown_as}
 use Rattle.world_engine.proofs.ObeyedOrders.{due_changed}
@@ -31,16 +31,16 @@ use Rattle.world_engine.proofs.ObeyedOrders.{due_changed}
 pub record IsEnding (t p : ℕ) (w : FieldState) (due : List Due) (st : DeviceState) (x : Sending) : Type 0 where
   pub field : IsField w
   pub here : slice_get w.devices p ≡ Some st
-  pub shown : (q : ℕ) → q < length w.devices → IsShown t w due q
+  pub shown : (q : ℕ) → q < length w.devices → FieldIsShown t w due q
   pub time : IsTime w.medium t
   pub ends : Ends w.medium st.setup.id t
-  pub own : sending_of (station_of w.medium st.setup.id) ≡ Some x
+  pub own : sending_of_station (station_of w.medium st.setup.id) ≡ Some x
   pub runs : st.sending ≡ Some x
   pub until : x.end ≡ t
 
 abbrev pub over : ℕ → ℕ → DeviceState → FieldState → FieldState
 over t p st w = record {
-  medium = after t st.setup.id finished w.medium;
+  medium = medium_after_change t st.setup.id station_after_end w.medium;
   devices = set w.devices p (record st { sending = None });
   air = w.air;
   deliveries = w.deliveries;
@@ -58,22 +58,22 @@ module _ (t p : ℕ) (w : FieldState) (due : List Due) (st : DeviceState) (x : S
   abbrev pub over_due : List Due
   over_due = changed due p SendingEnd None
 
-  known : IsKnown w due p st
+  known : IsKnownDevice w due p st
   known =
       let at = ending.shown p (slice_get_within w.devices p st ending.here) in
       (shown_as at.setup t w due p at.device st ending.here at.shows).known
 
   -- whatever trail it is of, it sends x
-  pub sends_only : (y : Sending) → Sends t w due p y → y ≡ x
+  pub sends_only : (y : Sending) → DeviceSends t w due p y → y ≡ x
   sends_only y sends =
       let at = ending.shown p (slice_get_within w.devices p st ending.here) in
       let sh = shown_as at.setup t w due p at.device st ending.here at.shows in
       one_sending st.sending y x (ap (λ (d : Device). d.sending) sh.is ∙ sends at.setup at.device at.shows) ending.runs
 
   pub set_there : p < length due
-  set_there = slice_get_within due p (due_of st) known.set
+  set_there = slice_get_within due p (due_of_device st) known.set
 
-  over_own : (s : Setup) (d : Device) → Shows s t w due p d → Shows s t (over t p st w) over_due p (record d { sending = None })
+  over_own : (s : Setup) (d : Device) → FieldShows s t w due p d → FieldShows s t (over t p st w) over_due p (record d { sending = None })
   over_own s d shows =
       let sh = shown_as s t w due p d st ending.here shows in
       record {
@@ -84,11 +84,11 @@ module _ (t p : ℕ) (w : FieldState) (due : List Due) (st : DeviceState) (x : S
         is = ap (λ (e : Device). record e { sending = None }) sh.is;
         logged = record { sent = sh.logged.sent; tuned = sh.logged.tuned; deliveries = sh.logged.deliveries };
         known = record {
-          station = finished known.station;
-          there = station_changed finished finished_keeps st.setup.id w.medium t known.station known.there;
+          station = station_after_end known.station;
+          there = station_changed station_after_end finished_keeps st.setup.id w.medium t known.station known.there;
           tuned = known.tuned;
           sending = refl;
-          set = due_changed due p SendingEnd None (due_of st) known.set;
+          set = due_changed due p SendingEnd None (due_of_device st) known.set;
         };
         counted = sh.counted;
         ended = sh.ended;
@@ -96,7 +96,7 @@ module _ (t p : ℕ) (w : FieldState) (due : List Due) (st : DeviceState) (x : S
         taken = sh.taken;
       }
 
-  over_others : (q : ℕ) → q ≢ p → (s : Setup) (d : Device) → Shows s t w due q d → Shows s t (over t p st w) over_due q d
+  over_others : (q : ℕ) → q ≢ p → (s : Setup) (d : Device) → FieldShows s t w due q d → FieldShows s t (over t p st w) over_due q d
   over_others q other s d shows =
       let apart : s.id ≢ st.setup.id = λ same. other
       (one_place w ending.field q p shows.state st shows.there ending.here (ap (λ (u : Setup). u.id) shows.setup ∙ same)) in
@@ -105,7 +105,7 @@ module _ (t p : ℕ) (w : FieldState) (due : List Due) (st : DeviceState) (x : S
         sent = refl;
         tuned = refl;
         deliveries = refl;
-        station = other_station w.medium t st.setup.id finished finished_keeps.node s.id apart;
+        station = other_station w.medium t st.setup.id station_after_end finished_keeps.node s.id apart;
         due = set_elsewhere due p q _ other;
         sums = refl;
       }) shows
@@ -115,7 +115,7 @@ module _ (t p : ℕ) (w : FieldState) (due : List Due) (st : DeviceState) (x : S
     later = omega arith;
     small = ending.time.small;
     running = λ s y in_it sends.
-        each_after w.medium ending.field.medium finished finished_keeps st.setup.id t (λ (k : Station). k.sending ≡ Some y → t ≤ y.end)
+        each_after w.medium ending.field.medium station_after_end finished_keeps st.setup.id t (λ (k : Station). k.sending ≡ Some y → t ≤ y.end)
         (λ k there own runs. nothing y runs)
         (λ k there _ runs. ending.time.running k y there runs)
         s in_it sends;
@@ -127,8 +127,8 @@ module _ (t p : ℕ) (w : FieldState) (due : List Due) (st : DeviceState) (x : S
   pub over_is_field : IsField (over t p st w)
   over_is_field =
       still_field w (over t p st w).medium p st (record st { sending = None }) w.air w.deliveries w.drops ending.field
-      (still_medium finished finished_keeps st.setup.id t w.medium ending.field.medium)
-      (same_nodes w.medium t st.setup.id finished finished_keeps.node) refl ending.here refl
+      (still_medium station_after_end finished_keeps st.setup.id t w.medium ending.field.medium)
+      (same_nodes w.medium t st.setup.id station_after_end finished_keeps.node) refl ending.here refl
 
   -- to all others nothing has happened
   pub sending_is_over : ((a : Scene) → Holds w.medium a → Holds (over t p st w).medium a)
@@ -142,12 +142,12 @@ module _ (t p : ℕ) (w : FieldState) (due : List Due) (st : DeviceState) (x : S
     air = record {
       scene = λ a holds. (a, record { held = held a holds; lines = refl; sendings = sym (append-nil a.sendings); before = by_ending w.medium st.setup.id t a });
       time = over_time;
-      nodes = same_nodes w.medium t st.setup.id finished finished_keeps.node;
+      nodes = same_nodes w.medium t st.setup.id station_after_end finished_keeps.node;
       numbers = refl;
-      still = still_medium finished finished_keeps st.setup.id t w.medium;
+      still = still_medium station_after_end finished_keeps st.setup.id t w.medium;
     };
     same = record {
-      setups = map_stays setup_of w.devices p st (record st { sending = None }) ending.here refl;
+      setups = map_stays setup_of_device w.devices p st (record st { sending = None }) ending.here refl;
       places = length-set due p _;
       entries = λ e there. inl there;
       deliverers = λ d there. inl there;

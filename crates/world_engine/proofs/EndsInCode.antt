@@ -6,16 +6,16 @@ use Rattle.std.proofs.lemmas.Bool.{cond-true}
 use Rattle.std.proofs.lemmas.Option.{slice_get_read}
 use Rattle.link_trace.specs.Passes.{Lines}
 use Rattle.radio_model.specs.declared.sending.Sending.{Sending}
-use Rattle.radio_model.specs.Hearing.{Scene, Hears}
+use Rattle.radio_model.specs.Hearing.{Scene, HearsInScene}
 use Rattle.radio_model.specs.Holding.{Holds, as_it_stands}
-use Rattle.radio_model.specs.Stations.{MediumState, IsTime, Ends, station_of, sending_of, nodes_of, finished, after}
+use Rattle.radio_model.specs.Stations.{MediumState, IsTime, Ends, station_of, sending_of_station, nodes_of, station_after_end, medium_after_change}
 use Rattle.event_calendar.specs.Orders.{Due, changed}
 use Rattle.event_calendar.specs.declared.class.Class.TheVariants.{SendingEnd}
 use Rattle.bus_rules.specs.Cores.{Setup}
 use Rattle.air_log.specs.Devices.{Device}
 use Rattle.air_log.specs.DeviceStates.{DeviceState, ending_at}
-use Rattle.world_engine.specs.Fields.{FieldState, IsField, Shows, IsShown}
-use Rattle.world_engine.specs.FieldSteps.{EndsSending, Sends}
+use Rattle.world_engine.specs.Fields.{FieldState, IsField, FieldShows, FieldIsShown}
+use Rattle.world_engine.specs.FieldSteps.{EndsSending, DeviceSends}
 use Rattle.world_engine.proofs.ShownPlaces.{shown_as}
 use Rattle.world_engine.proofs.EndedSendings.{IsEnding, over, over_is_field, one_sending, sends_only, set_there}
 use Rattle.world_engine.proofs.EndsOfSendings.{HasEnded}
@@ -42,11 +42,11 @@ changed_field w medium devices = record {
   sums = w.sums;
 }
 
-as_over : (t i p u : ℕ) (w : FieldState) (m : MediumState) (st new : DeviceState) → i ≡ p → u ≡ st.setup.id → m ≡ after t u finished w.medium
-    → new ≡ record st { sending = None } → changed_field w m (set w.devices i new) ≡ over t p st w
+as_over : (t i p u : ℕ) (w : FieldState) (m : MediumState) (st new : DeviceState) → i ≡ p → u ≡ st.setup.id
+    → m ≡ medium_after_change t u station_after_end w.medium → new ≡ record st { sending = None } → changed_field w m (set w.devices i new) ≡ over t p st w
 as_over t i p u w m st new place node medium device =
-    ap (λ (k : MediumState). changed_field w k (set w.devices i new)) (medium ∙ ap (λ (v : ℕ). after t v finished w.medium) node)
-    ∙ ap (λ (l : List DeviceState). changed_field w (after t st.setup.id finished w.medium) l)
+    ap (λ (k : MediumState). changed_field w k (set w.devices i new)) (medium ∙ ap (λ (v : ℕ). medium_after_change t v station_after_end w.medium) node)
+    ∙ ap (λ (l : List DeviceState). changed_field w (medium_after_change t st.setup.id station_after_end w.medium) l)
     (ap (λ (k : ℕ). set w.devices k new) place ∙ ap (set w.devices p) device)
 
 -- the same of the field that is given, and of any sending that it is asked of
@@ -58,13 +58,13 @@ as_asked {lines} {clocks} {t} {p} {x} {y} {hearers} {w} {given} {new} {due} {new
 
 -- what is asked of the call
 module _ {t p : ℕ} {w given : FieldState} {due : List Due} (seen : w ≡ given) (field : IsField w) (within : p < length given.devices)
-    (shown : (q : ℕ) → q < length given.devices → IsShown t given due q) (time : IsTime given.medium t)
-    (ends : (s : Setup) (d : Device) → Shows s t given due p d → Ends given.medium s.id t) where
+    (shown : (q : ℕ) → q < length given.devices → FieldIsShown t given due q) (time : IsTime given.medium t)
+    (ends : (s : Setup) (d : Device) → FieldShows s t given due p d → Ends given.medium s.id t) where
   -- of a device that is read at the place
   is_ending : (i : ℕ) (st : DeviceState) → i ≡ p → st ≡ get_or w.devices i st → (x : Sending) × IsEnding t p w due st x
   is_ending i st place is =
-      let back : (q : ℕ) → q < length w.devices → IsShown t w due q =
-      subst (λ (v : FieldState). (q : ℕ) → q < length v.devices → IsShown t v due q) (sym seen) shown in
+      let back : (q : ℕ) → q < length w.devices → FieldIsShown t w due q =
+      subst (λ (v : FieldState). (q : ℕ) → q < length v.devices → FieldIsShown t v due q) (sym seen) shown in
       let below : p < length w.devices = subst (λ (v : FieldState). p < length v.devices) (sym seen) within in
       let there : slice_get w.devices p ≡ Some st = subst (λ (k : ℕ). slice_get w.devices k ≡ Some st) place
       (slice_get_read w.devices (length w.devices) i st refl (omega (arith, below, place)) is) in
@@ -72,7 +72,8 @@ module _ {t p : ℕ} {w given : FieldState} {due : List Due} (seen : w ≡ given
       let sh = shown_as at.setup t w due p at.device st there at.shows in
       let own : Ends w.medium st.setup.id t =
       subst (λ (u : Setup). Ends w.medium u.id t) (sym sh.setup)
-      ((subst (λ (v : FieldState). (s : Setup) (d : Device) → Shows s t v due p d → Ends v.medium s.id t) (sym seen) ends) at.setup at.device at.shows) in (
+      ((subst (λ (v : FieldState). (s : Setup) (d : Device) → FieldShows s t v due p d → Ends v.medium s.id t) (sym seen) ends) at.setup at.device
+          at.shows) in (
         own.sending,
         record {
           field = field;
@@ -81,7 +82,7 @@ module _ {t p : ℕ} {w given : FieldState} {due : List Due} (seen : w ≡ given
           time = subst (λ (v : FieldState). IsTime v.medium t) (sym seen) time;
           ends = own;
           own = own.runs;
-          runs = sym sh.known.sending ∙ ap sending_of (sym sh.known.there) ∙ own.runs;
+          runs = sym sh.known.sending ∙ ap sending_of_station (sym sh.known.there) ∙ own.runs;
           until = own.until;
         },
       )
@@ -103,7 +104,7 @@ module _ {t p : ℕ} {w given : FieldState} {due : List Due} (seen : w ≡ given
   module _ {u i j : ℕ} {first st new : DeviceState} {r : Option Sending} {x : Sending} {m : MediumState} (place_i : i ≡ p)
       (is_first : first ≡ get_or w.devices i first) (node : u ≡ first.setup.id) (place_j : j ≡ p) (is : st ≡ get_or w.devices j st)
       (ended : r ≡ ending_at t st.sending) (silent : new ≡ record st { sending = if is_some r then None else st.sending }) (some : r ≡ Some x)
-      (medium : m ≡ after t u finished w.medium) where
+      (medium : m ≡ medium_after_change t u station_after_end w.medium) where
     node_of : u ≡ st.setup.id
     node_of = node ∙ ap (λ (d : DeviceState). d.setup.id)
         (one_there w.devices p first st (is_ending i first place_i is_first).1.here (is_ending j st place_j is).1.here)
@@ -122,16 +123,16 @@ module _ {t p : ℕ} {w given : FieldState} {due : List Due} (seen : w ≡ given
     ended_field = subst IsField (sym is_over) (over_is_field t p w due st x ending)
 
     -- whatever trail the device is of, it sends x
-    pub sends_that : (y : Sending) → Sends t given due p y → x ≡ y
-    sends_that y sends = sym (sends_only t p w due st x ending y (subst (λ (v : FieldState). Sends t v due p y) (sym seen) sends))
+    pub sends_that : (y : Sending) → DeviceSends t given due p y → x ≡ y
+    sends_that y sends = sym (sends_only t p w due st x ending y (subst (λ (v : FieldState). DeviceSends t v due p y) (sym seen) sends))
 
     pub has_ended : {lines : Lines} {ps : List (ℕ × ℕ)} {mid_due : List Due} → All (λ r. r.1 ≡ u) ps → AllPairs (λ r s. r.0 < s.0) ps
-        → ((a : Scene) (y : Sending) → Holds w.medium a → a.lines ≡ lines → sending_of (station_of w.medium u) ≡ Some y → (v : ℕ)
-        → Contains ps (v, u) ↔ (Contains (nodes_of w.medium) v × Hears (as_it_stands w.medium t a) v y))
+        → ((a : Scene) (y : Sending) → Holds w.medium a → a.lines ≡ lines → sending_of_station (station_of w.medium u) ≡ Some y → (v : ℕ)
+        → Contains ps (v, u) ↔ (Contains (nodes_of w.medium) v × HearsInScene (as_it_stands w.medium t a) v y))
         → mid_due ≡ changed due p SendingEnd None → ((a : Scene) → Holds w.medium a → Holds m a)
         → HasEnded lines t p u w due st x ps (changed_field w m (set w.devices j new)) mid_due
     has_ended sender ascending hearers is_due keeps =
-        let own : sending_of (station_of w.medium u) ≡ Some x = ap (λ (n : ℕ). sending_of (station_of w.medium n)) node_of ∙ ending.own in
+        let own : sending_of_station (station_of w.medium u) ≡ Some x = ap (λ (n : ℕ). sending_of_station (station_of w.medium n)) node_of ∙ ending.own in
         record {
           ending = ending;
           hearers = record { sender = sender; ascending = ascending; hear = λ a held same. hearers a x held same own };

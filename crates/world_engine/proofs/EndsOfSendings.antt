@@ -10,7 +10,7 @@ use Rattle.lwb_base.specs.declared.event.Event.TheVariants.{Sent}
 use Rattle.link_trace.specs.Passes.{Lines}
 use Rattle.radio_model.specs.declared.sending.Sending.{Sending}
 use Rattle.radio_model.specs.OnAir.{Hearing}
-use Rattle.radio_model.specs.Hearing.{Scene, Hears}
+use Rattle.radio_model.specs.Hearing.{Scene, HearsInScene}
 use Rattle.radio_model.specs.Holding.{Holds, as_it_stands}
 use Rattle.radio_model.specs.Stations.{MediumState, IsTime, nodes_of}
 use Rattle.event_calendar.specs.Orders.{Due, changed}
@@ -20,7 +20,7 @@ use Rattle.air_log.specs.Entries.{hearings_of, sendings_of}
 use Rattle.air_log.specs.Devices.{Device, event}
 use Rattle.lwb_base.proofs.Elements.{map_contains, map_from, contains_at}
 use Rattle.air_log.specs.DeviceStates.{DeviceState}
-use Rattle.world_engine.specs.Fields.{FieldState, Shows, IsShown, id_of, ids_of}
+use Rattle.world_engine.specs.Fields.{FieldState, FieldShows, FieldIsShown, id_of, ids_of}
 use Rattle.world_engine.specs.FieldSteps.{Acts, EndsSending, hearing_at, told_of_hearing}
 use Rattle.world_engine.specs.FieldHearings.{AllHear}
 use Rattle.world_engine.proofs.GoesOn.{goes_on_then, same_ids, same_then}
@@ -36,7 +36,7 @@ first r = r.0
 pub record AreHearers (lines : Lines) (t u : ℕ) (x : Sending) (m : MediumState) (ps : List (ℕ × ℕ)) : Type 0 where
   pub sender : All (λ r. r.1 ≡ u) ps
   pub ascending : AllPairs (λ r s. r.0 < s.0) ps
-  pub hear : (a : Scene) → Holds m a → a.lines ≡ lines → (v : ℕ) → Contains ps (v, u) ↔ (Contains (nodes_of m) v × Hears (as_it_stands m t a) v x)
+  pub hear : (a : Scene) → Holds m a → a.lines ≡ lines → (v : ℕ) → Contains ps (v, u) ↔ (Contains (nodes_of m) v × HearsInScene (as_it_stands m t a) v x)
 
 module _ (lines : Lines) (t u : ℕ) (x : Sending) (m : MediumState) (ps : List (ℕ × ℕ)) (are : AreHearers lines t u x m ps) where
   -- a hearer alone and with the sender
@@ -96,23 +96,24 @@ module _ {lines : Lines} {t p u : ℕ} {w : FieldState} {due : List Due} {st : D
       same_there (q ∷ qs) zero a b less = refl
       same_there (q ∷ qs) (suc k) a b less = same_there qs k a b (omega arith)
 
-  each_shown : (q : ℕ) → q < length mid.devices → IsShown t mid mid_due q
+  each_shown : (q : ℕ) → q < length mid.devices → FieldIsShown t mid mid_due q
   each_shown q below =
       let at = it.ending.shown q (omega (arith, below, long)) in
       elim (cases_eq q p) [
         | inl is ↦
-            let here : Shows at.setup t w due p at.device = subst (λ (k : ℕ). Shows at.setup t w due k at.device) is at.shows in
+            let here : FieldShows at.setup t w due p at.device = subst (λ (k : ℕ). FieldShows at.setup t w due k at.device) is at.shows in
             record {
               setup = at.setup;
               device = record (at.device) { sending = None };
-              shows = subst (λ (k : ℕ). Shows at.setup t mid mid_due k (record (at.device) { sending = None })) (sym is) (acts.own at.setup at.device here);
+              shows =
+                  subst (λ (k : ℕ). FieldShows at.setup t mid mid_due k (record (at.device) { sending = None })) (sym is) (acts.own at.setup at.device here);
             }
         | inr other ↦ record { setup = at.setup; device = at.device; shows = acts.others q other at.setup at.device at.shows }
       ]
 
   -- at the end of x
-  pub shown_at_end : (q : ℕ) → q < length mid.devices → IsShown x.end mid mid_due q
-  shown_at_end = subst (λ (k : ℕ). (q : ℕ) → q < length mid.devices → IsShown k mid mid_due q) (sym it.ending.until) each_shown
+  pub shown_at_end : (q : ℕ) → q < length mid.devices → FieldIsShown x.end mid mid_due q
+  shown_at_end = subst (λ (k : ℕ). (q : ℕ) → q < length mid.devices → FieldIsShown k mid mid_due q) (sym it.ending.until) each_shown
 
   pub time_at_end : IsTime mid.medium x.end
   time_at_end = subst (λ (k : ℕ). IsTime mid.medium k) (sym it.ending.until) acts.air.time
@@ -121,7 +122,7 @@ module _ {lines : Lines} {t p u : ℕ} {w : FieldState} {due : List Due} {st : D
     all : AllHear clocks t x heard.0 mid mid_due hd hd_due
     all = subst (λ (k : ℕ). AllHear clocks k x heard.0 mid mid_due hd hd_due) it.ending.until heard.2
 
-    pub sender_shown : IsShown t hd hd_due p
+    pub sender_shown : FieldIsShown t hd hd_due p
     sender_shown = still_shown_to clocks t x heard.0 p mid hd mid_due hd_due all
         (each_shown p (let within = slice_get_within w.devices p st it.ending.here in omega (arith, within, long)))
 
@@ -129,18 +130,18 @@ module _ {lines : Lines} {t p u : ℕ} {w : FieldState} {due : List Due} {st : D
     ascend_ids = subst (λ (l : List ℕ). AllPairs (λ a b. a < b) l) (sym (ids ∙ it.ending.field.nodes)) it.ending.field.medium.nodes.ascending
 
     -- the id at a place
-    id_shown : (q : ℕ) (s : Setup) (d : Device) → Shows s t w due q d → id_at (ids_of mid) q ≡ s.id
+    id_shown : (q : ℕ) (s : Setup) (d : Device) → FieldShows s t w due q d → id_at (ids_of mid) q ≡ s.id
     id_shown q s d shows = ap (λ (l : List ℕ). id_at l q) ids ∙ id_there w q shows.state shows.there ∙ ap (λ (k : Setup). k.id) shows.setup
 
-    hears_there : (a : Scene) → Holds w.medium a → a.lines ≡ lines → (q : ℕ) (s : Setup) (d : Device) → Shows s t w due q d → Contains heard.0 q
-        → Hears (as_it_stands w.medium t a) s.id x
+    hears_there : (a : Scene) → Holds w.medium a → a.lines ≡ lines → (q : ℕ) (s : Setup) (d : Device) → FieldShows s t w due q d → Contains heard.0 q
+        → HearsInScene (as_it_stands w.medium t a) s.id x
     hears_there a held same q s d shows there =
         let node : Contains (map first ps) s.id = subst (λ (n : ℕ). Contains (map first ps) n) (id_shown q s d shows)
         (node_there (ids_of mid) (map first ps) heard.0 heard.1 q there) in
         ((it.hearers.hear a held same s.id).0 (as_pair lines t u x w.medium ps it.hearers s.id node)).1
 
-    is_hearer : (a : Scene) → Holds w.medium a → a.lines ≡ lines → (q : ℕ) (s : Setup) (d : Device) → Shows s t w due q d
-        → Hears (as_it_stands w.medium t a) s.id x → Contains heard.0 q
+    is_hearer : (a : Scene) → Holds w.medium a → a.lines ≡ lines → (q : ℕ) (s : Setup) (d : Device) → FieldShows s t w due q d
+        → HearsInScene (as_it_stands w.medium t a) s.id x → Contains heard.0 q
     is_hearer a held same q s d shows hears =
         let is = id_shown q s d shows in
         let in_ids : Contains (ids_of w) s.id = subst (λ (n : ℕ). Contains (ids_of w) n) (ap (λ (k : Setup). k.id) shows.setup)

@@ -12,7 +12,7 @@ use Rattle.world_engine.specs.Counting.{TrailsStay}
 use Rattle.world_engine.specs.Fields.{FieldState}
 use Rattle.world_engine.specs.Moments.{Before, At}
 use Rattle.world_engine.specs.Running.{IsRunning}
-use Rattle.world_engine.specs.Frames.{order_key, IsPast}
+use Rattle.world_engine.specs.Frames.{order_key, AllComeLater}
 use Rattle.world_engine.proofs.CountedScans.{stay_same, stay_then, stay_until}
 use Rattle.world_engine.proofs.NextMoments.{NoneBefore, none_before_next, none_stands, none_earlier, starts_apart}
 use Rattle.world_engine.proofs.PlacedNodes.{as_many_devices}
@@ -39,7 +39,7 @@ abbrev pub keys_left : ScenarioParts → ℕ → List Due → ℕ
 keys_left s f due = last_key s f - least_from (last_key s f) 0 due
 
 pub nearer : (s : ScenarioParts) (f t : ℕ) (class : Class) (p : ℕ) (old_due new_due : List Due) → p < 64 → t < frame_start s (suc f)
-    → Stands old_due (t, class, p) → IsPast t class p new_due → keys_left s f new_due < keys_left s f old_due
+    → Stands old_due (t, class, p) → AllComeLater t class p new_due → keys_left s f new_due < keys_left s f old_due
 nearer s f t class p old_due new_due few before stands past =
     let bound = last_key s f in
     let within : order_key t class p < bound = below class in

@@ -12,12 +12,12 @@ use Rattle.bus_rules.specs.declared.delivery.Delivery.{Delivery}
 use Rattle.air_log.specs.declared.entry.Entry.{Entry}
 use Rattle.air_log.specs.declared.entry.TunedEntry.{TunedEntry}
 use Rattle.air_log.specs.Devices.{Device, Made, silenced, nothing_made}
-use Rattle.air_log.specs.Entries.{sendings_of, hearings_of, node_of}
+use Rattle.air_log.specs.Entries.{sendings_of, hearings_of, node_of_entry}
 use Rattle.air_log.specs.Lawful.{sent_by, tuned_by}
 use Rattle.lwb_base.proofs.Elements.{map_contains, contains_at}
 use Rattle.lwb_base.proofs.Lists.{set_elsewhere, map_stays}
 use Rattle.air_log.specs.DeviceStates.{DeviceState, whole, one_more, with_tuned, IsCoreAt}
-use Rattle.world_engine.specs.Fields.{FieldState, IsField, IsLogged, entries_of, setup_of, id_of, power_of, ids_of}
+use Rattle.world_engine.specs.Fields.{FieldState, IsField, IsLogged, entries_of, setup_of_device, id_of, power_of, ids_of}
 use Rattle.world_engine.specs.FieldSteps.{GoesSilent, IsClosed}
 use Rattle.world_engine.proofs.DevicePlaces.{at_set, apart_at}
 use Rattle.world_engine.proofs.DeviceSteps.{hearings_tuned, sendings_tuned, sent_same, tuned_own, tuned_other, entries_own}
@@ -64,9 +64,9 @@ pub record IsClosedUpto (t i : ℕ) (old new : FieldState) : Type 0 where
   pub drops : new.drops ≡ old.drops
   pub sums : new.sums ≡ old.sums
   pub powers : map power_of new.devices ≡ map power_of old.devices
-  pub setups : map setup_of new.devices ≡ map setup_of old.devices
+  pub setups : map setup_of_device new.devices ≡ map setup_of_device old.devices
   pub cores : (p : ℕ) (d : DeviceState) → p < i → slice_get new.devices p ≡ Some d → IsCoreAt d.core d.power
-  pub entries : (e : Entry) → Contains new.air e → Contains old.air e ⊎ Contains (ids_of old) (node_of e)
+  pub entries : (e : Entry) → Contains new.air e → Contains old.air e ⊎ Contains (ids_of old) (node_of_entry e)
 
 pub closed_none : (t : ℕ) (w : FieldState) → IsClosedUpto t 0 w w
 closed_none t w = record {
@@ -130,9 +130,9 @@ module _ (t i : ℕ) (old now new : FieldState) (field : IsField old) (is : IsCl
   same_power : goes.silent.power ≡ state.power
   same_power = ap (λ (d : Device). d.power) (sym (goes.made nothing_made))
 
-  new_entry : (e : Entry) → Contains after.air e → Contains old.air e ⊎ Contains (ids_of old) (node_of e)
+  new_entry : (e : Entry) → Contains after.air e → Contains old.air e ⊎ Contains (ids_of old) (node_of_entry e)
   new_entry e there =
-      let own : (c : Option TunedEntry) → IsOwn state.setup.id c → Contains (entries_of c) e → Contains old.air e ⊎ Contains (ids_of old) (node_of e) =
+      let own : (c : Option TunedEntry) → IsOwn state.setup.id c → Contains (entries_of c) e → Contains old.air e ⊎ Contains (ids_of old) (node_of_entry e) =
       λ c is_own more. inr (subst (λ (v : ℕ). Contains (ids_of old) v) (sym (entries_own c state.setup.id e is_own more)) own_id) in
       elim (Contains-append_cases (now.air ++ entries_of goes.before) (entries_of goes.last) e there) [
         | inl was ↦ elim (Contains-append_cases now.air (entries_of goes.before) e was) [
@@ -183,7 +183,7 @@ module _ (t i : ℕ) (old now new : FieldState) (field : IsField old) (is : IsCl
     drops = is.drops;
     sums = is.sums;
     powers = map_stays power_of now.devices i state goes.silent goes.there same_power ∙ is.powers;
-    setups = map_stays setup_of now.devices i state goes.silent goes.there goes.setup ∙ is.setups;
+    setups = map_stays setup_of_device now.devices i state goes.silent goes.there goes.setup ∙ is.setups;
     cores = one_core;
     entries = new_entry;
   }
@@ -207,7 +207,7 @@ all_closed t i old due new is end = record {
   sums = is.sums;
   powers = is.powers;
   cores = λ p d below. is.cores p (get_or new.devices p d)
-      (let long = ap length is.setups in omega (arith, long, length-map new.devices setup_of, length-map old.devices setup_of))
+      (let long = ap length is.setups in omega (arith, long, length-map new.devices setup_of_device, length-map old.devices setup_of_device))
       (slice_get-get_or new.devices p d below);
   setups = is.setups;
   entries = is.entries;

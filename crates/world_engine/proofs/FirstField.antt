@@ -16,7 +16,7 @@ use Rattle.air_log.specs.Devices.{Device, at_rest, nothing_made}
 use Rattle.air_log.specs.Trails.{setup_of}
 use Rattle.air_log.specs.DeviceStates.{DeviceState, whole, one_more, core_in}
 use Rattle.world_engine.specs.Fields.{FieldState, IsField, id_of}
-use Rattle.world_engine.specs.FieldSteps.{first_device, node_id, IsFirst}
+use Rattle.world_engine.specs.FieldSteps.{first_device, node_id, IsFirstField}
 use Rattle.world_engine.specs.Worlds.{new_core}
 use Rattle.lwb_base.proofs.Elements.{pairs_of_map}
 
@@ -65,5 +65,5 @@ cores_first : (s : ScenarioParts) (ns : List NodeLine) → map core_in (map (fir
 cores_first s [] = refl
 cores_first s (n ∷ ns) = ap (λ (l : List NodeState). new_core s n ∷ l) (cores_first s ns)
 
-pub first_cores : (s : ScenarioParts) (w : FieldState) → IsFirst s w → map core_in w.devices ≡ map (new_core s) s.nodes
+pub first_cores : (s : ScenarioParts) (w : FieldState) → IsFirstField s w → map core_in w.devices ≡ map (new_core s) s.nodes
 first_cores s w first = ap (map core_in) first.devices ∙ cores_first s s.nodes

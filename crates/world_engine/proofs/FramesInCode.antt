@@ -12,7 +12,7 @@ use Rattle.event_calendar.specs.Orders.{Due}
 use Rattle.air_log.specs.Trails.{run_end, frame_start}
 use Rattle.world_engine.specs.Counting.{TrailsStay, scans_before, all_scans_before, AreCountedOn}
 use Rattle.world_engine.specs.Fields.{FieldState}
-use Rattle.world_engine.specs.Frames.{told_before, IsCut}
+use Rattle.world_engine.specs.Frames.{told_before, CountsScriptLinesBefore}
 use Rattle.world_engine.specs.Moments.{Before, InLines}
 use Rattle.world_engine.specs.Running.{IsRunning}
 use Rattle.world_engine.proofs.CountedScans.{none_scanned, few_scans, scans_stay, scanned_on}
@@ -23,7 +23,7 @@ use Rattle.world_engine.proofs.ScriptCuts.{told_at_cut, first_cut}
 -- the run is at the beginning of frame f, line k of the script is the first that is not yet told, and it is counted in how many
 -- frames each node scans
 pub record IsAtFrame (s : ScenarioParts) (clocks : ℕ → ℕ → ℕ) (k f : ℕ) (scanned : List ℕ) (w : FieldState) (due : List Due) : Type 0 where
-  pub cut : IsCut s k f
+  pub cut : CountsScriptLinesBefore s k f
   pub run : IsRunning s clocks (told_before s f) (frame_start s f) Before w due
   pub scanned_are : scanned ≡ all_scans_before s clocks w.air f
 

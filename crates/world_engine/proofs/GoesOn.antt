@@ -9,16 +9,16 @@ use Rattle.radio_model.specs.Stations.{MediumState, IsTime}
 use Rattle.radio_model.proofs.Agreement.{agree_same, agree_on}
 use Rattle.event_calendar.specs.Orders.{Due}
 use Rattle.bus_rules.specs.Cores.{Setup}
-use Rattle.air_log.specs.Entries.{node_of}
-use Rattle.world_engine.specs.Fields.{FieldState, IsField, ids_of, id_of, setup_of}
+use Rattle.air_log.specs.Entries.{node_of_entry}
+use Rattle.world_engine.specs.Fields.{FieldState, IsField, ids_of, id_of, setup_of_device}
 use Rattle.air_log.specs.DeviceStates.{DeviceState}
-use Rattle.world_engine.specs.FieldSteps.{GoesOn, AreSame}
+use Rattle.world_engine.specs.FieldSteps.{MediumGoesOn, AreSame}
 
 abbrev pub id_in : Setup → ℕ
 id_in s = s.id
 
 -- where nothing is told to the medium
-pub goes_on_nothing : (t : ℕ) (m : MediumState) → IsTime m t → GoesOn t m m []
+pub goes_on_nothing : (t : ℕ) (m : MediumState) → IsTime m t → MediumGoesOn t m m []
 goes_on_nothing t m time = record {
   scene = λ a held. (a, record { held = held; lines = refl; sendings = sym (append-nil a.sendings); before = agree_same t (as_it_stands m t a) });
   time = time;
@@ -27,7 +27,8 @@ goes_on_nothing t m time = record {
   still = λ is. is;
 }
 
-pub goes_on_then : (t : ℕ) (m n o : MediumState) (first second : List Sending) → GoesOn t m n first → GoesOn t n o second → GoesOn t m o (first ++ second)
+pub goes_on_then : (t : ℕ) (m n o : MediumState) (first second : List Sending) → MediumGoesOn t m n first → MediumGoesOn t n o second
+    → MediumGoesOn t m o (first ++ second)
 goes_on_then t m n o first second p q = record {
   scene = λ a held.
       let b = p.scene a held in
@@ -50,7 +51,7 @@ goes_on_then t m n o first second p q = record {
 pub same_ids : (v w : FieldState) (due after : List Due) → AreSame v due w after → ids_of w ≡ ids_of v
 same_ids v w due after same = sym (by_setup w.devices) ∙ ap (map id_in) same.setups ∙ by_setup v.devices
   where
-    by_setup : (ds : List DeviceState) → map id_in (map setup_of ds) ≡ map id_of ds
+    by_setup : (ds : List DeviceState) → map id_in (map setup_of_device ds) ≡ map id_of ds
     by_setup [] = refl
     by_setup (d ∷ ds) = ap (λ (l : List ℕ). d.setup.id ∷ l) (by_setup ds)
 
@@ -63,7 +64,7 @@ same_then u v w a b c p q = record {
   places = q.places ∙ p.places;
   entries = λ e there. elim (q.entries e there) [
     | inl in_v ↦ p.entries e in_v
-    | inr of_v ↦ inr (subst (λ (l : List ℕ). Contains l (node_of e)) (same_ids u v a b p) of_v)
+    | inr of_v ↦ inr (subst (λ (l : List ℕ). Contains l (node_of_entry e)) (same_ids u v a b p) of_v)
   ];
   deliverers = λ d there. elim (q.deliverers d there) [
     | inl in_v ↦ p.deliverers d in_v
@@ -75,17 +76,17 @@ same_then u v w a b c p q = record {
 abbrev HasNumbers : Numbers → DeviceState → Type 0
 HasNumbers n d = d.setup.profile ≡ n
 
-numbers_by : (n : Numbers) (ds es : List DeviceState) → map setup_of es ≡ map setup_of ds → All (HasNumbers n) ds → All (HasNumbers n) es
+numbers_by : (n : Numbers) (ds es : List DeviceState) → map setup_of_device es ≡ map setup_of_device ds → All (HasNumbers n) ds → All (HasNumbers n) es
 numbers_by n ds [] same all = All-nil (HasNumbers n)
 numbers_by n [] (e ∷ es) same all = absurd (cc)
 numbers_by n (d ∷ ds) (e ∷ es) same all =
     let head : e.setup ≡ d.setup = cc in
-    let tail : map setup_of es ≡ map setup_of ds = cc in
+    let tail : map setup_of_device es ≡ map setup_of_device ds = cc in
     All-cons (HasNumbers n) e es (ap (λ (s : Setup). s.profile) head ∙ all 0 d (omega arith))
     (numbers_by n ds es tail (λ k x below. all (suc k) x (omega arith)))
 
 -- a field goes on as one
-pub field_goes_on : (t : ℕ) (begun : List Sending) (v w : FieldState) (due after : List Due) → AreSame v due w after → GoesOn t v.medium w.medium begun
+pub field_goes_on : (t : ℕ) (begun : List Sending) (v w : FieldState) (due after : List Due) → AreSame v due w after → MediumGoesOn t v.medium w.medium begun
     → IsField v → IsField w
 field_goes_on t begun v w due after same air field = record {
   medium = air.still field.medium;

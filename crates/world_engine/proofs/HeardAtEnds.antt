@@ -12,24 +12,24 @@ use Rattle.event_calendar.specs.declared.class.Class.TheVariants.{SendingEnd}
 use Rattle.event_calendar.specs.Orders.{Due}
 use Rattle.radio_model.specs.declared.sending.Sending.{Sending}
 use Rattle.radio_model.specs.OnAir.{Hearing}
-use Rattle.radio_model.specs.Hearing.{Scene, Hears}
+use Rattle.radio_model.specs.Hearing.{Scene, HearsInScene}
 use Rattle.radio_model.specs.Holding.{as_it_stands}
-use Rattle.radio_model.specs.Stations.{sending_of, station_of}
+use Rattle.radio_model.specs.Stations.{sending_of_station, station_of}
 use Rattle.scenario_text.specs.ScenarioParts.{ScenarioParts}
 use Rattle.scenario_text.specs.ScenarioFacts.{IsSoundScenario}
 use Rattle.scenario_text.specs.declared.lines.NodeLine.{NodeLine}
 use Rattle.bus_rules.specs.Cores.{Setup}
 use Rattle.air_log.specs.Entries.{hearings_of, sendings_of}
 use Rattle.air_log.specs.Devices.{Device}
-use Rattle.air_log.specs.Trails.{Reception, setup_of, scripted, heard, before_tick}
-use Rattle.air_log.specs.Lawful.{comes_before, AreInTurn, reception_of, hearings_by, heard_by, sent_by}
+use Rattle.air_log.specs.Trails.{Reception, setup_of, device_after_script, device_after_receptions, before_tick}
+use Rattle.air_log.specs.Lawful.{reception_comes_before, AreInTurn, reception_of, hearings_by, heard_by, sent_by}
 use Rattle.lwb_base.proofs.Elements.{map_from, filtered, pairs_append}
 use Rattle.air_log.proofs.InTurn.{heard_in_turn}
 use Rattle.air_log.proofs.KeptByEvents.{in_end}
 use Rattle.air_log.specs.DeviceStates.{DeviceState}
-use Rattle.world_engine.specs.Fields.{FieldState, ids_of, id_of, setup_of as setup_in}
-use Rattle.world_engine.specs.FieldSteps.{EndsSending, Sends, hearing_at}
-use Rattle.world_engine.specs.Moments.{At, IsAt}
+use Rattle.world_engine.specs.Fields.{FieldState, ids_of, id_of, setup_of_device as setup_in}
+use Rattle.world_engine.specs.FieldSteps.{EndsSending, DeviceSends, hearing_at}
+use Rattle.world_engine.specs.Moments.{At, IsAtMoment}
 use Rattle.world_engine.specs.Running.{HasPlaces, setup_by, Runs, HoldsScene, HasHearings}
 use Rattle.air_log.proofs.OwnSendings.{IsOwn, SendsOwn, own_heard, kept_own}
 use Rattle.world_engine.proofs.KeptDrops.{HeardOn}
@@ -65,10 +65,10 @@ node_within s w due places q within = by ((slice_get_cases s.nodes q).1)
     by (inr past) = absurd (omega (arith, past.0, within, long))
 
 -- the sending that runs at a device stands in the log
-own_sent : (s : ScenarioParts) (v : ℕ) (clock : ℕ → ℕ) (hs : List Reception) (t : ℕ) (d : Device) → IsAt s clock hs v t (At SendingEnd) d → SendsOwn d
+own_sent : (s : ScenarioParts) (v : ℕ) (clock : ℕ → ℕ) (hs : List Reception) (t : ℕ) (d : Device) → IsAtMoment s clock hs v t (At SendingEnd) d → SendsOwn d
 own_sent s v clock hs t d (inl at) = subst SendsOwn (sym at) (own_heard s v clock hs t)
 own_sent s v clock hs t d (inr at) =
-    let e = heard clock (setup_of s v) t hs (scripted s v clock t (before_tick s v clock hs t)) in
+    let e = device_after_receptions clock (setup_of s v) t hs (device_after_script s v clock t (before_tick s v clock hs t)) in
     subst SendsOwn (sym at) (in_end SendsOwn clock (setup_of s v) t e (kept_own clock (setup_of s v) t) (own_heard s v clock hs t))
 
 own_here : (o : Option Sending) (xs : List Sending) (x : Sending) → o ≡ Some x → IsOwn o xs → Contains xs x
@@ -79,7 +79,7 @@ own_here None xs x is own = absurd (none_some is)
 own_here (Some y) xs x is own = subst (Contains xs) (same_Some y x is) own
 
 -- x does not come before itself, whoever hears it
-same_turn : (g h : Hearing) → g.sending ≡ h.sending → comes_before h g ≡ false
+same_turn : (g h : Hearing) → g.sending ≡ h.sending → reception_comes_before h g ≡ false
 same_turn g h same =
     or_from _ _
     (le-ltb h.sending.end g.sending.end (omega (arith, ap (λ (x : Sending). x.end) same)))
@@ -90,11 +90,12 @@ same_turn g h same =
     not_both false b is = refl
 
 -- of two one at most comes before the other
-turn_once : (g h : Hearing) → comes_before g h ≡ true → comes_before h g ≡ false
+turn_once : (g h : Hearing) → reception_comes_before g h ≡ true → reception_comes_before h g ≡ false
 turn_once g h before =
-    false_from_ne_true (comes_before h g) (λ after. by (parts g h before) (parts h g after))
+    false_from_ne_true (reception_comes_before h g) (λ after. by (parts g h before) (parts h g after))
   where
-    parts : (a b : Hearing) → comes_before a b ≡ true → (a.sending.end < b.sending.end) ⊎ ((a.sending.end ≡ b.sending.end) × (a.sending.node < b.sending.node))
+    parts : (a b : Hearing) → reception_comes_before a b ≡ true
+        → (a.sending.end < b.sending.end) ⊎ ((a.sending.end ≡ b.sending.end) × (a.sending.node < b.sending.node))
     parts a b is = elim (or_cases _ _ is) [
       | inl less ↦ inl (ltb-true a.sending.end b.sending.end less)
       | inr tied ↦ (let both = and_parts _ _ tied in inr (eqb-true a.sending.end b.sending.end both.0, ltb-true a.sending.node b.sending.node both.1))
@@ -110,7 +111,7 @@ turn_once g h before =
 module _ (s : ScenarioParts) (clocks : ℕ → ℕ → ℕ) (sound : IsSoundScenario s) (lines : Lines) (by_trace : lines ≡ s.trace) (at_places : ℕ → ℕ → ℕ)
     (t p : ℕ) (x : Sending) (now : x.end ≡ t) (hearers : List ℕ)
     (old : FieldState) (old_due : List Due) (new : FieldState) (new_due : List Due) (ends : EndsSending lines at_places t p x hearers old old_due new new_due)
-    (places : HasPlaces s old old_due) (trails : OnTrails s clocks t (At SendingEnd) old old_due) (sends : Sends t old old_due p x) (sender : NodeLine)
+    (places : HasPlaces s old old_due) (trails : OnTrails s clocks t (At SendingEnd) old old_due) (sends : DeviceSends t old old_due p x) (sender : NodeLine)
     (here : slice_get s.nodes p ≡ Some sender)
     (a : Scene) (holds : HoldsScene s t old old_due a) (over : ℕ) (has : HasHearings over t old a) where
   -- the sender
@@ -132,7 +133,7 @@ module _ (s : ScenarioParts) (clocks : ℕ → ℕ → ℕ) (sound : IsSoundScen
   pub sent_by_sender : x.node ≡ sender.node
   sent_by_sender = eqb-true x.node sender.node (filtered (λ (y : Sending). y.node == sender.node) (sendings_of old.air) x sent_own).1
 
-  hears : (q : ℕ) (n : NodeLine) → slice_get s.nodes q ≡ Some n → Contains hearers q → Hears (as_it_stands old.medium t a) n.node x
+  hears : (q : ℕ) (n : NodeLine) → slice_get s.nodes q ≡ Some n → Contains hearers q → HearsInScene (as_it_stands old.medium t a) n.node x
   hears q n there is =
       let trail = trails q n there in
       (ends.heard a holds.held (holds.lines ∙ sym by_trace) q (setup_of s n.node) trail.device trail.shows).0 is
@@ -175,8 +176,8 @@ module _ (s : ScenarioParts) (clocks : ℕ → ℕ → ℕ) (sound : IsSoundScen
       let shows = trail.shows in
       let known = shows.known in
       let id_is : shows.state.setup.id ≡ x.node = ap (λ (y : Setup). y.id) shows.setup ∙ sym sent_by_sender in
-      ap (λ (v : ℕ). sending_of (station_of old.medium v)) (sym id_is)
-      ∙ ap sending_of known.there
+      ap (λ (v : ℕ). sending_of_station (station_of old.medium v)) (sym id_is)
+      ∙ ap sending_of_station known.there
       ∙ known.sending
       ∙ ap (λ (d : Device). d.sending) shows.is
       ∙ sends (setup_of s sender.node) own shows
@@ -185,7 +186,7 @@ module _ (s : ScenarioParts) (clocks : ℕ → ℕ → ℕ) (sound : IsSoundScen
   pub in_turn_after : AreInTurn (hearings_of new.air)
   in_turn_after =
       subst AreInTurn (sym ends.hearings)
-      (pairs_append (λ g h. comes_before h g ≡ false) (hearings_of old.air) (map (hearing_at old x) hearers) has.in_turn (all_same hearers) across)
+      (pairs_append (λ g h. reception_comes_before h g ≡ false) (hearings_of old.air) (map (hearing_at old x) hearers) has.in_turn (all_same hearers) across)
     where
       of_x : (qs : List ℕ) (h : Hearing) → Contains (map (hearing_at old x) qs) h → h.sending ≡ x
       of_x qs h there = let q = map_from (hearing_at old x) qs h there in ap (λ (g : Hearing). g.sending) (sym q.2)
@@ -193,22 +194,22 @@ module _ (s : ScenarioParts) (clocks : ℕ → ℕ → ℕ) (sound : IsSoundScen
       all_same : (qs : List ℕ) → AreInTurn (map (hearing_at old x) qs)
       all_same [] = λ i j d less within. absurd (omega (arith, within))
       all_same (q ∷ qs) =
-          AllPairs-cons (λ g h. comes_before h g ≡ false) (hearing_at old x q) (map (hearing_at old x) qs)
-          (all_from (λ h. comes_before h (hearing_at old x q) ≡ false) (map (hearing_at old x) qs)
+          AllPairs-cons (λ g h. reception_comes_before h g ≡ false) (hearing_at old x q) (map (hearing_at old x) qs)
+          (all_from (λ h. reception_comes_before h (hearing_at old x q) ≡ false) (map (hearing_at old x) qs)
           (λ h there. same_turn (hearing_at old x q) h (sym (of_x qs h there))))
           (all_same qs)
 
-      across : (g h : Hearing) → Contains (hearings_of old.air) g → Contains (map (hearing_at old x) hearers) h → comes_before h g ≡ false
+      across : (g h : Hearing) → Contains (hearings_of old.air) g → Contains (map (hearing_at old x) hearers) h → reception_comes_before h g ≡ false
       across g h before there =
-          let later : comes_before g (record { node = x.node; sending = x }) ≡ true = has.next g x before runs in
-          turn_once g h (subst (λ (y : Sending). comes_before g (record { node = h.node; sending = y }) ≡ true) (sym (of_x hearers h there)) later)
+          let later : reception_comes_before g (record { node = x.node; sending = x }) ≡ true = has.next g x before runs in
+          turn_once g h (subst (λ (y : Sending). reception_comes_before g (record { node = h.node; sending = y }) ≡ true) (sym (of_x hearers h there)) later)
 
   heard_with : (v : ℕ) (hs : List Hearing) → filter (of id x v) (map (hearing_at old x) hearers) ≡ hs
       → heard_by new.air v ≡ heard_by old.air v ++ map reception_of hs
   heard_with v hs is =
       let of_v : Hearing → Bool = λ h. h.node == v in
-      let turn_old : AreInTurn (hearings_by old.air v) = AllPairs-filter (λ g h. comes_before h g ≡ false) of_v (hearings_of old.air) has.in_turn in
-      let turn_new : AreInTurn (hearings_by new.air v) = AllPairs-filter (λ g h. comes_before h g ≡ false) of_v (hearings_of new.air) in_turn_after in
+      let turn_old : AreInTurn (hearings_by old.air v) = AllPairs-filter (λ g h. reception_comes_before h g ≡ false) of_v (hearings_of old.air) has.in_turn in
+      let turn_new : AreInTurn (hearings_by new.air v) = AllPairs-filter (λ g h. reception_comes_before h g ≡ false) of_v (hearings_of new.air) in_turn_after in
       heard_in_turn new.air v turn_new
       ∙ ap (map reception_of)
       (ap (filter of_v) ends.hearings ∙ filter-append of_v (hearings_of old.air) (map (hearing_at old x) hearers)

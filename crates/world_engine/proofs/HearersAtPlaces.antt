@@ -7,24 +7,24 @@ use Rattle.std.proofs.lemmas.List.{map-append, length-map, get_or-map, get_or-ta
 use Rattle.std.proofs.lemmas.List.Elements.{All-nil, All-push, All-contains}
 use Rattle.std.proofs.lemmas.Option.{slice_get_within, get_or_from_slice_get}
 use Rattle.lwb_base.proofs.Elements.{map_contains, map_from}
-use Rattle.world_engine.specs.FieldHearings.{ArePlaces}
+use Rattle.world_engine.specs.FieldHearings.{StandAtPlaces}
 
 abbrev pub id_at : List ℕ → ℕ → ℕ
 id_at ids q = get_or ids q 0
 
-pub no_places : (ids : List ℕ) → ArePlaces ids [] []
+pub no_places : (ids : List ℕ) → StandAtPlaces ids [] []
 no_places ids = record { within = All-nil (λ (q : ℕ). q < length ids); stand = refl }
 
 -- the next node stands at its place
-pub places_more : (ids nodes places : List ℕ) (p v : ℕ) → ArePlaces ids nodes places → slice_get ids p ≡ Some v
-    → ArePlaces ids (nodes ++ v ∷ []) (places ++ p ∷ [])
+pub places_more : (ids nodes places : List ℕ) (p v : ℕ) → StandAtPlaces ids nodes places → slice_get ids p ≡ Some v
+    → StandAtPlaces ids (nodes ++ v ∷ []) (places ++ p ∷ [])
 places_more ids nodes places p v are there = record {
   within = All-push (λ (q : ℕ). q < length ids) places p are.within (slice_get_within ids p v there);
   stand = map-append (id_at ids) places (p ∷ []) ∙ ap (λ (l : List ℕ). l ++ id_at ids p ∷ []) are.stand
       ∙ ap (λ (n : ℕ). nodes ++ n ∷ []) (get_or_from_slice_get ids p v 0 there);
 }
 
-module _ (ids nodes places : List ℕ) (are : ArePlaces ids nodes places) where
+module _ (ids nodes places : List ℕ) (are : StandAtPlaces ids nodes places) where
   -- from a place to its node, and back
   pub node_there : (q : ℕ) → Contains places q → Contains nodes (id_at ids q)
   node_there q there = subst (λ (l : List ℕ). Contains l (id_at ids q)) are.stand (map_contains (id_at ids) places q there)

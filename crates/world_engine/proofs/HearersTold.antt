@@ -15,7 +15,7 @@ use Rattle.air_log.specs.Devices.{Device, event}
 use Rattle.lwb_base.proofs.Elements.{not_in_none, contains_head, contains_cases, map_contains, contains_at, among_or_not}
 use Rattle.air_log.proofs.LoggedEntries.{sendings_heard, hearings_heard}
 use Rattle.air_log.specs.DeviceStates.{DeviceState}
-use Rattle.world_engine.specs.Fields.{FieldState, Shows, IsShown, id_of, ids_of}
+use Rattle.world_engine.specs.Fields.{FieldState, FieldShows, FieldIsShown, id_of, ids_of}
 use Rattle.world_engine.specs.FieldSteps.{Acts, hearing_at, told_of_hearing}
 use Rattle.world_engine.specs.FieldHearings.{AllHear}
 use Rattle.world_engine.proofs.GoesOn.{goes_on_nothing, goes_on_then, same_ids, same_nothing, same_then}
@@ -30,8 +30,8 @@ id_there w p st at = get_or-map id_of w.devices p st 0 (slice_get_within w.devic
 abbrev pub logged : ℕ → Sending → FieldState → FieldState
 logged u x w = record { medium = w.medium; devices = w.devices; air = w.air ++ heard_entry u x ∷ []; deliveries = w.deliveries; drops = w.drops; sums = w.sums }
 
-pub shown_when_logged : (t q u : ℕ) (x : Sending) (w : FieldState) (due : List Due) (s : Setup) (d : Device) → Shows s t w due q d
-    → Shows s t (logged u x w) due q d
+pub shown_when_logged : (t q u : ℕ) (x : Sending) (w : FieldState) (due : List Due) (s : Setup) (d : Device) → FieldShows s t w due q d
+    → FieldShows s t (logged u x w) due q d
 shown_when_logged t q u x w due s d shows =
     still_shown t q w due (logged u x w) due s d (record {
       device = refl;
@@ -43,7 +43,7 @@ shown_when_logged t q u x w due s d shows =
       sums = refl;
     }) shows
 
-pub is_shown_when_logged : (t q u : ℕ) (x : Sending) (w : FieldState) (due : List Due) → IsShown t w due q → IsShown t (logged u x w) due q
+pub is_shown_when_logged : (t q u : ℕ) (x : Sending) (w : FieldState) (due : List Due) → FieldIsShown t w due q → FieldIsShown t (logged u x w) due q
 is_shown_when_logged t q u x w due shown = record {
   setup = shown.setup;
   device = shown.device;
@@ -56,8 +56,8 @@ pub heard_there : (clock : ℕ → ℕ) (p u : ℕ) (x : Sending) (w : FieldStat
     → AllHear (λ q. clock) x.end x (p ∷ []) w due new new_due
 heard_there clock p u x w due st new new_due at id acts = record {
   hearer = λ q there s d shows.
-      subst (λ (k : ℕ). Shows s x.end new new_due k (told_of_hearing clock x.end x s d)) (only q there)
-      (acts.own s d (shown_when_logged x.end p u x w due s d (subst (λ (k : ℕ). Shows s x.end w due k d) (sym (only q there)) shows)));
+      subst (λ (k : ℕ). FieldShows s x.end new new_due k (told_of_hearing clock x.end x s d)) (only q there)
+      (acts.own s d (shown_when_logged x.end p u x w due s d (subst (λ (k : ℕ). FieldShows s x.end w due k d) (sym (only q there)) shows)));
   others = λ q not s d shows. acts.others q (λ is. not (subst (λ (k : ℕ). Contains (p ∷ []) k) (sym is) (contains_head p []))) s d
       (shown_when_logged x.end q u x w due s d shows);
   hearings = acts.hearings ∙ hearings_heard w.air u x ∙ ap (λ (v : ℕ). hearings_of w.air ++ heard v ∷ []) (id ∙ sym (id_there w p st at));
@@ -97,19 +97,20 @@ module _ (clocks : ℕ → ℕ → ℕ) (clock : ℕ → ℕ) (t : ℕ) (x : Sen
   other : (q : ℕ) → q ≢ p → Contains (p ∷ []) q → ⊥
   other q not there = elim (contains_cases p [] q there) [ inl is ↦ not (sym is) | inr none ↦ not_in_none q none ]
 
-  hears : (q : ℕ) → Contains (ps ++ p ∷ []) q → (s : Setup) (d : Device) → Shows s t u a q d → Shows s t w c q (told_of_hearing (clocks q) t x s d)
+  hears : (q : ℕ) → Contains (ps ++ p ∷ []) q → (s : Setup) (d : Device) → FieldShows s t u a q d → FieldShows s t w c q (told_of_hearing (clocks q) t x s d)
   hears q there s d shows =
       elim (Contains-push_cases ps p q there) [
         | inl before ↦ then.others q (other q (λ is. new (subst (λ (k : ℕ). Contains ps k) is before))) s (told_of_hearing (clocks q) t x s d)
             (first.hearer q before s d shows)
         | inr is ↦
-            let at : Shows s t u a p d = subst (λ (k : ℕ). Shows s t u a k d) (sym is) shows in
-            let now : Shows s t w c p (told_of_hearing (clocks p) t x s d) =
-            subst (λ (r : ℕ → ℕ). Shows s t w c p (told_of_hearing r t x s d)) reads (then.hearer p (contains_head p []) s d (first.others p new s d at)) in
-            subst (λ (k : ℕ). Shows s t w c k (told_of_hearing (clocks k) t x s d)) is now
+            let at : FieldShows s t u a p d = subst (λ (k : ℕ). FieldShows s t u a k d) (sym is) shows in
+            let now : FieldShows s t w c p (told_of_hearing (clocks p) t x s d) =
+            subst (λ (r : ℕ → ℕ). FieldShows s t w c p (told_of_hearing r t x s d)) reads
+                (then.hearer p (contains_head p []) s d (first.others p new s d at)) in
+            subst (λ (k : ℕ). FieldShows s t w c k (told_of_hearing (clocks k) t x s d)) is now
       ]
 
-  stays : (q : ℕ) → (Contains (ps ++ p ∷ []) q → ⊥) → (s : Setup) (d : Device) → Shows s t u a q d → Shows s t w c q d
+  stays : (q : ℕ) → (Contains (ps ++ p ∷ []) q → ⊥) → (s : Setup) (d : Device) → FieldShows s t u a q d → FieldShows s t w c q d
   stays q not s d shows =
       then.others q (other q (λ is. not (subst (λ (k : ℕ). Contains (ps ++ p ∷ []) k) (sym is) (Contains-push ps p)))) s d
       (first.others q (λ there. not (Contains-append_left ps (p ∷ []) q there)) s d shows)
@@ -134,7 +135,7 @@ module _ (clocks : ℕ → ℕ → ℕ) (clock : ℕ → ℕ) (t : ℕ) (x : Sen
 
 -- each device is shown still
 pub still_shown_to : (clocks : ℕ → ℕ → ℕ) (t : ℕ) (x : Sending) (ps : List ℕ) (q : ℕ) (u v : FieldState) (a b : List Due)
-    → AllHear clocks t x ps u a v b → IsShown t u a q → IsShown t v b q
+    → AllHear clocks t x ps u a v b → FieldIsShown t u a q → FieldIsShown t v b q
 still_shown_to clocks t x ps q u v a b all shown =
     elim (among_or_not ps q) [
       | inl there ↦ record {

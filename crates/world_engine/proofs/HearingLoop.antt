@@ -5,16 +5,17 @@ use Rattle.std.proofs.lemmas.List.{map_more, length-map}
 use Rattle.std.proofs.lemmas.Option.{slice_get_within, get_or_from_slice_get, slice_get-get_or, slice_get_read}
 use Rattle.radio_model.specs.declared.sending.Sending.{Sending}
 use Rattle.event_calendar.specs.Orders.{Due}
-use Rattle.world_engine.specs.Fields.{FieldState, IsShown, id_of, ids_of}
+use Rattle.world_engine.specs.Fields.{FieldState, FieldIsShown, id_of, ids_of}
 use Rattle.world_engine.specs.FieldSteps.{reading_of, readings_at}
-use Rattle.world_engine.specs.FieldHearings.{ArePlaces, AllHear}
+use Rattle.world_engine.specs.FieldHearings.{StandAtPlaces, AllHear}
 use Rattle.world_engine.proofs.GoesOn.{same_ids}
 use Rattle.world_engine.proofs.HearersAtPlaces.{places_more, node_there, id_at, new_node}
 use Rattle.world_engine.proofs.HearersTold.{one_more_hears, still_shown_to}
 
 -- those before this one have heard
 abbrev pub HeardBy : (ℕ → ℕ → ℕ) → Sending → List ℕ → FieldState → List Due → FieldState → List Due → Type 0
-HeardBy clocks x nodes old old_due new new_due = (places : List ℕ) × ArePlaces (ids_of old) nodes places × AllHear clocks x.end x places old old_due new new_due
+HeardBy clocks x nodes old old_due new new_due =
+    (places : List ℕ) × StandAtPlaces (ids_of old) nodes places × AllHear clocks x.end x places old old_due new new_due
 
 abbrev first : ℕ × ℕ → ℕ
 first p = p.0
@@ -40,7 +41,7 @@ module _ (clocks : ℕ → ℕ → ℕ) (x : Sending) (hs : List (ℕ × ℕ)) (
     pub place_below : p < length old.devices
     place_below = let within = slice_get_within (ids_of old) p h.0 in_old in let long = length-map old.devices id_of in omega (arith, within, long)
 
-    pub hearer_shown : ((q : ℕ) → q < length old.devices → IsShown x.end old old_due q) → IsShown x.end now now_due p
+    pub hearer_shown : ((q : ℕ) → q < length old.devices → FieldIsShown x.end old old_due q) → FieldIsShown x.end now now_due p
     hearer_shown shown = still_shown_to clocks x.end x heard.0 p old now old_due now_due heard.2 (shown p place_below)
 
     not_yet : AllPairs (λ p q. p.0 < q.0) hs → Contains heard.0 p → ⊥
@@ -58,7 +59,7 @@ module _ (clocks : ℕ → ℕ → ℕ) (x : Sending) (hs : List (ℕ × ℕ)) (
         let more : map first (take (i + 1) hs) ≡ map first (take i hs) ++ h.0 ∷ [] = map_more first hs i h (slice_get_within hs i h here)
         ∙ ap (λ (p : ℕ × ℕ). map first (take i hs) ++ p.0 ∷ []) at in (
           heard.0 ++ p ∷ [],
-          subst (λ (l : List ℕ). ArePlaces (ids_of old) l (heard.0 ++ p ∷ [])) (sym more)
+          subst (λ (l : List ℕ). StandAtPlaces (ids_of old) l (heard.0 ++ p ∷ [])) (sym more)
               (places_more (ids_of old) (map first (take i hs)) heard.0 p h.0 heard.1 in_old),
           one_more_hears clocks clock x.end x heard.0 p old now new old_due now_due new_due heard.2 hears (not_yet ascend) reads,
         )

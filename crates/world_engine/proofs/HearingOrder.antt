@@ -6,13 +6,13 @@ use Rattle.std.proofs.lemmas.Option.{slice_get_within, get_or_from_slice_get}
 use Rattle.radio_model.specs.declared.sending.Sending.{Sending}
 use Rattle.radio_model.specs.OnAir.{Hearing}
 use Rattle.lwb_base.proofs.Elements.{contains_head, contains_tail}
-use Rattle.air_log.specs.Lawful.{comes_before}
+use Rattle.air_log.specs.Lawful.{reception_comes_before}
 
 -- by end, and then by sender
 abbrev pub IsEarlier : Sending → Sending → Type 0
 IsEarlier x y = (x.end < y.end) ⊎ ((x.end ≡ y.end) × (x.node < y.node))
 
-pub earlier : (g h : Hearing) → comes_before g h ≡ true → IsEarlier g.sending h.sending
+pub earlier : (g h : Hearing) → reception_comes_before g h ≡ true → IsEarlier g.sending h.sending
 earlier g h is =
     elim (or_cases (nat_lt g.sending.end h.sending.end) _ is) [
       | inl less ↦ inl (ltb-true g.sending.end h.sending.end less)
@@ -21,7 +21,7 @@ earlier g h is =
           inr (eqb-true g.sending.end h.sending.end both.0, ltb-true g.sending.node h.sending.node both.1)
     ]
 
-pub comes_if : (g h : Hearing) → IsEarlier g.sending h.sending → comes_before g h ≡ true
+pub comes_if : (g h : Hearing) → IsEarlier g.sending h.sending → reception_comes_before g h ≡ true
 comes_if g h is =
     elim is [
       | inl less ↦ or_left (nat_lt g.sending.end h.sending.end) _ (lt-ltb g.sending.end h.sending.end less)
@@ -36,8 +36,8 @@ not_both x y a b = elim a [
   | inr at ↦ elim b [ inl more ↦ omega (arith, at.0, more) | inr same ↦ omega (arith, at.1, same.1) ]
 ]
 
-pub not_before : (g h : Hearing) → (IsEarlier g.sending h.sending → ⊥) → comes_before g h ≡ false
-not_before g h never = false_from_ne_true (comes_before g h) (λ is. never (earlier g h is))
+pub not_before : (g h : Hearing) → (IsEarlier g.sending h.sending → ⊥) → reception_comes_before g h ≡ false
+not_before g h never = false_from_ne_true (reception_comes_before g h) (λ is. never (earlier g h is))
 
 -- of ascending ids
 module _ (ids : List ℕ) (ascending : AllPairs (λ a b. a < b) ids) where

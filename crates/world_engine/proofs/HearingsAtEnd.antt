@@ -4,7 +4,7 @@ use Rattle.std.proofs.Common.{eqb-true}
 use Rattle.std.proofs.lemmas.Option.{same_Some}
 use Rattle.radio_model.specs.declared.sending.Sending.{Sending}
 use Rattle.radio_model.specs.OnAir.{Hearing, Tuning}
-use Rattle.radio_model.specs.Hearing.{Scene, IsTuned, TunedThrough, Rival, Hears}
+use Rattle.radio_model.specs.Hearing.{Scene, IsTuned, TunedThrough, Rival, HearsInScene}
 use Rattle.radio_model.specs.Holding.{Agree, as_it_stands}
 use Rattle.lwb_base.proofs.Elements.{filter_from, in_filtered, in_reverse, from_reverse, filtered}
 use Rattle.radio_model.proofs.OneCall.{lit_moves}
@@ -12,12 +12,12 @@ use Rattle.radio_model.proofs.Settled.{settled}
 use Rattle.scenario_text.specs.ScenarioParts.{ScenarioParts}
 use Rattle.event_calendar.specs.Orders.{Due}
 use Rattle.bus_rules.specs.Cores.{Setup}
-use Rattle.air_log.specs.Entries.{sendings_of, tunings_of, tuning_in, node_of}
+use Rattle.air_log.specs.Entries.{sendings_of, tunings_of, tuning_in, node_of_entry}
 use Rattle.air_log.specs.Devices.{Device, silenced}
 use Rattle.air_log.specs.HearsAir.{HearsAir, scene_of}
 use Rattle.air_log.specs.Lawful.{FollowsHearing, tuned_by}
 use Rattle.air_log.specs.Trails.{run_end}
-use Rattle.world_engine.specs.Fields.{FieldState, Shows, ids_of}
+use Rattle.world_engine.specs.Fields.{FieldState, FieldShows, ids_of}
 use Rattle.world_engine.specs.FieldSteps.{IsClosed}
 use Rattle.world_engine.specs.Running.{Runs, HoldsScene, HasHearings, IsOnAir}
 use Rattle.air_log.proofs.TunedBefore.{TunedAt, silenced_stays}
@@ -36,7 +36,7 @@ module _ (a : Scene) (ts : List Tuning) (v : ℕ) (x : Sending) where
   rival_back : (y : Sending) → Rival with_tunings v x y → Rival a v x y
   rival_back y r = record { sent = r.sent; channel = r.channel; meets = r.meets; arrives = r.arrives }
 
-  pub hears_with : TunedThrough with_tunings v x → Hears a v x → Hears with_tunings v x
+  pub hears_with : TunedThrough with_tunings v x → HearsInScene a v x → HearsInScene with_tunings v x
   hears_with tuned hears = record {
     sent = hears.sent;
     tuned = tuned;
@@ -59,7 +59,7 @@ module _ (s : ScenarioParts) (w : FieldState) (due : List Due) (end : FieldState
   logged = scene_of s.profile s.trace end.air
 
   -- a node of the field was tuned as the log says
-  module _ (q : Setup) (p : ℕ) (d : Device) (shows : Shows q (run_end s) w due p d) (r k : ℕ) (early : k < run_end s) where
+  module _ (q : Setup) (p : ℕ) (d : Device) (shows : FieldShows q (run_end s) w due p d) (r k : ℕ) (early : k < run_end s) where
     abbrev off : List Tuning
     off = (silenced q.id (run_end s) d).made.tuned
 
@@ -118,13 +118,13 @@ module _ (s : ScenarioParts) (w : FieldState) (due : List Due) (end : FieldState
     lasts : x.start < x.end
     lasts = (h.begun x sent).0
 
-    hears_on : Hears stands v x → HearsAir s.profile s.trace end.air v x
+    hears_on : HearsInScene stands v x → HearsAir s.profile s.trace end.air v x
     hears_on hears =
         let on = (settled stands between v x lasts (agree x.end)).0 hears in
         hears_with between (tunings_of end.air) v x
         (λ k from until. (tuned_alike v there x.rank k (omega (arith, until, over))).0 (hears.tuned k from until)) on
 
-    hears_back : HearsAir s.profile s.trace end.air v x → Hears stands v x
+    hears_back : HearsAir s.profile s.trace end.air v x → HearsInScene stands v x
     hears_back hears =
         let tuned : TunedThrough between v x = λ k from until. lit_moves stands between v x.rank k refl
         ((tuned_alike v there x.rank k (omega (arith, until, over))).1 (hears.tuned k from until)) in
@@ -134,7 +134,7 @@ module _ (s : ScenarioParts) (w : FieldState) (due : List Due) (end : FieldState
   tuned_known : (v r k : ℕ) → IsTuned logged v r k → Contains (ids_of w) v
   tuned_known v r k is =
       let e = filter_from tuning_in end.air is.tuning is.there in
-      let known : Contains (ids_of w) (node_of e.0) = elim (closed.entries e.0 e.1) [ inl was ↦ h.known e.0 was | inr own ↦ own ] in
+      let known : Contains (ids_of w) (node_of_entry e.0) = elim (closed.entries e.0 e.1) [ inl was ↦ h.known e.0 was | inr own ↦ own ] in
       subst (Contains (ids_of w)) (tuning_node e.0 is.tuning e.2 ∙ is.node) known
 
   -- what runs ends with the run or later

@@ -7,22 +7,22 @@ use Rattle.std.proofs.lemmas.Option.{none-some, same_Some, slice_get_within, get
 use Rattle.lwb_base.specs.Profile.{IsProfile}
 use Rattle.radio_model.specs.declared.sending.Sending.{Sending}
 use Rattle.radio_model.specs.OnAir.{Hearing}
-use Rattle.radio_model.specs.Hearing.{Scene, Hears}
+use Rattle.radio_model.specs.Hearing.{Scene, HearsInScene}
 use Rattle.radio_model.specs.Holding.{Agree, as_it_stands}
-use Rattle.radio_model.specs.Stations.{sending_of, station_of}
+use Rattle.radio_model.specs.Stations.{sending_of_station, station_of}
 use Rattle.lwb_base.proofs.Elements.{not_in_none, contains_head, contains_cases}
 use Rattle.scenario_text.specs.ScenarioParts.{ScenarioParts}
 use Rattle.scenario_text.specs.declared.script.ScriptLine.{ScriptLine}
 use Rattle.event_calendar.specs.Orders.{Due}
 use Rattle.bus_rules.specs.declared.delivery.DropLine.{DropLine}
 use Rattle.bus_rules.specs.Cores.{Setup}
-use Rattle.air_log.specs.Entries.{sendings_of, hearings_of, IsHeard}
+use Rattle.air_log.specs.Entries.{sendings_of, hearings_of, HasHeardEntry}
 use Rattle.air_log.specs.Devices.{Device}
-use Rattle.air_log.specs.ScriptedDevices.{after_line}
-use Rattle.air_log.specs.Trails.{begun as begun_at, alarmed, starting}
-use Rattle.air_log.specs.Lawful.{comes_before, AreInTurn}
+use Rattle.air_log.specs.ScriptedDevices.{device_after_line}
+use Rattle.air_log.specs.Trails.{device_after_start as begun_at, alarmed, sendings_starting}
+use Rattle.air_log.specs.Lawful.{reception_comes_before, AreInTurn}
 use Rattle.air_log.specs.DeviceStates.{DeviceState}
-use Rattle.world_engine.specs.Fields.{FieldState, IsField, Shows, ids_of}
+use Rattle.world_engine.specs.Fields.{FieldState, IsField, FieldShows, ids_of}
 use Rattle.world_engine.specs.FieldSteps.{Acts}
 use Rattle.world_engine.specs.Running.{Runs, HoldsScene, HasHearings, IsOnAir}
 use Rattle.air_log.proofs.TunedBefore.{HasTunedBy, IsTunedAs, stays_same, line_stays, alarmed_stays, begun_stays}
@@ -38,7 +38,7 @@ pub record RunsOn (t : ℕ) (begun : List Sending) (old new : FieldState) : Type
   pub fresh : (x : Sending) → Contains begun x → Runs new.medium x × (x.start ≡ t) × (t < x.end)
 
 -- what ends earlier comes before
-pub before_by_end : (g h : Hearing) → g.sending.end < h.sending.end → comes_before g h ≡ true
+pub before_by_end : (g h : Hearing) → g.sending.end < h.sending.end → reception_comes_before g h ≡ true
 before_by_end g h less = or_left _ _ (lt-ltb g.sending.end h.sending.end less)
 
 module _ (s : ScenarioParts) (over t : ℕ) (begun : List Sending) (old : FieldState) (old_due : List Due) (new : FieldState) (new_due : List Due) (a b : Scene)
@@ -66,15 +66,15 @@ module _ (s : ScenarioParts) (over t : ℕ) (begun : List Sending) (old : FieldS
         | inr fresh ↦ (let later = (runs.fresh x fresh).2 in let before = has.ended x there stopped in omega (arith, later, before, now))
       ]
 
-  alike_by : (v : ℕ) (x : Sending) → Contains (sendings_of old.air) x → (Runs old.medium x → ⊥) → Hears (as_it_stands old.medium t a) v x
-      ↔ Hears (as_it_stands new.medium t b) v x
+  alike_by : (v : ℕ) (x : Sending) → Contains (sendings_of old.air) x → (Runs old.medium x → ⊥) → HearsInScene (as_it_stands old.medium t a) v x
+      ↔ HearsInScene (as_it_stands new.medium t b) v x
   alike_by v x there stopped = let before = has.ended x there stopped in heard_alike s t old old_due a _ _ h agree v x there (omega (arith, before, now))
 
   heard_was : (g : Hearing) → Contains (hearings_of new.air) g → Contains (hearings_of old.air) g
   heard_was g there = subst (λ (l : List Hearing). Contains l g) hearings there
 
-  heard_by_rule : (v : ℕ) (x : Sending) → IsHeard new.air v x
-      ↔ (Contains (sendings_of new.air) x × (Runs new.medium x → ⊥) × Contains (ids_of new) v × Hears (as_it_stands new.medium t b) v x)
+  heard_by_rule : (v : ℕ) (x : Sending) → HasHeardEntry new.air v x
+      ↔ (Contains (sendings_of new.air) x × (Runs new.medium x → ⊥) × Contains (ids_of new) v × HearsInScene (as_it_stands new.medium t b) v x)
   heard_by_rule v x = (
     λ there.
         let all = (has.heard v x).0 (heard_was _ there) in
@@ -87,7 +87,7 @@ module _ (s : ScenarioParts) (over t : ℕ) (begun : List Sending) (old : FieldS
 
   -- a sending that begins ends after what was heard
   fresh_later : (g : Hearing) (y : Sending) → Contains (hearings_of old.air) g → Contains begun y
-      → comes_before g (record { node = y.node; sending = y }) ≡ true
+      → reception_comes_before g (record { node = y.node; sending = y }) ≡ true
   fresh_later g y there fresh =
       let all = (has.heard g.node g.sending).0 there in
       let before = has.ended g.sending all.0 all.1 in
@@ -107,17 +107,17 @@ module _ (s : ScenarioParts) (over t : ℕ) (begun : List Sending) (old : FieldS
   }
 
 -- at a place, what a device sends is what runs
-pub runs_at : (q : Setup) (t : ℕ) (w : FieldState) (due : List Due) (p : ℕ) (d : Device) → Shows q t w due p d → (x : Sending) → q.id ≡ x.node
+pub runs_at : (q : Setup) (t : ℕ) (w : FieldState) (due : List Due) (p : ℕ) (d : Device) → FieldShows q t w due p d → (x : Sending) → q.id ≡ x.node
     → Runs w.medium x ↔ (d.sending ≡ Some x)
 runs_at q t w due p d shows x node =
-    let same : sending_of (station_of w.medium x.node) ≡ d.sending = ap (λ (v : ℕ). sending_of (station_of w.medium v)) (sym node)
+    let same : sending_of_station (station_of w.medium x.node) ≡ d.sending = ap (λ (v : ℕ). sending_of_station (station_of w.medium v)) (sym node)
     ∙ shown_sending q t w due p d shows in
     (λ is. sym same ∙ is, λ is. same ∙ is)
 
 -- what a change at a place does to the tuning and the sending of the device
 pub record Does (t p : ℕ) (change : Setup → Device → Device) (begun : List Sending) (old : FieldState) (old_due : List Due) : Type 0 where
-  pub tuned : (q : Setup) (d : Device) → Shows q t old old_due p d → HasTunedBy t d → IsTunedAs t d (change q d)
-  pub sending : (q : Setup) (d : Device) → Shows q t old old_due p d → Begins q t d begun (change q d)
+  pub tuned : (q : Setup) (d : Device) → FieldShows q t old old_due p d → HasTunedBy t d → IsTunedAs t d (change q d)
+  pub sending : (q : Setup) (d : Device) → FieldShows q t old old_due p d → Begins q t d begun (change q d)
 
 goes_on : (q : Setup) (t : ℕ) (d : Device) (begun : List Sending) (e : Device) (x : Sending) → Begins q t d begun e → d.sending ≡ Some x → e.sending ≡ Some x
 goes_on q t d [] e x begins is = begins ∙ is
@@ -257,15 +257,15 @@ pub does_quietly : (t p : ℕ) (change : Setup → Device → Device) (old : Fie
 does_quietly t p change old old_due tuned sending = record { tuned = λ q d shows by. tuned q d by; sending = λ q d shows. sending q d }
 
 module _ (clock : ℕ → ℕ) (t p : ℕ) (old : FieldState) (old_due : List Due) where
-  pub line_does : (line : ScriptLine) → Does t p (λ s d. after_line clock s t d line) [] old old_due
-  line_does line = does_quietly t p (λ s d. after_line clock s t d line) old old_due (λ q d by. line_stays clock q t d by line)
+  pub line_does : (line : ScriptLine) → Does t p (λ s d. device_after_line clock s t d line) [] old old_due
+  line_does line = does_quietly t p (λ s d. device_after_line clock s t d line) old old_due (λ q d by. line_stays clock q t d by line)
       (λ q d. line_sending clock q t d line)
 
   pub alarmed_does : Does t p (λ s d. alarmed clock s t d) [] old old_due
   alarmed_does = does_quietly t p (λ s d. alarmed clock s t d) old old_due (λ q d by. alarmed_stays clock q t d by) (λ q d. alarmed_sending clock q t d)
 
 -- the numbers of a field are those of a profile
-pub shown_lasts : (q : Setup) (t : ℕ) (w : FieldState) (due : List Due) (p : ℕ) (d : Device) → IsField w → Shows q t w due p d → Lasts q.profile
+pub shown_lasts : (q : Setup) (t : ℕ) (w : FieldState) (due : List Due) (p : ℕ) (d : Device) → IsField w → FieldShows q t w due p d → Lasts q.profile
 shown_lasts q t w due p d field shows = profile_lasts q.profile (subst IsProfile (sym numbers) field.medium.profile)
   where
     numbers : q.profile ≡ w.medium.numbers
@@ -277,7 +277,7 @@ shown_lasts q t w due p d field shows = profile_lasts q.profile (subst IsProfile
         within = slice_get_within w.devices p shows.state shows.there
 
 pub begun_does : (t p : ℕ) (begun : List Sending) (old : FieldState) (old_due : List Due) → IsField old
-    → ((q : Setup) (d : Device) → Shows q t old old_due p d → begun ≡ starting q t d) → Does t p (λ s d. begun_at s t d) begun old old_due
+    → ((q : Setup) (d : Device) → FieldShows q t old old_due p d → begun ≡ sendings_starting q t d) → Does t p (λ s d. begun_at s t d) begun old old_due
 begun_does t p begun old old_due field is = record {
   tuned = λ q d shows by. begun_stays q t d by;
   sending = λ q d shows. subst (λ (l : List Sending). Begins q t d l (begun_at q t d)) (sym (is q d shows))

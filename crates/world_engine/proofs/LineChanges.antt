@@ -6,8 +6,8 @@ use Rattle.scenario_text.specs.declared.script.ScriptLine.{ScriptLine}
 use Rattle.bus_rules.specs.Cores.{Setup}
 use Rattle.bus_rules.specs.States.{refuses, queues}
 use Rattle.bus_rules.specs.declared.delivery.DropLine.{DropLine}
-use Rattle.air_log.specs.Devices.{Device, Power, PowerOff, PowerOn, is_on}
-use Rattle.air_log.specs.ScriptedDevices.{after_act, dropped, with_new_core}
+use Rattle.air_log.specs.Devices.{Device, Power, PowerOff, PowerOn, power_is_on}
+use Rattle.air_log.specs.ScriptedDevices.{device_after_act, dropped, with_new_core}
 use Rattle.air_log.specs.Drops.{drop_by}
 
 -- the radio and what is set stay
@@ -24,15 +24,15 @@ abbrev pub one_drop : ℕ → ℕ → ℕ → DropLine
 one_drop frame node stream = record { frame = frame; node = node; stream = stream }
 
 module _ (clock : ℕ → ℕ) (s : Setup) (t frame : ℕ) (d : Device) where
-  pub declare_stays : (i interval : ℕ) (power : Power) → StaysSet d (after_act clock s t frame d (Declare i interval) power)
+  pub declare_stays : (i interval : ℕ) (power : Power) → StaysSet d (device_after_act clock s t frame d (Declare i interval) power)
   declare_stays i interval (PowerOff boots) = stays d
   declare_stays i interval (PowerOn n) = record { listening = refl; alarm = refl; ordered = refl; sending = refl }
 
-  pub leave_stays : (i : ℕ) (power : Power) → StaysSet d (after_act clock s t frame d (Leave i) power)
+  pub leave_stays : (i : ℕ) (power : Power) → StaysSet d (device_after_act clock s t frame d (Leave i) power)
   leave_stays i (PowerOff boots) = stays d
   leave_stays i (PowerOn n) = record { listening = refl; alarm = refl; ordered = refl; sending = refl }
 
-  pub put_stays : (i : ℕ) (payload : List ℕ) (power : Power) → StaysSet d (after_act clock s t frame d (Put i payload) power)
+  pub put_stays : (i : ℕ) (payload : List ℕ) (power : Power) → StaysSet d (device_after_act clock s t frame d (Put i payload) power)
   put_stays i payload (PowerOff boots) = record { listening = refl; alarm = refl; ordered = refl; sending = refl }
   put_stays i payload (PowerOn n) =
       cond_both (refuses i n.core) (dropped s.id frame i d) (with_new_core d n (queues i payload n.core)) (StaysSet d)
@@ -44,7 +44,7 @@ module _ (clock : ℕ → ℕ) (s : Setup) (t frame : ℕ) (d : Device) where
   same_drop l i at own = ap (λ (f : ℕ). one_drop f s.id i) (sym at) ∙ ap (λ (v : ℕ). one_drop l.frame v i) (sym own)
 
   pub put_loses : (l : ScriptLine) (i : ℕ) (payload : List ℕ) (power : Power) → l.frame ≡ frame → l.node ≡ s.id → d.made.drops ≡ []
-      → (after_act clock s t frame d (Put i payload) power).made.drops ≡ option_to_list (drop_by l (Put i payload) power)
+      → (device_after_act clock s t frame d (Put i payload) power).made.drops ≡ option_to_list (drop_by l (Put i payload) power)
   put_loses l i payload (PowerOff boots) at own none = ap (λ (ds : List DropLine). ds ++ one_drop frame s.id i ∷ []) none
       ∙ ap (λ (x : DropLine). x ∷ []) (same_drop l i at own)
   put_loses l i payload (PowerOn n) at own none = by_test (refuses i n.core)
@@ -62,10 +62,10 @@ pub record IsOffAfter (d e : Device) : Type 0 where
   pub sending : e.sending ≡ d.sending
 
 module _ (clock : ℕ → ℕ) (s : Setup) (t frame : ℕ) (d : Device) where
-  pub off_stays : (power : Power) → is_on power ≡ false → after_act clock s t frame d Off power ≡ d
+  pub off_stays : (power : Power) → power_is_on power ≡ false → device_after_act clock s t frame d Off power ≡ d
   off_stays (PowerOff boots) off = refl
   off_stays (PowerOn n) off = absurd (true≢false off)
 
-  pub off_then : (power : Power) → is_on power ≡ true → IsOffAfter d (after_act clock s t frame d Off power)
+  pub off_then : (power : Power) → power_is_on power ≡ true → IsOffAfter d (device_after_act clock s t frame d Off power)
   off_then (PowerOff boots) on = absurd (false≢true on)
   off_then (PowerOn n) on = record { listening = refl; alarm = refl; ordered = refl; sending = refl }

@@ -18,9 +18,9 @@ use Rattle.air_log.proofs.AlarmLoop.{early_in_run}
 use Rattle.lwb_base.proofs.Elements.{contains_head}
 use Rattle.air_log.specs.ClockLists.{clocks_by}
 use Rattle.air_log.specs.DeviceStates.{CanBoot}
-use Rattle.world_engine.specs.Fields.{FieldState, Shows, IsShown, ids_of, id_of, setup_of}
-use Rattle.world_engine.specs.FieldSteps.{IsTold, node_id}
-use Rattle.air_log.specs.ScriptedDevices.{after_act}
+use Rattle.world_engine.specs.Fields.{FieldState, FieldShows, FieldIsShown, ids_of, id_of, setup_of_device}
+use Rattle.world_engine.specs.FieldSteps.{TakesLine, node_id}
+use Rattle.air_log.specs.ScriptedDevices.{device_after_act}
 use Rattle.world_engine.specs.Counting.{TrailsStay}
 use Rattle.world_engine.specs.Frames.{IsNextLine}
 use Rattle.world_engine.specs.Moments.{InLines}
@@ -42,7 +42,7 @@ id_by q = q.id
 module _ (s : ScenarioParts) (w : FieldState) (due : List Due) (places : HasPlaces s w due) where
   -- the ids of the devices are those of the nodes
   pub ids_of_nodes : ids_of w ≡ map node_id s.nodes
-  ids_of_nodes = sym (map-map id_by setup_of w.devices) ∙ ap (map id_by) places.setups ∙ map-map id_by (setup_by s) s.nodes
+  ids_of_nodes = sym (map-map id_by setup_of_device w.devices) ∙ ap (map id_by) places.setups ∙ map-map id_by (setup_by s) s.nodes
 
   -- the place of an id is within the devices
   pub id_within : (p v : ℕ) → slice_get (ids_of w) p ≡ Some v → p < length w.devices
@@ -88,23 +88,23 @@ module _ {C : Type 0} (R : C → ℕ → ℕ) (s : ScenarioParts) (sound : IsSou
     own : line.node ≡ node.0.node
     own = node_of_id s old old_due run.places p line.node place node.0 node.1
 
-    pub shown : IsShown t old old_due p
+    pub shown : FieldIsShown t old old_due p
     shown = shown_within s (clocks_by R s.nodes cs) t (InLines told) old old_due run.places run.trails p inside
 
-    pub to_node : (q : Setup) (d : Device) → Shows q t old old_due p d → line.node ≡ q.id
+    pub to_node : (q : Setup) (d : Device) → FieldShows q t old old_due p d → line.node ≡ q.id
     to_node = line_node s (clocks_by R s.nodes cs) t (InLines told) old old_due run.places run.trails p node.0 node.1 line own
 
-    pub in_range : (q : Setup) (d : Device) → Shows q t old old_due p d → IsAct q.profile line.act
+    pub in_range : (q : Setup) (d : Device) → FieldShows q t old old_due p d → IsAct q.profile line.act
     in_range = line_range s (clocks_by R s.nodes cs) t (InLines told) old old_due run.places run.trails p node.0 node.1 line own sound in_script
 
-    pub boots : (q : Setup) (d : Device) → Shows q t old old_due p d → line.act ≡ On → CanBoot d.power
+    pub boots : (q : Setup) (d : Device) → FieldShows q t old old_due p d → line.act ≡ On → CanBoot d.power
     boots q d shows = can_boot s (clocks_by R s.nodes cs) sound told next.rest line next.is t old old_due run.script p q d shows (to_node q d shows)
 
-    pub line_done : (c : C) → slice_get cs p ≡ Some c → (new : FieldState) (new_due : List Due) → IsTold (R c) line t p line.act old old_due new new_due
+    pub line_done : (c : C) → slice_get cs p ≡ Some c → (new : FieldState) (new_due : List Due) → TakesLine (R c) line t p line.act old old_due new new_due
         → IsRunning s (clocks_by R s.nodes cs) (told ++ line ∷ []) t (InLines (told ++ line ∷ [])) new new_due
         × TrailsStay s (clocks_by R s.nodes cs) t old.air new.air
     line_done c clock new new_due all = (
       line_goes_on s (clocks_by R s.nodes cs) sound told t p node.0 node.1 old old_due new new_due (R c)
           (own_clock R s sound cs count p c clock) line own next.now all.0 all.1 all.2 run,
-      acts_stay s (clocks_by R s.nodes cs) t p (λ x d. after_act (R c) x t line.frame d line.act d.power) [] all.0 old old_due new new_due all.1,
+      acts_stay s (clocks_by R s.nodes cs) t p (λ x d. device_after_act (R c) x t line.frame d line.act d.power) [] all.0 old old_due new new_due all.1,
     )

@@ -14,7 +14,7 @@ use Rattle.air_log.specs.Trails.{frame_start}
 use Rattle.world_engine.specs.Fields.{FieldState}
 use Rattle.air_log.specs.declared.entry.Entry.{Entry}
 use Rattle.world_engine.specs.Counting.{TrailsStay}
-use Rattle.world_engine.specs.Frames.{told_before, IsCut, IsNextLine}
+use Rattle.world_engine.specs.Frames.{told_before, CountsScriptLinesBefore, IsNextLine}
 use Rattle.world_engine.specs.Moments.{Before, InLines, At}
 use Rattle.world_engine.specs.Running.{IsRunning}
 use Rattle.world_engine.proofs.CountedScans.{stay_same, stay_then}
@@ -49,7 +49,7 @@ behind_first xs k l (j, below, at) =
 
 module _ (s : ScenarioParts) (clocks : ℕ → ℕ → ℕ) (sound : IsSoundScenario s) (drifts : AreClocks clocks) (f k : ℕ) (w : FieldState) (due : List Due) where
   -- none yet
-  pub none_told : IsCut s k f → IsRunning s clocks (told_before s f) (frame_start s f) Before w due → AreTold w.air s clocks f k w due
+  pub none_told : CountsScriptLinesBefore s k f → IsRunning s clocks (told_before s f) (frame_start s f) Before w due → AreTold w.air s clocks f k w due
   none_told cut run = record {
     within = cut.within;
     before = λ i l at less. (let early = cut.before i l at less in omega (arith, early));
@@ -90,17 +90,17 @@ module _ (s : ScenarioParts) (clocks : ℕ → ℕ → ℕ) (sound : IsSoundScen
           }
 
     -- no line of the frame is left
-    pub later_line : (l : ScriptLine) → slice_get s.script k ≡ Some l → l.frame ≢ f → IsCut s k (f + 1)
+    pub later_line : (l : ScriptLine) → slice_get s.script k ≡ Some l → l.frame ≢ f → CountsScriptLinesBefore s k (f + 1)
     later_line = cut_at s sound.script_ascends k f so_far.within so_far.before so_far.behind
 
-    pub no_line : slice_get s.script k ≡ None → IsCut s k (f + 1)
+    pub no_line : slice_get s.script k ≡ None → CountsScriptLinesBefore s k (f + 1)
     no_line = cut_end s sound.script_ascends k f so_far.within so_far.before so_far.behind
 
-    pub lines_told : IsCut s k (f + 1) → IsRunning s clocks (told_before s (f + 1)) (frame_start s f) (InLines (told_before s (f + 1))) w due
+    pub lines_told : CountsScriptLinesBefore s k (f + 1) → IsRunning s clocks (told_before s (f + 1)) (frame_start s f) (InLines (told_before s (f + 1))) w due
     lines_told cut = subst (λ (told : List ScriptLine). IsRunning s clocks told (frame_start s f) (InLines told) w due)
         (sym (told_at_cut s k (f + 1) cut)) so_far.run
 
-    pub all_told : IsCut s k (f + 1) → IsRunning s clocks (told_before s (f + 1)) (frame_start s f) (At SendingEnd) w due
+    pub all_told : CountsScriptLinesBefore s k (f + 1) → IsRunning s clocks (told_before s (f + 1)) (frame_start s f) (At SendingEnd) w due
     all_told cut =
         subst (λ (told : List ScriptLine). IsRunning s clocks told (frame_start s f) (At SendingEnd) w due) (sym (told_at_cut s k (f + 1) cut))
         (lines_over s clocks sound drifts f (take k s.script) (drop k s.script) w due (sym (take-append-drop k s.script)) left so_far.run)

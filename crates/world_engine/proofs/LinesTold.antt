@@ -8,10 +8,10 @@ use Rattle.event_calendar.specs.declared.class.Class.TheVariants.{SendingEnd}
 use Rattle.scenario_text.specs.ScenarioParts.{ScenarioParts}
 use Rattle.scenario_text.specs.declared.script.ScriptLine.{ScriptLine}
 use Rattle.air_log.specs.Devices.{Device, at_rest}
-use Rattle.air_log.specs.ScriptedDevices.{after_line}
-use Rattle.air_log.specs.Trails.{Reception, setup_of, frame_start, lines_at, scripted, ending_at, heard, before_tick}
+use Rattle.air_log.specs.ScriptedDevices.{device_after_line}
+use Rattle.air_log.specs.Trails.{Reception, setup_of, frame_start, lines_at, device_after_script, ending_at, device_after_receptions, before_tick}
 use Rattle.air_log.proofs.NextDue.{none_passes}
-use Rattle.world_engine.specs.Moments.{Before, InLines, At, IsAt, after_lines}
+use Rattle.world_engine.specs.Moments.{Before, InLines, At, IsAtMoment, trail_after_lines}
 
 -- the line is of v and of the frame that starts at t
 abbrev pub is_told : ScenarioParts → ℕ → ℕ → ScriptLine → Bool
@@ -19,7 +19,7 @@ is_told s v t l = (l.node == v) && (frame_start s l.frame == t)
 
 module _ (s : ScenarioParts) (v : ℕ) (clock : ℕ → ℕ) (hs : List Reception) where
   -- at the beginning
-  pub first_moment : IsAt s clock hs v 0 Before at_rest
+  pub first_moment : IsAtMoment s clock hs v 0 Before at_rest
   unfolding before_tick
   first_moment = refl
 
@@ -32,35 +32,35 @@ module _ (s : ScenarioParts) (v : ℕ) (clock : ℕ → ℕ) (hs : List Receptio
 
     -- no line of this tick has been told yet
     pub lines_begin : (told : List ScriptLine) (d : Device) → ((l : ScriptLine) → Contains told l → l.node ≡ v → frame_start s l.frame ≡ t → ⊥)
-        → IsAt s clock hs v t Before d → IsAt s clock hs v t (InLines told) d
+        → IsAtMoment s clock hs v t Before d → IsAtMoment s clock hs v t (InLines told) d
     lines_begin told d none at =
-        at ∙ sym (ap (λ (ls : List ScriptLine). fold (after_line clock (setup_of s v) t) (before_tick s v clock hs t) ls) (none_told told none))
+        at ∙ sym (ap (λ (ls : List ScriptLine). fold (device_after_line clock (setup_of s v) t) (before_tick s v clock hs t) ls) (none_told told none))
 
     one_passes : (l : ScriptLine) (b : Bool) → is_told s v t l ≡ b → filter (is_told s v t) (l ∷ []) ≡ (if b then l ∷ [] else [])
     one_passes l b is = rw is refl
 
     told_more : (told : List ScriptLine) (l : ScriptLine) (ls : List ScriptLine) → filter (is_told s v t) (l ∷ []) ≡ ls
-        → after_lines s v clock hs t (told ++ l ∷ []) ≡ fold (after_line clock (setup_of s v) t) (after_lines s v clock hs t told) ls
+        → trail_after_lines s v clock hs t (told ++ l ∷ []) ≡ fold (device_after_line clock (setup_of s v) t) (trail_after_lines s v clock hs t told) ls
     told_more told l ls is =
-        let f = after_line clock (setup_of s v) t in
+        let f = device_after_line clock (setup_of s v) t in
         let d = before_tick s v clock hs t in
         let mine = filter (is_told s v t) told in
         ap (λ (xs : List ScriptLine). fold f d xs) (filter-append (is_told s v t) told (l ∷ []) ∙ ap (λ (xs : List ScriptLine). mine ++ xs) is)
         ∙ fold-append f d mine ls
 
     -- a line of v
-    pub line_told : (told : List ScriptLine) (l : ScriptLine) (d : Device) → l.node ≡ v → frame_start s l.frame ≡ t → IsAt s clock hs v t (InLines told) d
-        → IsAt s clock hs v t (InLines (told ++ l ∷ [])) (after_line clock (setup_of s v) t d l)
+    pub line_told : (told : List ScriptLine) (l : ScriptLine) (d : Device) → l.node ≡ v → frame_start s l.frame ≡ t → IsAtMoment s clock hs v t (InLines told) d
+        → IsAtMoment s clock hs v t (InLines (told ++ l ∷ [])) (device_after_line clock (setup_of s v) t d l)
     line_told told l d own now at =
-        ap (λ (e : Device). after_line clock (setup_of s v) t e l) at
+        ap (λ (e : Device). device_after_line clock (setup_of s v) t e l) at
         ∙ sym (told_more told l (l ∷ []) (one_passes l true (and_from _ _ (eq-eqb l.node v own) (eq-eqb (frame_start s l.frame) t now))))
 
     other_node : (l : ScriptLine) → l.node ≢ v → is_told s v t l ≡ false
     other_node l other = rw (ne_eqb l.node v other) refl
 
     -- a line of another node
-    pub line_of_other : (told : List ScriptLine) (l : ScriptLine) (d : Device) → l.node ≢ v → IsAt s clock hs v t (InLines told) d
-        → IsAt s clock hs v t (InLines (told ++ l ∷ [])) d
+    pub line_of_other : (told : List ScriptLine) (l : ScriptLine) (d : Device) → l.node ≢ v → IsAtMoment s clock hs v t (InLines told) d
+        → IsAtMoment s clock hs v t (InLines (told ++ l ∷ [])) d
     line_of_other told l d other at = at ∙ sym (told_more told l [] (one_passes l false (other_node l other)))
 
     none_heard : ((h : Reception) → Contains hs h → h.end ≡ t → ⊥) → ending_at t hs ≡ []
@@ -74,15 +74,15 @@ module _ (s : ScenarioParts) (v : ℕ) (clock : ℕ → ℕ) (hs : List Receptio
         ∙ ap (λ (xs : List ScriptLine). filter (is_told s v t) told ++ xs) (none_told rest none)
         ∙ append-nil (filter (is_told s v t) told)
 
-    nothing_heard : (d : Device) → ((h : Reception) → Contains hs h → h.end ≡ t → ⊥) → heard clock (setup_of s v) t hs d ≡ d
+    nothing_heard : (d : Device) → ((h : Reception) → Contains hs h → h.end ≡ t → ⊥) → device_after_receptions clock (setup_of s v) t hs d ≡ d
     nothing_heard d none = rw (none_heard none) refl
 
     -- all lines of this tick have been told, and nothing was heard at it yet
     pub lines_end : (told rest : List ScriptLine) (d : Device) → s.script ≡ told ++ rest
         → ((l : ScriptLine) → Contains rest l → l.node ≡ v → frame_start s l.frame ≡ t → ⊥)
-        → ((h : Reception) → Contains hs h → h.end ≡ t → ⊥) → IsAt s clock hs v t (InLines told) d → IsAt s clock hs v t (At SendingEnd) d
+        → ((h : Reception) → Contains hs h → h.end ≡ t → ⊥) → IsAtMoment s clock hs v t (InLines told) d → IsAtMoment s clock hs v t (At SendingEnd) d
     lines_end told rest d is none silent at =
-        let f = after_line clock (setup_of s v) t in
-        let whole : scripted s v clock t (before_tick s v clock hs t) ≡ after_lines s v clock hs t told =
+        let f = device_after_line clock (setup_of s v) t in
+        let whole : device_after_script s v clock t (before_tick s v clock hs t) ≡ trail_after_lines s v clock hs t told =
         ap (λ (xs : List ScriptLine). fold f (before_tick s v clock hs t) xs) (all_told told rest is none) in
-        inl (at ∙ sym whole ∙ sym (nothing_heard (scripted s v clock t (before_tick s v clock hs t)) silent))
+        inl (at ∙ sym whole ∙ sym (nothing_heard (device_after_script s v clock t (before_tick s v clock hs t)) silent))

@@ -7,7 +7,7 @@ use Rattle.std.proofs.lemmas.List.Elements.{filter-append, Contains-push_cases}
 use Rattle.radio_model.specs.declared.sending.Sending.{Sending}
 use Rattle.radio_model.specs.OnAir.{Tuning}
 use Rattle.air_log.specs.declared.entry.Entry.{Entry}
-use Rattle.air_log.specs.Entries.{node_of, sendings_of, sent_entry, heard_entry}
+use Rattle.air_log.specs.Entries.{node_of_entry, sendings_of, sent_entry, heard_entry}
 use Rattle.air_log.specs.Lawful.{sent_by, tuned_by}
 use Rattle.air_log.proofs.LoggedEntries.{sendings_sent, tunings_sent, sendings_heard, tunings_heard}
 
@@ -38,7 +38,7 @@ module _ (air : List Entry) (u : ℕ) (x : Sending) (v : ℕ) where
   tuned_beside_heard = ap (filter (λ (k : Tuning). k.node == v)) (tunings_heard air u x)
 
 -- an entry more is of its node
-pub entry_more : (air : List Entry) (ids : List ℕ) (new : Entry) → Contains ids (node_of new) → (e : Entry) → Contains (air ++ new ∷ []) e
-    → Contains air e ⊎ Contains ids (node_of e)
+pub entry_more : (air : List Entry) (ids : List ℕ) (new : Entry) → Contains ids (node_of_entry new) → (e : Entry) → Contains (air ++ new ∷ []) e
+    → Contains air e ⊎ Contains ids (node_of_entry e)
 entry_more air ids new there e in_it =
-    elim (Contains-push_cases air new e in_it) [ inl old ↦ inl old | inr is ↦ inr (subst (λ (d : Entry). Contains ids (node_of d)) is there) ]
+    elim (Contains-push_cases air new e in_it) [ inl old ↦ inl old | inr is ↦ inr (subst (λ (d : Entry). Contains ids (node_of_entry d)) is there) ]

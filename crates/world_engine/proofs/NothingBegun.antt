@@ -11,41 +11,41 @@ use Rattle.radio_model.proofs.Agreement.{agree_same}
 use Rattle.event_calendar.specs.Orders.{Due, at, changed, nothing_due}
 use Rattle.event_calendar.specs.declared.class.Class.TheVariants.{SendingStart}
 use Rattle.bus_rules.specs.Cores.{Setup}
-use Rattle.air_log.specs.Devices.{Device, Ordered, Made, nothing_made}
-use Rattle.air_log.specs.Trails.{begun, starting}
+use Rattle.air_log.specs.Devices.{Device, OrderedPacket, Made, nothing_made}
+use Rattle.air_log.specs.Trails.{device_after_start, sendings_starting}
 use Rattle.air_log.specs.Entries.{sendings_of}
 use Rattle.air_log.specs.DeviceStates.{DeviceState, whole, with_sent, HappenedBy, IsSameNode}
-use Rattle.world_engine.specs.Fields.{FieldState, IsField, IsKnown, Shows, IsShown, due_of, end_of, setup_of, channel_of}
+use Rattle.world_engine.specs.Fields.{FieldState, IsField, IsKnownDevice, FieldShows, FieldIsShown, due_of_device, end_of, setup_of_device, channel_of}
 use Rattle.world_engine.specs.FieldSteps.{Acts}
 use Rattle.world_engine.proofs.ShownPlaces.{there_now, still_field, still_shown, shown_as}
 use Rattle.world_engine.proofs.BegunDevices.{silent_with}
 use Rattle.world_engine.proofs.ObeyedOrders.{due_changed}
-use Rattle.air_log.specs.Courses.{tick_of}
+use Rattle.air_log.specs.Courses.{tick_of_ordered}
 
 -- what the start at a device comes to
 abbrev pub Begins : ℕ → ℕ → FieldState → List Due → FieldState → List Due → Type 0
 Begins t p old old_due new new_due =
-    (x : List Sending) × Acts t p (λ s d. begun s t d) x [] old old_due new new_due
-    × ((s : Setup) (d : Device) → Shows s t old old_due p d → x ≡ starting s t d)
+    (x : List Sending) × Acts t p (λ s d. device_after_start s t d) x [] old old_due new new_due
+    × ((s : Setup) (d : Device) → FieldShows s t old old_due p d → x ≡ sendings_starting s t d)
 
 -- what a device has in the queue
-abbrev pub due_by : Option Sending → Option ℕ → Option Ordered → Due
-due_by sending alarm ordered = record { sending_end = option_map end_of sending; alarm = alarm; sending_start = option_map tick_of ordered }
+abbrev pub due_by : Option Sending → Option ℕ → Option OrderedPacket → Due
+due_by sending alarm ordered = record { sending_end = option_map end_of sending; alarm = alarm; sending_start = option_map tick_of_ordered ordered }
 
 module _ (t p : ℕ) (w : FieldState) (field : IsField w) (due : List Due) (st new : DeviceState) (here : slice_get w.devices p ≡ Some st)
     (node : IsSameNode st new) (keeps_time : (now : ℕ) → HappenedBy now st → HappenedBy now new) (stands : at due p SendingStart ≡ Some t)
-    (shown : IsShown t w due p) (time : IsTime w.medium t) where
-  pub known : IsKnown w due p st
+    (shown : FieldIsShown t w due p) (time : IsTime w.medium t) where
+  pub known : IsKnownDevice w due p st
   known = (shown_as shown.setup t w due p shown.device st here shown.shows).known
 
-  pub ordered : option_map tick_of st.ordered ≡ Some t
-  ordered = ap (λ (d : Due). d.sending_start) (sym (get_or_from_slice_get due p (due_of st) nothing_due known.set)) ∙ stands
+  pub ordered : option_map tick_of_ordered st.ordered ≡ Some t
+  ordered = ap (λ (d : Due). d.sending_start) (sym (get_or_from_slice_get due p (due_of_device st) nothing_due known.set)) ∙ stands
 
   below : p < length due
-  below = slice_get_within due p (due_of st) known.set
+  below = slice_get_within due p (due_of_device st) known.set
 
   -- where nothing starts
-  module _ (is : (made : Made) → begun st.setup t (whole st made) ≡ whole new (with_sent None made)) where
+  module _ (is : (made : Made) → device_after_start st.setup t (whole st made) ≡ whole new (with_sent None made)) where
     abbrev silent_field : FieldState
     silent_field = record { medium = w.medium; devices = set w.devices p new; air = w.air; deliveries = w.deliveries; drops = w.drops; sums = w.sums }
 
@@ -55,12 +55,12 @@ module _ (t p : ℕ) (w : FieldState) (field : IsField w) (due : List Due) (st n
     silent_now : whole new nothing_made ≡ record (whole st nothing_made) { ordered = None }
     silent_now = sym (is nothing_made) ∙ (silent_with t st new ordered is nothing_made).is
 
-    silent_set : slice_get silent_due p ≡ Some (due_of new)
+    silent_set : slice_get silent_due p ≡ Some (due_of_device new)
     silent_set =
-        due_changed due p SendingStart None (due_of st) known.set
+        due_changed due p SendingStart None (due_of_device st) known.set
         ∙ ap (λ (d : Device). let o : Option Due = Some (due_by d.sending d.alarm d.ordered) in o) (sym silent_now)
 
-    silent_own : (s : Setup) (d : Device) → Shows s t w due p d → Shows s t silent_field silent_due p (begun s t d)
+    silent_own : (s : Setup) (d : Device) → FieldShows s t w due p d → FieldShows s t silent_field silent_due p (device_after_start s t d)
     silent_own s d shows =
         let sh = shown_as s t w due p d st here shows in
         record {
@@ -68,7 +68,7 @@ module _ (t p : ℕ) (w : FieldState) (field : IsField w) (due : List Due) (st n
           there = there_now w.devices p st new here;
           setup = node.setup ∙ sh.setup;
           made = sh.made;
-          is = sym (is sh.made) ∙ ap (λ (u : Setup). begun u t (whole st sh.made)) sh.setup ∙ ap (begun s t) sh.is;
+          is = sym (is sh.made) ∙ ap (λ (u : Setup). device_after_start u t (whole st sh.made)) sh.setup ∙ ap (device_after_start s t) sh.is;
           logged = record { sent = sh.logged.sent; tuned = sh.logged.tuned; deliveries = sh.logged.deliveries };
           known = record {
             station = known.station;
@@ -108,7 +108,7 @@ module _ (t p : ℕ) (w : FieldState) (field : IsField w) (due : List Due) (st n
           still = λ is. is;
         };
         same = record {
-          setups = map_stays setup_of w.devices p st new here node.setup;
+          setups = map_stays setup_of_device w.devices p st new here node.setup;
           places = length-set due p _;
           entries = λ e there. inl there;
           deliverers = λ d there. inl there;
@@ -116,7 +116,8 @@ module _ (t p : ℕ) (w : FieldState) (field : IsField w) (due : List Due) (st n
       },
       λ s d shows.
           let sh = shown_as s t w due p d st here shows in
-          sym (ap (λ (u : Setup). starting u t d) (sym sh.setup) ∙ ap (starting st.setup t) (sym sh.is) ∙ (silent_with t st new ordered is sh.made).starting),
+          sym (ap (λ (u : Setup). sendings_starting u t d) (sym sh.setup) ∙ ap (sendings_starting st.setup t) (sym sh.is)
+              ∙ (silent_with t st new ordered is sh.made).starting),
     )
 
     pub silent_is_field : IsField silent_field

@@ -11,14 +11,14 @@ use Rattle.bus_rules.specs.Cores.{Setup}
 use Rattle.radio_model.specs.Stations.{IsTime}
 use Rattle.air_log.specs.Devices.{Device, obeyed}
 use Rattle.air_log.specs.DeviceStates.{IsTimely}
-use Rattle.world_engine.specs.Fields.{FieldState, IsShown}
+use Rattle.world_engine.specs.Fields.{FieldState, FieldIsShown}
 use Rattle.world_engine.specs.FieldSteps.{Acts}
 use Rattle.world_engine.proofs.ActsInTurn.{acts_nothing, acts_then, acts_as}
 use Rattle.lwb_base.proofs.Elements.{first_of, none_in}
 
 -- a device is shown at the place still
 pub shown_still : (t p : ℕ) (change : Setup → Device → Device) (old new : FieldState) (old_due new_due : List Due)
-    → Acts t p change [] [] old old_due new new_due → IsShown t old old_due p → IsShown t new new_due p
+    → Acts t p change [] [] old old_due new new_due → FieldIsShown t old old_due p → FieldIsShown t new new_due p
 shown_still t p change old new old_due new_due acts shown = record {
   setup = shown.setup;
   device = change shown.setup shown.device;

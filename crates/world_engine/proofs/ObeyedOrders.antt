@@ -10,13 +10,13 @@ use Rattle.bus_rules.specs.Cores.{Setup}
 use Rattle.bus_rules.specs.declared.delivery.Delivery.{Delivery}
 use Rattle.radio_model.specs.Hearing.{Scene}
 use Rattle.radio_model.specs.Holding.{Holds, after_tuning}
-use Rattle.radio_model.specs.Stations.{MediumState, IsTime, station_of, after as medium_after, retuned}
+use Rattle.radio_model.specs.Stations.{MediumState, IsTime, station_of, medium_after_change as medium_after, station_after_tuning}
 use Rattle.air_log.specs.declared.entry.TunedEntry.{TunedEntry}
 use Rattle.air_log.specs.Devices.{Listening, Made}
 use Rattle.air_log.specs.DeviceStates.{DeviceState, with_tuned, IsSameNode}
 use Rattle.air_log.specs.WindowSums.{WindowSum}
-use Rattle.world_engine.specs.Fields.{FieldState, IsField, IsKnown, entries_of, due_of, channel_of}
-use Rattle.world_engine.specs.FieldSteps.{GoesOn}
+use Rattle.world_engine.specs.Fields.{FieldState, IsField, IsKnownDevice, entries_of, due_of_device, channel_of}
+use Rattle.world_engine.specs.FieldSteps.{MediumGoesOn}
 use Rattle.world_engine.proofs.DevicePlaces.{at_set}
 use Rattle.world_engine.proofs.DeviceSteps.{IsStepAt, GoesOnMaking}
 use Rattle.world_engine.proofs.DeviceRetuned.{retuned_goes_on, retuned_station, retuned_others}
@@ -33,7 +33,7 @@ pub due_kept : (due : List Due) (p : ℕ) (class : Class) (tick : Option ℕ) (q
 due_kept due p class tick q other = set_elsewhere due p q (with_tick class tick (due_at due p)) other
 
 -- devices of which the same is set stand in the queue alike
-pub same_due : (d e : DeviceState) → e.sending ≡ d.sending → e.alarm ≡ d.alarm → e.ordered ≡ d.ordered → due_of d ≡ due_of e
+pub same_due : (d e : DeviceState) → e.sending ≡ d.sending → e.alarm ≡ d.alarm → e.ordered ≡ d.ordered → due_of_device d ≡ due_of_device e
 same_due d e sending alarm ordered = rw (sending, alarm, ordered) refl
 
 -- a step by which the device is tuned to a channel, or to nothing
@@ -43,13 +43,13 @@ module _ (t p : ℕ) (state after : DeviceState) (closed : Option TunedEntry) (r
     pub time : IsTime old.medium t
     pub here : slice_get old.devices p ≡ Some state
     pub node : IsSameNode state after
-    pub known : IsKnown old due p state
+    pub known : IsKnownDevice old due p state
     pub own : IfSome closed (λ e. e.node ≡ state.setup.id)
     pub set_sending : after.sending ≡ state.sending
     pub set_alarm : after.alarm ≡ state.alarm
     pub set_ordered : after.ordered ≡ state.ordered
     pub channel : option_map channel_of after.listening ≡ rank
-    pub medium : new.medium ≡ medium_after t state.setup.id (retuned rank t) old.medium
+    pub medium : new.medium ≡ medium_after t state.setup.id (station_after_tuning rank t) old.medium
     pub holds : (a : Scene) → Holds old.medium a → Holds new.medium (after_tuning old.medium state.setup.id rank t a)
     pub devices : new.devices ≡ set old.devices p after
     pub air : new.air ≡ old.air ++ entries_of closed
@@ -85,14 +85,14 @@ module _ (t p : ℕ) (state after : DeviceState) (delivery : Option Delivery) (o
     pub setup : after.setup ≡ state.setup
     pub listening : after.listening ≡ state.listening
     pub sending : after.sending ≡ state.sending
-    pub known : IsKnown old old_due p state
+    pub known : IsKnownDevice old old_due p state
     pub own : IfSome delivery (λ d. d.node ≡ state.setup.id)
     pub medium : new.medium ≡ old.medium
     pub devices : new.devices ≡ set old.devices p after
     pub air : new.air ≡ old.air
     pub deliveries : new.deliveries ≡ old.deliveries ++ option_to_list delivery
     pub drops : new.drops ≡ old.drops
-    pub due : slice_get new_due p ≡ Some (due_of after)
+    pub due : slice_get new_due p ≡ Some (due_of_device after)
     pub dues : (q : ℕ) → q ≢ p → slice_get new_due q ≡ slice_get old_due q
     pub places : length new_due ≡ length old_due
     pub sums : (q : ℕ) → q ≢ p → slice_get new.sums q ≡ slice_get old.sums q
@@ -107,7 +107,7 @@ module _ (t p : ℕ) (state after : DeviceState) (delivery : Option Delivery) (o
     drops = q.drops ∙ sym (append-nil old.drops);
     own_tuning = tt;
     own_delivery = q.own;
-    medium = subst (λ (m : MediumState). GoesOn t old.medium m []) (sym q.medium) (goes_on_nothing t old.medium q.time);
+    medium = subst (λ (m : MediumState). MediumGoesOn t old.medium m []) (sym q.medium) (goes_on_nothing t old.medium q.time);
     station = record {
       station = q.known.station;
       there = ap (λ (m : MediumState). station_of m after.setup.id) q.medium ∙ ap (λ (s : Setup). station_of old.medium s.id) q.setup ∙ q.known.there;

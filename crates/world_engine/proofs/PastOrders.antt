@@ -16,12 +16,12 @@ use Rattle.event_calendar.specs.Orders.{Due, IsNext, at, tick_of, rank}
 use Rattle.event_calendar.proofs.OneOrder.{same_class}
 use Rattle.bus_rules.specs.Cores.{Setup}
 use Rattle.bus_rules.specs.declared.delivery.DropLine.{DropLine}
-use Rattle.air_log.specs.Devices.{Device, Listening, Ordered}
+use Rattle.air_log.specs.Devices.{Device, Listening, OrderedPacket}
 use Rattle.air_log.specs.AlarmRuns.{IsAlarmRun}
-use Rattle.air_log.specs.Trails.{setup_of, run_end, alarmed, begun, begun_by, starts}
-use Rattle.world_engine.specs.Fields.{FieldState, Shows, end_of}
+use Rattle.air_log.specs.Trails.{setup_of, run_end, alarmed, device_after_start, begun_by, starts}
+use Rattle.world_engine.specs.Fields.{FieldState, FieldShows, end_of}
 use Rattle.world_engine.specs.FieldSteps.{Acts, EndsSending, told_of_end, told_of_hearing}
-use Rattle.world_engine.specs.Frames.{order_key, IsPast}
+use Rattle.world_engine.specs.Frames.{order_key, AllComeLater}
 use Rattle.world_engine.specs.Moments.{At}
 use Rattle.world_engine.specs.Running.{IsRunning}
 use Rattle.world_engine.specs.Runs.{standing}
@@ -33,7 +33,7 @@ use Rattle.world_engine.proofs.ToldDevices.{told_of_hearing_sending, told_of_end
 use Rattle.world_engine.proofs.ShownDevices.{stands_at}
 use Rattle.world_engine.proofs.TrailsGoOn.{AreClocks}
 use Rattle.world_engine.proofs.TickPoints.{alarm_at}
-use Rattle.air_log.specs.Courses.{tick_of as start_of}
+use Rattle.air_log.specs.Courses.{tick_of_ordered as start_of}
 
 -- what stands of the class at the tick is at later places
 abbrev pub LaterPlaces : ℕ → Class → ℕ → List Due → Type 0
@@ -42,7 +42,7 @@ LaterPlaces t c p due = (q : ℕ) → at due q c ≡ Some t → p < q
 module _ (s : ScenarioParts) (clocks : ℕ → ℕ → ℕ) (sound : IsSoundScenario s) (drifts : AreClocks clocks) (told : List ScriptLine) (t : ℕ)
     (within : t < run_end s) (c : Class) (p : ℕ) (few : p < 64)
     (w : FieldState) (due : List Due) (run : IsRunning s clocks told t (At c) w due) where
-  pub past : LaterPlaces t c p due → IsPast t c p due
+  pub past : LaterPlaces t c p due → AllComeLater t c p due
   past later y stands = by_time (cases_lt t y.0)
     where
       node : (n : NodeLine) × (slice_get s.nodes y.2 ≡ Some n)
@@ -88,7 +88,7 @@ module _ (s : ScenarioParts) (clocks : ℕ → ℕ → ℕ) (told : List ScriptL
 
   -- a step at one device
   pub were_at : (change : Setup → Device → Device) (begins : List Sending) (lost : List DropLine) → Acts t p change begins lost old old_due new new_due
-      → ((x : Setup) (d : Device) → Shows x t old old_due p d → tick_of c (standing (change x d)) ≡ Some t → ⊥)
+      → ((x : Setup) (d : Device) → FieldShows x t old old_due p d → tick_of c (standing (change x d)) ≡ Some t → ⊥)
       → (q : ℕ) → at new_due q c ≡ Some t → (q ≢ p) × (at old_due q c ≡ Some t)
   were_at change begins lost acts gone q stands = by (cases_eq q p)
     where
@@ -99,7 +99,7 @@ module _ (s : ScenarioParts) (clocks : ℕ → ℕ → ℕ) (told : List ScriptL
       by (inl is) =
           let trail = before.trails q n.0 n.1 in
           let x = setup_of s n.0.node in
-          let shown : Shows x t old old_due p trail.device = subst (λ (r : ℕ). Shows x t old old_due r trail.device) is trail.shows in
+          let shown : FieldShows x t old old_due p trail.device = subst (λ (r : ℕ). FieldShows x t old old_due r trail.device) is trail.shows in
           let here : at new_due p c ≡ Some t = subst (λ (r : ℕ). at new_due r c ≡ Some t) is stands in
           absurd (gone x trail.device shown (sym (stands_at x t new new_due p (change x trail.device) (acts.own x trail.device shown) c) ∙ here))
       by (inr other) =
@@ -133,7 +133,7 @@ module _ (s : ScenarioParts) (clocks : ℕ → ℕ → ℕ) (told : List ScriptL
       by (inl is) hears =
           let trail = before.trails q n.0 n.1 in
           let u = setup_of s n.0.node in
-          let shown : Shows u t old old_due p trail.device = subst (λ (r : ℕ). Shows u t old old_due r trail.device) is trail.shows in
+          let shown : FieldShows u t old old_due p trail.device = subst (λ (r : ℕ). FieldShows u t old old_due r trail.device) is trail.shows in
           let e = told_of_end (at_places p) t x u trail.device in
           let here : at new_due p SendingEnd ≡ Some t = subst (λ (r : ℕ). at new_due r SendingEnd ≡ Some t) is end_now in
           absurd (no_end e.sending (told_of_end_sending (at_places p) u t x trail.device)
@@ -163,10 +163,10 @@ pub alarm_gone : (clock : ℕ → ℕ) (s : Setup) (t : ℕ) (d : Device) → Is
 alarm_gone clock s t d run = alarm_at t (alarmed clock s t d).alarm run.over
 
 -- nor does what was to start
-begun_over : (s : Setup) (t : ℕ) (d : Device) (o : Option Ordered) → d.ordered ≡ o → option_map start_of (begun_by s t d o).ordered ≡ Some t → ⊥
+begun_over : (s : Setup) (t : ℕ) (d : Device) (o : Option OrderedPacket) → d.ordered ≡ o → option_map start_of (begun_by s t d o).ordered ≡ Some t → ⊥
 begun_over s t d None at is = no_start d.ordered at is
   where
-    no_start : (o : Option Ordered) → o ≡ None → option_map start_of o ≡ Some t → ⊥
+    no_start : (o : Option OrderedPacket) → o ≡ None → option_map start_of o ≡ Some t → ⊥
     no_start None none is = cc
     no_start (Some o) none is = cc
 begun_over s t d (Some o) at is =
@@ -180,18 +180,18 @@ begun_over s t d (Some o) at is =
     started (Some l) (Some y) is = cc
     started (Some l) None is = cc
 
-    not_now : (x : Option Ordered) → x ≡ Some o → (o.tick == t) ≡ false → option_map start_of x ≡ Some t → ⊥
+    not_now : (x : Option OrderedPacket) → x ≡ Some o → (o.tick == t) ≡ false → option_map start_of x ≡ Some t → ⊥
     not_now None at other is = cc
     not_now (Some y) at other is = eqb-false o.tick t other (ap tick (sym (same y at)) ∙ is_tick y.tick is)
       where
-        tick : Ordered → ℕ
+        tick : OrderedPacket → ℕ
         tick z = z.tick
 
-        same : (y : Ordered) → Some y ≡ Some o → y ≡ o
+        same : (y : OrderedPacket) → Some y ≡ Some o → y ≡ o
         same y is = cc
 
         is_tick : (k : ℕ) → Some k ≡ Some t → k ≡ t
         is_tick k is = cc
 
-pub start_gone : (s : Setup) (t : ℕ) (d : Device) → tick_of SendingStart (standing (begun s t d)) ≡ Some t → ⊥
+pub start_gone : (s : Setup) (t : ℕ) (d : Device) → tick_of SendingStart (standing (device_after_start s t d)) ≡ Some t → ⊥
 start_gone s t d is = begun_over s t d d.ordered refl is

@@ -11,7 +11,7 @@ use Rattle.event_calendar.specs.Orders.{Due}
 use Rattle.bus_rules.specs.Cores.{Setup}
 use Rattle.air_log.specs.ClockLists.{clocks_by}
 use Rattle.air_log.specs.DeviceStates.{DeviceState}
-use Rattle.world_engine.specs.Fields.{FieldState, setup_of, setups_of}
+use Rattle.world_engine.specs.Fields.{FieldState, setup_of_device, setups_of}
 use Rattle.world_engine.specs.Running.{HasPlaces, setup_by}
 
 abbrev Ascend : List NodeLine → Type 0
@@ -62,7 +62,7 @@ at_place (x ∷ xs) (suc p) less = at_place xs p (omega (arith, less))
 module _ (s : ScenarioParts) (w : FieldState) (due : List Due) (places : HasPlaces s w due) where
   -- there is a device for each node
   pub as_many_devices : length w.devices ≡ length s.nodes
-  as_many_devices = sym (length-map w.devices setup_of) ∙ ap length places.setups ∙ length-map s.nodes (setup_by s)
+  as_many_devices = sym (length-map w.devices setup_of_device) ∙ ap length places.setups ∙ length-map s.nodes (setup_by s)
 
   -- the node at the place of a device
   pub node_of_place : (p : ℕ) → p < length w.devices → (n : NodeLine) × (slice_get s.nodes p ≡ Some n)
@@ -71,6 +71,6 @@ module _ (s : ScenarioParts) (w : FieldState) (due : List Due) (places : HasPlac
   -- a device is that of the node at its place
   pub setup_at_place : (p : ℕ) (n : NodeLine) (d : DeviceState) → slice_get s.nodes p ≡ Some n → slice_get w.devices p ≡ Some d → d.setup ≡ setup_by s n
   setup_at_place p n d at_n at_d =
-      let here : slice_get (setups_of w) p ≡ Some d.setup = slice_get-map setup_of w.devices p ∙ ap (option_map setup_of) at_d in
+      let here : slice_get (setups_of w) p ≡ Some d.setup = slice_get-map setup_of_device w.devices p ∙ ap (option_map setup_of_device) at_d in
       let there : slice_get (map (setup_by s) s.nodes) p ≡ Some (setup_by s n) = slice_get-map (setup_by s) s.nodes p ∙ ap (option_map (setup_by s)) at_n in
       same_Some _ _ (sym here ∙ ap (λ (l : List Setup). slice_get l p) places.setups ∙ there)

@@ -6,7 +6,7 @@ use Rattle.std.proofs.lemmas.Option.{none-some, same_Some}
 use Rattle.std.specs.List.{list_any}
 use Rattle.link_trace.specs.Passes.{Lines}
 use Rattle.radio_model.specs.declared.sending.Sending.{Sending}
-use Rattle.radio_model.specs.Hearing.{Scene, Hears}
+use Rattle.radio_model.specs.Hearing.{Scene, HearsInScene}
 use Rattle.radio_model.specs.Holding.{as_it_stands}
 use Rattle.lwb_base.proofs.Elements.{any_of, some_of}
 use Rattle.scenario_text.specs.ScenarioParts.{ScenarioParts}
@@ -14,8 +14,8 @@ use Rattle.event_calendar.specs.Orders.{Due}
 use Rattle.bus_rules.specs.Cores.{Setup}
 use Rattle.air_log.specs.Entries.{sendings_of}
 use Rattle.air_log.specs.Devices.{Device}
-use Rattle.world_engine.specs.Fields.{FieldState, IsField, Shows, ids_of}
-use Rattle.world_engine.specs.FieldSteps.{EndsSending, Sends}
+use Rattle.world_engine.specs.Fields.{FieldState, IsField, FieldShows, ids_of}
+use Rattle.world_engine.specs.FieldSteps.{EndsSending, DeviceSends}
 use Rattle.world_engine.specs.Running.{Runs, HoldsScene}
 use Rattle.air_log.proofs.TunedBefore.{stays_same}
 use Rattle.world_engine.proofs.ToldDevices.{told_of_end_stays, told_of_hearing_stays, told_of_end_sending, told_of_hearing_sending}
@@ -28,7 +28,7 @@ module _ (s : ScenarioParts) (lines : Lines) (clocks : ℕ → ℕ → ℕ) (t p
     (new : FieldState) (new_due : List Due)
     (ends : EndsSending lines clocks t p x hearers old old_due new new_due) (within : p < length old.devices) (field : IsField old)
     (all : AreTuned t old old_due)
-    (sends : Sends t old old_due p x) (now : x.end ≡ t) (trace : lines ≡ s.trace) (a : Scene) (h : HoldsScene s t old old_due a) where
+    (sends : DeviceSends t old old_due p x) (now : x.end ≡ t) (trace : lines ≡ s.trace) (a : Scene) (h : HoldsScene s t old old_due a) where
   -- the sender
   abbrev sender : IsTunedAt t old old_due p
   sender = all p within
@@ -50,7 +50,7 @@ module _ (s : ScenarioParts) (lines : Lines) (clocks : ℕ → ℕ → ℕ) (t p
   x_lasts : x.start < x.end
   x_lasts = (h.begun x x_logged).0
 
-  pub rule : (q : ℕ) (u : Setup) (d : Device) → Shows u t old old_due q d → Contains hearers q ↔ Hears (as_it_stands old.medium t a) u.id x
+  pub rule : (q : ℕ) (u : Setup) (d : Device) → FieldShows u t old old_due q d → Contains hearers q ↔ HearsInScene (as_it_stands old.medium t a) u.id x
   rule q u d shows = ends.heard a h.held (h.lines ∙ sym trace) q u d shows
 
   -- it does not hear itself, and no hearer sends up to this tick
@@ -143,7 +143,7 @@ module _ (s : ScenarioParts) (lines : Lines) (clocks : ℕ → ℕ → ℕ) (t p
     pub place : ℕ
     pub setup : Setup
     pub device : Device
-    pub shows : Shows setup t old old_due place device
+    pub shows : FieldShows setup t old old_due place device
     pub node : setup.id ≡ y.node
     pub sent : device.sending ≡ Some y
     pub other : place ≢ p
@@ -177,6 +177,7 @@ module _ (s : ScenarioParts) (lines : Lines) (clocks : ℕ → ℕ → ℕ) (t p
       let m = of.at.moved in
       let was : m.before.sending ≡ Some y = (runs_at m.setup t old old_due of.place m.before m.was y of.node).0 ran in
       (runs_at m.setup t new new_due of.place m.after m.is y of.node).1 (elim of.at.fate [
-        | inl own ↦ absurd (differ (same_Some x y (sym (sends m.setup m.before (subst (λ (r : ℕ). Shows m.setup t old old_due r m.before) own.0 m.was)) ∙ was)))
+        | inl own ↦ absurd
+            (differ (same_Some x y (sym (sends m.setup m.before (subst (λ (r : ℕ). FieldShows m.setup t old old_due r m.before) own.0 m.was)) ∙ was)))
         | inr other ↦ other.1 ∙ was
       ])

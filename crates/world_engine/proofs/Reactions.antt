@@ -15,12 +15,12 @@ use Rattle.radio_model.specs.Stations.{IsTime}
 use Rattle.node_core.specs.Rows.{Stepped}
 use Rattle.node_core.specs.Rows.{orders_by}
 use Rattle.air_log.specs.Devices.{Device, Power, PowerOff, PowerOn, Made, obeyed, event}
-use Rattle.air_log.specs.DeviceStates.{DeviceState, whole, row_at, row_of, after_row, made_by}
+use Rattle.air_log.specs.DeviceStates.{DeviceState, whole, row_at, row_of, state_after_row, made_by}
 use Rattle.air_log.specs.WindowLogs.{is_alarm}
-use Rattle.air_log.specs.WindowSums.{WindowSum, IsCounted, in_window, sent_with, noted}
+use Rattle.air_log.specs.WindowSums.{WindowSum, IsCounted, power_has_window, sent_with, noted}
 use Rattle.air_log.proofs.CountedEvents.{counted_then}
 use Rattle.air_log.proofs.CourseEvents.{keeps_setup, keeps_happened, reacted}
-use Rattle.world_engine.specs.Fields.{FieldState, HasCounted, IsShown, IsField, due_of}
+use Rattle.world_engine.specs.Fields.{FieldState, HasCounted, FieldIsShown, IsField, due_of_device}
 use Rattle.world_engine.proofs.ShownPlaces.{there_now}
 use Rattle.world_engine.specs.FieldSteps.{Acts}
 use Rattle.world_engine.proofs.ActsInTurn.{acts_then, acts_as}
@@ -34,7 +34,7 @@ field_summed w sums is = record { medium = is.medium; nodes = is.nodes; numbers 
 
 -- what the row changes of the whole device
 abbrev pub moves : ℕ → Event → Option Sending → DeviceState → Option Stepped → Setup → Device → Device
-moves t e ended state r s d = record d { power = (after_row state r).power; made = made_by t e ended state.power r d.made }
+moves t e ended state r s d = record d { power = (state_after_row state r).power; made = made_by t e ended state.power r d.made }
 
 keeps_listening : (state : DeviceState) (r : Option Stepped) → (reacted state r).listening ≡ state.listening
 keeps_listening state None = refl
@@ -44,13 +44,13 @@ keeps_sending : (state : DeviceState) (r : Option Stepped) → (reacted state r)
 keeps_sending state None = refl
 keeps_sending state (Some r) = refl
 
-keeps_due : (state : DeviceState) (r : Option Stepped) → due_of state ≡ due_of (reacted state r)
+keeps_due : (state : DeviceState) (r : Option Stepped) → due_of_device state ≡ due_of_device (reacted state r)
 keeps_due state None = refl
 keeps_due state (Some r) = refl
 
 -- the whole device, by what is in the log of its making
 moved_whole : (t : ℕ) (e : Event) (ended : Option Sending) (state : DeviceState) (power : Power) (r : Option Stepped) (made : Made)
-    → (let d : Device = whole state made in record d { power = (after_row state r).power; made = made_by t e ended power r d.made }) ≡ whole
+    → (let d : Device = whole state made in record d { power = (state_after_row state r).power; made = made_by t e ended power r d.made }) ≡ whole
     (reacted state r) (made_by t e ended power r made)
 moved_whole t e ended state (PowerOff boots) None made = refl
 moved_whole t e ended state (PowerOff boots) (Some r) made = refl
@@ -58,12 +58,12 @@ moved_whole t e ended state (PowerOn n) None made = refl
 moved_whole t e ended state (PowerOn n) (Some r) made = refl
 
 module _ (clock : ℕ → ℕ) (t : ℕ) (e : Event) (ended : Option Sending) (state : DeviceState) (taken : state.delivery ≡ None) where
-  by_row : (n : _) (r : Option Stepped) (made : Made) → GoesOnMaking None (after_row state r).delivery made (made_by t e ended (PowerOn n) r made)
+  by_row : (n : _) (r : Option Stepped) (made : Made) → GoesOnMaking None (state_after_row state r).delivery made (made_by t e ended (PowerOn n) r made)
   by_row n None made = record { sent = refl; tuned = refl; deliveries = ap (λ (o : Option Delivery). made.deliveries ++ option_to_list o) (sym taken) }
   by_row n (Some r) made = record { sent = refl; tuned = refl; deliveries = refl }
 
   pub making_goes_on : (s : Setup) (power : Power) (made : Made)
-      → GoesOnMaking None (after_row state (row_at clock t e s power)).delivery made (made_by t e ended power (row_at clock t e s power) made)
+      → GoesOnMaking None (state_after_row state (row_at clock t e s power)).delivery made (made_by t e ended power (row_at clock t e s power) made)
   making_goes_on s (PowerOff boots) made = record {
     sent = refl;
     tuned = refl;
@@ -71,34 +71,34 @@ module _ (clock : ℕ → ℕ) (t : ℕ) (e : Event) (ended : Option Sending) (s
   }
   making_goes_on s (PowerOn n) made = by_row n (row_at clock t e s (PowerOn n)) made
 
-  named : (v : ℕ) (r : Option Stepped) → DeliversTo v r → IsTo v (after_row state r).delivery
+  named : (v : ℕ) (r : Option Stepped) → DeliversTo v r → IsTo v (state_after_row state r).delivery
   named v None to = subst (IsTo v) (sym taken) tt
   named v (Some r) to = to
 
-  pub delivery_named : (s : Setup) (power : Power) → IsTo s.id (after_row state (row_at clock t e s power)).delivery
+  pub delivery_named : (s : Setup) (power : Power) → IsTo s.id (state_after_row state (row_at clock t e s power)).delivery
   delivery_named s (PowerOff boots) = named s.id None tt
   delivery_named s (PowerOn n) = named s.id (row_at clock t e s (PowerOn n)) (delivers_to s n (clock t) e)
 
-module _ (t p : ℕ) (old : FieldState) (due : List Due) (shown : IsShown t old due p) (i : ℕ) (at : i ≡ p) (state : DeviceState)
+module _ (t p : ℕ) (old : FieldState) (due : List Due) (shown : FieldIsShown t old due p) (i : ℕ) (at : i ≡ p) (state : DeviceState)
     (is : state ≡ get_or old.devices i state) (clock : ℕ → ℕ) (e : Event) where
   abbrev stepped : Option Stepped
   stepped = row_of clock t e state
 
   -- what the windows count after it, as code comes to it
   pub noted_is : (ended : Option Sending) (moved : DeviceState) (before after alarm : Bool) (sent : Option (List ℕ)) (sum next : WindowSum)
-      → moved ≡ after_row state stepped → before ≡ in_window state.power → after ≡ in_window moved.power → alarm ≡ is_alarm e
+      → moved ≡ state_after_row state stepped → before ≡ power_has_window state.power → after ≡ power_has_window moved.power → alarm ≡ is_alarm e
       → sent ≡ sent_with e ended → next ≡ noted before after alarm sent sum
-      → next ≡ noted (in_window state.power) (in_window (after_row state stepped).power) (is_alarm e) (sent_with e ended) sum
+      → next ≡ noted (power_has_window state.power) (power_has_window (state_after_row state stepped).power) (is_alarm e) (sent_with e ended) sum
   noted_is ended moved before after alarm sent sum next is_moved is_before is_after is_alarmed is_sent is_next =
       is_next
       ∙ ap (λ (b : Bool). noted b after alarm sent sum) is_before
-      ∙ ap (λ (b : Bool). noted (in_window state.power) b alarm sent sum) (is_after ∙ ap (λ (d : DeviceState). in_window d.power) is_moved)
-      ∙ ap (λ (b : Bool). noted (in_window state.power) (in_window (after_row state stepped).power) b sent sum) is_alarmed
-      ∙ ap (λ (o : Option (List ℕ)). noted (in_window state.power) (in_window (after_row state stepped).power) (is_alarm e) o sum) is_sent
+      ∙ ap (λ (b : Bool). noted (power_has_window state.power) b alarm sent sum) (is_after ∙ ap (λ (d : DeviceState). power_has_window d.power) is_moved)
+      ∙ ap (λ (b : Bool). noted (power_has_window state.power) (power_has_window (state_after_row state stepped).power) b sent sum) is_alarmed
+      ∙ ap (λ (o : Option (List ℕ)). noted (power_has_window state.power) (power_has_window (state_after_row state stepped).power) (is_alarm e) o sum) is_sent
 
   -- and at the places
   module _ (ended : Option Sending) (j : ℕ) (here : j ≡ p) (sum next : WindowSum) (read : sum ≡ get_or old.sums j sum)
-      (goes : next ≡ noted (in_window state.power) (in_window (after_row state stepped).power) (is_alarm e) (sent_with e ended) sum)
+      (goes : next ≡ noted (power_has_window state.power) (power_has_window (state_after_row state stepped).power) (is_alarm e) (sent_with e ended) sum)
       (small : next.last ≤ 2 ^ 28) where
     pub noted_others : (q : ℕ) → q ≢ p → slice_get (set old.sums j next) q ≡ slice_get old.sums q
     noted_others q other = set_elsewhere old.sums j q next (λ same. other (same ∙ here))
@@ -109,7 +109,8 @@ module _ (t p : ℕ) (old : FieldState) (due : List Due) (shown : IsShown t old 
         let same : has.sum ≡ sum = sym (get_or_from_slice_get old.sums p has.sum sum has.there) ∙ ap (λ (n : ℕ). get_or old.sums n sum) (sym here) ∙ sym read in
         let so_far : IsCounted state.setup.profile state.setup.sends made.windows sum =
         subst (λ (x : WindowSum). IsCounted state.setup.profile state.setup.sends made.windows x) same has.is in
-        let less : (noted (in_window state.power) (in_window (after_row state stepped).power) (is_alarm e) (sent_with e ended) sum).last ≤ 2 ^ 28 =
+        let less : (noted (power_has_window state.power) (power_has_window (state_after_row state stepped).power) (is_alarm e) (sent_with e ended)
+            sum).last ≤ 2 ^ 28 =
         omega (arith, small, ap (λ (x : WindowSum). x.last) goes) in
         record {
           sum = next;
@@ -121,7 +122,7 @@ module _ (t p : ℕ) (old : FieldState) (due : List Due) (shown : IsShown t old 
 
   -- the row and its delivery
   pub moves_acts : IsField old → IsTime old.medium t → (ended : Option Sending) (after : DeviceState) (delivery : Option Delivery) (new : FieldState)
-      → after ≡ reacted state stepped → delivery ≡ (after_row state stepped).delivery
+      → after ≡ reacted state stepped → delivery ≡ (state_after_row state stepped).delivery
       → (sums : List WindowSum) → ((q : ℕ) → q ≢ p → slice_get sums q ≡ slice_get old.sums q)
       → ((made : Made) → HasCounted old.sums p state.setup made.windows
       → HasCounted sums p state.setup (made_by t e ended state.power stepped made).windows)
@@ -136,7 +137,7 @@ module _ (t p : ℕ) (old : FieldState) (due : List Due) (shown : IsShown t old 
       → Acts t p (moves t e ended state stepped) [] [] old due new due
   moves_acts field time ended after delivery new is_after is_delivery sums others counts is_new =
       let taken = state_taken t p old due shown i at state is in
-      let gives = (after_row state stepped).delivery in
+      let gives = (state_after_row state stepped).delivery in
       let acts = quiet_acts t p old due shown i at state is field time (reacted state stepped) gives due
       (keeps_setup state stepped) (keeps_listening state stepped) (keeps_sending state stepped) refl
       (keeps_happened t state stepped (state_happened t p old due shown i at state is))

@@ -5,7 +5,7 @@ use Rattle.scenario_text.specs.ScenarioFacts.{IsSoundScenario}
 use Rattle.event_calendar.specs.Orders.{Due}
 use Rattle.air_log.specs.Trails.{run_end}
 use Rattle.air_log.specs.Lawful.{FollowsHearing}
-use Rattle.air_log.specs.Deliveries.{comes_before}
+use Rattle.air_log.specs.Deliveries.{delivery_comes_before}
 use Rattle.air_log.specs.LogText.{in_order}
 use Rattle.air_log.specs.DeviceStates.{core_in}
 use Rattle.world_engine.specs.Fields.{FieldState}
@@ -24,7 +24,7 @@ use Rattle.world_engine.proofs.OrdersOver.{orders_over}
 -- where the log follows the rule of hearing
 pub run_over : (s : ScenarioParts) (clocks : ℕ → ℕ → ℕ) (w : FieldState) (due : List Due) (closed : FieldState) → IsSoundScenario s
     → AreClocks clocks → IsRunning s clocks s.script (run_end s) Before w due → IsClosed (run_end s) w due closed → FollowsHearing s closed.air
-    → IsEngineRun s clocks closed.air (in_order comes_before closed.deliveries) closed.drops (core_of (map core_in closed.devices))
+    → IsEngineRun s clocks closed.air (in_order delivery_comes_before closed.deliveries) closed.drops (core_of (map core_in closed.devices))
     × (due ≡ orders_left s clocks closed.air)
 run_over s clocks w due closed sound drifts running over hearing = (
   record {

@@ -9,7 +9,7 @@ use Rattle.event_calendar.specs.declared.class.Class.{Class}
 use Rattle.event_calendar.specs.Orders.{Due, at}
 use Rattle.bus_rules.specs.Cores.{Setup}
 use Rattle.air_log.specs.DeviceStates.{DeviceState}
-use Rattle.world_engine.specs.Fields.{FieldState, setup_of, id_of}
+use Rattle.world_engine.specs.Fields.{FieldState, setup_of_device, id_of}
 use Rattle.world_engine.specs.Running.{HasPlaces, setup_by}
 use Rattle.world_engine.proofs.PlacedNodes.{as_many_devices}
 use Rattle.world_engine.proofs.QueueKeys.{none_at_none}
@@ -39,6 +39,6 @@ module _ (s : ScenarioParts) (w : FieldState) (due : List Due) (places : HasPlac
       ids [] = refl
       ids (n ∷ ns) = ap (λ (l : List ℕ). n.node ∷ l) (ids ns)
 
-      of_devices : (ds : List DeviceState) → map setup_id (map setup_of ds) ≡ map id_of ds
+      of_devices : (ds : List DeviceState) → map setup_id (map setup_of_device ds) ≡ map id_of ds
       of_devices [] = refl
       of_devices (d ∷ ds) = ap (λ (l : List ℕ). d.setup.id ∷ l) (of_devices ds)

@@ -8,7 +8,7 @@ use Rattle.std.proofs.lemmas.Option.{same_Some, none-some, slice_get-map, get_or
 use Rattle.scenario_text.specs.ScenarioParts.{ScenarioParts}
 use Rattle.scenario_text.specs.ScenarioFacts.{IsSoundScenario}
 use Rattle.scenario_text.specs.declared.lines.NodeLine.{NodeLine}
-use Rattle.radio_model.specs.Stations.{MediumState, nodes_of, is_of, station_of, fresh, stations_from}
+use Rattle.radio_model.specs.Stations.{MediumState, nodes_of, is_station_of, station_of, fresh, stations_from}
 use Rattle.event_calendar.specs.Orders.{Due, nothing_due}
 use Rattle.bus_rules.specs.Cores.{Setup}
 use Rattle.air_log.specs.declared.entry.Entry.{Entry}
@@ -18,8 +18,8 @@ use Rattle.air_log.specs.Trails.{setup_of as setup_in}
 use Rattle.lwb_base.proofs.Elements.{not_in_none}
 use Rattle.air_log.specs.DeviceStates.{DeviceState}
 use Rattle.air_log.specs.WindowSums.{WindowSum}
-use Rattle.world_engine.specs.Fields.{FieldState, IsField, Shows, setup_of, id_of}
-use Rattle.world_engine.specs.FieldSteps.{IsFirst, first_device, node_id, nothing_counted}
+use Rattle.world_engine.specs.Fields.{FieldState, IsField, FieldShows, setup_of_device, id_of}
+use Rattle.world_engine.specs.FieldSteps.{IsFirstField, first_device, node_id, nothing_counted}
 use Rattle.world_engine.specs.Moments.{Before}
 use Rattle.world_engine.specs.Running.{IsRunning, IsOnTrail, setup_by}
 use Rattle.world_engine.proofs.FirstField.{first_field}
@@ -33,16 +33,17 @@ behind u vs i v ascend at =
     let there = get_or_from_slice_get vs i v 0 at in
     omega (arith, pair, there)
 
-fresh_at : (k : ℕ) (vs : List ℕ) (i v : ℕ) → AllPairs (λ a b. a < b) vs → slice_get vs i ≡ Some v → find (is_of v) (stations_from k vs) ≡ Some (fresh v (k + i))
+fresh_at : (k : ℕ) (vs : List ℕ) (i v : ℕ) → AllPairs (λ a b. a < b) vs → slice_get vs i ≡ Some v
+    → find (is_station_of v) (stations_from k vs) ≡ Some (fresh v (k + i))
 fresh_at k [] i v ascend at = absurd (none-some _ at)
 fresh_at k (u ∷ vs) zero v ascend at =
     let same : u ≡ v = same_Some _ _ at in
-    cond-true (u == v) (Some (fresh u k)) (find (is_of v) (stations_from (k + 1) vs)) (eq-eqb u v same)
+    cond-true (u == v) (Some (fresh u k)) (find (is_station_of v) (stations_from (k + 1) vs)) (eq-eqb u v same)
     ∙ ap (λ (x : ℕ). Some (fresh x k)) same
     ∙ ap (λ (j : ℕ). Some (fresh v j)) (omega arith)
 fresh_at k (u ∷ vs) (suc i) v ascend at =
     let less = behind u vs i v ascend at in
-    cond-false (u == v) (Some (fresh u k)) (find (is_of v) (stations_from (k + 1) vs)) (ne_eqb u v (λ is. omega (arith, less, is)))
+    cond-false (u == v) (Some (fresh u k)) (find (is_station_of v) (stations_from (k + 1) vs)) (ne_eqb u v (λ is. omega (arith, less, is)))
     ∙ fresh_at (k + 1) vs i v (λ a b d first second. ascend (suc a) (suc b) d (omega (arith, first)) (omega (arith, second))) at
     ∙ ap (λ (j : ℕ). Some (fresh v j)) (omega arith)
 
@@ -55,11 +56,11 @@ as_many : {X : Type 0} (n : ℕ) (x : X) → length (replicate n x) ≡ n
 as_many zero x = refl
 as_many (suc n) x = let rest = as_many n x in omega (arith, rest)
 
-first_setups : (s : ScenarioParts) (ns : List NodeLine) → map setup_of (map (first_device s) ns) ≡ map (setup_by s) ns
+first_setups : (s : ScenarioParts) (ns : List NodeLine) → map setup_of_device (map (first_device s) ns) ≡ map (setup_by s) ns
 first_setups s [] = refl
 first_setups s (n ∷ ns) = ap (λ (l : List Setup). setup_in s n.node ∷ l) (first_setups s ns)
 
-module _ (s : ScenarioParts) (clocks : ℕ → ℕ → ℕ) (sound : IsSoundScenario s) (w : FieldState) (due : List Due) (first : IsFirst s w)
+module _ (s : ScenarioParts) (clocks : ℕ → ℕ → ℕ) (sound : IsSoundScenario s) (w : FieldState) (due : List Due) (first : IsFirstField s w)
     (none : due ≡ replicate (length s.nodes) nothing_due) where
   field : IsField w
   field = first_field s sound w first.medium first.devices
@@ -84,7 +85,7 @@ module _ (s : ScenarioParts) (clocks : ℕ → ℕ → ℕ) (sound : IsSoundScen
   due_at_first : (p : ℕ) (n : NodeLine) → slice_get s.nodes p ≡ Some n → slice_get due p ≡ Some nothing_due
   due_at_first p n at = ap (λ (l : List Due). slice_get l p) none ∙ same_at (length s.nodes) p nothing_due (slice_get_within s.nodes p n at)
 
-  shown_first : (p : ℕ) (n : NodeLine) → slice_get s.nodes p ≡ Some n → Shows (setup_in s n.node) 0 w due p at_rest
+  shown_first : (p : ℕ) (n : NodeLine) → slice_get s.nodes p ≡ Some n → FieldShows (setup_in s n.node) 0 w due p at_rest
   shown_first p n at = record {
     state = first_device s n;
     there = device_at p n at;
@@ -111,7 +112,7 @@ module _ (s : ScenarioParts) (clocks : ℕ → ℕ → ℕ) (sound : IsSoundScen
   on_trail : (p : ℕ) (n : NodeLine) → slice_get s.nodes p ≡ Some n → IsOnTrail s clocks 0 Before w due p n.node
   on_trail p n at = record { device = at_rest; shows = shown_first p n at; at = first_moment s n.node (clocks n.node) (heard_by w.air n.node) }
 
-  power_first : (q : Setup) (p : ℕ) (d : Device) → Shows q 0 w due p d → seen_power d.power ≡ (false, 0)
+  power_first : (q : Setup) (p : ℕ) (d : Device) → FieldShows q 0 w due p d → seen_power d.power ≡ (false, 0)
   power_first q p d shows =
       let there : slice_get (map (first_device s) s.nodes) p ≡ Some shows.state = ap (λ (l : List DeviceState). slice_get l p) (sym first.devices)
       ∙ shows.there in
@@ -125,7 +126,7 @@ module _ (s : ScenarioParts) (clocks : ℕ → ℕ → ℕ) (sound : IsSoundScen
   pub run_begins : IsRunning s clocks [] 0 Before w due
   run_begins = record {
     places = record {
-      setups = ap (map setup_of) first.devices ∙ first_setups s s.nodes;
+      setups = ap (map setup_of_device) first.devices ∙ first_setups s s.nodes;
       field = field;
       places = ap length none ∙ as_many (length s.nodes) nothing_due;
     };

@@ -12,21 +12,21 @@ use Rattle.scenario_text.specs.declared.script.ScriptLine.{ScriptLine}
 use Rattle.radio_model.specs.declared.sending.Sending.{Sending}
 use Rattle.radio_model.specs.declared.station.Station.{Station}
 use Rattle.radio_model.specs.OnAir.{Hearing}
-use Rattle.radio_model.specs.Stations.{IsTime, node_of, station_of}
+use Rattle.radio_model.specs.Stations.{IsTime, id_of_station, station_of}
 use Rattle.radio_model.proofs.OneCall.{found_member}
 use Rattle.event_calendar.specs.declared.class.Class.{Class}
 use Rattle.event_calendar.specs.declared.class.Class.TheVariants.{SendingEnd}
 use Rattle.event_calendar.specs.Orders.{Due, Order, IsNext, at, nothing_due}
 use Rattle.bus_rules.specs.Cores.{Setup}
 use Rattle.air_log.specs.Entries.{hearings_of}
-use Rattle.air_log.specs.Lawful.{AreInTurn, comes_before, reception_of, hearings_by, heard_by}
+use Rattle.air_log.specs.Lawful.{AreInTurn, reception_comes_before, reception_of, hearings_by, heard_by}
 use Rattle.air_log.specs.Trails.{Reception, run_end, frame_start}
 use Rattle.air_log.proofs.InTurn.{heard_in_turn}
 use Rattle.air_log.proofs.AlarmLoop.{early_in_run}
 use Rattle.lwb_base.proofs.Elements.{map_contains, map_from, filtered}
-use Rattle.world_engine.specs.Fields.{FieldState, ids_of, due_of, end_of}
-use Rattle.world_engine.specs.Moments.{Moment, Before, InLines, At, over_by}
-use Rattle.world_engine.specs.Running.{IsRunning, IsOnAir, IsTold}
+use Rattle.world_engine.specs.Fields.{FieldState, ids_of, due_of_device, end_of}
+use Rattle.world_engine.specs.Moments.{TickMoment, Before, InLines, At, over_by}
+use Rattle.world_engine.specs.Running.{IsRunning, IsOnAir, HasTakenLines}
 use Rattle.world_engine.specs.Frames.{told_before}
 use Rattle.world_engine.proofs.AirInTime.{time_passes, more_is_over}
 use Rattle.world_engine.proofs.NextMoments.{NoneBefore, none_before_next, within_frame, starts_up, starts_apart, lines_begin_trails, lines_end_trails}
@@ -38,7 +38,7 @@ use Rattle.world_engine.proofs.TimePasses.{HeardBefore}
 use Rattle.world_engine.proofs.ToldSoFar.{told_later}
 use Rattle.world_engine.proofs.TrailsGoOn.{AreClocks}
 
-module _ (s : ScenarioParts) (clocks : ℕ → ℕ → ℕ) (told : List ScriptLine) (t : ℕ) (m : Moment) (w : FieldState) (due : List Due)
+module _ (s : ScenarioParts) (clocks : ℕ → ℕ → ℕ) (told : List ScriptLine) (t : ℕ) (m : TickMoment) (w : FieldState) (due : List Due)
     (run : IsRunning s clocks told t m w due) where
   pub tuned_so_far : AreTuned t w due
   tuned_so_far = trails_tuned s clocks t m w due run.places run.trails
@@ -55,7 +55,7 @@ module _ (s : ScenarioParts) (clocks : ℕ → ℕ → ℕ) (told : List ScriptL
       ends_later st y there sends =
           let field = run.places.field in
           let id : Contains (ids_of w) st.node = subst (λ (l : List ℕ). Contains l st.node) (sym field.nodes)
-          (map_contains node_of w.medium.stations st there) in
+          (map_contains id_of_station w.medium.stations st there) in
           let place = place_in w st.node id in
           let tuned = tuned_so_far place.place place.within in
           let shows = tuned.shows in
@@ -65,7 +65,7 @@ module _ (s : ScenarioParts) (clocks : ℕ → ℕ → ℕ) (told : List ScriptL
           let same : shows.known.station ≡ st = same_Some _ _ (sym here ∙ found_member w.medium.stations st field.medium.nodes.ascending there) in
           let runs : shows.state.sending ≡ Some y = sym shows.known.sending ∙ ap (λ (z : Station). z.sending) same ∙ sends in
           let set : at due place.place SendingEnd ≡ Some y.end =
-          ap (λ (d : Due). d.sending_end) (get_or_from_slice_get due place.place (due_of shows.state) nothing_due shows.known.set)
+          ap (λ (d : Due). d.sending_end) (get_or_from_slice_get due place.place (due_of_device shows.state) nothing_due shows.known.set)
           ∙ ap (option_map end_of) runs in
           none place.place SendingEnd y.end set
 
@@ -73,7 +73,8 @@ module _ (s : ScenarioParts) (clocks : ℕ → ℕ → ℕ) (told : List ScriptL
   pub heard_so_far : (v : ℕ) → HeardBefore (heard_by w.air v) (over_by t m)
   heard_so_far v h there =
       let has = run.air.has in
-      let in_turn : AreInTurn (hearings_by w.air v) = AllPairs-filter (λ g k. comes_before k g ≡ false) (λ g. g.node == v) (hearings_of w.air) has.in_turn in
+      let in_turn : AreInTurn (hearings_by w.air v) =
+          AllPairs-filter (λ g k. reception_comes_before k g ≡ false) (λ g. g.node == v) (hearings_of w.air) has.in_turn in
       let plain : Contains (map reception_of (hearings_by w.air v)) h = subst (λ (l : List Reception). Contains l h) (heard_in_turn w.air v in_turn) there in
       let g = map_from reception_of (hearings_by w.air v) h plain in
       let logged = filtered (λ (k : Hearing). k.node == v) (hearings_of w.air) g.0 g.1 in
@@ -143,7 +144,7 @@ module _ (s : ScenarioParts) (clocks : ℕ → ℕ → ℕ) (sound : IsSoundScen
           (time_until s clocks told t (At c) w due run x.0 not_past small (none_before_next due x next)) run.places.field
           (tuned_so_far s clocks told t (At c) w due run) run.air
 
-      later_script : IsTold s clocks told x.0 w due
+      later_script : HasTakenLines s clocks told x.0 w due
       later_script = told_later s clocks told t (At c) w due run.trails run.script x.0 not_past run.places
 
       by_time : (t < x.0) ⊎ (x.0 ≤ t) → IsRunning s clocks told x.0 (At x.1) w due × (t ≤ x.0)

@@ -9,16 +9,16 @@ use Rattle.radio_model.specs.declared.sending.Sending.{Sending}
 use Rattle.radio_model.specs.declared.station.Station.{Station}
 use Rattle.radio_model.specs.Hearing.{Scene, IsTuned}
 use Rattle.radio_model.specs.Holding.{as_it_stands}
-use Rattle.radio_model.specs.Stations.{MediumState, sending_of, station_of, is_of, nodes_of, node_of as station_node, on_air}
+use Rattle.radio_model.specs.Stations.{MediumState, sending_of_station, station_of, is_station_of, nodes_of, id_of_station as station_node, on_air}
 use Rattle.lwb_base.proofs.Elements.{contains_head, contains_tail, map_contains, of_option}
 use Rattle.scenario_text.specs.ScenarioParts.{ScenarioParts}
 use Rattle.event_calendar.specs.Orders.{Due}
 use Rattle.bus_rules.specs.Cores.{Setup}
-use Rattle.air_log.specs.Entries.{sendings_of, node_of}
+use Rattle.air_log.specs.Entries.{sendings_of, node_of_entry}
 use Rattle.air_log.specs.Devices.{Device}
 use Rattle.air_log.specs.DeviceStates.{DeviceState}
-use Rattle.world_engine.specs.Fields.{FieldState, Shows, setups_of, ids_of, setup_of as setup_in, id_of}
-use Rattle.world_engine.specs.FieldSteps.{IsSceneAfter, GoesOn, AreSame}
+use Rattle.world_engine.specs.Fields.{FieldState, FieldShows, setups_of, ids_of, setup_of_device as setup_in, id_of}
+use Rattle.world_engine.specs.FieldSteps.{IsSceneAfter, MediumGoesOn, AreSame}
 use Rattle.world_engine.specs.Running.{Runs, HoldsScene}
 use Rattle.air_log.specs.TunedTimes.{WasTuned}
 use Rattle.air_log.proofs.TunedBefore.{IsTunedAs}
@@ -36,15 +36,15 @@ pub same_length : (old new : FieldState) → setups_of new ≡ setups_of old →
 same_length old new same = omega (arith, length-map new.devices setup_in, length-map old.devices setup_in, ap length same)
 
 -- a station that is found
-pub found_in : (v : ℕ) (xs : List Station) (st : Station) → find (is_of v) xs ≡ Some st → Contains xs st × (st.node ≡ v)
+pub found_in : (v : ℕ) (xs : List Station) (st : Station) → find (is_station_of v) xs ≡ Some st → Contains xs st × (st.node ≡ v)
 found_in v [] st is = cc
 found_in v (x ∷ xs) st is =
     elim (cases_eq x.node v) [
       | inl node ↦
-          let same : x ≡ st = same_Some x st (sym (cond-true (x.node == v) (Some x) (find (is_of v) xs) (eq-eqb x.node v node)) ∙ is) in
+          let same : x ≡ st = same_Some x st (sym (cond-true (x.node == v) (Some x) (find (is_station_of v) xs) (eq-eqb x.node v node)) ∙ is) in
           (subst (Contains (x ∷ xs)) same (contains_head x xs), ap station_node (sym same) ∙ node)
       | inr other ↦
-          let rest = found_in v xs st (sym (cond-false (x.node == v) (Some x) (find (is_of v) xs) (ne_eqb x.node v other)) ∙ is) in
+          let rest = found_in v xs st (sym (cond-false (x.node == v) (Some x) (find (is_station_of v) xs) (ne_eqb x.node v other)) ∙ is) in
           (contains_tail x xs st rest.0, rest.1)
     ]
 
@@ -54,10 +54,10 @@ pub record IsSendingAt (m : MediumState) (v : ℕ) (x : Sending) : Type 0 where
   pub node : station.node ≡ v
   pub sends : station.sending ≡ Some x
 
-pub sending_at : (m : MediumState) (v : ℕ) (x : Sending) → sending_of (station_of m v) ≡ Some x → IsSendingAt m v x
+pub sending_at : (m : MediumState) (v : ℕ) (x : Sending) → sending_of_station (station_of m v) ≡ Some x → IsSendingAt m v x
 sending_at m v x runs = by_station (station_of m v) refl runs
   where
-    by_station : (o : Option Station) → station_of m v ≡ o → sending_of o ≡ Some x → IsSendingAt m v x
+    by_station : (o : Option Station) → station_of m v ≡ o → sending_of_station o ≡ Some x → IsSendingAt m v x
     by_station None at sends = cc
     by_station (Some st) at sends = let found = found_in v m.stations st at in record { station = st; there = found.0; node = found.1; sends = sends }
 
@@ -77,8 +77,8 @@ pub record IsMoved (t : ℕ) (old : FieldState) (old_due : List Due) (new : Fiel
   pub setup : Setup
   pub before : Device
   pub after : Device
-  pub was : Shows setup t old old_due p before
-  pub is : Shows setup t new new_due p after
+  pub was : FieldShows setup t old old_due p before
+  pub is : FieldShows setup t new new_due p after
   pub stays : IsTunedAs t before after
 
 module _ (s : ScenarioParts) (t : ℕ) (w : FieldState) (due : List Due) (a : Scene) (h : HoldsScene s t w due a) where
@@ -88,7 +88,7 @@ module _ (s : ScenarioParts) (t : ℕ) (w : FieldState) (due : List Due) (a : Sc
       (h.sendings x).0 (h.held.sent x (record { station = at.station; there = at.there; kept = on_air_there at.station x at.sends }))
 
 module _ (s : ScenarioParts) (t : ℕ) (begun : List Sending) (old : FieldState) (old_due : List Due) (new : FieldState) (new_due : List Due)
-    (a : Scene) (h : HoldsScene s t old old_due a) (air : GoesOn t old.medium new.medium begun) (same : AreSame old old_due new new_due)
+    (a : Scene) (h : HoldsScene s t old old_due a) (air : MediumGoesOn t old.medium new.medium begun) (same : AreSame old old_due new new_due)
     (sends : sendings_of new.air ≡ sendings_of old.air ++ begun) (starts : (x : Sending) → Contains begun x → (x.start < x.end) × (x.start ≤ t))
     (moved : (p : ℕ) → p < length old.devices → IsMoved t old old_due new new_due p) where
   abbrev pub next : Scene
@@ -117,7 +117,7 @@ module _ (s : ScenarioParts) (t : ℕ) (begun : List Sending) (old : FieldState)
   )
 
   -- who was tuned before the tick
-  tuned_both : (q : Setup) (p : ℕ) (d : Device) → Shows q t new new_due p d → (r k : ℕ) → k < t → IsTuned (as_it_stands new.medium t next) q.id r k
+  tuned_both : (q : Setup) (p : ℕ) (d : Device) → FieldShows q t new new_due p d → (r k : ℕ) → k < t → IsTuned (as_it_stands new.medium t next) q.id r k
       ↔ WasTuned d r k
   tuned_both q p d shows r k early =
       let m = moved p (omega (arith, shown_within q t new new_due p d shows, same_length old new same.setups)) in
@@ -141,7 +141,7 @@ module _ (s : ScenarioParts) (t : ℕ) (begun : List Sending) (old : FieldState)
     sendings = sent_both;
     begun = λ x there. elim (sent_cases x there) [ inl was ↦ h.begun x was | inr now ↦ starts x now ];
     tuned = tuned_both;
-    known = λ e there. subst (λ (l : List ℕ). Contains l (node_of e)) (sym ids) (elim (same.entries e there) [ inl was ↦ h.known e was | inr own ↦ own ]);
+    known = λ e there. subst (λ (l : List ℕ). Contains l (node_of_entry e)) (sym ids) (elim (same.entries e there) [ inl was ↦ h.known e was | inr own ↦ own ]);
     deliverers = λ d there. subst (λ (l : List ℕ). Contains l d.node) (sym ids) (elim (same.deliverers d there) [
       | inl was ↦ h.deliverers d was
       | inr own ↦ own

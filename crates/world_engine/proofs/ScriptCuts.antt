@@ -6,7 +6,7 @@ use Rattle.std.proofs.lemmas.Bool.{cond-true, cond-false, ltb-false}
 use Rattle.std.proofs.lemmas.Option.{slice_get_within, get_or_from_slice_get, same_Some, none-some}
 use Rattle.scenario_text.specs.ScenarioParts.{ScenarioParts}
 use Rattle.scenario_text.specs.declared.script.ScriptLine.{ScriptLine}
-use Rattle.world_engine.specs.Frames.{told_before, IsCut}
+use Rattle.world_engine.specs.Frames.{told_before, CountsScriptLinesBefore}
 
 not_before : (a f : ℕ) → f ≤ a → nat_lt a f ≡ false
 not_before a f le = by (nat_lt a f) refl
@@ -33,11 +33,11 @@ cut_is (x ∷ xs) (suc k) f within before behind =
     (cut_is xs k f (omega (arith, within)) (λ i l at less. before (suc i) l at (omega (arith, less)))
     (λ i l at le. behind (suc i) l at (omega (arith, le))))
 
-pub told_at_cut : (s : ScenarioParts) (k f : ℕ) → IsCut s k f → told_before s f ≡ take k s.script
+pub told_at_cut : (s : ScenarioParts) (k f : ℕ) → CountsScriptLinesBefore s k f → told_before s f ≡ take k s.script
 told_at_cut s k f cut = cut_is s.script k f cut.within cut.before cut.behind
 
 -- at first
-pub first_cut : (s : ScenarioParts) → IsCut s 0 0
+pub first_cut : (s : ScenarioParts) → CountsScriptLinesBefore s 0 0
 first_cut s = record { within = omega arith; before = λ i l at less. absurd (omega (arith, less)); behind = λ i l at le. omega arith }
 
 -- the next line of a list, and one line more
@@ -55,7 +55,7 @@ module _ (s : ScenarioParts) (ascends : AllPairs (λ a b. a.frame ≤ b.frame) s
     (before : (i : ℕ) (l : ScriptLine) → slice_get s.script i ≡ Some l → i < k → l.frame < f + 1)
     (behind : (i : ℕ) (l : ScriptLine) → slice_get s.script i ≡ Some l → k ≤ i → f ≤ l.frame) where
   -- the next line is of a later frame
-  pub cut_at : (l : ScriptLine) → slice_get s.script k ≡ Some l → l.frame ≢ f → IsCut s k (f + 1)
+  pub cut_at : (l : ScriptLine) → slice_get s.script k ≡ Some l → l.frame ≢ f → CountsScriptLinesBefore s k (f + 1)
   cut_at l at other = record {
     within = within;
     before = before;
@@ -88,7 +88,7 @@ module _ (s : ScenarioParts) (ascends : AllPairs (λ a b. a.frame ≤ b.frame) s
               omega (arith, here, frame)
 
   -- there is no next line
-  pub cut_end : slice_get s.script k ≡ None → IsCut s k (f + 1)
+  pub cut_end : slice_get s.script k ≡ None → CountsScriptLinesBefore s k (f + 1)
   cut_end none = record {
     within = within;
     before = before;

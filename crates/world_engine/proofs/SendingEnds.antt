@@ -8,18 +8,18 @@ use Rattle.std.proofs.lemmas.Option.{same_Some, get_or_from_slice_get}
 use Rattle.link_trace.specs.Passes.{Lines}
 use Rattle.radio_model.specs.declared.sending.Sending.{Sending}
 use Rattle.radio_model.specs.OnAir.{Hearing}
-use Rattle.radio_model.specs.Hearing.{Scene, Hears}
+use Rattle.radio_model.specs.Hearing.{Scene, HearsInScene}
 use Rattle.radio_model.specs.Holding.{as_it_stands}
 use Rattle.lwb_base.proofs.Elements.{not_in_none, contains_head, contains_tail, map_contains, map_from, pairs_cons, pairs_tail, pairs_head, pairs_append}
 use Rattle.scenario_text.specs.ScenarioParts.{ScenarioParts}
 use Rattle.event_calendar.specs.Orders.{Due, IsNext, IsNotAfter}
 use Rattle.event_calendar.specs.declared.class.Class.TheVariants.{SendingEnd}
 use Rattle.bus_rules.specs.Cores.{Setup}
-use Rattle.air_log.specs.Entries.{sendings_of, hearings_of, IsHeard}
+use Rattle.air_log.specs.Entries.{sendings_of, hearings_of, HasHeardEntry}
 use Rattle.air_log.specs.Devices.{Device}
-use Rattle.air_log.specs.Lawful.{comes_before, AreInTurn}
-use Rattle.world_engine.specs.Fields.{FieldState, IsField, Shows, ids_of}
-use Rattle.world_engine.specs.FieldSteps.{EndsSending, Sends, hearing_at}
+use Rattle.air_log.specs.Lawful.{reception_comes_before, AreInTurn}
+use Rattle.world_engine.specs.Fields.{FieldState, IsField, FieldShows, ids_of}
+use Rattle.world_engine.specs.FieldSteps.{EndsSending, DeviceSends, hearing_at}
 use Rattle.world_engine.specs.Running.{Runs, HoldsScene, HasHearings, IsOnAir}
 use Rattle.world_engine.proofs.ShownTunings.{AreTuned, id_there, shown_id, shown_end, place_in}
 use Rattle.world_engine.proofs.ScenesGoOn.{IsMoved, next, is_next, scene_after}
@@ -33,7 +33,7 @@ module _ (s : ScenarioParts) (lines : Lines) (clocks : ℕ → ℕ → ℕ) (t p
     (new : FieldState) (new_due : List Due)
     (ends : EndsSending lines clocks t p x hearers old old_due new new_due) (within : p < length old.devices) (field : IsField old)
     (all : AreTuned t old old_due)
-    (sends : Sends t old old_due p x) (now : x.end ≡ t) (trace : lines ≡ s.trace) (a : Scene) (h : HoldsScene s t old old_due a) where
+    (sends : DeviceSends t old old_due p x) (now : x.end ≡ t) (trace : lines ≡ s.trace) (a : Scene) (h : HoldsScene s t old old_due a) where
   abbrev EndsAt : ℕ → Type 0
   EndsAt = PlacesAtEnds.EndsAt s lines clocks t p x hearers old old_due new new_due ends within field all sends now trace a h
 
@@ -46,7 +46,7 @@ module _ (s : ScenarioParts) (lines : Lines) (clocks : ℕ → ℕ → ℕ) (t p
   abbrev x_logged : Contains (sendings_of old.air) x
   x_logged = PlacesAtEnds.x_logged s lines clocks t p x hearers old old_due new new_due ends within field all sends now trace a h
 
-  abbrev rule : (q : ℕ) (u : Setup) (d : Device) → Shows u t old old_due q d → Contains hearers q ↔ Hears (as_it_stands old.medium t a) u.id x
+  abbrev rule : (q : ℕ) (u : Setup) (d : Device) → FieldShows u t old old_due q d → Contains hearers q ↔ HearsInScene (as_it_stands old.medium t a) u.id x
   rule = PlacesAtEnds.rule s lines clocks t p x hearers old old_due new new_due ends within field all sends now trace a h
 
   abbrev at_other : (r : ℕ) → r < length old.devices → r ≢ p → EndsAt r
@@ -86,8 +86,8 @@ module _ (s : ScenarioParts) (lines : Lines) (clocks : ℕ → ℕ → ℕ) (t p
   sent_was : (y : Sending) → Contains (sendings_of new.air) y → Contains (sendings_of old.air) y
   sent_was y there = subst (λ (l : List Sending). Contains l y) ends.sendings there
 
-  alike_by : (v : ℕ) (y : Sending) → Contains (sendings_of old.air) y → y.end ≤ t → Hears (as_it_stands old.medium t a) v y
-      ↔ Hears (as_it_stands new.medium t later) v y
+  alike_by : (v : ℕ) (y : Sending) → Contains (sendings_of old.air) y → y.end ≤ t → HearsInScene (as_it_stands old.medium t a) v y
+      ↔ HearsInScene (as_it_stands new.medium t later) v y
   alike_by v y there over = heard_alike s t old old_due a _ _ h
       (is_next s t [] old old_due new new_due a h ends.air ends.same sent_same none_starts moves).before v y there over
 
@@ -107,7 +107,7 @@ module _ (s : ScenarioParts) (lines : Lines) (clocks : ℕ → ℕ → ℕ) (t p
   module _ (has : HasHearings (suc t) t old a) where
     abbrev IsRight : Hearing → Type 0
     IsRight g = Contains (sendings_of new.air) g.sending × (Runs new.medium g.sending → ⊥) × Contains (ids_of new) g.node
-        × Hears (as_it_stands new.medium t later) g.node g.sending
+        × HearsInScene (as_it_stands new.medium t later) g.node g.sending
 
     right_was : (g : Hearing) → Contains (hearings_of old.air) g → IsRight g
     right_was g there =
@@ -130,22 +130,22 @@ module _ (s : ScenarioParts) (lines : Lines) (clocks : ℕ → ℕ → ℕ) (t p
           λ ran. apart s lines clocks t p x hearers old old_due new new_due ends within field all sends now trace a h x (still_runs x ran) refl,
           subst (λ (l : List ℕ). Contains l (slice_index_or (ids_of old) q 0)) (sym ids)
               (subst (Contains (ids_of old)) (sym node) (id_there old q at.setup.id id)),
-          (alike_by _ x x_logged (omega (arith, now))).0 (subst (λ (v : ℕ). Hears (as_it_stands old.medium t a) v x) (sym node) hears),
+          (alike_by _ x x_logged (omega (arith, now))).0 (subst (λ (v : ℕ). HearsInScene (as_it_stands old.medium t a) v x) (sym node) hears),
         )
 
-    heard_now : (v : ℕ) → Contains (ids_of old) v → Hears (as_it_stands old.medium t a) v x → Contains fresh (record { node = v; sending = x })
+    heard_now : (v : ℕ) → Contains (ids_of old) v → HearsInScene (as_it_stands old.medium t a) v x → Contains fresh (record { node = v; sending = x })
     heard_now v there hears =
         let place = place_in old v there in
         let at = all place.place place.within in
         let same : at.setup.id ≡ v = same_Some at.setup.id v (sym (shown_id at.setup t old old_due place.place at.device at.shows) ∙ place.id) in
-        let hearer = (rule place.place at.setup at.device at.shows).1 (subst (λ (u : ℕ). Hears (as_it_stands old.medium t a) u x) (sym same) hears) in
+        let hearer = (rule place.place at.setup at.device at.shows).1 (subst (λ (u : ℕ). HearsInScene (as_it_stands old.medium t a) u x) (sym same) hears) in
         subst (Contains fresh) (ap (λ (u : ℕ). heard_at u) (id_at place.place place.within ∙ same)) (map_contains (hearing_at old x) hearers place.place hearer)
       where
         heard_at : ℕ → Hearing
         heard_at u = record { node = u; sending = x }
 
-    heard_by_rule : (v : ℕ) (y : Sending) → IsHeard new.air v y
-        ↔ (Contains (sendings_of new.air) y × (Runs new.medium y → ⊥) × Contains (ids_of new) v × Hears (as_it_stands new.medium t later) v y)
+    heard_by_rule : (v : ℕ) (y : Sending) → HasHeardEntry new.air v y
+        ↔ (Contains (sendings_of new.air) y × (Runs new.medium y → ⊥) × Contains (ids_of new) v × HearsInScene (as_it_stands new.medium t later) v y)
     heard_by_rule v y = (
       λ there. elim (Contains-append_cases (hearings_of old.air) fresh (record { node = v; sending = y })
           (subst (λ (l : List Hearing). Contains l (record { node = v; sending = y })) ends.hearings there)) [
@@ -160,11 +160,11 @@ module _ (s : ScenarioParts) (lines : Lines) (clocks : ℕ → ℕ → ℕ) (t p
 
         at_x : x ≡ y → IsRight (record { node = v; sending = y }) → Contains fresh (record { node = v; sending = y })
         at_x same right =
-            let hears : Hears (as_it_stands new.medium t later) v x = subst (Hears (as_it_stands new.medium t later) v) (sym same) right.3 in
+            let hears : HearsInScene (as_it_stands new.medium t later) v x = subst (HearsInScene (as_it_stands new.medium t later) v) (sym same) right.3 in
             subst (λ (z : Sending). Contains fresh (record { node = v; sending = z })) same
             (heard_now v (known right) ((alike_by v x x_logged (omega (arith, now))).1 hears))
 
-        at_other : x ≢ y → IsRight (record { node = v; sending = y }) → IsHeard old.air v y
+        at_other : x ≢ y → IsRight (record { node = v; sending = y }) → HasHeardEntry old.air v y
         at_other differ right =
             let logged = sent_was y right.0 in
             let stopped : Runs old.medium y → ⊥ = λ ran. right.1 (runs_on y differ ran) in
@@ -190,12 +190,12 @@ module _ (s : ScenarioParts) (lines : Lines) (clocks : ℕ → ℕ → ℕ) (t p
     not_again g k was is same =
         ((has.heard g.node g.sending).0 was).1 (subst (Runs old.medium) (sym (ap (λ (z : Hearing). z.sending) same ∙ of_x k is)) x_runs)
 
-    comes_first : (g k : Hearing) → Contains (hearings_of old.air) g → Contains fresh k → comes_before k g ≡ false
+    comes_first : (g k : Hearing) → Contains (hearings_of old.air) g → Contains fresh k → reception_comes_before k g ≡ false
     comes_first g k was is =
         let first = earlier g (record { node = x.node; sending = x }) (has.next g x was x_runs) in
         not_before k g (λ back. not_both g.sending x first (subst (λ (z : Sending). IsEarlier z g.sending) (of_x k is) back))
 
-    in_order : (g k : Hearing) → Contains fresh g → Contains fresh k → comes_before k g ≡ false
+    in_order : (g k : Hearing) → Contains fresh g → Contains fresh k → reception_comes_before k g ≡ false
     in_order g k first second =
         not_before k g (λ is. not_both x x (same_both is) (same_both is))
       where
@@ -226,7 +226,7 @@ module _ (s : ScenarioParts) (lines : Lines) (clocks : ℕ → ℕ → ℕ) (t p
     all_in_order : (gs : List Hearing) → ((g : Hearing) → Contains gs g → Contains fresh g) → AreInTurn gs
     all_in_order [] inside = λ i j d less below. absurd (omega (arith, below))
     all_in_order (g ∷ gs) inside =
-        pairs_cons (λ g k. comes_before k g ≡ false) g gs
+        pairs_cons (λ g k. reception_comes_before k g ≡ false) g gs
         (λ k there. in_order g k (inside g (contains_head g gs)) (inside k (contains_tail g gs k there)))
         (all_in_order gs (λ k there. inside k (contains_tail g gs k there)))
 
@@ -238,7 +238,7 @@ module _ (s : ScenarioParts) (lines : Lines) (clocks : ℕ → ℕ → ℕ) (t p
     in_turn : AreInTurn (hearings_of new.air)
     in_turn =
         subst AreInTurn (sym ends.hearings)
-        (pairs_append (λ g k. comes_before k g ≡ false) (hearings_of old.air) fresh has.in_turn (all_in_order fresh (λ g there. there)) comes_first)
+        (pairs_append (λ g k. reception_comes_before k g ≡ false) (hearings_of old.air) fresh has.in_turn (all_in_order fresh (λ g there. there)) comes_first)
 
     -- what still runs comes later
     module _ (least : IsNext old_due (Some (t, SendingEnd, p))) where
@@ -263,7 +263,7 @@ module _ (s : ScenarioParts) (lines : Lines) (clocks : ℕ → ℕ → ℕ) (t p
               )
 
       next_later : (g : Hearing) (y : Sending) → Contains (hearings_of new.air) g → Runs new.medium y
-          → comes_before g (record { node = y.node; sending = y }) ≡ true
+          → reception_comes_before g (record { node = y.node; sending = y }) ≡ true
       next_later g y there ran =
           let still = still_runs y ran in
           elim (Contains-append_cases (hearings_of old.air) fresh g (subst (λ (l : List Hearing). Contains l g) ends.hearings there)) [
@@ -281,7 +281,7 @@ module _ (s : ScenarioParts) (lines : Lines) (clocks : ℕ → ℕ → ℕ) (t p
 pub end_on_air : (s : ScenarioParts) (lines : Lines) (clocks : ℕ → ℕ → ℕ) (t p : ℕ) (x : Sending) (hearers : List ℕ) (old : FieldState)
     (old_due : List Due) (new : FieldState) (new_due : List Due)
     → EndsSending lines clocks t p x hearers old old_due new new_due → p < length old.devices → IsField old → AreTuned t old old_due
-    → Sends t old old_due p x → x.end ≡ t → lines ≡ s.trace
+    → DeviceSends t old old_due p x → x.end ≡ t → lines ≡ s.trace
     → IsNext old_due (Some (t, SendingEnd, p)) → IsOnAir s (suc t) t old old_due → IsOnAir s (suc t) t new new_due
 end_on_air s lines clocks t p x hearers old old_due new new_due ends within field all sends now trace least is =
     on_air_after s lines clocks t p x hearers old old_due new new_due ends within field all sends now trace is.scene is.holds is.has least

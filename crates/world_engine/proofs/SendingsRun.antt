@@ -6,36 +6,37 @@ use Rattle.radio_model.specs.declared.sending.Sending.{Sending}
 use Rattle.scenario_text.specs.ScenarioParts.{ScenarioParts}
 use Rattle.bus_rules.specs.Cores.{Setup}
 use Rattle.air_log.specs.Devices.{Device}
-use Rattle.air_log.specs.Trails.{Reception, setup_of, scripted, hears, heard, ended, ended_by, before_tick}
+use Rattle.air_log.specs.Trails.{Reception, setup_of, device_after_script, device_after_reception, device_after_receptions, device_after_end, device_ended_by}
+use Rattle.air_log.specs.Trails.{before_tick}
 use Rattle.air_log.proofs.HearingMore.{earlier_stays, heard_now}
 use Rattle.world_engine.specs.FieldSteps.{told_of_end}
-use Rattle.world_engine.specs.Moments.{At, IsAt, point}
+use Rattle.world_engine.specs.Moments.{At, IsAtMoment, device_at_point}
 use Rattle.air_log.proofs.OwnSendings.{IsOwn, own_heard, still_sent, none_ends}
 use Rattle.world_engine.proofs.TickPoints.{IsOver, ends_nothing, end_at}
 use Rattle.world_engine.specs.Fields.{end_of}
 
 told_as_ended : (clock : ℕ → ℕ) (s : Setup) (t : ℕ) (d : Device) (x : Sending) (y : Option Sending) → y ≡ Some x → x.end ≡ t
-    → ended_by clock s t d y ≡ told_of_end clock t x s d
-told_as_ended clock s t d x y is now = ap (ended_by clock s t d) is ∙ rw (eq-eqb x.end t now) refl
+    → device_ended_by clock s t d y ≡ told_of_end clock t x s d
+told_as_ended clock s t d x y is now = ap (device_ended_by clock s t d) is ∙ rw (eq-eqb x.end t now) refl
 
 same_sending : (x y : Sending) → Some x ≡ Some y → x ≡ y
 same_sending x y is = cc
 
 module _ (s : ScenarioParts) (v : ℕ) (clock : ℕ → ℕ) (hs : List Reception) (t : ℕ) where
   abbrev heard_all : Device
-  heard_all = point s v clock hs t SendingEnd
+  heard_all = device_at_point s v clock hs t SendingEnd
 
   -- the sender is told of the end
-  pub end_told : (d : Device) (x : Sending) → d.sending ≡ Some x → x.end ≡ t → IsAt s clock hs v t (At SendingEnd) d
-      → IsAt s clock hs v t (At SendingEnd) (told_of_end clock t x (setup_of s v) d)
-  end_told d x runs now (inl at) = inr (sym (told_as_ended clock (setup_of s v) t d x d.sending runs now) ∙ ap (ended clock (setup_of s v) t) at)
+  pub end_told : (d : Device) (x : Sending) → d.sending ≡ Some x → x.end ≡ t → IsAtMoment s clock hs v t (At SendingEnd) d
+      → IsAtMoment s clock hs v t (At SendingEnd) (told_of_end clock t x (setup_of s v) d)
+  end_told d x runs now (inl at) = inr (sym (told_as_ended clock (setup_of s v) t d x d.sending runs now) ∙ ap (device_after_end clock (setup_of s v) t) at)
   end_told d x runs now (inr at) =
-      let runs_at : (ended clock (setup_of s v) t heard_all).sending ≡ Some x = ap (λ (e : Device). e.sending) (sym at) ∙ runs in
-      absurd (end_at t (ended clock (setup_of s v) t heard_all).sending (none_ends clock (setup_of s v) t heard_all)
+      let runs_at : (device_after_end clock (setup_of s v) t heard_all).sending ≡ Some x = ap (λ (e : Device). e.sending) (sym at) ∙ runs in
+      absurd (end_at t (device_after_end clock (setup_of s v) t heard_all).sending (none_ends clock (setup_of s v) t heard_all)
       (ap (option_map end_of) runs_at ∙ ap (λ (n : ℕ). Some n) now))
 
   -- where no own sending ends at the tick
-  none_over : (d : Device) → d ≡ ended clock (setup_of s v) t heard_all → ((y : Sending) → Contains d.made.sent y → y.end ≡ t → ⊥)
+  none_over : (d : Device) → d ≡ device_after_end clock (setup_of s v) t heard_all → ((y : Sending) → Contains d.made.sent y → y.end ≡ t → ⊥)
       → IsOver SendingEnd t heard_all
   none_over d at none = by heard_all.sending refl (own_heard s v clock hs t)
     where
@@ -48,16 +49,17 @@ module _ (s : ScenarioParts) (v : ℕ) (clock : ℕ → ℕ) (hs : List Receptio
           same_number : Some y.end ≡ Some t → y.end ≡ t
           same_number is = cc
 
-  pub is_heard_all : (d : Device) → ((y : Sending) → Contains d.made.sent y → y.end ≡ t → ⊥) → IsAt s clock hs v t (At SendingEnd) d → d ≡ heard_all
+  pub is_heard_all : (d : Device) → ((y : Sending) → Contains d.made.sent y → y.end ≡ t → ⊥) → IsAtMoment s clock hs v t (At SendingEnd) d → d ≡ heard_all
   is_heard_all d none (inl at) = at
   is_heard_all d none (inr at) = at ∙ ends_nothing clock (setup_of s v) t heard_all (none_over d at none)
 
-  heard_with : (h : Reception) → h.end ≡ t → point s v clock (hs ++ h ∷ []) t SendingEnd ≡ hears clock (setup_of s v) t heard_all h
+  heard_with : (h : Reception) → h.end ≡ t → device_at_point s v clock (hs ++ h ∷ []) t SendingEnd ≡ device_after_reception clock (setup_of s v) t heard_all h
   heard_with h now =
-      ap (λ (e : Device). heard clock (setup_of s v) t (hs ++ h ∷ []) (scripted s v clock t e)) (earlier_stays s v clock hs h t (omega (arith, now)))
-      ∙ heard_now clock (setup_of s v) t hs h (scripted s v clock t (before_tick s v clock hs t)) now
+      ap (λ (e : Device). device_after_receptions clock (setup_of s v) t (hs ++ h ∷ []) (device_after_script s v clock t e))
+          (earlier_stays s v clock hs h t (omega (arith, now)))
+      ∙ heard_now clock (setup_of s v) t hs h (device_after_script s v clock t (before_tick s v clock hs t)) now
 
   -- a node that heard it is told so
-  pub hearing_told : (d : Device) (h : Reception) → h.end ≡ t → ((y : Sending) → Contains d.made.sent y → y.end ≡ t → ⊥) → IsAt s clock hs v t (At SendingEnd) d
-      → IsAt s clock (hs ++ h ∷ []) v t (At SendingEnd) (hears clock (setup_of s v) t d h)
-  hearing_told d h now none at = inl (ap (λ (e : Device). hears clock (setup_of s v) t e h) (is_heard_all d none at) ∙ sym (heard_with h now))
+  pub hearing_told : (d : Device) (h : Reception) → h.end ≡ t → ((y : Sending) → Contains d.made.sent y → y.end ≡ t → ⊥)
+      → IsAtMoment s clock hs v t (At SendingEnd) d → IsAtMoment s clock (hs ++ h ∷ []) v t (At SendingEnd) (device_after_reception clock (setup_of s v) t d h)
+  hearing_told d h now none at = inl (ap (λ (e : Device). device_after_reception clock (setup_of s v) t e h) (is_heard_all d none at) ∙ sym (heard_with h now))

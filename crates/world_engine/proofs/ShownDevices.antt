@@ -11,12 +11,12 @@ use Rattle.scenario_text.specs.ScenarioParts.{ScenarioParts}
 use Rattle.scenario_text.specs.declared.lines.NodeLine.{NodeLine}
 use Rattle.bus_rules.specs.Cores.{Setup}
 use Rattle.air_log.specs.declared.entry.TunedEntry.{TunedEntry}
-use Rattle.air_log.specs.Devices.{Device, Listening, Ordered}
+use Rattle.air_log.specs.Devices.{Device, Listening, OrderedPacket}
 use Rattle.air_log.specs.Trails.{setup_of}
 use Rattle.air_log.specs.Ahead.{IsAhead}
 use Rattle.air_log.specs.DeviceStates.{DeviceState}
 use Rattle.air_log.proofs.ShownCourses.{ended_later}
-use Rattle.world_engine.specs.Fields.{FieldState, Shows, due_of, setup_of as setup_in}
+use Rattle.world_engine.specs.Fields.{FieldState, FieldShows, due_of_device, setup_of_device as setup_in}
 use Rattle.world_engine.specs.Running.{HasPlaces, setup_by}
 use Rattle.world_engine.specs.Runs.{standing}
 use Rattle.world_engine.proofs.TickPoints.{IsOver}
@@ -29,7 +29,7 @@ listening_by : (t u : ℕ) (l : Option Listening) → t ≤ u → IfSome l (λ x
 listening_by t u None up is = tt
 listening_by t u (Some l) up is = omega (arith, up, is)
 
-pub shows_later : (q : Setup) (t u : ℕ) (w : FieldState) (due : List Due) (p : ℕ) (d : Device) → t ≤ u → Shows q t w due p d → Shows q u w due p d
+pub shows_later : (q : Setup) (t u : ℕ) (w : FieldState) (due : List Due) (p : ℕ) (d : Device) → t ≤ u → FieldShows q t w due p d → FieldShows q u w due p d
 shows_later q t u w due p d up shows = record {
   state = shows.state;
   there = shows.there;
@@ -48,7 +48,7 @@ shows_later q t u w due p d up shows = record {
 }
 
 -- the place tells the state
-module _ (q r : Setup) (t u : ℕ) (w : FieldState) (due : List Due) (p : ℕ) (d e : Device) (x : Shows q t w due p d) (y : Shows r u w due p e) where
+module _ (q r : Setup) (t u : ℕ) (w : FieldState) (due : List Due) (p : ℕ) (d e : Device) (x : FieldShows q t w due p d) (y : FieldShows r u w due p e) where
   same_state : x.state ≡ y.state
   same_state = same_Some x.state y.state (sym x.there ∙ y.there)
 
@@ -62,7 +62,7 @@ module _ (q r : Setup) (t u : ℕ) (w : FieldState) (due : List Due) (p : ℕ) (
   same_sending = ap (λ (z : Device). z.sending) (sym x.is) ∙ ap (λ (z : DeviceState). z.sending) same_state ∙ ap (λ (z : Device). z.sending) y.is
 
 -- the place is that of a node of the scenario
-pub node_there : (s : ScenarioParts) (q : Setup) (t : ℕ) (w : FieldState) (due : List Due) (p : ℕ) (d : Device) → HasPlaces s w due → Shows q t w due p d
+pub node_there : (s : ScenarioParts) (q : Setup) (t : ℕ) (w : FieldState) (due : List Due) (p : ℕ) (d : Device) → HasPlaces s w due → FieldShows q t w due p d
     → (n : NodeLine) × (slice_get s.nodes p ≡ Some n) × (q ≡ setup_of s n.node)
 node_there s q t w due p d places shows =
     by (slice_get s.nodes p) refl
@@ -81,10 +81,10 @@ node_there s q t w due p d places shows =
     by (Some n) is same = (n, is, sym (same_Some (setup_of s n.node) q same))
 
 -- what stands in the queue at the place stands at the device
-module _ (q : Setup) (t : ℕ) (w : FieldState) (due : List Due) (p : ℕ) (d : Device) (shows : Shows q t w due p d) where
+module _ (q : Setup) (t : ℕ) (w : FieldState) (due : List Due) (p : ℕ) (d : Device) (shows : FieldShows q t w due p d) where
   pub stands_at : (c : Class) → at due p c ≡ tick_of c (standing d)
   stands_at c =
-      ap (tick_of c) (get_or_from_slice_get due p (due_of shows.state) nothing_due shows.known.set)
+      ap (tick_of c) (get_or_from_slice_get due p (due_of_device shows.state) nothing_due shows.known.set)
       ∙ ap (λ (e : Device). tick_of c (standing e)) shows.is
 
   if_some : {X : Type 0} (P : X → Type 0) (o : Option X) → ((x : X) → o ≡ Some x → P x) → IfSome o P
@@ -95,8 +95,8 @@ module _ (q : Setup) (t : ℕ) (w : FieldState) (due : List Due) (p : ℕ) (d : 
   pub ahead_by : (u : ℕ) → ((c : Class) (tick : ℕ) → at due p c ≡ Some tick → u ≤ tick) → IsAhead u d
   ahead_by u none = record {
     alarm = if_some (λ (tick : ℕ). u ≤ tick) d.alarm (λ tick is. none Alarm tick (stands_at Alarm ∙ is));
-    ordered = if_some (λ (o : Ordered). u ≤ o.tick) d.ordered
-        (λ o is. none SendingStart o.tick (stands_at SendingStart ∙ ap (λ (z : Option Ordered). option_map (λ (o : Ordered). o.tick) z) is));
+    ordered = if_some (λ (o : OrderedPacket). u ≤ o.tick) d.ordered
+        (λ o is. none SendingStart o.tick (stands_at SendingStart ∙ ap (λ (z : Option OrderedPacket). option_map (λ (o : OrderedPacket). o.tick) z) is));
     sending = if_some (λ (x : Sending). u ≤ x.end) d.sending
         (λ x is. none SendingEnd x.end (stands_at SendingEnd ∙ ap (λ (z : Option Sending). option_map (λ (x : Sending). x.end) z) is));
   }

@@ -17,7 +17,7 @@ use Rattle.air_log.specs.Lawful.{sent_by, tuned_by}
 use Rattle.air_log.specs.DeviceStates.{DeviceState, whole, HappenedBy}
 use Rattle.air_log.specs.WindowLogs.{WindowLog}
 use Rattle.air_log.specs.WindowSums.{WindowSum}
-use Rattle.world_engine.specs.Fields.{FieldState, IsField, IsKnown, HasCounted, Shows, IsShown, id_of}
+use Rattle.world_engine.specs.Fields.{FieldState, IsField, IsKnownDevice, HasCounted, FieldShows, FieldIsShown, id_of}
 
 -- a list with another element at one place
 pub there_now : {X : Type 0} (xs : List X) (p : ℕ) (x y : X) → slice_get xs p ≡ Some x → slice_get (set xs p y) p ≡ Some y
@@ -55,7 +55,7 @@ pub counted_still : (old new : List WindowSum) (q : ℕ) (s : Setup) (logs : Lis
 counted_still old new q s logs same is = record { sum = is.sum; there = same ∙ is.there; is = is.is; few = is.few }
 
 pub still_shown : (t q : ℕ) (old : FieldState) (old_due : List Due) (new : FieldState) (new_due : List Due) (s : Setup) (d : Device)
-    → HasStayed s.id q old old_due new new_due → Shows s t old old_due q d → Shows s t new new_due q d
+    → HasStayed s.id q old old_due new new_due → FieldShows s t old old_due q d → FieldShows s t new new_due q d
 still_shown t q old old_due new new_due s d stays is = record {
   state = is.state;
   there = stays.device ∙ is.there;
@@ -82,7 +82,7 @@ still_shown t q old old_due new new_due s d stays is = record {
 }
 
 -- the device that is shown is the one that stands there
-pub same_state : (s : Setup) (t : ℕ) (w : FieldState) (due : List Due) (p : ℕ) (d : Device) (shows : Shows s t w due p d) (st : DeviceState)
+pub same_state : (s : Setup) (t : ℕ) (w : FieldState) (due : List Due) (p : ℕ) (d : Device) (shows : FieldShows s t w due p d) (st : DeviceState)
     → slice_get w.devices p ≡ Some st → shows.state ≡ st
 same_state s t w due p d shows st at = of_some (sym shows.there ∙ at)
   where
@@ -91,7 +91,7 @@ same_state s t w due p d shows st at = of_some (sym shows.there ∙ at)
 
 -- so it can be shown as that one
 abbrev pub shown_as : (s : Setup) (t : ℕ) (w : FieldState) (due : List Due) (p : ℕ) (d : Device) (st : DeviceState) → slice_get w.devices p ≡ Some st
-    → Shows s t w due p d → Shows s t w due p d
+    → FieldShows s t w due p d → FieldShows s t w due p d
 shown_as s t w due p d st at shows =
     let same = same_state s t w due p d shows st at in
     record {
@@ -101,7 +101,7 @@ shown_as s t w due p d st at shows =
       made = shows.made;
       is = subst (λ (e : DeviceState). whole e shows.made ≡ d) same shows.is;
       logged = shows.logged;
-      known = subst (λ (e : DeviceState). IsKnown w due p e) same shows.known;
+      known = subst (λ (e : DeviceState). IsKnownDevice w due p e) same shows.known;
       counted = shows.counted;
       ended = shows.ended;
       happened = subst (λ (e : DeviceState). HappenedBy t e) same shows.happened;
@@ -109,6 +109,6 @@ shown_as s t w due p d st at shows =
     }
 
 -- what is read at a place that is shown
-pub read_there : (t : ℕ) (w : FieldState) (due : List Due) (p : ℕ) (st : DeviceState) → IsShown t w due p → st ≡ get_or w.devices p st
+pub read_there : (t : ℕ) (w : FieldState) (due : List Due) (p : ℕ) (st : DeviceState) → FieldIsShown t w due p → st ≡ get_or w.devices p st
     → slice_get w.devices p ≡ Some st
 read_there t w due p st shown is = slice_get_read w.devices (length w.devices) p st refl (slice_get_within w.devices p shown.shows.state shown.shows.there) is

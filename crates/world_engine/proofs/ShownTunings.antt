@@ -5,7 +5,7 @@ use Rattle.std.proofs.lemmas.Option.{same_Some, slice_get_within, slice_get-get_
 use Rattle.std.proofs.lemmas.List.{length-map}
 use Rattle.radio_model.specs.declared.sending.Sending.{Sending}
 use Rattle.radio_model.specs.OnAir.{Tuning}
-use Rattle.radio_model.specs.Stations.{sending_of, station_of}
+use Rattle.radio_model.specs.Stations.{sending_of_station, station_of}
 use Rattle.scenario_text.specs.ScenarioParts.{ScenarioParts}
 use Rattle.scenario_text.specs.declared.lines.NodeLine.{NodeLine}
 use Rattle.event_calendar.specs.Orders.{Due, at, nothing_due}
@@ -15,8 +15,8 @@ use Rattle.air_log.specs.Devices.{Device, Listening}
 use Rattle.air_log.specs.Trails.{setup_of}
 use Rattle.air_log.specs.Lawful.{tuned_by, heard_by}
 use Rattle.air_log.specs.DeviceStates.{DeviceState, one_more}
-use Rattle.world_engine.specs.Fields.{FieldState, Shows, ids_of, setup_of as setup_in, id_of, end_of, due_of}
-use Rattle.world_engine.specs.Moments.{Moment}
+use Rattle.world_engine.specs.Fields.{FieldState, FieldShows, ids_of, setup_of_device as setup_in, id_of, end_of, due_of_device}
+use Rattle.world_engine.specs.Moments.{TickMoment}
 use Rattle.world_engine.specs.Running.{HasPlaces, IsOnTrail, setup_by}
 use Rattle.air_log.specs.TunedTimes.{WasTuned}
 use Rattle.air_log.proofs.TunedBefore.{TunedAt, HasTunedBy, by_later}
@@ -33,7 +33,7 @@ if_later None P Q on is = tt
 if_later (Some x) P Q on is = on x is
 
 -- a device that is shown is one of the field's
-module _ (q : Setup) (t : ℕ) (w : FieldState) (due : List Due) (p : ℕ) (d : Device) (is : Shows q t w due p d) where
+module _ (q : Setup) (t : ℕ) (w : FieldState) (due : List Due) (p : ℕ) (d : Device) (is : FieldShows q t w due p d) where
   pub shown_within : p < length w.devices
   shown_within = slice_get_within w.devices p is.state is.there
 
@@ -41,15 +41,15 @@ module _ (q : Setup) (t : ℕ) (w : FieldState) (due : List Due) (p : ℕ) (d : 
   shown_id = mapped id_of w.devices p is.state is.there ∙ ap (λ (s : Setup). Some s.id) is.setup
 
   -- what it sends runs on the air
-  pub shown_sending : sending_of (station_of w.medium q.id) ≡ d.sending
+  pub shown_sending : sending_of_station (station_of w.medium q.id) ≡ d.sending
   shown_sending =
-      ap (λ (s : Setup). sending_of (station_of w.medium s.id)) (sym is.setup)
-      ∙ ap sending_of is.known.there ∙ is.known.sending ∙ ap (λ (x : Device). x.sending) is.is
+      ap (λ (s : Setup). sending_of_station (station_of w.medium s.id)) (sym is.setup)
+      ∙ ap sending_of_station is.known.there ∙ is.known.sending ∙ ap (λ (x : Device). x.sending) is.is
 
   -- and its end stands in the queue
   pub shown_end : (y : Sending) → d.sending ≡ Some y → at due p SendingEnd ≡ Some y.end
   shown_end y sends =
-      ap (λ (x : Due). x.sending_end) (get_or_from_slice_get due p (due_of is.state) nothing_due is.known.set)
+      ap (λ (x : Due). x.sending_end) (get_or_from_slice_get due p (due_of_device is.state) nothing_due is.known.set)
       ∙ ap (λ (x : Device). option_map end_of x.sending) is.is ∙ ap (option_map end_of) sends
 
   shown_tuned : d.made.tuned ≡ one_more is.state.closed (reverse (tuned_by w.air q.id))
@@ -62,7 +62,8 @@ pub record AreAlike (q r : Setup) (d e : Device) : Type 0 where
   pub listening : d.listening ≡ e.listening
   pub sending : d.sending ≡ e.sending
 
-pub alike : (q r : Setup) (t u : ℕ) (w : FieldState) (due : List Due) (p : ℕ) (d e : Device) → Shows q t w due p d → Shows r u w due p e → AreAlike q r d e
+pub alike : (q r : Setup) (t u : ℕ) (w : FieldState) (due : List Due) (p : ℕ) (d e : Device) → FieldShows q t w due p d → FieldShows r u w due p e
+    → AreAlike q r d e
 alike q r t u w due p d e a b =
     let state : a.state ≡ b.state = same_Some a.state b.state (sym a.there ∙ b.there) in
     let setup : q ≡ r = sym a.setup ∙ ap (λ (s : DeviceState). s.setup) state ∙ b.setup in
@@ -86,14 +87,14 @@ alike_back q r d e same = record { setup = sym same.setup; tuned = sym same.tune
 pub record IsTunedAt (t : ℕ) (w : FieldState) (due : List Due) (p : ℕ) : Type 0 where
   pub setup : Setup
   pub device : Device
-  pub shows : Shows setup t w due p device
+  pub shows : FieldShows setup t w due p device
   pub by : HasTunedBy t device
 
 abbrev pub AreTuned : ℕ → FieldState → List Due → Type 0
 AreTuned t w due = (p : ℕ) → p < length w.devices → IsTunedAt t w due p
 
 -- so on their trails
-pub trails_tuned : (s : ScenarioParts) (clocks : ℕ → ℕ → ℕ) (t : ℕ) (m : Moment) (w : FieldState) (due : List Due) → HasPlaces s w due
+pub trails_tuned : (s : ScenarioParts) (clocks : ℕ → ℕ → ℕ) (t : ℕ) (m : TickMoment) (w : FieldState) (due : List Due) → HasPlaces s w due
     → ((p : ℕ) (n : NodeLine) → slice_get s.nodes p ≡ Some n → IsOnTrail s clocks t m w due p n.node) → AreTuned t w due
 trails_tuned s clocks t m w due places trails p within = by_line s.nodes refl below
   where

@@ -17,25 +17,26 @@ use Rattle.bus_rules.specs.Cores.{Setup}
 use Rattle.bus_rules.specs.declared.delivery.Delivery.{Delivery}
 use Rattle.radio_model.specs.Hearing.{Scene}
 use Rattle.radio_model.specs.Holding.{Holds, after_tuning}
-use Rattle.radio_model.specs.Stations.{MediumState, IsTime, nodes_of, after as medium_after, retuned}
+use Rattle.radio_model.specs.Stations.{MediumState, IsTime, nodes_of, medium_after_change as medium_after, station_after_tuning}
 use Rattle.air_log.specs.declared.entry.Entry.{Entry}
 use Rattle.air_log.specs.declared.entry.TunedEntry.{TunedEntry}
 use Rattle.air_log.specs.Devices.{Device, Listening, Made, obeyed}
 use Rattle.air_log.specs.DeviceStates.{DeviceState, whole, with_tuned, EndedBefore, HappenedBy, IsSameNode}
 use Rattle.air_log.specs.WindowSums.{WindowSum}
-use Rattle.world_engine.specs.Fields.{FieldState, HasCounted, Shows, IsShown, IsField, IsKnown, entries_of, due_of, channel_of, ids_of, id_of}
+use Rattle.world_engine.specs.Fields.{FieldState, HasCounted, FieldShows, FieldIsShown, IsField, IsKnownDevice, entries_of, due_of_device, channel_of, ids_of}
+use Rattle.world_engine.specs.Fields.{id_of}
 use Rattle.world_engine.specs.FieldSteps.{Acts}
 use Rattle.world_engine.proofs.DeviceSteps.{GoesOnMaking, acts_at, field_stays}
 use Rattle.world_engine.proofs.DeviceRetuned.{IsSetAs, retuned_medium, retuned_nodes, retuned_numbers}
 use Rattle.world_engine.proofs.ObeyedOrders.{Retunes, retunes_step, IsQuietStep, quiet_step, tuned_goes_on, due_changed, due_kept}
 
-module _ (t p : ℕ) (old : FieldState) (old_due : List Due) (shown : IsShown t old old_due p) (i : ℕ) (at : i ≡ p) (state : DeviceState)
+module _ (t p : ℕ) (old : FieldState) (old_due : List Due) (shown : FieldIsShown t old old_due p) (i : ℕ) (at : i ≡ p) (state : DeviceState)
     (is : state ≡ get_or old.devices i state) where
-  abbrev shows : Shows shown.setup t old old_due p shown.device
+  abbrev shows : FieldShows shown.setup t old old_due p shown.device
   shows = shown.shows
 
   -- whatever trail it is of
-  pub same_as_shown : (s : Setup) (d : Device) → (there : Shows s t old old_due p d) → there.state ≡ state
+  pub same_as_shown : (s : Setup) (d : Device) → (there : FieldShows s t old old_due p d) → there.state ≡ state
   same_as_shown s d there = sym (get_or_from_slice_get old.devices p there.state state there.there)
       ∙ ap (λ (n : ℕ). get_or old.devices n state) (sym at) ∙ sym is
 
@@ -46,8 +47,8 @@ module _ (t p : ℕ) (old : FieldState) (old_due : List Due) (shown : IsShown t 
   pub state_here : slice_get old.devices p ≡ Some state
   state_here = shows.there ∙ ap (λ (d : DeviceState). Some d) same
 
-  pub state_known : IsKnown old old_due p state
-  state_known = subst (λ (d : DeviceState). IsKnown old old_due p d) same shows.known
+  pub state_known : IsKnownDevice old old_due p state
+  state_known = subst (λ (d : DeviceState). IsKnownDevice old old_due p d) same shows.known
 
   pub state_happened : HappenedBy t state
   state_happened = subst (λ (d : DeviceState). HappenedBy t d) same shows.happened
@@ -56,7 +57,7 @@ module _ (t p : ℕ) (old : FieldState) (old_due : List Due) (shown : IsShown t 
   state_taken = ap (λ (d : DeviceState). d.delivery) (sym same) ∙ shows.taken
 
   pub in_queue : p < length old_due
-  in_queue = slice_get_within old_due p (due_of state) state_known.set
+  in_queue = slice_get_within old_due p (due_of_device state) state_known.set
 
   pub in_medium : IsField old → Contains (nodes_of old.medium) state.setup.id
   in_medium field = subst (λ (l : List ℕ). Contains l state.setup.id) field.nodes
@@ -78,7 +79,7 @@ module _ (t p : ℕ) (old : FieldState) (old_due : List Due) (shown : IsShown t 
 
   -- and where the device is tuned
   pub field_retuned : IsField old → (after : DeviceState) → after.setup ≡ state.setup
-      → (air : List Entry) (v : ℕ) (rank : Option ℕ) (medium : MediumState) → medium ≡ medium_after t v (retuned rank t) old.medium
+      → (air : List Entry) (v : ℕ) (rank : Option ℕ) (medium : MediumState) → medium ≡ medium_after t v (station_after_tuning rank t) old.medium
       → IsField (record { medium = medium; devices = set old.devices i after; air = air; deliveries = old.deliveries; drops = old.drops; sums = old.sums })
   field_retuned field after setup air v rank medium same =
       field_stays p old (record {
@@ -96,7 +97,7 @@ module _ (t p : ℕ) (old : FieldState) (old_due : List Due) (shown : IsShown t 
   pub retuned_acts : IsField old → IsTime old.medium t
       → (after : DeviceState) (closed : Option TunedEntry) (rank : Option ℕ) (v : ℕ) (medium : MediumState) (new : FieldState)
       → v ≡ state.setup.id
-      → medium ≡ medium_after t v (retuned rank t) old.medium
+      → medium ≡ medium_after t v (station_after_tuning rank t) old.medium
       → ((a : Scene) → Holds old.medium a → Holds medium (after_tuning old.medium v rank t a))
       → new ≡ record {
         medium = medium;
@@ -131,7 +132,7 @@ module _ (t p : ℕ) (old : FieldState) (old_due : List Due) (shown : IsShown t 
         set_alarm = set_as.alarm;
         set_ordered = set_as.ordered;
         channel = channel;
-        medium = tuned ∙ ap (λ (n : ℕ). medium_after t n (retuned rank t) old.medium) id;
+        medium = tuned ∙ ap (λ (n : ℕ). medium_after t n (station_after_tuning rank t) old.medium) id;
         holds = subst (λ (n : ℕ). (a : Scene) → Holds old.medium a → Holds medium (after_tuning old.medium n rank t a)) id holds;
         devices = ap (λ (n : ℕ). set old.devices n after) at;
         air = refl;
@@ -147,7 +148,7 @@ module _ (t p : ℕ) (old : FieldState) (old_due : List Due) (shown : IsShown t 
   pub quiet_acts : IsField old → IsTime old.medium t → (after : DeviceState) (delivery : Option Delivery) (new_due : List Due)
       → after.setup ≡ state.setup → after.listening ≡ state.listening → after.sending ≡ state.sending → after.delivery ≡ None → HappenedBy t after
       → IfSome delivery (λ d. d.node ≡ state.setup.id)
-      → slice_get new_due p ≡ Some (due_of after) → ((q : ℕ) → q ≢ p → slice_get new_due q ≡ slice_get old_due q) → length new_due ≡ length old_due
+      → slice_get new_due p ≡ Some (due_of_device after) → ((q : ℕ) → q ≢ p → slice_get new_due q ≡ slice_get old_due q) → length new_due ≡ length old_due
       → (change : Setup → Device → Device) (making : Made → Made) → ((made : Made) → GoesOnMaking None delivery made (making made))
       → ((made : Made) → EndedBefore t made.tuned → change state.setup (whole state made) ≡ whole after (making made))
       → (sums : List WindowSum) → ((q : ℕ) → q ≢ p → slice_get sums q ≡ slice_get old.sums q)
@@ -194,7 +195,7 @@ module _ (t p : ℕ) (old : FieldState) (old_due : List Due) (shown : IsShown t 
   pub set_acts : IsField old → IsTime old.medium t → (after : DeviceState) (class : Class) (tick : Option ℕ) (new_due : List Due)
       → after.setup ≡ state.setup → after.listening ≡ state.listening → after.sending ≡ state.sending → after.delivery ≡ state.delivery
       → after.closed ≡ state.closed
-      → new_due ≡ changed old_due p class tick → with_tick class tick (due_of state) ≡ due_of after
+      → new_due ≡ changed old_due p class tick → with_tick class tick (due_of_device state) ≡ due_of_device after
       → (change : Setup → Device → Device)
       → ((made : Made) → change state.setup (whole state made) ≡ whole after made)
       → Acts t p change [] [] old old_due (record {
@@ -213,7 +214,7 @@ module _ (t p : ℕ) (old : FieldState) (old_due : List Due) (shown : IsShown t 
         listening = subst (λ (l : Option Listening). IfSome l (λ x. x.since ≤ t)) (sym listening) state_happened.listening;
       })
       tt
-      (ap (λ (l : List Due). slice_get l p) is_due ∙ due_changed old_due p class tick (due_of state) state_known.set ∙ ap (λ (d : Due). Some d) due)
+      (ap (λ (l : List Due). slice_get l p) is_due ∙ due_changed old_due p class tick (due_of_device state) state_known.set ∙ ap (λ (d : Due). Some d) due)
       (λ q other. ap (λ (l : List Due). slice_get l q) is_due ∙ due_kept old_due p class tick q other)
       (ap (λ (l : List Due). length l) is_due ∙ size_stays old_due p class tick)
       change (λ made. made) (λ made. record { sent = refl; tuned = refl; deliveries = sym (append-nil made.deliveries) })
@@ -245,7 +246,7 @@ module _ (t p : ℕ) (old : FieldState) (old_due : List Due) (shown : IsShown t 
       set_acts field time after SendingStart (Some tick) new_due
       (ap (λ (d : DeviceState). d.setup) is_after) (ap (λ (d : DeviceState). d.listening) is_after) (ap (λ (d : DeviceState). d.sending) is_after)
       (ap (λ (d : DeviceState). d.delivery) is_after) (ap (λ (d : DeviceState). d.closed) is_after)
-      is_due (ap due_of (sym is_after))
+      is_due (ap due_of_device (sym is_after))
       (λ s d. obeyed clock s.id t d order)
       (λ made.
       ap (obeyed clock state.setup.id t (whole state made)) is_order
@@ -267,7 +268,7 @@ module _ (t p : ℕ) (old : FieldState) (old_due : List Due) (shown : IsShown t 
       set_acts field time after AlarmOf (Some tick) new_due
       (ap (λ (d : DeviceState). d.setup) is_after) (ap (λ (d : DeviceState). d.listening) is_after) (ap (λ (d : DeviceState). d.sending) is_after)
       (ap (λ (d : DeviceState). d.delivery) is_after) (ap (λ (d : DeviceState). d.closed) is_after)
-      is_due (ap due_of (sym is_after))
+      is_due (ap due_of_device (sym is_after))
       (λ s d. obeyed clock s.id t d order)
       (λ made.
       ap (obeyed clock state.setup.id t (whole state made)) is_order
@@ -289,9 +290,9 @@ module _ (t p : ℕ) (old : FieldState) (old_due : List Due) (shown : IsShown t 
       set_acts field time after AlarmOf None new_due
       (ap (λ (d : DeviceState). d.setup) is_after) (ap (λ (d : DeviceState). d.listening) is_after) (ap (λ (d : DeviceState). d.sending) is_after)
       (ap (λ (d : DeviceState). d.delivery) is_after) (ap (λ (d : DeviceState). d.closed) is_after)
-      is_due (ap due_of (sym is_after))
+      is_due (ap due_of_device (sym is_after))
       (λ s d. record d { alarm = None })
       (λ made. ap (λ (d : DeviceState). whole d made) (sym is_after))
 
-  pub alarm_shown : (s : Setup) (d : Device) → Shows s t old old_due p d → d.alarm ≡ state.alarm
+  pub alarm_shown : (s : Setup) (d : Device) → FieldShows s t old old_due p d → d.alarm ≡ state.alarm
   alarm_shown s d there = ap (λ (x : Device). x.alarm) (sym there.is) ∙ ap (λ (x : DeviceState). x.alarm) (same_as_shown s d there)

@@ -11,7 +11,7 @@ use Rattle.air_log.specs.Devices.{Device}
 use Rattle.air_log.specs.Trails.{Reception, frame_start, before_tick}
 use Rattle.air_log.specs.Ahead.{IsAhead}
 use Rattle.air_log.proofs.NextDue.{until_next}
-use Rattle.world_engine.specs.Moments.{Before, At, IsAt}
+use Rattle.world_engine.specs.Moments.{Before, At, IsAtMoment}
 use Rattle.world_engine.proofs.LinesTold.{lines_begin, lines_end}
 use Rattle.world_engine.proofs.TickPoints.{IsOver, not_yet, to_class, passed_tick}
 
@@ -31,7 +31,7 @@ module _ (s : ScenarioParts) (v : ℕ) (clock : ℕ → ℕ) (hs : List Receptio
       later from (inr more) = inr more
 
   -- to the beginning of a tick
-  pub to_tick : (d : Device) → NoLineIn s v a b → d ≡ before_tick s v clock hs a → IsAhead b d → IsAt s clock hs v b Before d
+  pub to_tick : (d : Device) → NoLineIn s v a b → d ≡ before_tick s v clock hs a → IsAhead b d → IsAtMoment s clock hs v b Before d
   to_tick d none at ahead =
       at
       ∙ sym (until_next s v clock hs a b up (record {
@@ -42,7 +42,7 @@ module _ (s : ScenarioParts) (v : ℕ) (clock : ℕ → ℕ) (hs : List Receptio
 
   -- into a tick at which no line starts
   pub into_tick : (k : Class) (d : Device) → NoLineIn s v a (suc b) → d ≡ before_tick s v clock hs a → IsAhead b d
-      → ((j : Class) → rank j < rank k → IsOver j b d) → IsAt s clock hs v b (At k) d
+      → ((j : Class) → rank j < rank k → IsOver j b d) → IsAtMoment s clock hs v b (At k) d
   into_tick k d none at ahead none_earlier =
       let before = to_tick d (λ l there own from less. none l there own from (omega (arith, less))) at ahead in
       let told = lines_begin s v clock hs b [] d (λ l there. absurd (not_in_none l there)) before in
@@ -52,12 +52,12 @@ module _ (s : ScenarioParts) (v : ℕ) (clock : ℕ → ℕ) (hs : List Receptio
 
 -- from a class of a tick to the beginning of a later one, or to a class of it
 module _ (s : ScenarioParts) (v : ℕ) (clock : ℕ → ℕ) (hs : List Reception) (t b : ℕ) (later : t < b) (over : HeardBefore hs (suc t)) where
-  pub from_class : (c : Class) (d : Device) → NoLineIn s v (suc t) b → IsAt s clock hs v t (At c) d → IsAhead b d → IsAt s clock hs v b Before d
+  pub from_class : (c : Class) (d : Device) → NoLineIn s v (suc t) b → IsAtMoment s clock hs v t (At c) d → IsAhead b d → IsAtMoment s clock hs v b Before d
   from_class c d none at ahead = to_tick s v clock hs (suc t) b (omega (arith, later)) over d none
       (passed_tick s v clock hs t c d at (λ j. not_yet j b t d later ahead)) ahead
 
-  pub from_class_into : (c k : Class) (d : Device) → NoLineIn s v (suc t) (suc b) → IsAt s clock hs v t (At c) d → IsAhead b d
-      → ((j : Class) → rank j < rank k → IsOver j b d) → IsAt s clock hs v b (At k) d
+  pub from_class_into : (c k : Class) (d : Device) → NoLineIn s v (suc t) (suc b) → IsAtMoment s clock hs v t (At c) d → IsAhead b d
+      → ((j : Class) → rank j < rank k → IsOver j b d) → IsAtMoment s clock hs v b (At k) d
   from_class_into c k d none at ahead none_earlier =
       into_tick s v clock hs (suc t) b (omega (arith, later)) over k d none
       (passed_tick s v clock hs t c d at (λ j. not_yet j b t d later ahead)) ahead none_earlier

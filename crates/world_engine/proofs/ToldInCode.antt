@@ -15,15 +15,15 @@ use Rattle.bus_rules.specs.Cores.{Setup}
 use Rattle.bus_rules.specs.declared.delivery.DropLine.{DropLine}
 use Rattle.radio_model.specs.Hearing.{Scene}
 use Rattle.radio_model.specs.Holding.{Holds, after_tuning}
-use Rattle.radio_model.specs.Stations.{MediumState, IsTime, station_of, after as medium_after, retuned}
+use Rattle.radio_model.specs.Stations.{MediumState, IsTime, station_of, medium_after_change as medium_after, station_after_tuning}
 use Rattle.air_log.specs.declared.entry.TunedEntry.{TunedEntry}
 use Rattle.air_log.specs.Devices.{Device, Power, Listening, Made, nothing_made, event}
-use Rattle.air_log.specs.ScriptedDevices.{after_act}
+use Rattle.air_log.specs.ScriptedDevices.{device_after_act}
 use Rattle.air_log.specs.Drops.{drop_by}
 use Rattle.air_log.specs.DeviceStates.{DeviceState, whole, with_tuned, with_drop, HappenedBy, IsSameNode}
 use Rattle.air_log.specs.WindowLogs.{WindowLog}
-use Rattle.world_engine.specs.Fields.{FieldState, HasCounted, Shows, IsShown, IsField, entries_of, due_of, channel_of}
-use Rattle.world_engine.specs.FieldSteps.{Acts, IsTold}
+use Rattle.world_engine.specs.Fields.{FieldState, HasCounted, FieldShows, FieldIsShown, IsField, entries_of, due_of_device, channel_of}
+use Rattle.world_engine.specs.FieldSteps.{Acts, TakesLine}
 use Rattle.world_engine.proofs.ActsInTurn.{acts_then, acts_as}
 use Rattle.world_engine.proofs.DeviceSteps.{IsStepAt, GoesOnMaking, acts_at}
 use Rattle.world_engine.proofs.DeviceRetuned.{retuned_goes_on, retuned_station, retuned_others}
@@ -33,15 +33,15 @@ use Rattle.world_engine.proofs.StepsInCode.{state_here, state_known, state_taken
 use Rattle.world_engine.proofs.GoesOn.{goes_on_nothing}
 
 pub as_told : (clock : ℕ → ℕ) (line : ScriptLine) {t p : ℕ} {act what : Act} {v w x : FieldState} {dv dx : List Due} → v ≡ w → act ≡ what
-    → IsTold clock line t p act v dv x dx → IsTold clock line t p what w dv x dx
+    → TakesLine clock line t p act v dv x dx → TakesLine clock line t p what w dv x dx
 as_told clock line {t} {p} {act} {what} {v} {w} {x} {dv} {dx} seen is told =
-    subst (λ (f : FieldState). IsTold clock line t p what f dv x dx) seen (subst (λ (a : Act). IsTold clock line t p a v dv x dx) is told)
+    subst (λ (f : FieldState). TakesLine clock line t p what f dv x dx) seen (subst (λ (a : Act). TakesLine clock line t p a v dv x dx) is told)
 
 -- the power is another
 abbrev pub turned : Power → Setup → Device → Device
 turned power s d = record d { power = power }
 
-module _ (t p : ℕ) (old : FieldState) (old_due : List Due) (shown : IsShown t old old_due p) (i : ℕ) (at : i ≡ p) (state : DeviceState)
+module _ (t p : ℕ) (old : FieldState) (old_due : List Due) (shown : FieldIsShown t old old_due p) (i : ℕ) (at : i ≡ p) (state : DeviceState)
     (is : state ≡ get_or old.devices i state) where
   -- the medium and the queue are told nothing
   pub told_acts : IsField old → IsTime old.medium t → (after : DeviceState) (lost : List DropLine) (lines : List DropLine)
@@ -97,7 +97,7 @@ module _ (t p : ℕ) (old : FieldState) (old_due : List Due) (shown : IsShown t 
   pub off_acts : IsField old → IsTime old.medium t → (after : DeviceState) (closed : Option TunedEntry) (v : ℕ) (medium : MediumState)
       (new : FieldState) (mid new_due : List Due)
       → v ≡ state.setup.id
-      → medium ≡ medium_after t v (retuned None t) old.medium
+      → medium ≡ medium_after t v (station_after_tuning None t) old.medium
       → ((a : Scene) → Holds old.medium a → Holds medium (after_tuning old.medium v None t a))
       → new ≡ record {
         medium = medium;
@@ -124,10 +124,10 @@ module _ (t p : ℕ) (old : FieldState) (old_due : List Due) (shown : IsShown t 
         drops = old.drops;
         sums = old.sums;
       } in
-      let cleared : slice_get new_due p ≡ Some (due_of after) =
+      let cleared : slice_get new_due p ≡ Some (due_of_device after) =
       ap (λ (l : List Due). slice_get l p) is_due
-      ∙ due_changed mid p SendingStart None (with_tick AlarmOf None (due_of state))
-      (ap (λ (l : List Due). slice_get l p) is_mid ∙ due_changed old_due p AlarmOf None (due_of state) known.set)
+      ∙ due_changed mid p SendingStart None (with_tick AlarmOf None (due_of_device state))
+      (ap (λ (l : List Due). slice_get l p) is_mid ∙ due_changed old_due p AlarmOf None (due_of_device state) known.set)
       ∙ ap (λ (d : Due). Some d) (rw (no_alarm, no_order, sending) refl) in
       let step : IsStepAt t p state after closed None [] old old_due next new_due = record {
         here = state_here t p old old_due shown i at state is;
@@ -155,17 +155,17 @@ module _ (t p : ℕ) (old : FieldState) (old_due : List Due) (shown : IsShown t 
       (λ made ended. comes made) (λ made counted. counted) field)
 
   -- what a trail's device at the place is
-  same_state : (s : Setup) (d : Device) → (shows : Shows s t old old_due p d) → shows.state ≡ state
+  same_state : (s : Setup) (d : Device) → (shows : FieldShows s t old old_due p d) → shows.state ≡ state
   same_state s d shows = same_Some _ _ (sym shows.there ∙ state_here t p old old_due shown i at state is)
 
-  pub setup_shown : (s : Setup) (d : Device) → Shows s t old old_due p d → state.setup ≡ s
+  pub setup_shown : (s : Setup) (d : Device) → FieldShows s t old old_due p d → state.setup ≡ s
   setup_shown s d shows = ap (λ (x : DeviceState). x.setup) (sym (same_state s d shows)) ∙ shows.setup
 
-  pub power_shown : (s : Setup) (d : Device) → Shows s t old old_due p d → d.power ≡ state.power
+  pub power_shown : (s : Setup) (d : Device) → FieldShows s t old old_due p d → d.power ≡ state.power
   power_shown s d shows = ap (λ (x : Device). x.power) (sym shows.is) ∙ ap (λ (x : DeviceState). x.power) (same_state s d shows)
 
   same_shown : (f g : Setup → Device → Device) → ((made : Made) → f state.setup (whole state made) ≡ g state.setup (whole state made))
-      → (s : Setup) (d : Device) → Shows s t old old_due p d → f s d ≡ g s d
+      → (s : Setup) (d : Device) → FieldShows s t old old_due p d → f s d ≡ g s d
   same_shown f g same s d shows =
       let is_d : whole state shows.made ≡ d = ap (λ (x : DeviceState). whole x shows.made) (sym (same_state s d shows)) ∙ shows.is in
       subst (λ (x : Device). f s x ≡ g s x) is_d
@@ -201,24 +201,25 @@ module _ (t p : ℕ) (old : FieldState) (old_due : List Due) (shown : IsShown t 
     power = after.power;
     delivery = None;
   }
-      → ((made : Made) → after_act clock state.setup t frame (whole state made) On state.power ≡ event clock state.setup t Boot None (whole after made))
+      → ((made : Made) → device_after_act clock state.setup t frame (whole state made) On state.power ≡ event clock state.setup t Boot None (whole after made))
       → Acts t p (turned after.power) [] [] old old_due mid old_due → Acts t p (λ s d. event clock s t Boot None d) [] [] mid old_due new new_due
-      → Acts t p (λ s d. after_act clock s t frame d On d.power) [] [] old old_due new new_due
+      → Acts t p (λ s d. device_after_act clock s t frame d On d.power) [] [] old old_due new new_due
   booted_acts clock frame after mid new new_due changed boots on told =
-      acts_as t p (λ s d. event clock s t Boot None (turned after.power s d)) (λ s d. after_act clock s t frame d On d.power) [] [] old new old_due new_due
-      (same_shown (λ s d. event clock s t Boot None (turned after.power s d)) (λ s d. after_act clock s t frame d On d.power)
+      acts_as t p (λ s d. event clock s t Boot None (turned after.power s d)) (λ s d. device_after_act clock s t frame d On d.power) [] [] old new old_due
+          new_due
+      (same_shown (λ s d. event clock s t Boot None (turned after.power s d)) (λ s d. device_after_act clock s t frame d On d.power)
       (λ made. ap (λ (x : DeviceState). event clock state.setup t Boot None (whole x made)) (sym changed) ∙ sym (boots made)))
       (acts_then t p (turned after.power) (λ s d. event clock s t Boot None d) [] [] [] [] old mid new old_due old_due new_due on told)
 
   -- a packet is put
   module _ (clock : ℕ → ℕ) (line : ScriptLine) (stream : ℕ) (payload : List ℕ) (lost : Bool) (after : DeviceState)
-      (puts : (made : Made) → after_act clock state.setup t line.frame (whole state made) (Put stream payload) state.power ≡ whole after
+      (puts : (made : Made) → device_after_act clock state.setup t line.frame (whole state made) (Put stream payload) state.power ≡ whole after
       (with_drop lost (one_drop line.frame state.setup.id stream) made)) where
     abbrev pub lines : List DropLine
     lines = if lost then one_drop line.frame state.setup.id stream ∷ [] else []
 
     pub put_acts : IsField old → IsTime old.medium t → (drops : List DropLine) → IsSameNode state after → HappenedBy t after → drops ≡ old.drops ++ lines
-        → Acts t p (λ s d. after_act clock s t line.frame d (Put stream payload) d.power) [] lines old old_due (record {
+        → Acts t p (λ s d. device_after_act clock s t line.frame d (Put stream payload) d.power) [] lines old old_due (record {
           medium = old.medium;
           devices = set old.devices i after;
           air = old.air;
@@ -228,13 +229,13 @@ module _ (t p : ℕ) (old : FieldState) (old_due : List Due) (shown : IsShown t 
         }) old_due
     put_acts field time drops node happened more =
         told_acts field time after lines drops node.setup (node.delivery ∙ state_taken t p old old_due shown i at state is) happened more
-        (λ s d. after_act clock s t line.frame d (Put stream payload) d.power) (with_drop lost (one_drop line.frame state.setup.id stream))
+        (λ s d. device_after_act clock s t line.frame d (Put stream payload) d.power) (with_drop lost (one_drop line.frame state.setup.id stream))
         (λ made. record { sent = refl; tuned = refl; deliveries = sym (append-nil made.deliveries) })
         (subst (λ (d : Device). StaysSet (whole state nothing_made) d) (puts nothing_made)
         (put_stays clock state.setup t line.frame (whole state nothing_made) stream payload state.power))
         puts (λ made. refl)
 
-    pub put_lost : line.node ≡ state.setup.id → (s : Setup) (d : Device) → Shows s t old old_due p d
+    pub put_lost : line.node ≡ state.setup.id → (s : Setup) (d : Device) → FieldShows s t old old_due p d
         → lines ≡ option_to_list (drop_by line (Put stream payload) d.power)
     put_lost own s d shows =
         sym (ap (λ (d : Device). d.made.drops) (puts nothing_made))
@@ -243,11 +244,11 @@ module _ (t p : ℕ) (old : FieldState) (old_due : List Due) (shown : IsShown t 
 
   -- a stream wishes an interval, or nothing more
   module _ (clock : ℕ → ℕ) (line : ScriptLine) (act : Act) (loses : (power : Power) → drop_by line act power ≡ None)
-      (stays : (power : Power) → StaysSet (whole state nothing_made) (after_act clock state.setup t line.frame (whole state nothing_made) act power))
+      (stays : (power : Power) → StaysSet (whole state nothing_made) (device_after_act clock state.setup t line.frame (whole state nothing_made) act power))
       (after : DeviceState)
-      (wishes : (made : Made) → after_act clock state.setup t line.frame (whole state made) act state.power ≡ whole after made) where
+      (wishes : (made : Made) → device_after_act clock state.setup t line.frame (whole state made) act state.power ≡ whole after made) where
     pub wish_told : IsField old → IsTime old.medium t → IsSameNode state after → HappenedBy t after
-        → IsTold clock line t p act old old_due (record {
+        → TakesLine clock line t p act old old_due (record {
           medium = old.medium;
           devices = set old.devices i after;
           air = old.air;
@@ -258,7 +259,7 @@ module _ (t p : ℕ) (old : FieldState) (old_due : List Due) (shown : IsShown t 
     wish_told field time node happened = (
       [],
       told_acts field time after [] old.drops node.setup (node.delivery ∙ state_taken t p old old_due shown i at state is) happened (sym (append-nil old.drops))
-          (λ s d. after_act clock s t line.frame d act d.power) (λ made. made) (λ made. record {
+          (λ s d. device_after_act clock s t line.frame d act d.power) (λ made. made) (λ made. record {
             sent = refl;
             tuned = refl;
             deliveries = sym (append-nil made.deliveries);

@@ -13,9 +13,9 @@ use Rattle.air_log.specs.Devices.{Device}
 use Rattle.air_log.specs.Trails.{Reception, setup_of}
 use Rattle.air_log.specs.Lawful.{heard_by, sent_by}
 use Rattle.lwb_base.proofs.Elements.{among_or_not}
-use Rattle.world_engine.specs.Fields.{FieldState, Shows}
-use Rattle.world_engine.specs.FieldSteps.{EndsSending, Sends, told_of_end, told_of_hearing}
-use Rattle.world_engine.specs.Moments.{At, IsAt}
+use Rattle.world_engine.specs.Fields.{FieldState, FieldShows}
+use Rattle.world_engine.specs.FieldSteps.{EndsSending, DeviceSends, told_of_end, told_of_hearing}
+use Rattle.world_engine.specs.Moments.{At, IsAtMoment}
 use Rattle.world_engine.specs.Running.{IsOnTrail}
 use Rattle.world_engine.proofs.SendingsRun.{end_told, hearing_told}
 use Rattle.world_engine.proofs.TrailsGoOn.{OnTrails, IsClockAt}
@@ -32,7 +32,7 @@ pub record IsHeardAt (s : ScenarioParts) (x : Sending) (hearers : List ℕ) (old
 module _ (s : ScenarioParts) (clocks : ℕ → ℕ → ℕ) (lines : Lines) (at_places : ℕ → ℕ → ℕ) (own_clocks : (q : ℕ) → IsClockAt s clocks q (at_places q))
     (t p : ℕ) (x : Sending) (now : x.end ≡ t) (hearers : List ℕ)
     (old : FieldState) (old_due : List Due) (new : FieldState) (new_due : List Due) (ends : EndsSending lines at_places t p x hearers old old_due new new_due)
-    (sends : Sends t old old_due p x) (not_own : Contains hearers p → ⊥) (air : IsHeardAt s x hearers old.air new.air) where
+    (sends : DeviceSends t old old_due p x) (not_own : Contains hearers p → ⊥) (air : IsHeardAt s x hearers old.air new.air) where
   abbrev Old : ℕ → ℕ → Type 0
   Old q v = IsOnTrail s clocks t (At SendingEnd) old old_due q v
 
@@ -40,7 +40,7 @@ module _ (s : ScenarioParts) (clocks : ℕ → ℕ → ℕ) (lines : Lines) (at_
   New q v = IsOnTrail s clocks t (At SendingEnd) new new_due q v
 
   abbrev AtEnd : ℕ → List Reception → Device → Type 0
-  AtEnd v hs d = IsAt s (clocks v) hs v t (At SendingEnd) d
+  AtEnd v hs d = IsAtMoment s (clocks v) hs v t (At SendingEnd) d
 
   sender_trail : (n : NodeLine) → slice_get s.nodes p ≡ Some n → Old p n.node → New p n.node
   sender_trail n here trail =
@@ -56,7 +56,7 @@ module _ (s : ScenarioParts) (clocks : ℕ → ℕ → ℕ) (lines : Lines) (at_
             (sym (air.unheard p n here not_own)) by_clock;
       }
 
-  own_sent : (q : ℕ) (n : NodeLine) (d : Device) → slice_get s.nodes q ≡ Some n → Contains hearers q → Shows (setup_of s n.node) t old old_due q d
+  own_sent : (q : ℕ) (n : NodeLine) (d : Device) → slice_get s.nodes q ≡ Some n → Contains hearers q → FieldShows (setup_of s n.node) t old old_due q d
       → (y : Sending) → Contains d.made.sent y → y.end ≡ t → ⊥
   own_sent q n d there hears shows y sent is =
       let same : d.made.sent ≡ sent_by old.air n.node = ap (λ (e : Device). e.made.sent) (sym shows.is) ∙ shows.logged.sent in

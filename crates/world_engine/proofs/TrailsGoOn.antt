@@ -15,18 +15,18 @@ use Rattle.scenario_text.specs.declared.script.ScriptLine.{ScriptLine}
 use Rattle.bus_rules.specs.declared.delivery.DropLine.{DropLine}
 use Rattle.bus_rules.specs.Cores.{Setup}
 use Rattle.air_log.specs.Devices.{Device}
-use Rattle.air_log.specs.ScriptedDevices.{after_line}
-use Rattle.air_log.specs.Trails.{Reception, setup_of, run_end, frame_start, alarmed, begun}
+use Rattle.air_log.specs.ScriptedDevices.{device_after_line}
+use Rattle.air_log.specs.Trails.{Reception, setup_of, run_end, frame_start, alarmed, device_after_start}
 use Rattle.air_log.specs.Lawful.{by_end, reception_of, heard_by}
 use Rattle.world_engine.specs.Fields.{IsField, FieldState}
 use Rattle.world_engine.specs.FieldSteps.{AreSame, Acts}
-use Rattle.world_engine.specs.Moments.{Moment, InLines, At, IsAt}
+use Rattle.world_engine.specs.Moments.{TickMoment, InLines, At, IsAtMoment}
 use Rattle.world_engine.specs.Running.{HasPlaces, IsOnTrail}
 use Rattle.world_engine.proofs.TickPoints.{alarmed_at, begun_at}
 use Rattle.world_engine.proofs.LinesTold.{line_told, line_of_other}
 
 -- each node's device is at its place, at this moment of its trail
-abbrev pub OnTrails : ScenarioParts → (ℕ → ℕ → ℕ) → ℕ → Moment → FieldState → List Due → Type 0
+abbrev pub OnTrails : ScenarioParts → (ℕ → ℕ → ℕ) → ℕ → TickMoment → FieldState → List Due → Type 0
 OnTrails s clocks t m w due = (p : ℕ) (n : NodeLine) → slice_get s.nodes p ≡ Some n → IsOnTrail s clocks t m w due p n.node
 
 -- the clock is that of the node at the place
@@ -65,26 +65,26 @@ module _ (s : ScenarioParts) (clocks : ℕ → ℕ → ℕ) (t p : ℕ) (change 
   heard_same v = ap (λ (hs : List Hearing). map reception_of (by_end (filter (λ h. h.node == v) hs))) acts.hearings
 
   -- from one moment of a trail to another
-  abbrev Comes : Moment → Moment → ℕ → (Device → Device) → Type 0
-  Comes m k v f = (d : Device) → IsAt s (clocks v) (heard_by old.air v) v t m d → IsAt s (clocks v) (heard_by old.air v) v t k (f d)
+  abbrev Comes : TickMoment → TickMoment → ℕ → (Device → Device) → Type 0
+  Comes m k v f = (d : Device) → IsAtMoment s (clocks v) (heard_by old.air v) v t m d → IsAtMoment s (clocks v) (heard_by old.air v) v t k (f d)
 
-  own_trail : (m k : Moment) (v : ℕ) → Comes m k v (change (setup_of s v)) → IsOnTrail s clocks t m old old_due p v → IsOnTrail s clocks t k new new_due p v
+  own_trail : (m k : TickMoment) (v : ℕ) → Comes m k v (change (setup_of s v)) → IsOnTrail s clocks t m old old_due p v → IsOnTrail s clocks t k new new_due p v
   own_trail m k v step trail =
       let e = change (setup_of s v) trail.device in
       record {
         device = e;
         shows = acts.own (setup_of s v) trail.device trail.shows;
-        at = subst (λ (hs : List Reception). IsAt s (clocks v) hs v t k e) (sym (heard_same v)) (step trail.device trail.at);
+        at = subst (λ (hs : List Reception). IsAtMoment s (clocks v) hs v t k e) (sym (heard_same v)) (step trail.device trail.at);
       }
 
-  other_trail : (m k : Moment) (q v : ℕ) → q ≢ p → Comes m k v (λ d. d) → IsOnTrail s clocks t m old old_due q v → IsOnTrail s clocks t k new new_due q v
+  other_trail : (m k : TickMoment) (q v : ℕ) → q ≢ p → Comes m k v (λ d. d) → IsOnTrail s clocks t m old old_due q v → IsOnTrail s clocks t k new new_due q v
   other_trail m k q v other step trail = record {
     device = trail.device;
     shows = acts.others q other (setup_of s v) trail.device trail.shows;
-    at = subst (λ (hs : List Reception). IsAt s (clocks v) hs v t k trail.device) (sym (heard_same v)) (step trail.device trail.at);
+    at = subst (λ (hs : List Reception). IsAtMoment s (clocks v) hs v t k trail.device) (sym (heard_same v)) (step trail.device trail.at);
   }
 
-  pub acts_trails : (m k : Moment)
+  pub acts_trails : (m k : TickMoment)
       → ((n : NodeLine) → slice_get s.nodes p ≡ Some n → Comes m k n.node (change (setup_of s n.node)))
       → ((q : ℕ) (n : NodeLine) → q ≢ p → slice_get s.nodes q ≡ Some n → Comes m k n.node (λ d. d))
       → OnTrails s clocks t m old old_due → OnTrails s clocks t k new new_due
@@ -105,15 +105,15 @@ module _ (s : ScenarioParts) (clocks : ℕ → ℕ → ℕ) (t p : ℕ) (clock :
     alarm_trails starting lost acts =
         acts_trails s clocks t p (λ x d. alarmed clock x t d) starting lost old old_due new new_due acts (At Alarm) (At Alarm)
         (λ n there d at.
-        subst (λ (c : ℕ → ℕ). IsAt s (clocks n.node) (heard_by old.air n.node) n.node t (At Alarm) (alarmed c (setup_of s n.node) t d))
+        subst (λ (c : ℕ → ℕ). IsAtMoment s (clocks n.node) (heard_by old.air n.node) n.node t (At Alarm) (alarmed c (setup_of s n.node) t d))
         (sym (own_clock n there))
         (alarmed_at s n.node (clocks n.node) (heard_by old.air n.node) t sound (drifts n.node) within d at))
         (λ q n other there d at. at)
 
-    pub begin_trails : (starting : List Sending) (lost : List DropLine) → Acts t p (λ x d. begun x t d) starting lost old old_due new new_due
+    pub begin_trails : (starting : List Sending) (lost : List DropLine) → Acts t p (λ x d. device_after_start x t d) starting lost old old_due new new_due
         → OnTrails s clocks t (At SendingStart) old old_due → OnTrails s clocks t (At SendingStart) new new_due
     begin_trails starting lost acts =
-        acts_trails s clocks t p (λ x d. begun x t d) starting lost old old_due new new_due acts (At SendingStart) (At SendingStart)
+        acts_trails s clocks t p (λ x d. device_after_start x t d) starting lost old old_due new new_due acts (At SendingStart) (At SendingStart)
         (λ n there d at. begun_at s n.node (clocks n.node) (heard_by old.air n.node) t sound (drifts n.node) within d at)
         (λ q n other there d at. at)
 
@@ -123,14 +123,14 @@ module _ (s : ScenarioParts) (clocks : ℕ → ℕ → ℕ) (t p : ℕ) (clock :
 
   pub line_trails : (told : List ScriptLine) (l : ScriptLine) (n : NodeLine) (starting : List Sending) (lost : List DropLine) → IsSoundScenario s
       → slice_get s.nodes p ≡ Some n → l.node ≡ n.node → frame_start s l.frame ≡ t
-      → Acts t p (λ x d. after_line clock x t d l) starting lost old old_due new new_due
+      → Acts t p (λ x d. device_after_line clock x t d l) starting lost old old_due new new_due
       → OnTrails s clocks t (InLines told) old old_due → OnTrails s clocks t (InLines (told ++ l ∷ [])) new new_due
   line_trails told l n starting lost sound here own now acts =
-      acts_trails s clocks t p (λ x d. after_line clock x t d l) starting lost old old_due new new_due acts (InLines told) (InLines (told ++ l ∷ []))
+      acts_trails s clocks t p (λ x d. device_after_line clock x t d l) starting lost old old_due new new_due acts (InLines told) (InLines (told ++ l ∷ []))
       (λ m there d at.
       let same : n ≡ m = same_Some n m (sym here ∙ there) in
-      subst (λ (c : ℕ → ℕ). IsAt s (clocks m.node) (heard_by old.air m.node) m.node t (InLines (told ++ l ∷ []))
-      (after_line c (setup_of s m.node) t d l)) (sym (own_clock m there))
+      subst (λ (c : ℕ → ℕ). IsAtMoment s (clocks m.node) (heard_by old.air m.node) m.node t (InLines (told ++ l ∷ []))
+      (device_after_line c (setup_of s m.node) t d l)) (sym (own_clock m there))
       (line_told s m.node (clocks m.node) (heard_by old.air m.node) t told l d (own ∙ ap (λ (x : NodeLine). x.node) same) now at))
       (λ q m other there d at.
       line_of_other s m.node (clocks m.node) (heard_by old.air m.node) t told l d (λ is. ids_differ q n m sound other here there (sym own ∙ is)) at)

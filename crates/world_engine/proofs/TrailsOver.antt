@@ -11,13 +11,13 @@ use Rattle.radio_model.specs.declared.sending.Sending.{Sending}
 use Rattle.radio_model.specs.OnAir.{Hearing, Tuning}
 use Rattle.event_calendar.specs.Orders.{Due}
 use Rattle.air_log.specs.declared.entry.Entry.{Entry}
-use Rattle.air_log.specs.Entries.{sending_in, tuning_in, sendings_of, tunings_of, node_of}
+use Rattle.air_log.specs.Entries.{sending_in, tuning_in, sendings_of, tunings_of, node_of_entry}
 use Rattle.air_log.specs.Devices.{Device, silenced}
 use Rattle.air_log.specs.Trails.{Reception, setup_of, run_end, before_tick}
 use Rattle.air_log.specs.Lawful.{reception_of, by_end, heard_by, sent_by, tuned_by, trail_in, FollowsTrails}
 use Rattle.air_log.proofs.LoggedEntries.{sending_node, tuning_node}
 use Rattle.lwb_base.proofs.Elements.{filter_from}
-use Rattle.world_engine.specs.Fields.{FieldState, Shows, IsLogged, ids_of, setup_of as setup_in}
+use Rattle.world_engine.specs.Fields.{FieldState, FieldShows, IsLogged, ids_of, setup_of_device as setup_in}
 use Rattle.world_engine.specs.FieldSteps.{IsClosed, node_id}
 use Rattle.world_engine.specs.Moments.{Before}
 use Rattle.world_engine.specs.Running.{IsRunning, setup_by}
@@ -43,7 +43,7 @@ module _ (s : ScenarioParts) (clocks : ℕ → ℕ → ℕ) (w : FieldState) (du
   -- the device at the place of a node, whose tuning the end of its trail ends
   pub record IsTrailEnd (p v : ℕ) : Type 0 where
     pub device : Device
-    pub shows : Shows (setup_of s v) (run_end s) w due p device
+    pub shows : FieldShows (setup_of s v) (run_end s) w due p device
     pub is : trail_in s clocks closed.air v ≡ silenced v (run_end s) device
 
   pub at_place : (p : ℕ) (n : NodeLine) → slice_get s.nodes p ≡ Some n → IsTrailEnd p n.node
@@ -74,8 +74,9 @@ module _ (s : ScenarioParts) (clocks : ℕ → ℕ → ℕ) (w : FieldState) (du
   of_known v there = id_known s.nodes v (subst (λ (l : List ℕ). Contains l v) ids_are there)
 
   -- each entry is of a node of the scenario
-  entry_known : (e : Entry) → Contains closed.air e → knows s.nodes (node_of e) ≡ true
-  entry_known e there = elim (over.entries e there) [ inl old ↦ of_known (node_of e) (running.air.holds.known e old) | inr at ↦ of_known (node_of e) at ]
+  entry_known : (e : Entry) → Contains closed.air e → knows s.nodes (node_of_entry e) ≡ true
+  entry_known e there =
+      elim (over.entries e there) [ inl old ↦ of_known (node_of_entry e) (running.air.holds.known e old) | inr at ↦ of_known (node_of_entry e) at ]
 
   none_sent : (v : ℕ) → knows s.nodes v ≡ false → sent_by closed.air v ≡ []
   none_sent v unknown = filter_none (λ (x : Sending). x.node == v) (sendings_of closed.air) (λ x there.

@@ -7,7 +7,7 @@ use Rattle.air_log.specs.Devices.{Device}
 use Rattle.air_log.specs.Trails.{Reception, setup_of, frame_start, before_tick, before_start}
 use Rattle.air_log.proofs.KeptByEvents.{IsKept, in_hearings, in_end, in_tick}
 use Rattle.air_log.proofs.TunedBefore.{HasTunedBy, As, kept, stays_same, lines_as, begun_stays, tick_by}
-use Rattle.world_engine.specs.Moments.{Moment, Before, InLines, At, point, after_point, IsAt}
+use Rattle.world_engine.specs.Moments.{TickMoment, Before, InLines, At, device_at_point, after_point, IsAtMoment}
 
 module _ (s : ScenarioParts) (v : ℕ) (clock : ℕ → ℕ) (hs : List Reception) (t : ℕ) where
   first : Device
@@ -23,7 +23,7 @@ module _ (s : ScenarioParts) (v : ℕ) (clock : ℕ → ℕ) (hs : List Receptio
   unfolding first
   at_first = stays_same t first.made.tuned first.listening (tick_by s v clock hs t)
 
-  point_by : (class : Class) → HasTunedBy t (point s v clock hs t class)
+  point_by : (class : Class) → HasTunedBy t (device_at_point s v clock hs t class)
   point_by SendingEnd = (in_hearings Now s v clock hs t (before_tick s v clock hs t) all_kept at_first).by
   point_by AlarmOf = (in_end Now clock (setup_of s v) t _ all_kept (in_hearings Now s v clock hs t (before_tick s v clock hs t) all_kept at_first)).by
   point_by SendingStart = (in_tick Now s v clock hs t (before_tick s v clock hs t) all_kept at_first).by
@@ -34,7 +34,7 @@ module _ (s : ScenarioParts) (v : ℕ) (clock : ℕ → ℕ) (hs : List Receptio
   after_point_by AlarmOf = point_by SendingStart
   after_point_by SendingStart = (begun_stays (setup_of s v) t (before_start s v clock hs t (before_tick s v clock hs t)) (point_by SendingStart)).by
 
-  pub moment_by : (m : Moment) (d : Device) → IsAt s clock hs v t m d → HasTunedBy t d
+  pub moment_by : (m : TickMoment) (d : Device) → IsAtMoment s clock hs v t m d → HasTunedBy t d
   moment_by Before d is = subst (HasTunedBy t) (sym is) (tick_by s v clock hs t)
   moment_by (InLines told) d is =
       subst (HasTunedBy t) (sym is)

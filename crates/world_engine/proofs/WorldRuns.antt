@@ -7,14 +7,14 @@ use Rattle.event_calendar.specs.Orders.{Due}
 use Rattle.bus_rules.specs.declared.delivery.Delivery.{Delivery}
 use Rattle.air_log.specs.declared.entry.Entry.{Entry}
 use Rattle.air_log.specs.Trails.{run_end}
-use Rattle.air_log.specs.Deliveries.{comes_before}
+use Rattle.air_log.specs.Deliveries.{delivery_comes_before}
 use Rattle.air_log.specs.LogText.{in_order}
 use Rattle.air_log.specs.ClockLists.{clocks_by}
 use Rattle.air_log.specs.DeviceStates.{core_in}
 use Rattle.air_log.specs.declared.charge.NodeCharge.{NodeCharge}
 use Rattle.air_log.specs.NodeCharges.{charges_in}
 use Rattle.world_engine.specs.Counting.{all_scans_before, AreCharges}
-use Rattle.world_engine.specs.Fields.{FieldState, IsShown}
+use Rattle.world_engine.specs.Fields.{FieldState, FieldIsShown}
 use Rattle.world_engine.specs.FieldSteps.{IsClosed}
 use Rattle.world_engine.specs.Moments.{Before}
 use Rattle.world_engine.specs.Running.{IsRunning, setup_by}
@@ -30,15 +30,15 @@ module _ (s : ScenarioParts) (sound : IsSoundScenario s) (clocks : ℕ → ℕ �
     (run : IsRunning s clocks s.script (run_end s) Before w due) where
   -- all tunings end at tick t, which is the end of the run
   module _ (t : ℕ) (end : t ≡ run_end s) (closed : FieldState)
-      (closes : (orders : List Due) → ((q : ℕ) → q < length w.devices → IsShown t w orders q) → IsClosed t w orders closed) where
+      (closes : (orders : List Due) → ((q : ℕ) → q < length w.devices → FieldIsShown t w orders q) → IsClosed t w orders closed) where
     over : IsClosed (run_end s) w due closed
     over = subst (λ (u : ℕ). IsClosed u w due closed) end
-        (closes due (λ q within. subst (λ (u : ℕ). IsShown u w due q) (sym end)
+        (closes due (λ q within. subst (λ (u : ℕ). FieldIsShown u w due q) (sym end)
         (shown_within s clocks (run_end s) Before w due run.places run.trails q within)))
 
     -- the field without its deliveries, and these in order
     pub run_left : AreClocks clocks → (left : FieldState) → left ≡ record closed { deliveries = [] } → (made : List Delivery)
-        → made ≡ in_order comes_before closed.deliveries
+        → made ≡ in_order delivery_comes_before closed.deliveries
         → IsEngineRun s clocks left.air made left.drops (core_of (map core_in left.devices)) × (due ≡ orders_left s clocks left.air)
     run_left drifts left rest made taken =
         let is = run_over s clocks w due closed sound drifts run over (hearing_followed s clocks s.script w due run run.places.field closed over) in

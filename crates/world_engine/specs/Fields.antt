@@ -18,7 +18,7 @@ use Rattle.air_log.specs.Lawful.{sent_by, tuned_by}
 use Rattle.air_log.specs.DeviceStates.{DeviceState, whole, EndedBefore, HappenedBy}
 use Rattle.air_log.specs.WindowLogs.{WindowLog}
 use Rattle.air_log.specs.WindowSums.{WindowSum, IsCounted}
-use Rattle.air_log.specs.Courses.{tick_of}
+use Rattle.air_log.specs.Courses.{tick_of_ordered}
 
 -- deliveries and drops stand in the order in which they were made; sums: what the windows of each device count so far
 pub record FieldState : Type 0 where
@@ -29,8 +29,8 @@ pub record FieldState : Type 0 where
   pub drops : List DropLine
   pub sums : List WindowSum
 
-abbrev pub setup_of : DeviceState → Setup
-setup_of d = d.setup
+abbrev pub setup_of_device : DeviceState → Setup
+setup_of_device d = d.setup
 
 abbrev pub id_of : DeviceState → ℕ
 id_of d = d.setup.id
@@ -39,7 +39,7 @@ abbrev pub power_of : DeviceState → Power
 power_of d = d.power
 
 abbrev pub setups_of : FieldState → List Setup
-setups_of w = map setup_of w.devices
+setups_of w = map setup_of_device w.devices
 
 abbrev pub ids_of : FieldState → List ℕ
 ids_of w = map id_of w.devices
@@ -59,8 +59,8 @@ entries_of (Some e) = Tuned e ∷ []
 abbrev pub end_of : Sending → ℕ
 end_of x = x.end
 
-abbrev pub due_of : DeviceState → Due
-due_of d = record { sending_end = option_map end_of d.sending; alarm = d.alarm; sending_start = option_map tick_of d.ordered }
+abbrev pub due_of_device : DeviceState → Due
+due_of_device d = record { sending_end = option_map end_of d.sending; alarm = d.alarm; sending_start = option_map tick_of_ordered d.ordered }
 
 -- what v has made, but for drops and windows, is what the lists have of it
 pub record IsLogged (w : FieldState) (v : ℕ) (made : Made) : Type 0 where
@@ -68,19 +68,19 @@ pub record IsLogged (w : FieldState) (v : ℕ) (made : Made) : Type 0 where
   pub tuned : made.tuned ≡ reverse (tuned_by w.air v)
   pub deliveries : made.deliveries ≡ filter (λ d. d.node == v) w.deliveries
 
-abbrev pub rank_of : TunedTo → ℕ
-rank_of o = o.rank
+abbrev pub rank_of_tuned : TunedTo → ℕ
+rank_of_tuned o = o.rank
 
 abbrev pub channel_of : Listening → ℕ
 channel_of l = l.rank
 
 -- the medium and the queue know of the device at the place what they have to
-pub record IsKnown (w : FieldState) (due : List Due) (p : ℕ) (d : DeviceState) : Type 0 where
+pub record IsKnownDevice (w : FieldState) (due : List Due) (p : ℕ) (d : DeviceState) : Type 0 where
   pub station : Station
   pub there : station_of w.medium d.setup.id ≡ Some station
-  pub tuned : option_map rank_of station.tuned ≡ option_map channel_of d.listening
+  pub tuned : option_map rank_of_tuned station.tuned ≡ option_map channel_of d.listening
   pub sending : station.sending ≡ d.sending
-  pub set : slice_get due p ≡ Some (due_of d)
+  pub set : slice_get due p ≡ Some (due_of_device d)
 
 -- at the place it is known what these windows of a device count
 pub record HasCounted (sums : List WindowSum) (p : ℕ) (s : Setup) (windows : List WindowLog) : Type 0 where
@@ -90,21 +90,21 @@ pub record HasCounted (sums : List WindowSum) (p : ℕ) (s : Setup) (windows : L
   pub few : s.sends ≤ 4
 
 -- at tick t the device at the place, with all that it has made, is this one of a trail
-pub record Shows (s : Setup) (t : ℕ) (w : FieldState) (due : List Due) (p : ℕ) (d : Device) : Type 0 where
+pub record FieldShows (s : Setup) (t : ℕ) (w : FieldState) (due : List Due) (p : ℕ) (d : Device) : Type 0 where
   pub state : DeviceState
   pub there : slice_get w.devices p ≡ Some state
   pub setup : state.setup ≡ s
   pub made : Made
   pub is : whole state made ≡ d
   pub logged : IsLogged w s.id made
-  pub known : IsKnown w due p state
+  pub known : IsKnownDevice w due p state
   pub counted : HasCounted w.sums p s made.windows
   pub ended : EndedBefore t made.tuned
   pub happened : HappenedBy t state
   pub taken : state.delivery ≡ None
 
 -- the device at the place is that of some trail
-pub record IsShown (t : ℕ) (w : FieldState) (due : List Due) (p : ℕ) : Type 0 where
+pub record FieldIsShown (t : ℕ) (w : FieldState) (due : List Due) (p : ℕ) : Type 0 where
   pub setup : Setup
   pub device : Device
-  pub shows : Shows setup t w due p device
+  pub shows : FieldShows setup t w due p device

@@ -11,7 +11,7 @@ abbrev pub told_before : ScenarioParts → ℕ → List ScriptLine
 told_before s f = filter (λ l. nat_lt l.frame f) s.script
 
 -- the first k lines of the script are those of frames before f
-pub record IsCut (s : ScenarioParts) (k f : ℕ) : Type 0 where
+pub record CountsScriptLinesBefore (s : ScenarioParts) (k f : ℕ) : Type 0 where
   pub within : k ≤ length s.script
   pub before : (i : ℕ) (l : ScriptLine) → slice_get s.script i ≡ Some l → i < k → l.frame < f
   pub behind : (i : ℕ) (l : ScriptLine) → slice_get s.script i ≡ Some l → k ≤ i → f ≤ l.frame
@@ -27,5 +27,5 @@ abbrev pub order_key : ℕ → Class → ℕ → ℕ
 order_key t c p = (t * 3 + rank c) * 64 + p
 
 -- all that stands comes later than what stood at tick t, of this class, at this place
-abbrev pub IsPast : ℕ → Class → ℕ → List Due → Type 0
-IsPast t c p due = (y : Order) → Stands due y → order_key t c p < order_key y.0 y.1 y.2
+abbrev pub AllComeLater : ℕ → Class → ℕ → List Due → Type 0
+AllComeLater t c p due = (y : Order) → Stands due y → order_key t c p < order_key y.0 y.1 y.2

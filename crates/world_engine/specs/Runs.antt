@@ -16,7 +16,7 @@ use Rattle.air_log.specs.Devices.{Device, Power, PowerOff, PowerOn}
 use Rattle.air_log.specs.Lawful.{Lawful, trail_in}
 use Rattle.air_log.specs.Deliveries.{deliveries_of}
 use Rattle.air_log.specs.Drops.{drops_of}
-use Rattle.air_log.specs.Courses.{tick_of}
+use Rattle.air_log.specs.Courses.{tick_of_ordered}
 use Rattle.world_engine.specs.Fields.{end_of}
 
 -- the core of each node of the scenario that is on at the end is in the state in which its trail leaves it
@@ -27,7 +27,7 @@ IsCoreOf (Some core) (PowerOn n) = core.node ≡ n
 
 -- what stands at a node at the end: the end of its sending that runs, its alarm, and its ordered sending that has not begun
 abbrev pub standing : Device → Due
-standing d = record { sending_end = option_map end_of d.sending; alarm = d.alarm; sending_start = option_map tick_of d.ordered }
+standing d = record { sending_end = option_map end_of d.sending; alarm = d.alarm; sending_start = option_map tick_of_ordered d.ordered }
 
 abbrev pub standing_at : ScenarioParts → (ℕ → ℕ → ℕ) → List Entry → NodeLine → Due
 standing_at s clocks air n = standing (trail_in s clocks air n.node)

@@ -2,14 +2,14 @@
 
 ghost use Rattle.std.specs.Prelude.{◌≡◌, OnOk};
 ghost use Rattle.air_log.specs.LogText.{in_order};
-ghost use Rattle.air_log.specs.Deliveries.{comes_before};
+ghost use Rattle.air_log.specs.Deliveries.{delivery_comes_before};
 
 use bus_rules::Delivery;
 use lwb_base::Memory;
 
 // By frame, rank, slot and node. Deliveries that this order leaves equal stay in theirs.
 pub(crate) fn sort_deliveries(deliveries: &mut Vec<Delivery>) -> Result<(), Memory>
-    ensures { OnOk result (deliveries.new.items ≡ in_order comes_before deliveries.old.items) }
+    ensures { OnOk result (deliveries.new.items ≡ in_order delivery_comes_before deliveries.old.items) }
 {
     deliveries.sort_by_key(|delivery| place(delivery))?;
     Ok(())

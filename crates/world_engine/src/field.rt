@@ -9,13 +9,13 @@ ghost use Rattle.radio_model.specs.Stations.{IsTime};
 ghost use Rattle.radio_model.specs.declared.sending.Sending.{Sending as SendingOf};
 ghost use Rattle.air_log.specs.AlarmRuns.{IsAlarmRun};
 ghost use Rattle.air_log.specs.Devices.{Device as DeviceOf, obeyed, event as event_at};
-ghost use Rattle.air_log.specs.Trails.{is_due, alarmed, begun as begun_at, starting};
+ghost use Rattle.air_log.specs.Trails.{alarm_is_due, alarmed, device_after_start as begun_at, sendings_starting};
 ghost use Rattle.air_log.specs.DeviceStates.{IsTimely};
 ghost use Rattle.air_log.specs.WindowLogs.{is_alarm};
 ghost use Rattle.air_log.specs.WindowSums.{sent_with};
 ghost use Rattle.world_engine.specs.EventOrders.{order_of};
-ghost use Rattle.world_engine.specs.Fields.{Shows, IsShown, entries_of};
-ghost use Rattle.world_engine.specs.FieldSteps.{Acts, IsFirst, IsClosed};
+ghost use Rattle.world_engine.specs.Fields.{FieldShows, FieldIsShown, entries_of};
+ghost use Rattle.world_engine.specs.FieldSteps.{Acts, IsFirstField, IsClosed};
 
 use crate::event_radio::{EventRadio, OrderRef};
 use air_log::{Air, Device, Entry, SentEntry, TunedEntry, WindowSum};
@@ -72,7 +72,7 @@ impl Field {
         radio: &mut EventRadio,
     ) -> Result<(), Memory>
         requires sent { (ended : Option SendingOf) × (option_copied sent ≡ sent_with event.now ended) }
-        requires shown { IsShown t self.old (Q.map orders.old) place }
+        requires shown { FieldIsShown t self.old (Q.map orders.old) place }
         requires time { IsTime self.old.medium t }
         requires early { t ≤ 2 ^ 45 }
         ensures { (ended : Option SendingOf) → option_copied sent.entry ≡ sent_with event.now ended
@@ -101,7 +101,7 @@ impl Field {
         t: u64,
         radio: &EventRadio,
     ) -> Result<(), Memory>
-        requires shown { IsShown t self.old (Q.map orders.old) place }
+        requires shown { FieldIsShown t self.old (Q.map orders.old) place }
         requires time { IsTime self.old.medium t }
         requires timely { All IsTimely radio.now.given }
         ensures { OnOk result (Acts t place (λ s d. fold (obeyed (C.readings clock.now) s.id t) d radio.now.given) [] [] self.old (Q.map orders.old) self.new
@@ -124,7 +124,7 @@ impl Field {
         t: u64,
         order: OrderRef<'_>,
     ) -> Result<(), Memory>
-        requires shown { IsShown t self.old (Q.map orders.old) place }
+        requires shown { FieldIsShown t self.old (Q.map orders.old) place }
         requires time { IsTime self.old.medium t }
         requires timely { IsTimely (order_of order) }
         ensures { OnOk result (Acts t place (λ s d. obeyed (C.readings clock.now) s.id t d (order_of order.entry)) [] [] self.old (Q.map orders.old) self.new
@@ -165,10 +165,10 @@ impl Field {
         t: u64,
         radio: &mut EventRadio,
     ) -> Result<(), Memory>
-        requires shown { IsShown t self.old (Q.map orders.old) place }
+        requires shown { FieldIsShown t self.old (Q.map orders.old) place }
         requires time { IsTime self.old.medium t }
         requires early { t ≤ 2 ^ 45 }
-        requires ends { (s : Setup) (d : DeviceOf) → Shows s t self.old (Q.map orders.old) place d
+        requires ends { (s : Setup) (d : DeviceOf) → FieldShows s t self.old (Q.map orders.old) place d
             → IsAlarmRun (C.readings clock.now) s t d (alarmed (C.readings clock.now) s t d) }
         ensures { OnOk result (Acts t place (λ s d. alarmed (C.readings clock.now) s t d) [] [] self.old (Q.map orders.old) self.new (Q.map orders.new)) }
     {
@@ -190,12 +190,12 @@ impl Field {
         place: u8,
         t: u64,
     ) -> Result<(), Memory>
-        requires shown { IsShown t self.old (Q.map orders.old) place }
+        requires shown { FieldIsShown t self.old (Q.map orders.old) place }
         requires time { IsTime self.old.medium t }
         requires early { t ≤ 2 ^ 45 }
         requires stands { at (Q.map orders.old) place StartOf ≡ Some t }
         ensures { OnOk result ((begun : List SendingOf) × Acts t place (λ s d. begun_at s t d) begun [] self.old (Q.map orders.old) self.new (Q.map orders.new)
-            × ((s : Setup) (d : DeviceOf) → Shows s t self.old (Q.map orders.old) place d → begun ≡ starting s t d)) }
+            × ((s : Setup) (d : DeviceOf) → FieldShows s t self.old (Q.map orders.old) place d → begun ≡ sendings_starting s t d)) }
     {
         orders.clear(place, Class::SendingStart);
         let device = &mut self.devices[usize::from(place)];
@@ -215,9 +215,9 @@ impl Field {
 
     // Whether the alarm of the device at the place is due at tick t; it is not set any more then.
     fn take_alarm<Q: Orders>(&mut self, orders: &mut Q, place: u8, t: u64) -> bool
-        requires shown { IsShown t self.old (Q.map orders.old) place }
+        requires shown { FieldIsShown t self.old (Q.map orders.old) place }
         requires time { IsTime self.old.medium t }
-        ensures due { (s : Setup) (d : DeviceOf) → Shows s t self.old (Q.map orders.old) place d → result ≡ is_due t d.alarm }
+        ensures due { (s : Setup) (d : DeviceOf) → FieldShows s t self.old (Q.map orders.old) place d → result ≡ alarm_is_due t d.alarm }
         ensures taken { result ≡ true → Acts t place (λ s d. record d { alarm = None }) [] [] self.old (Q.map orders.old) self.new (Q.map orders.new) }
         ensures stays { result ≡ false → (self.new ≡ self.old) × (Q.map orders.new ≡ Q.map orders.old) }
     {

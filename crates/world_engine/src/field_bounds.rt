@@ -1,11 +1,11 @@
 //! A field at the beginning and at the end of a run.
 
 ghost use Rattle.std.specs.Prelude.{◌≡◌, ◌≤◌, ◌<◌, ◌^◌, ℕ, List, [], OnOk, IfOk, length, map, replicate, slice_get, Some, Contains};
-ghost use Rattle.world_engine.specs.Fields.{IsShown, ids_of};
-ghost use Rattle.world_engine.specs.FieldSteps.{IsFirst, IsClosed, GoesSilent, first_device, node_id, nothing_counted};
+ghost use Rattle.world_engine.specs.Fields.{FieldIsShown, ids_of};
+ghost use Rattle.world_engine.specs.FieldSteps.{IsFirstField, IsClosed, GoesSilent, first_device, node_id, nothing_counted};
 ghost use Rattle.event_calendar.specs.Orders.{Due as DueOf};
 ghost use Rattle.air_log.specs.LogText.{in_order};
-ghost use Rattle.air_log.specs.Deliveries.{comes_before};
+ghost use Rattle.air_log.specs.Deliveries.{delivery_comes_before};
 
 use crate::deliveries::sort_deliveries;
 use crate::field::Field;
@@ -20,7 +20,7 @@ use std::mem;
 impl Field {
     // All nodes are off, and nothing has happened.
     pub(crate) fn new(alloc: Global, s: &Scenario) -> Result<Field, Memory>
-        ensures { IfOk result (λ w. IsFirst s.now w) }
+        ensures { IfOk result (λ w. IsFirstField s.now w) }
     {
         let profile = s.profile();
         let nodes = node_ids(alloc, s.nodes())?;
@@ -37,7 +37,8 @@ impl Field {
 
     // At the end of the run, tick t, all tunings end.
     pub(crate) fn close(&mut self, t: u64) -> Result<(), Memory>
-        ensures { (due : List DueOf) → ((q : ℕ) → q < length self.old.devices → IsShown t self.old due q) → OnOk result (IsClosed t self.old due self.new) }
+        ensures { (due : List DueOf) → ((q : ℕ) → q < length self.old.devices → FieldIsShown t self.old due q)
+            → OnOk result (IsClosed t self.old due self.new) }
     {
         for place in 0..self.devices.as_slice().len() {
             self.close_one(place, t)?;
@@ -59,7 +60,7 @@ impl Field {
 
     // The deliveries, in the order in which a report has them. None stay in the field.
     pub(crate) fn take_deliveries(&mut self, alloc: Global) -> Result<Vec<Delivery>, Memory>
-        ensures taken { IfOk result (λ v. v.items ≡ in_order comes_before self.old.deliveries) }
+        ensures taken { IfOk result (λ v. v.items ≡ in_order delivery_comes_before self.old.deliveries) }
         ensures rest { self.new ≡ record self.old { deliveries = [] } }
     {
         let mut deliveries = mem::replace(&mut self.deliveries, Vec::new(alloc));

@@ -8,9 +8,9 @@ ghost use Rattle.radio_model.specs.Holding.{Holds};
 ghost use Rattle.radio_model.specs.Stations.{IsTime, Ends, nodes_of};
 ghost use Rattle.radio_model.specs.declared.sending.Sending.{Sending as SendingOf};
 ghost use Rattle.air_log.specs.Devices.{Device as DeviceOf};
-ghost use Rattle.world_engine.specs.Fields.{Shows, IsShown, ids_of};
-ghost use Rattle.world_engine.specs.FieldHearings.{ArePlaces, AllHear};
-ghost use Rattle.world_engine.specs.FieldSteps.{EndsSending, Sends, readings_at};
+ghost use Rattle.world_engine.specs.Fields.{FieldShows, FieldIsShown, ids_of};
+ghost use Rattle.world_engine.specs.FieldHearings.{StandAtPlaces, AllHear};
+ghost use Rattle.world_engine.specs.FieldSteps.{EndsSending, DeviceSends, readings_at};
 
 use crate::event_radio::EventRadio;
 use crate::field::Field;
@@ -34,14 +34,14 @@ impl Field {
         radio: &mut EventRadio,
     ) -> Result<(), Memory>
         requires within { place < length self.old.devices }
-        requires shown { (q : ℕ) → q < length self.old.devices → IsShown t self.old (Q.map orders.old) q }
+        requires shown { (q : ℕ) → q < length self.old.devices → FieldIsShown t self.old (Q.map orders.old) q }
         requires time { IsTime self.old.medium t }
         requires early { t ≤ 2 ^ 45 }
         requires seal { M.nodes links.now ≡ nodes_of self.old.medium }
         requires held { (a : Scene) × Holds self.old.medium a × (a.lines ≡ M.lines links.now) }
         requires clocks { length clocks.now ≡ length self.old.devices }
-        requires ends { (s : Setup) (d : DeviceOf) → Shows s t self.old (Q.map orders.old) place d → Ends self.old.medium s.id t }
-        ensures { (x : SendingOf) → Sends t self.old (Q.map orders.old) place x
+        requires ends { (s : Setup) (d : DeviceOf) → FieldShows s t self.old (Q.map orders.old) place d → Ends self.old.medium s.id t }
+        ensures { (x : SendingOf) → DeviceSends t self.old (Q.map orders.old) place x
             → OnOk result ((hearers : List ℕ) × EndsSending (M.lines links.now) (readings_at C.readings clocks.now) t place x hearers self.old
             (Q.map orders.old) self.new (Q.map orders.new)) }
     {
@@ -74,11 +74,11 @@ impl Field {
     ) -> Result<(), Memory>
         requires nodes { All (λ p. Contains (ids_of self.old) p.0) hearers.now }
         requires ascending { AllPairs (λ p q. p.0 < q.0) hearers.now }
-        requires shown { (q : ℕ) → q < length self.old.devices → IsShown x.now.end self.old (Q.map orders.old) q }
+        requires shown { (q : ℕ) → q < length self.old.devices → FieldIsShown x.now.end self.old (Q.map orders.old) q }
         requires time { IsTime self.old.medium x.now.end }
         requires early { x.now.end ≤ 2 ^ 45 }
         requires clocks { length clocks.now ≡ length self.old.devices }
-        ensures { OnOk result ((places : List ℕ) × ArePlaces (ids_of self.old) (map (λ p. p.0) hearers.now) places
+        ensures { OnOk result ((places : List ℕ) × StandAtPlaces (ids_of self.old) (map (λ p. p.0) hearers.now) places
             × AllHear (readings_at C.readings clocks.now) x.now.end x.now places self.old (Q.map orders.old) self.new (Q.map orders.new)) }
     {
         let heard = Event::Heard(x.packet.copy());
@@ -100,7 +100,7 @@ impl Field {
         heard: &Event,
         radio: &mut EventRadio,
     ) -> Result<(), Memory>
-        requires shown { IsShown x.now.end self.old (Q.map orders.old) place }
+        requires shown { FieldIsShown x.now.end self.old (Q.map orders.old) place }
         requires time { IsTime self.old.medium x.now.end }
         requires early { x.now.end ≤ 2 ^ 45 }
         requires heard { heard.now ≡ HeardOf x.now.packet }

@@ -7,10 +7,10 @@ ghost use Rattle.scenario_text.specs.ScenarioFacts.{IsAct};
 ghost use Rattle.scenario_text.specs.declared.script.Act.TheVariants.{On as OnOf, Off as OffOf, Put as PutOf};
 ghost use Rattle.radio_model.specs.Stations.{IsTime};
 ghost use Rattle.air_log.specs.Devices.{Device as DeviceOf};
-ghost use Rattle.air_log.specs.ScriptedDevices.{after_act};
+ghost use Rattle.air_log.specs.ScriptedDevices.{device_after_act};
 ghost use Rattle.air_log.specs.DeviceStates.{DeviceState as DeviceStateOf, CanBoot};
-ghost use Rattle.world_engine.specs.Fields.{Shows, IsShown};
-ghost use Rattle.world_engine.specs.FieldSteps.{Acts, IsTold};
+ghost use Rattle.world_engine.specs.Fields.{FieldShows, FieldIsShown};
+ghost use Rattle.world_engine.specs.FieldSteps.{Acts, TakesLine};
 
 use crate::event_radio::EventRadio;
 use crate::field::Field;
@@ -31,13 +31,13 @@ impl Field {
         line: &ScriptLine,
         radio: &mut EventRadio,
     ) -> Result<(), Memory>
-        requires shown { IsShown t self.old (Q.map orders.old) place }
+        requires shown { FieldIsShown t self.old (Q.map orders.old) place }
         requires time { IsTime self.old.medium t }
         requires early { t ≤ 2 ^ 45 }
-        requires node { (s : Setup) (d : DeviceOf) → Shows s t self.old (Q.map orders.old) place d → line.now.node ≡ s.id }
-        requires range { (s : Setup) (d : DeviceOf) → Shows s t self.old (Q.map orders.old) place d → IsAct s.profile line.now.act }
-        requires boots { (s : Setup) (d : DeviceOf) → Shows s t self.old (Q.map orders.old) place d → line.now.act ≡ OnOf → CanBoot d.power }
-        ensures { OnOk result (IsTold (C.readings clock.now) line.now t place line.now.act self.old (Q.map orders.old) self.new (Q.map orders.new)) }
+        requires node { (s : Setup) (d : DeviceOf) → FieldShows s t self.old (Q.map orders.old) place d → line.now.node ≡ s.id }
+        requires range { (s : Setup) (d : DeviceOf) → FieldShows s t self.old (Q.map orders.old) place d → IsAct s.profile line.now.act }
+        requires boots { (s : Setup) (d : DeviceOf) → FieldShows s t self.old (Q.map orders.old) place d → line.now.act ≡ OnOf → CanBoot d.power }
+        ensures { OnOk result (TakesLine (C.readings clock.now) line.now t place line.now.act self.old (Q.map orders.old) self.new (Q.map orders.new)) }
     {
         match &line.act {
             Act::On => self.switch_on(orders, clock, place, t, radio),
@@ -63,12 +63,13 @@ impl Field {
         t: u64,
         radio: &mut EventRadio,
     ) -> Result<(), Memory>
-        requires shown { IsShown t self.old (Q.map orders.old) place }
+        requires shown { FieldIsShown t self.old (Q.map orders.old) place }
         requires time { IsTime self.old.medium t }
         requires early { t ≤ 2 ^ 45 }
-        requires boots { (s : Setup) (d : DeviceOf) → Shows s t self.old (Q.map orders.old) place d → CanBoot d.power }
+        requires boots { (s : Setup) (d : DeviceOf) → FieldShows s t self.old (Q.map orders.old) place d → CanBoot d.power }
         ensures { (frame : ℕ) → OnOk result
-            (Acts t place (λ s d. after_act (C.readings clock.now) s t frame d OnOf d.power) [] [] self.old (Q.map orders.old) self.new (Q.map orders.new)) }
+            (Acts t place (λ s d. device_after_act (C.readings clock.now) s t frame d OnOf d.power) [] [] self.old (Q.map orders.old) self.new
+                (Q.map orders.new)) }
     {
         if self.devices[usize::from(place)].switch_on() {
             self.tell(orders, clock, place, t, &Event::Boot, None, radio)?;
@@ -78,10 +79,11 @@ impl Field {
 
     // Power goes off.
     fn switch_off<Q: Orders>(&mut self, orders: &mut Q, place: u8, t: u64) -> Result<(), Memory>
-        requires shown { IsShown t self.old (Q.map orders.old) place }
+        requires shown { FieldIsShown t self.old (Q.map orders.old) place }
         requires time { IsTime self.old.medium t }
         ensures { (clock : ℕ → ℕ) (frame : ℕ)
-            → OnOk result (Acts t place (λ s d. after_act clock s t frame d OffOf d.power) [] [] self.old (Q.map orders.old) self.new (Q.map orders.new)) }
+            → OnOk result
+                (Acts t place (λ s d. device_after_act clock s t frame d OffOf d.power) [] [] self.old (Q.map orders.old) self.new (Q.map orders.new)) }
     {
         let device = &mut self.devices[usize::from(place)];
         if !device.is_on() {
@@ -106,9 +108,9 @@ impl Field {
         requires within { place < length self.old.devices }
         requires stream { stream ≤ 3 }
         requires payload { (d : DeviceStateOf) → slice_get self.old.devices place ≡ Some d → length payload.now ≤ d.setup.profile.payload_max }
-        ensures { (clock : ℕ → ℕ) (t : ℕ) (due : List DueOf) → IsTime self.old.medium t → IsShown t self.old due place
-            → ((s : Setup) (d : DeviceOf) → Shows s t self.old due place d → line.now.node ≡ s.id)
-            → OnOk result (IsTold clock line.now t place (PutOf stream payload.now) self.old due self.new due) }
+        ensures { (clock : ℕ → ℕ) (t : ℕ) (due : List DueOf) → IsTime self.old.medium t → FieldIsShown t self.old due place
+            → ((s : Setup) (d : DeviceOf) → FieldShows s t self.old due place d → line.now.node ≡ s.id)
+            → OnOk result (TakesLine clock line.now t place (PutOf stream payload.now) self.old due self.new due) }
     {
         let device = &mut self.devices[usize::from(place)];
         if !device.put(stream, payload) {

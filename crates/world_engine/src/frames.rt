@@ -10,7 +10,7 @@ ghost use Rattle.air_log.specs.ClockLists.{clocks_by};
 ghost use Rattle.world_engine.specs.Counting.{TrailsStay, all_scans_before};
 ghost use Rattle.world_engine.specs.Moments.{Before, InLines, At};
 ghost use Rattle.world_engine.specs.Running.{IsRunning};
-ghost use Rattle.world_engine.specs.Frames.{told_before, IsCut, IsNextLine, IsPast};
+ghost use Rattle.world_engine.specs.Frames.{told_before, CountsScriptLinesBefore, IsNextLine, AllComeLater};
 
 use crate::event_radio::EventRadio;
 use crate::field::Field;
@@ -62,10 +62,10 @@ impl Field {
         requires sound { IsSoundScenario s.now }
         requires clocks { length clocks.now ≡ length s.now.nodes }
         requires frame { frame < s.now.frames }
-        requires first { IsCut s.now first frame }
+        requires first { CountsScriptLinesBefore s.now first frame }
         requires running { IsRunning s.now (clocks_by C.readings s.now.nodes clocks.now) (told_before s.now frame) (frame_start s.now frame) Before self.old
             (Q.map orders.old) }
-        ensures next { IfOk result (λ told. IsCut s.now told (frame + 1)) }
+        ensures next { IfOk result (λ told. CountsScriptLinesBefore s.now told (frame + 1)) }
         ensures told { OnOk result (IsRunning s.now (clocks_by C.readings s.now.nodes clocks.now) (told_before s.now (frame + 1)) (frame_start s.now frame)
             (InLines (told_before s.now (frame + 1))) self.new (Q.map orders.new)) }
         ensures running { OnOk result (IsRunning s.now (clocks_by C.readings s.now.nodes clocks.now) (told_before s.now (frame + 1)) (frame_start s.now frame)
@@ -154,7 +154,7 @@ impl Field {
         requires running { (told : List LineOf) × IsRunning s.now (clocks_by C.readings s.now.nodes clocks.now) told t (At class) self.old (Q.map orders.old) }
         ensures { (told : List LineOf) → IsRunning s.now (clocks_by C.readings s.now.nodes clocks.now) told t (At class) self.old (Q.map orders.old)
             → OnOk result (IsRunning s.now (clocks_by C.readings s.now.nodes clocks.now) told t (At class) self.new (Q.map orders.new)
-            × IsPast t class place (Q.map orders.new) × TrailsStay s.now (clocks_by C.readings s.now.nodes clocks.now) t self.old.air self.new.air) }
+            × AllComeLater t class place (Q.map orders.new) × TrailsStay s.now (clocks_by C.readings s.now.nodes clocks.now) t self.old.air self.new.air) }
     {
         match class {
             Class::SendingEnd => self.end_due(orders, s, clocks, t, place, radio),
@@ -180,7 +180,7 @@ impl Field {
         requires running { (told : List LineOf) × IsRunning s.now (clocks_by C.readings s.now.nodes clocks.now) told t (At EndOf) self.old (Q.map orders.old) }
         ensures { (told : List LineOf) → IsRunning s.now (clocks_by C.readings s.now.nodes clocks.now) told t (At EndOf) self.old (Q.map orders.old)
             → OnOk result (IsRunning s.now (clocks_by C.readings s.now.nodes clocks.now) told t (At EndOf) self.new (Q.map orders.new)
-            × IsPast t EndOf place (Q.map orders.new) × TrailsStay s.now (clocks_by C.readings s.now.nodes clocks.now) t self.old.air self.new.air) }
+            × AllComeLater t EndOf place (Q.map orders.new) × TrailsStay s.now (clocks_by C.readings s.now.nodes clocks.now) t self.old.air self.new.air) }
     {
         self.end(orders, s.trace(), clocks, place, t, radio)?;
         Ok(())
@@ -204,7 +204,7 @@ impl Field {
             × IsRunning s.now (clocks_by C.readings s.now.nodes clocks.now) told t (At AlarmOf) self.old (Q.map orders.old) }
         ensures { (told : List LineOf) → IsRunning s.now (clocks_by C.readings s.now.nodes clocks.now) told t (At AlarmOf) self.old (Q.map orders.old)
             → OnOk result (IsRunning s.now (clocks_by C.readings s.now.nodes clocks.now) told t (At AlarmOf) self.new (Q.map orders.new)
-            × IsPast t AlarmOf place (Q.map orders.new) × TrailsStay s.now (clocks_by C.readings s.now.nodes clocks.now) t self.old.air self.new.air) }
+            × AllComeLater t AlarmOf place (Q.map orders.new) × TrailsStay s.now (clocks_by C.readings s.now.nodes clocks.now) t self.old.air self.new.air) }
     {
         self.alarm(orders, &clocks[usize::from(place)], place, t, radio)?;
         Ok(())
@@ -227,7 +227,7 @@ impl Field {
             × IsRunning s.now (clocks_by C.readings s.now.nodes clocks.now) told t (At StartOf) self.old (Q.map orders.old) }
         ensures { (told : List LineOf) → IsRunning s.now (clocks_by C.readings s.now.nodes clocks.now) told t (At StartOf) self.old (Q.map orders.old)
             → OnOk result (IsRunning s.now (clocks_by C.readings s.now.nodes clocks.now) told t (At StartOf) self.new (Q.map orders.new)
-            × IsPast t StartOf place (Q.map orders.new) × TrailsStay s.now (clocks_by C.readings s.now.nodes clocks.now) t self.old.air self.new.air) }
+            × AllComeLater t StartOf place (Q.map orders.new) × TrailsStay s.now (clocks_by C.readings s.now.nodes clocks.now) t self.old.air self.new.air) }
     {
         self.begin(orders, place, t)?;
         Ok(())

@@ -6,7 +6,7 @@ ghost use Rattle.scenario_text.specs.FloodParts.{knows};
 ghost use Rattle.text_readers.specs.Faults.{first_fault, Refuses, RefusesBy};
 ghost use Rattle.scenario_text.specs.Network.{has_script_room, is_id as is_id_of};
 ghost use Rattle.scenario_text.specs.ScenarioGrammar.{line_fault, line_added, last_script_line, is_frame, in_script_order};
-ghost use Rattle.scenario_text.specs.ScenarioGrammar.{with_act, with_boot, is_on, boots_of};
+ghost use Rattle.scenario_text.specs.ScenarioGrammar.{with_act, with_boot, node_is_on, boots_of};
 ghost use Rattle.text_readers.specs.declared.fault.FaultKind.TheVariants.{Range, UnknownNode, Order, TooMany};
 ghost use Rattle.scenario_text.specs.declared.scenario_line.ScenarioLine.TheVariants.{On, Off, Stream, Leave, Put};
 
@@ -106,14 +106,14 @@ impl ScenarioDraft {
     }
 
     fn can_boot(&self, node: NodeId) -> bool
-        ensures { result ≡ (is_on self.now node || nat_lt (boots_of self.now node) 200) }
+        ensures { result ≡ (node_is_on self.now node || nat_lt (boots_of self.now node) 200) }
     {
         let id = usize::from(node.number());
         self.on[id] || self.boots[id] < 200
     }
 
     fn boot(&mut self, node: NodeId)
-        requires { (is_on self.old node || nat_lt (boots_of self.old node) 200) ≡ true }
+        requires { (node_is_on self.old node || nat_lt (boots_of self.old node) 200) ≡ true }
         ensures { self.new ≡ with_boot self.old node }
     {
         let id = usize::from(node.number());

@@ -2,7 +2,7 @@
 
 ghost use Rattle.std.specs.Prelude.{◌≡◌, ◌≤◌, if◌then◌else◌, Some, None, OnOk};
 ghost use Rattle.text_readers.specs.Faults.{Refuses};
-ghost use Rattle.scenario_text.specs.ScenarioGrammar.{line_fault, line_added, last_slot as last_slot_of, is_step};
+ghost use Rattle.scenario_text.specs.ScenarioGrammar.{line_fault, line_added, greatest_slot_of as last_slot_of, is_step};
 ghost use Rattle.scenario_text.specs.declared.scenario_line.ScenarioLine.TheVariants.{Lose, Cut, Capture};
 
 use super::ScenarioDraft;

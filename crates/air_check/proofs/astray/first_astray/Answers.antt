@@ -5,7 +5,7 @@ use Rattle.scenario_text.proofs.SoundScenarios.{sound}
 use Rattle.scenario_clocks.specs.StatedClocks.{scenario_clock}
 use Rattle.scenario_clocks.proofs.StatedDrift.{scenario_states}
 use Rattle.air_log.specs.declared.entry.Entry.{Entry}
-use Rattle.air_check.specs.NodeLogs.{AreLogsOf, log_by, nothing}
+use Rattle.air_check.specs.NodeLogs.{AreLogsOf, log_by, empty_node_log}
 use Rattle.air_check.proofs.IdsInOrder.{follows_at_zero, all_follow}
 use Rattle.air_check.proofs.astray.first_astray.Goals as goal
 
@@ -31,7 +31,7 @@ returns-then-not-branch-clause-astray c =
     let inside : l.id < length l.logs.items = omega (arith, l.invariant.ids, c.loop-id-test.true) in
     let logged : c.replace-log.result ≡ log_by c.args.air.now c.unwrap-node.result =
     c.replace-log.ensures.value ∙ c.index_mut.ensures.value
-    ∙ get_or_default l.logs.items l.id c.index_mut.result.now nothing inside
+    ∙ get_or_default l.logs.items l.id c.index_mut.result.now empty_node_log inside
     ∙ l.invariant.left l.id (omega arith)
     ∙ ap (log_by c.args.air.now) (sym same) in
     record {

@@ -2,7 +2,7 @@ use Rattle.std.proofs.Common.{◌≡◌, ◌∙◌, sym, subst, not, Bool, ◌�
 use Rattle.std.proofs.lemmas.List.{get_or_default}
 use Rattle.radio_model.specs.OnAir.{Sending}
 use Rattle.radio_model.specs.Receptions.{AreNear}
-use Rattle.air_check.specs.Flags.{IsDue}
+use Rattle.air_check.specs.Flags.{IsGivenAndMissing}
 use Rattle.air_check.specs.Verdicts.{IsGiven}
 use Rattle.air_check.proofs.DueOnes.{where_not, where_there}
 use Rattle.air_check.proofs.due.is_due.Goals as goal
@@ -34,7 +34,7 @@ returns-else-not-is_received c =
     let v = c.args.node in
     let k = c.args.place in
     let x = get_or sent k d in
-    subst (λ (b : Bool). IsDue s air hs v x (not b)) (sym c.if-not-is_received.false)
+    subst (λ (b : Bool). IsGivenAndMissing s air hs v x (not b)) (sym c.if-not-is_received.false)
     (where_there s air hs v x c.is_received.result
     (subst (λ (b : Bool). (b ≡ true) ↔ Contains hs (record { node = v; sending = x })) (sym c.is_received.ensures.value)
     (are.each k v d c.requires.place c.is_received.ensures.range))

@@ -2,7 +2,7 @@ use Rattle.std.proofs.Common.{◌≡◌, ℕ, get_or, inl, inr, sym, subst, refl
 use Rattle.std.proofs.lemmas.Bool.{cases_lt}
 use Rattle.scenario_clocks.specs.StatedClocks.{scenario_clock}
 use Rattle.radio_model.specs.OnAir.{Sending}
-use Rattle.air_log.specs.Entries.{IsHeard}
+use Rattle.air_log.specs.Entries.{HasHeardEntry}
 use Rattle.air_check.specs.Flags.{IsFirstOf}
 use Rattle.air_check.specs.Verdicts.{IsGiven}
 use Rattle.air_check.proofs.MissingOnes.{first_missing, all_there}
@@ -29,7 +29,7 @@ loop-k-preserved c =
       | inr not ↦
           let same : j ≡ k = omega (arith, below, not) in
           let heard = c.in_default.ensures air d is are w (subst (λ (n : ℕ). IsGiven s air w (get_or sent n d)) same given) in
-          subst (λ (n : ℕ). IsHeard air w (get_or sent n d)) (sym same) heard
+          subst (λ (n : ℕ). HasHeardEntry air w (get_or sent n d)) (sym same) heard
     ]
 
 pub returns-clause-none : goal.returns-clause-none

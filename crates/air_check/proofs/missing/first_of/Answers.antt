@@ -6,8 +6,8 @@ use Rattle.link_trace.specs.declared.lines.LinkLine.{LinkLine}
 use Rattle.radio_model.proofs.Members.{same_default}
 use Rattle.radio_model.specs.OnAir.{Sending}
 use Rattle.radio_model.specs.Receptions.{AreNear}
-use Rattle.air_log.specs.Entries.{hearings_of, IsHeard}
-use Rattle.air_check.specs.Flags.{IsDue}
+use Rattle.air_log.specs.Entries.{hearings_of, HasHeardEntry}
+use Rattle.air_check.specs.Flags.{IsGivenAndMissing}
 use Rattle.air_check.specs.Verdicts.{IsGiven}
 use Rattle.air_check.proofs.DueOnes.{missing_so, heard_so}
 use Rattle.air_check.proofs.MissingOnes.{least, link_to}
@@ -31,14 +31,15 @@ returns-then-is_due c =
     let y = c.index-x.result.now in
     let links = c.links_from-links.result.now in
     let link = c.link-item.result in
-    let due = subst (λ (b : Bool). IsDue s air (hearings_of air) link.to x b) c.if-is_due.true (c.is_due.ensures air (hearings_of air) d is are) in (
+    let due =
+        subst (λ (b : Bool). IsGivenAndMissing s air (hearings_of air) link.to x b) c.if-is_due.true (c.is_due.ensures air (hearings_of air) d is are) in (
       missing_so s air link.to x due,
       λ w m.
           let l = link_to s air w x y c.links.result.now links (c.links.ensures.value ∙ ap (λ (t : Lines). t.links) c.trace.ensures.value)
           c.links_from-links.ensures (c.index-x.ensures ∙ same_default sent k y d c.requires.place) m.given in
           subst (λ (z : ℕ). link.to ≤ z) l.2
           (least links c.loop-link.link-index link c.links_from-links.ensures.ascending c.loop-link-test.true c.link-item.is l.0 l.1
-          (λ early. m.absent (subst (λ (z : ℕ). IsHeard air z x) l.2
+          (λ early. m.absent (subst (λ (z : ℕ). HasHeardEntry air z x) l.2
           (c.loop-link.invariant air d is are l.0 early (subst (λ (z : ℕ). IsGiven s air z x) (sym l.2) m.given))))),
     )
 
@@ -50,13 +51,13 @@ loop-link-preserved c =
     let links = c.links_from-links.result.now in
     let link = c.link-item.result in
     let i = c.loop-link.link-index in
-    let due = subst (λ (b : Bool). IsDue s air (hearings_of air) link.to x b) c.if-is_due.false (c.is_due.ensures air (hearings_of air) d is are) in
+    let due = subst (λ (b : Bool). IsGivenAndMissing s air (hearings_of air) link.to x b) c.if-is_due.false (c.is_due.ensures air (hearings_of air) d is are) in
     let more : take (i + 1) links ≡ take i links ++ link ∷ [] =
     take_more links i link c.loop-link-test.true ∙ ap (λ (z : LinkLine). take i links ++ z ∷ []) (sym c.link-item.is) in
     elim (Contains-push_cases (take i links) link n (subst (λ (ls : List LinkLine). Contains ls n) more there)) [
       | inl early ↦ c.loop-link.invariant air d is are n early given
       | inr here ↦
-          subst (λ (z : LinkLine). IsHeard air z.to x) here
+          subst (λ (z : LinkLine). HasHeardEntry air z.to x) here
           (heard_so s air link.to x due (subst (λ (z : LinkLine). IsGiven s air z.to x) (sym here) given))
     ]
 
@@ -71,7 +72,7 @@ returns c =
     let links = c.links_from-links.result.now in
     let l = link_to s air w x y c.links.result.now links (c.links.ensures.value ∙ ap (λ (t : Lines). t.links) c.trace.ensures.value)
     c.links_from-links.ensures (c.index-x.ensures ∙ same_default sent k y d c.requires.place) given in
-    subst (λ (z : ℕ). IsHeard air z x) l.2
+    subst (λ (z : ℕ). HasHeardEntry air z x) l.2
     (c.loop-link.invariant air d is are l.0
     (subst (λ (ls : List LinkLine). Contains ls l.0) (sym (take_all c.loop-link.link-index links c.loop-link-test.false)) l.1)
     (subst (λ (z : ℕ). IsGiven s air z x) (sym l.2) given))

@@ -4,7 +4,7 @@ use Rattle.std.specs.Vec.{vec_len}
 use Rattle.scenario_clocks.specs.StatedClocks.{scenario_clock}
 use Rattle.air_log.specs.DeviceStates.{tuning_of}
 use Rattle.air_log.specs.Lawful.{sent_by, tuned_by}
-use Rattle.air_log.specs.TrailsTold.{sending_of}
+use Rattle.air_log.specs.TrailsTold.{sending_of_entry}
 use Rattle.air_check.specs.NodeLogs.{NodeLogState}
 use Rattle.air_check.specs.Verdicts.{FollowsTrail}
 use Rattle.air_check.proofs.OwnTrails.{none_mapped, by_no_sent, by_no_tuned}
@@ -19,7 +19,7 @@ returns-after-is_empty c = λ air logged.
     let long : length c.log.inside.sent.items ≡ vec_len c.log.inside.sent = search rules in
     let sent : Decides c.is_empty.result (sent_by air v ≡ []) =
     subst (λ (n : NodeLogState). Decides c.is_empty.result (n.sent ≡ [])) own
-    (none_mapped sending_of c.log.inside.sent.items (vec_len c.log.inside.sent) c.is_empty.result long c.is_empty.ensures) in
+    (none_mapped sending_of_entry c.log.inside.sent.items (vec_len c.log.inside.sent) c.is_empty.result long c.is_empty.ensures) in
     elim c.if-is_empty.branch [
       | then-is_empty w ↦
           (let long : length c.log.inside.tuned.items ≡ vec_len c.log.inside.tuned = search rules in

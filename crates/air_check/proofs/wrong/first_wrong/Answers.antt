@@ -2,7 +2,7 @@ use Rattle.std.proofs.Common.{◌≡◌, ◌+◌, ◌++◌, ◌∷◌, [], take,
 use Rattle.std.proofs.lemmas.List.{take_more}
 use Rattle.air_log.specs.declared.entry.Entry.{Entry}
 use Rattle.air_log.specs.Entries.{hearings_of}
-use Rattle.air_check.specs.Flags.{AreFlags, GoesOn}
+use Rattle.air_check.specs.Flags.{AreFlags, IsRightNext}
 use Rattle.air_check.specs.Verdicts.{AreGiven}
 use Rattle.air_check.proofs.RightEntries.{wrong_at}
 use Rattle.air_check.proofs.wrong.first_wrong.Goals as goal
@@ -15,7 +15,7 @@ returns-then-not-is_right-clause-some c =
     let e = c.entry_at.result.now in
     let sent = c.args.index.now.sent.items in
     wrong_at s air i e (omega (arith, c.loop-i-test.true, c.len-i-end.ensures)) c.entry_at.ensures c.loop-i.invariant.right
-    (subst (λ (b : Bool). GoesOn s air sent (take i air) e c.is_right.new.flags.items b) c.if-not-is_right.true
+    (subst (λ (b : Bool). IsRightNext s air sent (take i air) e c.is_right.new.flags.items b) c.if-not-is_right.true
     (c.is_right.ensures air (take i air) c.requires.holds c.loop-i.invariant.flags))
 
 pub loop-i-preserved : goal.loop-i-preserved
@@ -25,7 +25,7 @@ loop-i-preserved c =
     let i = c.loop-i.i in
     let e = c.entry_at.result.now in
     let sent = c.args.index.now.sent.items in
-    let goes = subst (λ (b : Bool). GoesOn s air sent (take i air) e c.is_right.new.flags.items b) c.if-not-is_right.false
+    let goes = subst (λ (b : Bool). IsRightNext s air sent (take i air) e c.is_right.new.flags.items b) c.if-not-is_right.false
     (c.is_right.ensures air (take i air) c.requires.holds c.loop-i.invariant.flags) in
     let more : take (i + 1) air ≡ take i air ++ e ∷ [] =
     take_more air i e (omega (arith, c.loop-i-test.true, c.len-i-end.ensures)) ∙ ap (λ (x : Entry). take i air ++ x ∷ []) (sym c.entry_at.ensures) in

@@ -1,7 +1,7 @@
 use Rattle.std.proofs.Common.{◌≡◌, ◌++◌, ◌∷◌, [], Contains, inl, get_or, ap, sym, subst, ◌∙◌, Bool, List, true, false}
 use Rattle.radio_model.specs.OnAir.{Sending}
 use Rattle.air_log.specs.Courses.{hearing_of}
-use Rattle.air_check.specs.Flags.{AreFlags, IsDue}
+use Rattle.air_check.specs.Flags.{AreFlags, IsGivenAndMissing}
 use Rattle.air_check.proofs.wrong.take_in.Goals as goal
 
 pub returns-in_default : goal.returns-in_default
@@ -19,8 +19,8 @@ returns-then-not-is_due c =
     let k = c.in-Some.k in
     let at : get_or sent k h.sending ≡ h.sending =
     ap (λ (xs : List Sending). get_or xs k h.sending) (sym c.deref.ensures.value) ∙ c.in-Some.ensures.some.1 h.sending in
-    subst (λ (x : Sending). IsDue s air hs h.node x false) at
-    (subst (λ (b : Bool). IsDue s air hs h.node (get_or sent k h.sending) b) c.if-not-is_due.true
+    subst (λ (x : Sending). IsGivenAndMissing s air hs h.node x false) at
+    (subst (λ (b : Bool). IsGivenAndMissing s air hs h.node (get_or sent k h.sending) b) c.if-not-is_due.true
     (c.is_due.ensures air hs h.sending is (subst (λ (fs : List Bool). AreFlags sent hs fs) (sym c.deref-2.ensures.value) are)))
 
 pub returns : goal.returns
@@ -32,8 +32,8 @@ returns c =
     let k = c.in-Some.k in
     let at : get_or sent k h.sending ≡ h.sending =
     ap (λ (xs : List Sending). get_or xs k h.sending) (sym c.deref.ensures.value) ∙ c.in-Some.ensures.some.1 h.sending in
-    let due = subst (λ (x : Sending). IsDue s air hs h.node x true) at
-    (subst (λ (b : Bool). IsDue s air hs h.node (get_or sent k h.sending) b) c.if-not-is_due.false
+    let due = subst (λ (x : Sending). IsGivenAndMissing s air hs h.node x true) at
+    (subst (λ (b : Bool). IsGivenAndMissing s air hs h.node (get_or sent k h.sending) b) c.if-not-is_due.false
     (c.is_due.ensures air hs h.sending is (subst (λ (fs : List Bool). AreFlags sent hs fs) (sym c.deref-2.ensures.value) are))) in (
       subst (λ (xs : List Sending). AreFlags xs (hs ++ h ∷ []) c.receive.new.flags.items) c.deref-3.ensures.value
           (c.receive.ensures hs (subst (λ (xs : List Sending). AreFlags xs hs c.args.flags.now.items) (sym c.deref-3.ensures.value) are)),

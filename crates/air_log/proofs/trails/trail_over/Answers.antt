@@ -6,7 +6,7 @@ use Rattle.bus_rules.specs.declared.tune.Tune.{Tune}
 use Rattle.air_log.specs.declared.entry.HeardEntry.{HeardEntry}
 use Rattle.air_log.specs.Lawful.{by_end, reception_of}
 use Rattle.air_log.specs.Trails.{setup_of, frame_start, at_frame, before_tick}
-use Rattle.air_log.specs.Courses.{Shows, Ascends, IsCut, end_of, reception_in, hearing_of}
+use Rattle.air_log.specs.Courses.{CourseShows, IsSortedByKey, IsSplitByKey, end_of_reception, reception_in, hearing_of}
 use Rattle.air_log.proofs.FramesOfCourses.{tick_of}
 use Rattle.air_log.proofs.TrailsOfCourses.{IsAtFrame, begins, after_lines_shows, tunes_more, scanned_more, tune_in, told_is}
 use Rattle.air_log.proofs.trails.trail_over.Goals as goal
@@ -39,11 +39,12 @@ pub frame-requires-clause-sound : goal.frame-requires-clause-sound
 frame-requires-clause-sound g c = sound c.args.s.now c.profile.ensures.said
 
 pub frame-requires-clause-ascends : goal.frame-requires-clause-ascends
-frame-requires-clause-ascends g c = subst (λ (hs : List HeardEntry). Ascends end_of hs) (sym c.as_slice.ensures.value) c.in_ok-heard.ensures.ascends
+frame-requires-clause-ascends g c =
+    subst (λ (hs : List HeardEntry). IsSortedByKey end_of_reception hs) (sym c.as_slice.ensures.value) c.in_ok-heard.ensures.ascends
 
 pub frame-requires-clause-cut : goal.frame-requires-clause-cut
 frame-requires-clause-cut g c =
-    subst (λ (hs : List HeardEntry). IsCut end_of hs c.loop-frame.next (frame_start c.args.s.now c.loop-frame.frame))
+    subst (λ (hs : List HeardEntry). IsSplitByKey end_of_reception hs c.loop-frame.next (frame_start c.args.s.now c.loop-frame.frame))
     (sym c.as_slice.ensures.value) c.loop-frame.invariant.hearings
 
 pub frame-requires-clause-shown : goal.frame-requires-clause-shown
@@ -52,7 +53,7 @@ frame-requires-clause-shown g c =
     let s = c.args.s.now in
     let l = c.loop-frame in (
       c.args.node,
-      subst (λ (hs : List HeardEntry). Shows (setup_of s c.args.node) (frame_start s l.frame) c.lines.new.self
+      subst (λ (hs : List HeardEntry). CourseShows (setup_of s c.args.node) (frame_start s l.frame) c.lines.new.self
           (at_frame s c.args.node clock (map reception_in hs) l.frame)) (sym c.as_slice.ensures.value)
           (after_lines_shows clock s c.args.node c.in_ok-heard.heard.items l.frame l.told l.next l.tunes.items l.scanned l.course c.lines.new.self l.invariant
           c.in_ok-told.ensures.goes),
@@ -65,18 +66,19 @@ loop-frame-preserved g c =
     let l = c.loop-frame in
     let hs = c.in_ok-heard.heard.items in
     let value = c.as_slice.ensures.value in
-    let lined : Shows (setup_of s c.args.node) (frame_start s l.frame) c.lines.new.self (at_frame s c.args.node clock (map reception_in hs) l.frame) =
+    let lined : CourseShows (setup_of s c.args.node) (frame_start s l.frame) c.lines.new.self (at_frame s c.args.node clock (map reception_in hs) l.frame) =
     after_lines_shows clock s c.args.node hs l.frame l.told l.next l.tunes.items l.scanned l.course c.lines.new.self l.invariant c.in_ok-told.ensures.goes in
     let within : l.frame < s.frames = omega (arith, c.loop-frame-test.true, c.frames-frame-end.ensures.value) in
     let tune = tune_in clock s c.args.node hs l.frame c.lines.new.self within lined in
     record {
       lines = c.in_ok-told.ensures.cut;
-      hearings = subst (λ (xs : List HeardEntry). IsCut end_of xs c.in_ok-next.next (frame_start s (l.frame + 1))) value c.in_ok-next.ensures.cut;
+      hearings =
+          subst (λ (xs : List HeardEntry). IsSplitByKey end_of_reception xs c.in_ok-next.next (frame_start s (l.frame + 1))) value c.in_ok-next.ensures.cut;
       shows =
-          subst (λ (xs : List HeardEntry). Shows (setup_of s c.args.node) (frame_start s (l.frame + 1)) c.frame.new.self
+          subst (λ (xs : List HeardEntry). CourseShows (setup_of s c.args.node) (frame_start s (l.frame + 1)) c.frame.new.self
           (before_tick s c.args.node clock (map reception_in xs) (frame_start s (l.frame + 1)))) value
           (c.in_ok-next.ensures.shows c.args.node (subst
-          (λ (xs : List HeardEntry). Shows (setup_of s c.args.node) (frame_start s l.frame) c.lines.new.self
+          (λ (xs : List HeardEntry). CourseShows (setup_of s c.args.node) (frame_start s l.frame) c.lines.new.self
           (at_frame s c.args.node clock (map reception_in xs) l.frame)) (sym value) lined));
       power =
           c.in_ok-next.ensures.power ∙ c.in_ok-told.ensures.power

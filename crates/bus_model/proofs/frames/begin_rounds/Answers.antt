@@ -3,7 +3,7 @@ use Rattle.std.proofs.lemmas.List.{length-map}
 use Rattle.bus_terms.specs.Bus.{Cost}
 use Rattle.plain_bus.specs.Networks.{Network}
 use Rattle.plain_bus.proofs.SlotsMet.{put_back}
-use Rattle.bus_model.specs.FrameNodes.{begun}
+use Rattle.bus_model.specs.FrameNodes.{with_round_rank}
 use Rattle.bus_model.proofs.frames.begin_rounds.Goals as goal
 
 pub count_scans-requires-clause-nodes : goal.count_scans-requires-clause-nodes
@@ -21,8 +21,8 @@ returns-clause-nodes c =
     let olds : c.deref_mut-2.result.now ≡ c.args.net.now.nodes = c.deref_mut-2.ensures.value ∙ ap (λ (n : Network). n.nodes) c.net.view_is in
     let size : length c.net.inside.nodes.items ≡ c.net.inside.nodes.len = ap length (sym c.deref_mut-2.ensures.value) ∙ c.deref_mut-2.ensures.len in
     put_back c.net.inside.nodes.len c.begin_all.new.nodes c.net.inside.nodes.items size
-    (ap length c.begin_all.ensures ∙ length-map c.deref_mut-2.result.now begun ∙ ap length c.deref_mut-2.ensures.value)
-    ∙ c.begin_all.ensures ∙ ap (map begun) olds
+    (ap length c.begin_all.ensures ∙ length-map c.deref_mut-2.result.now with_round_rank ∙ ap length c.deref_mut-2.ensures.value)
+    ∙ c.begin_all.ensures ∙ ap (map with_round_rank) olds
 
 pub returns-clause-costs : goal.returns-clause-costs
 returns-clause-costs c s ranks states cost nodes costs =

@@ -5,7 +5,7 @@ use Rattle.bus_terms.specs.Bus.{state_at}
 use Rattle.bus_terms.specs.FloodOfText.{ids}
 use Rattle.plain_bus.specs.BusNodes.{ranks_in}
 use Rattle.scenario_text.proofs.SoundScenarios.{sound}
-use Rattle.bus_model.specs.FrameNodes.{begun, ended_at, frame_deliveries, nodes_with, prior_ranks}
+use Rattle.bus_model.specs.FrameNodes.{with_round_rank, ended_at, frame_deliveries, nodes_with, prior_ranks}
 use Rattle.bus_model.specs.RoundCosts.{cost_after, with_scan}
 use Rattle.bus_model.proofs.FramesInTurn.{nodes_begun, nodes_ended, costs_more, delivered_more, power_next, all_few, ready_begun, ready_ended}
 use Rattle.bus_terms.proofs.KeptRanks.{hosted}
@@ -52,7 +52,7 @@ returns-clause-at c =
     let ends = c.end_frame.ensures in
     let in_rank = hosted s (sound s told.said) f in
     let first : c.tell_lines.new.net.costs ≡ map (cost_after s f) (ids s.nodes) = told.rest.0 ∙ c.requires.at.costs_are in
-    let begun_nodes : c.begin_rounds.new.net.nodes ≡ nodes_with s (ranks_in st) st = begins.nodes ∙ ap (map begun) told.nodes
+    let begun_nodes : c.begin_rounds.new.net.nodes ≡ nodes_with s (ranks_in st) st = begins.nodes ∙ ap (map with_round_rank) told.nodes
     ∙ nodes_begun s f (prior_ranks s f) st in
     let scanned : c.begin_rounds.new.net.costs ≡ map (λ (v : ℕ). with_scan (st v) (cost_after s f v)) (ids s.nodes) =
     begins.costs s (prior_ranks s f) st (cost_after s f) told.nodes first in

@@ -9,7 +9,7 @@ use Rattle.bus_rules.specs.States.{State}
 use Rattle.bus_terms.specs.FloodOfText.{ids}
 use Rattle.bus_terms.specs.Rounds.{after_round, round_plan, slot_deliveries, slots_of}
 use Rattle.plain_bus.specs.BusNodes.{nodes_in, ranks_in}
-use Rattle.plain_bus.specs.Leaders.{parts_of}
+use Rattle.plain_bus.specs.Leaders.{slot_parts}
 use Rattle.plain_bus.specs.Networks.{Network}
 use Rattle.bus_model.proofs.RanksInTurn.{led_some, led_none, with_plan, no_round}
 use Rattle.bus_model.proofs.SlotsInTurn.{ready_more}
@@ -19,12 +19,12 @@ abbrev items_of : Option (Vec Part Global) → Option (List Part)
 items_of o = option_map {T = Vec Part Global} {U = List Part} (λ x. x.items) o
 
 module _ (c : goal.After-drop-parts) (start others : ℕ → State) (olds : c.args.net.now.nodes ≡ nodes_in c.args.s.now c.args.rank start start others) where
-  led : (p : Plan) × (round_plan c.args.s.now c.args.rank c.args.frame start ≡ Some p) × (c.in-Some.parts.items ≡ parts_of p)
+  led : (p : Plan) × (round_plan c.args.s.now c.args.rank c.args.frame start ≡ Some p) × (c.in-Some.parts.items ≡ slot_parts p)
   led = led_some (round_plan c.args.s.now c.args.rank c.args.frame start) c.in-Some.parts.items
       (ap items_of (sym c.in-Some.is)
       ∙ c.in_ok-parts.ensures.parts c.args.s.now start others (c.deref.ensures.value ∙ ap (λ (n : Network). n.nodes) c.net.view_is ∙ olds))
 
-  parts_are : c.deref-in-Some.result.now ≡ parts_of led.0
+  parts_are : c.deref-in-Some.result.now ≡ slot_parts led.0
   parts_are = c.deref-in-Some.ensures.value ∙ led.2
 
 pub returns-in-Some-clause-ready : goal.returns-in-Some-clause-ready

@@ -4,7 +4,7 @@ use Rattle.std.specs.List.{range_with_len}
 use Rattle.bus_rules.specs.declared.delivery.Delivery.{Delivery}
 use Rattle.bus_rules.specs.States.{State}
 use Rattle.bus_terms.specs.FloodOfText.{ids}
-use Rattle.bus_terms.specs.Rounds.{round, round_deliveries}
+use Rattle.bus_terms.specs.Rounds.{round_of_rank, round_deliveries}
 use Rattle.plain_bus.specs.BusNodes.{nodes_in, ranks_in}
 use Rattle.bus_model.specs.FrameNodes.{nodes_with, run_below}
 use Rattle.bus_model.specs.RoundCosts.{cost_below, with_round}
@@ -40,7 +40,7 @@ loop-rank-preserved c =
       ready = λ m is. ready_more s f (m + r * 46 + 46) (m + (r + 1) * 46) c.run_round.new.net (omega arith) (ran.ready (m + r * 46) (inv.ready m is));
       nodes_are = λ start olds.
           ran.nodes start (run_below s f start r) (enter start olds)
-          ∙ ap (λ (k : ℕ). nodes_in s k start (round s k f start) (run_below s f start r)) own ∙ leaves s f start r;
+          ∙ ap (λ (k : ℕ). nodes_in s k start (round_of_rank s k f start) (run_below s f start r)) own ∙ leaves s f start r;
       delivered = λ start olds.
           (let first = c.args.net.now.deliveries in
           let said : ℕ → List Delivery = λ rank. round_deliveries s rank f start in

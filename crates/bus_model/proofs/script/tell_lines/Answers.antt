@@ -14,7 +14,7 @@ use Rattle.bus_terms.specs.ScriptedStates.{lost_by}
 use Rattle.plain_bus.specs.BusNodes.{BusNode, bus_node, IsEarlyState, MayDo}
 use Rattle.plain_bus.specs.SlotCosts.{IsBelow}
 use Rattle.plain_bus.proofs.SlotsMet.{ids_ascend, ids_each}
-use Rattle.bus_model.specs.FrameNodes.{IsCut, nodes_with, power, prior_ranks, told, told_at}
+use Rattle.bus_model.specs.FrameNodes.{CountsLinesBefore, nodes_with, power, prior_ranks, node_after_line, told_at}
 use Rattle.bus_model.proofs.LinesTold.{none_told, all_told, node_told, power_told, lost_more}
 use Rattle.bus_model.proofs.LinesAllowed.{line_act, line_known, may_do, act_early, later_lines}
 use Rattle.bus_model.proofs.script.tell_lines.Goals as goal
@@ -136,7 +136,7 @@ loop-next-preserved c =
             ap (λ (m : ScriptLine). m.frame) (ap (λ (j : ℕ). get_or s.script j e) (sym same) ∙ get_or_default s.script n e l below ∙ sym at) ∙ is)
       ];
       have = power_told s f n l below at is inv.have;
-      nodes_are = here.0 ∙ ap (λ (ns : List BusNode). set ns i (told l (get_or ns i d))) inv.nodes_are
+      nodes_are = here.0 ∙ ap (λ (ns : List BusNode). set ns i (node_after_line l (get_or ns i d))) inv.nodes_are
           ∙ node_told s f (prior_ranks s f) n l below at is (ids_ascend s (sound s c.script-script.ensures.said) (ids s.nodes) refl) i near own d;
       lost = here.1 ∙ ap (λ (ds : List DropLine). ds ++ option_to_list (lost_by l l.act (get_or c.loop-next.net.nodes i d).state)) inv.lost
           ∙ ap (λ (x : BusNode). drops_below s [] (take n s.script) ++ option_to_list (lost_by l l.act x.state)) node
@@ -145,10 +145,10 @@ loop-next-preserved c =
           (let old = inv.ready m first in
           record {
             ids_are = ran.rest.0 ∙ old.ids_are;
-            nodes_each = ap length here.0 ∙ length-set c.loop-next.net.nodes i (told l (get_or c.loop-next.net.nodes i d)) ∙ old.nodes_each;
+            nodes_each = ap length here.0 ∙ length-set c.loop-next.net.nodes i (node_after_line l (get_or c.loop-next.net.nodes i d)) ∙ old.nodes_each;
             costs_each = ap length ran.rest.1 ∙ old.costs_each;
             early = subst (λ (ns : List BusNode). All (λ (x : BusNode). IsEarlyState f x.state) ns) (sym here.0)
-                (All-set (λ (x : BusNode). IsEarlyState f x.state) c.loop-next.net.nodes i (told l (get_or c.loop-next.net.nodes i d))
+                (All-set (λ (x : BusNode). IsEarlyState f x.state) c.loop-next.net.nodes i (node_after_line l (get_or c.loop-next.net.nodes i d))
                 (act_early f l.act (get_or c.loop-next.net.nodes i d).state (old.early i d (omega (arith, near, old.nodes_each, ids_each s)))) old.early);
             room = subst (λ (cs : List Cost). All (IsBelow m) cs) (sym ran.rest.1) old.room;
           });
@@ -168,7 +168,7 @@ module _ (c : goal.After-loop-next) where
   counted = ap length c.script-script.ensures.value ∙ sym over
 
 pub returns-clause-cut : goal.returns-clause-cut
-returns-clause-cut c = subst (IsCut c.args.s.now.script (c.args.frame + 1)) (sym (counted c)) (record {
+returns-clause-cut c = subst (CountsLinesBefore c.args.s.now.script (c.args.frame + 1)) (sym (counted c)) (record {
   within = c.loop-next.invariant.upto;
   before = λ i d low. elim (cases_lt i c.args.from) [
     | inl early ↦ (let before = c.requires.cut.before i d early in omega (arith, before))

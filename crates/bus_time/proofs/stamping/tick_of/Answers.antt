@@ -1,7 +1,7 @@
 use Rattle.std.proofs.Common.{◌≡◌, ℕ, ◌*◌, ◌-◌, sym, ◌∙◌, ap, arith, true≢false}
 use Rattle.lwb_base.specs.Profile.{Numbers, airtime}
 use Rattle.time_reference.specs.Reference.{heard_zero}
-use Rattle.radio_model.specs.Hearing.{frame_of}
+use Rattle.radio_model.specs.Hearing.{frame_of_sending}
 use Rattle.bus_time.proofs.StampTimes.{in_run, small_tick, small_reading, starts, frames, frame_begun}
 use Rattle.bus_time.proofs.StampTimes.{hosting, guest, word_in_run, has_reference, summed, small_nominal}
 use Rattle.bus_time.proofs.stamping.tick_of.Goals as goal
@@ -85,7 +85,7 @@ overflow_add-nominal-2 g c =
     let b = c.args.begun.now in
     let frame : c.frame.result ≡ p.frame = c.frame.ensures.value ∙ ap (λ (q : Numbers). q.frame) c.profile-profile.ensures.value in
     let lead : c.lead.result ≡ p.lead = c.lead.ensures.value ∙ ap (λ (q : Numbers). q.lead) c.profile-profile.ensures.value in
-    let product : b.frame * c.frame.result ≡ frame_of p x * p.frame = ap (λ (f : ℕ). b.frame * f) frame ∙ ap (λ (f : ℕ). f * p.frame) (frames
+    let product : b.frame * c.frame.result ≡ frame_of_sending p x * p.frame = ap (λ (f : ℕ). b.frame * f) frame ∙ ap (λ (f : ℕ). f * p.frame) (frames
     c.args.s.now clocks c.args.reading.now.present c.args.reading.now.ahead c.args.begun.now air x may) in
     let begun = frame_begun c.args.s.now clocks c.args.reading.now.present c.args.reading.now.ahead c.args.begun.now air x may in
     let within = in_run c.args.s.now clocks c.args.reading.now.present c.args.reading.now.ahead c.args.begun.now air x may in

@@ -2,7 +2,7 @@ use Rattle.std.proofs.Common.{◌≡◌, ◌++◌, ◌-◌, List, ap, sym, ◌�
 use Rattle.std.proofs.lemmas.Bool.{lt-ltb, le-ltb}
 use Rattle.std.proofs.lemmas.List.{append-nil, drop_all}
 use Rattle.deadline_plan.specs.declared.job.Job.{Job}
-use Rattle.deadline_plan.specs.Grants.{granted, left}
+use Rattle.deadline_plan.specs.Grants.{granted_jobs, jobs_left}
 use Rattle.deadline_plan.proofs.GrantSteps.{only_if, granted_more, left_more}
 use Rattle.deadline_plan.proofs.grants.grant.Goals as goal
 use Rattle.deadline_plan.proofs.grants.grant.Goals.{then-len-from, else-len-from}
@@ -31,16 +31,17 @@ loop-job-preserved c =
     }
 
 pub returns-clause-granted : goal.returns-clause-granted
-unfolding granted
+unfolding granted_jobs
 returns-clause-granted c =
     let l = c.loop-job in
     let none = drop_all l.job-index c.args.waiting.now (omega arith) in
-    sym (l.invariant.granted ∙ ap (λ (r : List Job). l.granted.items ++ granted (c.args.slots - length l.granted.items) c.args.frame r) none ∙ append-nil
+    sym (l.invariant.granted ∙ ap (λ (r : List Job). l.granted.items ++ granted_jobs (c.args.slots - length l.granted.items) c.args.frame r) none ∙ append-nil
     l.granted.items)
 
 pub returns-clause-left : goal.returns-clause-left
-unfolding left
+unfolding jobs_left
 returns-clause-left c =
     let l = c.loop-job in
     let none = drop_all l.job-index c.args.waiting.now (omega arith) in
-    sym (l.invariant.left ∙ ap (λ (r : List Job). l.left.items ++ left (c.args.slots - length l.granted.items) c.args.frame r) none ∙ append-nil l.left.items)
+    sym (l.invariant.left ∙ ap (λ (r : List Job). l.left.items ++ jobs_left (c.args.slots - length l.granted.items) c.args.frame r) none
+        ∙ append-nil l.left.items)

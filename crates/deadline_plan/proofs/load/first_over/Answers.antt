@@ -1,15 +1,15 @@
 use Rattle.std.proofs.Common.{◌≡◌, ◌+◌, ◌-◌, ◌*◌, ◌≤◌, ◌<◌, ℕ, arith, ap, sym, subst, ◌∙◌, length, get_or, List, rules, replicate}
 use Rattle.std.proofs.lemmas.List.{length-replicate, get_or-replicate}
 use Rattle.std.proofs.lemmas.List.Elements.{recursion_from_All}
-use Rattle.deadline_plan.specs.Jobs.{IsStream}
-use Rattle.deadline_plan.specs.Load.{span, IsLatestOver}
+use Rattle.deadline_plan.specs.Jobs.{IsDeadlineStream}
+use Rattle.deadline_plan.specs.Load.{sum_from, IsLatestOver}
 use Rattle.deadline_plan.proofs.ReleasedCounts.{written, small, counts_at_first, counts_written, none_over, overload, none_so_far}
 use Rattle.deadline_plan.proofs.load.first_over.Goals as goal
 
 pub loop-ended-init : goal.loop-ended-init
 loop-ended-init c =
     let zeros : c.in_ok-released.released.items ≡ replicate c.args.frames 0 = search rules in
-    let all = recursion_from_All IsStream c.args.streams.now c.requires.streams in
+    let all = recursion_from_All IsDeadlineStream c.args.streams.now c.requires.streams in
     record {
       long = ap length zeros ∙ length-replicate c.args.frames 0;
       counted = counts_at_first c.args.frames c.args.streams.now c.requires.frames c.requires.few all c.in_ok-released.released.items
@@ -20,7 +20,7 @@ loop-ended-init c =
 pub count_ends-requires-clause-room : goal.count_ends-requires-clause-room
 count_ends-requires-clause-room c =
     let l = c.loop-ended in
-    let all = recursion_from_All IsStream c.args.streams.now c.requires.streams in
+    let all = recursion_from_All IsDeadlineStream c.args.streams.now c.requires.streams in
     subst (λ (items : List ℕ). (a : ℕ) → get_or items a 0 ≤ 65536) (sym c.deref_mut.ensures.value)
     (small c.args.frames c.args.streams.now c.requires.frames c.requires.few all l.ended l.released.items l.invariant.long l.invariant.counted)
 
@@ -28,7 +28,7 @@ pub latest_over-requires-clause-room : goal.latest_over-requires-clause-room
 latest_over-requires-clause-room c =
     let l = c.loop-ended in
     let now = c.count_ends.new.released in
-    let all = recursion_from_All IsStream c.args.streams.now c.requires.streams in
+    let all = recursion_from_All IsDeadlineStream c.args.streams.now c.requires.streams in
     let same : length now ≡ length l.released.items = c.count_ends.ensures.length ∙ ap length c.deref_mut.ensures.value in
     let len : l.released.len ≡ length l.released.items = sym c.deref_mut.ensures.len ∙ ap length c.deref_mut.ensures.value in
     let is : c.deref.result.now ≡ now = c.deref.ensures.value ∙ written now l.released.items l.released.len same len in
@@ -41,15 +41,15 @@ pub loop-ended-preserved : goal.loop-ended-preserved
 loop-ended-preserved c =
     let l = c.loop-ended in
     let now = c.count_ends.new.released in
-    let all = recursion_from_All IsStream c.args.streams.now c.requires.streams in
+    let all = recursion_from_All IsDeadlineStream c.args.streams.now c.requires.streams in
     let same : length now ≡ length l.released.items = c.count_ends.ensures.length ∙ ap length c.deref_mut.ensures.value in
     let len : l.released.len ≡ length l.released.items = sym c.deref_mut.ensures.len ∙ ap length c.deref_mut.ensures.value in
     let whole = written now l.released.items l.released.len same len in
     let is : c.deref.result.now ≡ now = c.deref.ensures.value ∙ whole in
     let counted = counts_written c.args.frames c.args.streams.now c.requires.frames c.requires.few all l.ended l.released.items c.deref_mut.result.now now
     c.loop-ended-test.true c.deref_mut.ensures.value l.invariant.long l.invariant.counted c.count_ends.ensures.length c.count_ends.ensures.counted in
-    let none : (a : ℕ) → a < l.ended + 1 → span now a (l.ended + 1 - a) ≤ c.args.slots * (l.ended + 1 - a) =
-    subst (λ (ns : List ℕ). (a : ℕ) → a < l.ended + 1 → span ns a (l.ended + 1 - a) ≤ c.args.slots * (l.ended + 1 - a)) is c.in_default.ensures.none in
+    let none : (a : ℕ) → a < l.ended + 1 → sum_from now a (l.ended + 1 - a) ≤ c.args.slots * (l.ended + 1 - a) =
+    subst (λ (ns : List ℕ). (a : ℕ) → a < l.ended + 1 → sum_from ns a (l.ended + 1 - a) ≤ c.args.slots * (l.ended + 1 - a)) is c.in_default.ensures.none in
     record {
       long = ap length whole ∙ same ∙ l.invariant.long;
       counted = λ a below. ap (λ (ns : List ℕ). get_or ns a 0) whole ∙ counted a below;
@@ -61,7 +61,7 @@ pub returns-in-Some-clause-over : goal.returns-in-Some-clause-over
 returns-in-Some-clause-over c =
     let l = c.loop-ended in
     let now = c.count_ends.new.released in
-    let all = recursion_from_All IsStream c.args.streams.now c.requires.streams in
+    let all = recursion_from_All IsDeadlineStream c.args.streams.now c.requires.streams in
     let same : length now ≡ length l.released.items = c.count_ends.ensures.length ∙ ap length c.deref_mut.ensures.value in
     let len : l.released.len ≡ length l.released.items = sym c.deref_mut.ensures.len ∙ ap length c.deref_mut.ensures.value in
     let is : c.deref.result.now ≡ now = c.deref.ensures.value ∙ written now l.released.items l.released.len same len in
@@ -75,7 +75,7 @@ pub returns-in-Some-clause-demand : goal.returns-in-Some-clause-demand
 returns-in-Some-clause-demand c =
     let l = c.loop-ended in
     let now = c.count_ends.new.released in
-    let all = recursion_from_All IsStream c.args.streams.now c.requires.streams in
+    let all = recursion_from_All IsDeadlineStream c.args.streams.now c.requires.streams in
     let same : length now ≡ length l.released.items = c.count_ends.ensures.length ∙ ap length c.deref_mut.ensures.value in
     let len : l.released.len ≡ length l.released.items = sym c.deref_mut.ensures.len ∙ ap length c.deref_mut.ensures.value in
     let is : c.deref.result.now ≡ now = c.deref.ensures.value ∙ written now l.released.items l.released.len same len in
@@ -88,6 +88,6 @@ returns-in-Some-clause-demand c =
 pub returns-clause-none : goal.returns-clause-none
 returns-clause-none c =
     let l = c.loop-ended in
-    let all = recursion_from_All IsStream c.args.streams.now c.requires.streams in
+    let all = recursion_from_All IsDeadlineStream c.args.streams.now c.requires.streams in
     none_over c.args.frames c.args.streams.now c.requires.frames c.requires.few all c.args.slots
     (λ from until by order. l.invariant.nothing from until (omega arith) order)

@@ -1,6 +1,6 @@
 use Rattle.std.proofs.Common.{◌≡◌, ◌-◌, ◌*◌, ◌≤◌, ℕ, arith, ap, sym, subst, refl, inl, inr}
 use Rattle.std.proofs.lemmas.Bool.{cases_eq}
-use Rattle.deadline_plan.specs.Load.{span}
+use Rattle.deadline_plan.specs.Load.{sum_from}
 use Rattle.deadline_plan.proofs.SpansDown.{span_none, span_more, product_none, product_more}
 use Rattle.deadline_plan.proofs.load.latest_over.Goals as goal
 
@@ -30,7 +30,7 @@ returns-then-demand-room-clause-some c =
       before = omega arith;
       demand = omega (arith, l.invariant.demand, more);
       over = omega (arith, wider, same, l.invariant.room, c.if-demand-room.true);
-      latest = λ a low high. subst (λ (s : ℕ). span c.args.released.now a (c.args.until - a) ≤ s * (c.args.until - a)) slots (l.invariant.within a
+      latest = λ a low high. subst (λ (s : ℕ). sum_from c.args.released.now a (c.args.until - a) ≤ s * (c.args.until - a)) slots (l.invariant.within a
           (omega arith) high);
     }
 
@@ -42,7 +42,7 @@ loop-from-preserved c =
     let more = span_more c.args.released.now l.from c.args.until some l.invariant.before in
     let wider = product_more c.from-slots.result l.from c.args.until some l.invariant.before in
     let place = c.requires.room (l.from - 1) in
-    let here : span c.args.released.now (l.from - 1) (c.args.until - (l.from - 1)) ≤ c.from-slots.result * (c.args.until - (l.from - 1)) =
+    let here : sum_from c.args.released.now (l.from - 1) (c.args.until - (l.from - 1)) ≤ c.from-slots.result * (c.args.until - (l.from - 1)) =
     omega (arith, more, wider, l.invariant.demand, l.invariant.room, c.if-demand-room.false) in
     record {
       before = omega arith;
@@ -51,7 +51,7 @@ loop-from-preserved c =
       room = omega (arith, wider, l.invariant.room);
       few = omega (arith, slots, c.requires.slots, l.invariant.few);
       within = λ a low high. elim (cases_eq a (l.from - 1)) [
-        | inl same ↦ subst (λ (x : ℕ). span c.args.released.now x (c.args.until - x) ≤ c.from-slots.result * (c.args.until - x)) (sym same) here
+        | inl same ↦ subst (λ (x : ℕ). sum_from c.args.released.now x (c.args.until - x) ≤ c.from-slots.result * (c.args.until - x)) (sym same) here
         | inr other ↦ l.invariant.within a (omega arith) high
       ];
     }

@@ -4,7 +4,7 @@ use Rattle.std.proofs.lemmas.List.Elements.{All-same, All-weaker}
 use Rattle.std.proofs.lemmas.List.Sorted.{All-permutation}
 use Rattle.bus_rules.specs.Tables.{Entry, Table, entry_of}
 use Rattle.bus_rules.specs.Granting.{owed_to, gap_of, plan_round}
-use Rattle.host_scheduler.specs.Debts.{IsGrantable, slots_of, place_after, granted_all}
+use Rattle.host_scheduler.specs.Debts.{IsGrantable, slots_given, place_after, granted_all}
 use Rattle.host_scheduler.proofs.Bridge.{seconds_few}
 use Rattle.host_scheduler.proofs.Shares.{sorted_is, same_shares}
 use Rattle.host_scheduler.proofs.Planned.{planned_gap, planned_owners, planned_table}
@@ -37,7 +37,7 @@ returns-clause-owners c =
     let owes = owed_to s (f + gap_of s f es) in
     let up = c.slots.ensures.kept.ascends in
     let due : f + c.from.result ≡ f + gap_of s f es = ap (λ (g : ℕ). f + g) (c.from.ensures ∙ c.gap-gap.ensures.value) in
-    let slots : c.slots.result.items ≡ slots_of owes t = c.slots.ensures.codes ∙ ap (λ (d : ℕ). slots_of (owed_to s d) t) due in
+    let slots : c.slots.result.items ≡ slots_given owes t = c.slots.ensures.codes ∙ ap (λ (d : ℕ). slots_given (owed_to s d) t) due in
     let sorted = c.sorted-codes.result.items in
     let there = All-weaker (IsGrantable es) (λ x. IsSome (entry_of es x)) (λ x g. g.there) c.slots.result.items c.slots.ensures.grantable in
     c.grant-owners.ensures.owners ∙ c.as_slice.ensures.value
@@ -53,7 +53,7 @@ returns-clause-table c =
     let owes = owed_to s (f + gap_of s f es) in
     let up = c.slots.ensures.kept.ascends in
     let due : f + c.from.result ≡ f + gap_of s f es = ap (λ (g : ℕ). f + g) (c.from.ensures ∙ c.gap-gap.ensures.value) in
-    let slots : c.slots.result.items ≡ slots_of owes t = c.slots.ensures.codes ∙ ap (λ (d : ℕ). slots_of (owed_to s d) t) due in
+    let slots : c.slots.result.items ≡ slots_given owes t = c.slots.ensures.codes ∙ ap (λ (d : ℕ). slots_given (owed_to s d) t) due in
     let sorted = c.sorted-codes.result.items in
     let there = All-weaker (IsGrantable es) (λ x. IsSome (entry_of es x)) (λ x g. g.there) c.slots.result.items c.slots.ensures.grantable in
     let place : c.slots.new.table ≡ record t { place = place_after owes t } = c.slots.ensures.place

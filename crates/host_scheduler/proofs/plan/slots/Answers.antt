@@ -4,7 +4,7 @@ use Rattle.std.proofs.lemmas.Bool.{le-leb, lt-leb, cond-true, cond-false}
 use Rattle.std.proofs.lemmas.List.Elements.{All-same, All-weaker}
 use Rattle.bus_rules.specs.Granting.{owed_to, owners_by, given, last_code}
 use Rattle.host_scheduler.specs.declared.debts.Debt.{Debt}
-use Rattle.host_scheduler.specs.Debts.{debts_of, all_owed, in_line, turns_of, IsCode, IsGrantable}
+use Rattle.host_scheduler.specs.Debts.{debts_of, all_owed, debts_from_place, turns_of, IsCode, IsGrantable}
 use Rattle.host_scheduler.proofs.Bridge.{all_is, given_is, all_good, given_good, grantable}
 use Rattle.host_scheduler.proofs.plan.slots.Goals as goal
 
@@ -44,8 +44,8 @@ last_of-requires c =
     let here : c.as_slice-2.result.now ≡ debts_of owes es = c.as_slice-2.ensures.value ∙ c.debts-debts.ensures.value in
     let codes = All-same (λ d. IsCode d.code) _ _ (sym c.debts-debts.ensures.value) c.debts-debts.ensures.codes in
     let good = grantable c.args.seconds c.args.frame es up c.requires.seconds c.requires.frame codes in
-    let is : c.as_slice-3.result.now ≡ take 40 (turns_of (in_line c.place-place.result (debts_of owes es)) 40) =
-    c.as_slice-3.ensures.value ∙ c.give-given.ensures ∙ ap (λ (l : List Debt). take 40 (turns_of (in_line c.place-place.result l) 40)) here in
+    let is : c.as_slice-3.result.now ≡ take 40 (turns_of (debts_from_place c.place-place.result (debts_of owes es)) 40) =
+    c.as_slice-3.ensures.value ∙ c.give-given.ensures ∙ ap (λ (l : List Debt). take 40 (turns_of (debts_from_place c.place-place.result l) 40)) here in
     All-weaker (IsGrantable es) (λ n. n ≤ 803) (λ n g. g.code.1) _
     (All-same (IsGrantable es) _ _ is (given_good (IsGrantable es) c.place-place.result (debts_of owes es) good))
 
@@ -57,8 +57,8 @@ returns-clause-codes c =
     let t = c.args.table.now in
     let here : c.as_slice-2.result.now ≡ debts_of owes es = c.as_slice-2.ensures.value ∙ c.debts-debts.ensures.value in
     let over : nat_le (sum_by owes es) 40 ≡ false = lt-leb (sum_by owes es) 40 (omega (arith, c.total.ensures, c.if-total-le-SLOTS.false)) in
-    c.give-given.ensures ∙ ap (λ (l : List Debt). take 40 (turns_of (in_line c.place-place.result l) 40)) here
-    ∙ ap (λ (p : ℕ). take 40 (turns_of (in_line p (debts_of owes es)) 40)) c.place-place.ensures.value ∙ given_is owes t
+    c.give-given.ensures ∙ ap (λ (l : List Debt). take 40 (turns_of (debts_from_place c.place-place.result l) 40)) here
+    ∙ ap (λ (p : ℕ). take 40 (turns_of (debts_from_place p (debts_of owes es)) 40)) c.place-place.ensures.value ∙ given_is owes t
     ∙ sym (cond-false (nat_le (sum_by owes es) 40) (owners_by owes es) (given owes t) over)
 
 pub returns-clause-place : goal.returns-clause-place
@@ -70,8 +70,8 @@ returns-clause-place c =
     let here : c.as_slice-2.result.now ≡ debts_of owes es = c.as_slice-2.ensures.value ∙ c.debts-debts.ensures.value in
     let over : nat_le (sum_by owes es) 40 ≡ false = lt-leb (sum_by owes es) 40 (omega (arith, c.total.ensures, c.if-total-le-SLOTS.false)) in
     let is : c.as_slice-3.result.now ≡ given owes t =
-    c.as_slice-3.ensures.value ∙ c.give-given.ensures ∙ ap (λ (l : List Debt). take 40 (turns_of (in_line c.place-place.result l) 40)) here
-    ∙ ap (λ (p : ℕ). take 40 (turns_of (in_line p (debts_of owes es)) 40)) c.place-place.ensures.value ∙ given_is owes t in
+    c.as_slice-3.ensures.value ∙ c.give-given.ensures ∙ ap (λ (l : List Debt). take 40 (turns_of (debts_from_place c.place-place.result l) 40)) here
+    ∙ ap (λ (p : ℕ). take 40 (turns_of (debts_from_place p (debts_of owes es)) 40)) c.place-place.ensures.value ∙ given_is owes t in
     let last : c.last_of.result ≡ last_code (given owes t) = c.last_of.ensures.value ∙ ap last_code is in
     c.set_place.ensures ∙ ap (λ (p : ℕ). record t { place = p + 1 }) last
     ∙ ap (λ (p : ℕ). record t { place = p }) (sym (cond-false (nat_le (sum_by owes es) 40) t.place (last_code (given owes t) + 1) over))
@@ -84,5 +84,5 @@ returns-clause-grantable c =
     let here : c.as_slice-2.result.now ≡ debts_of owes es = c.as_slice-2.ensures.value ∙ c.debts-debts.ensures.value in
     let codes = All-same (λ d. IsCode d.code) _ _ (sym c.debts-debts.ensures.value) c.debts-debts.ensures.codes in
     let good = grantable c.args.seconds c.args.frame es up c.requires.seconds c.requires.frame codes in
-    All-same (IsGrantable es) _ _ (c.give-given.ensures ∙ ap (λ (l : List Debt). take 40 (turns_of (in_line c.place-place.result l) 40))
+    All-same (IsGrantable es) _ _ (c.give-given.ensures ∙ ap (λ (l : List Debt). take 40 (turns_of (debts_from_place c.place-place.result l) 40))
     here) (given_good (IsGrantable es) c.place-place.result (debts_of owes es) good)

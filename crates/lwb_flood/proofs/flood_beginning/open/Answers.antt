@@ -1,12 +1,12 @@
 use Rattle.std.proofs.Common.{◌≡◌, ℕ, List, take, ap, subst, sym, ◌∙◌, Some}
 use Rattle.std.specs.Prelude.{Contains}
 use Rattle.lwb_base.specs.Profile.{one}
-use Rattle.radio_model.specs.Stations.{MediumState, after, retuned}
-use Rattle.lwb_flood.specs.FloodWorlds.{opened}
+use Rattle.radio_model.specs.Stations.{MediumState, medium_after_change, station_after_tuning}
+use Rattle.lwb_flood.specs.FloodWorlds.{medium_at_opening}
 use Rattle.lwb_flood.proofs.FloodOpening.{IsOpening, at_first, opened_is, in_time, opened_more}
 use Rattle.lwb_flood.proofs.flood_beginning.open.Goals as goal
 
-begun : (vs : List ℕ) (i : ℕ) (first m : MediumState) → first ≡ Rattle.radio_model.specs.Stations.first_state one vs → m ≡ opened (take i vs) first
+begun : (vs : List ℕ) (i : ℕ) (first m : MediumState) → first ≡ Rattle.radio_model.specs.Stations.first_state one vs → m ≡ medium_at_opening (take i vs) first
     → IsOpening vs m
 begun vs i first m is at = subst (IsOpening vs) (sym at) (opened_is (take i vs) vs first (subst (IsOpening vs) (sym is) (at_first one vs)))
 
@@ -23,6 +23,6 @@ tune-requires-clause-time c =
 
 pub loop-node-preserved : goal.loop-node-preserved
 loop-node-preserved c =
-    let tuned : ℕ → MediumState → MediumState = λ r m. after 1344000000 c.node-item.result (retuned (Some r) 1344000000) m in
+    let tuned : ℕ → MediumState → MediumState = λ r m. medium_after_change 1344000000 c.node-item.result (station_after_tuning (Some r) 1344000000) m in
     c.tune.ensures.state ∙ ap (λ (r : ℕ). tuned r c.loop-node.medium) c.channel.ensures ∙ ap (tuned 0) c.loop-node.invariant
     ∙ sym (opened_more c.args.nodes.now c.loop-node.node-index c.node-item.result c.args.medium.now c.loop-node-test.true c.node-item.is)

@@ -7,7 +7,7 @@ use Rattle.air_log.specs.FloodLaw.{FloodLaw}
 use Rattle.lwb_flood.specs.declared.member.Member.{Member}
 use Rattle.air_log.specs.ClockLists.{clocks_by}
 use Rattle.lwb_flood.specs.FloodLog.{HasClocks}
-use Rattle.lwb_flood.specs.FloodWorlds.{World, node_of, CanStep, Stepped, readings_at}
+use Rattle.lwb_flood.specs.FloodWorlds.{World, node_of_member, CanStep, WorldSteps, readings_of_node}
 use Rattle.lwb_flood.proofs.FloodClosing.{closing_time, closed_law}
 use Rattle.lwb_flood.proofs.FloodHearers.{some_member}
 use Rattle.lwb_flood.proofs.FloodLoop.{IsRunning, running_first, can_step, step_on, closing}
@@ -47,14 +47,14 @@ loop-place-smaller g c =
     let some : Member = some_member w.members c.in-Some.place c.in-Some.ensures.some.0 in
     let m : Member = get_or w.members c.in-Some.place some in
     let there : Contains w.members m = (c.in-Some.place, c.in-Some.ensures.some.0, get_or_default w.members c.in-Some.place m some c.in-Some.ensures.some.0) in
-    let others : ℕ → ℕ → ℕ = readings_at R c.as_slice.result.now (map node_of w.members) in
+    let others : ℕ → ℕ → ℕ = readings_of_node R c.as_slice.result.now (map node_of_member w.members) in
     let same : (v : ℕ) → clocks v ≡ others v =
     λ v.
     same_readings R c.args.f.now.nodes c.args.clocks.items v
-    ∙ ap (λ (us : List ℕ). readings_at R c.args.clocks.items us v) (sym c.loop-place.invariant.so.nodes)
-    ∙ ap (λ (cs : List _). readings_at R cs (map node_of w.members) v) (sym c.as_slice.ensures.value) in
+    ∙ ap (λ (us : List ℕ). readings_of_node R c.args.clocks.items us v) (sym c.loop-place.invariant.so.nodes)
+    ∙ ap (λ (cs : List _). readings_of_node R cs (map node_of_member w.members) v) (sym c.as_slice.ensures.value) in
     let on = step_on c.args.f.now clocks has w c.loop-place.invariant m there (c.in-Some.ensures.some.1 some) others same c.step.new.self
-    (subst (λ (lines : Lines). Stepped lines others w c.step.new.self m m.act) c.trace.ensures.value (c.in_ok-step.ensures some)) in
+    (subst (λ (lines : Lines). WorldSteps lines others w c.step.new.self m m.act) c.trace.ensures.value (c.in_ok-step.ensures some)) in
     on.1
 
 pub loop-place-preserved : goal.loop-place-preserved
@@ -68,14 +68,14 @@ loop-place-preserved g c =
     let some : Member = some_member w.members c.in-Some.place c.in-Some.ensures.some.0 in
     let m : Member = get_or w.members c.in-Some.place some in
     let there : Contains w.members m = (c.in-Some.place, c.in-Some.ensures.some.0, get_or_default w.members c.in-Some.place m some c.in-Some.ensures.some.0) in
-    let others : ℕ → ℕ → ℕ = readings_at R c.as_slice.result.now (map node_of w.members) in
+    let others : ℕ → ℕ → ℕ = readings_of_node R c.as_slice.result.now (map node_of_member w.members) in
     let same : (v : ℕ) → clocks v ≡ others v =
     λ v.
     same_readings R c.args.f.now.nodes c.args.clocks.items v
-    ∙ ap (λ (us : List ℕ). readings_at R c.args.clocks.items us v) (sym c.loop-place.invariant.so.nodes)
-    ∙ ap (λ (cs : List _). readings_at R cs (map node_of w.members) v) (sym c.as_slice.ensures.value) in
+    ∙ ap (λ (us : List ℕ). readings_of_node R c.args.clocks.items us v) (sym c.loop-place.invariant.so.nodes)
+    ∙ ap (λ (cs : List _). readings_of_node R cs (map node_of_member w.members) v) (sym c.as_slice.ensures.value) in
     let on = step_on c.args.f.now clocks has w c.loop-place.invariant m there (c.in-Some.ensures.some.1 some) others same c.step.new.self
-    (subst (λ (lines : Lines). Stepped lines others w c.step.new.self m m.act) c.trace.ensures.value (c.in_ok-step.ensures some)) in
+    (subst (λ (lines : Lines). WorldSteps lines others w c.step.new.self m m.act) c.trace.ensures.value (c.in_ok-step.ensures some)) in
     on.0
 
 pub close-requires : goal.close-requires
@@ -94,7 +94,7 @@ returns-clause-law g c =
     listed_clocks g.C.DriftClock.readings g.met.C.DriftClock.keeps_drift_law c.args.f.now c.args.clocks.items c.requires
     c.in_ok-world.ensures.sound c.in_ok-world.ensures.start in
     let w = c.loop-place.world in
-    let law = closed_law c.args.f.now clocks has (map node_of w.members) c.loop-place.invariant.so.nodes w
+    let law = closed_law c.args.f.now clocks has (map node_of_member w.members) c.loop-place.invariant.so.nodes w
     (closing c.args.f.now clocks has w c.loop-place.invariant c.in_default.ensures.none) in
     subst (λ (air : List Entry). FloodLaw c.args.f.now clocks air) (sym (c.into_air.ensures ∙ ap (λ (z : World). z.air) c.in_ok-close.ensures)) law
 

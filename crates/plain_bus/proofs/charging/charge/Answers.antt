@@ -1,8 +1,8 @@
 use Rattle.std.proofs.Common.{◌≡◌, ℕ, List, Bool, None, if◌then◌else◌, length, map, get_or, sym, ◌∙◌, ap, arith}
 use Rattle.std.specs.List.{last_or}
 use Rattle.bus_terms.specs.Bus.{Cost}
-use Rattle.plain_bus.specs.SlotFloods.{Seen, seen}
-use Rattle.plain_bus.specs.SlotCosts.{bytes_in, bytes_of, charged, said_bytes, steps_at, steps_in, with_slot}
+use Rattle.plain_bus.specs.SlotFloods.{Seen, seen_window}
+use Rattle.plain_bus.specs.SlotCosts.{bytes_in, bytes_sent_by, charged, said_bytes, steps_at, steps_in, with_slot}
 use Rattle.plain_bus.specs.declared.station.Station.{Station}
 use Rattle.plain_bus.proofs.MembersOfSlots.{map_of_map}
 use Rattle.plain_bus.proofs.SaidBehind.{window_at, first_at}
@@ -24,8 +24,8 @@ returns-clause-cost c b sends behind are some =
     let window = window_at b ids ws xs behind place w (omega (arith, c.requires.place, c.requires.windows)) c.requires.place c.index-windows-place.is in
     let first = first_at b ids ws xs behind place x (omega (arith, c.requires.place, c.requires.stations)) x_at in
     let lengths : c.args.lengths.now ≡ map (λ (u : ℕ). said_bytes (b.window u)) ids =
-    c.requires.lengths ∙ map_of_map said_bytes seen ws ∙ ap (map said_bytes) behind.windows ∙ sym (map_of_map said_bytes b.window ids) in
-    let bytes : c.bytes_sent-bytes.result ≡ bytes_of b v =
+    c.requires.lengths ∙ map_of_map said_bytes seen_window ws ∙ ap (map said_bytes) behind.windows ∙ sym (map_of_map said_bytes b.window ids) in
+    let bytes : c.bytes_sent-bytes.result ≡ bytes_sent_by b v =
     c.bytes_sent-bytes.ensures b lengths (λ o k is. behind.here v o k (sym first ∙ is))
     ∙ ap (λ (y : Seen). bytes_in b y x.heard) window ∙ ap (bytes_in b (b.window v)) first in
     let masks = c.args.end.now.senders.items in
@@ -36,5 +36,5 @@ returns-clause-cost c b sends behind are some =
     c.add_slot.ensures.value (steps_in (sends v)) (c.steps_of-steps.ensures.count ∙ ap length steps) (c.steps_of-steps.ensures.last ∙ ap (last_or None) steps)
     some
     ∙ ap with_bytes bytes
-    ∙ ap (λ (y : Seen). with_slot p limit y.is_open (bytes_of b v) (steps_in (sends v)) c.args.cost.now) window
+    ∙ ap (λ (y : Seen). with_slot p limit y.is_open (bytes_sent_by b v) (steps_in (sends v)) c.args.cost.now) window
     ∙ ap (λ (own : Bool). if own then charged p limit b sends v c.args.cost.now else c.args.cost.now) (sym c.if-not-is_own.false)

@@ -7,7 +7,7 @@ use Rattle.bus_rules.specs.declared.part.Part.{Part}
 use Rattle.bus_rules.specs.States.{State}
 use Rattle.bus_terms.specs.Rounds.{round_plan}
 use Rattle.plain_bus.specs.BusNodes.{nodes_in}
-use Rattle.plain_bus.specs.Leaders.{holds, parts_at, parts_of}
+use Rattle.plain_bus.specs.Leaders.{holds, parts_at, slot_parts}
 use Rattle.plain_bus.proofs.RoundsLed.{led}
 use Rattle.plain_bus.proofs.leading.parts_of_round.Goals as goal
 
@@ -25,7 +25,7 @@ returns-in-None-clause-parts c =
     let held : Option (List Part) = option_map parts_at (find (holds c.args.rank c.args.frame) c.args.nodes.now) in
     IfOk-weaker c.parts_of_holder.result (λ o. items_of o ≡ held)
     (λ o. (s : ScenarioParts) (start others : ℕ → State) → c.args.nodes.now ≡ nodes_in s c.args.rank start start others
-    → items_of o ≡ option_map parts_of (round_plan s c.args.rank c.args.frame start))
+    → items_of o ≡ option_map slot_parts (round_plan s c.args.rank c.args.frame start))
     (λ o is s start others are. is ∙ ap (λ (h : Option (List Part)). option_or h held) (ap items_of (sym c.in-None.is) ∙ c.in_ok-parts.ensures.parts)
     ∙ led s c.args.rank c.args.frame start others c.args.nodes.now are)
     c.parts_of_holder.ensures.parts

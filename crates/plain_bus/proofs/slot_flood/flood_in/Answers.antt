@@ -1,6 +1,6 @@
 use Rattle.std.proofs.Common.{ℕ, None, is_some, ap}
 use Rattle.bus_terms.specs.FloodOfText.{ids}
-use Rattle.bus_terms.specs.Rounds.{opened_at, said_in, takes_part}
+use Rattle.bus_terms.specs.Rounds.{opened_at, message_said, takes_part}
 use Rattle.plain_bus.specs.declared.station.Flood.{Flood}
 use Rattle.plain_bus.proofs.MembersOfSlots.{flood_of_slot}
 use Rattle.plain_bus.proofs.slot_flood.flood_in.Goals as goal
@@ -17,5 +17,5 @@ returns c s t rank part states are lines sealed limit =
       lone = None;
     } in
     flood_of_slot s t rank f c.args.slot part states (made c.args.limit) lines sealed (ap made limit)
-    (c.initiators_of.ensures (ids s.nodes) (λ v. is_some (said_in (opened_at s rank f part v (states v)))) are.initiators)
+    (c.initiators_of.ensures (ids s.nodes) (λ v. is_some (message_said (opened_at s rank f part v (states v)))) are.initiators)
     (c.takers_of.ensures (ids s.nodes) (λ v. takes_part rank part (states v) (opened_at s rank f part v (states v))) are.takers)

@@ -2,7 +2,7 @@ use Rattle.std.proofs.Common.{◌≡◌, ◌<◌, ◌++◌, ◌∷◌, [], List,
 use Rattle.std.proofs.lemmas.List.{take_all, length-map, get_or_default, take_more_set}
 use Rattle.std.proofs.lemmas.List.Elements.{All-push}
 use Rattle.plain_bus.specs.BusNodes.{BusNode, IsEarlyState, node_opened}
-use Rattle.plain_bus.specs.SlotFloods.{seen, seen_of}
+use Rattle.plain_bus.specs.SlotFloods.{seen_window, seen_of}
 use Rattle.plain_bus.proofs.ListsInPlace.{map_more, same_place, one_more_mapped, one_more_changed, rest_unchanged}
 use Rattle.plain_bus.proofs.slot_windows.open_all.Goals as goal
 
@@ -26,9 +26,9 @@ loop-node-preserved c =
       early = subst (λ (l : List BusNode). All (λ (z : BusNode). IsEarlyState c.args.frame z.state) l) (sym (take_more_set now i c.open-window.new.self there))
           (All-push (λ (z : BusNode). IsEarlyState c.args.frame z.state) (take i now) c.open-window.new.self c.loop-node.invariant.early told.early);
       seen =
-          ap (map seen) pushed ∙ map_more seen c.loop-node.windows.items w
-          ∙ one_more_mapped (seen_of c.args.rank c.args.frame c.args.part.now) olds i n (map seen c.loop-node.windows.items)
-          (seen w) below at c.loop-node.invariant.seen told.seen;
+          ap (map seen_window) pushed ∙ map_more seen_window c.loop-node.windows.items w
+          ∙ one_more_mapped (seen_of c.args.rank c.args.frame c.args.part.now) olds i n (map seen_window c.loop-node.windows.items)
+          (seen_window w) below at c.loop-node.invariant.seen told.seen;
     }
 
 pub open-window-requires-clause-early : goal.open-window-requires-clause-early

@@ -5,7 +5,7 @@ use Rattle.link_trace.specs.Masks.{IsMaskUpto}
 use Rattle.link_trace.specs.Sealed.{Traced}
 use Rattle.scenario_text.specs.declared.lines.NodeLine.{NodeLine}
 use Rattle.bus_terms.specs.Flooding.{Setting, beginning}
-use Rattle.plain_bus.specs.FloodMasks.{IsFlood, station_at, station_first, with_sender}
+use Rattle.plain_bus.specs.FloodMasks.{IsMaskedFlood, station_at, station_first, with_sender}
 use Rattle.plain_bus.specs.declared.station.Station.{Station}
 use Rattle.plain_bus.proofs.SteppedByMasks.{begun, one_more_station, one_more_sender, no_station, nobody}
 use Rattle.plain_bus.proofs.stepping.first.Goals as goal
@@ -33,7 +33,7 @@ loop-i-preserved c =
     let node : (t : Traced) → t.nodes ≡ map (λ (l : NodeLine). l.node) lines → n.node ≡ get_or t.nodes i 0 = λ t sealed.
     ap (λ (l : NodeLine). l.node) c.index-nodes-i.is ∙ sym (get_or-map (λ (l : NodeLine). l.node) lines i n 0 inside)
     ∙ ap (λ (l : List ℕ). get_or l i 0) (sym sealed) in
-    let station : (s : Setting) (t : Traced) → t.nodes ≡ map (λ (l : NodeLine). l.node) lines → IsFlood s t f
+    let station : (s : Setting) (t : Traced) → t.nodes ≡ map (λ (l : NodeLine). l.node) lines → IsMaskedFlood s t f
     → y ≡ station_at (beginning s) (get_or t.nodes i 0) = λ s t sealed flood.
     c.initiator.ensures ∙ ap (λ (v : ℕ). station_first f i v) (node t sealed) ∙ begun s t f i flood (below t sealed) in
     record {

@@ -2,7 +2,7 @@ use Rattle.std.proofs.Common.{◌≡◌, ℕ, ◌∙◌, Option, Some, None, IfS
 use Rattle.std.proofs.lemmas.Nat.Bits.{bit_at-zero}
 use Rattle.std.specs.Int.{bit_at}
 use Rattle.radio_model.specs.Marks.{no_mark}
-use Rattle.radio_model.specs.Meetings.{passes_at, rivals_in, rivals_to, AddsTo, Tells, TellsAt}
+use Rattle.radio_model.specs.Meetings.{passes_at, rivals_in, rivals_to, AddsTo, HasBitsOf, TellsAt}
 use Rattle.radio_model.specs.declared.rivals.Key.{Key}
 use Rattle.radio_model.proofs.Gathered.{both_bits, first_bit, near_and_far, tells_more_of}
 use Rattle.radio_model.proofs.HeardInTurn.{left_bits}
@@ -50,7 +50,7 @@ returns-clause-tells g c =
     let strange = c.strangers-strange.result in
     let first = c.in_ok-crowd.crowd in
     both_some (AddsTo first) (TellsAt lines nodes p x sts (λ k. bit_at strange k ≡ 1))
-    (λ w. (i : ℕ) → bit_at c.args.ready i ≡ 1 → Tells lines nodes (rivals_to p x sts) i w) c.crowd_with-2.result c.crowd_with-2.ensures.adds
+    (λ w. (i : ℕ) → bit_at c.args.ready i ≡ 1 → HasBitsOf lines nodes (rivals_to p x sts) i w) c.crowd_with-2.result c.crowd_with-2.ensures.adds
     c.crowd_with-2.ensures.tells (λ crowd adds tells i one.
     let inside = c.requires.within i one in
     near_and_far lines nodes p x sts c.args.marks.now c.args.origin c.args.opens c.args.delta c.args.places near c.without_bits-far.result strange i inside

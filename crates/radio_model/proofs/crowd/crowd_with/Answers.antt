@@ -6,7 +6,7 @@ use Rattle.radio_model.specs.Ages.{IsAged}
 use Rattle.radio_model.specs.Stations.{on_air}
 use Rattle.radio_model.specs.Marks.{IsMark}
 use Rattle.radio_model.specs.declared.mark.Mark.{Mark}
-use Rattle.radio_model.specs.Meetings.{rivals_in, rivals_to, IsFrom, AddsTo, Tells}
+use Rattle.radio_model.specs.Meetings.{rivals_in, rivals_to, IsFrom, AddsTo, HasBitsOf}
 use Rattle.radio_model.specs.declared.crowd.Crowd.{Crowd}
 use Rattle.radio_model.specs.declared.station.Station.{Station}
 use Rattle.radio_model.proofs.Gathered.{adds_none, bit_of_first, from_more, adds_more, tells_more}
@@ -98,7 +98,7 @@ loop-rest-preserved g c =
           (from_more lines nodes p x sts k st below at a b c.crowd_at-other.ensures c.loop-rest.invariant.from);
       adds = subst (λ (w : Crowd). AddsTo c.args.known w) (sym c.with-crowd.ensures)
           (adds_more lines nodes p x sts k st below at a b c.crowd_at-other.ensures c.args.known c.loop-rest.invariant.adds);
-      tells = λ j i d inside done. subst (λ (w : Crowd). Tells lines nodes (rivals_in p x (get_or sts j d)) i w) (sym c.with-crowd.ensures)
+      tells = λ j i d inside done. subst (λ (w : Crowd). HasBitsOf lines nodes (rivals_in p x (get_or sts j d)) i w) (sym c.with-crowd.ensures)
           (tells_more lines nodes p x sts k st below at a b c.crowd_at-other.ensures c.args.places c.loop-rest.rest new c.without_bit-rest.ensures.others
           c.loop-rest.invariant.tells j i d inside done);
       left = λ j one. elim (cases_eq j k) [

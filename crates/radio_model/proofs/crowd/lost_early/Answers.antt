@@ -3,7 +3,7 @@ use Rattle.std.specs.List.{list_any}
 use Rattle.link_trace.specs.Masks.{IsMask}
 use Rattle.radio_model.specs.Marks.{IsMark}
 use Rattle.radio_model.specs.Stations.{on_air}
-use Rattle.radio_model.specs.Meetings.{key_of, passes_at, rivals_in, spoils, IsPlaced}
+use Rattle.radio_model.specs.Meetings.{key_of, passes_at, rivals_in, spoils, IsPlaceOf}
 use Rattle.radio_model.specs.declared.mark.Mark.{Mark}
 use Rattle.radio_model.specs.declared.rivals.Key.{Key}
 use Rattle.radio_model.specs.declared.station.Station.{Station}
@@ -23,7 +23,7 @@ returns g c =
     let mk = c.index-marks-first.result in
     let below : k < length sts = omega (arith, c.if-first-stations.false) in
     let at : st ≡ get_or sts k st = c.index-stations-first.is in
-    let placed : IsPlaced nodes st.place st.node = subst (λ (s : Station). IsPlaced nodes s.place s.node) (sym at) (c.requires.places k st below) in
+    let placed : IsPlaceOf nodes st.place st.node = subst (λ (s : Station). IsPlaceOf nodes s.place s.node) (sym at) (c.requires.places k st below) in
     let marked : IsMark (on_air st) mk =
     subst (λ (m : Mark). IsMark (on_air st) m) (sym c.index-marks-first.is)
     (subst (λ (s : Station). IsMark (on_air s) (get_or c.args.marks.now k mk)) (sym at) (c.requires.marks.each k st mk below)) in

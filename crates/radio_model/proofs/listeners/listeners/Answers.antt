@@ -5,8 +5,8 @@ use Rattle.std.proofs.lemmas.List.{length-map}
 use Rattle.std.specs.Int.{bit_at}
 use Rattle.link_trace.specs.Masks.{IsMask}
 use Rattle.link_trace.specs.Passes.{Lines, captured}
-use Rattle.radio_model.specs.Stations.{node_of, fresh}
-use Rattle.radio_model.specs.Meetings.{is_chosen, is_heard, is_ready, key_of, rivals_to, passes_at, AreThose, IsPlaced}
+use Rattle.radio_model.specs.Stations.{id_of_station, fresh}
+use Rattle.radio_model.specs.Meetings.{is_chosen, is_heard, is_ready, key_of, rivals_to, passes_at, AreThose, IsPlaceOf}
 use Rattle.radio_model.specs.declared.rivals.Key.{Key}
 use Rattle.radio_model.specs.declared.station.Station.{Station}
 use Rattle.radio_model.proofs.HeardInTurn.{of_node, left_bits, heard_at, all_heard, heard_of_left, looked_at, room_for_it}
@@ -22,14 +22,14 @@ reach_is lines nodes u place key k m node same is =
 
 -- a node that is ready is one of the stations
 ready_below : (nodes : List ℕ) (sts : List Station) (test : ℕ → Bool) (so : Station → ℕ → Bool) (reached lost left ready k : ℕ) → IsMask test nodes reached
-    → nodes ≡ map node_of sts → ((i : ℕ) → i < 64 → bit_at left i ≡ min (bit_at reached i) (1 - bit_at lost i)) → ((i : ℕ) → 64 ≤ i → bit_at left i ≡ 0)
+    → nodes ≡ map id_of_station sts → ((i : ℕ) → i < 64 → bit_at left i ≡ min (bit_at reached i) (1 - bit_at lost i)) → ((i : ℕ) → 64 ≤ i → bit_at left i ≡ 0)
     → ((d : Station) → AreThose (so d) left ready) → bit_at ready k ≡ 1 → k < length sts
 ready_below nodes sts test so reached lost left ready k is seal bits above those one =
     omega (
       arith,
       of_node nodes test reached k is (left_bits reached lost left k bits above ((those (fresh 0 0)).among k one)).0,
       ap length seal,
-      length-map sts node_of,
+      length-map sts id_of_station,
     )
 
 pub ready_of-ready-requires-clause-within : goal.ready_of-ready-requires-clause-within
@@ -50,7 +50,7 @@ ready_of-ready-requires-clause-within g c =
       of_node nodes (λ v. passes_at lines key u v) reached k reach
           (left_bits reached c.lost_early-lost.result c.without_bits-left.result k c.without_bits-left.ensures.bits c.without_bits-left.ensures.above one).0,
       ap length c.requires.seal,
-      length-map sts node_of,
+      length-map sts id_of_station,
     )
 
 pub crowd_of-requires-clause-within : goal.crowd_of-requires-clause-within
@@ -74,7 +74,7 @@ crowd_of-requires-clause-within g c =
       ready_below nodes sts (λ v. passes_at lines key u v) (λ d n. is_ready x (get_or sts n d)) reached lost left ready k reach c.requires.seal
           c.without_bits-left.ensures.bits c.without_bits-left.ensures.above c.ready_of-ready.ensures one,
       ap length c.requires.seal,
-      length-map sts node_of,
+      length-map sts id_of_station,
     )
 
 pub returns-in_default : goal.returns-in_default
@@ -142,7 +142,7 @@ is_taken-requires-clause-at g c =
     let below = ready_below nodes sts (λ v. passes_at lines key u v) (λ d n. is_ready x (get_or sts n d)) reached lost left ready k reach c.requires.seal
     c.without_bits-left.ensures.bits c.without_bits-left.ensures.above c.ready_of-ready.ensures bits.0 in
     let at : st ≡ get_or sts k st = c.index-stations-from.is ∙ ap (λ (n : ℕ). get_or sts n st) c.from.ensures in
-    subst (λ (s : Station). IsPlaced nodes s.place s.node) (sym at) (c.requires.places k st below)
+    subst (λ (s : Station). IsPlaceOf nodes s.place s.node) (sym at) (c.requires.places k st below)
 
 pub is_taken-requires-clause-place : goal.is_taken-requires-clause-place
 is_taken-requires-clause-place g c =

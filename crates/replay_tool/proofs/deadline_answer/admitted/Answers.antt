@@ -1,6 +1,6 @@
 use Rattle.std.proofs.Common.{◌≡◌, ◌+◌, ◌<◌, ◌≤◌, ◌++◌, ◌∷◌, [], List, map, take, length, sym, ◌∙◌, ap, subst, arith, Ok}
 use Rattle.std.proofs.lemmas.List.{take_more, map-append}
-use Rattle.deadline_plan.specs.Admission.{Answers, after_admit}
+use Rattle.deadline_plan.specs.Admission.{IsAdmission, after_admit}
 use Rattle.deadline_plan.specs.declared.stream.DeadlineStream.{DeadlineStream}
 use Rattle.replay_tool.specs.DeadlineReport.{Differ, no_streams, stream_of_answer}
 use Rattle.replay_tool.proofs.StreamsDecided.{decides, decided_more, few_admitted, new_behind, new_after}
@@ -19,7 +19,7 @@ loop-stream-preserved c =
     let streams = c.streams-stream-items.ensures.value in
     let few : length ss ≤ 32 = omega (arith, sound.few, ap length streams) in
     let new = new_behind ss i s l.plan.streams below at (subst Differ (sym streams) c.requires) l.invariant.new in
-    let answers : Answers l.plan s a = c.in_ok-answer.ensures.answer in
+    let answers : IsAdmission l.plan s a = c.in_ok-answer.ensures.answer in
     let after : c.admit.new.self ≡ after_admit l.plan s (Ok a) = c.in_ok-answer.ensures.plan in
     let decided = decides l.plan s a new (omega (arith, l.invariant.few)) answers in
     let more : take (i + 1) ss ≡ take i ss ++ s ∷ [] = take_more ss i s below ∙ ap (λ (x : DeadlineStream). take i ss ++ x ∷ []) (sym at) in

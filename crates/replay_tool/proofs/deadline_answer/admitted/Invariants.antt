@@ -1,5 +1,5 @@
 use Rattle.std.proofs.Common.{◌≡◌, ℕ, ◌≤◌, map, take, length, false}
-use Rattle.deadline_plan.specs.Admission.{has}
+use Rattle.deadline_plan.specs.Admission.{has_stream_of}
 use Rattle.replay_tool.specs.DeadlineReport.{Decided, no_streams, stream_of_answer}
 use Rattle.replay_tool.proofs.deadline_answer.admitted.Given as goal
 
@@ -7,6 +7,6 @@ abbrev pub invariant-loop-stream : goal.invariant-loop-stream
 invariant-loop-stream l = record {
   streams : map stream_of_answer l.answers.items ≡ take l.stream-index l.stream-items;
   decided : Decided (no_streams l.fn.text) l.answers.items l.plan;
-  new : (owner : ℕ) → has (take l.stream-index l.stream-items) owner ≡ false → has l.plan.streams owner ≡ false;
+  new : (owner : ℕ) → has_stream_of (take l.stream-index l.stream-items) owner ≡ false → has_stream_of l.plan.streams owner ≡ false;
   few : length l.plan.streams ≤ l.stream-index;
 }

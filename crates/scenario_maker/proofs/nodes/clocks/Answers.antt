@@ -1,7 +1,7 @@
 use Rattle.std.proofs.Common.{◌≡◌, ℕ, ◌+◌, ◌*◌, ◌%◌, ap, arith, refl, sym, ◌∙◌, [], rules, w8, SFits, to_z, of_z}
 use Rattle.std.proofs.lemmas.Int.{to_z-of_z}
 use Rattle.std.specs.Prelude.{pos, ◌-ℤ◌}
-use Rattle.scenario_maker.specs.Drawn.{word}
+use Rattle.scenario_maker.specs.Drawn.{drawn_word}
 use Rattle.scenario_maker.specs.Made.{node_line, rate_line}
 use Rattle.scenario_maker.proofs.LaterWords.{none_on}
 use Rattle.scenario_maker.proofs.LoopSteps.{steps_to, word_at, pushed, node_is, rate_is}
@@ -15,10 +15,10 @@ loop-k-preserved c =
     let g = c.args.draws.now in
     let k = c.loop-k.k in
     let first = word_at (2 * k) 0 (2 * k) g c.loop-k.draws c.loop-k.invariant.draws (omega arith) in
-    let offset : c.from-offset.result ≡ word g (2 * k) % 256001 = c.from-offset.ensures ∙ c.below.ensures.value ∙ ap (λ (x : ℕ). x % 256001) first in
+    let offset : c.from-offset.result ≡ drawn_word g (2 * k) % 256001 = c.from-offset.ensures ∙ c.below.ensures.value ∙ ap (λ (x : ℕ). x % 256001) first in
     let once = steps_to (2 * k) 1 (2 * k + 1) g c.loop-k.draws c.below.new.self c.loop-k.invariant.draws c.below.ensures.left refl in
     let second = word_at (2 * k + 1) 0 (2 * k + 1) g c.below.new.self once (omega arith) in
-    let ppm : c.rate-ppm.result ≡ pos (word g (2 * k + 1) % 41) -ℤ pos 20 = c.rate-ppm.ensures.value ∙ ap (λ (x : ℕ). pos (x % 41) -ℤ pos 20) second in
+    let ppm : c.rate-ppm.result ≡ pos (drawn_word g (2 * k + 1) % 41) -ℤ pos 20 = c.rate-ppm.ensures.value ∙ ap (λ (x : ℕ). pos (x % 41) -ℤ pos 20) second in
     let fits : SFits w8 c.rate-ppm.result = search rules in
     let kept = to_z-of_z w8 c.rate-ppm.result fits in
     record {

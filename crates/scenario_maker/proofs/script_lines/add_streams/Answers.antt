@@ -2,7 +2,7 @@ use Rattle.std.proofs.Common.{◌≡◌, ℕ, ◌+◌, ◌-◌, ◌%◌, ap, ari
 use Rattle.std.proofs.lemmas.List.{append-nil}
 use Rattle.scenario_text.specs.declared.script.Act.TheVariants.{Declare}
 use Rattle.scenario_text.specs.declared.script.ScriptLine.{ScriptLine}
-use Rattle.scenario_maker.specs.Drawn.{word}
+use Rattle.scenario_maker.specs.Drawn.{drawn_word}
 use Rattle.scenario_maker.specs.Made.{stream_line}
 use Rattle.scenario_maker.proofs.LaterWords.{none_on}
 use Rattle.scenario_maker.proofs.LoopSteps.{steps_to, word_at, pushed}
@@ -16,7 +16,7 @@ loop-k-preserved c =
     let g = c.args.draws.now in
     let k = c.loop-k.k in
     let drawn = word_at k 0 (k + 2 - 2) g c.loop-k.draws c.loop-k.invariant.draws (omega arith) in
-    let interval : 4 + c.below.result ≡ 4 + word g (k + 2 - 2) % 13 = ap (λ (x : ℕ). 4 + x) (c.below.ensures.value ∙ ap (λ (x : ℕ). x % 13) drawn) in
+    let interval : 4 + c.below.result ≡ 4 + drawn_word g (k + 2 - 2) % 13 = ap (λ (x : ℕ). 4 + x) (c.below.ensures.value ∙ ap (λ (x : ℕ). x % 13) drawn) in
     let at : ℕ → ℕ → ScriptLine = λ i n. record { frame = 0; node = i; act = Declare 0 n } in
     record {
       lines = pushed (stream_line g) c.args.lines.now.items c.loop-k.lines.items c.push.new.self.items (at c.node_of.result (4 + c.below.result)) 2 k (k + 2)

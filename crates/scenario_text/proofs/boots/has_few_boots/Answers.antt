@@ -2,7 +2,7 @@ use Rattle.std.proofs.Common.{◌≤◌, ℕ, Bool, false, List, subst, refl}
 use Rattle.std.proofs.lemmas.List.{take_all}
 use Rattle.scenario_text.specs.ScenarioFacts.{turned}
 use Rattle.scenario_text.specs.declared.script.ScriptLine.{ScriptLine}
-use Rattle.scenario_text.specs.AddedLines.{told}
+use Rattle.scenario_text.specs.AddedLines.{boots_so_far}
 use Rattle.scenario_text.proofs.BootsTold.{told_more, too_many}
 use Rattle.scenario_text.proofs.boots.has_few_boots.Goals as goal
 
@@ -10,8 +10,8 @@ pub loop-line-preserved : goal.loop-line-preserved
 loop-line-preserved c =
     let b = c.loop-line.boots in
     record {
-      counted = λ v. told_more v c.args.script.now c.loop-line.line-index c.line-item.result (told b.on b.counts v)
-          (told c.follow.new.self.on c.follow.new.self.counts v) c.loop-line-test.true c.line-item.is (c.loop-line.invariant.counted v)
+      counted = λ v. told_more v c.args.script.now c.loop-line.line-index c.line-item.result (boots_so_far b.on b.counts v)
+          (boots_so_far c.follow.new.self.on c.follow.new.self.counts v) c.loop-line-test.true c.line-item.is (c.loop-line.invariant.counted v)
           (c.if-not-follow.ensures.told refl v);
       few = c.if-not-follow.ensures.few refl;
     }
@@ -21,7 +21,7 @@ returns-then-not-follow-clause-many c =
     λ is few.
     let b = c.loop-line.boots in
     let x = c.line-item.result in
-    too_many c.args.script.now c.loop-line.line-index x (told b.on b.counts x.node) c.loop-line-test.true c.line-item.is
+    too_many c.args.script.now c.loop-line.line-index x (boots_so_far b.on b.counts x.node) c.loop-line-test.true c.line-item.is
     (c.loop-line.invariant.counted x.node) (c.if-not-follow.ensures.many refl) few
 
 pub returns-clause-few : goal.returns-clause-few

@@ -1,14 +1,14 @@
 use Rattle.std.proofs.Common.{◌≡◌, ◌∙◌, sym, ℕ, List, Ok, ap}
 use Rattle.std.specs.Str.Lines.{lines}
-use Rattle.text_readers.specs.Faults.{after_lines}
-use Rattle.text_readers.specs.Reading.{after_line}
-use Rattle.scenario_text.specs.FloodGrammar.{Flood, after_words, no_flood}
+use Rattle.text_readers.specs.Faults.{draft_after_lines}
+use Rattle.text_readers.specs.Reading.{draft_after_line}
+use Rattle.scenario_text.specs.FloodGrammar.{Flood, flood_after_words, no_flood}
 use Rattle.scenario_text.proofs.FloodKeeps.{text_sound}
 use Rattle.scenario_text.proofs.flood.parse_flood.Goals as goal
 
-from_nothing : (bytes : List ℕ) (n d : Flood) → n ≡ no_flood → after_lines (after_line after_words) 1 n (lines bytes) ≡ Ok d
-    → after_lines (after_line after_words) 1 no_flood (lines bytes) ≡ Ok d
-from_nothing bytes n d new read = ap (λ (e : Flood). after_lines (after_line after_words) 1 e (lines bytes)) (sym new) ∙ read
+from_nothing : (bytes : List ℕ) (n d : Flood) → n ≡ no_flood → draft_after_lines (draft_after_line flood_after_words) 1 n (lines bytes) ≡ Ok d
+    → draft_after_lines (draft_after_line flood_after_words) 1 no_flood (lines bytes) ≡ Ok d
+from_nothing bytes n d new read = ap (λ (e : Flood). draft_after_lines (draft_after_line flood_after_words) 1 e (lines bytes)) (sym new) ∙ read
 
 pub finish-requires : goal.finish-requires
 finish-requires c =

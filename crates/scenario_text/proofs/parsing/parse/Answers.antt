@@ -1,23 +1,23 @@
 use Rattle.std.proofs.Common.{◌≡◌, ◌+◌, ◌∙◌, sym, ℕ, List, Result, Ok, length, ap}
 use Rattle.std.specs.Str.Lines.{lines}
-use Rattle.text_readers.specs.Faults.{after_lines, in_line, ◌>>=◌}
-use Rattle.text_readers.specs.Reading.{after_line}
-use Rattle.scenario_text.specs.ScenarioGrammar.{Scenario, scenario_of, after_words, no_scenario, finished}
+use Rattle.text_readers.specs.Faults.{draft_after_lines, in_line, ◌>>=◌}
+use Rattle.text_readers.specs.Reading.{draft_after_line}
+use Rattle.scenario_text.specs.ScenarioGrammar.{Scenario, scenario_of, scenario_after_words, no_scenario, whole_scenario}
 use Rattle.scenario_text.specs.ScenarioParts.{ScenarioParts}
 use Rattle.text_readers.specs.declared.fault.FaultKind.{FaultKind}
 use Rattle.scenario_text.proofs.ScenarioKeeps.{text_sound}
 use Rattle.scenario_text.proofs.parsing.parse.Goals as goal
 
 -- what a text says whose lines give a draft that misses nothing
-said : (bytes : List ℕ) (d : Scenario) (s : ScenarioParts) → after_lines (after_line after_words) 1 no_scenario (lines bytes) ≡ Ok d
-    → finished d ≡ Ok s → scenario_of bytes ≡ Ok s
+said : (bytes : List ℕ) (d : Scenario) (s : ScenarioParts) → draft_after_lines (draft_after_line scenario_after_words) 1 no_scenario (lines bytes) ≡ Ok d
+    → whole_scenario d ≡ Ok s → scenario_of bytes ≡ Ok s
 said bytes d s read done =
-    ap (λ (r : Result Scenario (ℕ × FaultKind)). r >>= (λ e. in_line (length (lines bytes) + 1) (finished e))) read
+    ap (λ (r : Result Scenario (ℕ × FaultKind)). r >>= (λ e. in_line (length (lines bytes) + 1) (whole_scenario e))) read
     ∙ ap (λ (r : Result ScenarioParts FaultKind). in_line (length (lines bytes) + 1) r) done
 
-from_nothing : (bytes : List ℕ) (n d : Scenario) → n ≡ no_scenario → after_lines (after_line after_words) 1 n (lines bytes) ≡ Ok d
-    → after_lines (after_line after_words) 1 no_scenario (lines bytes) ≡ Ok d
-from_nothing bytes n d new read = ap (λ (e : Scenario). after_lines (after_line after_words) 1 e (lines bytes)) (sym new) ∙ read
+from_nothing : (bytes : List ℕ) (n d : Scenario) → n ≡ no_scenario → draft_after_lines (draft_after_line scenario_after_words) 1 n (lines bytes) ≡ Ok d
+    → draft_after_lines (draft_after_line scenario_after_words) 1 no_scenario (lines bytes) ≡ Ok d
+from_nothing bytes n d new read = ap (λ (e : Scenario). draft_after_lines (draft_after_line scenario_after_words) 1 e (lines bytes)) (sym new) ∙ read
 
 pub finish-requires-clause-said : goal.finish-requires-clause-said
 finish-requires-clause-said c =

@@ -1,6 +1,6 @@
 use Rattle.std.proofs.Common.{◌≡◌, ℕ, length, ◌+◌, ◌*◌, ◌^◌, ap, sym, ◌∙◌, arith, get_or}
 use Rattle.std.proofs.lemmas.List.{take_all}
-use Rattle.schedule_codec.specs.Packing.{Bits, number, digits, bytes_for, fill}
+use Rattle.schedule_codec.specs.Packing.{Bits, packed_number, digits, bytes_for, fill}
 use Rattle.schedule_codec.proofs.Packs.{fit_at, number_more, has_room}
 use Rattle.schedule_codec.proofs.Numbers.{nothing}
 use Rattle.schedule_codec.proofs.packing.pack.Goals as goal
@@ -35,7 +35,7 @@ returns c =
     let bits = c.loop-number.bits in
     let all : c.loop-number.number-index ≡ length numbers = omega arith in
     let count : bits.count ≡ length numbers * w = c.loop-number.invariant.count ∙ ap (λ i. i * w) all in
-    let value : bits.value ≡ number w numbers = c.loop-number.invariant.value
-    ∙ ap (λ l. number w l) (take_all c.loop-number.number-index numbers (omega arith)) in
+    let value : bits.value ≡ packed_number w numbers = c.loop-number.invariant.value
+    ∙ ap (λ l. packed_number w l) (take_all c.loop-number.number-index numbers (omega arith)) in
     c.finish.ensures ∙ ap (λ (n : ℕ). digits 8 (bytes_for n) (bits.value * 2 ^ fill n)) count
     ∙ ap (λ n. digits 8 (bytes_for (length numbers * w)) (n * 2 ^ fill (length numbers * w))) value

@@ -1,7 +1,7 @@
 use Rattle.std.proofs.Common.{◌≡◌, ℕ, List, length, ◌+◌, ◌*◌, ◌^◌, ◌==◌, Some, ap, sym, ◌∙◌, arith}
 use Rattle.std.proofs.lemmas.Bool.{eqb-true, eq-eqb, both_ways}
 use Rattle.std.proofs.lemmas.Nat.{mul-le}
-use Rattle.schedule_codec.specs.Packing.{Bits, number, fit}
+use Rattle.schedule_codec.specs.Packing.{Bits, packed_number, fit}
 use Rattle.schedule_codec.proofs.Numbers.{nothing}
 use Rattle.schedule_codec.proofs.Streams.{fit_push}
 use Rattle.schedule_codec.proofs.Packs.{same_numbers, long_enough, nothing_left, read_more, all_read}
@@ -23,7 +23,7 @@ loop-init c =
     let count = ap (λ (b : Bits). b.count) c.new-bits.ensures in
     let value = ap (λ (b : Bits). b.value) c.new-bits.ensures in
     let none = c.new-numbers.ensures in
-    let no_number = ap (λ l. number w l * 2 ^ left.count) none ∙ ap (λ n. n * 2 ^ left.count) (nothing w) in
+    let no_number = ap (λ l. packed_number w l * 2 ^ left.count) none ∙ ap (λ n. n * 2 ^ left.count) (nothing w) in
     record {
       many = ap length none;
       count = omega arith;
@@ -53,7 +53,7 @@ loop-preserved c =
     record {
       many = omega arith;
       count = omega arith;
-      value = ap (λ l. number w l * 2 ^ left.count + left.value) pushed ∙ read_more w numbers c.take.result c.loop.bits.count
+      value = ap (λ l. packed_number w l * 2 ^ left.count + left.value) pushed ∙ read_more w numbers c.take.result c.loop.bits.count
           c.loop.bits.value left.count left.value taken.count taken.value ∙ c.loop.invariant.value;
       fits = ap (λ l. fit w l) pushed ∙ fit_push w numbers c.take.result c.loop.invariant.fits taken.fits;
     }

@@ -1,28 +1,28 @@
 use Rattle.std.proofs.Common.{List, subst}
 use Rattle.bus_rules.specs.Tables.{Entry, code_in}
-use Rattle.stream_table.specs.CodeOrder.{IsAt, IsGap}
+use Rattle.stream_table.specs.CodeOrder.{IsAtPlace, IsGap}
 use Rattle.stream_table.proofs.Changes.{removed_is, removed_kept, removed_none, is_there}
 use Rattle.stream_table.proofs.places.remove.Goals as goal
 
 pub returns-in-Ok-clause-answer : goal.returns-in-Ok-clause-answer
 returns-in-Ok-clause-answer c =
     let es = c.args.entries.now.items in
-    let at : IsAt code_in es c.args.code c.in-Ok.place =
-    subst (λ (l : List Entry). IsAt code_in l c.args.code c.in-Ok.place) c.as_slice.ensures.value c.in-Ok.ensures.found in
+    let at : IsAtPlace code_in es c.args.code c.in-Ok.place =
+    subst (λ (l : List Entry). IsAtPlace code_in l c.args.code c.in-Ok.place) c.as_slice.ensures.value c.in-Ok.ensures.found in
     is_there es c.args.code c.in-Ok.place at c.requires
 
 pub returns-in-Ok-clause-after : goal.returns-in-Ok-clause-after
 returns-in-Ok-clause-after c =
     let es = c.args.entries.now.items in
-    let at : IsAt code_in es c.args.code c.in-Ok.place =
-    subst (λ (l : List Entry). IsAt code_in l c.args.code c.in-Ok.place) c.as_slice.ensures.value c.in-Ok.ensures.found in
+    let at : IsAtPlace code_in es c.args.code c.in-Ok.place =
+    subst (λ (l : List Entry). IsAtPlace code_in l c.args.code c.in-Ok.place) c.as_slice.ensures.value c.in-Ok.ensures.found in
     removed_is es _ c.args.code c.in-Ok.place at c.requires c.remove.ensures.items
 
 pub returns-in-Ok-clause-kept : goal.returns-in-Ok-clause-kept
 returns-in-Ok-clause-kept c =
     let es = c.args.entries.now.items in
-    let at : IsAt code_in es c.args.code c.in-Ok.place =
-    subst (λ (l : List Entry). IsAt code_in l c.args.code c.in-Ok.place) c.as_slice.ensures.value c.in-Ok.ensures.found in
+    let at : IsAtPlace code_in es c.args.code c.in-Ok.place =
+    subst (λ (l : List Entry). IsAtPlace code_in l c.args.code c.in-Ok.place) c.as_slice.ensures.value c.in-Ok.ensures.found in
     removed_kept es _ c.args.code c.requires (removed_is es _ c.args.code c.in-Ok.place at c.requires c.remove.ensures.items)
 
 pub returns-in-Err-clause-after : goal.returns-in-Err-clause-after

@@ -4,7 +4,7 @@ use Rattle.std.proofs.lemmas.List.{drop_more, take_more}
 use mir.Val.{to_z, of_z}
 use mir.Syntax.{w8}
 use Rattle.tick_clock.specs.declared.segment.Segment.{Segment}
-use Rattle.tick_clock.specs.Segments.{AreKept, last_of, first_segment, entry_of}
+use Rattle.tick_clock.specs.Segments.{AreSegmentsAfter, last_segment, first_segment, rate_entry_of}
 use Rattle.tick_clock.proofs.Walks.{same_rate}
 use Rattle.tick_clock.proofs.KeptSegments.{InOrder, IsSmall, in_order, step_kept, step_last, step_small, step_entries}
 use Rattle.tick_clock.proofs.segment.segments_of.Goals as goal
@@ -46,11 +46,11 @@ loop-start-preserved c =
     let s : Segment = record { start = x.0; ppm = z; count = count } in
     let pushed : ss ++ s ∷ [] ≡ c.push.new.self.items = search rules in
     record {
-      entries = subst (λ (l : List Segment). map entry_of l ≡ take (i + 1) rates) pushed
+      entries = subst (λ (l : List Segment). map rate_entry_of l ≡ take (i + 1) rates) pushed
           (step_entries ss last x rest z count same c.counted-count.ensures inv.kept inv.last inv.small todo (take i rates) inv.entries
           ∙ sym (take_more rates i (0, pos 0) (omega arith)));
-      kept = subst (AreKept first_segment) pushed (step_kept ss last x rest z count same c.counted-count.ensures inv.kept inv.last inv.small todo);
-      last = subst (λ (l : List Segment). s ≡ last_of first_segment l (length l)) pushed
+      kept = subst (AreSegmentsAfter first_segment) pushed (step_kept ss last x rest z count same c.counted-count.ensures inv.kept inv.last inv.small todo);
+      last = subst (λ (l : List Segment). s ≡ last_segment first_segment l (length l)) pushed
           (step_last ss last x rest z count same c.counted-count.ensures inv.kept inv.last inv.small todo);
       small = step_small ss last x rest z count same c.counted-count.ensures inv.kept inv.last inv.small todo;
       todo = todo.3;

@@ -3,10 +3,10 @@ use Rattle.std.proofs.lemmas.Result.{on_ok_weaker}
 use Rattle.lwb_base.specs.declared.event.Event.TheVariants.{Boot}
 use Rattle.scenario_text.specs.declared.script.Act.{Act}
 use Rattle.air_log.specs.Devices.{event}
-use Rattle.air_log.specs.ScriptedDevices.{after_act, after_line}
+use Rattle.air_log.specs.ScriptedDevices.{device_after_act, device_after_line}
 use Rattle.air_log.specs.DeviceStates.{DeviceState, whole, tuning_of}
-use Rattle.air_log.specs.TrailsTold.{sending_of}
-use Rattle.air_log.specs.Courses.{CourseState, IsShown}
+use Rattle.air_log.specs.TrailsTold.{sending_of_entry}
+use Rattle.air_log.specs.Courses.{CourseState, CourseIsShown}
 use Rattle.air_log.proofs.ShownCourses.{goes_seen}
 use Rattle.air_log.proofs.CourseSteps.{then_shown, then_goes, state_goes, device_goes, put_goes}
 use Rattle.air_log.proofs.course.Course.act.Goals as goal
@@ -16,7 +16,7 @@ tell-requires-clause-shown g c =
     let t = c.args.t in
     let old : CourseState = record {
       device = c.self.inside.device;
-      sent = map sending_of c.self.inside.sent.items;
+      sent = map sending_of_entry c.self.inside.sent.items;
       tuned = reverse (map tuning_of c.self.inside.tuned.items);
       deliveries = c.self.inside.deliveries.items;
       windows = c.self.inside.windows;
@@ -25,7 +25,7 @@ tell-requires-clause-shown g c =
     let on : DeviceState = record (old.device) { core = x.core; power = x.power; delivery = None } in
     let is : x ≡ on = c.switch_on.ensures.after ∙ ap (λ (b : Bool). if b then on else old.device) c.if-switch_on.true in
     then_shown t old x (c.switch_on.ensures.time t) (ap (λ (s : DeviceState). s.setup) is) (λ none. ap (λ (s : DeviceState). s.delivery) is)
-    (subst (IsShown t) (sym c.self.view_is) c.requires.shown)
+    (subst (CourseIsShown t) (sym c.self.view_is) c.requires.shown)
 
 pub returns-in_ok-tell-in-On : goal.returns-in_ok-tell-in-On
 returns-in_ok-tell-in-On g c =
@@ -34,7 +34,7 @@ returns-in_ok-tell-in-On g c =
     let line = c.args.line.now in
     let old : CourseState = record {
       device = c.self.inside.device;
-      sent = map sending_of c.self.inside.sent.items;
+      sent = map sending_of_entry c.self.inside.sent.items;
       tuned = reverse (map tuning_of c.self.inside.tuned.items);
       deliveries = c.self.inside.deliveries.items;
       windows = c.self.inside.windows;
@@ -42,10 +42,10 @@ returns-in_ok-tell-in-On g c =
     let x = c.switch_on.new.self in
     let on : DeviceState = record (old.device) { core = x.core; power = x.power; delivery = None } in
     let is : x ≡ on = c.switch_on.ensures.after ∙ ap (λ (b : Bool). if b then on else old.device) c.if-switch_on.true in
-    goes_seen t (λ q d. after_line clock q t d line) old c.args.self.now c.tell.new.self c.tell.new.self c.self.view_is refl
+    goes_seen t (λ q d. device_after_line clock q t d line) old c.args.self.now c.tell.new.self c.tell.new.self c.self.view_is refl
     (then_goes t old x (c.switch_on.ensures.time t) (ap (λ (s : DeviceState). s.setup) is) (λ none. ap (λ (s : DeviceState). s.delivery) is)
-    (λ q d. after_line clock q t d line) (λ q d. event clock q t Boot None d) c.tell.new.self
-    (λ made. ap (λ (a : Act). after_act clock old.device.setup t line.frame (whole old.device made) a old.device.power) c.in-On.is
+    (λ q d. device_after_line clock q t d line) (λ q d. event clock q t Boot None d) c.tell.new.self
+    (λ made. ap (λ (a : Act). device_after_act clock old.device.setup t line.frame (whole old.device made) a old.device.power) c.in-On.is
     ∙ c.switch_on.ensures.whole clock t line.frame made
     ∙ ap (λ (b : Bool). if b then event clock old.device.setup t Boot None (whole x made) else whole x made) c.if-switch_on.true)
     c.in_ok-tell-in-On.ensures)
@@ -57,7 +57,7 @@ returns-else-switch_on g c =
     let line = c.args.line.now in
     let old : CourseState = record {
       device = c.self.inside.device;
-      sent = map sending_of c.self.inside.sent.items;
+      sent = map sending_of_entry c.self.inside.sent.items;
       tuned = reverse (map tuning_of c.self.inside.tuned.items);
       deliveries = c.self.inside.deliveries.items;
       windows = c.self.inside.windows;
@@ -66,9 +66,9 @@ returns-else-switch_on g c =
     let on : DeviceState = record (old.device) { core = x.core; power = x.power; delivery = None } in
     let is : x ≡ old.device = c.switch_on.ensures.after ∙ ap (λ (b : Bool). if b then on else old.device) c.if-switch_on.false in
     let new : CourseState = record old { device = x } in
-    goes_seen t (λ q d. after_line clock q t d line) old c.args.self.now new new c.self.view_is refl
-    (state_goes t old x (λ q d. after_line clock q t d line)
-    (λ made. ap (λ (a : Act). after_act clock old.device.setup t line.frame (whole old.device made) a old.device.power) c.in-On.is
+    goes_seen t (λ q d. device_after_line clock q t d line) old c.args.self.now new new c.self.view_is refl
+    (state_goes t old x (λ q d. device_after_line clock q t d line)
+    (λ made. ap (λ (a : Act). device_after_act clock old.device.setup t line.frame (whole old.device made) a old.device.power) c.in-On.is
     ∙ c.switch_on.ensures.whole clock t line.frame made
     ∙ ap (λ (b : Bool). if b then event clock old.device.setup t Boot None (whole x made) else whole x made) c.if-switch_on.false)
     (c.switch_on.ensures.time t) (record { setup = ap (λ (s : DeviceState). s.setup) is; delivery = ap (λ (s : DeviceState). s.delivery) is }))
@@ -80,16 +80,16 @@ returns-in-Off g c =
     let line = c.args.line.now in
     let old : CourseState = record {
       device = c.self-in-Off.inside.device;
-      sent = map sending_of c.self-in-Off.inside.sent.items;
+      sent = map sending_of_entry c.self-in-Off.inside.sent.items;
       tuned = reverse (map tuning_of c.self-in-Off.inside.tuned.items);
       deliveries = c.self-in-Off.inside.deliveries.items;
       windows = c.self-in-Off.inside.windows;
     } in
     let x = c.switch_off-closed in
     on_ok_weaker c.log_tuning.result (λ logged.
-    goes_seen t (λ q d. after_line clock q t d line) old c.args.self.now _ c.log_tuning.new.self c.self-in-Off.view_is (sym logged)
-    (device_goes t old x.new.self x.result (λ q d. after_line clock q t d line)
-    (λ made ended. ap (λ (a : Act). after_act clock old.device.setup t line.frame (whole old.device made) a old.device.power) c.in-Off.is
+    goes_seen t (λ q d. device_after_line clock q t d line) old c.args.self.now _ c.log_tuning.new.self c.self-in-Off.view_is (sym logged)
+    (device_goes t old x.new.self x.result (λ q d. device_after_line clock q t d line)
+    (λ made ended. ap (λ (a : Act). device_after_act clock old.device.setup t line.frame (whole old.device made) a old.device.power) c.in-Off.is
     ∙ x.ensures.whole clock line.frame made)
     x.ensures.before x.ensures.time x.ensures.node))
     c.log_tuning.ensures
@@ -101,16 +101,16 @@ returns-in-Declare g c =
     let line = c.args.line.now in
     let old : CourseState = record {
       device = c.self-in-Declare.inside.device;
-      sent = map sending_of c.self-in-Declare.inside.sent.items;
+      sent = map sending_of_entry c.self-in-Declare.inside.sent.items;
       tuned = reverse (map tuning_of c.self-in-Declare.inside.tuned.items);
       deliveries = c.self-in-Declare.inside.deliveries.items;
       windows = c.self-in-Declare.inside.windows;
     } in
     let x = c.declare in
     let new : CourseState = record old { device = x.new.self } in
-    goes_seen t (λ q d. after_line clock q t d line) old c.args.self.now new new c.self-in-Declare.view_is refl
-    (state_goes t old x.new.self (λ q d. after_line clock q t d line)
-    (λ made. ap (λ (a : Act). after_act clock old.device.setup t line.frame (whole old.device made) a old.device.power) c.in-Declare.is
+    goes_seen t (λ q d. device_after_line clock q t d line) old c.args.self.now new new c.self-in-Declare.view_is refl
+    (state_goes t old x.new.self (λ q d. device_after_line clock q t d line)
+    (λ made. ap (λ (a : Act). device_after_act clock old.device.setup t line.frame (whole old.device made) a old.device.power) c.in-Declare.is
     ∙ x.ensures.whole clock t line.frame made)
     (x.ensures.time t) x.ensures.node)
 
@@ -121,16 +121,16 @@ returns-in-Leave g c =
     let line = c.args.line.now in
     let old : CourseState = record {
       device = c.self-in-Leave.inside.device;
-      sent = map sending_of c.self-in-Leave.inside.sent.items;
+      sent = map sending_of_entry c.self-in-Leave.inside.sent.items;
       tuned = reverse (map tuning_of c.self-in-Leave.inside.tuned.items);
       deliveries = c.self-in-Leave.inside.deliveries.items;
       windows = c.self-in-Leave.inside.windows;
     } in
     let x = c.leave in
     let new : CourseState = record old { device = x.new.self } in
-    goes_seen t (λ q d. after_line clock q t d line) old c.args.self.now new new c.self-in-Leave.view_is refl
-    (state_goes t old x.new.self (λ q d. after_line clock q t d line)
-    (λ made. ap (λ (a : Act). after_act clock old.device.setup t line.frame (whole old.device made) a old.device.power) c.in-Leave.is
+    goes_seen t (λ q d. device_after_line clock q t d line) old c.args.self.now new new c.self-in-Leave.view_is refl
+    (state_goes t old x.new.self (λ q d. device_after_line clock q t d line)
+    (λ made. ap (λ (a : Act). device_after_act clock old.device.setup t line.frame (whole old.device made) a old.device.power) c.in-Leave.is
     ∙ x.ensures.whole clock t line.frame made)
     (x.ensures.time t) x.ensures.node)
 
@@ -141,16 +141,16 @@ returns-in-Put g c =
     let line = c.args.line.now in
     let old : CourseState = record {
       device = c.self-in-Put.inside.device;
-      sent = map sending_of c.self-in-Put.inside.sent.items;
+      sent = map sending_of_entry c.self-in-Put.inside.sent.items;
       tuned = reverse (map tuning_of c.self-in-Put.inside.tuned.items);
       deliveries = c.self-in-Put.inside.deliveries.items;
       windows = c.self-in-Put.inside.windows;
     } in
     let x = c.put in
     let new : CourseState = record old { device = x.new.self } in
-    goes_seen t (λ q d. after_line clock q t d line) old c.args.self.now new new c.self-in-Put.view_is refl
+    goes_seen t (λ q d. device_after_line clock q t d line) old c.args.self.now new new c.self-in-Put.view_is refl
     (put_goes t old x.new.self x.result (record { frame = line.frame; node = old.device.setup.id; stream = c.in-Put.stream })
-    (λ q d. after_line clock q t d line)
-    (λ made. ap (λ (a : Act). after_act clock old.device.setup t line.frame (whole old.device made) a old.device.power) c.in-Put.is
+    (λ q d. device_after_line clock q t d line)
+    (λ made. ap (λ (a : Act). device_after_act clock old.device.setup t line.frame (whole old.device made) a old.device.power) c.in-Put.is
     ∙ x.ensures.whole clock t line.frame made)
     (x.ensures.time t) x.ensures.node)

@@ -1,8 +1,8 @@
 use Rattle.std.proofs.Common.{map, reverse, sym}
 use Rattle.std.proofs.lemmas.Result.{on_ok_weaker}
-use Rattle.air_log.specs.Trails.{begun}
+use Rattle.air_log.specs.Trails.{device_after_start}
 use Rattle.air_log.specs.DeviceStates.{tuning_of}
-use Rattle.air_log.specs.TrailsTold.{sending_of}
+use Rattle.air_log.specs.TrailsTold.{sending_of_entry}
 use Rattle.air_log.specs.Courses.{CourseState}
 use Rattle.air_log.proofs.ShownCourses.{goes_seen}
 use Rattle.air_log.proofs.CourseSteps.{begin_goes}
@@ -12,13 +12,13 @@ pub returns : goal.returns
 returns c =
     let old : CourseState = record {
       device = c.self.inside.device;
-      sent = map sending_of c.self.inside.sent.items;
+      sent = map sending_of_entry c.self.inside.sent.items;
       tuned = reverse (map tuning_of c.self.inside.tuned.items);
       deliveries = c.self.inside.deliveries.items;
       windows = c.self.inside.windows;
     } in
     let x = c.begin-sending in
     on_ok_weaker c.log_sending.result (λ logged.
-    goes_seen c.args.t (λ q d. begun q c.args.t d) old c.args.self.now _ c.log_sending.new.self c.self.view_is (sym logged)
-    (begin_goes c.args.t old x.new.self x.result (λ q d. begun q c.args.t d) x.ensures.whole (x.ensures.time c.args.t) x.ensures.node))
+    goes_seen c.args.t (λ q d. device_after_start q c.args.t d) old c.args.self.now _ c.log_sending.new.self c.self.view_is (sym logged)
+    (begin_goes c.args.t old x.new.self x.result (λ q d. device_after_start q c.args.t d) x.ensures.whole (x.ensures.time c.args.t) x.ensures.node))
     c.log_sending.ensures

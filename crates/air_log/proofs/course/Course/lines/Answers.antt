@@ -1,6 +1,6 @@
 use Rattle.std.proofs.Common.{◌≤◌, ◌^◌, ℕ, sym, subst, arith}
 use Rattle.std.proofs.lemmas.Option.{slice_get_within}
-use Rattle.air_log.specs.Courses.{IsShown, Goes, frame_of}
+use Rattle.air_log.specs.Courses.{CourseIsShown, Goes, frame_of_line}
 use Rattle.air_log.proofs.ListCuts.{read_at, read_past, cut_at, cut_end}
 use Rattle.air_log.proofs.LinesOfCourses.{none_told, in_range, boots, one_more_told, all_told, own_line}
 use Rattle.air_log.proofs.FramesOfCourses.{tick_of, start_early}
@@ -16,7 +16,7 @@ returns-then-line-frame-clause-cut g c =
     let s = c.args.s.now in
     let k = c.loop-line.told in
     let line = c.in-Some.line.now in
-    cut_at frame_of s.script c.requires.sound.script_ascends k c.args.frame line
+    cut_at frame_of_line s.script c.requires.sound.script_ascends k c.args.frame line
     (read_at s.script c.script.result.now k line c.script.ensures.value c.in-Some.ensures.lookup.0 c.in-Some.ensures.lookup.1) c.if-line-frame.true
     c.loop-line.invariant.cut
 
@@ -29,14 +29,14 @@ returns-then-line-frame-clause-goes g c =
     let k = c.loop-line.told in
     let line = c.in-Some.line.now in
     all_told (g.C.DriftClock.readings c.args.clock.now) s c.requires.sound c.args.frame k c.args.self.now c.loop-line.self c.loop-line.invariant
-    (cut_at frame_of s.script c.requires.sound.script_ascends k c.args.frame line
+    (cut_at frame_of_line s.script c.requires.sound.script_ascends k c.args.frame line
     (read_at s.script c.script.result.now k line c.script.ensures.value c.in-Some.ensures.lookup.0 c.in-Some.ensures.lookup.1) c.if-line-frame.true
     c.loop-line.invariant.cut)
 
 pub line-requires-clause-shown : goal.line-requires-clause-shown
 line-requires-clause-shown g c =
     let now = tick_of c.args.s.now c.args.frame c.from.result c.frame.result c.profile.result c.from.ensures c.frame.ensures.value c.profile.ensures.value in
-    subst (λ (t : ℕ). IsShown t c.loop-line.self) (sym now) c.loop-line.invariant.shown
+    subst (λ (t : ℕ). CourseIsShown t c.loop-line.self) (sym now) c.loop-line.invariant.shown
 
 pub line-requires-clause-early : goal.line-requires-clause-early
 line-requires-clause-early g c =
@@ -83,7 +83,7 @@ pub returns-clause-cut : goal.returns-clause-cut
 returns-clause-cut g c =
     let s = c.args.s.now in
     let k = c.loop-line.told in
-    cut_end frame_of s.script k c.args.frame
+    cut_end frame_of_line s.script k c.args.frame
     (read_past s.script c.script.result.now k c.script.ensures.value c.in_default.ensures.lookup.0) c.loop-line.invariant.cut
 
 pub returns-clause-power : goal.returns-clause-power
@@ -94,5 +94,5 @@ returns-clause-goes g c =
     let s = c.args.s.now in
     let k = c.loop-line.told in
     all_told (g.C.DriftClock.readings c.args.clock.now) s c.requires.sound c.args.frame k c.args.self.now c.loop-line.self c.loop-line.invariant
-    (cut_end frame_of s.script k c.args.frame
+    (cut_end frame_of_line s.script k c.args.frame
     (read_past s.script c.script.result.now k c.script.ensures.value c.in_default.ensures.lookup.0) c.loop-line.invariant.cut)

@@ -6,9 +6,9 @@ use Rattle.radio_model.specs.OnAir.{Sending, Tuning}
 use Rattle.node_core.specs.Rows.{orders_by}
 use Rattle.air_log.specs.Devices.{obeyed, event}
 use Rattle.air_log.specs.DeviceStates.{DeviceState, whole, row_of, made_by, tuning_of}
-use Rattle.air_log.specs.TrailsTold.{sending_of}
+use Rattle.air_log.specs.TrailsTold.{sending_of_entry}
 use Rattle.air_log.specs.WindowSums.{WindowSum, noted as noted_with}
-use Rattle.air_log.specs.Courses.{CourseState, IsShown, Goes}
+use Rattle.air_log.specs.Courses.{CourseState, CourseIsShown, Goes}
 use Rattle.air_log.proofs.ShownCourses.{goes_seen}
 use Rattle.air_log.proofs.CourseEvents.{event_course, event_goes, event_shown}
 use Rattle.air_log.proofs.course.Course.tell.Goals as goal
@@ -25,7 +25,7 @@ obey_all-requires-clause-shown g c =
     let clock = g.C.DriftClock.readings c.args.clock.now in
     let old : CourseState = record {
       device = c.self.inside.device;
-      sent = map sending_of c.self.inside.sent.items;
+      sent = map sending_of_entry c.self.inside.sent.items;
       tuned = reverse (map tuning_of c.self.inside.tuned.items);
       deliveries = c.self.inside.deliveries.items;
       windows = c.self.inside.windows;
@@ -37,7 +37,7 @@ obey_all-requires-clause-shown g c =
     c.react.ensures.after c.delivered-delivery.ensures.once c.delivered-delivery.ensures.delivery c.is_in_window-before.ensures c.is_in_window-after.ensures
     c.is_alarm-by_alarm.ensures c.sent_with-sent.ensures noted c.in_ok-log_delivery.ensures in
     let small = windows_small c.log_delivery.new.self _ is c.note.new.self _ _ _ _ c.in_ok-log_delivery.ensures c.note.ensures.small in
-    subst (IsShown t) (sym is) (event_shown clock t c.args.event c.args.ended old small (subst (IsShown t) (sym c.self.view_is) c.requires.shown))
+    subst (CourseIsShown t) (sym is) (event_shown clock t c.args.event c.args.ended old small (subst (CourseIsShown t) (sym c.self.view_is) c.requires.shown))
 
 pub returns : goal.returns
 returns g c =
@@ -45,7 +45,7 @@ returns g c =
     let clock = g.C.DriftClock.readings c.args.clock.now in
     let old : CourseState = record {
       device = c.self.inside.device;
-      sent = map sending_of c.self.inside.sent.items;
+      sent = map sending_of_entry c.self.inside.sent.items;
       tuned = reverse (map tuning_of c.self.inside.tuned.items);
       deliveries = c.self.inside.deliveries.items;
       windows = c.self.inside.windows;

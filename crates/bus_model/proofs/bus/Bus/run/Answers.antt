@@ -3,7 +3,7 @@ use Rattle.scenario_text.proofs.SoundScenarios.{sound}
 use Rattle.bus_terms.specs.Bus.{drops_below}
 use Rattle.plain_bus.specs.Networks.{Network, IsReady}
 use Rattle.plain_bus.proofs.SlotsMet.{ids_ascend, ids_each}
-use Rattle.bus_model.specs.FrameNodes.{IsAtFrame, IsCut}
+use Rattle.bus_model.specs.FrameNodes.{IsAtFrame, CountsLinesBefore}
 use Rattle.bus_model.proofs.FramesInTurn.{nodes_off, power_off, ready_off, cut_off, script_over}
 use Rattle.bus_model.proofs.bus.Bus.run.Goals as goal
 
@@ -31,7 +31,7 @@ returns c =
     let inv = c.loop-frame.invariant in
     let all : c.loop-frame.frame ≡ s.frames = omega (arith, c.loop-frame-test.false, c.loop-frame.auto.frame-end, c.frames-frame-end.ensures.value) in
     let at : IsAtFrame s s.frames c.loop-frame.net = subst (λ (f : ℕ). IsAtFrame s f c.loop-frame.net) all inv.at in
-    let cut : IsCut s.script s.frames c.loop-frame.told = subst (λ (f : ℕ). IsCut s.script f c.loop-frame.told) all inv.cut in
+    let cut : CountsLinesBefore s.script s.frames c.loop-frame.told = subst (λ (f : ℕ). CountsLinesBefore s.script f c.loop-frame.told) all inv.cut in
     record {
       nodes = at.ready.ids_are;
       each_cost = at.costs_are;

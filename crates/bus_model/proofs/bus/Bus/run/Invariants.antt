@@ -1,12 +1,12 @@
 use Rattle.std.proofs.Common.{◌≡◌, [], take}
 use Rattle.bus_terms.specs.Bus.{before_frame, drops_below}
-use Rattle.bus_model.specs.FrameNodes.{HavePower, IsAtFrame, IsCut}
+use Rattle.bus_model.specs.FrameNodes.{HavePower, IsAtFrame, CountsLinesBefore}
 use Rattle.bus_model.proofs.bus.Bus.run.Given as goal
 
 abbrev pub invariant-loop-frame : goal.invariant-loop-frame
 invariant-loop-frame l = record {
   at : IsAtFrame l.s l.frame l.net;
-  cut : IsCut l.s.script l.frame l.told;
+  cut : CountsLinesBefore l.s.script l.frame l.told;
   have : HavePower l.s (before_frame l.s l.frame) l.told;
   lost : l.drops.items ≡ drops_below l.s [] (take l.told l.s.script);
 }

@@ -1,6 +1,6 @@
 use Rattle.std.proofs.Common.{◌≡◌, ◌<◌, ◌∷◌, [], List, ap, sym, ◌∙◌, arith, rules, subst, length, false}
 use Rattle.std.proofs.lemmas.List.{length-append}
-use Rattle.deadline_plan.specs.Admission.{Plan, IsPlan, has, with_last}
+use Rattle.deadline_plan.specs.Admission.{PlanOfDeadlines, IsDeadlinePlan, has_stream_of, with_last}
 use Rattle.deadline_plan.specs.Jobs.{jobs, NothingOver}
 use Rattle.deadline_plan.specs.declared.stream.DeadlineStream.{DeadlineStream}
 use Rattle.deadline_plan.proofs.Admitted.{dont_fit, streams_more}
@@ -10,13 +10,13 @@ pub returns-in-Some-clause-answer : goal.returns-in-Some-clause-answer
 returns-in-Some-clause-answer c =
     let p = c.args.self.now in
     let s = c.args.s.now in
-    let slots : c.self.inside.slots ≡ p.slots = ap (λ (q : Plan). q.slots) c.self.view_is in
-    let frames : c.self.inside.frames ≡ p.frames = ap (λ (q : Plan). q.frames) c.self.view_is in
-    let streams : c.as_slice.result.now ≡ p.streams = c.as_slice.ensures.value ∙ ap (λ (q : Plan). q.streams) c.self.view_is in
-    let same : c.as_slice-2.result.now ≡ p.streams = c.as_slice-2.ensures.value ∙ ap (λ (q : Plan). q.streams) c.self.view_is in
+    let slots : c.self.inside.slots ≡ p.slots = ap (λ (q : PlanOfDeadlines). q.slots) c.self.view_is in
+    let frames : c.self.inside.frames ≡ p.frames = ap (λ (q : PlanOfDeadlines). q.frames) c.self.view_is in
+    let streams : c.as_slice.result.now ≡ p.streams = c.as_slice.ensures.value ∙ ap (λ (q : PlanOfDeadlines). q.streams) c.self.view_is in
+    let same : c.as_slice-2.result.now ≡ p.streams = c.as_slice-2.ensures.value ∙ ap (λ (q : PlanOfDeadlines). q.streams) c.self.view_is in
     let all : c.deref.result.now ≡ with_last p.streams s = c.deref.ensures.value ∙ c.in_ok-all.ensures ∙ ap (λ (ss : List DeadlineStream). with_last ss s)
     same in
-    let new : has p.streams s.owner ≡ false = sym (ap (λ (ss : List DeadlineStream). has ss s.owner) streams) ∙ sym c.has_owner.ensures ∙
+    let new : has_stream_of p.streams s.owner ≡ false = sym (ap (λ (ss : List DeadlineStream). has_stream_of ss s.owner) streams) ∙ sym c.has_owner.ensures ∙
     c.if-has_owner.false in
     let few : length p.streams < 32 = search rules in
     let over = rw c.in-Some.is at c.in_ok-over.ensures.over in
@@ -32,7 +32,7 @@ invariant_of-self c =
     with_last ss s) c.as_slice-2.ensures.value in
     let none = rw c.in_default.is at c.in_ok-over.ensures.none in
     let few : length c.self.inside.streams.items < 32 = search rules in
-    subst (λ (ss : List DeadlineStream). IsPlan (record { slots = c.self.inside.slots; frames = c.self.inside.frames; streams = ss })) (sym pushed)
+    subst (λ (ss : List DeadlineStream). IsDeadlinePlan (record { slots = c.self.inside.slots; frames = c.self.inside.frames; streams = ss })) (sym pushed)
     (record {
       some_slots = is.some_slots;
       few_slots = is.few_slots;

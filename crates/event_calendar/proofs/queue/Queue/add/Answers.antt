@@ -1,5 +1,5 @@
 use Rattle.std.proofs.Common.{ℕ, ◌≡◌, ◌≤◌, insert, length, refl, ap, arith}
-use Rattle.event_calendar.specs.Waiting.{Waiting}
+use Rattle.event_calendar.specs.Waiting.{WaitingEntries}
 use Rattle.event_calendar.proofs.OrdersThatWait.{added, at_end}
 use Rattle.event_calendar.proofs.queue.Queue.add.Goals as goal
 
@@ -7,8 +7,8 @@ pub returns-then-comes_last : goal.returns-then-comes_last
 returns-then-comes_last c =
     let xs = c.args.self.now.entries in
     let after = c.push_back_reserved.new.self in
-    let same : c.self.inside.entries.items ≡ xs = ap (λ (w : Waiting). w.entries) c.self.view_is in
-    let room = ap (λ (w : Waiting). w.room) c.self.view_is in
+    let same : c.self.inside.entries.items ≡ xs = ap (λ (w : WaitingEntries). w.entries) c.self.view_is in
+    let room = ap (λ (w : WaitingEntries). w.room) c.self.view_is in
     let e = c.args.entry in
     let at : ℕ = length xs in
     let is : after.items ≡ insert xs at e =

@@ -1,6 +1,6 @@
 use Rattle.std.proofs.Common.{◌≡◌, ◌-◌, ℕ, List, get_or, length, sym, ◌∙◌, ap, arith}
 use Rattle.event_calendar.specs.declared.entry.Entry.{Entry}
-use Rattle.event_calendar.specs.Waiting.{Waiting}
+use Rattle.event_calendar.specs.Waiting.{WaitingEntries}
 use Rattle.event_calendar.proofs.OrdersThatWait.{all_before}
 use Rattle.event_calendar.proofs.queue.Queue.comes_last.Goals as goal
 
@@ -8,7 +8,7 @@ pub returns-in-Some : goal.returns-in-Some
 returns-in-Some c = λ before k d below.
     let xs = c.args.self.now.entries in
     let items = c.self.inside.entries.items in
-    let same : items ≡ xs = ap (λ (w : Waiting). w.entries) c.self.view_is in
+    let same : items ≡ xs = ap (λ (w : WaitingEntries). w.entries) c.self.view_is in
     let size = ap length same in
     let ok = c.self.inside.entries.ok in
     let at : ℕ = length xs in

@@ -1,6 +1,6 @@
 use Rattle.std.proofs.Common.{◌≡◌, ◌≤◌, List, insert, false, is_err, true≢false, Result, Ok, Err, OnOk, sym, ◌∙◌, ap, arith}
 use Rattle.event_calendar.specs.declared.entry.Entry.{Entry}
-use Rattle.event_calendar.specs.Waiting.{Waiting}
+use Rattle.event_calendar.specs.Waiting.{WaitingEntries}
 use Rattle.event_calendar.proofs.OrdersThatWait.{added}
 use Rattle.event_calendar.proofs.queue.Queue.insert.Goals as goal
 
@@ -14,8 +14,8 @@ returns c =
     let after = c.insert.new.self in
     let at = c.place_of-at.result in
     let place = c.place_of-at.ensures in
-    let same : c.self.inside.entries.items ≡ xs = ap (λ (w : Waiting). w.entries) c.self.view_is in
-    let room = ap (λ (w : Waiting). w.room) c.self.view_is in
+    let same : c.self.inside.entries.items ≡ xs = ap (λ (w : WaitingEntries). w.entries) c.self.view_is in
+    let room = ap (λ (w : WaitingEntries). w.room) c.self.view_is in
     let fits = sym c.is_err.ensures.value ∙ c.if-is_err.false in
     let inserted =
     when_ok c.insert.result (after.items ≡ insert c.self.inside.entries.items at c.args.entry) fits c.insert.ensures.items in

@@ -1,6 +1,6 @@
 use Rattle.std.proofs.Common.{◌≡◌, ◌≤◌, List, remove, slice_index_or, Option, Some, None, OnSome, length, ◌∙◌, ap, arith}
 use Rattle.event_calendar.specs.declared.entry.Entry.{Entry}
-use Rattle.event_calendar.specs.Waiting.{Waiting}
+use Rattle.event_calendar.specs.Waiting.{WaitingEntries}
 use Rattle.event_calendar.proofs.OrdersThatWait.{removed}
 use Rattle.event_calendar.proofs.queue.Queue.remove_later.Goals as goal
 
@@ -15,9 +15,9 @@ returns c =
     let after = c.remove.new.self in
     let at = c.index_of-at.result in
     let e = c.args.entry in
-    let same : items ≡ xs = ap (λ (w : Waiting). w.entries) c.self.view_is in
+    let same : items ≡ xs = ap (λ (w : WaitingEntries). w.entries) c.self.view_is in
     let size = ap length same in
-    let room = ap (λ (w : Waiting). w.room) c.self.view_is in
+    let room = ap (λ (w : WaitingEntries). w.room) c.self.view_is in
     let ok = c.self.inside.entries.ok in
     let there = c.index_of-at.ensures in
     let some = c.remove.ensures.succeeds e (omega (arith, there.bound, size, ok.0)) in

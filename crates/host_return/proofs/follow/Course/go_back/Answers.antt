@@ -3,8 +3,8 @@ use Rattle.scenario_text.specs.AddedLines.{IsWithScript, HasRoom}
 use Rattle.scenario_text.specs.ScenarioFacts.{IsScriptLine}
 use Rattle.scenario_text.specs.ScenarioParts.{ScenarioParts}
 use Rattle.scenario_text.specs.declared.script.ScriptLine.{ScriptLine}
-use Rattle.host_return.specs.Candidates.{IsNext}
-use Rattle.host_return.specs.Restarts.{lines_of}
+use Rattle.host_return.specs.Candidates.{IsNextReturn}
+use Rattle.host_return.specs.Restarts.{lines_of_going_back}
 use Rattle.host_return.specs.Returned.{Full}
 use Rattle.host_return.specs.declared.returned.Return.{Return}
 use Rattle.host_return.proofs.follow.Course.go_back.Goals as goal
@@ -23,10 +23,10 @@ returns-in_default-2-clause-end g c =
     let s = c.args.self.now.scenario in
     let air = c.args.self.now.air in
     let r = c.in-Some.r in
-    let lines : c.deref-2.result.now ≡ lines_of s air r = c.deref-2.ensures.value ∙ c.in_ok-lines.ensures.lines air in
-    let next : IsNext c.args.read.now s air c.args.self.now.returns.items r =
-    subst (λ (ls : List Return). IsNext c.args.read.now s air ls r) c.deref.ensures.value
-    (subst (λ (o : Option Return). IfSome o (IsNext c.args.read.now s air c.deref.result.now)) c.in-Some.is c.in_ok-r.ensures.some) in (
+    let lines : c.deref-2.result.now ≡ lines_of_going_back s air r = c.deref-2.ensures.value ∙ c.in_ok-lines.ensures.lines air in
+    let next : IsNextReturn c.args.read.now s air c.args.self.now.returns.items r =
+    subst (λ (ls : List Return). IsNextReturn c.args.read.now s air ls r) c.deref.ensures.value
+    (subst (λ (o : Option Return). IfSome o (IsNextReturn c.args.read.now s air c.deref.result.now)) c.in-Some.is c.in_ok-r.ensures.some) in (
       refl,
       Full r next
           (subst (λ (ls : List ScriptLine). (t : ScenarioParts) → IsWithScript s ls t → HasRoom t → ⊥) lines
@@ -40,13 +40,13 @@ returns-clause-more g c =
     let s = c.args.self.now.scenario in
     let air = c.args.self.now.air in
     let r = c.in-Some.r in
-    let lines : c.deref-2.result.now ≡ lines_of s air r = c.deref-2.ensures.value ∙ c.in_ok-lines.ensures.lines air in
+    let lines : c.deref-2.result.now ≡ lines_of_going_back s air r = c.deref-2.ensures.value ∙ c.in_ok-lines.ensures.lines air in
     let both = subst (λ (o : Option ScenarioParts). IfSome o (λ t. IsWithScript s c.deref-2.result.now t × HasRoom t)) c.in-Some-2.is c.in_ok-scenario.ensures.some in
     record {
       last = r;
       returns = search rules;
-      next = subst (λ (ls : List Return). IsNext c.args.read.now s air ls r) c.deref.ensures.value
-          (subst (λ (o : Option Return). IfSome o (IsNext c.args.read.now s air c.deref.result.now)) c.in-Some.is c.in_ok-r.ensures.some);
+      next = subst (λ (ls : List Return). IsNextReturn c.args.read.now s air ls r) c.deref.ensures.value
+          (subst (λ (o : Option Return). IfSome o (IsNextReturn c.args.read.now s air c.deref.result.now)) c.in-Some.is c.in_ok-r.ensures.some);
       added = subst (λ (ls : List ScriptLine). IsWithScript s ls c.in-Some-2.scenario) lines both.0;
       room = both.1;
       said = c.frames-frames.ensures.said;

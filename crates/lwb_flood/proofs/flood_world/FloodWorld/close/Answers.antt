@@ -1,7 +1,7 @@
 use Rattle.std.proofs.Common.{◌<◌, map, take, length, subst, sym, ap, arith}
 use Rattle.radio_model.specs.Stations.{IsTime}
 use Rattle.lwb_flood.specs.declared.member.Member.{Member}
-use Rattle.lwb_flood.specs.FloodWorlds.{World, node_of}
+use Rattle.lwb_flood.specs.FloodWorlds.{World, node_of_member}
 use Rattle.lwb_flood.proofs.FloodClosing.{closed_time}
 use Rattle.lwb_flood.proofs.FloodHearers.{some_member}
 use Rattle.lwb_flood.proofs.ClosingLoop.{closing_below, closing_on}
@@ -18,7 +18,7 @@ close_one-requires-clause-place c =
 
 pub close_one-requires-clause-time : goal.close_one-requires-clause-time
 close_one-requires-clause-time c = subst (λ (w : World). IsTime w.medium 1346096000) (sym c.loop-place.invariant)
-    (closed_time (take c.loop-place.place (map node_of c.args.self.now.members)) c.args.self.now c.requires)
+    (closed_time (take c.loop-place.place (map node_of_member c.args.self.now.members)) c.args.self.now c.requires)
 
 pub loop-place-preserved : goal.loop-place-preserved
 loop-place-preserved c =

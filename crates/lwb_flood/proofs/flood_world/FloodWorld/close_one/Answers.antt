@@ -1,7 +1,7 @@
 use Rattle.std.proofs.Common.{◌≡◌, ℕ, Bool, get_or, subst, sym, ◌∙◌, ap, if◌then◌else◌}
 use Rattle.std.proofs.lemmas.List.{get_or_default}
 use Rattle.lwb_flood.specs.declared.member.Member.{Member}
-use Rattle.lwb_flood.specs.FloodWorlds.{IsShape, gone, closed_by}
+use Rattle.lwb_flood.specs.FloodWorlds.{IsShape, gone, world_closed_at}
 use Rattle.lwb_flood.proofs.EndOfSending.{on_ok}
 use Rattle.lwb_flood.proofs.FloodSteps.{node_at, at_old}
 use Rattle.lwb_flood.proofs.FloodClosing.{closed_at}
@@ -37,6 +37,6 @@ returns c =
     let of_n : m.node ≡ n.node = ap (λ (k : Member). k.node) (at_m ∙ get_or_default w.members c.args.place m n c.requires.place ∙ sym at_n) in
     let of_d : n.node ≡ (get_or w.members c.args.place d).node =
     ap (λ (k : Member). k.node) (at_n ∙ get_or_default w.members c.args.place n d c.requires.place) in
-    let closed : closed_by n.node w ≡ gone n.node 1346096000 w = closed_at w shape c.args.place n c.requires.place at_n
+    let closed : world_closed_at n.node w ≡ gone n.node 1346096000 w = closed_at w shape c.args.place n c.requires.place at_n
     ∙ ap (λ (b : Bool). if b then w else gone n.node 1346096000 w) (sym c.is_off.ensures ∙ c.if-is_off.false) in
-    on_ok c.leave.result _ _ (λ same. same ∙ ap (λ (v : ℕ). gone v 1346096000 w) of_n ∙ sym closed ∙ ap (λ (v : ℕ). closed_by v w) of_d) c.leave.ensures
+    on_ok c.leave.result _ _ (λ same. same ∙ ap (λ (v : ℕ). gone v 1346096000 w) of_n ∙ sym closed ∙ ap (λ (v : ℕ). world_closed_at v w) of_d) c.leave.ensures

@@ -1,5 +1,5 @@
 use Rattle.std.proofs.Common.{map, ◌∙◌, ap}
-use Rattle.radio_model.specs.Stations.{sending_of, station_of}
+use Rattle.radio_model.specs.Stations.{sending_of_station, station_of}
 use Rattle.lwb_flood.specs.FloodWorlds.{World}
 use Rattle.lwb_flood.proofs.EndOfSending.{mid, mid_nodes, mid_node, mid_time, mid_known, mid_heard, is_ended_more, is_ended_off, gone_nodes, ended_by}
 use Rattle.lwb_flood.proofs.EndOfSending.{own_shape, on_ok}
@@ -17,7 +17,7 @@ hear_all-requires-clause-nodes g c =
     }) c.args.self.now c.self.view_is c.args.x c.args.trace.now.lines c.end-hearers.result c.end-hearers.new.self
     c.end_own.new.members.items c.end-hearers.ensures.state c.end_own.ensures.members c.end-hearers.ensures.sender c.end-hearers.ensures.ascending
     (λ a h same. c.end-hearers.ensures.hearers a c.args.x h same
-    (ap (λ (w : World). sending_of (station_of w.medium c.args.x.node)) c.self.view_is ∙ c.requires.sends)) c.requires.held _
+    (ap (λ (w : World). sending_of_station (station_of w.medium c.args.x.node)) c.self.view_is ∙ c.requires.sends)) c.requires.held _
     (mid_nodes (record {
       medium = c.self.inside.medium;
       members = c.self.inside.members.items;
@@ -26,7 +26,7 @@ hear_all-requires-clause-nodes g c =
     c.end-hearers.new.self c.end_own.new.members.items c.end-hearers.ensures.state c.end_own.ensures.members
     c.end-hearers.ensures.sender c.end-hearers.ensures.ascending
     (λ a h same. c.end-hearers.ensures.hearers a c.args.x h same
-    (ap (λ (w : World). sending_of (station_of w.medium c.args.x.node)) c.self.view_is ∙ c.requires.sends)))
+    (ap (λ (w : World). sending_of_station (station_of w.medium c.args.x.node)) c.self.view_is ∙ c.requires.sends)))
 
 pub invariant_of-self-in-Off : goal.invariant_of-self-in-Off
 invariant_of-self-in-Off g c = own_shape _ c.self.invariant c.args.x _ _ c.self.inside.air c.end-hearers.ensures.state c.end_own.ensures.members
@@ -40,7 +40,7 @@ leave-requires-clause-node g c =
     }) c.args.self.now c.self.view_is c.args.x c.args.trace.now.lines c.end-hearers.result c.end-hearers.new.self
     c.end_own.new.members.items c.end-hearers.ensures.state c.end_own.ensures.members c.end-hearers.ensures.sender c.end-hearers.ensures.ascending
     (λ a h same. c.end-hearers.ensures.hearers a c.args.x h same
-    (ap (λ (w : World). sending_of (station_of w.medium c.args.x.node)) c.self.view_is ∙ c.requires.sends)) c.requires.node
+    (ap (λ (w : World). sending_of_station (station_of w.medium c.args.x.node)) c.self.view_is ∙ c.requires.sends)) c.requires.node
 
 pub leave-requires-clause-time : goal.leave-requires-clause-time
 leave-requires-clause-time g c =
@@ -51,7 +51,7 @@ leave-requires-clause-time g c =
     }) c.args.self.now c.self.view_is c.args.x c.args.trace.now.lines c.end-hearers.result c.end-hearers.new.self
     c.end_own.new.members.items c.end-hearers.ensures.state c.end_own.ensures.members c.end-hearers.ensures.sender c.end-hearers.ensures.ascending
     (λ a h same. c.end-hearers.ensures.hearers a c.args.x h same
-    (ap (λ (w : World). sending_of (station_of w.medium c.args.x.node)) c.self.view_is ∙ c.requires.sends)) c.requires.time
+    (ap (λ (w : World). sending_of_station (station_of w.medium c.args.x.node)) c.self.view_is ∙ c.requires.sends)) c.requires.time
 
 pub hear_all-requires-in-Off-clause-nodes : goal.hear_all-requires-in-Off-clause-nodes
 hear_all-requires-in-Off-clause-nodes g c = mid_known
@@ -62,7 +62,7 @@ hear_all-requires-in-Off-clause-nodes g c = mid_known
     }) c.args.self.now c.self.view_is c.args.x c.args.trace.now.lines c.end-hearers.result c.end-hearers.new.self
     c.end_own.new.members.items c.end-hearers.ensures.state c.end_own.ensures.members c.end-hearers.ensures.sender c.end-hearers.ensures.ascending
     (λ a h same. c.end-hearers.ensures.hearers a c.args.x h same
-    (ap (λ (w : World). sending_of (station_of w.medium c.args.x.node)) c.self.view_is ∙ c.requires.sends)) c.requires.held _
+    (ap (λ (w : World). sending_of_station (station_of w.medium c.args.x.node)) c.self.view_is ∙ c.requires.sends)) c.requires.held _
     (gone_nodes (record {
       medium = c.self.inside.medium;
       members = c.self.inside.members.items;
@@ -71,7 +71,7 @@ hear_all-requires-in-Off-clause-nodes g c = mid_known
     c.end-hearers.new.self c.end_own.new.members.items c.end-hearers.ensures.state c.end_own.ensures.members
     c.end-hearers.ensures.sender c.end-hearers.ensures.ascending
     (λ a h same. c.end-hearers.ensures.hearers a c.args.x h same
-    (ap (λ (w : World). sending_of (station_of w.medium c.args.x.node)) c.self.view_is
+    (ap (λ (w : World). sending_of_station (station_of w.medium c.args.x.node)) c.self.view_is
     ∙ c.requires.sends)) c.end_own.result c.end_own.ensures.last c.leave.new.self c.in_ok-leave-in-Off.ensures)
 
 pub returns-in-More : goal.returns-in-More
@@ -87,7 +87,7 @@ returns-in-More g c =
     c.end_own.new.members.items c.end-hearers.ensures.state c.end_own.ensures.members c.end-hearers.ensures.sender
     c.end-hearers.ensures.ascending
     (λ a h same. c.end-hearers.ensures.hearers a c.args.x h same
-    (ap (λ (w : World). sending_of (station_of w.medium c.args.x.node)) c.self.view_is
+    (ap (λ (w : World). sending_of_station (station_of w.medium c.args.x.node)) c.self.view_is
     ∙ c.requires.sends))) c.hear_all.new.self (map (λ p. p.0) ps)
     (mid_heard (record {
       medium = c.self.inside.medium;
@@ -96,7 +96,7 @@ returns-in-More g c =
     }) c.args.self.now c.self.view_is c.args.x c.args.trace.now.lines c.end-hearers.result c.end-hearers.new.self
     c.end_own.new.members.items c.end-hearers.ensures.state c.end_own.ensures.members c.end-hearers.ensures.sender c.end-hearers.ensures.ascending
     (λ a h same. c.end-hearers.ensures.hearers a c.args.x h same
-    (ap (λ (w : World). sending_of (station_of w.medium c.args.x.node)) c.self.view_is ∙ c.requires.sends)))
+    (ap (λ (w : World). sending_of_station (station_of w.medium c.args.x.node)) c.self.view_is ∙ c.requires.sends)))
     (is_ended_more (record {
       medium = c.self.inside.medium;
       members = c.self.inside.members.items;
@@ -105,7 +105,7 @@ returns-in-More g c =
     c.end-hearers.new.self c.end_own.new.members.items c.end-hearers.ensures.state c.end_own.ensures.members
     c.end-hearers.ensures.sender c.end-hearers.ensures.ascending
     (λ a h same. c.end-hearers.ensures.hearers a c.args.x h same
-    (ap (λ (w : World). sending_of (station_of w.medium c.args.x.node)) c.self.view_is
+    (ap (λ (w : World). sending_of_station (station_of w.medium c.args.x.node)) c.self.view_is
     ∙ c.requires.sends)) c.end_own.result c.end_own.ensures.last c.in-More.is) same) c.hear_all.ensures
 
 pub returns-in_ok-leave-in-Off : goal.returns-in_ok-leave-in-Off
@@ -121,7 +121,7 @@ returns-in_ok-leave-in-Off g c =
     }) c.args.self.now c.self.view_is c.args.x c.args.trace.now.lines c.end-hearers.result c.end-hearers.new.self
     c.end_own.new.members.items c.end-hearers.ensures.state c.end_own.ensures.members c.end-hearers.ensures.sender c.end-hearers.ensures.ascending
     (λ a h same. c.end-hearers.ensures.hearers a c.args.x h same
-    (ap (λ (w : World). sending_of (station_of w.medium c.args.x.node)) c.self.view_is ∙ c.requires.sends)))
+    (ap (λ (w : World). sending_of_station (station_of w.medium c.args.x.node)) c.self.view_is ∙ c.requires.sends)))
     (is_ended_off (record {
       medium = c.self.inside.medium;
       members = c.self.inside.members.items;
@@ -130,6 +130,6 @@ returns-in_ok-leave-in-Off g c =
     c.end-hearers.new.self c.end_own.new.members.items c.end-hearers.ensures.state c.end_own.ensures.members
     c.end-hearers.ensures.sender c.end-hearers.ensures.ascending
     (λ a h same. c.end-hearers.ensures.hearers a c.args.x h same
-    (ap (λ (w : World). sending_of (station_of w.medium c.args.x.node)) c.self.view_is
+    (ap (λ (w : World). sending_of_station (station_of w.medium c.args.x.node)) c.self.view_is
     ∙ c.requires.sends)) c.end_own.result c.end_own.ensures.last c.in-Off.is c.leave.new.self
     c.in_ok-leave-in-Off.ensures) same) c.hear_all-in-Off.ensures

@@ -1,11 +1,12 @@
 use Rattle.std.proofs.Common.{ℕ, map, take, sym, refl, ◌∙◌, ap, arith}
 use Rattle.lwb_flood.specs.declared.member.Member.{Member}
-use Rattle.lwb_flood.specs.FloodWorlds.{node_of, readings_at, heard}
+use Rattle.lwb_flood.specs.FloodWorlds.{node_of_member, readings_of_node, world_after_reception}
 use Rattle.lwb_flood.proofs.FloodHearers.{hearer_there, first_more, place_below, clock_there, node_now, some_member}
 use Rattle.lwb_flood.proofs.flood_world.FloodWorld.hear_all.Goals as goal
 
 pub place_of-place-requires : goal.place_of-place-requires
-place_of-place-requires g c = hearer_there (readings_at g.C.DriftClock.readings c.args.clocks.now (map node_of c.args.self.now.members)) c.args.x.now
+place_of-place-requires g c =
+    hearer_there (readings_of_node g.C.DriftClock.readings c.args.clocks.now (map node_of_member c.args.self.now.members)) c.args.x.now
     (map (λ p. p.0) (take c.loop-i.i c.args.hearers.now)) c.args.self.now c.loop-i.self
     (record {
       medium = c.self.inside.medium;
@@ -40,7 +41,7 @@ pub loop-i-preserved : goal.loop-i-preserved
 loop-i-preserved g c =
     let clock : ℕ → ℕ = g.C.DriftClock.readings c.index-clocks-place.result in
     let d : Member = some_member c.deref.result.now c.place_of-place.result c.place_of-place.ensures.below in
-    first_more (readings_at g.C.DriftClock.readings c.args.clocks.now (map node_of c.args.self.now.members)) c.args.x.now
+    first_more (readings_of_node g.C.DriftClock.readings c.args.clocks.now (map node_of_member c.args.self.now.members)) c.args.x.now
     (map (λ p. p.0) (take c.loop-i.i c.args.hearers.now)) c.args.self.now c.loop-i.self
     (record {
       medium = c.self.inside.medium;
@@ -57,7 +58,7 @@ loop-i-preserved g c =
     }) c.deref.result.now c.loop-i.invariant c.self.view_is c.deref.ensures.value c.self.invariant
     c.requires.clocks c.place_of-place.result c.unwrap-node.result.0 c.place_of-place.ensures.below c.place_of-place.ensures.there
     c.index-clocks-place.result c.index-clocks-place.is)
-    (c.in_ok-hear.ensures d ∙ ap (λ (v : ℕ). heard clock c.args.x.now v c.loop-i.self)
+    (c.in_ok-hear.ensures d ∙ ap (λ (v : ℕ). world_after_reception clock c.args.x.now v c.loop-i.self)
     (node_now g.C.DriftClock.readings c.args.clocks.now c.args.x.now
     (map (λ p. p.0) (take c.loop-i.i c.args.hearers.now)) c.args.self.now c.loop-i.self
     (record {

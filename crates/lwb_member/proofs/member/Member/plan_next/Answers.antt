@@ -1,7 +1,7 @@
 use Rattle.std.proofs.Common.{◌≡◌, ◌≤◌, ◌+◌, Some, true, ℕ, List, [], length, ◌∙◌, sym, ap, subst, arith}
 use Rattle.lwb_base.specs.Messages.{Ask}
-use Rattle.bus_rules.specs.HostPlans.{HostPlan, answered, host_plan}
-use Rattle.bus_rules.specs.Tuning.{Tuning, rank_of, hosts, with_due}
+use Rattle.bus_rules.specs.HostPlans.{HostPlan, answers_to, host_plan}
+use Rattle.bus_rules.specs.Tuning.{TuneState, rank_of, hosts, with_due}
 use Rattle.bus_rules.specs.declared.tune.Tune.{Tune}
 use Rattle.bus_rules.specs.declared.tune.Tune.TheVariants.{Host}
 use Rattle.schedule_codec.specs.Spelling.{most_acks}
@@ -9,7 +9,7 @@ use Rattle.lwb_member.specs.Members.{Member}
 use Rattle.bus_rules.specs.Slots.{Message, ScheduleOf}
 use Rattle.lwb_member.proofs.Told.{told_schedule}
 use Rattle.lwb_member.specs.Planning.{IsEarly}
-use Rattle.lwb_member.specs.Said.{said_in}
+use Rattle.lwb_member.specs.Said.{bytes_in_slot}
 use Rattle.lwb_member.proofs.HostPlanned.{is_plan, plan_early, gap_in_range, closing_fits, acks_fit, contend_few, host_due}
 use Rattle.lwb_member.proofs.member.Member.plan_next.Goals as goal
 
@@ -39,10 +39,10 @@ returns-clause-packet c = rw (← c.self.view_is) (
     let i = c.self.inside in
     let f = c.args.frame in
     let slot = c.last_slot-slot.result in
-    let kept_table : c.answer_kept-acks.new.table ≡ (answered f i.kept.items i.table).table =
-    c.answer_kept-acks.ensures.table ∙ ap (λ (l : List Ask). (answered f l i.table).table) c.as_slice.ensures.value in
-    let kept_acks : c.answer_kept-acks.result ≡ (answered f i.kept.items i.table).acks =
-    c.answer_kept-acks.ensures.acks ∙ ap (λ (l : List Ask). (answered f l i.table).acks) c.as_slice.ensures.value in
+    let kept_table : c.answer_kept-acks.new.table ≡ (answers_to f i.kept.items i.table).table =
+    c.answer_kept-acks.ensures.table ∙ ap (λ (l : List Ask). (answers_to f l i.table).table) c.as_slice.ensures.value in
+    let kept_acks : c.answer_kept-acks.result ≡ (answers_to f i.kept.items i.table).acks =
+    c.answer_kept-acks.ensures.acks ∙ ap (λ (l : List Ask). (answers_to f l i.table).acks) c.as_slice.ensures.value in
     let rank : c.rank-rank.result ≡ rank_of i.tuner.tune = c.rank-rank.ensures ∙ ap (λ (m : Member). rank_of m.core.tune) (sym c.self.view_is) in
     let is = is_plan i.profile i.id i.boot (rank_of i.tuner.tune) f i.kept.items i.table c.answer_kept-acks.new.table c.serve_own.new.table
     c.plan_round-plan.new.table i.streams c.serve_own.new.streams c.answer_kept-acks.result c.rank-rank.result c.contend.result c.plan_round-plan.result.gap
@@ -50,18 +50,18 @@ returns-clause-packet c = rw (← c.self.view_is) (
     rank c.contend.ensures.value kept_table kept_acks c.serve_own.ensures.table c.serve_own.ensures.streams c.plan_round-plan.ensures.gap
     c.plan_round-plan.ensures.owners c.plan_round-plan.ensures.table in
     let whole : HostPlan = host_plan i.profile i.id i.boot (rank_of i.tuner.tune) f i.kept.items i.table i.streams in
-    ap Some c.write.ensures.value ∙ ap (λ (h : HostPlan). Some (said_in slot (ScheduleOf (record { plan = h.plan; gap = h.gap })))) is
-    ∙ ap (λ (j : ℕ). Some (said_in j (ScheduleOf (record { plan = whole.plan; gap = whole.gap })))) c.last_slot-slot.ensures.value)
+    ap Some c.write.ensures.value ∙ ap (λ (h : HostPlan). Some (bytes_in_slot slot (ScheduleOf (record { plan = h.plan; gap = h.gap })))) is
+    ∙ ap (λ (j : ℕ). Some (bytes_in_slot j (ScheduleOf (record { plan = whole.plan; gap = whole.gap })))) c.last_slot-slot.ensures.value)
 
 pub returns-clause-told : goal.returns-clause-told
 returns-clause-told c = rw (← c.self.view_is) (
     let i = c.self.inside in
     let f = c.args.frame in
     let slot = c.last_slot-slot.result in
-    let kept_table : c.answer_kept-acks.new.table ≡ (answered f i.kept.items i.table).table =
-    c.answer_kept-acks.ensures.table ∙ ap (λ (l : List Ask). (answered f l i.table).table) c.as_slice.ensures.value in
-    let kept_acks : c.answer_kept-acks.result ≡ (answered f i.kept.items i.table).acks =
-    c.answer_kept-acks.ensures.acks ∙ ap (λ (l : List Ask). (answered f l i.table).acks) c.as_slice.ensures.value in
+    let kept_table : c.answer_kept-acks.new.table ≡ (answers_to f i.kept.items i.table).table =
+    c.answer_kept-acks.ensures.table ∙ ap (λ (l : List Ask). (answers_to f l i.table).table) c.as_slice.ensures.value in
+    let kept_acks : c.answer_kept-acks.result ≡ (answers_to f i.kept.items i.table).acks =
+    c.answer_kept-acks.ensures.acks ∙ ap (λ (l : List Ask). (answers_to f l i.table).acks) c.as_slice.ensures.value in
     let rank : c.rank-rank.result ≡ rank_of i.tuner.tune = c.rank-rank.ensures ∙ ap (λ (m : Member). rank_of m.core.tune) (sym c.self.view_is) in
     let is = is_plan i.profile i.id i.boot (rank_of i.tuner.tune) f i.kept.items i.table c.answer_kept-acks.new.table c.serve_own.new.table
     c.plan_round-plan.new.table i.streams c.serve_own.new.streams c.answer_kept-acks.result c.rank-rank.result c.contend.result c.plan_round-plan.result.gap
@@ -76,10 +76,10 @@ pub returns-clause-core : goal.returns-clause-core
 returns-clause-core c = rw (← c.self.view_is) (
     let i = c.self.inside in
     let f = c.args.frame in
-    let kept_table : c.answer_kept-acks.new.table ≡ (answered f i.kept.items i.table).table =
-    c.answer_kept-acks.ensures.table ∙ ap (λ (l : List Ask). (answered f l i.table).table) c.as_slice.ensures.value in
-    let kept_acks : c.answer_kept-acks.result ≡ (answered f i.kept.items i.table).acks =
-    c.answer_kept-acks.ensures.acks ∙ ap (λ (l : List Ask). (answered f l i.table).acks) c.as_slice.ensures.value in
+    let kept_table : c.answer_kept-acks.new.table ≡ (answers_to f i.kept.items i.table).table =
+    c.answer_kept-acks.ensures.table ∙ ap (λ (l : List Ask). (answers_to f l i.table).table) c.as_slice.ensures.value in
+    let kept_acks : c.answer_kept-acks.result ≡ (answers_to f i.kept.items i.table).acks =
+    c.answer_kept-acks.ensures.acks ∙ ap (λ (l : List Ask). (answers_to f l i.table).acks) c.as_slice.ensures.value in
     let rank : c.rank-rank.result ≡ rank_of i.tuner.tune = c.rank-rank.ensures ∙ ap (λ (m : Member). rank_of m.core.tune) (sym c.self.view_is) in
     let is = is_plan i.profile i.id i.boot (rank_of i.tuner.tune) f i.kept.items i.table c.answer_kept-acks.new.table c.serve_own.new.table
     c.plan_round-plan.new.table i.streams c.serve_own.new.streams c.answer_kept-acks.result c.rank-rank.result c.contend.result c.plan_round-plan.result.gap
@@ -91,7 +91,7 @@ returns-clause-core c = rw (← c.self.view_is) (
     ap (λ (g : ℕ). with_due (f + g) i.tuner.tune) c.from.ensures ∙ host_due i.tuner.tune (f + c.plan_round-plan.result.gap) host in
     let tuned : c.planned.new.self ≡ record i.tuner { tune = Host (rank_of i.tuner.tune) (f + c.plan_round-plan.result.gap) } =
     c.planned.ensures ∙ ap (λ (t : Tune). record i.tuner { tune = t }) due in
-    let of : Tuning → List Ask → Member = λ t l. record {
+    let of : TuneState → List Ask → Member = λ t l. record {
       setup = record { profile = i.profile; id = i.id; own = t.own; ranks = t.ranks; sends = i.sends };
       core = record {
         boot = i.boot;
@@ -121,7 +121,7 @@ returns-clause-core c = rw (← c.self.view_is) (
         kept = [];
       };
     } in
-    ap (λ (t : Tuning). of t c.new-self-inside.result.items) tuned
+    ap (λ (t : TuneState). of t c.new-self-inside.result.items) tuned
     ∙ ap (λ (l : List Ask). of (record i.tuner { tune = Host (rank_of i.tuner.tune) (f + c.plan_round-plan.result.gap) }) l) c.new-self-inside.ensures
     ∙ ap by is)
 

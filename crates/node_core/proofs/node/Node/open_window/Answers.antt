@@ -8,9 +8,9 @@ use Rattle.bus_rules.specs.declared.delivery.Delivery.{Delivery}
 use Rattle.bus_rules.specs.declared.part.Part.{Part}
 use Rattle.bus_rules.specs.Plans.{last_slot}
 use Rattle.bus_rules.specs.Tuning.{rank_of}
-use Rattle.bus_rules.specs.Slots.{opened, part_of}
+use Rattle.bus_rules.specs.Slots.{opened_slot, part_of}
 use Rattle.lwb_member.specs.Members.{Member}
-use Rattle.lwb_member.specs.Said.{said_in}
+use Rattle.lwb_member.specs.Said.{bytes_in_slot}
 use Rattle.node_core.specs.declared.stage.Stage.{Stage}
 use Rattle.node_core.specs.Nodes.{Node, NodeState}
 use Rattle.node_core.specs.Rows.{window_opens}
@@ -28,9 +28,10 @@ returns-clause-orders g c =
     let rounded = c.new-round.ensures ∙ ap (λ (q : Numbers). round_of q i.reference c.owners.result c.contend.result) c.profile-profile.ensures
     ∙ ap (λ (r : RoundTimes). round_of p r c.owners.result c.contend.result) c.self.invariant.timed in
     let said =
-    c.speak-packet.ensures.packet ∙ ap (λ (p : Part). option_map (said_in slot) (opened m.setup i.frame p m.core).message) c.part-part.ensures.value in
+    c.speak-packet.ensures.packet ∙ ap (λ (p : Part). option_map (bytes_in_slot slot) (opened_slot m.setup i.frame p m.core).message)
+        c.part-part.ensures.value in
     let orders = orders_are p i.reference.zero slot _ _ c.new-round.result c.window-times.result rounded c.window-times.ensures c.rank-rank.result
-    (rank_of m.core.tune) c.speak-packet.result (opened m.setup i.frame (part_of m.core.plan slot) m.core).message ranked said in
+    (rank_of m.core.tune) c.speak-packet.result (opened_slot m.setup i.frame (part_of m.core.plan slot) m.core).message ranked said in
     subst (λ (l : List Order). Gives (g.R.Radio.told c.args.radio.now) (g.R.Radio.told c.order.new.radio) l)
     (orders ∙ ap (λ (n : NodeState). (window_opens n.setup n.node slot).orders) c.self.view_is) c.order.ensures
 
@@ -43,12 +44,12 @@ returns-clause-node g c =
     let m = i.member in
     let slot = c.args.slot in
     let part = part_of m.core.plan slot in
-    let o = opened m.setup i.frame part m.core in
+    let o = opened_slot m.setup i.frame part m.core in
     let spoken = c.speak-packet.ensures.packet in
-    let said = spoken ∙ ap (λ (p : Part). option_map (said_in slot) (opened m.setup i.frame p m.core).message) c.part-part.ensures.value in
+    let said = spoken ∙ ap (λ (p : Part). option_map (bytes_in_slot slot) (opened_slot m.setup i.frame p m.core).message) c.part-part.ensures.value in
     let stage = c.open.ensures ∙ stage_is m.setup slot c.sends-sends.result c.last_slot-last.result (last_slot m.core.plan) c.part-part.result part
     c.speak-packet.result o.message c.sends-sends.ensures.value c.last_slot-last.ensures.value c.part-part.ensures.value said in
-    let after = c.speak-packet.ensures.core ∙ ap (λ (p : Part). record m { core = (opened m.setup i.frame p m.core).core }) c.part-part.ensures.value in
+    let after = c.speak-packet.ensures.core ∙ ap (λ (p : Part). record m { core = (opened_slot m.setup i.frame p m.core).core }) c.part-part.ensures.value in
     let node : Member → Stage → Node = λ x s. record { core = x.core; frame = i.frame; zero = i.reference.zero; stage = s } in
     let at : Member → Stage → NodeState = λ x s. record { setup = x.setup; node = node x s; delivery = None } in
     let left : Option Delivery → NodeState = λ d.

@@ -5,7 +5,7 @@ use Rattle.bus_rules.specs.declared.delivery.Delivery.{Delivery}
 use Rattle.bus_terms.specs.Bus.{Cost}
 use Rattle.bus_terms.specs.FloodOfText.{ids}
 use Rattle.plain_bus.specs.BusNodes.{BusNode}
-use Rattle.plain_bus.specs.Networks.{Network, no_cost, off_at}
+use Rattle.plain_bus.specs.Networks.{Network, no_cost, node_at_first}
 use Rattle.plain_bus.proofs.ListsInPlace.{map_more}
 use Rattle.plain_bus.proofs.SlotsMet.{ids_more}
 use Rattle.plain_bus.proofs.network.Network.new.Goals as goal
@@ -23,8 +23,8 @@ loop-line-preserved c =
     record {
       ids_are = ids_pushed ∙ ap (λ (l : List ℕ). l ++ c.line-item.result.node ∷ []) c.loop-line.invariant.ids_are ∙ sym more;
       nodes_are = nodes_pushed ∙ ap (λ (l : List BusNode). l ++ c.in_ok-node.node ∷ []) c.loop-line.invariant.nodes_are
-          ∙ ap (λ (n : BusNode). map (off_at c.args.s.now) (ids (take i lines)) ++ n ∷ []) c.in_ok-node.ensures
-          ∙ sym (ap (map (off_at c.args.s.now)) more ∙ map_more (off_at c.args.s.now) (ids (take i lines)) c.line-item.result.node);
+          ∙ ap (λ (n : BusNode). map (node_at_first c.args.s.now) (ids (take i lines)) ++ n ∷ []) c.in_ok-node.ensures
+          ∙ sym (ap (map (node_at_first c.args.s.now)) more ∙ map_more (node_at_first c.args.s.now) (ids (take i lines)) c.line-item.result.node);
       costs_are = costs_pushed ∙ ap (λ (l : List Cost). l ++ no_cost ∷ []) c.loop-line.invariant.costs_are
           ∙ sym (ap (map (λ (v : ℕ). no_cost)) more ∙ map_more (λ (v : ℕ). no_cost) (ids (take i lines)) c.line-item.result.node);
     }
@@ -35,13 +35,13 @@ returns c =
     take_all c.loop-line.line-index c.nodes-lines.result.now (omega (arith, c.loop-line-test.false, c.loop-line.auto.line-index-end))
     ∙ c.nodes-lines.ensures.value in
     let of_parts : List ℕ → List BusNode → List Cost → List Delivery → Network = λ a b cs ds. record { ids = a; nodes = b; costs = cs; deliveries = ds } in
-    let of_lines : List NodeLine → Network = λ ls. of_parts (ids ls) (map (off_at c.args.s.now) (ids ls)) (map (λ (v : ℕ). no_cost) (ids ls)) [] in
+    let of_lines : List NodeLine → Network = λ ls. of_parts (ids ls) (map (node_at_first c.args.s.now) (ids ls)) (map (λ (v : ℕ). no_cost) (ids ls)) [] in
     ap (λ (l : List ℕ). of_parts l c.loop-line.nodes.items c.loop-line.costs.items c.new.result.items) c.loop-line.invariant.ids_are
     ∙ ap (λ (l : List BusNode). of_parts (ids (take c.loop-line.line-index c.nodes-lines.result.now)) l c.loop-line.costs.items c.new.result.items)
     c.loop-line.invariant.nodes_are
     ∙ ap (λ (l : List Cost). of_parts (ids (take c.loop-line.line-index c.nodes-lines.result.now))
-    (map (off_at c.args.s.now) (ids (take c.loop-line.line-index c.nodes-lines.result.now))) l c.new.result.items) c.loop-line.invariant.costs_are
+    (map (node_at_first c.args.s.now) (ids (take c.loop-line.line-index c.nodes-lines.result.now))) l c.new.result.items) c.loop-line.invariant.costs_are
     ∙ ap (λ (l : List Delivery). of_parts (ids (take c.loop-line.line-index c.nodes-lines.result.now))
-    (map (off_at c.args.s.now) (ids (take c.loop-line.line-index c.nodes-lines.result.now)))
+    (map (node_at_first c.args.s.now) (ids (take c.loop-line.line-index c.nodes-lines.result.now)))
     (map (λ (v : ℕ). no_cost) (ids (take c.loop-line.line-index c.nodes-lines.result.now))) l) c.new.ensures.items
     ∙ ap of_lines all

@@ -15,10 +15,10 @@ use Rattle.bus_terms.specs.Flooding.{STEPS, moment}
 use Rattle.bus_terms.specs.Rounds.{slot_at, slot_deliveries}
 use Rattle.plain_bus.specs.BusNodes.{BusNode, IsEarlyState, node_opened, nodes_before}
 use Rattle.plain_bus.specs.Closings.{IsBehind, AllMay, closed_node, delivers_node}
-use Rattle.plain_bus.specs.FloodMasks.{AreSendersOf, IsFlood, sends_in, station_at}
+use Rattle.plain_bus.specs.FloodMasks.{AreSendersOf, IsMaskedFlood, sends_in, station_at}
 use Rattle.plain_bus.specs.Networks.{Network}
 use Rattle.plain_bus.specs.SlotCosts.{IsBelow, slot_charged}
-use Rattle.plain_bus.specs.SlotFloods.{seen}
+use Rattle.plain_bus.specs.SlotFloods.{seen_window}
 use Rattle.plain_bus.specs.declared.station.Station.{Station}
 use Rattle.plain_bus.specs.declared.window.Window.{Window}
 use Rattle.plain_bus.proofs.SlotsCharged.{slot_costs}
@@ -98,11 +98,11 @@ module _ (c : goal.After-self-3-1) (p : Plan) (start others : ℕ → State)
   before : c.deref_mut.result.now ≡ nodes_before c.args.s.now c.args.rank c.args.frame p start others c.args.slot
   before = olds c ∙ are
 
-  flood_is : IsFlood (slot_at c.args.s.now c.args.rank c.args.frame p start c.args.slot).flood c.trace.result.now c.in_ok-flood.flood
+  flood_is : IsMaskedFlood (slot_at c.args.s.now c.args.rank c.args.frame p start c.args.slot).flood c.trace.result.now c.in_ok-flood.flood
   flood_is = c.in_ok-flood.ensures.flood c.args.s.now c.trace.result.now p start others before is c.trace.ensures.value c.trace.ensures.sealed
       c.sends-limit.ensures
 
-  windows_are : map seen c.open_slot.new.windows.items ≡ map (window_seen c.args.s.now c.args.rank c.args.frame p start others c.args.slot)
+  windows_are : map seen_window c.open_slot.new.windows.items ≡ map (window_seen c.args.s.now c.args.rank c.args.frame p start others c.args.slot)
       (ids c.args.s.now.nodes)
   windows_are = c.in_ok-flood.ensures.windows ∙ seen_all c.args.s.now c.args.rank c.args.frame p start others c.args.slot c.deref_mut.result.now
       c.args.part.now before is
@@ -122,7 +122,7 @@ module _ (c : goal.After-self-3-1) (p : Plan) (start others : ℕ → State)
       → IsBehind (behind c.args.s.now c.args.rank c.args.frame p start others c.args.slot) is ws xs
   met ws xs is windows stations same =
       subst (λ (l : List ℕ). IsBehind (behind c.args.s.now c.args.rank c.args.frame p start others c.args.slot) l ws xs) (sym same)
-      (behind_slot c.args.s.now c.args.rank c.args.frame p start others c.args.slot ws xs flood_is.inside (ap (map seen) windows ∙ windows_are)
+      (behind_slot c.args.s.now c.args.rank c.args.frame p start others c.args.slot ws xs flood_is.inside (ap (map seen_window) windows ∙ windows_are)
       (stations ∙ stations_are))
 
   -- the closing, with the part and the ids as the round has them

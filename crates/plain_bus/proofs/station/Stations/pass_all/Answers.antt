@@ -5,7 +5,7 @@ use Rattle.std.proofs.lemmas.List.{take_all, take_at, length-map, get_or_default
 use Rattle.std.proofs.lemmas.List.Elements.{All-push}
 use Rattle.link_trace.specs.Masks.{IsMaskUpto}
 use Rattle.bus_terms.specs.Flooding.{Setting, Moment, next}
-use Rattle.plain_bus.specs.FloodMasks.{AreAt, IsFlood, IsKnown, IsLone, heard_alone, station_after, station_at, with_sender}
+use Rattle.plain_bus.specs.FloodMasks.{AreAt, IsMaskedFlood, SendsForInitiators, IsLone, heard_alone, station_after, station_at, with_sender}
 use Rattle.plain_bus.specs.declared.station.Station.{Station}
 use Rattle.plain_bus.proofs.HeardAlone.{heard_alone_is}
 use Rattle.plain_bus.proofs.HeardByMasks.{station_read}
@@ -72,7 +72,8 @@ loop-station-preserved c =
     ∙ get_or_default xs i c.station-item.result d inside in
     let passed : y ≡ station_after k d (heard_alone f reached i o d) =
     c.pass.ensures ∙ ap (λ (p : ℕ). station_after k d (heard_alone f reached p o d)) place in
-    let station : (s : Setting) (m : Moment) → IsFlood s t f → IsLone s o → IsKnown s m → AreAt m nodes c.args.self.now → y ≡ station_at (next s k m) v =
+    let station : (s : Setting) (m :
+        Moment) → IsMaskedFlood s t f → IsLone s o → SendsForInitiators s m → AreAt m nodes c.args.self.now → y ≡ station_at (next s k m) v =
     λ s m flood lone known at.
     (let read : d ≡ station_at m v = station_read s m t f k flood known i below xs d at.each old in
     passed

@@ -1,16 +1,16 @@
 use Rattle.std.proofs.Common.{◌≡◌, ◌≤◌, ◌+◌, All, map, take, drop, is_some}
 use Rattle.link_trace.specs.Masks.{IsMaskUpto}
 use Rattle.bus_terms.specs.Flooding.{Setting, Moment, next}
-use Rattle.plain_bus.specs.FloodMasks.{AreAt, IsFlood, IsKnown, IsLone, station_at}
+use Rattle.plain_bus.specs.FloodMasks.{AreAt, IsMaskedFlood, SendsForInitiators, IsLone, station_at}
 use Rattle.plain_bus.specs.declared.station.Station.{Station}
 use Rattle.plain_bus.proofs.station.Stations.pass_all.Given as goal
 
 abbrev pub invariant-loop-station : goal.invariant-loop-station
 invariant-loop-station l = record {
   place : l.place ≡ l.station-index;
-  done : (s : Setting) (m : Moment) → IsFlood s l.trace l.flood → IsLone s l.origin → IsKnown s m → AreAt m l.trace.nodes l.fn.self
+  done : (s : Setting) (m : Moment) → IsMaskedFlood s l.trace l.flood → IsLone s l.origin → SendsForInitiators s m → AreAt m l.trace.nodes l.fn.self
       → take l.station-index l.station-items ≡ take l.station-index (map (station_at (next s l.step m)) l.trace.nodes);
-  senders : (s : Setting) (m : Moment) → IsFlood s l.trace l.flood → IsLone s l.origin → IsKnown s m → AreAt m l.trace.nodes l.fn.self
+  senders : (s : Setting) (m : Moment) → IsMaskedFlood s l.trace l.flood → IsLone s l.origin → SendsForInitiators s m → AreAt m l.trace.nodes l.fn.self
       → IsMaskUpto (λ v. is_some ((next s l.step m).sends v)) l.trace.nodes l.station-index l.senders;
   todo : drop l.station-index l.station-items ≡ drop l.station-index l.fn.self.each.items;
   times : All (λ (x : Station). x.times ≤ l.step + 1) (take l.station-index l.station-items);

@@ -1,5 +1,5 @@
 use Rattle.std.proofs.Common.{◌≡◌, ℕ, ◌∙◌, ◌≤◌, List, Contains, Option, Some, None, get_or, ap, subst, sym}
-use Rattle.radio_model.specs.Stations.{MediumState, IsMedium, node_of, nodes_of, on_air, finished, after, Ends}
+use Rattle.radio_model.specs.Stations.{MediumState, IsMedium, id_of_station, nodes_of, on_air, station_after_end, medium_after_change, Ends}
 use Rattle.radio_model.specs.Marks.{IsMark, IsNewest, ArePlaces}
 use Rattle.radio_model.specs.declared.sending.Sending.{Sending}
 use Rattle.radio_model.specs.declared.station.Station.{Station}
@@ -25,15 +25,15 @@ invariant_of-self g c =
     let there = subst (λ (s : MediumState). Contains (nodes_of s) c.args.node) (sym c.self.view_is) c.requires.node in
     let at = found_place m c.self.inside.places.items c.deref.result.now c.args.node c.place_of-place.result c.deref.ensures.value c.self.invariant.1 there
     c.place_of-place.ensures in
-    let of : old.node ≡ c.args.node = ap node_of c.index_mut-station.ensures.value ∙ at.1 old in
+    let of : old.node ≡ c.args.node = ap id_of_station c.index_mut-station.ensures.value ∙ at.1 old in
     let later : m.now ≤ c.args.t = subst (λ (s : MediumState). s.now ≤ c.args.t) (sym c.self.view_is) c.requires.time.later in
     let ends : Ends m c.args.node c.args.t = subst (λ (s : MediumState). Ends s c.args.node c.args.t) (sym c.self.view_is) c.requires.sends in
     let room : old.ended.capacity ≡ 13 =
     ap (λ (st : Station). st.ended.capacity) c.index_mut-station.ensures.value ∙ c.self.invariant.0.rooms c.place_of-place.result old at.0 in (
-      after_medium m c.self.invariant.0 finished finished_keeps c.args.node c.args.t c.place_of-place.result old c.finish.new.self at.0
+      after_medium m c.self.invariant.0 station_after_end finished_keeps c.args.node c.args.t c.place_of-place.result old c.finish.new.self at.0
           c.index_mut-station.ensures.value of c.finish.ensures,
       subst (λ (l : List ℕ). ArePlaces l c.self.inside.places.items)
-          (sym (nodes_same m c.self.invariant.0 finished finished_keeps c.args.node c.args.t c.place_of-place.result old c.finish.new.self at.0
+          (sym (nodes_same m c.self.invariant.0 station_after_end finished_keeps c.args.node c.args.t c.place_of-place.result old c.finish.new.self at.0
           c.index_mut-station.ensures.value of c.finish.ensures)) c.self.invariant.1,
       marks_stay m.stations c.self.inside.marks.items c.place_of-place.result c.finish.new.self c.self.invariant.2 (λ e.
           subst (λ (st : Station). IsMark (on_air st) (get_or c.self.inside.marks.items c.place_of-place.result e)) (sym c.finish.ensures)
@@ -41,7 +41,7 @@ invariant_of-self g c =
           (subst (λ (st : Station). IsMark (on_air st) (get_or c.self.inside.marks.items c.place_of-place.result e)) (sym c.index_mut-station.ensures.value)
           (c.self.invariant.2.each c.place_of-place.result old e at.0)))),
       alike_kept m.now c.args.t m.stations c.self.inside.marks.items c.place_of-place.result old c.finish.new.self at.0 c.index_mut-station.ensures.value
-          (ap node_of c.finish.ensures ∙ finished_keeps.node old)
+          (ap id_of_station c.finish.ensures ∙ finished_keeps.node old)
           (λ y newest. newest_finished old room y (subst (λ (st : Station). IsNewest (on_air st) y) c.finish.ensures newest))
           (λ y newest. subst (λ (st : Station). IsNewest (on_air st) y) (sym c.finish.ensures) (newest_unfinished old room y newest)) later c.self.invariant.3,
       c.self.invariant.4,
@@ -59,10 +59,10 @@ returns-clause-state g c =
     let there = subst (λ (s : MediumState). Contains (nodes_of s) c.args.node) (sym c.self.view_is) c.requires.node in
     let at = found_place m c.self.inside.places.items c.deref.result.now c.args.node c.place_of-place.result c.deref.ensures.value c.self.invariant.1 there
     c.place_of-place.ensures in
-    let of : old.node ≡ c.args.node = ap node_of c.index_mut-station.ensures.value ∙ at.1 old in
-    after_is m c.self.invariant.0 finished finished_keeps c.args.node c.args.t c.place_of-place.result old c.finish.new.self at.0
+    let of : old.node ≡ c.args.node = ap id_of_station c.index_mut-station.ensures.value ∙ at.1 old in
+    after_is m c.self.invariant.0 station_after_end finished_keeps c.args.node c.args.t c.place_of-place.result old c.finish.new.self at.0
     c.index_mut-station.ensures.value of c.finish.ensures
-    ∙ ap (after c.args.t c.args.node finished) c.self.view_is
+    ∙ ap (medium_after_change c.args.t c.args.node station_after_end) c.self.view_is
 
 pub returns-clause-hearers : goal.returns-clause-hearers
 returns-clause-hearers g c =

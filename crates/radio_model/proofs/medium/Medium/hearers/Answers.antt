@@ -1,5 +1,5 @@
 use Rattle.std.proofs.Common.{List, ◌≡◌, Contains, ap, subst, sym, arith, length, get_or, IfSome, IsSomeAnd, All, ◌≤◌, ◌^◌}
-use Rattle.radio_model.specs.Stations.{MediumState, fresh, nodes_of, station_of, sending_of, Ends}
+use Rattle.radio_model.specs.Stations.{MediumState, fresh, nodes_of, station_of, sending_of_station, Ends}
 use Rattle.radio_model.specs.Ages.{IsAged}
 use Rattle.radio_model.specs.Meetings.{hearers_to}
 use Rattle.radio_model.specs.declared.station.Station.{Station}
@@ -54,7 +54,7 @@ returns-clause-list g c =
     let d = fresh 0 0 in
     let lines = g.M.Links.lines c.args.links.now in
     let heard = c.listeners_at.result in
-    subst (λ (s : MediumState). IfSome (sending_of (station_of s c.args.node)) (λ x. heard ≡ hearers_to s.numbers lines c.args.node x s.stations))
+    subst (λ (s : MediumState). IfSome (sending_of_station (station_of s c.args.node)) (λ x. heard ≡ hearers_to s.numbers lines c.args.node x s.stations))
     c.self.view_is
     (hearers_there m c.self.invariant.0.nodes.ascending c.args.node i d at.0 (at.1 d) lines heard
     (subst (λ (l : List Station). IfSome (get_or l i d).sending (λ x. heard ≡ hearers_to m.numbers lines (get_or l i d).node x l)) c.deref-2.ensures.value

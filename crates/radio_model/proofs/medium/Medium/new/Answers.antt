@@ -1,6 +1,6 @@
 use Rattle.std.proofs.Common.{◌≡◌, ℕ, ◌≤◌, ◌^◌, inl, inr, ◌∙◌, ap, map, subst, sym, All, List, get_or, length, replicate, arith}
 use Rattle.lwb_base.specs.Profile.{Numbers, IsProfile}
-use Rattle.radio_model.specs.Stations.{IsMedium, node_of}
+use Rattle.radio_model.specs.Stations.{IsMedium, id_of_station}
 use Rattle.radio_model.specs.declared.station.Station.{Station}
 use Rattle.radio_model.specs.Holding.{Holds, nothing_yet}
 use Rattle.radio_model.proofs.AtFirst.{holds_at_first}
@@ -25,7 +25,7 @@ invariant_of-result c = (
   subst (λ (xs : List Station). IsMedium (record { numbers = c.args.profile.now; now = 0; stations = xs })) (sym c.in_ok-stations.ensures)
       (first_is_medium c.args.profile.now c.args.nodes.now c.delta-delta.ensures.made c.requires),
   subst (λ (l : List ℕ). ArePlaces l c.in_ok-places.places.items)
-      (sym (ap (map node_of) c.in_ok-stations.ensures ∙ nodes_from 0 c.args.nodes.now)) c.in_ok-places.ensures,
+      (sym (ap (map id_of_station) c.in_ok-stations.ensures ∙ nodes_from 0 c.args.nodes.now)) c.in_ok-places.ensures,
   subst (λ (xs : List Station). AreMarks xs c.in_ok-marks.marks.items) (sym c.in_ok-stations.ensures)
       (marks_first c.args.nodes.now c.in_ok-marks.marks.items (omega (arith, c.in_ok-marks.ensures.len)) (λ k e below.
       let all : c.in_ok-marks.marks.items ≡ replicate (length c.args.nodes.now) c.none.result = c.in_ok-marks.ensures.items_if_clones_equal (λ y is. is) in

@@ -1,6 +1,6 @@
 use Rattle.std.proofs.Common.{◌≡◌, ◌+◌, ◌<◌, ℕ, List, length, set, get_or, Some, is_some, Contains, ap, ◌∙◌, ◌≤◌, sym, subst, arith}
 use Rattle.lwb_base.specs.Profile.{airtime}
-use Rattle.radio_model.specs.Stations.{MediumState, IsMedium, node_of, nodes_of, started, after, can_send, station_of, IsTime}
+use Rattle.radio_model.specs.Stations.{MediumState, IsMedium, id_of_station, nodes_of, station_after_start, medium_after_change, can_send, station_of, IsTime}
 use Rattle.radio_model.specs.Ages.{IsAged}
 use Rattle.radio_model.specs.Marks.{AreMarks, AreAlike, ArePlaces, IsOrigin, no_mark}
 use Rattle.radio_model.specs.declared.mark.Mark.{Mark}
@@ -38,10 +38,10 @@ invariant_of-self c =
     let there = subst (λ (s : MediumState). Contains (nodes_of s) c.args.node) (sym c.self.view_is) c.requires.node in
     let at = found_place m c.self.inside.places.items c.deref.result.now c.args.node c.place_of-place.result c.deref.ensures.value c.self.invariant.1 there
     c.place_of-place.ensures in
-    let of : old.node ≡ c.args.node = ap node_of c.index_mut-station.ensures.value ∙ at.1 old in
+    let of : old.node ≡ c.args.node = ap id_of_station c.index_mut-station.ensures.value ∙ at.1 old in
     let end_is : c.args.t + c.airtime.result ≡ c.args.t + airtime m.numbers (length c.args.packet.now) =
     ap (λ (n : ℕ). c.args.t + n) (c.airtime.ensures.value ∙ ap (airtime m.numbers) c.length.ensures.value) in
-    let is_started : c.start-rank.new.self ≡ started m.numbers c.args.t c.args.packet.now old = c.start-rank.ensures.state m.numbers end_is in
+    let is_started : c.start-rank.new.self ≡ station_after_start m.numbers c.args.t c.args.packet.now old = c.start-rank.ensures.state m.numbers end_is in
     let later : m.now ≤ c.args.t = subst (λ (s : MediumState). s.now ≤ c.args.t) (sym c.self.view_is) c.requires.time.later in
     let p = m.numbers in
     let t = c.args.t in
@@ -59,11 +59,11 @@ invariant_of-self c =
     let after = after_start p m.now t
     (t + c.airtime.result) packet m.stations marks i old new c.origin_of-origin.result at.0 c.index_mut-station.ensures.value is_started end_is aged later
     c.self.invariant.2 c.self.invariant.3 from c.start-rank.result c.start-rank.ensures.value in (
-      after_medium m c.self.invariant.0 (started m.numbers c.args.t c.args.packet.now)
+      after_medium m c.self.invariant.0 (station_after_start m.numbers c.args.t c.args.packet.now)
           (started_keeps m.numbers c.args.t c.args.packet.now) c.args.node c.args.t c.place_of-place.result old c.start-rank.new.self at.0
           c.index_mut-station.ensures.value of is_started,
       subst (λ (l : List ℕ). ArePlaces l c.self.inside.places.items)
-          (sym (nodes_same m c.self.invariant.0 (started m.numbers c.args.t c.args.packet.now)
+          (sym (nodes_same m c.self.invariant.0 (station_after_start m.numbers c.args.t c.args.packet.now)
           (started_keeps m.numbers c.args.t c.args.packet.now) c.args.node c.args.t c.place_of-place.result old c.start-rank.new.self at.0
           c.index_mut-station.ensures.value of is_started)) c.self.invariant.1,
       subst (AreMarks (set m.stations i new)) (sym (c.raise.ensures no_mark)) after.0,
@@ -86,7 +86,7 @@ returns-clause-value c =
     let there = subst (λ (s : MediumState). Contains (nodes_of s) c.args.node) (sym c.self.view_is) c.requires.node in
     let at = found_place m c.self.inside.places.items c.deref.result.now c.args.node c.place_of-place.result c.deref.ensures.value c.self.invariant.1 there
     c.place_of-place.ensures in
-    let of : old.node ≡ c.args.node = ap node_of c.index_mut-station.ensures.value ∙ at.1 old in
+    let of : old.node ≡ c.args.node = ap id_of_station c.index_mut-station.ensures.value ∙ at.1 old in
     c.is_some-starts.ensures ∙ ap is_some c.start-rank.ensures.value ∙ begins_if old.tuned old.sending
     ∙ ap can_send (sym (found m.stations c.args.node c.place_of-place.result old c.self.invariant.0.nodes.ascending at.0 c.index_mut-station.ensures.value of))
     ∙ ap (λ (s : MediumState). can_send (station_of s c.args.node)) c.self.view_is
@@ -98,14 +98,14 @@ returns-clause-state c =
     let there = subst (λ (s : MediumState). Contains (nodes_of s) c.args.node) (sym c.self.view_is) c.requires.node in
     let at = found_place m c.self.inside.places.items c.deref.result.now c.args.node c.place_of-place.result c.deref.ensures.value c.self.invariant.1 there
     c.place_of-place.ensures in
-    let of : old.node ≡ c.args.node = ap node_of c.index_mut-station.ensures.value ∙ at.1 old in
+    let of : old.node ≡ c.args.node = ap id_of_station c.index_mut-station.ensures.value ∙ at.1 old in
     let end_is : c.args.t + c.airtime.result ≡ c.args.t + airtime m.numbers (length c.args.packet.now) =
     ap (λ (n : ℕ). c.args.t + n) (c.airtime.ensures.value ∙ ap (airtime m.numbers) c.length.ensures.value) in
-    let is_started : c.start-rank.new.self ≡ started m.numbers c.args.t c.args.packet.now old = c.start-rank.ensures.state m.numbers end_is in
-    after_is m c.self.invariant.0 (started m.numbers c.args.t c.args.packet.now)
+    let is_started : c.start-rank.new.self ≡ station_after_start m.numbers c.args.t c.args.packet.now old = c.start-rank.ensures.state m.numbers end_is in
+    after_is m c.self.invariant.0 (station_after_start m.numbers c.args.t c.args.packet.now)
     (started_keeps m.numbers c.args.t c.args.packet.now) c.args.node c.args.t c.place_of-place.result old c.start-rank.new.self at.0
     c.index_mut-station.ensures.value of is_started
-    ∙ ap (λ (s : MediumState). after c.args.t c.args.node (started s.numbers c.args.t c.args.packet.now) s) c.self.view_is
+    ∙ ap (λ (s : MediumState). medium_after_change c.args.t c.args.node (station_after_start s.numbers c.args.t c.args.packet.now) s) c.self.view_is
 
 pub returns-clause-holds : goal.returns-clause-holds
 returns-clause-holds c =

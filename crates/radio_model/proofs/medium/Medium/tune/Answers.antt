@@ -1,5 +1,5 @@
 use Rattle.std.proofs.Common.{◌≡◌, ℕ, ap, ◌∙◌, ◌≤◌, List, Contains, get_or, subst, sym}
-use Rattle.radio_model.specs.Stations.{MediumState, IsMedium, node_of, nodes_of, on_air, retuned, after}
+use Rattle.radio_model.specs.Stations.{MediumState, IsMedium, id_of_station, nodes_of, on_air, station_after_tuning, medium_after_change}
 use Rattle.radio_model.specs.Holding.{Holds, after_tuning}
 use Rattle.radio_model.specs.Marks.{IsMark, IsNewest, ArePlaces}
 use Rattle.radio_model.specs.declared.sending.Sending.{Sending}
@@ -22,13 +22,13 @@ invariant_of-self c =
     let there = subst (λ (s : MediumState). Contains (nodes_of s) c.args.node) (sym c.self.view_is) c.requires.node in
     let at = found_place m c.self.inside.places.items c.deref.result.now c.args.node c.place_of-place.result c.deref.ensures.value c.self.invariant.1 there
     c.place_of-place.ensures in
-    let of : old.node ≡ c.args.node = ap node_of c.index_mut-station.ensures.value ∙ at.1 old in
+    let of : old.node ≡ c.args.node = ap id_of_station c.index_mut-station.ensures.value ∙ at.1 old in
     let later : m.now ≤ c.args.t = subst (λ (s : MediumState). s.now ≤ c.args.t) (sym c.self.view_is) c.requires.time.later in (
-      after_medium m c.self.invariant.0 (retuned c.args.rank c.args.t)
+      after_medium m c.self.invariant.0 (station_after_tuning c.args.rank c.args.t)
           (retuned_keeps c.args.rank c.args.t) c.args.node c.args.t c.place_of-place.result old c.tune.new.self at.0 c.index_mut-station.ensures.value of
           c.tune.ensures,
       subst (λ (l : List ℕ). ArePlaces l c.self.inside.places.items)
-          (sym (nodes_same m c.self.invariant.0 (retuned c.args.rank c.args.t)
+          (sym (nodes_same m c.self.invariant.0 (station_after_tuning c.args.rank c.args.t)
           (retuned_keeps c.args.rank c.args.t) c.args.node c.args.t c.place_of-place.result old c.tune.new.self at.0 c.index_mut-station.ensures.value of
           c.tune.ensures)) c.self.invariant.1,
       marks_stay m.stations c.self.inside.marks.items c.place_of-place.result c.tune.new.self c.self.invariant.2 (λ e.
@@ -37,7 +37,7 @@ invariant_of-self c =
           (subst (λ (st : Station). IsMark (on_air st) (get_or c.self.inside.marks.items c.place_of-place.result e)) (sym c.index_mut-station.ensures.value)
           (c.self.invariant.2.each c.place_of-place.result old e at.0))),
       alike_kept m.now c.args.t m.stations c.self.inside.marks.items c.place_of-place.result old c.tune.new.self at.0 c.index_mut-station.ensures.value
-          (ap node_of c.tune.ensures ∙ (retuned_keeps c.args.rank c.args.t).node old)
+          (ap id_of_station c.tune.ensures ∙ (retuned_keeps c.args.rank c.args.t).node old)
           (λ y newest. subst (λ (l : List Sending). IsNewest l y) (ap on_air c.tune.ensures ∙ retuned_on_air c.args.rank c.args.t old) newest)
           (λ y newest. subst (λ (l : List Sending). IsNewest l y) (sym (ap on_air c.tune.ensures ∙ retuned_on_air c.args.rank c.args.t old)) newest) later
           c.self.invariant.3,
@@ -56,11 +56,11 @@ returns-clause-state c =
     let there = subst (λ (s : MediumState). Contains (nodes_of s) c.args.node) (sym c.self.view_is) c.requires.node in
     let at = found_place m c.self.inside.places.items c.deref.result.now c.args.node c.place_of-place.result c.deref.ensures.value c.self.invariant.1 there
     c.place_of-place.ensures in
-    let of : old.node ≡ c.args.node = ap node_of c.index_mut-station.ensures.value ∙ at.1 old in
-    after_is m c.self.invariant.0 (retuned c.args.rank c.args.t)
+    let of : old.node ≡ c.args.node = ap id_of_station c.index_mut-station.ensures.value ∙ at.1 old in
+    after_is m c.self.invariant.0 (station_after_tuning c.args.rank c.args.t)
     (retuned_keeps c.args.rank c.args.t) c.args.node c.args.t c.place_of-place.result old c.tune.new.self at.0 c.index_mut-station.ensures.value of
     c.tune.ensures
-    ∙ ap (after c.args.t c.args.node (retuned c.args.rank c.args.t)) c.self.view_is
+    ∙ ap (medium_after_change c.args.t c.args.node (station_after_tuning c.args.rank c.args.t)) c.self.view_is
 
 pub returns-clause-holds : goal.returns-clause-holds
 returns-clause-holds c =

@@ -1,6 +1,6 @@
 use Rattle.std.proofs.Common.{◌^◌, ◌<◌, ◌≤◌, length, ◌-◌, ◌∙◌, arith}
 use Rattle.std.proofs.Math.Nat.{pow-le-pow_right}
-use Rattle.schedule_codec.specs.Packing.{number}
+use Rattle.schedule_codec.specs.Packing.{packed_number}
 use Rattle.schedule_codec.proofs.Streams.{value_in, below_in, value_taken, below_taken, below_out}
 use Rattle.schedule_codec.proofs.bits.BitReader.take.Goals as goal
 
@@ -32,7 +32,7 @@ invariant_of-self c =
 pub returns-clause-value : goal.returns-clause-value
 returns-clause-value c =
     let r = c.loop-self.self-inside in
-    value_taken r.pending (r.held - c.args.width) (length r.rest.now) (number 8 r.rest.now) (omega arith) ∙ c.loop-self.invariant.value
+    value_taken r.pending (r.held - c.args.width) (length r.rest.now) (packed_number 8 r.rest.now) (omega arith) ∙ c.loop-self.invariant.value
 
 pub returns-clause-fits : goal.returns-clause-fits
 returns-clause-fits c =

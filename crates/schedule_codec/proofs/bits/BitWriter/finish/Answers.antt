@@ -1,5 +1,5 @@
 use Rattle.std.proofs.Common.{◌≡◌, ◌+◌, ◌*◌, ◌^◌, ◌<◌, ◌-◌, ap, sym, subst, ◌∙◌, arith}
-use Rattle.schedule_codec.specs.Packing.{Bits, number}
+use Rattle.schedule_codec.specs.Packing.{Bits, packed_number}
 use Rattle.schedule_codec.proofs.Streams.{byte_filled, filled_up, filled_already}
 use Rattle.schedule_codec.proofs.bits.BitWriter.finish.Goals as goal
 
@@ -26,4 +26,4 @@ returns-else-held-gt0 c =
     let value = ap (λ (b : Bits). b.value) c.self.view_is in
     let below : w.pending < 1 = subst (λ i. w.pending < 2 ^ i) none c.self.invariant.1 in
     filled_already w.bytes.items w.pending c.args.self.count c.args.self.value (omega arith)
-    (ap (λ i. number 8 w.bytes.items * 2 ^ i + w.pending) (sym none) ∙ value) below c.self.invariant.3
+    (ap (λ i. packed_number 8 w.bytes.items * 2 ^ i + w.pending) (sym none) ∙ value) below c.self.invariant.3

@@ -1,5 +1,5 @@
 use Rattle.std.proofs.Common.{◌≡◌, ℕ, ◌+◌, ◌*◌, ◌^◌, ◌-◌, ◌/◌, ◌%◌, length, ◌∷◌, [], ap, ◌∙◌, arith, length-append}
-use Rattle.schedule_codec.specs.Packing.{Bits, number, fit}
+use Rattle.schedule_codec.specs.Packing.{Bits, packed_number, fit}
 use Rattle.schedule_codec.proofs.Streams.{value_more, below_more, value_out, below_out, byte_out, fit_push}
 use Rattle.schedule_codec.proofs.bits.BitWriter.push.Goals as goal
 
@@ -12,8 +12,8 @@ loop-self-init c =
     let from = c.from.ensures in
     record {
       count = omega arith;
-      value = ap (λ n. number 8 w.bytes.items * 2 ^ (w.held + v) + (w.pending * 2 ^ v % 4294967296 + n)) from
-          ∙ value_more (number 8 w.bytes.items) w.held w.pending v c.args.value c.self.invariant.1 (omega arith)
+      value = ap (λ n. packed_number 8 w.bytes.items * 2 ^ (w.held + v) + (w.pending * 2 ^ v % 4294967296 + n)) from
+          ∙ value_more (packed_number 8 w.bytes.items) w.held w.pending v c.args.value c.self.invariant.1 (omega arith)
           ∙ ap (λ n. n * 2 ^ v + c.args.value) value;
       below = below_more w.held w.pending v c.from.result c.self.invariant.1 (omega arith) (omega arith);
       bytes = c.self.invariant.3;
@@ -36,7 +36,7 @@ loop-self-preserved c =
     let byte = byte_out w.pending w.held k at c.loop-self.invariant.below in
     record {
       count = omega (arith, ap length out, length-append w.bytes.items (w.pending / 2 ^ k ∷ []));
-      value = ap (λ bs. number 8 bs * 2 ^ k + w.pending % (1 * 2 ^ k % 4294967296)) out
+      value = ap (λ bs. packed_number 8 bs * 2 ^ k + w.pending % (1 * 2 ^ k % 4294967296)) out
           ∙ value_out w.bytes.items w.pending w.held k at (omega arith) ∙ c.loop-self.invariant.value;
       below = below_out w.pending k (omega arith);
       bytes = ap (λ bs. fit 8 bs) out ∙ fit_push 8 w.bytes.items (w.pending / 2 ^ k) c.loop-self.invariant.bytes byte;

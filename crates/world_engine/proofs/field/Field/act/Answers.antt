@@ -7,7 +7,7 @@ use Rattle.radio_model.specs.Stations.{IsTime}
 use Rattle.bus_rules.specs.Cores.{Setup}
 use Rattle.air_log.specs.Devices.{nothing_made}
 use Rattle.air_log.specs.DeviceStates.{DeviceState, whole}
-use Rattle.world_engine.specs.Fields.{FieldState, IsShown}
+use Rattle.world_engine.specs.Fields.{FieldState, FieldIsShown}
 use Rattle.world_engine.proofs.StepsInCode.{field_as_was, state_happened}
 use Rattle.world_engine.proofs.LineChanges.{declare_stays, leave_stays}
 use Rattle.world_engine.proofs.ToldInCode.{as_told, wish_told}
@@ -48,7 +48,7 @@ invariant_of-self g c =
       drops = c.self.inside.drops.items;
       sums = c.self.inside.sums.items;
     } in
-    let shown : IsShown t old orders p = subst (λ (w : FieldState). IsShown t w orders p) (sym c.self.view_is) c.requires.shown in
+    let shown : FieldIsShown t old orders p = subst (λ (w : FieldState). FieldIsShown t w orders p) (sym c.self.view_is) c.requires.shown in
     field_as_was t p old orders shown c.from.result c.from.ensures c.index_mut.result.now c.index_mut.ensures.value c.self.invariant c.declare.new.self
     c.declare.ensures.node.setup c.self.inside.air c.self.inside.deliveries.items
 
@@ -77,7 +77,7 @@ invariant_of-self-in-Leave g c =
       drops = c.self-in-Leave.inside.drops.items;
       sums = c.self-in-Leave.inside.sums.items;
     } in
-    let shown : IsShown t old orders p = subst (λ (w : FieldState). IsShown t w orders p) (sym c.self-in-Leave.view_is) c.requires.shown in
+    let shown : FieldIsShown t old orders p = subst (λ (w : FieldState). FieldIsShown t w orders p) (sym c.self-in-Leave.view_is) c.requires.shown in
     field_as_was t p old orders shown c.from-in-Leave.result c.from-in-Leave.ensures c.index_mut-in-Leave.result.now c.index_mut-in-Leave.ensures.value
     c.self-in-Leave.invariant c.leave.new.self c.leave.ensures.node.setup c.self-in-Leave.inside.air c.self-in-Leave.inside.deliveries.items
 
@@ -122,7 +122,7 @@ returns-in-Declare g c =
       drops = c.self.inside.drops.items;
       sums = c.self.inside.sums.items;
     } in
-    let shown : IsShown t old orders p = subst (λ (w : FieldState). IsShown t w orders p) (sym c.self.view_is) c.requires.shown in
+    let shown : FieldIsShown t old orders p = subst (λ (w : FieldState). FieldIsShown t w orders p) (sym c.self.view_is) c.requires.shown in
     let time : IsTime old.medium t = subst (λ (w : FieldState). IsTime w.medium t) (sym c.self.view_is) c.requires.time in
     let clock = g.C.DriftClock.readings c.args.clock.now in
     let line = c.args.line.now in
@@ -149,7 +149,7 @@ returns-in-Leave g c =
       drops = c.self-in-Leave.inside.drops.items;
       sums = c.self-in-Leave.inside.sums.items;
     } in
-    let shown : IsShown t old orders p = subst (λ (w : FieldState). IsShown t w orders p) (sym c.self-in-Leave.view_is) c.requires.shown in
+    let shown : FieldIsShown t old orders p = subst (λ (w : FieldState). FieldIsShown t w orders p) (sym c.self-in-Leave.view_is) c.requires.shown in
     let time : IsTime old.medium t = subst (λ (w : FieldState). IsTime w.medium t) (sym c.self-in-Leave.view_is) c.requires.time in
     let clock = g.C.DriftClock.readings c.args.clock.now in
     let line = c.args.line.now in

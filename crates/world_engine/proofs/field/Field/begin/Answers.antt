@@ -5,9 +5,9 @@ use Rattle.event_calendar.specs.Orders.{Due, at, changed}
 use Rattle.event_calendar.specs.declared.class.Class.TheVariants.{SendingEnd, SendingStart}
 use Rattle.radio_model.specs.declared.sending.Sending.{Sending}
 use Rattle.air_log.specs.Devices.{Made}
-use Rattle.air_log.specs.Trails.{begun}
+use Rattle.air_log.specs.Trails.{device_after_start}
 use Rattle.air_log.specs.DeviceStates.{whole, with_sent}
-use Rattle.world_engine.specs.Fields.{FieldState, IsField, IsShown}
+use Rattle.world_engine.specs.Fields.{FieldState, IsField, FieldIsShown}
 use Rattle.world_engine.proofs.BegunSendings.{has_begun, has_station, begun_is_field, as_given}
 use Rattle.world_engine.proofs.NothingBegun.{not_begun, silent_is_field}
 use Rattle.world_engine.proofs.ShownPlaces.{read_there}
@@ -26,11 +26,11 @@ invariant_of-self g c =
     let due : List Due = g.Q.Orders.map c.args.orders.now in
     let i = c.from.result in
     let st = c.index_mut-device.result.now in
-    let shown : IsShown c.args.t w due i = subst (λ (k : ℕ). IsShown c.args.t w due k) (sym c.from.ensures)
-    (subst (λ (v : FieldState). IsShown c.args.t v due c.args.place) (sym c.self.view_is) c.requires.shown) in
+    let shown : FieldIsShown c.args.t w due i = subst (λ (k : ℕ). FieldIsShown c.args.t w due k) (sym c.from.ensures)
+    (subst (λ (v : FieldState). FieldIsShown c.args.t v due c.args.place) (sym c.self.view_is) c.requires.shown) in
     let stands : at due i SendingStart ≡ Some c.args.t = ap (λ (k : ℕ). at due k SendingStart) c.from.ensures ∙ c.requires.stands in
     let time : IsTime w.medium c.args.t = subst (λ (v : FieldState). IsTime v.medium c.args.t) (sym c.self.view_is) c.requires.time in
-    let answers : (made : Made) → begun st.setup c.args.t (whole st made) ≡ whole c.begin.new.self (with_sent None made) =
+    let answers : (made : Made) → device_after_start st.setup c.args.t (whole st made) ≡ whole c.begin.new.self (with_sent None made) =
     λ made. c.begin.ensures.whole made ∙ ap (λ (r : Option Sending). whole c.begin.new.self (with_sent r made)) c.in_default.is in
     silent_is_field c.args.t i w c.self.invariant due st c.begin.new.self
     (read_there c.args.t w due i st shown c.index_mut-device.ensures.value) c.begin.ensures.node c.begin.ensures.time stands shown time answers
@@ -48,11 +48,11 @@ returns-in_default g c =
     let due : List Due = g.Q.Orders.map c.args.orders.now in
     let i = c.from.result in
     let st = c.index_mut-device.result.now in
-    let shown : IsShown c.args.t w due i = subst (λ (k : ℕ). IsShown c.args.t w due k) (sym c.from.ensures)
-    (subst (λ (v : FieldState). IsShown c.args.t v due c.args.place) (sym c.self.view_is) c.requires.shown) in
+    let shown : FieldIsShown c.args.t w due i = subst (λ (k : ℕ). FieldIsShown c.args.t w due k) (sym c.from.ensures)
+    (subst (λ (v : FieldState). FieldIsShown c.args.t v due c.args.place) (sym c.self.view_is) c.requires.shown) in
     let stands : at due i SendingStart ≡ Some c.args.t = ap (λ (k : ℕ). at due k SendingStart) c.from.ensures ∙ c.requires.stands in
     let time : IsTime w.medium c.args.t = subst (λ (v : FieldState). IsTime v.medium c.args.t) (sym c.self.view_is) c.requires.time in
-    let answers : (made : Made) → begun st.setup c.args.t (whole st made) ≡ whole c.begin.new.self (with_sent None made) =
+    let answers : (made : Made) → device_after_start st.setup c.args.t (whole st made) ≡ whole c.begin.new.self (with_sent None made) =
     λ made. c.begin.ensures.whole made ∙ ap (λ (r : Option Sending). whole c.begin.new.self (with_sent r made)) c.in_default.is in
     as_given c.args.t i c.args.place w c.args.self.now due _ _ _ c.self.view_is c.from.ensures
     (c.clear.ensures ∙ ap (λ (k : ℕ). changed due k SendingStart None) (sym c.from.ensures))
@@ -72,11 +72,11 @@ start-requires-clause-node g c =
     let due : List Due = g.Q.Orders.map c.args.orders.now in
     let i = c.from.result in
     let st = c.index_mut-device.result.now in
-    let shown : IsShown c.args.t w due i = subst (λ (k : ℕ). IsShown c.args.t w due k) (sym c.from.ensures)
-    (subst (λ (v : FieldState). IsShown c.args.t v due c.args.place) (sym c.self.view_is) c.requires.shown) in
+    let shown : FieldIsShown c.args.t w due i = subst (λ (k : ℕ). FieldIsShown c.args.t w due k) (sym c.from.ensures)
+    (subst (λ (v : FieldState). FieldIsShown c.args.t v due c.args.place) (sym c.self.view_is) c.requires.shown) in
     let stands : at due i SendingStart ≡ Some c.args.t = ap (λ (k : ℕ). at due k SendingStart) c.from.ensures ∙ c.requires.stands in
     let time : IsTime w.medium c.args.t = subst (λ (v : FieldState). IsTime v.medium c.args.t) (sym c.self.view_is) c.requires.time in
-    let answers : (made : Made) → begun st.setup c.args.t (whole st made) ≡ whole c.begin.new.self (with_sent (Some c.in-Some.x) made) =
+    let answers : (made : Made) → device_after_start st.setup c.args.t (whole st made) ≡ whole c.begin.new.self (with_sent (Some c.in-Some.x) made) =
     λ made. c.begin.ensures.whole made ∙ ap (λ (r : Option Sending). whole c.begin.new.self (with_sent r made)) c.in-Some.is in
     has_station c.args.t i w c.self.invariant due st c.begin.new.self
     (read_there c.args.t w due i st shown c.index_mut-device.ensures.value) c.begin.ensures.node c.begin.ensures.time stands shown time c.in-Some.x answers
@@ -94,11 +94,11 @@ invariant_of-self-2 g c =
     let due : List Due = g.Q.Orders.map c.args.orders.now in
     let i = c.from.result in
     let st = c.index_mut-device.result.now in
-    let shown : IsShown c.args.t w due i = subst (λ (k : ℕ). IsShown c.args.t w due k) (sym c.from.ensures)
-    (subst (λ (v : FieldState). IsShown c.args.t v due c.args.place) (sym c.self.view_is) c.requires.shown) in
+    let shown : FieldIsShown c.args.t w due i = subst (λ (k : ℕ). FieldIsShown c.args.t w due k) (sym c.from.ensures)
+    (subst (λ (v : FieldState). FieldIsShown c.args.t v due c.args.place) (sym c.self.view_is) c.requires.shown) in
     let stands : at due i SendingStart ≡ Some c.args.t = ap (λ (k : ℕ). at due k SendingStart) c.from.ensures ∙ c.requires.stands in
     let time : IsTime w.medium c.args.t = subst (λ (v : FieldState). IsTime v.medium c.args.t) (sym c.self.view_is) c.requires.time in
-    let answers : (made : Made) → begun st.setup c.args.t (whole st made) ≡ whole c.begin.new.self (with_sent (Some c.in-Some.x) made) =
+    let answers : (made : Made) → device_after_start st.setup c.args.t (whole st made) ≡ whole c.begin.new.self (with_sent (Some c.in-Some.x) made) =
     λ made. c.begin.ensures.whole made ∙ ap (λ (r : Option Sending). whole c.begin.new.self (with_sent r made)) c.in-Some.is in
     subst (λ (m : MediumState). IsField
     (record {
@@ -126,11 +126,11 @@ returns g c =
     let due : List Due = g.Q.Orders.map c.args.orders.now in
     let i = c.from.result in
     let st = c.index_mut-device.result.now in
-    let shown : IsShown c.args.t w due i = subst (λ (k : ℕ). IsShown c.args.t w due k) (sym c.from.ensures)
-    (subst (λ (v : FieldState). IsShown c.args.t v due c.args.place) (sym c.self.view_is) c.requires.shown) in
+    let shown : FieldIsShown c.args.t w due i = subst (λ (k : ℕ). FieldIsShown c.args.t w due k) (sym c.from.ensures)
+    (subst (λ (v : FieldState). FieldIsShown c.args.t v due c.args.place) (sym c.self.view_is) c.requires.shown) in
     let stands : at due i SendingStart ≡ Some c.args.t = ap (λ (k : ℕ). at due k SendingStart) c.from.ensures ∙ c.requires.stands in
     let time : IsTime w.medium c.args.t = subst (λ (v : FieldState). IsTime v.medium c.args.t) (sym c.self.view_is) c.requires.time in
-    let answers : (made : Made) → begun st.setup c.args.t (whole st made) ≡ whole c.begin.new.self (with_sent (Some c.in-Some.x) made) =
+    let answers : (made : Made) → device_after_start st.setup c.args.t (whole st made) ≡ whole c.begin.new.self (with_sent (Some c.in-Some.x) made) =
     λ made. c.begin.ensures.whole made ∙ ap (λ (r : Option Sending). whole c.begin.new.self (with_sent r made)) c.in-Some.is in
     on_ok_weaker c.push.result (λ pushed.
     as_given c.args.t i c.args.place w c.args.self.now due _ _ _ c.self.view_is c.from.ensures

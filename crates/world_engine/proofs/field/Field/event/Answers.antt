@@ -4,7 +4,7 @@ use Rattle.air_log.specs.ClockLists.{clocks_by}
 use Rattle.world_engine.specs.Counting.{TrailsStay}
 use Rattle.world_engine.specs.Moments.{At}
 use Rattle.world_engine.specs.Running.{IsRunning}
-use Rattle.world_engine.specs.Frames.{IsPast}
+use Rattle.world_engine.specs.Frames.{AllComeLater}
 use Rattle.world_engine.proofs.field.Field.event.Goals as goal
 
 pub end_due-requires-clause-running : goal.end_due-requires-clause-running
@@ -35,7 +35,7 @@ returns-in-SendingEnd g c = λ told.
     subst
     (λ (k : Class). IsRunning c.args.s.now clocks told c.args.t (At k) c.args.self.now (g.Q.Orders.map c.args.orders.now)
     → OnOk c.end_due.result
-    (IsRunning c.args.s.now clocks told c.args.t (At k) c.end_due.new.self due × IsPast c.args.t k c.args.place due
+    (IsRunning c.args.s.now clocks told c.args.t (At k) c.end_due.new.self due × AllComeLater c.args.t k c.args.place due
     × TrailsStay c.args.s.now clocks c.args.t c.args.self.now.air c.end_due.new.self.air))
     (sym c.in-SendingEnd.is) (c.end_due.ensures told)
 
@@ -46,7 +46,7 @@ returns-in-Alarm g c = λ told.
     subst
     (λ (k : Class). IsRunning c.args.s.now clocks told c.args.t (At k) c.args.self.now (g.Q.Orders.map c.args.orders.now)
     → OnOk c.alarm_due.result
-    (IsRunning c.args.s.now clocks told c.args.t (At k) c.alarm_due.new.self due × IsPast c.args.t k c.args.place due
+    (IsRunning c.args.s.now clocks told c.args.t (At k) c.alarm_due.new.self due × AllComeLater c.args.t k c.args.place due
     × TrailsStay c.args.s.now clocks c.args.t c.args.self.now.air c.alarm_due.new.self.air))
     (sym c.in-Alarm.is) (c.alarm_due.ensures told)
 
@@ -57,6 +57,6 @@ returns-in-SendingStart g c = λ told.
     subst
     (λ (k : Class). IsRunning c.args.s.now clocks told c.args.t (At k) c.args.self.now (g.Q.Orders.map c.args.orders.now)
     → OnOk c.start_due.result
-    (IsRunning c.args.s.now clocks told c.args.t (At k) c.start_due.new.self due × IsPast c.args.t k c.args.place due
+    (IsRunning c.args.s.now clocks told c.args.t (At k) c.start_due.new.self due × AllComeLater c.args.t k c.args.place due
     × TrailsStay c.args.s.now clocks c.args.t c.args.self.now.air c.start_due.new.self.air))
     (sym c.in-SendingStart.is) (c.start_due.ensures told)

@@ -9,7 +9,7 @@ use Rattle.air_log.specs.declared.entry.Entry.TheVariants.{Heard as HeardLine}
 use Rattle.air_log.specs.Devices.{event}
 use Rattle.air_log.specs.Entries.{heard_entry}
 use Rattle.air_log.specs.WindowSums.{sent_with}
-use Rattle.world_engine.specs.Fields.{FieldState, IsShown}
+use Rattle.world_engine.specs.Fields.{FieldState, FieldIsShown}
 use Rattle.world_engine.specs.FieldSteps.{Acts}
 use Rattle.world_engine.specs.FieldHearings.{AllHear}
 use Rattle.world_engine.proofs.ShownPlaces.{read_there}
@@ -36,8 +36,9 @@ tell-requires-clause-shown g c =
     c.in_ok-push.ensures.ok
     ∙ ap (λ (b : List ℕ). w.air ++ HeardLine (record { rank = x.rank; node = u; from = x.node; start = x.start; end = x.end; packet = b })
     ∷ []) c.copy.ensures in
-    let shown : IsShown x.end w due c.args.place = subst (λ (v : FieldState). IsShown x.end v due c.args.place) (sym c.self.view_is) c.requires.shown in
-    subst (λ (l : List Entry). IsShown x.end
+    let shown : FieldIsShown x.end w due c.args.place =
+        subst (λ (v : FieldState). FieldIsShown x.end v due c.args.place) (sym c.self.view_is) c.requires.shown in
+    subst (λ (l : List Entry). FieldIsShown x.end
     (record { medium = w.medium; devices = w.devices; air = l; deliveries = w.deliveries; drops = w.drops; sums = w.sums }) due c.args.place)
     (sym pushed) (is_shown_when_logged x.end c.args.place u x w due shown)
 
@@ -61,10 +62,11 @@ returns g c =
     c.in_ok-push.ensures.ok
     ∙ ap (λ (b : List ℕ). w.air ++ HeardLine (record { rank = x.rank; node = u; from = x.node; start = x.start; end = x.end; packet = b })
     ∷ []) c.copy.ensures in
-    let shown : IsShown x.end w due c.args.place = subst (λ (v : FieldState). IsShown x.end v due c.args.place) (sym c.self.view_is) c.requires.shown in
+    let shown : FieldIsShown x.end w due c.args.place =
+        subst (λ (v : FieldState). FieldIsShown x.end v due c.args.place) (sym c.self.view_is) c.requires.shown in
     let there : slice_get w.devices c.args.place ≡ Some st =
     subst (λ (k : ℕ). slice_get w.devices k ≡ Some st) c.from.ensures
-    (read_there x.end w due c.from.result st (subst (λ (k : ℕ). IsShown x.end w due k) (sym c.from.ensures) shown) c.index.ensures) in
+    (read_there x.end w due c.from.result st (subst (λ (k : ℕ). FieldIsShown x.end w due k) (sym c.from.ensures) shown) c.index.ensures) in
     let id : u ≡ st.setup.id = c.node-node.ensures in
     on_ok_weaker c.tell.result (λ acts.
     let told : Acts x.end c.args.place (λ s d. event clock s x.end (Heard x.packet) None d) [] [] (logged u x w) due c.tell.new.self new_due =

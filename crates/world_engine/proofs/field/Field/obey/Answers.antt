@@ -6,7 +6,7 @@ use Rattle.air_log.specs.Devices.{Listening, obeyed}
 use Rattle.air_log.specs.DeviceStates.{DeviceState, whole, with_tuned}
 use Rattle.world_engine.specs.declared.event_radio.OrderRef.{OrderRef}
 use Rattle.world_engine.specs.EventOrders.{order_of}
-use Rattle.world_engine.specs.Fields.{FieldState, IsShown, channel_of}
+use Rattle.world_engine.specs.Fields.{FieldState, FieldIsShown, channel_of}
 use Rattle.world_engine.proofs.DeviceRetuned.{listens_after, silent_after}
 use Rattle.world_engine.proofs.ActsInTurn.{acts_seen}
 use Rattle.world_engine.proofs.StepsInCode.{in_queue, in_medium, field_as_was, field_retuned, state_happened, retuned_acts, ordered_acts, alarm_acts}
@@ -25,7 +25,7 @@ invariant_of-self g c =
       drops = c.self.inside.drops.items;
       sums = c.self.inside.sums.items;
     } in
-    let shown : IsShown t old orders p = subst (λ (w : FieldState). IsShown t w orders p) (sym c.self.view_is) c.requires.shown in
+    let shown : FieldIsShown t old orders p = subst (λ (w : FieldState). FieldIsShown t w orders p) (sym c.self.view_is) c.requires.shown in
     field_retuned t p old orders shown c.from.result c.from.ensures c.index_mut-device.result.now c.index_mut-device.ensures.value c.self.invariant
     c.listen-closed.new.self c.listen-closed.ensures.node.setup c.self.inside.air c.node-node.result
     (Some c.in-Listen.rank) c.tune.new.self c.tune.ensures.state
@@ -43,7 +43,7 @@ tune-requires-in-Off-clause-node g c =
       drops = c.self.inside.drops.items;
       sums = c.self.inside.sums.items;
     } in
-    let shown : IsShown t old orders p = subst (λ (w : FieldState). IsShown t w orders p) (sym c.self.view_is) c.requires.shown in
+    let shown : FieldIsShown t old orders p = subst (λ (w : FieldState). FieldIsShown t w orders p) (sym c.self.view_is) c.requires.shown in
     let state = c.index_mut-device.result.now in
     let id : c.node-node.result ≡ state.setup.id = c.node-node.ensures in
     subst (λ (v : ℕ). Contains (nodes_of old.medium) v) (sym id)
@@ -62,7 +62,7 @@ invariant_of-self-in-Off g c =
       drops = c.self.inside.drops.items;
       sums = c.self.inside.sums.items;
     } in
-    let shown : IsShown t old orders p = subst (λ (w : FieldState). IsShown t w orders p) (sym c.self.view_is) c.requires.shown in
+    let shown : FieldIsShown t old orders p = subst (λ (w : FieldState). FieldIsShown t w orders p) (sym c.self.view_is) c.requires.shown in
     field_retuned t p old orders shown c.from.result c.from.ensures c.index_mut-device.result.now c.index_mut-device.ensures.value c.self.invariant
     c.silence-closed.new.self c.silence-closed.ensures.node.setup c.self.inside.air c.node-node.result None c.tune-in-Off.new.self
     c.tune-in-Off.ensures.state
@@ -80,7 +80,7 @@ set-requires g c =
       drops = c.self.inside.drops.items;
       sums = c.self.inside.sums.items;
     } in
-    let shown : IsShown t old orders p = subst (λ (w : FieldState). IsShown t w orders p) (sym c.self.view_is) c.requires.shown in
+    let shown : FieldIsShown t old orders p = subst (λ (w : FieldState). FieldIsShown t w orders p) (sym c.self.view_is) c.requires.shown in
     in_queue t p old orders shown c.from.result c.from.ensures c.index_mut-device.result.now c.index_mut-device.ensures.value
 
 pub invariant_of-self-in-SendAt : goal.invariant_of-self-in-SendAt
@@ -96,7 +96,7 @@ invariant_of-self-in-SendAt g c =
       drops = c.self.inside.drops.items;
       sums = c.self.inside.sums.items;
     } in
-    let shown : IsShown t old orders p = subst (λ (w : FieldState). IsShown t w orders p) (sym c.self.view_is) c.requires.shown in
+    let shown : FieldIsShown t old orders p = subst (λ (w : FieldState). FieldIsShown t w orders p) (sym c.self.view_is) c.requires.shown in
     field_as_was t p old orders shown c.from.result c.from.ensures c.index_mut-device.result.now c.index_mut-device.ensures.value c.self.invariant
     c.order_sending-tick.new.self (ap (λ (d : DeviceState). d.setup) c.order_sending-tick.ensures.after) c.self.inside.air c.self.inside.deliveries.items
 
@@ -113,7 +113,7 @@ set-requires-in-Alarm g c =
       drops = c.self.inside.drops.items;
       sums = c.self.inside.sums.items;
     } in
-    let shown : IsShown t old orders p = subst (λ (w : FieldState). IsShown t w orders p) (sym c.self.view_is) c.requires.shown in
+    let shown : FieldIsShown t old orders p = subst (λ (w : FieldState). FieldIsShown t w orders p) (sym c.self.view_is) c.requires.shown in
     in_queue t p old orders shown c.from.result c.from.ensures c.index_mut-device.result.now c.index_mut-device.ensures.value
 
 pub invariant_of-self-in-Alarm : goal.invariant_of-self-in-Alarm
@@ -129,7 +129,7 @@ invariant_of-self-in-Alarm g c =
       drops = c.self.inside.drops.items;
       sums = c.self.inside.sums.items;
     } in
-    let shown : IsShown t old orders p = subst (λ (w : FieldState). IsShown t w orders p) (sym c.self.view_is) c.requires.shown in
+    let shown : FieldIsShown t old orders p = subst (λ (w : FieldState). FieldIsShown t w orders p) (sym c.self.view_is) c.requires.shown in
     field_as_was t p old orders shown c.from.result c.from.ensures c.index_mut-device.result.now c.index_mut-device.ensures.value c.self.invariant
     c.set_alarm-tick.new.self (ap (λ (d : DeviceState). d.setup) c.set_alarm-tick.ensures.after) c.self.inside.air c.self.inside.deliveries.items
 
@@ -146,7 +146,7 @@ returns-in-Listen g c =
       drops = c.self.inside.drops.items;
       sums = c.self.inside.sums.items;
     } in
-    let shown : IsShown t old orders p = subst (λ (w : FieldState). IsShown t w orders p) (sym c.self.view_is) c.requires.shown in
+    let shown : FieldIsShown t old orders p = subst (λ (w : FieldState). FieldIsShown t w orders p) (sym c.self.view_is) c.requires.shown in
     let time : IsTime old.medium t = subst (λ (w : FieldState). IsTime w.medium t) (sym c.self.view_is) c.requires.time in
     let clock = g.C.DriftClock.readings c.args.clock.now in
     let state = c.index_mut-device.result.now in
@@ -180,7 +180,7 @@ returns-in-Off g c =
       drops = c.self.inside.drops.items;
       sums = c.self.inside.sums.items;
     } in
-    let shown : IsShown t old orders p = subst (λ (w : FieldState). IsShown t w orders p) (sym c.self.view_is) c.requires.shown in
+    let shown : FieldIsShown t old orders p = subst (λ (w : FieldState). FieldIsShown t w orders p) (sym c.self.view_is) c.requires.shown in
     let time : IsTime old.medium t = subst (λ (w : FieldState). IsTime w.medium t) (sym c.self.view_is) c.requires.time in
     let clock = g.C.DriftClock.readings c.args.clock.now in
     let state = c.index_mut-device.result.now in
@@ -214,7 +214,7 @@ returns-in-SendAt g c =
       drops = c.self.inside.drops.items;
       sums = c.self.inside.sums.items;
     } in
-    let shown : IsShown t old orders p = subst (λ (w : FieldState). IsShown t w orders p) (sym c.self.view_is) c.requires.shown in
+    let shown : FieldIsShown t old orders p = subst (λ (w : FieldState). FieldIsShown t w orders p) (sym c.self.view_is) c.requires.shown in
     let time : IsTime old.medium t = subst (λ (w : FieldState). IsTime w.medium t) (sym c.self.view_is) c.requires.time in
     acts_seen c.self.view_is (
     ordered_acts t p old orders shown c.from.result c.from.ensures c.index_mut-device.result.now c.index_mut-device.ensures.value c.self.invariant time
@@ -235,7 +235,7 @@ returns-in-Alarm g c =
       drops = c.self.inside.drops.items;
       sums = c.self.inside.sums.items;
     } in
-    let shown : IsShown t old orders p = subst (λ (w : FieldState). IsShown t w orders p) (sym c.self.view_is) c.requires.shown in
+    let shown : FieldIsShown t old orders p = subst (λ (w : FieldState). FieldIsShown t w orders p) (sym c.self.view_is) c.requires.shown in
     let time : IsTime old.medium t = subst (λ (w : FieldState). IsTime w.medium t) (sym c.self.view_is) c.requires.time in
     acts_seen c.self.view_is (
     alarm_acts t p old orders shown c.from.result c.from.ensures c.index_mut-device.result.now c.index_mut-device.ensures.value c.self.invariant time

@@ -5,7 +5,7 @@ use Rattle.std.proofs.lemmas.Option.{slice_get_read}
 use Rattle.bus_rules.specs.Cores.{Setup}
 use Rattle.bus_rules.specs.declared.delivery.DropLine.{DropLine}
 use Rattle.radio_model.specs.Stations.{IsTime}
-use Rattle.world_engine.specs.Fields.{FieldState, Shows, IsShown}
+use Rattle.world_engine.specs.Fields.{FieldState, FieldShows, FieldIsShown}
 use Rattle.world_engine.proofs.ActsInTurn.{acts_seen}
 use Rattle.world_engine.proofs.DeviceSteps.{field_stays}
 use Rattle.world_engine.proofs.StepsInCode.{state_happened}
@@ -84,7 +84,7 @@ returns-then-not-put c = λ clock t due is_time is_shown own.
       drops = c.self.inside.drops.items;
       sums = c.self.inside.sums.items;
     } in
-    let shown : IsShown t old due p = subst (λ (w : FieldState). IsShown t w due p) (sym c.self.view_is) is_shown in
+    let shown : FieldIsShown t old due p = subst (λ (w : FieldState). FieldIsShown t w due p) (sym c.self.view_is) is_shown in
     let time : IsTime old.medium t = subst (λ (w : FieldState). IsTime w.medium t) (sym c.self.view_is) is_time in
     let state = c.index_mut-device.result.now in
     let happened = c.put.ensures.time t
@@ -102,7 +102,7 @@ returns-then-not-put c = λ clock t due is_time is_shown own.
       λ s d shows.
           put_lost t p old due shown c.from.result c.from.ensures c.index_mut-device.result.now c.index_mut-device.ensures.value clock c.args.line.now
           c.args.stream c.args.payload.now false c.put.new.self puts is_own s d
-          (subst (λ (w : FieldState). Shows s t w due p d) (sym c.self.view_is) shows),
+          (subst (λ (w : FieldState). FieldShows s t w due p d) (sym c.self.view_is) shows),
     )
 
 pub returns : goal.returns
@@ -116,7 +116,7 @@ returns c = λ clock t due is_time is_shown own.
       drops = c.self.inside.drops.items;
       sums = c.self.inside.sums.items;
     } in
-    let shown : IsShown t old due p = subst (λ (w : FieldState). IsShown t w due p) (sym c.self.view_is) is_shown in
+    let shown : FieldIsShown t old due p = subst (λ (w : FieldState). FieldIsShown t w due p) (sym c.self.view_is) is_shown in
     let time : IsTime old.medium t = subst (λ (w : FieldState). IsTime w.medium t) (sym c.self.view_is) is_time in
     let state = c.index_mut-device.result.now in
     let happened = c.put.ensures.time t
@@ -135,5 +135,6 @@ returns c = λ clock t due is_time is_shown own.
           (pushed ∙ ap (λ (v : ℕ). old.drops ++ drop v ∷ []) is_own)),
       λ s d shows.
           put_lost t p old due shown c.from.result c.from.ensures c.index_mut-device.result.now c.index_mut-device.ensures.value clock c.args.line.now
-          c.args.stream c.args.payload.now true c.put.new.self puts is_own s d (subst (λ (w : FieldState). Shows s t w due p d) (sym c.self.view_is) shows),
+          c.args.stream c.args.payload.now true c.put.new.self puts is_own s d
+              (subst (λ (w : FieldState). FieldShows s t w due p d) (sym c.self.view_is) shows),
     )

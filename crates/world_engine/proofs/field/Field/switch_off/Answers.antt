@@ -6,10 +6,10 @@ use Rattle.scenario_text.specs.declared.script.Act.TheVariants.{Off}
 use Rattle.event_calendar.specs.declared.class.Class.TheVariants.{Alarm}
 use Rattle.event_calendar.proofs.QueuesOfMaps.{size_stays}
 use Rattle.radio_model.specs.Stations.{IsTime, nodes_of}
-use Rattle.air_log.specs.Devices.{Device, nothing_made, is_on}
-use Rattle.air_log.specs.ScriptedDevices.{after_act}
+use Rattle.air_log.specs.Devices.{Device, nothing_made, power_is_on}
+use Rattle.air_log.specs.ScriptedDevices.{device_after_act}
 use Rattle.air_log.specs.DeviceStates.{whole, with_tuned}
-use Rattle.world_engine.specs.Fields.{FieldState, IsShown}
+use Rattle.world_engine.specs.Fields.{FieldState, FieldIsShown}
 use Rattle.world_engine.proofs.ActsInTurn.{acts_seen}
 use Rattle.world_engine.proofs.StepsInCode.{field_retuned, in_queue, in_medium, state_happened, state_taken}
 use Rattle.world_engine.proofs.LineChanges.{IsOffAfter, off_stays, off_then}
@@ -29,7 +29,7 @@ tune-requires-clause-node g c =
       drops = c.self.inside.drops.items;
       sums = c.self.inside.sums.items;
     } in
-    let shown : IsShown t old orders p = subst (λ (w : FieldState). IsShown t w orders p) (sym c.self.view_is) c.requires.shown in
+    let shown : FieldIsShown t old orders p = subst (λ (w : FieldState). FieldIsShown t w orders p) (sym c.self.view_is) c.requires.shown in
     let id : c.node-node.result ≡ c.index_mut-device.result.now.setup.id = c.node-node.ensures in
     subst (λ (v : ℕ). Contains (nodes_of old.medium) v) (sym id)
     (in_medium t p old orders shown c.from.result c.from.ensures c.index_mut-device.result.now c.index_mut-device.ensures.value c.self.invariant)
@@ -47,7 +47,7 @@ clear-requires g c =
       drops = c.self.inside.drops.items;
       sums = c.self.inside.sums.items;
     } in
-    let shown : IsShown t old orders p = subst (λ (w : FieldState). IsShown t w orders p) (sym c.self.view_is) c.requires.shown in
+    let shown : FieldIsShown t old orders p = subst (λ (w : FieldState). FieldIsShown t w orders p) (sym c.self.view_is) c.requires.shown in
     in_queue t p old orders shown c.from.result c.from.ensures c.index_mut-device.result.now c.index_mut-device.ensures.value
 
 pub clear-requires-2 : goal.clear-requires-2
@@ -63,7 +63,7 @@ clear-requires-2 g c =
       drops = c.self.inside.drops.items;
       sums = c.self.inside.sums.items;
     } in
-    let shown : IsShown t old orders p = subst (λ (w : FieldState). IsShown t w orders p) (sym c.self.view_is) c.requires.shown in
+    let shown : FieldIsShown t old orders p = subst (λ (w : FieldState). FieldIsShown t w orders p) (sym c.self.view_is) c.requires.shown in
     let long = ap length c.clear.ensures in
     let within = in_queue t p old orders shown c.from.result c.from.ensures c.index_mut-device.result.now c.index_mut-device.ensures.value in
     let same = size_stays orders p Alarm None in
@@ -82,7 +82,7 @@ invariant_of-self-2 g c =
       drops = c.self.inside.drops.items;
       sums = c.self.inside.sums.items;
     } in
-    let shown : IsShown t old orders p = subst (λ (w : FieldState). IsShown t w orders p) (sym c.self.view_is) c.requires.shown in
+    let shown : FieldIsShown t old orders p = subst (λ (w : FieldState). FieldIsShown t w orders p) (sym c.self.view_is) c.requires.shown in
     field_retuned t p old orders shown c.from.result c.from.ensures c.index_mut-device.result.now c.index_mut-device.ensures.value c.self.invariant
     c.switch_off-closed.new.self c.switch_off-closed.ensures.node.setup c.self.inside.air c.node-node.result None c.tune.new.self c.tune.ensures.state
 
@@ -99,17 +99,17 @@ returns-then-not-is_on g c = λ clock frame.
       drops = c.self.inside.drops.items;
       sums = c.self.inside.sums.items;
     } in
-    let shown : IsShown t old orders p = subst (λ (w : FieldState). IsShown t w orders p) (sym c.self.view_is) c.requires.shown in
+    let shown : FieldIsShown t old orders p = subst (λ (w : FieldState). FieldIsShown t w orders p) (sym c.self.view_is) c.requires.shown in
     let time : IsTime old.medium t = subst (λ (w : FieldState). IsTime w.medium t) (sym c.self.view_is) c.requires.time in
     let state = c.index_mut-device.result.now in
-    let off : is_on state.power ≡ false = search rules in
+    let off : power_is_on state.power ≡ false = search rules in
     acts_seen c.self.view_is (
     told_acts t p old orders shown c.from.result c.from.ensures c.index_mut-device.result.now c.index_mut-device.ensures.value c.self.invariant time
     state [] old.drops refl
     (state_taken t p old orders shown c.from.result c.from.ensures c.index_mut-device.result.now c.index_mut-device.ensures.value)
     (state_happened t p old orders shown c.from.result c.from.ensures c.index_mut-device.result.now c.index_mut-device.ensures.value)
     (sym (append-nil old.drops))
-    (λ s d. after_act clock s t frame d Off d.power) (λ made. made) (λ made. record {
+    (λ s d. device_after_act clock s t frame d Off d.power) (λ made. made) (λ made. record {
       sent = refl;
       tuned = refl;
       deliveries = sym (append-nil made.deliveries);
@@ -131,10 +131,10 @@ returns g c = λ clock frame.
       drops = c.self.inside.drops.items;
       sums = c.self.inside.sums.items;
     } in
-    let shown : IsShown t old orders p = subst (λ (w : FieldState). IsShown t w orders p) (sym c.self.view_is) c.requires.shown in
+    let shown : FieldIsShown t old orders p = subst (λ (w : FieldState). FieldIsShown t w orders p) (sym c.self.view_is) c.requires.shown in
     let time : IsTime old.medium t = subst (λ (w : FieldState). IsTime w.medium t) (sym c.self.view_is) c.requires.time in
     let state = c.index_mut-device.result.now in
-    let on : is_on state.power ≡ true = search rules in
+    let on : power_is_on state.power ≡ true = search rules in
     let id : c.node-node.result ≡ state.setup.id = c.node-node.ensures in
     let after = c.switch_off-closed.new.self in
     let closed = c.switch_off-closed.result in
@@ -149,5 +149,5 @@ returns g c = λ clock frame.
     id c.tune.ensures.state c.tune.ensures.holds is c.clear.ensures c.clear-2.ensures c.switch_off-closed.ensures.node.setup
     c.switch_off-closed.ensures.node.delivery c.switch_off-closed.ensures.own c.switch_off-closed.ensures.before happened
     off.listening off.alarm off.ordered off.sending
-    (λ s d. after_act clock s t frame d Off d.power) (c.switch_off-closed.ensures.whole clock frame)
+    (λ s d. device_after_act clock s t frame d Off d.power) (c.switch_off-closed.ensures.whole clock frame)
     )) c.log_tuning.ensures

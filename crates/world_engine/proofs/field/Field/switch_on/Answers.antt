@@ -3,9 +3,9 @@ use Rattle.std.proofs.lemmas.List.{append-nil}
 use Rattle.scenario_text.specs.declared.script.Act.TheVariants.{On}
 use Rattle.radio_model.specs.Stations.{IsTime}
 use Rattle.air_log.specs.Devices.{nothing_made}
-use Rattle.air_log.specs.ScriptedDevices.{after_act}
+use Rattle.air_log.specs.ScriptedDevices.{device_after_act}
 use Rattle.air_log.specs.DeviceStates.{DeviceState, whole, CanBoot}
-use Rattle.world_engine.specs.Fields.{FieldState, IsShown}
+use Rattle.world_engine.specs.Fields.{FieldState, FieldIsShown}
 use Rattle.world_engine.proofs.ActsInTurn.{acts_seen}
 use Rattle.world_engine.proofs.StepsInCode.{field_as_was, state_happened, state_taken}
 use Rattle.world_engine.proofs.LineChanges.{StaysSet}
@@ -25,7 +25,7 @@ switch_on-requires g c =
       drops = c.self.inside.drops.items;
       sums = c.self.inside.sums.items;
     } in
-    let shown : IsShown t old orders p = subst (λ (w : FieldState). IsShown t w orders p) (sym c.self.view_is) c.requires.shown in
+    let shown : FieldIsShown t old orders p = subst (λ (w : FieldState). FieldIsShown t w orders p) (sym c.self.view_is) c.requires.shown in
     let first = c.requires.shown in
     subst CanBoot
     (power_shown t p old orders shown c.from.result c.from.ensures c.index_mut.result.now c.index_mut.ensures.value shown.setup shown.device shown.shows)
@@ -44,7 +44,7 @@ invariant_of-self g c =
       drops = c.self.inside.drops.items;
       sums = c.self.inside.sums.items;
     } in
-    let shown : IsShown t old orders p = subst (λ (w : FieldState). IsShown t w orders p) (sym c.self.view_is) c.requires.shown in
+    let shown : FieldIsShown t old orders p = subst (λ (w : FieldState). FieldIsShown t w orders p) (sym c.self.view_is) c.requires.shown in
     field_as_was t p old orders shown c.from.result c.from.ensures c.index_mut.result.now c.index_mut.ensures.value c.self.invariant c.switch_on.new.self
     (ap (λ (d : DeviceState). d.setup) c.if-switch_on.ensures.after) c.self.inside.air c.self.inside.deliveries.items
 
@@ -64,7 +64,7 @@ tell-requires-clause-shown g c =
       drops = c.self.inside.drops.items;
       sums = c.self.inside.sums.items;
     } in
-    let shown : IsShown t old orders p = subst (λ (w : FieldState). IsShown t w orders p) (sym c.self.view_is) c.requires.shown in
+    let shown : FieldIsShown t old orders p = subst (λ (w : FieldState). FieldIsShown t w orders p) (sym c.self.view_is) c.requires.shown in
     let time : IsTime old.medium t = subst (λ (w : FieldState). IsTime w.medium t) (sym c.self.view_is) c.requires.time in
     let happened = c.switch_on.ensures.time t
     (state_happened t p old orders shown c.from.result c.from.ensures c.index_mut.result.now c.index_mut.ensures.value) in
@@ -86,7 +86,7 @@ returns-in_ok-tell g c = λ frame.
       drops = c.self.inside.drops.items;
       sums = c.self.inside.sums.items;
     } in
-    let shown : IsShown t old orders p = subst (λ (w : FieldState). IsShown t w orders p) (sym c.self.view_is) c.requires.shown in
+    let shown : FieldIsShown t old orders p = subst (λ (w : FieldState). FieldIsShown t w orders p) (sym c.self.view_is) c.requires.shown in
     let time : IsTime old.medium t = subst (λ (w : FieldState). IsTime w.medium t) (sym c.self.view_is) c.requires.time in
     let happened = c.switch_on.ensures.time t
     (state_happened t p old orders shown c.from.result c.from.ensures c.index_mut.result.now c.index_mut.ensures.value) in
@@ -113,7 +113,7 @@ returns-else-switch_on g c = λ frame.
       drops = c.self.inside.drops.items;
       sums = c.self.inside.sums.items;
     } in
-    let shown : IsShown t old orders p = subst (λ (w : FieldState). IsShown t w orders p) (sym c.self.view_is) c.requires.shown in
+    let shown : FieldIsShown t old orders p = subst (λ (w : FieldState). FieldIsShown t w orders p) (sym c.self.view_is) c.requires.shown in
     let time : IsTime old.medium t = subst (λ (w : FieldState). IsTime w.medium t) (sym c.self.view_is) c.requires.time in
     let happened = c.switch_on.ensures.time t
     (state_happened t p old orders shown c.from.result c.from.ensures c.index_mut.result.now c.index_mut.ensures.value) in
@@ -125,7 +125,8 @@ returns-else-switch_on g c = λ frame.
     (ap (λ (d : DeviceState). d.delivery) same
     ∙ state_taken t p old orders shown c.from.result c.from.ensures c.index_mut.result.now c.index_mut.ensures.value) happened
     (sym (append-nil old.drops))
-    (λ s d. after_act clock s t frame d On d.power) (λ made. made) (λ made. record { sent = refl; tuned = refl; deliveries = sym (append-nil made.deliveries) })
+    (λ s d. device_after_act clock s t frame d On d.power) (λ made. made)
+        (λ made. record { sent = refl; tuned = refl; deliveries = sym (append-nil made.deliveries) })
     (subst (λ (d : DeviceState). StaysSet (whole c.index_mut.result.now nothing_made) (whole d nothing_made)) (sym same) (record {
       listening = refl;
       alarm = refl;

@@ -1,8 +1,8 @@
 use Rattle.std.proofs.Common.{◌≡◌, Bool, if◌then◌else◌, None, sym, ◌∙◌, ap, subst, true≢false}
 use Rattle.radio_model.specs.Stations.{IsTime}
-use Rattle.air_log.specs.Trails.{is_due}
+use Rattle.air_log.specs.Trails.{alarm_is_due}
 use Rattle.air_log.specs.DeviceStates.{DeviceState}
-use Rattle.world_engine.specs.Fields.{FieldState, Shows, IsShown}
+use Rattle.world_engine.specs.Fields.{FieldState, FieldShows, FieldIsShown}
 use Rattle.world_engine.proofs.ActsInTurn.{acts_seen}
 use Rattle.world_engine.proofs.StepsInCode.{field_as_was, taken_acts, alarm_shown}
 use Rattle.world_engine.proofs.field.Field.take_alarm.Goals.{then-due, else-due}
@@ -21,7 +21,7 @@ invariant_of-self g c =
       drops = c.self.inside.drops.items;
       sums = c.self.inside.sums.items;
     } in
-    let shown : IsShown t old orders p = subst (λ (w : FieldState). IsShown t w orders p) (sym c.self.view_is) c.requires.shown in
+    let shown : FieldIsShown t old orders p = subst (λ (w : FieldState). FieldIsShown t w orders p) (sym c.self.view_is) c.requires.shown in
     field_as_was t p old orders shown c.from.result c.from.ensures c.index_mut-device.result.now c.index_mut-device.ensures.value c.self.invariant
     c.take_alarm-due.new.self
     (ap (λ (d : DeviceState). d.setup) c.take_alarm-due.ensures.after) c.self.inside.air c.self.inside.deliveries.items
@@ -39,10 +39,10 @@ returns-clause-due g c = λ s d shows.
       drops = c.self.inside.drops.items;
       sums = c.self.inside.sums.items;
     } in
-    let shown : IsShown t old orders p = subst (λ (w : FieldState). IsShown t w orders p) (sym c.self.view_is) c.requires.shown in
-    let there : Shows s t old orders p d = subst (λ (w : FieldState). Shows s t w orders p d) (sym c.self.view_is) shows in
+    let shown : FieldIsShown t old orders p = subst (λ (w : FieldState). FieldIsShown t w orders p) (sym c.self.view_is) c.requires.shown in
+    let there : FieldShows s t old orders p d = subst (λ (w : FieldState). FieldShows s t w orders p d) (sym c.self.view_is) shows in
     c.take_alarm-due.ensures.due
-    ∙ sym (ap (is_due t)
+    ∙ sym (ap (alarm_is_due t)
     (alarm_shown t p old orders shown c.from.result c.from.ensures c.index_mut-device.result.now c.index_mut-device.ensures.value s d there))
 
 pub returns-clause-taken : goal.returns-clause-taken
@@ -58,7 +58,7 @@ returns-clause-taken g c = λ due.
       drops = c.self.inside.drops.items;
       sums = c.self.inside.sums.items;
     } in
-    let shown : IsShown t old orders p = subst (λ (w : FieldState). IsShown t w orders p) (sym c.self.view_is) c.requires.shown in
+    let shown : FieldIsShown t old orders p = subst (λ (w : FieldState). FieldIsShown t w orders p) (sym c.self.view_is) c.requires.shown in
     let time : IsTime old.medium t = subst (λ (w : FieldState). IsTime w.medium t) (sym c.self.view_is) c.requires.time in
     let state = c.index_mut-device.result.now in
     let is_after : c.take_alarm-due.new.self ≡ record state { alarm = None } = c.take_alarm-due.ensures.after

@@ -8,7 +8,7 @@ use Rattle.node_core.specs.Rows.{orders_by}
 use Rattle.air_log.specs.Devices.{obeyed}
 use Rattle.air_log.specs.DeviceStates.{DeviceState, whole, row_of, made_by}
 use Rattle.air_log.proofs.CourseEvents.{keeps_setup, reacted}
-use Rattle.world_engine.specs.Fields.{FieldState, IsShown}
+use Rattle.world_engine.specs.Fields.{FieldState, FieldIsShown}
 use Rattle.world_engine.proofs.ActsInTurn.{acts_seen}
 use Rattle.world_engine.proofs.ObeyedInTurn.{shown_still}
 use Rattle.world_engine.proofs.StepsInCode.{field_as_was}
@@ -28,7 +28,7 @@ invariant_of-self g c =
       drops = c.self.inside.drops.items;
       sums = c.self.inside.sums.items;
     } in
-    let shown : IsShown t old orders p = subst (λ (w : FieldState). IsShown t w orders p) (sym c.self.view_is) c.requires.shown in
+    let shown : FieldIsShown t old orders p = subst (λ (w : FieldState). FieldIsShown t w orders p) (sym c.self.view_is) c.requires.shown in
     let state = c.index_mut-device.result.now in
     let row = row_of (g.C.DriftClock.readings c.args.clock.now) t c.args.event.now state in
     let setup = ap (λ (d : DeviceState). d.setup) c.log_delivery-logged.ensures.device ∙ ap (λ (d : DeviceState). d.setup) c.react.ensures.after
@@ -50,7 +50,7 @@ invariant_of-self-2 g c =
       drops = c.self.inside.drops.items;
       sums = c.self.inside.sums.items;
     } in
-    let shown : IsShown t old orders p = subst (λ (w : FieldState). IsShown t w orders p) (sym c.self.view_is) c.requires.shown in
+    let shown : FieldIsShown t old orders p = subst (λ (w : FieldState). FieldIsShown t w orders p) (sym c.self.view_is) c.requires.shown in
     let state = c.index_mut-device.result.now in
     let row = row_of (g.C.DriftClock.readings c.args.clock.now) t c.args.event.now state in
     let setup = ap (λ (d : DeviceState). d.setup) c.log_delivery-logged.ensures.device ∙ ap (λ (d : DeviceState). d.setup) c.react.ensures.after
@@ -73,7 +73,7 @@ obey_all-requires-clause-shown g c =
       drops = c.self.inside.drops.items;
       sums = c.self.inside.sums.items;
     } in
-    let shown : IsShown t old orders p = subst (λ (w : FieldState). IsShown t w orders p) (sym c.self.view_is) c.requires.shown in
+    let shown : FieldIsShown t old orders p = subst (λ (w : FieldState). FieldIsShown t w orders p) (sym c.self.view_is) c.requires.shown in
     let time : IsTime old.medium t = subst (λ (w : FieldState). IsTime w.medium t) (sym c.self.view_is) c.requires.time in
     let state = c.index_mut-device.result.now in
     let row = row_of clock t c.args.event.now state in
@@ -121,7 +121,7 @@ returns g c = λ ended is_sent.
       drops = c.self.inside.drops.items;
       sums = c.self.inside.sums.items;
     } in
-    let shown : IsShown t old orders p = subst (λ (w : FieldState). IsShown t w orders p) (sym c.self.view_is) c.requires.shown in
+    let shown : FieldIsShown t old orders p = subst (λ (w : FieldState). FieldIsShown t w orders p) (sym c.self.view_is) c.requires.shown in
     let time : IsTime old.medium t = subst (λ (w : FieldState). IsTime w.medium t) (sym c.self.view_is) c.requires.time in
     let state = c.index_mut-device.result.now in
     let row = row_of clock t c.args.event.now state in
