@@ -71,7 +71,7 @@ before_pairs xs sorted i j d less below =
       node = λ same. not_less y.node x.node (λ up. true≢false (sym (by_second y.start x.start y.node x.node (sym same) up) ∙ so));
     }
 
--- what follows its trails was sent by trails
+-- what follows its traces was sent by traces
 module _ (s : ScenarioParts) (clocks : ℕ → ℕ → ℕ) (air : List Entry) (trails : FollowsTrails s clocks air) where
   in_trail : (x : Sending) (v : ℕ) → x.node ≡ v → Contains (sendings_of air) x → Contains (trail_sent s clocks air v) x
   in_trail x v node there =

@@ -1,4 +1,4 @@
--- The verdict is that a log is lawful where it is.
+-- The verdict is that a log is valid where it is.
 use Rattle.std.proofs.Common.{◌≡◌, ℕ, List, ◌↔◌, subst}
 use Rattle.radio_model.specs.declared.sending.Sending.{Sending}
 use Rattle.scenario_text.specs.ScenarioParts.{ScenarioParts}

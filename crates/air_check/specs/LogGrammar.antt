@@ -1,4 +1,4 @@
--- The lines of a recorded log: what they say, and the first line that is refused.
+-- The lines of a recorded log: what they say, and the first line that is rejected.
 use Rattle.std.specs.Prelude.{ℕ, ◌+◌, ◌-◌, ◌%◌, List, [], ◌∷◌, ◌++◌, Bool, ◌&&◌, ◌||◌, ◌==◌, nat_lt, nat_le, if◌then◌else◌, Some, None, Option, option_map}
 use Rattle.std.specs.Prelude.{Ok, Err, Result, length, take, drop, codes}
 use Rattle.std.specs.Char.{is_ascii_hexdigit}

@@ -1,4 +1,4 @@
--- Whether a log is lawful, and what is wrong first where it isn't.
+-- Whether a log is valid, and what is wrong first where it isn't.
 use Rattle.std.specs.Prelude.{◌≡◌, ◌≢◌, ℕ, ◌+◌, ◌<◌, ◌≤◌, ◌⊎◌, List, ◌∷◌, ◌++◌, Contains, AllPairs, IsPermutation, length}
 use Rattle.scenario_text.specs.ScenarioParts.{ScenarioParts}
 use Rattle.radio_model.specs.declared.sending.Sending.{Sending}
@@ -11,7 +11,7 @@ use Rattle.air_log.specs.Trails.{run_end}
 use Rattle.air_check.specs.declared.verdict.Verdict.{Verdict}
 use Rattle.air_check.specs.declared.verdict.Verdict.TheVariants.{Lawful, Trail, Heard, Missing}
 
--- the transmissions and tunings of v are those of its trail, each once
+-- the transmissions and tunings of v are those of its trace, each once
 pub record FollowsTrail (s : ScenarioParts) (clocks : ℕ → ℕ → ℕ) (air : List Entry) (v : ℕ) : Type 0 where
   pub sent : IsPermutation (trail_sent s clocks air v) (sent_by air v)
   pub tuned : IsPermutation (trail_tuned s clocks air v) (tuned_by air v)
@@ -31,7 +31,7 @@ pub record AreGiven (s : ScenarioParts) (air entries : List Entry) : Type 0 wher
   pub given : (v : ℕ) (x : Sending) → HasHeardEntry entries v x → IsGiven s air v x
   pub once : AllPairs (λ g h. g ≢ h) (hearings_of entries)
 
--- entry i, counted from 1, is the first reception that is not given, or stands above already
+-- entry i, counted from 1, is the first reception that is not given, or is above already
 pub record IsFirstWrong (s : ScenarioParts) (air : List Entry) (i : ℕ) : Type 0 where
   pub above : List Entry
   pub hearing : Hearing
@@ -60,7 +60,7 @@ pub record IsFirstMissing (s : ScenarioParts) (air : List Entry) (v u t : ℕ) :
   pub start : t ≡ sending.start
   pub first : (w : ℕ) (y : Sending) → IsMissing s air w y → NoLater v sending w y
 
--- trails come first, then receptions that are there, then those that are missing
+-- traces come first, then receptions that are there, then those that are missing
 abbrev pub IsVerdict : ScenarioParts → (ℕ → ℕ → ℕ) → List Entry → Verdict → Type 0
 IsVerdict s clocks air Lawful = LawfulLog s clocks air
 IsVerdict s clocks air (Trail v) = IsFirstAstray s clocks air v

@@ -47,7 +47,7 @@ pub fn parse_log(alloc: Global, s: &Scenario, bytes: &[u8], before: u32) -> Resu
     Ok(air)
 }
 
-// Goes on by one line, unless it is refused. Its words take the place of those of the line before.
+// Goes on by one line, unless it is rejected. Its words take the place of those of the line before.
 #[tactic(auto, unfolding(crate::specs::LogGrammar::after_log_line))]
 fn read_line<'a>(
     nodes: &[NodeLine],

@@ -70,7 +70,7 @@ fn longer(last: Tuned, e: Tuned) -> u64
     }
 }
 
-// The tunings of a log as they stand.
+// The tunings of a log as they are.
 fn tunings_in(alloc: Global, air: &Air) -> Result<Vec<Tuned>, Memory>
     ensures { IfOk result (λ es. map tuning_of_tuned es.items ≡ tunings_of air.now) }
 {

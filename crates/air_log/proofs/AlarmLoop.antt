@@ -181,7 +181,7 @@ module _ (s : Setup) (L : ℕ → ℕ) (t : ℕ) where
       loop zero true d due sound left = absurd (at_last d d.power due sound left)
       loop (suc more) true d due sound left = goes_on more d d.power due sound left (λ e here there. loop more (alarm_is_due t e.alarm) e refl here there)
 
-      -- as many alarms as the trail allows are enough
+      -- as many alarms as the trace allows are enough
       enough : (q r F : ℕ) → 2 ^ 23 ≤ F → q * F ≤ r + F → 128 * (q + 1) ≤ r + 300
       enough zero r F long fits = omega arith
       enough (suc k) r F long fits =
@@ -214,7 +214,7 @@ later s L t d on sound = by_power d.power sound
     by_power (PowerOn n) sound =
         (record { small = sound.0.small; frame = omega (arith, sound.0.frame, on); stage = sound.0.stage }, waits_on n.frame n.stage sound.1)
 
--- the start of a sending
+-- the start of a transmission
 pub begun_sound : (s : Setup) (L : ℕ → ℕ) (t : ℕ) (d : Device) (o : Option OrderedPacket) → Sound s L t d → Sound s L t (begun_by s t d o)
 begun_sound s L t d None sound = sound
 begun_sound s L t d (Some o) sound =

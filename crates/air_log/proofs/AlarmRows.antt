@@ -138,7 +138,7 @@ module _ (s : Setup) (L : ℕ → ℕ) (t : ℕ) where
             cond_both (nat_lt j w.last) (AwaitSlot (j + 1)) AwaitFrame (λ x. Waits n.frame x (alarm_after a (orders_by (Some (window_closes s n j w)))))
             (λ is. tt) (λ is. rw is (omega arith))
 
-    -- hearings
+    -- receptions
     joins_goes : (n : Node) (a : Option ℕ) (p : List ℕ) (x : Schedule) → message_of p ≡ Some (ScheduleOf x) → IsGoing n
         → GoesBy n a (Some (joins s n (L t) p x))
     joins_goes n a p x says going =

@@ -30,7 +30,7 @@ module _ (clock : ℕ → ℕ) (s : Setup) (t : ℕ) where
   is_run true zero d due over = record { count = zero; is = refl; due = λ j less. absurd (omega (arith, less)); over = over }
   is_run true (suc more) d due over = let e = one_alarm clock s t d in with_first d _ due (is_run (alarm_is_due t e.alarm) more e refl over)
 
-  -- there are no more of them than the trail takes at most
+  -- there are no more of them than the trace takes at most
   due_still : (more : ℕ) (d : Device) (b : Bool) → alarm_is_due t d.alarm ≡ b → ((j : ℕ) → j ≤ more → alarm_is_due t (after_alarms clock s t j d).alarm ≡ true)
       → alarm_is_due t (alarms clock s t b more d).alarm ≡ true
   unfolding alarms

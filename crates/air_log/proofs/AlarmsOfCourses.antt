@@ -11,7 +11,7 @@ use Rattle.air_log.specs.Courses.{CourseState, CourseShows, Goes, IsShownEnding}
 use Rattle.air_log.proofs.AlarmRuns.{runs_agree, are_fewer}
 use Rattle.air_log.proofs.ShownCourses.{shows_as}
 
--- so many have been taken, and each was due
+-- this many have been taken, and each was due
 pub record AreTaken (clock : ℕ → ℕ) (t k : ℕ) (old new : CourseState) : Type 0 where
   pub goes : Goes t (λ q d. after_alarms clock q t k d) old new
   pub due : (q : Setup) (d : Device) → CourseShows q t old d → (j : ℕ) → j < k → alarm_is_due t (after_alarms clock q t j d).alarm ≡ true

@@ -1,4 +1,4 @@
--- Trails are computed from one tick at which something is due to the next. The search for the first tick at which a clock
+-- Traces are computed from one tick at which something is due to the next. The search for the first tick at which a clock
 -- reads a number cannot be computed, so a function that gives the same is put in its place.
 use Rattle.std.proofs.Common.{◌≡◌, ℕ, zero, suc, ◌+◌, ◌/◌, ◌<◌, ◌≤◌, IfSome, max, List, [], ◌∷◌, Bool, true, false, not, ◌==◌, ◌&&◌, ◌||◌, nat_lt, nat_le}
 use Rattle.std.proofs.Common.{if◌then◌else◌, fold, Option, Some, None, ◌⊎◌, inl, inr, refl, ◌∙◌, ap, subst, arith, ltb-true}
@@ -176,7 +176,7 @@ from_test D clock s v hs a b d is =
     end_set None is = tt
     end_set (Some x) is = leb-true b x.end is
 
--- what is computed is the trail
+-- what is computed is the trace
 through : (clock : ℕ → ℕ) (s : ScenarioParts) (v : ℕ) (hs : List Reception) (last a : ℕ) (bs : List ℕ) (d : Device) → before_tick s v clock hs a ≡ d
     → goes_through (due clock) clock s v hs last a bs d ≡ true
     → before_tick s v clock hs last ≡ after_ticks (due clock) clock s v hs bs d

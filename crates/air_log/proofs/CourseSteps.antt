@@ -1,4 +1,4 @@
--- What one step of a device is to a course: it shows the device of a trail that goes through the same.
+-- What one step of a device is to a course: it shows the device of a trace that goes through the same.
 use Rattle.std.proofs.Common.{◌≡◌, ℕ, ◌<◌, List, [], ◌∷◌, ◌++◌, Bool, if◌then◌else◌, Option, Some}
 use Rattle.std.proofs.Common.{None, option_to_list, IfSome, refl, sym, ◌∙◌, ap, subst}
 use Rattle.std.proofs.lemmas.List.{append-nil}
@@ -87,7 +87,7 @@ state_goes t old after change comes happened node =
       delivery = node.delivery;
     })
 
--- a sending starts, or none
+-- a transmission starts, or none
 sent_made : (x : Option Sending) (made : Made) → with_sent x made ≡ record made { sent = made.sent ++ option_to_list x }
 sent_made None made = ap (λ (xs : List Sending). record made { sent = xs }) (sym (append-nil made.sent))
 sent_made (Some x) made = refl

@@ -1,4 +1,4 @@
--- The events of a flood are told apart.
+-- The events of a flood are given apart.
 use Rattle.std.proofs.Common.{◌≡◌}
 use Rattle.radio_model.specs.declared.sending.Sending.{Sending}
 use Rattle.air_log.specs.NodeEvents.{Heard, Ended}

@@ -1,4 +1,4 @@
--- The hearings of the worked first round are those of the rule of the air.
+-- The receptions of the worked first round are those of the rule of the air.
 use Rattle.std.proofs.Common.{◌≡◌, ◌≢◌, ℕ, ◌+◌, ◌<◌, ◌≤◌, List, [], ◌∷◌, ◌++◌, Bool, true, false, not, ◌==◌, ◌&&◌, ◌||◌, nat_lt, nat_le, get_or, Contains}
 use Rattle.std.proofs.Common.{All, AllPairs, refl, sym, ◌∙◌, ap, subst, arith, inl, inr, ◌⊎◌, true≢false, eqb-true, ltb-true, lt-ltb}
 use Rattle.std.specs.List.{list_all, list_any}
@@ -32,7 +32,7 @@ each_at : {X : Type 0} (P : X → Type 0) (xs : List X) (x : X) → Each P xs �
 each_at P [] x each there = absurd (not_in_none x there)
 each_at P (y ∷ ys) x each there = elim (contains_cases y ys x there) [ inl is ↦ subst P is each.0 | inr later ↦ each_at P ys x each.1 later ]
 
--- sendings one after another
+-- transmissions one after another
 abbrev InTurn : List Sending → Type 0
 InTurn [] = Unit {0}
 InTurn (x ∷ xs) = (list_all (λ (y : Sending). nat_le x.end y.start && nat_lt y.start y.end) xs ≡ true) × InTurn xs
@@ -56,7 +56,7 @@ meets_self (z ∷ zs) turn x y in_x in_y meets =
 round_in_turn : InTurn sent_in_round
 round_in_turn = (refl, (refl, (refl, (refl, (refl, (refl, (refl, (refl, tt))))))))
 
--- each hearing of the log
+-- each reception of the log
 record IsGood (h : Hearing) : Type 0 where
   sent : Contains sent_in_round h.sending
   tuning : Tuning
@@ -179,7 +179,7 @@ all_good = (
   ),
 )
 
--- whoever is tuned when a sending begins sent it, or hears it
+-- whoever is tuned when a transmission begins sent it, or receives it
 abbrev is_heard : ℕ → Sending → Bool
 is_heard u x = list_any (λ (h : Hearing). (h.node == u) && (h.sending.start == x.start)) heard_in_round
 
@@ -237,7 +237,7 @@ heard_there v x hears =
     ap (λ (n : ℕ). record { node = n; sending = h.0.sending }) node ∙ ap (λ (y : Sending). record { node = v; sending = y }) same in
     subst (λ (g : Hearing). Contains heard_in_round g) is h.1
 
--- no hearing stands twice
+-- no reception is there twice
 abbrev Rising : List Hearing → Type 0
 Rising [] = Unit {0}
 Rising (g ∷ gs) = (list_all (λ (h : Hearing). nat_lt g.sending.start h.sending.start) gs ≡ true) × Rising gs

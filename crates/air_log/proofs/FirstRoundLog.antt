@@ -1,4 +1,4 @@
--- The log of the worked first round is lawful.
+-- The log of the worked first round is valid.
 use Rattle.std.proofs.Common.{◌≡◌, ◌≢◌, ℕ, [], Bool, true, false, ◌==◌, ◌||◌, IsPermutation, refl, sym, ◌∙◌, subst, inl, inr, eqb-true}
 use Rattle.std.proofs.lemmas.Bool.{cases_eq, ne_eqb}
 use Rattle.lwb_base.proofs.Orders.{same_list}
@@ -14,7 +14,7 @@ use Rattle.air_log.proofs.NextDue.{none_passes}
 use Rattle.air_log.proofs.FirstRound.{host_trail, other_trail}
 use Rattle.air_log.proofs.FirstRoundHearings.{tuned_in_round, follows_hearing}
 
--- the trails
+-- the traces
 abbrev pub of_either : ℕ → Bool
 of_either v = (v == 1) || (v == 2)
 

@@ -65,7 +65,7 @@ module _ (clock : ℕ → ℕ) (s : ScenarioParts) (hs : List HeardEntry) (f : �
   abbrev pub rs : List Reception
   rs = map reception_in hs
 
-  -- at a tick of the frame the device has been told its script lines, and at its end not those of the next
+  -- at a tick of the frame the device has been given its script lines, and at its end not those of the next
   abbrev pub point : ℕ → ℕ → Device
   point v t = if nat_lt t (frame_start s (f + 1)) then device_after_script s v clock t (before_tick s v clock rs t) else before_tick s v clock rs t
 

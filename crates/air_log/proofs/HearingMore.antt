@@ -1,4 +1,4 @@
--- One hearing more behind those of a list.
+-- One reception more after those of a list.
 use Rattle.std.proofs.Common.{◌≡◌, ℕ, ◌≤◌, List, [], ◌∷◌, ◌++◌, Bool, false, ◌==◌, filter, fold, refl, ◌∙◌, ap, append-nil}
 use Rattle.std.proofs.lemmas.Bool.{eq-eqb, le-ltb}
 use Rattle.std.proofs.lemmas.List.Elements.{filter-append}

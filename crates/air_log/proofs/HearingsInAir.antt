@@ -1,4 +1,4 @@
--- What a node heard, picked out of an air and put in order.
+-- What a node received, picked out of an air and put in order.
 use Rattle.std.proofs.Common.{◌≡◌, ℕ, ◌+◌, ◌<◌, ◌≤◌, List, [], ◌∷◌, ◌++◌, take, map, filter, filter_map, length, get_or, Bool, true, false, cond, ◌&&◌, ◌||◌}
 use Rattle.std.proofs.Common.{◌==◌, nat_lt, if◌then◌else◌, Option, Some, None, option_map, option_to_list, refl, sym, ◌∙◌, ap, arith, inl, inr, lt-ltb}
 use Rattle.std.proofs.Common.{true≢false}
@@ -103,7 +103,7 @@ same_receptions : (hs : List HeardEntry) → map reception_in hs ≡ map recepti
 same_receptions [] = refl
 same_receptions (h ∷ hs) = ap (λ (rs : List Reception). reception_in h ∷ rs) (same_receptions hs)
 
--- what is sorted is what the trail takes
+-- what is sorted is what the trace takes
 pub received : (picks sorts : List HeardEntry) → sorts ≡ in_order before picks → map reception_in sorts ≡ map reception_of (by_end (map hearing_of picks))
 received picks sorts sorted =
     same_receptions sorts

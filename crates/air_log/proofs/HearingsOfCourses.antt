@@ -1,4 +1,4 @@
--- The hearings that end at a tick, told to a course one after another.
+-- The receptions that end at a tick, given to a course one after another.
 use Rattle.std.proofs.Common.{◌≡◌, ℕ, ◌+◌, List, [], ◌∷◌, ◌++◌, take, map, filter, fold, Bool, true, false}
 use Rattle.std.proofs.Common.{cond, ◌==◌, Some, None, refl, sym, ◌∙◌, ap, eq-eqb, eqb-true}
 use Rattle.std.specs.Prelude.{slice_get}
@@ -16,7 +16,7 @@ use Rattle.air_log.specs.Courses.{CourseState, Goes, IsSplitByKey, end_of_recept
 use Rattle.air_log.proofs.ShownCourses.{shows_as}
 use Rattle.air_log.proofs.ListCuts.{IsGone, gone_first, gone_more, none_yet, none_left, filter_more}
 
--- what ends at a tick, of entries and of what the trail takes
+-- what ends at a tick, of entries and of what the trace takes
 abbrev ends : ℕ → HeardEntry → Bool
 ends t h = h.end == t
 

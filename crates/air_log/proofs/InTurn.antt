@@ -1,4 +1,4 @@
--- Hearings that stand in their order stay in it.
+-- Receptions that are in their order stay in it.
 use Rattle.std.proofs.Common.{◌≡◌, ℕ, zero, suc, List, [], ◌∷◌, map, refl, ◌∙◌, ap, arith}
 use Rattle.radio_model.specs.OnAir.{Hearing}
 use Rattle.air_log.specs.declared.entry.Entry.{Entry}

@@ -78,7 +78,7 @@ module _ (P : Device → Type 0) (clock : ℕ → ℕ) (s : Setup) (t : ℕ) (ke
       let after = event clock s t Alarm None (record d { alarm = None }) in
       by_alarms (alarm_is_due t after.alarm) more after (by_event Alarm None (record d { alarm = None }) d.power (kept.without_alarm d holds))
 
--- the phases of a tick up to the hearings, the alarms, and all before the start of a sending
+-- the phases of a tick up to the receptions, the alarms, and all before the start of a transmission
 pub in_hearings : (P : Device → Type 0) (s : ScenarioParts) (v : ℕ) (clock : ℕ → ℕ) (hs : List Reception) (t : ℕ) (d : Device) → IsKept P clock (setup_of s v) t
     → P d → P (device_after_receptions clock (setup_of s v) t hs (device_after_script s v clock t d))
 in_hearings P s v clock hs t d kept holds =

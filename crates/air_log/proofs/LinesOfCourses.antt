@@ -1,4 +1,4 @@
--- The script lines of a frame, told to a course one after another.
+-- The script lines of a frame, given to a course one after another.
 use Rattle.std.proofs.Common.{◌≡◌, ℕ, suc, ◌+◌, ◌≤◌, List, [], ◌∷◌, ◌++◌, take, drop, filter, fold, Bool, true, false, ◌&&◌, ◌==◌, if◌then◌else◌}
 use Rattle.std.proofs.Common.{Some, refl, sym, ◌∙◌, ap, subst, arith, eq-eqb, eqb-true, take-append-drop}
 use Rattle.std.specs.Prelude.{slice_get}

@@ -10,7 +10,7 @@ use Rattle.air_log.specs.Courses.{IsSplitByKey, IsSortedByKey}
 use Rattle.air_log.proofs.NextDue.{none_passes}
 
 module _ {X : Type 0} where
-  -- what is read at an index of a list stands there
+  -- what is read at an index of a list is there
   pub read_at : (xs read : List X) (k : ℕ) (x : X) → read ≡ xs → true ≡ nat_lt k (length read) → x ≡ get_or read k x → slice_get xs k ≡ Some x
   read_at xs read k x same within is =
       ap (λ (ys : List X). slice_get ys k) (sym same) ∙ slice_get_read read (length read) k x refl (ltb-true k (length read) (sym within)) is

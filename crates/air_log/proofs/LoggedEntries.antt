@@ -1,4 +1,4 @@
--- A log with one entry more: its sendings, hearings and tunings.
+-- A log with one entry more: its transmissions, receptions and tunings.
 use Rattle.std.proofs.Common.{◌≡◌, ℕ, List, [], ◌∷◌, ◌++◌, Option, Some, None, ap, ◌∙◌}
 use Rattle.std.proofs.lemmas.List.{append-nil}
 use Rattle.std.proofs.lemmas.List.Elements.{filter_map-append}
@@ -27,7 +27,7 @@ tuning_node (Sent y) x is = cc
 tuning_node (Heard h) x is = cc
 tuning_node (Tuned t) x is = ap (λ (o : Option Tuning). tuner_in o 0) is
 
--- a sending more
+-- a transmission more
 module _ (air : List Entry) (x : Sending) where
   pub sendings_sent : sendings_of (air ++ sent_entry x ∷ []) ≡ sendings_of air ++ x ∷ []
   sendings_sent = filter_map-append sending_in air (sent_entry x ∷ [])
@@ -38,7 +38,7 @@ module _ (air : List Entry) (x : Sending) where
   pub tunings_sent : tunings_of (air ++ sent_entry x ∷ []) ≡ tunings_of air
   tunings_sent = filter_map-append tuning_in air (sent_entry x ∷ []) ∙ append-nil (tunings_of air)
 
--- a hearing more
+-- a reception more
 module _ (air : List Entry) (u : ℕ) (x : Sending) where
   pub sendings_heard : sendings_of (air ++ heard_entry u x ∷ []) ≡ sendings_of air
   sendings_heard = filter_map-append sending_in air (heard_entry u x ∷ []) ∙ append-nil (sendings_of air)

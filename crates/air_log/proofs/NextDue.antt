@@ -63,7 +63,7 @@ kept_ahead clock s t = record {
   dropping = λ frame i d ahead. ahead;
 }
 
--- the sending that runs
+-- the transmission that runs
 abbrev pub Sends : ℕ → Device → Type 0
 Sends t d = EndAhead t d.sending
 
@@ -96,7 +96,7 @@ kept_sends clock s t u = record {
   dropping = λ frame i d ahead. ahead;
 }
 
--- after its phase no sending ends at the tick any more
+-- after its phase no transmission ends at the tick any more
 pub end_over : (clock : ℕ → ℕ) (s : Setup) (t : ℕ) (d : Device) (x : Option Sending) → d.sending ≡ x → EndAhead t x
     → Sends (suc t) (device_ended_by clock s t d x)
 end_over clock s t d None at ahead = rw at tt

@@ -40,7 +40,7 @@ place_spent (InWindow j w) = 2 * j + 1
 abbrev pub spent : Node → ℕ
 spent n = 128 * n.frame + place_spent n.stage
 
--- so many windows were opened by their alarm
+-- this many windows were opened by their alarm
 abbrev pub FewBy : Power → ℕ → Type 0
 FewBy (PowerOff boots) k = k ≤ boots * 2 ^ 20
 FewBy (PowerOn n) k = k + 2 ^ 20 ≤ n.core.boot * 2 ^ 20 + spent n
@@ -109,7 +109,7 @@ module _ (s : Setup) (L : ℕ → ℕ) (t : ℕ) where
       few_if (PowerOn m) ws (stepped L s t e x d n) (orders_have L s.id t (PowerOn m) ws (orders_by r) (moved t e x d n r) (refl, refl))
       (omega (arith, goes, few, times))
 
-  -- hearings
+  -- receptions
   scanner_spent : (n : Node) (p : List ℕ) (m : Option Message) → n.stage ≡ Scanning → spent n ≤ spent (node_after n (scanner_hears s n (L t) p m))
   scanner_spent n p None at = omega arith
   scanner_spent n p (Some (DataOf d)) at = omega arith

@@ -1,4 +1,4 @@
--- The sending that runs at a node, through the phases of a tick.
+-- The transmission that runs at a node, through the phases of a tick.
 use Rattle.std.proofs.Common.{◌≡◌, ℕ, zero, suc, List, [], ◌∷◌, ◌==◌, false, Some, None, Option, Contains, refl}
 use Rattle.std.specs.Option.{IfSome}
 use Rattle.std.proofs.lemmas.Bool.{cond_both}
@@ -16,7 +16,7 @@ use Rattle.air_log.specs.Trails.{starts, sending_from, before_start, before_tick
 use Rattle.air_log.specs.QuietTicks.{ends_at}
 use Rattle.air_log.proofs.KeptByEvents.{IsKept, in_hearings, in_end, in_event, in_alarms, in_tick}
 
--- what is said of the sending that runs and of all sendings so far, and holds also where none runs
+-- what is said of the transmission that runs and of all transmissions so far, and holds also where none runs
 module _ (Q : Option Sending → List Sending → Type 0) (over : (x : Option Sending) (xs : List Sending) → Q x xs → Q None xs) where
   abbrev pub Of : Device → Type 0
   Of d = Q d.sending d.made.sent
@@ -44,7 +44,7 @@ module _ (Q : Option Sending → List Sending → Type 0) (over : (x : Option Se
     dropping = λ frame i d is. is;
   }
 
--- the sending that runs stands among all
+-- the transmission that runs is among all
 abbrev pub IsOwn : Option Sending → List Sending → Type 0
 IsOwn x xs = IfSome x (Contains xs)
 
@@ -79,7 +79,7 @@ module _ (s : ScenarioParts) (v : ℕ) (clock : ℕ → ℕ) (hs : List Receptio
   pub own_heard : (t : ℕ) → SendsOwn (device_after_receptions clock (setup_of s v) t hs (device_after_script s v clock t (before_tick s v clock hs t)))
   own_heard t = in_hearings SendsOwn s v clock hs t (before_tick s v clock hs t) (kept_own clock (setup_of s v) t) (own_before t)
 
--- a sending stands among all also after the end of one
+-- a transmission is among all also after the end of one
 module _ (y : Sending) where
   abbrev Has : Option Sending → List Sending → Type 0
   Has x xs = Contains xs y
@@ -87,7 +87,7 @@ module _ (y : Sending) where
   pub still_sent : (clock : ℕ → ℕ) (s : Setup) (t : ℕ) (d : Device) → Contains d.made.sent y → Contains (device_after_end clock s t d).made.sent y
   still_sent clock s t d is = in_end (λ d. Has d.sending d.made.sent) clock s t d (kept_running Has (λ x xs has. has) clock s t) is
 
--- no sending that runs ends at the tick
+-- no transmission that runs ends at the tick
 abbrev pub NoneEnds : ℕ → Device → Type 0
 NoneEnds t d = ends_at t d.sending ≡ false
 

@@ -1,4 +1,4 @@
--- A tick at which nothing is due changes nothing, and later hearings change nothing before.
+-- A tick at which nothing is due changes nothing, and later receptions change nothing before.
 use Rattle.std.proofs.Common.{◌≡◌, ℕ, zero, suc, ◌+◌, ◌<◌, ◌≤◌, List, [], ◌∷◌, Bool, true, false, cond, ◌-◌, ◌==◌, Some, None}
 use Rattle.std.proofs.Common.{Option, refl, ap, ◌∙◌, sym, filter, arith, true≢false, ltb-true, lt-ltb, eqb-true}
 use Rattle.radio_model.specs.declared.sending.Sending.{Sending}
@@ -47,7 +47,7 @@ module _ (s : ScenarioParts) (v : ℕ) (clock : ℕ → ℕ) where
       let is : a + (b - a) ≡ b = omega (arith, ordered) in
       ap (before_tick s v clock hs) (sym is) ∙ quiet_after hs a (b - a) (λ t from below. quiet t from (omega (arith, is, below)))
 
--- a filter behind a filter that lets all through that it lets through itself
+-- a filter after a filter that lets all through that it lets through itself
 pub refined : {X : Type 0} (p q : X → Bool) → ((x : X) → p x ≡ true → q x ≡ true) → (xs : List X) → filter p (filter q xs) ≡ filter p xs
 refined p q implies [] = refl
 refined {X} p q implies (x ∷ xs) = by_test (q x) (p x) refl refl (refined p q implies xs)
@@ -65,7 +65,7 @@ ends_earlier t h at = lt-ltb h.end (suc t) (omega (arith, ltb-true h.end t at))
 ends_now : (t : ℕ) (h : Reception) → (h.end == t) ≡ true → ends_before (suc t) h ≡ true
 ends_now t h at = lt-ltb h.end (suc t) (omega (arith, eqb-true h.end t at))
 
--- hearings that are the same before a tick are the same before each earlier one, and at the tick before
+-- receptions that are the same before a tick are the same before each earlier one, and at the tick before
 module _ (gs hs : List Reception) (t : ℕ) (same : filter (ends_before (suc t)) gs ≡ filter (ends_before (suc t)) hs) where
   same_earlier : filter (ends_before t) gs ≡ filter (ends_before t) hs
   same_earlier =

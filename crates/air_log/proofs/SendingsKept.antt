@@ -74,7 +74,7 @@ module _ (clock : ℕ → ℕ) (s : Setup) (t : ℕ) where
   pub alarmed_sending : (d : Device) → (alarmed clock s t d).sending ≡ d.sending
   alarmed_sending d = alarms_sending (alarm_is_due t d.alarm) (clock t + 300) d
 
--- nothing starts, or this sending does where none ran
+-- nothing starts, or this transmission does where none ran
 abbrev pub Begins : Setup → ℕ → Device → List Sending → Device → Type 0
 Begins s t d [] e = e.sending ≡ d.sending
 Begins s t d (x ∷ xs) e = (d.sending ≡ None) × (e.sending ≡ Some x) × (xs ≡ []) × (x.start ≡ t) × (x.node ≡ s.id) × (t < x.end)

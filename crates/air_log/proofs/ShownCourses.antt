@@ -36,7 +36,7 @@ whole_shows q t c drops windows setup counted few ended happened taken = record 
   taken = taken;
 }
 
--- a device of a trail by the one that is shown
+-- a device of a trace by the one that is shown
 pub shows_as : (q : Setup) (t : ℕ) (c : CourseState) (d e : Device) → CourseShows q t c d → d ≡ e → CourseShows q t c e
 shows_as q t c d e shows same = subst (λ (x : Device). CourseShows q t c x) same shows
 

@@ -1,4 +1,4 @@
--- Plans have few slots and the codes of a table ascend, whatever a node hears.
+-- Plans have few slots and the codes of a table ascend, whatever a node receives.
 use Rattle.std.proofs.Common.{◌≡◌, ℕ, ◌+◌, ◌≤◌, List, [], ◌∷◌, Bool, true, false, ◌==◌, nat_le, cond, if◌then◌else◌, length, length-append}
 use Rattle.std.proofs.Common.{fold, sum_by, option_map, replicate, Option, Some, None, refl, sym, ◌∙◌, ap, subst, arith, eqb-true}
 use Rattle.std.proofs.lemmas.Bool.{cond_both, and_parts, leb-true}
@@ -23,7 +23,7 @@ use Rattle.stream_table.proofs.Order.{ascends_map, ascends_filter_map, ascends_f
 use Rattle.stream_table.proofs.Changes.{seen_keeps, missed_sifts, grant_keeps}
 use Rattle.lwb_member.specs.Said.{data_in, request_in, message_of}
 
--- a code that stands in one entry at most
+-- a code that is in one entry at most
 none_at : (x : ℕ) (es : List Entry) → EntriesAreAbove x es → sum_by (λ (e : Entry). cond (x == e.code) 1 0) es ≡ 0
 none_at x [] above = refl
 none_at x (e ∷ es) above = omega (arith, sum_by-cons (λ (e : Entry). cond (x == e.code) 1 0) e es, none_at x es above.1, here (x == e.code) refl)

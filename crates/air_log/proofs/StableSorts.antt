@@ -164,7 +164,7 @@ module _ {X : Type 0} (lt : X → X → Bool) (o : IsStrictWeakOrder lt) where
   pub sorted_by_insertion : (xs ys : List X) → IsSortedBy lt ys → IsStableBy lt xs ys → ys ≡ in_order lt xs
   sorted_by_insertion xs ys up stable = same ys (in_order lt xs) (rises ys up) (in_order_rises xs) (λ z. stable z ∙ sym (in_order_ties z xs))
 
-  -- lists whose ties stand in one order
+  -- lists whose ties are in one order
   pub same_in_order : (xs ys : List X) → ((z : X) → filter (ties lt z) xs ≡ filter (ties lt z) ys) → in_order lt xs ≡ in_order lt ys
   same_in_order xs ys alike =
       same (in_order lt xs) (in_order lt ys) (in_order_rises xs) (in_order_rises ys) (λ z. in_order_ties z xs ∙ alike z ∙ sym (in_order_ties z ys))

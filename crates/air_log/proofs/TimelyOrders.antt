@@ -66,7 +66,7 @@ next_zero p z (Scan r waited) small = small
 next_zero p z (Hold r due) small = small
 next_zero p z (Host r due) small = stops _
 
--- a first sending, or a relay, and then an alarm
+-- a first transmission, or a relay, and then an alarm
 said_then : (p : Numbers) (z j x : ℕ) (m : Option Message) → x < 2 ^ 47 → All IsTimely (initiating_orders p z j m ++ AlarmAt x ∷ [])
 said_then p z j x None small = alarm_at x small
 said_then p z j x (Some m) small = All-cons IsTimely (SendAt _ _) (AlarmAt x ∷ []) (stops _) (alarm_at x small)

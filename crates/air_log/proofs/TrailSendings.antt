@@ -1,4 +1,4 @@
--- The sendings of a trail: each begins after the one before it.
+-- The transmissions of a trace: each begins after the one before it.
 use Rattle.std.proofs.Common.{ℕ, zero, suc, List, [], ◌∷◌, ◌++◌, ◌==◌, Some, None, Option, refl, arith, All, AllPairs}
 use Rattle.std.proofs.lemmas.Bool.{cond_both}
 use Rattle.std.proofs.lemmas.List.Elements.{All-nil, All-push, All-head, All-tail}

@@ -1,4 +1,4 @@
--- The tunings of a trail: none is empty, they do not overlap, and two of one rank do not meet.
+-- The tunings of a trace: none is empty, they do not overlap, and two of one rank do not meet.
 use Rattle.std.proofs.Common.{◌≡◌, ℕ, zero, suc, ◌<◌, ◌≤◌, List, [], ◌∷◌, Bool, true, false, ◌==◌, ◌&&◌, nat_lt, Some}
 use Rattle.std.proofs.Common.{None, Option, refl, sym, ◌∙◌, arith, All, AllPairs, ltb-true, eqb-true, subst}
 use Rattle.std.proofs.lemmas.Bool.{cond_both, and_parts, eq-eqb, eqb-false, true≢false}
@@ -85,7 +85,7 @@ kept clock s t = record {
   dropping = λ frame i d all. all;
 }
 
--- the start of a sending leaves the radio on
+-- the start of a transmission leaves the radio on
 begun_tuned : (s : Setup) (t : ℕ) (P : Option Listening → List Tuning → Type 0) (d : Device) (o : Option OrderedPacket) → P d.listening d.made.tuned
     → P (begun_by s t d o).listening (begun_by s t d o).made.tuned
 begun_tuned s t P d None all = all

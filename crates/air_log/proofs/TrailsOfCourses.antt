@@ -1,4 +1,4 @@
--- The frames of a run, one after another, and what is told at their end.
+-- The frames of a run, one after another, and what is given at their end.
 use Rattle.std.proofs.Common.{◌≡◌, ℕ, zero, suc, ◌+◌, ◌%◌, ◌^◌, ◌<◌, ◌≤◌, List, [], ◌∷◌, ◌++◌, map, take, drop, fold, Bool, false, cond}
 use Rattle.std.proofs.Common.{nat_lt, Option, None, sum_by, count_by, refl, sym, ◌∙◌, ap, subst, arith, lt-ltb, take-append-drop}
 use Rattle.std.specs.List.{range_with_len}
@@ -117,7 +117,7 @@ module _ (clock : ℕ → ℕ) (s : ScenarioParts) (v : ℕ) (hs : List HeardEnt
       let less = few_boots told in
       charge_is clock s v (map reception_in hs) sound drifts (omega (arith, seen, less)) last.windows tells.counted
 
--- what is told, part by part
+-- what is given, part by part
 same_told : (a b : List Sending) (c d : List Tuning) (e f : List Delivery) (g h i j : ℕ) (k l : List (Option Tune)) → b ≡ a → d ≡ c → f ≡ e → h ≡ g → j ≡ i
     → l ≡ k
     → ◌≡◌ {A = TrailTold} (record { sent = b; tuned = d; deliveries = f; windows = h; scanned = j; tunes = l })

@@ -218,7 +218,7 @@ module _ (clock : ℕ → ℕ) (s : Setup) (t : ℕ) (d : Device) (by : HasTuned
   pub alarmed_stays : IsTunedAs t d (alarmed clock s t d)
   alarmed_stays = alarmed_as clock s t d.made.tuned d.listening d itself
 
--- the start of a sending leaves the radio as it is
+-- the start of a transmission leaves the radio as it is
 started_as : (s : Setup) (t : ℕ) (packet : List ℕ) (P : List Tuning → Option Listening → Type 0) (d : Device) (l : Option Listening) (x : Option Sending)
     → P d.made.tuned d.listening → P (starts s t packet d l x).made.tuned (starts s t packet d l x).listening
 started_as s t packet P d None x is = is
@@ -235,7 +235,7 @@ begun_as s t P d (Some o) is =
 pub begun_stays : (s : Setup) (t : ℕ) (d : Device) → HasTunedBy t d → IsTunedAs t d (device_after_start s t d)
 begun_stays s t d by = begun_as s t (Stays t d.made.tuned d.listening) d d.ordered (stays_same t d.made.tuned d.listening by)
 
--- along a trail
+-- along a trace
 module _ (s : ScenarioParts) (v : ℕ) (clock : ℕ → ℕ) (hs : List Reception) where
   step_by : (t : ℕ) → HasTunedBy t (before_tick s v clock hs t) → HasTunedBy (suc t) (before_tick s v clock hs (suc t))
   unfolding before_tick

@@ -147,7 +147,7 @@ events_two = record {
   in_order = order_two;
 }
 
--- who hears
+-- who receives
 rival_first : (v : ℕ) (y : Sending) → Rival scene v first_sending y → first_sending ≡ y
 rival_first v y is =
     elim (one_of_two first_sending second_sending y is.sent) [
@@ -176,7 +176,7 @@ hears_first = record {
   chosen = inl (λ y rival. ap (λ (x : Sending). x.packet) (sym (rival_first 2 y rival)));
 }
 
--- a node does not hear its own sending
+-- a node does not receive its own transmission
 own_unheard : (v : ℕ) (x : Sending) → Contains (sendings_of two_node_log) x → x.node ≡ v → HearsInScene scene v x → ⊥
 own_unheard v x there node h = h.silent x there node (sent (λ x. Meets x x) (omega arith) (omega arith) x there)
 

@@ -4,7 +4,7 @@ use Rattle.bus_rules.specs.Cores.{Setup}
 use Rattle.air_log.specs.Devices.{Device}
 use Rattle.air_log.specs.Trails.{alarm_is_due, one_alarm}
 
--- after so many alarms at tick t
+-- after this many alarms at tick t
 abbrev pub after_alarms : (ℕ → ℕ) → Setup → ℕ → ℕ → Device → Device
 after_alarms clock s t zero d = d
 after_alarms clock s t (suc k) d = one_alarm clock s t (after_alarms clock s t k d)

@@ -1,4 +1,4 @@
--- The account of a trail: what its windows count, and the frames in which it scans.
+-- The account of a trace: what its windows count, and the frames in which it scans.
 use Rattle.std.specs.Prelude.{ℕ, List, Bool, false, if◌then◌else◌, Some, None, filter_map, sum_by, count_by, length}
 use Rattle.std.specs.declared.option.Option.{Option}
 use Rattle.std.specs.List.{range_with_len}
@@ -13,7 +13,7 @@ use Rattle.air_log.specs.WindowLogs.{WindowLog, Happening, HeardAt, SentAt}
 use Rattle.air_log.specs.Devices.{Device}
 use Rattle.air_log.specs.Trails.{Reception, tune_at}
 
--- the packet of a sending that ended in a window
+-- the packet of a transmission that ended in a window
 abbrev pub sent_in : Happening → Option (List ℕ)
 sent_in (HeardAt t packet) = None
 sent_in (SentAt t packet) = Some packet
@@ -22,7 +22,7 @@ sent_in (SentAt t packet) = Some packet
 abbrev pub sent_packets : WindowLog → List (List ℕ)
 sent_packets w = filter_map sent_in w.happenings
 
--- the step and the length of a packet, by which its sending is counted
+-- the step and the length of a packet, by which its transmission is counted
 abbrev pub step_and_length : List ℕ → ℕ × ℕ
 step_and_length packet = (counter_of packet, length packet)
 

@@ -1,4 +1,4 @@
--- A trail as code goes through it: the device, and what it has made so far.
+-- A trace as code goes through it: the device, and what it has made so far.
 use Rattle.std.specs.Prelude.{◌≡◌, ℕ, ◌<◌, ◌≤◌, List, Some, None, slice_get, AllPairs, ◌==◌, if◌then◌else◌, min}
 use Rattle.std.specs.declared.option.Option.{Option}
 use Rattle.radio_model.specs.declared.sending.Sending.{Sending}
@@ -18,7 +18,7 @@ use Rattle.air_log.specs.Trails.{Reception, device_after_receptions, device_afte
 use Rattle.air_log.specs.WindowLogs.{WindowLog}
 use Rattle.air_log.specs.WindowSums.{WindowSum, IsCounted}
 
--- tunings stand with the last first
+-- tunings are with the last first
 pub record CourseState : Type 0 where
   pub device : DeviceState
   pub sent : List Sending
@@ -30,7 +30,7 @@ pub record CourseState : Type 0 where
 abbrev pub made_in : CourseState → List DropLine → List WindowLog → Made
 made_in c drops windows = record { sent = c.sent; tuned = c.tuned; deliveries = c.deliveries; drops = drops; windows = windows }
 
--- at tick t it is this device of a trail
+-- at tick t it is this device of a trace
 pub record CourseShows (q : Setup) (t : ℕ) (c : CourseState) (d : Device) : Type 0 where
   pub drops : List DropLine
   pub windows : List WindowLog
@@ -54,7 +54,7 @@ pub record CourseIsShown (t : ℕ) (c : CourseState) : Type 0 where
   pub device : Device
   pub shows : CourseShows setup t c device
 
--- at tick t it goes through this change, as a trail does
+-- at tick t it goes through this change, as a trace does
 abbrev pub Goes : ℕ → (Setup → Device → Device) → CourseState → CourseState → Type 0
 Goes t change old new = (q : Setup) (d : Device) → CourseShows q t old d → CourseShows q t new (change q d)
 
@@ -81,7 +81,7 @@ hearing_of h = record {
   sending = record { rank = h.rank; node = h.from; start = h.start; end = h.end; packet = h.packet };
 }
 
--- the hearing in an entry, if it is of v
+-- the reception in an entry, if it is of v
 abbrev pub only_of : ℕ → Option Hearing → Option Hearing
 only_of v None = None
 only_of v (Some h) = if h.node == v then Some h else None
@@ -100,7 +100,7 @@ tick_of_ordered o = o.tick
 abbrev pub sending_end : Sending → ℕ
 sending_end x = x.end
 
--- the least of what is set at a device, the end of the next hearing and another tick
+-- the least of what is set at a device, the end of the next reception and another tick
 abbrev pub least_due : DeviceState → Option HeardEntry → ℕ → ℕ
 least_due d h until =
     least_of (least_of (least_of (least_of until d.alarm) (option_map tick_of_ordered d.ordered)) (option_map sending_end d.sending))

@@ -102,12 +102,12 @@ made_by t e ended (PowerOn n) r made = record made {
   windows = windows_after t e ended n (node_after n r) n.stage (node_after n r).stage made.windows;
 }
 
--- a sending that starts
+-- a transmission that starts
 abbrev pub with_sent : Option Sending → Made → Made
 with_sent None made = made
 with_sent (Some x) made = record made { sent = made.sent ++ x ∷ [] }
 
--- the packet that is to be sent at this tick, and the sending that ends at it
+-- the packet that is to be sent at this tick, and the transmission that ends at it
 abbrev pub packet_due : ℕ → Option OrderedPacket → Option (List ℕ)
 packet_due t None = None
 packet_due t (Some o) = if o.tick == t then Some o.packet else None
@@ -116,7 +116,7 @@ abbrev pub ending_at : ℕ → Option Sending → Option Sending
 ending_at t None = None
 ending_at t (Some x) = if x.end == t then Some x else None
 
--- a sending that ended at tick t is an event
+-- a transmission that ended at tick t is an event
 abbrev pub told_of : (ℕ → ℕ) → Setup → ℕ → Option Sending → Device → Device
 told_of clock s t None d = d
 told_of clock s t (Some x) d = event clock s t Sent (Some x) d

@@ -17,7 +17,7 @@ use Rattle.node_core.specs.Rows.{Stepped, row}
 use Rattle.node_core.specs.Rows.{node_after, orders_by}
 use Rattle.air_log.specs.WindowLogs.{WindowLog, windows_after}
 
--- off after so many boots, or on
+-- off after this many boots, or on
 pub data Power : Type 0 where
   PowerOff : (boots : ℕ) → Power
   PowerOn : (node : Node) → Power
@@ -46,7 +46,7 @@ pub record OrderedPacket : Type 0 where
   pub tick : ℕ
   pub packet : List ℕ
 
--- all that a node has made: sendings, deliveries and drops in their order, tunings that ended and windows with the last
+-- all that a node has made: transmissions, deliveries and drops in their order, tunings that ended and windows with the last
 -- first
 pub record Made : Type 0 where
   pub sent : List Sending
@@ -55,7 +55,7 @@ pub record Made : Type 0 where
   pub drops : List DropLine
   pub windows : List WindowLog
 
--- the node, its radio, its one alarm with the tick, its one ordered sending, and its sending that runs
+-- the node, its radio, its one alarm with the tick, its one ordered transmission, and its transmission that runs
 pub record Device : Type 0 where
   pub power : Power
   pub listening : Option Listening
@@ -119,7 +119,7 @@ stepped clock s t e ended d n =
     let r = row s n (clock t) e in
     fold (obeyed clock s.id t) (moved t e ended d n r) (orders_by r)
 
--- an event at tick t; a Sent comes with the sending that ended. At a node that is off it has no effect
+-- an event at tick t; a Sent comes with the transmission that ended. At a node that is off it has no effect
 abbrev pub event_by : (ℕ → ℕ) → Setup → ℕ → Event → Option Sending → Device → Power → Device
 event_by clock s t e ended d (PowerOff boots) = d
 event_by clock s t e ended d (PowerOn n) = stepped clock s t e ended d n

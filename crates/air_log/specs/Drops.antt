@@ -13,17 +13,17 @@ use Rattle.air_log.specs.ScriptedDevices.{device_after_line}
 use Rattle.air_log.specs.Trails.{setup_of, frame_start, before_tick}
 use Rattle.air_log.specs.Lawful.{heard_by}
 
--- the lines above that the node of this line is told at the same tick
+-- the lines above that the node of this line is given at the same tick
 abbrev pub told_at_tick : ScenarioParts → List ScriptLine → ScriptLine → List ScriptLine
 told_at_tick s above l = filter (λ m. (m.node == l.node) && (frame_start s m.frame == frame_start s l.frame)) above
 
--- the node of a line by its trail, just before the line: as it comes to the start of the frame, and then told the lines above
+-- the node of a line by its trace, just before the line: as it comes to the start of the frame, and then given the lines above
 abbrev pub device_before_line : ScenarioParts → (ℕ → ℕ → ℕ) → List Entry → List ScriptLine → ScriptLine → Device
 device_before_line s clocks air above l =
     let t = frame_start s l.frame in
     fold (device_after_line (clocks l.node) (setup_of s l.node) t) (before_tick s l.node (clocks l.node) (heard_by air l.node) t) (told_at_tick s above l)
 
--- a put is lost where the node is off or its stream refuses it
+-- a put is lost where the node is off or its stream rejects it
 abbrev pub drop_by : ScriptLine → Act → Power → Option DropLine
 drop_by l On power = None
 drop_by l Off power = None
@@ -31,7 +31,7 @@ drop_by l (Declare i interval) power = None
 drop_by l (Leave i) power = None
 drop_by l (Put i payload) power = if loses i (state_of_power power) then Some (record { frame = l.frame; node = l.node; stream = i }) else None
 
--- what these lines lose, where the others stand above them
+-- what these lines lose, where the others are above them
 abbrev pub trail_drops_below : ScenarioParts → (ℕ → ℕ → ℕ) → List Entry → List ScriptLine → List ScriptLine → List DropLine
 trail_drops_below s clocks air above [] = []
 trail_drops_below s clocks air above (l ∷ ls) =

@@ -1,4 +1,4 @@
--- The sendings, hearings and tunings of a log.
+-- The transmissions, receptions and tunings of a log.
 use Rattle.std.specs.Prelude.{ℕ, List, Option, Some, None, Contains, filter_map}
 use Rattle.air_log.specs.declared.entry.Entry.{Entry}
 use Rattle.air_log.specs.declared.entry.Entry.TheVariants.{Sent, Heard, Tuned}
@@ -23,7 +23,7 @@ tuning_in (Sent x) = None
 tuning_in (Heard h) = None
 tuning_in (Tuned t) = Some (record { rank = t.rank; node = t.node; start = t.start; end = t.end })
 
--- the entry of a sending, and that of its hearing by v
+-- the entry of a transmission, and that of its reception by v
 abbrev pub sent_entry : Sending → Entry
 sent_entry x = Sent (record { rank = x.rank; node = x.node; start = x.start; end = x.end; packet = x.packet })
 

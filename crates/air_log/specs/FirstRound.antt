@@ -1,4 +1,4 @@
--- Worked trails: node 1 hosts a first round for node 2, in the last of six frames, and their clocks keep true time. It
+-- Worked traces: node 1 hosts a first round for node 2, in the last of six frames, and their clocks keep true time. It
 -- sends the opening in slot 0 and the closing in slot 2. Both are relayed by turns, twice by each node.
 use Rattle.std.specs.Prelude.{◌≡◌, ℕ, List, [], ◌∷◌, ◌++◌, Some, map}
 use Rattle.lwb_base.specs.Profile.{one}
@@ -38,7 +38,7 @@ opening_with counter = 1 ∷ 0 ∷ counter ∷ 0 ∷ 1 ∷ 0 ∷ 0 ∷ 0 ∷ 0 �
 abbrev pub closing_with : ℕ → List ℕ
 closing_with counter = 1 ∷ 2 ∷ counter ∷ 4 ∷ 1 ∷ 0 ∷ 0 ∷ 0 ∷ 0 ∷ 0 ∷ []
 
--- what each node hears is what the other one sends
+-- what each node receives is what the other one sends
 abbrev pub first_round_heard_by_host : List Reception
 first_round_heard_by_host = record { packet = opening_with 1; end = 1344150016 } ∷ record { packet = closing_with 1; end = 1348374016 } ∷ []
 
@@ -80,14 +80,14 @@ first_round_tuned_by_host =
 abbrev pub tuned_by_other : List Tuning
 tuned_by_other = tuned_at 2 1348224000 1348472320 ∷ tuned_at 2 1346112000 1348208000 ∷ tuned_at 2 0 1344248320 ∷ []
 
--- the entries of a trail, what its windows count, and its tune at the end
+-- the entries of a trace, what its windows count, and its tune at the end
 pub record IsWorked (s : ScenarioParts) (d : Device) (sent : List Sending) (tuned : List Tuning) (windows : ℕ) (tune : Tune) : Type 0 where
   pub sendings : d.made.sent ≡ sent
   pub tunings : d.made.tuned ≡ tuned
   pub charge : windows_charge s d ≡ windows
   pub last : tune_of d.power ≡ Some tune
 
--- the log of both nodes: sendings as they begin
+-- the log of both nodes: transmissions as they begin
 abbrev pub sent_in_round : List Sending
 sent_in_round =
     sent_at 1 1344064000 1344100864 (opening_with 0)

@@ -30,7 +30,7 @@ CLOSING = 1346096000
 abbrev pub first_packet : ℕ → List ℕ
 first_packet start = 2 ∷ 1 ∷ 0 ∷ start ∷ 1 ∷ 0 ∷ 0 ∷ 0 ∷ []
 
--- a sending on the channel of rank 0 that lasts its packet's airtime
+-- a transmission on the channel of rank 0 that lasts its packet's airtime
 abbrev pub sending_at : ℕ → ℕ → List ℕ → Sending
 sending_at v start packet = record {
   rank = 0;
@@ -47,13 +47,13 @@ Lasts x = x ≡ sending_at x.node x.start x.packet
 abbrev pub first_flood : FloodParts → ℕ → FloodState
 first_flood f v = if f.start == v then initiating (first_packet f.start) f.sends else listening Payload 1 f.sends
 
--- in the order of their ends, these are the hearings of v and its own sendings
+-- in the order of their ends, these are the receptions of v and its own transmissions
 pub record AreEventsOf (air : List Entry) (v : ℕ) (events : List Event) : Type 0 where
   pub hearings : (x : Sending) → Contains events (Heard x) ↔ HasHeardEntry air v x
   pub sendings : (x : Sending) → Contains events (Ended x) ↔ (Contains (sendings_of air) x × (x.node ≡ v))
   pub in_order : EventsInOrder events
 
--- v is tuned until its N-th sending has ended, or until the closing if it sends fewer times
+-- v is tuned until its N-th transmission has ended, or until the closing if it sends fewer times
 abbrev pub tuning_by : ℕ → ℕ → List Event → Tuning
 tuning_by sends v events = record {
   rank = 0;
@@ -62,8 +62,8 @@ tuning_by sends v events = record {
   end = get_or (own_ends events) (sends - 1) CLOSING;
 }
 
--- the flood of its node answered a hearing with the packet of x, which starts a turnaround after the end of that
--- hearing by the node's clock
+-- the flood of its node answered a reception with the packet of x, which starts a turnaround after the end of that
+-- reception by the node's clock
 pub record IsRelay (f : FloodParts) (clock : ℕ → ℕ) (events : List Event) (x : Sending) : Type 0 where
   pub heard : Sending
   pub flood : FloodState
@@ -72,7 +72,7 @@ pub record IsRelay (f : FloodParts) (clock : ℕ → ℕ) (events : List Event) 
   pub start : x.start ≡ due clock (clock heard.end + one.turn)
 
 pub record FloodLaw (f : FloodParts) (clocks : ℕ → ℕ → ℕ) (air : List Entry) : Type 0 where
-  -- no entry stands twice
+  -- no entry is there twice
   pub once : AllPairs (λ d e. d ≢ e) air
   pub events : ℕ → List Event
   pub happened : (v : ℕ) → knows f.nodes v ≡ true → AreEventsOf air v (events v)
@@ -84,7 +84,7 @@ pub record FloodLaw (f : FloodParts) (clocks : ℕ → ℕ → ℕ) (air : List 
   pub begun : (x : Sending) → (Contains (sendings_of air) x × (counter_of x.packet ≡ 0))
       ↔ (x ≡ sending_at f.start START (first_packet f.start))
   pub lasts : (x : Sending) → Contains (sendings_of air) x → Lasts x
-  -- nodes hear by the rule of the air
+  -- nodes receive by the rule of the air
   pub hears : (v : ℕ) (x : Sending) → HasHeardEntry air v x ↔ ((knows f.nodes v ≡ true) × HearsAir one f.trace air v x)
   -- what a node relays, it sends, and nothing else
   pub relayed : (x : Sending) → knows f.nodes x.node ≡ true → Lasts x → IsRelay f (clocks x.node) (events x.node) x

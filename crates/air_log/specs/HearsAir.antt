@@ -1,4 +1,4 @@
--- Who hears what by a log.
+-- Who receives what by a log.
 use Rattle.std.specs.Prelude.{ℕ, List}
 use Rattle.lwb_base.specs.Profile.{Numbers}
 use Rattle.link_trace.specs.Passes.{Lines}

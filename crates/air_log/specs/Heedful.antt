@@ -1,4 +1,4 @@
--- Which logs are heedful. This is all that safety needs of a lawful log.
+-- Which logs are protocol-obedient. This is all that safety needs of a valid log.
 use Rattle.std.specs.Prelude.{ℕ, List, Contains}
 use Rattle.scenario_text.specs.ScenarioParts.{ScenarioParts}
 use Rattle.radio_model.specs.declared.sending.Sending.{Sending}
@@ -13,7 +13,7 @@ pub record WasInReach (s : ScenarioParts) (air : List Entry) (v : ℕ) (x : Send
   pub sent : Contains (sendings_of air) x
   pub tuned : TunedThrough (scene_of s.profile s.trace air) v x
 
--- nodes do what they heard calls for, and what they heard was in their reach
+-- nodes do what they received calls for, and what they received was in their reach
 pub record Heedful (s : ScenarioParts) (clocks : ℕ → ℕ → ℕ) (air : List Entry) : Type 0 where
   pub trails : FollowsTrails s clocks air
   pub heard : (v : ℕ) (x : Sending) → HasHeardEntry air v x → WasInReach s air v x

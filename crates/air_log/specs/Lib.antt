@@ -21,7 +21,7 @@ pub mod Safe
 pub mod Deliveries
 pub mod Drops
 pub mod TunedTimes
--- the clocks over which a log is lawful
+-- the clocks over which a log is valid
 pub use Rattle.scenario_clocks.specs.ClockLists
 pub mod DeviceStates
 pub mod DeviceShapes

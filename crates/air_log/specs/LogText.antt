@@ -1,5 +1,5 @@
 -- The log text: a line for each entry, by start, then kind in the order sent, heard, tuned, then node.
--- Entries that this order leaves equal stay in the air's order.
+-- Entries that this order leaves equal stay in the log's order.
 use Rattle.std.specs.Prelude.{ℕ, List, [], ◌∷◌, ◌++◌, Bool, if◌then◌else◌, codes, flat_map}
 use Rattle.std.specs.Ordering.{nat_cmp, ordering_then, is_lt}
 use Rattle.text_writers.specs.Lines.{line_text, numbered}

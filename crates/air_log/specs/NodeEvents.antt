@@ -4,7 +4,7 @@ use Rattle.glossy_relay.specs.FloodState.{FloodState}
 use Rattle.glossy_relay.specs.Relaying.{after_heard, after_sent}
 use Rattle.radio_model.specs.declared.sending.Sending.{Sending}
 
--- a sending was heard, or an own one ended
+-- a transmission was received, or an own one ended
 pub data Event : Type 0 where
   Heard : (x : Sending) → Event
   Ended : (x : Sending) → Event
@@ -38,6 +38,6 @@ abbrev pub own_end : Event → Option ℕ
 own_end (Heard x) = None
 own_end (Ended x) = Some x.end
 
--- the ends of the node's own sendings
+-- the ends of the node's own transmissions
 abbrev pub own_ends : List Event → List ℕ
 own_ends events = filter_map own_end events

@@ -14,7 +14,7 @@ abbrev pub ordered_starts_at : ℕ → Option OrderedPacket → Bool
 ordered_starts_at t None = false
 ordered_starts_at t (Some o) = o.tick == t
 
--- at tick t no script line of v, no end of a hearing or of its sending, no alarm and no start is due
+-- at tick t no script line of v, no end of a reception or of its transmission, no alarm and no start is due
 pub record IsQuiet (s : ScenarioParts) (v : ℕ) (hs : List Reception) (t : ℕ) (d : Device) : Type 0 where
   pub lines : lines_at s v t ≡ []
   pub hearings : ending_at t hs ≡ []

@@ -1,4 +1,4 @@
--- Which logs are safe. The frame of a sending is that of its start, and its slot and counter are bytes of its packet.
+-- Which logs are safe. The frame of a transmission is that of its start, and its slot and counter are bytes of its packet.
 use Rattle.std.specs.Prelude.{◌≡◌, ◌≢◌, ⊤, ℕ, ◌+◌, ◌<◌, ◌≤◌, List, Bool, true, false, ◌&&◌, Some, None, Contains, AllPairs, slice_get}
 use Rattle.std.specs.declared.option.Option.{Option}
 use Rattle.tick_clock.specs.Clocks.{Near}
@@ -33,7 +33,7 @@ pub record SameStep (p : Numbers) (x y : Sending) : Type 0 where
   pub slot : SameSlot p x y
   pub counter : counter_of_sending x ≡ counter_of_sending y
 
--- within one frame: a sending ends before the next frame starts
+-- within one frame: a transmission ends before the next frame starts
 abbrev pub WithinOneFrame : ScenarioParts → List Entry → Type 0
 WithinOneFrame s air = (x : Sending) → Contains (sendings_of air) x → x.end < frame_start s (frame_of_sending s.profile x + 1)
 
@@ -59,13 +59,13 @@ pub record Begins (x : Sending) : Type 0 where
   pub first : counter_of_sending x ≡ 0
   pub no_request : is_request x.packet ≡ false
 
--- one initiator: at most one sending begins the flood of a slot, and a schedule is begun by the host of its channel
+-- one initiator: at most one transmission begins the flood of a slot, and a schedule is begun by the host of its channel
 pub record OneInitiator (s : ScenarioParts) (air : List Entry) : Type 0 where
   pub one : AllPairs (λ x y. SameSlot s.profile x y → Begins x → Begins y → ⊥) (sendings_of air)
   pub host : (x : Sending) → Contains (sendings_of air) x
       → counter_of_sending x ≡ 0 → is_schedule x.packet ≡ true → slice_get s.hosts x.rank ≡ Some x.node
 
--- no off line of v stands in the frames g + 1 to f
+-- no off line of v is in the frames g + 1 to f
 abbrev pub StaysOn : ScenarioParts → ℕ → ℕ → ℕ → Type 0
 StaysOn s v g f = (l : ScriptLine) → Contains s.script l → l.node ≡ v → g < l.frame → l.frame ≤ f → l.act ≢ Off
 
@@ -76,7 +76,7 @@ Allows y j (Some (RequestOf a)) = y.gap ≡ 0
 Allows y j (Some (ScheduleOf z)) = ⊤
 Allows y j None = ⊤
 
--- the sender of x heard a schedule of its channel for this frame, which allows x, and did not go off since
+-- the sender of x received a schedule of its channel for this frame, which allows x, and did not go off since
 pub record HasWord (s : ScenarioParts) (air : List Entry) (x : Sending) : Type 0 where
   pub heard : Sending
   pub schedule : Schedule
@@ -93,11 +93,11 @@ abbrev pub is_hosting : Option Tune → Bool
 is_hosting None = false
 is_hosting (Some tune) = hosts tune
 
--- whether the sender of x hosts when x starts, by its trail
+-- whether the sender of x hosts when x starts, by its trace
 abbrev pub sender_hosts : ScenarioParts → (ℕ → ℕ → ℕ) → List Entry → Sending → Bool
 sender_hosts s clocks air x = is_hosting (tune_when s x.node (clocks x.node) (heard_by air x.node) x.start)
 
--- silence: who begins a flood that is no schedule, and does not host, has heard that it may
+-- silence: who begins a flood that is no schedule, and does not host, has received that it may
 abbrev pub Silence : ScenarioParts → (ℕ → ℕ → ℕ) → List Entry → Type 0
 Silence s clocks air =
     (x : Sending) → Contains (sendings_of air) x

@@ -17,7 +17,7 @@ dropped node frame stream d = record d { made = record (d.made) { drops = d.made
 abbrev pub device_after_on : (ℕ → ℕ) → Setup → ℕ → ℕ → Device → Device
 device_after_on clock s t boots d = event clock s t Boot None (record d { power = PowerOn (rebooted (boots + 1)) })
 
--- power goes off, and with it the tuning, the alarm and what is ordered. A sending that runs goes on
+-- power goes off, and with it the tuning, the alarm and what is ordered. A transmission that runs goes on
 abbrev pub device_after_off : ℕ → ℕ → Node → Device → Device
 device_after_off node t n d = record (silenced node t d) { power = PowerOff n.core.boot; alarm = None; ordered = None }
 

@@ -1,11 +1,11 @@
--- What the entries of a trail are like.
+-- What the entries of a trace are like.
 use Rattle.std.specs.Prelude.{◌≡◌, ℕ, ◌+◌, ◌<◌, ◌≤◌, length}
 use Rattle.lwb_base.specs.Profile.{airtime}
 use Rattle.radio_model.specs.declared.sending.Sending.{Sending}
 use Rattle.radio_model.specs.OnAir.{Tuning}
 use Rattle.scenario_text.specs.ScenarioParts.{ScenarioParts}
 
--- a sending of v that begins before this tick and lasts its airtime
+-- a transmission of v that begins before this tick and lasts its airtime
 pub record IsSentBefore (s : ScenarioParts) (v t : ℕ) (x : Sending) : Type 0 where
   pub node : x.node ≡ v
   pub before : x.start < t

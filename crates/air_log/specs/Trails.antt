@@ -1,4 +1,4 @@
--- The trail of a node: what it does from tick to tick, by the script, its clock and what it hears.
+-- The trace of a node: what it does from tick to tick, by the script, its clock and what it receives.
 use Rattle.std.specs.Prelude.{ℕ, zero, suc, ◌+◌, ◌*◌, List, [], ◌∷◌, ◌++◌, Bool, true, false, ◌&&◌, ◌==◌}
 use Rattle.std.specs.Prelude.{nat_lt, if◌then◌else◌, Some, None, filter, fold, length}
 use Rattle.std.specs.declared.option.Option.{Option}
@@ -12,7 +12,7 @@ use Rattle.bus_rules.specs.Cores.{Setup, setup_for}
 use Rattle.air_log.specs.Devices.{Device, Power, PowerOff, PowerOn, Listening, OrderedPacket, at_rest, event, silenced}
 use Rattle.air_log.specs.ScriptedDevices.{device_after_line}
 
--- a packet that was heard whole, and the tick at which its hearing ended
+-- a packet that was received whole, and the tick at which its reception ended
 pub record Reception : Type 0 where
   pub packet : List ℕ
   pub end : ℕ
@@ -36,7 +36,7 @@ lines_at s v t = filter (λ l. (l.node == v) && (frame_start s l.frame == t)) s.
 abbrev pub device_after_script : ScenarioParts → ℕ → (ℕ → ℕ) → ℕ → Device → Device
 device_after_script s v clock t d = fold (device_after_line clock (setup_of s v) t) d (lines_at s v t)
 
--- second: the hearings that end at t, in the order of the list
+-- second: the receptions that end at t, in the order of the list
 abbrev pub ending_at : ℕ → List Reception → List Reception
 ending_at t hs = filter (λ h. h.end == t) hs
 
@@ -46,7 +46,7 @@ device_after_reception clock s t d h = event clock s t (Heard h.packet) None d
 abbrev pub device_after_receptions : (ℕ → ℕ) → Setup → ℕ → List Reception → Device → Device
 device_after_receptions clock s t hs d = fold (device_after_reception clock s t) d (ending_at t hs)
 
--- third: the end of the own sending
+-- third: the end of the own transmission
 abbrev pub device_ended_by : (ℕ → ℕ) → Setup → ℕ → Device → Option Sending → Device
 device_ended_by clock s t d None = d
 device_ended_by clock s t d (Some x) = if x.end == t then event clock s t Sent (Some x) (record d { sending = None }) else d
@@ -73,7 +73,7 @@ alarms clock s t true (suc more) d =
 abbrev pub alarmed : (ℕ → ℕ) → Setup → ℕ → Device → Device
 alarmed clock s t d = alarms clock s t (alarm_is_due t d.alarm) (clock t + 300) d
 
--- fifth: the start of the ordered sending. It has no effect where the radio is off or the node still sends
+-- fifth: the start of the ordered transmission. It has no effect where the radio is off or the node still sends
 abbrev pub sending_from : Setup → ℕ → List ℕ → Listening → Sending
 sending_from s t packet l = record { rank = l.rank; node = s.id; start = t; end = t + airtime s.profile (length packet); packet = packet }
 
@@ -90,7 +90,7 @@ begun_by s t d (Some o) = if o.tick == t then starts s t o.packet d d.listening 
 abbrev pub device_after_start : Setup → ℕ → Device → Device
 device_after_start s t d = begun_by s t d d.ordered
 
--- the sending that starts at t at a device, if one does
+-- the transmission that starts at t at a device, if one does
 abbrev pub starting_by : Setup → ℕ → Option OrderedPacket → Option Listening → Option Sending → List Sending
 starting_by s t None l sending = []
 starting_by s t (Some o) None sending = []
@@ -100,7 +100,7 @@ starting_by s t (Some o) (Some l) None = if o.tick == t then sending_from s t o.
 abbrev pub sendings_starting : Setup → ℕ → Device → List Sending
 sendings_starting s t d = starting_by s t d.ordered d.listening d.sending
 
--- tick t: what comes before the alarms, what comes before the start of a sending, and the whole
+-- tick t: what comes before the alarms, what comes before the start of a transmission, and the whole
 abbrev pub before_alarms : ScenarioParts → ℕ → (ℕ → ℕ) → List Reception → ℕ → Device → Device
 before_alarms s v clock hs t d =
     let node = setup_of s v in
@@ -117,7 +117,7 @@ unfoldable pub before_tick : ScenarioParts → ℕ → (ℕ → ℕ) → List Re
 before_tick s v clock hs zero = at_rest
 before_tick s v clock hs (suc t) = tick s v clock hs t (before_tick s v clock hs t)
 
--- the trail of v by its clock and what it heard: the device at the end of the run, at which its tuning ends
+-- the trace of v by its clock and what it received: the device at the end of the run, at which its tuning ends
 abbrev pub trail : ScenarioParts → ℕ → (ℕ → ℕ) → List Reception → Device
 trail s v clock hs = silenced v (run_end s) (before_tick s v clock hs (run_end s))
 
@@ -133,6 +133,6 @@ tune_of (PowerOn n) = Some n.core.tune
 abbrev pub tune_at : ScenarioParts → ℕ → (ℕ → ℕ) → List Reception → ℕ → Option Tune
 tune_at s v clock hs f = if nat_lt f s.frames then tune_of (at_frame s v clock hs f).power else None
 
--- the tune with which a sending of tick t begins; none where the node is off
+-- the tune with which a transmission of tick t begins; none where the node is off
 abbrev pub tune_when : ScenarioParts → ℕ → (ℕ → ℕ) → List Reception → ℕ → Option Tune
 tune_when s v clock hs t = tune_of (before_start s v clock hs t (before_tick s v clock hs t)).power

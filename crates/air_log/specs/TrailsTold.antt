@@ -1,4 +1,4 @@
--- What a trail tells of its node: what it sent, when it was tuned, what it delivered, what it counts, and its tunes.
+-- What a trace tells of its node: what it sent, when it was tuned, what it delivered, what it counts, and its tunes.
 use Rattle.std.specs.Prelude.{ℕ, List, map}
 use Rattle.std.specs.declared.option.Option.{Option}
 use Rattle.std.specs.List.{range_with_len}
@@ -11,7 +11,7 @@ use Rattle.air_log.specs.declared.entry.SentEntry.{SentEntry}
 use Rattle.air_log.specs.Trails.{Reception, trail, tune_at}
 use Rattle.air_log.specs.Charges.{windows_charge, scanned_frames}
 
--- sendings and deliveries stand in the order in which they were made, tunings with the last first; tunes has a place for
+-- transmissions and deliveries are in the order in which they were made, tunings with the last first; tunes has a place for
 -- each frame
 pub record TrailTold : Type 0 where
   pub sent : List Sending
@@ -31,6 +31,6 @@ trail_told s v clock hs = record {
   tunes = map (tune_at s v clock hs) (range_with_len 0 s.frames);
 }
 
--- the sending that an entry says
+-- the transmission that an entry says
 abbrev pub sending_of_entry : SentEntry → Sending
 sending_of_entry x = record { rank = x.rank; node = x.node; start = x.start; end = x.end; packet = x.packet }

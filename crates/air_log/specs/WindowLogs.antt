@@ -10,7 +10,7 @@ use Rattle.node_core.specs.declared.stage.Stage.TheVariants.{Idle, Scanning, Awa
 use Rattle.node_core.specs.Windows.{Window}
 use Rattle.node_core.specs.Nodes.{Node}
 
--- what happened at a tick while a window was open: a packet was heard whole, or an own sending of it ended
+-- what happened at a tick while a window was open: a packet was received whole, or an own transmission of it ended
 pub data Happening : Type 0 where
   HeardAt : (tick : ℕ) → (packet : List ℕ) → Happening
   SentAt : (tick : ℕ) → (packet : List ℕ) → Happening
@@ -20,8 +20,8 @@ pub record Closing : Type 0 where
   pub tick : ℕ
   pub after : Node
 
--- by_alarm: it opened by its alarm, and not by a schedule that a scanner heard; opened: the tick; before, after: the node
--- round the event that opened it; last: the window itself as it stood at the last event in it
+-- by_alarm: it opened by its alarm, and not by a schedule that a scanning node received; opened: the tick; before, after: the node
+-- round the event that opened it; last: the window itself as it was at the last event in it
 pub record WindowLog : Type 0 where
   pub frame : ℕ
   pub rank : ℕ
@@ -40,7 +40,7 @@ is_alarm Alarm = true
 is_alarm (Heard p) = false
 is_alarm Sent = false
 
--- what an event at tick t is to the window that is open; a Sent comes with the sending that ended
+-- what an event at tick t is to the window that is open; a Sent comes with the transmission that ended
 abbrev pub happening : ℕ → Event → Option Sending → List Happening
 happening t (Heard p) ended = HeardAt t p ∷ []
 happening t Sent (Some x) = SentAt t x.packet ∷ []
@@ -62,7 +62,7 @@ opened_log t e ended n m j w = record {
   closed = None;
 }
 
--- the open window stands first
+-- the open window is first
 abbrev pub gone_on : ℕ → Event → Option Sending → Window → List WindowLog → List WindowLog
 gone_on t e ended w [] = []
 gone_on t e ended w (x ∷ xs) = record x { happenings = x.happenings ++ happening t e ended; last = w } ∷ xs

@@ -24,7 +24,7 @@ pub record WindowSum : Type 0 where
 abbrev pub charge_by : Numbers → ℕ → WindowLog → ℕ
 charge_by p n w = if w.by_alarm then charge_by_last p (last_if_all_sent n (sent_packets w)) else 0
 
--- of windows that stand with the last first
+-- of windows that are with the last first
 pub record IsCountedTo (p : Numbers) (n : ℕ) (w : WindowLog) (ws : List WindowLog) (x : WindowSum) : Type 0 where
   pub earlier : x.earlier ≡ sum_by (charge_by p n) ws % 2 ^ 64
   pub last : x.last ≡ charge_by p n w
@@ -59,7 +59,7 @@ abbrev pub power_has_window : Power → Bool
 power_has_window (PowerOff boots) = false
 power_has_window (PowerOn n) = stage_has_window n.stage
 
--- the packet of the sending that an event tells the end of
+-- the packet of the transmission that an event tells the end of
 abbrev pub sent_with : Event → Option Sending → Option (List ℕ)
 sent_with Boot ended = None
 sent_with Alarm ended = None

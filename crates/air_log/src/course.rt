@@ -27,7 +27,7 @@ use std::alloc::Global;
 use std::marker::Model;
 use tick_clock::DriftClock;
 
-// The device of a trail, what it has made so far, each in the order in which it was made, and what its windows count.
+// The device of a trace, what it has made so far, each in the order in which it was made, and what its windows count.
 #[derive(Drop)]
 pub(crate) struct Course {
     pub(crate) device: Device,
@@ -69,7 +69,7 @@ impl Course {
         })
     }
 
-    // The device is told of an event at tick t, and what it orders is done. A Sent comes with the sending that ended.
+    // The device is notified of an event at tick t, and what it orders is done. A Sent comes with the transmission that ended.
     pub(crate) fn tell<C: DriftClock>(
         &mut self,
         clock: &C,
@@ -154,7 +154,7 @@ impl Course {
         unreachable!()
     }
 
-    // The sending that ends at tick t, if one does.
+    // The transmission that ends at tick t, if one does.
     pub(crate) fn end_sending<C: DriftClock>(&mut self, clock: &C, t: u64) -> Result<(), Memory>
         requires shown { CourseIsShown t self.old }
         requires early { t ≤ 2 ^ 45 }
@@ -166,7 +166,7 @@ impl Course {
         }
     }
 
-    // The sending that starts at tick t, if one does.
+    // The transmission that starts at tick t, if one does.
     pub(crate) fn begin(&mut self, t: u64) -> Result<(), Memory>
         requires shown { CourseIsShown t self.old }
         requires early { t ≤ 2 ^ 45 }
@@ -176,7 +176,7 @@ impl Course {
         self.log_sending(sending)
     }
 
-    // A line of the script is told, at tick t.
+    // A line of the script is given, at tick t.
     pub(crate) fn act<C: DriftClock>(
         &mut self,
         clock: &C,
@@ -245,7 +245,7 @@ impl Course {
         Ok(())
     }
 
-    // A sending, if there is one.
+    // A transmission, if there is one.
     fn log_sending(&mut self, sending: Option<Sending>) -> Result<(), Memory>
         ensures { OnOk result (self.new ≡ record self.old { sent = self.old.sent ++ option_to_list sending }) }
     {
@@ -277,7 +277,7 @@ fn is_alarm(event: &Event) -> bool
     }
 }
 
-// The packet of the sending that an event tells the end of.
+// The packet of the transmission that an event tells the end of.
 fn sent_with(event: &Event, ended: Option<Sending>) -> Option<Packet>
     ensures { result ≡ sent_with event.now ended }
 {

@@ -9,7 +9,7 @@ use crate::{Entry, HeardEntry};
 use lwb_base::{Memory, NodeId};
 use std::alloc::Global;
 
-// These hearings by end, then sender, then place in the list.
+// These receptions by end, then sender, then place in the list.
 pub(crate) fn in_turn(mut heard: Vec<HeardEntry>) -> Result<Vec<HeardEntry>, Memory>
     ensures taken { IfOk result (λ hs. map reception_in hs.items ≡ map reception_of (by_end (map hearing_of heard.items))) }
     ensures ascends { IfOk result (λ hs. IsSortedByKey end_of_reception hs.items) }
@@ -25,7 +25,7 @@ fn place(hearing: &HeardEntry) -> (u64, u8)
     (hearing.end, hearing.from.number())
 }
 
-// The hearings of a node, as they stand in the air.
+// The receptions of a node, as they are in the log.
 pub(crate) fn hearings_by(
     alloc: Global,
     entries: &[Entry],
@@ -50,7 +50,7 @@ fn push_some(heard: &mut Vec<HeardEntry>, hearing: Option<HeardEntry>) -> Result
     Ok(())
 }
 
-// The hearing that an entry says, if it is of this node.
+// The reception that an entry says, if it is of this node.
 fn hearing_by(entry: &Entry, node: NodeId) -> Option<HeardEntry>
     ensures { option_map hearing_of result ≡ hearing_with entry.now node }
 {

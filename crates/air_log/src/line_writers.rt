@@ -46,7 +46,7 @@ fn write_tuned(text: &mut String, tuned: &TunedEntry) -> Result<(), AllocError>
     write_line(text, "tuned", &[rank, node, tuned.start, tuned.end])
 }
 
-// The bytes of a packet behind a space, and the end of the line.
+// The bytes of a packet after a space, and the end of the line.
 fn write_packet(text: &mut String, bytes: &[u8]) -> Result<(), AllocError>
     ensures { OnOk result (string_bytes text.new ≡ string_bytes text.old ++ 32 ∷ hex_word bytes.now ++ 10 ∷ []) }
 {

@@ -144,7 +144,7 @@ impl Course {
         Ok(told)
     }
 
-    // A line of the script at tick t, which is told if it is the node's.
+    // A line of the script at tick t, which is given if it is the node's.
     fn line<C: DriftClock>(&mut self, clock: &C, t: u64, line: &ScriptLine) -> Result<(), Memory>
         requires shown { CourseIsShown t self.old }
         requires early { t ≤ 2 ^ 45 }
@@ -158,7 +158,7 @@ impl Course {
         self.act(clock, t, line)
     }
 
-    // All ticks of a frame, after its script lines. `first` is the first hearing that has not ended before the frame, and it
+    // All ticks of a frame, after its script lines. `first` is the first reception that has not ended before the frame, and it
     // gives back the first that has not ended with it.
     fn frame<C: DriftClock>(
         &mut self,
@@ -216,7 +216,7 @@ impl Course {
         Ok(next)
     }
 
-    // The hearings that end at tick t.
+    // The receptions that end at tick t.
     fn hear<C: DriftClock>(
         &mut self,
         clock: &C,
@@ -243,7 +243,7 @@ impl Course {
         Ok(next)
     }
 
-    // The tick at which something is due next, a hearing from this one on among them, or `until` if that is earlier.
+    // The tick at which something is due next, a reception from this one on among them, or `until` if that is earlier.
     fn next_due(&self, heard: &[HeardEntry], next: usize, until: u64) -> u64
         ensures { result ≡ least_due self.now.device (slice_get heard.now next) until }
     {

@@ -82,7 +82,7 @@ impl WindowSum {
         self.last = if by_alarm { self.profile.close() } else { 0 };
     }
 
-    // A window in which a node sends as often as it may is over with its last sending.
+    // A window in which a node sends as often as it may is over with its last transmission.
     fn send(&mut self, packet: &Packet)
         ensures after { self.new ≡ sent_sum packet.now self.old }
         ensures small { self.new.last ≤ 2 ^ 28 }

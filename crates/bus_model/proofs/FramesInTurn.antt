@@ -80,7 +80,7 @@ module _ (s : ScenarioParts) (f : ℕ) where
       ap (λ (k : ℕ). power (before_frame s k v)) (add-one f) ∙ ap (λ (g : ℕ → State). power (g v)) (next_frame s f)
       ∙ ended_power s f v (rounds s f (state_at s f)) ∙ rounds_power s f (state_at s f) v ∙ have v
 
-  -- it scanned in so many frames at most
+  -- it scanned in this many frames at most
   scanned_few : (v : ℕ) → (cost_after s f v).scanned ≤ f
   scanned_few v = omega (arith, count_by-le-length (λ g. is_on_and (λ c. is_scan c.tune) (state_at s g v)) (range_with_len 0 f), length-range_with_len 0 f)
 
@@ -150,7 +150,7 @@ module _ (s : ScenarioParts) where
   pub cut_off : CountsLinesBefore s.script 0 0
   cut_off = record { within = omega arith; before = λ i d low. absurd (omega (arith, low)); from = λ i d high near. omega arith }
 
-  -- behind the last frame the script is over
+  -- after the last frame the script is over
   pub script_over : (sound : IsSoundScenario s) (n : ℕ) → CountsLinesBefore s.script s.frames n → take n s.script ≡ s.script
   script_over sound n cut = elim (cases_lt n (length s.script)) [
     | inl less ↦ absurd (

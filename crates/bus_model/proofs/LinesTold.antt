@@ -1,4 +1,4 @@
--- The lines of a frame, told one after another.
+-- The lines of a frame, given one after another.
 use Rattle.std.proofs.Common.{◌≡◌, ◌<◌, ◌≤◌, ◌+◌, ◌++◌, ◌∷◌, ◌==◌, ◌&&◌, [], ℕ, zero, suc, List, Bool, true, false, inl, inr, if◌then◌else◌, length}
 use Rattle.std.proofs.Common.{map, take, drop, get_or, set, filter, fold, option_to_list, refl, sym, ◌∙◌, ap, arith, append-nil, append_assoc}
 use Rattle.std.proofs.Common.{take-append-drop, length-drop}
@@ -42,7 +42,7 @@ set_mapped g h (x ∷ xs) (suc i) below same =
     ∙ ap (λ (l : List _). h x ∷ l)
     (set_mapped g h xs i (omega (arith, below)) (λ k near other. same (suc k) (omega (arith, near)) (λ is. other (omega (arith, is)))))
 
--- one line more of all that was told
+-- one line more of all that was given
 abbrev own : ℕ → ℕ → ScriptLine → Bool
 own f v l = (l.node == v) && (l.frame == f)
 
@@ -79,7 +79,7 @@ module _ (s : ScenarioParts) (f : ℕ) where
       within : (i : ℕ) → i < length (take n s.script) → i < n
       within i below = omega (arith, below, length-take-le n s.script cut.within)
 
-  -- and behind the last one
+  -- and after the last one
   pub all_told : (n : ℕ) → ((i : ℕ) (d : ScriptLine) → n ≤ i → i < length s.script → f < (get_or s.script i d).frame) → (v : ℕ)
       → told_at s f n v ≡ state_at s f v
   all_told n later v =
@@ -91,7 +91,7 @@ module _ (s : ScenarioParts) (f : ℕ) where
       omega (arith, after, is, ap (λ (l : ScriptLine). l.frame) (get_or-drop n s.script i d))))))
       ∙ append-nil (filter (own f v) (take n s.script))))
 
-  -- the nodes behind a line
+  -- the nodes after a line
   pub node_told : (ranks : ℕ → ℕ) (n : ℕ) (l : ScriptLine) → n < length s.script → l ≡ get_or s.script n l → l.frame ≡ f → AllPairs (λ a b. a < b) (ids s.nodes)
       → (i : ℕ) → i < length (ids s.nodes) → get_or (ids s.nodes) i 0 ≡ l.node → (d : BusNode)
       → set (nodes_with s ranks (told_at s f n)) i (node_after_line l (get_or (nodes_with s ranks (told_at s f n)) i d))

@@ -62,7 +62,7 @@ pub sum_more : (g : ℕ → ℕ) (n : ℕ) → sum_by g (range_with_len 0 (n + 1
 sum_more g n = ap (sum_by g) (range_more n) ∙ sum_by_push g (range_with_len 0 n) n
 
 module _ (s : ScenarioParts) (rank f : ℕ) (p : Plan) (start : ℕ → State) where
-  -- what v costs behind one slot more
+  -- what v costs after one slot more
   slot_more : (n v : ℕ) (c : Cost) → with_slot_at s rank f p start n v (with_slots s rank f p start n v c) ≡ with_slots s rank f p start (n + 1) v c
   slot_more n v c =
       let sent : ℕ → ℕ = λ j. slot_sent s.profile (slot_at s rank f p start j) v in

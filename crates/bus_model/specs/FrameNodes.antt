@@ -19,7 +19,7 @@ use Rattle.bus_model.specs.RoundCosts.{cost_after}
 abbrev pub nodes_with : ScenarioParts → (ℕ → ℕ) → (ℕ → State) → List BusNode
 nodes_with s ranks states = map (bus_node s ranks states) (ids s.nodes)
 
--- behind the rounds of the ranks below r
+-- after the rounds of the ranks below r
 abbrev pub run_below : ScenarioParts → ℕ → (ℕ → State) → ℕ → ℕ → State
 run_below s f start r v = if nat_lt (ranks_in start v) r then rounds s f start v else start v
 
@@ -34,7 +34,7 @@ frame_deliveries s f states = flat_map (λ rank. round_deliveries s rank f state
 abbrev pub deliveries_to : ScenarioParts → ℕ → List Delivery
 deliveries_to s n = flat_map (λ f. frame_deliveries s f (state_at s f)) (range_with_len 0 n)
 
--- the state of v in frame f behind those of the first n lines that it is told then
+-- the state of v in frame f after those of the first n lines that it is given then
 abbrev pub told_at : ScenarioParts → ℕ → ℕ → ℕ → State
 told_at s f n v = fold state_after_line (before_frame s f v) (filter (λ l. (l.node == v) && (l.frame == f)) (take n s.script))
 
@@ -58,7 +58,7 @@ unfoldable pub prior_ranks : ScenarioParts → ℕ → ℕ → ℕ
 prior_ranks s zero = λ (v : ℕ). 0
 prior_ranks s (suc f) = ranks_in (state_at s f)
 
--- a node that was told a line
+-- a node that was given a line
 abbrev pub node_after_line : ScriptLine → BusNode → BusNode
 node_after_line l n = record n { state = state_after_act l.act n.state }
 

@@ -51,7 +51,7 @@ pub fn tell_lines(
     Ok(script.len())
 }
 
-// Its node is told this line.
+// Its node is given this line.
 fn tell_line(net: &mut Network, line: &ScriptLine, drops: &mut Vec<DropLine>) -> Result<(), Memory>
     requires ascending { AllPairs (λ a b. a < b) net.old.ids }
     requires each { length net.old.nodes ≡ length net.old.ids }

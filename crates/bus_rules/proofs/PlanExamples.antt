@@ -53,7 +53,7 @@ contention : (requested contending ≡ Some 0)
 unfolding contending
 contention = (refl, refl, refl, refl, refl, refl)
 
--- node 3 is acknowledged in frame 9, and then agrees with its wish; an acknowledgement for another boot is not its own
+-- node 3 is acknowledged in frame 9, and then agrees with its requested interval; an acknowledgement for another boot is not its own
 closing : ℕ → Plan
 closing boot = record { rank = 0; boot = 1; contend = 0; acks = record { node = 3; boot = boot; stream = 0; interval = 4 } ∷ []; owners = 12 ∷ [] }
 

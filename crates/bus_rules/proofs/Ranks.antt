@@ -31,7 +31,7 @@ planned_rank n node boot rank f kept t x = refl
 pub same_schedule : (x y : Schedule) → Some (ScheduleOf x) ≡ Some (ScheduleOf y) → x ≡ y
 same_schedule x y is = cc
 
--- who hosts, stands by or scans does so by its own rank
+-- who hosts, is by or scans does so by its own rank
 pub hosts_rank : (rank f : ℕ) (t : Tune) → hosts_in rank f t ≡ true → (rank_of t == rank) ≡ true
 hosts_rank rank f (Host r due) is = (and_parts (r == rank) (due == f) is).0
 hosts_rank rank f (Hold r due) is = absurd (true≢false (sym is))

@@ -5,7 +5,7 @@ use Rattle.std.specs.List.{last_or}
 use Rattle.lwb_base.specs.Profile.{Numbers, step}
 
 -- a window counts until its closing; one in which the node sent as often as it may counts until the end of its last
--- sending, which is given by its step and its length
+-- transmission, which is given by its step and its length
 abbrev pub charge : Numbers → Option (ℕ × ℕ) → ℕ
 charge p None = p.close
 charge p (Some last) = p.listen + (last.0 + 1) * step p last.1 - p.turn

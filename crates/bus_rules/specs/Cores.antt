@@ -10,7 +10,7 @@ use Rattle.bus_rules.specs.Tuning.{next_tune, hosts_in, holds_in, scans}
 use Rattle.bus_rules.specs.declared.tune.Tune.{Tune}
 use Rattle.bus_rules.specs.declared.tune.Tune.TheVariants.{Scan, Hold, Host}
 
--- plan: the plan that the tune holds or hosts, or that a fresh scanner took; table: a host's
+-- plan: the plan that the tune holds or hosts, or that a fresh scanning node took; table: a host's
 -- own_slot: a fresh node's contention slot, counted from 1; kept: what a host accepted in the contention slots of this round
 pub record Core : Type 0 where
   pub boot : ℕ
@@ -47,7 +47,7 @@ setup_for p hosts sends v = record { profile = p; id = v; own = own_rank v hosts
 abbrev pub is_fresh : Core → Bool
 is_fresh c = is_some c.own_slot
 
--- the member's part in a round of this rank and frame: host, holder that is due, or fresh scanner
+-- the member's part in a round of this rank and frame: host, synchronized member that is due, or fresh scanning node
 abbrev pub is_member : ℕ → ℕ → Core → Bool
 is_member rank frame c = hosts_in rank frame c.tune || holds_in rank frame c.tune || (scans rank c.tune && is_fresh c)
 

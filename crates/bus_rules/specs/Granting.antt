@@ -21,7 +21,7 @@ gap_of seconds frame es =
     else if nat_le (total seconds (frame + 2) es) 40 then 2
     else 1
 
--- how often a code stands in a list
+-- how often a code is in a list
 abbrev pub count_of : ℕ → List ℕ → ℕ
 count_of c cs = count_by (λ x. x == c) cs
 

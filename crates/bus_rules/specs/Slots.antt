@@ -99,7 +99,7 @@ pub record Closed : Type 0 where
   pub core : Core
   pub delivered : Option Data
 
--- a host hears the owner of a data slot, or does not
+-- a host receives the owner of a data slot, or does not
 abbrev pub owner_heard : Bool → ℕ → Table → Table
 owner_heard true owner t = heard_owner owner t
 owner_heard false owner t = unheard_owner owner t

@@ -1,4 +1,4 @@
--- The streams of a node: wishes, queues, the contention rule, and what an accepted schedule does.
+-- The streams of a node: requests, queues, the contention rule, and what an accepted schedule does.
 use Rattle.std.specs.Prelude.{ℕ, ◌+◌, ◌-◌, ◌^◌, ◌%◌, List, [], ◌∷◌, ◌++◌, Bool, false, not, ◌&&◌, ◌||◌, ◌==◌, nat_lt}
 use Rattle.std.specs.Prelude.{if◌then◌else◌, is_none, Some, None, map, length, drop, min, find, slice_get, slice_set, fold}
 use Rattle.std.specs.declared.option.Option.{Option}
@@ -10,7 +10,7 @@ pub record WaitingPacket : Type 0 where
   pub seq : ℕ
   pub payload : List ℕ
 
--- one stream: the interval that its node wishes, the one agreed with the host (0 for none, both), the frame in which a
+-- one stream: the interval that its node requests, the one agreed with the host (0 for none, both), the frame in which a
 -- schedule last named it, the packets that wait, and the next sequence number
 pub record Stream : Type 0 where
   pub wish : ℕ
@@ -52,7 +52,7 @@ emptied x = record x { wish = 0; queue = [] }
 abbrev pub streams_after_leaving : ℕ → Streams → Streams
 streams_after_leaving i s = with_stream i (emptied (stream_at s i)) s
 
--- a put is dropped where nothing is wished, 16 packets wait, or 65,535 numbers are used
+-- a put is dropped where nothing is requested, 16 packets wait, or 65,535 numbers are used
 abbrev pub refuses : Stream → Bool
 refuses x = (x.wish == 0) || not (nat_lt (length x.queue) 16) || not (nat_lt x.next 65535)
 
@@ -77,7 +77,7 @@ without_first x = record x { queue = drop 1 x.queue }
 abbrev pub taken : ℕ → Streams → Streams
 taken i s = with_stream i (without_first (stream_at s i)) s
 
--- a request of the stream is due: the wish is not what is agreed, and there is none or a packet waits
+-- a request of the stream is due: the requested interval is not what is agreed, and there is none or a packet waits
 abbrev pub wants : Stream → Bool
 wants x = not (x.wish == x.agreed) && ((x.wish == 0) || not (length x.queue == 0))
 
@@ -91,7 +91,7 @@ due_of s i = if request_is_due s i then Some (stream_at s i).wish else None
 abbrev pub due_stream : Streams → Option ℕ
 due_stream s = find (request_is_due s) (0 ∷ 1 ∷ 2 ∷ 3 ∷ [])
 
--- a stream with its wish
+-- a stream with its requested interval
 abbrev pub with_wish : Streams → ℕ → ℕ × ℕ
 with_wish s i = (i, (stream_at s i).wish)
 
@@ -114,7 +114,7 @@ with_granted_interval interval x = record x { agreed = interval }
 abbrev pub with_agreed : ℕ → ℕ → Streams → Streams
 with_agreed i interval s = with_stream i (with_granted_interval interval (stream_at s i)) s
 
--- what a node forgets when it hosts, or hears another host
+-- what a node forgets when it hosts, or receives another host
 abbrev pub unbound : Streams → Streams
 unbound s = record s { all = map (with_granted_interval 0) s.all; tries = 0; skips = 0 }
 

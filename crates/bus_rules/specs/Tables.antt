@@ -6,7 +6,7 @@ use Rattle.std.specs.Option.{option_map_or}
 use Rattle.lwb_base.specs.Messages.{Ask, code_of}
 
 -- an accepted stream: its owner code, the boot of its node and its interval, the frame in which it was accepted, the
--- slots granted since, and the data slots in a row in which it was not heard
+-- slots granted since, and the data slots in a row in which it was not received
 pub record Entry : Type 0 where
   pub code : ℕ
   pub boot : ℕ

@@ -14,7 +14,7 @@ abbrev pub is_rank : Option ℕ → ℕ → Bool
 is_rank None r = false
 is_rank (Some own) r = own == r
 
--- a scanner at the end of a frame. joined: it accepted the frame's opening. Of its own rank a node becomes the host after
+-- a scanning node at the end of a frame. joined: it accepted the frame's opening. Of its own rank a node becomes the host after
 -- 5 frames, and each rank is scanned for 12
 abbrev pub scan_after : ℕ → ℕ → ℕ → Bool → Option ℕ → ℕ → Tune
 scan_after r waited frame joined own hosts =
@@ -60,7 +60,7 @@ scans rank (Host r due) = false
 scans rank (Hold r due) = false
 scans rank (Scan r waited) = r == rank
 
--- the tune of a node, with what its next change goes by: whether it accepted this frame's opening as a scanner, the rank
+-- the tune of a node, with what its next change goes by: whether it accepted this frame's opening as a scanning node, the rank
 -- that it hosts, if it does, and how many ranks there are
 pub record TuneState : Type 0 where
   pub tune : Tune

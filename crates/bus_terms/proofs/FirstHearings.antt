@@ -1,4 +1,4 @@
--- First hearings of a flood by steps.
+-- First receptions of a flood by steps.
 use Rattle.std.proofs.Common.{◌≡◌, ℕ, zero, suc, ◌↔◌, Bool, false, ◌+◌, ◌<◌, true, not, ◌&&◌, ◌||◌, if◌then◌else◌, inl}
 use Rattle.std.proofs.Common.{inr, Option, Some, None, refl, sym, ◌∙◌, ap, subst, arith, nat_lt, ◌==◌}
 use Rattle.std.proofs.lemmas.Bool.{cases_lt, and_parts, eqb-true, ltb-true}
@@ -7,7 +7,7 @@ use Rattle.bus_terms.specs.Flooding.{Setting, moment, has, candidates, named, pi
 use Rattle.bus_terms.specs.Flooding.{takes, hears, first_heard, Hears, Accepts, accepted, STEPS}
 use Rattle.bus_terms.proofs.Options.{inspect, only_from, from_filter, heard_parts, sends_parts, named_parts}
 
--- what is kept by step n is the first hearing
+-- what is kept by step n is the first reception
 pub record FirstHearing (s : Setting) (n v : ℕ) (h : ℕ × ℕ) : Type 0 where
   pub hears : Hears s v h.1 h.0
   pub before : h.1 < n
@@ -90,7 +90,7 @@ module _ (s : Setting) where
           subst (λ (i : ℕ). first_heard ((moment s i).heard v) i (hears s (moment s i) i v) ≡ Some (o, k)) (sym same)
           (ap (λ (g : Option (ℕ × ℕ)). first_heard g k (hears s (moment s k) k v)) none_before ∙ ap (λ (w : Option ℕ). first_heard None k w) a.hears)
 
-  -- nothing is heard after step 11
+  -- nothing is received after step 11
   pub heard_in_time : (k v o : ℕ) → Hears s v k o → k < 12
   heard_in_time zero v o is = omega arith
   heard_in_time (suc k) v o is =
@@ -111,7 +111,7 @@ module _ (s : Setting) where
           let less : k + 1 < 12 = ltb-true (k + 1) 12 early.0 in
           omega arith
 
-  -- the accepted is the first that was heard
+  -- the accepted is the first that was received
   pub accepted_first : (v o k : ℕ) → ◌≡◌ {A = Option (ℕ × ℕ)} (accepted s v) (Some (o, k)) ↔ Accepts s v o k
   accepted_first v o k = (to (has s.initiators v) refl, from)
     where

@@ -1,4 +1,4 @@
--- What is sent and heard in a flood by steps is an initiator's.
+-- What is sent and received in a flood by steps is an initiator's.
 use Rattle.std.proofs.Common.{◌≡◌, ℕ, zero, suc, ◌+◌, true, nat_lt, inl, inr, Some, subst}
 use Rattle.std.proofs.lemmas.Option.{same_Some}
 use Rattle.bus_terms.specs.Flooding.{Setting, Moment, moment, has, offer, candidates, named, pick, may_hear, takes, hears, STEPS}
@@ -6,7 +6,7 @@ use Rattle.bus_terms.proofs.FirstHearings.{first_hearing}
 use Rattle.bus_terms.proofs.Options.{only_from, from_filter, heard_parts, sends_parts, named_parts}
 
 module _ (s : Setting) where
-  -- of what is heard where all that is sent is an initiator's
+  -- of what is received where all that is sent is an initiator's
   pub heard_of : (k : ℕ) (m : Moment) → ((u o : ℕ) → m.sends u ≡ Some o → has s.initiators o ≡ true)
       → (v o : ℕ) → hears s m k v ≡ Some o → has s.initiators o ≡ true
   heard_of k m sent v o is = elim (only_from (candidates s m k v) (named s m k v) o (heard_parts (may_hear s m v) (takes s m v) (pick s m k v) o is).1) [
@@ -25,6 +25,6 @@ module _ (s : Setting) where
   pub heard_origin : (k v o : ℕ) → hears s (moment s k) k v ≡ Some o → has s.initiators o ≡ true
   heard_origin k v o is = heard_of k (moment s k) (sent_origin k) v o is
 
-  -- of what a node keeps as heard first
+  -- of what a node keeps as received first
   pub first_origin : (v o k : ℕ) → (moment s STEPS).heard v ≡ Some (o, k) → has s.initiators o ≡ true
   first_origin v o k is = (let first = first_hearing s STEPS v (o, k) is in heard_origin k v o first.hears)

@@ -136,7 +136,7 @@ number_from s rank f part v x d is low past =
     let number = is.said.number in
     omega (arith, found.0)
 
--- and behind the slot the numbers of its boot are above it
+-- and after the slot the numbers of its boot are above it
 pub above_then : (s : ScenarioParts) (rank f : ℕ) (p : Plan) (j v : ℕ) (states : ℕ → State) (d : Data) → Says s rank f (part_of p j) v (states v) d
     → IsWell (states v)
     → IsPast d.boot d.stream (d.seq + 1) (after_slot s rank f p j states v)

@@ -1,4 +1,4 @@
--- A flood with one initiator: each origin is that one, and who hears is reached by a path.
+-- A flood with one initiator: each origin is that one, and who receives is reached by a path.
 use Rattle.std.proofs.Common.{◌≡◌, ℕ, zero, suc, ◌+◌, ◌<◌, List, [], ◌∷◌, Bool, true, false, not, ◌&&◌, ◌||◌, if◌then◌else◌, inl, inr, ⊎_elim}
 use Rattle.std.proofs.Common.{eq-eqb, Option, Some, None, is_some, refl, sym, ◌∙◌, ap, subst, filter_map, ◌==◌, nat_lt}
 use Rattle.std.proofs.lemmas.Bool.{cases_eq, or_right, or_left, or_from, not_from_false, ne_eqb, cond_both, or_cases, eqb-true, and_parts, and_from}
@@ -79,7 +79,7 @@ heard_by start false f g got b is p q = refl
 heard_by start true f g got false is p q = rw is refl
 heard_by start true f g got true is p q = rw (is, p, q) refl
 
--- with one initiator v hears exactly where it may and something reaches it
+-- with one initiator v receives if and only if it may and something reaches it
 pub hears-one : (s : Setting) (start : ℕ) (m : Moment) (k v : ℕ) → s.initiators ≡ start ∷ [] → HasOne start m
     → hears s m k v ≡ some_of start (may_hear s m v && reaches s m k v)
 hears-one s start m k v is one =
@@ -147,7 +147,7 @@ if_some false v start is = cc
 if_some true v start is = cc
 
 module _ (s : Setting) (start : ℕ) (alone : s.initiators ≡ start ∷ []) where
-  -- where v hears, another node sends over a link that passes
+  -- where v receives, another node sends over a link that passes
   pub last : (k v : ℕ) → Hears s v k start → (u : ℕ) × ((moment s k).sends u ≡ Some start) × (s.passes k u v ≡ true) × ((moment s k).sends v ≡ None)
       × ((moment s k).times v < s.limit) × (has s.everyone v ≡ true)
   last k v hears =

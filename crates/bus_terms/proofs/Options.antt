@@ -84,7 +84,7 @@ module _ (f : ℕ → Option ℕ) where
         | inr later ↦ (let u = from_filter us o later in (u.0, or_right (w == u.0) _ u.1, u.2))
       ]
 
--- what is heard by steps
+-- what is received by steps
 pub heard_parts : (may : Bool) (c : ℕ → Bool) (got : Option ℕ) (o : ℕ)
     → (if may then option_and_then (λ p. if c p then Some p else None) got else None) ≡ Some o → (may ≡ true) × (got ≡ Some o) × (c o ≡ true)
 heard_parts false c got o is = absurd (cc)

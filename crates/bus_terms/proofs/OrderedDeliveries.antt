@@ -175,7 +175,7 @@ slot_well : (s : ScenarioParts) (rank f : ℕ) (p : Plan) (j v : ℕ) → IsWell
 unfolding before_slot
 slot_well s rank f p j v = (slots_keep s rank f p v (state_at s f) 0 j (omega arith)).well (frame_well s f v)
 
--- behind its slot, a delivery's number is below those of its boot that are still to come
+-- after its slot, a delivery's number is below those of its boot that are still to come
 past_slot : (s : ScenarioParts) (rank f : ℕ) (p : Plan) (j : ℕ) (a : Delivery) → IsSaidIn s rank f p j a
     → IsPast a.boot a.stream (a.seq + 1) (before_slot s rank f p (state_at s f) (suc j) a.from)
 unfolding before_slot

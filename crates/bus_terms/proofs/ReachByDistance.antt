@@ -26,7 +26,7 @@ module _ (s : Setting) (start : ℕ) (link : ℕ → ℕ → Bool) (alone : s.in
       by_test false is = absurd (cc)
       by_test true is = cc
 
-  -- who hears in step k is reached by a walk of k + 1 links
+  -- who receives in step k is reached by a walk of k + 1 links
   onward : (k v : ℕ) → Hears s v k start → ((u : ℕ) → (moment s k).sends u ≡ Some start → walks link s.everyone start k u ≡ true)
       → walks link s.everyone start (suc k) v ≡ true
   unfolding walks

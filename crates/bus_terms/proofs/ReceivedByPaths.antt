@@ -61,7 +61,7 @@ in_whole p (x ∷ xs) v there =
           or_right (x == v) _ (more (ap (λ (l : List ℕ). has l v) (sym (cond-false (p x) (x ∷ filter p xs) (filter p xs) drops)) ∙ there))
     ]
 
--- where nobody initiates, nobody sends and nobody hears
+-- where nobody initiates, nobody sends and nobody receives
 module _ (s : Setting) (none : s.initiators ≡ []) where
   nothing_offered : (m : Moment) (k v : ℕ) → ((u : ℕ) → m.sends u ≡ None) → (u : ℕ) → offer s m k v u ≡ None
   nothing_offered m k v quiet u = cond_both (s.passes k u v) (m.sends u) None (λ (x : Option ℕ). x ≡ None) (λ _. quiet u) (λ _. refl)

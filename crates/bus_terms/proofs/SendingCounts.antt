@@ -3,7 +3,7 @@ use Rattle.std.proofs.Common.{◌≡◌, ℕ, suc, ◌+◌, List, [], ◌∷◌,
 use Rattle.std.proofs.lemmas.List.Sums.{sum_by-cons}
 use Rattle.bus_terms.specs.Flooding.{Setting, Moment, moment, STEPS, steps}
 
--- the sendings of these nodes before a step
+-- the transmissions of these nodes before a step
 abbrev pub sent_so_far : Moment → List ℕ → ℕ
 sent_so_far m nodes = sum_by m.times nodes
 

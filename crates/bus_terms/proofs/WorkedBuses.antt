@@ -84,7 +84,7 @@ two_contenders_costs :
 unfolding before_frame before_slot moment schedule_heard host_plan plan_round least_passing
 two_contenders_costs = (refl, refl, refl)
 
--- the host hears the request of node 2 at once
+-- the host receives the request of node 2 at once
 abbrev captured : ScenarioParts
 captured = three (record { frame = 5; slot = 1; step = 0; at = 1; from = 2 } ∷ [])
 

@@ -61,7 +61,7 @@ twelve_hops_at_most : (accepted fourteen 2 ≡ Some (1, 0)) × (accepted fourtee
 unfolding moment
 twelve_hops_at_most = (refl, refl, refl, refl)
 
--- two initiators at once: node 1 hears both, and nothing but by a capture line
+-- two initiators at once: node 1 receives both, and nothing but by a capture line
 abbrev contenders : (ℕ → ℕ → Bool) → Setting
 contenders named = record {
   limit = 2;

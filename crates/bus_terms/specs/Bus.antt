@@ -20,7 +20,7 @@ unfoldable pub before_frame : ScenarioParts → ℕ → ℕ → State
 before_frame s zero = λ (v : ℕ). StateOff 0
 before_frame s (suc f) = states_after_frame s f (before_frame s f)
 
--- and behind them
+-- and after them
 abbrev pub state_at : ScenarioParts → ℕ → ℕ → State
 state_at s f = states_after_script s f (before_frame s f)
 
@@ -34,11 +34,11 @@ ranks_of s = range_with_len 0 (length s.hosts)
 abbrev pub bus_deliveries : ScenarioParts → List Delivery
 bus_deliveries s = flat_map (λ f. flat_map (λ rank. round_deliveries s rank f (state_at s f)) (ranks_of s)) (frames_of s)
 
--- the node of a line just before it, where these lines stand above it
+-- the node of a line just before it, where these lines are above it
 abbrev pub state_before_line : ScenarioParts → List ScriptLine → ScriptLine → State
 state_before_line s above l = fold state_after_line (before_frame s l.frame l.node) (told_above above l)
 
--- what these lines lose, where the others stand above them
+-- what these lines lose, where the others are above them
 abbrev pub drops_below : ScenarioParts → List ScriptLine → List ScriptLine → List DropLine
 drops_below s above [] = []
 drops_below s above (l ∷ ls) = option_to_list (lost_by l l.act (state_before_line s above l)) ++ drops_below s (above ++ l ∷ []) ls

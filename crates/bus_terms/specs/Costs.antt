@@ -13,7 +13,7 @@ use Rattle.bus_terms.specs.Rounds.{Slot, message_said, slot_at, slots_of, round_
 abbrev pub length_at : Slot → ℕ → ℕ
 length_at x origin = option_map_or message_length (message_said (x.window origin)) 0
 
--- the step and the length of each sending of v in the flood
+-- the step and the length of each transmission of v in the flood
 abbrev pub steps_sent_by : Slot → ℕ → List (ℕ × ℕ)
 steps_sent_by x v = filter_map (λ k. option_map (λ origin. (k, length_at x origin)) ((moment x.flood k).sends v)) steps
 

@@ -2,7 +2,7 @@
 use Rattle.std.specs.Prelude.{◌≡◌, ◌<◌, ℕ, zero, suc, List, Bool, true, false, ◌&&◌, ◌==◌}
 use Rattle.std.specs.List.{list_any}
 
--- whether a walk of so many links leads from the starting node to v
+-- whether a walk of this many links leads from the starting node to v
 unfoldable pub walks : (ℕ → ℕ → Bool) → List ℕ → ℕ → ℕ → ℕ → Bool
 walks link everyone start zero v = v == start
 walks link everyone start (suc i) v = list_any (λ u. walks link everyone start i u && link u v) everyone

@@ -24,6 +24,6 @@ setting f = record {
 abbrev pub acceptance : Setting → ℕ → Option (ℕ × ℕ)
 acceptance s v = option_map (λ a. (v, a.1)) (accepted s v)
 
--- the accepting nodes in the order of the text, and the number of sendings
+-- the accepting nodes in the order of the text, and the number of transmissions
 abbrev pub outcome : FloodParts → Outcome
 outcome f = let s = setting f in record { accepts = filter_map (acceptance s) s.everyone; sent = sendings s }

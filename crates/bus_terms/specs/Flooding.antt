@@ -1,11 +1,11 @@
--- One flood by steps: who sends and who hears in each of them.
+-- One flood by steps: who sends and who receives in each of them.
 -- An origin is an initiator, named by its node. What its message says does not matter here: whoever uses a flood keeps the message of each origin.
 use Rattle.std.specs.Prelude.{◌≡◌, ◌<◌, ℕ, zero, suc, ◌+◌, List, [], ◌∷◌, Bool, true, false, not, ◌&&◌, ◌||◌, ◌==◌, nat_lt}
 use Rattle.std.specs.Prelude.{if◌then◌else◌, is_none, is_some, Some, None, filter_map, option_and_then, count_by, sum_by}
 use Rattle.std.specs.declared.option.Option.{Option}
 use Rattle.std.specs.List.{list_any, list_all}
 
--- the most sendings of a node; whether the link from u to v passes in step k (k, u, v); whom the capture line of step k at v names; the
+-- the most transmissions of a node; whether the link from u to v passes in step k (k, u, v); whom the capture line of step k at v names; the
 -- initiators; all that take part, initiators and listeners
 pub record Setting : Type 0 where
   pub limit : ℕ
@@ -14,7 +14,7 @@ pub record Setting : Type 0 where
   pub initiators : List ℕ
   pub everyone : List ℕ
 
--- the beginning of a step: the origin that a node sends in it, how often it has sent before, and the first origin that it heard, with the step
+-- the beginning of a step: the origin that a node sends in it, how often it has sent before, and the first origin that it received, with the step
 pub record Moment : Type 0 where
   pub sends : ℕ → Option ℕ
   pub times : ℕ → ℕ
@@ -51,25 +51,25 @@ pick s m k v = only_one (candidates s m k v) (named s m k v)
 abbrev pub may_hear : Setting → Moment → ℕ → Bool
 may_hear s m v = has s.everyone v && is_none (m.sends v) && nat_lt (m.times v) s.limit
 
--- v has heard nothing, or this origin
+-- v has received nothing, or this origin
 abbrev pub agrees : Option (ℕ × ℕ) → ℕ → Bool
 agrees None o = true
 agrees (Some h) o = h.0 == o
 
--- the origin may be heard: v is no initiator other than it, and has heard no other
+-- the origin may be received: v is no initiator other than it, and has received no other
 abbrev pub takes : Setting → Moment → ℕ → ℕ → Bool
 takes s m v o = (not (has s.initiators v) || (v == o)) && agrees (m.heard v) o
 
 abbrev pub hears : Setting → Moment → ℕ → ℕ → Option ℕ
 hears s m k v = if may_hear s m v then option_and_then (λ o. if takes s m v o then Some o else None) (pick s m k v) else None
 
--- the first that was heard
+-- the first that was received
 abbrev pub first_heard : Option (ℕ × ℕ) → ℕ → Option ℕ → Option (ℕ × ℕ)
 first_heard (Some h) k now = Some h
 first_heard None k None = None
 first_heard None k (Some o) = Some (o, k)
 
--- what is heard in step k is sent in step k + 1, if there is one
+-- what is received in step k is sent in step k + 1, if there is one
 abbrev pub next : Setting → ℕ → Moment → Moment
 next s k m = record {
   sends = λ v. if nat_lt (k + 1) STEPS then hears s m k v else None;
@@ -92,7 +92,7 @@ Sends s v k o = (moment s k).sends v ≡ Some o
 abbrev pub Hears : Setting → ℕ → ℕ → ℕ → Type 0
 Hears s v k o = hears s (moment s k) k v ≡ Some o
 
--- v is a listener, and k the first step in which it hears o
+-- v is a listener, and k the first step in which it receives o
 pub record Accepts (s : Setting) (v o k : ℕ) : Type 0 where
   pub here : has s.everyone v ≡ true
   pub listens : has s.initiators v ≡ false

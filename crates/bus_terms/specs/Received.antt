@@ -8,7 +8,7 @@ use Rattle.bus_terms.specs.Flooding.{has}
 use Rattle.bus_terms.specs.RelayPaths.{HasPath}
 use Rattle.bus_terms.specs.Rounds.{slot_at, delivery_in_slot}
 
--- in slot j, which this owner's stream has: each member but the owner's node delivers exactly where a relay path leads to it
+-- in slot j, which this owner's stream has: each member but the owner's node delivers if and only if a relay path leads to it
 -- from there, and nobody else delivers
 pub record IsReceived (s : ScenarioParts) (rank f : ℕ) (p : Plan) (states : ℕ → State) (j owner : ℕ) : Type 0 where
   pub by_paths : (v : ℕ) → has (ids s.nodes) v ≡ true → is_some ((slot_at s rank f p states j).window v) ≡ true → v ≢ node_of owner

@@ -26,7 +26,7 @@ plan_in (StateOn c) = Some c.plan
 abbrev pub first_node : ScenarioParts → (State → Bool) → (ℕ → State) → Option ℕ
 first_node s is states = find (λ v. is (states v)) (ids s.nodes)
 
--- who leads the round: the host if it is due, else the holder with the least id; none where there is no round
+-- who leads the round: the host if it is due, else the synchronized member with the least id; none where there is no round
 abbrev pub leader : ScenarioParts → ℕ → ℕ → (ℕ → State) → Option ℕ
 leader s rank f states =
     option_or (first_node s (is_on_and (λ c. hosts_in rank f c.tune)) states) (first_node s (is_on_and (λ c. holds_in rank f c.tune)) states)
@@ -43,7 +43,7 @@ opened_at s rank f part v (StateOn c) = if is_member rank f c then Some (opened_
 abbrev pub message_said : Option Opened → Option Message
 message_said window = option_and_then (λ o. o.message) window
 
--- members take part, and in the first slot and the last one the scanners of the rank too
+-- members take part, and in the first slot and the last one the scanning nodes of the rank too
 abbrev pub takes_part : ℕ → Part → State → Option Opened → Bool
 takes_part rank part x None = is_schedule_part part && is_on_and (λ c. scans rank c.tune) x
 takes_part rank part x (Some o) = true
@@ -69,11 +69,11 @@ slot_of_round s rank f p j states =
     let window = λ (v : ℕ). opened_at s rank f (part_of p j) v (states v) in
     record { part = part_of p j; window = window; flood = flood_in_slot s rank f j (part_of p j) states window }
 
--- flood: the message that v accepts, of the initiator that it hears first
+-- flood: the message that v accepts, of the initiator that it receives first
 abbrev pub accepted_at : Slot → ℕ → Option Message
 accepted_at x v = option_and_then (λ a. message_said (x.window a.0)) (accepted x.flood v)
 
--- close: a member's window always closes, a scanner has one only if it accepted
+-- close: a member's window always closes, a scanning node has one only if it accepted
 abbrev pub closed_slot_of : ScenarioParts → ℕ → Part → ℕ → Option Opened → Option Message → State → Option Closed
 closed_slot_of s f part v (Some o) heard x = Some (closed_slot (setup_in s v) f part (is_some o.message) o.core heard)
 closed_slot_of s f part v None None x = None
@@ -87,7 +87,7 @@ abbrev pub left_by : State → Option Closed → State
 left_by x None = x
 left_by x (Some c) = StateOn c.core
 
--- the state of each node behind the slot
+-- the state of each node after the slot
 abbrev pub after_slot : ScenarioParts → ℕ → ℕ → Plan → ℕ → (ℕ → State) → ℕ → State
 after_slot s rank f p j states v = left_by (states v) (closed_at s f (slot_of_round s rank f p j states) states v)
 
@@ -99,7 +99,7 @@ before_slot s rank f p states (suc j) = after_slot s rank f p j (before_slot s r
 abbrev pub slot_at : ScenarioParts → ℕ → ℕ → Plan → (ℕ → State) → ℕ → Slot
 slot_at s rank f p states j = slot_of_round s rank f p j (before_slot s rank f p states j)
 
--- behind the whole round, if there is one
+-- after the whole round, if there is one
 abbrev pub after_round : ScenarioParts → ℕ → ℕ → (ℕ → State) → Option Plan → ℕ → State
 after_round s rank f states None = states
 after_round s rank f states (Some p) = before_slot s rank f p states (last_slot p + 1)

@@ -28,7 +28,7 @@ state_after_act (Put i payload) x = at_core (puts i payload) x
 abbrev pub state_after_line : State → ScriptLine → State
 state_after_line x l = state_after_act l.act x
 
--- what the node is told in this frame, in the order of the text
+-- what the node is given in this frame, in the order of the text
 abbrev pub lines_of : ScenarioParts → ℕ → ℕ → List ScriptLine
 lines_of s f v = filter (λ l. (l.node == v) && (l.frame == f)) s.script
 
@@ -43,7 +43,7 @@ lost_by l (Declare i interval) x = None
 lost_by l (Leave i) x = None
 lost_by l (Put i payload) x = if loses i x then Some (record { frame = l.frame; node = l.node; stream = i }) else None
 
--- of the lines above one, those that its node is told in its frame
+-- of the lines above one, those that its node is given in its frame
 abbrev pub told_above : List ScriptLine → ScriptLine → List ScriptLine
 told_above above l = filter (λ m. (m.node == l.node) && (m.frame == l.frame)) above
 

@@ -1,4 +1,4 @@
--- Who begins the flood of data hosts exactly where it is the host that the scenario names.
+-- Who begins the flood of data hosts if and only if it is the host that the scenario names.
 use Rattle.std.proofs.Common.{◌≡◌, ℕ, suc, ◌<◌, ◌≤◌, inl, inr, List, Contains, Bool, true, false, Some, refl, sym, ◌∙◌, subst, arith, true≢false}
 use Rattle.std.proofs.Math.Nat.{mul-le-mul_right}
 use Rattle.lwb_base.specs.Messages.{Schedule}
@@ -60,7 +60,7 @@ module _ (s : ScenarioParts) (clocks : ℕ → ℕ → ℕ) (air : List Entry) (
       (begins_flood s clocks air whole x begins.there begins.first).start.says in
       elim may.word [ inl host ↦ absurd (true≢false (sym host ∙ guest)) | inr heard ↦ (may.plan, heard) ]
 
-  -- it would have heard its own schedule
+  -- it would have received its own schedule
   own_word : IsHostOf s x.rank x.node → sender_hosts s clocks air x ≡ false → sender_hosts s clocks air x ≡ true
   own_word is guest =
       let v = x.node in

@@ -1,4 +1,4 @@
--- The words of a round are of the schedules that its node heard, and the first of them is that by which data is stamped.
+-- The words of a round are of the schedules that its node received, and the first of them is that by which data is stamped.
 use Rattle.std.proofs.Common.{◌≡◌, ℕ, ◌+◌, ◌<◌, ◌≤◌, inl, inr, List, Contains, Bool, true}
 use Rattle.std.proofs.Common.{false, ◌==◌, if◌then◌else◌, filter_map, Some, None, Option, refl, sym, ◌∙◌, ap, subst}
 use Rattle.std.proofs.Common.{arith, true≢false, eq-eqb}
@@ -70,7 +70,7 @@ module _ (s : ScenarioParts) (air : List Entry) (x : Sending) where
   abbrev heard_as : Sending → Hearing
   heard_as h = record { node = x.node; sending = h }
 
-  -- ---- from what was heard to notes
+  -- ---- from what was received to notes
 
   noted_now : (h : Sending) → IsOfFrame s air x h → Contains (filter_map (now_in s.profile) air) (own_round, word_of 0 (heard_as h))
   noted_now h is =

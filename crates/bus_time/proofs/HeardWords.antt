@@ -1,4 +1,4 @@
--- Where a node begins the flood of data without hosting, it has heard a schedule for the frame, and that was over before.
+-- Where a node begins the flood of data without hosting, it has received a schedule for the frame, and that was over before.
 use Rattle.std.proofs.Common.{◌≡◌, ℕ, ◌+◌, ◌<◌, ◌≤◌, inl, inr, List, length, Contains, Some, sym, subst, arith}
 use Rattle.std.specs.Prelude.{slice_index}
 use Rattle.std.proofs.Math.Nat.{mul-le-mul_right, mul-le-mul_left}

@@ -68,7 +68,7 @@ module _ (s : ScenarioParts) (clocks : ℕ → ℕ → ℕ) (air : List Entry) (
   own_by n j last (Hold r due) host is = absurd (true≢false (sym host))
   own_by n j last (Host r due) host is = is.0
 
-  -- beside the invariant, at some moment of tick t
+  -- next to the invariant, at some moment of tick t
   pub record IsHosting (t : ℕ) (d : Device) : Type 0 where
     pub grows : (x : Sending) → Contains (device_in s clocks air v t).made.sent x → Contains d.made.sent x
     pub on : (x : Sending) → Contains d.made.sent x → BeginsSchedule x → StaysOnUntil s v (frame_of_sending s.profile x) (suc t) → HostsBy d.power
@@ -108,7 +108,7 @@ module _ (s : ScenarioParts) (clocks : ℕ → ℕ → ℕ) (air : List Entry) (
       → IsOn s clocks air v t (told_in t phase) d n
   on_in t phase d n fine on = subst (λ (p : Power). InOrderBy s clocks air v t (told_in t phase) d p) on fine.node.by_power
 
-  -- a line that switches it off is told after all that it sent
+  -- a line that switches it off is given after all that it sent
   goes_off : (t : ℕ) → AtTick s clocks air v t → (d : Device) (l : ScriptLine) (n : Node) → IsFine s clocks air v t Lines d
       → IsNextLineOf s v (clocks v) (heard_by air v) t l d → l.act ≡ Off → IsHosting t d → IsHosting t (device_after_off v t n d)
   goes_off t at d l n order next act is = record {
@@ -137,7 +137,7 @@ module _ (s : ScenarioParts) (clocks : ℕ → ℕ → ℕ) (air : List Entry) (
       closed_hosts S n.frame w.part w.flood.initiated n.core (accepted_in w)
       (accepts_none S n j w ranged stage (is.flood.own host)) host
 
-  -- ---- a sending begins
+  -- ---- a transmission begins
 
   -- a life that opened or closed in this frame hosts
   by_life : (rank f : ℕ) (y : Schedule) (l : Life) (tune : Tune) → ByTune rank l tune → LifeHasSchedule l f y → l.frame ≤ f → hosts tune ≡ true

@@ -25,7 +25,7 @@ use Rattle.bus_rules.specs.Cores.{Core, Setup, as_host, begins_host, frame_ended
 use Rattle.bus_rules.specs.Slots.{Message, ScheduleOf, DataOf, RequestOf, Opened, opened_slot, closed_slot, hosts_now, host_closes, silent, slot_heard}
 use Rattle.bus_rules.specs.Slots.{is_schedule_part}
 
--- what was heard leaves the tune
+-- what was received leaves the tune
 heard_tune : (f : ℕ) (part : Part) (heard : Bool) (c : Core) → (slot_heard f part heard c).tune ≡ c.tune
 heard_tune f Opening heard c = refl
 heard_tune f (DataSlot owner) heard c = refl
@@ -99,7 +99,7 @@ accepts_none s n j w ranged stage own y accepted =
     let of_kind = no_schedule w.part (kind_for w.part) taken.0.0 y carried.spelled taken.2 in
     true≢false (sym (own (of_schedules w.part of_kind)) ∙ listens.0)
 
--- a host is no scanner, and no window that it heard opens at it
+-- a host is no scanning node, and no window that it received opens at it
 pub not_scanning : (s : ScenarioParts) (clocks : ℕ → ℕ → ℕ) (v : ℕ) (n : Node) (tune : Tune) → Scans s clocks v n tune → hosts tune ≡ true → ⊥
 not_scanning s clocks v n (Scan r waited) scans host = true≢false (sym host)
 not_scanning s clocks v n (Hold r due) scans host = absurd scans

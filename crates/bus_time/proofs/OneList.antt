@@ -1,4 +1,4 @@
--- Two lawful logs with the same entries have one list of stamps.
+-- Two valid logs with the same entries have one list of stamps.
 use Rattle.std.proofs.Common.{◌≡◌, ℕ, List, [], ◌∷◌, Bool, true, false, filter, Contains, AllPairs, Some, Option}
 use Rattle.std.proofs.Common.{refl, sym, ◌∙◌, ap, subst, true≢false}
 use Rattle.std.specs.Prelude.{IsPermutation}

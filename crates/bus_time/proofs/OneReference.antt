@@ -29,7 +29,7 @@ use Rattle.bus_time.proofs.StampErrors.{before, sent}
 
 -- ---- in another log
 
--- whatever is heard by the first log is heard by the second
+-- whatever is received by the first log is received by the second
 abbrev pub HeardToo : List Entry → List Entry → Type 0
 HeardToo a b = (v : ℕ) (h : Sending) → HasHeardEntry a v h → HasHeardEntry b v h
 

@@ -42,7 +42,7 @@ use Rattle.bus_time.proofs.DataHosts.{whole_run}
 use Rattle.bus_time.proofs.HeardWords.{origin_before, over_before}
 use Rattle.bus_time.proofs.StampTimes.{reference_heard}
 
--- what is left open, beside one tick of the host's start and one of each clock's readings
+-- what is left open, next to one tick of the host's start and one of each clock's readings
 abbrev open_by : Schedule → ℕ
 open_by y = if y.plan.contend == 0 then 48 else 55
 

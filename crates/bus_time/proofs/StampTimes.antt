@@ -29,7 +29,7 @@ use Rattle.bus_time.specs.declared.beginning.Beginning.{Beginning}
 use Rattle.bus_time.proofs.DataHosts.{whole_run, hosts_named}
 use Rattle.bus_time.proofs.GivenWords.{begun_data}
 
--- a reference is heard
+-- a reference is received
 pub reference_heard : (s : ScenarioParts) (air : List Entry) (x : Sending) (d : ℕ) (h : Sending) → IsReference s air x d h → HasHeardEntry air x.node h
 reference_heard s air x d h reference = elim reference.by [
   | inl now ↦ now.1.is.heard.there

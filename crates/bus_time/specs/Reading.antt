@@ -18,7 +18,7 @@ use Rattle.bus_time.specs.declared.words.Word.{Word}
 use Rattle.bus_time.specs.declared.words.Words.{Words}
 use Rattle.bus_time.specs.declared.beginning.Beginning.{Beginning}
 
--- the round of the hearer of g that is so many frames ahead
+-- the round of the hearer of g that is this many frames ahead
 abbrev pub round_ahead : Numbers → ℕ → Hearing → Round
 round_ahead p ahead g = record { node = g.node; rank = g.sending.rank; frame = frame_of_sending p g.sending + ahead }
 
@@ -34,7 +34,7 @@ word_of ahead g = record {
 abbrev pub note_of : Numbers → ℕ → Hearing → Note
 note_of p ahead g = (round_ahead p ahead g, word_of ahead g)
 
--- of a schedule that is heard: the word on the frame itself, and on the frame to which its gap leads
+-- of a schedule that is received: the word on the frame itself, and on the frame to which its gap leads
 abbrev pub note_now : Numbers → Hearing → Option Schedule → Option Note
 note_now p g None = None
 note_now p g (Some y) = Some (note_of p 0 g)

@@ -23,7 +23,7 @@ use Rattle.bus_time.specs.declared.stamp.Stamp.{Stamp}
 abbrev pub slack : Schedule → ℕ
 slack y = if y.plan.contend == 0 then 51 else 58
 
--- the drift of two clocks in so many ticks, 40 millionths
+-- the drift of two clocks in this many ticks, 40 millionths
 abbrev pub drifted : ℕ → ℕ
 drifted d = 40 * d / 1000000
 
@@ -41,7 +41,7 @@ StampsErrLittle =
     → (y : Schedule) → message_of h.packet ≡ Some (ScheduleOf y) → (o : Sending) → BeganFlood s air h o → (host : ℕ) → IsHostOf s x.rank host
     → Near (tick_by s air x clocks d h) (clocks host x.start) (slack y + drifted (x.start - o.start))
 
--- no stamp errs by so many ticks: 0.7 ms with frames of 4 s, and 0.92 ms with those of 5 s
+-- no stamp errs by this many ticks: 0.7 ms with frames of 4 s, and 0.92 ms with those of 5 s
 abbrev pub never_reached : Numbers → ℕ
 never_reached p = if p.seconds == 4 then 44960 else 58300
 

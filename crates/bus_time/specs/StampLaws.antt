@@ -21,13 +21,13 @@ pub record BeginsData (air : List Entry) (x : Sending) : Type 0 where
   pub data_ : Data
   pub says : message_of x.packet ≡ Some (DataOf data_)
 
--- who begins the flood of a data packet hosts, by its trail, exactly where the scenario names it as host of the channel
+-- who begins the flood of a data packet hosts, by its trace, if and only if the scenario names it as host of the channel
 abbrev pub DataHostsLaw : Type 0
 DataHostsLaw =
     (s : ScenarioParts) (clocks : ℕ → ℕ → ℕ) (air : List Entry) → IsDrivenWell s clocks → Lawful s clocks air
     → (x : Sending) → BeginsData air x → (sender_hosts s clocks air x ≡ true) ↔ IsHostOf s x.rank x.node
 
--- two lawful logs with the same entries, each as often, have one list of stamps
+-- two valid logs with the same entries, each as often, have one list of stamps
 abbrev pub OneListLaw : Type 0
 OneListLaw =
     (s : ScenarioParts) (clocks : ℕ → ℕ → ℕ) (a b : List Entry) → IsDrivenWell s clocks → Lawful s clocks a → Lawful s clocks b → IsPermutation a b

@@ -13,7 +13,7 @@ use Rattle.bus_time.specs.declared.words.Word.{Word}
 use Rattle.bus_time.specs.declared.words.Words.{Words}
 use Rattle.bus_time.specs.declared.beginning.Beginning.{Beginning}
 
--- b is read off x, which stands in a lawful log whose words are these
+-- b is read off x, which is in a valid log whose words are these
 pub record MayStamp (s : ScenarioParts) (clocks : ℕ → ℕ → ℕ) (now ahead : Words) (b : Beginning) (air : List Entry) (x : Sending) : Type 0 where
   pub driven : IsDrivenWell s clocks
   pub lawful : Lawful s clocks air

@@ -1,4 +1,4 @@
--- When each data packet was initiated, in the time of the host that planned its round, by what the sender itself had heard.
+-- When each data packet was initiated, in the time of the host that planned its round, by what the sender itself had received.
 use Rattle.std.specs.Prelude.{◌≡◌, ◌⊎◌, ℕ, ◌+◌, ◌-◌, ◌*◌, ◌<◌, ◌≤◌, List, Bool, true, false, ◌&&◌, ◌==◌, Some, filter}
 use Rattle.std.specs.List.{AllZip}
 use Rattle.std.specs.Ordering.{nat_cmp, ordering_then, is_lt}
@@ -36,7 +36,7 @@ pub record IsFirstByEnd (P : Sending → Type 0) (h : Sending) : Type 0 where
   pub first : (k : Sending) → P k → h.end ≤ k.end
 
 module _ (s : ScenarioParts) (air : List Entry) (x : Sending) where
-  -- the sender of x heard h, a schedule on the channel of x with this gap
+  -- the sender of x received h, a schedule on the channel of x with this gap
   pub record IsScheduleHeard (gap : ℕ) (h : Sending) : Type 0 where
     pub there : HasHeardEntry air x.node h
     pub channel : h.rank ≡ x.rank
@@ -74,7 +74,7 @@ module _ (s : ScenarioParts) (air : List Entry) (x : Sending) where
     pub reference : IsReference ahead heard
     pub is : tick ≡ tick_by clocks ahead heard
 
-  -- a host by its trail takes its own clock
+  -- a host by its trace takes its own clock
   pub record IsTick (clocks : ℕ → ℕ → ℕ) (tick : ℕ) : Type 0 where
     pub host : sender_hosts s clocks air x ≡ true → tick ≡ clocks x.node x.start
     pub other : sender_hosts s clocks air x ≡ false → HasReference clocks tick

@@ -1,4 +1,4 @@
--- What nodes were told of their rounds, as it is noted.
+-- What nodes were given of their rounds, as it is noted.
 use Rattle.std.specs.Prelude.{◌≡◌, List, Contains, Bool, false, ◌&&◌, ◌||◌, ◌==◌, nat_lt, Some, None}
 use Rattle.std.specs.declared.option.Option.{Option}
 use Rattle.std.specs.HashMap.{get}

@@ -76,7 +76,7 @@ impl Reading {
     }
 }
 
-// The round of the node that is so many frames after a schedule that it received.
+// The round of the node that is this many frames after a schedule that it received.
 fn round_of(profile: &Profile, heard: &HeardEntry, ahead: u8) -> Round
     ensures { result ≡ record { node = heard.now.node; rank = heard.now.rank; frame = heard.now.start / profile.now.frame + ahead } }
 {

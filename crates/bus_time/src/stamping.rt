@@ -131,7 +131,7 @@ fn stamp_of<C: DriftClock>(s: &Scenario, reading: &Reading, begun: &Beginning, c
     }
 }
 
-// The place of a node among all, which stand by ascending ids.
+// The place of a node among all, which are by ascending ids.
 fn place_of(s: &Scenario, node: NodeId) -> usize
     requires { knows s.now.nodes node ≡ true }
     ensures place { result < length s.now.nodes }

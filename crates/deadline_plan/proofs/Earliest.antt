@@ -134,7 +134,7 @@ none_late until (j ∷ js) none =
     late : (u e : ℕ) → one (nat_le e u) ≤ 0 → u < e
     late u e none = grind (arith, nat_tests)
 
--- what waits at the beginning of a frame can be granted in time, so many frames before the end of all
+-- what waits at the beginning of a frame can be granted in time, this many frames before the end of all
 record Waits (slots frame frames : ℕ) (js : List Job) : Type 0 where
   pub rise : EndsRise js
   pub due : (d : ℕ) → count_by (ends_by (frame + d)) js ≤ slots * d

@@ -24,7 +24,7 @@ module _ (slots : ℕ) (js : List Job) (frame_of : Job → ℕ) (placing : IsPla
   abbrev between : ℕ → ℕ → Job → Bool
   between a b j = nat_le a (frame_of j) && nat_lt (frame_of j) b
 
-  -- so many frames from frame a on have no more jobs than slots
+  -- this many frames from frame a on have no more jobs than slots
   few_between : (a n : ℕ) → count_by (between a (a + n)) js ≤ slots * n
   few_between a zero =
       let none = count_none (between a (a + 0)) js (all_of (λ j. between a (a + 0) j ≡ false) (λ j. none_between a (frame_of j)) js) in

@@ -39,7 +39,7 @@ module _ (frames : ℕ) (ss : List DeadlineStream) (few : frames ≤ 1024) (shor
   counts_more ended released now within counted adds a below =
       omega (arith, adds a below, counted a below, one_end_more (jobs frames ss) a ended, count_streams frames a (ended + 1) (omega arith) ss all)
 
-  -- behind a list that was written over
+  -- after a list that was written over
   pub counts_written : (ended : ℕ) (before given now : List ℕ) → ended < frames → given ≡ before → length before ≡ frames → Counts ended before
       → length now ≡ length given
       → ((a : ℕ) → a < length given → get_or now a 0 ≡ get_or given a 0 + count_by (λ s. has_job s a (ended + 1)) ss) → Counts (ended + 1) now

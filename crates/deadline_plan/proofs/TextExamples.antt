@@ -18,7 +18,7 @@ a_text : plan_of (codes "stream 2 0 0 2 2\n# \nslots 1\r\n\tframes  4\nstream 3 
 unfolding draft_after_line plan_after_words deadline_line is_utf8 chars encode
 a_text = refl
 
--- behind three lines: a line, and its fault
+-- after three lines: a line, and its fault
 abbrev behind : List ℕ → Result PlanOfDeadlines (ℕ × FaultKind)
 behind line = plan_of (codes "slots 1\nframes 4\nstream 2 0 0 2 2\n" ++ line)
 

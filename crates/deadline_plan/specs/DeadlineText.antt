@@ -1,4 +1,4 @@
--- The text of a plan: what its lines say, and the first line that is refused.
+-- The text of a plan: what its lines say, and the first line that is rejected.
 use Rattle.std.specs.Prelude.{◌≤◌, ℕ, ◌+◌, List, [], ◌∷◌, ◌++◌, Bool, not, ◌&&◌, nat_le, nat_lt, if◌then◌else◌, Some}
 use Rattle.std.specs.Prelude.{None, Option, is_none, Result, length, drop, codes, IfSome, All}
 use Rattle.std.specs.List.{list_all}
@@ -60,7 +60,7 @@ with_deadline_line d (Frames n) = record d { frames = Some n }
 with_deadline_line d (Stream node stream start period deadline) =
     record d { streams = d.streams ++ record { owner = code node stream; start = start; period = period; deadline = deadline } ∷ [] }
 
--- behind a line of these words, or its fault. Every word behind the first is a number
+-- after a line of these words, or its fault. Every word after the first is a number
 unfoldable pub plan_after_words : DraftedPlan → List (List ℕ) → Result DraftedPlan FaultKind
 plan_after_words d ws = do
   l ← spelled (deadline_line ws) (λ _. list_all is_number (drop 1 ws))
@@ -76,7 +76,7 @@ plan_of_parts (Some slots) (Some frames) [] = None
 abbrev pub whole_plan : DraftedPlan → Result PlanOfDeadlines FaultKind
 whole_plan d = ok_or (plan_of_parts d.slots d.frames d.streams) Missing
 
--- what the bytes say, or their first fault and its line. What is missing is missing behind the last line
+-- what the bytes say, or their first fault and its line. What is missing is missing after the last line
 abbrev pub plan_of : List ℕ → Result PlanOfDeadlines (ℕ × FaultKind)
 plan_of bytes = do
   d ← draft_after_lines (draft_after_line plan_after_words) 1 empty_plan_draft (lines bytes)

@@ -9,7 +9,7 @@ use Rattle.deadline_plan.specs.Sorting.{sorted}
 abbrev pub comes_by : Job → Job → Bool
 comes_by j k = nat_lt j.end k.end || ((j.end == k.end) && (nat_lt j.owner k.owner || ((j.owner == k.owner) && nat_le j.release k.release)))
 
--- of waiting jobs in their order, the first so many that are released by this frame
+-- of waiting jobs in their order, the first this many that are released by this frame
 unfoldable pub granted_jobs : ℕ → ℕ → List Job → List Job
 granted_jobs slots frame [] = []
 granted_jobs zero frame (j ∷ js) = []
@@ -21,7 +21,7 @@ jobs_left slots frame [] = []
 jobs_left zero frame (j ∷ js) = j ∷ js
 jobs_left (suc slots) frame (j ∷ js) = if nat_le j.release frame then jobs_left slots frame js else j ∷ jobs_left (suc slots) frame js
 
--- what so many frames grant of waiting jobs, from this frame on
+-- what this many frames grant of waiting jobs, from this frame on
 unfoldable pub grants_from : ℕ → ℕ → ℕ → List Job → List (List Job)
 grants_from slots frame zero js = []
 grants_from slots frame (suc frames) js = granted_jobs slots frame js ∷ grants_from slots (frame + 1) frames (jobs_left slots frame js)

@@ -11,7 +11,7 @@ abbrev pub is_at : Option ℕ → ℕ → Bool
 is_at None n = false
 is_at (Some m) n = m == n
 
--- the sum of so many of the numbers, from this place on
+-- the sum of this many of the numbers, from this place on
 unfoldable pub sum_from : List ℕ → ℕ → ℕ → ℕ
 sum_from ns from zero = 0
 sum_from ns from (suc n) = slice_index ns from + sum_from ns (from + 1) n

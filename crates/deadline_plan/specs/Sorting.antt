@@ -11,7 +11,7 @@ unfoldable pub sorted : {X : Type 0} → (X → X → Bool) → List X → List 
 sorted by [] = []
 sorted by (x ∷ xs) = insert_by by x (sorted by xs)
 
--- each element comes by all behind it
+-- each element comes by all after it
 abbrev pub IsOrdered : {X : Type 0} → (X → X → Bool) → List X → Type 0
 IsOrdered by [] = Unit {0}
 IsOrdered by (x ∷ xs) = AllByRecursion (λ y. by x y ≡ true) xs × IsOrdered by xs

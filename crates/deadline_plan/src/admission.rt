@@ -106,7 +106,7 @@ pub(crate) fn has_owner(streams: &[DeadlineStream], owner: Owner) -> bool
     streams.iter().any(|s| s.owner == owner)
 }
 
-// The streams, and that one behind them.
+// The streams, and that one after them.
 fn with_stream(
     alloc: Global,
     streams: &[DeadlineStream],

@@ -40,7 +40,7 @@ counted : (p : ℕ → Bool) (last : Bool) → p 0 ≡ true → p 1 ≡ true →
 counted p true at_0 at_1 at_2 at_3 at_4 at_5 = rw (at_0, at_1, at_2, at_3, at_4, at_5) refl
 counted p false at_0 at_1 at_2 at_3 at_4 at_5 = rw (at_0, at_1, at_2, at_3, at_4, at_5) refl
 
--- the host hosts when frame 5 starts, as nothing was heard
+-- the host hosts when frame 5 starts, as nothing was received
 host_scans : scanned_frames first_round 1 (true_time 1) first_round_heard_by_host ≡ 5
 unfolding least_passing digits packed_number schedule_of asks_in schedule_heard host_plan plan_round turns
 host_scans =

@@ -1,4 +1,4 @@
--- The sendings of a trail do not overlap: each begins when the one before it has ended.
+-- The transmissions of a trace do not overlap: each begins when the one before it has ended.
 use Rattle.std.proofs.Common.{◌≡◌, ℕ, zero, suc, ◌≤◌, List, [], ◌∷◌, ◌++◌, ◌==◌, fold, Some, None, Option, All, AllPairs, refl, sym, ◌∙◌, ap, subst, arith}
 use Rattle.std.proofs.lemmas.Bool.{cond_both, eqb-true}
 use Rattle.std.proofs.lemmas.List.Elements.{All-nil, All-push}
@@ -23,7 +23,7 @@ EndsBefore x y = x.end ≤ y.start
 abbrev EndedBy : ℕ → List Sending → Type 0
 EndedBy b xs = AllPairs EndsBefore xs × All (λ x. x.end ≤ b) xs
 
--- the tick by which the sending that runs will have ended
+-- the tick by which the transmission that runs will have ended
 abbrev end_of : ℕ → Option Sending → ℕ
 end_of t None = t
 end_of t (Some x) = x.end
@@ -37,7 +37,7 @@ one_more b xs y is after long = (
   All-push (λ x. x.end ≤ y.end) xs y (ended_later b y.end xs (omega (arith, after, long)) is).1 (omega arith),
 )
 
--- the sending that runs, through the phases of a tick
+-- the transmission that runs, through the phases of a tick
 module _ (clock : ℕ → ℕ) (s : Setup) (t : ℕ) where
   lines_sending : (ls : List ScriptLine) (d : Device) → (fold (device_after_line clock s t) d ls).sending ≡ d.sending
   lines_sending [] d = refl

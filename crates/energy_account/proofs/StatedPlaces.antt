@@ -1,4 +1,4 @@
--- A clock that a scenario states stands at the place of its node.
+-- A clock that a scenario states is at the place of its node.
 use Rattle.std.proofs.Common.{◌≡◌, ℕ, ◌<◌, List, length, get_or, sym, ◌∙◌, ap, subst, arith}
 use Rattle.tick_clock.specs.ClockReadings.{segment_clock_reads}
 use Rattle.tick_clock.specs.declared.segment_clock.SegmentClock.{SegmentClock}

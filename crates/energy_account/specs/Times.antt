@@ -21,7 +21,7 @@ pub record IsRaised (v time : ℕ) (old new : List ℕ) : Type 0 where
   pub own : slice_index_or new v 0 ≡ (slice_index_or old v 0 + time) % 2 ^ 64
   pub others : (u : ℕ) → u ≢ v → slice_index_or new u 0 ≡ slice_index_or old u 0
 
--- a sending ends at a tick that 64 bits have
+-- a transmission ends at a tick that 64 bits have
 abbrev pub EndsEarly : Entry → Type 0
 EndsEarly (Sent x) = x.end < 2 ^ 64
 EndsEarly (Heard h) = ⊤

@@ -12,7 +12,7 @@ use std::marker::Model;
 // Ids of nodes are 1 to 200.
 const IDS: usize = 201;
 
-// By the id of the node. That nobody sends or is tuned for 2^64 ticks is a law of lawful logs, so on the way sums may wrap.
+// By the id of the node. That nobody sends or is tuned for 2^64 ticks is a law of valid logs, so on the way sums may wrap.
 #[derive(Drop)]
 pub(crate) struct Times {
     sent: Vec<u64>,

@@ -71,7 +71,7 @@ ranks_of c d None b ranks = tt
 ranks_of c d (Some x) None ranks = tt
 ranks_of c d (Some x) (Some y) ranks = ranks
 
--- the first that waits stands, and those that wait follow it
+-- the first that waits is, and those that wait follow it
 first_stands : (class : Class) (map : List Due) (xs : List Entry) → ((e : Entry) → Contains xs e → at map e.place class ≡ Some e.tick)
     → Standing map (order class (slice_get xs 0))
 first_stands class map [] stands = tt

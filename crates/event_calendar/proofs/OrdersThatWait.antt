@@ -48,7 +48,7 @@ AllBefore xs at e = (k : ℕ) (d : Entry) → k < at → IsBefore (get_or xs k d
 abbrev pub AllAfter : List Entry → ℕ → Entry → Type 0
 AllAfter xs at e = (k : ℕ) (d : Entry) → at ≤ k → k < length xs → IsBefore e (get_or xs k d)
 
--- what stands at a place after an order came in
+-- what is at a place after an order came in
 abbrev Placed : List Entry → ℕ → Entry → ℕ → Entry → Type 0
 Placed xs at e k d =
     let now : Entry = get_or (insert xs at e) k d in
@@ -121,7 +121,7 @@ removed xs ys at more room e order within here is grows = record {
   room = grows;
 }
 
--- what stands among one order and others
+-- what is among one order and others
 pub one_or_other : (x e : Entry) (xs : List Entry) → Contains (x ∷ xs) e → (x ≡ e) ⊎ Contains xs e
 one_or_other x e xs c = elim (Contains-append_cases (x ∷ []) xs e c) [
   | inl first ↦ let zero : 0 ≡ first.0 = omega (arith, first.1) in inl (subst (λ (k : ℕ). get_or (x ∷ []) k e ≡ e) (sym zero) first.2)

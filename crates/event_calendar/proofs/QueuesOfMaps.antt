@@ -46,7 +46,7 @@ count_here class map place before after within is =
 pub size_stays : (map : List Due) (place : ℕ) (class : Class) (tick : Option ℕ) → length (changed map place class tick) ≡ length map
 size_stays map place class tick = length-set map place (with_tick class tick (due_at map place))
 
--- where nothing stands, there is room for one more
+-- where nothing is, there is room for one more
 pub has_room : (class : Class) (map : List Due) (place : ℕ) (q : WaitingEntries) → place < length map → at map place class ≡ None → IsQueueOf class map q
     → length q.entries < q.room
 has_room class map place q within is i =
@@ -170,7 +170,7 @@ nothing_counted class places =
     let none : one (tick_of class nothing_due) ≡ 0 = ap one (nothing_at_first 0 0 class) in
     sum_by-replicate (λ (d : Due). cond (has_order_of_class class d) 1 0) places nothing_due ∙ ap (λ (n : ℕ). places * n) none ∙ mul-zero places
 
--- empty queues are those of a map in which nothing stands
+-- empty queues are those of a map in which nothing is
 pub queues_at_first : (places : ℕ) (q : Queues) → IsEmpty places q → HasQueues (replicate places nothing_due) q
 queues_at_first places q empty = λ class. record {
   order = subst EntriesAreInOrder (sym (empty.entries class)) (λ i j d less below. absurd (omega arith));

@@ -51,7 +51,7 @@ pub record IsNotAfter (x y : Order) : Type 0 where
 abbrev pub Stands : List Due → Order → Type 0
 Stands map x = at map x.2 x.1 ≡ Some x.0
 
--- the least order of a map, or none where nothing stands in it
+-- the least order of a map, or none where nothing is in it
 abbrev pub IsNext : List Due → Option Order → Type 0
 IsNext map None = (place : ℕ) (class : Class) → at map place class ≡ None
 IsNext map (Some x) = Stands map x × ((y : Order) → Stands map y → IsNotAfter x y)

@@ -1,4 +1,4 @@
--- A queue for each class has the orders of a map, each where it stands in time.
+-- A queue for each class has the orders of a map, each where it is in time.
 use Rattle.std.specs.Prelude.{◌≡◌, ◌≢◌, ℕ, ◌≤◌, List, [], Bool, Contains, count_by, is_some, nat_lt, if◌then◌else◌, length, slice_get, Some, None}
 use Rattle.std.specs.declared.option.Option.{Option}
 use Rattle.std.specs.Option.{option_map}

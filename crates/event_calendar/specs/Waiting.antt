@@ -18,7 +18,7 @@ pub record IsBefore (x y : Entry) : Type 0 where
 abbrev pub EntriesAreInOrder : List Entry → Type 0
 EntriesAreInOrder entries = AllPairs IsBefore entries
 
--- an order comes in, and nothing else changes but where the orders stand
+-- an order comes in, and nothing else changes but where the orders are
 pub record IsAdded (e : Entry) (before after : WaitingEntries) : Type 0 where
   pub entries : IsPermutation (e ∷ before.entries) after.entries
   pub order : EntriesAreInOrder after.entries

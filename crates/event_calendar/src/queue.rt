@@ -109,7 +109,7 @@ impl Queue {
         }
     }
 
-    // Removes an order that stands after others.
+    // Removes an order that is after others.
     #[inline(never)]
     fn remove_later(&mut self, entry: Entry)
         requires order { EntriesAreInOrder self.old.entries }
@@ -139,7 +139,7 @@ impl Queue {
         0
     }
 
-    // Where that order stands.
+    // Where that order is.
     fn index_of(&self, entry: &Entry) -> usize
         requires there { Contains self.now.entries entry.now }
         ensures bound { result < length self.now.entries }

@@ -76,7 +76,7 @@ fitting_long s p is =
 pub relay_same : (p q : List ℕ) → Relay p ≡ Relay q → p ≡ q
 relay_same p q is = cc
 
--- who initiates a flood is not changed by what it hears
+-- who initiates a flood is not changed by what it receives
 pub begun_here : (f : FloodState) (q : List ℕ) → (after_heard f q).initiated ≡ f.initiated
 begun_here f q = cond_both (fits f q) (record f { waiting = nat_lt (counter_of q) 11; first = first_of f.first q }) f
     (λ (g : FloodState). g.initiated ≡ f.initiated) (λ is. refl) (λ is. refl)

@@ -30,7 +30,7 @@ another_fourth x count other e f g h is passes =
     let three = and_parts x count fifth.0 in
     and_from _ h (and_from _ g (and_from _ f (and_from _ e (and_from x other three.0 passes) fifth.1) sixth.1) seventh.1) eighth.1
 
--- the parts of a schedule that spells these bytes, and that the counter stands in them by its range alone
+-- the parts of a schedule that spells these bytes, and that the counter is in them by its range alone
 pub record Again (a b c : ℕ) (rest : List ℕ) : Type 0 where
   pub count : c ≤ 11
   pub again : (d : ℕ) → d ≤ 11 → is_schedule (a ∷ b ∷ d ∷ rest) ≡ true
@@ -96,7 +96,7 @@ long kinds.Schedule p is = by_value (schedule_of p) refl is
 long kinds.Payload p is = let size = and_parts _ _ (first_of_eight (between 8 104 (length p)) _ _ _ _ _ _ _ is) in omega (arith, leb-true 8 (length p) size.0)
 long kinds.Request p is = omega (arith, eqb-true (length p) 7 (first_of_eight (length p == 7) _ _ _ _ _ _ _ is))
 
--- a packet with the body of a spelling is one exactly where its counter is in range
+-- a packet with the body of a spelling is one if and only if its counter is in range
 same_spelling : (kind : Kind) (first p : List ℕ) → is_spelling kind first ≡ true → bytes_eq (body first) (body p) ≡ true
     → is_spelling kind p ≡ nat_le (counter_of p) 11
 same_spelling kind [] p is same = absurd (omega (arith, long kind [] is))

@@ -8,7 +8,7 @@ use Rattle.glossy_relay.specs.Relaying.{fits, counter_of, first_of, after_heard,
 use Rattle.glossy_relay.specs.declared.flood.After.TheVariants.{Off, More}
 use Rattle.glossy_relay.specs.Runs.{Call, Heard, Sent, flood_after_calls, IsAllowed, orders_one, orders, endings, first_fitting}
 
--- the sendings that ended, and the one that is ordered
+-- the transmissions that ended, and the one that is ordered
 abbrev used : FloodState → ℕ
 used s = s.sent + (if s.waiting then 1 else 0)
 
@@ -19,7 +19,7 @@ heard_used s p within = grind (arith, nat_tests)
 sent_used : (s : FloodState) → s.waiting ≡ true → used (after_sent s) ≡ used s
 sent_used s waits = rw waits (omega arith)
 
--- no more sendings are ordered than the limit leaves
+-- no more transmissions are ordered than the limit leaves
 pub within_limit : (calls : List Call) (s : FloodState) → used s ≤ s.limit → IsAllowed s calls → used s + orders s calls ≤ s.limit
 within_limit [] s within allowed = omega arith
 within_limit (Heard p ∷ calls) s within allowed =
@@ -31,7 +31,7 @@ within_limit (Sent ∷ calls) s within allowed =
     let rest = within_limit calls (after_sent s) (omega (arith, same)) allowed.1 in
     omega (arith, same, rest)
 
--- a hearing changes neither the count of sendings nor the limit nor where the flood began
+-- a reception changes neither the count of transmissions nor the limit nor where the flood began
 pub record IsLike (s t : FloodState) : Type 0 where
   pub sent : t.sent ≡ s.sent
   pub limit : t.limit ≡ s.limit

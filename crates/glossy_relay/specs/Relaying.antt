@@ -36,7 +36,7 @@ abbrev pub carries : Option (List ℕ) → List ℕ → Bool
 carries None p = true
 carries (Some first) p = bytes_eq (body first) (body p)
 
--- it has sent fewer times than its limit, no sending is ordered, and the packet is of its kind, slot and body
+-- it has sent fewer times than its limit, no transmission is ordered, and the packet is of its kind, slot and body
 abbrev pub fits : FloodState → List ℕ → Bool
 fits s p = nat_lt s.sent s.limit && not s.waiting && is_spelling s.kind p && (slot_of p == s.slot) && carries s.first p
 
@@ -58,7 +58,7 @@ after_heard s p = if fits s p then record s { waiting = nat_lt (counter_of p) 11
 abbrev pub after_sent : FloodState → FloodState
 after_sent s = record s { sent = s.sent + 1; waiting = false }
 
--- the end of a sending turns the radio off where it is the last
+-- the end of a transmission turns the radio off where it is the last
 abbrev pub after_ending : FloodState → After
 after_ending s = if s.sent + 1 == s.limit then Off else More
 

@@ -1,4 +1,4 @@
--- Whole runs of a flood at one node: lists of what it hears and of its sendings that end.
+-- Whole runs of a flood at one node: lists of what it receives and of its transmissions that end.
 use Rattle.std.specs.Prelude.{◌≡◌, ℕ, ◌+◌, List, [], ◌∷◌, true, nat_lt, if◌then◌else◌, Some, None}
 use Rattle.std.specs.declared.option.Option.{Option}
 use Rattle.glossy_relay.specs.FloodState.{FloodState}
@@ -16,7 +16,7 @@ abbrev pub flood_after_calls : FloodState → List Call → FloodState
 flood_after_calls s [] = s
 flood_after_calls s (call ∷ calls) = flood_after_calls (flood_after_call s call) calls
 
--- a sending ends only where one is ordered
+-- a transmission ends only where one is ordered
 abbrev pub IsAllowed : FloodState → List Call → Type 0
 IsAllowed s [] = Unit {0}
 IsAllowed s (Heard p ∷ calls) = IsAllowed (after_heard s p) calls
@@ -31,17 +31,17 @@ abbrev pub call_occasions : FloodState → List Call → List CallOccasion
 call_occasions s [] = []
 call_occasions s (call ∷ calls) = record { before = s; call = call } ∷ call_occasions (flood_after_call s call) calls
 
--- the sendings ordered by a call
+-- the transmissions ordered by a call
 abbrev pub orders_one : FloodState → Call → ℕ
 orders_one s (Heard p) = if fits s p then (if nat_lt (counter_of p) 11 then 1 else 0) else 0
 orders_one s Sent = 0
 
--- the sendings ordered by these calls
+-- the transmissions ordered by these calls
 abbrev pub orders : FloodState → List Call → ℕ
 orders s [] = 0
 orders s (call ∷ calls) = orders_one s call + orders (flood_after_call s call) calls
 
--- the sendings that ended among these calls
+-- the transmissions that ended among these calls
 abbrev pub endings : List Call → ℕ
 endings [] = 0
 endings (Heard p ∷ calls) = endings calls

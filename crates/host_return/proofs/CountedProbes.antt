@@ -1,4 +1,4 @@
--- In how many frames a node is idle, by its trail.
+-- In how many frames a node is idle, by its trace.
 use Rattle.std.proofs.Common.{◌≡◌, ℕ, zero, suc, ◌+◌, List, [], ◌∷◌, ◌++◌, Bool, true, ◌==◌, cond, Option, Contains, map, count_by, is_some, refl, ◌∙◌, ap, arith}
 use Rattle.std.proofs.Math.Path.{fun_ext}
 use Rattle.std.proofs.lemmas.List.Sums.{sum_by_push}

@@ -1,4 +1,4 @@
--- Candidates by the trails of all nodes.
+-- Candidates by the traces of all nodes.
 use Rattle.std.proofs.Common.{◌≡◌, ℕ, ◌<◌, ◌≤◌, List, Bool, true, false, ◌&&◌, ◌||◌, ◌==◌, nat_lt, if◌then◌else◌, map, get_or, length, inl, inr, Option, Some, None, refl, sym, ◌∙◌, ap, subst, arith}
 use Rattle.std.proofs.lemmas.Bool.{cases_lt, cond-false, le-ltb, eqb-true, eq-eqb}
 use Rattle.std.proofs.lemmas.List.{get_or-map, length-map, get_or_default}
@@ -67,7 +67,7 @@ one_rank o r q a b = let same : ◌≡◌ {A = Option ℕ} (Some r) (Some q) = s
 pub no_rank : (o : Option ℕ) (r : ℕ) → o ≡ None → o ≡ Some r → ⊥
 no_rank o r a b = let same : ◌≡◌ {A = Option ℕ} None (Some r) = sym a ∙ b in cc
 
--- the trail at a place
+-- the trace at a place
 pub at_place : (s : ScenarioParts) (air : List Entry) (trails : List NodeTrail) (i : ℕ) (t : NodeTrail) (n : NodeLine) → trails ≡ all_trails s air → i < length trails
     → t ≡ get_or trails i t → (i < length s.nodes) × (t ≡ trail_for s air (get_or s.nodes i n))
 at_place s air trails i t n is below at =

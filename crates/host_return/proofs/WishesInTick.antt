@@ -1,4 +1,4 @@
--- Through a tick the wish of a stream is what the script lines of the tick make of it.
+-- Through a tick the requested interval of a stream is what the script lines of the tick make of it.
 use Rattle.std.proofs.Common.{◌≡◌, ℕ, zero, suc, ◌<◌, List, [], ◌∷◌, Bool, true, false, ◌&&◌, ◌==◌, if◌then◌else◌}
 use Rattle.std.proofs.Common.{Some, None, Option, fold, length, refl, sym, ◌∙◌, ap, subst, arith, inl, inr, Contains}
 use Rattle.std.specs.List.{slice_index_or}
@@ -30,7 +30,7 @@ use Rattle.host_return.proofs.WishesKept.{SameWishes, KeepsWishes, IsNoBoot, wis
 abbrev pub Wish : Type 0
 Wish = Bool × ℕ
 
--- the wish of a stream that is exchanged
+-- the requested interval of a stream that is exchanged
 set_here : (xs : List Stream) (k : ℕ) (x : Stream) → k < length xs → slice_index_or (slice_set xs k x) k no_stream ≡ x
 set_here [] k x below = absurd (omega arith)
 set_here (y ∷ ys) zero x below = refl
@@ -69,7 +69,7 @@ abbrev pub HasFour : Power → Type 0
 HasFour (PowerOff boots) = Unit {0}
 HasFour (PowerOn n) = length n.core.streams.all ≡ 4
 
--- whether a node is on, and the wish of one of its streams
+-- whether a node is on, and the requested interval of one of its streams
 abbrev pub seen_wish : ℕ → Power → Wish
 seen_wish i (PowerOff boots) = (false, 0)
 seen_wish i (PowerOn n) = (true, (stream_at n.core.streams i).wish)

@@ -1,4 +1,4 @@
--- No row but that of a boot changes what the streams of a node wish.
+-- No row but that of a boot changes what the streams of a node requested interval.
 use Rattle.std.proofs.Common.{◌≡◌, ℕ, zero, suc, ◌-◌, ◌%◌, ◌^◌, List, [], ◌∷◌, Bool, true, false, ◌==◌, is_none, if◌then◌else◌}
 use Rattle.std.proofs.Common.{Some, None, Option, fold, map, length, refl, ◌∙◌}
 use Rattle.std.specs.List.{slice_index_or}
@@ -24,7 +24,7 @@ use Rattle.node_core.specs.Rows.{Stepped, row, at_alarm, at_heard, at_sent, scan
 use Rattle.node_core.specs.declared.stage.Stage.{Stage}
 use Rattle.node_core.specs.declared.stage.Stage.TheVariants.{Idle, Scanning, AwaitFrame, AwaitSlot, InWindow}
 
--- as many streams, which wish the same
+-- as many streams, which requested interval the same
 pub record SameWishes (s t : Streams) : Type 0 where
   pub count : length t.all ≡ length s.all
   pub wish : (i : ℕ) → (stream_at t i).wish ≡ (stream_at s i).wish
@@ -52,7 +52,7 @@ set_wish (y ∷ ys) (suc k) (suc i) x is = set_wish ys k i x is
 pub with_same : (s : Streams) (k : ℕ) (x : Stream) → x.wish ≡ (stream_at s k).wish → SameWishes s (with_stream k x s)
 with_same s k x is = record { count = length-set s.all k x; wish = λ i. set_wish s.all k i x is }
 
--- each stream is changed, but for its wish
+-- each stream is changed, but for its requested interval
 map_wish : (g : Stream → Stream) → ((x : Stream) → (g x).wish ≡ x.wish) → (xs : List Stream) (i : ℕ)
     → (slice_index_or (map g xs) i no_stream).wish ≡ (slice_index_or xs i no_stream).wish
 map_wish g keeps [] i = refl

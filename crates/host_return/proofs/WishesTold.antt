@@ -1,4 +1,4 @@
--- What a stream of a node wishes is told by the script alone.
+-- What a stream of a node requests is given by the script alone.
 use Rattle.std.proofs.Common.{◌≡◌, ℕ, zero, suc, ◌+◌, ◌*◌, ◌≤◌, List, [], ◌∷◌, Bool, true, false, ◌&&◌, ◌||◌, ◌==◌, nat_lt, nat_le, if◌then◌else◌}
 use Rattle.std.proofs.Common.{fold, filter, refl, sym, ◌∙◌, ap, subst, arith, inl, inr, Contains, lt-ltb}
 use Rattle.std.specs.List.{AllByRecursion}
@@ -23,7 +23,7 @@ use Rattle.host_return.specs.Wishes.{told_by, told_line, told}
 use Rattle.host_return.proofs.WishesInTick.{Wish, seen_wish, IsTold, hearings_told, end_told, alarms_told, begun_told, lines_told}
 use Rattle.host_return.proofs.WishesKept.{same}
 
--- the lines of a tick are told after those before it
+-- the lines of a tick are given after those before it
 module _ (s : ScenarioParts) (v i : ℕ) where
   abbrev before_line : ℕ → Wish → ScriptLine → Wish
   before_line t w l = if nat_lt (frame_start s l.frame) t && (l.node == v) then told_by i l.act w else w
@@ -144,7 +144,7 @@ module _ (s : ScenarioParts) (sound : IsSoundScenario s) (v i : ℕ) (clock : �
       by_power (so_far (suc (frame_start s f))) (at_frame s v clock hs f).power (told_in_frame f).is
       ∙ ap (λ (w : Wish). w.1) (same_lines f s.script (false, 0))
 
--- no wish is longer than an interval may be
+-- no requested interval is longer than an interval may be
 few_by : (p : Numbers) (i : ℕ) (a : Act) (w : Wish) → IsAct p a → w.1 ≤ 120 → (told_by i a w).1 ≤ 120
 few_by p i On w range few = few
 few_by p i Off w range few = omega arith

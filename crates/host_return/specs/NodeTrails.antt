@@ -1,4 +1,4 @@
--- Internal: what the trails of the backup hosts tell.
+-- Internal: what the traces of the backup hosts tell.
 use Rattle.std.specs.Prelude.{ℕ, List, Bool, false, nat_lt, if◌then◌else◌, Some, None, map, slice_get}
 use Rattle.std.specs.declared.option.Option.{Option}
 use Rattle.std.specs.Option.{option_flatten}

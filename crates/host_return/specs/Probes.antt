@@ -39,11 +39,11 @@ pub record IsOfFrame (s : ScenarioParts) (f t : ℕ) : Type 0 where
   pub since : frame_start s f ≤ t
   pub until : t < frame_start s (f + 1)
 
--- v hears x if it is tuned to this rank for the whole of frame f
+-- v receives x if it is tuned to this rank for the whole of frame f
 abbrev pub HearsAsProbe : ScenarioParts → List Entry → ℕ → ℕ → ℕ → Sending → Type 0
 HearsAsProbe s air f v rank x = HearsAir s.profile s.trace (with_probe s air f v rank) v x
 
--- x is a schedule of this rank in frame f, and v hears it if it is tuned there for the whole frame
+-- x is a schedule of this rank in frame f, and v receives it if it is tuned there for the whole frame
 pub record Brings (s : ScenarioParts) (air : List Entry) (f v rank : ℕ) (x : Sending) : Type 0 where
   pub sent : Contains (sendings_of air) x
   pub channel : x.rank ≡ rank
@@ -52,7 +52,7 @@ pub record Brings (s : ScenarioParts) (air : List Entry) (f v rank : ℕ) (x : S
   pub ends : IsOfFrame s f x.end
   pub hears : HearsAsProbe s air f v rank x
 
--- in frame f node v probes this rank, and hears a schedule there
+-- in frame f node v probes this rank, and receives a schedule there
 pub record Probed (s : ScenarioParts) (air : List Entry) (f v rank : ℕ) : Type 0 where
   pub probes : probed_rank s air f v ≡ Some rank
   pub schedule : Sending

@@ -12,7 +12,7 @@ use Rattle.air_log.specs.Lawful.{heard_by}
 use Rattle.air_log.specs.Trails.{at_frame}
 use Rattle.host_return.specs.declared.returned.Return.{Return}
 
--- the interval that stream i of a node wishes, 0 for none and where the node is off
+-- the interval that stream i of a node requests, 0 for none and where the node is off
 abbrev pub wish_of : ℕ → Power → ℕ
 wish_of i (PowerOff boots) = 0
 wish_of i (PowerOn n) = (stream_at n.core.streams i).wish
@@ -21,11 +21,11 @@ wish_of i (PowerOn n) = (stream_at n.core.streams i).wish
 abbrev pub wish_in : ScenarioParts → List Entry → ℕ → ℕ → ℕ → ℕ
 wish_in s air f v i = wish_of i (at_frame s v (scenario_clock s v) (heard_by air v) f).power
 
--- in frame f node v declares stream i again, unless it wishes nothing
+-- in frame f node v declares stream i again, unless it requests nothing
 abbrev pub declared_again : ℕ → ℕ → ℕ → ℕ → List ScriptLine
 declared_again f v i wish = if wish == 0 then [] else record { frame = f; node = v; act = Declare i wish } ∷ []
 
--- in frame f node v goes off and on, and declares what its streams wish
+-- in frame f node v goes off and on, and declares what its streams requested interval
 abbrev pub restart : ℕ → ℕ → (ℕ → ℕ) → List ScriptLine
 restart f v wish =
     record { frame = f; node = v; act = Off } ∷ record { frame = f; node = v; act = On }

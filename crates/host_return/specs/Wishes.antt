@@ -1,10 +1,10 @@
--- Internal: what the lines of a script make of the wish of a stream.
+-- Internal: what the lines of a script make of the requested interval of a stream.
 use Rattle.std.specs.Prelude.{ℕ, List, Bool, true, false, ◌&&◌, ◌==◌, nat_le, if◌then◌else◌, fold}
 use Rattle.scenario_text.specs.declared.script.Act.{Act}
 use Rattle.scenario_text.specs.declared.script.Act.TheVariants.{On, Off, Declare, Leave, Put}
 use Rattle.scenario_text.specs.declared.script.ScriptLine.{ScriptLine}
 
--- whether a node is on, and the interval that its stream i wishes, 0 for none, after what it is told
+-- whether a node is on, and the interval that its stream i requests, 0 for none, after what it is given
 abbrev pub told_by : ℕ → Act → Bool × ℕ → Bool × ℕ
 told_by i On w = (true, w.1)
 told_by i Off w = (false, 0)

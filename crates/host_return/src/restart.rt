@@ -72,7 +72,7 @@ fn declare_again(
     Ok(())
 }
 
-// The interval that the stream of the node wishes after the lines of the frame, 0 for none.
+// The interval that the stream of the node requests after the lines of the frame, 0 for none.
 fn wish_of(script: &[ScriptLine], frame: u32, node: NodeId, stream: u8) -> u8
     ensures { result ≡ (told frame node stream script.now).1 }
 {
@@ -88,7 +88,7 @@ fn wish_of(script: &[ScriptLine], frame: u32, node: NodeId, stream: u8) -> u8
     wish.interval
 }
 
-// Whether a node is on, and the interval that one of its streams wishes, 0 for none.
+// Whether a node is on, and the interval that one of its streams requests, 0 for none.
 #[derive(Drop)]
 struct Wish {
     on: bool,

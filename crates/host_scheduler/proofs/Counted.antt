@@ -1,4 +1,4 @@
--- Codes and how often they stand in a list.
+-- Codes and how often they are in a list.
 use Rattle.std.proofs.Common.{◌≡◌, ℕ, ◌+◌, ◌-◌, ◌^◌, ◌<◌, ◌≤◌, List, [], ◌∷◌, ◌++◌, Bool, true, false, ◌==◌, cond, is_some, length, get_or}
 use Rattle.std.proofs.Common.{take, map, Option, Some, None, IsSome, option_map, ⊎_elim, refl, sym, ◌∙◌, ap, subst, arith, eq-eqb}
 use Rattle.std.specs.List.{slice_get}

@@ -1,4 +1,4 @@
--- Lists of codes by how often each stands in them.
+-- Lists of codes by how often each is in them.
 use Rattle.std.proofs.Common.{◌≡◌, ◌≢◌, ℕ, zero, suc, ◌+◌, ◌<◌, ◌≤◌, List, [], ◌∷◌, ◌++◌, Bool, true, false, ◌==◌, cond, is_some, length}
 use Rattle.std.proofs.Common.{get_or, map, replicate, Option, Some, None, IsSome, ⊎_elim, refl, sym, ◌∙◌, ap, subst, arith, eq-eqb}
 use Rattle.std.specs.List.{All, slice_get}
@@ -89,7 +89,7 @@ absent c low (x ∷ xs) up less =
     let apart : x ≢ c = omega (arith, up.0) in
     omega (arith, count_other c x xs apart, absent c x xs up.1 (omega (arith, up.0)))
 
--- lists that rise are one where each code stands in them equally often
+-- lists that rise are one where each code is in them equally often
 pub same_counts : (low high : ℕ) (xs ys : List ℕ) → Rises low xs → Rises high ys → ((c : ℕ) → count_of c xs ≡ count_of c ys) → xs ≡ ys
 same_counts low high [] [] up down counts = refl
 same_counts low high [] (y ∷ ys) up down counts = absurd (omega (arith, counts y, count_here y y ys refl))

@@ -1,4 +1,4 @@
--- What a node costs in a lawful run is what it costs on the bus.
+-- What a node costs in a valid run is what it costs on the bus.
 use Rattle.std.proofs.Common.{◌≡◌, ℕ, List, [], sum_by, sym, ◌∙◌, ap}
 use Rattle.std.proofs.lemmas.Bool.{cond-true}
 use Rattle.std.proofs.lemmas.List.Sorted.{sum_by-IsPermutation}
@@ -39,7 +39,7 @@ costs s clocks air lawful v known =
     same_cost _ _ (sent_same slots_are_runs s clocks air lawful v known) (windows_same slots_are_runs s clocks air lawful v known)
     (scans_law (slots_heard slots_are_runs) s clocks air lawful v known)
 
--- the log has the sendings of each trail
+-- the log has the transmissions of each trace
 pub energies : EnergyLaw
 energies s clocks air lawful v known =
     let in_log : sum_by sending_time (sent_by air v) ≡ sum_by sending_time (trail_in s clocks air v).made.sent =

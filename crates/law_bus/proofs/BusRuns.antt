@@ -1,4 +1,4 @@
--- A lawful run is the bus's.
+-- A valid run is the bus's.
 use Rattle.std.proofs.Common.{List, sym, subst}
 use Rattle.bus_rules.specs.declared.delivery.Delivery.{Delivery}
 use Rattle.bus_terms.specs.Bus.{Ordered}

@@ -1,4 +1,4 @@
--- The windows of a lawful run are those of the bus, and their cores too.
+-- The windows of a valid run are those of the bus, and their cores too.
 use Rattle.std.proofs.Common.{◌≡◌, ℕ, suc, ◌<◌, ◌≤◌, List, Bool, true, false, if◌then◌else◌, Some, None, Option, Contains, is_some, refl, sym, ◌∙◌, ap, subst}
 use Rattle.std.proofs.Common.{arith, true≢false}
 use Rattle.std.specs.Option.{IfSome}

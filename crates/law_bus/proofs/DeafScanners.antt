@@ -1,4 +1,4 @@
--- A scanner that hears something of a slot has a window of it.
+-- A scanning node that receives something of a slot has a window of it.
 use Rattle.std.proofs.Common.{◌≡◌, ℕ, ◌≤◌, List, true, Some, None, Option, Contains, is_some, refl, sym, ◌∙◌, ap, subst, arith, true≢false}
 use Rattle.std.specs.Option.{IfSome}
 use Rattle.lwb_base.specs.Messages.{Plan, Schedule}
@@ -114,6 +114,6 @@ module _ (s : ScenarioParts) (clocks : ℕ → ℕ → ℕ) (air : List Entry) (
       sym (slots_apart s clocks air (run s clocks air lawful) v known (run_end s) (omega arith) w open_.there x sent
       (is.0 ∙ sym rank_is) (sym open_.frame) open_.opened (before_closing w.closed closes open_.closed in_time)) ∙ is.2
 
-  -- so who hears something of the slot has a window of it
+  -- so who receives something of the slot has a window of it
   pub has_window : IsThere f rank j (trail_in s clocks air v).made.windows
   has_window = record { window = w; there = open_.there; frame = open_.frame ∙ is.1; channel = rank_is; slot = slot_is }

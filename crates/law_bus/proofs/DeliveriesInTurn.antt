@@ -1,4 +1,4 @@
--- The deliveries of the bus stand by frame, rank, slot and node, and no two deliveries of a run are of one place.
+-- The deliveries of the bus are by frame, rank, slot and node, and no two deliveries of a run are of one place.
 use Rattle.std.proofs.Common.{◌≡◌, ℕ, ◌+◌, ◌<◌, List, [], ◌∷◌, true, Some, None, Option, option_map, option_to_list, inl, inr, Contains, flat_map, length, refl}
 use Rattle.std.proofs.Common.{sym, ◌∙◌, ap, subst, arith}
 use Rattle.std.specs.Option.{IfSome, option_map_or}
@@ -192,7 +192,7 @@ module _ (s : ScenarioParts) (clocks : ℕ → ℕ → ℕ) (air : List Entry) (
     abbrev logs : List WindowLog
     logs = (trail_in s clocks air v).made.windows
 
-    -- a window closes behind its opening
+    -- a window closes after its opening
     not_itself : (x : WindowLog) → Contains logs x → HasClosedBy x.opened x → ⊥
     not_itself x there by =
         let timed : IsInTime s clocks air v x = open_in_time s clocks air (run s clocks air lawful) v known (run_end s) (omega arith) x there in

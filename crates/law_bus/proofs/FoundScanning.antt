@@ -35,7 +35,7 @@ stage_of_scan rank f (Host r d) is = absurd (true≢false (sym is))
 module _ (s : ScenarioParts) (clocks : ℕ → ℕ → ℕ) (air : List Entry) (lawful : IsLawfulRun s clocks air)
     (f rank j : ℕ) (p : Plan) (in_run : f < s.frames) (start : IsSlotStart s clocks air f rank p j)
     (v : ℕ) (here : has (bus_slot s f rank p j).flood.everyone v ≡ true) (no_alarm : HasWindow s clocks air f rank j v → ⊥) where
-  -- it is on behind the script lines of the frame, and scans
+  -- it is on after the script lines of the frame, and scans
   pub record IsFound : Type 0 where
     pub node : Node
     pub on : power_at s clocks air v f ≡ PowerOn node

@@ -1,4 +1,4 @@
--- Who hears a schedule of its rank has a window that is open then.
+-- Who receives a schedule of its rank has a window that is open then.
 use Rattle.std.proofs.Common.{◌≡◌, ℕ, suc, ◌-◌, ◌/◌, ◌<◌, ◌≤◌, inl, inr, List, true, ◌==◌, Some}
 use Rattle.std.proofs.Common.{None, Option, Contains, fold, length, refl, sym, ◌∙◌, ap, subst, arith, eq-eqb}
 use Rattle.std.specs.Option.{IfSome}

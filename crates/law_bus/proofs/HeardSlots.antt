@@ -76,7 +76,7 @@ module _ (s : ScenarioParts) (clocks : ℕ → ℕ → ℕ) (air : List Entry) (
   abbrev Of : ℕ → WindowLog → Type 0
   Of v w = IsWindowOf s clocks air f rank j v w
 
-  -- a member's window says on the bus what it says in the air
+  -- a member's window says on the bus what it says in the log
   module _ (v : ℕ) (known : knows s.nodes v ≡ true) (w : WindowLog) (here : Of v w) (alarm : w.by_alarm ≡ true) where
     abbrev S : Setup
     S = setup_of s v
@@ -168,7 +168,7 @@ module _ (s : ScenarioParts) (clocks : ℕ → ℕ → ℕ) (air : List Entry) (
         ap (λ (q : List ℕ). message_of (slice_set q 2 k)) (is.message o h.message h.said)
         ∙ told_again h.message j k h.may few
 
-    -- what is accepted on the bus is accepted in the air
+    -- what is accepted on the bus is accepted in the log
     on_run : (v o k : ℕ) → Accepts x.flood v o k → Accepts r.setting v o k
     on_run v o k a = subst (λ (g : Setting). Accepts g v o k) (sym is.setting) a
 

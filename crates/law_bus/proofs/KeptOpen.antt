@@ -1,4 +1,4 @@
--- A window that is there at some tick is among those of the trail, and one that is open then closes later.
+-- A window that is there at some tick is among those of the trace, and one that is open then closes later.
 use Rattle.std.proofs.Common.{◌≡◌, ℕ, zero, suc, ◌<◌, ◌≤◌, inl, inr, List, [], ◌∷◌, ◌==◌, Some, None, Option, Contains, sym, ◌∙◌, ap, subst, arith}
 use Rattle.std.specs.Option.{IfSome}
 use Rattle.std.proofs.lemmas.Bool.{cases_lt, cond_both}
@@ -159,6 +159,6 @@ module _ (t : ℕ) (first : WindowLog) where
         by_begun t x x.ordered (in_alarms (λ y. IsStill y.made.windows) clock (setup_of s v) t e kept
         (in_end (λ y. IsStill y.made.windows) clock (setup_of s v) t d kept is))
 
-    -- and from the end of the hearings of one
+    -- and from the end of the receptions of one
     pub since_hearings : (u : ℕ) → t < u → IsStill (device_at s v clock hs t End).made.windows → IsStill (before_tick s v clock hs u).made.windows
     since_hearings u later is = since_tick (suc t) (omega arith) u later (behind_hearings is)

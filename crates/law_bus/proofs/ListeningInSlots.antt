@@ -1,4 +1,4 @@
--- The events of a node are what it hears and sends in the slot, and with a window by its alarm it listens in a window.
+-- The events of a node are what it receives and sends in the slot, and with a window by its alarm it listens in a window.
 use Rattle.std.proofs.Common.{◌≡◌, ◌↔◌, ℕ, ◌+◌, ◌-◌, ◌*◌, ◌<◌, ◌≤◌, true, false, Bool, List, [], get_or, inl, inr, Contains, refl, sym, ◌∙◌, ap}
 use Rattle.std.proofs.Common.{subst, arith, true≢false}
 use Rattle.std.specs.Prelude.{◌⊎◌}
@@ -49,14 +49,14 @@ module _ (s : ScenarioParts) (clocks : ℕ → ℕ → ℕ) (air : List Entry) (
   abbrev Slotted : Sending → Type 0
   Slotted x = InSlot s clocks air lawful f rank j p round.in_run start events are x
 
-  -- a sending of the slot is of a window's slot
+  -- a transmission of the slot is of a window's slot
   of_window : (v : ℕ) (w : WindowLog) → Of v w → (x : Sending) → IsOf s.profile f rank j x → IsOfSlot s w x
   of_window v w here x is = record { channel = is.0 ∙ sym here.channel; frame = is.1 ∙ sym here.frame; slot = is.2 ∙ sym here.slot }
 
   heard_so : (v : ℕ) (x : Sending) → WasHeard r v x → HasHeardEntry air v x × IsOf s.profile f rank j x
   heard_so v x heard = heard_in_slot s.profile f rank j (hearings_of air) (record { node = v; sending = x }) heard
 
-  -- what is among the events was heard in the slot
+  -- what is among the events was received in the slot
   events_heard : (v : ℕ) (w : WindowLog) → Of v w → (x : Sending) → Contains (events v) (Heard x) → WasHeard r v x
   events_heard v w here x in_it =
       let played = are.by_window v w here in

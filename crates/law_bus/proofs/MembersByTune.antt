@@ -51,7 +51,7 @@ module _ (s : ScenarioParts) (clocks : ℕ → ℕ → ℕ) (v : ℕ) (n : Node)
   round_led (Hold r d) is = rw (eq-eqb r r refl, eq-eqb d n.frame is) refl
   round_led (Host r d) is = rw (eq-eqb r r refl, eq-eqb d n.frame is.2) refl
 
-  -- a scanner that is not fresh takes no part, and does not host
+  -- a scanning node that is not fresh takes no part, and does not host
   pub scanner_takes : (rank f : ℕ) (t : Tune) → Scans s clocks v n t → takes_by rank f t (is_fresh n.core) ≡ false
   scanner_takes rank f (Scan r w) is = and_right (r == rank) (is_fresh n.core) is
   scanner_takes rank f (Hold r d) is = absurd is

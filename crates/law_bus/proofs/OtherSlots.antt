@@ -1,5 +1,5 @@
 -- The windows of other slots of the frame, at a node that takes part in a slot without a window by an alarm: none is of an
--- earlier slot, and what is of a later one opens behind all that is sent in this.
+-- earlier slot, and what is of a later one opens after all that is sent in this.
 use Rattle.std.proofs.Common.{◌≡◌, ℕ, zero, suc, ◌+◌, ◌-◌, ◌<◌, ◌≤◌, List, Bool, true, false, inl, inr, Contains, length, refl, sym, ◌∙◌, ap, subst, arith}
 use Rattle.std.specs.Prelude.{◌⊎◌, slice_index}
 use Rattle.std.proofs.lemmas.Bool.{cases_order}
@@ -41,7 +41,7 @@ use Rattle.law_bus.proofs.WindowsInTurn.{HasNext, next_of}
 use Rattle.law_bus.proofs.SlotParties.{party_rank}
 use Rattle.law_bus.proofs.SlotSendings.{IsOf}
 
--- the end of a sending of an earlier slot, and the opening of a window
+-- the end of a transmission of an earlier slot, and the opening of a window
 module _ (s : ScenarioParts) (clocks : ℕ → ℕ → ℕ) (air : List Entry) (lawful : IsLawfulRun s clocks air) where
   abbrev p : Numbers
   p = s.profile
@@ -121,7 +121,7 @@ module _ (s : ScenarioParts) (clocks : ℕ → ℕ → ℕ) (air : List Entry) (
         let lasting = other.lasts in
         omega (arith, apart, end, opened, lasting)
 
-    -- a sending of an earlier slot has ended before the window opens
+    -- a transmission of an earlier slot has ended before the window opens
     pub ends_before_opening : x.end < w.opened
     ends_before_opening = by_kind w.by_alarm timed.by
 
@@ -169,7 +169,7 @@ module _ (s : ScenarioParts) (clocks : ℕ → ℕ → ℕ) (air : List Entry) (
         let slot = of.2 in
         ends_before_opening s clocks air lawful v w is.there x sent (of.0 ∙ sym (of_rank w is)) (of.1 ∙ sym is.frame) (omega (arith, slot, more))
 
-    -- in this slot it has joined by what it heard
+    -- in this slot it has joined by what it received
     joined : (w : WindowLog) → Of j v w → (b : Bool) → w.by_alarm ≡ b → w.by_alarm ≡ false
     joined w at true is = absurd (no_alarm (record { window = w; here = at; by_alarm = is }))
     joined w at false is = is

@@ -1,4 +1,4 @@
--- Each window of a node, and each of its sendings, lies in a slot of the bus's round of its rank.
+-- Each window of a node, and each of its transmissions, lies in a slot of the bus's round of its rank.
 use Rattle.std.proofs.Common.{◌≡◌, ℕ, ◌<◌, List, [], ◌∷◌, true, Some, Option, Contains, IfSome, refl, sym, ◌∙◌, ap, subst, arith}
 use Rattle.lwb_base.specs.Messages.{Plan}
 use Rattle.bus_rules.specs.States.{State}
@@ -26,7 +26,7 @@ use Rattle.law_bus.proofs.RunsOfLogs.{course_of, run}
 use Rattle.law_bus.proofs.SumsOverRounds.{IsPlaced, plan_at, rank_at}
 
 module _ (s : ScenarioParts) (clocks : ℕ → ℕ → ℕ) (air : List Entry) (v : ℕ) where
-  -- all windows and all sendings of v
+  -- all windows and all transmissions of v
   abbrev pub windows_of : List WindowLog
   windows_of = (trail_in s clocks air v).made.windows
 
@@ -70,7 +70,7 @@ module _ (heards : SlotHeardLaw) (s : ScenarioParts) (clocks : ℕ → ℕ → �
     plan = is;
   }
 
-  -- a sending was called for by a window of its slot
+  -- a transmission was called for by a window of its slot
   pub record HasCaller (y : Sending) : Type 0 where
     pub window : WindowLog
     pub there : Contains logs window
@@ -94,7 +94,7 @@ module _ (heards : SlotHeardLaw) (s : ScenarioParts) (clocks : ℕ → ℕ → �
       let in_run = (window_placed from.window from.there).in_run in
       from.of_slot.channel ∙ rank_same from.window from.there in_run ∙ ap (rank_at s v) (sym from.of_slot.frame)
 
-  -- no window stands twice
+  -- no window is there twice
   not_itself : (w : WindowLog) → Contains logs w → HasClosedBy w.opened w → ⊥
   not_itself w there by =
       let timed : IsInTime s clocks air v w = open_in_time s clocks air (run s clocks air lawful) v known (run_end s) (omega arith) w there in

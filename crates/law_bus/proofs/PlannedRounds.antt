@@ -138,14 +138,14 @@ module _ (s : ScenarioParts) (clocks : ℕ → ℕ → ℕ) (air : List Entry) (
     pub member_planned : IsPlanned s air rank f w.before.core.plan
     member_planned = by_host (hosts w.before.core.tune) refl
 
-  -- the window in which the flood of a scanner's schedule began
+  -- the window in which the flood of a scanning node's schedule began
   pub origin_here : (j v : ℕ) (w : WindowLog) (here : Of j v w) (is : OfScanner s clocks air v w) → HasOrigin s clocks air lawful f rank j is.schedule
   origin_here j v w here is =
       subst (λ (i : ℕ). HasOrigin s clocks air lawful f rank i is.schedule) here.slot
       (subst (λ (r : ℕ). HasOrigin s clocks air lawful f r w.slot is.schedule) here.channel
       (subst (λ (g : ℕ). HasOrigin s clocks air lawful g w.rank w.slot is.schedule) here.frame (origin_of s clocks air lawful v w is)))
 
-  -- where a window stands in a round by this plan
+  -- where a window is in a round by this plan
   pub record IsPlaced (p : Plan) (j : ℕ) (w : WindowLog) : Type 0 where
     pub within : j ≤ last_slot p
     pub more : j < last_slot p → w.slot < w.last.last

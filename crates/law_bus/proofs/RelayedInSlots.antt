@@ -179,7 +179,7 @@ module _ (s : ScenarioParts) (clocks : ℕ → ℕ → ℕ) (air : List Entry) (
         },
       )
 
-  -- so the sendings of the slot are those of a flood
+  -- so the transmissions of the slot are those of a flood
   pub has_sendings : HasSendings r
   has_sendings =
       let begun = begins_as_said s clocks air lawful f rank j p round.in_run start events are in

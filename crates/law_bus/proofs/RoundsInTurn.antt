@@ -190,7 +190,7 @@ module _ (s : ScenarioParts) (clocks : ℕ → ℕ → ℕ) (air : List Entry) (
           others = others_next;
         }
 
-      -- behind the last slot
+      -- after the last slot
       module _ (end : j ≡ last_slot p) where
         over : (v : ℕ) → round_of_rank s rank f (state_at s f) v ≡ bus_before s f rank p (suc j) v
         over v =

@@ -1,5 +1,5 @@
--- What a lawful run gives: the invariant at its end, the course of each node with a window, and the window in which the
--- flood of a heard schedule began.
+-- What a valid run gives: the invariant at its end, the course of each node with a window, and the window in which the
+-- flood of a received schedule began.
 use Rattle.std.proofs.Common.{◌≡◌, ℕ, ◌+◌, ◌<◌, ◌≤◌, List, Bool, true, false, if◌then◌else◌, Some, inl, inr, Contains, fold, length, refl, sym, ◌∙◌, ap, subst}
 use Rattle.std.proofs.Common.{arith}
 use Rattle.std.specs.Prelude.{slice_index}

@@ -1,4 +1,4 @@
--- Whatever is sent in a lawful run is sent in the flood of a slot of the bus.
+-- Whatever is sent in a valid run is sent in the flood of a slot of the bus.
 use Rattle.std.proofs.Common.{◌≡◌, ℕ, ◌≤◌, List, true, is_some, slice_set, Contains, refl, sym, ◌∙◌, ap, subst, arith}
 use Rattle.lwb_base.specs.Messages.{Plan}
 use Rattle.lwb_base.proofs.Options.{some_is}

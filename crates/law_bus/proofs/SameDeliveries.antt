@@ -1,4 +1,4 @@
--- What is delivered in a lawful run, and what is lost before it is queued, is that of the bus.
+-- What is delivered in a valid run, and what is lost before it is queued, is that of the bus.
 use Rattle.std.proofs.Common.{◌≡◌, ℕ, ◌<◌, ◌≤◌, ◌==◌, eq-eqb, List, [], ◌∷◌, Bool, true, false, Some, None, Option, option_to_list, inl, inr, All}
 use Rattle.std.proofs.Common.{Contains, flat_map, get_or, refl, sym, ◌∙◌, ap, subst, arith}
 use Rattle.std.specs.List.{AllByRecursion}
@@ -145,7 +145,7 @@ module _ (heards : SlotHeardLaw) (s : ScenarioParts) (clocks : ℕ → ℕ → �
   pub same_deliveries : deliveries_of s clocks air ≡ bus_deliveries s
   same_deliveries = sym (put_in_order all (bus_deliveries s) all_apart (bus_in_turn s lawful.sound) there here)
 
-  -- each script line is told to a node as on the bus
+  -- each script line is given to a node as on the bus
   some_ticks : 0 < s.profile.frame
   some_ticks = let lasts = frame_lasts s lawful.sound in omega (arith, lasts)
 

@@ -1,4 +1,4 @@
--- The scanners of each slot listen in windows that cover its flood.
+-- The scanning nodes of each slot listen in windows that cover its flood.
 use Rattle.std.proofs.Common.{◌≡◌, ℕ, zero, suc, ◌+◌, ◌-◌, ◌*◌, ◌<◌, ◌≤◌, inl, inr, List, [], ◌∷◌, true, Contains, get_or, sym, ◌∙◌}
 use Rattle.std.proofs.Common.{subst, arith}
 use Rattle.std.proofs.Math.Nat.{mul-le-mul_right}
@@ -42,7 +42,7 @@ use Rattle.law_bus.proofs.SlotEvents.{same_window}
 use Rattle.law_bus.proofs.SlotStarts.{is_of_window}
 use Rattle.law_bus.proofs.TunedScanners.{tuned_then}
 
--- where all own sendings end at a tick at the earliest, so does each of them
+-- where all own transmissions end at a tick at the earliest, so does each of them
 ends_from : (k n far : ℕ) (es : List Event) → ((y : Sending) → Contains es (Ended y) → k ≤ y.end) → k ≤ far → k ≤ get_or (own_ends es) n far
 ends_from k n far [] later within = within
 ends_from k n far (Heard x ∷ es) later within = ends_from k n far es (λ y there. later y (contains_tail (Heard x) es (Ended y) there)) within
@@ -65,7 +65,7 @@ module _ (s : ScenarioParts) (clocks : ℕ → ℕ → ℕ) (air : List Entry) (
   go : IsObedientRun s clocks air
   go = run s clocks air lawful
 
-  -- what is sent by the window that it has joined starts behind its opening
+  -- what is sent by the window that it has joined starts after its opening
   module _ (w : WindowLog) (own : IsWindowOf s clocks air f rank j v w) where
     known : knows s.nodes v ≡ true
     known = known_by s clocks air lawful v w own.there

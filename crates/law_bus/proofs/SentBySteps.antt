@@ -1,4 +1,4 @@
--- What a node sends in a slot, step by step: in the air what it sends in the flood of the bus, and as long.
+-- What a node sends in a slot, step by step: in the log what it sends in the flood of the bus, and as long.
 use Rattle.std.proofs.Common.{◌≡◌, ℕ, ◌≤◌, List, true, Some, None, Option, Contains, option_map, is_some, length, refl, sym, ◌∙◌, ap, subst, arith}
 use Rattle.std.specs.Option.{option_map_or}
 use Rattle.std.proofs.lemmas.List.{length-set}
@@ -76,7 +76,7 @@ module _ (s : ScenarioParts) (clocks : ℕ → ℕ → ℕ) (air : List Entry) (
         ∙ sym (ap (λ (m : Option Message). option_map_or message_length m 0) said.1)
 
     module _ (v : ℕ) where
-      -- each of these sendings is one of the bus's flood
+      -- each of these transmissions is one of the bus's flood
       pub record IsStep (y : Sending) : Type 0 where
         pub few : counter_of y.packet ≤ 11
         pub on_the_bus : on_bus v (counter_of y.packet) ≡ Some (step_and_length y.packet)
@@ -96,7 +96,7 @@ module _ (s : ScenarioParts) (clocks : ℕ → ℕ → ℕ) (air : List Entry) (
                 ∙ ap (some_pair k) long;
           }
 
-      -- and each sending of that flood is one of these
+      -- and each transmission of that flood is one of these
       pub record IsSent (k : ℕ) (a : ℕ × ℕ) : Type 0 where
         pub sending : Sending
         pub here : IsSentHere v sending

@@ -1,4 +1,4 @@
--- With counter 0 the initiators of a slot send, and nobody else; all its sendings last equally long.
+-- With counter 0 the initiators of a slot send, and nobody else; all its transmissions last equally long.
 use Rattle.std.proofs.Common.{◌≡◌, ℕ, ◌+◌, ◌<◌, ◌||◌, List, [], ◌∷◌, Bool, true, Contains, length, refl, sym, ◌∙◌, ap, subst, arith, eq-eqb, true≢false}
 use Rattle.lwb_base.specs.Messages.{Plan}
 use Rattle.lwb_base.specs.Profile.{airtime}
@@ -125,7 +125,7 @@ module _ (s : ScenarioParts) (clocks : ℕ → ℕ → ℕ) (air : List Entry) (
   pub sent_there : (x : Sending) → InSlot s clocks air lawful f rank j p in_run start events are x → Contains r.sendings x
   sent_there x is = in_slot s.profile f rank j (sendings_of air) x is.0 is.1
 
-  -- a sending of the slot, by its node, start and packet
+  -- a transmission of the slot, by its node, start and packet
   pub sent_at : (x : Sending) → InSlot s clocks air lawful f rank j p in_run start events are x → (v tick : ℕ) (q : List ℕ)
       → x.node ≡ v → x.start ≡ tick → x.packet ≡ q → Contains r.sendings (sending_of_run r v tick q)
   sent_at x is v tick q node at packet =

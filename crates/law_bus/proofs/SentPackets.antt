@@ -34,7 +34,7 @@ use Rattle.law_bus.proofs.SentBySteps.{IsSentHere, on_bus, sent_as, sent_once, s
 use Rattle.law_bus.proofs.StepsInTurn.{lower_first}
 use Rattle.law_bus.proofs.NumbersOfRanges.{from_range, in_range}
 
--- of an own sending that has ended
+-- of an own transmission that has ended
 abbrev own_step : Event → Option (ℕ × ℕ)
 own_step (Heard x) = None
 own_step (Ended x) = Some (step_and_length x.packet)

@@ -53,7 +53,7 @@ module _ (runs : RunsLaw) (s : ScenarioParts) (clocks : ℕ → ℕ → ℕ) (ai
   abbrev sent : List Sending
   sent = sent_of s clocks air v
 
-  -- none stands twice, and each lasts as long as its packet takes
+  -- none is there twice, and each lasts as long as its packet takes
   sent_distinct : Distinct sent
   sent_distinct =
       let before = in_order s v (clocks v) (heard_by air v) in

@@ -54,7 +54,7 @@ asks_itself S f (Contention i) c =
     (map_of (AsksFor S.id) tt (request_of S.id c) (requested c.streams) (λ k. refl))
 asks_itself S f Closing c = closing_of (AsksFor S.id) tt (hosts_now f c) (host_closes S f c) c tt
 
--- packets that ask carry the node that asks, beside the counter
+-- packets that ask carry the node that asks, next to the counter
 byte_not : (b : Bool) (n : ℕ) → n ≡ (if b then 1 else 4) → n ≡ 3 → ⊥
 byte_not true n is three = absurd (omega (arith, is, three))
 byte_not false n is three = absurd (omega (arith, is, three))

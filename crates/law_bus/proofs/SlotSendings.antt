@@ -1,4 +1,4 @@
--- The sendings and hearings of a slot, taken from those of a log.
+-- The transmissions and receptions of a slot, taken from those of a log.
 use Rattle.std.proofs.Common.{◌≡◌, ℕ, List, Bool, true, ◌==◌, Contains, filter, refl, eq-eqb, eqb-true}
 use Rattle.std.proofs.lemmas.Bool.{and_parts}
 use Rattle.lwb_base.specs.Profile.{Numbers}

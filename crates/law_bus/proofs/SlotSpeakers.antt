@@ -164,7 +164,7 @@ module _ (s : ScenarioParts) (clocks : ℕ → ℕ → ℕ) (air : List Entry) (
     pub start_is : r.starts o ≡ tick_at_offset (clocks o) is.window.after.zero (starting_offset s.profile is.window.slot)
     start_is = ap (start_in s.profile (clocks o)) (window_found o is.window is.here)
 
-    -- its first sending
+    -- its first transmission
     pub first_sending : SendsAt s clocks air o is.window (r.starts o) (r.message o)
     first_sending =
         subst (λ (t : ℕ). SendsAt s clocks air o is.window t (r.message o)) (sym start_is)

@@ -43,7 +43,7 @@ module _ (s : ScenarioParts) (clocks : ℕ → ℕ → ℕ) (air : List Entry) (
   abbrev pub InSlot : Sending → Type 0
   InSlot x = Contains (sendings_of air) x × IsOf s.profile f rank j x
 
-  -- a sending of a window of the slot is of the slot
+  -- a transmission of a window of the slot is of the slot
   pub is_of_window : (v : ℕ) (w : WindowLog) → IsWindowOf s clocks air f rank j v w → (x : Sending) → IsOfSlot s w x → IsOf s.profile f rank j x
   is_of_window v w here x is = (is.channel ∙ here.channel, is.frame ∙ here.frame, is.slot ∙ here.slot)
 

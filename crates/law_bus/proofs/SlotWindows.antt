@@ -94,7 +94,7 @@ module _ (s : ScenarioParts) (clocks : ℕ → ℕ → ℕ) (air : List Entry) (
     scanner : OfScanner s clocks air v w
     scanner = of_kind s clocks air lawful v w false here.there hears
 
-    -- a scanner joins in a slot in which a schedule is said
+    -- a scanning node joins in a slot in which a schedule is said
     pub schedule_slot : is_schedule_part (part_of p j) ≡ true
     schedule_slot =
         let origin = origin_here s clocks air lawful f round.in_run rank j v w here scanner in

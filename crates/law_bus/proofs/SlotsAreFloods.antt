@@ -1,4 +1,4 @@
--- Each slot of a round is a run of the theorem on floods, if its scanners listen.
+-- Each slot of a round is a run of the theorem on floods, if its scanning nodes listen.
 use Rattle.std.proofs.Common.{◌≡◌, ℕ, ◌+◌, ◌*◌, ◌^◌, ◌≤◌, List, [], ◌∷◌, Bool, true, false, ◌||◌, ◌==◌, if◌then◌else◌, length, refl, ◌∙◌, ap, arith, eq-eqb}
 use Rattle.std.proofs.Math.Nat.{mul-le-mul_right}
 use Rattle.lwb_base.specs.Messages.{Plan}

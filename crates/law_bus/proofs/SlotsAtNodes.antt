@@ -1,4 +1,4 @@
--- One slot at each node: a member is left by it as its window closes, and so is a scanner that heard in it; every other
+-- One slot at each node: a member is left by it as its window closes, and so is a scanning node that received in it; every other
 -- node stays as it is.
 use Rattle.std.proofs.Common.{◌≡◌, ℕ, suc, ◌<◌, List, [], ◌∷◌, Bool, true, false, Some, None, Option, inl, inr, Contains, is_some, refl, sym, ◌∙◌, ap}
 use Rattle.std.proofs.Common.{true≢false}
@@ -74,7 +74,7 @@ module _ (f rank j : ℕ) where
             ]
           ]
 
--- at a node that does not host nothing hangs on what the slot is for
+-- at a node that does not host nothing depends on what the slot is for
 guest_heard : (f : ℕ) (part : Part) (h : Bool) (c : Core) → hosts_now f c ≡ false → slot_heard f part h c ≡ c
 guest_heard f Opening h c guest = refl
 guest_heard f (DataSlot owner) h c guest = rw guest refl
@@ -189,7 +189,7 @@ module _ (s : ScenarioParts) (clocks : ℕ → ℕ → ℕ) (air : List Entry) (
           (ap (λ (n : Node). n.core) (joins hears).after)
           ∙ ap (λ (g : ℕ). (closed_slot (setup_of s v) g w.last.part w.last.flood.initiated w.before.core (accepted_in w.last)).core) frame_after
 
-      -- a scanner
+      -- a scanning node
       scanner_left : w.by_alarm ≡ false → bus_before s f rank p (suc j) v ≡ StateOn c.after.core
       unfolding before_slot
       scanner_left hears =

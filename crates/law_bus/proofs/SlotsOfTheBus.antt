@@ -1,4 +1,4 @@
--- The run of a slot is the bus's flood, with the sendings and hearings of the slot.
+-- The run of a slot is the bus's flood, with the transmissions and receptions of the slot.
 use Rattle.std.proofs.Common.{ℕ, List, refl, ap}
 use Rattle.lwb_base.specs.Messages.{Plan}
 use Rattle.scenario_text.specs.ScenarioParts.{ScenarioParts}

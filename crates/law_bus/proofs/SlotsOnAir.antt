@@ -1,4 +1,4 @@
--- The run of a slot is a part of what is on the air, so its nodes hear by its rule.
+-- The run of a slot is a part of what is on the air, so its nodes receive by its rule.
 use Rattle.std.proofs.Common.{◌≡◌, ℕ, ◌+◌, ◌*◌, ◌<◌, ◌≤◌, List, Contains, refl, sym, ◌∙◌, ap, subst, arith}
 use Rattle.std.proofs.Math.Nat.{mul-le-mul_right}
 use Rattle.lwb_base.specs.Messages.{Plan}
@@ -47,7 +47,7 @@ module _ (s : ScenarioParts) (clocks : ℕ → ℕ → ℕ) (air : List Entry) (
   pub sent_so : (x : Sending) → Contains (sendings_of air) x → IsOf s.profile f rank j x → Contains r.sendings x
   sent_so x there is = in_slot s.profile f rank j (sendings_of air) x there is
 
-  -- sendings that meet are of one frame, on whatever channels
+  -- transmissions that meet are of one frame, on whatever channels
   earlier_frame : (x y : Sending) → Contains (sendings_of air) y → Meets x y → frame_of_sending s.profile x ≤ frame_of_sending s.profile y
   earlier_frame x y there meets =
       let ends = safe.within_one_frame y there in
@@ -68,7 +68,7 @@ module _ (s : ScenarioParts) (clocks : ℕ → ℕ → ℕ) (air : List Entry) (
       let step = safe.no_overlap x y is.0 there (is.1.0 ∙ sym channel) meets in
       sent_so y there (channel, sym step.slot.frame ∙ is.1.1, sym step.slot.slot ∙ is.1.2)
 
-  -- the window that called for a sending is of its frame
+  -- the window that called for a transmission is of its frame
   called : (y : Sending) → Contains (sendings_of air) y → IsCalled s clocks y.node (device_in s clocks air y.node (run_end s)).made.windows y
   called y there =
       let calls = sends_as_called s clocks air (run s clocks air lawful) y.node

@@ -1,4 +1,4 @@
--- The nodes of a run behind the script lines of a frame: a member of a round awaits its slot 0.
+-- The nodes of a run after the script lines of a frame: a member of a round awaits its slot 0.
 use Rattle.std.proofs.Common.{◌≡◌, ℕ, ◌<◌, List, Bool, true, false, ◌==◌, ◌&&◌, ◌||◌, Option, is_some, inl, inr, refl, ◌∙◌, ap, eq-eqb}
 use Rattle.std.specs.Prelude.{◌⊎◌}
 use Rattle.std.proofs.lemmas.Bool.{cases_eq, cond-true}

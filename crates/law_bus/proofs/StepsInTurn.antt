@@ -1,4 +1,4 @@
--- Of two sendings of one slot that have other counters, the one with the lower counter ends first.
+-- Of two transmissions of one slot that have other counters, the one with the lower counter ends first.
 use Rattle.std.proofs.Common.{◌≡◌, ℕ, ◌<◌, ◌≤◌, inl, inr, List, Contains, sym, arith}
 use Rattle.std.proofs.lemmas.Bool.{cases_order}
 use Rattle.scenario_text.specs.ScenarioParts.{ScenarioParts}

@@ -1,5 +1,5 @@
 -- Who takes part in a slot without a window by an alarm is tuned through what is sent in it, tick by tick, until its last
--- own sending has ended: behind each tick it is as the frame has found it, or in the window of the slot that it has joined.
+-- own transmission has ended: after each tick it is as the frame has found it, or in the window of the slot that it has joined.
 use Rattle.std.proofs.Common.{◌≡◌, ℕ, suc, ◌-◌, ◌/◌, ◌<◌, ◌≤◌, inl, inr, List, true, false, Some, Option, Contains, get_or, refl, sym}
 use Rattle.std.proofs.Common.{◌∙◌, ap, subst, arith}
 use Rattle.std.specs.Prelude.{◌⊎◌}
@@ -115,7 +115,7 @@ module _ (s : ScenarioParts) (clocks : ℕ → ℕ → ℕ) (air : List Entry) (
       let way : IsUnderWay s clocks air v t Over d = under_way_over s clocks air v all_rows go is_node t in_run in
       subst (λ (g : ℕ). StandsIn s clocks air v g d.made.windows d.power) frame (way.stands tt)
 
-  -- a window of the frame that is there behind the tick, as the trail has it
+  -- a window of the frame that is there after the tick, as the trace has it
   module _ (y : WindowLog) (in_it : Contains d.made.windows y) (of_frame : y.frame ≡ f) where
     still : (bound : ℕ) → bound ≤ suc t → IfSome y.closed (λ c. bound ≤ c.tick) → IsStill bound y trail_windows
     still bound early closed =
@@ -129,7 +129,7 @@ module _ (s : ScenarioParts) (clocks : ℕ → ℕ → ℕ) (air : List Entry) (
           closed = closed;
         })
 
-    -- it is of this slot, for else it would have opened behind x
+    -- it is of this slot, for else it would have opened after x
     record IsJoined (u : WindowLog) : Type 0 where
       own : IsWindowOf s clocks air f rank j v u
       joined : u.by_alarm ≡ false
@@ -166,7 +166,7 @@ module _ (s : ScenarioParts) (clocks : ℕ → ℕ → ℕ) (air : List Entry) (
       let past : left.closing.tick ≤ t = subst (λ (c : Option Closing). IfSome c (λ c. c.tick ≤ t)) left.closed (have.1.past y in_it) in
       omega (arith, lies, in_time, past, until)
 
-  -- in the window that it has joined fewer sendings have ended than it sends at most
+  -- in the window that it has joined fewer transmissions have ended than it sends at most
   module _ (u : WindowLog) (own : IsWindowOf s clocks air f rank j v u) where
     few : sendings_by t u < s.sends
     few =
@@ -194,7 +194,7 @@ module _ (s : ScenarioParts) (clocks : ℕ → ℕ → ℕ) (air : List Entry) (
       let same = kept.opened in
       in_window kept.window (is_joined y in_it of_frame (suc t) kept).own (record { since = omega (arith, opened, same); until = kept.closed })
 
-  -- the alarm of the frame comes behind x
+  -- the alarm of the frame comes after x
   module _ (n : Node) (order : IsOn s clocks air v t (suc t) d n) where
     alarm_later : frame_alarm_at s clocks v (t / s.profile.frame) ≤ t → ⊥
     alarm_later past =

@@ -40,7 +40,7 @@ module _ (s : ScenarioParts) (clocks : ℕ → ℕ → ℕ) (air : List Entry) (
   pub opens_by : (v : ℕ) (w : WindowLog) (b : Bool) → Contains (trail_in s clocks air v).made.windows w → w.by_alarm ≡ b → OpensBy s clocks v b w
   opens_by v w b there is = subst (λ (x : Bool). OpensBy s clocks v x w) is (opened_by v w there).by
 
-  -- the stage behind it
+  -- the stage after it
   pub closes_on : (v : ℕ) (w : WindowLog) (c : Closing) → Contains (trail_in s clocks air v).made.windows w → w.closed ≡ Some c → w.slot < w.last.last
       → c.after.stage ≡ AwaitSlot (suc w.slot)
   closes_on v w c there is more =

@@ -1,4 +1,4 @@
--- How each window of a run came to open: at a member of a round whose plan had been sent, or at a scanner that heard a
+-- How each window of a run came to open: at a member of a round whose plan had been sent, or at a scanning node that received a
 -- schedule of a flood.
 use Rattle.std.proofs.Common.{◌≡◌, ℕ, suc, ◌<◌, ◌≤◌, ◌⊎◌, List, Bool, true, false, Some, Option, Contains, refl, sym, ◌∙◌, ap, subst, arith}
 use Rattle.std.specs.Prelude.{slice_index}

@@ -1,4 +1,4 @@
--- Before and in each slot of each round of a lawful run the nodes are the bus's.
+-- Before and in each slot of each round of a valid run the nodes are the bus's.
 use Rattle.std.specs.Prelude.{ℕ, ◌≤◌, List}
 use Rattle.lwb_base.specs.Messages.{Plan}
 use Rattle.scenario_text.specs.ScenarioParts.{ScenarioParts}

@@ -1,4 +1,4 @@
--- A run that is the single-hop bus's.
+-- A run that is the ideal single-hop bus's.
 use Rattle.std.specs.Prelude.{◌≡◌, ℕ, List, true}
 use Rattle.lwb_base.specs.Messages.{Plan}
 use Rattle.scenario_text.specs.ScenarioParts.{ScenarioParts}
@@ -27,6 +27,6 @@ pub record AgreesWithBus (s : ScenarioParts) (clocks : ℕ → ℕ → ℕ) (air
       → IsReceivedInSlot s clocks air f rank p j owner
   pub costs : (v : ℕ) → knows s.nodes v ≡ true → cost_in (energy_of s clocks air v) ≡ bus_cost s v
 
--- each lawful run is
+-- each valid run is
 abbrev pub LawfulRunsAreTheBus : Type 0
 LawfulRunsAreTheBus = (s : ScenarioParts) (clocks : ℕ → ℕ → ℕ) (air : List Entry) → IsLawfulRun s clocks air → AgreesWithBus s clocks air

@@ -22,7 +22,7 @@ pub record IsMemberIn (s : ScenarioParts) (f rank : ℕ) (p : Plan) (j v : ℕ) 
   pub opens : is_some ((bus_slot s f rank p j).window v) ≡ true
 
 -- in slot j of a round, which this owner's stream has: a member other than the owner's node delivers, in the step before the least
--- length of a relay path that leads to it from there, exactly where there is one; and nobody else delivers
+-- length of a relay path that leads to it from there, if and only if there is one; and nobody else delivers
 pub record IsReceivedInSlot (s : ScenarioParts) (clocks : ℕ → ℕ → ℕ) (air : List Entry) (f rank : ℕ) (p : Plan) (j owner : ℕ) : Type 0 where
   pub by_paths : (v step : ℕ) → IsMemberIn s f rank p j v → v ≢ node_of owner
       → (DeliversIn s clocks air f rank j v step ↔ IsLeast (bus_slot s f rank p j).flood (node_of owner) (suc step) v)

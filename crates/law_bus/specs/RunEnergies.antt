@@ -1,4 +1,4 @@
--- The account of a lawful run begins with the costs of the bus.
+-- The account of a valid run begins with the costs of the bus.
 use Rattle.std.specs.Prelude.{◌≡◌, ℕ, List, true}
 use Rattle.scenario_text.specs.ScenarioParts.{ScenarioParts}
 use Rattle.scenario_text.specs.FloodParts.{knows}

@@ -1,4 +1,4 @@
--- Laws of the runs of slots, each over every slot of every round of a lawful run before which the nodes are the bus's.
+-- Laws of the runs of slots, each over every slot of every round of a valid run before which the nodes are the bus's.
 use Rattle.std.specs.Prelude.{◌≡◌, ◌↔◌, ℕ, ◌≤◌, List, Contains, true}
 use Rattle.lwb_base.specs.Messages.{Plan}
 use Rattle.bus_rules.specs.Plans.{last_slot}
@@ -41,12 +41,12 @@ abbrev pub PartLaw : Type 0
 PartLaw = OfSlots (λ s clocks air f rank p j events.
     IsPart (scene_of s.profile s.trace air) (run_of_slot s clocks air f rank p j events))
 
--- so its nodes hear by its rule
+-- so its nodes receive by its rule
 abbrev pub RuleLaw : Type 0
 RuleLaw = OfSlots (λ s clocks air f rank p j events.
     HearsByRule (run_of_slot s clocks air f rank p j events) (TunedThrough (scene_of s.profile s.trace air)))
 
--- it is the bus's flood, with all sendings of its slot and what was heard of them
+-- it is the bus's flood, with all transmissions of its slot and what was received of them
 pub record IsOfBus (s : ScenarioParts) (air : List Entry) (f rank : ℕ) (p : Plan) (j : ℕ) (r : Run) : Type 0 where
   pub setting : r.setting ≡ (bus_slot s f rank p j).flood
   pub slot : r.slot ≡ j
@@ -65,7 +65,7 @@ abbrev pub EventsLaw : Type 0
 EventsLaw = (s : ScenarioParts) (clocks : ℕ → ℕ → ℕ) (air : List Entry) → IsLawfulRun s clocks air
     → (f rank j : ℕ) (p : Plan) → IsRound s f rank p → (events : ℕ → List Event) × AreEvents s clocks air f rank j events
 
--- with these events of its nodes, they are all that each hears and sends in it
+-- with these events of its nodes, they are all that each receives and sends in it
 abbrev pub HappenedLaw : Type 0
 HappenedLaw = OfSlots (λ s clocks air f rank p j events. AreEvents s clocks air f rank j events
     → HasEvents (run_of_slot s clocks air f rank p j events))

@@ -23,7 +23,7 @@ use Rattle.lwb_flood.specs.FloodRun.{Run}
 use Rattle.bus_terms.specs.Rounds.{Slot, message_said}
 use Rattle.law_terms.specs.SlotLaws.{IsWindowOf, bus_slot}
 
--- a sending is of this frame, channel and slot
+-- a transmission is of this frame, channel and slot
 abbrev pub is_sending_of_slot : Numbers → ℕ → ℕ → ℕ → Sending → Bool
 is_sending_of_slot p f rank j x = (x.rank == rank) && ((frame_of_sending p x == f) && (slot_of_sending x == j))
 

@@ -1,4 +1,4 @@
--- A node hears at most one of the transmissions that start together.
+-- A node receives at most one of the transmissions that start together.
 use Rattle.std.proofs.Common.{◌≡◌, ℕ, ◌<◌, inl, inr, List, Some, AllPairs, length, sym, ◌∙◌, ap, subst, arith}
 use Rattle.lwb_base.specs.Profile.{Numbers, IsProfile, airtime}
 use Rattle.link_trace.specs.Passes.{captured}
@@ -37,7 +37,7 @@ module _ (s : ScenarioParts) (clocks : ℕ → ℕ → ℕ) (air : List Entry) (
   safe : Safe s clocks air
   safe = lawful_logs_are_safe s clocks air (record { sound = run.sound; drift = run.drift }) run.lawful
 
-  -- two that a node hears and that start together
+  -- two that a node receives and that start together
   module _ (v : ℕ) (x y : Sending) (hears : HearsAir s.profile s.trace air v x) (also : HearsAir s.profile s.trace air v y) (start : x.start ≡ y.start) where
     x_lasts : x.start < x.end
     x_lasts = lasts s clocks air run.sound run.lawful x hears.sent

@@ -1,4 +1,4 @@
--- What a node heard, by end and sender: where no two are of one end and sender, the order is told by the elements.
+-- What a node received, by end and sender: where no two are of one end and sender, the order is given by the elements.
 use Rattle.std.proofs.Common.{◌≡◌, ◌<◌, ◌⊎◌, inl, inr, List, [], ◌∷◌, true, false, ◌==◌, ◌&&◌, nat_lt, Contains, AllPairs}
 use Rattle.std.proofs.Common.{sym, ◌∙◌, subst, arith, ltb-true, eqb-true}
 use Rattle.std.specs.Prelude.{IsPermutation}

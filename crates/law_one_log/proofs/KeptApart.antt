@@ -10,7 +10,7 @@ pub weaker_pairs : {X : Type 0} (R Q : X → X → Type 0) (xs : List X) → All
 weaker_pairs R Q xs all gives i j d less within =
     gives (get_or xs i d) (get_or xs j d) (Contains-get_or xs i d (omega (arith, less, within))) (Contains-get_or xs j d within) (all i j d less within)
 
--- elements of nodes, of which any two of one node stand so
+-- elements of nodes, of which any two of one node are so
 module _ {X : Type 0} (node : X → ℕ) (R : X → X → Type 0) where
   abbrev of_node : ℕ → X → Bool
   of_node v x = node x == v

@@ -1,4 +1,4 @@
--- What the trails tell of the entries of a log: transmissions and tunings of one node start apart, and its transmissions do
+-- What the traces tell of the entries of a log: transmissions and tunings of one node start apart, and its transmissions do
 -- not meet.
 use Rattle.std.proofs.Common.{◌≡◌, ℕ, ◌<◌, ◌≤◌, ◌⊎◌, inl, inr, List, [], Bool, true, false, ◌==◌, if◌then◌else◌, length, Contains, AllPairs}
 use Rattle.std.proofs.Common.{refl, sym, ◌∙◌, ap, arith}
@@ -90,7 +90,7 @@ module _ (s : ScenarioParts) (clocks : ℕ → ℕ → ℕ) (air : List Entry) (
   pub heard_sent : (h : Hearing) → Contains (hearings_of air) h → Contains (sendings_of air) h.sending
   heard_sent h there = ((lawful.hearing.heard h.node h.sending).0 there).1.sent
 
-  -- what a node heard has ends apart
+  -- what a node received has ends apart
   pub heard_apart : (v : ℕ) → AllPairs EndApart (hearings_by air v)
   heard_apart v =
       weaker_pairs Other EndApart (hearings_by air v) (AllPairs-filter Other mine (hearings_of air) lawful.hearing.once)

@@ -79,7 +79,7 @@ module _ (steps : StepsLaw) (sends : SendsLaw) (hears : HearsLaw) (f : FloodPart
     abbrev in_b : IsFloodBySteps (run_of f clocks b other)
     in_b = steps f clocks b is other
 
-    -- of one step a node hears the same in both
+    -- of one step a node receives the same in both
     one_heard : (v k : ℕ) → SentToo k a b → SentToo k b a → (g h : Sending) → HasHeardEntry a v g → HasHeardEntry b v h → counter g ≡ k → counter h ≡ k → g ≡ h
     one_heard v k to from g h there also at at_too =
         let hears_g = ((law.hears v g).0 there).1 in

@@ -1,4 +1,4 @@
--- One scenario over the same clocks has one lawful log.
+-- One scenario over the same clocks has one valid log.
 use Rattle.std.proofs.Common.{◌≢◌, ℕ, List, Contains}
 use Rattle.scenario_text.specs.ScenarioParts.{ScenarioParts}
 use Rattle.scenario_text.specs.ScenarioFacts.{IsSoundScenario}

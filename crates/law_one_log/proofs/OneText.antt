@@ -1,4 +1,4 @@
--- Entries of which no two have the same start, kind and node stand in one order in the log text.
+-- Entries of which no two have the same start, kind and node are in one order in the log text.
 use Rattle.std.proofs.Common.{◌≡◌, ℕ, ◌<◌, Bool, true, inl, inr, List, [], ◌∷◌, filter, flat_map, Contains, AllPairs}
 use Rattle.std.proofs.Common.{Ordering, Equal, refl, sym, ◌∙◌, ap, arith, true≢false}
 use Rattle.std.specs.Prelude.{IsPermutation}

@@ -1,4 +1,4 @@
--- Tick by tick: two lawful logs over the same clocks have the same receptions, as long as their scenarios, which differ in
+-- Tick by tick: two valid logs over the same clocks have the same receptions, as long as their scenarios, which differ in
 -- nothing but the script, have the same script lines.
 use Rattle.std.proofs.Common.{◌≡◌, ℕ, zero, suc, ◌<◌, ◌≤◌, inl, inr, List, [], ◌∷◌, Bool, true, false, ◌==◌, nat_lt, cond, if◌then◌else◌, None, map, filter, fold, Contains, AllPairs}
 use Rattle.std.proofs.Common.{refl, sym, ◌∙◌, ap, subst, arith, ltb-true}
@@ -32,11 +32,11 @@ use Rattle.law_one_log.proofs.InTurn.{InTurn, by_end_moves, by_end_in_turn, same
 use Rattle.law_one_log.proofs.OfTrails.{lasts, heard_apart}
 use Rattle.law_one_log.proofs.TunedBack.{tuned_there, tuned_here, by_device, by_log}
 
--- what a has heard before tick t, b has
+-- what a has received before tick t, b has
 abbrev pub HeardToo : List Entry → List Entry → ℕ → Type 0
 HeardToo a b t = (v : ℕ) (x : Sending) → x.end < t → HasHeardEntry a v x → HasHeardEntry b v x
 
--- and the other way round
+-- and conversely
 abbrev pub HeardAlike : List Entry → List Entry → ℕ → Type 0
 HeardAlike a b t = HeardToo a b t × HeardToo b a t
 
@@ -55,7 +55,7 @@ over_before t h = nat_lt h.sending.end t
 abbrev taken : List Entry → ℕ → ℕ → List Hearing
 taken air v t = filter (over_before t) (by_end (hearings_by air v))
 
--- what a node hears, as its trail takes it
+-- what a node receives, as its trace takes it
 taken_too : (a b : List Entry) (t v : ℕ) → HeardToo a b t → (h : Hearing) → Contains (taken a v t) h → Contains (taken b v t) h
 taken_too a b t v too h there =
     let early = filtered (over_before t) (by_end (hearings_by a v)) h there in
@@ -75,7 +75,7 @@ in_turn s clocks sound air lawful t v =
 abbrev pub with_lines : ScenarioParts → List ScriptLine → ScenarioParts
 with_lines p xs = record p { script = xs }
 
--- two logs, each lawful for the scenario with its script; before a tick each node has the same lines in both
+-- two logs, each valid for the scenario with its script; before a tick each node has the same lines in both
 pub record Twins (p : ScenarioParts) (clocks : ℕ → ℕ → ℕ) (until : ℕ) (xs ys : List ScriptLine) (a b : List Entry) : Type 0 where
   pub first : IsSoundScenario (with_lines p xs)
   pub second : IsSoundScenario (with_lines p ys)
@@ -173,7 +173,7 @@ module _ (p : ScenarioParts) (clocks : ℕ → ℕ → ℕ) (until : ℕ) where
               );
         }
 
-    -- what ends at the tick began before it, so who hears it is settled
+    -- what ends at the tick began before it, so who receives it is settled
     ends_now : (t : ℕ) → t ≤ run_end p → t ≤ until → HeardAlike a b t → (v : ℕ) (x : Sending) → x.end ≡ t → HasHeardEntry a v x → HasHeardEntry b v x
     ends_now t within soon alike v x now there =
         let hears = (twins.of_a.hearing.heard v x).0 there in

@@ -1,4 +1,4 @@
--- Each node costs the same by two lawful logs.
+-- Each node costs the same by two valid logs.
 use Rattle.std.proofs.Common.{◌≡◌, ℕ, ◌≤◌, List, [], Bool, true, false, nat_lt, if◌then◌else◌, None, count_by, sum_by}
 use Rattle.std.proofs.Common.{refl, sym, ◌∙◌, ap, arith, ltb-true, mul-le-mul_right}
 use Rattle.std.specs.declared.option.Option.{Option}

@@ -1,4 +1,4 @@
--- One scenario over the same clocks has one lawful log, but for the order of its entries.
+-- One scenario over the same clocks has one valid log, but for the order of its entries.
 use Rattle.std.specs.Prelude.{◌≡◌, ℕ, List, IsPermutation, AllPairs}
 use Rattle.scenario_text.specs.FloodParts.{FloodParts}
 use Rattle.scenario_text.specs.ScenarioParts.{ScenarioParts}

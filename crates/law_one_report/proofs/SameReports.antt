@@ -40,7 +40,7 @@ use Rattle.law_one_report.specs.OneReport.{OneReportLaw}
 use Rattle.law_one_report.proofs.FloodTexts.{flood_is_whole}
 use Rattle.law_one_report.proofs.SameDecisions.{one_plan_report}
 
--- the laws that this stands on
+-- the laws that this uses
 pub record Laws : Type 0 where
   pub log : OneLogLaw
   pub text : OneTextLaw
@@ -58,7 +58,7 @@ pub record Laws : Type 0 where
 one_said : {X E : Type 0} (r : Result X E) (x y : X) → r ≡ Ok x → r ≡ Ok y → x ≡ y
 one_said r x y is also = cc
 
--- a scenario that some text says, of which a telling tells the same by any two lawful logs
+-- a scenario that some text says, of which a telling tells the same by any two valid logs
 module _ (laws : Laws) (s : ScenarioParts) (said : IsScenario s) where
   lawful_run : (air : List Entry) → Lawful s (scenario_clock s) air → IsLawfulRun s (scenario_clock s) air
   lawful_run air lawful = record { sound = laws.sound s said; drift = laws.drift s said; lawful = lawful }
@@ -81,7 +81,7 @@ module _ (laws : Laws) (s : ScenarioParts) (said : IsScenario s) where
       ap (λ (l : List ℕ). l ++ log_text a) (run_alike a b of_a of_b)
       ∙ ap (λ (l : List ℕ). run_report (bus_deliveries s) (bus_drops s) s (scenario_clock s) b ++ l) (laws.text s (scenario_clock s) a b of_a of_b)
 
-  -- the summary of these ticks of sending and listening
+  -- the summary of these ticks of transmission and listening
   abbrev sums : ℕ → ℕ → List ℕ
   sums sent on =
       number_line (codes "deliveries") (length (bus_deliveries s)) ++ number_line (codes "drops") (length (bus_drops s))
@@ -100,7 +100,7 @@ module _ (laws : Laws) (s : ScenarioParts) (said : IsScenario s) where
       let of_b = lawful_run b also.law in
       (is.is ∙ alike a b of_a of_b ∙ sym also.is, laws.log s (scenario_clock s) a b of_a of_b)
 
-  -- two lawful logs have one list of stamps
+  -- two valid logs have one list of stamps
   one_times : (a b : List Entry) (text other : List ℕ) → IsTimesReport s a text → IsTimesReport s b other → (text ≡ other) × IsPermutation a b
   one_times a b text other is also =
       let moved = laws.log s (scenario_clock s) a b (lawful_run a is.of_run.law) (lawful_run b also.of_run.law) in

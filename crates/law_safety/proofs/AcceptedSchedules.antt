@@ -1,4 +1,4 @@
--- What a schedule brings that a node accepted in a slot of its round: a reference, a plan that was sent and heard, and its
+-- What a schedule brings that a node accepted in a slot of its round: a reference, a plan that was sent and received, and its
 -- place in the round.
 use Rattle.std.proofs.Common.{◌≡◌, ℕ, suc, ◌+◌, ◌/◌, ◌<◌, ◌≤◌, ◌⊎◌, inl, inr, List, Some, length, Contains, sym, ◌∙◌, ap, subst, arith}
 use Rattle.lwb_base.specs.Messages.{Schedule}
@@ -40,7 +40,7 @@ module _ (s : ScenarioParts) (clocks : ℕ → ℕ → ℕ) (air : List Entry) (
   flood : IsOfFlood s clocks air x
   flood = at.before.sendings x was_sent lasts
 
-  -- the sending that began its flood
+  -- the transmission that began its flood
   abbrev o : Sending
   o = flood.origin
 
@@ -63,7 +63,7 @@ module _ (s : ScenarioParts) (clocks : ℕ → ℕ → ℕ) (air : List Entry) (
   pub fits : FitsRound s (rank_at n) y.plan
   fits = subst (λ (r : ℕ). FitsRound s r y.plan) origin_rank begun_so.fits
 
-  -- an opening stands in slot 0, and a closing behind it
+  -- an opening is in slot 0, and a closing after it
   pub place : ((y.gap ≡ 0) × (j ≡ 0)) ⊎ ((1 ≤ y.gap) × (y.gap ≤ 4) × (1 ≤ j))
   place = elim begun_so.part [
     | inl opens ↦ inl (opens.0, sym is.slot ∙ flood.slot.slot ∙ opens.1)
@@ -76,7 +76,7 @@ module _ (s : ScenarioParts) (clocks : ℕ → ℕ → ℕ) (air : List Entry) (
         )
   ]
 
-  -- the plan was sent for the frame that its gap says, and heard
+  -- the plan was sent for the frame that its gap says, and received
   pub planned : IsPlanned s air (rank_at n) (n.frame + y.gap) y.plan
   planned = record {
     sending = o;

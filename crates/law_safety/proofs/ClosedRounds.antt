@@ -50,7 +50,7 @@ listener true first a is = absurd cc
 listener false None a is = absurd cc
 listener false (Some q) a is = (refl, ap (option_map {U = List ℕ} (λ (b : List ℕ × ℕ). b.0)) is)
 
--- behind slot 0 it is the last
+-- after slot 0 it is the last
 last_behind : (p : Plan) (j : ℕ) (part : Part) → StandsAt p j part → is_schedule_part part ≡ true → 1 ≤ j → last_slot p ≤ j
 last_behind p j Opening at is behind = absurd (omega (arith, at, behind))
 last_behind p j (DataSlot owner) at is behind = absurd (true≢false (sym is))
@@ -113,7 +113,7 @@ module _ (s : ScenarioParts) (clocks : ℕ → ℕ → ℕ) (air : List Entry) (
         subst (λ (o : Option (List ℕ)). IfSome o (IsCarried (setup_of s v) (kind_for w.part) j)) listens.1 open_so.flood.first in
         schedule_said w.part taken.0.0 y carried.spelled taken.2
 
-    -- a host says the schedules of its round, and hears none
+    -- a host says the schedules of its round, and receives none
     guest_by : (b : Bool) → hosts n.core.tune ≡ b → b ≡ false
     guest_by false host = refl
     guest_by true host = absurd (true≢false (sym (is.flood.own host of_schedule) ∙ listens.0))

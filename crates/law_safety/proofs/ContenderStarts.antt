@@ -1,4 +1,4 @@
--- Requests of one slot begin near each other: their nodes heard the opening of this very round.
+-- Requests of one slot begin near each other: their nodes received the opening of this very round.
 use Rattle.std.proofs.Common.{◌≡◌, ℕ, zero, suc, ◌<◌, ◌≤◌, List, length, ◌==◌, nat_lt, if◌then◌else◌, refl, sym, ◌∙◌, ap, subst, arith}
 use Rattle.std.specs.Prelude.{nat_le, slice_index, ◌-◌}
 use Rattle.std.proofs.lemmas.Bool.{cond_both, eqb-false, ltb-true}
@@ -27,7 +27,7 @@ use Rattle.law_safety.specs.SlotLaws.{AsksForStream}
 use Rattle.law_safety.proofs.SentPlans.{planned_short}
 use Rattle.law_safety.proofs.SlotFloods.{origins_same}
 
--- a contention slot lies behind slot 0 and before the closing
+-- a contention slot comes after slot 0 and before the closing
 in_between : (p : Plan) (j place : ℕ) → part_of p j ≡ Contention place → (1 ≤ j) × (j < last_slot p)
 in_between p j place =
     let Lies : Part → Type 0 = λ q. q ≡ Contention place → (1 ≤ j) × (j < last_slot p) in

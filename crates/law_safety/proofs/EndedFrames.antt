@@ -96,7 +96,7 @@ empty_short s sound r boot =
     (λ none. omega (arith, few))
     (λ some. omega (arith, few, named))
 
--- the end of a frame orders no sending
+-- the end of a frame orders no transmission
 pub orders_no_sending : (p : Numbers) (U : Tune) (f z : ℕ) (reads : ℕ → ℕ) (t : ℕ) (o : Option OrderedPacket)
     → fold (ordered_by reads t) o (orders_for p U f z) ≡ o
 orders_no_sending p (Scan r w) f z reads t o = refl

@@ -1,4 +1,4 @@
--- What the end of the own sending leaves of a device whose window waits for it.
+-- What the end of the own transmission leaves of a device whose window waits for it.
 use Rattle.std.proofs.Common.{◌≡◌, ℕ, ◌+◌, ◌<◌, inl, inr, List, [], ◌∷◌, Bool, true, false, ◌==◌, nat_lt, Some, None, fold, refl, sym, ◌∙◌, subst, arith}
 use Rattle.std.proofs.Common.{eqb-true}
 use Rattle.std.proofs.lemmas.Bool.{cond_both, cases_lt, eqb-false, lt-ltb, le-ltb}
@@ -20,7 +20,7 @@ use Rattle.law_safety.specs.SetAlarms.{rank_at}
 use Rattle.law_safety.specs.TunedNodes.{Either}
 use Rattle.law_safety.proofs.TunedRadios.{listens_is, off_is}
 
--- what the end of the sending leaves of the device
+-- what the end of the transmission leaves of the device
 pub record HasEnded (n : Node) (j : ℕ) (w : Window) (d e : Device) : Type 0 where
   pub power : e.power ≡ PowerOn (sends n j w).node
   pub ordered : e.ordered ≡ d.ordered

@@ -1,4 +1,4 @@
--- Sendings of the worked rounds of one packet in their floods: a request, the relay of data, and that of a closing.
+-- Transmissions of the worked rounds of one packet in their floods: a request, the relay of data, and that of a closing.
 use Rattle.std.proofs.Common.{◌≡◌, ℕ, suc, refl, sym, arith, inr}
 use Rattle.lwb_base.specs.Messages.{least_passing}
 use Rattle.schedule_codec.specs.Packing.{digits, packed_number}

@@ -1,4 +1,4 @@
--- When a sending of a flood is on the air: within its frame, and before every frame alarm.
+-- When a transmission of a flood is on the air: within its frame, and before every frame alarm.
 use Rattle.std.proofs.Common.{ℕ, ◌+◌, ◌*◌, ◌<◌, ◌≤◌, List, length, Contains, sym, ◌∙◌, ap, subst, arith}
 use Rattle.std.specs.Prelude.{slice_index}
 use Rattle.lwb_base.specs.Profile.{step}

@@ -1,4 +1,4 @@
--- At the first tick of a frame every node rests: what is set lies in the frame before, or behind.
+-- At the first tick of a frame every node rests: what is set lies in the frame before, or after.
 use Rattle.std.proofs.Common.{◌≡◌, ℕ, ◌/◌, ◌<◌, ◌≤◌, ◌⊎◌, inl, inr, ◌∙◌, ap, arith}
 use Rattle.std.proofs.Math.Nat.{mul-le-mul_right}
 use Rattle.std.proofs.lemmas.Bool.{cases_lt}

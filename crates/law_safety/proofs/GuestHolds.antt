@@ -41,7 +41,7 @@ holds w = record {
   };
 }
 
--- as a holder it heard the opening of frame 9, and its relay is ordered
+-- as a synchronized member it received the opening of frame 9, and its relay is ordered
 pub relays : (w : List WindowLog) → DeviceIsInOrder 2 2368069888 (member_34 w)
 unfolding least_passing digits packed_number schedule_of asks_in
 relays w = record {
@@ -113,7 +113,7 @@ relays w = record {
   };
 }
 
--- its last window: it heard the closing, its relay is ordered, and it began the data of slot 1
+-- its last window: it received the closing, its relay is ordered, and it began the data of slot 1
 abbrev nine_sent : List Sending
 nine_sent = opening_1 ∷ opening_3 ∷ request_0 ∷ request_2 ∷ grant_1 ∷ grant_3 ∷ reopening_1 ∷ data_0 ∷ data_2 ∷ []
 

@@ -21,7 +21,7 @@ use Rattle.law_safety.proofs.WorkedPlans.{once, none_of, same_flood_key, not_zer
 reads : (t : ℕ) → drifting 2 t ≡ slow t
 reads t = ap (λ (clock : ℕ → ℕ). clock t) member_clock
 
--- a relay begins a turnaround behind the end of what was heard
+-- a relay begins a turnaround after the end of what was received
 pub relay_at : (end tick : ℕ) → slow_due (slow end + 12288) ≡ tick → tick ≡ due (drifting 2) (drifting 2 end + 12288)
 relay_at end tick is = sym (ap (λ (n : ℕ). due (drifting 2) (n + 12288)) (reads end) ∙ member_due_at (slow end + 12288) ∙ is)
 
@@ -34,7 +34,7 @@ two_sent = opening_1 ∷ opening_3 ∷ []
 abbrev pub six_sent : List Sending
 six_sent = opening_1 ∷ opening_3 ∷ request_0 ∷ request_2 ∷ grant_1 ∷ grant_3 ∷ []
 
--- it heard the opening while it scanned, and its relay is ordered
+-- it received the opening while it scanned, and its relay is ordered
 pub joins : (w : List WindowLog) → DeviceIsInOrder 2 1344086272 (member_7 w)
 unfolding least_passing digits packed_number schedule_of asks_in
 joins w = record {

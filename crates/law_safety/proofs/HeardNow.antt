@@ -1,4 +1,4 @@
--- What a node takes as heard was sent in a flood of the true frame, on the channel to which it is tuned.
+-- What a node takes as received was sent in a flood of the true frame, on the channel to which it is tuned.
 use Rattle.std.proofs.Common.{◌≡◌, ℕ, suc, ◌-◌, ◌*◌, ◌/◌, ◌<◌, List, [], ◌∷◌, ◌++◌, filter, fold, Bool, true, false, ◌==◌, ◌&&◌, if◌then◌else◌, length, Some}
 use Rattle.std.proofs.Common.{None, Option, refl, sym, ◌∙◌, ap, subst, arith}
 use Rattle.std.proofs.Math.Nat.{mul-le-mul_right}
@@ -41,7 +41,7 @@ use Rattle.law_safety.specs.Rows.{AtTick}
 use Rattle.law_safety.proofs.RunFacts.{frame_is, frame_from}
 use Rattle.law_safety.proofs.FloodTimes.{after_frame_start, before_frame_end, before_alarms}
 
--- no hearing tunes the radio
+-- no reception tunes the radio
 relaying_tunes : (p : Numbers) (now : ℕ) (reply : Reply) (more : List Order) (c : Option ℕ)
     → fold channel_by c (relaying p now reply ++ more) ≡ fold channel_by c more
 relaying_tunes p now (Relay q) more c = refl
@@ -82,7 +82,7 @@ module _ (clock : ℕ → ℕ) (s : Setup) (t : ℕ) where
   hearings_keep [] d = refl
   hearings_keep (h ∷ taken) d = hearings_keep taken (device_after_reception clock s t d h) ∙ by_power d h.packet d.power
 
--- no line is told within a frame
+-- no line is given within a frame
 none_told : (s : ScenarioParts) (v t : ℕ) (ls : List ScriptLine) → ((f : ℕ) → (frame_start s f == t) ≡ false)
     → filter (λ (l : ScriptLine). (l.node == v) && (frame_start s l.frame == t)) ls ≡ []
 none_told s v t [] none = refl

@@ -1,4 +1,4 @@
--- Where a node is that hears: its frame is the true one, and its radio is at the channel of what it hears.
+-- Where a node is that receives: its frame is the true one, and its radio is at the channel of what it receives.
 use Rattle.std.proofs.Common.{◌≡◌, ℕ, suc, ◌/◌, ◌<◌, List, Bool, true, false, ◌&&◌, if◌then◌else◌, Some, None, Option, is_some, unwrap_or}
 use Rattle.std.proofs.Common.{true≢false, eqb-true, inl, inr, refl, sym, ◌∙◌, ap, subst, arith}
 use Rattle.std.specs.Prelude.{slice_index}
@@ -45,7 +45,7 @@ none_accepted p is = false≢true (ap (λ (o : Option (List ℕ × ℕ)). is_som
 
 module _ (s : ScenarioParts) (clocks : ℕ → ℕ → ℕ) (air : List Entry) (v t : ℕ) (h : Reception) (d : Device) (now : IsHeardNow s clocks air v t h d)
     (n : Node) (known : IsOn s clocks air v t (suc t) d n) where
-  -- no alarm of the frame is past while something is heard
+  -- no alarm of the frame is past while something is received
   pub frame_now : n.frame ≡ t / s.profile.frame
   frame_now = elim known.frame.at [ inl is ↦ is | inr over ↦ (let past = over.past in let early = now.early in absurd (omega (arith, past, early))) ]
 

@@ -1,4 +1,4 @@
--- What a node makes of what it hears in a slot: the relay is over before its window closes.
+-- What a node makes of what it receives in a slot: the relay is over before its window closes.
 use Rattle.std.proofs.Common.{◌≡◌, ℕ, suc, ◌+◌, ◌*◌, ◌/◌, ◌<◌, ◌≤◌, List, length, length-set, Contains, inr, sym, ◌∙◌, ap, subst, arith}
 use Rattle.std.specs.Prelude.{slice_index}
 use Rattle.std.proofs.Math.Nat.{mul-le-mul_right}
@@ -60,7 +60,7 @@ module _ (s : ScenarioParts) (clocks : ℕ → ℕ → ℕ) (air : List Entry) (
     pub heard_in : HeardIn s air v (suc t) n j now.sending
     heard_in = record { there = now.there; rank = is.rank; frame = now.frame ∙ sym is.frame; slot = is.slot; by = let end = now.end in omega (arith, end) }
 
-    -- the zero of the node, by the names of what was heard
+    -- the zero of the node, by the names of what was received
     good_here : GoodFor s clocks now.sending.rank v n.zero (frame_of_sending s.profile now.sending) (closing_offset s.profile (slot_of_sending now.sending))
     good_here =
         subst (λ (r : ℕ). GoodFor s clocks r v n.zero (frame_of_sending s.profile now.sending) (closing_offset s.profile (slot_of_sending now.sending)))
@@ -107,7 +107,7 @@ module _ (s : ScenarioParts) (clocks : ℕ → ℕ → ℕ) (air : List Entry) (
         subst (λ (i : ℕ). relay_tick s.profile (clocks v) t + airtime s.profile (length x.packet) < tick_by s clocks v n (closing_offset s.profile i)) is.slot
         (omega (arith, ends))
 
-    -- its relay is as an ordered sending has to be
+    -- its relay is as an ordered transmission has to be
     pub relay_ordered : (w : Window) → count_of h.packet < 11 → HasOrder s clocks air v (suc t) n j w relay_order
     relay_ordered w less =
         let x = now.sending in

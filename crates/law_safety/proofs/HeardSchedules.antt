@@ -1,4 +1,4 @@
--- A schedule that is heard gives the node that hears it a reference for the round.
+-- A schedule that is received gives the node that receives it a reference for the round.
 use Rattle.std.proofs.Common.{◌≡◌, ℕ, ◌/◌, List, Some, Contains, sym, ◌∙◌, ap, subst}
 use Rattle.std.specs.Prelude.{slice_index}
 use Rattle.lwb_base.specs.Messages.{Schedule}

@@ -41,7 +41,7 @@ first_slot : (xs : List Sending) → list_all in_first xs ≡ true → (x : Send
 first_slot xs all x there first frame = eqb-true (slot_of_sending x) 0
     (implied _ _ (all_passes in_first xs all x there) (and_from _ _ (eq-eqb _ _ first) (eq-eqb _ _ frame)))
 
--- it heard the data, and its relay is ordered
+-- it received the data, and its relay is ordered
 pub relays : (w : List WindowLog) → DeviceIsInOrder 1 2370175785 (host_38 w)
 unfolding least_passing digits packed_number schedule_of asks_in
 relays w = record {

@@ -40,7 +40,7 @@ awaits w = record {
   };
 }
 
--- its first opening is ordered; nobody was told the plan yet
+-- its first opening is ordered; nobody was notified the plan yet
 pub opens : (w : List WindowLog) → DeviceIsInOrder 1 1344037120 (host_7 w)
 unfolding least_passing digits packed_number schedule_of asks_in
 opens w = record {

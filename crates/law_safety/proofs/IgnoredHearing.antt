@@ -1,4 +1,4 @@
--- A packet is heard in a window, and the flood of the window ignores it.
+-- A packet is received in a window, and the flood of the window ignores it.
 use Rattle.std.proofs.Common.{◌≡◌, ℕ, suc, ◌/◌, ◌<◌, List, Bool, true, false, nat_lt, None, Option, ◌∙◌, subst, arith}
 use Rattle.std.specs.Prelude.{slice_index}
 use Rattle.time_reference.specs.Budgets.{budget_of}

@@ -1,4 +1,4 @@
--- The window that opens where a node that scans hears a schedule of its rank.
+-- The window that opens where a node that scans receives a schedule of its rank.
 use Rattle.std.proofs.Common.{◌≡◌, ℕ, suc, ◌+◌, ◌/◌, ◌<◌, ◌≤◌, List, Bool, true, false, not, ◌&&◌, ◌||◌, ◌==◌, nat_lt, Some, None}
 use Rattle.std.proofs.Common.{Option, is_some, IfSome, Contains, lt-ltb, eq-eqb, inl, refl, sym, ap, subst, arith}
 use Rattle.std.specs.Prelude.{⊤, slice_index, max}
@@ -53,7 +53,7 @@ use Rattle.law_safety.proofs.HeardRelays.{IsOfSlot, heard_in, ends_before, own_d
 use Rattle.law_safety.proofs.HeardSchedules.{reference}
 use Rattle.law_safety.proofs.HeardPlaces.{listened, frame_now, began_now}
 
--- who scans joins by hearing, and hosts nothing
+-- who scans joins by reception, and hosts nothing
 module _ (s : ScenarioParts) (clocks : ℕ → ℕ → ℕ) (v : ℕ) (n : Node) where
   joins_so : (tune : Tune) → Scans s clocks v n tune → by_hearing n tune ≡ true
   joins_so (Scan r waited) fresh = ap not fresh

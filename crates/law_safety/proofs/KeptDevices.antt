@@ -28,7 +28,7 @@ silent_by s clocks air v t told d (PowerOn n) is = tt
 pub silent_of : (s : ScenarioParts) (clocks : ℕ → ℕ → ℕ) (air : List Entry) (v t told : ℕ) (d : Device) → IsInOrder s clocks air v t told d → SilentBy d d.power
 silent_of s clocks air v t told d is = silent_by s clocks air v t told d d.power is.by_power
 
--- the same power, with other drops, behind more of the script
+-- the same power, with other drops, after more of the script
 pub power_kept : (s : ScenarioParts) (clocks : ℕ → ℕ → ℕ) (air : List Entry) (v told later : ℕ) → TellsOn s v told later
     → (t : ℕ) (d : Device) (drops : List DropLine) (p : Power)
     → InOrderBy s clocks air v t told d p → InOrderBy s clocks air v t later (with_drops d d.power drops) p

@@ -1,5 +1,5 @@
 -- Other streams of a node, and other drops of its device, leave the clauses of its plan and its window. And so does a script
--- that was told further, if no off line came.
+-- that was given further, if no off line came.
 use Rattle.std.proofs.Common.{ℕ, ◌≤◌, inl, inr, List, sym, ◌∙◌, arith}
 use Rattle.std.specs.Bool.{⊤}
 use Rattle.std.proofs.lemmas.Option.{IfSome_then}
@@ -29,7 +29,7 @@ use Rattle.law_safety.specs.AcceptedPackets.{IsAccepted, HasAccepted}
 use Rattle.law_safety.specs.NodesInOrder.{WindowAt, IsOn}
 use Rattle.law_safety.proofs.KeptClauses.{with_drops, joins_same, either_kept, frame_kept, alarm_kept, tune_kept, radio_kept, begun_kept}
 
--- the script was told further, and brought no off line
+-- the script was given further, and brought no off line
 pub record TellsOn (s : ScenarioParts) (v told later : ℕ) : Type 0 where
   pub more : told ≤ later
   pub stays : (g : ℕ) → StaysOnUntil s v g told → StaysOnUntil s v g later

@@ -1,4 +1,4 @@
--- A hearing changes nothing of a window but its flood and its reference, and nothing of its device but what is ordered: what
+-- A reception changes nothing of a window but its flood and its reference, and nothing of its device but what is ordered: what
 -- is known of all else stays.
 use Rattle.std.proofs.Common.{◌≡◌, ℕ, suc, ◌/◌, ◌<◌, List, Bool, Some, Option, inl, inr, subst}
 use Rattle.std.specs.Prelude.{⊤}
@@ -47,7 +47,7 @@ module _ (s : ScenarioParts) (clocks : ℕ → ℕ → ℕ) (air : List Entry) (
     pub after : IsFirstOrdered d.ordered → IsFirstOrdered ordered
     pub by_life : (l : Life) (frame : ℕ) → IsOrderedBy l frame d.ordered → IsOrderedBy l frame ordered
 
-  -- ---- what is known of an order and of a sending
+  -- ---- what is known of an order and of a transmission
 
   pub heard_in : (x : Sending) → HeardIn s air v (suc t) n j x → HeardIn s air v (suc t) new_node j x
   heard_in x is = record { there = is.there; rank = is.rank; frame = is.frame; slot = is.slot; by = is.by }

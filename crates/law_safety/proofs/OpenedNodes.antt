@@ -36,7 +36,7 @@ use Rattle.law_safety.proofs.RunFacts.{known_id}
 use Rattle.law_safety.proofs.OpeningRoles.{Role, role_of, SameStanding, same_standing}
 use Rattle.law_safety.proofs.AwaitedSlots.{Awaits, frame_now, has_begun}
 
--- a node whose window was not opened by a heard schedule
+-- a node whose window was not opened by a received schedule
 no_joining : (n : Node) (t : Tune) → (is_scan t ≡ true → is_fresh n.core ≡ true) → by_hearing n t ≡ false
 no_joining n (Scan r w) fresh = not_from_true (is_fresh n.core) (fresh refl)
 no_joining n (Hold r due) fresh = refl

@@ -47,7 +47,7 @@ module _ (s : ScenarioParts) (clocks : ℕ → ℕ → ℕ) (air : List Entry) (
   abbrev May : Message → Type 0
   May x = MaySay s clocks air v (rank_at n) n.frame n.zero j (hosts n.core.tune) (Some x)
 
-  -- data is said by the host, or by who heard the plan
+  -- data is said by the host, or by who received the plan
   heard_now : HasHeardPlan s air v (rank_at n) n.frame n.core.plan (suc t)
       → HasHeardPlan s air v (rank_at n) n.frame n.core.plan (suc (frame_start s n.frame))
   heard_now knows =

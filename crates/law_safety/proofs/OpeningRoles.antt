@@ -13,7 +13,7 @@ use Rattle.bus_rules.specs.Cores.{Core, Setup, is_fresh}
 use Rattle.bus_rules.specs.Slots.{Opened, hosts_now, part_of, opened_slot, host_closes, silent}
 use Rattle.law_trails.proofs.CoresInRange.{host_now}
 
--- where a slot of this part stands in its round
+-- where a slot of this part is in its round
 abbrev pub StandsAt : Plan → ℕ → Part → Type 0
 StandsAt p j Opening = j ≡ 0
 StandsAt p j (DataSlot owner) = (1 ≤ j) × (j < last_slot p)

@@ -33,7 +33,7 @@ use Rattle.law_safety.proofs.RunFacts.{run_fits, frame_in_run, frame_below}
 use Rattle.law_safety.proofs.FrameStarts.{line_starts}
 use Rattle.law_safety.proofs.TunedRadios.{listens_is}
 
--- the sendings of a device stay as they are where its power comes on
+-- the transmissions of a device stay as they are where its power comes on
 pub on_sent : (clock : ℕ → ℕ) (s : ScenarioParts) (v t count : ℕ) (d : Device) → (device_after_on clock (setup_of s v) t count d).made.sent ≡ d.made.sent
 on_sent clock s v t count d =
     let n = rebooted (count + 1) in

@@ -75,7 +75,7 @@ module _ (s : ScenarioParts) (clocks : ℕ → ℕ → ℕ) (air : List Entry) (
       (subst (λ (y : ℕ). Good s.profile (budget_of s.profile) (clocks v) (clocks v) y g 0) (sym zero)
       (host_good s.profile (budget_of s.profile) (fits s clocks air v t at) (clocks v) g (clock s clocks air v t at) some g_early))
 
-  -- the life of a rank stands as the node does
+  -- the life of a rank is as the node does
   module _ (rank : ℕ) (named : IsHostOf s rank v) where
     abbrev h : HostsInOrder s rank t (suc t) d
     h = fine.host rank named

@@ -1,4 +1,4 @@
--- The row hearing: a packet is heard in a window, and the flood of the window ignores it, keeps it or relays it.
+-- The row reception: a packet is received in a window, and the flood of the window ignores it, keeps it or relays it.
 use Rattle.std.proofs.Common.{◌≡◌, ℕ, suc, ◌+◌, ◌/◌, ◌<◌, List, [], ◌++◌, Bool, true, false, not, ◌&&◌, if◌then◌else◌, nat_lt, Some, None, Option, is_some}
 use Rattle.std.proofs.Common.{is_none, true≢false, eqb-true, ltb-true, refl, sym, ◌∙◌, ap, arith}
 use Rattle.std.specs.Prelude.{slice_index}

@@ -1,4 +1,4 @@
--- The row joining: a node that scans hears a schedule of its rank, and a window opens that has accepted it.
+-- The row joining: a node that scans receives a schedule of its rank, and a window opens that has accepted it.
 use Rattle.std.proofs.Common.{◌≡◌, ℕ, suc, ◌+◌, List, [], ◌∷◌, ◌++◌, Bool, true, false, if◌then◌else◌, nat_lt, Some, None}
 use Rattle.std.proofs.Common.{Option, is_some, IfSome, Contains, ltb-true, refl, sym, ap, subst, arith}
 use Rattle.std.specs.Prelude.{slice_index}

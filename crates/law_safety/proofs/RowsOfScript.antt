@@ -1,4 +1,4 @@
--- The rows of the script: a node that is told something of its streams, loses a put, or goes off.
+-- The rows of the script: a node that is given something of its streams, loses a put, or goes off.
 use Rattle.std.proofs.Common.{◌≡◌, ℕ, ◌/◌, ◌≤◌, List, [], ◌∷◌, ◌++◌, length, refl, subst, arith}
 use Rattle.bus_rules.specs.declared.delivery.DropLine.{DropLine}
 use Rattle.bus_rules.specs.Streams.{Streams, declared, streams_after_leaving, put}
@@ -23,7 +23,7 @@ use Rattle.law_safety.proofs.KeptDevices.{on_of, power_kept, lives_kept, host_ke
 use Rattle.law_safety.proofs.FrameStarts.{frame_before, line_starts, rests_still, rests_at_start, counts_at_start}
 
 module _ (s : ScenarioParts) (clocks : ℕ → ℕ → ℕ) (air : List Entry) (v t : ℕ) where
-  -- streams are told something
+  -- streams are given something
   pub streams_told : (d : Device) (n : Node) (streams : Streams) → IsFine s clocks air v t Lines d → d.power ≡ PowerOn n
       → IsFine s clocks air v t Lines (record d { power = PowerOn (with_streams n streams) })
   streams_told d n streams fine on =

@@ -1,4 +1,4 @@
--- The end of the own sending: the flood of its window counts it, and there is none elsewhere.
+-- The end of the own transmission: the flood of its window counts it, and there is none elsewhere.
 use Rattle.std.proofs.Common.{◌≡◌, ℕ, suc, ◌/◌, ◌<◌, inl, inr, List, Bool, true, false, ◌&&◌, ◌||◌, Some, None, Option, is_some, Contains, refl, sym, ◌∙◌, ap}
 use Rattle.std.proofs.Common.{subst, arith, true≢false}
 use Rattle.std.specs.Option.{IfSome}

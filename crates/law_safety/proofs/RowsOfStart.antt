@@ -1,4 +1,4 @@
--- The start of the ordered sending: it begins its flood as it may, or follows what its node heard.
+-- The start of the ordered transmission: it begins its flood as it may, or follows what its node received.
 use Rattle.std.proofs.Common.{◌≡◌, ℕ, suc, ◌+◌, ◌/◌, ◌<◌, ◌≤◌, ◌⊎◌, inl, inr, List, [], ◌∷◌, ◌++◌, length, Bool, if◌then◌else◌, Some, None, Option, Contains}
 use Rattle.std.proofs.Common.{refl, sym, ◌∙◌, ap, subst, arith, true≢false}
 use Rattle.std.specs.Option.{IfSome}
@@ -64,7 +64,7 @@ module _ (s : ScenarioParts) (clocks : ℕ → ℕ → ℕ) (air : List Entry) (
       rank_is : l.rank ≡ rank_at n
       rank_is = eqb-true l.rank (rank_at n) (ap (listens_to (rank_at n)) (sym tuned) ∙ here.listens)
 
-      -- ---- it stands in the log
+      -- ---- it is in the log
 
       begun_sent : (device_after_start (setup_of s v) t d).made.sent ≡ d.made.sent ++ x ∷ []
       begun_sent =
@@ -90,7 +90,7 @@ module _ (s : ScenarioParts) (clocks : ℕ → ℕ → ℕ) (air : List Entry) (
           ap (λ (y : Device). is_hosting (tune_of y.power)) (sym enters)
           ∙ ap (λ (p : Power). is_hosting (tune_of p)) here.on
 
-      -- ---- it begins a flood, or follows what was heard
+      -- ---- it begins a flood, or follows what was received
 
       proper : IsProper s.profile o.packet
       proper =
@@ -185,7 +185,7 @@ module _ (s : ScenarioParts) (clocks : ℕ → ℕ → ℕ) (air : List Entry) (
         ]
       ]
 
-      -- ---- the device behind it
+      -- ---- the device after it
 
       on_then : IsOn s clocks air v t (suc t) e n
       on_then =

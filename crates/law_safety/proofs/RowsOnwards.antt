@@ -1,4 +1,4 @@
--- The rows that go on: from phase to phase, with the script told, and to the next tick, where a frame may end.
+-- The rows that go on: from phase to phase, with the script given, and to the next tick, where a frame may end.
 use Rattle.std.proofs.Common.{◌≡◌, ℕ, suc, ◌+◌, ◌/◌, ◌<◌, ◌≤◌, ◌⊎◌, inl, inr, List, None, Option, IfSome, Contains, sym, ◌∙◌, ap, subst, arith}
 use Rattle.std.proofs.lemmas.Bool.{cases_lt}
 use Rattle.node_core.specs.declared.stage.Stage.{Stage}
@@ -26,7 +26,7 @@ use Rattle.law_safety.proofs.KeptDevices.{silent_of, power_kept, host_kept}
 use Rattle.law_safety.proofs.FrameStarts.{rests_still}
 use Rattle.law_safety.proofs.AlarmsInFrames.{alarm_in_frame}
 
--- ---- the script is told
+-- ---- the script is given
 
 -- a node that came on at this tick scans
 scans_on : (s : ScenarioParts) (clocks : ℕ → ℕ → ℕ) (air : List Entry) (v t told later : ℕ) (d : Device) (n : Node) → n.stage ≡ Scanning

@@ -1,4 +1,4 @@
--- Within one frame: a sending ends before the frame after that of its start begins.
+-- Within one frame: a transmission ends before the frame after that of its start begins.
 use Rattle.std.proofs.Common.{ℕ, List}
 use Rattle.scenario_text.specs.ScenarioParts.{ScenarioParts}
 use Rattle.air_log.specs.declared.entry.Entry.{Entry}

@@ -1,4 +1,4 @@
--- One initiator: at most one sending begins the flood of a slot, and a schedule is begun by the host of its channel.
+-- One initiator: at most one transmission begins the flood of a slot, and a schedule is begun by the host of its channel.
 use Rattle.std.proofs.Common.{◌≡◌, ◌≢◌, ℕ, inl, inr, List, Some, AllPairs, Contains, get_or, sym, ◌∙◌, arith, true≢false}
 use Rattle.std.proofs.lemmas.List.Elements.{Contains-get_or}
 use Rattle.lwb_base.specs.Messages.{Schedule}
@@ -18,7 +18,7 @@ use Rattle.law_safety.proofs.RunSendings.{begins_flood, of_flood}
 use Rattle.law_safety.proofs.SentPlans.{began_by_host}
 use Rattle.law_safety.proofs.SlotFloods.{one_beginning}
 
--- what holds of two elements that differ, holds of each pair of a list in which none stands twice
+-- what holds of two elements that differ, holds of each pair of a list in which none is there twice
 of_pairs : {X : Type 0} (R : X → X → Type 0) (xs : List X) → AllPairs (λ x y. x ≢ y) xs
     → ((x y : X) → Contains xs x → Contains xs y → x ≢ y → R x y) → AllPairs R xs
 of_pairs R xs differ each i j d less within =

@@ -1,4 +1,4 @@
--- Same but for the counter: sendings of one slot that do not both ask are of one flood, so they differ in the counter alone,
+-- Same but for the counter: transmissions of one slot that do not both ask are of one flood, so they differ in the counter alone,
 -- and those of one counter start together.
 use Rattle.std.proofs.Common.{◌≡◌, ℕ, ◌+◌, ◌*◌, inl, inr, List, length, Bool, true, false, ◌&&◌, sym, ◌∙◌, ap, subst, arith, true≢false}
 use Rattle.lwb_base.specs.Profile.{step}

@@ -1,4 +1,4 @@
--- Silence: who begins a flood that is no schedule, and does not host, has heard that it may.
+-- Silence: who begins a flood that is no schedule, and does not host, has received that it may.
 use Rattle.std.proofs.Common.{◌≡◌, ℕ, suc, inl, inr, List, false, Some, None, Option, refl, sym, ◌∙◌, ap, subst, arith, true≢false}
 use Rattle.std.proofs.Math.Nat.{mul-le-mul_right}
 use Rattle.lwb_base.specs.Messages.{Plan, code, node_of, stream_of}
@@ -18,7 +18,7 @@ use Rattle.law_safety.specs.SentPlans.{HasHeardPlan, HasHeardOpening, StaysOnUnt
 use Rattle.law_safety.specs.Endings.{EndsInOrder}
 use Rattle.law_safety.proofs.RunSendings.{begins_flood, of_flood}
 
--- lines of frames up to f have been told once those of the start of f are
+-- lines of frames up to f have been given once those of the start of f are
 stays_on : (s : ScenarioParts) (v g f : ℕ) → StaysOnUntil s v g (suc (frame_start s f)) → StaysOn s v g f
 stays_on s v g f stays l there node later now =
     let frames = mul-le-mul_right s.profile.frame now in

@@ -1,4 +1,4 @@
--- No overlap: of two sendings of one channel that are of other frames, slots or steps, one ends before the other starts.
+-- No overlap: of two transmissions of one channel that are of other frames, slots or steps, one ends before the other starts.
 use Rattle.std.proofs.Common.{◌≡◌, ℕ, ◌+◌, ◌*◌, ◌<◌, inl, inr, List, length, Contains, sym, ◌∙◌, ap, subst, arith}
 use Rattle.std.specs.Prelude.{slice_index}
 use Rattle.std.proofs.Math.Nat.{mul-le-mul_right}
@@ -26,7 +26,7 @@ use Rattle.law_safety.proofs.ContenderStarts.{contenders_near}
 use Rattle.law_safety.proofs.FloodPackets.{same_length, asks_in_7}
 
 module _ (s : ScenarioParts) (clocks : ℕ → ℕ → ℕ) (air : List Entry) (whole : EndsInOrder s clocks air) where
-  -- sendings of frames one after another
+  -- transmissions of frames one after another
   frames_apart : (x y : Sending) → IsOfFlood s clocks air x → IsOfFlood s clocks air y → Contains (sendings_of air) x → Contains (sendings_of air) y
       → frame_of_sending s.profile x < frame_of_sending s.profile y → x.end < y.start
   frames_apart x y is also there also_there less =

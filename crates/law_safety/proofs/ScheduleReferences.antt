@@ -1,4 +1,4 @@
--- A schedule that was heard was begun by the host of its channel at the nominal time, so it gives a reference.
+-- A schedule that was received was begun by the host of its channel at the nominal time, so it gives a reference.
 use Rattle.std.proofs.Common.{◌≡◌, ℕ, ◌+◌, ◌*◌, List, Some, true, length, Contains, sym, ◌∙◌, ap, subst, arith}
 use Rattle.std.specs.Prelude.{slice_index}
 use Rattle.lwb_base.specs.Profile.{step}
@@ -34,7 +34,7 @@ module _ (s : ScenarioParts) (clocks : ℕ → ℕ → ℕ) (air : List Entry) (
       let all = all_sent s run.driven.sound clocks air run.heedful.trails (λ u z sent. (run.heedful.heard u z sent).sent) in
       (all x there).of_profile (ScheduleOf y) says
 
-  -- the sending that began its flood says it too, and so the host of the channel began it at the nominal time
+  -- the transmission that began its flood says it too, and so the host of the channel began it at the nominal time
   abbrev o : Sending
   o = flood.origin
 
@@ -59,7 +59,7 @@ module _ (s : ScenarioParts) (clocks : ℕ → ℕ → ℕ) (air : List Entry) (
       ∙ ap (λ (f : ℕ). start_tick p host f (slot_of_sending o)) (sym flood.slot.frame)
       ∙ ap (λ (i : ℕ). start_tick p host (frame_of_sending p x) i) (sym flood.slot.slot)
 
-  -- at whoever heard it whole
+  -- at whoever received it whole
   pub taken : (v : ℕ) → knows s.nodes v ≡ true
       → RefFor s clocks x.rank v (zero_from s.profile (clocks v x.end) x.packet) (frame_of_sending s.profile x) (frame_of_sending s.profile x)
           (slot_of_sending x)

@@ -91,7 +91,7 @@ module _ (s : ScenarioParts) (clocks : ℕ → ℕ → ℕ) (air : List Entry) w
           | inr both ↦ inr both
         ]
 
-    -- so two sendings of one slot are of one flood, or both are of requests
+    -- so two transmissions of one slot are of one flood, or both are of requests
     pub origins_same : (x y : Sending) (is : IsOfFlood s clocks air x) (also : IsOfFlood s clocks air y) → SameSlot s.profile x y
         → SameSlot s.profile is.origin also.origin
     origins_same x y is also same = record {

@@ -1,4 +1,4 @@
--- What starts is of its flood: it begins it, or is a turnaround behind what its node heard.
+-- What starts is of its flood: it begins it, or is a turnaround after what its node received.
 use Rattle.std.proofs.Common.{◌≡◌, ℕ, suc, ◌+◌, ◌*◌, ◌/◌, ◌<◌, ◌≤◌, List, length, Bool, Contains, refl, sym, ◌∙◌, ap, subst, arith}
 use Rattle.std.specs.Prelude.{slice_index}
 use Rattle.std.proofs.Math.Nat.{mul-le-mul_right}
@@ -73,7 +73,7 @@ module _ (s : ScenarioParts) (clocks : ℕ → ℕ → ℕ) (air : List Entry) (
       let in_run = at.in_run in
       omega (arith, few, in_run)
 
-  -- a relay is of the flood of what its node heard
+  -- a relay is of the flood of what its node received
   pub follows_flood : IsRelay s clocks air v (suc t) n j o → IsOfFlood s clocks air x
   follows_flood relay =
       let y = relay.heard in

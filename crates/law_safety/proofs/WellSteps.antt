@@ -56,7 +56,7 @@ module _ (s : ScenarioParts) (clocks : ℕ → ℕ → ℕ) (air : List Entry) (
   in_phase Start = through.alarms
   in_phase Over = later.before
 
-  -- what is heard fits
+  -- what is received fits
   abbrev IsShort : Reception → Type 0
   IsShort h = IsFitting s.profile h.packet
 

@@ -1,4 +1,4 @@
--- What the clauses stand on at the worked rounds of one packet: who began which flood, and what was planned and heard.
+-- What the clauses uses at the worked rounds of one packet: who began which flood, and what was planned and received.
 use Rattle.std.proofs.Common.{◌≡◌, ℕ, ◌+◌, ◌*◌, List, [], ◌∷◌, Bool, true, false, not, ◌==◌, ◌&&◌, nat_le, Contains, refl, sym, ◌∙◌, ap, arith, inl, inr, ◌⊎◌}
 use Rattle.std.proofs.Common.{true≢false}
 use Rattle.std.specs.List.{list_all}

@@ -15,7 +15,7 @@ use Rattle.law_safety.specs.SetAlarms.{rank_at}
 use Rattle.law_safety.specs.TunedNodes.{is_joining}
 use Rattle.law_safety.specs.OrderedSendings.{HeardIn}
 
--- a window that a heard schedule opened has accepted it
+-- a window that a received schedule opened has accepted it
 pub record HasJoined (n : Node) (j : ℕ) (w : Window) : Type 0 where
   pub schedule : Schedule
   pub packet : List ℕ
@@ -27,7 +27,7 @@ pub record HasJoined (n : Node) (j : ℕ) (w : Window) : Type 0 where
   pub part : w.part ≡ part_by schedule
 
 module _ (s : ScenarioParts) (clocks : ℕ → ℕ → ℕ) (air : List Entry) (v : ℕ) where
-  -- what a window accepted was heard in it, and its reference is by that hearing
+  -- what a window accepted was received in it, and its reference is by that reception
   pub record IsAccepted (told : ℕ) (n : Node) (j : ℕ) (w : Window) (packet : List ℕ) : Type 0 where
     pub heard : Sending
     pub in_slot : HeardIn s air v told n j heard

@@ -31,7 +31,7 @@ module _ (s : ScenarioParts) (clocks : ℕ → ℕ → ℕ) (air : List Entry) (
     pub fits : FitsRound s rank y.plan
     pub part : ((y.gap ≡ 0) × (j ≡ 0)) ⊎ Closes y.gap
 
-  -- data is sent in a slot of the stream's own by the plan, by the host or by who heard the plan
+  -- data is sent in a slot of the stream's own by the plan, by the host or by who received the plan
   pub record SaysData (hosting : Bool) (d : Data) : Type 0 where
     pub plan : Plan
     pub planned : IsPlanned s air rank f plan
@@ -42,7 +42,7 @@ module _ (s : ScenarioParts) (clocks : ℕ → ℕ → ℕ) (air : List Entry) (
     pub stream : stream_of owner ≡ d.stream
     pub word : (hosting ≡ true) ⊎ HasHeardPlan s air v rank f plan (suc (frame_start s f))
 
-  -- a request is sent in a contention slot, by who heard the opening
+  -- a request is sent in a contention slot, by who received the opening
   pub record SaysRequest : Type 0 where
     pub plan : Plan
     pub place : ℕ

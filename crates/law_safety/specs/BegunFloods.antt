@@ -32,7 +32,7 @@ module _ (s : ScenarioParts) where
   abbrev pub BeganOnce : Device → Type 0
   BeganOnce d = (f : ℕ) (x y : Sending) → HasBegun f d x → HasBegun f d y → slot_of_sending x ≡ slot_of_sending y → x ≡ y
 
-  -- in a window none of a later slot; and that of the slot exactly where the window's flood is begun and its first packet
+  -- in a window none of a later slot; and that of the slot if and only if the window's flood is begun and its first packet
   -- is no more ordered
   pub record BegunInWindow (n : Node) (d : Device) (j : ℕ) (w : Window) : Type 0 where
     pub below : (x : Sending) → HasBegun n.frame d x → slot_of_sending x ≤ j

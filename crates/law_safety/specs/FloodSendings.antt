@@ -1,4 +1,4 @@
--- What is known of each sending: which packet began its flood, and how many steps it is behind it.
+-- What is known of each transmission: which packet began its flood, and how many steps it is after it.
 use Rattle.std.specs.Prelude.{◌≡◌, ℕ, ◌+◌, ◌*◌, ◌<◌, ◌≤◌, List, Contains, length}
 use Rattle.tick_clock.specs.Clocks.{Near}
 use Rattle.lwb_base.specs.Profile.{airtime, step}
@@ -19,7 +19,7 @@ module _ (s : ScenarioParts) (clocks : ℕ → ℕ → ℕ) (air : List Entry) w
     pub start : MayBegin s clocks air x.node x.rank (frame_of_sending s.profile x) z (slot_of_sending x) (sender_hosts s clocks air x) x.packet
     pub at : x.start ≡ tick_at_offset (clocks x.node) z (starting_offset s.profile (slot_of_sending x))
 
-  -- x is of the flood that its origin begins, as many steps behind it as its counter says
+  -- x is of the flood that its origin begins, as many steps after it as its counter says
   pub record IsOfFlood (x : Sending) : Type 0 where
     pub hosted : x.rank < length s.hosts
     pub few : counter_of_sending x ≤ 11

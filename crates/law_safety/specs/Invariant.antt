@@ -1,4 +1,4 @@
--- The invariant of all nodes, hosts and sendings before a tick, and what follows from it.
+-- The invariant of all nodes, hosts and transmissions before a tick, and what follows from it.
 use Rattle.std.specs.Prelude.{◌≡◌, ℕ, ◌<◌, ◌≤◌, List, true, Contains}
 use Rattle.tick_clock.specs.Clocks.{IsClock}
 use Rattle.scenario_text.specs.ScenarioParts.{ScenarioParts}
@@ -17,7 +17,7 @@ use Rattle.law_safety.specs.FloodSendings.{IsOfFlood}
 use Rattle.law_safety.specs.NodesInOrder.{IsInOrder}
 use Rattle.law_safety.specs.QuietHosts.{HostsInOrder}
 
--- before tick t every node is in order, every rank's host hosts in order, and every sending that has started is of its flood
+-- before tick t every node is in order, every rank's host hosts in order, and every transmission that has started is of its flood
 pub record Invariant (s : ScenarioParts) (clocks : ℕ → ℕ → ℕ) (air : List Entry) (t : ℕ) : Type 0 where
   pub nodes : (v : ℕ) → knows s.nodes v ≡ true → IsInOrder s clocks air v t t (device_in s clocks air v t)
   pub hosts : (rank v : ℕ) → IsHostOf s rank v → HostsInOrder s rank t t (device_in s clocks air v t)
@@ -43,7 +43,7 @@ abbrev pub HeedfulLogsAreSafe : Type 0
 HeedfulLogsAreSafe =
     (s : ScenarioParts) (clocks : ℕ → ℕ → ℕ) (air : List Entry) → IsObedientRun s clocks air → Safe s clocks air
 
--- every lawful log is safe
+-- every valid log is safe
 abbrev pub LawfulLogsAreSafe : Type 0
 LawfulLogsAreSafe =
     (s : ScenarioParts) (clocks : ℕ → ℕ → ℕ) (air : List Entry) → IsDrivenWell s clocks → Lawful s clocks air

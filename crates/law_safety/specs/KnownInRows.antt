@@ -1,4 +1,4 @@
--- What every row may use of its step: what was heard is of its flood, and the device is in its ranges.
+-- What every row may use of its step: what was received is of its flood, and the device is in its ranges.
 use Rattle.std.specs.Prelude.{◌≡◌, ℕ, ◌/◌, ◌<◌, List, Some}
 use Rattle.scenario_text.specs.ScenarioParts.{ScenarioParts}
 use Rattle.radio_model.specs.declared.sending.Sending.{Sending}
@@ -15,7 +15,7 @@ use Rattle.law_safety.specs.CountedFrames.{frame_alarm_at}
 use Rattle.law_safety.specs.FloodSendings.{IsOfFlood}
 use Rattle.law_safety.specs.Rows.{AtTick}
 
--- what v takes as heard at tick t was sent in a flood of the true frame, on the channel to which the device is tuned
+-- what v takes as received at tick t was sent in a flood of the true frame, on the channel to which the device is tuned
 pub record IsHeardNow (s : ScenarioParts) (clocks : ℕ → ℕ → ℕ) (air : List Entry) (v t : ℕ) (h : Reception) (d : Device) : Type 0 where
   pub sending : Sending
   pub there : HasHeardEntry air v sending
@@ -33,7 +33,7 @@ HeardInFloods =
     (s : ScenarioParts) (clocks : ℕ → ℕ → ℕ) (air : List Entry) (v t : ℕ) → AtTick s clocks air v t
     → (h : Reception) (d : Device) → IsNextHearing s v (clocks v) (heard_by air v) t h d → IsHeardNow s clocks air v t h d
 
--- the device is in its ranges where a hearing is taken, where an alarm is due, and as it enters each phase
+-- the device is in its ranges where a reception is taken, where an alarm is due, and as it enters each phase
 abbrev pub WellAtHearings : Type 0
 WellAtHearings =
     (s : ScenarioParts) (clocks : ℕ → ℕ → ℕ) (air : List Entry) (v t : ℕ) → AtTick s clocks air v t

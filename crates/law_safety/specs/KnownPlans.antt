@@ -1,4 +1,4 @@
--- By which plan a node goes, and how it knows it. `told`: the script lines before this tick have been told.
+-- By which plan a node goes, and how it knows it. `told`: the script lines before this tick have been given.
 use Rattle.std.specs.Prelude.{◌≡◌, ⊤, ℕ, ◌<◌, ◌≤◌, ◌⊎◌, List, true, false, Some}
 use Rattle.lwb_base.specs.Messages.{Plan}
 use Rattle.bus_rules.specs.declared.tune.Tune.{Tune}
@@ -20,12 +20,12 @@ use Rattle.law_safety.specs.SetAlarms.{rank_at}
 use Rattle.law_safety.specs.TunedNodes.{Either, is_joining}
 
 module _ (s : ScenarioParts) (clocks : ℕ → ℕ → ℕ) (air : List Entry) (v : ℕ) where
-  -- the plan was sent for this frame, and whoever does not host heard it
+  -- the plan was sent for this frame, and whoever does not host received it
   pub record KnowsPlan (told : ℕ) (n : Node) (frame : ℕ) (plan : Plan) : Type 0 where
     pub planned : IsPlanned s air (rank_at n) frame plan
     pub heard : hosts n.core.tune ≡ false → HasHeardPlan s air v (rank_at n) frame plan told
 
-  -- who is fresh heard the opening of the round, and goes by its time
+  -- who is fresh received the opening of the round, and goes by its time
   pub record KnowsOpening (n : Node) (j : ℕ) (plan : Plan) : Type 0 where
     pub behind : 1 ≤ j
     pub guest : hosts n.core.tune ≡ false

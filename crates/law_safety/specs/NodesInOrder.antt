@@ -47,6 +47,6 @@ module _ (s : ScenarioParts) (clocks : ℕ → ℕ → ℕ) (air : List Entry) (
   InOrderBy t told d (PowerOff boots) = IsOff d × BeganOnce s d
   InOrderBy t told d (PowerOn n) = IsOn t told d n
 
-  -- at some moment of tick t, the script lines before the tick `told` having been told
+  -- at some moment of tick t, the script lines before the tick `told` having been given
   pub record IsInOrder (t told : ℕ) (d : Device) : Type 0 where
     pub by_power : InOrderBy t told d d.power

@@ -8,7 +8,7 @@ use Rattle.node_core.specs.Nodes.{Node}
 use Rattle.scenario_text.specs.ScenarioParts.{ScenarioParts}
 use Rattle.air_log.specs.Devices.{Device}
 
--- it is the slot's, and waits exactly where a sending is ordered or runs, never both; a host begins the floods of its
+-- it is the slot's, and waits if and only if a transmission is ordered or runs, never both; a host begins the floods of its
 -- schedules
 pub record HasFlood (s : ScenarioParts) (n : Node) (d : Device) (j : ℕ) (w : Window) : Type 0 where
   pub kind : w.flood.kind ≡ kind_for w.part

@@ -16,7 +16,7 @@ use Rattle.air_log.specs.Devices.{OrderedPacket}
 use Rattle.law_safety.specs.Beginnings.{MayBegin}
 use Rattle.law_safety.specs.SetAlarms.{rank_at, tick_by}
 
--- v heard x in this slot of its round; its hearing ended before the tick `told`
+-- v received x in this slot of its round; its reception ended before the tick `told`
 pub record HeardIn (s : ScenarioParts) (air : List Entry) (v told : ℕ) (n : Node) (j : ℕ) (x : Sending) : Type 0 where
   pub there : HasHeardEntry air v x
   pub rank : x.rank ≡ rank_at n
@@ -32,7 +32,7 @@ module _ (s : ScenarioParts) (clocks : ℕ → ℕ → ℕ) (air : List Entry) (
     pub at : o.tick ≡ tick_by s clocks v n (starting_offset s.profile j)
     pub start : MayBegin s clocks air v (rank_at n) n.frame n.zero j (hosts n.core.tune) o.packet
 
-  -- the relay of one that it heard
+  -- the relay of one that it received
   pub record IsRelay (told : ℕ) (n : Node) (j : ℕ) (o : OrderedPacket) : Type 0 where
     pub heard : Sending
     pub in_slot : HeardIn s air v told n j heard

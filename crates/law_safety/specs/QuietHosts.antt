@@ -1,4 +1,4 @@
--- The device of a host, beside its life.
+-- The device of a host, next to its life.
 use Rattle.std.specs.Prelude.{◌≡◌, ⊤, ℕ, ◌/◌, ◌<◌, ◌≤◌, ◌⊎◌, true, false, Some, None, Contains, slice_index}
 use Rattle.std.specs.declared.option.Option.{Option}
 use Rattle.lwb_base.specs.Messages.{Schedule}

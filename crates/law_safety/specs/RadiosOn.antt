@@ -8,7 +8,7 @@ use Rattle.law_safety.specs.StillDevices.{IsStill}
 use Rattle.law_safety.specs.SetAlarms.{rank_at}
 use Rattle.law_safety.specs.TunedNodes.{Either}
 
--- it is on while the node scans, and in a window until the last sending has ended
+-- it is on while the node scans, and in a window until the last transmission has ended
 abbrev pub RadioFor : Node → Device → Stage → Type 0
 RadioFor n d Idle = ⊥
 RadioFor n d Scanning = (listens_to (rank_at n) d.listening ≡ true) × IsStill d

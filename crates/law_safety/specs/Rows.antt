@@ -17,7 +17,7 @@ use Rattle.law_safety.specs.NodesInOrder.{IsInOrder}
 use Rattle.law_safety.specs.QuietHosts.{HostsInOrder}
 use Rattle.law_safety.specs.Invariant.{Invariant, IsObedientRun}
 
--- up to which tick the script has been told in a phase of tick t
+-- up to which tick the script has been given in a phase of tick t
 abbrev pub told_in : ℕ → Phase → ℕ
 told_in t Lines = t
 told_in t Hearings = suc t
@@ -66,14 +66,14 @@ PutRow = Row PutKept
 abbrev pub LossRow : Type 0
 LossRow = Row LossKept
 
--- hearings
+-- receptions
 abbrev pub JoiningRow : Type 0
 JoiningRow = Row JoiningKept
 
 abbrev pub HearingRow : Type 0
 HearingRow = Row HearingKept
 
--- the end of the own sending
+-- the end of the own transmission
 abbrev pub SentRow : Type 0
 SentRow = Row SentKept
 
@@ -96,7 +96,7 @@ ClosingRow = Row ClosingKept
 abbrev pub AlarmElsewhereRow : Type 0
 AlarmElsewhereRow = Row AlarmElsewhereKept
 
--- the start of the ordered sending
+-- the start of the ordered transmission
 abbrev pub BeginningRow : Type 0
 BeginningRow = Row BeginningKept
 

@@ -1,4 +1,4 @@
--- Schedules that were sent and heard, and the plans that they bring.
+-- Schedules that were sent and received, and the plans that they bring.
 use Rattle.std.specs.Prelude.{◌≡◌, ◌≢◌, ℕ, ◌+◌, ◌<◌, ◌≤◌, List, Some, Contains, slice_get}
 use Rattle.lwb_base.specs.Messages.{Plan, Schedule}
 use Rattle.time_reference.specs.Budgets.{budget_of}
@@ -31,14 +31,14 @@ pub record IsScheduleSent (air : List Entry) (rank : ℕ) (y : Schedule) (x : Se
   pub says : message_of x.packet ≡ Some (ScheduleOf y)
   pub rank_said : y.plan.rank ≡ rank
 
--- v heard the schedule on the channel of its rank
+-- v received the schedule on the channel of its rank
 pub record IsScheduleHeard (air : List Entry) (v rank : ℕ) (y : Schedule) (x : Sending) : Type 0 where
   pub there : HasHeardEntry air v x
   pub channel : x.rank ≡ rank
   pub says : message_of x.packet ≡ Some (ScheduleOf y)
   pub rank_said : y.plan.rank ≡ rank
 
--- no off line of v after frame g is told before this tick
+-- no off line of v after frame g is given before this tick
 abbrev pub StaysOnUntil : ScenarioParts → ℕ → ℕ → ℕ → Type 0
 StaysOnUntil s v g tick =
     (l : ScriptLine) → Contains s.script l → l.node ≡ v → g < l.frame → frame_start s l.frame < tick → l.act ≢ Off
@@ -50,7 +50,7 @@ pub record IsPlanned (s : ScenarioParts) (air : List Entry) (rank frame : ℕ) (
   pub schedule : IsScheduleSent air rank (record { plan = plan; gap = gap }) sending
   pub due : frame_of_sending s.profile sending + gap ≡ frame
 
--- v heard it, and stays on until this tick
+-- v received it, and stays on until this tick
 pub record HasHeardPlan (s : ScenarioParts) (air : List Entry) (v rank frame : ℕ) (plan : Plan) (tick : ℕ) : Type 0 where
   pub heard : Sending
   pub gap : ℕ
@@ -58,7 +58,7 @@ pub record HasHeardPlan (s : ScenarioParts) (air : List Entry) (v rank frame : �
   pub due : frame_of_sending s.profile heard + gap ≡ frame
   pub stays : StaysOnUntil s v (frame_of_sending s.profile heard) tick
 
--- v heard it from the opening of this very round
+-- v received it from the opening of this very round
 pub record HasHeardOpening (s : ScenarioParts) (air : List Entry) (v rank frame : ℕ) (plan : Plan) : Type 0 where
   pub heard : Sending
   pub schedule : IsScheduleHeard air v rank (record { plan = plan; gap = 0 }) heard

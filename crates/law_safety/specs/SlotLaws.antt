@@ -22,7 +22,7 @@ OnePlanIsSent =
     (s : ScenarioParts) (clocks : ℕ → ℕ → ℕ) (air : List Entry) → EndsInOrder s clocks air
     → (rank frame : ℕ) (p q : Plan) → IsPlanned s air rank frame p → IsPlanned s air rank frame q → p ≡ q
 
--- sendings of one slot have one origin, or both are requests
+-- transmissions of one slot have one origin, or both are requests
 abbrev pub OneFloodInASlot : Type 0
 OneFloodInASlot =
     (s : ScenarioParts) (clocks : ℕ → ℕ → ℕ) (air : List Entry) → EndsInOrder s clocks air

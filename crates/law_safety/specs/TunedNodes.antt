@@ -20,7 +20,7 @@ abbrev pub Either : Bool → Type 0 → Type 0 → Type 0
 Either true P Q = P
 Either false P Q = Q
 
--- a window that a heard schedule opened: its node scans, and is not fresh
+-- a window that a received schedule opened: its node scans, and is not fresh
 abbrev pub by_hearing : Node → Tune → Bool
 by_hearing n (Scan r waited) = not (is_fresh n.core)
 by_hearing n (Hold r due) = false
@@ -34,7 +34,7 @@ abbrev pub is_last_window : ℕ → Window → Bool
 is_last_window j w = not (nat_lt j w.last)
 
 module _ (s : ScenarioParts) (clocks : ℕ → ℕ → ℕ) (v : ℕ) where
-  -- the round of the node's frame is its own: a member's, or a fresh scanner's from slot 1 on. While a host closes it, its
+  -- the round of the node's frame is its own: a member's, or a fresh scanning node's from slot 1 on. While a host closes it, its
   -- tune is that of its next one, which comes within four frames
   abbrev pub IsRoundOf : Node → ℕ → Bool → Tune → Type 0
   IsRoundOf n j closes (Scan r waited) = (is_fresh n.core ≡ true) × (1 ≤ j)

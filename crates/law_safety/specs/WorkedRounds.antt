@@ -15,6 +15,6 @@ DeviceIsInOrder v t d = IsInOrder one_packet drifting one_packet_log v t t d
 abbrev pub Lives : ℕ → Device → Type 0
 Lives t d = HostsInOrder one_packet 0 t t d
 
--- the sending is of its flood
+-- the transmission is of its flood
 abbrev pub IsFlooded : Sending → Type 0
 IsFlooded x = IsOfFlood one_packet drifting one_packet_log x

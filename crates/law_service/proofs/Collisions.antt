@@ -28,7 +28,7 @@ use Rattle.law_service.proofs.ContentionSlots.{contention_at, requests, only_req
 use Rattle.law_service.proofs.HostedRounds.{said_message, left_windowed}
 use Rattle.law_service.proofs.TiedNodes.{contention_keeps}
 
--- what nobody hears
+-- what nobody receives
 silent : (o : Option ℕ) → ((y : ℕ) → o ≡ Some y → ⊥) → o ≡ None
 silent o never = elim (inspect o) [ inl none ↦ none | inr some ↦ absurd (never some.0 some.1) ]
 
@@ -50,7 +50,7 @@ collide s k w u v differ first second uncaptured =
 module _ (s : Setting) (u v : ℕ) (differ : u ≢ v) (there : (has s.everyone u ≡ true) × (has s.everyone v ≡ true))
     (both : (has s.initiators u ≡ true) × (has s.initiators v ≡ true)) (others : (w : ℕ) → has s.initiators w ≡ true → (w ≡ u) ⊎ (w ≡ v))
     (alike : (w : ℕ) → has s.everyone w ≡ true → w ≢ u → w ≢ v → s.passes 0 u w ≡ s.passes 0 v w) (uncaptured : (k w : ℕ) → s.captured k w ≡ None) where
-  -- who hears something was offered it
+  -- who receives something was offered it
   offered : (k w o : ℕ) → Hears s w k o → (x : ℕ) × (s.passes k x w ≡ true) × ((moment s k).sends x ≡ Some o)
   offered k w o heard =
       let m = moment s k in
@@ -139,7 +139,7 @@ module _ (s : ScenarioParts) (rank f : ℕ) (p : Plan) (j u v : ℕ) (is : Colli
   no_link : (a b c d : Bool) → a ≡ false → (a && b && c && d) ≡ false
   no_link a b c d is = rw is refl
 
-  -- without losses a link passes exactly where there is one
+  -- without losses a link passes if and only if there is one
   steady : (w y : ℕ) → TakesPart x w → TakesPart x y → x.flood.passes 0 w y ≡ is_linked s w y
   steady w y from to = by_link (is_linked s w y) refl
     where

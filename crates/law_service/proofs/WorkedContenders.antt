@@ -1,4 +1,4 @@
--- Contenders in worked networks, computed from the definitions; and where a premise is taken away, one of them is heard.
+-- Contenders in worked networks, computed from the definitions; and where a premise is taken away, one of them is received.
 use Rattle.std.proofs.Common.{◌≡◌, ◌==◌, ◌||◌, ◌&&◌, ℕ, [], ◌∷◌, Bool, Option, Some, None, if◌then◌else◌, refl}
 use Rattle.lwb_base.specs.Profile.{contended}
 use Rattle.lwb_base.specs.Messages.{least_passing}

@@ -4,7 +4,7 @@ use Rattle.std.specs.List.{range_with_len}
 use Rattle.bus_rules.specs.Granting.{count_of, owed_to, plan_round, total, turns}
 use Rattle.bus_rules.specs.Tables.{Entry, Table}
 
--- streams that were accepted in frame 5, of one packet in so many seconds, or one a second
+-- streams that were accepted in frame 5, of one packet in this many seconds, or one a second
 abbrev stream_every : ℕ → ℕ → Entry
 stream_every interval c = record { code = c; boot = 1; interval = interval; accepted = 5; granted = 0; unheard = 0 }
 

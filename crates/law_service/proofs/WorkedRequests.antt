@@ -47,7 +47,7 @@ a_request_thirteen_hops_off : acknowledged (one_way (1 ∷ 2 ∷ 3 ∷ 4 ∷ 5 �
 unfolding before_frame before_slot moment schedule_heard host_plan plan_round least_passing
 a_request_thirteen_hops_off = refl
 
--- a table of so many streams
+-- a table of this many streams
 abbrev entry_of : ℕ → Entry
 entry_of c = record { code = c; boot = 1; interval = 4; accepted = 0; granted = 0; unheard = 0 }
 

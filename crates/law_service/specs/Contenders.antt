@@ -19,7 +19,7 @@ pub record AreTied (u v : ℕ) (a b : Streams) : Type 0 where
   pub tries : a.tries ≡ b.tries
   pub backoff : a.skips ≡ b.skips
 
--- the contention slot of its own that a node has after so many tries, of n
+-- the contention slot of its own that a node has after this many tries, of n
 abbrev pub own_number : ℕ → ℕ → ℕ → ℕ
 own_number node tries n = 1 + (node + tries) % n
 

@@ -15,7 +15,7 @@ use Rattle.air_log.specs.WindowLogs.{WindowLog, Closing}
 use Rattle.law_terms.specs.LawfulRuns.{IsLawfulRun}
 
 module _ (s : ScenarioParts) (clocks : ℕ → ℕ → ℕ) (air : List Entry) (v f : ℕ) where
-  -- behind the script lines of frame f
+  -- after the script lines of frame f
   abbrev pub power_at : Power
   power_at = (at_frame s v (clocks v) (heard_by air v) f).power
 
@@ -37,7 +37,7 @@ module _ (s : ScenarioParts) (clocks : ℕ → ℕ → ℕ) (air : List Entry) (
     pub by_alarm : window.by_alarm ≡ true
     pub node : window.before ≡ n
 
-  -- closed, with this node behind it
+  -- closed, with this node after it
   pub record ClosesTo (rank j : ℕ) (n : Node) : Type 0 where
     pub window : WindowLog
     pub here : IsWindowIn window
@@ -50,7 +50,7 @@ module _ (s : ScenarioParts) (clocks : ℕ → ℕ → ℕ) (air : List Entry) (
   abbrev pub rank_in_frame : Node → ℕ
   rank_in_frame n = rank_of n.core.tune
 
-  -- the course of a node that is on, and n behind the script lines
+  -- the course of a node that is on, and n after the script lines
   pub record IsCourse (n : Node) : Type 0 where
     pub frame : n.frame ≡ f
     -- each window is of its rank, and has closed
@@ -60,7 +60,7 @@ module _ (s : ScenarioParts) (clocks : ℕ → ℕ → ℕ) (air : List Entry) (
     pub once : (w x : WindowLog) → IsWindowIn w → IsWindowIn x → w.slot ≡ x.slot → w ≡ x
     -- a node that awaits slot 0 has its window
     pub first : n.stage ≡ AwaitSlot 0 → OpensAt (rank_in_frame n) 0 n
-    -- what opens in slot 0 by its alarm, or by a schedule that is heard, opens at n
+    -- what opens in slot 0 by its alarm, or by a schedule that is received, opens at n
     pub begins : (w : WindowLog) → IsWindowIn w → w.slot ≡ 0 → w.before ≡ n
     pub joins : (w : WindowLog) → IsWindowIn w → w.by_alarm ≡ false → w.before ≡ n
     -- a window that leaves the node awaiting the next slot is followed by the window of that slot, and each later window
@@ -82,7 +82,7 @@ module _ (s : ScenarioParts) (clocks : ℕ → ℕ → ℕ) (air : List Entry) (
   GoesThrough (PowerOff boots) = StaysOff boots
   GoesThrough (PowerOn n) = IsCourse n
 
--- each node of a lawful run goes through each frame so
+-- each node of a valid run goes through each frame so
 abbrev pub CoursesLaw : Type 0
 CoursesLaw = (s : ScenarioParts) (clocks : ℕ → ℕ → ℕ) (air : List Entry) → IsLawfulRun s clocks air
     → (v f : ℕ) → knows s.nodes v ≡ true → f < s.frames → GoesThrough s clocks air v f (power_at s clocks air v f)

@@ -1,4 +1,4 @@
--- A lawful air as a whole is the bus's.
+-- A valid air as a whole is the bus's.
 use Rattle.std.specs.Prelude.{◌≡◌, ℕ, ◌-◌, ◌<◌, List, true, sum_by}
 use Rattle.scenario_text.specs.ScenarioParts.{ScenarioParts}
 use Rattle.scenario_text.specs.FloodParts.{knows}

@@ -1,4 +1,4 @@
--- Slot by slot a lawful air is the bus's: who sends, who accepts, and the cores round each window.
+-- Slot by slot a valid air is the bus's: who sends, who accepts, and the cores round each window.
 use Rattle.std.specs.Prelude.{◌≡◌, ℕ, suc, ◌<◌, ◌≤◌, ◌↔◌, List, Contains, true, Some, is_some, length, slice_set}
 use Rattle.std.specs.Option.{IfSome}
 use Rattle.lwb_base.specs.Messages.{Plan}
@@ -38,7 +38,7 @@ bus_before s f rank p j v = before_slot s rank f p (state_at s f) j v
 abbrev pub Says : ScenarioParts → ℕ → ℕ → Plan → ℕ → ℕ → Message → Type 0
 Says s f rank p j o m = (has (bus_slot s f rank p j).flood.initiators o ≡ true) × (message_said ((bus_slot s f rank p j).window o) ≡ Some m)
 
--- a sending of v in this slot, with this counter, of this message
+-- a transmission of v in this slot, with this counter, of this message
 pub record IsSending (s : ScenarioParts) (air : List Entry) (f rank j v k : ℕ) (m : Message) : Type 0 where
   pub sending : Sending
   pub there : Contains (sendings_of air) sending

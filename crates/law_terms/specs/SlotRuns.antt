@@ -24,7 +24,7 @@ pub record HasClosed (s : ScenarioParts) (clocks : ℕ → ℕ → ℕ) (air : L
   pub here : IsWindowOf s clocks air f rank j v window
   pub closed : is_some window.closed ≡ true
 
--- its setting is the bus's, its sendings are all of this frame, channel and slot, and each window's flood at the end is the fold of its events
+-- its setting is the bus's, its transmissions are all of this frame, channel and slot, and each window's flood at the end is the fold of its events
 pub record IsRunOf (s : ScenarioParts) (clocks : ℕ → ℕ → ℕ) (air : List Entry) (f rank : ℕ) (p : Plan) (j : ℕ) (r : Run) : Type 0 where
   pub setting : r.setting ≡ (bus_slot s f rank p j).flood
   pub slot : r.slot ≡ j

@@ -37,7 +37,7 @@ pub record IsSlotHeard (s : ScenarioParts) (clocks : ℕ → ℕ → ℕ) (air :
       → accepted_in w.last ≡ accepted_at (bus_slot s f rank p j) v
   pub initiated : (v : ℕ) (w : WindowLog) → IsWindowOf s clocks air f rank j v w
       → w.last.flood.initiated ≡ is_some (message_said ((bus_slot s f rank p j).window v))
-  -- a scanner with no window accepted nothing
+  -- a scanning node with no window accepted nothing
   pub deaf : (v : ℕ) → knows s.nodes v ≡ true → ((w : WindowLog) → IsWindowOf s clocks air f rank j v w → ⊥) → accepted_at (bus_slot s f rank p j) v ≡ None
 
 abbrev pub SlotHeardLaw : Type 0

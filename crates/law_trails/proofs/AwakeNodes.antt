@@ -1,4 +1,4 @@
--- A node that is on is at a place, and its alarm is set: each step of a trail keeps it.
+-- A node that is on is at a place, and its alarm is set: each step of a trace keeps it.
 use Rattle.std.proofs.Common.{◌≡◌, ℕ, ◌+◌, ◌<◌, List, true, ◌==◌, nat_lt, None, Option, is_some, refl, sym, ◌∙◌, ap, subst, arith}
 use Rattle.std.proofs.lemmas.Bool.{cond_both}
 use Rattle.tick_clock.specs.Clocks.{IsClock}

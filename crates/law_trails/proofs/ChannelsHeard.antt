@@ -1,4 +1,4 @@
--- Hearings leave the radio at its channel, so what was tuned to is what is heard.
+-- Receptions leave the radio at its channel, so what was tuned to is what is received.
 use Rattle.std.proofs.Common.{◌≡◌, ℕ, suc, List, [], ◌∷◌, ◌++◌, ◌==◌, fold, Some, None, Option, refl, ◌∙◌, ap, subst}
 use Rattle.std.proofs.lemmas.Bool.{cond_both}
 use Rattle.std.proofs.lemmas.List.Sums.{fold-append}

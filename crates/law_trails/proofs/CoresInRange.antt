@@ -43,7 +43,7 @@ empty_is rank boot contend ranked booted few = record {
   owners = refl;
 }
 
--- a host is no scanner
+-- a host is no scanning node
 pub no_scan : (t : Tune) → hosts t ≡ true → is_scan t ≡ false
 no_scan (Scan r w) host = absurd (cc)
 no_scan (Hold r due) host = refl

@@ -173,7 +173,7 @@ module _ (s : Setup) (set : IsSetup s) (Q H : List ℕ → Type 0) (rules : AreR
       lines_are ls (device_after_line clock s t d l) all.1 (subst (λ (c : Bool × ℕ). (turned s.id c ls).1 ≤ 200) (sym (line_power clock s t d l)) next)
       (act_is l.frame d l.act d.power refl all.0.1 now is)
 
-  -- hearings
+  -- receptions
   abbrev IsShort : Reception → Type 0
   IsShort h = H h.packet
 
@@ -186,7 +186,7 @@ module _ (s : Setup) (set : IsSetup s) (Q H : List ℕ → Type 0) (rules : AreR
   heard_is hs d short is =
       hearings_are (ending_at t hs) d (kept_all (λ h. h.end ≡ t → H h.packet) IsShort (λ h. h.end == t) hs (λ h few at. few (eqb-true h.end t at)) short) is
 
-  -- the end of a sending, and the alarms
+  -- the end of a transmission, and the alarms
   ended_of : (d : Device) (x : Option Sending) → IsRanged Q s d → IsRanged Q s (device_ended_by clock s t d x)
   ended_of d None is = is
   ended_of d (Some x) is =
@@ -209,7 +209,7 @@ module _ (s : Setup) (set : IsSetup s) (Q H : List ℕ → Type 0) (rules : AreR
   pub alarmed_is : (d : Device) → IsRanged Q s d → IsRanged Q s (alarmed clock s t d)
   alarmed_is d is = alarms_are (alarm_is_due t d.alarm) (clock t + 300) d is
 
-  -- the start of a sending
+  -- the start of a transmission
   starts_is : (q : List ℕ) (d : Device) (l : Option Listening) (x : Option Sending) → Q q → IsRanged Q s d → IsRanged Q s (starts s t q d l x)
   starts_is q d None x spoken is = record { power = is.power; ordered = tt; sending = is.sending; sent = is.sent }
   starts_is q d (Some l) (Some x) spoken is = record { power = is.power; ordered = tt; sending = is.sending; sent = is.sent }

@@ -1,4 +1,4 @@
--- A flood stays in its ranges: where it begins, where it hears, and where it sends.
+-- A flood stays in its ranges: where it begins, where it receives, and where it sends.
 use Rattle.std.proofs.Common.{◌≡◌, ℕ, ◌≤◌, List, length, true, nat_lt, Some, None, Option, IfSome}
 use Rattle.std.proofs.Common.{refl, ◌∙◌, subst, arith}
 use Rattle.std.proofs.lemmas.Bool.{cond_both}
@@ -67,7 +67,7 @@ module _ (s : Setup) (k : Kind) (j : ℕ) where
     first = is.first;
   }
 
--- what hearing leaves as it was
+-- what reception leaves as it was
 pub heard_first : (P : List ℕ → Type 0) (f : FloodState) (q : List ℕ) → P q → IfSome f.first P → IfSome (after_heard f q).first P
 heard_first P f q new old =
     cond_both (fits f q) (record f { waiting = nat_lt (counter_of q) 11; first = first_of f.first q }) f (λ (g : FloodState). IfSome g.first P)

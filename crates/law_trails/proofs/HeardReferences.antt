@@ -1,4 +1,4 @@
--- References of schedules that were heard whole, and references that are moved on.
+-- References of schedules that were received whole, and references that are moved on.
 use Rattle.std.proofs.Common.{◌≡◌, ℕ, ◌+◌, ◌*◌, ◌-◌, ◌^◌, ◌≤◌, List, length, inl, inr, sym, subst, ap, arith}
 use Rattle.std.proofs.Math.Nat.{mul-le-mul_right}
 use Rattle.lwb_base.specs.Profile.{Numbers, airtime, step}
@@ -20,7 +20,7 @@ pub host_starts : (p : Numbers) (H : ℕ → ℕ) (c j : ℕ) → tick_at_offset
 host_starts p H c j = ap (due H) (omega arith)
 
 module _ (p : Numbers) (b : Budget) (fits : Fits p b) where
-  -- the end of the hearing comes so late that its beginning is not below 0, and within the ticks of the drift law
+  -- the end of the reception comes so late that its beginning is not below 0, and within the ticks of the drift law
   pub zero_of_hearing : (H L : ℕ → ℕ) (c j n k s e : ℕ) → IsClock H → IsClock L → 1 ≤ c → c ≤ 4095 → j ≤ b.last → k ≤ 11 → n ≤ b.packet
       → drift (span p n + 11) + 12 ≤ 55 → Near s (start_tick p H c j + k * step p n) k → e ≡ s + airtime p n
       → Ref p b H L (heard_zero p (L e - airtime p n) k n j) c c j

@@ -1,4 +1,4 @@
--- Lawful logs are heedful.
+-- Valid logs are protocol-obedient.
 use Rattle.std.proofs.Common.{ℕ, List}
 use Rattle.scenario_text.specs.ScenarioParts.{ScenarioParts}
 use Rattle.air_log.specs.declared.entry.Entry.{Entry}

@@ -27,7 +27,7 @@ module _ (clock : ℕ → ℕ) (s : Setup) (t before : ℕ) where
   abbrev Counts : Device → Type 0
   Counts d = CountsBy d d.power
 
-  -- and behind an off line
+  -- and after an off line
   abbrev GoneBy : Device → Power → Type 0
   GoneBy d p = SilentBy d p × WentOffBy clock s t before d p
 
@@ -75,7 +75,7 @@ module _ (clock : ℕ → ℕ) (s : Setup) (t before : ℕ) where
   goes_off frame d (PowerOff count) at is = subst (GoneBy d) (sym at) is
   goes_off frame d (PowerOn n) at is = (record { radio = refl; alarm = refl; ordered = refl }, is.1)
 
-  -- streams are told something
+  -- streams are given something
   other_streams : (d : Device) (n : Node) (streams : Streams) → WentOffBy clock s t before d (PowerOn n)
       → Gone (record d { power = PowerOn (with_streams n streams) })
   other_streams d n streams is =
@@ -159,7 +159,7 @@ module _ (clock : ℕ → ℕ) (s : Setup) (t : ℕ) (n : Node) (d : Device) whe
     sending = is.sending;
   }
 
-  -- the node of e, with what is told
+  -- the node of e, with what is given
   stays : (frame : ℕ) (e : Device) (a : Act) → a ≢ Off → DeviceStaysOn n d e → DeviceStaysOn n d (device_after_act clock s t frame e a e.power)
   stays frame e a other is = subst (λ (p : Power). DeviceStaysOn n d (device_after_act clock s t frame e a p)) (sym is.power) (by_act a other)
     where

@@ -1,4 +1,4 @@
--- In a log that follows its trails and in which only what was sent is heard, all packets and all nodes are in their ranges.
+-- In a log that follows its traces and in which only what was sent is received, all packets and all nodes are in their ranges.
 use Rattle.std.proofs.Common.{◌≡◌, ℕ, zero, suc, ◌<◌, ◌≤◌, ◌⊎◌, List, [], ◌∷◌, length, filter, Bool, true, false, ◌==◌, if◌then◌else◌, Some, None, Option}
 use Rattle.std.proofs.Common.{get_or, inl, inr, refl, sym, ◌∙◌, ap, subst, arith, eq-eqb}
 use Rattle.std.specs.Prelude.{All, Contains}
@@ -128,7 +128,7 @@ module _ (s : ScenarioParts) (sound : IsSoundScenario s) (clocks : ℕ → ℕ �
       (by_trail t early so v (knows s.nodes v) refl) in
       All-contains P (sent_by air v) x all (in_filter (λ (y : Sending). y.node == v) (sendings_of air) x there (eq-eqb v v refl))
 
-  -- each sending lasts
+  -- each transmission lasts
   lasts_by : (v : ℕ) (b : Bool) → All (λ (x : Sending). x.start < x.end) (if b then (device v (run_end s)).made.sent else [])
   lasts_by v false = All-nil (λ (x : Sending). x.start < x.end)
   lasts_by v true =
@@ -143,7 +143,7 @@ module _ (s : ScenarioParts) (sound : IsSoundScenario s) (clocks : ℕ → ℕ �
       let all : All P (sent_by air v) = All-permutation P (trail_sent s clocks air v) (sent_by air v) (follows.sent v) (lasts_by v (knows s.nodes v)) in
       All-contains P (sent_by air v) x all (in_filter (λ (y : Sending). y.node == v) (sendings_of air) x there (eq-eqb v v refl))
 
-  -- what is heard
+  -- what is received
   heard_all : (P : Sending → Type 0) (v : ℕ) → ((x : Sending) → Contains (sendings_of air) x → P x)
       → AllByRecursion (λ (h : Hearing). P h.sending) (by_end (hearings_by air v))
   heard_all P v each =
@@ -190,7 +190,7 @@ module _ (s : ScenarioParts) (sound : IsSoundScenario s) (clocks : ℕ → ℕ �
   pub all_sent : (x : Sending) → Contains (sendings_of air) x → IsProper s.profile x.packet
   all_sent x there = sent_below (run_end s) (omega arith) (so_far (run_end s) (omega arith)) x there (begins x there)
 
-  -- all that is heard
+  -- all that is received
   pub all_heard : (v t : ℕ) → HeardBefore (IsFitting s.profile) (heard_by air v) t
   all_heard v t = receptions (λ (h : Reception). h.end < t → H h.packet) v (λ x there before. fitting_of x.packet (all_sent x there))
 

@@ -1,4 +1,4 @@
--- Who hears what in the worked rounds of one packet.
+-- Who receives what in the worked rounds of one packet.
 use Rattle.std.proofs.Common.{List, ◌++◌, refl}
 use Rattle.radio_model.specs.OnAir.{Tuning}
 use Rattle.air_log.specs.Lawful.{FollowsHearing}

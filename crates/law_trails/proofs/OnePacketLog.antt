@@ -1,4 +1,4 @@
--- The log of the worked rounds of one packet is lawful.
+-- The log of the worked rounds of one packet is valid.
 use Rattle.std.proofs.Common.{◌≡◌, ◌≢◌, ℕ, [], false, ◌==◌, IsPermutation, refl, sym, subst, inl, inr, eqb-true}
 use Rattle.std.proofs.lemmas.Bool.{cases_eq, ne_eqb}
 use Rattle.lwb_base.proofs.Orders.{same_list}

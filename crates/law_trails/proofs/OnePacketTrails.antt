@@ -1,4 +1,4 @@
--- The trails of the worked rounds of one packet: the device before each due tick by its place, and what they have made.
+-- The traces of the worked rounds of one packet: the device before each due tick by its place, and what they have made.
 use Rattle.std.proofs.Common.{◌≡◌, ℕ, ◌<◌, get_or, refl, ap, arith}
 use Rattle.air_log.specs.Devices.{Device, silenced}
 use Rattle.air_log.specs.Trails.{before_tick, trail}

@@ -165,7 +165,7 @@ slot_covered p made q x own is =
           )
     ]
 
--- what a schedule of the profile gives to whoever hears it whole
+-- what a schedule of the profile gives to whoever receives it whole
 pub profile_reference : (p : Numbers) → IsProfile p → (H L : ℕ → ℕ) (c s e : ℕ) (q : List ℕ) (x : Schedule) → IsClock H → IsClock L
     → 1 ≤ c → c ≤ 4095 → message_of q ≡ Some (ScheduleOf x) → IsOfProfile p (ScheduleOf x)
     → Near s (start_tick p H c (slot_of q) + counter_of q * step p (length q)) (counter_of q) → e ≡ s + airtime p (length q)

@@ -43,7 +43,7 @@ late_opening : is_packet (1 ∷ 1 ∷ 0 ∷ 0 ∷ 1 ∷ 0 ∷ 0 ∷ 0 ∷ 0 ∷ 
 unfolding packed_number digits least_passing schedule_of asks_in
 late_opening = refl
 
--- what is heard has to fit the profile: a node of the first profile would relay a packet of 104 bytes, of which it has room
+-- what is received has to fit the profile: a node of the first profile would relay a packet of 104 bytes, of which it has room
 -- for 64
 abbrev long : ℕ → List ℕ
 long k = 2 ∷ 1 ∷ k ∷ 4 ∷ 1 ∷ 0 ∷ 0 ∷ 0 ∷ replicate 96 0

@@ -1,4 +1,4 @@
--- A relay says what was heard, and so do packets of one profile: the rules by which the packets of a node keep to it.
+-- A relay says what was received, and so do packets of one profile: the rules by which the packets of a node keep to it.
 use Rattle.std.proofs.Common.{◌≡◌, ℕ, ◌+◌, ◌≤◌, List, length, Some, sym, ◌∙◌, ap, subst, arith}
 use Rattle.glossy_relay.specs.FloodState.{FloodState}
 use Rattle.glossy_relay.specs.Relaying.{counter_of, reply_to}
@@ -19,7 +19,7 @@ relay_says f h q is =
     let less = parts.1 in
     ap message_of parts.2 ∙ same_again h (counter_of h + 1) (omega arith) (omega arith)
 
--- what is ordered and sent says what may be said, where what is heard is not too long
+-- what is ordered and sent says what may be said, where what is received is not too long
 pub spoken_rules : (s : Setup) → AreRules s (IsSpoken s.profile) (λ q. length q ≤ s.profile.packet_max)
 spoken_rules s = record {
   short = λ q few. few;
@@ -27,7 +27,7 @@ spoken_rules s = record {
   relay = λ f h q relays few. relay_spoken s.profile f h q relays few;
 }
 
--- and it is of the profile, where what is heard is
+-- and it is of the profile, where what is received is
 pub proper_rules : (s : Setup) → AreRules s (IsProper s.profile) (IsFitting s.profile)
 proper_rules s = record {
   short = λ q fit. fit.most;

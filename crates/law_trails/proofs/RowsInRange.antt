@@ -42,7 +42,7 @@ both_orders : (Q : List ℕ → Type 0) (os more : List Order) → AreOrders Q o
 both_orders Q [] more are rest = rest
 both_orders Q (o ∷ os) more are rest = (are.0, both_orders Q os more are.1 rest)
 
--- Q holds of what a node says itself, and of relays of what is heard, if H holds of that
+-- Q holds of what a node says itself, and of relays of what is received, if H holds of that
 pub record AreRules (s : Setup) (Q H : List ℕ → Type 0) : Type 0 where
   pub short : (q : List ℕ) → H q → length q ≤ s.profile.packet_max
   pub own : (k : Kind) (j : ℕ) (m : Message) → IsSayable s k j m → Q (bytes_of m j)
@@ -111,7 +111,7 @@ module _ (s : Setup) (set : IsSetup s) (Q H : List ℕ → Type 0) (rules : AreR
   alarm_row n (AwaitSlot j) is at = opens_row n j is at
   alarm_row n (InWindow j w) is at = closes_row n j w is at
 
-  -- hearings
+  -- receptions
   relay_orders : (now : ℕ) (r : Reply) → ((q : List ℕ) → r ≡ Relay q → Q q) → AreOrders Q (relaying s.profile now r)
   relay_orders now (Relay q) spoken = (spoken q refl, tt)
   relay_orders now Keep spoken = tt
@@ -158,7 +158,7 @@ module _ (s : Setup) (set : IsSetup s) (Q H : List ℕ → Type 0) (rules : AreR
   heard_row n now p (AwaitSlot j) is at few = tt
   heard_row n now p (InWindow j w) is at few = hears_row n now j w p is at few
 
-  -- the end of a sending
+  -- the end of a transmission
   off_order : (b : Bool) → AreOrders Q (if b then Off ∷ [] else [])
   off_order true = (tt, tt)
   off_order false = tt

@@ -58,7 +58,7 @@ module _ (clock : ℕ → ℕ) (s : Setup) (t : ℕ) where
   says z j c a o None = record { channel_by_all = refl; alarm_by_all = refl; ordered_by_all = refl }
   says z j c a o (Some m) = record { channel_by_all = refl; alarm_by_all = refl; ordered_by_all = refl }
 
-  -- and an alarm behind them
+  -- and an alarm after them
   then_alarm : (os : List Order) (local : ℕ) (c a : Option ℕ) (o : Option OrderedPacket) (c' a' : Option ℕ) (o' : Option OrderedPacket)
       → Come os c a o c' a' o' → Come (os ++ AlarmAt local ∷ []) c a o c' (Some (when clock s t local)) o'
   then_alarm os local c a o c' a' o' come = record {

@@ -1,4 +1,4 @@
--- The clauses of *Safe* by tests of the sendings of a log and of pairs of them.
+-- The clauses of *Safe* by tests of the transmissions of a log and of pairs of them.
 use Rattle.std.proofs.Common.{◌≡◌, ℕ, ◌+◌, List, [], ◌∷◌, Bool, true, false, not, ◌==◌, ◌&&◌, ◌||◌, nat_lt, nat_le, Option, Some, None, Contains, All, AllPairs}
 use Rattle.std.proofs.Common.{refl, sym, ◌∙◌, ap, arith, inl, inr, true≢false, eqb-true, ltb-true, lt-ltb, slice_get}
 use Rattle.std.specs.List.{list_all}

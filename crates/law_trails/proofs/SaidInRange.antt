@@ -37,7 +37,7 @@ pub record IsSayable (s : Setup) (k : Kind) (j : ℕ) (m : Message) : Type 0 whe
 pub few_owners : (p : Plan) → IsWholePlan p → length p.owners ≤ 40
 few_owners p whole = leb-true (length p.owners) 40 (and_parts _ _ (and_parts _ _ whole.owners).0).0
 
--- where each slot stands
+-- where each slot is
 pub placed : (p : Plan) (j : ℕ) → IsWholePlan p → j ≤ last_slot p → IsPartOfSlot p j (part_of p j)
 placed p j whole within =
     let owners = few_owners p whole in

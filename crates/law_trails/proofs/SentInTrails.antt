@@ -1,4 +1,4 @@
--- What a trail has sent before a tick is what the log has of it.
+-- What a trace has sent before a tick is what the log has of it.
 use Rattle.std.proofs.Common.{◌≡◌, ℕ, zero, suc, ◌+◌, length, ◌<◌, ◌≤◌, ◌↔◌, ◌⊎◌, inl, inr, List, [], ◌∷◌, ◌++◌, Bool, true, false, ◌==◌, if◌then◌else◌, Some}
 use Rattle.std.proofs.Common.{None, Option, Contains, refl, sym, ap, subst, arith}
 use Rattle.std.proofs.lemmas.Bool.{cond_both, cases_lt, eq-eqb, false≢true}
@@ -82,7 +82,7 @@ module _ (s : ScenarioParts) (v : ℕ) (clock : ℕ → ℕ) (hs : List Receptio
         | inr before ↦ was_sent t u before x (already u (sent u) (sent (suc u)) x (step_more u) there (omega (arith, before, below))) below
       ]
 
--- a list that stands where a test holds, and nothing else
+-- a list that is where a test holds, and nothing else
 pub if_holds : {X : Type 0} (b : Bool) (xs : List X) (x : X) → Contains (if b then xs else []) x → (b ≡ true) × Contains xs x
 if_holds true xs x there = (refl, there)
 if_holds false xs x there = absurd (not_in_none x there)

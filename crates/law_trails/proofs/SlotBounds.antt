@@ -1,4 +1,4 @@
--- Sendings end in their slot and in their frame.
+-- Transmissions end in their slot and in their frame.
 use Rattle.std.proofs.Common.{◌≡◌, ℕ, ◌+◌, ◌*◌, ◌<◌, ◌≤◌, arith}
 use Rattle.std.proofs.Math.Nat.{mul-le-mul_right}
 use Rattle.lwb_base.specs.Profile.{Numbers, airtime}
@@ -50,7 +50,7 @@ module _ (p : Numbers) (b : Budget) (fits : Fits p b) where
       let next = alarm_before_next p b fits S first f early in
       omega arith
 
-  -- so does the relay of what was heard with a counter below 11
+  -- so does the relay of what was received with a counter below 11
   pub relay_in_flood : (H S L : ℕ → ℕ) (y f j n k s t : ℕ) → IsClock H → IsClock S → IsClock L → j ≤ b.last → n ≤ b.packet → f ≤ 4095
       → Good p b H S y f (starting_offset p j) → InFlood p S y j n k s → k < 11 → t ≡ s + airtime p n → InFlood p S y j n (k + 1) (relay_tick p L t)
   relay_in_flood H S L y f j n k s t host first clock slot short early began flood more ends =
@@ -58,7 +58,7 @@ module _ (p : Numbers) (b : Budget) (fits : Fits p b) where
       let frames = mul-le-mul_right p.frame early in
       record { few = omega arith; near = relay_follows p b fits L clock n k s t (tick_at_offset S y (starting_offset p j)) (omega arith) ends flood.near }
 
-  -- and a sending of an earlier slot ends before one of a later slot starts
+  -- and a transmission of an earlier slot ends before one of a later slot starts
   pub slots_apart : (H S R : ℕ → ℕ) (y z f i j n m k l s t : ℕ) → IsClock H → IsClock S → IsClock R → i < j → j ≤ b.last → n ≤ b.packet
       → Good p b H S y f (starting_offset p i) → Good p b H R z f (starting_offset p j) → InFlood p S y i n k s → InFlood p R z j m l t → s + airtime p n < t
   slots_apart H S R y z f i j n m k l s t host first second less slot short began other flood later =

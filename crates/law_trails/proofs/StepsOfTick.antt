@@ -1,4 +1,4 @@
--- A tick, step by step: what each step keeps holds behind it.
+-- A tick, step by step: what each step keeps holds after it.
 use Rattle.std.proofs.Common.{◌≡◌, inl, inr, ℕ, zero, suc, ◌<◌, ◌≤◌, List, [], ◌∷◌, ◌++◌, Bool, true, false, ◌==◌, if◌then◌else◌, fold, Some, None, Option}
 use Rattle.std.proofs.Common.{Contains, refl, sym, ◌∙◌, ap, subst, arith, eqb-true, true≢false}
 use Rattle.std.proofs.lemmas.Bool.{cond_both, cond-false}
@@ -114,7 +114,7 @@ module _ (P : ℕ → Phase → Device → Type 0) (s : ScenarioParts) (v : ℕ)
           ∙ sym (fold-append (device_after_line clock node t) (before_tick s v clock hs t) told (l ∷ [])))
       (line_known clock node t d l all.0, by_line d l (now Lines d all) next l.act d.power refl refl)
 
-  -- hearings
+  -- receptions
   stays : (d : Device) (h : Reception) (n : Node) → In Hearings d → d.power ≡ PowerOn n → NoWindow n.stage → P t Hearings (after (Heard h.packet) None d n None)
   stays d h n here on none = as_it_was Hearings (Heard h.packet) None d n on none here.holds
 
@@ -156,7 +156,7 @@ module _ (P : ℕ → Phase → Device → Type 0) (s : ScenarioParts) (v : ℕ)
           ∙ sym (fold-append (device_after_reception clock node t) (enters Hearings) taken (h ∷ [])))
       (hearing_known clock node t d h all.0, by_hearing d h (now Hearings d all) next d.power refl)
 
-  -- the end of the own sending
+  -- the end of the own transmission
   module _ (d : Device) (is : d ≡ enters End) (all : Holds End d) where
     here : In End d
     here = now End d all
@@ -231,7 +231,7 @@ module _ (P : ℕ → Phase → Device → Type 0) (s : ScenarioParts) (v : ℕ)
       let next : DueNext d = record { gone = k; is = refl; due = due_now t d.alarm (run.due k (omega (arith, within))) } in
       (alarm_known clock node t d so_far.0, alarm_by d (now Alarms d so_far) next d.power refl so_far.0.off)
 
-  -- the start of the ordered sending
+  -- the start of the ordered transmission
   module _ (d : Device) (is : d ≡ enters Start) (all : Holds Start d) where
     ready : In Start d
     ready = now Start d all

@@ -58,7 +58,7 @@ mapped_is f t place keeps each is = record {
   each = All-map IsEntry f t.entries (All-weaker IsEntry (λ e. IsEntry (f e)) each t.entries is.each);
 }
 
--- the owner of a data slot is heard, or not
+-- the owner of a data slot is received, or not
 missed_cases : (P : Option Entry → Type 0) (c : ℕ) (e : Entry) → P (Some (record e { unheard = e.unheard + 1 })) → P None → P (Some e) → P (missed c e)
 missed_cases P c e more gone same =
     cond_both (has_code c e) (if nat_lt (e.unheard + 1) 16 then Some (record e { unheard = e.unheard + 1 }) else None) (Some e) P

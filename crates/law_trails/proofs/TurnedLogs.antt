@@ -1,4 +1,4 @@
--- Logs whose sendings come one after another: who hears what is found by tests.
+-- Logs whose transmissions come one after another: who receives what is found by tests.
 use Rattle.std.proofs.Common.{◌≡◌, ◌≢◌, ℕ, ◌+◌, ◌<◌, ◌≤◌, List, [], ◌∷◌, Bool, true, false, not, ◌==◌, ◌&&◌, ◌||◌, nat_lt, nat_le, Contains, All, AllPairs}
 use Rattle.std.proofs.Common.{refl, sym, ◌∙◌, ap, subst, arith, inl, inr, ◌⊎◌, ◌↔◌, true≢false, eqb-true, ltb-true, lt-ltb}
 use Rattle.std.specs.List.{list_all, list_any}
@@ -15,7 +15,7 @@ use Rattle.scenario_text.specs.ScenarioParts.{ScenarioParts}
 use Rattle.air_log.specs.Trails.{run_end}
 use Rattle.lwb_base.proofs.Elements.{not_in_none, contains_cases, all_passes, some_of}
 
--- the same sending
+-- the same transmission
 abbrev is_same : Sending → Sending → Bool
 is_same x y = (x.rank == y.rank) && ((x.node == y.node) && ((x.start == y.start) && ((x.end == y.end) && bytes_eq x.packet y.packet)))
 
@@ -55,7 +55,7 @@ meets_self (z ∷ zs) turn x y in_x in_y meets =
     by_cases rest (inr a) (inl b) = absurd (omega (arith, after x a, meets.before, ap (λ (w : Sending). w.end) b))
     by_cases rest (inr a) (inr b) = rest a b meets
 
--- a node's hearing of a sending that starts then
+-- a node's reception of a transmission that starts then
 abbrev of_start : ℕ → ℕ → Hearing → Bool
 of_start u start h = (h.node == u) && (h.sending.start == start)
 
@@ -70,7 +70,7 @@ module _ (s : ScenarioParts) (sent : List Sending) (heard : List Hearing) (tuned
   abbrev scene : Scene
   scene = record { numbers = s.profile; lines = s.trace; sendings = sent; tunings = tuned }
 
-  -- the hearing is of a sending that is there, and whose link passes; its hearer is another node, tuned throughout
+  -- the reception is of a transmission that is there, and whose link passes; its hearer is another node, tuned throughout
   abbrev tunes : Hearing → Tuning → Bool
   tunes h e = (e.node == h.node) && ((e.rank == h.sending.rank) && (nat_le e.start h.sending.start && nat_le h.sending.end e.end))
 
@@ -115,7 +115,7 @@ module _ (s : ScenarioParts) (sent : List Sending) (heard : List Hearing) (tuned
         in_run = ltb-true h.sending.end (run_end s) rest.1;
       }
 
-  -- whoever is tuned when a sending begins sent it or hears it, or its link does not pass
+  -- whoever is tuned when a transmission begins sent it or receives it, or its link does not pass
   abbrev covers : Sending → Tuning → Bool
   covers x e =
       (e.node == x.node) || not (nat_le e.start x.start && nat_lt x.start e.end) || list_any (of_start e.node x.start) heard
@@ -177,14 +177,14 @@ module _ (s : ScenarioParts) (sent : List Sending) (heard : List Hearing) (tuned
         ap (λ (n : ℕ). record { node = n; sending = h.0.sending }) node ∙ ap (λ (y : Sending). record { node = v; sending = y }) same in
         subst (λ (g : Hearing). Contains heard g) is h.1
 
-    -- so what stands there is what is heard
+    -- so what is there is what is received
     pub hears_all : (v : ℕ) (x : Sending) → Contains heard (record { node = v; sending = x }) ↔ ((x.end < run_end s) × HearsInScene scene v x)
     hears_all v x = (
       λ there. (let good = good_at (record { node = v; sending = x }) there in (good.in_run, hears_it (record { node = v; sending = x }) good)),
       λ is. heard_there v x is.1,
     )
 
--- no hearing stands twice, if each is of a later sending
+-- no reception is there twice, if each is of a later transmission
 abbrev is_later : Hearing → Hearing → Bool
 is_later g h = nat_lt g.sending.start h.sending.start
 

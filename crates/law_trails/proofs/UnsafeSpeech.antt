@@ -25,7 +25,7 @@ use Rattle.law_trails.specs.UnsafeLogs.{grant_transmission, unheard, not_the_own
 use Rattle.law_trails.proofs.BrokenClauses.{breaks}
 use Rattle.law_trails.proofs.SafeTests.{in_frame_by, apart_by, alike_by, one_by}
 
--- node 2 stays off, whatever it hears
+-- node 2 stays off, whatever it receives
 module _ (s : ScenarioParts) where
   abbrev Goes : List Reception → ℕ → List ℕ → Type 0
   Goes hs t bs = goes_through (λ x. x) (λ t. t) s 2 hs t 0 bs at_rest ≡ true
@@ -47,7 +47,7 @@ module _ (s : ScenarioParts) where
   abbrev hearing : Sending → Hearing
   hearing x = record { node = 2; sending = x }
 
-  -- what node 2 heard is x alone, which says y
+  -- what node 2 received is x alone, which says y
   module _ (air : List Entry) (x : Sending) (y : Schedule) (says : message_of x.packet ≡ Some (ScheduleOf y)) (heard : hearings_of air ≡ hearing x ∷ []) where
     heard_is : (z : Sending) → HasHeardEntry air 2 z → x ≡ z
     heard_is z there =
@@ -152,7 +152,7 @@ not_opened_breaks = breaks Silent no_power not_opened not_opened_is
     (λ is. in_frame_by no_power not_opened refl) (λ is. apart_by no_power not_opened refl)
     (λ is. alike_by no_power not_opened refl) (λ is. one_by no_power not_opened refl refl) (λ is. absurd (is refl))
 
--- the heard closing gives node 2 its slot, but a line switches it off
+-- the received closing gives node 2 its slot, but a line switches it off
 gone_off_guest : sender_hosts scenario_with_off_line true_time gone_off later_data ≡ false
 unfolding alarms
 gone_off_guest = guest scenario_with_off_line gone_off later_data (1348328960 ∷ 2304000000 ∷ []) refl refl refl refl

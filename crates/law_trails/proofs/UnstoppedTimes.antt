@@ -1,4 +1,4 @@
--- No time of a run stops, and relays begin a turnaround after the end of what was heard.
+-- No time of a run stops, and relays begin a turnaround after the end of what was received.
 use Rattle.std.proofs.Common.{◌≡◌, ℕ, ◌+◌, ◌*◌, ◌/◌, ◌<◌, ◌≤◌, ap, subst, arith}
 use Rattle.std.proofs.Math.Nat.{mul-le-mul_right}
 use Rattle.lwb_base.specs.Profile.{Numbers, airtime, step}
@@ -67,7 +67,7 @@ module _ (p : Numbers) (b : Budget) (fits : Fits p b) where
   pub relay_after : (L : ℕ → ℕ) → IsClock L → (t : ℕ) → t ≤ 4096 * p.frame → t < relay_tick p L t
   relay_after L clock t within = omega (arith, relay_is L clock t within, turned_near L clock t within)
 
-  -- what was heard with counter k is relayed a step later
+  -- what was received with counter k is relayed a step later
   pub relay_follows : (L : ℕ → ℕ) → IsClock L → (n k s t origin : ℕ) → t ≤ 4096 * p.frame → t ≡ s + airtime p n
       → Near s (origin + k * step p n) k → Near (relay_tick p L t) (origin + (k + 1) * step p n) (k + 1)
   relay_follows L clock n k s t origin within is near =

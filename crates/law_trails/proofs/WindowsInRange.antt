@@ -1,4 +1,4 @@
--- A window stays in its ranges: where it opens, where packets are heard in it, where a sending ends, and what it leaves where it closes.
+-- A window stays in its ranges: where it opens, where packets are received in it, where a transmission ends, and what it leaves where it closes.
 use Rattle.std.proofs.Common.{◌≡◌, ℕ, ◌<◌, ◌≤◌, ◌⊎◌, List, length, Bool, true, false, not, ◌==◌, if◌then◌else◌, Some, None, Option, IfSome, option_map}
 use Rattle.std.proofs.Common.{option_and_then, inl, inr, refl, sym, ◌∙◌, ap, subst, arith}
 use Rattle.std.proofs.lemmas.Bool.{cond_both, and_from, eqb-true, le-leb}
@@ -137,7 +137,7 @@ module _ (s : Setup) (set : IsSetup s) where
         hosted = hosted_is f j part c own;
       }
 
-  -- a scanner joins
+  -- a scanning node joins
   of_schedules : (x : Schedule) → Kinds.Schedule ≡ kind_for (part_by x)
   of_schedules x = cond_both (x.gap == 0) Opening Closing (λ (q : Part). Kinds.Schedule ≡ kind_for q) (λ opens. refl) (λ closes. refl)
 
@@ -175,7 +175,7 @@ module _ (s : Setup) (set : IsSetup s) where
         hosted = λ host is. absurd (none host);
       }
 
-  -- a packet is heard
+  -- a packet is received
   pub hears_is : (p : Numbers) (f now j : ℕ) (c : Core) (w : Window) (q : List ℕ) → length q ≤ s.profile.packet_max → IsOpenInRange s f c j w
       → IsOpenInRange s f c j (hearing p (rank_of c.tune) now w q)
   hears_is p f now j c w q few is =
@@ -197,7 +197,7 @@ module _ (s : Setup) (set : IsSetup s) where
         hosted = λ host said. same ∙ is.hosted host said;
       }
 
-  -- a sending ends
+  -- a transmission ends
   pub ends_is : (f j : ℕ) (c : Core) (w : Window) → w.flood.waiting ≡ true → IsOpenInRange s f c j w
       → IsOpenInRange s f c j (record w { flood = after_sent w.flood })
   ends_is f j c w waits is = record {

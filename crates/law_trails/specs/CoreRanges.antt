@@ -33,7 +33,7 @@ pub record IsHosting (s : Setup) (boot : ℕ) (t : Tune) (p : Plan) : Type 0 whe
   pub boot_is : p.boot ≡ boot
   pub contend : p.contend ≡ s.profile.contend
 
--- known: the plan of a holder or host; taken: that of a fresh scanner
+-- known: the plan of a synchronized member or host; taken: that of a fresh scanning node
 pub record IsCore (s : Setup) (c : Core) : Type 0 where
   pub boot : IsBoot c.boot
   pub rank : rank_of c.tune < s.ranks

@@ -27,7 +27,7 @@ IsWell s v d = IsRanged (IsSpoken s.profile) (setup_of s v) d
 abbrev pub IsWellAndProper : ScenarioParts → ℕ → Device → Type 0
 IsWellAndProper s v d = IsRanged (IsProper s.profile) (setup_of s v) d
 
--- H holds of each packet whose hearing ended before tick t
+-- H holds of each packet whose reception ended before tick t
 abbrev pub HeardBefore : (List ℕ → Type 0) → List Reception → ℕ → Type 0
 HeardBefore H hs t = All (λ h. h.end < t → H h.packet) hs
 
@@ -35,8 +35,8 @@ HeardBefore H hs t = All (λ h. h.end < t → H h.packet) hs
 abbrev pub AreShort : ScenarioParts → List Reception → ℕ → Type 0
 AreShort s hs t = HeardBefore (λ q. length q ≤ s.profile.packet_max) hs t
 
--- P holds of the device of v before tick t, and behind each of its phases: the script lines, the hearings, the end of
--- the own sending, and the alarms
+-- P holds of the device of v before tick t, and after each of its phases: the script lines, the receptions, the end of
+-- the own transmission, and the alarms
 pub record HoldsThrough (P : Device → Type 0) (s : ScenarioParts) (v : ℕ) (clock : ℕ → ℕ) (hs : List Reception) (t : ℕ) : Type 0 where
   pub before : P (before_tick s v clock hs t)
   pub told : P (device_after_script s v clock t (before_tick s v clock hs t))

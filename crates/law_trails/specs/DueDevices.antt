@@ -1,4 +1,4 @@
--- A trail written down: the ticks at which something happens at its node, and the device before each of them.
+-- A trace written down: the ticks at which something happens at its node, and the device before each of them.
 use Rattle.std.specs.Prelude.{◌≡◌, ⊤, ℕ, suc, ◌≤◌, List, [], ◌∷◌}
 use Rattle.scenario_text.specs.ScenarioParts.{ScenarioParts}
 use Rattle.air_log.specs.WindowLogs.{WindowLog}
@@ -15,7 +15,7 @@ pub record IsDeviceWithWindows (d : Device) (device : List WindowLog → Device)
   pub windows : List WindowLog
   pub is : d ≡ device windows
 
--- from tick a on to each of these ticks the device stands as it is written there
+-- from tick a on to each of these ticks the device is as it is written there
 abbrev pub StandsAs : ScenarioParts → ℕ → (ℕ → ℕ) → List Reception → ℕ → List DueDevice → Type 0
 StandsAs s v clock hs a [] = ⊤
 StandsAs s v clock hs a (x ∷ xs) =

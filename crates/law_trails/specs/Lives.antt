@@ -11,7 +11,7 @@ pub record OpeningMade : Type 0 where
   pub frame : ℕ
   pub plan : Plan
 
--- in this frame it closed a round, and planned the one of the frame that is so many later
+-- in this frame it closed a round, and planned the one of the frame that is this many later
 pub record ClosingMade : Type 0 where
   pub frame : ℕ
   pub gap : ℕ

@@ -1,4 +1,4 @@
--- Logs in which only what was sent is heard.
+-- Logs in which only what was sent is received.
 use Rattle.std.specs.Prelude.{ℕ, List, Contains}
 use Rattle.radio_model.specs.declared.sending.Sending.{Sending}
 use Rattle.air_log.specs.declared.entry.Entry.{Entry}

@@ -1,6 +1,6 @@
--- Worked trails over clocks that drift apart: node 1 hosts for node 2, which has one packet to say. In frame 5 node 2 asks
+-- Worked traces over clocks that drift apart: node 1 hosts for node 2, which has one packet to say. In frame 5 node 2 asks
 -- for its stream and is granted four slots, and in frame 9 it says the packet in the first of them. The clock of node 1
--- gains 20 millionths, that of node 2 loses as much. In slot 0 of frame 9 the host does not hear the relay of its opening.
+-- gains 20 millionths, that of node 2 loses as much. In slot 0 of frame 9 the host does not receive the relay of its opening.
 -- By that opening node 2 takes its next window to be open already when it closes the first, so both tunings are one.
 use Rattle.std.specs.Prelude.{ℕ, List, [], ◌∷◌, ◌++◌, ◌==◌, if◌then◌else◌, map, pos, negsuc}
 use Rattle.lwb_base.specs.Profile.{one}
@@ -60,7 +60,7 @@ data_with counter = 2 ∷ 1 ∷ counter ∷ 2 ∷ 1 ∷ 0 ∷ 0 ∷ 0 ∷ 170 �
 abbrev pub data_closing_with : ℕ → List ℕ
 data_closing_with counter = 1 ∷ 6 ∷ counter ∷ 4 ∷ 1 ∷ 0 ∷ 0 ∷ 0 ∷ 0 ∷ 4 ∷ 0 ∷ 128 ∷ []
 
--- each sending, by what it says and its counter
+-- each transmission, by what it says and its counter
 abbrev pub opening_0 : Sending
 opening_0 = sent_at 1 1344037120 1344073984 (opening_with 0)
 
@@ -162,7 +162,7 @@ heard_in_rounds =
     ∷ reception_at 1 data_2 ∷ reception_at 2 closing_0 ∷ reception_at 1 closing_1 ∷ reception_at 2 closing_2
     ∷ []
 
--- what each node hears
+-- what each node receives
 abbrev pub heard_by_host : List Reception
 heard_by_host =
     map reception_of (reception_at 1 opening_1 ∷ reception_at 1 request_0 ∷ reception_at 1 request_2 ∷ reception_at 1 grant_1 ∷ reception_at 1 data_0

@@ -1,5 +1,5 @@
--- The trail of the host in the worked rounds of one packet: the device before each tick at which something happens, each with
--- the windows of the trail so far.
+-- The trace of the host in the worked rounds of one packet: the device before each tick at which something happens, each with
+-- the windows of the trace so far.
 use Rattle.std.specs.Prelude.{true, false, None, Some, List, [], ◌∷◌}
 use Rattle.air_log.specs.WindowLogs.{WindowLog}
 use Rattle.air_log.specs.Devices.{Device}

@@ -8,7 +8,7 @@ use Rattle.air_log.specs.FirstRound.{opening_with}
 use Rattle.law_trails.specs.OnePacket.{request_with, grant_with, reopening_with, data_with, data_closing_with}
 use Rattle.law_trails.specs.OnePacketNodes.{request, scanning_core, hosts_first, hosts_granted, hosts_next, node, window, flood}
 
--- nodes by frame and slot: before the window of a slot, while it listens, and after so many sendings of its flood
+-- nodes by frame and slot: before the window of a slot, while it listens, and after this many transmissions of its flood
 abbrev pub scanning : ℕ → Node
 scanning waited = node (scanning_core waited) waited 0 Scanning
 

@@ -1,5 +1,5 @@
--- The trail of node 2 in the worked rounds of one packet: the device before each tick at which something happens, each
--- with the windows of the trail so far.
+-- The trace of node 2 in the worked rounds of one packet: the device before each tick at which something happens, each
+-- with the windows of the trace so far.
 use Rattle.std.specs.Prelude.{true, false, None, Some, List, [], ◌∷◌, take, drop}
 use Rattle.node_core.specs.declared.stage.Stage.TheVariants.{AwaitSlot}
 use Rattle.air_log.specs.WindowLogs.{WindowLog}

@@ -1,4 +1,4 @@
--- The words in which the devices of the worked trails of one packet are written down.
+-- The words in which the devices of the worked traces of one packet are written down.
 use Rattle.std.specs.Prelude.{ℕ, List, [], ◌∷◌, Bool, drop, take, Some, None}
 use Rattle.std.specs.declared.option.Option.{Option}
 use Rattle.lwb_base.specs.Messages.{Ask, Plan}
@@ -33,7 +33,7 @@ abbrev pub granted_plan : Plan
 granted_plan = record next_plan { acks = request ∷ [] }
 
 -- the host while it scans, hosts its first round with what it kept, and goes by its next two plans, node 2 having been
--- unheard in so many slots
+-- unheard in this many slots
 abbrev pub scanning_core : ℕ → Core
 scanning_core waited = record (booted 1) { tune = Scan 0 waited }
 
@@ -68,7 +68,7 @@ streams_with agreed last queue tries host = record {
 abbrev pub member : Tune → Plan → Streams → Option ℕ → Core
 member tune plan streams own_slot = record (booted 1) { tune = tune; plan = plan; streams = streams; own_slot = own_slot }
 
--- while it scans, after the first opening with so many tries, as it holds its slots, and from the opening of their round on
+-- while it scans, after the first opening with this many tries, as it holds its slots, and from the opening of their round on
 abbrev pub scans_waiting : ℕ → Core
 scans_waiting waited = member (Scan 0 waited) no_plan (streams_with 0 0 waiting 0 None) None
 
@@ -104,7 +104,7 @@ to_send tick packet = record { tick = tick; packet = packet }
 abbrev pub made_with : List Sending → List Tuning → List Delivery → List WindowLog → Made
 made_with sent tuned deliveries windows = record { sent = sent; tuned = tuned; deliveries = deliveries; drops = []; windows = windows }
 
--- the first so many sendings, and all but the last so many tunings
+-- the first this many transmissions, and all but the last this many tunings
 abbrev pub made_by_host : ℕ → ℕ → List Delivery → List WindowLog → Made
 made_by_host sent tuned deliveries windows = made_with (take sent sent_by_host) (drop tuned tuned_by_host) deliveries windows
 

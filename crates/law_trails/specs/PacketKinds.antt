@@ -1,4 +1,4 @@
--- What packets say: of what kind they are for it, where they may stand, and what a node with a profile may say.
+-- What packets say: of what kind they are for it, where they may be, and what a node with a profile may say.
 use Rattle.std.specs.Prelude.{◌≡◌, ⊤, ℕ, ◌≤◌, true, List, length, Some}
 use Rattle.lwb_base.specs.Profile.{Numbers}
 use Rattle.lwb_base.specs.Messages.{Schedule}
@@ -28,7 +28,7 @@ pub record SaysOfKind (kind : Kind.Kind) (p : List ℕ) : Type 0 where
   pub says : message_of p ≡ Some message
   pub of_kind : kind_of_message message ≡ kind
 
--- the ranges of a schedule that stands in this slot: an opening opens its round, and a closing has a data slot or a
+-- the ranges of a schedule that is in this slot: an opening opens its round, and a closing has a data slot or a
 -- contention slot before it
 pub record IsInSlot (slot : ℕ) (x : Schedule) : Type 0 where
   pub rank : x.plan.rank ≤ 3

@@ -1,4 +1,4 @@
--- The phases of a tick, and the device of a trail as it enters each of them.
+-- The phases of a tick, and the device of a trace as it enters each of them.
 use Rattle.std.specs.Prelude.{◌≡◌, ⊤, ℕ, suc, ◌≤◌, List, ◌∷◌, ◌++◌, Some, None, Contains, fold}
 use Rattle.std.specs.Option.{IfSome}
 use Rattle.scenario_text.specs.ScenarioParts.{ScenarioParts}
@@ -10,8 +10,8 @@ use Rattle.air_log.specs.AlarmRuns.{after_alarms}
 use Rattle.air_log.specs.Trails.{Reception, setup_of, frame_start, lines_at, device_after_script, ending_at, device_after_reception, device_after_receptions}
 use Rattle.air_log.specs.Trails.{before_alarms, before_start, tick, before_tick}
 
--- what is done next: script lines are told, hearings are taken, the end of the own sending, alarms, the start of the
--- ordered sending; or all is over
+-- what is done next: script lines are given, receptions are taken, the end of the own transmission, alarms, the start of the
+-- ordered transmission; or all is over
 pub data Phase : Type 0 where
   Lines : Phase
   Hearings : Phase
@@ -37,7 +37,7 @@ device_at s v clock hs t Alarms = before_alarms s v clock hs t (before_tick s v 
 device_at s v clock hs t Start = before_start s v clock hs t (before_tick s v clock hs t)
 device_at s v clock hs t Over = tick s v clock hs t (before_tick s v clock hs t)
 
--- the least ticks at which an own sending may end, an alarm may be due and an ordered sending may start
+-- the least ticks at which an own transmission may end, an alarm may be due and an ordered transmission may start
 abbrev pub ends_from : ℕ → Phase → ℕ
 ends_from t Lines = t
 ends_from t Hearings = t
@@ -79,7 +79,7 @@ pub record NothingDue (t : ℕ) (phase : Phase) (d : Device) : Type 0 where
   pub ordered : IfSome d.ordered (λ o. starts_from t phase ≤ o.tick)
   pub off : SilentBy d d.power
 
--- the line l of v is told next at tick t, to d
+-- the line l of v is given next at tick t, to d
 pub record IsNextLineOf (s : ScenarioParts) (v : ℕ) (clock : ℕ → ℕ) (hs : List Reception) (t : ℕ)
     (l : ScriptLine) (d : Device) : Type 0 where
   pub told : List ScriptLine
@@ -91,7 +91,7 @@ pub record IsNextLineOf (s : ScenarioParts) (v : ℕ) (clock : ℕ → ℕ) (hs 
   pub now : frame_start s l.frame ≡ t
   pub line : IsScriptLine s l
 
--- the hearing h of v that ends at tick t is taken next, by d
+-- the reception h of v that ends at tick t is taken next, by d
 pub record IsNextHearing (s : ScenarioParts) (v : ℕ) (clock : ℕ → ℕ) (hs : List Reception) (t : ℕ)
     (h : Reception) (d : Device) : Type 0 where
   pub taken : List Reception
@@ -101,7 +101,7 @@ pub record IsNextHearing (s : ScenarioParts) (v : ℕ) (clock : ℕ → ℕ) (hs
   pub there : Contains hs h
   pub now : h.end ≡ t
 
--- the alarm of d is due at tick t, behind those that were due at it before
+-- the alarm of d is due at tick t, after those that were due at it before
 pub record IsNextAlarm (s : ScenarioParts) (v : ℕ) (clock : ℕ → ℕ) (hs : List Reception) (t : ℕ)
     (d : Device) : Type 0 where
   pub gone : ℕ

@@ -10,7 +10,7 @@ use Rattle.bus_rules.specs.HostPlans.{HostPlan}
 use Rattle.law_trails.specs.StreamRanges.{AreStreams}
 use Rattle.law_trails.specs.TableRanges.{IsTable}
 
--- all that a schedule asks of its plan but a boot above 0, which no plan has before the first is heard
+-- all that a schedule asks of its plan but a boot above 0, which no plan has before the first is received
 pub record IsWholePlan (p : Plan) : Type 0 where
   pub rank : p.rank ≤ 3
   pub boot : p.boot ≤ 200

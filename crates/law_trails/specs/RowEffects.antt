@@ -43,7 +43,7 @@ module _ (clock : ℕ → ℕ) (s : Setup) (t : ℕ) where
   abbrev pub order : ℕ → List ℕ → Option OrderedPacket
   order local packet = Some (record { tick = when local; packet = packet })
 
-  -- what is ordered behind a reply of the flood, and where a window opens
+  -- what is ordered after a reply of the flood, and where a window opens
   abbrev pub relayed : Option OrderedPacket → Reply → Option OrderedPacket
   relayed o (Relay q) = order (stopped (clock t + s.profile.turn)) q
   relayed o Keep = o
@@ -82,7 +82,7 @@ module _ (clock : ℕ → ℕ) (s : Setup) (t : ℕ) where
       Leaves d r.node (channel_if_on d.listening) d.alarm (relayed d.ordered (reply_by (rank_of n.core.tune) w p))
           (device_after_row clock s t (Heard p) None d n r))
 
-  -- d: its sending has been taken off
+  -- d: its transmission has been taken off
   abbrev pub SentLeaves : Type 0
   SentLeaves = (d : Device) (x : Sending) (n : Node) (j : ℕ) (w : Window)
       → (let r = sends n j w in

@@ -10,7 +10,7 @@ use Rattle.bus_rules.specs.Cores.{Setup}
 use Rattle.node_core.specs.Rows.{Stepped}
 use Rattle.law_trails.specs.NodeRanges.{IsNodeInRange}
 
--- H holds of a packet that is heard
+-- H holds of a packet that is received
 abbrev pub HoldsOfHeard : (List ℕ → Type 0) → Event → Type 0
 HoldsOfHeard H Boot = ⊤
 HoldsOfHeard H Alarm = ⊤

@@ -1,4 +1,4 @@
--- What a log and the trails that it follows know of one another, and what the script lines of a tick leave.
+-- What a log and the traces that it follows know of one another, and what the script lines of a tick leave.
 use Rattle.std.specs.Prelude.{◌≡◌, ℕ, ◌+◌, ◌/◌, ◌<◌, ◌≤◌, List, Some, None, Contains, max}
 use Rattle.tick_clock.specs.Clocks.{due}
 use Rattle.radio_model.specs.declared.sending.Sending.{Sending}
@@ -16,11 +16,11 @@ use Rattle.air_log.specs.Lawful.{heard_by}
 use Rattle.law_trails.specs.Obeying.{channel_if_on}
 use Rattle.air_log.specs.Trails.{Reception, frame_start, before_tick}
 
--- the device of v before tick t, by its trail over what it heard in the log
+-- the device of v before tick t, by its trace over what it received in the log
 abbrev pub device_in : ScenarioParts → (ℕ → ℕ → ℕ) → List Entry → ℕ → ℕ → Device
 device_in s clocks air v t = before_tick s v (clocks v) (heard_by air v) t
 
--- a script line of v is told at tick t
+-- a script line of v is given at tick t
 pub record IsLineOfTick (s : ScenarioParts) (v t : ℕ) (l : ScriptLine) : Type 0 where
   pub there : Contains s.script l
   pub node : l.node ≡ v
@@ -46,7 +46,7 @@ pub record IsReceptionOf (air : List Entry) (v : ℕ) (h : Reception) : Type 0 w
   pub packet : h.packet ≡ sending.packet
   pub end : h.end ≡ sending.end
 
--- a node that is on, as its boot at tick t has left it, but for what its streams were told since
+-- a node that is on, as its boot at tick t has left it, but for what its streams were given since
 pub record IsBooted (clock : ℕ → ℕ) (s : Setup) (t : ℕ) (boot : ℕ) (n : Node) : Type 0 where
   pub streams : Streams
   pub core : n.core ≡ record (booted boot) { streams = streams }

@@ -87,19 +87,19 @@ closing_transmission = sent_at 1 1348288000 1348324864 (closing_with 0)
 abbrev pub grant_transmission : Sending
 grant_transmission = sent_at 1 1348288000 1348328960 (grant_with 0)
 
--- it heard no schedule
+-- it received no schedule
 abbrev pub unheard : List Entry
 unheard = log_of_sendings (data_said ∷ [])
 
--- it heard an opening, by which slot 1 is not its own
+-- it received an opening, by which slot 1 is not its own
 abbrev pub not_the_owner : List Entry
 not_the_owner = log_of_sendings (opening_transmission ∷ data_said ∷ []) ++ heard_entry 2 opening_transmission ∷ []
 
--- it heard an opening of another frame
+-- it received an opening of another frame
 abbrev pub not_due : List Entry
 not_due = log_of_sendings (opening_transmission ∷ asked ∷ []) ++ heard_entry 2 opening_transmission ∷ []
 
--- it heard the closing for this frame, and no opening
+-- it received the closing for this frame, and no opening
 abbrev pub not_opened : List Entry
 not_opened = log_of_sendings (closing_transmission ∷ asked ∷ []) ++ heard_entry 2 closing_transmission ∷ []
 

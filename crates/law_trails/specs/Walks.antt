@@ -1,4 +1,4 @@
--- What is kept by each step of a trail holds all along it.
+-- What is kept by each step of a trace holds all along it.
 use Rattle.std.specs.Prelude.{◌≡◌, ⊤, ◌⊎◌, ℕ, suc, ◌<◌, ◌≤◌, List, [], ◌∷◌, ◌++◌, true, false, Some, None, is_some, fold}
 use Rattle.std.specs.declared.option.Option.{Option}
 use Rattle.lwb_base.specs.Messages.{Schedule}
@@ -56,11 +56,11 @@ abbrev pub IsLost : ℕ → Power → Type 0
 IsLost stream (PowerOff boots) = ⊤
 IsLost stream (PowerOn n) = refuses stream n.core ≡ true
 
--- a start is missed where the radio is off or another sending runs
+-- a start is missed where the radio is off or another transmission runs
 abbrev pub CannotSend : Device → Type 0
 CannotSend d = (d.listening ≡ None) ⊎ ((x : Sending) × (d.sending ≡ Some x))
 
--- the ordered sending starts
+-- the ordered transmission starts
 abbrev pub with_start : Device → Sending → Device
 with_start d x = record d { ordered = None; sending = Some x; made = record (d.made) { sent = d.made.sent ++ x ∷ [] } }
 
@@ -118,7 +118,7 @@ module _ (P : ℕ → Phase → Device → Type 0) (s : ScenarioParts) (v : ℕ)
   LossKept = (d : Device) (l : ScriptLine) (i : ℕ) (payload : List ℕ) → Here Lines d → ToldNext l d
       → l.act ≡ Put i payload → IsLost i d.power → P t Lines (dropped v l.frame i d)
 
-  -- hearings: while scanning, of a schedule of the rank, and in a window
+  -- receptions: while scanning, of a schedule of the rank, and in a window
   abbrev pub JoiningKept : Type 0
   JoiningKept = (d : Device) (h : Reception) (n : Node) (y : Schedule) → Here Hearings d → HeardNext h d
       → d.power ≡ PowerOn n → n.stage ≡ Scanning
@@ -130,7 +130,7 @@ module _ (P : ℕ → Phase → Device → Type 0) (s : ScenarioParts) (v : ℕ)
       → d.power ≡ PowerOn n → n.stage ≡ InWindow j w
       → P t Hearings (after (Heard h.packet) None d n (window_hears (setup_of s v) n (clock t) j w h.packet))
 
-  -- the end of the own sending: in a window whose flood waits for it, in one whose flood does not, and elsewhere
+  -- the end of the own transmission: in a window whose flood waits for it, in one whose flood does not, and elsewhere
   abbrev pub SentKept : Type 0
   SentKept = (d : Device) (x : Sending) (n : Node) (j : ℕ) (w : Window) → Here End d → Enters End d
       → d.sending ≡ Some x → x.end ≡ t → d.power ≡ PowerOn n → n.stage ≡ InWindow j w → w.flood.waiting ≡ true
@@ -163,7 +163,7 @@ module _ (P : ℕ → Phase → Device → Type 0) (s : ScenarioParts) (v : ℕ)
   AlarmElsewhereKept = (d : Device) (n : Node) → Here Alarms d → DueNext d → d.power ≡ PowerOn n → n.stage ≡ Idle
       → P t Alarms (record d { alarm = None })
 
-  -- the start of the ordered sending, and a start that is missed
+  -- the start of the ordered transmission, and a start that is missed
   abbrev pub BeginningKept : Type 0
   BeginningKept = (d : Device) (o : OrderedPacket) (l : Listening) → Here Start d → Enters Start d
       → d.ordered ≡ Some o → o.tick ≡ t → d.listening ≡ Some l → d.sending ≡ None
@@ -210,7 +210,7 @@ HoldsInTick P = (s : ScenarioParts) (v : ℕ) (clock : ℕ → ℕ) (hs : List R
     → (((phase : Phase) → P t phase (device_at s v clock hs t phase))
     × P (suc t) Lines (before_tick s v clock hs (suc t)))
 
--- a trail at each of whose ticks the steps keep it: it holds before each
+-- a trace at each of whose ticks the steps keep it: it holds before each
 abbrev pub HoldsAlong : (ℕ → Phase → Device → Type 0) → Type 0
 HoldsAlong P = (s : ScenarioParts) (v : ℕ) (clock : ℕ → ℕ) (hs : List Reception) → IsSoundScenario s → IsClock clock
     → P 0 Lines at_rest

@@ -90,7 +90,7 @@ module _ (s : ScenarioParts) (clocks : ℕ → ℕ → ℕ) (v : ℕ) where
     old_answered : (w : WindowLog) (tick : ℕ) (packet : List ℕ) → Contains earlier w → Calls w tick packet → IsSent s clocks v sent w tick packet
     old_answered w tick packet old call = sent_by_closed (x ∷ earlier) o running sent has w tick packet (contains_tail x earlier w old) (closed w old) call
 
-    -- something is heard in it
+    -- something is received in it
     module _ (t : ℕ) (p : List ℕ) (last : Window) where
       abbrev hears : WindowLog
       hears = record x { happenings = x.happenings ++ HeardAt t p ∷ []; last = last }
@@ -172,7 +172,7 @@ module _ (s : ScenarioParts) (clocks : ℕ → ℕ → ℕ) (v : ℕ) where
               ap (λ (k : ℕ). Some (record { tick = k; packet = q })) (at ∙ ap (λ (e : ℕ). due (clocks v) (clocks v e + s.profile.turn)) until ∙ sym relay.at)
               ∙ ap (λ (r : List ℕ). Some (record { tick = other; packet = r })) packets
 
-    -- an own sending has ended in it
+    -- an own transmission has ended in it
     pub sending_ends : (t : ℕ) (y : Sending) (last : Window) → running ≡ Some y → y.end ≡ t → IsOfSlot s x y
         → R (record x { happenings = x.happenings ++ SentAt t y.packet ∷ []; last = last } ∷ earlier) o None sent
     sending_ends t y last runs ends of_slot = record {

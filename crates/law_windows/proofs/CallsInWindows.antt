@@ -143,7 +143,7 @@ module _ (s : ScenarioParts) (clocks : ℕ → ℕ → ℕ) (air : List Entry) (
         subst (λ (o : Option OrderedPacket). R (x ∷ d.made.windows) (said (clocks v) S t n.zero j o spoken.message) d.sending d.made.sent) (sym none)
         (by_message closed (with_none d.made.windows d.ordered d.sending d.made.sent none has) spoken.message refl)
 
-  -- ---- something is heard in a window that is open
+  -- ---- something is received in a window that is open
 
   module _ (h : Reception) (x : WindowLog) (earlier : List WindowLog) (o : Option OrderedPacket) (running : Option Sending) (sent : List Sending) (w u : Window)
       (has : R (x ∷ earlier) o running sent) (open_ : x.closed ≡ None) (closed : AreClosed earlier) (flood : WindowHasFlood (setup_of s v) x)

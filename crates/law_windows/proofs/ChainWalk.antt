@@ -61,7 +61,7 @@ module _ (s : ScenarioParts) (clocks : ℕ → ℕ → ℕ) (air : List Entry) (
   moved_on : (logs : List WindowLog) (p : Power) (e : Device) → e.made.windows ≡ logs → e.power ≡ p → AreChained logs p → Chained e
   moved_on logs p e same_logs same_p has = subst (λ (ls : List WindowLog). AreChained ls e.power) (sym same_logs) (subst (AreChained logs) (sym same_p) has)
 
-  -- a node that is told something rests
+  -- a node that is given something rests
   rests : (t : ℕ) → AtTick s clocks air v t → (d : Device) (l : ScriptLine) (n : Node) → Now All s t Lines d
       → IsNextLineOf s v (clocks v) (heard_by air v) t l d → d.power ≡ PowerOn n → IsFree n.stage
   rests t at d l n here next on =

@@ -1,4 +1,4 @@
--- How many own sendings have ended by a tick, and when the last that may be ends.
+-- How many own transmissions have ended by a tick, and when the last that may be ends.
 use Rattle.std.proofs.Common.{◌≡◌, ◌≢◌, ℕ, zero, suc, ◌<◌, ◌≤◌, List, [], ◌∷◌, Bool, true, false, nat_le, get_or, map, Contains, AllPairs, refl}
 use Rattle.std.proofs.Common.{sym, ◌∙◌, ap, arith, inl, inr, true≢false}
 use Rattle.std.proofs.lemmas.Bool.{cases_lt, leb-true, le-leb}
@@ -28,7 +28,7 @@ none_by k (Ended x ∷ es) later =
     let none : one_if (nat_le x.end k) ≡ 0 = ap one_if (not_by x.end k after) in
     omega (arith, rest, none)
 
--- fewer than n + 1 have ended by tick k exactly where that one ends later
+-- fewer than n + 1 have ended by tick k if and only if that one ends later
 pub few_early : (k n far : ℕ) (es : List Event) → Ordered es → k < get_or (own_ends es) n far → sendings_in k (map happening_of es) ≤ n
 few_early k n far [] order early = omega arith
 few_early k n far (Heard x ∷ es) order early =

@@ -85,7 +85,7 @@ module _ (s : ScenarioParts) (clocks : ℕ → ℕ → ℕ) (air : List Entry) (
     stands = λ told. subst (λ (l : List WindowLog). Standing l e.power) (sym same_logs) (subst (Standing logs) (sym same_power) (stands told));
   }
 
-  -- at the first tick of a frame, the script lines are not yet told
+  -- at the first tick of a frame, the script lines are not yet given
   pub at_line : (l : ScriptLine) (d e : Device) → IsNextLineOf s v (clocks v) (heard_by air v) t l d → e.made.windows ≡ d.made.windows
       → IsUnderWay s clocks air v t Lines d → IsUnderWay s clocks air v t Lines e
   at_line l d e next same is =
@@ -97,11 +97,11 @@ module _ (s : ScenarioParts) (clocks : ℕ → ℕ → ℕ) (air : List Entry) (
       let n = rebooted (count + 1) in
       (row_obeyed (clocks v) S t Boot None (record d { power = PowerOn n }) n (boots S n (clocks v t))).windows
 
-  -- a node in a window stands by that
+  -- a node in a window is by that
   in_window : (logs : List WindowLog) (n : Node) (j : ℕ) (w : Window) → n.stage ≡ InWindow j w → Standing logs (PowerOn n)
   in_window logs n j w stage = λ none. absurd (subst NoWindow stage none)
 
-  -- a node of the true frame stands in it
+  -- a node of the true frame is in it
   stands_now : (logs : List WindowLog) (n : Node) → NoWindow n.stage → n.frame ≡ F → Standing logs (PowerOn n) → Stands s clocks air v F logs n
   stands_now logs n none now stands =
       elim (stands none) [
@@ -141,7 +141,7 @@ module _ (s : ScenarioParts) (clocks : ℕ → ℕ → ℕ) (air : List Entry) (
       awaited = subst (λ (m : Node). m.stage ≡ AwaitSlot (suc is.last.slot)) (sym of_node) stage;
     })
 
-  -- a scanner hears a schedule
+  -- a scanning node receives a schedule
   joined_link : (d : Device) (h : Reception) (n : Node) (y : Schedule) → n.frame ≡ F → n.stage ≡ Scanning
       → Stands s clocks air v F d.made.windows n → LinksTo s clocks air v (joined_log S t (clocks v t) n h.packet y) d.made.windows
   joined_link d h n y now stage (inl is) = first_link n d.made.windows now (joined_log S t (clocks v t) n h.packet y) refl refl refl is (inl (refl, stage))

@@ -71,7 +71,7 @@ module _ (s : ScenarioParts) (clocks : ℕ → ℕ → ℕ) (air : List Entry) (
     early : t / s.profile.frame ≤ 4096
     early = let few = frame_in_run s at.run.driven.sound t at.in_run in omega (arith, few)
 
-    -- behind the script lines
+    -- after the script lines
     told : (d : Device) → IsFine s clocks air v t Lines d → IsFine s clocks air v t Hearings d → IsUnderWay s clocks air v t Lines d
         → d ≡ device_at s v (clocks v) (heard_by air v) t Hearings → IsUnderWay s clocks air v t Hearings d
     told d fine later is enters = record {

@@ -1,4 +1,4 @@
--- Each node of a lawful run goes through each frame as it should.
+-- Each node of a valid run goes through each frame as it should.
 use Rattle.std.proofs.Common.{◌≡◌, ℕ, suc, inl, inr, List, ◌∷◌, true, false, Some, Option, Contains, refl, sym, ◌∙◌, ap, subst, arith, true≢false}
 use Rattle.bus_rules.specs.Cores.{Core, frame_ended}
 use Rattle.bus_rules.specs.States.{StateOff, StateOn}

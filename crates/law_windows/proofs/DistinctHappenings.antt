@@ -50,7 +50,7 @@ pushed_distinct {X = X} (y ∷ xs) x all none = (
     contains_later : (y : X) (xs : List X) (x : X) → Contains xs x → Contains (y ∷ xs) x
     contains_later y xs x there = Contains-append_right (y ∷ []) xs x there
 
--- what was heard now was one of these
+-- what was received now was one of these
 heard_one : (t : ℕ) (taken : List Reception) (e : Happening) → Contains (map (heard_at t) taken) e → (h : Reception) × Contains taken h × (heard_at t h ≡ e)
 heard_one t taken e there = map_from (heard_at t) taken e there
 
@@ -87,7 +87,7 @@ module _ (rows : AllRows) (s : ScenarioParts) (clocks : ℕ → ℕ → ℕ) (ai
         let have = windows_before s clocks air v Histories rows run known (λ u at. history_steps s clocks air v u at) t within in
         record { each = λ w there. tt; past = have.past; apart = have.apart; stand = have.stand; delivered = have.delivered }
 
-    -- an open window, behind some of the hearings of the tick: what happened in it now are some of these
+    -- an open window, after some of the receptions of the tick: what happened in it now are some of these
     module _ (taken : List Reception) (d : Device) (is : d ≡ fold (device_after_reception (clocks v) (setup_of s v) t) d0 taken) (w : WindowLog)
         (there : Contains d.made.windows w) (open_ : w.closed ≡ None) where
       come : HasComeOf t d0.made.windows taken w
@@ -111,7 +111,7 @@ module _ (rows : AllRows) (s : ScenarioParts) (clocks : ℕ → ℕ → ℕ) (ai
             )
       ]
 
-    -- what is heard next was not heard before
+    -- what is received next was not received before
     hears_new : (d : Device) (h : Reception) (w : WindowLog) → IsNextHearing s v (clocks v) (heard_by air v) t h d → IsHeardNow s clocks air v t h d
         → Contains d.made.windows w → w.closed ≡ None → Contains w.happenings (HeardAt t h.packet) → ⊥
     hears_new d h w next now there open_ in_it =
@@ -133,7 +133,7 @@ module _ (rows : AllRows) (s : ScenarioParts) (clocks : ℕ → ℕ → ℕ) (ai
         same_reception : (a b : Reception) → a.packet ≡ b.packet → a.end ≡ b.end → a ≡ b
         same_reception a b packet end = ap (λ (p : List ℕ). of_parts p a.end) packet ∙ ap (λ (k : ℕ). of_parts b.packet k) end
 
-    -- and no own sending has ended at this tick yet
+    -- and no own transmission has ended at this tick yet
     ends_new : (d : Device) (y : Sending) (w : WindowLog) → IsFine s clocks air v t End d → d ≡ device_at s v (clocks v) (heard_by air v) t End
         → Contains (sendings_of air) y → y.start < t → y.end ≡ t
         → IsOfFlood s clocks air y → Contains d.made.windows w → w.closed ≡ None → Contains w.happenings (SentAt t y.packet) → ⊥

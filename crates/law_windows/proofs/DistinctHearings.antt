@@ -1,4 +1,4 @@
--- A node hears nothing twice, so no two receptions of it are the same.
+-- A node receives nothing twice, so no two receptions of it are the same.
 use Rattle.std.proofs.Common.{◌≡◌, ℕ, suc, ◌-◌, ◌⊎◌, inl, inr, List, [], ◌∷◌, ◌++◌, Bool, ◌==◌, Some, Option, Contains, filter, map, length, sym, ◌∙◌, ap}
 use Rattle.std.proofs.Common.{subst, arith, eqb-true}
 use Rattle.std.proofs.lemmas.Bool.{cond_both}
@@ -78,7 +78,7 @@ sorted_distinct : (hs : List Hearing) → Distinct hs → Distinct (by_end hs)
 sorted_distinct [] all = tt
 sorted_distinct (h ∷ hs) all = put_distinct h (by_end hs) (λ there. all.0 (sorted_from hs h there)) (sorted_distinct hs all.1)
 
--- ---- hearings of one node
+-- ---- receptions of one node
 
 module _ (s : ScenarioParts) (clocks : ℕ → ℕ → ℕ) (air : List Entry) (run : IsObedientRun s clocks air) (lawful : Lawful s clocks air) (v : ℕ) where
   -- what ends at one tick came over one channel
@@ -131,7 +131,7 @@ module _ (s : ScenarioParts) (clocks : ℕ → ℕ → ℕ) (air : List Entry) (
           of_parts : ℕ → ℕ → ℕ → ℕ → List ℕ → Sending
           of_parts rank node start end packet = record { rank = rank; node = node; start = start; end = end; packet = packet }
 
-  -- so no reception stands twice
+  -- so no reception is there twice
   pub distinct_receptions : (t : ℕ) → Distinct (ending_at t (heard_by air v))
   distinct_receptions t =
       let all : Distinct (hearings_of air) = distinct_from_pairs (hearings_of air) lawful.hearing.once in

@@ -1,4 +1,4 @@
--- In a window no more sendings have ended than a node sends at most.
+-- In a window no more transmissions have ended than a node sends at most.
 use Rattle.std.proofs.Common.{◌≡◌, ℕ, suc, ◌<◌, ◌≤◌, inl, inr, List, [], ◌∷◌, ◌++◌, true, length, filter_map, Contains, refl, sym, ◌∙◌, ap}
 use Rattle.std.proofs.Common.{subst, arith, length-append, true≢false}
 use Rattle.std.proofs.lemmas.Bool.{cases_eq, cond_both}
@@ -50,7 +50,7 @@ more_sent es t p =
     let both = length-append (filter_map sent_in es) (p ∷ []) in
     omega (arith, all, both)
 
--- hearings do not count
+-- receptions do not count
 taken_sent : (rank : ℕ) (w : Window) (p : List ℕ) → (flood_by rank w p).sent ≡ w.flood.sent
 taken_sent rank w p =
     cond_both (is_foreign rank (message_of p)) w.flood (after_heard w.flood p) (λ (g : FloodState). g.sent ≡ w.flood.sent)

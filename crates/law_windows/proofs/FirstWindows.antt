@@ -70,7 +70,7 @@ module _ (s : ScenarioParts) (clocks : ℕ → ℕ → ℕ) (air : List Entry) (
       → UnchangedBy s clocks air v (t / s.profile.frame) (device_after_row (clocks v) (setup_of s v) t e x d n r).power
   row_leaves = UnchangedNodes.row_leaves s clocks air v
 
-  -- the windows behind a row
+  -- the windows after a row
   same_firsts : (logs logs' : List WindowLog) → logs' ≡ logs → Firsts logs → Firsts logs'
   same_firsts logs logs' same firsts = subst Firsts (sym same) firsts
 

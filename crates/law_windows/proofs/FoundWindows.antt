@@ -1,4 +1,4 @@
--- Among the windows of a node: the first of a frame, the one before and the one behind each.
+-- Among the windows of a node: the first of a frame, the one before and the one after each.
 use Rattle.std.proofs.Common.{◌≡◌, ℕ, suc, ◌<◌, ◌⊎◌, inl, inr, List, [], ◌∷◌, true, Some, Contains, sym, ◌∙◌, ap, subst, arith}
 use Rattle.node_core.specs.declared.stage.Stage.TheVariants.{AwaitSlot}
 use Rattle.scenario_text.specs.ScenarioParts.{ScenarioParts}

@@ -1,4 +1,4 @@
--- Where a node of a run stands at the end of a frame, and what has become of its windows by the end of the run.
+-- Where a node of a run is at the end of a frame, and what has become of its windows by the end of the run.
 use Rattle.std.proofs.Common.{◌≡◌, ℕ, suc, ◌-◌, ◌/◌, ◌<◌, ◌≤◌, inl, inr, List, [], ◌∷◌, ◌++◌, true, Contains, sym, ◌∙◌, ap, subst, arith}
 use Rattle.std.proofs.Math.Nat.{mul-le-mul_right}
 use Rattle.std.proofs.lemmas.List.Elements.{Contains-append_cases, Contains-append_right}
@@ -121,7 +121,7 @@ module _ (s : ScenarioParts) (clocks : ℕ → ℕ → ℕ) (air : List Entry) (
           ends = ends_by (device_in s clocks air v next) (power_after s clocks air v f) (invariant.nodes v known).by_power stands;
         }
 
-    -- a node that is on behind the script lines counts the frame
+    -- a node that is on after the script lines counts the frame
     pub counted : (n : Node) → power_at s clocks air v f ≡ PowerOn n → n.frame ≡ f
     counted n on =
         let few = run.driven.sound.few_frames in

@@ -1,4 +1,4 @@
--- A node that is on stands by its tune behind the script lines of each frame.
+-- A node that is on is by its tune after the script lines of each frame.
 use Rattle.std.proofs.Common.{◌≡◌, ℕ, zero, suc, ◌<◌, List, [], ◌∷◌, true, refl, sym, subst, arith, fold}
 use Rattle.std.specs.Bool.{⊤}
 use Rattle.std.proofs.lemmas.Bool.{cond_both}
@@ -29,7 +29,7 @@ PlacedBy (PowerOff boots) = ⊤
 PlacedBy (PowerOn n) = StandsByTune n
 
 module _ (clock : ℕ → ℕ) (s : Setup) (t : ℕ) where
-  -- a line that is told
+  -- a line that is given
   put_place : (f i : ℕ) (payload : List ℕ) (d : Device) (n : Node) → d.power ≡ PowerOn n → StandsByTune n
       → PlacedBy (device_after_act clock s t f d (Put i payload) (PowerOn n)).power
   put_place f i payload d n is placed =

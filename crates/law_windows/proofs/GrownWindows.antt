@@ -1,4 +1,4 @@
--- What the hearings of a tick leave of a node's windows.
+-- What the receptions of a tick leave of a node's windows.
 use Rattle.std.specs.Bool.{⊤}
 use Rattle.std.proofs.Common.{◌≡◌, ℕ, ◌⊎◌, inl, inr, List, [], ◌∷◌, ◌++◌, true, ◌==◌, Some, None, Option, is_some, Contains, fold, map, refl, sym, ◌∙◌, ap}
 use Rattle.std.proofs.Common.{subst, true≢false}
@@ -33,7 +33,7 @@ use Rattle.law_windows.proofs.RowsOfWindows.{joins_in, hears_in, open_first, joi
 abbrev pub heard_at : ℕ → Reception → Happening
 heard_at t h = HeardAt t h.packet
 
--- an open window in which all of these were heard
+-- an open window in which all of these were received
 pub record HasGrown (t : ℕ) (before : List WindowLog) (hs : List Reception) (x : WindowLog) : Type 0 where
   pub old : WindowLog
   pub there : Contains before old
@@ -42,7 +42,7 @@ pub record HasGrown (t : ℕ) (before : List WindowLog) (hs : List Reception) (x
   pub happenings : x.happenings ≡ old.happenings ++ map (heard_at t) hs
   pub still : x.closed ≡ None
 
--- one that opened by one of them, and in which all later ones were heard
+-- one that opened by one of them, and in which all later ones were received
 pub record HasJoined (t : ℕ) (hs : List Reception) (x : WindowLog) : Type 0 where
   pub earlier : List Reception
   pub first : Reception
@@ -66,7 +66,7 @@ module _ (s : ScenarioParts) (clocks : ℕ → ℕ → ℕ) (v t : ℕ) where
   abbrev next : Device → Reception → Device
   next d h = device_after_reception (clocks v) (setup_of s v) t d h
 
-  -- one hearing
+  -- one reception
   abbrev Step : Device → Reception → Device → Type 0
   Step d h e = Has e × ((x : WindowLog) → Contains e.made.windows x → HasComeOf t d.made.windows (h ∷ []) x)
 
@@ -161,7 +161,7 @@ module _ (s : ScenarioParts) (clocks : ℕ → ℕ → ℕ) (v t : ℕ) where
   one d h (PowerOff boots) off has = unheard d d h refl (subst (StandBy d.made.windows) off has.stand) has
   one d h (PowerOn n) on has = by_stage d h n n.stage on refl has
 
-  -- one behind another
+  -- one after another
   then_all : (d e : Device) (h : Reception) (hs : List Reception) → Step d h e → (x : WindowLog) → HasComeOf t e.made.windows hs x
       → HasComeOf t d.made.windows (h ∷ hs) x
   then_all d e h hs step x (inl old) = elim (step.1 x old.0) [
@@ -210,7 +210,7 @@ module _ (s : ScenarioParts) (clocks : ℕ → ℕ → ℕ) (v t : ℕ) where
           of_one [] first later is = sym is
           of_one (g ∷ earlier) first later is = let rest : [] ≡ earlier ++ first ∷ later = cc in absurd (nothing_in first earlier later rest)
 
-  -- all hearings of the tick, and those before one of them
+  -- all receptions of the tick, and those before one of them
   pub grown : (hs : List Reception) (d : Device) → Has d
       → Has (fold (device_after_reception (clocks v) (setup_of s v) t) d hs)
       × ((x : WindowLog) → Contains (fold (device_after_reception (clocks v) (setup_of s v) t) d hs).made.windows x → HasComeOf t d.made.windows hs x)

@@ -1,4 +1,4 @@
--- Whatever its node hears while a window is open happened in it.
+-- Whatever its node receives while a window is open happened in it.
 use Rattle.std.specs.Bool.{⊤}
 use Rattle.std.proofs.Common.{◌≡◌, ℕ, suc, ◌*◌, ◌/◌, ◌<◌, ◌≤◌, inl, inr, List, [], ◌∷◌, ◌++◌, true, ◌==◌, Some, None, Option, is_some, Contains, fold, map}
 use Rattle.std.proofs.Common.{refl, sym, ◌∙◌, ap, subst, arith, length, true≢false, eq-eqb}
@@ -38,7 +38,7 @@ module _ (s : ScenarioParts) (clocks : ℕ → ℕ → ℕ) (air : List Entry) (
   more taken w e all x there since until before = Contains-append_left w.happenings (e ∷ []) (HeardAt x.end x.packet) (all x there since until before)
 
   module _ (t : ℕ) (at : AtTick s clocks air v t) where
-    -- at a tick at which something is heard no line is told
+    -- at a tick at which something is received no line is given
     pub nothing_told : (x : Sending) → HasHeardEntry air v x → x.end ≡ t
         → device_after_script s v (clocks v) t (device_in s clocks air v t) ≡ device_in s clocks air v t
     nothing_told x there ends =
@@ -54,7 +54,7 @@ module _ (s : ScenarioParts) (clocks : ℕ → ℕ → ℕ) (air : List Entry) (
         ap (λ (ls : List ScriptLine). fold (device_after_line (clocks v) (setup_of s v) t) (device_in s clocks air v t) ls)
             (none_in_frame s clocks air v t at began)
 
-    -- it is among the hearings of the tick
+    -- it is among the receptions of the tick
     among : (x : Sending) → HasHeardEntry air v x → x.end ≡ t → Contains (map (heard_at t) (ending_at t (heard_by air v))) (HeardAt x.end x.packet)
     among x there ends =
         let h : Reception = record { packet = x.packet; end = x.end } in

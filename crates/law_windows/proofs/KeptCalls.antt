@@ -24,7 +24,7 @@ module _ (s : ScenarioParts) (clocks : ℕ → ℕ → ℕ) (v : ℕ) where
   abbrev Calls : WindowLog → ℕ → List ℕ → Type 0
   Calls w tick packet = CallsFor s clocks v w tick packet
 
-  -- a relay of what is heard now
+  -- a relay of what is received now
   pub record NewRelay (w : WindowLog) (e : Happening) (tick : ℕ) (packet : List ℕ) : Type 0 where
     pub until : ℕ
     pub heard : List ℕ
@@ -61,7 +61,7 @@ module _ (s : ScenarioParts) (clocks : ℕ → ℕ → ℕ) (v : ℕ) where
         (flood_at_first (setup_of s v) x.by_alarm x) es
     flood_still es = ap (λ (f : FloodState). fold after_happening f es) (first_same (setup_of s v) x.by_alarm x happenings last closed)
 
-    -- and it calls for nothing new but where something was heard
+    -- and it calls for nothing new but where something was received
     module _ (more : List Happening) (is : happenings ≡ x.happenings ++ more) where
       pub calls_still : (tick : ℕ) (packet : List ℕ) → Calls x tick packet → Calls later tick packet
       calls_still tick packet (inl begins) = inl (begins_still tick packet begins)

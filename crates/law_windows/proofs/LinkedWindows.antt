@@ -1,4 +1,4 @@
--- How the windows of a node follow one another, frame by frame, and where the node stands in its frame.
+-- How the windows of a node follow one another, frame by frame, and where the node is in its frame.
 use Rattle.std.proofs.Common.{◌≡◌, ℕ, suc, ◌/◌, ◌<◌, ◌≤◌, ◌⊎◌, inl, inr, List, [], ◌∷◌, ◌++◌, Bool, true, false, Some, None, is_some, Option, Contains, sym}
 use Rattle.std.proofs.Common.{◌∙◌, ap, subst, arith, true≢false}
 use Rattle.std.specs.Bool.{⊤}
@@ -104,7 +104,7 @@ module _ (s : ScenarioParts) (clocks : ℕ → ℕ → ℕ) (air : List Entry) (
     pub begun : (x : WindowLog) → Contains logs x → frame_start s x.frame < t
     pub added : (f : ℕ) → frame_start s (suc f) ≤ t → HasAdded f logs
 
-  -- the script lines of the frame have been told
+  -- the script lines of the frame have been given
   abbrev pub AreTold : ℕ → Phase → Type 0
   AreTold t Lines = frame_start s (t / s.profile.frame) < t
   AreTold t Hearings = ⊤

@@ -1,4 +1,4 @@
--- Where an element stands in a list with one more at its end.
+-- Where an element is in a list with one more at its end.
 use Rattle.std.proofs.Common.{◌≡◌, ◌⊎◌, inl, inr, List, [], ◌∷◌, ◌++◌, refl, sym, ◌∙◌, ap}
 
 pub nothing_in : {X : Type 0} (x : X) (before after : List X) → [] ≡ before ++ x ∷ after → ⊥

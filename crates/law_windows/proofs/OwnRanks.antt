@@ -40,7 +40,7 @@ begun_own : (s : Setup) (part : Part) (j rank : ℕ) (m : Option Message) → Ha
 begun_own s part j rank None = tt
 begun_own s part j rank (Some m) = tt
 
--- where it hears
+-- where it receives
 first_own : (rank : ℕ) (initiated : Bool) (first : Option (List ℕ)) (p : List ℕ) → IsOwnFirst rank initiated first → IsOwnPacket rank p
     → IsOwnFirst rank initiated (first_of first p)
 first_own rank true first p own is = tt

@@ -1,4 +1,4 @@
--- What a node hears in a window comes over its channel, and no schedule among it is of another rank.
+-- What a node receives in a window comes over its channel, and no schedule among it is of another rank.
 use Rattle.std.proofs.Common.{◌≡◌, ℕ, suc, List, Bool, true, false, ◌==◌, nat_lt, Some, None, Option, refl, sym, ◌∙◌, ap, subst, arith, eq-eqb}
 use Rattle.std.proofs.lemmas.Bool.{not_from_true}
 use Rattle.bus_rules.specs.Slots.{Message, ScheduleOf, DataOf, RequestOf}

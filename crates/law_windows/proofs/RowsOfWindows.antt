@@ -65,7 +65,7 @@ by_then t y closed by = of_closing y.closed refl closed by
     of_closing None is some by = absurd (true≢false (sym some))
     of_closing (Some c) is some by = record { closing = c; is = is; by = by }
 
--- what is kept of the windows behind each row that touches them
+-- what is kept of the windows after each row that touches them
 module _ (s : Setup) (now t : ℕ) where
   pub begun_after : (n : Node) (j : ℕ) (logs : List WindowLog) → n.stage ≡ AwaitSlot j
       → windows_after t Alarm None n (window_opens s n j).node n.stage (window_opens s n j).node.stage logs ≡ begun_log s t n j ∷ logs
@@ -109,7 +109,7 @@ module _ (s : ScenarioParts) (clocks : ℕ → ℕ → ℕ) (v : ℕ) (K : Windo
     delivered = same_ds ∙ have.delivered ∙ ap (delivered_in (setup_of s v)) (sym same_logs);
   }
 
-  -- a device behind a row, whose windows, deliveries and node are these
+  -- a device after a row, whose windows, deliveries and node are these
   of_row : (e : Event) (x : Option Sending) (d : Device) (n : Node) (r : Stepped) (logs : List WindowLog)
       → windows_after t e x n r.node n.stage r.node.stage d.made.windows ≡ logs
       → HaveWindows s v K t logs (d.made.deliveries ++ option_to_list r.delivery) (PowerOn r.node)

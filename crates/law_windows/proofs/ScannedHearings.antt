@@ -1,4 +1,4 @@
--- A node that still scans behind the hearings of a tick has heard no schedule of its rank among them.
+-- A node that still scans after the receptions of a tick has received no schedule of its rank among them.
 use Rattle.std.proofs.Common.{◌≡◌, ◌⊎◌, ℕ, inl, inr, List, [], ◌∷◌, false, ◌==◌, Some, None, Option, Contains, fold, refl, sym, ◌∙◌, ap, subst, eq-eqb}
 use Rattle.std.proofs.Common.{true≢false}
 use Rattle.std.proofs.lemmas.Bool.{cond_both}
@@ -21,7 +21,7 @@ use Rattle.lwb_base.proofs.Elements.{not_in_none, contains_cases}
 use Rattle.law_safety.specs.SetAlarms.{rank_at}
 
 module _ (clock : ℕ → ℕ) (s : Setup) (t : ℕ) where
-  -- the power behind a hearing, by the power before it
+  -- the power after a reception, by the power before it
   abbrev power_after : Power → List ℕ → Power
   power_after (PowerOff boots) p = PowerOff boots
   power_after (PowerOn n) p = PowerOn (node_after n (at_heard s n (clock t) p n.stage))
@@ -94,7 +94,7 @@ module _ (clock : ℕ → ℕ) (s : Setup) (t : ℕ) where
   off_on : (boots : ℕ) (n : Node) → PowerOff boots ≡ PowerOn n → ⊥
   off_on boots n is = cc
 
-  -- the node before a hearing behind which it scans
+  -- the node before a reception after which it scans
   one_back : (p : Power) (q : List ℕ) (n : Node) → power_after p q ≡ PowerOn n → n.stage ≡ Scanning → (p ≡ PowerOn n) × NotOurs n (message_of q)
   one_back (PowerOff boots) q n is scans = absurd (off_on boots n is)
   one_back (PowerOn m) q n is scans = by_stage m.stage refl
@@ -119,7 +119,7 @@ module _ (clock : ℕ → ℕ) (s : Setup) (t : ℕ) where
             )
       ]
 
-  -- and before all hearings of the tick
+  -- and before all receptions of the tick
   pub scanned : (hs : List Reception) (p : Power) (n : Node) → all_after p hs ≡ PowerOn n → n.stage ≡ Scanning
       → (p ≡ PowerOn n) × ((h : Reception) → Contains hs h → NotOurs n (message_of h.packet))
   scanned [] p n is scans = (is, λ h there. absurd (not_in_none h there))
@@ -137,7 +137,7 @@ module _ (clock : ℕ → ℕ) (s : Setup) (t : ℕ) where
       → (d.power ≡ PowerOn n) × ((h : Reception) → Contains hs h → NotOurs n (message_of h.packet))
   scanned_device hs d n on scans = scanned hs d.power n (sym (all_power hs d) ∙ on) scans
 
-  -- a node that scans has joined behind one that is a schedule of its rank
+  -- a node that scans has joined after one that is a schedule of its rank
   one_on : (n : Node) (q : List ℕ) → n.stage ≡ Scanning
       → InSome (power_after (PowerOn n) q) ⊎ ((power_after (PowerOn n) q ≡ PowerOn n) × NotOurs n (message_of q))
   one_on n q stage =

@@ -1,4 +1,4 @@
--- A scanner joins by the first schedule of its rank that it hears in a frame.
+-- A scanning node joins by the first schedule of its rank that it receives in a frame.
 use Rattle.std.proofs.Common.{◌≡◌, ℕ, zero, suc, ◌+◌, ◌/◌, ◌<◌, ◌≤◌, inl, inr, List, ◌∷◌, Bool, true, false, ◌==◌, nat_lt, if◌then◌else◌, min, Some, None}
 use Rattle.std.proofs.Common.{Option, Contains, refl, sym, ◌∙◌, ap, subst, arith, true≢false, eq-eqb}
 use Rattle.std.proofs.Math.Nat.{mul-le-mul_right}
@@ -83,7 +83,7 @@ module _ (s : ScenarioParts) (clocks : ℕ → ℕ → ℕ) (air : List Entry) (
   in_frame t at until now n early (AwaitSlot j) = tt
   in_frame t at until now n early (InWindow j w) = tt
 
-  -- the frame of a node where a line is told
+  -- the frame of a node where a line is given
   at_start : (t : ℕ) → AtTick s clocks air v t → (l : ScriptLine) → frame_start s l.frame ≡ t → (n : Node) → InFrame s clocks v t n → t ≤ frame_start s n.frame
   at_start t at l now n frame =
       let start = line_starts s at.run.driven.sound t l now in
@@ -130,7 +130,7 @@ module _ (s : ScenarioParts) (clocks : ℕ → ℕ → ℕ) (air : List Entry) (
   closes until m j true = tt
   closes until m j false = tt
 
-  -- where all hearings of the tick have been taken
+  -- where all receptions of the tick have been taken
   all_taken : (t : ℕ) (d : Device) → ScansBy s air v t d.power → d ≡ device_at s v (clocks v) (heard_by air v) t End → ScansBy s air v (suc t) d.power
   all_taken t d scans enters = by_power d.power refl scans
     where
@@ -167,7 +167,7 @@ module _ (s : ScenarioParts) (clocks : ℕ → ℕ → ℕ) (air : List Entry) (
   goes_on t Start d is enters = is
   goes_on t Over d is enters = is
 
-  -- the windows behind a row
+  -- the windows after a row
   same_firsts : (logs logs' : List WindowLog) → logs' ≡ logs → Firsts logs → Firsts logs'
   same_firsts logs logs' same firsts = subst Firsts (sym same) firsts
 

@@ -1,4 +1,4 @@
--- The last of the sendings that ended in a window, and how many have ended by a tick.
+-- The last of the transmissions that ended in a window, and how many have ended by a tick.
 use Rattle.std.proofs.Common.{◌≡◌, ℕ, ◌<◌, ◌≤◌, inl, inr, List, [], ◌∷◌, Bool, true, false, nat_le, Some, None, length, filter_map}
 use Rattle.std.proofs.Common.{Contains, AllPairs, refl, sym, ◌∙◌, ap, arith}
 use Rattle.std.specs.List.{last_or}

@@ -1,4 +1,4 @@
--- Whatever a node hears in the slot of a window ends after the opening, or is the schedule by which the window opens.
+-- Whatever a node receives in the slot of a window ends after the opening, or is the schedule by which the window opens.
 use Rattle.std.proofs.Common.{◌≡◌, ℕ, ◌<◌, ◌≤◌, ◌⊎◌, inl, inr, List, Bool, true, false, Some, Contains, refl, sym, ◌∙◌, ap, subst, arith, length}
 use Rattle.std.specs.Prelude.{slice_index, slice_set}
 use Rattle.std.proofs.lemmas.Bool.{cases_lt}
@@ -53,7 +53,7 @@ module _ (s : ScenarioParts) (clocks : ℕ → ℕ → ℕ) (air : List Entry) (
     opens : OpensByHearing s clocks v w
     opens = subst (λ (b : Bool). OpensBy s clocks v b w) scans (open_by_rows s clocks air run v known (run_end s) within w there).by
 
-    -- the schedule by which the window of a scanner opens
+    -- the schedule by which the window of a scanning node opens
     was : HeardThen s air v w w.opened opens.packet
     was = (history_on_air s clocks air run v known (run_end s) within w there).then_ (HeardAt w.opened opens.packet) opens.happened
 
@@ -92,7 +92,7 @@ module _ (s : ScenarioParts) (clocks : ℕ → ℕ → ℕ) (air : List Entry) (
         ∙ ap (λ (o : Sending). body o.packet) (one_origin x mine of_slot)
         ∙ sym (of_flood s clocks air whole was.heard sent).same
 
-    -- the scanner heard nothing of it before
+    -- the scanning node received nothing of it before
     none_before : (x : Sending) → HasHeardEntry air v x → IsOfSlot s w x → w.opened ≤ x.end
     none_before x is of_slot = elim (cases_lt x.end w.opened) [
       | inl before ↦ absurd (scanners_join_first s clocks air run v known (run_end s) within w there scans x opens.schedule is of_slot.frame before
@@ -100,7 +100,7 @@ module _ (s : ScenarioParts) (clocks : ℕ → ℕ → ℕ) (air : List Entry) (
       | inr since ↦ since
     ]
 
-    -- and as the window opens it hears this one alone
+    -- and as the window opens it receives this one alone
     as_it_opens : (x : Sending) → HasHeardEntry air v x → IsOfSlot s w x → x.end ≡ w.opened → Contains w.happenings (HeardAt x.end x.packet)
     as_it_opens x is of_slot now =
         let mine = (run.heedful.heard v x is).sent in

@@ -41,7 +41,7 @@ module _ (rows : AllRows) (s : ScenarioParts) (clocks : ℕ → ℕ → ℕ) (ai
   fits : Fits s.profile (budget_of s.profile)
   fits = run_fits s run.driven.sound
 
-  -- each sending of a run is of its flood
+  -- each transmission of a run is of its flood
   pub of_flood : (x : Sending) → Contains (sendings_of air) x → IsOfFlood s clocks air x
   of_flood x there =
       let in_run = (sent_lasts s clocks air run.heedful.trails x there).0 in
@@ -71,7 +71,7 @@ module _ (rows : AllRows) (s : ScenarioParts) (clocks : ℕ → ℕ → ℕ) (ai
         subst (λ (r : ℕ). GoodFor s clocks r v late.zero w.frame (closing_offset s.profile late.before)) by_row.rank_before
         (subst (λ (f : ℕ). GoodFor s clocks (rank_at w.before) v late.zero f (closing_offset s.profile late.before)) by_row.frame_before late.good)
 
-    -- a sending of the channel and frame, by the names of the window
+    -- a transmission of the channel and frame, by the names of the window
     module _ (x : Sending) (there : Contains (sendings_of air) x) (channel : x.rank ≡ w.rank) (frame : frame_of_sending s.profile x ≡ w.frame) where
       flood : IsOfFlood s clocks air x
       flood = of_flood x there
@@ -103,7 +103,7 @@ module _ (rows : AllRows) (s : ScenarioParts) (clocks : ℕ → ℕ → ℕ) (ai
       short : length x.packet ≤ b.packet
       short = packet_short s clocks air run x flood
 
-      -- a sending of a later slot starts when the window has closed
+      -- a transmission of a later slot starts when the window has closed
       not_later : w.slot < slot_of_sending x → closing_of s clocks air v w < x.start
       not_later less =
           let starts = closes_before_next_starts p b fits host

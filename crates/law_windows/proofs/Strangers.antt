@@ -1,4 +1,4 @@
--- An id of no node is told nothing, so it stays off, does nothing, and has no windows.
+-- An id of no node is given nothing, so it stays off, does nothing, and has no windows.
 use Rattle.std.proofs.Common.{◌≡◌, ℕ, zero, suc, ◌+◌, List, [], ◌∷◌, Bool, true, false, ◌==◌, ◌&&◌, if◌then◌else◌, filter, fold, Contains, refl, sym, ◌∙◌, ap}
 use Rattle.std.proofs.Common.{subst, eqb-true, true≢false}
 use Rattle.std.proofs.lemmas.List.Elements.{All-contains}
@@ -27,7 +27,7 @@ none_of s v t (l ∷ ls) none = by_node (l.node == v) refl (none_of s v t ls (λ
     by_node false is empty = empty
     by_node true is empty = absurd (none l (contains_head l ls) (eqb-true l.node v is))
 
--- off, it hears nothing
+-- off, it receives nothing
 hears_nothing : (clock : ℕ → ℕ) (s : Setup) (t : ℕ) (hs : List Reception) → fold (device_after_reception clock s t) at_rest hs ≡ at_rest
 hears_nothing clock s t [] = refl
 hears_nothing clock s t (h ∷ hs) = hears_nothing clock s t hs

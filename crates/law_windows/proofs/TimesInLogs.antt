@@ -1,4 +1,4 @@
--- How long a radio was on, by the tunings of a lawful log.
+-- How long a radio was on, by the tunings of a valid log.
 use Rattle.std.proofs.Common.{◌≡◌, ℕ, suc, ◌+◌, ◌<◌, ◌≤◌, ◌⊎◌, inl, inr, List, [], ◌∷◌, All, Contains, ◌==◌, true, sum_by, refl, sym, ◌∙◌, subst}
 use Rattle.std.proofs.Common.{arith, eq-eqb, eqb-true}
 use Rattle.std.specs.Prelude.{IsPermutation}

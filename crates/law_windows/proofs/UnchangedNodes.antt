@@ -49,12 +49,12 @@ module _ (s : ScenarioParts) (clocks : ℕ → ℕ → ℕ) (air : List Entry) (
   pub base : (t : ℕ) (phase : Phase) (d : Device) → Now All s t phase d → Now (P s clocks air v (Rows s clocks v)) s t phase d
   base t phase d now = record { in_run = now.in_run; known = now.known; holds = now.holds.0 }
 
-  -- no line is told within a frame
+  -- no line is given within a frame
   pub at_lines : (t : ℕ) → AtTick s clocks air v t → (d : Device) (l : ScriptLine) → IsNextLineOf s v (clocks v) (heard_by air v) t l d → (p : Power)
       → UnchangedIn s clocks air v t Lines p
   at_lines t at d l next p began = absurd (let start = line_starts s at.run.driven.sound t l next.now in omega (arith, began, start))
 
-  -- behind a row whose node is at another place
+  -- after a row whose node is at another place
   pub row_leaves : (t : ℕ) (e : Event) (x : Option Sending) (d : Device) (n : Node) (r : Stepped)
       → UnchangedAt s clocks air v (t / s.profile.frame) r.node r.node.stage
       → UnchangedBy s clocks air v (t / s.profile.frame) (device_after_row (clocks v) (setup_of s v) t e x d n r).power

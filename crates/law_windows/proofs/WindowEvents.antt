@@ -158,7 +158,7 @@ module _ (s : ScenarioParts) (clocks : ℕ → ℕ → ℕ) (air : List Entry) (
   pub closing_known : (c : Closing) × (w.closed ≡ Some c) × (c.tick ≡ closing_of s clocks air v w) × (c.tick ≤ run_end s)
   closing_known = (closing.0, closing.1, closing_tick, in_run)
 
-  -- what was heard in it is of its slot
+  -- what was received in it is of its slot
   heard_of : (x : Sending) → Contains events (Heard x) → HasHeardEntry air v x × IsOfSlot s w x
   heard_of x in_it =
       let is = are_events s air v w w.happenings history.then_ (Heard x) in_it in

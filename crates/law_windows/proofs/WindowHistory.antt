@@ -119,7 +119,7 @@ module _ (s : ScenarioParts) (clocks : ℕ → ℕ → ℕ) (air : List Entry) (
           opened = omega (arith, opened);
         }
 
-    -- what has been sent at the end of hearings was sent before the tick
+    -- what has been sent at the end of receptions was sent before the tick
     sent_at_end : (d : Device) → d ≡ device_at s v (clocks v) (heard_by air v) t End → d.made.sent ≡ (device_in s clocks air v t).made.sent
     sent_at_end d enters =
         let before = device_in s clocks air v t in
@@ -127,7 +127,7 @@ module _ (s : ScenarioParts) (clocks : ℕ → ℕ → ℕ) (air : List Entry) (
         ∙ in_hearings (λ (e : Device). e.made.sent ≡ before.made.sent) s v (clocks v) (heard_by air v) t before
         (kept_sent (λ (xs : List Sending). xs ≡ before.made.sent) (clocks v) (setup_of s v) t) refl
 
-    -- the sending that ends is of the window
+    -- the transmission that ends is of the window
     module _ (d : Device) (y : Sending) (n : Node) (j : ℕ) (w : Window) (x : WindowLog) (fine : IsFine s clocks air v t End d)
         (enters : d ≡ device_at s v (clocks v) (heard_by air v) t End) (own : d.sending ≡ Some y) (ends : y.end ≡ t)
         (on : d.power ≡ PowerOn n) (stage : n.stage ≡ InWindow j w) (is : IsOpenWindow n j w x) where

@@ -21,7 +21,7 @@ module _ (p : Numbers) (b : Budget) (fits : Fits p b) (H L : ℕ → ℕ) (host 
     pub late : tick_at_offset L z (opening_offset p j) ≤ opened
 
   module _ (at : (opened ≡ tick_at_offset L z (opening_offset p j)) ⊎ OpenedLate) where
-    -- the point q of any good zero comes as long after the opening as q lies behind it, but for the difference of two zeros
+    -- the point q of any good zero comes as long after the opening as q comes after it, but for the difference of two zeros
     pub from_opening : (M : ℕ → ℕ) (y q : ℕ) → IsClock M → Good p b H M y f q → q ≤ greatest p b
         → Near (opened + q) (tick_at_offset M y q + opening_offset p j) (apart b)
     from_opening M y q other g low =
@@ -48,7 +48,7 @@ module _ (p : Numbers) (b : Budget) (fits : Fits p b) (H L : ℕ → ℕ) (host 
             (omega (arith, k)) in
         omega (arith, all)
 
-    -- until a sending of its flood with counter c ends, which another zero began
+    -- until a transmission of its flood with counter c ends, which another zero began
     pub sent_for : (M : ℕ → ℕ) (y c n start : ℕ) → IsClock M → Good p b H M y f (starting_offset p j)
         → Near start (tick_at_offset M y (starting_offset p j) + c * step p n) c
         → Near (start + airtime p n) (opened + (p.listen + (c + 1) * step p n - p.turn)) (apart b + c)

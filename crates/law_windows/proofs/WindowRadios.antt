@@ -44,7 +44,7 @@ use Rattle.law_windows.proofs.WindowHistory.{IsHistory, history_steps}
 use Rattle.law_windows.proofs.WindowsSince.{HasEvolved, since_then}
 use Rattle.law_windows.proofs.WindowWalk.{on_in, windows_behind}
 
--- ---- sendings are counted by the flood
+-- ---- transmissions are counted by the flood
 
 pub heard_sent : (f : FloodState) (p : List ℕ) → (after_heard f p).sent ≡ f.sent
 heard_sent f p = of_test (fits f p)

@@ -65,13 +65,13 @@ module _ (s : ScenarioParts) (clocks : ℕ → ℕ → ℕ) (air : List Entry) (
         before = λ x in_made. (there x in_made).below;
       }
 
-  -- a node that a script line is told rests
+  -- a node that a script line is given rests
   pub told_rests : (t : ℕ) → AtTick s clocks air v t → (d : Device) (l : ScriptLine) (n : Node) → IsFine s clocks air v t Lines d
       → IsNextLineOf s v (clocks v) (heard_by air v) t l d → d.power ≡ PowerOn n → NoWindow n.stage
   told_rests t at d l n fine next on =
       no_window n.stage (rests_at_start s clocks v t n (line_starts s at.run.driven.sound t l next.now) (on_in t Lines d n fine on).frame)
 
-  -- while an own sending runs, the flood of the open window waits
+  -- while an own transmission runs, the flood of the open window waits
   pub waits : (t : ℕ) (d : Device) (x : Sending) (n : Node) (j : ℕ) (w : Window) → IsFine s clocks air v t End d → d.sending ≡ Some x
       → d.power ≡ PowerOn n → n.stage ≡ InWindow j w → w.flood.waiting ≡ true
   waits t d x n j w fine sending on stage =
@@ -89,7 +89,7 @@ module _ (s : ScenarioParts) (clocks : ℕ → ℕ → ℕ) (air : List Entry) (
     fine : (t : ℕ) (phase : Phase) (d : Device) → Now P s t phase d → Now (IsFine s clocks air v) s t phase d
     fine t phase d now = record { in_run = now.in_run; known = now.known; holds = now.holds.0 }
 
-    -- nothing is open at a node that is told something
+    -- nothing is open at a node that is given something
     told_on : (t : ℕ) (d : Device) (n : Node) (core : Core) → NoWindow n.stage → d.power ≡ PowerOn n → Has t Lines d → Has t Lines (with_new_core d n core)
     told_on t d n core none on have = record {
       each = have.each;

@@ -15,7 +15,7 @@ use Rattle.law_trails.proofs.DriftingClocks.{member_clock}
 use Rattle.law_trails.proofs.MemberSteps.{member_stands}
 use Rattle.law_windows.specs.WorkedCourses.{AwaitsInFrame9, ClosesSlot0, EndsFrame5, OpensSlot0, OpensSlot1, RestsInFrame7, StandsInFrame7And9}
 
--- from the tick behind the one before on
+-- from the tick after the one before on
 abbrev from_of : ℕ → List DueDevice → ℕ → ℕ
 from_of a [] i = a
 from_of a (x ∷ xs) zero = a

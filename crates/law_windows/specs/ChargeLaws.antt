@@ -16,7 +16,7 @@ use Rattle.law_safety.specs.Invariant.{IsDrivenWell}
 use Rattle.law_windows.specs.WindowLaws.{OfLawfulWindows}
 use Rattle.law_windows.specs.RadioTimes.{on_within}
 
--- from its opening by its alarm to its closing the radio of v was on for its charge, but for so many ticks
+-- from its opening by its alarm to its closing the radio of v was on for its charge, but for this many ticks
 abbrev pub IsNearCharge : ℕ → ScenarioParts → List Entry → ℕ → WindowLog → Type 0
 IsNearCharge bound s air v w =
     w.by_alarm ≡ true → IfSome w.closed (λ c. Near (on_within air v w.opened c.tick) (charge_of_window s w) bound)
@@ -37,7 +37,7 @@ on_until air v w (Some c) = on_within air v w.opened c.tick
 abbrev pub on_in : List Entry → ℕ → WindowLog → ℕ
 on_in air v w = if w.by_alarm then on_until air v w w.closed else 0
 
--- so all windows of v together cost what its account says of them, but for so many ticks each
+-- so all windows of v together cost what its account says of them, but for this many ticks each
 abbrev pub WindowsTogether : Type 0
 WindowsTogether =
     (s : ScenarioParts) (clocks : ℕ → ℕ → ℕ) (air : List Entry) → IsDrivenWell s clocks → Lawful s clocks air

@@ -1,4 +1,4 @@
--- Where nodes stand as a frame begins, and that ids of no node have no windows.
+-- Where nodes are as a frame begins, and that ids of no node have no windows.
 use Rattle.std.specs.Prelude.{◌≡◌, ℕ, ◌<◌, List, Contains, true, false, None}
 use Rattle.node_core.specs.Nodes.{Node}
 use Rattle.node_core.specs.Rows.{stage_for}
@@ -17,7 +17,7 @@ pub record StandsByTune (n : Node) : Type 0 where
   pub place : n.stage ≡ stage_for n.core.tune n.frame
   pub fresh : n.core.own_slot ≡ None
 
--- behind the script lines of each frame a node that is on does so
+-- after the script lines of each frame a node that is on does so
 abbrev pub PlacesLaw : Type 0
 PlacesLaw = (s : ScenarioParts) (clocks : ℕ → ℕ → ℕ) (air : List Entry) → IsLawfulRun s clocks air
     → (v f : ℕ) → knows s.nodes v ≡ true → f < s.frames → (n : Node) → power_at s clocks air v f ≡ PowerOn n → StandsByTune n

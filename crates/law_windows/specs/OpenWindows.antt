@@ -23,7 +23,7 @@ pub record HasClosedBy (t : ℕ) (x : WindowLog) : Type 0 where
   pub is : x.closed ≡ Some closing
   pub by : closing.tick ≤ t
 
--- each has closed before the next opened; the last stands first
+-- each has closed before the next opened; the last is first
 abbrev pub CloseBeforeNext : List WindowLog → Type 0
 CloseBeforeNext [] = ⊤
 CloseBeforeNext (x ∷ xs) = ((y : WindowLog) → Contains xs y → HasClosedBy x.opened y) × CloseBeforeNext xs

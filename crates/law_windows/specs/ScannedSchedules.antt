@@ -1,4 +1,4 @@
--- A scanner joins by the first schedule of its rank that it hears in a frame.
+-- A scanning node joins by the first schedule of its rank that it receives in a frame.
 use Rattle.std.specs.Prelude.{◌≡◌, ⊤, ℕ, ◌<◌, List, Some, false}
 use Rattle.lwb_base.specs.Messages.{Schedule}
 use Rattle.bus_rules.specs.Slots.{ScheduleOf}
@@ -15,7 +15,7 @@ use Rattle.air_log.specs.Entries.{HasHeardEntry}
 use Rattle.air_log.specs.WindowLogs.{WindowLog}
 use Rattle.law_safety.specs.SetAlarms.{rank_at}
 
--- in this frame v has heard no schedule of this rank that ended before this tick
+-- in this frame v has received no schedule of this rank that ended before this tick
 abbrev pub NoneHeard : ScenarioParts → List Entry → ℕ → ℕ → ℕ → ℕ → Type 0
 NoneHeard s air v rank frame until =
     (x : Sending) (y : Schedule) → HasHeardEntry air v x → frame_of_sending s.profile x ≡ frame → x.end < until
@@ -33,6 +33,6 @@ abbrev pub ScansBy : ScenarioParts → List Entry → ℕ → ℕ → Power → 
 ScansBy s air v until (PowerOff boots) = ⊤
 ScansBy s air v until (PowerOn n) = ScansAt s air v until n n.stage
 
--- and so before a window that a heard schedule opened
+-- and so before a window that a received schedule opened
 abbrev pub JoinsFirst : ScenarioParts → List Entry → ℕ → WindowLog → Type 0
 JoinsFirst s air v w = w.by_alarm ≡ false → NoneHeard s air v w.rank w.frame w.opened

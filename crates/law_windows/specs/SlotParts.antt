@@ -24,7 +24,7 @@ IsPartOf s air rank frame j part = ((j ≡ 0) × (part ≡ Opening)) ⊎ IsInPla
 abbrev pub IsForPart : ScenarioParts → List Entry → WindowLog → Type 0
 IsForPart s air w = IsPartOf s air w.rank w.frame w.slot w.last.part
 
--- and its flood is one of the slot: of the kind of that part, and of as many sendings at most as the scenario says
+-- and its flood is one of the slot: of the kind of that part, and of as many transmissions at most as the scenario says
 pub record IsOfItsSlot (s : ScenarioParts) (w : WindowLog) : Type 0 where
   pub kind : w.last.flood.kind ≡ kind_for w.last.part
   pub slot : w.last.flood.slot ≡ w.slot

@@ -1,4 +1,4 @@
--- Sendings and the windows of their slot.
+-- Transmissions and the windows of their slot.
 use Rattle.std.specs.Prelude.{◌≡◌, ℕ, ◌<◌, ◌≤◌, List, Contains, true}
 use Rattle.scenario_text.specs.ScenarioParts.{ScenarioParts}
 use Rattle.radio_model.specs.declared.sending.Sending.{Sending}

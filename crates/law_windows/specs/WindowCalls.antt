@@ -1,4 +1,4 @@
--- What a node sends in a window: what it says there, and the relays of what it heard.
+-- What a node sends in a window: what it says there, and the relays of what it received.
 use Rattle.std.specs.Prelude.{◌≡◌, ℕ, ◌+◌, ◌⊎◌, List, ◌∷◌, ◌++◌, true, Some, None, Contains, fold}
 use Rattle.std.specs.declared.option.Option.{Option}
 use Rattle.std.specs.Option.{IfSome}
@@ -26,7 +26,7 @@ module _ (s : ScenarioParts) (clocks : ℕ → ℕ → ℕ) (v : ℕ) where
       pub packet_is : packet ≡ bytes_of message w.slot
       pub at : tick ≡ tick_at_offset (clocks v) w.after.zero (starting_offset s.profile w.slot)
 
-    -- the flood answers what was heard with a relay, a turnaround after it
+    -- the flood answers what was received with a relay, a turnaround after it
     pub record RelaysIn : Type 0 where
       pub earlier : List Happening
       pub until : ℕ
@@ -40,7 +40,7 @@ module _ (s : ScenarioParts) (clocks : ℕ → ℕ → ℕ) (v : ℕ) where
     abbrev pub CallsFor : Type 0
     CallsFor = BeginsIn ⊎ RelaysIn
 
-  -- a sending was called for by a window of its slot
+  -- a transmission was called for by a window of its slot
   pub record IsCalled (logs : List WindowLog) (x : Sending) : Type 0 where
     pub window : WindowLog
     pub there : Contains logs window

@@ -14,7 +14,7 @@ abbrev pub happening_of : Event → Happening
 happening_of (Heard x) = HeardAt x.end x.packet
 happening_of (Ended x) = SentAt x.end x.packet
 
--- its events: all hearings of its slot, and all own sendings of it. The flood of the window is what they have made of it
+-- its events: all receptions of its slot, and all own transmissions of it. The flood of the window is what they have made of it
 pub record WindowHasEvents (s : ScenarioParts) (air : List Entry) (v : ℕ) (w : WindowLog) : Type 0 where
   pub events : List Event
   pub happened : map happening_of events ≡ w.happenings

@@ -13,7 +13,7 @@ use Rattle.air_log.specs.WindowLogs.{WindowLog, Happening, HeardAt, SentAt}
 abbrev pub initial_message : Setup → WindowLog → Option Message
 initial_message s w = (opened_slot s w.before.frame (part_of w.before.core.plan w.slot) w.before.core).message
 
--- as it opens by its alarm; a scanner listens, and the schedule by which its window opens is the first that happens
+-- as it opens by its alarm; a scanning node listens, and the schedule by which its window opens is the first that happens
 abbrev pub flood_at_first : Setup → Bool → WindowLog → FloodState
 flood_at_first s true w = flood_for s (part_of w.before.core.plan w.slot) w.slot (initial_message s w)
 flood_at_first s false w = listening Kind.TheVariants.Schedule w.slot s.sends

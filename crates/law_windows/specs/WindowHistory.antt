@@ -14,7 +14,7 @@ tick_of_happening (HeardAt t p) = t
 tick_of_happening (SentAt t p) = t
 
 module _ (s : ScenarioParts) (air : List Entry) (v : ℕ) (w : WindowLog) where
-  -- v heard this packet until then, in the frame and on the channel of the window
+  -- v received this packet until then, in the frame and on the channel of the window
   pub record HeardThen (tick : ℕ) (packet : List ℕ) : Type 0 where
     pub heard : Sending
     pub there : HasHeardEntry air v heard
@@ -43,7 +43,7 @@ module _ (s : ScenarioParts) (air : List Entry) (v : ℕ) (w : WindowLog) where
     pub until : IfSome w.closed (λ c. (e : Happening) → Contains w.happenings e → tick_of_happening e ≤ c.tick)
     pub in_turn : AllPairs (λ d e. tick_of_happening d ≤ tick_of_happening e) w.happenings
 
--- whatever v hears while the window is open, up to a tick, has happened in it
+-- whatever v receives while the window is open, up to a tick, has happened in it
 abbrev pub HearsAll : List Entry → ℕ → ℕ → WindowLog → Type 0
 HearsAll air v until w = (x : Sending) → HasHeardEntry air v x → w.opened < x.end → x.end < until → IfSome w.closed (λ c. x.end < c.tick)
     → Contains w.happenings (HeardAt x.end x.packet)

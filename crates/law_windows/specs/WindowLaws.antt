@@ -31,7 +31,7 @@ abbrev pub OfAllDevices : (ScenarioParts → (ℕ → ℕ → ℕ) → List Entr
 OfAllDevices Is = (s : ScenarioParts) (clocks : ℕ → ℕ → ℕ) (air : List Entry) → IsObedientRun s clocks air
     → (v : ℕ) → knows s.nodes v ≡ true → (t : ℕ) → t ≤ run_end s → Is s clocks air v t (device_in s clocks air v t)
 
--- a law of each window, as it stands before a tick
+-- a law of each window, as it is before a tick
 abbrev pub OfAllWindows : (ScenarioParts → (ℕ → ℕ → ℕ) → List Entry → ℕ → WindowLog → Type 0) → Type 0
 OfAllWindows Is = OfAllDevices (λ s clocks air v t d. (w : WindowLog) → Contains d.made.windows w → Is s clocks air v w)
 
@@ -90,7 +90,7 @@ HistoryIsOnAir = OfAllWindows (λ s clocks air v w. HasHappened s air v w)
 abbrev pub NodesSendAsCalled : Type 0
 NodesSendAsCalled = OfAllDevices (λ s clocks air v t d. SendsAsCalled s clocks v d.made.windows d.ordered d.sending d.made.sent)
 
--- what its node hears while a window is open has happened in it
+-- what its node receives while a window is open has happened in it
 abbrev pub HearingsHappen : Type 0
 HearingsHappen = OfAllDevices (λ s clocks air v t d. (w : WindowLog) → Contains d.made.windows w → HearsAll air v t w)
 
@@ -106,7 +106,7 @@ RadiosAreOnInWindows = OfAllDevices (λ s clocks air v t d. (w : WindowLog) → 
 abbrev pub FramesBeginSo : Type 0
 FramesBeginSo = OfAllWindows (λ s clocks air v w. ComesFirst s clocks air v w)
 
--- a scanner joins by the first schedule of its rank that it hears in a frame
+-- a scanning node joins by the first schedule of its rank that it receives in a frame
 abbrev pub ScannersJoinFirst : Type 0
 ScannersJoinFirst = OfAllWindows (λ s clocks air v w. JoinsFirst s air v w)
 
@@ -125,13 +125,13 @@ OnePartASlot = (s : ScenarioParts) (clocks : ℕ → ℕ → ℕ) (air : List En
     → (w x : WindowLog) → Contains (trail_in s clocks air v).made.windows w → Contains (trail_in s clocks air u).made.windows x
     → SameWindowSlot w x → w.last.part ≡ x.last.part
 
--- a law of each window of a lawful log
+-- a law of each window of a valid log
 abbrev pub OfLawfulWindows : (ScenarioParts → (ℕ → ℕ → ℕ) → List Entry → ℕ → WindowLog → Type 0) → Type 0
 OfLawfulWindows Is = (s : ScenarioParts) (clocks : ℕ → ℕ → ℕ) (air : List Entry) → IsDrivenWell s clocks → Lawful s clocks air
     → (v : ℕ) → knows s.nodes v ≡ true → (w : WindowLog) → Contains (trail_in s clocks air v).made.windows w
     → Is s clocks air v w
 
--- its events are what its node hears and sends in its slot
+-- its events are what its node receives and sends in its slot
 abbrev pub WindowsHaveEvents : Type 0
 WindowsHaveEvents = OfLawfulWindows (λ s clocks air v w. WindowHasEvents s air v w)
 

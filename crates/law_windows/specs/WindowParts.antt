@@ -38,7 +38,7 @@ module _ (s : ScenarioParts) (clocks : ℕ → ℕ → ℕ) (air : List Entry) (
     pub packet_is : x.packet ≡ bytes_of message w.slot
     pub at : x.start ≡ tick_at_offset (clocks v) w.after.zero (starting_offset s.profile w.slot)
 
-  -- the flood answered a hearing among these events with its packet, a turnaround before it starts
+  -- the flood answered a reception among these events with its packet, a turnaround before it starts
   pub record IsAnswer (events : List Event) (x : Sending) : Type 0 where
     pub heard : Sending
     pub flood : FloodState
@@ -46,11 +46,11 @@ module _ (s : ScenarioParts) (clocks : ℕ → ℕ → ℕ) (air : List Entry) (
     pub answer : reply_to flood heard.packet ≡ Relay x.packet
     pub at : x.start ≡ due (clocks v) (clocks v heard.end + s.profile.turn)
 
-  -- its last sending that may be ends then, if it has so many
+  -- its last transmission that may be ends then, if it has this many
   abbrev pub off_by : List Event → ℕ → ℕ
   off_by events far = get_or (own_ends events) (s.sends - 1) far
 
-  -- through what is sent in the slot since the opening it is tuned exactly where that ends by then
+  -- through what is sent in the slot since the opening it is tuned if and only if that ends by then
   pub record IsTunedBy (events : List Event) : Type 0 where
     pub tuned : (x : Sending) (far : ℕ) → Contains (sendings_of air) x → IsOfSlot s w x → w.opened ≤ x.start
         → x.end ≤ off_by events far → TunedThrough (scene_of s.profile s.trace air) v x

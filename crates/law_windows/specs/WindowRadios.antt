@@ -11,7 +11,7 @@ abbrev pub is_sent_by : ℕ → Happening → Bool
 is_sent_by k (HeardAt t p) = false
 is_sent_by k (SentAt t p) = nat_le t k
 
--- how many of the own sendings have ended by tick k
+-- how many of the own transmissions have ended by tick k
 abbrev pub sendings_in : ℕ → List Happening → ℕ
 sendings_in k [] = 0
 sendings_in k (e ∷ es) = (if is_sent_by k e then 1 else 0) + sendings_in k es
@@ -24,7 +24,7 @@ pub record IsOpenAt (w : WindowLog) (k : ℕ) : Type 0 where
   pub since : w.opened ≤ k
   pub until : IfSome w.closed (λ c. k < c.tick)
 
--- at each tick of a window up to the present one its node is tuned, by the log, to the window's channel while fewer sendings
+-- at each tick of a window up to the present one its node is tuned, by the log, to the window's channel while fewer transmissions
 -- have ended than it sends at most, and to none from then on
 pub record IsTunedThen (s : ScenarioParts) (air : List Entry) (v now : ℕ) (w : WindowLog) : Type 0 where
   pub tuned : (k : ℕ) → k < now → IsOpenAt w k → sendings_by k w < s.sends → IsTuned (scene_of s.profile s.trace air) v w.rank k

@@ -22,7 +22,7 @@ module _ (s : ScenarioParts) (clocks : ℕ → ℕ → ℕ) (v : ℕ) where
     pub awaited : w.before.stage ≡ AwaitSlot w.slot
     pub after : w.after ≡ (window_opens (setup_of s v) w.before w.slot).node
 
-  -- a schedule of its rank that the node heard while it scanned
+  -- a schedule of its rank that the node received while it scanned
   pub record OpensByHearing (w : WindowLog) : Type 0 where
     pub scanned : w.before.stage ≡ Scanning
     pub packet : List ℕ

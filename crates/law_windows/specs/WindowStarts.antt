@@ -16,7 +16,7 @@ module _ (s : ScenarioParts) (clocks : ℕ → ℕ → ℕ) (air : List Entry) (
   abbrev pub IsAtStart : ℕ → Node → Type 0
   IsAtStart f n = (at_frame s v (clocks v) (heard_by air v) f).power ≡ PowerOn n
 
-  -- a window of slot 0 that opened by its alarm, and one that a heard schedule opened
+  -- a window of slot 0 that opened by its alarm, and one that a received schedule opened
   pub record ComesFirst (w : WindowLog) : Type 0 where
     pub opening : w.by_alarm ≡ true → w.slot ≡ 0 → IsAtStart w.frame w.before
     pub joining : w.by_alarm ≡ false → IsAtStart w.frame w.before
@@ -33,7 +33,7 @@ module _ (s : ScenarioParts) (clocks : ℕ → ℕ → ℕ) (air : List Entry) (
   UnchangedBy f (PowerOff boots) = ⊤
   UnchangedBy f (PowerOn n) = UnchangedAt f n n.stage
 
-  -- in a phase of tick t, the script lines of whose frame have been told
+  -- in a phase of tick t, the script lines of whose frame have been given
   abbrev pub UnchangedIn : ℕ → Phase → Power → Type 0
   UnchangedIn t Lines p = frame_start s (t / s.profile.frame) < t → UnchangedBy (t / s.profile.frame) p
   UnchangedIn t Hearings p = UnchangedBy (t / s.profile.frame) p

@@ -31,7 +31,7 @@ use Rattle.law_safety.specs.Rows.{IsFine}
 use Rattle.law_windows.specs.OpenWindows.{CloseBeforeNext, ClosedBy, IsOpenWindow, StandBy}
 use Rattle.law_windows.specs.WindowDeliveries.{delivered_in}
 
--- the window that the row makes, where a slot's alarm is due and where a scanner hears a schedule
+-- the window that the row makes, where a slot's alarm is due and where a scanning node receives a schedule
 abbrev pub begun_window : Setup → Node → ℕ → Window
 begun_window s n j =
     let part = part_of n.core.plan j in
@@ -47,7 +47,7 @@ joined_window s now p y =
       reference = Some (zero_from s.profile now p);
     }
 
--- what is kept of them, and of a window in which a packet was heard, an own sending has ended, and that closes
+-- what is kept of them, and of a window in which a packet was received, an own transmission has ended, and that closes
 abbrev pub begun_log : Setup → ℕ → Node → ℕ → WindowLog
 begun_log s t n j = opened_log t Alarm None n (window_opens s n j).node j (begun_window s n j)
 
@@ -64,7 +64,7 @@ sent_log t w p x = record x { happenings = x.happenings ++ SentAt t p ∷ []; la
 abbrev pub log_after_closing : Setup → ℕ → Node → ℕ → Window → WindowLog → WindowLog
 log_after_closing s t n j w x = record x { closed = Some (record { tick = t; after = (window_closes s n j w).node }) }
 
--- up to which tick all hearings have been taken in a phase of tick t
+-- up to which tick all receptions have been taken in a phase of tick t
 abbrev pub taken_in : ℕ → Phase → ℕ
 taken_in t Lines = t
 taken_in t Hearings = t
@@ -85,8 +85,8 @@ module _ (s : ScenarioParts) (v : ℕ) (Q : WindowLog → Type 0) (now : ℕ) wh
   abbrev pub HasWindows : Device → Type 0
   HasWindows d = HaveWindows d.made.windows d.made.deliveries d.power
 
--- K is known of each window at a tick, all hearings that end before another having been taken. It is kept by each step of
--- tick t that opens a window, goes on in it or closes it, where the hearings of the tick have been taken, and by the next
+-- K is known of each window at a tick, all receptions that end before another having been taken. It is kept by each step of
+-- tick t that opens a window, goes on in it or closes it, where the receptions of the tick have been taken, and by the next
 -- tick
 module _ (s : ScenarioParts) (clocks : ℕ → ℕ → ℕ) (air : List Entry) (v : ℕ) (K : ℕ → ℕ → WindowLog → Type 0) where
   module _ (t : ℕ) where

@@ -12,7 +12,7 @@ use Rattle.air_log.specs.Trails.{frame_start}
 use Rattle.law_safety.specs.RoundZeros.{RefFor, GoodFor}
 use Rattle.law_safety.specs.SetAlarms.{OpensLate, tick_by}
 
--- a sending is of the slot of a window
+-- a transmission is of the slot of a window
 pub record IsOfSlot (s : ScenarioParts) (w : WindowLog) (x : Sending) : Type 0 where
   pub channel : x.rank ≡ w.rank
   pub frame : frame_of_sending s.profile x ≡ w.frame
@@ -26,7 +26,7 @@ module _ (s : ScenarioParts) (clocks : ℕ → ℕ → ℕ) (air : List Entry) (
     pub zero : w.before.zero ≡ w.after.zero
     pub at : (w.opened ≡ tick_by s clocks v w.before (opening_offset s.profile w.slot)) ⊎ OpensLate s clocks v w.before w.slot w.opened
 
-  -- a scanner's opens at the end of a schedule of the slot that it heard, with a zero by it
+  -- a scanning node's opens at the end of a schedule of the slot that it received, with a zero by it
   pub record OpensAfter (w : WindowLog) : Type 0 where
     pub ref : RefFor s clocks w.rank v w.after.zero w.frame w.frame w.slot
     pub heard : Sending

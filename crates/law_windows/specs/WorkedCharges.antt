@@ -1,4 +1,4 @@
--- Windows of node 2 in the worked rounds of one packet, written down by hand, beside the one of frame 5 in which it asks:
+-- Windows of node 2 in the worked rounds of one packet, written down manually, next to the one of frame 5 in which it asks:
 -- that of slot 2 in frame 9, in which nobody says anything, and that of slot 1 before it, which opens late.
 use Rattle.std.specs.Prelude.{◌≡◌, ℕ, [], ◌∷◌, true, false, Some, None}
 use Rattle.std.specs.Option.{IfSome}
@@ -55,6 +55,6 @@ window_closed_late = record {
 abbrev pub GoesByRows : WindowLog → Type 0
 GoesByRows w = IsOpened one_packet drifting 2 w × IfSome w.closed (ClosesAs one_packet drifting 2 w)
 
--- by the log of the rounds the radio was on for so many ticks in it, and it is charged so many
+-- by the log of the rounds the radio was on for this many ticks in it, and it is charged this many
 abbrev pub Costs : WindowLog → ℕ → ℕ → Type 0
 Costs w on charged = IfSome w.closed (λ c. on_within one_packet_log 2 w.opened c.tick ≡ on) × (charge_of_window one_packet w ≡ charged)

@@ -33,7 +33,7 @@ RestsInFrame7 =
 abbrev pub AwaitsInFrame9 : Type 0
 AwaitsInFrame9 = power_at one_packet drifting one_packet_log 2 9 ≡ PowerOn awaits_9_0
 
--- at the start of both it stands where its tune puts it
+-- at the start of both it is where its tune puts it
 abbrev pub StandsInFrame7And9 : Type 0
 StandsInFrame7And9 = StandsByTune (waits_for_9 7) × StandsByTune awaits_9_0
 

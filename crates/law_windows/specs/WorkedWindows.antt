@@ -1,4 +1,4 @@
--- Windows of node 2 in the worked rounds of one packet, written down by hand: that of slot 0 in frame 5, which a heard
+-- Windows of node 2 in the worked rounds of one packet, written down manually: that of slot 0 in frame 5, which a received
 -- opening opens while it scans, and that of slot 1, in which it asks for its stream.
 use Rattle.std.specs.Prelude.{[], ◌∷◌, true, false, Some, None}
 use Rattle.lwb_packets.specs.declared.kind.Kind.TheVariants.{Schedule, Request}

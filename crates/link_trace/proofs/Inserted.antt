@@ -70,7 +70,7 @@ module _ {L : Type 0} (order : L → L → Ordering) where
       (ap (λ (ys : List L). x ∷ ys) (insert_is l at xs (omega arith) (λ k d low high. below (suc k) d (omega arith) (omega arith))
       (λ k d low high. above (suc k) d (omega arith) (omega arith))))
 
-  -- a line above all others stands last
+  -- a line above all others is last
   pub with_last : (l : L) (ls : List L) → ((k : ℕ) (d : L) → k < length ls → order (get_or ls k d) l ≡ Less) → with_line order l ls ≡ ls ++ l ∷ []
   with_last l ls below = sym
       (insert_is l (length ls) ls (omega arith) (λ k d low high. below k d high) (λ k d low high. absurd (omega arith))) ∙ insert_end ls l
@@ -103,7 +103,7 @@ module _ {L : Type 0} (order : L → L → Ordering) (total : IsTotalOrder order
     searched up (Ok at) inside found = list_any_at (λ (x : L). is_eq (order x l)) ls at l inside (ap is_eq (found l))
     searched up (Err at) inside parted = let parts = parted (rises ls up l) in record { within = inside; below = parts.0; above = parts.1 }
 
-    -- it finds the line exactly where it is there
+    -- it finds the line if and only if it is there
     pub found_there : Ascends order ls → (r : Result ℕ ℕ) → IsSearchInRange r (length ls) → IsBinarySearchResult (λ x. order x l) ls r
         → IfOk r (λ at. there ≡ true)
     found_there up (Ok at) inside found = searched up (Ok at) inside found

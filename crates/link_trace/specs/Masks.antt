@@ -15,11 +15,11 @@ pub record AreNodes (nodes : List ℕ) : Type 0 where
   pub few : length nodes ≤ 64
   pub ascending : AllPairs (λ a b. a < b) nodes
 
--- bit i is set exactly where the test holds of node i, which is one of the first n nodes
+-- bit i is set if and only if the test holds of node i, which is one of the first n nodes
 abbrev pub IsMaskUpto : (ℕ → Bool) → List ℕ → ℕ → ℕ → Type 0
 IsMaskUpto test nodes n mask = (i : ℕ) → bit_at mask i ≡ (if nat_lt i n && test (slice_index nodes i) then 1 else 0)
 
--- bit i is set exactly where the test holds of node i, counted from 0; bits past the nodes are 0
+-- bit i is set if and only if the test holds of node i, counted from 0; bits past the nodes are 0
 abbrev pub IsMask : (ℕ → Bool) → List ℕ → ℕ → Type 0
 IsMask test nodes mask = IsMaskUpto test nodes (length nodes) mask
 

@@ -31,7 +31,7 @@ by_capture a b = by_step (a.frame, a.slot, a.step) (b.frame, b.slot, b.step) (na
 abbrev pub Ascends : {L : Type 0} → (L → L → Ordering) → List L → Type 0
 Ascends order ls = AllPairs (λ a b. order a b ≡ Less) ls
 
--- the lines with one more, which stands after those below it
+-- the lines with one more, which is after those below it
 abbrev pub with_line : {L : Type 0} → (L → L → Ordering) → L → List L → List L
 with_line order l [] = l ∷ []
 with_line order l (x ∷ xs) = if is_lt (order x l) then x ∷ with_line order l xs else l ∷ x ∷ xs
@@ -48,7 +48,7 @@ with_cut l t = record t { cuts = with_line by_cut l t.cuts }
 abbrev pub with_capture : CaptureLine → Lines → Lines
 with_capture l t = record t { captures = with_line by_capture l t.captures }
 
--- the lines below l stand before the place, and those above it from the place on; no other line is there
+-- the lines below l are before the place, and those above it from the place on; no other line is there
 pub record HasPlace {L : Type 0} (order : L → L → Ordering) (ls : List L) (l : L) (at : ℕ) : Type 0 where
   pub within : at ≤ length ls
   pub below : AllWithin (λ x. order x l ≡ Less) ls 0 at

@@ -126,7 +126,7 @@ fn slot_starts<L: OfSlot>(alloc: Global, lines: &[L]) -> Result<Vec<usize>, Memo
     Ok(starts)
 }
 
-// Where the lines of that slot or a later one begin, none of which stands before `start`.
+// Where the lines of that slot or a later one begin, none of which is before `start`.
 fn first_from<L: OfSlot>(lines: &[L], start: usize, slot: usize) -> usize
     requires ascends { AllPairs (λ a b. L.slot_of a ≤ L.slot_of b) lines.now }
     requires within { start ≤ length lines.now }

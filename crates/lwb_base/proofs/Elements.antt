@@ -65,7 +65,7 @@ pairs_of_map g R (x ∷ xs) all i j d less within =
     let at_j = get_or-map g (x ∷ xs) j x d (omega arith) in
     subst (λ (y : _). R y (get_or (map g (x ∷ xs)) j d)) (sym at_i) (subst (λ (y : _). R (g (get_or (x ∷ xs) i x)) y) (sym at_j) (all i j x less (omega arith)))
 
--- no element stands twice
+-- no element is there twice
 abbrev pub Distinct : {X : Type 0} → List X → Type 0
 Distinct [] = Unit {0}
 Distinct (x ∷ xs) = (Contains xs x → ⊥) × Distinct xs
@@ -102,7 +102,7 @@ filter_same g h (x ∷ xs) same =
     ap (λ c. cons_option c (filter_map g xs)) (same x (contains_head x xs))
     ∙ ap (λ l. cons_option (h x) l) (filter_same g h xs (λ y there. same y (contains_tail x xs y there)))
 
--- what a filter gives stands there once, if it tells what it comes from
+-- what a filter gives is there once, if it tells what it comes from
 pub filter_distinct : {X Y : Type 0} (g : X → Option Y) → ((d e : X) (y : Y) → g d ≡ Some y → g e ≡ Some y → d ≡ e) → (xs : List X) → AllPairs (λ d e. d ≢ e) xs
     → Distinct (filter_map g xs)
 filter_distinct g tells [] all = tt
@@ -127,7 +127,7 @@ filtered test xs x there = (
   All-contains (λ y. test y ≡ true) (filter test xs) x (filter_passes test xs) there,
 )
 
--- what a filter takes, and the other way round
+-- what a filter takes, and conversely
 pub in_filtered : {X : Type 0} (test : X → Bool) (xs : List X) (x : X) → Contains xs x → test x ≡ true → Contains (filter test xs) x
 in_filtered test [] x there is = absurd (not_in_none x there)
 in_filtered {X} test (y ∷ xs) x there is =

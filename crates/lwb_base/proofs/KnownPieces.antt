@@ -9,7 +9,7 @@ use Rattle.lwb_base.specs.Reading.{ReadsPiece, ReadsAll}
 use Rattle.lwb_base.specs.declared.read.ReadStop.{ReadStop}
 use Rattle.lwb_base.specs.declared.read.ReadStop.TheVariants.{ReadFault, TooLong, Memory}
 
--- a front of the text went out, and then the next piece of it
+-- a proper prefix of the text went out, and then the next piece of it
 pub appends_more : (a b c : Option (List ℕ)) (text : List ℕ) (gone n : ℕ) → gone ≤ length text → Appends a b (take gone text)
     → Appends b c (take n (take (length text - gone) (drop gone text))) → Appends a c (take (gone + n) text)
 appends_more a b c text gone n le p q =
@@ -23,7 +23,7 @@ stops_after a b c had has ReadFault le p q = (had ++ [], Consumes-trans a b c ha
 stops_after a b c had has TooLong le p q = (had ++ q.0, Consumes-trans a b c had q.0 p q.1, omega (arith, length-append had q.0, q.2))
 stops_after a b c had has Memory le p q = (had ++ q.0, Consumes-trans a b c had q.0 p q.1, omega (arith, length-append had q.0, q.2))
 
--- the next n bytes stand at the front of the room
+-- the next n bytes are at the front of the room
 pub moved_front : (whole room front : List ℕ) (at n : ℕ) → front ≡ take n (drop at whole) → n ≤ length (drop at whole)
     → drop at whole ≡ take n (front ++ drop n room) ++ drop (at + n) whole
 moved_front whole room front at n is le =

@@ -1,4 +1,4 @@
--- Lists after a change of one place, a map, a filter, or with another behind them.
+-- Lists after a change of one place, a map, a filter, or with another after them.
 use Rattle.std.proofs.Common.{◌≡◌, ◌≢◌, ℕ, zero, suc, ◌+◌, ◌<◌, ◌≤◌, List, [], ◌∷◌, ◌++◌, Bool, true, false, cond, Option, Some, None}
 use Rattle.std.proofs.Common.{length, map, set, take, get_or, filter, filter_map, option_to_list, refl, sym, ◌∙◌, ap, arith}
 use Rattle.std.proofs.lemmas.List.{take_more}

@@ -1,7 +1,7 @@
 -- When a count of faults rose, and what an answer of failure says of it.
 use Rattle.std.specs.Prelude.{◌≡◌, ℕ, ◌+◌, ◌-◌, ◌^◌, ◌<◌, ◌≤◌, ◌⊎◌, min, Result, Ok, Err, OnErr}
 
--- the count is above what it was, or stands at the last value of a `u64`
+-- the count is above what it was, or is at the last value of a `u64`
 abbrev pub Rose : ℕ → ℕ → Type 0
 Rose before now = (before < now) ⊎ (now ≡ 2 ^ 64 - 1)
 

@@ -1,4 +1,4 @@
--- What is said on the bus beside data: requests with their acknowledgements, and schedules. An owner of a slot is a
+-- What is said on the bus next to data: requests with their acknowledgements, and schedules. An owner of a slot is a
 -- stream of a node, seen as its code.
 use Rattle.std.specs.Prelude.{ℕ, zero, suc, ◌+◌, ◌-◌, ◌*◌, ◌/◌, ◌%◌, ◌^◌, List, [], ◌∷◌, Bool, ◌==◌, nat_lt, if◌then◌else◌, length}
 use Rattle.std.specs.List.{list_all}
@@ -31,7 +31,7 @@ pub record Plan : Type 0 where
   pub acks : List Ask
   pub owners : List ℕ
 
--- the last slot of the longest round, by the number of contention slots that is named: behind the opening come 40 data
+-- the last slot of the longest round, by the number of contention slots that is named: after the opening come 40 data
 -- slots, and one contention slot where none is named, else at most 4
 abbrev pub greatest_slot : ℕ → ℕ
 greatest_slot contend = if contend == 0 then 42 else 45

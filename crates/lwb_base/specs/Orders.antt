@@ -1,4 +1,4 @@
--- What a radio was told.
+-- What a radio was given.
 use Rattle.std.specs.Prelude.{◌≡◌, ℕ, ◌+◌, List, ◌++◌, length}
 use Rattle.lwb_base.specs.declared.order.Order.{Order}
 

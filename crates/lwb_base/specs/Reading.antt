@@ -11,7 +11,7 @@ use Rattle.lwb_base.specs.declared.read.TheConstants.{INPUT_LIMIT}
 abbrev pub Took : Option (List ℕ) → Option (List ℕ) → (ℕ → Type 0) → Type 0
 Took old new P = (bs : List ℕ) × Consumes old new bs × P (length bs)
 
--- Ok has all bytes up to the end; too long comes exactly where one byte more than the limit was taken
+-- Ok has all bytes up to the end; too long comes if and only if one byte more than the limit was taken
 abbrev pub ReadsAll : Option (List ℕ) → Option (List ℕ) → Result (Vec ℕ Global) ReadStop → Type 0
 ReadsAll old new (Ok bytes) = Consumes old new bytes.items × IsAtEnd new × (length bytes.items ≤ INPUT_LIMIT)
 ReadsAll old new (Err ReadFault) = Took old new (λ n. n ≤ INPUT_LIMIT)

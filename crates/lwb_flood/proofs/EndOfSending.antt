@@ -1,4 +1,4 @@
--- The end of a sending, as the code brings it about.
+-- The end of a transmission, as the code brings it about.
 use Rattle.std.proofs.Common.{◌≡◌, ℕ, zero, suc, ◌<◌, ◌≤◌, ◌↔◌, List, [], ◌∷◌, map, length, get_or, Bool, true, false, if◌then◌else◌, Option, Some, None, refl}
 use Rattle.std.proofs.Common.{sym, ◌∙◌, ap, subst, arith}
 use Rattle.std.specs.Prelude.{Contains, AllPairs, All, OnOk, Result, Ok, Err}
@@ -21,7 +21,7 @@ use Rattle.lwb_flood.specs.FloodWorlds.{world_after_end, heard_by_all, readings_
 use Rattle.lwb_flood.proofs.WorldLists.{nodes_kept}
 use Rattle.lwb_flood.proofs.FloodShapes.{own_ended_shape}
 
--- who hears, as pairs and as nodes
+-- who receives, as pairs and as nodes
 module _ (u : ℕ) (ps : List (ℕ × ℕ)) (sender : (p : ℕ × ℕ) → Contains ps p → p.1 ≡ u) where
   pub hears_as_node : (v : ℕ) → Contains ps (v, u) → Contains (map (λ p. p.0) ps) v
   hears_as_node v there = map_contains (λ (p : ℕ × ℕ). p.0) ps (v, u) there
@@ -34,7 +34,7 @@ module _ (u : ℕ) (ps : List (ℕ × ℕ)) (sender : (p : ℕ × ℕ) → Conta
 pub in_list : {X : Type 0} (P : X → Type 0) (xs : List X) → All P xs → (x : X) → Contains xs x → P x
 in_list P xs all x (k, below, at) = subst P at (all k x below)
 
--- the medium's answer says who hears
+-- the medium's answer says who receives
 pub heard_by : (lines : Lines) (x : Sending) (w : World) (ps : List (ℕ × ℕ)) → All (λ p. p.1 ≡ x.node) ps → AllPairs (λ p q. p.0 < q.0) ps
     → ((a : Scene) → Holds w.medium a → a.lines ≡ lines → (v : ℕ) → Contains ps (v, x.node)
     ↔ (Contains (nodes_of w.medium) v × HearsInScene (as_it_stands w.medium x.end a) v x)) → IsHeardBy lines x w (map (λ p. p.0) ps)
@@ -130,7 +130,7 @@ pub on_ok : {T E : Type 0} (r : Result T E) (P Q : Type 0) → (P → Q) → OnO
 on_ok (Ok x) P Q to is = to is
 on_ok (Err e) P Q to is = is
 
--- what the code has of the world when its node has ended the sending
+-- what the code has of the world when its node has ended the transmission
 module _ (inside old : World) (view : inside ≡ old) (x : Sending) (lines : Lines) (ps : List (ℕ × ℕ)) (medium : MediumState) (members : List Member)
     (state : medium ≡ medium_after_change x.end x.node station_after_end inside.medium) (changed : members ≡ with_change x.node after_own inside.members)
     (sender : All (λ p. p.1 ≡ x.node) ps) (ascend : AllPairs (λ p q. p.0 < q.0) ps)

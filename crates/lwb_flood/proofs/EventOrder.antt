@@ -1,4 +1,4 @@
--- The events of a node in order, and the earliest of several sendings.
+-- The events of a node in order, and the earliest of several transmissions.
 use Rattle.std.proofs.Common.{◌≡◌, ℕ, List, [], ◌∷◌, ◌++◌, ◌≤◌, true, inl, inr, refl, sym, ◌∙◌, ap, subst, arith, ◌==◌}
 use Rattle.std.specs.Prelude.{Contains, ◌⊎◌, ◌≢◌}
 use Rattle.std.proofs.lemmas.Bool.{cases_order, cases_lt, or_cases, eqb-true, false≢true}

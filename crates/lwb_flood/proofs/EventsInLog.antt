@@ -1,4 +1,4 @@
--- The events of a node stand in the log.
+-- The events of a node are in the log.
 use Rattle.std.proofs.Common.{◌≡◌, ℕ, ◌≤◌, List, [], ◌∷◌, Bool, true, false, Option, Some, None, ◌==◌, if◌then◌else◌, refl, ◌∙◌, ap, get_or, zero, suc}
 use Rattle.std.proofs.Common.{eqb-true}
 use Rattle.std.specs.Prelude.{Contains}
@@ -12,7 +12,7 @@ use Rattle.air_log.specs.Entries.{hearing_in, sendings_of, HasHeardEntry, sendin
 use Rattle.air_log.specs.NodeEvents.{Event, Heard, Ended, own_ends}
 use Rattle.lwb_flood.proofs.FloodSoFar.{event_in, events_in}
 
--- the hearings of a node stand in the log
+-- the receptions of a node are in the log
 abbrev of_pair : ℕ → Sending → Option Hearing
 of_pair u y = Some (record { node = u; sending = y })
 
@@ -44,7 +44,7 @@ heard_event air u y there =
     let e = filter_from (event_in u) air (Heard y) there in
     in_filter hearing_in air e.0 (record { node = u; sending = y }) e.1 (event_hearing u e.0 y e.2)
 
--- the ended sendings of a node stand in the log
+-- the ended transmissions of a node are in the log
 pub heard_is_not : (b : Bool) (z y : Sending) → (if b then Some (Heard z) else None) ≡ Some (Ended y) → ⊥
 heard_is_not true z y is = cc
 heard_is_not false z y is = cc

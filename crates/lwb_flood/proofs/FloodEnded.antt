@@ -1,4 +1,4 @@
--- The world of a flood after a node's sending ends.
+-- The world of a flood after a node's transmission ends.
 use Rattle.std.proofs.Common.{◌≡◌, ◌≢◌, ℕ, ◌+◌, ◌<◌, ◌≤◌, ◌⊎◌, ◌↔◌, List, [], ◌∷◌, ◌++◌, map, Bool, true, false, if◌then◌else◌, ◌==◌, option_map, inl, inr}
 use Rattle.std.proofs.Common.{refl, sym, ◌∙◌, ap, subst, arith, eq-eqb}
 use Rattle.std.specs.Prelude.{Contains}
@@ -40,7 +40,7 @@ not_heard s t x y is = no_event (ap (λ (o : EventOccasion). o.event) is)
     no_event : Ended x ≡ Heard y → ⊥
     no_event same = absurd (cc)
 
--- a sending that is its node's last makes the node leave
+-- a transmission that is its node's last makes the node leave
 leaving_by : (v : ℕ) (last : Bool) → last ≡ true → Contains (if last then v ∷ [] else []) v
 leaving_by v last is = subst (λ (l : List ℕ). Contains l v) (sym (cond-true last (v ∷ []) [] is)) (contains_head v [])
 

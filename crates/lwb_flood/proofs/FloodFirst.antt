@@ -166,7 +166,7 @@ module _ (f : FloodParts) (clocks : ℕ → ℕ → ℕ) (has : HasClocks f cloc
   all_tuned : (st : Station) → Contains w.medium.stations st → st.tuned ≡ from_opening
   all_tuned st there = elim (both.0 st there) [ inl new ↦ absurd (not_in_none st.node new.node) | inr is ↦ is ]
 
-  -- how each node stands
+  -- how each node is
   stands : (n : NodeLine) (begins : Bool) → (begins ≡ true → n.node ≡ f.start) → Stands f clocks w [] [] (member_with f n begins) (member_with f n begins).act
   stands n true at = record {
     waits = refl;

@@ -71,7 +71,7 @@ module _ (f : FloodParts) (clocks : ℕ → ℕ → ℕ) (is : HasClocks f clock
       sends_not : Sends y ≡ Listens → ⊥
       sends_not same = cc
 
-  -- how each node stands
+  -- how each node is
   other : (n : Member) → Contains w.members n → n.node ≢ m.node → IsMember f clocks [] next n
   other n in_it not =
       let each = so.each n in_it in

@@ -1,4 +1,4 @@
--- The flood so far stays one when a node hears a sending that has just ended.
+-- The flood so far stays one when a node receives a transmission that has just ended.
 use Rattle.std.proofs.Common.{ℕ, ◌<◌, List, [], ◌∷◌, ◌++◌, map, refl, sym, ◌∙◌, subst}
 use Rattle.std.proofs.lemmas.List.{append-nil}
 use Rattle.scenario_text.specs.FloodParts.{FloodParts}
@@ -39,7 +39,7 @@ module _ (f : FloodParts) (clocks : ℕ → ℕ → ℕ) (is : HasClocks f clock
     begins = begins_on f clocks is v x todo leaving w so early over;
   }
 
--- when some nodes have heard it, and others are yet to hear it
+-- when some nodes have received it, and others are yet to receive it
 module _ (f : FloodParts) (clocks : ℕ → ℕ → ℕ) (is : HasClocks f clocks) (x : Sending) (leaving : List ℕ) where
   abbrev pub heard_at : List ℕ → List Hearing
   heard_at vs = map (λ v. record { node = v; sending = x }) vs

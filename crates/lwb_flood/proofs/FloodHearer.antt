@@ -1,4 +1,4 @@
--- The node that hears a sending stays one of the flood so far.
+-- The node that receives a transmission stays one of the flood so far.
 use Rattle.std.proofs.Common.{◌≡◌, ◌≢◌, ℕ, ◌+◌, ◌*◌, ◌<◌, ◌≤◌, List, [], ◌∷◌, ◌++◌, true, false, not, nat_lt, inl, inr, refl, sym, ◌∙◌, ap, subst, arith}
 use Rattle.std.proofs.Common.{length}
 use Rattle.std.specs.Prelude.{Contains}
@@ -50,7 +50,7 @@ module _ (f : FloodParts) (clocks : ℕ → ℕ → ℕ) (is : HasClocks f clock
   abbrev idle : (m : Member) → Contains w.members m → m.node ≡ v → running m.act ≡ []
   idle = HearingLogged.idle f clocks is v x todo leaving w so early over
 
-  -- the node that hears
+  -- the node that receives
   module _ (m : Member) (there : Contains w.members m) (at : m.node ≡ v) where
     old : IsMember f clocks leaving w m
     old = so.each m there
@@ -93,7 +93,7 @@ module _ (f : FloodParts) (clocks : ℕ → ℕ → ℕ) (is : HasClocks f clock
     flood_more : after_heard m.flood x.packet ≡ flood_after_events first more
     flood_more = ap (λ (s : FloodState). after_heard s x.packet) old.flood ∙ sym (after_all_append first old.past (Heard x ∷ []))
 
-    -- what the flood answered to what was heard now
+    -- what the flood answered to what was received now
     answer_now : (h : Sending) (s : FloodState) → ◌≡◌ {A = EventOccasion} (record { before = flood_after_events first old.past; event = Heard x })
         (record { before = s; event = Heard h }) → (m.flood ≡ s) × (x ≡ h)
     answer_now h s same = (old.flood ∙ ap (λ (o : EventOccasion). o.before) same, heard_same x h (ap (λ (o : EventOccasion). o.event) same))

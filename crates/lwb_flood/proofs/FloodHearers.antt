@@ -1,4 +1,4 @@
--- Those who hear a sending, one after another, and the clocks at their places.
+-- Those who receive a transmission, one after another, and the clocks at their places.
 use Rattle.std.proofs.Common.{◌≡◌, ◌≢◌, ℕ, zero, suc, ◌+◌, ◌<◌, List, [], ◌∷◌, ◌++◌, map, take, length, get_or, Bool, true, false, ◌&&◌, ◌||◌, ◌==◌}
 use Rattle.std.proofs.Common.{Some, inl, inr, refl, sym, ◌∙◌, ap, subst, arith, eq-eqb}
 use Rattle.std.specs.Prelude.{Contains, AllPairs, All}
@@ -60,7 +60,7 @@ pub last_at : (v : ℕ) (ms : List Member) (i : ℕ) (m : Member) → Ascend ms 
     → ((d : Member) → (get_or ms i d).node ≡ v) → is_last v ms ≡ (m.flood.sent + 1 == m.flood.limit)
 last_at v ms i m ascend below at node = last_is v ms m (ascend_distinct (map node_of_member ms) ascend) (i, below, sym at) (ap node_of_member at ∙ node m)
 
--- what the code makes of a node that hears
+-- what the code makes of a node that receives
 hearing_is : (clock : ℕ → ℕ) (x : Sending) (m : Member) (flood : FloodState) (reply : Reply) (act : Act) → flood ≡ after_heard m.flood x.packet
     → reply ≡ reply_to m.flood x.packet → act ≡ act_by clock x.end reply m.act
     → record { node = m.node; flood = flood; act = act } ≡ hearing_by clock x m
@@ -78,7 +78,7 @@ heard_at clock x ms i m flood reply act ascend below at flood_is reply_is act_is
     set_is_change (hearing_by clock x) ms ascend (get_or ms i d).node i m (record { node = m.node; flood = flood; act = act }) below at
     (λ e. ap node_of_member (get_or_default ms i e d below)) (hearing_is clock x m flood reply act flood_is reply_is act_is)
 
--- one more hears
+-- one more receives
 pub heard_push : (clocks : ℕ → ℕ → ℕ) (x : Sending) (vs : List ℕ) (v : ℕ) (w : World)
     → heard_by_all clocks x (vs ++ v ∷ []) w ≡ world_after_reception (clocks v) x v (heard_by_all clocks x vs w)
 heard_push clocks x [] v w = refl
@@ -105,7 +105,7 @@ readings_there {C} R (d ∷ cs) (u ∷ us) (suc i) v c long distinct below at is
     readings_there R cs us i v c (omega arith) distinct.1 (omega arith) at is
     ∙ sym (cond-false (u == v) (R d) (readings_of_node R cs us v) (ne_eqb u v (λ same. distinct.0 (i, omega arith, is u ∙ sym same))))
 
--- in the loop over those who hear
+-- in the loop over those who receive
 module _ (clocks : ℕ → ℕ → ℕ) (x : Sending) (vs : List ℕ) (first now inside : World) (ms : List Member) (so : now ≡ heard_by_all clocks x vs first)
     (view : inside ≡ now) (slice : ms ≡ inside.members) where
   pub loop_nodes : map node_of_member ms ≡ map node_of_member first.members

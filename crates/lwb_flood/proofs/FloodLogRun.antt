@@ -143,7 +143,7 @@ module _ (f : FloodParts) (clocks : ℕ → ℕ → ℕ) (air : List Entry) (is 
     turned = turns;
   }
 
-  -- all sendings are of frame 5 and slot 1
+  -- all transmissions are of frame 5 and slot 1
   pub frame_is : (x : Sending) → Contains (sendings_of air) x → frame_of_sending one x ≡ 5
   frame_is x sent =
       let t = timed r log_times x sent in
@@ -154,7 +154,7 @@ module _ (f : FloodParts) (clocks : ℕ → ℕ → ℕ) (air : List Entry) (is 
   pub slot_is : (x : Sending) → Contains (sendings_of air) x → slot_of x.packet ≡ 1
   slot_is x sent = let t = timed r log_times x sent in ap slot_of t.packet ∙ slot_set (first_packet f.start) (counter x)
 
-  -- so a link passes at the key of a sending where it does in the step of its counter
+  -- so a link passes at the key of a transmission where it does in the step of its counter
   arrives_at : (v : ℕ) (x : Sending) → Contains (sendings_of air) x
       → passes f.trace (frame_of_sending one x) (slot_of x.packet) (counter x) x.node v ≡ r.setting.passes (counter x) x.node v
   arrives_at v x sent = ap (λ (i : ℕ). passes f.trace i (slot_of x.packet) (counter x) x.node v) (frame_is x sent)

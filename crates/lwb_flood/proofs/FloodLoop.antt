@@ -84,7 +84,7 @@ module _ (f : FloodParts) (clocks : ℕ → ℕ → ℕ) (has : HasClocks f cloc
     none_busy : (let o : Option (ℕ × Bool) = None in (k : ℕ × Bool) → o ≡ Some k → ⊥)
     none_busy k same = cc
 
-    -- a sending of this node starts
+    -- a transmission of this node starts
     module _ (t : ℕ) (packet : List ℕ) (act : m.act ≡ Waits t packet) where
       waits : IsWaiting f clocks w member.past m t packet
       waits = subst (λ (a : Act). Rattle.lwb_flood.proofs.FloodSoFar.Stands f clocks w [] member.past m a) act member.stands
@@ -109,7 +109,7 @@ module _ (f : FloodParts) (clocks : ℕ → ℕ → ℕ) (has : HasClocks f cloc
           } in
           (subst (IsRunning f clocks) (sym same) on, subst (λ (n : World). remaining n < remaining w) (sym same) (begun_less x w m there refl room))
 
-    -- a sending of this node ends
+    -- a transmission of this node ends
     module _ (x : Sending) (act : m.act ≡ Sends x) where
       sends : IsSending w m x
       sends = subst (λ (a : Act). Rattle.lwb_flood.proofs.FloodSoFar.Stands f clocks w [] member.past m a) act member.stands

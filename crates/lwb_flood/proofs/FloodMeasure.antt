@@ -19,11 +19,11 @@ use Rattle.air_log.specs.Entries.{sent_entry, heard_entry}
 use Rattle.lwb_flood.proofs.FloodSoFar.{events_in}
 use Rattle.lwb_flood.proofs.WorldLists.{events_sent_own, events_sent_other, events_heard_own, events_heard_other, events_tuned}
 
--- the sendings of a node that have begun
+-- the transmissions of a node that have begun
 abbrev pub started : List Entry → ℕ → ℕ
 started air v = length (own_ends (events_in air v))
 
--- it may begin and end so many more
+-- it may begin and end this many more
 abbrev pub left : List Entry → Member → ℕ
 left air m = m.flood.limit + m.flood.limit - (m.flood.sent + started air m.node)
 
@@ -95,7 +95,7 @@ heard_limits s p = cond_both (fits s p) (record s { waiting = Rattle.std.proofs.
 abbrev pub remaining : World → ℕ
 remaining w = total w.air w.members
 
--- a sending that begins, at a node that may begin one
+-- a transmission that begins, at a node that may begin one
 pub begun_less : (x : Sending) (w : World) (m : Member) → Contains w.members m → m.node ≡ x.node
     → m.flood.sent + started w.air m.node < m.flood.limit + m.flood.limit → remaining (world_after_start x w) < remaining w
 begun_less x w m there is room =

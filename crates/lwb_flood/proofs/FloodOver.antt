@@ -89,7 +89,7 @@ module _ (f : FloodParts) (clocks : ℕ → ℕ → ℕ) (has : HasClocks f cloc
   nothing_runs : (x : Sending) → Runs w x → ⊥
   nothing_runs x r = sends_off x (sym r.act ∙ off r.member r.there)
 
-  -- what stands is the log
+  -- what is is the log
   untuned : (st : Station) → Contains w.medium.stations st → st.tuned ≡ None
   untuned st there =
       let m = map_from node_of_member w.members st.node

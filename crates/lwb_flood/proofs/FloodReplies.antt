@@ -13,7 +13,7 @@ use Rattle.lwb_flood.specs.FloodWorlds.{World, act_by, hearing_by, world_after_r
 use Rattle.lwb_flood.proofs.FloodSoFar.{Runs}
 use Rattle.lwb_flood.proofs.WorldLists.{each_changed}
 
--- what fits comes to a flood that has sendings left and waits for none
+-- what fits comes to a flood that has transmissions left and waits for none
 pub fitting : (s : FloodState) (p : List ℕ) → fits s p ≡ true → (s.sent < s.limit) × (s.waiting ≡ false)
 fitting s p is =
     let a = and_parts _ _ is in let b = and_parts _ _ a.0 in let c = and_parts _ _ b.0 in let d = and_parts _ _ c.0 in
@@ -43,7 +43,7 @@ keeps s p fit more =
     cond-true (fits s p) (if nat_lt (counter_of p) 11 then Relay (relay_of p) else Keep) Ignore fit
     ∙ cond-false (nat_lt (counter_of p) 11) (Relay (relay_of p)) Keep more
 
--- a node that sends after a hearing has sent before
+-- a node that sends after a reception has sent before
 act_back : (c : ℕ → ℕ) (e : ℕ) (r : Reply) (a : Act) (y : Sending) → act_by c e r a ≡ Sends y → a ≡ Sends y
 act_back c e (Relay p) a y is = absurd (cc)
 act_back c e Keep a y is = is

@@ -71,7 +71,7 @@ pub record InStep (f : FloodParts) (t : ℕ) (packet : List ℕ) : Type 0 where
   pub is : packet ≡ packet_of f.start step
   pub near : Near t (START + step * 45056) step
 
--- why a node sends it at that tick: it starts the flood, or its flood answered a hearing with the packet
+-- why a node sends it at that tick: it starts the flood, or its flood answered a reception with the packet
 pub record Begins (f : FloodParts) (v t : ℕ) (packet : List ℕ) : Type 0 where
   pub node : v ≡ f.start
   pub start : t ≡ START
@@ -88,7 +88,7 @@ pub record Answers (f : FloodParts) (clock : ℕ → ℕ) (v : ℕ) (events : Li
 abbrev pub HasCause : FloodParts → (ℕ → ℕ) → ℕ → List Event → ℕ → List ℕ → Type 0
 HasCause f clock v events t packet = Begins f v t packet ⊎ Answers f clock v events t packet
 
--- how a node stands by what it is about. Those that are leaving have sent for the last time, and are still tuned in
+-- how a node is by what it is about. Those that are leaving have sent for the last time, and are still tuned in
 pub record IsListening (leaving : List ℕ) (m : Member) : Type 0 where
   pub waits : m.flood.waiting ≡ false
   pub left : (m.flood.sent < m.flood.limit) ⊎ Contains leaving m.node
@@ -142,13 +142,13 @@ pub record IsMember (f : FloodParts) (clocks : ℕ → ℕ → ℕ) (leaving : L
   pub stands : Stands f clocks w leaving past m m.act
   pub answered : IsAnswered f (clocks m.node) w past m
 
--- a sending runs: its node has not ended it
+-- a transmission runs: its node has not ended it
 pub record Runs (w : World) (x : Sending) : Type 0 where
   pub member : Member
   pub there : Contains w.members member
   pub act : member.act ≡ Sends x
 
--- it has ended, and those who hear it by the rule of the air have a Heard entry of it, or are about to get one
+-- it has ended, and those who receive it by the rule of the air have a Heard entry of it, or are about to get one
 pub record IsSettled (f : FloodParts) (todo : List Hearing) (w : World) (x : Sending) : Type 0 where
   pub ended : x.end ≤ w.medium.now
   pub over : Runs w x → ⊥
@@ -168,7 +168,7 @@ pub record WasHeard (f : FloodParts) (w : World) (v : ℕ) (x : Sending) : Type 
   pub sent : Contains (sendings_of w.air) x
   pub over : Runs w x → ⊥
 
--- a Heard entry that is about to be made: its sending has just ended, and none has started since
+-- a Heard entry that is about to be made: its transmission has just ended, and none has started since
 pub record IsDue (w : World) (h : Hearing) : Type 0 where
   pub sent : Contains (sendings_of w.air) h.sending
   pub now : h.sending.end ≡ w.medium.now

@@ -1,4 +1,4 @@
--- With a hearing more what was sent, heard and tuned is right, and so are the nodes that do not hear.
+-- With a reception more what was sent, heard and tuned is right, and so are the nodes that do not receive.
 use Rattle.std.proofs.Common.{◌≡◌, ◌≢◌, ℕ, ◌^◌, ◌<◌, ◌≤◌, ◌⊎◌, List, ◌∷◌, map, true, false, inl, inr, refl, sym, ◌∙◌, ap, subst, arith}
 use Rattle.std.specs.Prelude.{Contains, AllPairs}
 use Rattle.glossy_relay.specs.Relaying.{fits}
@@ -63,7 +63,7 @@ module _ (f : FloodParts) (clocks : ℕ → ℕ → ℕ) (is : HasClocks f clock
   abbrev busy : (m : Member) → Contains w.members m → (m.act ≡ Listens → ⊥) → fits m.flood x.packet ≡ false
   busy = HearingLogged.busy f clocks is v x todo leaving w so early over
 
-  -- what was sent and heard
+  -- what was sent and received
   settled_on : (y : Sending) → IsSettled f (hearing ∷ todo) w y → IsSettled f todo next y
   settled_on y s = record {
     ended = s.ended;
@@ -169,7 +169,7 @@ module _ (f : FloodParts) (clocks : ℕ → ℕ → ℕ) (is : HasClocks f clock
   pub heard_here : Contains (map node_of_member w.members) v
   heard_here = subst (λ (l : List ℕ). Contains l v) (sym so.nodes) (known_there f.nodes v by_rule.0)
 
-  -- how each node stands
+  -- how each node is
   module _ (m : Member) (past more : List Event)
       (kept : (o : EventOccasion) → Contains (event_occasions (first_flood f m.node) past) o → Contains (event_occasions (first_flood f m.node) more) o)
       (ends : own_ends more ≡ own_ends past) where

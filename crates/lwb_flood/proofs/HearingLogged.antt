@@ -1,4 +1,4 @@
--- What a hearing adds to the log of a flood, and which nodes it moves.
+-- What a reception adds to the log of a flood, and which nodes it moves.
 use Rattle.std.proofs.Common.{◌≡◌, ℕ, ◌+◌, ◌*◌, ◌<◌, ◌≤◌, ◌⊎◌, List, [], ◌∷◌, ◌++◌, true, false, not, inl, inr, refl, sym, ◌∙◌, ap, subst, arith}
 use Rattle.std.proofs.Common.{length, get_or, ◌-◌}
 use Rattle.std.specs.Prelude.{Contains}

@@ -22,7 +22,7 @@ use Rattle.lwb_base.proofs.Elements.{some_of}
 use Rattle.glossy_relay.proofs.CountedPackets.{counter_set, fitting_long, relayed_parts}
 use Rattle.lwb_flood.proofs.SendingTimes.{occasion_event}
 
--- a sending tells its entry
+-- a transmission tells its entry
 entry_of : (x : Sending) → Entry
 entry_of x = Sent (record { rank = x.rank; node = x.node; start = x.start; end = x.end; packet = x.packet })
 
@@ -62,7 +62,7 @@ module _ (f : FloodParts) (clocks : ℕ → ℕ → ℕ) (air : List Entry) (law
       let e = filter_from sending_in air x there in
       subst (λ (v : ℕ). knows f.nodes v ≡ true) (sending_node e.0 x e.2) (law.known e.0 e.1)
 
-  -- what was heard was sent
+  -- what was received was sent
   pub heard_was_sent : (v : ℕ) (x : Sending) → Contains (hearings_of air) (record { node = v; sending = x }) → Contains (sendings_of air) x
   heard_was_sent v x there = ((law.hears v x).0 there).1.sent
 

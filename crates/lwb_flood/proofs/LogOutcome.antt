@@ -56,7 +56,7 @@ module _ (f : FloodParts) (clocks : ℕ → ℕ → ℕ) (air : List Entry) (is 
   pub packet_is : (x : Sending) → Contains (sendings_of air) x → (counter x ≤ 11) × (x.packet ≡ packet r f.start (counter x))
   packet_is x sent = let t = timed r (log_times f clocks air is law) x sent in (t.few, t.packet)
 
-  -- sendings
+  -- transmissions
   pub sent_by_steps : (v k : ℕ) → HasSentEntry air v k ↔ Sends s v k f.start
   sent_by_steps v k = (to, from)
     where
@@ -77,7 +77,7 @@ module _ (f : FloodParts) (clocks : ℕ → ℕ → ℕ) (air : List Entry) (is 
             counter = counter_is r (log_times f clocks air is law) f.start k z.sending (start_begins f clocks air is law) z.packet;
           }
 
-  -- hearings: with one initiator all of them fit
+  -- receptions: with one initiator all of them fit
   heard_in : (v : ℕ) (x : Sending) (k : ℕ) → IsParticipant r v → Contains (hearings_of air) (record { node = v; sending = x }) → counter x ≡ k
       → Hears s v k f.start
   heard_in v x k here there step =
@@ -120,7 +120,7 @@ module _ (f : FloodParts) (clocks : ℕ → ℕ → ℕ) (air : List Entry) (is 
   listens : (v : ℕ) → v ≢ f.start → has s.initiators v ≡ false
   listens v other = or_from (f.start == v) false (ne_eqb f.start v (λ same. other (sym same))) refl
 
-  -- the first hearing is that of the least counter
+  -- the first reception is that of the least counter
   pub first_accepts : (v k : ℕ) → knows f.nodes v ≡ true → v ≢ f.start → HeardFirst air v k ↔ Accepts s v f.start k
   first_accepts v k known other = (to, from)
     where

@@ -33,7 +33,7 @@ entry_at air i within = of_list air i within
         let e = get_or (x ∷ xs) i x in
         (e, slice_get-get_or (x ∷ xs) i x within, take_more (x ∷ xs) i x within)
 
--- sendings
+-- transmissions
 counted_by : (e : Entry) → length (sendings_of (e ∷ [])) ≡ one_if (is_some (sending_in e))
 counted_by (Sent s) = refl
 counted_by (Heard h) = refl
@@ -52,7 +52,7 @@ counted_more air i n b within count at =
     ∙ sym (counted_by e.0) in
     omega (arith, long, here, count)
 
--- hearings of v
+-- receptions of v
 module _ (hs : List Hearing) (h : Hearing) (v : ℕ) where
   other_added : h.node ≢ v → (o : Option FirstHearing) → IsFirstReception hs v o → IsFirstReception (hs ++ h ∷ []) v o
   other_added other = by_cases
@@ -115,7 +115,7 @@ module _ (hs : List Hearing) (h : Hearing) (v : ℕ) where
       by_cases None none = newest (λ y old. absurd (none y old))
       by_cases (Some g) is = by_test g is (nat_le g.end h.sending.end) refl
 
--- a hearing more
+-- a reception more
 added : (hs : List Hearing) (firsts : List (Option FirstHearing)) (h : Hearing) → length firsts ≡ 201 → h.node ≤ 200
     → ((v : ℕ) → IsFirstReception hs v (get_or firsts v None)) → (v : ℕ)
         → IsFirstReception (hs ++ h ∷ []) v (get_or (with_earlier firsts (Some (kept_of h))) v None)
@@ -205,7 +205,7 @@ step_is f air firsts are v = by_test (v == f.start) refl (get_or firsts v None) 
     by_test false at None is = inr is
     by_test false at (Some g) is = (eqb-false v f.start at, record { sending = is.sending; there = is.there; counter = is.counter; first = is.first })
 
--- a flood has few sendings
+-- a flood has few transmissions
 pub few_sendings : (s : Setting) → length s.everyone ≤ 64 → sendings s ≤ 768
 few_sendings s few =
     let each : All (λ v. count_by (λ k. is_some ((moment s k).sends v)) steps ≤ 12) s.everyone = λ k d less. count_by-le-length

@@ -8,7 +8,7 @@ use Rattle.lwb_flood.specs.FloodWorlds.{node_of_member, member_changed_at, with_
 abbrev pub Ascend : List Member → Type 0
 Ascend ms = AllPairs (λ a b. a < b) (map node_of_member ms)
 
--- no node stands at two places
+-- no node is at two places
 apart : (ms : List Member) → Ascend ms → (i j : ℕ) (d : Member) → i < length ms → j < length ms → (get_or ms i d).node ≡ (get_or ms j d).node → i ≡ j
 apart ms ascend i j d left right same =
     let at_i = get_or-map node_of_member ms i d 0 left in

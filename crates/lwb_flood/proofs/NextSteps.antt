@@ -68,7 +68,7 @@ module _ (r : Run) (Tuned : ℕ → Sending → Type 0) (f : FloodRun r Tuned) (
             absurd (omega arith))
       ]
 
-  -- a node that sends hears nothing
+  -- a node that sends receives nothing
   sends_hears : (v o : ℕ) → m.sends v ≡ Some o → hears s m k v ≡ None
   sends_hears v o is =
       elim (inspect (hears s m k v)) [
@@ -182,7 +182,7 @@ module _ (r : Run) (Tuned : ℕ → Sending → Type 0) (f : FloodRun r Tuned) (
                 (of_rest v t d (in_t d there)) (order_head e es ordered d later).0 in omega arith)
           ]
 
-  -- a sending of the next step, by its hearing
+  -- a transmission of the next step, by its reception
   next_sending : (x : Sending) → Contains r.sendings x → counter x ≡ suc k
       → IsParticipant r x.node × ((y : Sending) × HearsIn r Tuned x.node y × (counter y ≡ k) × (fits (station r m x.node) y.packet ≡ true) × (k < 11)
       × (x.packet ≡ slice_set y.packet 2 (k + 1)) × (x.start ≡ r.relay_start x.node y.end))

@@ -11,7 +11,7 @@ use Rattle.scenario_clocks.specs.StatedClocks.{stated_clock}
 use Rattle.scenario_clocks.proofs.StatedDrift.{stated_drift}
 use Rattle.lwb_flood.specs.FloodLog.{HasClocks}
 
--- clocks that stand in a list
+-- clocks that are in a list
 pub listed_drift : {C : Type 0} (R : C → ℕ → ℕ) → ((c : C) → IsClock (R c)) → (ns : List NodeLine) (cs : List C) → length cs ≡ length ns → (v : ℕ)
     → knows ns v ≡ true
     → IsClock (clocks_by R ns cs v)

@@ -1,4 +1,4 @@
--- The nodes of a world and the stations of its medium, and how long sendings of a flood last.
+-- The nodes of a world and the stations of its medium, and how long transmissions of a flood last.
 use Rattle.std.proofs.Common.{◌≡◌, ℕ, ◌+◌, ◌*◌, List, Some, sym, ◌∙◌, ap, subst, arith, length}
 use Rattle.std.specs.Prelude.{Contains}
 use Rattle.std.proofs.lemmas.Option.{same_Some}

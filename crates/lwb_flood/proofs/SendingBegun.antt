@@ -1,4 +1,4 @@
--- A sending starts: what runs then, what is sent, and what the medium holds.
+-- A transmission starts: what runs then, what is sent, and what the medium holds.
 use Rattle.std.proofs.Common.{◌≡◌, ℕ, ◌+◌, ◌^◌, ◌<◌, ◌≤◌, ◌⊎◌, List, [], ◌∷◌, ◌++◌, Option, Some, None, Bool, true, false, if◌then◌else◌, is_none}
 use Rattle.std.proofs.Common.{option_to_list, inl, inr, refl, sym, ◌∙◌, ap, subst, arith}
 use Rattle.std.specs.Prelude.{Contains}
@@ -75,7 +75,7 @@ module _ (f : FloodParts) (clocks : ℕ → ℕ → ℕ) (has : HasClocks f cloc
       subst (λ (k : ℕ × Bool). IfSome (moment_of n.act) (λ l. NotAfter k l)) moment
       (All-contains (λ (n : Member). IfSome (moment_of n.act) (λ l. NotAfter next.moment l)) w.members n next.first in_it)
 
-  -- sendings of others end later
+  -- transmissions of others end later
   pub ends_later : (n : Member) (y : Sending) → Contains w.members n → n.act ≡ Sends y → t < y.end
   ends_later n y in_it sends = by_cases (subst (λ (a : Act). IfSome (moment_of a) (λ l. NotAfter (t, true) l)) sends (not_before n in_it))
     where

@@ -1,4 +1,4 @@
--- How many sendings there are.
+-- How many transmissions there are.
 use Rattle.std.proofs.Common.{◌≡◌, ℕ, zero, suc, ◌+◌, ◌≤◌, List, [], ◌∷◌, Bool, true, false, ◌&&◌, inl, inr, Option, Some, None, is_some, refl}
 use Rattle.std.proofs.Common.{sym, ◌∙◌, ap, subst, arith, length, ◌==◌, nat_lt, sum_by, eq-eqb}
 use Rattle.std.specs.Prelude.{Contains}
@@ -200,7 +200,7 @@ module _ (r : Run) (Tuned : ℕ → Sending → Type 0) (f : FloodRun r Tuned) (
           and_true true = refl
           and_true false = refl
 
-  -- the sendings of all nodes
+  -- the transmissions of all nodes
   pub count : Distinct s.everyone → length r.sendings ≡ sum_by (moment s 12).times s.everyone
   count nodes =
       sym (by_nodes s.everyone nodes r.sendings (λ x there. (timed r f.times x there).here))

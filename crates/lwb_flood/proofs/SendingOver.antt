@@ -1,4 +1,4 @@
--- A sending ends: what runs then, what the medium holds, and who hears it.
+-- A transmission ends: what runs then, what the medium holds, and who receives it.
 use Rattle.std.proofs.Common.{◌≡◌, ◌≢◌, ℕ, ◌+◌, ◌^◌, ◌≤◌, ◌⊎◌, ◌↔◌, List, [], ◌∷◌, map, Some, Bool, true, false, if◌then◌else◌, inl, inr, refl, sym, ◌∙◌, ap}
 use Rattle.std.proofs.Common.{subst, arith, length}
 use Rattle.std.specs.Prelude.{Contains}
@@ -30,7 +30,7 @@ use Rattle.lwb_flood.proofs.LogEntries.{known_of, known_there}
 use Rattle.lwb_flood.proofs.NodesAndStations.{one_member, member_of, old_lasts}
 use Rattle.lwb_flood.proofs.WorldLists.{each_changed, same_there}
 
--- hearings of one sending
+-- receptions of one transmission
 abbrev pub heard_at : Sending → ℕ → Hearing
 heard_at x v = record { node = v; sending = x }
 
@@ -151,7 +151,7 @@ module _ (f : FloodParts) (clocks : ℕ → ℕ → ℕ) (has : HasClocks f cloc
       (by_waiting w.medium w.medium.now x.end (scene f w) sends.later)
       (agree_earlier w.medium.now x.end (as_it_stands w.medium x.end (scene f w)) (standing f behind) sends.later ends_same)
 
-  -- those that hear it
+  -- those that receive it
   module _ (vs : List ℕ) (distinct : Distinct vs)
       (hear : (v : ℕ) → Contains vs v ↔ (Contains (nodes_of w.medium) v × HearsInScene (as_it_stands w.medium x.end (scene f w)) v x)) where
     abbrev todo : List Hearing

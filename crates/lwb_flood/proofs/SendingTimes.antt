@@ -1,4 +1,4 @@
--- Each sending of a flood has an initiator, and its time by its counter.
+-- Each transmission of a flood has an initiator, and its time by its counter.
 use Rattle.std.proofs.Common.{◌≡◌, ℕ, zero, suc, ◌+◌, ◌*◌, ◌<◌, ◌≤◌, List, [], ◌∷◌, true, inl, inr, refl, sym, ◌∙◌, ap, subst, arith, length}
 use Rattle.std.specs.Prelude.{Contains, slice_index, slice_set}
 use Rattle.std.proofs.lemmas.Bool.{cases_order, cases_lt}
@@ -109,7 +109,7 @@ module _ (r : Run) (f : RunHasTimes r) where
   pub timed : (x : Sending) → Contains r.sendings x → Timed r x
   timed x sent = timed_at (counter x) x sent refl
 
-  -- a sending of a step is over before one of a later step begins
+  -- a transmission of a step is over before one of a later step begins
   pub over : (x y : Sending) → Contains r.sendings x → Contains r.sendings y → counter x < counter y → x.end < y.start
   over x y sent_x sent_y less =
       let t = timed x sent_x in
@@ -140,7 +140,7 @@ module _ (r : Run) (f : RunHasTimes r) where
         ]
       ]
 
-  -- a sending of this step or a later one has not ended when one of this step starts
+  -- a transmission of this step or a later one has not ended when one of this step starts
   pub not_over : (x y : Sending) → Contains r.sendings x → Contains r.sendings y → counter x ≤ counter y → x.start < y.end
   not_over x y sent_x sent_y less =
       elim (cases_lt (counter x) (counter y)) [
@@ -153,7 +153,7 @@ module _ (r : Run) (f : RunHasTimes r) where
   event_sent v (Heard y) here there = heard_sent v y here there
   event_sent v (Ended y) here there = ((f.ended_events v y here).0 there).0
 
-  -- a sending is known by its node, start and packet
+  -- a transmission is known by its node, start and packet
   pub same_sending : (x y : Sending) → Contains r.sendings x → Contains r.sendings y → x.node ≡ y.node → x.start ≡ y.start → x.packet ≡ y.packet → x ≡ y
   same_sending x y sent_x sent_y node start packet =
       let last_x = f.lasts x sent_x in

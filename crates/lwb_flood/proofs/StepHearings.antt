@@ -27,7 +27,7 @@ pub record Offered (r : Run) (k v o : ℕ) (x : Sending) : Type 0 where
   pub packet : x.packet ≡ packet r o k
   pub passes : r.setting.passes k x.node v ≡ true
 
--- v heard a sending of this step and origin
+-- v received a transmission of this step and origin
 pub record HeardIn (r : Run) (Tuned : ℕ → Sending → Type 0) (k v o : ℕ) : Type 0 where
   pub sending : Sending
   pub hears : HearsIn r Tuned v sending
@@ -35,7 +35,7 @@ pub record HeardIn (r : Run) (Tuned : ℕ → Sending → Type 0) (k v o : ℕ) 
   pub packet : sending.packet ≡ packet r o k
   pub initiator : initiates r o
 
--- what happened as a hearing is heard by the rule
+-- what happened as a reception is received by the rule
 pub heard_by_rule : (r : Run) (Tuned : ℕ → Sending → Type 0) → FloodRun r Tuned → (v : ℕ) (y : Sending) → IsParticipant r v
     → Contains (r.events v) (Heard y) → HearsIn r Tuned v y
 heard_by_rule r Tuned f v y here there = (f.hears v y here).0 ((f.times.heard_events v y here).0 there)
@@ -65,7 +65,7 @@ module _ (r : Run) (Tuned : ℕ → Sending → Type 0) (f : FloodRun r Tuned) (
     passes = subst (λ (i : ℕ). s.passes i y.node v ≡ true) (sym at_y) passes;
   }
 
-  -- what meets a sending of this step is of this step
+  -- what meets a transmission of this step is of this step
   pub rival_step : (v : ℕ) (x y : Sending) → Contains r.sendings x → counter x ≡ k → RivalInRun r v x y → counter y ≡ k
   rival_step v x y sent_x at_x is = sym (one_step r f.times x y sent_x is.sent is.meets) ∙ at_x
 
@@ -77,7 +77,7 @@ module _ (r : Run) (Tuned : ℕ → Sending → Type 0) (f : FloodRun r Tuned) (
             absurd (h.silent z.sending z.sent z.node (meets r f.times x z.sending h.sent z.sent (step ∙ sym (counter_sent v some.0 z)))))
       ]
 
-  -- what is heard is picked
+  -- what is received is picked
   pub picked : (v : ℕ) (x : Sending) (o : ℕ) → HearsIn r Tuned v x → counter x ≡ k → initiates r o → x.packet ≡ packet r o k → pick s m k v ≡ Some o
   picked v x o h step begun is =
       let here : has s.everyone x.node ≡ true = (timed r f.times x h.sent).here in
@@ -104,7 +104,7 @@ module _ (r : Run) (Tuned : ℕ → Sending → Type 0) (f : FloodRun r Tuned) (
           let is_named : s.captured k v ≡ Some c.winner.node = subst (λ (i : ℕ). s.captured i v ≡ Some c.winner.node) step c.named in
           ap (λ (w : Option ℕ). option_and_then (offer_to v) w) is_named ∙ offered v c.winner.node o passes sends
 
-  -- the events of a node around a sending of this step
+  -- the events of a node around a transmission of this step
   early : (v : ℕ) (x : Sending) → IsParticipant r v → Contains r.sendings x → counter x ≡ k → (t : Turn r k v m) → (e : Event) → Contains t.before e
       → (sending_of_event e).end ≤ x.start
   early v x here sent step t e there =
@@ -139,7 +139,7 @@ module _ (r : Run) (Tuned : ℕ → Sending → Type 0) (f : FloodRun r Tuned) (
       (record { whole = t.whole; ended = early v x here sent step t; later = late v x here sent step t }) silent).1
       (subst (λ (n : ℕ). n < s.limit) (sym (sent_is v t)) less)
 
-  -- what is picked is heard
+  -- what is picked is received
   decide : (v o u : ℕ) → initiates r o → ((x : Sending) × Offered r k v o x × (x.node ≡ u)) ⊎ ((x : Sending) → Offered r k v o x → x.node ≡ u → ⊥)
   decide v o u begun =
       elim (inspect (offer_to v u)) [

@@ -23,7 +23,7 @@ use Rattle.lwb_flood.proofs.Stations.{station}
 use Rattle.lwb_flood.proofs.StepHearings.{heard_by_rule, origin_at, rival, silent_in, picked, few_sent}
 use Rattle.lwb_flood.proofs.StepsOnAir.{Turn, IsAt}
 
--- what hearing in this step says
+-- what reception in this step says
 pub record HearsParts (r : Run) (k v o : ℕ) (m : Moment) : Type 0 where
   pub here : IsParticipant r v
   pub quiet : m.sends v ≡ None
@@ -67,7 +67,7 @@ module _ (r : Run) (Tuned : ℕ → Sending → Type 0) (f : FloodRun r Tuned) (
   abbrev m' : Moment
   m' = next s k m
 
-  -- v hears by steps what it heard on the air, exactly where it fits
+  -- v receives by steps what it received on the air, if and only if it fits
   pub hears_is : (v o : ℕ) (x : Sending) → IsParticipant r v → HearsIn r Tuned v x → counter x ≡ k → initiates r o → x.packet ≡ packet r o k
       → hears s m k v ≡ (if fits (station r m v) x.packet then Some o else None)
   hears_is v o x here h step begun is =
@@ -170,7 +170,7 @@ module _ (r : Run) (Tuned : ℕ → Sending → Type 0) (f : FloodRun r Tuned) (
             ∙ t.state
       ]
 
-  -- each hearing of this step has its occasion now
+  -- each reception of this step has its occasion now
   pub occasion_now : (v : ℕ) (x : Sending) → IsParticipant r v → Contains (r.events v) (Heard x) → counter x ≡ k
       → Contains (event_occasions (flood_at_beginning r v) (r.events v)) (record { before = station r m v; event = Heard x })
   occasion_now v x here there step =

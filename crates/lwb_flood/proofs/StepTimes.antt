@@ -13,7 +13,7 @@ apart air turn k r q x y sx sy room few origins at_x at_y =
     let some : 1 ≤ air + turn = omega arith in
     omega (arith, mul-le-mul_left r some)
 
--- a sending of an earlier step ends before one of a later step starts
+-- a transmission of an earlier step ends before one of a later step starts
 pub in_order : (air turn k k' q x y sx sy : ℕ) → q + 23 < turn → k < k' → k' ≤ 11 → Near sx sy q → Near x (sx + k * (air + turn)) k
     → Near y (sy + k' * (air + turn)) k' → x + air < y
 in_order air turn k k' q x y sx sy room less few origins at_x at_y =
@@ -21,12 +21,12 @@ in_order air turn k k' q x y sx sy room less few origins at_x at_y =
     let is : k' ≡ k + 1 + r = omega arith in
     apart air turn k r q x y sx sy room (omega arith) origins at_x (subst (λ (i : ℕ). Near y (sy + i * (air + turn)) i) is at_y)
 
--- sendings of one step overlap
+-- transmissions of one step overlap
 pub meet : (air turn k q x y sx sy : ℕ) → q + 22 < air → k ≤ 11 → Near sx sy q → Near x (sx + k * (air + turn)) k → Near y (sy + k * (air + turn)) k
     → Overlap x (x + air) y (y + air)
 meet air turn k q x y sx sy room few origins at_x at_y = omega arith
 
--- sendings of one step and one initiator start within 22 ticks
+-- transmissions of one step and one initiator start within 22 ticks
 pub close : (air turn k x y s : ℕ) → k ≤ 11 → Near x (s + k * (air + turn)) k → Near y (s + k * (air + turn)) k → y ≤ x + 22
 close air turn k x y s few at_x at_y = omega arith
 

@@ -7,7 +7,7 @@ use Rattle.air_log.specs.NodeEvents.{Event, sending_of_event, flood_after_events
 use Rattle.lwb_flood.specs.FloodRun.{counter, Run, initiates, IsParticipant, packet, flood_at_beginning}
 use Rattle.lwb_flood.proofs.Stations.{station}
 
--- a sending of this node, step and origin
+-- a transmission of this node, step and origin
 pub record SentIn (r : Run) (k v o : ℕ) : Type 0 where
   pub sending : Sending
   pub sent : Contains r.sendings sending

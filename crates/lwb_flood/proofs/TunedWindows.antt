@@ -1,4 +1,4 @@
--- A node that listens in a window is tuned exactly where it has sent less often than its limit.
+-- A node that listens in a window is tuned if and only if it has sent less often than its limit.
 use Rattle.std.proofs.Common.{◌≡◌, ℕ, zero, suc, ◌+◌, ◌-◌, ◌<◌, ◌≤◌, List, [], ◌∷◌, ◌++◌, Bool, true, false, if◌then◌else◌, inl, inr, refl, sym, ◌∙◌, ap, subst}
 use Rattle.std.proofs.Common.{arith, length, get_or}
 use Rattle.std.specs.Prelude.{Contains}
@@ -12,7 +12,7 @@ use Rattle.lwb_flood.specs.FloodRun.{Run, flood_at_beginning, TunedByCount}
 use Rattle.lwb_flood.specs.Windows.{off_at, IsListeningWindow}
 use Rattle.lwb_base.proofs.Elements.{contains_head, contains_tail}
 
--- the end at a place is that of an own sending, or the other if the place is past all of them
+-- the end at a place is that of an own transmission, or the other if the place is past all of them
 data EndAt (es : List Event) (i other : ℕ) : Type 0 where
   Inside : (x : Sending) → Contains es (Ended x) → get_or (own_ends es) i other ≡ x.end → i < length (own_ends es) → EndAt es i other
   Past : get_or (own_ends es) i other ≡ other → length (own_ends es) ≤ i → EndAt es i other
@@ -47,7 +47,7 @@ heard_keeps : (w : FloodState) (p : List ℕ) (b c : Bool) → (if b then record
 heard_keeps w p true c = refl
 heard_keeps w p false c = refl
 
--- a flood counts the own sendings that ended
+-- a flood counts the own transmissions that ended
 pub sent_among : (w : FloodState) (es : List Event) → (flood_after_events w es).sent ≡ w.sent + length (own_ends es)
 sent_among w [] = omega arith
 sent_among w (Heard x ∷ es) =

@@ -72,7 +72,7 @@ hears_first = record {
   chosen = inl (λ y rival. ap (λ (x : Sending). x.packet) (sym (rival_first 2 y rival)));
 }
 
--- a node does not hear its own sending
+-- a node does not receive its own transmission
 own_unheard : (v : ℕ) (x : Sending) → Contains two_node_run.sendings x → x.node ≡ v → SilentInRun two_node_run v x → ⊥
 own_unheard v x there node silent = let some = lasts_some x there in silent x there node (omega arith)
 

@@ -102,7 +102,7 @@ module _ (r : Run) (Tuned : ℕ → Sending → Type 0) (f : FloodRun r Tuned) w
   at_step zero few = first_at
   at_step (suc k) few = step_on r Tuned f k (omega arith) (moment s k) (at_step k (omega arith))
 
-  -- sendings
+  -- transmissions
   sends_on_air : (v k o : ℕ) → initiates r o → k ≤ 11 → SendsOnAir r v k o ↔ Sends s v k o
   sends_on_air v k o begun few = (there, back)
     where
@@ -120,7 +120,7 @@ module _ (r : Run) (Tuned : ℕ → Sending → Type 0) (f : FloodRun r Tuned) w
       let few = (timed r f.times x sent_x).few in
       (at_step (counter x) (omega arith)).once x y sent_x sent_y refl (sym step) node
 
-  -- hearings
+  -- receptions
   hears_once : (v : ℕ) (x y : Sending) → IsParticipant r v → Contains (r.events v) (Heard x) → Contains (r.events v) (Heard y) → counter x ≡ counter y → x ≡ y
   hears_once v x y here in_x in_y step =
       let h = heard_by_rule r Tuned f v x here in_x in

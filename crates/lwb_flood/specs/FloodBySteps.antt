@@ -15,7 +15,7 @@ pub record SendsOnAir (r : Run) (v k o : ℕ) : Type 0 where
   pub node : sending.node ≡ v
   pub packet : sending.packet ≡ packet r o k
 
--- v hears o's packet with counter k, and it fits v's flood at that time
+-- v receives o's packet with counter k, and it fits v's flood at that time
 pub record HearsOnAir (r : Run) (v k o : ℕ) : Type 0 where
   pub sending : Sending
   pub flood : FloodState
@@ -28,7 +28,7 @@ abbrev pub flood_at_end : Run → ℕ → FloodState
 flood_at_end r v = flood_after_events (flood_at_beginning r v) (r.events v)
 
 pub record IsFloodBySteps (r : Run) : Type 0 where
-  -- each sending is an initiator's packet with a counter k up to 11, and starts within k ticks of k steps after it
+  -- each transmission is an initiator's packet with a counter k up to 11, and starts within k ticks of k steps after it
   pub spelled : (x : Sending) → Contains r.sendings x
       → (o : ℕ) × initiates r o × (counter x ≤ 11) × (x.packet ≡ packet r o (counter x))
       × Near x.start (r.starts o + counter x * (r.air + r.turn)) (counter x)

@@ -59,7 +59,7 @@ pub record HeardFirst (air : List Entry) (v k : ℕ) : Type 0 where
   pub counter : counter_of sending.packet ≡ k
   pub first : (y : Sending) → HasHeardEntry air v y → sending.end ≤ y.end
 
--- the step at which v accepts: the counter of its first hearing. The starting node accepts nothing
+-- the step at which v accepts: the counter of its first reception. The starting node accepts nothing
 abbrev pub IsAcceptanceStep : FloodParts → List Entry → ℕ → Option ℕ → Type 0
 IsAcceptanceStep f air v None = (v ≡ f.start) ⊎ ((x : Sending) → HasHeardEntry air v x → ⊥)
 IsAcceptanceStep f air v (Some k) = (v ≢ f.start) × HeardFirst air v k

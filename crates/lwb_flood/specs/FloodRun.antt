@@ -14,10 +14,10 @@ use Rattle.air_log.specs.NodeEvents.{Event, Heard, Ended, sending_of_event, Even
 
 -- What is given: the setting of the flood by steps (its limit, links, capture lines, initiators, and all that take part);
 -- the kind, slot and channel of its packets; each initiator's packet, and when it starts.
--- In ticks: how long a packet is on the air, the turnaround, the greatest displacement of equal packets that are heard
+-- In ticks: how long a packet is on the air, the turnaround, the greatest displacement of equal packets that are received
 -- as one, and the greatest difference of two initiators' starts.
--- What was done: the sendings, the hearings, each node's events in the order of their ends, and when a node starts a
--- relay of what it heard up to a tick.
+-- What was done: the transmissions, the receptions, each node's events in the order of their ends, and when a node starts a
+-- relay of what it received up to a tick.
 pub record Run : Type 0 where
   pub setting : Setting
   pub kind : Kind
@@ -50,7 +50,7 @@ packet r o k = slice_set (r.message o) 2 k
 abbrev pub WasHeard : Run → ℕ → Sending → Type 0
 WasHeard r v x = Contains r.hearings (record { node = v; sending = x })
 
--- a sending that lasts as long as the run's packets do
+-- a transmission that lasts as long as the run's packets do
 abbrev pub sending_of_run : Run → ℕ → ℕ → List ℕ → Sending
 sending_of_run r v start p = record { rank = r.rank; node = v; start = start; end = start + r.air; packet = p }
 
@@ -93,7 +93,7 @@ pub record CapturedInRun (r : Run) (v : ℕ) (x : Sending) : Type 0 where
   pub same : winner.packet ≡ x.packet
   pub named : r.setting.captured (counter x) v ≡ Some winner.node
 
--- v hears x by the rule of the air. `Tuned` says that a node is tuned while a sending lasts
+-- v receives x by the rule of the air. `Tuned` says that a node is tuned while a transmission lasts
 pub record HearsIn (r : Run) (Tuned : ℕ → Sending → Type 0) (v : ℕ) (x : Sending) : Type 0 where
   pub sent : Contains r.sendings x
   pub tuned : Tuned v x
@@ -103,7 +103,7 @@ pub record HearsIn (r : Run) (Tuned : ℕ → Sending → Type 0) (v : ℕ) (x :
   pub close : (y : Sending) → RivalInRun r v x y → y.packet ≡ x.packet → y.start ≤ x.start + r.delta
   pub chosen : AloneInRun r v x ⊎ CapturedInRun r v x
 
--- v's flood answered a hearing with the packet of x, which starts a turnaround later
+-- v's flood answered a reception with the packet of x, which starts a turnaround later
 pub record RelayedInRun (r : Run) (v : ℕ) (x : Sending) : Type 0 where
   pub heard : Sending
   pub flood : FloodState
@@ -136,19 +136,19 @@ pub record HasSendings (r : Run) : Type 0 where
       → Contains r.sendings (sending_of_run r v start p)
   pub relays : (x : Sending) → Contains r.sendings x → counter x ≢ 0 → IsParticipant r x.node × RelayedInRun r x.node x
 
--- the events of a node are its hearings and its own sendings
+-- the events of a node are its receptions and its own transmissions
 pub record HasEvents (r : Run) : Type 0 where
   pub heard_events : (v : ℕ) (x : Sending) → IsParticipant r v → Contains (r.events v) (Heard x) ↔ WasHeard r v x
   pub ended_events : (v : ℕ) (x : Sending) → IsParticipant r v
       → Contains (r.events v) (Ended x) ↔ (Contains r.sendings x × (x.node ≡ v))
   pub in_order : (v : ℕ) → IsParticipant r v → EventsInOrder (r.events v)
 
--- a relay starts a turnaround after the end of what was heard, but for one tick
+-- a relay starts a turnaround after the end of what was received, but for one tick
 abbrev pub TurnsAround : Run → Type 0
 TurnsAround r = (v : ℕ) (x : Sending) → IsParticipant r v → WasHeard r v x → InTime r x
     → Near (r.relay_start v x.end) (x.end + r.turn) 1
 
--- all from which the times of the sendings follow: hearings are only asked to be of sendings
+-- all from which the times of the transmissions follow: receptions are only asked to be of transmissions
 pub record RunHasTimes (r : Run) : Type 0 where
   pub room : RunHasRoom r
   pub open room use *
@@ -161,7 +161,7 @@ pub record RunHasTimes (r : Run) : Type 0 where
   pub heard_sent : (v : ℕ) (x : Sending) → IsParticipant r v → WasHeard r v x → Contains r.sendings x
   pub turned : TurnsAround r
 
--- what is heard is what the air's rule says
+-- what is received is what the air's rule says
 abbrev pub HearsByRule : Run → (ℕ → Sending → Type 0) → Type 0
 HearsByRule r Tuned = (v : ℕ) (x : Sending) → IsParticipant r v → WasHeard r v x ↔ HearsIn r Tuned v x
 
@@ -171,7 +171,7 @@ pub record IsSplitAtStart (r : Run) (v : ℕ) (x : Sending) (before rest : List 
   pub ended : (e : Event) → Contains before e → (sending_of_event e).end ≤ x.start
   pub later : (e : Event) → Contains rest e → x.start < (sending_of_event e).end
 
--- while it does not send, v is tuned exactly where fewer than its limit of own sendings have ended
+-- while it does not send, v is tuned if and only if fewer than its limit of own transmissions have ended
 abbrev pub TunedByCount : Run → (ℕ → Sending → Type 0) → ℕ → Type 0
 TunedByCount r Tuned v = (x : Sending) (before rest : List Event) → Contains r.sendings x → InTime r x
     → IsSplitAtStart r v x before rest → SilentInRun r v x → Tuned v x ↔ ((flood_after_events (flood_at_beginning r v) before).sent < r.setting.limit)

@@ -65,7 +65,7 @@ first_world f = record {
   air = [];
 }
 
--- the next thing that a node is about to do: its tick, and whether a sending starts there; else one ends
+-- the next thing that a node is about to do: its tick, and whether a transmission starts there; else one ends
 abbrev pub moment_of : Act → Option (ℕ × Bool)
 moment_of Listens = None
 moment_of (Waits t packet) = Some (t, true)
@@ -91,7 +91,7 @@ pub record ActsNext (ms : List Member) (m : Member) : Type 0 where
   pub own : moment_of m.act ≡ Some moment
   pub first : All (λ n. IfSome (moment_of n.act) (λ l. NotAfter moment l)) ms
 
--- a sending starts
+-- a transmission starts
 abbrev pub member_with_act : Act → Member → Member
 member_with_act act m = record m { act = act }
 
@@ -113,7 +113,7 @@ gone v t w = record {
   air = w.air ++ flood_tuned_entry v t ∷ [];
 }
 
--- a sending ends: at its node, which goes off if it was the last, and then at those who heard it
+-- a transmission ends: at its node, which goes off if it was the last, and then at those who received it
 abbrev pub after_own : Member → Member
 after_own m = record m { flood = after_sent m.flood; act = Listens }
 
@@ -123,7 +123,7 @@ own_ended x w = record w {
   members = with_change x.node after_own w.members;
 }
 
--- the sending that the node ends is its last
+-- the transmission that the node ends is its last
 abbrev pub is_last_of : ℕ → Member → Bool
 is_last_of v m = (m.node == v) && (m.flood.sent + 1 == m.flood.limit)
 
@@ -154,7 +154,7 @@ readings_of_node R cs [] v = λ t. t
 readings_of_node R [] (u ∷ us) v = λ t. t
 readings_of_node R (c ∷ cs) (u ∷ us) v = if u == v then R c else readings_of_node R cs us v
 
--- these nodes hear a sending that ends: by the rule of the air, in a scene that the medium holds
+-- these nodes receive a transmission that ends: by the rule of the air, in a scene that the medium holds
 pub record IsHeardBy (lines : Lines) (x : Sending) (w : World) (vs : List ℕ) : Type 0 where
   pub ascending : AllPairs (λ u v. u < v) vs
   pub hearers : (a : Scene) → Holds w.medium a → a.lines ≡ lines → (v : ℕ) → Contains vs v
@@ -169,7 +169,7 @@ pub record CanEnd (lines : Lines) (w : World) (m : Member) (x : Sending) : Type 
   pub waits : All (λ n. n.node ≡ x.node → n.flood.waiting ≡ true) w.members
   pub early : x.end ≤ 2 ^ 45
 
--- the world after the end of a sending, at its node and at those who hear it
+-- the world after the end of a transmission, at its node and at those who receive it
 pub record Ended (lines : Lines) (clocks : ℕ → ℕ → ℕ) (x : Sending) (old new : World) : Type 0 where
   pub hearers : List ℕ
   pub heard : IsHeardBy lines x old hearers

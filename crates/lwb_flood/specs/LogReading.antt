@@ -1,4 +1,4 @@
--- Internal: what is kept of the hearings of a log while it is read.
+-- Internal: what is kept of the receptions of a log while it is read.
 use Rattle.std.specs.Prelude.{◌≡◌, ℕ, ◌≤◌, ◌==◌, if◌then◌else◌, nat_le, List, Contains, length, get_or, set, option_map, Some, None}
 use Rattle.std.specs.declared.option.Option.{Option}
 use Rattle.glossy_relay.specs.Relaying.{counter_of}
@@ -8,7 +8,7 @@ use Rattle.radio_model.specs.declared.sending.Sending.{Sending}
 use Rattle.radio_model.specs.OnAir.{Hearing}
 use Rattle.lwb_flood.specs.declared.flood_outcome.FirstHearing.{FirstHearing}
 
--- v heard a sending with this end and counter, and none that ends before
+-- v received a transmission with this end and counter, and none that ends before
 pub record EndsFirst (hearings : List Hearing) (v : ℕ) (g : FirstHearing) : Type 0 where
   pub sending : Sending
   pub there : Contains hearings (record { node = v; sending = sending })
@@ -16,7 +16,7 @@ pub record EndsFirst (hearings : List Hearing) (v : ℕ) (g : FirstHearing) : Ty
   pub counter : counter_of sending.packet ≡ g.counter
   pub first : (y : Sending) → Contains hearings (record { node = v; sending = y }) → sending.end ≤ y.end
 
--- what is kept of the hearings of v
+-- what is kept of the receptions of v
 abbrev pub IsFirstReception : List Hearing → ℕ → Option FirstHearing → Type 0
 IsFirstReception hearings v None = (x : Sending) → Contains hearings (record { node = v; sending = x }) → ⊥
 IsFirstReception hearings v (Some g) = EndsFirst hearings v g

@@ -5,8 +5,8 @@ use Rattle.radio_model.specs.declared.sending.Sending.{Sending}
 use Rattle.radio_model.specs.Hearing.{Scene, frame_of_sending, slot_of_sending, counter_of_sending, Meets}
 use Rattle.lwb_flood.specs.FloodRun.{Run, IsParticipant, counter}
 
--- the run's sendings are on its channel, and nothing else that matters for them is on the air with one of them: neither
--- another sending of the channel, nor one of a node that takes part. Links pass and capture lines stand by their counters
+-- the run's transmissions are on its channel, and nothing else that matters for them is on the air with one of them: neither
+-- another transmission of the channel, nor one of a node that takes part. Links pass and capture lines are sorted by their counters
 pub record IsPart (a : Scene) (r : Run) : Type 0 where
   pub delta : a.numbers.delta ≡ r.delta
   pub sent : (x : Sending) → Contains r.sendings x → Contains a.sendings x × (x.rank ≡ r.rank)

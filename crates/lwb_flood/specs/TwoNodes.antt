@@ -1,4 +1,4 @@
--- A run of two nodes: node 1 initiates, and node 2 hears it and relays.
+-- A run of two nodes: node 1 initiates, and node 2 receives it and relays.
 use Rattle.std.specs.Prelude.{ℕ, ◌+◌, List, [], ◌∷◌, Bool, true, ◌||◌, ◌==◌, None, if◌then◌else◌}
 use Rattle.lwb_packets.specs.declared.kind.Kind.TheVariants.{Payload}
 use Rattle.radio_model.specs.declared.sending.Sending.{Sending}

@@ -7,7 +7,7 @@ use Rattle.radio_model.specs.declared.sending.Sending.{Sending}
 use Rattle.air_log.specs.NodeEvents.{own_ends}
 use Rattle.lwb_flood.specs.FloodRun.{Run, InTime, initiates, IsParticipant, HasInitiators, HasSendings, HasEvents, HearsByRule}
 
--- when v goes off: at the end of its last sending, the N-th of at most N, or else at the closing
+-- when v goes off: at the end of its last transmission, the N-th of at most N, or else at the closing
 abbrev pub off_at : Run → ℕ → ℕ → ℕ
 off_at r v closing = get_or (own_ends (r.events v)) (r.setting.limit - 1) closing
 

@@ -22,7 +22,7 @@ pub(crate) fn set_act(members: &mut Vec<Member>, node: NodeId, act: Act)
     members[place].act = act;
 }
 
-// The node's sending ended.
+// The node's transmission ended.
 pub(crate) fn end_own(members: &mut Vec<Member>, node: NodeId) -> After
     requires node { Contains (map node_of_member members.old.items) node }
     requires ascend { AllPairs (λ a b. a < b) (map node_of_member members.old.items) }
@@ -36,7 +36,7 @@ pub(crate) fn end_own(members: &mut Vec<Member>, node: NodeId) -> After
     member.flood.sent()
 }
 
-// The node at that place hears a sending that has ended.
+// The node at that place receives a transmission that has ended.
 pub(crate) fn hear_at<C: DriftClock>(
     members: &mut Vec<Member>,
     place: usize,

@@ -16,7 +16,7 @@ use std::alloc::Global;
 /// Ids of nodes are below this number.
 const IDS: usize = 201;
 
-// The end of a hearing, a true tick, and the counter of what was heard.
+// The end of a reception, a true tick, and the counter of what was received.
 #[derive(Clone, Copy)]
 pub(crate) struct FirstHearing {
     pub(crate) end: u64,
@@ -54,7 +54,7 @@ fn is_sent(air: &Air, i: usize) -> bool
     matches!(air.at(i), Some(Entry::Sent(_)))
 }
 
-// The hearing of each node that ends first, at the place of its id.
+// The reception of each node that ends first, at the place of its id.
 fn first_hearings(air: &Air) -> [Option<FirstHearing>; IDS]
     ensures { AreFirst air.now result }
 {

@@ -28,7 +28,7 @@ use tick_clock::DriftClock;
 // The true tick at which the nodes tune in.
 const OPENING: u64 = 1_344_000_000;
 
-// The true tick at which those nodes go off that have sendings left.
+// The true tick at which those nodes go off that have transmissions left.
 const CLOSING: u64 = 1_346_096_000;
 
 // One flood as it runs: the medium, the nodes by ascending ids, and the log.
@@ -50,7 +50,7 @@ impl Model for FloodWorld {
 }
 
 impl FloodWorld {
-    // The place of the node that is the next to do something, or of one of them. None exactly where none has anything to do.
+    // The place of the node that is the next to do something, or of one of them. None if and only if none has anything to do.
     pub(crate) fn next(&self) -> Option<usize>
         ensures none { IfNone result (All (λ m. moment_of m.act ≡ None) self.now.members) }
         ensures some { IfSome result (λ i. (i < length self.now.members) × ((d : Member) → ActsNext self.now.members (slice_index_or self.now.members i d))) }
@@ -117,7 +117,7 @@ impl FloodWorld {
         self.air
     }
 
-    // The node's ordered sending starts.
+    // The node's ordered transmission starts.
     pub(crate) fn begin(&mut self, node: NodeId, start: u64, packet: Packet) -> Result<(), Memory>
         requires node { Contains (nodes_of self.old.medium) node }
         requires time { IsTime self.old.medium start }
@@ -154,7 +154,7 @@ impl FloodWorld {
         Ok(())
     }
 
-    // The sending ends: at its node, which goes off if it was the last, and then at those who hear it.
+    // The transmission ends: at its node, which goes off if it was the last, and then at those who receive it.
     pub(crate) fn end<C: DriftClock>(
         &mut self,
         trace: &Trace,
@@ -182,7 +182,7 @@ impl FloodWorld {
         }
     }
 
-    // These nodes hear the sending that has ended.
+    // These nodes receive the transmission that has ended.
     fn hear_all<C: DriftClock>(
         &mut self,
         clocks: &[C],
@@ -204,7 +204,7 @@ impl FloodWorld {
         Ok(())
     }
 
-    // The node at that place hears it.
+    // The node at that place receives it.
     fn hear<C: DriftClock>(&mut self, place: usize, clock: &C, x: &Sending) -> Result<(), Memory>
         requires place { place < length self.old.members }
         requires early { x.now.end ≤ 2 ^ 45 }
@@ -218,7 +218,7 @@ impl FloodWorld {
     }
 }
 
-// What a node is about to do: when, and whether it is to start a sending; else one ends.
+// What a node is about to do: when, and whether it is to start a transmission; else one ends.
 fn moment(act: &Act) -> Option<(u64, bool)>
     ensures { result ≡ moment_of act.now }
 {
@@ -246,7 +246,7 @@ fn sooner(next: Option<(usize, u64, bool)>, i: usize, act: &Act) -> Option<(usiz
     }
 }
 
-// At one tick sendings end before others start.
+// At one tick transmissions end before others start.
 fn comes_before(t: u64, starts: bool, u: u64, waits: bool) -> bool
     ensures { result ≡ comes_before_of (t, starts) (u, waits) }
 {

@@ -118,7 +118,7 @@ pub closes : (s : Setup) (f : ℕ) (c : Core) (h : HostPlan) → h ≡ host_plan
     → planned (rank_of c.tune) f c h ≡ host_closes s f c
 closes s f c h is = ap (planned (rank_of c.tune) f c) is
 
--- a closing schedule stands in the last slot of a round
+-- a closing schedule is in the last slot of a round
 of_named : (owners contend slot : ℕ) (b : Bool) → owners ≤ 40 → contend ≤ 4 → slot ≡ owners + (if b then 1 else contend) + 1 → (1 ≤ (if b then 1 else contend))
     → between 2 (if b then 42 else 45) slot ≡ true
 of_named owners contend slot true few named is some = rw (le-leb 2 slot (omega arith), le-leb slot 42 (omega arith)) refl

@@ -25,7 +25,7 @@ pub record IsPlan (p : Plan) : Type 0 where
 abbrev pub IsBoot : ℕ → Type 0
 IsBoot boot = (1 ≤ boot) × (boot ≤ 200)
 
--- what holds of a member at all times. joined: its tuner was told that it accepted this frame's opening
+-- what holds of a member at all times. joined: its tuner was given that it accepted this frame's opening
 pub record IsMember (s : Setup) (c : Core) (joined : Bool) : Type 0 where
   pub sends : (1 ≤ s.sends) × (s.sends ≤ 4)
   pub boot : IsBoot c.boot
@@ -41,7 +41,7 @@ IsHeardInRange (Schedule s) = IsPlan s.plan × IsBoot s.plan.boot
 IsHeardInRange (Data d) = ⊤
 IsHeardInRange (Request r) = InRange r
 
--- a schedule was read in a slot that it may stand in
+-- a schedule was read in a slot that it may be in
 abbrev pub StandsIn : ℕ → Heard → Type 0
 StandsIn slot (Schedule s) = slot_fits s.gap s.plan.contend slot ≡ true
 StandsIn slot (Data d) = ⊤

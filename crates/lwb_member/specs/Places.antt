@@ -1,4 +1,4 @@
--- The slots of a round: where each part stands, and what packets it is for.
+-- The slots of a round: where each part is, and what packets it is for.
 use Rattle.std.specs.Prelude.{◌≡◌, ℕ, ◌≤◌}
 use Rattle.lwb_base.specs.Messages.{Plan}
 use Rattle.lwb_packets.specs.declared.kind.Kind as Kind

@@ -92,7 +92,7 @@ impl Member {
         self.plan = schedule;
     }
 
-    // Its own contention slot among so many, 0 for one.
+    // Its own contention slot among this many, 0 for one.
     fn contention_slot(&self, contend: u8) -> u8
         requires { contend ≤ 4 }
         ensures { result ≡ 1 + (self.now.setup.id + self.now.core.streams.tries) % slots_named contend }
@@ -101,7 +101,7 @@ impl Member {
         1 + sum % contention_slots(contend)
     }
 
-    // A data slot closes, in which the host heard its owner or did not.
+    // A data slot closes, in which the host received its owner or did not.
     fn hear_owner(&mut self, frame: u32, part: Part, heard: bool)
         ensures { self.new ≡ record self.old { core = slot_heard frame part heard self.old.core } }
     {

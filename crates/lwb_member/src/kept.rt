@@ -7,7 +7,7 @@ use schedule_codec::Ack;
 use std::marker::Model;
 use stream_table::code_order::Coded;
 
-// A request that a host keeps until it plans, or what stands in a place for one that is not used.
+// A request that a host keeps until it plans, or what is in a place for one that is not used.
 #[derive(Clone, Copy)]
 pub(crate) struct Kept {
     pub(crate) ask: Ack,

@@ -1,4 +1,4 @@
--- What the engine leaves is a run: its log is lawful, so it is safe and the bus's.
+-- What the engine leaves is a run: its log is valid, so it is safe and the bus's.
 use Rattle.std.proofs.Common.{ℕ, Result, Ok, Err, OnOk, ◌∙◌}
 use Rattle.law_bus.proofs.BusRuns.{bus_run}
 use Rattle.world_engine.specs.Worlds.{WorldState, HasEngineRun}

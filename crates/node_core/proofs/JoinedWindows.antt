@@ -1,4 +1,4 @@
--- The window in which a scanner heard its first schedule.
+-- The window in which a scanning node received its first schedule.
 use Rattle.std.proofs.Common.{◌≡◌, ℕ, ◌^◌, ◌<◌, ◌==◌, List, Some, Bool, true, false, if◌then◌else◌, inl, refl, sym, subst, arith}
 use Rattle.std.proofs.lemmas.Bool.{cond_both, eqb-true}
 use Rattle.lwb_base.specs.Messages.{Schedule}
@@ -16,7 +16,7 @@ use Rattle.node_core.specs.Rows.{last_by, part_by}
 use Rattle.node_core.specs.Standing.{IsWindow}
 use Rattle.node_core.proofs.KeptWindows.{Carries, carried}
 
--- an opening stands in slot 0, and nothing follows a closing
+-- an opening is in slot 0, and nothing follows a closing
 first_slot : (opens other : Bool) (j last : ℕ) → (if opens then (j == 0) else other) ≡ true → j < (if opens then last else j) → j ≡ 0
 first_slot true other j last fits less = eqb-true j 0 fits
 first_slot false other j last fits less = omega arith

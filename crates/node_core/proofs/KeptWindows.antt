@@ -1,4 +1,4 @@
--- What holds of a window holds when a packet was heard in it.
+-- What holds of a window holds when a packet was received in it.
 use Rattle.std.proofs.Common.{◌≡◌, ℕ, ◌^◌, ◌<◌, ◌&&◌, List, Option, Some, None, true, not, ◌==◌, nat_lt, is_none, refl, ◌∙◌, subst, arith}
 use Rattle.std.proofs.lemmas.Bool.{cond_both, and_parts}
 use Rattle.std.specs.Option.{IfSome}

@@ -54,6 +54,6 @@ starts_at p z j = stopped (z + j * p.slot + p.listen)
 abbrev pub closes_at : Numbers → ℕ → ℕ → ℕ
 closes_at p z j = stopped (z + j * p.slot + p.close)
 
--- the zero by a schedule whose hearing ended at this reading
+-- the zero by a schedule whose reception ended at this reading
 abbrev pub zero_from : Numbers → ℕ → List ℕ → ℕ
 zero_from p now q = heard_zero p (now - airtime p (length q)) (counter_of q) (length q) (slot_of q)

@@ -97,13 +97,13 @@ window_opens s n j =
       delivery = None;
     }
 
--- a relay begins a turnaround after the end of the hearing
+-- a relay begins a turnaround after the end of the reception
 abbrev pub relaying : Numbers → ℕ → Reply → List Order
 relaying p now (Relay q) = SendAt (stopped (now + p.turn)) q ∷ []
 relaying p now Keep = []
 relaying p now Ignore = []
 
--- heard schedule while scanning. An opening says how long the round is; a closing is its last slot
+-- received schedule while scanning. An opening says how long the round is; a closing is its last slot
 abbrev pub last_by : Schedule → ℕ → ℕ
 last_by x j = if x.gap == 0 then last_slot x.plan else j
 
@@ -127,7 +127,7 @@ scanner_hears s n now p (Some (DataOf d)) = None
 scanner_hears s n now p (Some (RequestOf a)) = None
 scanner_hears s n now p (Some (ScheduleOf x)) = if x.plan.rank == rank_of n.core.tune then Some (joins s n now p x) else None
 
--- heard in a window. A schedule of another rank is ignored
+-- received in a window. A schedule of another rank is ignored
 abbrev pub is_foreign : ℕ → Option Message → Bool
 is_foreign rank None = false
 is_foreign rank (Some (DataOf d)) = false

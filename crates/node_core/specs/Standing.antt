@@ -1,4 +1,4 @@
--- Where a node stands, and what holds of it at all times.
+-- Where a node is, and what holds of it at all times.
 use Rattle.std.specs.Prelude.{◌≡◌, ℕ, ◌^◌, ◌<◌, ◌≤◌, ◌⊎◌, true, false, Some, None, [], ⊤}
 use Rattle.std.specs.Option.{IfSome}
 use Rattle.lwb_base.specs.Profile.{Numbers}
@@ -63,7 +63,7 @@ pub record IsNode (p : Numbers) (c : Core) (frame : ℕ) (reference : RoundTimes
   pub accepted : IsEarly frame c.table
   pub hosted : HostsIn frame c stage
 
--- the frame of the next round of a holder or host
+-- the frame of the next round of a synchronized member or host
 abbrev pub IsDue : ℕ → Tune → Type 0
 IsDue f (Scan r waited) = ⊤
 IsDue f (Hold r due) = due ≡ f

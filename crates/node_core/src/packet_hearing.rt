@@ -22,7 +22,7 @@ use lwb_packets::Kind;
 use schedule_codec::Schedule;
 
 impl Node {
-    // A packet was heard.
+    // A packet was received.
     pub(crate) fn hear<R: Radio>(&mut self, now: u64, packet: &Packet, radio: &mut R)
         requires now { now < 2 ^ 46 }
         requires room { 2 ≤ (R.told radio.old).room }
@@ -36,7 +36,7 @@ impl Node {
         }
     }
 
-    // Heard schedule while scanning. Another packet fits no row.
+    // Received schedule while scanning. Another packet fits no row.
     fn hear_while_scanning<R: Radio>(&mut self, now: u64, packet: &Packet, radio: &mut R)
         requires host { hosts self.old.node.core.tune ≡ false }
         requires now { now < 2 ^ 46 }
@@ -54,7 +54,7 @@ impl Node {
         }
     }
 
-    // The schedule of this packet is the first that a scanner heard.
+    // The schedule of this packet is the first that a scanning node received.
     fn join<R: Radio>(&mut self, now: u64, packet: &Packet, schedule: &Schedule, radio: &mut R)
         requires host { hosts self.old.node.core.tune ≡ false }
         requires now { now < 2 ^ 46 }
@@ -84,7 +84,7 @@ impl Node {
         radio.alarm(closes_at(&profile, &reference, slot));
     }
 
-    // Heard in a window.
+    // Received in a window.
     pub(crate) fn hear_in_window<R: Radio>(&mut self, now: u64, packet: &Packet, radio: &mut R)
         requires now { now < 2 ^ 46 }
         requires room { 1 ≤ (R.told radio.old).room }
@@ -102,7 +102,7 @@ impl Node {
     }
 }
 
-// What the slot is for in which this schedule was heard.
+// What the slot is for in which this schedule was received.
 fn part_by(schedule: &Schedule) -> Part
     ensures { result ≡ part_of_slot_by schedule.now }
 {
@@ -113,7 +113,7 @@ fn part_by(schedule: &Schedule) -> Part
     }
 }
 
-// The last slot of the round whose schedule was heard in this slot. An opening says how long it is, a closing ends it.
+// The last slot of the round whose schedule was received in this slot. An opening says how long it is, a closing ends it.
 fn last_by(schedule: &Schedule, slot: u8) -> u8
     requires { schedule.now.plan.contend ≤ 4 }
     ensures { result ≡ last_slot_by schedule.now slot }

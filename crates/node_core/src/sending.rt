@@ -31,7 +31,7 @@ impl Node {
     }
 }
 
-// A relay begins a turnaround after the end of the hearing.
+// A relay begins a turnaround after the end of the reception.
 pub(crate) fn relay<R: Radio>(profile: &Profile, now: u64, reply: &Reply, radio: &mut R)
     requires now { now < 2 ^ 46 }
     requires room { 1 ≤ (R.told radio.old).room }

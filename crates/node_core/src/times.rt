@@ -18,7 +18,7 @@ pub(crate) fn frame_alarm(profile: &Profile, frame: u32) -> u64
     stopped(u64::from(frame) * profile.frame() + profile.end())
 }
 
-// The reference by a schedule whose hearing ended at this reading.
+// The reference by a schedule whose reception ended at this reading.
 pub(crate) fn heard_reference(profile: &Profile, now: u64, schedule: &Packet) -> Reference
     requires { now < 2 ^ 46 }
     ensures { result ≡ times_of profile.now (zero_from profile.now now schedule.now) }

@@ -35,7 +35,7 @@ impl Model for Window {
 }
 
 impl Window {
-    // A packet was heard, on the channel of this rank, whose hearing ended at this reading.
+    // A packet was received, on the channel of this rank, whose reception ended at this reading.
     pub(crate) fn hear(&mut self, profile: &Profile, rank: Rank, now: u64, p: &Packet) -> Reply
         requires { now < 2 ^ 46 }
         ensures reply { result ≡ reply_by rank self.old p.now }
@@ -54,7 +54,7 @@ impl Window {
         reply
     }
 
-    // The ordered sending ended.
+    // The ordered transmission ended.
     pub(crate) fn sent(&mut self) -> After
         requires { self.old.flood.waiting ≡ true }
         ensures after { self.new ≡ record self.old { flood = after_sent self.old.flood } }

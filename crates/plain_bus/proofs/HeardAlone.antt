@@ -1,4 +1,4 @@
--- What is heard where one origin alone is sent, read off the masks.
+-- What is received where one origin alone is sent, read off the masks.
 use Rattle.std.proofs.Common.{◌≡◌, ◌≢◌, ◌<◌, ℕ, Bool, true, false, ◌&&◌, not, ◌==◌, inl, inr, Option, Some, None, is_some, if◌then◌else◌, refl}
 use Rattle.std.proofs.Common.{length, get_or, sym, ◌∙◌, ap, arith}
 use Rattle.std.specs.Int.{bit_at}
@@ -62,7 +62,7 @@ module _ (s : Setting) (m : Moment) (t : Traced) (f : Flood) (k : ℕ) (flood : 
       ap (λ (b : Bool). if b then m.sends u else None) (flood.links k u v ∙ from.3) ∙ sent.1 ∙ ap (λ (n : ℕ). Some n) origin in
       only_picked s m k v known u o given (alone s m k v known o o lone u given)
 
-  -- a node hears by the masks what it should
+  -- a node receives by the masks what it should
   pub heard_alone_is : (x : Station) → x ≡ station_at m v → heard_alone f reached place o x ≡ hears s m k v
   heard_alone_is x is = elim (cases_Bool (bit_at reached place == 1)) [
     | inl set ↦ elim (cases_Bool (may_hear_at f x place)) [

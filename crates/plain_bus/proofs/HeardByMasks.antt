@@ -1,4 +1,4 @@
--- What a node hears in a step, read off the stations and the masks.
+-- What a node receives in a step, read off the stations and the masks.
 use Rattle.std.proofs.Common.{◌≡◌, ◌<◌, ℕ, suc, List, [], ◌∷◌, Bool, true, false, not, ◌&&◌, ◌||◌, inl, inr, Option, Some, None, is_some, is_none, nat_lt, refl}
 use Rattle.std.proofs.Common.{sym, ◌∙◌, ap, length, map, get_or, min, ◌==◌, if◌then◌else◌, bit_and, arith}
 use Rattle.std.specs.Int.{bit_at}

@@ -1,4 +1,4 @@
--- A node sends for one origin alone in a flood: for itself where it initiates, else for the one that it heard first.
+-- A node sends for one origin alone in a flood: for itself where it initiates, else for the one that it received first.
 use Rattle.std.proofs.Common.{◌≡◌, ◌≤◌, ◌<◌, ◌+◌, ◌==◌, ◌||◌, ℕ, zero, suc, Bool, true, false, not, nat_lt, inl, inr, Option, Some, None, if◌then◌else◌}
 use Rattle.std.proofs.Common.{refl, sym, ◌∙◌, ap, subst, arith}
 use Rattle.std.proofs.lemmas.Bool.{and_parts, eqb-true, false≢true, cases_lt, ltb-true}
@@ -19,7 +19,7 @@ module _ (s : Setting) (v : ℕ) where
   unfolding moment
   begins_as = refl
 
-  -- what is sent in the next step was heard in this one
+  -- what is sent in the next step was received in this one
   heard_then : (k o : ℕ) → (moment s (suc k)).sends v ≡ Some o → (nat_lt (k + 1) STEPS ≡ true) × (hears s (moment s k) k v ≡ Some o)
   heard_then k o is = sends_parts (nat_lt (k + 1) STEPS) (hears s (moment s k) k v) o (sym (sends_as k) ∙ is)
 
@@ -37,7 +37,7 @@ module _ (s : Setting) (v : ℕ) where
       let both = and_parts (not (has s.initiators v) || (v == o)) (agrees ((moment s k).heard v) o) (taken k o (heard_then k o is).1) in
       sym (eqb-true v o (own_or_not (has s.initiators v) (v == o) both.0 on))
 
-  -- what was heard first is kept
+  -- what was received first is kept
   stays : (n k : ℕ) → k ≤ n → (h : ℕ × ℕ) → (moment s k).heard v ≡ Some h → (moment s n).heard v ≡ Some h
   stays zero k le h at = (let same : k ≡ 0 = omega (arith, le) in subst (λ (i : ℕ). (moment s i).heard v ≡ Some h) same at)
   stays (suc n) k le h at = elim (cases_lt k (suc n)) [
@@ -49,7 +49,7 @@ module _ (s : Setting) (v : ℕ) where
   first_is k o None is = (k, refl)
   first_is k o (Some h) is = (h.1, ap (λ (u : ℕ). Some (u, h.1)) (eqb-true h.0 o is))
 
-  -- another node sends for the one that it heard first
+  -- another node sends for the one that it received first
   pub sends_first : has s.initiators v ≡ false → (k o : ℕ) → (moment s k).sends v ≡ Some o → (i : ℕ) × ((moment s STEPS).heard v ≡ Some (o, i))
   sends_first off zero o is = absurd (false≢true (sym off ∙ (sends_parts (has s.initiators v) (Some v) o (sym begins_as ∙ is)).0))
   sends_first off (suc k) o is =

@@ -110,7 +110,7 @@ module _ (rank : ℕ) (test : Core → Bool) (ranked : (c : Core) → test c ≡
 abbrev parts_by : (ℕ → State) → Option ℕ → Option (List Part)
 parts_by start o = option_and_then (λ v. option_map slot_parts (plan_in (start v))) o
 
--- the plan of the host that is found, or else that of the holder
+-- the plan of the host that is found, or else that of the synchronized member
 both_found : (h o : Option ℕ) (start : ℕ → State) → ((v : ℕ) → h ≡ Some v → (ps : List Part) × (option_map slot_parts (plan_in (start v)) ≡ Some ps))
     → option_or (parts_by start h) (parts_by start o) ≡ option_map slot_parts (option_and_then (λ v. plan_in (start v)) (option_or h o))
 both_found None None start some = refl

@@ -1,4 +1,4 @@
--- What a node said, read off the windows and the stations behind a flood.
+-- What a node said, read off the windows and the stations after a flood.
 use Rattle.std.proofs.Common.{◌≡◌, ◌<◌, ℕ, List, Option, None, sym, ◌∙◌, ap, length, map, get_or, subst}
 use Rattle.std.proofs.lemmas.List.{get_or-map, length-map}
 use Rattle.plain_bus.specs.Closings.{Behind, IsBehind}

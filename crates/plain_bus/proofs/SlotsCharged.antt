@@ -25,7 +25,7 @@ use Rattle.plain_bus.proofs.MembersOfSlots.{has_filtered}
 use Rattle.plain_bus.proofs.OriginsKept.{sends_own, sends_first}
 use Rattle.plain_bus.proofs.SlotsRun.{behind, node_at, same_in}
 
--- sendings of one length
+-- transmissions of one length
 sent_in_all : (p : Numbers) (bytes : ℕ) (ks : List ℕ) → sum_by (λ (a : ℕ × ℕ). airtime p a.1) (sent_as bytes ks) ≡ length ks * airtime p bytes
 sent_in_all p bytes [] = omega arith
 sent_in_all p bytes (k ∷ ks) = omega (arith, sum_by-cons (λ (a : ℕ × ℕ). airtime p a.1) (k, bytes) (sent_as bytes ks), sent_in_all p bytes ks)

@@ -1,4 +1,4 @@
--- What stands behind the flood of a slot, as the code has it.
+-- What is after the flood of a slot, as the code has it.
 use Rattle.std.proofs.Common.{◌≡◌, ◌<◌, ◌+◌, ◌++◌, [], ◌∷◌, ℕ, is_some, List, true, length, map, take, drop, get_or, refl, sym}
 use Rattle.std.proofs.Common.{◌∙◌, ap, subst, arith, append-nil}
 use Rattle.std.specs.List.{AllPairs}

@@ -53,7 +53,7 @@ pub moment_first : (s : Setting) → moment s 0 ≡ beginning s
 unfolding moment
 moment_first s = refl
 
--- a station behind a step
+-- a station after a step
 pub stepped : (s : Setting) (k : ℕ) (m : Moment) (v : ℕ) (x : Station) (heard : Option ℕ) → x ≡ station_at m v → heard ≡ hears s m k v
     → station_after k x heard ≡ station_at (next s k m) v
 stepped s k m v x heard is hearing = ap (λ (y : Station). station_after k y heard) is ∙ ap (λ (o : Option ℕ). station_after k (station_at m v) o) hearing

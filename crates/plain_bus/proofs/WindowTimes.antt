@@ -50,7 +50,7 @@ last_mapped : (g : ℕ → ℕ × ℕ) (o : Option ℕ) (ks : List ℕ) → last
 last_mapped g o [] = refl
 last_mapped g o (k ∷ ks) = last_mapped g (Some k) ks
 
--- what the last sending is by the count and the last step
+-- what the last transmission is by the count and the last step
 pub last_told : (limit bytes count : ℕ) (last : Option ℕ) (ks : List ℕ) → count ≡ length ks → last ≡ last_or None ks
     → last_if_all_sent limit (sent_as bytes ks) ≡ (if count == limit then option_map (λ (k : ℕ). (k, bytes)) last else None)
 last_told limit bytes count last ks size is =

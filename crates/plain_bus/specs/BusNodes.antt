@@ -29,7 +29,7 @@ bus_node s ranks states v = record { setup = setup_in s v; rank = ranks v; state
 abbrev pub mixed : ℕ → (ℕ → ℕ) → (ℕ → State) → (ℕ → State) → ℕ → State
 mixed rank ranks states others v = if ranks v == rank then states v else others v
 
--- on with this core, or off after so many boots
+-- on with this core, or off after this many boots
 abbrev pub state_by : Bool → Core → ℕ → State
 state_by on c boots = if on then StateOn c else StateOff boots
 
@@ -45,7 +45,7 @@ MayDo (Declare i interval) x = ⊤
 MayDo (Leave i) x = ⊤
 MayDo (Put i payload) x = ⊤
 
--- whether a packet is lost by what it is told
+-- whether a packet is lost by what it is given
 abbrev pub loses_by : Act → State → Bool
 loses_by On x = false
 loses_by Off x = false

@@ -10,7 +10,7 @@ use Rattle.plain_bus.specs.SlotFloods.{Seen, seen_window, node_closed, node_deli
 use Rattle.plain_bus.specs.declared.station.Station.{Station}
 use Rattle.plain_bus.specs.declared.window.Window.{Window}
 
--- behind the flood of a slot: the window of each node, and the origin that it heard first, with the step
+-- after the flood of a slot: the window of each node, and the origin that it received first, with the step
 pub record Behind : Type 0 where
   pub window : ℕ → Seen
   pub first : ℕ → Option (ℕ × ℕ)

@@ -64,7 +64,7 @@ abbrev pub AllOffer : (ℕ → Option ℕ) → ℕ → Bool → Type 0
 AllOffer give origin true = (u o : ℕ) → give u ≡ Some o → o ≡ origin
 AllOffer give origin false = (u : ℕ) × (o : ℕ) × (give u ≡ Some o) × (o ≡ origin → ⊥)
 
--- a node behind a step in which it heard this
+-- a node after a step in which it received this
 abbrev pub station_after : ℕ → Station → Option ℕ → Station
 station_after k x heard = record {
   node = x.node;
@@ -73,7 +73,7 @@ station_after k x heard = record {
   heard = first_heard x.heard k heard;
 }
 
--- the node at this place may hear something
+-- the node at this place may receive something
 abbrev pub may_hear_at : Flood → Station → ℕ → Bool
 may_hear_at f x place = (bit_at f.everyone place == 1) && is_none x.sends && nat_lt x.times f.limit
 
@@ -92,7 +92,7 @@ pub record AreReached (t : Traced) (f : Flood) (k senders mask : ℕ) : Type 0 w
 abbrev pub IsLone : Setting → ℕ → Type 0
 IsLone s o = (v : ℕ) → has s.initiators v ≡ true → v ≡ o
 
--- what a node hears where this origin alone is sent, and reaches the nodes of the mask
+-- what a node receives where this origin alone is sent, and reaches the nodes of the mask
 abbrev pub heard_alone : Flood → ℕ → ℕ → ℕ → Station → Option ℕ
 heard_alone f mask place o x = if (bit_at mask place == 1) && may_hear_at f x place && takes_at f x place o then Some o else None
 

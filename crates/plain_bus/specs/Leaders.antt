@@ -21,7 +21,7 @@ parts_in (StateOn c) = slot_parts c.plan
 abbrev pub parts_at : BusNode → List Part
 parts_at n = parts_in n.state
 
--- a host whose round of this rank is that of this frame, and a holder that is due
+-- a host whose round of this rank is that of this frame, and a synchronized member that is due
 abbrev pub leads : ℕ → ℕ → BusNode → Bool
 leads rank f n = is_on_and (λ c. hosts_in rank f c.tune) (shown rank n)
 

@@ -26,7 +26,7 @@ no_cost = record { sent = 0; windows = 0; scanned = 0 }
 abbrev pub node_at_first : ScenarioParts → ℕ → BusNode
 node_at_first s = bus_node s (λ (v : ℕ). 0) (λ (v : ℕ). StateOff 0)
 
--- it has the nodes of the scenario, none of which accepted a stream after this frame, and no more than so many slots cost
+-- it has the nodes of the scenario, none of which accepted a stream after this frame, and no more than this many slots cost
 pub record IsReady (s : ScenarioParts) (frame slots : ℕ) (n : Network) : Type 0 where
   pub ids_are : n.ids ≡ ids_of s.nodes
   pub nodes_each : length n.nodes ≡ length s.nodes
@@ -34,7 +34,7 @@ pub record IsReady (s : ScenarioParts) (frame slots : ℕ) (n : Network) : Type 
   pub early : All (λ x. IsEarlyState frame x.state) n.nodes
   pub room : All (IsBelow slots) n.costs
 
--- the cost of node v behind slot j of a round in which it may take part
+-- the cost of node v after slot j of a round in which it may take part
 abbrev pub with_slot_at : ScenarioParts → ℕ → ℕ → Plan → (ℕ → State) → ℕ → ℕ → Cost → Cost
 with_slot_at s rank f p states j v c =
     let x = slot_at s rank f p states j in

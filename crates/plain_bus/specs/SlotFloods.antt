@@ -34,7 +34,7 @@ seen_by rank part x window =
 abbrev pub seen_of : ℕ → ℕ → Part → BusNode → Seen
 seen_of rank f part n = seen_by rank part (shown rank n) (window_of_state n.setup rank f part (shown rank n))
 
--- a node where the slot closes behind that window, in which it accepted this
+-- a node where the slot closes after that window, in which it accepted this
 abbrev pub node_closed : ℕ → Part → Seen → Option Message → BusNode → BusNode
 node_closed f part w heard n = record n { state = left_by n.state (closed_of n.setup f part w.is_open w.initiates heard n.state) }
 

@@ -63,7 +63,7 @@ fn may_hear(flood: &Flood, station: &Station, place: u8) -> bool
     has_bit(flood.everyone, place) && station.sends.is_none() && station.times < flood.limit
 }
 
-// It is no other initiator, and has heard no other.
+// It is no other initiator, and has received no other.
 fn takes(flood: &Flood, station: &Station, place: u8, origin: NodeId) -> bool
     requires { place < 64 }
     ensures { result ≡ takes_at flood.now station.now place origin }
@@ -71,7 +71,7 @@ fn takes(flood: &Flood, station: &Station, place: u8, origin: NodeId) -> bool
     (!has_bit(flood.initiators, place) || station.node == origin) && agrees(station, origin)
 }
 
-// It has heard nothing before, or the same.
+// It has received nothing before, or the same.
 fn agrees(station: &Station, origin: NodeId) -> bool
     ensures { result ≡ agrees_with station.now.heard origin }
 {

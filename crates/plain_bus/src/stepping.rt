@@ -19,7 +19,7 @@ use scenario_text::NodeLine;
 // A flood has the steps 0 to 11.
 const LAST_STEP: u8 = 11;
 
-// A node behind the step in which it heard this, if it heard something.
+// A node after the step in which it received this, if it received something.
 fn after(station: &Station, step: u8, heard: Option<NodeId>) -> Station
     requires step { step ≤ 11 }
     requires times { station.now.times ≤ step }
@@ -60,7 +60,7 @@ impl Stations {
         self.each.push(station);
     }
 
-    // All nodes behind a step.
+    // All nodes after a step.
     fn next(&self, trace: &Trace, flood: &Flood, step: u8) -> Stations
         requires step { step ≤ 11 }
         requires sealed { length self.now.each.items ≡ length trace.now.nodes }
@@ -81,7 +81,7 @@ impl Stations {
     }
 }
 
-// A node goes behind a step in which this origin alone is sent, and reaches the nodes of the mask.
+// A node goes after a step in which this origin alone is sent, and reaches the nodes of the mask.
 fn pass(station: &mut Station, flood: &Flood, step: u8, place: u8, reached: u64, origin: NodeId)
     requires step { step ≤ 11 }
     requires place { place < 64 }
@@ -98,7 +98,7 @@ fn pass(station: &mut Station, flood: &Flood, step: u8, place: u8, reached: u64,
 }
 
 impl Stations {
-    // All nodes go behind a step in which this origin alone is sent.
+    // All nodes go after a step in which this origin alone is sent.
     fn pass_all(&mut self, trace: &Trace, flood: &Flood, step: u8, origin: NodeId)
         requires step { step ≤ 11 }
         requires sealed { length self.old.each.items ≡ length trace.now.nodes }
@@ -122,7 +122,7 @@ impl Stations {
         self.senders = senders;
     }
 
-    // All nodes go behind a step: they stay as they are where nobody sends in it. One initiator alone has its origin sent
+    // All nodes go after a step: they stay as they are where nobody sends in it. One initiator alone has its origin sent
     // and no other.
     fn go_on(&mut self, trace: &Trace, flood: &Flood, step: u8)
         requires step { step ≤ 11 }

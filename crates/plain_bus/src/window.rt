@@ -206,7 +206,7 @@ fn is_host(member: &Member) -> bool
     }
 }
 
-// A host or a holder whose round this is, or a fresh scanner of its rank.
+// A host or a synchronized member whose round this is, or a fresh scanning node of its rank.
 fn is_member(member: &Member, rank: Rank, frame: u32) -> bool
     ensures { result ≡ is_core_member rank frame member.now.core }
 {

@@ -1,4 +1,4 @@
--- What the medium holds after a sending ends.
+-- What the medium holds after a transmission ends.
 use Rattle.std.proofs.Common.{◌≡◌, ℕ, zero, suc, ◌+◌, ◌-◌, ◌*◌, ◌≤◌, ◌⊎◌, inl, inr, List, [], ◌∷◌, ◌++◌, length, drop, ◌==◌, Option, Some}
 use Rattle.std.proofs.Common.{None, option_to_list, refl, sym, ◌∙◌, ap, subst, arith, Contains, append-nil, length-append}
 use Rattle.std.proofs.lemmas.Bool.{cond_both, cases_lt, eqb-true}
@@ -48,7 +48,7 @@ module _ (s : ℕ) where
   abbrev Lasting : List Sending → Type 0
   Lasting ys = (y : Sending) → Contains ys y → y.start + s ≤ y.end
 
-  -- all of them but the last so many ended so many least lengths before the last
+  -- all of them but the last this many ended this many least lengths before the last
   ends_after : (from : ℕ) (ys : List Sending) (x : Sending) → InTurn from (ys ++ x ∷ []) → Lasting (ys ++ x ∷ []) → from + (length ys + 1) * s ≤ x.end
   ends_after from [] x turn lasting = let one = lasting x (contains_head x []) in let first = turn.0 in omega arith
   ends_after from (y ∷ ys) x turn lasting =
@@ -82,7 +82,7 @@ lasts_least p v y own =
     let least : (3 + 8) * p.byte ≤ (length y.packet + 8) * p.byte = mul-le-mul_right p.byte (omega arith) in
     omega arith
 
--- what a station forgets when its sending ends at t has been over for long
+-- what a station forgets when its transmission ends at t has been over for long
 module _ (p : Numbers) (now t : ℕ) (st : Station) (room : st.ended.capacity ≡ 13) (is : IsOrderly p now st)
     (ends : (x : Sending) → st.sending ≡ Some x → x.end ≡ t) where
   kept_by : (o : Option Sending) → st.sending ≡ o → (y : Sending) → Contains (on_air st) y

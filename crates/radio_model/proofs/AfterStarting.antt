@@ -1,4 +1,4 @@
--- What the medium holds after a sending begins.
+-- What the medium holds after a transmission begins.
 use Rattle.std.proofs.Common.{◌≡◌, ℕ, ◌+◌, ◌≤◌, inl, inr, List, [], ◌∷◌, ◌++◌, length, if◌then◌else◌, ◌==◌, Option, Some, None}
 use Rattle.std.proofs.Common.{is_none, option_to_list, refl, sym, ◌∙◌, ap, subst, arith, Contains, append-nil}
 use Rattle.std.proofs.lemmas.List.Elements.{Contains-append_cases, Contains-append_left, Contains-append_right}
@@ -48,7 +48,7 @@ module _ (p : Numbers) (t : ℕ) (packet : List ℕ) (short : 3 ≤ length packe
       some_same is = cc
   next_is v (Some x) tuned y is = cc
 
-  -- the station with its new sending
+  -- the station with its new transmission
   orderly_started : (now : ℕ) (st : Station) → now ≤ t → IsOrderly p now st → IsOrderly p t (station_after_start p t packet st)
   orderly_started now st later is = record {
     own = λ y there. elim (Contains-append_cases (on_air st) (option_to_list (next st)) y (subst (λ (l : List Sending). Contains l y) (air_more st) there)) [

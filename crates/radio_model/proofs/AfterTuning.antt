@@ -21,7 +21,7 @@ same_ended None t st = refl
 same_ended (Some r) t st =
     cond_both (is_tuned_to st.tuned r) st (tuned_in r t (tuned_out t st)) (λ (s : Station). s.ended.items ≡ st.ended.items) (λ _. refl) (λ _. refl)
 
--- the same sendings at a later tick
+-- the same transmissions at a later tick
 pub orderly_later : (p : Numbers) (now t : ℕ) (s st : Station) → now ≤ t → IsOrderly p now s → st.node ≡ s.node → on_air st ≡ on_air s
     → st.ended.items ≡ s.ended.items → IsOrder t st.tuned st.last → IsOrderly p t st
 orderly_later p now t s st later is node air ended order = record {

@@ -1,4 +1,4 @@
--- Newest sendings that overlap and whose marks have one origin have one packet.
+-- Newest transmissions that overlap and whose marks have one origin have one packet.
 use Rattle.std.proofs.Common.{◌≡◌, ℕ, ◌+◌, List, length, Bool, true, false, not, ◌&&◌, ◌||◌, ◌==◌}
 use Rattle.std.proofs.Common.{nat_lt, nat_le, Some, sym, ◌∙◌, ap, arith, inl, inr, Contains}
 use Rattle.std.proofs.lemmas.Bool.{cases_lt, and_parts, eqb-true, leb-true, both_ways, false_from_ne_true, not-true}

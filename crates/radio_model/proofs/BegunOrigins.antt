@@ -1,4 +1,4 @@
--- Another sending that begins has an origin, and the newest sendings stay alike.
+-- Another transmission that begins has an origin, and the newest transmissions stay alike.
 use Rattle.std.proofs.Common.{◌≡◌, ℕ, ◌+◌, ◌<◌, ◌≤◌, List, [], ◌∷◌, ◌++◌, length, set, get_or, true, ◌&&◌, nat_lt, Option, Some, None, option_to_list, refl}
 use Rattle.std.proofs.Common.{sym, ◌∙◌, ap, subst, arith, inl, inr, is_some, is_none, append-nil}
 use Rattle.std.proofs.lemmas.Bool.{cases_eq, and_parts, ltb-true, false≢true}
@@ -18,7 +18,7 @@ use Rattle.radio_model.specs.declared.station.Tuned.{Tuned}
 use Rattle.radio_model.proofs.Marked.{mark_pushed, marks_changed, marks_stay}
 use Rattle.radio_model.proofs.Origins.{pushed_is_newest, newest_pushed, stands_then, alike_kept}
 
--- another sending begins
+-- another transmission begins
 module _ (now t end : ℕ) (sts : List Station) (mks : List Mark) (i : ℕ) (old new : Station) (x : Sending) (origin : Origin) (below : i < length sts)
     (at : old ≡ get_or sts i old) (node : new.node ≡ old.node)
     (silent : on_air old ≡ old.ended.items) (sends : on_air new ≡ old.ended.items ++ x ∷ []) (x_node : x.node ≡ old.node) (x_start : x.start ≡ t)

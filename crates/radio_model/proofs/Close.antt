@@ -1,4 +1,4 @@
--- What the mark of a node tells where its newest sending has the packet of x and begins close to it.
+-- What the mark of a node tells where its newest transmission has the packet of x and begins close to it.
 use Rattle.std.proofs.Common.{◌≡◌, ℕ, ◌+◌, ◌≤◌, ◌⊎◌, inl, inr, List, length, get_or, true, false, not, ◌&&◌, ◌||◌, ◌==◌, nat_lt, nat_le}
 use Rattle.std.proofs.Common.{Contains, sym, ◌∙◌, ap, arith}
 use Rattle.std.proofs.lemmas.Bool.{cases_lt, lt-ltb, leb-true, le-leb, and_parts, and_from, or_left, both_ways, not-true, false_from_ne_true}
@@ -40,7 +40,7 @@ module _ (p : Numbers) (x : Sending) (st : Station) (mk : Mark) (origin : Origin
         by_then = leb-true mk.start (x.start + delta) last.1;
       }
 
-  -- a sending of this station that overlaps x is the newest
+  -- a transmission of this station that overlaps x is the newest
   is_newest : (y : Sending) → Contains (on_air st) y → Meets x y → IsNewest (on_air st) y
   is_newest y (k, below, at) met = elim (cases_lt (k + 1) (length (on_air st))) [
     | inl earlier ↦

@@ -104,7 +104,7 @@ with_so true true is = refl
 with_so false true is = refl
 with_so a false is = absurd (false≢true is)
 
--- what comes from a node comes of the sendings of its station
+-- what comes from a node comes of the transmissions of its station
 module _ (lines : Lines) (p : Numbers) (x : Sending) (st : Station) (v named : ℕ) where
   pub named_sends : st.node ≡ named → list_any (repeats lines v) (rivals_in p x st) ≡ list_any (comes_from lines v named) (rivals_in p x st)
   named_sends is =

@@ -110,7 +110,7 @@ module _ (p : Numbers) (x : Sending) (st : Station) (mk : Mark) (origin : Origin
             ]);
       }
 
-  -- a sending of this station that overlaps x is the newest
+  -- a transmission of this station that overlaps x is the newest
   is_newest : (y : Sending) → Contains (on_air st) y → Meets x y → IsNewest (on_air st) y
   is_newest y (k, below, at) met = elim (cases_lt (k + 1) (length (on_air st))) [
     | inl earlier ↦

@@ -1,4 +1,4 @@
--- The ended sendings that a node keeps stand by their ends, so a look at the newest tells what came of all.
+-- The ended transmissions that a node keeps are by their ends, so a look at the newest tells what came of all.
 use Rattle.std.proofs.Common.{◌≡◌, ℕ, zero, suc, ◌+◌, ◌-◌, ◌<◌, ◌≤◌, inl, inr, List, [], ◌∷◌, ◌++◌, length, take, drop, set, get_or, Bool, true, false}
 use Rattle.std.proofs.Common.{◌&&◌, ◌==◌, nat_lt, Option, Some, None, filter_map, refl, sym, ◌∙◌, ap, subst, arith, All, length-append}
 use Rattle.std.proofs.lemmas.Bool.{cases_lt, cond_both, cond-false, lt-ltb, le-ltb, and_from}
@@ -61,7 +61,7 @@ over_up_to ys n start y by_end below at over k d inside =
           omega (arith, ap (λ (i : ℕ). (get_or ys i d).end) here, same_ends ys n d y below, ap (λ (z : Sending). z.end) at)
     ])
 
--- the newest tells whether one of them overlaps a sending that ends now or later
+-- the newest tells whether one of them overlaps a transmission that ends now or later
 module _ (x : Sending) (ys : List Sending) (aged : IsAged x.end ys) where
   pub newest_tells : (y : Sending) → slice_get ys (length ys - 1) ≡ Some y → nat_lt x.start y.end ≡ list_any (overlaps x) ys
   newest_tells y is =
@@ -159,7 +159,7 @@ dropped t n ys is = record {
       (is.by_end (n + i) (n + j) d (omega arith) (omega (arith, length-drop n ys))));
 }
 
--- the sending of a station ends at t
+-- the transmission of a station ends at t
 pub aged_finished : (t : ℕ) (st : Station) (x : Sending) → IsAged t st.ended.items → st.sending ≡ Some x → x.start < t → x.end ≡ t
     → IsAged t (station_after_end st).ended.items
 aged_finished t st x is runs began ends =

@@ -1,4 +1,4 @@
--- The sending of the station at a place is the node's.
+-- The transmission of the station at a place is the node's.
 use Rattle.std.proofs.Common.{◌≡◌, ◌<◌, ◌≤◌, ◌^◌, ℕ, List, length, map, get_or, Option, Some, sym, ◌∙◌, ap}
 use Rattle.std.proofs.Common.{subst, arith, All, AllPairs, IfSome, IsSomeAnd, set, ◌+◌, ◌*◌}
 use Rattle.link_trace.specs.Passes.{Lines}

@@ -160,7 +160,7 @@ near_more lines key nodes ready rest new place near mask was others is i k to in
       | inr other ↦ was i k (to.0, sym (others i other) ∙ to.1) inside both.0
     ]
 
--- what is told stays so
+-- what is given stays so
 pub tells_more_of : (lines : Lines) (nodes : List ℕ) (rs : List Rival) (i : ℕ) (old new : Crowd) → AddsTo old new → HasBitsOf lines nodes rs i old
     → HasBitsOf lines nodes rs i new
 tells_more_of lines nodes rs i old new adds was = record {

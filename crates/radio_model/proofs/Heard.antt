@@ -1,4 +1,4 @@
--- Whom the medium names hears, and who hears it names.
+-- Whom the medium names receives, and who receives it names.
 use Rattle.std.proofs.Common.{◌≡◌, ℕ, ◌+◌, ◌*◌, ◌/◌, ◌<◌, ◌≤◌, ◌↔◌, ◌⊎◌, inl, inr, List, length, Bool, true, false, not, ◌&&◌, ◌||◌}
 use Rattle.std.proofs.Common.{◌==◌, if◌then◌else◌, Option, Some, None, refl, sym, ◌∙◌, ap, subst, arith, eq-eqb, Contains}
 use Rattle.std.proofs.lemmas.Bool.{and_parts, and_from, or_cases, or_left, or_right, eqb-true, cases_Bool, both_ways, not-true, not_from_false}

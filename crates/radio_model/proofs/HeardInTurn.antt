@@ -1,4 +1,4 @@
--- Who hears, of the stations at places that are looked at one after the other.
+-- Who receives, of the stations at places that are looked at one after the other.
 use Rattle.std.proofs.Common.{◌≡◌, ◌≢◌, ℕ, zero, suc, ◌-◌, ◌<◌, ◌≤◌, inl, inr, min, List, [], ◌∷◌, ◌++◌, length, get_or, Bool, true, false, ◌==◌, if◌then◌else◌}
 use Rattle.std.proofs.Common.{Option, Some, None, option_to_list, filter_map, refl, sym, ◌∙◌, ap, arith, length-append, append-nil, nat_lt, ◌&&◌}
 use Rattle.std.proofs.lemmas.Bool.{cond-false, cases_lt, le-ltb, false≢true, true≢false}
@@ -45,7 +45,7 @@ left_bits a b left k bits above one = elim (cases_lt k 64) [
 ]
 
 module _ (lines : Lines) (u : ℕ) (x : Sending) (key : Key) (rs : List Rival) where
-  -- who hears at a place that is left
+  -- who receives at a place that is left
   abbrev pub heard_at : ℕ → Station → Option (ℕ × ℕ)
   heard_at rest st = if bit_at rest st.place == 1 then reception_pair lines u x key rs st else None
 
@@ -71,7 +71,7 @@ module _ (lines : Lines) (u : ℕ) (x : Sending) (key : Key) (rs : List Rival) w
       ap (λ (l : List (ℕ × ℕ)). hearers ++ l) (none_heard sts d 0 (λ i below. let st = get_or sts i d in at_done 0 st st.place refl
       (bit_at-zero st.place))) ∙ append-nil hearers
 
-  -- all that hear are left
+  -- all that receive are left
   pub heard_of_left : (sts : List Station) (d : Station) (left : ℕ) → InOrder sts
       → ((k : ℕ) → k < length sts → bit_at left k ≡ 0 → is_heard lines u x key rs (get_or sts k d) ≡ false)
       → filter_map (heard_at left) sts ≡ filter_map (reception_pair lines u x key rs) sts
@@ -83,7 +83,7 @@ module _ (lines : Lines) (u : ℕ) (x : Sending) (key : Key) (rs : List Rival) w
         | inr one ↦ at_left left st i (in_order i d below) one
       ])
 
-  -- the lowest of those that are left is the next that may hear
+  -- the lowest of those that are left is the next that may receive
   pub heard_next : (sts : List Station) → InOrder sts → (rest new k : ℕ) (st : Station) → k < length sts → st ≡ get_or sts k st → bit_at rest k ≡ 1
       → ((i : ℕ) → i < k → bit_at rest i ≡ 0) → bit_at new k ≡ 0
       → ((i : ℕ) → i ≢ k → bit_at new i ≡ bit_at rest i) → filter_map (heard_at rest) sts

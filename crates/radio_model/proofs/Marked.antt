@@ -1,4 +1,4 @@
--- What the mark of a node tells of its sendings, and how it changes with them.
+-- What the mark of a node tells of its transmissions, and how it changes with them.
 use Rattle.std.proofs.Common.{◌≡◌, ℕ, zero, suc, ◌+◌, ◌-◌, ◌<◌, ◌≤◌, List, [], ◌∷◌, ◌++◌, length, drop, set, get_or, Bool, true, false, ◌&&◌, ◌==◌, nat_lt}
 use Rattle.std.proofs.Common.{nat_le, Option, Some, None, option_to_list, refl, sym, ◌∙◌, ap, subst, arith, All, inl, inr, length-append, append-nil}
 use Rattle.std.proofs.lemmas.Bool.{cases_lt, cases_eq, cond-false, cond_both, le-ltb, leb-true, and_parts, or_cases}

@@ -1,4 +1,4 @@
--- Elements of lists, which stand in the base, by their earlier place and names.
+-- Elements of lists, which are in the base, by their earlier place and names.
 use Rattle.std.proofs.Common.{List, ◌∷◌, ◌≡◌, ◌⊎◌, Contains}
 use Rattle.lwb_base.proofs.Elements.{contains_head, contains_tail, contains_cases}
 pub use Rattle.std.proofs.lemmas.List.{get_or_default as same_default}

@@ -1,4 +1,4 @@
--- Those that the medium names are those that hear.
+-- Those that the medium names are those that receive.
 use Rattle.std.proofs.Common.{◌≡◌, ℕ, ◌<◌, ◌≤◌, ◌↔◌, List, Option, Some, option_to_list, sym, ◌∙◌, ap, subst, arith, Contains, All, AllPairs, IfSome}
 use Rattle.std.proofs.lemmas.List.Elements.{Contains-append_right}
 use Rattle.link_trace.specs.Passes.{Lines}

@@ -1,4 +1,4 @@
--- The newest sendings keep their origins through a change of a station.
+-- The newest transmissions keep their origins through a change of a station.
 use Rattle.std.proofs.Common.{◌≡◌, ◌≢◌, ℕ, ◌+◌, ◌-◌, ◌<◌, ◌≤◌, ◌⊎◌, List, [], ◌∷◌, ◌++◌, length, drop, set, get_or, Option, Some, None, option_to_list, refl}
 use Rattle.std.proofs.Common.{sym, ◌∙◌, ap, subst, arith, inl, inr, length-append, append-nil}
 use Rattle.std.proofs.lemmas.Bool.{cases_eq}
@@ -32,7 +32,7 @@ module _ (ys : List Sending) where
       let at : n + (place - n) ≡ place = omega arith in
       record { place = place - n; last = omega (arith, length-drop n ys); there = get_or-drop n ys (place - n) y ∙ ap (λ (k : ℕ). get_or ys k y) at ∙ is.there }
 
--- what stands at a place after one station and its mark changed
+-- what is at a place after one station and its mark changed
 module _ (sts : List Station) (mks : List Mark) (i : ℕ) (new : Station) (mk : Mark) (below : i < length sts) (one_each : length mks ≡ length sts) where
   pub record IsNew (j : ℕ) (su : Station) (ml : Mark) : Type 0 where
     pub place : j ≡ i
@@ -58,7 +58,7 @@ module _ (sts : List Station) (mks : List Mark) (i : ℕ) (new : Station) (mk : 
         )
       ]
 
--- a station changed, and its newest sending did not
+-- a station changed, and its newest transmission did not
 module _ (now t : ℕ) (sts : List Station) (mks : List Mark) (i : ℕ) (old new : Station) (below : i < length sts) (at : old ≡ get_or sts i old)
     (node : new.node ≡ old.node)
     (on : (y : Sending) → IsNewest (on_air new) y → IsNewest (on_air old) y) (back : (y : Sending) → IsNewest (on_air old) y → IsNewest (on_air new) y)
@@ -134,7 +134,7 @@ module _ (now t : ℕ) (sts : List Station) (mks : List Mark) (i : ℕ) (old new
         is.alike j k v.so w.so ml mm y z v.stood w.stood (v.newest y y_is) (w.newest z z_is) same meets;
   }
 
--- the newest sending stays the newest as it ends
+-- the newest transmission stays the newest as it ends
 record Drops (st : Station) : Type 0 where
   count : ℕ
   is : on_air (station_after_end st) ≡ drop count (on_air st)

@@ -1,4 +1,4 @@
--- Stations stand at the places that they name.
+-- Stations are at the places that they name.
 use Rattle.std.proofs.Common.{◌≡◌, ℕ, ◌<◌, List, length, get_or, sym, ◌∙◌, ap, subst, arith, All, Contains}
 use Rattle.std.proofs.lemmas.List.{get_or-map, length-map}
 use Rattle.radio_model.specs.Stations.{MediumState, IsMedium, id_of_station, nodes_of}
@@ -15,7 +15,7 @@ all_placed m nodes is same k d below =
       there = ap (λ (l : List ℕ). get_or l st.place 0) same ∙ ap (λ (n : ℕ). get_or (nodes_of m) n 0) place ∙ get_or-map id_of_station m.stations k d 0 below;
     }
 
--- where the list of places has a node, its station stands
+-- where the list of places has a node, its station is
 pub found_place : (m : MediumState) (places told : List ℕ) (v i : ℕ) → told ≡ places → ArePlaces (nodes_of m) places → Contains (nodes_of m) v
     → ((nodes : List ℕ) → ArePlaces nodes told → Contains nodes v → (i < length nodes) × (get_or nodes i 0 ≡ v))
     → (i < length m.stations) × ((d : Station) → (get_or m.stations i d).node ≡ v)

@@ -11,7 +11,7 @@ use Rattle.radio_model.specs.Stations.{stations_from, first_state}
 use Rattle.radio_model.specs.declared.station.Station.{Station}
 use Rattle.radio_model.proofs.OneStation.{nodes_stay}
 
--- no node stands at two places
+-- no node is at two places
 pub apart : (xs : List Station) → AllPairs (λ a b. a < b) (map id_of_station xs) → (i j : ℕ) (d : Station) → i < length xs → j < length xs
     → (get_or xs i d).node ≡ (get_or xs j d).node → i ≡ j
 apart xs ascend i j d left right same =
@@ -39,7 +39,7 @@ one_station xs ascend s u (i, left, at_s) (j, right, at_u) same =
     let is : i ≡ j = apart xs ascend i j s left right (ap id_of_station at_s ∙ same ∙ sym (ap id_of_station there_u)) in
     sym at_s ∙ ap (λ (k : ℕ). get_or xs k s) is ∙ there_u
 
--- a change of the station at a place is one of the node that stands there
+-- a change of the station at a place is one of the node that is there
 pub changed_there : (f : Station → Station) (xs : List Station) → AllPairs (λ a b. a < b) (map id_of_station xs) → (v i : ℕ) (old new : Station) → i < length xs
     → old ≡ get_or xs i old → old.node ≡ v → new ≡ f old
     → set xs i new ≡ map (station_changed_at v f) xs

@@ -1,4 +1,4 @@
--- Who hears: nodes that x reaches, that are ready for it, and to which its packet does not come out of time.
+-- Who receives: nodes that x reaches, that are ready for it, and to which its packet does not come out of time.
 use Rattle.std.proofs.Common.{◌≡◌, ℕ, ◌<◌, ◌≤◌, ◌-◌, min, inl, inr, List, [], length, get_or, Bool, true, false, not, ◌&&◌, ◌||◌, ◌==◌, filter_map, All}
 use Rattle.std.proofs.Common.{refl, sym, ◌∙◌, ap, arith}
 use Rattle.std.proofs.lemmas.Bool.{false≢true, cond-false}

@@ -1,4 +1,4 @@
--- Whose sendings can matter, through the changes of a medium.
+-- Whose transmissions can matter, through the changes of a medium.
 use Rattle.std.proofs.Common.{◌≡◌, ◌≢◌, ℕ, ◌+◌, ◌<◌, ◌≤◌, inl, inr, List, length, set, get_or, true, false, ◌&&◌, nat_lt}
 use Rattle.std.proofs.Common.{nat_le, Option, Some, None, is_some, refl, sym, ◌∙◌, ap, subst, arith}
 use Rattle.std.proofs.lemmas.Bool.{cases_lt, cases_eq, le-leb, lt-ltb, le-ltb, or_left, cond-true, cond-false}
@@ -54,7 +54,7 @@ recent_stay now t sts mks r i old new below at back later are = record {
   latest = λ k e inside. are.latest k e (omega (arith, inside, length-set sts i new));
 }
 
--- another sending begins
+-- another transmission begins
 module _ (now t : ℕ) (sts : List Station) (mks : List Mark) (r s : Recent) (i : ℕ) (new : Station) (x : Sending) (mk : Mark) (below : i < length sts)
     (one_each : length mks ≡ length sts) (sends : new.sending ≡ Some x) (starts : x.start ≡ t)
     (marks : AreMarks sts mks) (still : (k : ℕ) (d : Station) (y : Sending) → k < length sts → (get_or sts k d).sending ≡ Some y

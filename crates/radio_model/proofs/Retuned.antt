@@ -91,7 +91,7 @@ tells_on P r t (Some q) past order tells = by_test ((q.rank == r) && (q.until ==
         let from = went.2 in
         both_ways ((q.rank == r) && (q.until == t)) is (and_from (q.rank == r) (q.until == t) (eq-eqb q.rank r went.0) (eq-eqb q.until t (omega arith))))
 
--- what is told after a call at t
+-- what is given after a call at t
 pub record Told (a : Scene) (v t : ℕ) (tuned : Option Tuned) (last : Option Past) : Type 0 where
   pub tells : Tells (Lit a v) tuned last t
   pub order : IsOrder t tuned last

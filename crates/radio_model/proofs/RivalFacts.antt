@@ -1,4 +1,4 @@
--- What the medium works out of a sending that overlaps another one is what the rule of hearing asks.
+-- What the medium works out of a transmission that overlaps another one is what the rule of reception asks.
 use Rattle.std.proofs.Common.{◌≡◌, ◌+◌, ◌≤◌, inl, inr, List, Bool, true, false, not, ◌&&◌, ◌||◌, ◌==◌, nat_lt}
 use Rattle.std.proofs.Common.{nat_le, if◌then◌else◌, Some, None, refl, arith, eq-eqb, Contains}
 use Rattle.std.proofs.lemmas.Bool.{and_parts, and_from, or_cases, or_left, or_right, eqb-true, ltb-true, lt-ltb, leb-true, le-leb, cases_lt, cond-true}
@@ -62,7 +62,7 @@ module _ (p : Numbers) (x : Sending) where
       (cond-true ((y.rank == x.rank) && overlaps x y) (Some (rival st y)) None
       (and_from (y.rank == x.rank) (overlaps x y) (eq-eqb y.rank x.rank rank) (meets_from x y meets))))
 
-  -- a rival comes of a sending that is kept
+  -- a rival comes of a transmission that is kept
   pub record Comes (sts : List Station) (r : Rival) : Type 0 where
     pub station : Station
     pub there : Contains sts station

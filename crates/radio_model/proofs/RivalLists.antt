@@ -17,7 +17,7 @@ rivals_more p x sts i st below at =
     ap (rivals_to p x) (take_more sts i st below ∙ ap (λ (s : Station). take i sts ++ s ∷ []) (sym at))
     ∙ sym (flat_map_more (rivals_in p x) [] (take i sts) st)
 
--- a station whose ended sendings have all been looked at, and which sends, or does not
+-- a station whose ended transmissions have all been looked at, and which sends, or does not
 module _ (p : Numbers) (x : Sending) (st : Station) (i : ℕ) (all : length st.ended.items ≤ i) where
   pub rivals_sending : (y : Sending) → st.sending ≡ Some y
       → rivals_in p x st ≡ filter_map (rival_to p x st) (take i st.ended.items) ++ option_to_list (rival_to p x st y)

@@ -1,4 +1,4 @@
--- What the medium holds does not hang on how the tunings are written down.
+-- What the medium holds does not depends on how the tunings are written down.
 use Rattle.std.proofs.Common.{ℕ, inl, inr, filter_map, sym, ◌∙◌}
 use Rattle.std.proofs.lemmas.List.Elements.{Contains-append_cases, Contains-append_left, Contains-append_right}
 use Rattle.radio_model.specs.Hearing.{Scene, IsTuned}

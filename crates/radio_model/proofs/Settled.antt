@@ -1,4 +1,4 @@
--- Who hears a sending is settled when it ends.
+-- Who receives a transmission is settled when it ends.
 use Rattle.std.proofs.Common.{ℕ, ◌<◌, ◌≤◌, ◌+◌, ◌↔◌, inl, inr, sym, ◌∙◌, ap, subst}
 use Rattle.lwb_base.specs.Profile.{Numbers}
 use Rattle.link_trace.specs.Passes.{Lines, passes}

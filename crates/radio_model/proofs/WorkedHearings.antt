@@ -1,4 +1,4 @@
--- Who hears in small cases that can be worked out by hand: nodes 1 and 2 have links to node 3.
+-- Who receives in small cases that can be worked out manually: nodes 1 and 2 have links to node 3.
 use Rattle.std.proofs.Common.{◌≡◌, ℕ, List, [], ◌∷◌, Option, Some, None, refl}
 use Rattle.lwb_base.specs.Profile.{one}
 use Rattle.link_trace.specs.Passes.{Lines}
@@ -63,7 +63,7 @@ different_captured = refl
 different_not_captured : heard captures_two 1 (send 2 100 1 (send 1 100 0 all_tuned)) ≡ []
 different_not_captured = refl
 
--- a sending that has ended counts while it overlaps, and one that only touches does not
+-- a transmission that has ended counts while it overlaps, and one that only touches does not
 ended_overlaps : heard [] 2 (ends 1 32868 (send 2 32867 1 (send 1 100 0 all_tuned))) ≡ []
 ended_overlaps = refl
 
@@ -90,7 +90,7 @@ tuned_late = refl
 other_channel : heard [] 1 (send 1 100 0 (tune 3 (Some 1) 50 all_tuned)) ≡ []
 other_channel = refl
 
--- a sending on another channel is no rival
+-- a transmission on another channel is no rival
 apart_by_channel : heard [] 1 (send 2 100 1 (send 1 100 0 (tune 2 (Some 1) 50 all_tuned))) ≡ (3, 1) ∷ []
 apart_by_channel = refl
 

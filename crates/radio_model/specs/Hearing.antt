@@ -1,18 +1,18 @@
--- Who hears what. An interval of time contains its start and not its end.
+-- Who receives what. An interval of time contains its start and not its end.
 use Rattle.std.specs.Prelude.{◌≡◌, ℕ, ◌+◌, ◌/◌, ◌<◌, ◌≤◌, ◌⊎◌, List, Contains, true, Some, slice_index}
 use Rattle.lwb_base.specs.Profile.{Numbers}
 use Rattle.link_trace.specs.Passes.{Lines, passes}
 use Rattle.radio_model.specs.OnAir.{Sending, Tuning}
 use Rattle.link_trace.specs.Passes.{captured}
 
--- all sendings and tunings, with the numbers of the profile and the lines of the trace
+-- all transmissions and tunings, with the numbers of the profile and the lines of the trace
 pub record Scene : Type 0 where
   pub numbers : Numbers
   pub lines : Lines
   pub sendings : List Sending
   pub tunings : List Tuning
 
--- the key of a sending: the frame of its start, and the slot and counter of its packet
+-- the key of a transmission: the frame of its start, and the slot and counter of its packet
 abbrev pub frame_of_sending : Numbers → Sending → ℕ
 frame_of_sending p x = x.start / p.frame
 
@@ -75,7 +75,7 @@ pub record Captured (a : Scene) (v : ℕ) (x : Sending) : Type 0 where
   pub same : winner.packet ≡ x.packet
   pub named : Captures a v x winner.node
 
--- v hears x
+-- v receives x
 pub record HearsInScene (a : Scene) (v : ℕ) (x : Sending) : Type 0 where
   pub sent : Contains a.sendings x
   pub tuned : TunedThrough a v x

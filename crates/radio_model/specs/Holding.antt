@@ -63,14 +63,14 @@ pub record IsKept (m : MediumState) (y : Sending) : Type 0 where
 abbrev pub TunedFrom : Scene → ℕ → ℕ → ℕ → ℕ → Type 0
 TunedFrom a v channel start t = (k : ℕ) → start ≤ k → k < t → IsTuned a v channel k
 
--- a sending of this node lasts its packet's airtime
+-- a transmission of this node lasts its packet's airtime
 pub record IsOwn (p : Numbers) (v : ℕ) (y : Sending) : Type 0 where
   pub node : y.node ≡ v
   pub lasts : y.end ≡ y.start + airtime p (length y.packet)
   pub short : 3 ≤ length y.packet
   pub long : length y.packet ≤ 125
 
--- each sending starts when the one before it is over
+-- each transmission starts when the one before it is over
 abbrev pub InTurn : ℕ → List Sending → Type 0
 InTurn from [] = Unit {0}
 InTurn from (y ∷ ys) = (from ≤ y.start) × InTurn y.end ys
@@ -88,11 +88,11 @@ pub record IsOrderly (p : Numbers) (now : ℕ) (st : Station) : Type 0 where
   pub over : (y : Sending) → Contains st.ended.items y → y.end ≤ now
   pub tunings : IsOrder now st.tuned st.last
 
--- of all sendings and ended tunings up to now the medium keeps what can still matter
+-- of all transmissions and ended tunings up to now the medium keeps what can still matter
 pub record Holds (m : MediumState) (a : Scene) : Type 0 where
   pub numbers : a.numbers ≡ m.numbers
   pub orderly : (st : Station) → Contains m.stations st → IsOrderly m.numbers m.now st
-  -- a sending is kept, or it ended so long ago that none that still runs had begun
+  -- a transmission is kept, or it ended so long ago that none that still runs had begun
   pub known : (y : Sending) → Contains a.sendings y → IsKept m y ⊎ (y.end + longest m.numbers ≤ m.now)
   pub sent : (y : Sending) → IsKept m y → Contains a.sendings y
   pub past : (k : Tuning) → Contains a.tunings k → k.end ≤ m.now
@@ -107,7 +107,7 @@ pub record Agree (t : ℕ) (a b : Scene) : Type 0 where
   pub sendings : (y : Sending) → y.start < t → Contains a.sendings y ↔ Contains b.sendings y
   pub tuned : (v channel k : ℕ) → k < t → IsTuned a v channel k ↔ IsTuned b v channel k
 
--- the same sendings up to now, and the same ended tunings, however they are split
+-- the same transmissions up to now, and the same ended tunings, however they are split
 pub record SameHistory (now : ℕ) (a b : Scene) : Type 0 where
   pub numbers : a.numbers ≡ b.numbers
   pub sendings : (y : Sending) → Contains a.sendings y ↔ Contains b.sendings y

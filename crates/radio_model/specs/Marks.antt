@@ -1,4 +1,4 @@
--- What the medium keeps of the sendings of a node in short, and where it finds a node.
+-- What the medium keeps of the transmissions of a node in short, and where it finds a node.
 use Rattle.std.specs.Prelude.{◌≡◌, ℕ, ◌+◌, ◌<◌, ◌≤◌, ◌⊎◌, All, List, Bool, false, ◌&&◌, ◌||◌, ◌==◌, nat_lt, nat_le}
 use Rattle.std.specs.Prelude.{Option, Some, None, length, slice_index, slice_index_or, slice_set}
 use Rattle.std.specs.Str.{bytes_eq}
@@ -12,16 +12,16 @@ use Rattle.radio_model.specs.declared.mark.Origin.{Origin}
 abbrev pub no_mark : Mark
 no_mark = record { rank = 1; start = 0; end = 0; before = 0; origin = record { place = 0; start = 0 } }
 
--- the mark when another sending begins
+-- the mark when another transmission begins
 abbrev pub next_mark : ℕ → ℕ → ℕ → Origin → Mark → Mark
 next_mark rank start end origin mk = record { rank = rank; start = start; end = end; before = mk.end; origin = origin }
 
--- the marks when another sending may begin at that place, on that channel
+-- the marks when another transmission may begin at that place, on that channel
 abbrev pub next_marks : Option ℕ → ℕ → ℕ → Origin → ℕ → List Mark → Mark → List Mark
 next_marks None start end origin i mks d = mks
 next_marks (Some rank) start end origin i mks d = slice_set mks i (next_mark rank start end origin (slice_index_or mks i d))
 
--- by the mark, none overlaps a sending with these times
+-- by the mark, none overlaps a transmission with these times
 abbrev pub is_aside : ℕ → ℕ → Mark → Bool
 is_aside start end mk = nat_le mk.end start || (nat_le mk.before start && nat_le end mk.start)
 
@@ -45,7 +45,7 @@ comes_early opens x origin node mk =
 abbrev pub comes_close : ℕ → ℕ → Sending → Origin → Mark → Bool
 comes_close opens latest x origin mk = nat_le mk.before x.start && is_same mk.origin origin && (nat_le opens mk.start && nat_le mk.start latest)
 
--- the mark of these sendings, the oldest first
+-- the mark of these transmissions, the oldest first
 pub record IsMark (ys : List Sending) (mk : Mark) : Type 0 where
   pub over : All (λ y. y.end ≤ mk.end) ys
   pub earlier : (k : ℕ) (d : Sending) → k + 1 < length ys → (slice_index_or ys k d).end ≤ mk.before
@@ -70,7 +70,7 @@ pub record ArePlaces (nodes places : List ℕ) : Type 0 where
   pub all : length places ≡ 201
   pub each : (k : ℕ) → k < length nodes → slice_index places (slice_index nodes k) ≡ k
 
--- this station and this mark stand at the place
+-- this station and this mark are at the place
 pub record StandAtPlace (sts : List Station) (mks : List Mark) (i : ℕ) (st : Station) (mk : Mark) : Type 0 where
   pub below : i < length sts
   pub station : slice_index_or sts i st ≡ st
@@ -85,7 +85,7 @@ pub record HasSent (sts : List Station) (o : Origin) : Type 0 where
   pub is : IsNewest (on_air station) newest
   pub since : o.start ≤ newest.start
 
--- where newest sendings overlap and their marks have one origin, they have one packet
+-- where newest transmissions overlap and their marks have one origin, they have one packet
 pub record AreAlike (now : ℕ) (sts : List Station) (mks : List Mark) : Type 0 where
   pub own : (i : ℕ) (st : Station) (mk : Mark) (y : Sending) → StandAtPlace sts mks i st mk → IsNewest (on_air st) y → (y.node ≡ st.node) × (y.start ≤ now)
   pub known : (i : ℕ) (st : Station) (mk : Mark) (y : Sending) → StandAtPlace sts mks i st mk → IsNewest (on_air st) y → HasSent sts mk.origin
@@ -93,14 +93,14 @@ pub record AreAlike (now : ℕ) (sts : List Station) (mks : List Mark) : Type 0 
       → IsNewest (on_air su) z
       → mk.origin ≡ ml.origin → Meets y z → y.packet ≡ z.packet
 
--- of the newest sending of a node, beside x, whose mark has this origin
+-- of the newest transmission of a node, next to x, whose mark has this origin
 abbrev pub IsAlike : List Sending → ℕ → Mark → Origin → Sending → Type 0
 IsAlike ys node mk origin x = (y : Sending) → IsNewest ys y → (y.node ≡ node) × (mk.origin ≡ origin → Meets x y → y.packet ≡ x.packet)
 
 abbrev pub AreAlikeTo : List Station → List Mark → Origin → Sending → Type 0
 AreAlikeTo sts mks origin x = (i : ℕ) (st : Station) (mk : Mark) → StandAtPlace sts mks i st mk → IsAlike (on_air st) st.node mk origin x
 
--- a newest sending has this packet, runs past t, and has this origin
+-- a newest transmission has this packet, runs past t, and has this origin
 pub record Joins (sts : List Station) (mks : List Mark) (t : ℕ) (packet : List ℕ) (o : Origin) : Type 0 where
   pub place : ℕ
   pub station : Station

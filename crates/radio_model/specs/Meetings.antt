@@ -1,4 +1,4 @@
--- What decides whether a sending is heard, as the medium works it out from what it keeps.
+-- What decides whether a transmission is received, as the medium works it out from what it keeps.
 use Rattle.std.specs.Prelude.{◌≡◌, ℕ, ◌+◌, ◌/◌, ◌<◌, ◌≤◌, List, Bool, true, false, not, ◌&&◌, ◌||◌, ◌==◌, nat_lt, nat_le}
 use Rattle.std.specs.Prelude.{if◌then◌else◌, Option, Some, None, filter_map, length, slice_index, slice_index_or}
 use Rattle.std.specs.List.{list_any, flat_map}
@@ -28,7 +28,7 @@ IsInOneFrame frame t opens = (k : ℕ) → opens ≤ k → k ≤ t → k / frame
 abbrev pub comes_in_time : Numbers → Sending → Sending → Bool
 comes_in_time p x y = (nat_lt x.start y.start || ((x.start == y.start) && nat_le x.node y.node)) && nat_le y.start (x.start + p.delta)
 
--- a sending of this station, if it overlaps x on its channel
+-- a transmission of this station, if it overlaps x on its channel
 abbrev pub rival_to : Numbers → Sending → Station → Sending → Option Rival
 rival_to p x st y =
     if (y.rank == x.rank) && overlaps x y
@@ -68,14 +68,14 @@ abbrev pub is_chosen : Lines → ℕ → List Rival → Option ℕ → Bool
 is_chosen lines v rs None = false
 is_chosen lines v rs (Some u) = list_any (comes_from lines v u) rs
 
--- whether the node of this station hears x, which has this key and ends now: by whether x reaches it, whether the same
+-- whether the node of this station receives x, which has this key and ends now: by whether x reaches it, whether the same
 -- packet spoils it, and whether another packet comes to it
 abbrev pub hears_by : Bool → Bool → Bool → Lines → Sending → Key → List Rival → Station → Bool
 hears_by reached spoiled mixed lines x k rs st =
     reached && not spoiled && covers st x.rank x.start x.end && not (list_any (overlaps x) (on_air st))
     && (not mixed || is_chosen lines st.node rs (captured lines k.frame k.slot k.counter st.node))
 
--- the node of this station hears x, which has this key and ends now, from node u
+-- the node of this station receives x, which has this key and ends now, from node u
 abbrev pub is_heard : Lines → ℕ → Sending → Key → List Rival → Station → Bool
 is_heard lines u x k rs st =
     hears_by (passes_at lines k u st.node) (list_any (spoils lines st.node) rs) (list_any (differs lines st.node) rs) lines x k rs st
@@ -83,7 +83,7 @@ is_heard lines u x k rs st =
 abbrev pub reception_pair : Lines → ℕ → Sending → Key → List Rival → Station → Option (ℕ × ℕ)
 reception_pair lines u x k rs st = if is_heard lines u x k rs st then Some (st.node, u) else None
 
--- all that hear x from node u, with that node
+-- all that receive x from node u, with that node
 abbrev pub hearers_to : Numbers → Lines → ℕ → Sending → List Station → List (ℕ × ℕ)
 hearers_to p lines u x sts = filter_map (reception_pair lines u x (key_of p x) (rivals_to p x sts)) sts
 
@@ -112,7 +112,7 @@ brought_by r reach = record {
   same = if r.same then reach else 0;
 }
 
--- what they bring that keeps x from being heard
+-- what they bring that keeps x from being received
 pub record IsCrowd (lines : Lines) (nodes : List ℕ) (rs : List Rival) (c : Crowd) : Type 0 where
   pub mixed : IsMask (λ v. list_any (differs lines v) rs) nodes c.mixed
   pub spoiled : IsMask (λ v. list_any (spoils lines v) rs) nodes c.spoiled
@@ -153,6 +153,6 @@ pub record AreThose (test : ℕ → Bool) (mask those : ℕ) : Type 0 where
   pub so : (k : ℕ) → bit_at those k ≡ 1 → test k ≡ true
   pub others : (k : ℕ) → bit_at mask k ≡ 1 → bit_at those k ≡ 0 → test k ≡ false
 
--- the node of this station is on the channel of x all the time, and sends nothing beside it
+-- the node of this station is on the channel of x all the time, and sends nothing next to it
 abbrev pub is_ready : Sending → Station → Bool
 is_ready x st = covers st x.rank x.start x.end && not (list_any (overlaps x) (on_air st))

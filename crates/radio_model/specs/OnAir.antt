@@ -1,4 +1,4 @@
--- What is on the air: sendings, who hears them, and tunings.
+-- What is on the air: transmissions, who receives them, and tunings.
 use Rattle.std.specs.Prelude.{ℕ}
 use Rattle.radio_model.specs.declared.sending.Sending.{Sending as Sent}
 
@@ -6,7 +6,7 @@ use Rattle.radio_model.specs.declared.sending.Sending.{Sending as Sent}
 abbrev pub Sending : Type 0
 Sending = Sent
 
--- a node hears a sending
+-- a node receives a transmission
 pub record Hearing : Type 0 where
   pub node : ℕ
   pub sending : Sending

@@ -1,4 +1,4 @@
--- Whose sendings the medium looks at, by the bits of their places.
+-- Whose transmissions the medium looks at, by the bits of their places.
 use Rattle.std.specs.Prelude.{◌≡◌, ◌≢◌, ℕ, ◌<◌, ◌≤◌, List, [], Some, max, nat_lt, if◌then◌else◌, length, slice_index_or}
 use Rattle.std.specs.Int.{bit_at}
 use Rattle.lwb_base.specs.Profile.{Numbers}
@@ -11,7 +11,7 @@ use Rattle.radio_model.specs.declared.station.Station.{Station}
 abbrev pub no_recent : Recent
 no_recent = record { places = 0; latest = 0 }
 
--- another sending begins at the place: the others stay, if one of them was not over before
+-- another transmission begins at the place: the others stay, if one of them was not over before
 pub record IsRecentAfter (place start end : ℕ) (old new : Recent) : Type 0 where
   pub set : bit_at new.places place ≡ 1
   pub others : (i : ℕ) → i ≢ place → bit_at new.places i ≡ bit_at (if nat_lt old.latest start then 0 else old.places) i

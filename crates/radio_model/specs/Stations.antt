@@ -36,13 +36,13 @@ abbrev pub sending_of_station : Option Station → Option Sending
 sending_of_station None = None
 sending_of_station (Some st) = st.sending
 
--- no time falls, none is after the end of a sending that runs, and all are small
+-- no time falls, none is after the end of a transmission that runs, and all are small
 pub record IsTime (m : MediumState) (t : ℕ) : Type 0 where
   pub later : m.now ≤ t
   pub small : t ≤ 2 ^ 46
   pub running : (st : Station) (x : Sending) → Contains m.stations st → st.sending ≡ Some x → t ≤ x.end
 
--- the node's sending ends at t, which is its start plus its packet's airtime
+-- the node's transmission ends at t, which is its start plus its packet's airtime
 pub record Ends (m : MediumState) (v t : ℕ) : Type 0 where
   pub sending : Sending
   pub runs : sending_of_station (station_of m v) ≡ Some sending
@@ -61,7 +61,7 @@ stations_from k (v ∷ vs) = fresh v k ∷ stations_from (k + 1) vs
 abbrev pub first_state : Numbers → List ℕ → MediumState
 first_state p nodes = record { numbers = p; now = 0; stations = stations_from 0 nodes }
 
--- the numbers of a profile, 1 to 64 ascending nodes at places counted from 0, and room for the last 13 sendings of each
+-- the numbers of a profile, 1 to 64 ascending nodes at places counted from 0, and room for the last 13 transmissions of each
 pub record IsMedium (m : MediumState) : Type 0 where
   pub profile : IsProfile m.numbers
   pub nodes : AreNodes (nodes_of m)
@@ -121,16 +121,16 @@ current_or_next (Some x) next = Some x
 abbrev pub station_after_start : Numbers → ℕ → List ℕ → Station → Station
 station_after_start p t packet st = record st { sending = current_or_next st.sending (next_sending p t packet st.node st.tuned) }
 
--- the ended sendings with one more. Where there is no room the oldest one is forgotten
+-- the ended transmissions with one more. Where there is no room the oldest one is forgotten
 abbrev pub with_ended : Buffer Sending → Option Sending → Buffer Sending
 with_ended b None = b
 with_ended b (Some x) = buffer (keep_last b.capacity (b.items ++ x ∷ [])) b.capacity
 
--- the sending has ended
+-- the transmission has ended
 abbrev pub station_after_end : Station → Station
 station_after_end st = record st { sending = None; ended = with_ended st.ended st.sending }
 
--- the ended sendings that are kept, the oldest first, and what is sent
+-- the ended transmissions that are kept, the oldest first, and what is sent
 abbrev pub on_air : Station → List Sending
 on_air st = st.ended.items ++ option_to_list st.sending
 

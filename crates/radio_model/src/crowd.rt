@@ -49,7 +49,7 @@ impl Crowd {
     }
 }
 
-// What this station brings that keeps x from being heard, whose key is this one and whose frame began at `opens`. Mostly
+// What this station brings that keeps x from being received, whose key is this one and whose frame began at `opens`. Mostly
 // its mark tells that there is nothing, or that its packet is the one of x and comes before it.
 fn crowd_at<M: Links>(
     links: &M,
@@ -89,7 +89,7 @@ fn crowd_at<M: Links>(
     }
 }
 
-// With what is known, what the stations at these places bring that keeps x from being heard. None comes only where the
+// With what is known, what the stations at these places bring that keeps x from being received. None comes only where the
 // packet of x comes out of time to each node that is ready for it.
 fn crowd_with<M: Links>(
     links: &M,
@@ -155,7 +155,7 @@ fn near_of<M: Links>(links: &M, key: Key, ready: u64) -> u64
     near
 }
 
-// Those of the places whose marks do not show that what is sent there beside x is the packet of x, and begins at one of
+// Those of the places whose marks do not show that what is sent there next to x is the packet of x, and begins at one of
 // the ticks from `opens` to `latest`.
 fn strangers(
     marks: &[Mark],

@@ -73,7 +73,7 @@ pub fn listeners<M: Links>(
     hearers
 }
 
-// Those of the nodes at these places that are tuned to the channel of x all the time and send nothing beside it.
+// Those of the nodes at these places that are tuned to the channel of x all the time and send nothing next to it.
 fn ready_of(stations: &[Station], marks: &[Mark], places: u64, x: &Sending) -> u64
     requires aged { All (λ st. IsAged x.now.end st.ended.items) stations.now }
     requires marks { AreMarks stations.now marks.now }
@@ -93,7 +93,7 @@ fn ready_of(stations: &[Station], marks: &[Mark], places: u64, x: &Sending) -> u
     ready
 }
 
-// Whether the node at `at` is tuned to the channel of x all the time and sends nothing beside it.
+// Whether the node at `at` is tuned to the channel of x all the time and sends nothing next to it.
 fn is_ready(at: &Station, mark: &Mark, x: &Sending) -> bool
     requires own { IsAged x.now.end at.now.ended.items }
     requires mark { IsMark (on_air at.now) mark.now }
@@ -126,7 +126,7 @@ fn is_taken<M: Links>(
     !has_bit(mixed, place) || is_chosen(links, profile, stations, at, x, key)
 }
 
-// Whether no sending of the node at `at` overlaps x, which ends now. Mostly its mark tells.
+// Whether no transmission of the node at `at` overlaps x, which ends now. Mostly its mark tells.
 fn was_quiet(at: &Station, mark: &Mark, x: &Sending) -> bool
     requires own { IsAged x.now.end at.now.ended.items }
     requires mark { IsMark (on_air at.now) mark.now }

@@ -34,15 +34,15 @@ use std::marker::Model;
 #[derive(Drop)]
 pub struct Medium {
     profile: Profile,
-    // The greatest displacement at which equal sendings are heard as one, by the profile.
+    // The greatest displacement at which equal transmissions are received as one, by the profile.
     delta: u64,
     time: u64,
     stations: Vec<Station>,
     // By ids, the places of the nodes.
     places: Vec<u8>,
-    // By places, the sendings of the nodes in short.
+    // By places, the transmissions of the nodes in short.
     marks: Vec<Mark>,
-    // Whose sendings can matter to one that still runs.
+    // Whose transmissions can matter to one that still runs.
     recent: Recent,
 }
 
@@ -156,7 +156,7 @@ impl Medium {
         hearers
     }
 
-    // Who hears the node's sending, which ends at t, as it is worked out from what is kept.
+    // Who receives the node's transmission, which ends at t, as it is worked out from what is kept.
     fn hearers<M: Links>(&self, links: &M, node: NodeId, t: u64) -> Hearers
         requires node { Contains (nodes_of self.now) node }
         requires small { t ≤ 2 ^ 46 }
@@ -180,7 +180,7 @@ impl Medium {
     }
 }
 
-// Who hears the sending of the station at that place, now that it ends.
+// Who receives the transmission of the station at that place, now that it ends.
 fn listeners_at<M: Links>(
     links: &M,
     profile: &Profile,

@@ -62,7 +62,7 @@ lines_differ d ls is =
     lines_keep DraftDiffers (draft_after_line plan_after_words)
     (λ e line differ. line_keeps DraftDiffers plan_after_words e line differ (words_differ e (words line) differ)) 1 empty_plan_draft d ls none_differ is
 
--- and behind the last
+-- and after the last
 abbrev PlanDiffers : PlanOfDeadlines → Type 0
 PlanDiffers p = Differ p.streams
 

@@ -1,4 +1,4 @@
--- A lawful log of a scenario that some text says is the log of a run.
+-- A valid log of a scenario that some text says is the log of a run.
 use Rattle.std.proofs.Common.{◌≡◌, ℕ, List}
 use Rattle.scenario_text.specs.ScenarioGrammar.{IsScenario}
 use Rattle.scenario_text.specs.ScenarioParts.{ScenarioParts}

@@ -23,7 +23,7 @@ pub decided_more : (p : PlanOfDeadlines) (answers : List (DeadlineStream × Admi
 decided_more p [] q r s a is one next = (subst (λ (x : PlanOfDeadlines). Decides x s a) is one, next ∙ ap (λ (x : PlanOfDeadlines). after_admit x s (Ok a)) is)
 decided_more p (b ∷ answers) q r s a is one next = (is.0, decided_more (after_admit p b.0 (Ok b.1)) answers q r s a is.1 one next)
 
--- an owner stands among streams, or is that of one more
+-- an owner is among streams, or is that of one more
 pub has_more : (ss : List DeadlineStream) (s : DeadlineStream) (owner : ℕ) → has_stream_of (ss ++ s ∷ []) owner ≡ (has_stream_of ss owner || (s.owner == owner))
 has_more [] s owner = last (s.owner == owner)
   where
@@ -36,7 +36,7 @@ has_more (t ∷ ss) s owner = by_first (t.owner == owner) (has_stream_of (ss ++ 
     by_first true a b c same = refl
     by_first false a b c same = same
 
--- who is admitted behind an answer was before it, or is this stream
+-- who is admitted after an answer was before it, or is this stream
 pub not_admitted : (q : PlanOfDeadlines) (s : DeadlineStream) (a : Admit) (owner : ℕ) → has_stream_of q.streams owner ≡ false → (s.owner == owner) ≡ false
     → has_stream_of (after_admit q s (Ok a)).streams owner ≡ false
 not_admitted q s Yes owner before other = has_more q.streams s owner ∙ rw (before, other) refl

@@ -1,4 +1,4 @@
--- The report on a recorded log: its verdict, and what follows where the log is lawful.
+-- The report on a recorded log: its verdict, and what follows where the log is valid.
 use Rattle.std.specs.Prelude.{◌≡◌, ℕ, List, [], ◌∷◌, codes}
 use Rattle.scenario_text.specs.ScenarioParts.{ScenarioParts}
 use Rattle.scenario_clocks.specs.StatedClocks.{scenario_clock}
@@ -17,8 +17,8 @@ verdict_line (Trail v) = line_text (numbered (codes "no trail") (v ∷ []))
 verdict_line (Heard i) = line_text (numbered (codes "no heard") (i ∷ []))
 verdict_line (Missing v u t) = line_text (numbered (codes "no missing") (v ∷ u ∷ t ∷ []))
 
--- All is over the clocks that the scenario states. A log that is called lawful is safe, and what its trails deliver and lose is
--- the single-hop bus's
+-- All is over the clocks that the scenario states. A log that is called lawful is safe, and what its traces deliver and lose is
+-- the ideal single-hop bus's
 pub record IsCheckReport (s : ScenarioParts) (log : List Entry) (text : List ℕ) : Type 0 where
   pub verdict : Verdict
   pub judged : IsVerdict s (scenario_clock s) log verdict

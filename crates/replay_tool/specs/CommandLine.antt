@@ -28,7 +28,7 @@ abbrev pub IsInput : Bool → Option (List ℕ) → List ℕ → Type 0
 IsInput true left b = left ≡ Some b
 IsInput false left b = b ≡ []
 
--- all bytes of the input were read to the end, at most so many as are allowed, and this holds of them
+-- all bytes of the input were read to the end, at most this many as are allowed, and this holds of them
 abbrev pub WholeRead : Bool → Option (List ℕ) → Option (List ℕ) → (List ℕ → Type 0) → Type 0
 WholeRead true old new P = (b : List ℕ) × Consumes old new b × IsAtEnd new × (length b ≤ INPUT_LIMIT) × P b
 WholeRead false old new P = P []
@@ -37,7 +37,7 @@ WholeRead false old new P = P []
 abbrev pub TooMuchRead : Option (List ℕ) → Option (List ℕ) → Type 0
 TooMuchRead old new = Took old new (λ n. n ≡ INPUT_LIMIT + 1)
 
--- some bytes were taken, at most so many as are allowed, and what is left is what was left less these
+-- some bytes were taken, at most this many as are allowed, and what is left is what was left less these
 abbrev pub PartRead : Option (List ℕ) → Option (List ℕ) → Type 0
 PartRead old new = Took old new (λ n. n ≤ INPUT_LIMIT)
 
@@ -63,11 +63,11 @@ SomeDue words old new air text = ReportDue words old new air text ⊎ ((FaultDue
 abbrev pub Written : Option (List ℕ) → Option (List ℕ) → (List ℕ → Type 0) → Type 0
 Written old new Due = (text : List ℕ) × Due text × Appends old new text
 
--- a front of the text that is due went out, and not the whole
+-- a proper prefix of the text that is due went out, and not the whole
 abbrev pub PartWritten : Option (List ℕ) → Option (List ℕ) → (List ℕ → Type 0) → Type 0
 PartWritten old new Due = (text : List ℕ) × (gone : ℕ) × Due text × (gone < length text) × Appends old new (take gone text)
 
--- where b is the input and nothing failed, the status is the one that is due for this command, or want of memory
+-- where b is the input and nothing failed, the status is the one that is due for this command, or out of memory
 pub record IsComplete (c : Command) (b : List ℕ) (status : ℕ) : Type 0 where
   pub accepted : IsTextOf c b → length b ≤ INPUT_LIMIT → (status ≡ 0) ⊎ (status ≡ 5)
   pub refused : (n : ℕ) (k : FaultKind) → HasFault c b n k → length b ≤ INPUT_LIMIT → (status ≡ 1) ⊎ (status ≡ 5)

@@ -1,4 +1,4 @@
--- The commands: the words that ask for each, whether it reads, and which bytes its grammar refuses.
+-- The commands: the words that ask for each, whether it reads, and which bytes its grammar rejects.
 use Rattle.std.specs.Prelude.{◌≡◌, ◌<◌, ◌^◌, ℕ, List, [], ◌∷◌, Bool, true, false, Option, Some, None, codes, decimal}
 use Rattle.std.specs.Result.{result_err}
 use Rattle.scenario_text.specs.FloodGrammar.{flood_of}

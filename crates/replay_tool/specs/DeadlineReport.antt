@@ -10,7 +10,7 @@ use Rattle.deadline_plan.specs.declared.admission.Admit.{Admit}
 use Rattle.deadline_plan.specs.declared.admission.Admit.TheVariants.{Yes, Twice, Full, Over}
 use Rattle.deadline_plan.specs.declared.stream.DeadlineStream.{DeadlineStream}
 
--- a stream is admitted where no job of it and of those admitted before goes without a slot, else refused by the first pair
+-- a stream is admitted where no job of it and of those admitted before goes without a slot, else rejected by the first pair
 -- of frames that is over. A text has at most 32 streams and no owner twice, so no other answer comes
 abbrev pub Decides : PlanOfDeadlines → DeadlineStream → Admit → Type 0
 Decides p s Yes = Fit p (with_last p.streams s)
@@ -60,6 +60,6 @@ pub record IsDeadlineReport (t : PlanOfDeadlines) (text : List ℕ) : Type 0 whe
   pub kept : AreGrantedInTime (jobs plan.frames plan.streams) (grants_of plan)
   pub is : text ≡ deadline_lines answers (rounds_of plan)
 
--- Internal: no owner stands twice
+-- Internal: no owner is there twice
 abbrev pub Differ : List DeadlineStream → Type 0
 Differ ss = (i : ℕ) (s : DeadlineStream) → i < length ss → s ≡ get_or ss i s → has_stream_of (take i ss) s.owner ≡ false

@@ -53,7 +53,7 @@ pub record IsFloodReport (f : FloodParts) (air : List Entry) (text : List ℕ) :
   pub is : text ≡ flood_report (outcome f)
   pub law : FloodLaw f (stated_clock f) air
 
--- how a run of a scenario over some clocks is told: by what is delivered and lost in it, and by its log
+-- how a run of a scenario over some clocks is given: by what is delivered and lost in it, and by its log
 abbrev pub Telling : Type 0
 Telling = List Delivery → List DropLine → ScenarioParts → (ℕ → ℕ → ℕ) → List Entry → List ℕ
 
@@ -62,16 +62,16 @@ pub record IsOfRun (told : Telling) (s : ScenarioParts) (air : List Entry) (text
   pub law : Lawful s (scenario_clock s) air
   -- one node at most initiates in a data slot, different steps never overlap, relays of one flood differ only by counter
   pub safe : Safe s (scenario_clock s) air
-  -- the printed deliveries, and the printed drops, are the single-hop bus's
+  -- the printed deliveries, and the printed drops, are the ideal single-hop bus's
   pub is : text ≡ told (bus_deliveries s) (bus_drops s) s (scenario_clock s) air
-  -- the trails of the log deliver and lose these, received by relay paths, each stream in order and no packet twice
+  -- the traces of the log deliver and lose these, received by relay paths, each stream in order and no packet twice
   pub bus : AgreesWithBus s (scenario_clock s) air
 
--- the report, with the text of the log behind it
+-- the report, with the text of the log after it
 abbrev pub log_report : List Delivery → List DropLine → ScenarioParts → (ℕ → ℕ → ℕ) → List Entry → List ℕ
 log_report made lost s clocks air = run_report made lost s clocks air ++ log_text air
 
--- a run that is told by its stamps, which err little
+-- a run that is given by its stamps, which err little
 pub record IsTimesReport (s : ScenarioParts) (air : List Entry) (text : List ℕ) : Type 0 where
   pub stamps : List Stamp
   pub are : AreStamps s (scenario_clock s) air stamps

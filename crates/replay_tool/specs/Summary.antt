@@ -7,7 +7,7 @@ use Rattle.air_log.specs.declared.entry.Entry.TheVariants.{Sent, Heard, Tuned}
 use Rattle.bus_rules.specs.declared.delivery.Delivery.{Delivery}
 use Rattle.bus_rules.specs.declared.delivery.DropLine.{DropLine}
 
--- in ticks, for how long a sending lasted, and for how long a radio was on
+-- in ticks, for how long a transmission lasted, and for how long a radio was on
 abbrev pub sent_ticks : Entry → ℕ
 sent_ticks (Sent e) = e.end - e.start
 sent_ticks (Heard e) = 0

@@ -11,6 +11,6 @@ use Rattle.bus_time.specs.declared.stamp.Stamp.{Stamp}
 abbrev pub stamp_line : Stamp → List ℕ
 stamp_line m = line_text (numbered (codes "stamp") (m.frame ∷ m.rank ∷ m.slot ∷ m.node ∷ m.stream ∷ m.seq ∷ m.tick ∷ []))
 
--- a run is told by these stamps, and by nothing else
+-- a run is given by these stamps, and by nothing else
 abbrev pub stamp_report : List Stamp → List Delivery → List DropLine → ScenarioParts → (ℕ → ℕ → ℕ) → List Entry → List ℕ
 stamp_report stamps made lost s clocks air = flat_map stamp_line stamps

@@ -69,7 +69,7 @@ fn write_delivery(text: &mut String, delivery: &Delivery) -> Result<(), AllocErr
     end_with_payload(text, &delivery.payload)
 }
 
-// The payload behind a space, and the end of the line.
+// The payload after a space, and the end of the line.
 fn end_with_payload(text: &mut String, payload: &Payload) -> Result<(), AllocError>
     ensures { OnOk result (string_bytes text.new ≡ string_bytes text.old ++ 32 ∷ payload_word payload.now ++ 10 ∷ []) }
 {

@@ -26,7 +26,7 @@ pub fn summary(
     Ok(text)
 }
 
-// The ticks of all sendings of a log, and those of all its tunings.
+// The ticks of all transmissions of a log, and those of all its tunings.
 fn ticks(air: &Air) -> (u128, u128)
     ensures sent { result.0 ≡ sum_by sent_ticks_of air.now }
     ensures on { result.1 ≡ sum_by on_ticks_of air.now }

@@ -60,7 +60,7 @@ pub fn top<S: Source, K: Sink>(
         → Written (K.held sink.old) (K.held sink.new) (FaultDue (map string_bytes words.now) (S.left source.old) (S.left source.new)) }
     ensures usage { result.status ≡ 2 → Written (K.held sink.old) (K.held sink.new) (UsageDue (map string_bytes words.now)) }
 
-    // A source that failed, a sink that failed, and want of memory. What was taken before is gone from the source, and no more is.
+    // A source that failed, a sink that failed, and out of memory. What was taken before is gone from the source, and no more is.
     ensures read_fault { result.status ≡ 3 → IsReading (map string_bytes words.now) × Rose (S.faults source.old) (S.faults source.new)
         × PartRead (S.left source.old) (S.left source.new) × (sink.new ≡ sink.old) }
     ensures write_fault { result.status ≡ 4 → Rose (K.faults sink.old) (K.faults sink.new)

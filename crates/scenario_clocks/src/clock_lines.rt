@@ -60,7 +60,7 @@ fn rates_of(lists: &[NodeRates], node: NodeId) -> &[(u64, i8)]
     lists[node.number() as usize].entries()
 }
 
-// The rates of each node in the order in which they stand, at the place of its id.
+// The rates of each node in the order in which they are, at the place of its id.
 fn rates_by_id(alloc: Global, rates: &[RateLine]) -> Result<Vec<NodeRates>, Memory>
     ensures { IfOk result (λ lists. AreRatesOf rates.now lists.items) }
 {

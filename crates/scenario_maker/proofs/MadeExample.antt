@@ -25,7 +25,7 @@ last_rate : rate_line (seeded 7) 20 ≡ record { node = 20; from = 0; ppm = pos 
 unfolding seeded later drawn_word state_after pcg32_seed u32_at word_bytes
 last_rate = refl
 
--- node 17 hangs on node 12, and the first pair of the random ones is 19 and 12
+-- node 17 depends on node 12, and the first pair of the random ones is 19 and 12
 a_parent : tree_pair (later 40 (seeded 7)) 17 ≡ (17, 12)
 unfolding seeded later drawn_word state_after pcg32_seed u32_at word_bytes
 a_parent = refl

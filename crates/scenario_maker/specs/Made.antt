@@ -1,4 +1,4 @@
--- The scenario that is made of a seed. Each of its drawn parts takes the generator as it stands where the part begins,
+-- The scenario that is made of a seed. Each of its drawn parts takes the generator as it is where the part begins,
 -- and each draw has its place from there on: a step draws the same number of words whatever comes of them.
 use Rattle.std.specs.Prelude.{ℕ, ◌+◌, ◌-◌, ◌*◌, ◌/◌, ◌%◌, ◌≤◌, pos, ◌-ℤ◌, List, [], ◌∷◌, ◌++◌, map, filter, Bool, ◌==◌, ◌&&◌, ◌||◌, nat_le, if◌then◌else◌}
 use Rattle.std.specs.List.{fold, flat_map, list_any, range_with_len}
@@ -79,7 +79,7 @@ drawn_losses g n f = map (drawn_loss g n f) (range_with_len 0 (n / 2))
 abbrev pub with_new_loss : List LoseLine → LoseLine → List LoseLine
 with_new_loss ls l = if (l.from == l.to) || list_any (is_loss l.frame l.slot l.step l.from l.to) ls then ls else with_line by_loss l ls
 
--- each frame draws behind those before it
+-- each frame draws after those before it
 abbrev pub frame_losses : Lcg → ℕ → ℕ → List LoseLine
 frame_losses g n f = drawn_losses (later (4 * (n / 2) * f) g) n f
 

@@ -74,7 +74,7 @@ fn add_frames(lines: &mut Vec<ScriptLine>, nodes: u32, frames: u32) -> Result<()
     Ok(())
 }
 
-// In a run of at least 40 frames node 1 goes off in the middle. Behind that come the puts.
+// In a run of at least 40 frames node 1 goes off in the middle. After that come the puts.
 fn add_frame(lines: &mut Vec<ScriptLine>, nodes: u32, frames: u32, frame: u32) -> Result<(), Memory>
     requires nodes { (1 ≤ nodes) × (nodes ≤ 64) }
     requires frame { frame < 4096 }

@@ -61,7 +61,7 @@ abbrev pub Boots : Power → List ScriptLine → Type 0
 Boots w [] = Unit {0}
 Boots w (l ∷ ls) = (can_boot w l.node l.act ≡ true) × Boots (after_act w l.node l.act) ls
 
--- the draft of these lists, with so many script lines
+-- the draft of these lists, with this many script lines
 abbrev pub mid : ScenarioParts → List NodeLine → List RateLine → List ℕ → Lines → List ScriptLine → Power → ℕ → Scenario
 mid s ns rs hs t ls w n = record {
   network = record { sends = Some s.sends; nodes = ns; rates = rs; trace = t; scripted = n };

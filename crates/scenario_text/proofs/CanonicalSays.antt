@@ -98,7 +98,7 @@ goes_first s b is =
 goes_from : (d e g : Scenario) (ls : List (List (List ℕ))) → d ≡ e → Goes e ls g → Goes d ls g
 goes_from d e g ls is goes = subst (λ (x : Scenario). Goes x ls g) (sym is) goes
 
--- so many script lines
+-- this many script lines
 counted_as : (s : ScenarioParts) (t : Lines) (ls : List ScriptLine) (w : Power) (m n : ℕ) → m ≡ n
     → mid s s.nodes s.rates s.hosts t ls w m ≡ mid s s.nodes s.rates s.hosts t ls w n
 counted_as s t ls w m n is = ap (mid s s.nodes s.rates s.hosts t ls w) is

@@ -1,4 +1,4 @@
--- What is true of a draft of no lines, and behind the lines that choose the profile.
+-- What is true of a draft of no lines, and after the lines that choose the profile.
 use Rattle.std.proofs.Common.{◌≡◌, Bool, true, false, if◌then◌else◌, refl, arith, inl, inr}
 use Rattle.std.proofs.lemmas.Bool.{false≢true}
 use Rattle.lwb_base.specs.Profile.{Numbers, IsProfile, one, contended}

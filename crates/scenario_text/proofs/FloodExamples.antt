@@ -87,7 +87,7 @@ with_rates : flood_of (codes "node 9 5\nnode  2 256000\r\n\n  rate 9 7 -20\nsend
 unfolding draft_after_line flood_after_words flood_line network_line is_utf8 chars encode
 with_rates = refl
 
--- behind the six lines of `three`: a line, and its fault
+-- after the six lines of `three`: a line, and its fault
 abbrev refused : List ℕ → Result FloodParts (ℕ × FaultKind)
 refused line = flood_of (three ++ line)
 
@@ -113,7 +113,7 @@ second_lines : map (λ (lines : List ℕ). refused lines) (codes "start 1\nstart
 unfolding draft_after_line flood_after_words flood_line network_line is_utf8 chars encode
 second_lines = refl
 
--- what misses nothing but sendings, or a second node
+-- what misses nothing but transmissions, or a second node
 also_missing : map (λ (text : List ℕ). flood_of text) (codes "node 1 0\nnode 2 0\nstart 1\n" ∷ codes "sends 1\nnode 1 0\nstart 1" ∷ [])
     ≡ Err (4, Missing) ∷ Err (4, Missing) ∷ []
 unfolding draft_after_line flood_after_words flood_line network_line is_utf8 chars encode

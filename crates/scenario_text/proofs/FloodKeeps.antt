@@ -111,7 +111,7 @@ nothing_sound = record {
   start_known = tt;
 }
 
--- behind allowed lines
+-- after allowed lines
 pub text_sound : (f : Flood) (ls : List (List ℕ)) → draft_after_lines (draft_after_line flood_after_words) 1 no_flood ls ≡ Ok f → IsFloodDraft f
 text_sound f ls is =
     lines_keep IsFloodDraft (draft_after_line flood_after_words)

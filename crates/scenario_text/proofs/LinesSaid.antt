@@ -31,7 +31,7 @@ pub record Says (ws : List (List ℕ)) (l : ScenarioLine) : Type 0 where
   pub line : scenario_line ws ≡ Some l
   pub right : scenario_numbers l ws ≡ true
 
--- behind a line of such words that is allowed
+-- after a line of such words that is allowed
 pub said : (d : Scenario) (ws : List (List ℕ)) (l : ScenarioLine) → Says ws l → line_fault d l ≡ None
     → draft_after_line scenario_after_words d (join_with_byte 32 ws) ≡ Ok (with_scenario_line d l)
 unfolding draft_after_line scenario_after_words

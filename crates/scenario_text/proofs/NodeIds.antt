@@ -16,7 +16,7 @@ use Rattle.scenario_text.specs.declared.lines.NodeLine.{NodeLine}
 abbrev pub below : NodeLine → NodeLine → Bool
 below n m = nat_lt m.node n.node
 
--- the node behind those with lesser ids
+-- the node after those with lesser ids
 abbrev pub put : NodeLine → List NodeLine → List NodeLine
 put n [] = n ∷ []
 put n (m ∷ ms) = cond (below n m) (m ∷ put n ms) (n ∷ m ∷ ms)

@@ -97,7 +97,7 @@ below_in_turn ns (r ∷ rs) rises known climbs =
     (λ s below. elim (rate_below r s below) [ inl lesser ↦ omega (arith, lesser) | inr later ↦ (let same = later.0 in omega (arith, same)) ]) climbs.0 in
     first_in_turn ns r rs rises known.0 least ∙ ap (λ (l : List RateLine). r ∷ l) (below_in_turn ns rs rises known.1 climbs.1)
 
--- and the rates of each node in turn stand by node and tick
+-- and the rates of each node in turn are by node and tick
 one_node : (i : ℕ) (rs : List RateLine) → AllByRecursion (λ r. r.node ≡ i) rs → RatesBeginLater rs → Climbs IsBelow rs
 one_node i [] of follows = tt
 one_node i (r ∷ rs) of follows = (above_first rs of.1 follows.0, one_node i rs of.1 follows.1)

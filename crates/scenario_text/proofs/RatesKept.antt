@@ -165,7 +165,7 @@ each_ascends ns rs i rises follows =
     (cond_both (knows ns i) (filter (is_of i) rs) [] (AllPairs (λ a b. a.from < b.from)) (λ known. one_ascends i rs follows)
     (λ unknown k j d before within. absurd (omega arith)))
 
--- so many millionths
+-- this many millionths
 pub ppm_small : (slow : Bool) (p : ℕ) → p ≤ 20 → unsigned_abs (ppm slow p) ≤ 20
 ppm_small true zero few = few
 ppm_small true (suc p) few = few

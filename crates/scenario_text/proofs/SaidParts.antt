@@ -87,7 +87,7 @@ line_read ws =
     (counted_read 6 ws (Capture (number_at ws 1) (number_at ws 2) (number_at ws 3) (number_at ws 4) (number_at ws 5)) tt)
     (network_read (network_line ws)))))))))))))
 
--- behind a line
+-- after a line
 words_fine : (d : Scenario) (ws : List (List ℕ)) → IsFine d → IfOk (scenario_after_words d ws) IsFine
 unfolding scenario_after_words
 words_fine d ws fine =

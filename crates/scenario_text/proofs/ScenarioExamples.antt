@@ -82,7 +82,7 @@ texts : map fault (
 unfolding draft_after_line scenario_after_words scenario_line script_line step_line put_line network_line is_utf8 chars encode
 texts = refl
 
--- behind the base text and `frames 12`: lines, and their faults
+-- after the base text and `frames 12`: lines, and their faults
 abbrev refused : List ℕ → Result ScenarioParts (ℕ × FaultKind)
 refused lines = scenario_of (base ++ codes "frames 12\n" ++ lines)
 

@@ -58,7 +58,7 @@ nothing_sound = record {
   frame = omega arith;
 }
 
--- behind allowed lines
+-- after allowed lines
 pub text_sound : (d : Scenario) (ls : List (List ℕ)) → draft_after_lines (draft_after_line scenario_after_words) 1 no_scenario ls ≡ Ok d → IsScenarioDraft d
 text_sound d ls is =
     lines_keep IsScenarioDraft (draft_after_line scenario_after_words)

@@ -20,7 +20,7 @@ pub record IsWithScript (s : ScenarioParts) (added : List ScriptLine) (t : Scena
   pub parts : t ≡ record s { script = t.script }
   pub script : IsMerged s.script added t.script
 
--- no line is refused as one too many: no node boots more than 200 times, and there are at most 20,000 script lines of all
+-- no line is rejected as one too many: no node boots more than 200 times, and there are at most 20,000 script lines of all
 -- kinds
 pub record HasRoom (s : ScenarioParts) : Type 0 where
   pub lines : script_lines s ≤ 20000

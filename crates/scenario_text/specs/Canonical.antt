@@ -1,5 +1,5 @@
 -- The canonical text of a scenario, as lines of words: the lines are in one order, each number and payload has one spelling,
--- one space stands between words, and a line feed behind each line.
+-- one space is between words, and a line feed after each line.
 use Rattle.std.specs.Prelude.{◌≡◌, ℕ, ◌+◌, List, [], ◌∷◌, ◌++◌, map, ◌==◌, if◌then◌else◌, codes, Ok}
 use Rattle.std.specs.Fmt.{signed_decimal}
 use Rattle.text_writers.specs.Lines.{numbered, render}
@@ -68,6 +68,6 @@ canonical_lines s =
 abbrev pub canonical : ScenarioParts → List ℕ
 canonical s = render (canonical_lines s)
 
--- the canonical text has no refusal, and says these parts: then they stand in their orders
+-- the canonical text has no fault, and says these parts: then they are in their orders
 abbrev pub IsSaid : ScenarioParts → Type 0
 IsSaid s = scenario_of (canonical s) ≡ Ok s

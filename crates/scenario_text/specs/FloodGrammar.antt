@@ -1,4 +1,4 @@
--- Flood text: what its lines say, and the first line that is refused.
+-- Flood text: what its lines say, and the first line that is rejected.
 use Rattle.std.specs.Prelude.{ℕ, ◌+◌, List, [], ◌∷◌, Bool, not, ◌&&◌, nat_le, if◌then◌else◌, Some, None}
 use Rattle.std.specs.Prelude.{Option, is_none, Result, length, drop, codes, option_map}
 use Rattle.std.specs.List.{list_all}
@@ -52,17 +52,17 @@ with_flood_line f (InNetwork l) = record f { network = with_network_line f.netwo
 with_flood_line f (Lose k u v) = record f { network = with_script_line f.network (with_loss_at 5 1 k u v f.network.trace) }
 with_flood_line f (Start i) = record f { start = Some i }
 
--- behind a line that is spelled right, or its fault
+-- after a line that is spelled right, or its fault
 abbrev pub after_spelled : Flood → FloodLine → Result Flood FaultKind
 after_spelled f l = unless_fault (rule_fault f l) (with_flood_line f l)
 
--- behind a line of these words, or its fault
+-- after a line of these words, or its fault
 unfoldable pub flood_after_words : Flood → List (List ℕ) → Result Flood FaultKind
 flood_after_words f ws = do
   l ← spelled (flood_line ws) (λ l. flood_numbers l ws)
   after_spelled f l
 
--- what a whole text says, which has sendings, two nodes at least, and a start
+-- what a whole text says, which has transmissions, two nodes at least, and a start
 abbrev pub flood_of_parts : Option Parts → Option ℕ → Option FloodParts
 flood_of_parts (Some p) (Some s) = Some (record { sends = p.sends; nodes = p.nodes; rates = p.rates; trace = p.trace; start = s })
 flood_of_parts None start = None
@@ -71,7 +71,7 @@ flood_of_parts (Some p) None = None
 abbrev pub whole_flood : Flood → Result FloodParts FaultKind
 whole_flood f = ok_or (flood_of_parts (network_parts f.network f.network.sends) f.start) Missing
 
--- what the bytes say, or their first fault and its line. What is missing is missing behind the last line
+-- what the bytes say, or their first fault and its line. What is missing is missing after the last line
 abbrev pub flood_of : List ℕ → Result FloodParts (ℕ × FaultKind)
 flood_of bytes = do
   f ← draft_after_lines (draft_after_line flood_after_words) 1 no_flood (lines bytes)

@@ -7,7 +7,7 @@ use Rattle.link_trace.specs.Sealed.{Traced}
 use Rattle.scenario_text.specs.declared.lines.NodeLine.{NodeLine}
 use Rattle.scenario_text.specs.declared.lines.RateLine.{RateLine}
 
--- the most sendings of a node, the nodes, the rates of their clocks, the trace, and the starting node
+-- the most transmissions of a node, the nodes, the rates of their clocks, the trace, and the starting node
 pub record FloodParts : Type 0 where
   pub sends : ℕ
   pub nodes : List NodeLine

@@ -1,4 +1,4 @@
--- The lines that both texts have, and what is allowed of each of them behind the lines above it.
+-- The lines that both texts have, and what is allowed of each of them after the lines above it.
 use Rattle.std.specs.Prelude.{ℕ, ◌+◌, ℤ, pos, neg_ℤ, List, [], ◌∷◌, ◌++◌, Bool, true, not, ◌&&◌, ◌==◌, nat_lt, nat_le, if◌then◌else◌}
 use Rattle.std.specs.Prelude.{Some, None, Option, is_none, length, drop, codes, reverse, filter, find, count_by, insert}
 use Rattle.std.specs.List.{list_all, list_any, flat_map}
@@ -36,7 +36,7 @@ network_numbers (Rate i t slow p) ws = is_number (word ws 1) && is_number (word 
 network_numbers (Link u v) ws = list_all is_number (drop 1 ws)
 network_numbers (Pair u v) ws = list_all is_number (drop 1 ws)
 
--- What the lines above say of these lines: the sendings of a node, the nodes by id, the rates in the order of the text, the
+-- What the lines above say of these lines: the transmissions of a node, the nodes by id, the rates in the order of the text, the
 -- trace, and how many script lines there are
 pub record DraftedNetwork : Type 0 where
   pub sends : Option ℕ
@@ -137,7 +137,7 @@ with_cut_at f j k i t = record t { cuts = in_order_with by_cut (record { frame =
 abbrev pub with_capture_at : ℕ → ℕ → ℕ → ℕ → ℕ → Lines → Lines
 with_capture_at f j k a b t = record t { captures = in_order_with by_capture (record { frame = f; slot = j; step = k; at = a; from = b }) t.captures }
 
--- by so many millionths fast, or slow
+-- by this many millionths fast, or slow
 abbrev pub ppm : Bool → ℕ → ℤ
 ppm slow p = if slow then neg_ℤ (pos p) else pos p
 
@@ -164,7 +164,7 @@ pub record Parts : Type 0 where
   pub rates : List RateLine
   pub trace : Lines
 
--- with sendings and two nodes at least
+-- with transmissions and two nodes at least
 abbrev pub network_parts : DraftedNetwork → Option ℕ → Option Parts
 network_parts d None = None
 network_parts d (Some n) =

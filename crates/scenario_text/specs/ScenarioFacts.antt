@@ -24,7 +24,7 @@ pub record IsStepOf (s : ScenarioParts) (frame slot step : ℕ) : Type 0 where
   pub in_frame : slot ≤ greatest_slot_of s.profile
   pub in_slot : step ≤ 11
 
--- the numbers of what a node is told are in range
+-- the numbers of what a node is given are in range
 abbrev pub IsAct : Numbers → Act → Type 0
 IsAct p On = Unit {0}
 IsAct p Off = Unit {0}
@@ -37,7 +37,7 @@ pub record IsScriptLine (s : ScenarioParts) (l : ScriptLine) : Type 0 where
   pub known : knows s.nodes l.node ≡ true
   pub act : IsAct s.profile l.act
 
--- whether a node is on, and how often it booted, behind what it is told: it boots where it was off
+-- whether a node is on, and how often it booted, after what it is given: it boots where it was off
 abbrev pub turned_by : Act → Bool × ℕ → Bool × ℕ
 turned_by On t = (true, if t.0 then t.1 else t.1 + 1)
 turned_by Off t = (false, t.1)
@@ -45,7 +45,7 @@ turned_by (Declare stream interval) t = t
 turned_by (Leave stream) t = t
 turned_by (Put stream payload) t = t
 
--- and behind these lines of a script
+-- and after these lines of a script
 abbrev pub turned : ℕ → Bool × ℕ → List ScriptLine → Bool × ℕ
 turned v t [] = t
 turned v t (l ∷ ls) = turned v (if l.node == v then turned_by l.act t else t) ls

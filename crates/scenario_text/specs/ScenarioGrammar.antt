@@ -1,4 +1,4 @@
--- The text of a scenario: what its lines say, and the first line that is refused.
+-- The text of a scenario: what its lines say, and the first line that is rejected.
 use Rattle.std.specs.Prelude.{◌≡◌, ℕ, ◌+◌, ◌-◌, ◌*◌, List, [], ◌∷◌, ◌++◌, Bool, true, false, not, ◌&&◌, ◌||◌, ◌==◌, nat_lt}
 use Rattle.std.specs.Prelude.{nat_le, if◌then◌else◌, Some, None, Option, is_none, is_some, Ok, Err, Result, length, drop, codes}
 use Rattle.std.specs.Prelude.{option_map, replicate, slice_get, slice_set, slice_index, slice_index_or}
@@ -30,7 +30,7 @@ use Rattle.scenario_text.specs.declared.script.Act.TheVariants as act
 abbrev pub first_word_is : List (List ℕ) → List ℕ → Bool
 first_word_is ws letters = bytes_eq (word ws 0) letters
 
--- what the words behind `put` say, if they are those of such a line
+-- what the words after `put` say, if they are those of such a line
 unfoldable pub put_line : List (List ℕ) → Option ScenarioLine
 put_line ws =
     if is_payload (word ws 4)
@@ -155,7 +155,7 @@ last_script_line ls = slice_get ls (length ls - 1)
 abbrev pub in_script_order : Scenario → ℕ → Bool
 in_script_order d f = is_some d.frames && option_map_or (λ l. nat_le l.frame f) (last_script_line d.script) true
 
--- the line may stand here
+-- the line may be here
 abbrev pub line_in_order : Scenario → ScenarioLine → Bool
 line_in_order d (InNetwork l) = rates_in_order d.network l
 line_in_order d (Profile p) = d.first
@@ -249,15 +249,15 @@ abbrev pub is_profile_two : ScenarioLine → Bool
 is_profile_two (Profile p) = p == 2
 is_profile_two other = false
 
--- and that it stands above
+-- and that it is above
 abbrev pub with_scenario_line : Scenario → ScenarioLine → Scenario
 with_scenario_line d l = record (line_added d l) { first = false; after_two = is_profile_two l }
 
--- behind a line that is spelled right, or its fault
+-- after a line that is spelled right, or its fault
 abbrev pub after_spelled : Scenario → ScenarioLine → Result Scenario FaultKind
 after_spelled d l = unless_fault (line_fault d l) (with_scenario_line d l)
 
--- behind a line of these words, or its fault
+-- after a line of these words, or its fault
 unfoldable pub scenario_after_words : Scenario → List (List ℕ) → Result Scenario FaultKind
 scenario_after_words d ws = do
   l ← spelled (scenario_line ws) (λ l. scenario_numbers l ws)
@@ -267,7 +267,7 @@ scenario_after_words d ws = do
 abbrev pub if_small : ScenarioParts → Result ScenarioParts FaultKind
 if_small s = if nat_le (length s.nodes * s.frames) 16384 then Ok s else Err TooBig
 
--- what a whole text says, which has frames, sendings, two nodes at least, and a host
+-- what a whole text says, which has frames, transmissions, two nodes at least, and a host
 abbrev pub finished_parts : Scenario → Option Parts → Option ℕ → Result ScenarioParts FaultKind
 finished_parts d (Some p) (Some f) =
     if length d.hosts == 0 then Err Missing
@@ -287,7 +287,7 @@ finished_parts d (Some p) None = Err Missing
 abbrev pub whole_scenario : Scenario → Result ScenarioParts FaultKind
 whole_scenario d = finished_parts d (network_parts d.network d.network.sends) d.frames
 
--- what the bytes say, or their first fault and its line. What is missing is missing behind the last line
+-- what the bytes say, or their first fault and its line. What is missing is missing after the last line
 abbrev pub scenario_of : List ℕ → Result ScenarioParts (ℕ × FaultKind)
 scenario_of bytes = do
   d ← draft_after_lines (draft_after_line scenario_after_words) 1 no_scenario (lines bytes)

@@ -6,7 +6,7 @@ use Rattle.scenario_text.specs.declared.lines.NodeLine.{NodeLine}
 use Rattle.scenario_text.specs.declared.lines.RateLine.{RateLine}
 use Rattle.scenario_text.specs.declared.script.ScriptLine.{ScriptLine}
 
--- the profile, the number of frames, the most sendings of a node, the nodes by id, their rates by node and tick, the hosts
+-- the profile, the number of frames, the most transmissions of a node, the nodes by id, their rates by node and tick, the hosts
 -- by rank, the trace, and the script
 pub record ScenarioParts : Type 0 where
   pub profile : Numbers

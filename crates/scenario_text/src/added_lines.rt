@@ -47,7 +47,7 @@ pub fn with_script(
     )))
 }
 
-// How many lines of the script may stand beside the other script lines of the scenario.
+// How many lines of the script may be next to the other script lines of the scenario.
 fn script_room(s: &Scenario) -> usize
     ensures { result + script_lines s.now ≡ 20000 + length s.now.script }
 {

@@ -68,7 +68,7 @@ impl NetworkLine {
     }
 }
 
-// The words behind `rate`. Only the last number may have a `-`.
+// The words after `rate`. Only the last number may have a `-`.
 fn rate_line(words: &[&[u8]]) -> Result<NetworkLine, FaultKind>
     ensures { let ws = map (λ w. w.now) words.now in
         result ≡ spelled

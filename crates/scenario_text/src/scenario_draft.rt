@@ -26,7 +26,7 @@ use text_readers::{Draft, Refusal, refuse_unless};
 #[derive(Drop)]
 pub struct ScenarioDraft {
     network: NetworkDraft,
-    // No line stands above; and the last line above is `profile 2`.
+    // No line is above; and the last line above is `profile 2`.
     first: bool,
     after_two: bool,
     profile: Profile,

@@ -196,7 +196,7 @@ fn step_line(words: &[&[u8]]) -> Result<ScenarioLine, FaultKind>
     }
 }
 
-// What the words behind `put` say. A payload that is misspelled comes before a number that is.
+// What the words after `put` say. A payload that is misspelled comes before a number that is.
 #[tactic(auto, unfolding(crate::specs::ScenarioGrammar::put_line))]
 fn put_line(words: &[&[u8]]) -> Result<ScenarioLine, FaultKind>
     ensures { let ws = map (λ w. w.now) words.now in

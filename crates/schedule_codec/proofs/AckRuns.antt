@@ -14,7 +14,7 @@ use Rattle.schedule_codec.proofs.Readings.{length-asks}
 abbrev pub flat : List Ask → List ℕ
 flat acks = flat_map ask_bytes acks
 
--- the acknowledgements read so far, and the bytes behind them
+-- the acknowledgements read so far, and the bytes after them
 pub record Read (count : ℕ) (bytes : List ℕ) (acks : List Ask) (rest : List ℕ) (i : ℕ) : Type 0 where
   pub same : flat acks ++ rest ≡ bytes
   pub many : length acks ≡ i

@@ -14,7 +14,7 @@ use Rattle.schedule_codec.specs.Reading.{following, summed}
 use Rattle.schedule_codec.proofs.Widths.{codes_of, length-differences, differences_fit, width_fits}
 use Rattle.schedule_codec.proofs.Readings.{summed-differences, differences-summed, length-following, summed_ascends}
 
--- what bytes behind the count say, if they are those of these owners
+-- what bytes after the count say, if they are those of these owners
 pub record CodesIn (count : ℕ) (bs cs : List ℕ) (c : ℕ) (ds : List ℕ) : Type 0 where
   pub whole : summed c ds ≡ cs
   pub all : list_all (between 4 803) (summed c ds) ≡ true
@@ -74,7 +74,7 @@ codes_spelled count c (h ∷ l ∷ bs) ds long byte start many packs =
 pub summed_are_owners : (c : ℕ) (ds : List ℕ) → length ds ≤ 39 → list_all (between 4 803) (summed c ds) ≡ true → are_owners (summed c ds) ≡ true
 summed_are_owners c ds few all = and_from _ _ (and_from _ _ (le-leb _ 40 (omega (arith, length-following c ds))) all) (summed_ascends c ds)
 
--- what a slice pattern leaves behind two bytes
+-- what a slice pattern leaves after two bytes
 pub behind_two : (bs : List ℕ) → 2 ≤ length bs → take (length bs - 2) (drop 2 bs) ≡ drop 2 bs
 behind_two bs long = take_all (length bs - 2) (drop 2 bs) (omega (arith, length-drop 2 bs))
 
@@ -104,7 +104,7 @@ fit_wider w v (d ∷ ds) narrow fits =
     let power : 2 ^ w ≤ 2 ^ v = pow-le-pow_right {n = 2} (omega arith) narrow in
     and_from _ _ (lt-ltb d (2 ^ v) (omega arith)) (fit_wider w v ds narrow both.1)
 
--- an answer that is there exactly where the fact holds
+-- an answer that is there if and only if the fact holds
 pub some_where : {X : Type 0} (o : Option X) (P : Type 0) (x : X) → SomeIff o P x → P → o ≡ Some x
 some_where None P x none holds = absurd (none holds)
 some_where (Some y) P x is holds = ap (λ z. Some z) is.1

@@ -133,7 +133,7 @@ read_spells p whole host contend acks owners same long count low high gap rank i
       body = subst (λ (l : List ℕ). SpellsBody (get_or p 0 0) l contend acks owners) (take_rest p 5) body;
     })
 
--- the part behind the host's boot, as a slice pattern leaves it
+-- the part after the host's boot, as a slice pattern leaves it
 pub body_behind : (p : List ℕ) (s : Schedule) → Heads p s → SpellsBody (get_or p 0 0) (take (length p - 5) (drop 5 p)) s.plan.contend s.plan.acks s.plan.owners
 body_behind p s h = subst (λ (l : List ℕ). SpellsBody (get_or p 0 0) l s.plan.contend s.plan.acks s.plan.owners) (sym (take_rest p 5)) h.body
 

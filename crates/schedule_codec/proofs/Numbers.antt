@@ -5,7 +5,7 @@ use Rattle.std.proofs.lemmas.Bool.{and_parts, and_from, ltb-true, lt-ltb}
 use Rattle.std.proofs.lemmas.Nat.{pow-add, div-mul-add, mod-mul-add, mod-pow-add, shl_below, shl-shr, mod_low}
 use Rattle.schedule_codec.specs.Packing.{fit, packed_number, digits, bytes_for, fill, packed}
 
--- one number after another, from a number that stands before them
+-- one number after another, from a number that is before them
 abbrev pub number_after : ℕ → ℕ → List ℕ → ℕ
 number_after w n ds = fold (λ n d. n * 2 ^ w + d) n ds
 

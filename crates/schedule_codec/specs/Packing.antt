@@ -11,11 +11,11 @@ unfoldable pub digits : ℕ → ℕ → ℕ → List ℕ
 digits w zero n = []
 digits w (suc k) n = (n / 2 ^ (k * w) % 2 ^ w) ∷ digits w k n
 
--- the bytes that so many bits take
+-- the bytes that this many bits take
 abbrev pub bytes_for : ℕ → ℕ
 bytes_for bits = (bits + 7) / 8
 
--- the zero bits that fill up so many bits to a whole byte
+-- the zero bits that fill up this many bits to a whole byte
 abbrev pub fill : ℕ → ℕ
 fill bits = 8 * bytes_for bits - bits
 
@@ -23,12 +23,12 @@ fill bits = 8 * bytes_for bits - bits
 abbrev pub packed : ℕ → List ℕ → List ℕ
 packed w ds = let bits = length ds * w in digits 8 (bytes_for bits) (packed_number w ds * 2 ^ fill bits)
 
--- so many bits as one number, the first bit highest
+-- this many bits as one number, the first bit highest
 pub record Bits : Type 0 where
   pub count : ℕ
   pub value : ℕ
 
--- ds are so many numbers of w bits each, and these are their bytes
+-- ds are this many numbers of w bits each, and these are their bytes
 pub record Packs (w count : ℕ) (bs ds : List ℕ) : Type 0 where
   pub many : length ds ≡ count
   pub fits : fit w ds ≡ true

@@ -17,7 +17,7 @@ following c (d ∷ ds) = (c + d) ∷ following (c + d) ds
 abbrev pub summed : ℕ → List ℕ → List ℕ
 summed c ds = c ∷ following c ds
 
--- what stands from the count of owners on
+-- what comes from the count of owners on
 abbrev pub owners_in : List ℕ → List ℕ
 owners_in bs =
     let count = slice_index bs 0 in

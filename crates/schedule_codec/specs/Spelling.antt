@@ -13,7 +13,7 @@ abbrev pub single_ack : List Ask → List ℕ
 single_ack [] = 0 ∷ 0 ∷ 0 ∷ 0 ∷ []
 single_ack (a ∷ more) = ask_bytes a
 
--- version 1, where no contention slots are named, has one at most; version 2 has their number, the count, and so many
+-- version 1, where no contention slots are named, has one at most; version 2 has their number, the count, and this many
 abbrev pub acks_bytes : ℕ → List Ask → List ℕ
 acks_bytes contend acks = if contend == 0 then single_ack acks else ((contend - 1) * 16 + length acks) ∷ flat_map ask_bytes acks
 
@@ -36,13 +36,13 @@ pub record SpellsAcks (kind : ℕ) (bs : List ℕ) (contend : ℕ) (acks : List 
   pub ordered : are_acks acks ≡ true
   pub bytes : acks_bytes contend acks ≡ bs
 
--- what stands behind the host's boot in a schedule of this kind
+-- what is after the host's boot in a schedule of this kind
 pub record SpellsBody (kind : ℕ) (bs : List ℕ) (contend : ℕ) (acks : List Ask) (owners : List ℕ) : Type 0 where
   pub acknowledged : SpellsAcks kind (acks_bytes contend acks) contend acks
   pub owned : are_owners owners ≡ true
   pub whole : acks_bytes contend acks ++ owners_bytes owners ≡ bs
 
--- an opening stands in slot 0, and a closing in the last slot of some round of its version
+-- an opening is in slot 0, and a closing in the last slot of some round of its version
 abbrev pub slot_fits : ℕ → ℕ → ℕ → Bool
 slot_fits gap contend slot = if gap == 0 then slot == 0 else between 2 (greatest_slot contend) slot
 
@@ -54,7 +54,7 @@ schedule_in_range s slot counter =
     && nat_le (length s.plan.acks) (most_acks s.plan.contend) && list_all ask_in_range s.plan.acks && are_acks s.plan.acks
     && are_owners s.plan.owners
 
--- what a schedule needs beside what its types say, to be written in this slot
+-- what a schedule needs next to what its types say, to be written in this slot
 pub record IsWritable (s : Schedule) (slot : ℕ) : Type 0 where
   pub boot : (1 ≤ s.plan.boot) × (s.plan.boot ≤ 200)
   pub gap : s.gap ≤ 4

@@ -74,7 +74,7 @@ fn read_single(bytes: &[u8]) -> Option<Acks>
     Some(acks)
 }
 
-// The number of contention slots with the count of acknowledgements, and so many.
+// The number of contention slots with the count of acknowledgements, and this many.
 fn read_several(bytes: &[u8]) -> Option<Acknowledged>
     ensures some { IfSome result (λ r. SpellsAcks 4 bytes.now r.contend r.acks) }
     ensures all { (contend : ℕ) (acks : List Ask) → SpellsAcks 4 bytes.now contend acks
@@ -92,7 +92,7 @@ fn read_several(bytes: &[u8]) -> Option<Acknowledged>
     Some(Acknowledged { contend, acks })
 }
 
-// So many acknowledgements of four bytes each.
+// This many acknowledgements of four bytes each.
 fn read_each(bytes: &[u8], count: u8) -> Option<Acks>
     requires few { count ≤ 4 }
     requires long { length bytes.now ≡ 4 * count }

@@ -136,7 +136,7 @@ impl Acks {
     }
 }
 
-// Whether this one may stand after the last.
+// Whether this one may be after the last.
 fn follows(last: Option<&Place>, a: &Ack) -> bool
     ensures { result ≡ may_follow (option_copied last.entry) a.now }
 {

@@ -66,7 +66,7 @@ fn spelled(p: &Packet) -> Option<Schedule>
     })
 }
 
-// An opening stands in slot 0, and a closing in the last slot of some round of its version.
+// An opening is in slot 0, and a closing in the last slot of some round of its version.
 fn slot_fits(gap: u8, contend: u8, slot: u8) -> bool
     ensures { result ≡ fits gap contend slot }
 {
@@ -77,7 +77,7 @@ fn slot_fits(gap: u8, contend: u8, slot: u8) -> bool
     }
 }
 
-// What stands behind the host's boot: the acknowledgements and the owners.
+// What is after the host's boot: the acknowledgements and the owners.
 fn read_body(kind: u8, bytes: &[u8]) -> Option<(Acknowledged, Owners)>
     ensures some { IfSome result (λ b. SpellsBody kind bytes.now b.0.contend b.0.acks b.1) }
     ensures all { (contend : ℕ) (acks : List Ask) (owners : List ℕ) → SpellsBody kind bytes.now contend acks owners

@@ -63,7 +63,7 @@ pub fn read_owners(bytes: &[u8]) -> Option<Owners>
     }
 }
 
-// The owners that are spelled by this count and these bytes behind it.
+// The owners that are spelled by this count and these bytes after it.
 fn read_codes(count: u8, bytes: &[u8]) -> Option<Owners>
     requires { 0 < count }
     ensures some { IfSome result (λ cs. (are_owners cs ≡ true) × (owners_bytes cs ≡ count ∷ bytes.now)) }
@@ -84,7 +84,7 @@ fn read_codes(count: u8, bytes: &[u8]) -> Option<Owners>
     summed(start / 16, steps.as_slice())
 }
 
-// The owners from a first code on, each next one by its difference. None exactly where one is no owner's code.
+// The owners from a first code on, each next one by its difference. None if and only if one is no owner's code.
 fn summed(first: u16, steps: &[u16]) -> Option<Owners>
     requires few { length steps.now ≤ 39 }
     requires small { fit 10 steps.now ≡ true }

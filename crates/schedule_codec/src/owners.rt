@@ -77,7 +77,7 @@ impl Owners {
     }
 }
 
-// Whether this code may stand after the last.
+// Whether this code may be after the last.
 fn follows(last: Option<&u16>, code: u16) -> bool
     ensures { result ≡ may_follow (option_copied last.entry) code }
 {

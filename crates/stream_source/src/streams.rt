@@ -183,7 +183,7 @@ impl Streams {
         self.streams[usize::from(stream)].set_agreed(interval);
     }
 
-    // A schedule of this host was heard.
+    // A schedule of this host was received.
     fn hear_host(&mut self, rank: Rank, boot: u8)
         ensures { self.new ≡ rule.heard_host rank boot self.old }
     {

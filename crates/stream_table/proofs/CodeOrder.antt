@@ -52,7 +52,7 @@ module _ {A : Type 0} (code : A → ℕ) where
   none_of_below c [] up other = refl
   none_of_below c (x ∷ xs) up other = none_by_test c x xs (prefix_len (is_below code c) xs) (nat_lt (code x) c) refl up.0 (none_of_below c xs up.1) other
 
-  -- where an item of this code stands
+  -- where an item of this code is
   pub item_at : (c : ℕ) (xs : List A) (n : ℕ) (x : A) → AscendsByCode code xs → slice_get xs n ≡ Some x → code x ≡ c → item_of code xs c ≡ Some x
   item_at c [] n x up at is = cc
   item_at c (y ∷ xs) zero x up at is = let same : y ≡ x = cc in let here : code y ≡ c = ap code same ∙ is in
@@ -69,7 +69,7 @@ module _ {A : Type 0} (code : A → ℕ) where
       by_test true is none = cc
       by_test false is none = (eqb-false (code x) c is, none)
 
-  -- what stands at a place has another code, or nothing stands there
+  -- what is at a place has another code, or nothing is there
   pub other_there : (c : ℕ) (xs : List A) (p n : ℕ) (y : A) → n ≡ p → n < length xs → y ≡ get_or xs n y → code y ≢ c → (x : A) → slice_get xs p ≡ Some x
       → code x ≢ c
   other_there c xs p n y is within read other x at =

@@ -20,7 +20,7 @@ pub none_above : (c : ℕ) (es : List Entry) → EntriesAreAbove c es → entry_
 none_above c [] above = refl
 none_above c (e ∷ es) above = let other : e.code ≢ c = omega (arith, above.0) in rw (ne_eqb e.code c other) (none_above c es above.1)
 
--- where an entry of this code stands
+-- where an entry of this code is
 pub entry_at : (c : ℕ) (es : List Entry) (n : ℕ) (x : Entry) → EntriesAscend es → slice_get es n ≡ Some x → x.code ≡ c → entry_of es c ≡ Some x
 entry_at c es n x up at is = item_at code_in c es n x (in_order es up) at is
 

@@ -34,13 +34,13 @@ pub record IsAtPlace {A : Type 0} (code : A → ℕ) (xs : List A) (c n : ℕ) :
   pub is : code item ≡ c
   pub found : item_of code xs c ≡ Some item
 
--- there is no item of this code, and here it would stand
+-- there is no item of this code, and here it would be
 pub record IsGap {A : Type 0} (code : A → ℕ) (xs : List A) (c n : ℕ) : Type 0 where
   pub within : n ≤ length xs
   pub place : n ≡ prefix_len (is_below code c) xs
   pub missing : item_of code xs c ≡ None
 
--- a list with room for so many takes an item of this code: one of the code is there, or it is not full
+-- a list with room for this many takes an item of this code: one of the code is there, or it is not full
 abbrev pub finds_room : {A : Type 0} → (A → ℕ) → ℕ → List A → ℕ → Bool
 finds_room code most xs c = is_some (item_of code xs c) || nat_lt (length xs) most
 

@@ -37,7 +37,7 @@ impl Model for Entry {
     ghost inverse = { λ e. record { owner = e.code; boot = e.boot; interval = e.interval; accepted = e.accepted; granted = e.granted; unheard = e.unheard } };
 }
 
-// What stands in a place of the table that is not used.
+// What is in a place of the table that is not used.
 impl Default for Entry {
     fn default() -> Entry {
         Entry::new(Owner::new(NodeId::new(1).unwrap(), 0), 1, 1, 0)
@@ -92,7 +92,7 @@ impl Entry {
         owed(seconds, frame, self.accepted, self.interval, self.granted)
     }
 
-    // The entry once a data slot of its owner was heard.
+    // The entry once a data slot of its owner was received.
     pub(crate) fn heard(&self) -> Entry
         ensures { result ≡ entry_after_data self.now.code self.now }
     {
@@ -101,7 +101,7 @@ impl Entry {
         e
     }
 
-    // The entry once a data slot of its owner was not heard, unless it goes.
+    // The entry once a data slot of its owner was not received, unless it goes.
     pub(crate) fn unheard(&self) -> Option<Entry>
         ensures { result ≡ missed self.now.code self.now }
     {

@@ -9,7 +9,7 @@ use crate::code_order::{self, Placement};
 use crate::entry::Entry;
 use arrayvec::ArrayVec;
 
-// The place of the entry with this code, or the place at which it would stand.
+// The place of the entry with this code, or the place at which it would be.
 #[tactic(auto, using(crate::proofs::InOrder::in_order))]
 pub(crate) fn search(entries: &[Entry], code: u16) -> Result<usize, usize>
     requires { EntriesAscend entries.now }
@@ -53,7 +53,7 @@ pub(crate) fn remove(entries: &mut ArrayVec<Entry, 32>, code: u16) -> bool
     }
 }
 
-// The owner with this code was heard.
+// The owner with this code was received.
 pub(crate) fn hear(entries: &mut ArrayVec<Entry, 32>, code: u16)
     requires { AreEntries entries.old.items }
     ensures after { entries.new.items ≡ map (entry_after_data code) entries.old.items }
@@ -68,7 +68,7 @@ pub(crate) fn hear(entries: &mut ArrayVec<Entry, 32>, code: u16)
     }
 }
 
-// The owner with this code was not heard. True where its entry is gone for it.
+// The owner with this code was not received. True where its entry is gone for it.
 pub(crate) fn miss(entries: &mut ArrayVec<Entry, 32>, code: u16) -> bool
     requires { AreEntries entries.old.items }
     ensures answer { result ≡ misses_last entries.old.items code }

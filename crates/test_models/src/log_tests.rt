@@ -48,7 +48,7 @@ fn equal_entries_keep_their_order(rt: HostRuntime) -> Result<(), Fail> {
     Ok(())
 }
 
-// A log of so many transmissions of 125 bytes.
+// A log of this many transmissions of 125 bytes.
 fn long_log(alloc: Global, count: u64) -> Result<Air, Fail> {
     let node = NodeId::new(1).ok_or("id")?;
     let rank = Rank::new(0).ok_or("rank")?;
@@ -71,7 +71,7 @@ fn text_of_a_long_log(rt: HostRuntime) -> Result<(), Fail> {
     let alloc = rt.alloc();
     let air = long_log(alloc, 10_000)?;
     let text = text(alloc, &air)?;
-    // `sent 0 1`, two numbers of ten digits, 250 digits, and what stands between them.
+    // `sent 0 1`, two numbers of ten digits, 250 digits, and what is between them.
     assert_eq!(rt; text.len(), 10_000 * 282);
     assert!(rt; text.starts_with("sent 0 1 1000000000 1000272384 070707"));
     assert!(rt; text.ends_with("0707\n"));

@@ -1,4 +1,4 @@
--- Orders of nodes, worked out by hand from the rules, by clocks without drift.
+-- Orders of nodes, worked out manually from the rules, by clocks without drift.
 use Rattle.std.proofs.Common.{◌≡◌, ℕ, List, [], ◌∷◌, Some, None, refl}
 use Rattle.lwb_base.specs.Profile.{one}
 use Rattle.lwb_base.specs.declared.event.Event.TheVariants.{Boot, Alarm, Heard, Sent}
@@ -125,7 +125,7 @@ holds_nine : joined.core.tune ≡ Hold 0 9
 unfolding least_passing digits packed_number schedule_of asks_in schedule_heard
 holds_nine = refl
 
--- the whole round of frame 9 at this holder: it sends its packet in slot 1, and has no other
+-- the whole round of frame 9 at this synchronized member: it sends its packet in slot 1, and has no other
 abbrev round_calls : List Call
 round_calls =
     Step 2368000000 Alarm
@@ -188,11 +188,11 @@ holds_a_round : orders_of_each other joined round_calls ≡ round_orders
 unfolding least_passing digits packed_number schedule_of asks_in schedule_heard
 holds_a_round = refl
 
--- an own sending that ends without having been ordered fits no row
+-- an own transmission that ends without having been ordered fits no row
 sent_alone : orders_of_each other (rebooted 1) (Step 0 Boot ∷ Step 1 Sent ∷ []) ≡ (Listen 0 ∷ AlarmAt 204800000 ∷ []) ∷ [] ∷ []
 sent_alone = refl
 
--- a node that heard nothing of frame 5 but its closing relays it, and waits for the round that is 4 frames later
+-- a node that received nothing of frame 5 but its closing relays it, and waits for the round that is 4 frames later
 abbrev late_calls : List Call
 late_calls =
     Step 0 Boot

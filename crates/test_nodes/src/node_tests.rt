@@ -130,7 +130,7 @@ fn orders_of_a_booting_host(rt: HostRuntime) -> Result<(), Fail> {
     Ok(())
 }
 
-// The orders of a whole list of calls, of which one tells of a sending where there is none.
+// The orders of a whole list of calls, of which one tells of a transmission where there is none.
 #[test]
 fn calls_are_followed(rt: HostRuntime) -> Result<(), Fail> {
     let alloc = rt.alloc();

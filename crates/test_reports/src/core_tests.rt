@@ -100,7 +100,7 @@ impl Driven {
         Ok(())
     }
 
-    // Whether its ordered sending was to begin before this tick.
+    // Whether its ordered transmission was to begin before this tick.
     fn is_late_by(&self, t: u64) -> bool {
         match &self.ordered {
             Some((tick, _)) => *tick < t,
@@ -112,7 +112,7 @@ impl Driven {
         self.clock.due(local.min(FAR))
     }
 
-    // Tells it of the end of its sending and of its alarms, as far as they come before this tick.
+    // Tells it of the end of its transmission and of its alarms, as far as they come before this tick.
     fn come_to(&mut self, t: u64) -> Result<(), Fail> {
         for _ in 0..1000 {
             if let Some(end) = self.sends_until
@@ -133,7 +133,7 @@ impl Driven {
         Err("more alarms than a frame can have")?
     }
 
-    // Whether it has ordered this sending, and it begins to send.
+    // Whether it has ordered this transmission, and it begins to send.
     fn begins(&mut self, sent: &SentEntry) -> bool {
         let ordered = self.ordered.take();
         self.sends_until = Some(sent.end);
@@ -143,14 +143,14 @@ impl Driven {
         }
     }
 
-    // It hears what an entry of a log has, at the end of the hearing.
+    // It receives what an entry of a log has, at the end of the reception.
     fn hears(&mut self, heard: &HeardEntry) -> Result<(), Fail> {
         self.come_to(heard.end)?;
         let packet = Packet::new(heard.packet.bytes()).ok_or("length")?;
         self.tell(heard.end, Event::Heard(packet))
     }
 
-    // It has ordered the sending that an entry has, and begins to send.
+    // It has ordered the transmission that an entry has, and begins to send.
     fn sends(&mut self, sent: &SentEntry) -> Result<(), Fail> {
         self.come_to(sent.start.saturating_add(1))?;
         if !self.begins(sent) {
@@ -159,7 +159,7 @@ impl Driven {
         Ok(())
     }
 
-    // Follows an entry of a log if that is of this node, and says whether it is a sending.
+    // Follows an entry of a log if that is of this node, and says whether it is a transmission.
     fn follows(&mut self, entry: &Entry, node: u8) -> Result<bool, Fail> {
         match entry {
             Entry::Heard(heard) if heard.node.number() == node => {
@@ -174,7 +174,7 @@ impl Driven {
         }
     }
 
-    // Nothing stands that was to begin before this tick, and its radio goes off then.
+    // Nothing is that was to begin before this tick, and its radio goes off then.
     fn ends(&mut self, t: u64) -> Result<(), Fail> {
         self.come_to(t)?;
         if self.is_late_by(t) {
@@ -184,8 +184,8 @@ impl Driven {
     }
 }
 
-// Drives a node through what it hears in a log, up to a tick, at which its radio goes off. What it orders to be sent is
-// what the log has as sent, and nothing besides; the answer says whether that is anything.
+// Drives a node through what it receives in a log, up to a tick, at which its radio goes off. What it orders to be sent is
+// what the log has as sent, and nothing in addition; the answer says whether that is anything.
 fn drive(driven: &mut Driven, air: &Air, node: u8, end: u64) -> Result<bool, Fail> {
     let mut has_sent = false;
     for i in 0..air.len() {

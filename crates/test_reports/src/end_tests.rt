@@ -29,9 +29,9 @@ const BUS_REPORT: &str =
 const RUN_REPORT: &str = "deliver 9 0 1 1 2 1 0 0 aa\n\
     energy 1 450560 9681408 5 1238481408\nenergy 2 450560 9551872 6 1353800192\n";
 
-// How the answer begins to the first lines and so many bytes of the next one, and its status.
+// How the answer begins to the first lines and this many bytes of the next one, and its status.
 fn wanted(alloc: Global, whole: usize, next: &str, cut: usize) -> Result<(u8, String), AllocError> {
-    // Cut behind one digit, the line of the frames is a line still.
+    // Cut after one digit, the line of the frames is a line still.
     let is_line = cut == 0 || cut == next.len() || next == "frames 12" && cut == 8;
     let read = if cut == 0 {
         whole

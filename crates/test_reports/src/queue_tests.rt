@@ -39,7 +39,7 @@ impl Orders for Noting {
     }
 }
 
-// One in which nothing stands, with a place for each node.
+// One in which nothing is, with a place for each node.
 fn empty_queue(alloc: Global, s: &Scenario) -> Result<Noting, Memory>
     ensures { IfOk result (λ q. q.calendar ≡ replicate (length s.now.nodes) nothing_due) }
 {

@@ -50,7 +50,7 @@ fn closing_schedule_of_two_contention_slots(rt: HostRuntime) -> Result<(), Fail>
     Ok(())
 }
 
-// Where a node stands, and what it scans, holds or hosts.
+// Where a node is, and what it scans, holds or hosts.
 fn standing(node: Option<&Node>) -> Option<(Place, Tune)> {
     let node = node?;
     Some((node.place(), node.tune()))

@@ -150,7 +150,7 @@ fn hosts(s: &Scenario, x: &SentEntry, trails: &[Trail]) -> bool {
     })
 }
 
-// Whether the sender heard here that it may.
+// Whether the sender received here that it may.
 fn gives_word(s: &Scenario, h: &HeardEntry, x: &SentEntry) -> bool {
     let p = s.profile();
     if h.node != x.node || h.rank != x.rank {

@@ -52,7 +52,7 @@ pub const CASES: &[Case] = &[
         text: &[TWO, THIRD, "frames 12\nrate 3 0 -20\n", THREE_ON, OF_THIRD],
         lines: "stamp 9 0 1 3 0 0 2370176000\n",
     },
-    // node 3 loses the first transmission of the opening, and hears the relay of node 2
+    // node 3 loses the first transmission of the opening, and receives the relay of node 2
     Case {
         name: "an opening heard late",
         text: &[

@@ -53,7 +53,7 @@ pub const RETURNS: &[(&str, &[&str], &[&str])] = &[
     ),
     // Node 2 restarts in frame 37 with boot 2 and streams 1 and 3, the interval of the latter being that of frame 37. It comes
     // to the round of frame 40 and requests stream 1 in it, and stream 3 in the round of frame 44. Stream 1 has two slots in that
-    // of frame 44, 16 s over 8 s, and in that of frame 48 too; stream 3 has four slots in it, behind these.
+    // of frame 44, 16 s over 8 s, and in that of frame 48 too; stream 3 has four slots in it, after these.
     (
         "streams that are wished again",
         &[

@@ -76,7 +76,7 @@ fn the_last_boot_of_a_backup_host(rt: HostRuntime) -> Result<(), Fail> {
     Ok(())
 }
 
-// A text of nine script lines, and so many rates of node 1, which change nothing.
+// A text of nine script lines, and this many rates of node 1, which change nothing.
 fn rated(alloc: Global, rates: u32) -> Result<String, AllocError> {
     let mut text = joined(alloc, &[THREE, "frames 58\n"])?;
     for tick in 0..rates {
@@ -114,7 +114,7 @@ fn seventeen_failovers(alloc: Global) -> Result<String, AllocError> {
     Ok(text)
 }
 
-// In each of 16 times node 2 is idle in two frames, and hears node 1 in the second of them, the 28th after the first round of
+// In each of 16 times node 2 is idle in two frames, and receives node 1 in the second of them, the 28th after the first round of
 // node 1 before. In the last time it stays a host, from frame 479 on, and is idle in the 15 frames from 480 on without a round.
 #[test]
 fn sixteen_returns(rt: HostRuntime) -> Result<(), Fail> {

@@ -1,11 +1,11 @@
--- What holds behind a line that is allowed.
+-- What holds after a line that is allowed.
 use Rattle.std.proofs.Common.{◌≡◌, true, false, Bool, cond, Option, Some, None, Result, Ok, Err, IfOk, refl, subst}
 use Rattle.std.proofs.lemmas.Bool.{cond_both}
 use Rattle.text_readers.specs.Faults.{unless_fault, spelled, ◌>>=◌}
 use Rattle.text_readers.specs.declared.fault.FaultKind.{FaultKind}
 use Rattle.text_readers.specs.declared.fault.FaultKind.TheVariants.{BadNumber}
 
--- a test that makes no fault, and those behind it
+-- a test that makes no fault, and those after it
 pub passed : (b : Bool) (k : FaultKind) (others : Option FaultKind) → cond b others (Some k) ≡ None → (b ≡ true) × (others ≡ None)
 passed true k others is = (refl, is)
 passed false k others is = cc

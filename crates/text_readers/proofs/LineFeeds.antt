@@ -43,7 +43,7 @@ feed_ends front none more =
     ap lines (append_assoc front (10 ∷ []) more) ∙ at_feed front more none
     ∙ ap (λ (ls : List (List ℕ)). ls ++ lines more) (sym (at_feed front [] none))
 
--- the bytes are cut behind the first line feed
+-- the bytes are cut after the first line feed
 pub cut_at_feed : (bytes : List ℕ) (end : ℕ) → Some end ≡ position is_feed bytes
     → IsLineAndRest bytes (strip_carriage_return (take end bytes)) (drop (end + 1) bytes)
 cut_at_feed bytes end is =

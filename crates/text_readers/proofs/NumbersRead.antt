@@ -1,4 +1,4 @@
--- Numbers behind a first word, which are read one by one.
+-- Numbers after a first word, which are read one by one.
 use Rattle.std.proofs.Common.{◌≡◌, ℕ, ◌<◌, ◌≤◌, List, [], ◌∷◌, Bool, true, false, ◌&&◌, if◌then◌else◌}
 use Rattle.std.proofs.Common.{Result, Ok, Err, Bor, length, map, drop, get_or, refl, sym, arith}
 use Rattle.std.specs.List.{list_all}
@@ -14,7 +14,7 @@ read w = if is_number w then Ok (number w) else Err BadNumber
 abbrev pub bytes_of : List (Bor (List ℕ)) → List (List ℕ)
 bytes_of vs = map (λ w. w.now) vs
 
--- the words behind the first are numbers
+-- the words after the first are numbers
 abbrev pub are_numbers : List (Bor (List ℕ)) → Bool
 are_numbers vs = list_all is_number (drop 1 (bytes_of vs))
 

@@ -31,7 +31,7 @@ abbrev pub ◌>>=◌ : {A B E : Type 0} → Result A E → (A → Result B E) �
 (Ok x) >>= f = f x
 (Err e) >>= f = Err e
 
--- behind these lines, of which the first is line n, or the first fault: `after` says what is behind one line
+-- after these lines, of which the first is line n, or the first fault: `after` says what is after one line
 abbrev pub draft_after_lines : {D : Type 0} → (D → List ℕ → Result D FaultKind) → ℕ → D → List (List ℕ) → Result D (ℕ × FaultKind)
 draft_after_lines after n d [] = Ok d
 draft_after_lines after n d (line ∷ more) = do
@@ -44,7 +44,7 @@ IsAsDefined (Ok x) said = said ≡ Ok x
 IsAsDefined (Err Memory) said = Unit {0}
 IsAsDefined (Err (Line n k)) said = said ≡ Err (n, k)
 
--- what is refused is what this fault refuses, unless memory ran out
+-- what is rejected is what this fault rejects, unless memory ran out
 abbrev pub Refuses : {A : Type 0} → Result A Refusal → Option FaultKind → Type 0
 Refuses (Ok x) fault = fault ≡ None
 Refuses (Err (Fault k)) fault = fault ≡ Some k

@@ -10,7 +10,7 @@ use Rattle.std.specs.Str.Parse.{digits_value}
 abbrev pub is_blank : ℕ → Bool
 is_blank b = (b == 32) || (b == 9)
 
--- what stands between blanks
+-- what is between blanks
 abbrev pub words : List ℕ → List (List ℕ)
 words line = filter (λ w. nat_lt 0 (length w)) (slice_split is_blank line)
 
@@ -45,6 +45,6 @@ is_signed w = is_number (magnitude w) && not (has_minus w && (number (magnitude 
 abbrev pub number_at : List (List ℕ) → ℕ → ℕ
 number_at ws i = number (word ws i)
 
--- the line, if it has so many words
+-- the line, if it has this many words
 abbrev pub line_of_words : {L : Type 0} → ℕ → List (List ℕ) → L → Option L
 line_of_words n ws l = if length ws == n then Some l else None

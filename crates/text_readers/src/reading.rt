@@ -33,7 +33,7 @@ pub fn read_lines<D: Draft>(alloc: Global, draft: D, bytes: &[u8]) -> Result<(D,
     Ok((draft, count))
 }
 
-// Goes on by one line, unless it is refused.
+// Goes on by one line, unless it is rejected.
 #[tactic(auto, unfolding(crate::specs::Reading::draft_after_line))]
 fn read_line<D: Draft>(alloc: Global, draft: &mut D, line: &[u8]) -> Result<(), Refusal>
     ensures { Reads result draft.new (draft_after_line D.after draft.old line.now) }

@@ -1,4 +1,4 @@
--- Words behind a first one, each after a space.
+-- Words after a first one, each after a space.
 use Rattle.std.proofs.Common.{◌≡◌, ℕ, List, [], ◌∷◌, ◌++◌, map, flat_map, sym, ap, append-nil}
 use Rattle.std.specs.List.{join_with_byte}
 

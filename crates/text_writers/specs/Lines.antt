@@ -1,10 +1,10 @@
--- Lines of words: one space stands between words, and a line feed behind each line.
+-- Lines of words: one space is between words, and a line feed after each line.
 use Rattle.std.specs.Prelude.{◌≡◌, ℕ, ◌<◌, List, [], ◌∷◌, ◌++◌, Contains, OnOk, Result, String, map, length, get_or, decimal, flat_map, string_bytes}
 use Rattle.std.specs.List.{join_with_byte}
 use denote.Param.Members.{Shared}
 use denote.Ref.{Bor, MutBor}
 
--- a first word, and numbers behind it
+-- a first word, and numbers after it
 abbrev pub numbered : List ℕ → List ℕ → List (List ℕ)
 numbered letters numbers = letters ∷ map decimal numbers
 
@@ -17,7 +17,7 @@ abbrev pub render : List (List (List ℕ)) → List ℕ
 render lines = flat_map line_text lines
 
 module _ {F T E Z : Type 0} (g : Shared F (MutBor (String Z) × (Bor T × Unit {0})) (Result (Unit {0}) E × (MutBor (String Z) × Unit {0}))) (write : F) where
-  -- an Ok of it says that it wrote the line of the item behind the text
+  -- an Ok of it says that it wrote the line of the item after the text
   abbrev pub WritesEach : List T → (T → List ℕ) → Type 0
   WritesEach items line =
       (old : MutBor (String Z)) (item : Bor T) (result : Result (Unit {0}) E) (new : MutBor (String Z)) → Contains items item.now

@@ -80,7 +80,7 @@ pub fn tick_of_count(segments: &[Segment], wanted: u128) -> u64
     last.start + ticks_for(wanted - last.count, last.pace())
 }
 
-// The least number of ticks in which a clock of this pace counts so many millionths. Most counts have 64 bits, whose
+// The least number of ticks in which a clock of this pace counts this many millionths. Most counts have 64 bits, whose
 // division takes a fraction of the time of that of 128 bits.
 fn ticks_for(count: u128, pace: u64) -> u64
     requires pace { 999980 ≤ pace }
@@ -110,7 +110,7 @@ fn last_below(segments: &[Segment], wanted: u128) -> Segment
     segment_before(segments, segments.partition_point(|s| s.count < wanted))
 }
 
-// The last of the first so many segments, or the stretch before the first.
+// The last of the first this many segments, or the stretch before the first.
 fn segment_before(segments: &[Segment], count: usize) -> Segment
     requires { count ≤ length segments.now }
     ensures { result ≡ last_segment first_segment segments.now count }

@@ -82,7 +82,7 @@ impl DriftClock for SegmentClock {
     }
 }
 
-// So many millionths in whole ticks. In the first three days all counts have 64 bits, whose division takes a fraction of
+// This many millionths in whole ticks. In the first three days all counts have 64 bits, whose division takes a fraction of
 // the time of that of 128 bits.
 fn whole_ticks(count: u128) -> u64
     requires { count < 1000000 * 2 ^ 64 }

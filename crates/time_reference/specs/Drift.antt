@@ -1,4 +1,4 @@
--- The drift of a clock over so many ticks, apart from the rounding of its readings.
+-- The drift of a clock over this many ticks, apart from the rounding of its readings.
 use Rattle.std.specs.Prelude.{ℕ, ◌/◌}
 
 abbrev pub drift : ℕ → ℕ

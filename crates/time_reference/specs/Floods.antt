@@ -9,7 +9,7 @@ pub record Overlap (x x' y y' : ℕ) : Type 0 where
   pub above : y < x'
 
 -- a packet of n bytes that is initiated at a tick is relayed k times, each relay starting a turnaround after the end of
--- the sending before it, but for a tick, and is sent again from tick s on
+-- the transmission before it, but for a tick, and is sent again from tick s on
 abbrev pub Relayed : Numbers → ℕ → ℕ → ℕ → ℕ → Type 0
 Relayed p n origin zero s = s ≡ origin
 Relayed p n origin (suc k) s = (before : ℕ) × Relayed p n origin k before × Near s (before + airtime p n + p.turn) 1

@@ -1,4 +1,4 @@
--- What is on the air of a run at first, and when time passes and nothing happens.
+-- What is in the log of a run at first, and when time passes and nothing happens.
 use Rattle.std.proofs.Common.{length, ◌≡◌, ℕ, suc, ◌<◌, ◌≤◌, ◌↔◌, inl, inr, List, [], Some, None, Option, option_map, refl, sym, ◌∙◌, ap, subst, arith}
 use Rattle.std.proofs.Common.{Contains, IfSome}
 use Rattle.std.proofs.lemmas.Bool.{cases_lt}
@@ -89,7 +89,7 @@ began_by : (t k : ℕ) (l : Option Listening) → t ≤ k → IfSome l (λ l. l.
 began_by t k None order is = tt
 began_by t k (Some l) order is = omega (arith, is)
 
--- the same sendings that are over are heard
+-- the same transmissions that are over are received
 pub heard_alike : (s : ScenarioParts) (t : ℕ) (w : FieldState) (due : List Due) (a b c : Scene) → HoldsScene s t w due a → Agree t b c
     → (v : ℕ) (x : Sending) → Contains (sendings_of w.air) x → x.end ≤ t → HearsInScene b v x ↔ HearsInScene c v x
 heard_alike s t w due a b c h agree v x there over = settled b c v x (h.begun x there).0 (agree_earlier x.end t b c over agree)

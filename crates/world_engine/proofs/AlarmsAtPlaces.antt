@@ -26,7 +26,7 @@ use Rattle.world_engine.proofs.TickPoints.{alarm_run}
 use Rattle.world_engine.proofs.ShownDevices.{node_there, same_power, same_alarm}
 use Rattle.world_engine.proofs.TrailsGoOn.{OnTrails, AreClocks, IsClockAt}
 
--- alarms hang on the power and the alarm alone
+-- alarms depends on the power and the alarm alone
 abbrev AreAlike : Device → Device → Type 0
 AreAlike d e = (d.power ≡ e.power) × (d.alarm ≡ e.alarm)
 

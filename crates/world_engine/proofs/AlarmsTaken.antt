@@ -14,7 +14,7 @@ use Rattle.world_engine.specs.Fields.{FieldState, FieldShows, FieldIsShown}
 use Rattle.world_engine.specs.FieldSteps.{Acts}
 use Rattle.world_engine.proofs.ActsInTurn.{acts_nothing, acts_then, acts_as}
 
--- so many have been taken, and each was due
+-- this many have been taken, and each was due
 pub record AreTaken (clock : ℕ → ℕ) (t p k : ℕ) (old : FieldState) (old_due : List Due) (new : FieldState) (new_due : List Due) : Type 0 where
   pub acts : Acts t p (λ s d. after_alarms clock s t k d) [] [] old old_due new new_due
   pub due : (s : Setup) (d : Device) → FieldShows s t old old_due p d → (j : ℕ) → j < k → alarm_is_due t (after_alarms clock s t j d).alarm ≡ true

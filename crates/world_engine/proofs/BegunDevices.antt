@@ -1,4 +1,4 @@
--- What the start of an ordered sending leads to at a device.
+-- What the start of an ordered transmission leads to at a device.
 use Rattle.std.proofs.Common.{◌≡◌, ℕ, ◌+◌, List, [], ◌∷◌, ◌++◌, Option, Some, None, inl, inr, refl, sym, ◌∙◌, ap, subst, arith, length, length-append, eq-eqb}
 use Rattle.std.proofs.Common.{◌==◌}
 use Rattle.std.specs.Prelude.{◌⊎◌}
@@ -82,7 +82,7 @@ module _ (s : Setup) (t : ℕ) where
         },
       )
 
--- the order that stands at the tick
+-- the order that is at the tick
 pub ordered_then : (o : Option OrderedPacket) (t : ℕ) → option_map tick_of_ordered o ≡ Some t → (q : OrderedPacket) × (o ≡ Some q) × (q.tick ≡ t)
 ordered_then None t is = cc
 ordered_then (Some q) t is = (q, refl, let same : q.tick ≡ t = cc in same)

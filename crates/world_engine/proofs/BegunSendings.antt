@@ -1,4 +1,4 @@
--- A field after the ordered sending of a device has started.
+-- A field after the ordered transmission of a device has started.
 use Rattle.std.proofs.Common.{◌≡◌, ◌≢◌, ℕ, ◌+◌, ◌≤◌, List, [], ◌∷◌, ◌++◌, set, length, Option, Some, None, if◌then◌else◌, is_none, option_to_list, reverse}
 use Rattle.std.proofs.Common.{refl, sym, ◌∙◌, ap, subst, arith, Contains, inl}
 use Rattle.std.specs.Prelude.{slice_get}

@@ -48,7 +48,7 @@ module _ (s : ScenarioParts) (clocks : ℕ → ℕ → ℕ) where
   pub stay_until : (t v : ℕ) (a b : List Entry) → t ≤ v → TrailsStay s clocks v a b → TrailsStay s clocks t a b
   stay_until t v a b before stay p n at u less = stay p n at u (omega (arith, before, less))
 
-  -- a step in which nobody hears anything
+  -- a step in which nobody receives anything
   pub acts_stay : (t k : ℕ) (change : Setup → Device → Device) (starting : List Sending) (lost : List DropLine) (old : FieldState) (old_due : List Due)
       (new : FieldState) (new_due : List Due) → Acts t k change starting lost old old_due new new_due
       → TrailsStay s clocks t old.air new.air
@@ -107,7 +107,7 @@ filter_within {X} p q (x ∷ xs) so = by (filter_within p q xs so) (p x) (q x) r
         ∙ sym (cond-false (p x) (x ∷ filter p xs) (filter p xs) is_p)
 
 module _ (s : ScenarioParts) (clocks : ℕ → ℕ → ℕ) where
-  -- what is heard later changes none of the frames so far
+  -- what is received later changes none of the frames so far
   pub scans_stay : (t f : ℕ) (old new : List Entry) → ((g : ℕ) → g < f → frame_start s g ≤ t) → TrailsStay s clocks t old new
       → all_scans_before s clocks old f ≡ all_scans_before s clocks new f
   scans_stay t f old new before stay = same_maps (scans_before s clocks old f) (scans_before s clocks new f) s.nodes one
@@ -143,7 +143,7 @@ module _ (s : ScenarioParts) (clocks : ℕ → ℕ → ℕ) where
         by (inr (inl less)) = absurd (omega (arith, same, starts_apart s sound g f less))
         by (inr (inr more)) = absurd (omega (arith, same, starts_apart s sound f g more))
 
-    -- the lines of a frame are among those that have been told when it is over
+    -- the lines of a frame are among those that have been given when it is over
     own_lines : (v : ℕ) → filter (λ (l : ScriptLine). (l.node == v) && (frame_start s l.frame == frame_start s f))
         (told_before s (f + 1)) ≡ lines_at s v (frame_start s f)
     own_lines v = filter_within (λ (l : ScriptLine). (l.node == v) && (frame_start s l.frame == frame_start s f))

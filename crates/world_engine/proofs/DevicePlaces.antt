@@ -1,4 +1,4 @@
--- The places of devices: what stands at them after a change at one, and that their ids differ.
+-- The places of devices: what is at them after a change at one, and that their ids differ.
 use Rattle.std.proofs.Common.{◌≡◌, ◌≢◌, ℕ, zero, suc, ◌<◌, List, [], ◌∷◌, set, length, Some, refl, arith, inl, inr}
 use Rattle.std.specs.Prelude.{AllPairs}
 use Rattle.std.specs.List.{slice_get}

@@ -93,7 +93,7 @@ module _ (t v : ℕ) (rank : Option ℕ) (old new : MediumState) (is : new ≡ m
     sending = sends_still rank t st ∙ sending;
   }
 
--- what is set at a device, and its sending
+-- what is set at a device, and its transmission
 pub record IsSetAs (d e : Device) : Type 0 where
   pub sending : d.sending ≡ e.sending
   pub alarm : d.alarm ≡ e.alarm

@@ -14,7 +14,7 @@ somewhere (d ∷ ds) v (k, below, at) none =
     let within : k < length (d ∷ ds) = omega (arith, length-map (d ∷ ds) id_of) in
     none k d within (sym (get_or-map id_of (d ∷ ds) k d v within) ∙ at)
 
--- no node stands at two places
+-- no node is at two places
 pub one_place : (w : FieldState) → IsField w → (p q : ℕ) (d e : DeviceState) → slice_get w.devices p ≡ Some d → slice_get w.devices q ≡ Some e
     → d.setup.id ≡ e.setup.id → p ≡ q
 one_place w is p q d e at_p at_q same =

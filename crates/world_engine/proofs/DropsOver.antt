@@ -1,4 +1,4 @@
--- The end of a run: the drops of its lines, read off a log, hang on what is heard in it alone.
+-- The end of a run: the drops of its lines, read off a log, depends on what is received in it alone.
 use Rattle.std.proofs.Common.{◌≡◌, ℕ, List, [], ◌∷◌, ◌++◌, refl, sym, ◌∙◌, ap, option_to_list, fold}
 use Rattle.scenario_text.specs.ScenarioParts.{ScenarioParts}
 use Rattle.scenario_text.specs.declared.script.ScriptLine.{ScriptLine}
@@ -16,7 +16,7 @@ use Rattle.world_engine.specs.Running.{IsRunning}
 use Rattle.world_engine.proofs.TrailsOver.{same_heard}
 
 module _ (s : ScenarioParts) (clocks : ℕ → ℕ → ℕ) (a b : List Entry) (same : (v : ℕ) → heard_by a v ≡ heard_by b v) where
-  -- what a line loses, by what its node has heard
+  -- what a line loses, by what its node has received
   abbrev lost_by : List ScriptLine → ScriptLine → List Reception → List DropLine
   lost_by above l hs =
       option_to_list (drop_by l l.act

@@ -76,7 +76,7 @@ module _ {C : Type 0} (R : C → ℕ → ℕ) (law : (c : C) → IsClock (R c)) 
     few : p < 64
     few = let long = as_many_devices s old old_due run.places in omega (arith, inside, long, sound.few_nodes)
 
-    -- the end of a sending
+    -- the end of a transmission
     module _ (is_end : class ≡ SendingEnd) where
       run_end_of : IsRunning s clocks told t (At SendingEnd) old old_due
       run_end_of = subst (λ (k : Class). IsRunning s clocks told t (At k) old old_due) is_end run

@@ -1,4 +1,4 @@
--- A field in which the sending of a device is over, but nobody is told yet.
+-- A field in which the transmission of a device is over, but nobody is notified yet.
 use Rattle.std.proofs.Common.{◌≡◌, ◌≢◌, ℕ, ◌<◌, ◌≤◌, [], set, length, Option, Some, None, List, refl, sym, ◌∙◌, ap, arith, inl}
 use Rattle.std.specs.Prelude.{slice_get}
 use Rattle.std.proofs.lemmas.List.{append-nil, length-set}
@@ -27,7 +27,7 @@ use Rattle.world_engine.proofs.DevicesOfNodes.{one_place}
 use Rattle.world_engine.proofs.ShownPlaces.{there_now, still_field, still_shown, shown_as}
 use Rattle.world_engine.proofs.ObeyedOrders.{due_changed}
 
--- the sending x of the device st at place p ends at t
+-- the transmission x of the device st at place p ends at t
 pub record IsEnding (t p : ℕ) (w : FieldState) (due : List Due) (st : DeviceState) (x : Sending) : Type 0 where
   pub field : IsField w
   pub here : slice_get w.devices p ≡ Some st
@@ -63,7 +63,7 @@ module _ (t p : ℕ) (w : FieldState) (due : List Due) (st : DeviceState) (x : S
       let at = ending.shown p (slice_get_within w.devices p st ending.here) in
       (shown_as at.setup t w due p at.device st ending.here at.shows).known
 
-  -- whatever trail it is of, it sends x
+  -- whatever trace it is of, it sends x
   pub sends_only : (y : Sending) → DeviceSends t w due p y → y ≡ x
   sends_only y sends =
       let at = ending.shown p (slice_get_within w.devices p st ending.here) in

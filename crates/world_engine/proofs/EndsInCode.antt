@@ -1,4 +1,4 @@
--- The end of a sending, as code comes to it: from indices into the devices, and from what each call leaves.
+-- The end of a transmission, as code comes to it: from indices into the devices, and from what each call leaves.
 use Rattle.std.proofs.Common.{◌≡◌, ℕ, ◌<◌, ◌↔◌, List, set, get_or, length, Option, Some, None, is_some, if◌then◌else◌, refl, sym, ◌∙◌, ap, subst}
 use Rattle.std.proofs.Common.{arith, Contains, ◌==◌, eq-eqb}
 use Rattle.std.specs.Prelude.{All, AllPairs, slice_get}
@@ -20,14 +20,14 @@ use Rattle.world_engine.proofs.ShownPlaces.{shown_as}
 use Rattle.world_engine.proofs.EndedSendings.{IsEnding, over, over_is_field, one_sending, sends_only, set_there}
 use Rattle.world_engine.proofs.EndsOfSendings.{HasEnded}
 
--- one device stands at a place
+-- one device is at a place
 one_there : (ds : List DeviceState) (p : ℕ) (a b : DeviceState) → slice_get ds p ≡ Some a → slice_get ds p ≡ Some b → a ≡ b
 one_there ds p a b at_a at_b = of_some (sym at_a ∙ at_b)
   where
     of_some : (let o : Option DeviceState = Some a in o ≡ Some b) → a ≡ b
     of_some is = cc
 
--- the device says that its sending ends
+-- the device says that its transmission ends
 says_end : (t : ℕ) (sending r : Option Sending) (x : Sending) → sending ≡ Some x → x.end ≡ t → r ≡ ending_at t sending → r ≡ Some x
 says_end t sending r x runs until is = is ∙ ap (ending_at t) runs ∙ cond-true (x.end == t) (Some x) None (eq-eqb x.end t until)
 
@@ -49,7 +49,7 @@ as_over t i p u w m st new place node medium device =
     ∙ ap (λ (l : List DeviceState). changed_field w (medium_after_change t st.setup.id station_after_end w.medium) l)
     (ap (λ (k : ℕ). set w.devices k new) place ∙ ap (set w.devices p) device)
 
--- the same of the field that is given, and of any sending that it is asked of
+-- the same of the field that is given, and of any transmission that it is asked of
 pub as_asked : {lines : Lines} {clocks : ℕ → ℕ → ℕ} {t p : ℕ} {x y : Sending} {hearers : List ℕ} {w given new : FieldState} {due new_due : List Due}
     → w ≡ given → x ≡ y → EndsSending lines clocks t p x hearers w due new new_due → EndsSending lines clocks t p y hearers given due new new_due
 as_asked {lines} {clocks} {t} {p} {x} {y} {hearers} {w} {given} {new} {due} {new_due} seen is ends =
@@ -87,7 +87,7 @@ module _ {t p : ℕ} {w given : FieldState} {due : List Due} (seen : w ≡ given
         },
       )
 
-  -- the medium is told of the device's node
+  -- the medium is notified of the device's node
   pub node_ends : {i u : ℕ} {st : DeviceState} → i ≡ p → st ≡ get_or w.devices i st → u ≡ st.setup.id → Ends w.medium u t
   node_ends {i} {u} {st} place is node = subst (λ (v : ℕ). Ends w.medium v t) (sym node) (is_ending i st place is).1.ends
 
@@ -95,7 +95,7 @@ module _ {t p : ℕ} {w given : FieldState} {due : List Due} (seen : w ≡ given
   pub place_due : {i : ℕ} {st : DeviceState} → i ≡ p → st ≡ get_or w.devices i st → p < length due
   place_due {i} {st} place is = let e = is_ending i st place is in set_there t p w due st e.0 e.1
 
-  -- some sending ends at the device
+  -- some transmission ends at the device
   pub some_ends : {i : ℕ} {st : DeviceState} {r : Option Sending} → i ≡ p → st ≡ get_or w.devices i st → r ≡ ending_at t st.sending
       → (x : Sending) × (r ≡ Some x)
   some_ends {i} {st} {r} place is ended = let e = is_ending i st place is in (e.0, says_end t st.sending r e.0 e.1.runs e.1.until ended)
@@ -122,7 +122,7 @@ module _ {t p : ℕ} {w given : FieldState} {due : List Due} (seen : w ≡ given
     pub ended_field : IsField (changed_field w m (set w.devices j new))
     ended_field = subst IsField (sym is_over) (over_is_field t p w due st x ending)
 
-    -- whatever trail the device is of, it sends x
+    -- whatever trace the device is of, it sends x
     pub sends_that : (y : Sending) → DeviceSends t given due p y → x ≡ y
     sends_that y sends = sym (sends_only t p w due st x ending y (subst (λ (v : FieldState). DeviceSends t v due p y) (sym seen) sends))
 

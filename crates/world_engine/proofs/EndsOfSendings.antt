@@ -1,4 +1,4 @@
--- The end of a sending: it is over, those who hear it are told, and then its sender.
+-- The end of a transmission: it is over, those who receive it are given, and then its sender.
 use Rattle.std.proofs.Common.{◌≡◌, ℕ, zero, suc, ◌<◌, ◌↔◌, List, [], ◌∷◌, ◌++◌, map, length, get_or, Some, None, refl, sym, ◌∙◌, ap, subst, arith, Contains}
 use Rattle.std.proofs.Common.{inl, inr}
 use Rattle.std.specs.Prelude.{All, AllPairs}
@@ -32,7 +32,7 @@ use Rattle.world_engine.proofs.EndedSendings.{IsEnding, over, sending_is_over}
 abbrev first : ℕ × ℕ → ℕ
 first r = r.0
 
--- what the medium says: these pairs of a hearer and the sender are all who hear x
+-- what the medium says: these pairs of a hearer and the sender are all who receive x
 pub record AreHearers (lines : Lines) (t u : ℕ) (x : Sending) (m : MediumState) (ps : List (ℕ × ℕ)) : Type 0 where
   pub sender : All (λ r. r.1 ≡ u) ps
   pub ascending : AllPairs (λ r s. r.0 < s.0) ps
@@ -60,7 +60,7 @@ module _ (lines : Lines) (t u : ℕ) (x : Sending) (m : MediumState) (ps : List 
   known_node : (a : Scene) → Holds m a → a.lines ≡ lines → (v : ℕ) → Contains (map first ps) v → Contains (nodes_of m) v
   known_node a held same v there = ((are.hear a held same v).0 (as_pair v there)).0
 
--- in the field mid the sending x is over, and these hear it: nobody is told yet
+-- in the field mid the transmission x is over, and these receive it: nobody is notified yet
 pub record HasEnded (lines : Lines) (t p u : ℕ) (w : FieldState) (due : List Due) (st : DeviceState) (x : Sending) (ps : List (ℕ × ℕ))
     (mid : FieldState) (mid_due : List Due) : Type 0 where
   pub ending : IsEnding t p w due st x

@@ -29,7 +29,7 @@ with_entry e w = record w { air = w.air ++ entries_of e }
 abbrev IsOwn : ℕ → Option TunedEntry → Type 0
 IsOwn v e = IfSome e (λ x. x.node ≡ v)
 
--- no node stands at two places
+-- no node is at two places
 ids_differ : (w : FieldState) → IsField w → (p q : ℕ) (d e : DeviceState) → q ≢ p → slice_get w.devices p ≡ Some d → slice_get w.devices q ≡ Some e
     → e.setup.id ≢ d.setup.id
 ids_differ w is p q d e other at_p at_q =

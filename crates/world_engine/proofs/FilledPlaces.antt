@@ -4,7 +4,7 @@ use Rattle.std.specs.declared.option.Option.{Option}
 use Rattle.lwb_base.specs.declared.order.Order.{Order}
 use Rattle.world_engine.specs.EventOrders.{room_in, IsFilled}
 
--- the first so many are filled, and the others are empty
+-- the first this many are filled, and the others are empty
 pub record First (n : ℕ) (a b c d : Option Order) : Type 0 where
   pub none : n ≡ 0 → (a ≡ None) × (b ≡ None) × (c ≡ None) × (d ≡ None)
   pub one : n ≡ 1 → (is_some a ≡ true) × (b ≡ None) × (c ≡ None) × (d ≡ None)

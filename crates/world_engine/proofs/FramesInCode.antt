@@ -20,7 +20,7 @@ use Rattle.world_engine.proofs.NextMoments.{starts_up}
 use Rattle.world_engine.proofs.PlacedNodes.{as_many_devices}
 use Rattle.world_engine.proofs.ScriptCuts.{told_at_cut, first_cut}
 
--- the run is at the beginning of frame f, line k of the script is the first that is not yet told, and it is counted in how many
+-- the run is at the beginning of frame f, line k of the script is the first that is not yet given, and it is counted in how many
 -- frames each node scans
 pub record IsAtFrame (s : ScenarioParts) (clocks : ℕ → ℕ → ℕ) (k f : ℕ) (scanned : List ℕ) (w : FieldState) (due : List Due) : Type 0 where
   pub cut : CountsScriptLinesBefore s k f
@@ -36,7 +36,7 @@ first_frame s clocks w due places scanned many are run = record {
   scanned_are = are ∙ ap (λ (n : ℕ). replicate n 0) many ∙ none_scanned s clocks w.air;
 }
 
--- before the end of the last frame all lines are told
+-- before the end of the last frame all lines are given
 told_all : (s : ScenarioParts) (f : ℕ) (ls : List ScriptLine) → ((l : ScriptLine) → Contains ls l → l.frame < f) → filter (λ l. nat_lt l.frame f) ls ≡ ls
 told_all s f [] early = refl
 told_all s f (l ∷ ls) early =

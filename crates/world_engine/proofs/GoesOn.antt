@@ -17,7 +17,7 @@ use Rattle.world_engine.specs.FieldSteps.{MediumGoesOn, AreSame}
 abbrev pub id_in : Setup → ℕ
 id_in s = s.id
 
--- where nothing is told to the medium
+-- where nothing is given to the medium
 pub goes_on_nothing : (t : ℕ) (m : MediumState) → IsTime m t → MediumGoesOn t m m []
 goes_on_nothing t m time = record {
   scene = λ a held. (a, record { held = held; lines = refl; sendings = sym (append-nil a.sendings); before = agree_same t (as_it_stands m t a) });

@@ -1,4 +1,4 @@
--- Who has heard what, when a sending ends: each hearer this sending, behind all that it heard, and no other node.
+-- Who has received what, when a transmission ends: each hearer this transmission, after all that it received, and no other node.
 use Rattle.std.proofs.Common.{◌≡◌, ◌≢◌, ℕ, ◌<◌, ◌≤◌, List, [], ◌∷◌, ◌++◌, map, filter, length, get_or, Bool, true, false, ◌==◌, ◌&&◌, Some, None, Option}
 use Rattle.std.proofs.Common.{option_map, Contains, ◌⊎◌, inl, inr, refl, sym, ◌∙◌, ap, subst, arith, eqb-true, ltb-true, append-nil}
 use Rattle.std.specs.Prelude.{slice_get, slice_index_or}
@@ -64,7 +64,7 @@ node_within s w due places q within = by ((slice_get_cases s.nodes q).1)
     by (inl is) = (is.0, is.2)
     by (inr past) = absurd (omega (arith, past.0, within, long))
 
--- the sending that runs at a device stands in the log
+-- the transmission that runs at a device is in the log
 own_sent : (s : ScenarioParts) (v : ℕ) (clock : ℕ → ℕ) (hs : List Reception) (t : ℕ) (d : Device) → IsAtMoment s clock hs v t (At SendingEnd) d → SendsOwn d
 own_sent s v clock hs t d (inl at) = subst SendsOwn (sym at) (own_heard s v clock hs t)
 own_sent s v clock hs t d (inr at) =
@@ -78,7 +78,7 @@ own_here None xs x is own = absurd (none_some is)
     none_some eq = cc
 own_here (Some y) xs x is own = subst (Contains xs) (same_Some y x is) own
 
--- x does not come before itself, whoever hears it
+-- x does not come before itself, whoever receives it
 same_turn : (g h : Hearing) → g.sending ≡ h.sending → reception_comes_before h g ≡ false
 same_turn g h same =
     or_from _ _
@@ -138,7 +138,7 @@ module _ (s : ScenarioParts) (clocks : ℕ → ℕ → ℕ) (sound : IsSoundScen
       let trail = trails q n there in
       (ends.heard a holds.held (holds.lines ∙ sym by_trace) q (setup_of s n.node) trail.device trail.shows).0 is
 
-  -- who hears x has sent nothing that ends with it
+  -- who receives x has sent nothing that ends with it
   pub none_with : (q : ℕ) (n : NodeLine) → slice_get s.nodes q ≡ Some n → Contains hearers q → (y : Sending) → Contains (sent_by old.air n.node) y
       → y.end ≡ x.end → ⊥
   none_with q n there is y sent tied =

@@ -1,4 +1,4 @@
--- The places of those who hear.
+-- The places of those who receive.
 use Rattle.std.proofs.Common.{◌≡◌, ℕ, zero, suc, ◌<◌, List, [], ◌∷◌, ◌++◌, map, take, length, get_or, Some, refl, sym, ◌∙◌, ap, subst, arith, Contains, inl}
 use Rattle.std.proofs.Common.{inr}
 use Rattle.std.specs.Prelude.{AllPairs, slice_get}
@@ -15,7 +15,7 @@ id_at ids q = get_or ids q 0
 pub no_places : (ids : List ℕ) → StandAtPlaces ids [] []
 no_places ids = record { within = All-nil (λ (q : ℕ). q < length ids); stand = refl }
 
--- the next node stands at its place
+-- the next node is at its place
 pub places_more : (ids nodes places : List ℕ) (p v : ℕ) → StandAtPlaces ids nodes places → slice_get ids p ≡ Some v
     → StandAtPlaces ids (nodes ++ v ∷ []) (places ++ p ∷ [])
 places_more ids nodes places p v are there = record {
@@ -55,7 +55,7 @@ module _ (ids nodes places : List ℕ) (are : StandAtPlaces ids nodes places) wh
             ]
           ]
 
--- ids that ascend stand at one place each
+-- ids that ascend are at one place each
 pub one_id : (ids : List ℕ) → AllPairs (λ a b. a < b) ids → (p q : ℕ) → p < length ids → q < length ids → id_at ids p ≡ id_at ids q → p ≡ q
 one_id ids ascend p q in_p in_q same =
     elim (cases_lt p q) [

@@ -1,4 +1,4 @@
--- Devices are told one after another that they heard a sending.
+-- Devices are notified one after another that they received a transmission.
 use Rattle.std.proofs.Common.{◌≡◌, ◌≢◌, ℕ, List, [], ◌∷◌, ◌++◌, map, get_or, Some, None, refl, sym, ◌∙◌, ap, subst, Contains, inl, inr}
 use Rattle.std.specs.Prelude.{slice_get}
 use Rattle.std.proofs.lemmas.List.{append-nil, append_assoc, map-append, get_or-map}
@@ -50,7 +50,7 @@ is_shown_when_logged t q u x w due shown = record {
   shows = shown_when_logged t q u x w due shown.setup shown.device shown.shows;
 }
 
--- the device at a place hears x
+-- the device at a place receives x
 pub heard_there : (clock : ℕ → ℕ) (p u : ℕ) (x : Sending) (w : FieldState) (due : List Due) (st : DeviceState) (new : FieldState) (new_due : List Due)
     → slice_get w.devices p ≡ Some st → u ≡ st.setup.id → Acts x.end p (λ s d. event clock s x.end (Heard x.packet) None d) [] [] (logged u x w) due new new_due
     → AllHear (λ q. clock) x.end x (p ∷ []) w due new new_due
@@ -79,7 +79,7 @@ heard_there clock p u x w due st new new_due at id acts = record {
     heard : ℕ → Hearing
     heard v = record { node = v; sending = x }
 
--- nobody hears it
+-- nobody receives it
 pub none_hear : (clocks : ℕ → ℕ → ℕ) (t : ℕ) (x : Sending) (w : FieldState) (due : List Due) → IsTime w.medium t → AllHear clocks t x [] w due w due
 none_hear clocks t x w due time = record {
   hearer = λ q there s d shows. absurd (not_in_none q there);
@@ -91,7 +91,7 @@ none_hear clocks t x w due time = record {
   same = same_nothing w due;
 }
 
--- one more hears it
+-- one more receives it
 module _ (clocks : ℕ → ℕ → ℕ) (clock : ℕ → ℕ) (t : ℕ) (x : Sending) (ps : List ℕ) (p : ℕ) (u v w : FieldState) (a b c : List Due)
     (first : AllHear clocks t x ps u a v b) (then : AllHear (λ q. clock) t x (p ∷ []) v b w c) (new : Contains ps p → ⊥) (reads : clock ≡ clocks p) where
   other : (q : ℕ) → q ≢ p → Contains (p ∷ []) q → ⊥

@@ -1,4 +1,4 @@
--- The next of those who hear, in turn.
+-- The next of those who receive, in turn.
 use Rattle.std.proofs.Common.{◌≡◌, ℕ, ◌+◌, ◌<◌, List, [], ◌∷◌, ◌++◌, map, take, length, get_or, Some, Option, refl, sym, ◌∙◌, ap, subst, arith, Contains}
 use Rattle.std.specs.Prelude.{All, AllPairs, slice_get, IsSome}
 use Rattle.std.proofs.lemmas.List.{map_more, length-map}
@@ -12,7 +12,7 @@ use Rattle.world_engine.proofs.GoesOn.{same_ids}
 use Rattle.world_engine.proofs.HearersAtPlaces.{places_more, node_there, id_at, new_node}
 use Rattle.world_engine.proofs.HearersTold.{one_more_hears, still_shown_to}
 
--- those before this one have heard
+-- those before this one have received
 abbrev pub HeardBy : (ℕ → ℕ → ℕ) → Sending → List ℕ → FieldState → List Due → FieldState → List Due → Type 0
 HeardBy clocks x nodes old old_due new new_due =
     (places : List ℕ) × StandAtPlaces (ids_of old) nodes places × AllHear clocks x.end x places old old_due new new_due

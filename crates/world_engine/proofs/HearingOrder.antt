@@ -1,4 +1,4 @@
--- The order of hearings, by the ends and the senders of what is heard, and the order of ids.
+-- The order of receptions, by the ends and the senders of what is received, and the order of ids.
 use Rattle.std.proofs.Common.{◌≡◌, ℕ, ◌<◌, ◌⊎◌, inl, inr, List, true, false, nat_lt, ◌==◌, slice_get, Some, arith, AllPairs, lt-ltb}
 use Rattle.std.proofs.Common.{ltb-true, eqb-true, eq-eqb}
 use Rattle.std.proofs.lemmas.Bool.{cases_order, or_left, or_right, or_cases, and_parts, and_from, false_from_ne_true}

@@ -1,4 +1,4 @@
--- At the end of a run its log follows the rule of hearing.
+-- At the end of a run its log follows the rule of reception.
 use Rattle.std.proofs.Common.{◌≡◌, ◌≢◌, ℕ, ◌<◌, ◌↔◌, inl, inr, List, ◌==◌, reverse, None, refl, sym, ◌∙◌, subst, arith, Contains, AllPairs, eq-eqb}
 use Rattle.std.proofs.Common.{eqb-true}
 use Rattle.std.proofs.lemmas.Option.{same_Some}
@@ -113,7 +113,7 @@ module _ (s : ScenarioParts) (w : FieldState) (due : List Due) (end : FieldState
     tuned = λ v c k early. (lit_moves stands between v c k refl, lit_moves between stands v c k refl);
   }
 
-  -- who hears a sending that ended by the end of the run
+  -- who receives a transmission that ended by the end of the run
   module _ (v : ℕ) (there : Contains (ids_of w) v) (x : Sending) (sent : Contains (sendings_of w.air) x) (over : x.end < run_end s) where
     lasts : x.start < x.end
     lasts = (h.begun x sent).0

@@ -1,4 +1,4 @@
--- What is on the air of a run after a step at one device.
+-- What is in the log of a run after a step at one device.
 use Rattle.std.proofs.Common.{◌≡◌, ◌≢◌, ℕ, suc, ◌<◌, ◌≤◌, ◌↔◌, ◌⊎◌, inl, inr, List, [], ◌∷◌, ◌++◌, length, true, Some, refl, sym, ◌∙◌, ap, subst, arith}
 use Rattle.std.proofs.Common.{Contains, AllPairs, lt-ltb}
 use Rattle.std.proofs.lemmas.Bool.{cases_eq, or_left}
@@ -85,7 +85,7 @@ module _ (s : ScenarioParts) (over t : ℕ) (begun : List Sending) (old : FieldS
         ((has.heard v x).1 (was.0, was.1, subst (λ (l : List ℕ). Contains l v) ids all.2, (alike_by v x was.0 was.1).1 all.3)),
   )
 
-  -- a sending that begins ends after what was heard
+  -- a transmission that begins ends after what was received
   fresh_later : (g : Hearing) (y : Sending) → Contains (hearings_of old.air) g → Contains begun y
       → reception_comes_before g (record { node = y.node; sending = y }) ≡ true
   fresh_later g y there fresh =
@@ -114,7 +114,7 @@ runs_at q t w due p d shows x node =
     ∙ shown_sending q t w due p d shows in
     (λ is. sym same ∙ is, λ is. same ∙ is)
 
--- what a change at a place does to the tuning and the sending of the device
+-- what a change at a place does to the tuning and the transmission of the device
 pub record Does (t p : ℕ) (change : Setup → Device → Device) (begun : List Sending) (old : FieldState) (old_due : List Due) : Type 0 where
   pub tuned : (q : Setup) (d : Device) → FieldShows q t old old_due p d → HasTunedBy t d → IsTunedAs t d (change q d)
   pub sending : (q : Setup) (d : Device) → FieldShows q t old old_due p d → Begins q t d begun (change q d)

@@ -1,4 +1,4 @@
--- What the lines told so far lose, with a line more and with hearings more.
+-- What the lines given so far lose, with a line more and with receptions more.
 use Rattle.std.proofs.Common.{◌≡◌, ℕ, ◌≤◌, List, [], ◌∷◌, ◌++◌, option_to_list, fold, Contains, ◌⊎◌, inl, inr, refl, sym, ◌∙◌, ap, subst, arith, append-nil}
 use Rattle.std.proofs.Common.{append_assoc}
 use Rattle.scenario_text.specs.ScenarioParts.{ScenarioParts}
@@ -18,7 +18,7 @@ use Rattle.world_engine.specs.Moments.{trail_after_lines}
 abbrev pub lost_by : ScriptLine → Device → List DropLine
 lost_by l d = option_to_list (drop_by l l.act d.power)
 
--- v heard nothing more, or one hearing that ended at t
+-- v received nothing more, or one reception that ended at t
 abbrev pub HeardOn : ℕ → List Entry → List Entry → ℕ → Type 0
 HeardOn t old new v = (heard_by new v ≡ heard_by old v) ⊎ ((h : Reception) × (h.end ≡ t) × (heard_by new v ≡ heard_by old v ++ h ∷ []))
 
@@ -55,7 +55,7 @@ module _ (s : ScenarioParts) (clocks : ℕ → ℕ → ℕ) where
       ap (λ (d : Device). fold (device_after_line (clocks l.node) (setup_of s l.node) (frame_start s l.frame)) d (told_at_tick s above l))
       (same_before t old new l.node (frame_start s l.frame) early heard)
 
-  -- hearings more
+  -- receptions more
   pub drops_stay : (t : ℕ) (old new : List Entry) (above ls : List ScriptLine) → ((l : ScriptLine) → Contains ls l → frame_start s l.frame ≤ t)
       → ((v : ℕ) → HeardOn t old new v)
       → trail_drops_below s clocks new above ls ≡ trail_drops_below s clocks old above ls

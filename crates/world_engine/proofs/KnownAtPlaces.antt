@@ -55,7 +55,7 @@ module _ (s : ScenarioParts) (clocks : ℕ → ℕ → ℕ) (t : ℕ) (m : TickM
         let k = node_there s q t w due p d places shows in
         k.2 ∙ ap (λ (x : NodeLine). setup_of s x.node) (same_Some k.0 n (sym k.1 ∙ there))
 
-    -- an end that stands is that of the sending that runs
+    -- an end that is is that of the transmission that runs
     pub sends_at : at due p SendingEnd ≡ Some t → (x : Sending) × (x.end ≡ t) × DeviceSends t w due p x
     sends_at stands =
         let trail = trails p n there in
@@ -79,7 +79,7 @@ module _ (s : ScenarioParts) (clocks : ℕ → ℕ → ℕ) (t : ℕ) (m : TickM
       line_range sound in_script q d shows =
           subst (λ (x : Setup). IsAct x.profile l.act) (sym (setup_at q d shows)) (All-contains (IsScriptLine s) s.script l sound.script in_script).act
 
--- the medium knows of the sending that ends
+-- the medium knows of the transmission that ends
 pub ends_at_place : (t : ℕ) (w : FieldState) (due : List Due) (p : ℕ) (a : Scene) → Holds w.medium a → (x : Sending) → x.end ≡ t → DeviceSends t w due p x
     → (q : Setup) (d : Device) → FieldShows q t w due p d → Ends w.medium q.id t
 ends_at_place t w due p a holds x now sends q d shows =

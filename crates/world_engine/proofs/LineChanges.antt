@@ -1,4 +1,4 @@
--- What a line of the script changes of a trail's device.
+-- What a line of the script changes of a trace's device.
 use Rattle.std.proofs.Common.{◌≡◌, ℕ, List, [], ◌∷◌, ◌++◌, Bool, true, false, if◌then◌else◌, Some, None, option_to_list, refl, sym, ◌∙◌, ap}
 use Rattle.std.proofs.lemmas.Bool.{cond_both, false≢true, true≢false}
 use Rattle.scenario_text.specs.declared.script.Act.TheVariants.{Off, Declare, Leave, Put}

@@ -32,7 +32,7 @@ use Rattle.world_engine.proofs.NodePlaces.{known_id}
 use Rattle.world_engine.proofs.PlacedNodes.{at_place, as_many_devices, node_of_place, setup_at_place}
 use Rattle.world_engine.proofs.StepsGoOn.{line_goes_on}
 
--- what is read at an index is what stands at the place of the same number
+-- what is read at an index is what is at the place of the same number
 pub read_at : {X : Type 0} (xs : List X) (i p : ℕ) (x : X) → i ≡ p → p < length xs → x ≡ get_or xs i x → slice_get xs p ≡ Some x
 read_at xs i p x place below is = sym (ap (slice_get xs) place) ∙ slice_get_read xs (length xs) i x refl (omega (arith, place, below)) is
 

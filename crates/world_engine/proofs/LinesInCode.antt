@@ -1,4 +1,4 @@
--- The script lines of a frame, told one after another.
+-- The script lines of a frame, given one after another.
 use Rattle.std.proofs.Common.{◌≡◌, ◌≢◌, ℕ, suc, ◌+◌, ◌<◌, ◌≤◌, List, [], ◌∷◌, ◌++◌, take, drop, length, get_or, nat_lt, true, false, Some, None, refl, sym}
 use Rattle.std.proofs.Common.{ap, subst, ◌∙◌, arith}
 use Rattle.std.specs.Prelude.{Contains, slice_get}
@@ -22,7 +22,7 @@ use Rattle.world_engine.proofs.RunsGoOn.{lines_begin, lines_over}
 use Rattle.world_engine.proofs.ScriptCuts.{told_at_cut, cut_at, cut_end, next_splits, one_more, more_before}
 use Rattle.world_engine.proofs.TrailsGoOn.{AreClocks}
 
--- the lines of frame f before line k of the script have been told, where this log was there before them
+-- the lines of frame f before line k of the script have been given, where this log was there before them
 pub record AreTold (first : List Entry) (s : ScenarioParts) (clocks : ℕ → ℕ → ℕ) (f k : ℕ) (w : FieldState) (due : List Due) : Type 0 where
   pub within : k ≤ length s.script
   pub before : (i : ℕ) (l : ScriptLine) → slice_get s.script i ≡ Some l → i < k → l.frame < f + 1
@@ -30,7 +30,7 @@ pub record AreTold (first : List Entry) (s : ScenarioParts) (clocks : ℕ → �
   pub run : IsRunning s clocks (take k s.script) (frame_start s f) (InLines (take k s.script)) w due
   pub stay : TrailsStay s clocks (frame_start s f) first w.air
 
--- what is read at an index of a list stands there
+-- what is read at an index of a list is there
 pub read_line : (script read : List ScriptLine) (k : ℕ) (l : ScriptLine) → read ≡ script → true ≡ nat_lt k (length read) → l ≡ get_or read k l
     → slice_get script k ≡ Some l
 read_line script read k l same within is =
@@ -40,7 +40,7 @@ pub none_read : (script read : List ScriptLine) (k : ℕ) → read ≡ script �
 none_read script read k same past =
     ap (λ (ls : List ScriptLine). slice_get ls k) (sym same) ∙ slice_get_past read k (let at = ltb-false k (length read) (sym past) in omega (arith, at))
 
--- what is in a list behind its first k
+-- what is in a list after its first k
 behind_first : (xs : List ScriptLine) (k : ℕ) (l : ScriptLine) → Contains (drop k xs) l → (i : ℕ) × (k ≤ i) × (slice_get xs i ≡ Some l)
 behind_first xs k l (j, below, at) =
     let long = length-drop k xs in

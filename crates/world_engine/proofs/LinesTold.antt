@@ -1,4 +1,4 @@
--- The script lines of a tick, told one after another.
+-- The script lines of a tick, given one after another.
 use Rattle.std.proofs.Common.{◌≡◌, ◌≢◌, ℕ, if◌then◌else◌, List, [], ◌∷◌, ◌++◌, Bool, true, false, ◌==◌, ◌&&◌, filter, fold, Contains, inl, refl, sym, ◌∙◌, ap}
 use Rattle.std.proofs.Common.{eqb-true, append-nil}
 use Rattle.std.proofs.lemmas.Bool.{and_parts, and_from, eq-eqb, ne_eqb}
@@ -30,7 +30,7 @@ module _ (s : ScenarioParts) (v : ℕ) (clock : ℕ → ℕ) (hs : List Receptio
         let both = and_parts _ _ is in
         none l there (eqb-true l.node v both.0) (eqb-true (frame_start s l.frame) t both.1))
 
-    -- no line of this tick has been told yet
+    -- no line of this tick has been given yet
     pub lines_begin : (told : List ScriptLine) (d : Device) → ((l : ScriptLine) → Contains told l → l.node ≡ v → frame_start s l.frame ≡ t → ⊥)
         → IsAtMoment s clock hs v t Before d → IsAtMoment s clock hs v t (InLines told) d
     lines_begin told d none at =
@@ -77,7 +77,7 @@ module _ (s : ScenarioParts) (v : ℕ) (clock : ℕ → ℕ) (hs : List Receptio
     nothing_heard : (d : Device) → ((h : Reception) → Contains hs h → h.end ≡ t → ⊥) → device_after_receptions clock (setup_of s v) t hs d ≡ d
     nothing_heard d none = rw (none_heard none) refl
 
-    -- all lines of this tick have been told, and nothing was heard at it yet
+    -- all lines of this tick have been given, and nothing was received at it yet
     pub lines_end : (told rest : List ScriptLine) (d : Device) → s.script ≡ told ++ rest
         → ((l : ScriptLine) → Contains rest l → l.node ≡ v → frame_start s l.frame ≡ t → ⊥)
         → ((h : Reception) → Contains hs h → h.end ≡ t → ⊥) → IsAtMoment s clock hs v t (InLines told) d → IsAtMoment s clock hs v t (At SendingEnd) d

@@ -1,4 +1,4 @@
--- What the log has of a node's sendings and tunings, with one entry more.
+-- What the log has of a node's transmissions and tunings, with one entry more.
 use Rattle.std.proofs.Common.{Bool, ◌≡◌, ◌≢◌, ℕ, List, [], ◌∷◌, ◌++◌, filter, ◌==◌, ◌∙◌, ap, Contains, inl, inr, subst, eq-eqb}
 use Rattle.std.specs.Prelude.{◌⊎◌}
 use Rattle.std.proofs.lemmas.Bool.{cond-true, cond-false, ne_eqb}
@@ -11,7 +11,7 @@ use Rattle.air_log.specs.Entries.{node_of_entry, sendings_of, sent_entry, heard_
 use Rattle.air_log.specs.Lawful.{sent_by, tuned_by}
 use Rattle.air_log.proofs.LoggedEntries.{sendings_sent, tunings_sent, sendings_heard, tunings_heard}
 
--- a sending more
+-- a transmission more
 module _ (air : List Entry) (x : Sending) (v : ℕ) where
   abbrev is_of : Sending → Bool
   is_of y = y.node == v
@@ -29,7 +29,7 @@ module _ (air : List Entry) (x : Sending) (v : ℕ) where
   pub tuned_beside_sent : tuned_by (air ++ sent_entry x ∷ []) v ≡ tuned_by air v
   tuned_beside_sent = ap (filter (λ (k : Tuning). k.node == v)) (tunings_sent air x)
 
--- a hearing more
+-- a reception more
 module _ (air : List Entry) (u : ℕ) (x : Sending) (v : ℕ) where
   pub sent_beside_heard : sent_by (air ++ heard_entry u x ∷ []) v ≡ sent_by air v
   sent_beside_heard = ap (filter (λ (y : Sending). y.node == v)) (sendings_heard air u x)

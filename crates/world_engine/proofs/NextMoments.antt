@@ -23,7 +23,7 @@ use Rattle.world_engine.proofs.AheadInTick.{ahead_at}
 use Rattle.world_engine.proofs.ShownDevices.{shows_later, stands_at, ahead_by, over_by_next}
 use Rattle.world_engine.proofs.TrailsGoOn.{OnTrails, AreClocks}
 
--- no order stands before the tick
+-- no order is before the tick
 abbrev pub NoneBefore : List Due → ℕ → Type 0
 NoneBefore due u = (p : ℕ) (c : Class) (tick : ℕ) → at due p c ≡ Some tick → u ≤ tick
 
@@ -62,7 +62,7 @@ starts_apart s sound f g less =
     omega (arith, long, up)
 
 module _ (s : ScenarioParts) (clocks : ℕ → ℕ → ℕ) (t : ℕ) (w : FieldState) (due : List Due) where
-  -- the lines of a frame begin: none of those told so far is of it
+  -- the lines of a frame begin: none of those given so far is of it
   pub lines_begin_trails : (told : List ScriptLine) → ((l : ScriptLine) → Contains told l → frame_start s l.frame ≡ t → ⊥)
       → OnTrails s clocks t Before w due → OnTrails s clocks t (InLines told) w due
   lines_begin_trails told none trails p n there =

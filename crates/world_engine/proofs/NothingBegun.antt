@@ -1,4 +1,4 @@
--- A field after the ordered sending of a device has not started.
+-- A field after the ordered transmission of a device has not started.
 use Rattle.std.proofs.Common.{◌≡◌, ℕ, ◌<◌, List, [], set, length, Option, Some, None, refl, sym, ◌∙◌, ap, inl}
 use Rattle.std.specs.Prelude.{slice_get}
 use Rattle.std.specs.Option.{option_map}

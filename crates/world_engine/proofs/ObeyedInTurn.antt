@@ -60,7 +60,7 @@ module _ (clock : ℕ → ℕ) (t p : ℕ) (all : List Order) where
       (λ s d shows. ap (fold (obeyed clock s.id t) d) (sym (append-nil so.front) ∙ ap (λ (l : List Order). so.front ++ l) (sym (none_in rest is)) ∙ so.split))
       so.acts
 
--- the orders that are left behind so many
+-- the orders that are left after this many
 pub first_left : {X : Type 0} (xs : List X) (k : ℕ) → slice_get (drop k xs) 0 ≡ slice_get xs k
 first_left xs zero = refl
 first_left [] (suc k) = refl

@@ -32,7 +32,7 @@ due_changed due p class tick d there =
 pub due_kept : (due : List Due) (p : ℕ) (class : Class) (tick : Option ℕ) (q : ℕ) → q ≢ p → slice_get (changed due p class tick) q ≡ slice_get due q
 due_kept due p class tick q other = set_elsewhere due p q (with_tick class tick (due_at due p)) other
 
--- devices of which the same is set stand in the queue alike
+-- devices of which the same is set are in the queue alike
 pub same_due : (d e : DeviceState) → e.sending ≡ d.sending → e.alarm ≡ d.alarm → e.ordered ≡ d.ordered → due_of_device d ≡ due_of_device e
 same_due d e sending alarm ordered = rw (sending, alarm, ordered) refl
 
@@ -77,7 +77,7 @@ module _ (t p : ℕ) (state after : DeviceState) (closed : Option TunedEntry) (r
     sums = λ q other. ap (λ (l : List WindowSum). slice_get l q) r.sums;
   }
 
--- a step of which the medium is not told
+-- a step of which the medium is not given
 module _ (t p : ℕ) (state after : DeviceState) (delivery : Option Delivery) (old new : FieldState) (old_due new_due : List Due) where
   pub record IsQuietStep : Type 0 where
     pub time : IsTime old.medium t

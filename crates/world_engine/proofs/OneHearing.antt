@@ -1,4 +1,4 @@
--- Of a list of hearings one is that of a node, or none is.
+-- Of a list of receptions one is that of a node, or none is.
 use Rattle.std.proofs.Common.{◌≡◌, ◌≢◌, ℕ, ◌<◌, List, [], ◌∷◌, map, filter, get_or, Bool, true, false, ◌==◌, All, AllPairs, Contains, ◌⊎◌, inl, inr, refl}
 use Rattle.std.proofs.Common.{sym, ◌∙◌, ap, arith, eqb-true}
 use Rattle.std.proofs.lemmas.Bool.{cases_eq, eq-eqb, ne_eqb}
@@ -15,11 +15,11 @@ filter_yes p x xs is = rw is refl
 pub filter_no : {X : Type 0} (p : X → Bool) (x : X) (xs : List X) → p x ≡ false → filter p (x ∷ xs) ≡ filter p xs
 filter_no p x xs is = rw is refl
 
--- pairs in two lists, one behind the other
+-- pairs in two lists, one after the other
 pub all_from : {X : Type 0} (P : X → Type 0) (xs : List X) → ((x : X) → Contains xs x → P x) → All P xs
 all_from P xs each = λ k d less. each (get_or xs k d) (Contains-get_or xs k d less)
 
--- one hearing of a list is that of v, or none is
+-- one reception of a list is that of v, or none is
 module _ (id : ℕ → ℕ) (x : Sending) (v : ℕ) where
   abbrev pub hearing : ℕ → Hearing
   hearing q = record { node = id q; sending = x }

@@ -1,4 +1,4 @@
--- After a step all that stands comes later than what stood for it.
+-- After a step all that is comes later than what was for it.
 use Rattle.std.proofs.Common.{◌==◌, ◌≡◌, ◌≢◌, ℕ, ◌<◌, ◌≤◌, List, Option, Some, None, false, inl, inr, ◌⊎◌, refl, sym, ap, subst, ◌∙◌, arith}
 use Rattle.std.specs.Prelude.{Contains, slice_get}
 use Rattle.std.specs.Option.{option_map}
@@ -35,7 +35,7 @@ use Rattle.world_engine.proofs.TrailsGoOn.{AreClocks}
 use Rattle.world_engine.proofs.TickPoints.{alarm_at}
 use Rattle.air_log.specs.Courses.{tick_of_ordered as start_of}
 
--- what stands of the class at the tick is at later places
+-- what is of the class at the tick is at later places
 abbrev pub LaterPlaces : ℕ → Class → ℕ → List Due → Type 0
 LaterPlaces t c p due = (q : ℕ) → at due q c ≡ Some t → p < q
 
@@ -82,7 +82,7 @@ module _ (t : ℕ) (c : Class) (p : ℕ) (old_due new_due : List Due) (next : Is
 module _ (s : ScenarioParts) (clocks : ℕ → ℕ → ℕ) (told : List ScriptLine) (t p : ℕ) (c : Class) (old : FieldState) (old_due : List Due)
     (new : FieldState) (new_due : List Due)
     (before : IsRunning s clocks told t (At c) old old_due) (after : IsRunning s clocks told t (At c) new new_due) where
-  -- the node at a place at which something stands
+  -- the node at a place at which something is
   node : (q u : ℕ) → at new_due q c ≡ Some u → (n : NodeLine) × (slice_get s.nodes q ≡ Some n)
   node q u stands = node_of_place s new new_due after.places q (place_of_order s new new_due after.places q c u stands)
 
@@ -110,7 +110,7 @@ module _ (s : ScenarioParts) (clocks : ℕ → ℕ → ℕ) (told : List ScriptL
                 ∙ sym (stands_at x t new new_due q trail.device (acts.others q other x trail.device trail.shows) c) ∙ stands,
           )
 
-  -- the end of a sending
+  -- the end of a transmission
   pub were_at_end : (lines : Lines) (at_places : ℕ → ℕ → ℕ) (x : Sending) (hearers : List ℕ)
       → EndsSending lines at_places t p x hearers old old_due new new_due → (Contains hearers p → ⊥) → c ≡ SendingEnd
       → (q : ℕ) → at new_due q c ≡ Some t → (q ≢ p) × (at old_due q c ≡ Some t)

@@ -39,7 +39,7 @@ clock_at R (m ∷ ns) (b ∷ cs) (suc p) n c ascend at_n at_c =
     let less = behind m ns p n ascend at_n in
     rw (ne_eqb m.node n.node (λ is. omega (arith, less, is))) (clock_at R ns cs p n c (in_tail m ns ascend) at_n at_c)
 
--- a node stands at one place
+-- a node is at one place
 pub one_place_of : (ns : List NodeLine) (p q : ℕ) (m n : NodeLine) → Ascend ns → slice_get ns p ≡ Some m → slice_get ns q ≡ Some n → m.node ≡ n.node → p ≡ q
 one_place_of [] p q m n ascend at_p at_q same = absurd (none-some _ at_p)
 one_place_of (x ∷ ns) zero zero m n ascend at_p at_q same = refl
@@ -53,7 +53,7 @@ one_place_of (x ∷ ns) (suc p) zero m n ascend at_p at_q same =
     absurd (omega (arith, less, is, same))
 one_place_of (x ∷ ns) (suc p) (suc q) m n ascend at_p at_q same = ap suc (one_place_of ns p q m n (in_tail x ns ascend) at_p at_q same)
 
--- what stands at a place of a list
+-- what is at a place of a list
 pub at_place : {X : Type 0} (xs : List X) (p : ℕ) → p < length xs → (x : X) × (slice_get xs p ≡ Some x)
 at_place [] p less = absurd (omega (arith, less))
 at_place (x ∷ xs) zero less = (x, refl)

@@ -1,4 +1,4 @@
--- What each place of a field is at the end of a sending, and what still runs.
+-- What each place of a field is at the end of a transmission, and what still runs.
 use Rattle.std.proofs.Common.{◌≡◌, ◌≢◌, ℕ, ◌<◌, ◌↔◌, ◌⊎◌, inl, inr, List, length, ◌==◌, slice_get, Some, None, refl, sym, ◌∙◌, ap, subst, Contains, AllPairs}
 use Rattle.std.proofs.Common.{eq-eqb, eqb-true}
 use Rattle.std.proofs.lemmas.Bool.{cases_eq, cases_Bool, true≢false}
@@ -53,13 +53,13 @@ module _ (s : ScenarioParts) (lines : Lines) (clocks : ℕ → ℕ → ℕ) (t p
   pub rule : (q : ℕ) (u : Setup) (d : Device) → FieldShows u t old old_due q d → Contains hearers q ↔ HearsInScene (as_it_stands old.medium t a) u.id x
   rule q u d shows = ends.heard a h.held (h.lines ∙ sym trace) q u d shows
 
-  -- it does not hear itself, and no hearer sends up to this tick
+  -- it does not receive itself, and no hearer sends up to this tick
   pub sender_hears_not : Contains hearers p → ⊥
   sender_hears_not there =
       let hears = (rule p sender.setup sender.device sender.shows).0 there in
       hears.silent x hears.sent own_node (record { before = x_lasts; after = x_lasts })
 
-  -- who hears it
+  -- who receives it
   is_hearing : (q : ℕ) → Contains hearers q ⊎ (Contains hearers q → ⊥)
   is_hearing q =
       elim (cases_Bool (list_any (λ (r : ℕ). r == q) hearers)) [

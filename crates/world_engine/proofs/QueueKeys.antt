@@ -1,11 +1,11 @@
--- The least key of what stands in a queue.
+-- The least key of what is in a queue.
 use Rattle.std.proofs.Common.{min, ◌≡◌, ℕ, zero, suc, ◌+◌, ◌≤◌, List, [], ◌∷◌, Option, Some, None, refl, ap, subst, arith, add-zero}
 use Rattle.event_calendar.specs.declared.class.Class.{Class}
 use Rattle.event_calendar.specs.declared.class.Class.TheVariants.{SendingEnd, Alarm, SendingStart}
 use Rattle.event_calendar.specs.Orders.{Due, tick_of, at, due_at, nothing_due, rank}
 use Rattle.world_engine.specs.Frames.{order_key}
 
--- the least key of what stands, or this bound
+-- the least key of what is, or this bound
 abbrev key_or : ℕ → Option ℕ → Class → ℕ → ℕ
 key_or bound None c p = bound
 key_or bound (Some t) c p = order_key t c p

@@ -21,7 +21,7 @@ use Rattle.world_engine.proofs.DropsOver.{drops_over}
 use Rattle.world_engine.proofs.CoresOver.{cores_over}
 use Rattle.world_engine.proofs.OrdersOver.{orders_over}
 
--- where the log follows the rule of hearing
+-- where the log follows the rule of reception
 pub run_over : (s : ScenarioParts) (clocks : ℕ → ℕ → ℕ) (w : FieldState) (due : List Due) (closed : FieldState) → IsSoundScenario s
     → AreClocks clocks → IsRunning s clocks s.script (run_end s) Before w due → IsClosed (run_end s) w due closed → FollowsHearing s closed.air
     → IsEngineRun s clocks closed.air (in_order delivery_comes_before closed.deliveries) closed.drops (core_of (map core_in closed.devices))

@@ -1,4 +1,4 @@
--- The places of a run: those at which something stands in the queue, and the nodes of its trace.
+-- The places of a run: those at which something is in the queue, and the nodes of its trace.
 use Rattle.std.proofs.Common.{◌≡◌, ℕ, zero, suc, ◌<◌, List, [], ◌∷◌, map, length, Some, refl, sym, ap, ◌∙◌, arith}
 use Rattle.scenario_text.specs.ScenarioParts.{ScenarioParts}
 use Rattle.scenario_text.specs.FloodParts.{IsSealed}
@@ -14,7 +14,7 @@ use Rattle.world_engine.specs.Running.{HasPlaces, setup_by}
 use Rattle.world_engine.proofs.PlacedNodes.{as_many_devices}
 use Rattle.world_engine.proofs.QueueKeys.{none_at_none}
 
--- what stands is at one of the places
+-- what is is at one of the places
 pub place_within : (due : List Due) (p : ℕ) (c : Class) (t : ℕ) → at due p c ≡ Some t → p < length due
 place_within [] p c t is = absurd (none_at_none c t is)
 place_within (d ∷ due) zero c t is = omega arith

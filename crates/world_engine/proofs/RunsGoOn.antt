@@ -69,7 +69,7 @@ module _ (s : ScenarioParts) (clocks : ℕ → ℕ → ℕ) (told : List ScriptL
           ∙ ap (option_map end_of) runs in
           none place.place SendingEnd y.end set
 
-  -- all that was heard is over
+  -- all that was received is over
   pub heard_so_far : (v : ℕ) → HeardBefore (heard_by w.air v) (over_by t m)
   heard_so_far v h there =
       let has = run.air.has in

@@ -1,4 +1,4 @@
--- What is on the air of a run from moment to moment.
+-- What is in the log of a run from moment to moment.
 use Rattle.std.proofs.Common.{◌≡◌, ℕ, suc, ◌<◌, ◌≤◌, List, [], length, Some, arith}
 use Rattle.link_trace.specs.Passes.{Lines}
 use Rattle.radio_model.specs.declared.sending.Sending.{Sending}
@@ -52,7 +52,7 @@ module _ (s : ScenarioParts) (clocks : ℕ → ℕ → ℕ) (told : List ScriptL
   air_after_begin p within new new_due begins acts is =
       air_after_step p (λ x d. device_after_start x t d) begins [] new new_due within (begun_does t p begins w due field is) acts
 
--- the end of a sending
+-- the end of a transmission
 pub air_after_end : (s : ScenarioParts) (clocks : ℕ → ℕ → ℕ) (told : List ScriptLine) (t : ℕ) (old : FieldState) (old_due : List Due)
     → IsRunning s clocks told t (At SendingEnd) old old_due → IsField old
     → (lines : Lines) → lines ≡ s.trace → (at_places : ℕ → ℕ → ℕ) (p : ℕ) → p < length old.devices → IsNext old_due (Some (t, SendingEnd, p))

@@ -1,4 +1,4 @@
--- How far the script has been told at the beginning of a frame.
+-- How far the script has been given at the beginning of a frame.
 use Rattle.std.proofs.Common.{◌≡◌, ◌≢◌, ℕ, zero, suc, ◌+◌, ◌<◌, ◌≤◌, List, [], ◌∷◌, ◌++◌, take, drop, length, filter, Bool, true, false, nat_lt, Some, None}
 use Rattle.std.proofs.Common.{refl, sym, ap, ◌∙◌, arith, ltb-true, lt-ltb}
 use Rattle.std.specs.Prelude.{slice_get, AllPairs}

@@ -1,4 +1,4 @@
--- What is on the air of a run after the end of a sending.
+-- What is in the log of a run after the end of a transmission.
 use Rattle.std.proofs.Common.{◌≡◌, ◌≢◌, ℕ, suc, ◌<◌, ◌≤◌, ◌↔◌, ◌⊎◌, inl, inr, List, [], ◌∷◌, ◌++◌, length, map, true, false, slice_index_or, Some, refl, sym}
 use Rattle.std.proofs.Common.{◌∙◌, ap, subst, arith, Contains, AllPairs}
 use Rattle.std.proofs.lemmas.Bool.{cases_lt}
@@ -91,7 +91,7 @@ module _ (s : ScenarioParts) (lines : Lines) (clocks : ℕ → ℕ → ℕ) (t p
   alike_by v y there over = heard_alike s t old old_due a _ _ h
       (is_next s t [] old old_due new new_due a h ends.air ends.same sent_same none_starts moves).before v y there over
 
-  -- the hearings
+  -- the receptions
   abbrev fresh : List Hearing
   fresh = map (hearing_at old x) hearers
 
@@ -185,7 +185,7 @@ module _ (s : ScenarioParts) (lines : Lines) (clocks : ℕ → ℕ → ℕ) (t p
           | inr differ ↦ has.ended y (sent_was y there) (λ ran. stopped (runs_on y differ ran))
         ]
 
-    -- what was heard before is not heard again, and comes before
+    -- what was received before is not received again, and comes before
     not_again : (g k : Hearing) → Contains (hearings_of old.air) g → Contains fresh k → g ≢ k
     not_again g k was is same =
         ((has.heard g.node g.sending).0 was).1 (subst (Runs old.medium) (sym (ap (λ (z : Hearing). z.sending) same ∙ of_x k is)) x_runs)

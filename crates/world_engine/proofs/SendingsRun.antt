@@ -1,4 +1,4 @@
--- The end of a sending at its sender, and at a node that heard it.
+-- The end of a transmission at its sender, and at a node that received it.
 use Rattle.std.proofs.Common.{◌≡◌, ℕ, List, [], ◌∷◌, ◌++◌, Some, None, Option, option_map, Contains, inl, inr, refl, sym, ◌∙◌, ap, subst, arith}
 use Rattle.std.proofs.lemmas.Bool.{eq-eqb}
 use Rattle.event_calendar.specs.declared.class.Class.TheVariants.{SendingEnd}
@@ -26,7 +26,7 @@ module _ (s : ScenarioParts) (v : ℕ) (clock : ℕ → ℕ) (hs : List Receptio
   abbrev heard_all : Device
   heard_all = device_at_point s v clock hs t SendingEnd
 
-  -- the sender is told of the end
+  -- the sender is notified of the end
   pub end_told : (d : Device) (x : Sending) → d.sending ≡ Some x → x.end ≡ t → IsAtMoment s clock hs v t (At SendingEnd) d
       → IsAtMoment s clock hs v t (At SendingEnd) (told_of_end clock t x (setup_of s v) d)
   end_told d x runs now (inl at) = inr (sym (told_as_ended clock (setup_of s v) t d x d.sending runs now) ∙ ap (device_after_end clock (setup_of s v) t) at)
@@ -35,7 +35,7 @@ module _ (s : ScenarioParts) (v : ℕ) (clock : ℕ → ℕ) (hs : List Receptio
       absurd (end_at t (device_after_end clock (setup_of s v) t heard_all).sending (none_ends clock (setup_of s v) t heard_all)
       (ap (option_map end_of) runs_at ∙ ap (λ (n : ℕ). Some n) now))
 
-  -- where no own sending ends at the tick
+  -- where no own transmission ends at the tick
   none_over : (d : Device) → d ≡ device_after_end clock (setup_of s v) t heard_all → ((y : Sending) → Contains d.made.sent y → y.end ≡ t → ⊥)
       → IsOver SendingEnd t heard_all
   none_over d at none = by heard_all.sending refl (own_heard s v clock hs t)
@@ -59,7 +59,7 @@ module _ (s : ScenarioParts) (v : ℕ) (clock : ℕ → ℕ) (hs : List Receptio
           (earlier_stays s v clock hs h t (omega (arith, now)))
       ∙ heard_now clock (setup_of s v) t hs h (device_after_script s v clock t (before_tick s v clock hs t)) now
 
-  -- a node that heard it is told so
+  -- a node that received it is notified
   pub hearing_told : (d : Device) (h : Reception) → h.end ≡ t → ((y : Sending) → Contains d.made.sent y → y.end ≡ t → ⊥)
       → IsAtMoment s clock hs v t (At SendingEnd) d → IsAtMoment s clock (hs ++ h ∷ []) v t (At SendingEnd) (device_after_reception clock (setup_of s v) t d h)
   hearing_told d h now none at = inl (ap (λ (e : Device). device_after_reception clock (setup_of s v) t e h) (is_heard_all d none at) ∙ sym (heard_with h now))

@@ -80,7 +80,7 @@ node_there s q t w due p d places shows =
         none_some is = cc
     by (Some n) is same = (n, is, sym (same_Some (setup_of s n.node) q same))
 
--- what stands in the queue at the place stands at the device
+-- what is in the queue at the place is at the device
 module _ (q : Setup) (t : ℕ) (w : FieldState) (due : List Due) (p : ℕ) (d : Device) (shows : FieldShows q t w due p d) where
   pub stands_at : (c : Class) → at due p c ≡ tick_of c (standing d)
   stands_at c =
@@ -91,7 +91,7 @@ module _ (q : Setup) (t : ℕ) (w : FieldState) (due : List Due) (p : ℕ) (d : 
   if_some P None each = tt
   if_some P (Some x) each = each x refl
 
-  -- no order stands before the tick
+  -- no order is before the tick
   pub ahead_by : (u : ℕ) → ((c : Class) (tick : ℕ) → at due p c ≡ Some tick → u ≤ tick) → IsAhead u d
   ahead_by u none = record {
     alarm = if_some (λ (tick : ℕ). u ≤ tick) d.alarm (λ tick is. none Alarm tick (stands_at Alarm ∙ is));

@@ -81,7 +81,7 @@ still_shown t q old old_due new new_due s d stays is = record {
   taken = is.taken;
 }
 
--- the device that is shown is the one that stands there
+-- the device that is shown is the one that is there
 pub same_state : (s : Setup) (t : ℕ) (w : FieldState) (due : List Due) (p : ℕ) (d : Device) (shows : FieldShows s t w due p d) (st : DeviceState)
     → slice_get w.devices p ≡ Some st → shows.state ≡ st
 same_state s t w due p d shows st at = of_some (sym shows.there ∙ at)

@@ -46,7 +46,7 @@ module _ (q : Setup) (t : ℕ) (w : FieldState) (due : List Due) (p : ℕ) (d : 
       ap (λ (s : Setup). sending_of_station (station_of w.medium s.id)) (sym is.setup)
       ∙ ap sending_of_station is.known.there ∙ is.known.sending ∙ ap (λ (x : Device). x.sending) is.is
 
-  -- and its end stands in the queue
+  -- and its end is in the queue
   pub shown_end : (y : Sending) → d.sending ≡ Some y → at due p SendingEnd ≡ Some y.end
   shown_end y sends =
       ap (λ (x : Due). x.sending_end) (get_or_from_slice_get due p (due_of_device is.state) nothing_due is.known.set)
@@ -93,7 +93,7 @@ pub record IsTunedAt (t : ℕ) (w : FieldState) (due : List Due) (p : ℕ) : Typ
 abbrev pub AreTuned : ℕ → FieldState → List Due → Type 0
 AreTuned t w due = (p : ℕ) → p < length w.devices → IsTunedAt t w due p
 
--- so on their trails
+-- so on their traces
 pub trails_tuned : (s : ScenarioParts) (clocks : ℕ → ℕ → ℕ) (t : ℕ) (m : TickMoment) (w : FieldState) (due : List Due) → HasPlaces s w due
     → ((p : ℕ) (n : NodeLine) → slice_get s.nodes p ≡ Some n → IsOnTrail s clocks t m w due p n.node) → AreTuned t w due
 trails_tuned s clocks t m w due places trails p within = by_line s.nodes refl below

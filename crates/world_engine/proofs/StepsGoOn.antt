@@ -40,7 +40,7 @@ module _ (s : ScenarioParts) (clocks : ℕ → ℕ → ℕ) (sound : IsSoundScen
   places_after m begun run same air = same_places s old new old_due new_due same
       (field_goes_on t begun old new old_due new_due same air run.places.field) run.places
 
-  -- a line of the script is told to its node
+  -- a line of the script is given to its node
   pub line_goes_on : (clock : ℕ → ℕ) → IsClockAt s clocks p clock → (l : ScriptLine) → l.node ≡ n.node → frame_start s l.frame ≡ t → (lost : List DropLine)
       → Acts t p (λ x d. device_after_line clock x t d l) [] lost old old_due new new_due
       → ((x : Setup) (d : Device) → FieldShows x t old old_due p d → lost ≡ option_to_list (drop_by l l.act d.power))
@@ -84,7 +84,7 @@ module _ (s : ScenarioParts) (clocks : ℕ → ℕ → ℕ) (sound : IsSoundScen
               (λ x d. begun_power clock x t d);
         }
 
-  -- the end of a sending of the node
+  -- the end of a transmission of the node
   pub end_goes_on : (lines : Lines) → lines ≡ s.trace → (at_places : ℕ → ℕ → ℕ) → ((q : ℕ) → IsClockAt s clocks q (at_places q)) → (x : Sending)
       → x.end ≡ t → DeviceSends t old old_due p x → IsNext old_due (Some (t, SendingEnd, p))
       → (hearers : List ℕ) → EndsSending lines at_places t p x hearers old old_due new new_due

@@ -35,7 +35,7 @@ module _ (t p : ℕ) (old : FieldState) (old_due : List Due) (shown : FieldIsSho
   abbrev shows : FieldShows shown.setup t old old_due p shown.device
   shows = shown.shows
 
-  -- whatever trail it is of
+  -- whatever trace it is of
   pub same_as_shown : (s : Setup) (d : Device) → (there : FieldShows s t old old_due p d) → there.state ≡ state
   same_as_shown s d there = sym (get_or_from_slice_get old.devices p there.state state there.there)
       ∙ ap (λ (n : ℕ). get_or old.devices n state) (sym at) ∙ sym is
@@ -144,7 +144,7 @@ module _ (t p : ℕ) (old : FieldState) (old_due : List Due) (shown : FieldIsSho
       (acts_at t p state after closed None [] old next old_due old_due (retunes_step t p state after closed rank old next old_due step)
       (node.delivery ∙ state_taken) happened before change (with_tuned closed) (tuned_goes_on closed) comes (λ made is. is) field)
 
-  -- the medium is told nothing
+  -- the medium is given nothing
   pub quiet_acts : IsField old → IsTime old.medium t → (after : DeviceState) (delivery : Option Delivery) (new_due : List Due)
       → after.setup ≡ state.setup → after.listening ≡ state.listening → after.sending ≡ state.sending → after.delivery ≡ None → HappenedBy t after
       → IfSome delivery (λ d. d.node ≡ state.setup.id)

@@ -28,7 +28,7 @@ use Rattle.air_log.proofs.QuietTicks.{no_end, no_start, no_alarm}
 use Rattle.world_engine.specs.Fields.{end_of}
 use Rattle.air_log.specs.Courses.{tick_of_ordered as start_of}
 
--- no order of the class stands at the tick
+-- no order of the class is at the tick
 abbrev pub IsOver : Class → ℕ → Device → Type 0
 IsOver c t d = tick_of c (standing d) ≡ Some t → ⊥
 
@@ -62,7 +62,7 @@ alarms_nothing clock s t d none = no_alarm clock s t (clock t + 300) d (alarm_is
 pub starts_nothing : (s : Setup) (t : ℕ) (d : Device) → IsOver SendingStart t d → device_after_start s t d ≡ d
 starts_nothing s t d over = no_start s t d d.ordered (no_start_at t d.ordered over)
 
--- what lies ahead does not stand before
+-- what lies ahead does not be before
 pub not_yet : (c : Class) (t u : ℕ) (d : Device) → u < t → IsAhead t d → IsOver c u d
 not_yet SendingEnd t u d less ahead is = by d.sending ahead.sending is
   where
@@ -88,7 +88,7 @@ module _ (s : ScenarioParts) (v : ℕ) (clock : ℕ → ℕ) (hs : List Receptio
   unfolding before_tick
   whole_tick = refl
 
-  -- once no order of the class stands at the tick, all of the class has happened
+  -- once no order of the class is at the tick, all of the class has happened
   pub passed_class : (c : Class) (d : Device) → IsAtMoment s clock hs v t (At c) d → IsOver c t d → d ≡ after_point s v clock hs t c
   passed_class SendingEnd d (inl at) over = sym (ends_nothing clock (setup_of s v) t d over) ∙ ap (device_after_end clock (setup_of s v) t) at
   passed_class Alarm d (inl at) over = sym (alarms_nothing clock (setup_of s v) t d (no_alarm_at t d.alarm over)) ∙ ap (alarmed clock (setup_of s v) t) at
@@ -169,7 +169,7 @@ module _ (s : ScenarioParts) (v : ℕ) (clock : ℕ → ℕ) (hs : List Receptio
     alarmed_at d (inl at) = inr (ap (alarmed clock (setup_of s v) t) at)
     alarmed_at d (inr at) = inr (ap (alarmed clock (setup_of s v) t) at ∙ alarms_nothing clock (setup_of s v) t (before_start s v clock hs t before) none_due)
 
-    -- the start of the ordered sending
+    -- the start of the ordered transmission
     pub begun_at : (d : Device) → IsAtMoment s clock hs v t (At SendingStart) d
         → IsAtMoment s clock hs v t (At SendingStart) (device_after_start (setup_of s v) t d)
     begun_at d (inl at) = inr (ap (device_after_start (setup_of s v) t) at ∙ sym whole_tick)

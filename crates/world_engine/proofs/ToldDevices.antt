@@ -1,4 +1,4 @@
--- What stays at a device that is told of a hearing, or of the end of its sending.
+-- What stays at a device that is notified of a reception, or of the end of its transmission.
 use Rattle.std.proofs.Common.{◌≡◌, ℕ, None, Some}
 use Rattle.lwb_base.specs.declared.event.Event.TheVariants.{Sent, Heard}
 use Rattle.radio_model.specs.declared.sending.Sending.{Sending}

@@ -1,4 +1,4 @@
--- A line of the script that is told to the device at a place, as code comes to it: from an index into the devices.
+-- A line of the script that is given to the device at a place, as code comes to it: from an index into the devices.
 use Rattle.std.proofs.Common.{◌≡◌, ◌<◌, ℕ, List, [], ◌∷◌, ◌++◌, set, get_or, length, Bool, if◌then◌else◌, Option, Some, None, IfSome, option_map}
 use Rattle.std.proofs.Common.{option_to_list, refl, sym, ◌∙◌, ap, subst}
 use Rattle.std.specs.List.{slice_get}
@@ -43,7 +43,7 @@ turned power s d = record d { power = power }
 
 module _ (t p : ℕ) (old : FieldState) (old_due : List Due) (shown : FieldIsShown t old old_due p) (i : ℕ) (at : i ≡ p) (state : DeviceState)
     (is : state ≡ get_or old.devices i state) where
-  -- the medium and the queue are told nothing
+  -- the medium and the queue are given nothing
   pub told_acts : IsField old → IsTime old.medium t → (after : DeviceState) (lost : List DropLine) (lines : List DropLine)
       → after.setup ≡ state.setup → after.delivery ≡ None → HappenedBy t after → lines ≡ old.drops ++ lost
       → (change : Setup → Device → Device) (making : Made → Made) → ((made : Made) → GoesOnMaking None None made (making made))
@@ -154,7 +154,7 @@ module _ (t p : ℕ) (old : FieldState) (old_due : List Due) (shown : FieldIsSho
       (delivery ∙ state_taken t p old old_due shown i at state is) happened before change (with_tuned closed) (tuned_goes_on closed)
       (λ made ended. comes made) (λ made counted. counted) field)
 
-  -- what a trail's device at the place is
+  -- what a trace's device at the place is
   same_state : (s : Setup) (d : Device) → (shows : FieldShows s t old old_due p d) → shows.state ≡ state
   same_state s d shows = same_Some _ _ (sym shows.there ∙ state_here t p old old_due shown i at state is)
 
@@ -171,7 +171,7 @@ module _ (t p : ℕ) (old : FieldState) (old_due : List Due) (shown : FieldIsSho
       subst (λ (x : Device). f s x ≡ g s x) is_d
       (subst (λ (u : Setup). f u (whole state shows.made) ≡ g u (whole state shows.made)) (setup_shown s d shows) (same shows.made))
 
-  -- the device goes on, of which it is to be told
+  -- the device goes on, of which it is to be given
   pub on_acts : IsField old → IsTime old.medium t → (after : DeviceState)
       → after ≡ record state { core = after.core; power = after.power; delivery = None } → HappenedBy t after
       → Acts t p (turned after.power) [] [] old old_due (record {
@@ -242,7 +242,7 @@ module _ (t p : ℕ) (old : FieldState) (old_due : List Due) (shown : FieldIsSho
         ∙ put_loses clock state.setup t line.frame (whole state nothing_made) line stream payload state.power refl own refl
         ∙ ap (λ (x : Power). option_to_list (drop_by line (Put stream payload) x)) (sym (power_shown s d shows))
 
-  -- a stream wishes an interval, or nothing more
+  -- a stream requests an interval, or nothing more
   module _ (clock : ℕ → ℕ) (line : ScriptLine) (act : Act) (loses : (power : Power) → drop_by line act power ≡ None)
       (stays : (power : Power) → StaysSet (whole state nothing_made) (device_after_act clock state.setup t line.frame (whole state nothing_made) act power))
       (after : DeviceState)

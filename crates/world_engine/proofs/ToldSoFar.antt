@@ -1,4 +1,4 @@
--- What holds of the lines told so far, through the steps of a run.
+-- What holds of the lines given so far, through the steps of a run.
 use Rattle.std.proofs.Common.{◌≡◌, ◌≢◌, ℕ, ◌≤◌, List, [], ◌∷◌, ◌++◌, false, Some, None, Contains, ◌⊎◌, inl, inr, refl, sym, ◌∙◌, ap, subst, arith, append-nil}
 use Rattle.std.specs.Prelude.{slice_get}
 use Rattle.std.proofs.lemmas.Bool.{cases_eq, eq-eqb, ne_eqb}
@@ -30,7 +30,7 @@ use Rattle.world_engine.proofs.KeptDrops.{HeardOn, lost_by, drops_more, drops_st
 use Rattle.world_engine.proofs.ShownDevices.{node_there, same_power, shows_later}
 use Rattle.world_engine.proofs.TrailsGoOn.{OnTrails, IsClockAt, heard_same, ids_apart}
 
--- a node's device at its place whose power is that after the lines told
+-- a node's device at its place whose power is that after the lines given
 pub record HasPower (s : ScenarioParts) (told : List ScriptLine) (t : ℕ) (w : FieldState) (due : List Due) (p : ℕ) (n : NodeLine) : Type 0 where
   pub device : Device
   pub shows : FieldShows (setup_of s n.node) t w due p device
@@ -39,7 +39,7 @@ pub record HasPower (s : ScenarioParts) (told : List ScriptLine) (t : ℕ) (w : 
 abbrev pub HavePower : ScenarioParts → List ScriptLine → ℕ → FieldState → List Due → Type 0
 HavePower s told t w due = (p : ℕ) (n : NodeLine) → slice_get s.nodes p ≡ Some n → HasPower s told t w due p n
 
--- whatever trail a device is of
+-- whatever trace a device is of
 pub power_told : (s : ScenarioParts) (told : List ScriptLine) (t : ℕ) (w : FieldState) (due : List Due) → HasPlaces s w due → HavePower s told t w due
     → (q : Setup) (p : ℕ) (d : Device) → FieldShows q t w due p d → seen_power d.power ≡ turned q.id (false, 0) told
 power_told s told t w due places each q p d shows =
@@ -93,7 +93,7 @@ module _ (s : ScenarioParts) (clocks : ℕ → ℕ → ℕ) (told : List ScriptL
                 let trail = trails q n there in
                 record { device = trail.device; shows = acts.others q other (setup_of s n.node) trail.device trail.shows; power = old_power q n there }
 
-    -- the end of a sending
+    -- the end of a transmission
     pub end_told_of : (lines : Lines) (at_places : ℕ → ℕ → ℕ) (p : ℕ) (x : Sending) (hearers : List ℕ)
         → EndsSending lines at_places t p x hearers old old_due new new_due
         → (Contains hearers p → ⊥) → ((v : ℕ) → HeardOn t old.air new.air v) → HasTakenLines s clocks told t new new_due
@@ -130,13 +130,13 @@ module _ (s : ScenarioParts) (clocks : ℕ → ℕ → ℕ) (told : List ScriptL
                 let trail = trails q n there in
                 record { device = trail.device; shows = ends.others q deaf other (setup_of s n.node) trail.device trail.shows; power = old_power q n there }
 
--- a line is told at the place of its node
+-- a line is given at the place of its node
 module _ (s : ScenarioParts) (clocks : ℕ → ℕ → ℕ) (told : List ScriptLine) (t p : ℕ) (clock : ℕ → ℕ) (own_clock : IsClockAt s clocks p clock)
     (old : FieldState) (old_due : List Due) (new : FieldState) (new_due : List Due)
     (l : ScriptLine) (n : NodeLine) (sound : IsSoundScenario s) (here : slice_get s.nodes p ≡ Some n) (own : l.node ≡ n.node) (now : frame_start s l.frame ≡ t)
     (starting : List Sending) (lost : List DropLine) (acts : Acts t p (λ x d. device_after_line clock x t d l) starting lost old old_due new new_due)
     (trails : OnTrails s clocks t (InLines told) old old_due) (is : HasTakenLines s clocks told t old old_due) where
-  -- the node is as the line finds it by its trail
+  -- the node is as the line finds it by its trace
   found : (trails p n here).device ≡ device_before_line s clocks old.air told l
   found =
       (trails p n here).at

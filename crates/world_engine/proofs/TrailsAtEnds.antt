@@ -1,4 +1,4 @@
--- The end of a sending leaves all devices on their trails.
+-- The end of a transmission leaves all devices on their traces.
 use Rattle.std.proofs.Common.{◌≡◌, ◌≢◌, ℕ, List, [], ◌∷◌, ◌++◌, Some, Contains, ◌⊎◌, inl, inr, sym, ◌∙◌, ap, subst}
 use Rattle.std.specs.Prelude.{slice_get}
 use Rattle.std.proofs.lemmas.Bool.{cases_eq}
@@ -23,7 +23,7 @@ use Rattle.world_engine.proofs.TrailsGoOn.{OnTrails, IsClockAt}
 abbrev pub reception : Sending → Reception
 reception x = record { packet = x.packet; end = x.end }
 
--- at the end of x each node at these places hears it and no other does. None of them has a sending that ends with it
+-- at the end of x each node at these places receives it and no other does. None of them has a transmission that ends with it
 pub record IsHeardAt (s : ScenarioParts) (x : Sending) (hearers : List ℕ) (old new : List Entry) : Type 0 where
   pub heard : (q : ℕ) (n : NodeLine) → slice_get s.nodes q ≡ Some n → Contains hearers q → heard_by new n.node ≡ heard_by old n.node ++ reception x ∷ []
   pub unheard : (q : ℕ) (n : NodeLine) → slice_get s.nodes q ≡ Some n → (Contains hearers q → ⊥) → heard_by new n.node ≡ heard_by old n.node

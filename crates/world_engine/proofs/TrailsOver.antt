@@ -1,4 +1,4 @@
--- The end of a run: the log of the closed field has what the trails have.
+-- The end of a run: the log of the closed field has what the traces have.
 use Rattle.std.proofs.Common.{◌≡◌, ℕ, List, [], map, reverse, Bool, true, false, ◌==◌, if◌then◌else◌, Some, inl, inr, refl, sym, ◌∙◌, ap, subst}
 use Rattle.std.specs.Prelude.{Contains, IsPermutation, slice_get}
 use Rattle.std.specs.List.{filter}
@@ -40,7 +40,7 @@ module _ (s : ScenarioParts) (clocks : ℕ → ℕ → ℕ) (w : FieldState) (du
   pub same_heard : (v : ℕ) → heard_by closed.air v ≡ heard_by w.air v
   same_heard v = ap (λ (hs : List Hearing). map reception_of (by_end (filter (λ (h : Hearing). h.node == v) hs))) over.hearings
 
-  -- the device at the place of a node, whose tuning the end of its trail ends
+  -- the device at the place of a node, whose tuning the end of its trace ends
   pub record IsTrailEnd (p v : ℕ) : Type 0 where
     pub device : Device
     pub shows : FieldShows (setup_of s v) (run_end s) w due p device
@@ -61,7 +61,7 @@ module _ (s : ScenarioParts) (clocks : ℕ → ℕ → ℕ) (w : FieldState) (du
       let end = at_place p n there in
       subst (λ (d : Device). IsLogged closed n.node d.made) (sym end.is) (over.own p (setup_of s n.node) end.device end.shows)
 
-  -- what a node has made by its trail is what the lists have of it
+  -- what a node has made by its trace is what the lists have of it
   pub logged : (v : ℕ) → knows s.nodes v ≡ true → IsLogged closed v (trail_in s clocks closed.air v).made
   logged v known =
       let at = place_of_known s.nodes v known in

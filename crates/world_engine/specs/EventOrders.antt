@@ -16,7 +16,7 @@ order_of OffRef = Off
 order_of (SendRef local packet) = SendAt local packet.now
 order_of (AlarmRef local) = Alarm local
 
--- an order whose packet stands beside it
+-- an order whose packet is next to it
 abbrev pub order_with : Option Kept → Option (List ℕ) → Option Order
 order_with None packet = None
 order_with (Some (KeptListen rank)) packet = Some (Listen rank)
@@ -29,7 +29,7 @@ order_with (Some (KeptAlarm local)) packet = Some (Alarm local)
 abbrev pub kept_in : Option Order → Option Order → Option Order → Option Order → List Order
 kept_in a b c d = option_to_list a ++ option_to_list b ++ option_to_list c ++ option_to_list d
 
--- how many places there are behind the last order
+-- how many places there are after the last order
 abbrev pub room_in : Option Order → Option Order → Option Order → Option Order → ℕ
 room_in a b c (Some x) = 0
 room_in a b (Some x) None = 1

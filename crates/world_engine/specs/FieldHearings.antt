@@ -1,4 +1,4 @@
--- What it does to a field that a sending is heard.
+-- What it does to a field that a transmission is received.
 use Rattle.std.specs.Prelude.{◌≡◌, ℕ, ◌<◌, List, [], ◌++◌, map, length, slice_index_or, All, Contains}
 use Rattle.radio_model.specs.declared.sending.Sending.{Sending}
 use Rattle.event_calendar.specs.Orders.{Due}
@@ -8,12 +8,12 @@ use Rattle.air_log.specs.Devices.{Device}
 use Rattle.world_engine.specs.Fields.{FieldState, FieldShows}
 use Rattle.world_engine.specs.FieldSteps.{MediumGoesOn, AreSame, hearing_at, told_of_hearing}
 
--- nodes stand at these places, each at its own
+-- nodes are at these places, each at its own
 pub record StandAtPlaces (ids nodes places : List ℕ) : Type 0 where
   pub within : All (λ q. q < length ids) places
   pub stand : map (λ q. slice_index_or ids q 0) places ≡ nodes
 
--- at tick t the devices at these places are told that they heard x, and nothing else happens
+-- at tick t the devices at these places are notified that they received x, and nothing else happens
 pub record AllHear (clocks : ℕ → ℕ → ℕ) (t : ℕ) (x : Sending) (hearers : List ℕ) (old : FieldState) (old_due : List Due) (new : FieldState)
     (new_due : List Due) : Type 0 where
   pub hearer : (q : ℕ) → Contains hearers q → (s : Setup) (d : Device) → FieldShows s t old old_due q d

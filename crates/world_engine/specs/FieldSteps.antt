@@ -30,14 +30,14 @@ use Rattle.air_log.specs.DeviceStates.{DeviceState, IsCoreAt, whole, with_tuned}
 use Rattle.air_log.specs.WindowSums.{WindowSum}
 use Rattle.world_engine.specs.Fields.{FieldState, FieldShows, IsLogged, entries_of, ids_of, setups_of, power_of}
 
--- a scene that the medium holds after a step at t: these sendings have begun, and nothing has changed before t
+-- a scene that the medium holds after a step at t: these transmissions have begun, and nothing has changed before t
 pub record IsSceneAfter (t : ℕ) (old new : MediumState) (begun : List Sending) (a b : Scene) : Type 0 where
   pub held : Holds new b
   pub lines : b.lines ≡ a.lines
   pub sendings : b.sendings ≡ a.sendings ++ begun
   pub before : Agree t (as_it_stands old t a) (as_it_stands new t b)
 
--- what the medium is told at t
+-- what the medium is given at t
 pub record MediumGoesOn (t : ℕ) (old new : MediumState) (begun : List Sending) : Type 0 where
   pub scene : (a : Scene) → Holds old a → (b : Scene) × IsSceneAfter t old new begun a b
   pub time : IsTime new t
@@ -53,7 +53,7 @@ pub record AreSame (old : FieldState) (old_due : List Due) (new : FieldState) (n
   pub entries : (e : Entry) → Contains new.air e → Contains old.air e ⊎ Contains (ids_of old) (node_of_entry e)
   pub deliverers : (d : Delivery) → Contains new.deliveries d → Contains old.deliveries d ⊎ Contains (ids_of old) d.node
 
--- at tick t the device at place p goes through this change, and nothing else happens but that these sendings begin and
+-- at tick t the device at place p goes through this change, and nothing else happens but that these transmissions begin and
 -- these puts are lost
 pub record Acts (t p : ℕ) (change : Setup → Device → Device) (begun : List Sending) (lost : List DropLine) (old : FieldState) (old_due : List Due)
     (new : FieldState) (new_due : List Due) : Type 0 where
@@ -65,7 +65,7 @@ pub record Acts (t p : ℕ) (change : Setup → Device → Device) (begun : List
   pub air : MediumGoesOn t old.medium new.medium begun
   pub same : AreSame old old_due new new_due
 
--- at tick t the device at place p is told this by a line of the script, and these puts of it are lost
+-- at tick t the device at place p is given this by a line of the script, and these puts of it are lost
 abbrev pub TakesLine : (ℕ → ℕ) → ScriptLine → ℕ → ℕ → Act → FieldState → List Due → FieldState → List Due → Type 0
 TakesLine clock line t p act old old_due new new_due =
     (lost : List DropLine) × Acts t p (λ s d. device_after_act clock s t line.frame d act d.power) [] lost old old_due new new_due
@@ -79,20 +79,20 @@ reading_of R (Some c) t = R c t
 abbrev pub readings_at : {C : Type 0} → (C → ℕ → ℕ) → List C → ℕ → ℕ → ℕ
 readings_at R cs p = reading_of R (slice_get cs p)
 
--- the device at that place hears x
+-- the device at that place receives x
 abbrev pub hearing_at : FieldState → Sending → ℕ → Hearing
 hearing_at w x p = record { node = slice_index_or (ids_of w) p 0; sending = x }
 
--- the sender of x is told of its end
+-- the sender of x is notified of its end
 abbrev pub told_of_end : (ℕ → ℕ) → ℕ → Sending → Setup → Device → Device
 told_of_end clock t x s d = event clock s t Sent (Some x) (record d { sending = None })
 
--- a device is told of what it has heard
+-- a device is notified of what it has received
 abbrev pub told_of_hearing : (ℕ → ℕ) → ℕ → Sending → Setup → Device → Device
 told_of_hearing clock t x s d = event clock s t (Heard x.packet) None d
 
--- at tick t the sending x of the device at place p ends: these devices, by ascending places, hear it by the rule of hearing,
--- each is told of it, and then the sender of the end
+-- at tick t the transmission x of the device at place p ends: these devices, by ascending places, receive it by the rule of reception,
+-- each is notified of it, and then the sender of the end
 pub record EndsSending (lines : Lines) (clocks : ℕ → ℕ → ℕ) (t p : ℕ) (x : Sending) (hearers : List ℕ) (old : FieldState) (old_due : List Due)
     (new : FieldState) (new_due : List Due) : Type 0 where
   pub ascending : AllPairs (λ a b. a < b) hearers
@@ -110,7 +110,7 @@ pub record EndsSending (lines : Lines) (clocks : ℕ → ℕ → ℕ) (t p : ℕ
   pub air : MediumGoesOn t old.medium new.medium []
   pub same : AreSame old old_due new new_due
 
--- whatever trail a device is of, if it sends x
+-- whatever trace a device is of, if it sends x
 abbrev pub DeviceSends : ℕ → FieldState → List Due → ℕ → Sending → Type 0
 DeviceSends t w due p x = (s : Setup) (d : Device) → FieldShows s t w due p d → d.sending ≡ Some x
 

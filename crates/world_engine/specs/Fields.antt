@@ -20,7 +20,7 @@ use Rattle.air_log.specs.WindowLogs.{WindowLog}
 use Rattle.air_log.specs.WindowSums.{WindowSum, IsCounted}
 use Rattle.air_log.specs.Courses.{tick_of_ordered}
 
--- deliveries and drops stand in the order in which they were made; sums: what the windows of each device count so far
+-- deliveries and drops are in the order in which they were made; sums: what the windows of each device count so far
 pub record FieldState : Type 0 where
   pub medium : MediumState
   pub devices : List DeviceState
@@ -55,7 +55,7 @@ abbrev pub entries_of : Option TunedEntry → List Entry
 entries_of None = []
 entries_of (Some e) = Tuned e ∷ []
 
--- what stands in the queue for a device
+-- what is in the queue for a device
 abbrev pub end_of : Sending → ℕ
 end_of x = x.end
 
@@ -89,7 +89,7 @@ pub record HasCounted (sums : List WindowSum) (p : ℕ) (s : Setup) (windows : L
   pub is : IsCounted s.profile s.sends windows sum
   pub few : s.sends ≤ 4
 
--- at tick t the device at the place, with all that it has made, is this one of a trail
+-- at tick t the device at the place, with all that it has made, is this one of a trace
 pub record FieldShows (s : Setup) (t : ℕ) (w : FieldState) (due : List Due) (p : ℕ) (d : Device) : Type 0 where
   pub state : DeviceState
   pub there : slice_get w.devices p ≡ Some state
@@ -103,7 +103,7 @@ pub record FieldShows (s : Setup) (t : ℕ) (w : FieldState) (due : List Due) (p
   pub happened : HappenedBy t state
   pub taken : state.delivery ≡ None
 
--- the device at the place is that of some trail
+-- the device at the place is that of some trace
 pub record FieldIsShown (t : ℕ) (w : FieldState) (due : List Due) (p : ℕ) : Type 0 where
   pub setup : Setup
   pub device : Device

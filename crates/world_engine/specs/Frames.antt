@@ -16,7 +16,7 @@ pub record CountsScriptLinesBefore (s : ScenarioParts) (k f : ℕ) : Type 0 wher
   pub before : (i : ℕ) (l : ScriptLine) → slice_get s.script i ≡ Some l → i < k → l.frame < f
   pub behind : (i : ℕ) (l : ScriptLine) → slice_get s.script i ≡ Some l → k ≤ i → f ≤ l.frame
 
--- the line stands behind these lines of the script, and is told at tick t
+-- the line is after these lines of the script, and is given at tick t
 pub record IsNextLine (s : ScenarioParts) (t : ℕ) (told : List ScriptLine) (l : ScriptLine) : Type 0 where
   pub rest : List ScriptLine
   pub is : s.script ≡ told ++ l ∷ rest
@@ -26,6 +26,6 @@ pub record IsNextLine (s : ScenarioParts) (t : ℕ) (told : List ScriptLine) (l 
 abbrev pub order_key : ℕ → Class → ℕ → ℕ
 order_key t c p = (t * 3 + rank c) * 64 + p
 
--- all that stands comes later than what stood at tick t, of this class, at this place
+-- all that is comes later than what was at tick t, of this class, at this place
 abbrev pub AllComeLater : ℕ → Class → ℕ → List Due → Type 0
 AllComeLater t c p due = (y : Order) → Stands due y → order_key t c p < order_key y.0 y.1 y.2

@@ -31,13 +31,13 @@ pub record HasPlaces (s : ScenarioParts) (w : FieldState) (due : List Due) : Typ
   pub field : IsField w
   pub places : length due ≡ length s.nodes
 
--- the device at the place of v has come to this moment of its trail over what is in the log
+-- the device at the place of v has come to this moment of its trace over what is in the log
 pub record IsOnTrail (s : ScenarioParts) (clocks : ℕ → ℕ → ℕ) (t : ℕ) (m : TickMoment) (w : FieldState) (due : List Due) (p v : ℕ) : Type 0 where
   pub device : Device
   pub shows : FieldShows (setup_of s v) t w due p device
   pub at : IsAtMoment s (clocks v) (heard_by w.air v) v t m device
 
--- the sending is on the air
+-- the transmission is on the air
 abbrev pub Runs : MediumState → Sending → Type 0
 Runs m x = sending_of_station (station_of m x.node) ≡ Some x
 
@@ -54,14 +54,14 @@ pub record HoldsScene (s : ScenarioParts) (t : ℕ) (w : FieldState) (due : List
   pub known : (e : Entry) → Contains w.air e → Contains (ids_of w) (node_of_entry e)
   pub deliverers : (d : Delivery) → Contains w.deliveries d → Contains (ids_of w) d.node
 
--- of the sendings that are over the log has who heard them, by the rule of hearing
+-- of the transmissions that are over the log has who received them, by the rule of reception
 pub record HasHearings (over t : ℕ) (w : FieldState) (a : Scene) : Type 0 where
   pub heard : (v : ℕ) (x : Sending) → HasHeardEntry w.air v x
       ↔ (Contains (sendings_of w.air) x × (Runs w.medium x → ⊥) × Contains (ids_of w) v × HearsInScene (as_it_stands w.medium t a) v x)
   pub ended : (x : Sending) → Contains (sendings_of w.air) x → (Runs w.medium x → ⊥) → x.end < over
   pub once : AllPairs (λ g h. g ≢ h) (hearings_of w.air)
   pub in_turn : AreInTurn (hearings_of w.air)
-  -- what still runs ends after what was heard, or at the same tick and is of a later sender
+  -- what still runs ends after what was received, or at the same tick and is of a later sender
   pub next : (g : Hearing) (y : Sending) → Contains (hearings_of w.air) g → Runs w.medium y
       → reception_comes_before g (record { node = y.node; sending = y }) ≡ true
 
@@ -70,7 +70,7 @@ pub record IsOnAir (s : ScenarioParts) (over t : ℕ) (w : FieldState) (due : Li
   pub holds : HoldsScene s t w due scene
   pub has : HasHearings over t w scene
 
--- these lines of the script have been told
+-- these lines of the script have been given
 pub record HasTakenLines (s : ScenarioParts) (clocks : ℕ → ℕ → ℕ) (told : List ScriptLine) (t : ℕ) (w : FieldState) (due : List Due) : Type 0 where
   pub drops : w.drops ≡ trail_drops_below s clocks w.air [] told
   pub power : (q : Setup) (p : ℕ) (d : Device) → FieldShows q t w due p d → seen_power d.power ≡ turned q.id (false, 0) told

@@ -19,13 +19,13 @@ use Rattle.air_log.specs.Drops.{drops_of}
 use Rattle.air_log.specs.Courses.{tick_of_ordered}
 use Rattle.world_engine.specs.Fields.{end_of}
 
--- the core of each node of the scenario that is on at the end is in the state in which its trail leaves it
+-- the core of each node of the scenario that is on at the end is in the state in which its trace leaves it
 abbrev pub IsCoreOf : Option NodeState → Power → Type 0
 IsCoreOf core (PowerOff boots) = Unit {0}
 IsCoreOf None (PowerOn n) = ⊥
 IsCoreOf (Some core) (PowerOn n) = core.node ≡ n
 
--- what stands at a node at the end: the end of its sending that runs, its alarm, and its ordered sending that has not begun
+-- what is at a node at the end: the end of its transmission that runs, its alarm, and its ordered transmission that has not begun
 abbrev pub standing : Device → Due
 standing d = record { sending_end = option_map end_of d.sending; alarm = d.alarm; sending_start = option_map tick_of_ordered d.ordered }
 
@@ -36,8 +36,8 @@ standing_at s clocks air n = standing (trail_in s clocks air n.node)
 abbrev pub orders_left : ScenarioParts → (ℕ → ℕ → ℕ) → List Entry → List Due
 orders_left s clocks air = map (standing_at s clocks air) s.nodes
 
--- a sound scenario over clocks of the drift law, a lawful log, the deliveries and drops of its trails, and the cores where the
--- trails leave them
+-- a sound scenario over clocks of the drift law, a valid log, the deliveries and drops of its traces, and the cores where the
+-- traces leave them
 pub record IsEngineRun (s : ScenarioParts) (clocks : ℕ → ℕ → ℕ) (air : List Entry) (made : List Delivery) (lost : List DropLine)
     (core : ℕ → Option NodeState) : Type 0 where
   pub sound : IsSoundScenario s

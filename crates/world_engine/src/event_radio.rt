@@ -8,7 +8,7 @@ ghost use Rattle.world_engine.specs.EventOrders.{no_orders, order_of, order_with
 use lwb_base::{Packet, Radio, Rank};
 use std::marker::Model;
 
-// An order whose packet stands elsewhere.
+// An order whose packet is elsewhere.
 #[derive(Clone, Copy)]
 pub(crate) enum OrderRef<'a> {
     Listen(Rank),
@@ -26,7 +26,7 @@ enum Kept {
     Alarm(u64),
 }
 
-// A place for an order. A packet is long, so that of a SendAt stands by itself, and the other orders leave it alone.
+// A place for an order. A packet is long, so that of a SendAt is alone, and the other orders leave it alone.
 // Contracts see the order that is kept there, if one is.
 #[derive(Drop)]
 struct Place {
@@ -77,7 +77,7 @@ impl Place {
         }
     }
 
-    // With the packet of a SendAt. What stood here goes.
+    // With the packet of a SendAt. What was here goes.
     #[inline]
     fn fill(&mut self, kept: Kept, packet: Option<&Packet>)
         ensures { (order : OrderOf) → order_with (Some kept) (option_copied packet.entry) ≡ Some order → self.new ≡ Some order }
@@ -89,7 +89,7 @@ impl Place {
     }
 }
 
-// A copy of the packet goes there. It stands by itself, since the room for it is only to be made ready where one comes.
+// A copy of the packet goes there. It is alone, since the room for it is only to be made ready where one comes.
 fn put(there: &mut Option<Packet>, packet: &Packet)
     ensures { there.new ≡ Some packet.now }
 {
@@ -145,7 +145,7 @@ impl EventRadio {
         self.count = 0;
     }
 
-    // The order at that place, counted from 0. None comes exactly where it keeps no more than so many.
+    // The order at that place, counted from 0. None comes if and only if it keeps no more than this many.
     pub(crate) fn at(&self, place: usize) -> Option<OrderRef<'_>>
         ensures order { option_map order_of result ≡ slice_get self.now.given place }
         ensures few { length self.now.given ≤ 4 }
@@ -159,7 +159,7 @@ impl EventRadio {
         }
     }
 
-    // One more order, behind all others, with the packet of a SendAt.
+    // One more order, after all others, with the packet of a SendAt.
     #[inline]
     #[tactic(auto, using(crate::proofs::FilledPlaces::first_filled))]
     fn keep(&mut self, kept: Kept, packet: Option<&Packet>)

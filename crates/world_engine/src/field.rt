@@ -59,8 +59,8 @@ impl Model for Field {
 }
 
 impl Field {
-    // The device at the place is told of an event at tick t, and what it orders is done. A Sent comes with the packet of the
-    // sending that ended. What the radio kept before goes: it is handed down for its room alone, which takes long to make.
+    // The device at the place is notified of an event at tick t, and what it orders is done. A Sent comes with the packet of the
+    // transmission that ended. What the radio kept before goes: it is handed down for its room alone, which takes long to make.
     pub(crate) fn tell<C: DriftClock, Q: Orders>(
         &mut self,
         orders: &mut Q,
@@ -183,7 +183,7 @@ impl Field {
         unreachable!()
     }
 
-    // The ordered sending of the device at the place, which stands at tick t, starts if it can.
+    // The ordered transmission of the device at the place, which is at tick t, starts if it can.
     pub(crate) fn begin<Q: Orders>(
         &mut self,
         orders: &mut Q,

@@ -20,7 +20,7 @@ impl Field {
         }
     }
 
-    // What the listening of each device came to, which was counted in so many frames.
+    // What the listening of each device came to, which was counted in this many frames.
     pub(crate) fn charges(&self, alloc: Global, scanned: &[u32]) -> Result<Vec<NodeCharge>, Memory>
         requires { length scanned.now ≤ length self.now.sums }
         ensures { IfOk result (λ v. AreCharges self.now.sums scanned.now v.items) }
@@ -37,7 +37,7 @@ impl Field {
     }
 }
 
-// At so many places.
+// At this many places.
 pub(crate) fn none_scanned(alloc: Global, places: usize) -> Result<Vec<u32>, Memory>
     ensures { IfOk result (λ v. v.items ≡ replicate places 0) }
 {

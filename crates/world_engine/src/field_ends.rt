@@ -23,7 +23,7 @@ use radio_model::sending::Sending;
 use tick_clock::DriftClock;
 
 impl Field {
-    // The sending of the device at the place ends at tick t: those who hear it are told, and then the device itself.
+    // The transmission of the device at the place ends at tick t: those who receive it are given, and then the device itself.
     pub(crate) fn end<C: DriftClock, Q: Orders, M: Links>(
         &mut self,
         orders: &mut Q,
@@ -63,7 +63,7 @@ impl Field {
         )
     }
 
-    // These nodes hear the sending that has ended.
+    // These nodes receive the transmission that has ended.
     fn hear_all<C: DriftClock, Q: Orders>(
         &mut self,
         orders: &mut Q,
@@ -90,7 +90,7 @@ impl Field {
         Ok(())
     }
 
-    // The device at the place hears it.
+    // The device at the place receives it.
     fn hear<C: DriftClock, Q: Orders>(
         &mut self,
         orders: &mut Q,

@@ -21,7 +21,7 @@ use scenario_text::{Act, ScriptLine};
 use tick_clock::DriftClock;
 
 impl Field {
-    // A line of the script is told to the device at the place, at tick t.
+    // A line of the script is given to the device at the place, at tick t.
     pub(crate) fn act<C: DriftClock, Q: Orders>(
         &mut self,
         orders: &mut Q,

@@ -22,7 +22,7 @@ use std::alloc::Global;
 use tick_clock::DriftClock;
 
 impl Field {
-    // All frames. What is told and what is due in a frame is done before the next one begins. It gives back in how many of
+    // All frames. What is given and what is due in a frame is done before the next one begins. It gives back in how many of
     // them each device scans, by its place.
     pub(crate) fn frames<C: DriftClock, Q: Orders>(
         &mut self,
@@ -84,7 +84,7 @@ impl Field {
         Ok(told)
     }
 
-    // The next line of the script is told at tick t.
+    // The next line of the script is given at tick t.
     fn line<C: DriftClock, Q: Orders>(
         &mut self,
         orders: &mut Q,
@@ -163,7 +163,7 @@ impl Field {
         }
     }
 
-    // The sending of the device at the place ends at tick t.
+    // The transmission of the device at the place ends at tick t.
     fn end_due<C: DriftClock, Q: Orders>(
         &mut self,
         orders: &mut Q,

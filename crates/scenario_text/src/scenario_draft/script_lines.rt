@@ -85,7 +85,7 @@ impl ScenarioDraft {
         self.push_act(frame, node, Act::Put(stream as u8, payload))
     }
 
-    // The frame and the node of a line of the script, where nodes are told something.
+    // The frame and the node of a line of the script, where nodes are given something.
     fn told_node(&self, frame: u64, id: u64) -> Result<(u32, NodeId), FaultKind>
         ensures fault { RefusesBy result (first_fault ((is_frame self.now.frames frame && is_id_of id, Range)
             ∷ (knows self.now.network.nodes id, UnknownNode) ∷ (in_script_order self.now frame, Order) ∷ [])) }

@@ -67,7 +67,7 @@ returns-then-line-frame-clause-nodes c =
     c.loop-next.invariant.nodes_are ∙ ap (nodes_with c.args.s.now (prior_ranks c.args.s.now c.args.frame))
     (λ i v. all_told c.args.s.now c.args.frame c.loop-next.next (later c) v i)
 
--- a line that is told
+-- a line that is given
 pub tell_line-requires-clause-ascending : goal.tell_line-requires-clause-ascending
 tell_line-requires-clause-ascending c =
     ids_ascend c.args.s.now (sound c.args.s.now c.script-script.ensures.said) c.loop-next.net.ids (c.loop-next.invariant.ready 1000000 c.requires.ready).ids_are

@@ -4,7 +4,7 @@ use Rattle.text_readers.specs.Faults.{draft_after_lines}
 use Rattle.text_readers.specs.Reading.{draft_after_line}
 use Rattle.text_readers.proofs.reading.read_lines.Given as goal
 
--- what the whole says is what the rest says behind the draft
+-- what the whole says is what the rest says after the draft
 abbrev pub invariant-loop-rest : goal.invariant-loop-rest
 invariant-loop-rest g l = record {
   said : draft_after_lines (draft_after_line g.D.Draft.after) 1 l.fn.draft (lines l.bytes)

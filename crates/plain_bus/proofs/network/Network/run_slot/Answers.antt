@@ -47,7 +47,7 @@ close_all-requires-clause-ascending c =
     ids_ascend c.args.s.now (sound c.args.s.now c.profile-profile.ensures.said) c.deref-5.result.now
     (c.deref-5.ensures.value ∙ ap (λ (n : Network). n.ids) c.self.view_is ∙ c.requires.ready.ids_are)
 
--- the nodes before the slot, where it opened, and behind it
+-- the nodes before the slot, where it opened, and after it
 olds : (c : goal.After-self-3-1) → c.deref_mut.result.now ≡ c.args.self.now.nodes
 olds c = c.deref_mut.ensures.value ∙ ap (λ (n : Network). n.nodes) c.self.view_is
 
