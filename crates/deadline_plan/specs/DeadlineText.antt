@@ -16,6 +16,7 @@ use Rattle.deadline_plan.specs.Admission.{PlanOfDeadlines, has_stream_of}
 use Rattle.deadline_plan.specs.declared.line.DeadlineLine.{DeadlineLine}
 use Rattle.deadline_plan.specs.declared.line.DeadlineLine.TheVariants.{Slots, Frames, Stream}
 use Rattle.deadline_plan.specs.declared.stream.DeadlineStream.{DeadlineStream}
+use Rattle.lwb_packets.specs.Ranges.{between}
 
 -- what the words say, if they are those of a line
 unfoldable pub deadline_line : List (List ℕ) → Option DeadlineLine
@@ -34,9 +35,6 @@ pub record DraftedPlan : Type 0 where
 
 abbrev pub empty_plan_draft : DraftedPlan
 empty_plan_draft = record { slots = None; frames = None; streams = [] }
-
-abbrev pub between : ℕ → ℕ → ℕ → Bool
-between low high n = nat_le low n && nat_le n high
 
 abbrev pub are_in_range : ℕ → ℕ → ℕ → ℕ → ℕ → Bool
 are_in_range node stream start period deadline =

@@ -3,7 +3,8 @@
 ghost use Rattle.std.specs.Prelude.{◌≡◌, OnOk};
 ghost use Rattle.text_readers.specs.Faults.{Refuses, RefusesBy};
 ghost use Rattle.deadline_plan.specs.DeadlineText.{empty_plan_draft, deadline_rule_fault, with_deadline_line, plan_after_words};
-ghost use Rattle.deadline_plan.specs.DeadlineText.{plan_of_parts, between as between_of, are_in_range as are_in_range_of};
+ghost use Rattle.lwb_packets.specs.Ranges.{between as between_of};
+ghost use Rattle.deadline_plan.specs.DeadlineText.{plan_of_parts, are_in_range as are_in_range_of};
 ghost use Rattle.deadline_plan.specs.declared.line.DeadlineLine.TheVariants.{Slots, Frames, Stream};
 
 use crate::admission::has_owner;
