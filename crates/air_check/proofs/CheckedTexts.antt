@@ -63,7 +63,7 @@ module _ (bytes above : List ℕ) (count : ℕ) (below : Option (List ℕ)) (div
       pub log_fault : (e : ParseFault) → IsAsDefined {A = List Entry} (Err e) (log_of s (count + 1) b) → IsAsDefined {A = Checked} (Err e) (checked_text bytes)
       log_fault e is =
           subst (λ (r : Result Checked (ℕ × FaultKind)). IsAsDefined {A = Checked} (Err e) r) (sym of_log)
-              (err_goes_on e (log_of s (count + 1) b) (with_log s) is)
+          (err_goes_on e (log_of s (count + 1) b) (with_log s) is)
 
       pub read : (air : List Entry) → log_of s (count + 1) b ≡ Ok air → checked_text bytes ≡ Ok (s, air)
       read air is = of_log ∙ ap (λ (r : Result (List Entry) (ℕ × FaultKind)). r >>= with_log s) is

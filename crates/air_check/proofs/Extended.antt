@@ -276,7 +276,7 @@ same_tunings ts raw sorts es is same are =
     let back : (t : Tuning) → Contains (map tuning_of_tuned sorts) t → Contains ts t =
     λ t there. subst (λ (l : List Tuning). Contains l t) is
     (Contains-permutation (map tuning_of_tuned sorts) (map tuning_of_tuned raw) t
-        (IsPermutation-sym (map tuning_of_tuned raw) (map tuning_of_tuned sorts) across) there) in
+    (IsPermutation-sym (map tuning_of_tuned raw) (map tuning_of_tuned sorts) across) there) in
     record {
       in_order = are.in_order;
       of_them = λ e there. (

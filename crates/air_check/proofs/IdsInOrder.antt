@@ -37,7 +37,7 @@ module _ (s : ScenarioParts) (clocks : ℕ → ℕ → ℕ) (air : List Entry) (
 
   pub all_follow : (logs : List NodeLogState) (id : ℕ) → 201 ≤ id → length logs ≡ 201
       → ((v : ℕ) → id ≤ v → get_or logs v empty_node_log ≡ log_by air v) → id ≤ 201 → ((v : ℕ) → v < id → FollowsTrail s clocks air v)
-          → FollowsTrails s clocks air
+      → FollowsTrails s clocks air
   all_follow logs id over long left few followed = record { sent = λ v. (at v).sent; tuned = λ v. (at v).tuned }
     where
       at : (v : ℕ) → FollowsTrail s clocks air v

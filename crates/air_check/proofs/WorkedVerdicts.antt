@@ -90,8 +90,10 @@ one_less = record {
     one_too_many same = omega (arith, three, length_permutation (trail_sent first_round true_time first_reception_lost 2) (sent_by first_reception_lost 2) same)
 
     host : FollowsTrail first_round true_time first_reception_lost 1
-    host = record { sent = same_list _ _ first_round_sent_by_host host_trail.sendings refl;
-        tuned = same_list _ _ first_round_tuned_by_host host_trail.tunings refl }
+    host = record {
+      sent = same_list _ _ first_round_sent_by_host host_trail.sendings refl;
+      tuned = same_list _ _ first_round_tuned_by_host host_trail.tunings refl;
+    }
 
     below : (u : ℕ) → u < 2 → FollowsTrail first_round true_time first_reception_lost u
     below zero low = record { sent = IsPermutation-refl []; tuned = IsPermutation-refl [] }

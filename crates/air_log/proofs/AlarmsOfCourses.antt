@@ -46,8 +46,13 @@ module _ (clock : ℕ → ℕ) (t : ℕ) where
         let shown = taken.goes q d shows in
         shows_as q t now (after_alarms clock q t k d) (alarmed clock q t d) shown
         (runs_agree clock q t d (after_alarms clock q t k d) (alarmed clock q t d)
-        (record { count = k; is = refl; due = taken.due q d shows; over = ap (alarm_is_due t) (sym (alarm_shown q t now (after_alarms clock q t k d) shown))
-            ∙ over })
+        (record {
+          count = k;
+          is = refl;
+          due = taken.due q d shows;
+          over = ap (alarm_is_due t) (sym (alarm_shown q t now (after_alarms clock q t k d) shown))
+              ∙ over;
+        })
         runs)
 
     pub few_taken : IsShownEnding clock t (λ q d. d) old → k ≤ clock t + 300

@@ -29,7 +29,7 @@ counts_few p n (w ∷ ws) small =
         by : (b : Bool) → (if b then Rattle.air_log.specs.Charges.charge_by_last p
             (Rattle.bus_rules.specs.Charges.last_if_all_sent n (Rattle.air_log.specs.Charges.sent_packets w)) else 0) ≤ 2 ^ 28
             → (if b then Rattle.air_log.specs.Charges.charge_by_last p
-                (Rattle.bus_rules.specs.Charges.last_if_all_sent n (Rattle.air_log.specs.Charges.sent_packets w)) else 0)
+            (Rattle.bus_rules.specs.Charges.last_if_all_sent n (Rattle.air_log.specs.Charges.sent_packets w)) else 0)
             ≤ 2 ^ 28 * (if b then 1 else 0)
         by true less = omega (arith, less)
         by false less = omega arith

@@ -22,7 +22,7 @@ module _ (clock : ℕ → ℕ) (t : ℕ) (e : Event) (ended : Option Sending) (s
 
   pub counted_then : (s : Setup) (power : Power) (made : Made) → state.power ≡ power → IsCounted p n made.windows x
       → (noted (power_has_window state.power) (power_has_window (state_after_row state (row_at clock t e s power)).power) (is_alarm e) (sent_with e ended)
-          x).last ≤ 2 ^ 28
+      x).last ≤ 2 ^ 28
       → IsCounted p n (made_by t e ended power (row_at clock t e s power) made).windows
       (noted (power_has_window state.power) (power_has_window (state_after_row state (row_at clock t e s power)).power) (is_alarm e) (sent_with e ended) x)
   counted_then s (PowerOff boots) made at is less = rw at is

@@ -127,13 +127,13 @@ module _ (clock : ℕ → ℕ) (t : ℕ) (e : Event) (ended : Option Sending) (o
       let made : delivery ≡ (state_after_row old.device r).delivery = is_delivery ∙ ap (λ (d : DeviceState). d.delivery) is_moved in
       let opens : after_b ≡ power_has_window (state_after_row old.device r).power = is_open ∙ ap (λ (d : DeviceState). power_has_window d.power) is_moved in
       let sums : windows ≡ noted (power_has_window old.device.power) (power_has_window (state_after_row old.device r).power) (is_alarm e) (sent_with e
-          ended) old.windows =
+      ended) old.windows =
       is_windows
       ∙ ap (λ (b : Bool). noted b after_b alarm sent old.windows) is_before
       ∙ ap (λ (b : Bool). noted (power_has_window old.device.power) b alarm sent old.windows) opens
       ∙ ap (λ (b : Bool). noted (power_has_window old.device.power) (power_has_window (state_after_row old.device r).power) b sent old.windows) is_alarm_now
       ∙ ap (λ (o : Option (List ℕ)). noted (power_has_window old.device.power) (power_has_window (state_after_row old.device r).power) (is_alarm e) o
-          old.windows) is_sent in
+      old.windows) is_sent in
       is_new
       ∙ ap (λ (d : DeviceState). record old { device = d; deliveries = old.deliveries ++ option_to_list delivery; windows = windows }) device
       ∙ ap (λ (o : Option Delivery). record old { device = reacted old.device r; deliveries = old.deliveries ++ option_to_list o; windows = windows }) made

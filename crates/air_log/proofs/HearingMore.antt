@@ -26,4 +26,4 @@ heard_now clock s t hs h d now =
     let with_it : ending_at t (hs ++ h ∷ []) ≡ ending_at t hs ++ h ∷ [] =
     filter-append (λ (g : Reception). g.end == t) hs (h ∷ []) ∙ ap (λ (l : List Reception). ending_at t hs ++ l) one in
     ap (λ (l : List Reception). fold (device_after_reception clock s t) d l) with_it
-        ∙ fold-append (device_after_reception clock s t) d (ending_at t hs) (h ∷ [])
+    ∙ fold-append (device_after_reception clock s t) d (ending_at t hs) (h ∷ [])

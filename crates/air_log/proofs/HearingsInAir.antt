@@ -72,10 +72,10 @@ put_same : (h : HeardEntry) (gs : List HeardEntry) → put_in (hearing_of h) (ma
 put_same h [] = refl
 put_same h (g ∷ gs) =
     ap (λ (l : List Hearing). if reception_comes_before (hearing_of g) (hearing_of h) then hearing_of g ∷ l else hearing_of h ∷ hearing_of g
-        ∷ map hearing_of gs)
+    ∷ map hearing_of gs)
     (put_same h gs)
     ∙ ap (λ (b : Bool). if b then hearing_of g ∷ map hearing_of (with_inserted before h gs) else hearing_of h ∷ hearing_of g ∷ map hearing_of gs)
-        (same_order g h)
+    (same_order g h)
     ∙ by (before g h)
   where
     by : (b : Bool) → (if b then hearing_of g ∷ map hearing_of (with_inserted before h gs) else hearing_of h ∷ hearing_of g ∷ map hearing_of gs)

@@ -46,7 +46,7 @@ module _ (clock : ℕ → ℕ) (hs : List HeardEntry) (t : ℕ) where
     goes =
         λ q d shows. shows_as q t c d (so_far k q d) shows
         (sym (ap (λ (xs : List HeardEntry). fold (device_after_reception clock q t) d (map reception_in xs))
-            (none_yet end_of_reception hs (ends t) t keyed k cut)));
+        (none_yet end_of_reception hs (ends t) t keyed k cut)));
   }
 
   pub one_more_heard : (k : ℕ) (old now : CourseState) → AreHeard k old now → (h : HeardEntry) → slice_get hs k ≡ Some h → h.end ≡ t → (last : CourseState)
@@ -57,7 +57,7 @@ module _ (clock : ℕ → ℕ) (hs : List HeardEntry) (t : ℕ) where
         let front = filter (ends t) (take k hs) in
         let more : filter (ends t) (take (k + 1) hs) ≡ front ++ h ∷ [] =
         filter_more end_of_reception hs (ends t) k h at
-            ∙ ap (λ (xs : List HeardEntry). front ++ xs) (cond-true (h.end == t) (h ∷ []) [] (eq-eqb h.end t same)) in
+        ∙ ap (λ (xs : List HeardEntry). front ++ xs) (cond-true (h.end == t) (h ∷ []) [] (eq-eqb h.end t same)) in
         shows_as q t last (device_after_reception clock q t (so_far k q d) (reception_in h)) (so_far (k + 1) q d) (goes q (so_far k q d) (heard.goes q d shows))
         (sym (ap (λ (xs : List HeardEntry). fold (device_after_reception clock q t) d (map reception_in xs)) more
         ∙ ap (fold (device_after_reception clock q t) d) (map-append reception_in front (h ∷ []))

@@ -94,7 +94,7 @@ module _ (clock : ℕ → ℕ) (s : ScenarioParts) (sound : IsSoundScenario s) (
 
     fold_by : (b c : Bool) (q : Setup) (x : Device) → c ≡ true
         → fold (device_after_line clock q (frame_start s f)) x (if b && c then l ∷ [] else [])
-            ≡ (if b then device_after_line clock q (frame_start s f) x l else x)
+        ≡ (if b then device_after_line clock q (frame_start s f) x l else x)
     fold_by true true q x is = refl
     fold_by false c q x is = refl
     fold_by true false q x is = cc

@@ -221,7 +221,7 @@ by_two x node lasts is =
           let at : first ≡ record { before = is.flood; event = Heard is.heard } =
           ap (λ (v : ℕ). record { before = first_flood two_node_flood v; event = Heard first_sending }) (sym node) ∙ same in
           let answer : Relay (packet_with 1) ≡ Relay x.packet =
-              ap (λ (o : EventOccasion). reply_to o.before (sending_of_event o.event).packet) at ∙ is.answer in
+          ap (λ (o : EventOccasion). reply_to o.before (sending_of_event o.event).packet) at ∙ is.answer in
           let end : 1344096768 ≡ is.heard.end = ap (λ (o : EventOccasion). (sending_of_event o.event).end) at in
           let start : x.start ≡ 1344109056 = is.start ∙ ap (λ (e : ℕ). due (λ t. t) (e + 12288)) (sym end) ∙ due_then 1344109056 (omega arith) in
           ap (λ (v : ℕ). sending_at v 1344109056 (packet_with 1)) (sym node) ∙ ap (λ (t : ℕ). sending_at x.node t (packet_with 1)) (sym start)

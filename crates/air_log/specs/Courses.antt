@@ -104,7 +104,7 @@ sending_end x = x.end
 abbrev pub least_due : DeviceState → Option HeardEntry → ℕ → ℕ
 least_due d h until =
     least_of (least_of (least_of (least_of until d.alarm) (option_map tick_of_ordered d.ordered)) (option_map sending_end d.sending))
-        (option_map end_of_reception h)
+    (option_map end_of_reception h)
 
 -- what comes before the alarms of a tick, after its script lines, and with its alarms and its start
 abbrev pub before_alarms_in : (ℕ → ℕ) → Setup → ℕ → List Reception → Device → Device

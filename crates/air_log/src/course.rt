@@ -142,7 +142,7 @@ impl Course {
         requires early { t ≤ 2 ^ 45 }
         ensures { OnOk result ((q : Setup) (d : DeviceOf) → CourseShows q t self.old d
             → IsAlarmRun (C.readings clock.now) q t d (alarmed (C.readings clock.now) q t d)
-                → CourseShows q t self.new (alarmed (C.readings clock.now) q t d)) }
+            → CourseShows q t self.new (alarmed (C.readings clock.now) q t d)) }
     {
         // There are fewer of them than this.
         for _ in 0..u64::MAX {

@@ -130,7 +130,7 @@ impl Course {
         ensures power { IfOk result (λ told. seen_power self.new.device.power ≡ turned self.old.device.setup.id (false, 0) (take told s.now.script)) }
         ensures goes { OnOk result (Goes (frame_start s.now frame)
             (λ q d. fold (device_after_line (C.readings clock.now) q (frame_start s.now frame)) d (lines_at s.now q.id (frame_start s.now frame))) self.old
-                self.new) }
+            self.new) }
     {
         let t = u64::from(frame) * s.profile().frame();
         let mut told = first;

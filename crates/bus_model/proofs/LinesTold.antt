@@ -95,7 +95,7 @@ module _ (s : ScenarioParts) (f : ℕ) where
   pub node_told : (ranks : ℕ → ℕ) (n : ℕ) (l : ScriptLine) → n < length s.script → l ≡ get_or s.script n l → l.frame ≡ f → AllPairs (λ a b. a < b) (ids s.nodes)
       → (i : ℕ) → i < length (ids s.nodes) → get_or (ids s.nodes) i 0 ≡ l.node → (d : BusNode)
       → set (nodes_with s ranks (told_at s f n)) i (node_after_line l (get_or (nodes_with s ranks (told_at s f n)) i d))
-          ≡ nodes_with s ranks (told_at s f (n + 1))
+      ≡ nodes_with s ranks (told_at s f (n + 1))
   node_told ranks n l below at is ascending i near here d =
       let g = bus_node s ranks (told_at s f n) in
       let h = bus_node s ranks (told_at s f (n + 1)) in
@@ -108,7 +108,7 @@ module _ (s : ScenarioParts) (f : ℕ) where
       (let u : ℕ = get_or (ids s.nodes) k 0 in
       ap (λ (x : State). record (g u) { state = x }) (sym (told_more n l below at is u
       ∙ ap (λ (b : Bool). if b then state_after_line (told_at s f n u) l else told_at s f n u)
-          (ne_eqb l.node u (λ same. differ k there other (here ∙ same)))))))
+      (ne_eqb l.node u (λ same. differ k there other (here ∙ same)))))))
     where
       differ : (k : ℕ) → k < length (ids s.nodes) → (k ≡ i → ⊥) → get_or (ids s.nodes) i 0 ≡ get_or (ids s.nodes) k 0 → ⊥
       differ k there other same = elim (cases_lt k i) [

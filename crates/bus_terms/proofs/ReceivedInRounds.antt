@@ -124,7 +124,7 @@ module _ (s : ScenarioParts) (rank f owner : ℕ) where
     nothing_at_owner : accepted_at x (node_of owner) ≡ None
     nothing_at_owner =
         ap (λ (a : Option (ℕ × ℕ)). option_and_then (λ a. message_said (x.window a.0)) a)
-            (accepted_none x.flood (node_of owner) (λ o k a. refused o k a initiators))
+        (accepted_none x.flood (node_of owner) (λ o k a. refused o k a initiators))
       where
         refused : (o k : ℕ) → Accepts x.flood (node_of owner) o k
             → (x.flood.initiators ≡ []) ⊎ ((x.flood.initiators ≡ node_of owner ∷ []) × (is_some (message_said (x.window (node_of owner))) ≡ true)) → ⊥

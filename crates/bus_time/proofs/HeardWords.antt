@@ -47,7 +47,7 @@ module _ (s : ScenarioParts) (clocks : ℕ → ℕ → ℕ) (air : List Entry) (
       (zero_good s clocks air whole.run y also)) in
       subst (λ (e : ℕ). e < y.start) (sym is.lasts)
       (slots_apart p b (run_fits s whole.run.driven.sound) host first other is.zero also.zero f (slot_of_sending x) (slot_of_sending y) (length x.packet)
-          (length y.packet)
+      (length y.packet)
       (counter_of_sending x) (counter_of_sending y) x.start y.start drifts first_drifts other_drifts
       less (slot_in_round s clocks air whole.run y also) (packet_short s clocks air whole.run x is) (zero_good s clocks air whole.run x is) good
       (in_flood s clocks air whole.run x is) (in_flood s clocks air whole.run y also))

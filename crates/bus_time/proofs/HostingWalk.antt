@@ -179,7 +179,7 @@ module _ (s : ScenarioParts) (clocks : ℕ → ℕ → ℕ) (air : List Entry) (
         let y = starts.schedule in
         let host : IsHostOf s x.rank v =
         (subst (MaySay s clocks air v x.rank (frame_of_sending s.profile x) of_flood.zero (slot_of_sending x) (sender_hosts s clocks air x)) starts.says
-            begun.start.says).host in
+        begun.start.says).host in
         let h : HostsInOrder s x.rank t (suc t) (with_start d x) = behind.host x.rank host in
         let lives = subst (LivesBy h.life (t / s.profile.frame)) about.on h.lives in
         let stands : ByPower x.rank h.life true = subst (ByPower x.rank h.life) lives.on h.quiet.stands in

@@ -166,7 +166,7 @@ module _ (s : ScenarioParts) (clocks : ℕ → ℕ → ℕ) (air : List Entry) (
       let one = alike s air x d e h k is also in
       let zero : zero_from p (L h.end) h.packet ≡ zero_from p (L k.end) k.packet =
       zero_same p (L h.end) (L k.end) (length h.packet) (length k.packet) (counter_of_sending h) (counter_of_sending k) (slot_of_sending h)
-          (slot_of_sending k) (ap L one.end)
+      (slot_of_sending k) (ap L one.end)
       (same_length h.packet k.packet bodies) step.counter step.slot.slot in
       tick_same (frame_of_sending p x * p.frame + p.lead + L x.start) (zero_from p (L h.end) h.packet) (zero_from p (L k.end) k.packet) d e p.frame zero
-          one.ahead
+      one.ahead

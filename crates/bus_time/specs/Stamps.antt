@@ -25,7 +25,7 @@ begins_data x = (counter_of_sending x == 0) && is_data x.packet
 abbrev pub comes_first : Numbers → Sending → Sending → Bool
 comes_first p x y =
     is_lt (ordering_then (ordering_then (nat_cmp (frame_of_sending p x) (frame_of_sending p y)) (nat_cmp x.rank y.rank))
-        (nat_cmp (slot_of_sending x) (slot_of_sending y)))
+    (nat_cmp (slot_of_sending x) (slot_of_sending y)))
 
 abbrev pub stamped : Numbers → List Entry → List Sending
 stamped p air = in_order (comes_first p) (filter begins_data (sendings_of air))

@@ -38,7 +38,7 @@ all_left P (suc slots) frame (j ∷ js) all =
     let taken = all_left P slots frame js all.1 in
     let kept = all_left P (suc slots) frame js all.1 in
     cond_both (nat_le j.release frame) (jobs_left slots frame js) (j ∷ jobs_left (suc slots) frame js) (λ l. AllByRecursion P l) (λ is. taken)
-        (λ not. (all.0, kept))
+    (λ not. (all.0, kept))
 
 all_granted : (P : Job → Type 0) (slots frame : ℕ) (js : List Job) → AllByRecursion P js → AllByRecursion (λ j. (j.release ≤ frame) × P j)
     (granted_jobs slots frame js)
@@ -49,7 +49,7 @@ all_granted P (suc slots) frame (j ∷ js) all =
     let taken = all_granted P slots frame js all.1 in
     let kept = all_granted P (suc slots) frame js all.1 in
     cond_both (nat_le j.release frame) (j ∷ granted_jobs slots frame js) (granted_jobs (suc slots) frame js)
-        (λ l. AllByRecursion (λ j. (j.release ≤ frame) × P j) l)
+    (λ l. AllByRecursion (λ j. (j.release ≤ frame) × P j) l)
     (λ is. ((leb-true j.release frame is, all.0), taken)) (λ not. kept)
 
 rise_left : (slots frame : ℕ) (js : List Job) → EndsRise js → EndsRise (jobs_left slots frame js)
@@ -70,7 +70,7 @@ granted_moves (suc slots) frame (j ∷ js) =
     let taken = granted_moves slots frame js in
     let kept = granted_moves (suc slots) frame js in
     by_test (nat_le j.release frame) j js (granted_jobs slots frame js) (jobs_left slots frame js) (granted_jobs (suc slots) frame js)
-        (jobs_left (suc slots) frame js) taken kept
+    (jobs_left (suc slots) frame js) taken kept
   where
     by_test : (b : Bool) (j : Job) (js gs ls hs ms : List Job) → IsPermutation js (gs ++ ls) → IsPermutation js (hs ++ ms)
         → IsPermutation (j ∷ js) ((cond b (j ∷ gs) hs) ++ (cond b ls (j ∷ ms)))
@@ -96,7 +96,7 @@ waits r f e u late = grind (arith, nat_tests)
 -- of the jobs with ends up to `until` a frame grants as many as it has slots, or leaves none that was released
 served : (slots frame until : ℕ) (js : List Job) → EndsRise js
     → (count_by (ends_by until) (jobs_left slots frame js) + slots ≤ count_by (ends_by until) js)
-        ⊎ (count_by (ends_by until) (jobs_left slots frame js) ≤ load js
+    ⊎ (count_by (ends_by until) (jobs_left slots frame js) ≤ load js
     (frame + 1) until)
 unfolding jobs_left
 served slots frame until [] rise = inr (omega arith)

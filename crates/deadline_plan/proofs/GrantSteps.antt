@@ -55,13 +55,13 @@ few_granted (suc slots) frame (j ∷ js) =
     let taken = few_granted slots frame js in
     let kept = few_granted (suc slots) frame js in
     cond_both (nat_le j.release frame) (j ∷ granted_jobs slots frame js) (granted_jobs (suc slots) frame js) (λ l. length l ≤ suc slots)
-        (λ is. omega (arith, taken))
+    (λ is. omega (arith, taken))
     (λ not. kept)
 
 -- one frame more
 pub frame_first : (slots frame frames : ℕ) (js : List Job) → frame < frames
     → map owners_of_round (grants_from slots frame (frames - frame) js) ≡ owners_of_round (granted_jobs slots frame js)
-        ∷ map owners_of_round (grants_from slots (frame + 1) (frames -
+    ∷ map owners_of_round (grants_from slots (frame + 1) (frames -
     (frame + 1)) (jobs_left slots frame js))
 unfolding grants_from
 frame_first slots frame frames js order =

@@ -62,7 +62,7 @@ use Rattle.host_return.proofs.ProbedStill.{AreProbed}
 whole_run : (s : ScenarioParts) (clocks : ℕ → ℕ → ℕ) (air : List Entry) → IsLawfulRun s clocks air → EndsInOrder s clocks air
 whole_run s clocks air is =
     let run : IsObedientRun s clocks air =
-        record { driven = record { sound = is.sound; drift = is.drift }; heedful = lawful_is_heedful s clocks air is.lawful } in
+    record { driven = record { sound = is.sound; drift = is.drift }; heedful = lawful_is_heedful s clocks air is.lawful } in
     record { run = run; ends = holds_throughout s clocks air run (run_end s) (omega arith) }
 
 data_message : (p : List ℕ) → is_data p ≡ true → message_of p ≡ Some (DataOf (data_in p))
@@ -123,7 +123,7 @@ module _ (s : ScenarioParts) (clocks : ℕ → ℕ → ℕ) (air : List Entry) (
       (zero_good s clocks air whole.run y also)) in
       subst (λ (e : ℕ). e < y.start) (sym is.lasts)
       (slots_apart p b (run_fits s whole.run.driven.sound) host first other is.zero also.zero f (slot_of_sending x) (slot_of_sending y) (length x.packet)
-          (length y.packet)
+      (length y.packet)
       (counter_of_sending x) (counter_of_sending y) x.start y.start (host_drifts s clocks air whole.run x is) (origin_drifts s clocks air whole.run x is)
       (origin_drifts s clocks air whole.run y also) less (slot_in_round s clocks air whole.run y also) (packet_short s clocks air whole.run x is)
       (zero_good s clocks air whole.run x is) good (in_flood s clocks air whole.run x is) (in_flood s clocks air whole.run y also))
@@ -163,10 +163,10 @@ module _ (s : ScenarioParts) (clocks : ℕ → ℕ → ℕ) (air : List Entry) (
       ∙ cond-false (due == n.frame) (AwaitSlot 0) AwaitFrame (ne_eqb due n.frame (λ same. omega (arith, same, waits, path.frame))) in
       let host = hosts_rank v f rank due n known on.1 on.2 in
       let may : SaysData s clocks air x.node x.rank (frame_of_sending s.profile x) (of_flood s clocks air whole x there).zero (slot_of_sending x)
-          (sender_hosts s clocks air x)
+      (sender_hosts s clocks air x)
       (data_in x.packet) =
       subst (MaySay s clocks air x.node x.rank (frame_of_sending s.profile x) (of_flood s clocks air whole x there).zero (slot_of_sending x)
-          (sender_hosts s clocks air x))
+      (sender_hosts s clocks air x))
       (data_message x.packet speaks) (begins_flood s clocks air whole x there first).start.says in
       let y = may.planned.sending in
       let is = may.planned.schedule in

@@ -142,7 +142,7 @@ slot_more before line i d old new within read is now =
     now ∙ ap (λ (l : List ℕ). take 40 (l ++ d.code ∷ [])) is ∙ take_joined 40 (before ++ map code_of_debt (take i line)) (d.code ∷ [])
     ∙ ap (take 40) (append_assoc before (map code_of_debt (take i line)) (d.code ∷ [])
     ∙ ap (λ (l : List ℕ). before ++ l)
-        (ap (λ (x : Debt). map code_of_debt (take i line) ++ code_of_debt x ∷ []) read ∙ sym (map_more code_of_debt line i d within)))
+    (ap (λ (x : Debt). map code_of_debt (take i line) ++ code_of_debt x ∷ []) read ∙ sym (map_more code_of_debt line i d within)))
 
 -- what is read at a place
 abbrev pub nothing : Debt

@@ -61,7 +61,7 @@ one_tied z (x ∷ xs) turn =
       )
       | inr other ↦
           subst OneOrNone (sym (ap (λ (b : Bool). cond b (x ∷ filter (ties delivery_comes_before z) xs) (filter (ties delivery_comes_before z) xs)) other))
-              (one_tied z xs turn.1)
+          (one_tied z xs turn.1)
     ]
 
 only_one : (a b : Delivery) → Contains (b ∷ []) a → a ≡ b

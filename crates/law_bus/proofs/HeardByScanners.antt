@@ -142,7 +142,7 @@ module _ (s : ScenarioParts) (clocks : ℕ → ℕ → ℕ) (air : List Entry) (
         let few = in_run in
         let fine = fine_before s clocks air v t (omega (arith, few)) go known at.before in
         subst (λ (z : Device). InSome (clocks v) (setup_of s v) t
-            (fold (device_after_reception (clocks v) (setup_of s v) t) z (ending_at t (heard_by air v))).power)
+        (fold (device_after_reception (clocks v) (setup_of s v) t) z (ending_at t (heard_by air v))).power)
         (sym (nothing_told s clocks air v t at x there refl)) (by_power d.power refl fine.node.by_power)
 
     have : IsFine s clocks air v t End e × HasWindows s v (λ w. w.opened ≤ t) t e

@@ -107,7 +107,7 @@ module _ (s : ScenarioParts) (clocks : ℕ → ℕ → ℕ) (air : List Entry) (
       same_plan c is =
           ap (λ (n : Node). n.core.plan) (closed_as s clocks air lawful v w c here.there is)
           ∙ ap (λ (m : Option Message). (closed_slot S w.after.frame w.last.part w.last.flood.initiated w.after.core m).core.plan)
-              (nothing_accepted w.last begun)
+          (nothing_accepted w.last begun)
           ∙ plan_kept w.after.frame w.last.part w.last.flood.initiated w.after.core
           ∙ opened_plan
 

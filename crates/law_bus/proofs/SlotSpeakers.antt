@@ -67,7 +67,7 @@ member_says s rank f part v (StateOn c) is = by_test (is_member rank f c) refl
     by_test true member = (c, refl, member)
     by_test false other = absurd (true≢false (sym is
         ∙ ap (λ (o : Option Opened). is_some (rounds.message_said o))
-            (cond-false (is_member rank f c) (Some (opened_slot (setup_in s v) f part c)) None other)))
+        (cond-false (is_member rank f c) (Some (opened_slot (setup_in s v) f part c)) None other)))
 
 -- and so it takes part
 speaker_takes : (rank : ℕ) (part : Part) (x : State) (w : Option Opened) → is_some (rounds.message_said w) ≡ true → rounds.takes_part rank part x w ≡ true

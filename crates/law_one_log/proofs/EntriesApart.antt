@@ -41,7 +41,7 @@ module _ (H : Hearing → Hearing → Type 0) where
     sent_first : (x : SentEntry) → AllPairs SendingsApart (sending_of_entry x ∷ sendings_of air) → (e : Entry) → Contains air e → EntriesApart (Sent x) e
     sent_first x all (Sent y) there =
         pairs_head SendingsApart (sending_of_entry x) (sendings_of air) all (sending_of_entry y)
-            (in_filter sending_in air (Sent y) (sending_of_entry y) there refl)
+        (in_filter sending_in air (Sent y) (sending_of_entry y) there refl)
     sent_first x all (Heard h) there = tt
     sent_first x all (Tuned e) there = tt
 

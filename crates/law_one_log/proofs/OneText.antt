@@ -45,18 +45,18 @@ module _ (d e : Entry) where
   by_start : start_of d < start_of e → Before
   by_start less =
       ap (λ (c : Ordering). then_so c (nat_cmp (kind_number d) (kind_number e)) (nat_cmp (node_of_entry d) (node_of_entry e)))
-          (compares_less (start_of d) (start_of e) less)
+      (compares_less (start_of d) (start_of e) less)
 
   by_kind : start_of d ≡ start_of e → kind_number d < kind_number e → Before
   by_kind start less =
       ap (λ (c : Ordering). then_so c (nat_cmp (kind_number d) (kind_number e)) (nat_cmp (node_of_entry d) (node_of_entry e)))
-          (compares_equal (start_of d) (start_of e) start)
+      (compares_equal (start_of d) (start_of e) start)
       ∙ ap (λ (c : Ordering). then_so Equal c (nat_cmp (node_of_entry d) (node_of_entry e))) (compares_less (kind_number d) (kind_number e) less)
 
   by_node : start_of d ≡ start_of e → kind_number d ≡ kind_number e → node_of_entry d < node_of_entry e → Before
   by_node start kind less =
       ap (λ (c : Ordering). then_so c (nat_cmp (kind_number d) (kind_number e)) (nat_cmp (node_of_entry d) (node_of_entry e)))
-          (compares_equal (start_of d) (start_of e) start)
+      (compares_equal (start_of d) (start_of e) start)
       ∙ ap (λ (c : Ordering). then_so Equal c (nat_cmp (node_of_entry d) (node_of_entry e))) (compares_equal (kind_number d) (kind_number e) kind)
       ∙ ap (λ (c : Ordering). then_so Equal Equal c) (compares_less (node_of_entry d) (node_of_entry e) less)
 
@@ -68,7 +68,7 @@ tied_place d e tied =
     let start = one_number (start_of d) (start_of e) (λ less. up (by_start d e less)) (λ less. down (by_start e d less)) in
     let kind = one_number (kind_number d) (kind_number e) (λ less. up (by_kind d e start less)) (λ less. down (by_kind e d (sym start) less)) in
     let node =
-        one_number (node_of_entry d) (node_of_entry e) (λ less. up (by_node d e start kind less)) (λ less. down (by_node e d (sym start) (sym kind) less)) in
+    one_number (node_of_entry d) (node_of_entry e) (λ less. up (by_node d e start kind less)) (λ less. down (by_node e d (sym start) (sym kind) less)) in
     record { start = start; kind = kind; node = node }
 
 abbrev PlacesApart : Entry → Entry → Type 0

@@ -113,8 +113,8 @@ module _ (p : ScenarioParts) (clocks : ℕ → ℕ → ℕ) (until : ℕ) where
     same_tick v t hs less d =
         let x = setup_of p v in
         ap (λ (ls : List ScriptLine). device_after_start x t
-            (alarmed (clocks v) x t
-                (device_after_end (clocks v) x t (device_after_receptions (clocks v) x t hs (fold (device_after_line (clocks v) x t) d ls)))))
+        (alarmed (clocks v) x t
+        (device_after_end (clocks v) x t (device_after_receptions (clocks v) x t hs (fold (device_after_line (clocks v) x t) d ls)))))
         (twins.lines v t less)
 
     same_script : (v : ℕ) (hs : List Reception) (t : ℕ) → t ≤ until → before_tick s v (clocks v) hs t ≡ before_tick u v (clocks v) hs t
@@ -151,7 +151,7 @@ module _ (p : ScenarioParts) (clocks : ℕ → ℕ → ℕ) (until : ℕ) where
         ap (λ (d : Device). if nat_lt f p.frames then tune_of (fold (device_after_line (clocks v) x t) d (lines_at s v t)).power else None)
         (same_device t v (omega (arith, soon)) alike)
         ∙ ap (λ (ls : List ScriptLine). if nat_lt f p.frames then tune_of (fold (device_after_line (clocks v) x t) (device_in u clocks b v t) ls).power
-            else None)
+        else None)
         (twins.lines v t soon)
 
   module _ (xs ys : List ScriptLine) (a b : List Entry) (twins : Twins p clocks until xs ys a b) where

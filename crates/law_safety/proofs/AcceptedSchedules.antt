@@ -69,7 +69,7 @@ module _ (s : ScenarioParts) (clocks : ℕ → ℕ → ℕ) (air : List Entry) (
     | inl opens ↦ inl (opens.0, sym is.slot ∙ flood.slot.slot ∙ opens.1)
     | inr closes ↦ inr (
         let behind : StandsAt closes.plan (slot_of_sending o) Closing =
-            subst (StandsAt closes.plan (slot_of_sending o)) closes.part (stands closes.plan (slot_of_sending o)) in
+        subst (StandsAt closes.plan (slot_of_sending o)) closes.part (stands closes.plan (slot_of_sending o)) in
         let some : 1 ≤ slot_of_sending o = behind.0 in
         let same : slot_of_sending o ≡ j = sym flood.slot.slot ∙ is.slot in
         (closes.some, closes.few, omega (arith, some, same))

@@ -39,7 +39,7 @@ module _ (s : ScenarioParts) (clocks : ℕ → ℕ → ℕ) (driven : IsDrivenWe
 
   pub slot_low : (j : ℕ) → j ≤ (budget_of s.profile).last
       → (opening_offset s.profile j ≤ closing_offset s.profile (budget_of s.profile).last)
-          × (closing_offset s.profile j ≤ closing_offset s.profile (budget_of s.profile).last)
+      × (closing_offset s.profile j ≤ closing_offset s.profile (budget_of s.profile).last)
   slot_low j slot = let k = mul-le-mul_right s.profile.slot slot in (omega (arith, k), omega (arith, k))
 
   opens_in_frame : (j : ℕ) → j ≤ (budget_of s.profile).last → GoodFor s clocks (rank_at n) v n.zero n.frame (opening_offset s.profile j)

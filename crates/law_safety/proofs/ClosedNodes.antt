@@ -65,8 +65,11 @@ module _ (s : ScenarioParts) (clocks : ℕ → ℕ → ℕ) (air : List Entry) (
           let set : e.alarm ≡ Some (max (due (clocks v) (opens_at s.profile z (j + 1))) t) =
           shut.alarm ∙ ap (λ (a : ℕ). Some (max (due (clocks v) a) t)) when in
           elim (opens_then s clocks air v t at d n j w is z on.good (omega (arith, slot, short))) [
-            | inl opens ↦ record { alarm = tick_by s clocks v awaiting (opening_offset s.profile (j + 1)); set = set ∙ ap (λ (a : ℕ). Some a) opens;
-                at = inl refl }
+            | inl opens ↦ record {
+              alarm = tick_by s clocks v awaiting (opening_offset s.profile (j + 1));
+              set = set ∙ ap (λ (a : ℕ). Some a) opens;
+              at = inl refl;
+            }
             | inr late ↦ record {
               alarm = t;
               set = set ∙ ap (λ (a : ℕ). Some a) late.0;

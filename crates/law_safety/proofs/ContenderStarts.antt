@@ -71,7 +71,7 @@ module _ (s : ScenarioParts) (clocks : ℕ → ℕ → ℕ) (air : List Entry) (
       subst (λ (r : ℕ). RefFor s clocks r y.node u f f 0) (sym same.channel)
       (subst (λ (g : ℕ). RefFor s clocks y.rank y.node u g g 0) (sym same.frame) also_says.ref) in
       let start : y.start ≡ tick_at_offset (clocks y.node) u (starting_offset p j) =
-          second.at ∙ ap (λ (i : ℕ). tick_at_offset (clocks y.node) u (starting_offset p i)) (sym same.slot) in
+      second.at ∙ ap (λ (i : ℕ). tick_at_offset (clocks y.node) u (starting_offset p i)) (sym same.slot) in
       let close = contenders p b (run_fits s whole.run.driven.sound) (clocks (slice_index s.hosts x.rank)) (clocks x.node) (clocks y.node) z u f j
       (host_clock s clocks whole.run.driven x.rank hosted) clock also_clock says.ref ref between.0 (omega (arith, between.1, short)) in
       let here = first.at in

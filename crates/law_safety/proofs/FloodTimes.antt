@@ -40,7 +40,7 @@ module _ (s : ScenarioParts) (clocks : ℕ → ℕ → ℕ) (air : List Entry) (
   zero_good =
       let j = slot_of_sending x in
       let good : GoodFor s clocks is.origin.rank is.origin.node is.zero (frame_of_sending s.profile is.origin) (opening_offset s.profile
-          (slot_of_sending is.origin)) =
+      (slot_of_sending is.origin)) =
       is.begins.start.good in
       let here : Good s.profile (budget_of s.profile) host first is.zero (frame_of_sending s.profile x) (opening_offset s.profile j) =
       subst (λ (r : ℕ). GoodFor s clocks r is.origin.node is.zero (frame_of_sending s.profile x) (opening_offset s.profile j)) (sym is.slot.channel)
@@ -87,6 +87,6 @@ module _ (s : ScenarioParts) (clocks : ℕ → ℕ → ℕ) (air : List Entry) (
     before_alarms own clock =
         subst (λ (e : ℕ). e < due own (frame_of_sending s.profile x * s.profile.frame + s.profile.end)) (sym is.lasts)
         (ends_before_alarm s.profile (budget_of s.profile) (run_fits s run.driven.sound) host first own is.zero (frame_of_sending s.profile x)
-            (slot_of_sending x)
+        (slot_of_sending x)
         (length x.packet) (counter_of_sending x) x.start
         host_drifts origin_drifts clock slot_in_round packet_short frame_of_run zero_good in_flood)

@@ -118,7 +118,7 @@ heard_in_floods s clocks air v t at h d next =
     let from = after_frame_start s clocks air at.run x flood reach.sent in
     let until = before_frame_end s clocks air at.run x flood reach.sent in
     let frame : t / s.profile.frame ≡ frame_of_sending s.profile x =
-        frame_is s (frame_of_sending s.profile x) t (omega (arith, from, before)) (omega (arith, until, end)) in
+    frame_is s (frame_of_sending s.profile x) t (omega (arith, from, before)) (omega (arith, until, end)) in
     let began : frame_start s (t / s.profile.frame) < t = omega (arith, from, before, ap (λ (f : ℕ). f * s.profile.frame) frame) in
     let same : suc (t - 1) ≡ t = omega (arith, before) in
     let on : ListensSince x.rank (t - 1) (device_in s clocks air v (suc (t - 1))) =
@@ -127,7 +127,7 @@ heard_in_floods s clocks air v t at h d next =
     subst (λ (k : ℕ). channel_if_on (device_in s clocks air v k).listening ≡ Some x.rank) same
     (ap (λ (l : Option Listening). channel_if_on l) on.is ∙ ap (λ (r : ℕ). Some r) on.channel) in
     let untold : channel_if_on (device_after_script s v (clocks v) t (device_in s clocks air v t)).listening ≡ channel_if_on (device_in s clocks air v
-        t).listening =
+    t).listening =
     ap (λ (ls : List ScriptLine). channel_if_on (fold (device_after_line (clocks v) (setup_of s v) t) (device_in s clocks air v t) ls).listening)
     (none_in_frame s clocks air v t at began) in
     record {

@@ -64,7 +64,7 @@ module _ (s : ScenarioParts) (clocks : ℕ → ℕ → ℕ) (air : List Entry) (
     good_here : GoodFor s clocks now.sending.rank v n.zero (frame_of_sending s.profile now.sending) (closing_offset s.profile (slot_of_sending now.sending))
     good_here =
         subst (λ (r : ℕ). GoodFor s clocks r v n.zero (frame_of_sending s.profile now.sending) (closing_offset s.profile (slot_of_sending now.sending)))
-            (sym is.rank)
+        (sym is.rank)
         (subst (λ (f : ℕ). GoodFor s clocks (rank_at n) v n.zero f (closing_offset s.profile (slot_of_sending now.sending))) (is.frame ∙ sym now.frame)
         (subst (λ (i : ℕ). GoodFor s clocks (rank_at n) v n.zero n.frame (closing_offset s.profile i)) (sym is.slot) is.good))
 
@@ -97,11 +97,11 @@ module _ (s : ScenarioParts) (clocks : ℕ → ℕ → ℕ) (air : List Entry) (
         let short = packet_short s clocks air at.run x flood in
         let began = zero_good s clocks air at.run x flood in
         let relay = relay_in_flood p b fits host first (clocks v) flood.zero (frame_of_sending p x) (slot_of_sending x) (length x.packet)
-            (counter_of_sending x) x.start t
+        (counter_of_sending x) x.start t
         host_clock first_clock own_drifts round short (frame_of_run s clocks air at.run x flood was_sent) began
         (in_flood s clocks air at.run x flood) less it_lasts in
         let ends = ends_in_slot p b fits host first (clocks v) flood.zero n.zero (frame_of_sending p x) (slot_of_sending x) (length x.packet)
-            (counter_of_sending x + 1)
+        (counter_of_sending x + 1)
         (relay_tick p (clocks v) t)
         host_clock first_clock own_drifts round short began good_here relay in
         subst (λ (i : ℕ). relay_tick s.profile (clocks v) t + airtime s.profile (length x.packet) < tick_by s clocks v n (closing_offset s.profile i)) is.slot

@@ -30,7 +30,7 @@ use Rattle.law_safety.proofs.RestagedNodes.{either}
 -- the device d of a node n in the window w of slot j, with another state of the window's flood, reference and order
 module _ (s : ScenarioParts) (clocks : ℕ → ℕ → ℕ) (air : List Entry) (v t : ℕ) (d : Device) (n : Node) (j : ℕ) (w : Window)
     (waits : Bool) (first : Option (List ℕ)) (reference : Option ℕ) (ordered : Option OrderedPacket) (deliveries : List Delivery)
-        (windows : List WindowLog) where
+    (windows : List WindowLog) where
   abbrev pub new_window : Window
   new_window = record w { flood = record (w.flood) { waiting = waits; first = first }; reference = reference }
 

@@ -126,7 +126,7 @@ module _ (s : ScenarioParts) (clocks : ℕ → ℕ → ℕ) (air : List Entry) (
         let none : z ≡ z + opening_offset s.profile 0 = omega arith in
         let zero : z ≡ z + 0 = omega arith in
         later (due (clocks v) z) (due (clocks v) (z + 0)) (due (clocks v) (z + opening_offset s.profile 0)) (ap (due (clocks v)) zero)
-            (ap (due (clocks v)) none) less
+        (ap (due (clocks v)) none) less
       where
         later : (a b c : ℕ) → a ≡ b → a ≡ c → t < b → max a t ≡ c
         later a b c same also less = omega (arith, same, also, less)

@@ -180,7 +180,7 @@ module _ (s : ScenarioParts) (clocks : ℕ → ℕ → ℕ) (air : List Entry) (
         | inr at_once ↦ elim (of_old f z bz) [
           | inl older ↦ absurd
               (again f z older (ap (frame_of_sending s.profile) at_once ∙ by.frame) (ap counter_of_sending at_once ∙ by.first)
-                  (ap slot_of_sending at_once ∙ same))
+              (ap slot_of_sending at_once ∙ same))
           | inr this ↦ sym at_once ∙ this
         ]
       ]

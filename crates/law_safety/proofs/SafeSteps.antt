@@ -54,7 +54,7 @@ module _ (s : ScenarioParts) (clocks : ℕ → ℕ → ℕ) (air : List Entry) (
       (zero_good s clocks air whole.run y also)) in
       subst (λ (e : ℕ). e < y.start) (sym is.lasts)
       (slots_apart p b (run_fits s whole.run.driven.sound) host first other is.zero also.zero f (slot_of_sending x) (slot_of_sending y) (length x.packet)
-          (length y.packet)
+      (length y.packet)
       (counter_of_sending x) (counter_of_sending y) x.start y.start drifts first_drifts other_drifts
       less (slot_in_round s clocks air whole.run y also) (packet_short s clocks air whole.run x is) (zero_good s clocks air whole.run x is) good
       (in_flood s clocks air whole.run x is) (in_flood s clocks air whole.run y also))
@@ -66,7 +66,7 @@ module _ (s : ScenarioParts) (clocks : ℕ → ℕ → ℕ) (air : List Entry) (
       let p = s.profile in
       subst (λ (e : ℕ). e < y.start) (sym is.lasts)
       (steps_in_order p (length x.packet) (counter_of_sending x) (counter_of_sending y) q x.start y.start is.origin.start also.origin.start room less
-          also.few near is.near
+      also.few near is.near
       (subst (λ (n : ℕ). Near y.start (also.origin.start + counter_of_sending y * step p n) (counter_of_sending y)) long also.near))
 
   -- of steps of one slot
@@ -96,7 +96,7 @@ module _ (s : ScenarioParts) (clocks : ℕ → ℕ → ℕ) (air : List Entry) (
       let is = of_flood s clocks air whole x there in
       let also = of_flood s clocks air whole y also_there in
       let frame : frame_of_sending s.profile x ≡ frame_of_sending s.profile y =
-          elim (cases_order (frame_of_sending s.profile x) (frame_of_sending s.profile y)) [
+      elim (cases_order (frame_of_sending s.profile x) (frame_of_sending s.profile y)) [
         | inl one ↦ one
         | inr (inl less) ↦ absurd (never x y meets (frames_apart x y is also there also_there less))
         | inr (inr more) ↦ absurd (never y x (turned x y meets) (frames_apart y x also is also_there there more))

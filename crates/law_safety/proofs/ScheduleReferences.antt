@@ -62,7 +62,7 @@ module _ (s : ScenarioParts) (clocks : ℕ → ℕ → ℕ) (air : List Entry) (
   -- at whoever received it whole
   pub taken : (v : ℕ) → knows s.nodes v ≡ true
       → RefFor s clocks x.rank v (zero_from s.profile (clocks v x.end) x.packet) (frame_of_sending s.profile x) (frame_of_sending s.profile x)
-          (slot_of_sending x)
+      (slot_of_sending x)
   taken v known =
       let p = s.profile in
       let good = zero_good s clocks air run x flood in

@@ -108,7 +108,7 @@ module _ (s : ScenarioParts) (clocks : ℕ → ℕ → ℕ) (air : List Entry) (
   channel =
       let says_schedule : SaysSchedule s clocks air x.node x.rank (frame_of_sending s.profile x) flood.zero (slot_of_sending x) (opening_of plan) =
       subst (MaySay s clocks air x.node x.rank (frame_of_sending s.profile x) flood.zero (slot_of_sending x) (sender_hosts s clocks air x)) says_so
-          begins.start.says in
+      begins.start.says in
       sym says_schedule.fits.of_rank ∙ members.round.round.fits.of_rank
 
   pub opened_plan : IsPlanned s air (rank_at n) n.frame members.round.plan

@@ -86,7 +86,7 @@ module _ (s : ScenarioParts) (clocks : ℕ → ℕ → ℕ) (air : List Entry) w
         (subst (λ (f : ℕ). HasSlot s air y.rank f (slot_of_sending x) y.node (message_of y.packet)) (sym same.frame)
         (subst (λ (j : ℕ). HasSlot s air y.rank (frame_of_sending s.profile y) j y.node (message_of y.packet)) (sym same.slot) there)) in
         elim (one_of_slot x.rank (frame_of_sending s.profile x) (slot_of_sending x) x.node y.node (message_of x.packet) (message_of y.packet)
-            (begun_slot zx x first) here) [
+        (begun_slot zx x first) here) [
           | inl node ↦ inl (begun_once s clocks air whole zx zy x y first second same node)
           | inr both ↦ inr both
         ]

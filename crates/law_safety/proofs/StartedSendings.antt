@@ -46,7 +46,7 @@ module _ (s : ScenarioParts) (clocks : ℕ → ℕ → ℕ) (air : List Entry) (
       let zero : counter_of_sending x ≡ 0 = first.start.first in
       let may : MayBegin s clocks air v x.rank (frame_of_sending s.profile x) n.zero (slot_of_sending x) (sender_hosts s clocks air x) x.packet =
       subst (λ (r : ℕ). MayBegin s clocks air v r (frame_of_sending s.profile x) n.zero (slot_of_sending x) (sender_hosts s clocks air x) x.packet)
-          (sym rank_is)
+      (sym rank_is)
       (subst (λ (f : ℕ). MayBegin s clocks air v (rank_at n) f n.zero (slot_of_sending x) (sender_hosts s clocks air x) x.packet) (sym frame_now)
       (subst (λ (i : ℕ). MayBegin s clocks air v (rank_at n) n.frame n.zero i (sender_hosts s clocks air x) x.packet) (sym slot)
       (subst (λ (b : Bool). MayBegin s clocks air v (rank_at n) n.frame n.zero j b x.packet) (sym hosts_now) first.start))) in

@@ -90,7 +90,7 @@ heard_from s rank f p states j part at v m said = by_answer (accepted (slot_at s
 pub initiator_accepts_none : (x : Slot) (v : ℕ) → has x.flood.initiators v ≡ true → accepted_at x v ≡ None
 initiator_accepts_none x v is =
     ap (λ (a : Option (ℕ × ℕ)). option_and_then (λ a. message_said (x.window a.0)) a)
-        (cond-true (has x.flood.initiators v) None ((moment x.flood STEPS).heard v) is)
+    (cond-true (has x.flood.initiators v) None ((moment x.flood STEPS).heard v) is)
 
 -- a member's state after the slot
 pub left_windowed : (s : ScenarioParts) (rank f : ℕ) (part : Part) (v : ℕ) (x : State) (c : Core) (heard : Option Message) → x ≡ StateOn c

@@ -95,7 +95,7 @@ module _ (s : ScenarioParts) (rank f : ℕ) (p : Plan) where
             let o = opened_slot (setup_in s host) f part is.core in
             let heard = accepted_at (slot_in s rank f p m) host in
             ap (λ (q : Part). kept_of
-                (left_by (before m host) (closed_slot_of s f q host (opened_at s rank f q host (before m host)) heard (before m host)))) at
+            (left_by (before m host) (closed_slot_of s f q host (opened_at s rank f q host (before m host)) heard (before m host)))) at
             ∙ ap kept_of (left_windowed s rank f part host (before m host) is.core heard is.on (host_member rank f is.core is.due))
             ∙ keeps_none (setup_in s host) f part (is_some o.message) is.core heard soon still none more
 

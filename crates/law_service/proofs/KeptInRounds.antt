@@ -53,7 +53,7 @@ module _ (s : ScenarioParts) (f : ℕ) (P : ℕ → State → Type 0) (Q : Messa
     slots_keep all (suc j) v =
         let g = before_slot s rank f p states j in
         closing rank (part_of p j) v (accepted_at (slot_of_round s rank f p j g) v) (g v) (λ m is. heard_said j g (slots_keep all j) v m is)
-            (slots_keep all j v)
+        (slots_keep all j v)
 
   in_round : (rank : ℕ) (states : ℕ → State) → ((v : ℕ) → P v (states v)) → (o : Option Plan) (v : ℕ) → P v (after_round s rank f states o v)
   in_round rank states all None v = all v

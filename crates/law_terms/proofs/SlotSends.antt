@@ -40,7 +40,7 @@ listener r v a is = by_start (has r.setting.initiators v) refl
     by_start false e = refl
     by_start true e =
         let apart : ◌≡◌ {A = Option (List ℕ × ℕ)} None (Some a) =
-            sym (none_accepted (flood_at_end r v) (kept (flood_at_beginning r v) (r.events v) ∙ e)) ∙ is in
+        sym (none_accepted (flood_at_end r v) (kept (flood_at_beginning r v) (r.events v) ∙ e)) ∙ is in
         cc
 
 module _ (s : ScenarioParts) (clocks : ℕ → ℕ → ℕ) (air : List Entry) (f rank : ℕ) (p : Plan) (j : ℕ) (r : Run)

@@ -70,7 +70,7 @@ module _ (clock : ℕ → ℕ) (s : Setup) (t : ℕ) where
   one_kept d h (PowerOn n) =
       let r = row s n (clock t) (Heard h.packet) in
       (has_obeyed clock s.id t (orders_by r) (moved t (Heard h.packet) None d n r)).channel
-          ∙ at_place s n (clock t) h.packet n.stage (channel_if_on d.listening)
+      ∙ at_place s n (clock t) h.packet n.stage (channel_if_on d.listening)
 
   all_kept : (hs : List Reception) (d : Device) → channel_if_on (fold (device_after_reception clock s t) d hs).listening ≡ channel_if_on d.listening
   all_kept [] d = refl

@@ -36,7 +36,7 @@ module _ (clock : ℕ → ℕ) (s : Setup) (t : ℕ) where
 
   by_orders : (e : Event) (x : Option Sending) (d : Device) (n : Node) (r : Stepped) (channel alarm : Option ℕ) (ordered : Option OrderedPacket)
       → Come r.orders (channel_if_on d.listening) d.alarm d.ordered channel alarm ordered
-          → Leaves d r.node channel alarm ordered (device_after_row clock s t e x d n r)
+      → Leaves d r.node channel alarm ordered (device_after_row clock s t e x d n r)
   by_orders e x d n r channel alarm ordered come =
       let is = row_obeyed clock s t e x d n r in
       record {

@@ -16,7 +16,7 @@ module _ (p : Numbers) (b : Budget) (fits : Fits p b) where
   -- before every window of its slot closes
   pub ends_in_slot : (H S L : ℕ → ℕ) (y z f j n k s : ℕ) → IsClock H → IsClock S → IsClock L → j ≤ b.last → n ≤ b.packet
       → Good p b H S y f (starting_offset p j) → Good p b H L z f (closing_offset p j) → InFlood p S y j n k s
-          → s + airtime p n + 175 ≤ tick_at_offset L z (closing_offset p j)
+      → s + airtime p n + 175 ≤ tick_at_offset L z (closing_offset p j)
   ends_in_slot H S L y z f j n k s host first clock slot short began closes flood =
       let some = packets_last p b fits n in
       let end = flood_end p n k s (tick_at_offset S y (starting_offset p j)) (omega arith) flood.few flood.near in

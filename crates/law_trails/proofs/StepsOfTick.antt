@@ -111,7 +111,7 @@ module _ (P : ℕ → Phase → Device → Type 0) (s : ScenarioParts) (v : ℕ)
       lines_from (told ++ l ∷ []) rest (device_after_line clock node t d l)
       (lines ∙ sym (append_assoc told (l ∷ []) rest))
       (ap (λ (e : Device). device_after_line clock node t e l) is
-          ∙ sym (fold-append (device_after_line clock node t) (before_tick s v clock hs t) told (l ∷ [])))
+      ∙ sym (fold-append (device_after_line clock node t) (before_tick s v clock hs t) told (l ∷ [])))
       (line_known clock node t d l all.0, by_line d l (now Lines d all) next l.act d.power refl refl)
 
   -- receptions
@@ -153,7 +153,7 @@ module _ (P : ℕ → Phase → Device → Type 0) (s : ScenarioParts) (v : ℕ)
       hearings_from (taken ++ h ∷ []) rest (device_after_reception clock node t d h)
       (hearings ∙ sym (append_assoc taken (h ∷ []) rest))
       (ap (λ (e : Device). device_after_reception clock node t e h) is
-          ∙ sym (fold-append (device_after_reception clock node t) (enters Hearings) taken (h ∷ [])))
+      ∙ sym (fold-append (device_after_reception clock node t) (enters Hearings) taken (h ∷ [])))
       (hearing_known clock node t d h all.0, by_hearing d h (now Hearings d all) next d.power refl)
 
   -- the end of the own transmission

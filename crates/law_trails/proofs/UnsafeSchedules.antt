@@ -24,7 +24,7 @@ ends_late_breaks = breaks InFrame first_round ends_late ends_late_is
 slots_meet_is : NoOverlap first_round slots_meet → ⊥
 slots_meet_is keeps =
     let step =
-        keeps opening_transmission closed_early (0, omega arith, refl) (1, omega arith, refl) refl (record { before = omega arith; after = omega arith }) in
+    keeps opening_transmission closed_early (0, omega arith, refl) (1, omega arith, refl) refl (record { before = omega arith; after = omega arith }) in
     let slot : ◌≡◌ {A = ℕ} 0 2 = step.slot.slot in
     absurd (omega (arith, slot))
 
@@ -37,7 +37,7 @@ slots_meet_breaks = breaks Apart first_round slots_meet slots_meet_is
 steps_meet_is : NoOverlap first_round steps_meet → ⊥
 steps_meet_is keeps =
     let step =
-        keeps opening_transmission relayed_early (0, omega arith, refl) (1, omega arith, refl) refl (record { before = omega arith; after = omega arith }) in
+    keeps opening_transmission relayed_early (0, omega arith, refl) (1, omega arith, refl) refl (record { before = omega arith; after = omega arith }) in
     let counter : ◌≡◌ {A = ℕ} 0 1 = step.counter in
     absurd (omega (arith, counter))
 
@@ -66,7 +66,7 @@ boot_in es = 0
 other_bytes_is : SameButForCounter first_round other_bytes → ⊥
 other_bytes_is keeps =
     let both = keeps opening_transmission relayed_otherwise (0, omega arith, refl) (1, omega arith, refl)
-        (record { channel = refl; frame = refl; slot = refl }) refl in
+    (record { channel = refl; frame = refl; slot = refl }) refl in
     let boot : ◌≡◌ {A = ℕ} 1 2 = ap boot_in both.bytes in
     absurd (omega (arith, boot))
 

@@ -101,7 +101,7 @@ unfolding digits packed_number schedule_of asks_in
 not_the_owner_is keeps =
     let word = keeps data_said (1, omega arith, refl) refl refl not_the_owner_guest in
     let is : opening ≡ word.schedule =
-        schedule_is no_power not_the_owner opening_transmission opening opened_says refl word.heard word.schedule word.there word.says in
+    schedule_is no_power not_the_owner opening_transmission opening opened_says refl word.heard word.schedule word.there word.says in
     let part : Contention 1 ≡ Data 8 = ap (λ (y : Schedule). part_of y.plan 1) is ∙ word.allows in
     cc part
 
@@ -142,7 +142,7 @@ not_opened_is keeps =
     let word = keeps asked (1, omega arith, refl) refl refl not_opened_guest in
     let gap : 4 ≡ word.schedule.gap =
     ap (λ (y : Schedule). y.gap)
-        (schedule_is no_power not_opened closing_transmission closing closed_says refl word.heard word.schedule word.there word.says) in
+    (schedule_is no_power not_opened closing_transmission closing closed_says refl word.heard word.schedule word.there word.says) in
     let none : word.schedule.gap ≡ 0 = word.allows in
     absurd (omega (arith, gap, none))
 

@@ -166,7 +166,7 @@ heard_in_rounds =
 abbrev pub heard_by_host : List Reception
 heard_by_host =
     map reception_of (reception_at 1 opening_1 ∷ reception_at 1 request_0 ∷ reception_at 1 request_2 ∷ reception_at 1 grant_1 ∷ reception_at 1 data_0
-        ∷ reception_at 1 data_2 ∷ reception_at 1 closing_1 ∷ [])
+    ∷ reception_at 1 data_2 ∷ reception_at 1 closing_1 ∷ [])
 
 abbrev pub heard_by_member : List Reception
 heard_by_member =

@@ -80,7 +80,7 @@ module _ (clock : ℕ → ℕ) (s : Setup) (t : ℕ) where
   HearingLeaves = (d : Device) (n : Node) (j : ℕ) (w : Window) (p : List ℕ)
       → (let r = window_hears s n (clock t) j w p in
       Leaves d r.node (channel_if_on d.listening) d.alarm (relayed d.ordered (reply_by (rank_of n.core.tune) w p))
-          (device_after_row clock s t (Heard p) None d n r))
+      (device_after_row clock s t (Heard p) None d n r))
 
   -- d: its transmission has been taken off
   abbrev pub SentLeaves : Type 0

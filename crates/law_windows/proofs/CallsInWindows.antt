@@ -147,7 +147,7 @@ module _ (s : ScenarioParts) (clocks : ℕ → ℕ → ℕ) (air : List Entry) (
 
   module _ (h : Reception) (x : WindowLog) (earlier : List WindowLog) (o : Option OrderedPacket) (running : Option Sending) (sent : List Sending) (w u : Window)
       (has : R (x ∷ earlier) o running sent) (open_ : x.closed ≡ None) (closed : AreClosed earlier) (flood : WindowHasFlood (setup_of s v) x)
-          (last : x.last ≡ w)
+      (last : x.last ≡ w)
       (idle : w.flood.waiting ≡ false → o ≡ None) where
     from_flood : reply_to (fold after_happening (flood_at_first (setup_of s v) x.by_alarm x) x.happenings) h.packet ≡ reply_to w.flood h.packet
     from_flood = ap (λ (f : FloodState). reply_to f h.packet) (sym flood ∙ ap (λ (y : Window). y.flood) last)

@@ -66,7 +66,7 @@ pub early_few : (k n far : ℕ) (es : List Event) → Ordered es → k < far →
 early_few k n far [] order before few = before
 early_few k n far (Heard x ∷ es) order before few =
     early_few k n far es (pairs_tail (λ (d e : Event). ((sending_of_event d).end ≤ (sending_of_event e).end) × (d ≢ e)) (Heard x) es order) before
-        (omega (arith, few))
+    (omega (arith, few))
 early_few k zero far (Ended x ∷ es) order before few = of_test (nat_le x.end k) refl
   where
     of_test : (b : Bool) → nat_le x.end k ≡ b → k < x.end
@@ -75,7 +75,7 @@ early_few k zero far (Ended x ∷ es) order before few = of_test (nat_le x.end k
 early_few k (suc n) far (Ended x ∷ es) order before few =
     of_test (nat_le x.end k) refl
     (λ fewer. early_few k n far es (pairs_tail (λ (d e : Event). ((sending_of_event d).end ≤ (sending_of_event e).end) × (d ≢ e)) (Ended x) es order) before
-        fewer)
+    fewer)
   where
     of_test : (b : Bool) → nat_le x.end k ≡ b → (sendings_in k (map happening_of es) ≤ n → k < get_or (own_ends es) n far) → k < get_or (own_ends es) n far
     of_test true is rest = rest (let one : one_if (nat_le x.end k) ≡ 1 = ap one_if is in omega (arith, one, few))

@@ -117,7 +117,7 @@ module _ (rows : AllRows) (s : ScenarioParts) (clocks : ℕ → ℕ → ℕ) (ai
     hears_new d h w next now there open_ in_it =
         let is : d ≡ fold (device_after_reception (clocks v) (setup_of s v) t) d0 next.taken =
         next.is ∙ ap (λ (e : Device). fold (device_after_reception (clocks v) (setup_of s v) t) e next.taken)
-            (nothing_told s clocks air v t at now.sending now.there now.end) in
+        (nothing_told s clocks air v t at now.sending now.there now.end) in
         let one = heard_now next.taken d is w there open_ (HeardAt t h.packet) in_it refl in
         let ends : Contains (ending_at t (heard_by air v)) one.0 =
         subst (λ (l : List Reception). Contains l one.0) (sym next.hearings) (Contains-append_left next.taken (h ∷ next.rest) one.0 one.1) in
@@ -147,7 +147,7 @@ module _ (rows : AllRows) (s : ScenarioParts) (clocks : ℕ → ℕ → ℕ) (ai
         ap (λ (ls : List ScriptLine). fold (device_after_line (clocks v) (setup_of s v) t) d0 ls) (none_in_frame s clocks air v t at began) in
         let hs = ending_at t (heard_by air v) in
         let is : d ≡ fold (device_after_reception (clocks v) (setup_of s v) t) d0 hs =
-            enters ∙ ap (λ (e : Device). fold (device_after_reception (clocks v) (setup_of s v) t) e hs) untold in
+        enters ∙ ap (λ (e : Device). fold (device_after_reception (clocks v) (setup_of s v) t) e hs) untold in
         let one = heard_now hs d is w there open_ (SentAt t y.packet) in_it refl in
         not_sent t t one.0.packet y.packet one.2
 

@@ -52,7 +52,7 @@ module _ (s : ScenarioParts) (clocks : ℕ → ℕ → ℕ) (air : List Entry) (
         frame_is s (frame_of_sending s.profile x) t (omega (arith, from, before)) (omega (arith, until, ends)) in
         let began : frame_start s (t / s.profile.frame) < t = omega (arith, from, before, ap (λ (f : ℕ). f * s.profile.frame) frame) in
         ap (λ (ls : List ScriptLine). fold (device_after_line (clocks v) (setup_of s v) t) (device_in s clocks air v t) ls)
-            (none_in_frame s clocks air v t at began)
+        (none_in_frame s clocks air v t at began)
 
     -- it is among the receptions of the tick
     among : (x : Sending) → HasHeardEntry air v x → x.end ≡ t → Contains (map (heard_at t) (ending_at t (heard_by air v))) (HeardAt x.end x.packet)

@@ -103,7 +103,7 @@ has_last (SentAt t p ∷ es) turn some =
             | inl same ↦ (
                 let tick : t ≡ u = ap tick_of_happening same in
                 let after = pairs_head (λ (d e : Happening). tick_of_happening d ≤ tick_of_happening e) (SentAt t p) es turn (SentAt rest.tick rest.packet)
-                    rest.there in
+                rest.there in
                 omega (arith, tick, after)
                 )
             | inr later ↦ rest.last u q later

@@ -95,7 +95,7 @@ module _ (rows : AllRows) (s : ScenarioParts) (clocks : ℕ → ℕ → ℕ) (ai
           let inside = in_flood s clocks air run x flood in
           let some = packets_last p b fits (length x.packet) in
           flood_end p (length x.packet) (counter_of_sending x) x.start (tick_at_offset first flood.zero (starting_offset p (slot_of_sending x)))
-              (omega arith) inside.few inside.near
+          (omega arith) inside.few inside.near
 
       lasts : x.end ≡ x.start + airtime s.profile (length x.packet)
       lasts = flood.lasts
@@ -164,7 +164,7 @@ module _ (rows : AllRows) (s : ScenarioParts) (clocks : ℕ → ℕ → ℕ) (ai
         pub ends_early : x.end < closing_of s clocks air v w
         ends_early =
             let ends =
-                ends_in_slot p b fits host first (clocks v) flood.zero w.after.zero w.frame (slot_of_sending x) (length x.packet) (counter_of_sending x) x.start
+            ends_in_slot p b fits host first (clocks v) flood.zero w.after.zero w.frame (slot_of_sending x) (length x.packet) (counter_of_sending x) x.start
             host_is_clock first_drifts own_drifts (slot_in_round s clocks air run x flood) short begins
             (subst (λ (i : ℕ). Good s.profile (budget_of s.profile) host (clocks v) w.after.zero w.frame (closing_offset s.profile i)) (sym at) closes_good)
             (in_flood s clocks air run x flood) in
@@ -179,7 +179,7 @@ module _ (rows : AllRows) (s : ScenarioParts) (clocks : ℕ → ℕ → ℕ) (ai
             elim opens.at [
               | inl now ↦ (
                   let here : tick_at_offset (clocks v) w.before.zero (opening_offset p w.slot) ≡ tick_at_offset (clocks v) w.after.zero (opening_offset p
-                      w.slot) =
+                  w.slot) =
                   ap (λ (z : ℕ). tick_at_offset (clocks v) z (opening_offset p w.slot)) opens.zero in
                   let starts = opens_before_starts p b fits host
                   (clocks v) first w.after.zero flood.zero w.frame host_is_clock own_drifts first_drifts w.slot is.in_round opens.good begins_here in

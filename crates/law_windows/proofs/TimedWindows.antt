@@ -144,7 +144,7 @@ module _ (s : ScenarioParts) (clocks : ℕ → ℕ → ℕ) (air : List Entry) (
 
     closes_timed : (d : Device) (n : Node) (j : ℕ) (w : Window) (x : WindowLog) → IsFine s clocks air v t Alarms d
         → IsNextAlarm s v (clocks v) (heard_by air v) t d → d.power ≡ PowerOn n → n.stage ≡ InWindow j w → IsOpenWindow n j w x
-            → t ≡ closing_of s clocks air v x
+        → t ≡ closing_of s clocks air v x
     closes_timed d n j w x fine due on stage is =
         let alarm = (on_in s clocks air v t Alarms d n fine on).alarm in
         let other : d.alarm ≡ Some alarm.alarm = alarm.set in

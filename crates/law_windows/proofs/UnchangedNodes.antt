@@ -105,7 +105,7 @@ module _ (s : ScenarioParts) (clocks : ℕ → ℕ → ℕ) (air : List Entry) (
         let start : frame_start s (t / s.profile.frame) ≡ t = omega (arith, late, begins) in
         let found : (at_frame s v (clocks v) (heard_by air v) (t / s.profile.frame)).power ≡ d.power =
         ap (λ (u : ℕ). (device_after_script s v (clocks v) u (before_tick s v (clocks v) (heard_by air v) u)).power) start
-            ∙ sym (ap (λ (e : Device). e.power) enters) in
+        ∙ sym (ap (λ (e : Device). e.power) enters) in
         as_found d.power found
         )
   ]

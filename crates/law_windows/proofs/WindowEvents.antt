@@ -90,7 +90,7 @@ module _ (s : ScenarioParts) (air : List Entry) (v : ℕ) (w : WindowLog) where
   all_floods f [] were = refl
   all_floods f (e ∷ es) were =
       ap (λ (g : FloodState). flood_after_events g (events_of es (λ d there. were d (contains_tail e es d there))))
-          (one_flood f e (were e (contains_head e es)))
+      (one_flood f e (were e (contains_head e es)))
       ∙ all_floods (after_happening f e) es (λ d there. were d (contains_tail e es d there))
 
   tick_is : (d : Event) → tick_of_happening (happening_of d) ≡ (sending_of_event d).end

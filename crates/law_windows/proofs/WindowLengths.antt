@@ -45,7 +45,7 @@ module _ (p : Numbers) (b : Budget) (fits : Fits p b) (H L : ℕ → ℕ) (host 
     open_for =
         let k = mul-le-mul_right p.slot slot in
         let all = from_opening L z (closing_offset p j) clock (good_later p b fits H L z f (opening_offset p j) (closing_offset p j) (omega arith) good)
-            (omega (arith, k)) in
+        (omega (arith, k)) in
         omega (arith, all)
 
     -- until a transmission of its flood with counter c ends, which another zero began

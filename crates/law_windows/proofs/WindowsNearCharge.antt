@@ -139,7 +139,7 @@ module _ (s : ScenarioParts) (clocks : ℕ → ℕ → ℕ) (air : List Entry) (
       (λ k from until. absurd (omega (arith, from, until))) in
       let long = open_for s.profile b fits host (clocks v) host_drifts own_drifts zero w.frame w.slot w.opened timed.in_round opens.good at in
       let charged : charge_of_window s w ≡ s.profile.close =
-          charge_is ∙ ap (charge_by_last s.profile) (last_is false (ne_eqb (length (sent_packets w)) s.sends less)) in
+      charge_is ∙ ap (charge_by_last s.profile) (last_is false (ne_eqb (length (sent_packets w)) s.sends less)) in
       omega (arith, all, long, charged, tick)
 
   -- ---- it sent as often as it may
@@ -172,7 +172,7 @@ module _ (s : ScenarioParts) (clocks : ℕ → ℕ → ℕ) (air : List Entry) (
         (counter_of_sending x)
     near =
         subst (λ (j : ℕ). Near x.start
-            (tick_at_offset first flood.zero (starting_offset s.profile j) + counter_of_sending x * step s.profile (length x.packet)) (counter_of_sending x))
+        (tick_at_offset first flood.zero (starting_offset s.profile j) + counter_of_sending x * step s.profile (length x.packet)) (counter_of_sending x))
         sent.of_slot.slot
         (in_flood s clocks air run x flood).near
 

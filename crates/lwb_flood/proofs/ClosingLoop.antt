@@ -22,4 +22,4 @@ module _ (first now : World) (place : ℕ) (so : now ≡ closed_all (take place 
       let at : v ≡ get_or (map node_of_member first.members) place v = sym (get_or-map node_of_member now.members place d v (closing_below below))
       ∙ ap (λ (l : List ℕ). get_or l place v) nodes in
       same ∙ ap (world_closed_at v) so
-          ∙ sym (closed_more (map node_of_member first.members) place v first (omega (arith, length-map first.members node_of_member)) at)
+      ∙ sym (closed_more (map node_of_member first.members) place v first (omega (arith, length-map first.members node_of_member)) at)

@@ -102,13 +102,13 @@ ended_nodes x old =
     cond_both (is_last x.node old.members) (gone x.node x.end (own_ended x old)) (own_ended x old)
     (λ (w : World). map node_of_member w.members ≡ map node_of_member old.members)
     (λ _. nodes_kept x.node (member_with_act Rattle.lwb_flood.specs.declared.member.Act.TheVariants.Off) (λ m. refl) (own_ended x old).members
-        ∙ own_nodes x old)
+    ∙ own_nodes x old)
     (λ _. own_nodes x old)
 
 pub ended_by : {C : Type 0} (R : C → ℕ → ℕ) (cs : List C) (lines : Lines) (x : Sending) (old mid new : World) (vs : List ℕ) → IsHeardBy lines x old vs
     → mid ≡ world_after_end x old
     → new ≡ heard_by_all (readings_of_node R cs (map node_of_member mid.members)) x vs mid
-        → Ended lines (readings_of_node R cs (map node_of_member old.members)) x old new
+    → Ended lines (readings_of_node R cs (map node_of_member old.members)) x old new
 ended_by R cs lines x old mid new vs by same is = record {
   hearers = vs;
   heard = by;
@@ -179,4 +179,4 @@ module _ (inside old : World) (view : inside ≡ old) (x : Sending) (lines : Lin
     gone_nodes new same =
         let none : Option ℕ = None in
         ap (λ (w : World). nodes_of w.medium) same ∙ same_nodes medium x.end x.node (station_after_tuning none x.end) (retuned_keeps none x.end).node
-            ∙ mid_nodes
+        ∙ mid_nodes

@@ -133,7 +133,7 @@ module _ (clocks : ℕ → ℕ → ℕ) (x : Sending) (vs : List ℕ) (first now
         ∙ ap (λ (q : ℕ × ℕ). map (λ (r : ℕ × ℕ). r.0) (take i ps) ++ q.0 ∷ []) (get_or_from_slice_get ps i p p at)
         ∙ ap (λ (l : List ℕ). l ++ p.0 ∷ []) (sym vs_is) in
         new_is ∙ ap (λ (k : ℕ → ℕ). world_after_reception k x p.0 now) clock_is ∙ ap (world_after_reception (clocks p.0) x p.0) so
-            ∙ sym (heard_push clocks x vs p.0 first)
+        ∙ sym (heard_push clocks x vs p.0 first)
         ∙ ap (λ (l : List ℕ). heard_by_all clocks x l first) (sym more)
 
 node_there : (ms : List Member) (i v : ℕ) → i < length ms → ((d : Member) → (get_or ms i d).node ≡ v) → (d : ℕ) → get_or (map node_of_member ms) i d ≡ v

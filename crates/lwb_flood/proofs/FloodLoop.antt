@@ -206,7 +206,7 @@ module _ (f : FloodParts) (clocks : ℕ → ℕ → ℕ) (has : HasClocks f cloc
           where
             by_last : (b : Bool) → is_last x.node w.members ≡ b
                 → IsFloodSoFar f clocks (map (heard_at x) vs) [] (world_after_end x w) × IsShape (world_after_end x w)
-                    × ((world_after_end x w).medium.now < CLOSING)
+                × ((world_after_end x w).medium.now < CLOSING)
             by_last true last =
                 subst (λ (n : World). IsFloodSoFar f clocks (map (heard_at x) vs) [] n × IsShape n × (n.medium.now < CLOSING))
                 (sym (cond-true (is_last x.node w.members) (gone x.node x.end (own_ended x w)) (own_ended x w) last))
@@ -239,7 +239,7 @@ module _ (f : FloodParts) (clocks : ℕ → ℕ → ℕ) (has : HasClocks f cloc
           → IsRunning f clocks new × (remaining new < remaining w)
       ended_on others same new e =
           let is_new : heard_by_all clocks x e.hearers (world_after_end x w) ≡ new =
-              heard_by_same clocks others same x e.hearers (world_after_end x w) ∙ sym e.is in (
+          heard_by_same clocks others same x e.hearers (world_after_end x w) ∙ sym e.is in (
             subst (IsRunning f clocks) is_new (ended_running e.hearers e.heard),
             subst (λ (n : World). remaining n < remaining w) is_new (ended_smaller e.hearers e.heard),
           )

@@ -191,7 +191,7 @@ module _ (f : FloodParts) (clocks : ℕ → ℕ → ℕ) (has : HasClocks f cloc
       by_member (m, there, is) =
           let answered = (so.each m there).answered r.heard r.flood x.packet (
           subst (λ (es : List Event). Contains (event_occasions (first_flood f m.node) es) (record { before = r.flood; event = Heard r.heard }))
-              (past_is m there)
+          (past_is m there)
           (subst (λ (v : ℕ). Contains (event_occasions (first_flood f v) (events_in w.air v)) (record { before = r.flood; event = Heard r.heard }))
           (sym is) r.occasion)) r.answer in
           let at : sending_at m.node (due (clocks m.node) (clocks m.node r.heard.end + 12288)) x.packet ≡ x =

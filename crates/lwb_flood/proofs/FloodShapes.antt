@@ -27,9 +27,9 @@ module _ (w : World) (is : IsShape w) where
   pub gone_shape : (v t : ℕ) → IsShape (gone v t w)
   gone_shape v t =
       let none : Option ℕ = None in let both = changed v t (station_after_tuning none t) (retuned_keeps none t) (member_with_act Off) (λ m. refl) in record {
-    nodes = both.0;
-    medium = both.1;
-  }
+        nodes = both.0;
+        medium = both.1;
+      }
 
   pub own_ended_shape : (x : Sending) → IsShape (own_ended x w)
   own_ended_shape x = let both = changed x.node x.end station_after_end finished_keeps after_own (λ m. refl) in record { nodes = both.0; medium = both.1 }

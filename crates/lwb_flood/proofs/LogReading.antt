@@ -118,7 +118,7 @@ module _ (hs : List Hearing) (h : Hearing) (v : ℕ) where
 -- a reception more
 added : (hs : List Hearing) (firsts : List (Option FirstHearing)) (h : Hearing) → length firsts ≡ 201 → h.node ≤ 200
     → ((v : ℕ) → IsFirstReception hs v (get_or firsts v None)) → (v : ℕ)
-        → IsFirstReception (hs ++ h ∷ []) v (get_or (with_earlier firsts (Some (kept_of h))) v None)
+    → IsFirstReception (hs ++ h ∷ []) v (get_or (with_earlier firsts (Some (kept_of h))) v None)
 added hs firsts h long small are v = by_test (h.node == v) refl
   where
     kept : Option FirstHearing
@@ -164,7 +164,7 @@ firsts_more air i firsts o within are at small =
       ids = long_still firsts o ∙ are.ids;
       each = λ v. subst (λ (l : List Hearing). IsFirstReception l v (get_or (with_earlier firsts o) v None)) (sym all)
           (subst (λ (p : Option (ℕ × FirstHearing)). IsFirstReception (hs ++ hearings_of (e.0 ∷ [])) v (get_or (with_earlier firsts p) v None)) (sym is)
-              (each v));
+          (each v));
     }
 
 nothing_kept : (n v : ℕ) → (let none : Option FirstHearing = None in get_or (replicate n none) v none ≡ none)

@@ -193,7 +193,7 @@ module _ (r : Run) (Tuned : ℕ → Sending → Type 0) (f : FloodRun r Tuned) (
       let y = c.heard in
       let parts = relayed_parts c.flood y.packet x.packet c.answer in
       let there : Contains (r.events v) (Heard y) =
-          occasion_event (flood_at_beginning r v) (r.events v) (record { before = c.flood; event = Heard y }) c.occasion in
+      occasion_event (flood_at_beginning r v) (r.events v) (record { before = c.flood; event = Heard y }) c.occasion in
       let raised : counter x ≡ counter y + 1 = ap (λ (p : List ℕ). slice_index p 2) parts.2
       ∙ counter_set y.packet (counter y + 1) (fitting_long c.flood y.packet parts.0) in
       let at_y : counter y ≡ k = omega (arith, raised) in

@@ -162,7 +162,7 @@ module _ (r : Run) (Tuned : ℕ → Sending → Type 0) (f : FloodRun r Tuned) (
   current v here c there step =
       let t = at.turns v here in
       elim (Contains-append_cases (event_occasions (flood_at_beginning r v) t.before)
-          (event_occasions (flood_after_events (flood_at_beginning r v) t.before) t.rest) c
+      (event_occasions (flood_after_events (flood_at_beginning r v) t.before) t.rest) c
       (subst (λ (l : List EventOccasion). Contains l c)
       (ap (λ (l : List Event). event_occasions (flood_at_beginning r v) l) t.whole ∙ occasions_append (flood_at_beginning r v) t.before t.rest) there)) [
         | inl old ↦ (let less = t.earlier c.event (occasion_event (flood_at_beginning r v) t.before c old) in absurd (omega arith))
@@ -176,7 +176,7 @@ module _ (r : Run) (Tuned : ℕ → Sending → Type 0) (f : FloodRun r Tuned) (
   occasion_now v x here there step =
       let o = occasion_of (flood_at_beginning r v) (r.events v) (Heard x) there in
       subst (λ (w : FloodState). Contains (event_occasions (flood_at_beginning r v) (r.events v)) (record { before = w; event = Heard x }))
-          (current v here (record {
+      (current v here (record {
         before = o.0;
         event = Heard x;
       }) o.1 step) o.1

@@ -102,7 +102,7 @@ by_two start p is =
           (let answer : Relay (packet_of 1 1) ≡ Relay p = ap (λ (o : EventOccasion). reply_to o.before (sending_of_event o.event).packet) same ∙ is.answer in
           let at : 45056 ≡ start = ap (λ (o : EventOccasion). (sending_of_event o.event).end + 12288) same ∙ sym is.start in
           equal_sendings second_sending (sending_of_run two_node_run 2 start p) refl refl at (ap (λ (t : ℕ). t + 32768) at)
-              (relay_same (packet_of 1 1) p answer))
+          (relay_same (packet_of 1 1) p answer))
       | inr other ↦ absurd (ended_not_heard second_sending is.heard (ap (λ (o : EventOccasion). o.event) other))
     ]
 
@@ -144,7 +144,7 @@ ended_events_two x = (
   ],
   λ is. sent (λ x. x.node ≡ 2 → Contains (two_node_run.events 2) (Ended x)) (λ node. absurd (omega arith))
       (λ node. contains_tail (Heard first_transmission) (Ended second_sending ∷ []) (Ended second_sending) (contains_head (Ended second_sending) [])) x is.0
-          is.1,
+      is.1,
 )
 
 order_one : EventsInOrder (two_node_run.events 1)
@@ -228,7 +228,7 @@ two_is_run = record {
     };
     heard_sent = λ v x here there.
         (let is = heard_hearing v x there in
-            subst (λ (y : Sending). Contains two_node_run.sendings y) is.1 (contains_head first_transmission (second_sending ∷ [])));
+        subst (λ (y : Sending). Contains two_node_run.sendings y) is.1 (contains_head first_transmission (second_sending ∷ [])));
     turned = λ v x here there time. omega arith;
   };
   hears = λ v x here. (

@@ -138,7 +138,7 @@ module _ (r : Run) (Tuned : ℕ → Sending → Type 0) (f : FloodRun r Tuned) w
       there h =
           let x = h.sending in
           let event : Contains (r.events v) (Heard x) =
-              occasion_event (flood_at_beginning r v) (r.events v) (record { before = h.flood; event = Heard x }) h.occasion in
+          occasion_event (flood_at_beginning r v) (r.events v) (record { before = h.flood; event = Heard x }) h.occasion in
           let air = heard_by_rule r Tuned f v x here event in
           let step = counter_is r f.times o k x begun h.packet in
           let now : h.flood ≡ station r (moment s k) v = current r Tuned f k few (moment s k) at v here (record {

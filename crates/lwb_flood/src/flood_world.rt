@@ -194,7 +194,7 @@ impl FloodWorld {
         requires clocks { length clocks.now ≡ length self.old.members }
         ensures { OnOk result
             (self.new ≡ heard_by_all (readings_of_node C.readings clocks.now (map node_of_member self.old.members)) x.now (map (λ p. p.0) hearers.now)
-                self.old) }
+            self.old) }
     {
         for i in 0..usize::from(hearers.count()) {
             let (node, _) = hearers.at(i).unwrap();

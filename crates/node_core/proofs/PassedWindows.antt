@@ -24,6 +24,6 @@ window_passes s n j w none =
     let core : Option Message → Closed = λ m. closed_slot s n.frame w.part w.flood.initiated n.core m in
     let node : Option Message → Node = λ m. record n { core = (core m).core; zero = zero_by s.profile n.zero w.reference m } in
     let of : Option Message → Stepped =
-        λ m. row_to_next_slot s j w.last (node m) (option_map (delivery_of s.id n.frame (rank_of n.core.tune) j) (core m).delivered) in
+    λ m. row_to_next_slot s j w.last (node m) (option_map (delivery_of s.id n.frame (rank_of n.core.tune) j) (core m).delivered) in
     let at : ℕ → Stepped = λ z. row_to_next_slot s j w.last (record n { core = (core None).core; zero = z }) None in
     ap of (said_none (accepted_of w.flood) none) ∙ ap at (zero_stays s.profile n.zero w.reference)

@@ -41,7 +41,7 @@ closing_at s rank f part v (StateOn c) heard = by_member (is_member rank f c) he
     by_member : (b : Bool) (heard : Option Message)
         → (let window : Option Opened = if b then Some (opened_slot (setup_in s v) f part c) else None in
         closed_of (setup_in s v) f part (is_some window) (is_some (message_said window)) heard
-            (StateOn (if b then (opened_slot (setup_in s v) f part c).core else c))
+        (StateOn (if b then (opened_slot (setup_in s v) f part c).core else c))
         ≡ closed_slot_of s f part v window heard (StateOn c))
     by_member true heard = refl
     by_member false None = refl

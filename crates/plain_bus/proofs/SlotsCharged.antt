@@ -81,7 +81,7 @@ module _ (s : ScenarioParts) (rank f : ℕ) (p : Plan) (start others : ℕ → S
     slot_charged_at c =
         let cost : ℕ → List (ℕ × ℕ) → Cost =
         λ sent ls. record c
-            { sent = c.sent + sent; windows = c.windows + (if is_some (x.window v) then charge s.profile (last_if_all_sent s.sends ls) else 0) } in
+        { sent = c.sent + sent; windows = c.windows + (if is_some (x.window v) then charge s.profile (last_if_all_sent s.sends ls) else 0) } in
         ap (λ (n : ℕ). cost n (sent_as (bytes_sent_by b v) (steps_in (sends_in x.flood v))))
         (sym (sent_in_all s.profile (bytes_sent_by b v) (steps_in (sends_in x.flood v))))
         ∙ ap (λ (ls : List (ℕ × ℕ)). cost (sum_by (λ (a : ℕ × ℕ). airtime s.profile a.1) ls) ls) (sym sent_is)

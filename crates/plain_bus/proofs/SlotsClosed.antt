@@ -100,7 +100,7 @@ never m is = cc
 -- a host accepts no schedule: in its own round it says one itself, and otherwise it takes no part
 pub may_accept : (s : ScenarioParts) (rank f : ℕ) (part : Part) (v : ℕ) (x : State) (heard : Option Message)
     → (is_some (message_said (opened_at s rank f part v x)) ≡ true → heard ≡ None)
-        → (takes_part rank part x (opened_at s rank f part v x) ≡ false → heard ≡ None)
+    → (takes_part rank part x (opened_at s rank f part v x) ≡ false → heard ≡ None)
     → (is_schedule_part part ≡ false → (m : Schedule) → heard ≡ Some (ScheduleOf m) → ⊥)
     → MayAcceptIn (state_opened (setup_in s v) rank f part x) heard
 may_accept s rank f part v (StateOff boots) heard quiet outside plain = tt

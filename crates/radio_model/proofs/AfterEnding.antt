@@ -181,8 +181,11 @@ module _ (m : MediumState) (is : IsMedium m) (a : Scene) (h : Holds m a) (v t : 
     known = λ y there. elim (h.known y there) [
       | inl kept ↦ elim (stays kept.station kept.there y kept.kept) [
         | inl on ↦
-            inl (record { station = station_changed_at v station_after_end kept.station;
-                there = is_there m is station_after_end finished_keeps v t kept.station kept.there; kept = on })
+            inl (record {
+              station = station_changed_at v station_after_end kept.station;
+              there = is_there m is station_after_end finished_keeps v t kept.station kept.there;
+              kept = on;
+            })
         | inr over ↦ inr over
       ]
       | inr over ↦ inr (omega arith)

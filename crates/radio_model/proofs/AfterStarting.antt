@@ -153,6 +153,6 @@ module _ (m : MediumState) (is : IsMedium m) (a : Scene) (h : Holds m a) (v : 鈩
         past = 位 k there. let by = h.past k there in omega arith;
         tuned =
             位 st there. right_by (medium_after_change t v change m) (record a { sendings = a.sendings ++ option_to_list new })
-                (ascend_after m is change keeps v t) st there t
+            (ascend_after m is change keeps v t) st there t
             (each_after m is change keeps v t now_tells (位 s old node. still s old) (位 s old other. still s old) st there);
       }

@@ -277,9 +277,10 @@ module _ (m : MediumState) (is : IsMedium m) (a : Scene) (h : Holds m a) (u : �
     λ there.
         let s = filter_from (reception_pair a.lines u x key rs) m.stations (w, u) there in
         let both = of_heard (is_heard a.lines u x key rs s.0) s.0.node (w, u) s.2 in
-        let node : s.0.node ≡ w = sym (ap (λ (q : ℕ × ℕ). q.0) both.1) in
-        (subst (Contains (nodes_of m)) node (map_contains id_of_station m.stations s.0 s.1),
-            subst (λ (n : ℕ). HearsInScene scene n x) node (heard_hears s.0 s.1 both.0)),
+        let node : s.0.node ≡ w = sym (ap (λ (q : ℕ × ℕ). q.0) both.1) in (
+          subst (Contains (nodes_of m)) node (map_contains id_of_station m.stations s.0 s.1),
+          subst (λ (n : ℕ). HearsInScene scene n x) node (heard_hears s.0 s.1 both.0),
+        ),
     λ is_one.
         let s = map_from id_of_station m.stations w is_one.0 in
         let so : is_heard a.lines u x key rs s.0 ≡ true = hears_heard s.0 s.1 (subst (λ (n : ℕ). HearsInScene scene n x) (sym s.2) is_one.1) in

@@ -35,7 +35,7 @@ module _ (f : Station → Station) (v : ℕ) where
         elim (cases_eq st.node w) [
           | inl node ↦
               found_at (map (station_changed_at v f) xs) w (station_changed_at v f st) (node_stays st ∙ node)
-                  ∙ ap (option_map (station_changed_at v f)) (sym (found_at xs w st node))
+              ∙ ap (option_map (station_changed_at v f)) (sym (found_at xs w st node))
           | inr other ↦
               found_behind (map (station_changed_at v f) xs) w (station_changed_at v f st) (λ same. other (sym (node_stays st) ∙ same))
               ∙ found_changed xs w ∙ ap (option_map (station_changed_at v f)) (sym (found_behind xs w st other))

@@ -99,7 +99,7 @@ module _ (f : Station → Station) (keeps : Keeps f) (v : ℕ) where
     nodes = subst AreNodes (sym (nodes_stay f v keeps.node m.stations)) is.nodes;
     places =
         λ k d below. ap (λ (s : Station). s.place)
-            (get_or-map (station_changed_at v f) m.stations k d d (omega (arith, length-map m.stations (station_changed_at v f))))
+        (get_or-map (station_changed_at v f) m.stations k d d (omega (arith, length-map m.stations (station_changed_at v f))))
         ∙ place_kept (get_or m.stations k d) ∙ is.places k d (omega (arith, length-map m.stations (station_changed_at v f)));
     rooms = All-map (λ (s : Station). s.ended.capacity ≡ 13) (station_changed_at v f) m.stations
         (λ k d below. room_kept (get_or m.stations k d) ∙ is.rooms k d below);

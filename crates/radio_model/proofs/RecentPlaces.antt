@@ -140,7 +140,7 @@ module _ (now t : ℕ) (sts : List Station) (mks : List Mark) (r s : Recent) (i 
 pub recent_after_start : (p : Numbers) (now t end : ℕ) (packet : List ℕ) (sts : List Station) (mks : List Mark) (i : ℕ) (old new : Station)
     (origin : Origin) (r s : Recent) → i < length sts → old ≡ get_or sts i old
     → new ≡ station_after_start p t packet old → now ≤ t → AreMarks sts mks
-        → ((k : ℕ) (d : Station) (y : Sending) → k < length sts → (get_or sts k d).sending ≡ Some y
+    → ((k : ℕ) (d : Station) (y : Sending) → k < length sts → (get_or sts k d).sending ≡ Some y
     → t ≤ y.end) → AreRecent now sts mks r
     → (o : Option ℕ) → o ≡ begins_on old.tuned old.sending → (is_some o ≡ true → IsRecentAfter i t end r s) → (is_some o ≡ false → s ≡ r)
     → AreRecent t (set sts i new) (next_marks o t end origin i mks no_mark) s

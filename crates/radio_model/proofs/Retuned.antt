@@ -201,6 +201,6 @@ same_after a v now t later past (Some r) st order tells =
             | inl p ↦ out.1 (inl p)
             | inr goes ↦
                 out.1 (inl (none_new (Lit (with_tuning a (ended_tuning v None t st.tuned)) v) r t (last_at st.tuned st.last t) told.order told.tells c k
-                    early goes))
+                early goes))
           ],
         )

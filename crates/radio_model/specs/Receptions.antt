@@ -52,4 +52,4 @@ abbrev pub comes_through : Numbers → Lines → ℕ → Sending → List Sendin
 comes_through p lines v x near =
     arrives p lines v x && not (list_any (transmits v x) near) && not (list_any (spoils p lines v x) near)
     && (not (list_any (differs p lines v x) near)
-        || is_captured p lines v x near (captured lines (frame_of_sending p x) (slot_of_sending x) (counter_of_sending x) v))
+    || is_captured p lines v x near (captured lines (frame_of_sending p x) (slot_of_sending x) (counter_of_sending x) v))

@@ -82,4 +82,4 @@ pub owners_differ : (b : List ℕ) (p : PlanOfDeadlines) → plan_of b ≡ Ok p 
 owners_differ b p is =
     at_ok PlanDiffers (plan_of b) p is
     (plan_differs (length (lines b) + 1) (draft_after_lines (draft_after_line plan_after_words) 1 empty_plan_draft (lines b))
-        (λ d read. lines_differ d (lines b) read))
+    (λ d read. lines_differ d (lines b) read))

@@ -57,7 +57,7 @@ new_behind ss i s admitted below at differ new = new s.owner (differ i s below a
 
 pub new_after : (ss : List DeadlineStream) (i : ℕ) (s : DeadlineStream) (q : PlanOfDeadlines) (a : Admit) → i < length ss → s ≡ get_or ss i s
     → ((owner : ℕ) → has_stream_of (take i ss) owner ≡ false → has_stream_of q.streams owner ≡ false) → (owner : ℕ)
-        → has_stream_of (take (i + 1) ss) owner ≡ false
+    → has_stream_of (take (i + 1) ss) owner ≡ false
     → has_stream_of (after_admit q s (Ok a)).streams owner ≡ false
 new_after ss i s q a below at new owner none =
     let more : take (i + 1) ss ≡ take i ss ++ s ∷ [] = take_more ss i s below ∙ ap (λ (x : DeadlineStream). take i ss ++ x ∷ []) (sym at) in

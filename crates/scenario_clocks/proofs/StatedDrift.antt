@@ -21,7 +21,7 @@ tame_rates v [] all = tt
 tame_rates v (r ∷ rs) all =
     let fs : List RateLine = filter (λ r. r.node == v) rs in
     cond_both (r.node == v) (r ∷ fs) fs (λ (l : List RateLine). AreTame (map rate_entry_of_line l)) (λ is. (all.0, tame_rates v rs all.1))
-        (λ not. tame_rates v rs all.1)
+    (λ not. tame_rates v rs all.1)
 
 drift_by_recursion : (ns : List NodeLine) (rs : List RateLine) → AllByRecursion (λ n. n.offset ≤ 256000) ns → AllByRecursion (λ r. unsigned_abs r.ppm ≤ 20) rs
     → (v : ℕ) → knows ns v ≡ true → IsClock (stated_by ns rs v)

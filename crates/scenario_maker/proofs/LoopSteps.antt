@@ -122,7 +122,7 @@ put_added f k before old new x here done added is =
     added ∙ ap (λ (ys : List ScriptLine). ys ++ x ∷ []) done ∙ ap (λ (y : ScriptLine). (before ++ map (made_put_line f) so_far) ++ y ∷ []) is
     ∙ append_assoc before (map (made_put_line f) so_far) (made_put_line f (k + 2) ∷ [])
     ∙ ap (λ (ys : List ScriptLine). before ++ ys)
-        (sym (map-append (made_put_line f) so_far ((k + 2) ∷ [])) ∙ ap (map (made_put_line f)) (sym (kept_more f k true here)))
+    (sym (map-append (made_put_line f) so_far ((k + 2) ∷ [])) ∙ ap (map (made_put_line f)) (sym (kept_more f k true here)))
 
 pub none_added : (f k : ℕ) (before old new : List ScriptLine) → node_puts f (k + 2) ≡ false
     → old ≡ before ++ map (made_put_line f) (filter (node_puts f) (range_with_len 2 k)) → new ≡ old

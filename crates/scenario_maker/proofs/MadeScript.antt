@@ -121,8 +121,13 @@ few_in_frame n frames f =
     let off : length (off_lines frames f) ≤ 1 =
     cond_both (nat_le 40 frames && (f == frames / 2)) (record { frame = f; node = 1; act = Off } ∷ []) [] (λ (xs : List ScriptLine). length xs ≤ 1)
     (λ is. omega arith) (λ not. omega arith) in
-    omega (arith, off, puts_in_turn f 2 (n - 1), length-map (filter (node_puts f) (later_nodes n)) (made_put_line f),
-        length-append (off_lines frames f) (put_lines n f))
+    omega (
+      arith,
+      off,
+      puts_in_turn f 2 (n - 1),
+      length-map (filter (node_puts f) (later_nodes n)) (made_put_line f),
+      length-append (off_lines frames f) (put_lines n f),
+    )
 
 pub few_in_script : (g : Lcg) (n frames : ℕ) → length (script g n frames) ≤ n + n + frames * ((n + 6) / 4)
 unfolding opening

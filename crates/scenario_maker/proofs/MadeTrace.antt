@@ -40,7 +40,7 @@ module _ (ns : List NodeLine) where
   pair_kept : (p : ℕ × ℕ) (ls : List LinkLine) → AreKnown ns p → AreLinks ns ls → AreLinks ns (with_pair ls p)
   pair_kept p ls known are =
       cond_both ((p.0 == p.1) || list_any (is_link p.0 p.1) ls) ls (with_new_link p.1 p.0 (with_line by_link (record { from = p.0; to = p.1 }) ls))
-          (AreLinks ns)
+      (AreLinks ns)
       (λ skipped. are)
       (λ goes.
       let parts = or_parts (p.0 == p.1) (list_any (is_link p.0 p.1) ls) goes in

@@ -81,7 +81,7 @@ line_read ws =
     (counted_read 5 ws (Put (number_at ws 1) (number_at ws 2) (number_at ws 3) (payload (word ws 4)))
     (payload_read (number_at ws 1) (number_at ws 2) (number_at ws 3) (word ws 4))) tt)
     (either (first_word_is ws (codes "lose")) _ _
-        (counted_read 6 ws (Lose (number_at ws 1) (number_at ws 2) (number_at ws 3) (number_at ws 4) (number_at ws 5)) tt)
+    (counted_read 6 ws (Lose (number_at ws 1) (number_at ws 2) (number_at ws 3) (number_at ws 4) (number_at ws 5)) tt)
     (either (first_word_is ws (codes "cut")) _ _ (counted_read 5 ws (Cut (number_at ws 1) (number_at ws 2) (number_at ws 3) (number_at ws 4)) tt)
     (either (first_word_is ws (codes "capture")) _ _
     (counted_read 6 ws (Capture (number_at ws 1) (number_at ws 2) (number_at ws 3) (number_at ws 4) (number_at ws 5)) tt)

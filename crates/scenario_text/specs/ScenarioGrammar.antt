@@ -43,7 +43,7 @@ step_line ws =
     if first_word_is ws (codes "lose") then line_of_words 6 ws (Lose (number_at ws 1) (number_at ws 2) (number_at ws 3) (number_at ws 4) (number_at ws 5))
     else if first_word_is ws (codes "cut") then line_of_words 5 ws (Cut (number_at ws 1) (number_at ws 2) (number_at ws 3) (number_at ws 4))
     else if first_word_is ws (codes "capture") then line_of_words 6 ws
-        (Capture (number_at ws 1) (number_at ws 2) (number_at ws 3) (number_at ws 4) (number_at ws 5))
+    (Capture (number_at ws 1) (number_at ws 2) (number_at ws 3) (number_at ws 4) (number_at ws 5))
     else option_map InNetwork (network_line ws)
 
 -- a line of the script, or one of those

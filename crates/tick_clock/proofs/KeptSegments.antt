@@ -78,7 +78,7 @@ last_more r (x ∷ xs) s = last_more x xs s
 -- one more segment, for the next entry of the rates
 module _ (ss : List Segment) (last : Segment) (x : ℕ × ℤ) (rest : List (ℕ × ℤ)) (z : ℤ) (count : ℕ) (same : z ≡ x.1) (is : count ≡ count_until last x.0)
     (kept : AreSegmentsAfter first_segment ss) (at : last ≡ last_segment first_segment ss (length ss)) (small : IsSmall last)
-        (todo : InOrder last.start (x ∷ rest)) where
+    (todo : InOrder last.start (x ∷ rest)) where
   abbrev s : Segment
   s = record { start = x.0; ppm = z; count = count }
 

@@ -249,7 +249,7 @@ module _ (t p : ℕ) (w : FieldState) (field : IsField w) (due : List Due) (st n
       λ s d shows.
           let sh = shown_as s t w due p d st here shows in
           sym (ap (λ (u : Setup). sendings_starting u t d) (sym sh.setup) ∙ ap (sendings_starting st.setup t) (sym sh.is)
-              ∙ (begins_with t st new ordered x is sh.made).starting),
+          ∙ (begins_with t st new ordered x is sh.made).starting),
     )
 
     -- with the medium and the log as the code has them

@@ -73,7 +73,7 @@ module _ {t p : ℕ} {w given : FieldState} {due : List Due} (seen : w ≡ given
       let own : Ends w.medium st.setup.id t =
       subst (λ (u : Setup). Ends w.medium u.id t) (sym sh.setup)
       ((subst (λ (v : FieldState). (s : Setup) (d : Device) → FieldShows s t v due p d → Ends v.medium s.id t) (sym seen) ends) at.setup at.device
-          at.shows) in (
+      at.shows) in (
         own.sending,
         record {
           field = field;

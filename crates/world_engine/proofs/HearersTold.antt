@@ -106,7 +106,7 @@ module _ (clocks : ℕ → ℕ → ℕ) (clock : ℕ → ℕ) (t : ℕ) (x : Sen
             let at : FieldShows s t u a p d = subst (λ (k : ℕ). FieldShows s t u a k d) (sym is) shows in
             let now : FieldShows s t w c p (told_of_hearing (clocks p) t x s d) =
             subst (λ (r : ℕ → ℕ). FieldShows s t w c p (told_of_hearing r t x s d)) reads
-                (then.hearer p (contains_head p []) s d (first.others p new s d at)) in
+            (then.hearer p (contains_head p []) s d (first.others p new s d at)) in
             subst (λ (k : ℕ). FieldShows s t w c k (told_of_hearing (clocks k) t x s d)) is now
       ]
 

@@ -26,7 +26,7 @@ module _ (s : ScenarioParts) (clocks : ℕ → ℕ → ℕ) where
   -- a line more
   pub drops_more : (air : List Entry) (above ls : List ScriptLine) (l : ScriptLine)
       → trail_drops_below s clocks air above (ls ++ l ∷ []) ≡ trail_drops_below s clocks air above ls
-          ++ lost_by l (device_before_line s clocks air (above ++ ls) l)
+      ++ lost_by l (device_before_line s clocks air (above ++ ls) l)
   drops_more air above [] l =
       append-nil (lost_by l (device_before_line s clocks air above l))
       ∙ ap (λ (xs : List ScriptLine). lost_by l (device_before_line s clocks air xs l)) (sym (append-nil above))

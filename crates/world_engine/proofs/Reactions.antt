@@ -110,7 +110,7 @@ module _ (t p : ℕ) (old : FieldState) (due : List Due) (shown : FieldIsShown t
         let so_far : IsCounted state.setup.profile state.setup.sends made.windows sum =
         subst (λ (x : WindowSum). IsCounted state.setup.profile state.setup.sends made.windows x) same has.is in
         let less : (noted (power_has_window state.power) (power_has_window (state_after_row state stepped).power) (is_alarm e) (sent_with e ended)
-            sum).last ≤ 2 ^ 28 =
+        sum).last ≤ 2 ^ 28 =
         omega (arith, small, ap (λ (x : WindowSum). x.last) goes) in
         record {
           sum = next;

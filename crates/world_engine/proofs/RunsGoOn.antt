@@ -74,7 +74,7 @@ module _ (s : ScenarioParts) (clocks : ℕ → ℕ → ℕ) (told : List ScriptL
   heard_so_far v h there =
       let has = run.air.has in
       let in_turn : AreInTurn (hearings_by w.air v) =
-          AllPairs-filter (λ g k. reception_comes_before k g ≡ false) (λ g. g.node == v) (hearings_of w.air) has.in_turn in
+      AllPairs-filter (λ g k. reception_comes_before k g ≡ false) (λ g. g.node == v) (hearings_of w.air) has.in_turn in
       let plain : Contains (map reception_of (hearings_by w.air v)) h = subst (λ (l : List Reception). Contains l h) (heard_in_turn w.air v in_turn) there in
       let g = map_from reception_of (hearings_by w.air v) h plain in
       let logged = filtered (λ (k : Hearing). k.node == v) (hearings_of w.air) g.0 g.1 in

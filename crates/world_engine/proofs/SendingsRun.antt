@@ -56,7 +56,7 @@ module _ (s : ScenarioParts) (v : ℕ) (clock : ℕ → ℕ) (hs : List Receptio
   heard_with : (h : Reception) → h.end ≡ t → device_at_point s v clock (hs ++ h ∷ []) t SendingEnd ≡ device_after_reception clock (setup_of s v) t heard_all h
   heard_with h now =
       ap (λ (e : Device). device_after_receptions clock (setup_of s v) t (hs ++ h ∷ []) (device_after_script s v clock t e))
-          (earlier_stays s v clock hs h t (omega (arith, now)))
+      (earlier_stays s v clock hs h t (omega (arith, now)))
       ∙ heard_now clock (setup_of s v) t hs h (device_after_script s v clock t (before_tick s v clock hs t)) now
 
   -- a node that received it is notified

@@ -206,7 +206,7 @@ module _ (t p : ℕ) (old : FieldState) (old_due : List Due) (shown : FieldIsSho
       → Acts t p (λ s d. device_after_act clock s t frame d On d.power) [] [] old old_due new new_due
   booted_acts clock frame after mid new new_due changed boots on told =
       acts_as t p (λ s d. event clock s t Boot None (turned after.power s d)) (λ s d. device_after_act clock s t frame d On d.power) [] [] old new old_due
-          new_due
+      new_due
       (same_shown (λ s d. event clock s t Boot None (turned after.power s d)) (λ s d. device_after_act clock s t frame d On d.power)
       (λ made. ap (λ (x : DeviceState). event clock state.setup t Boot None (whole x made)) (sym changed) ∙ sym (boots made)))
       (acts_then t p (turned after.power) (λ s d. event clock s t Boot None d) [] [] [] [] old mid new old_due old_due new_due on told)

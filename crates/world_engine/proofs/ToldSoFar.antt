@@ -171,7 +171,7 @@ module _ (s : ScenarioParts) (clocks : ℕ → ℕ → ℕ) (told : List ScriptL
           let x = setup_of s k.node in
           let e = device_after_line clock x t trail.device l in
           let shown : FieldShows x t new new_due p e =
-              acts.own x trail.device (subst (λ (r : ℕ). FieldShows x t old old_due r trail.device) same trail.shows) in
+          acts.own x trail.device (subst (λ (r : ℕ). FieldShows x t old old_due r trail.device) same trail.shows) in
           let mine : l.node ≡ k.node = own ∙ ap (λ (z : NodeLine). z.node)
           (same_Some n k (sym here ∙ subst (λ (r : ℕ). slice_get s.nodes r ≡ Some k) same there)) in
           record {

@@ -69,7 +69,7 @@ impl Field {
         requires boots { (s : Setup) (d : DeviceOf) → FieldShows s t self.old (Q.map orders.old) place d → CanBoot d.power }
         ensures { (frame : ℕ) → OnOk result
             (Acts t place (λ s d. device_after_act (C.readings clock.now) s t frame d OnOf d.power) [] [] self.old (Q.map orders.old) self.new
-                (Q.map orders.new)) }
+            (Q.map orders.new)) }
     {
         if self.devices[usize::from(place)].switch_on() {
             self.tell(orders, clock, place, t, &Event::Boot, None, radio)?;
@@ -83,7 +83,7 @@ impl Field {
         requires time { IsTime self.old.medium t }
         ensures { (clock : ℕ → ℕ) (frame : ℕ)
             → OnOk result
-                (Acts t place (λ s d. device_after_act clock s t frame d OffOf d.power) [] [] self.old (Q.map orders.old) self.new (Q.map orders.new)) }
+            (Acts t place (λ s d. device_after_act clock s t frame d OffOf d.power) [] [] self.old (Q.map orders.old) self.new (Q.map orders.new)) }
     {
         let device = &mut self.devices[usize::from(place)];
         if !device.is_on() {

@@ -32,7 +32,7 @@ returns-then-is_due c =
     let links = c.links_from-links.result.now in
     let link = c.link-item.result in
     let due =
-        subst (λ (b : Bool). IsGivenAndMissing s air (hearings_of air) link.to x b) c.if-is_due.true (c.is_due.ensures air (hearings_of air) d is are) in (
+    subst (λ (b : Bool). IsGivenAndMissing s air (hearings_of air) link.to x b) c.if-is_due.true (c.is_due.ensures air (hearings_of air) d is are) in (
       missing_so s air link.to x due,
       λ w m.
           let l = link_to s air w x y c.links.result.now links (c.links.ensures.value ∙ ap (λ (t : Lines). t.links) c.trace.ensures.value)

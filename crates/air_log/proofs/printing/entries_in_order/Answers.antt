@@ -19,4 +19,4 @@ returns c =
     (c.in_ok-sort_by_cached_key.ensures.sorted key (answers_always _ _ _ (λ f a r g h. search rules)))
     (c.sort_by_cached_key.ensures.stable key (answers_always _ _ _ (λ f a r g h. search rules))) in
     ap (map (λ (e : Bor Entry). e.now)) sorted ∙ map-in_order (λ (e : Bor Entry). e.now) entry_is_before c.in_ok-sorted.sorted.items
-        ∙ ap (in_order entry_is_before) found
+    ∙ ap (in_order entry_is_before) found

@@ -44,4 +44,4 @@ returns-clause-left c =
     let l = c.loop-job in
     let none = drop_all l.job-index c.args.waiting.now (omega arith) in
     sym (l.invariant.left ∙ ap (λ (r : List Job). l.left.items ++ jobs_left (c.args.slots - length l.granted.items) c.args.frame r) none
-        ∙ append-nil l.left.items)
+    ∙ append-nil l.left.items)

@@ -18,6 +18,6 @@ loop-rate-preserved c =
     (set c.loop-rate.lists.items rate.node (get_or c.loop-rate.lists.items rate.node [] ++ rate_entry_of_line rate ∷ [])) =
     added_rate (take i rates) rate c.loop-rate.lists.items c.loop-rate.invariant c.add_rate.ensures.range in
     let held : c.add_rate.new.lists.items ≡ set c.loop-rate.lists.items rate.node (get_or c.loop-rate.lists.items rate.node [] ++ rate_entry_of_line rate
-        ∷ []) =
+    ∷ []) =
     c.in_ok-add_rate.ensures.added in
     rw (more, held) added

@@ -21,7 +21,7 @@ loop-k-preserved c =
     record {
       lines = pair_added c.args.trace.now.lines c.loop-k.trace.lines c.add_pair.new.trace.lines (random_pair g n) 0 k k (c.node-from.result, c.node-to.result)
           c.loop-k.invariant.lines (same_pair c.node-from.result c.node-to.result (1 + drawn_word g (2 * k) % n) (1 + drawn_word g (2 * k + 1) % n) from to)
-              (omega arith)
+          (omega arith)
           (c.in_ok-add_pair.ensures);
       draws = steps_to (2 * k + 1) 1 (2 * (k + 1)) g c.node-from.new.self c.node-to.new.self once c.node-to.ensures.left (omega arith);
     }

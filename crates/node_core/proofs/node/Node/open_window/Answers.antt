@@ -29,7 +29,7 @@ returns-clause-orders g c =
     ∙ ap (λ (r : RoundTimes). round_of p r c.owners.result c.contend.result) c.self.invariant.timed in
     let said =
     c.speak-packet.ensures.packet ∙ ap (λ (p : Part). option_map (bytes_in_slot slot) (opened_slot m.setup i.frame p m.core).message)
-        c.part-part.ensures.value in
+    c.part-part.ensures.value in
     let orders = orders_are p i.reference.zero slot _ _ c.new-round.result c.window-times.result rounded c.window-times.ensures c.rank-rank.result
     (rank_of m.core.tune) c.speak-packet.result (opened_slot m.setup i.frame (part_of m.core.plan slot) m.core).message ranked said in
     subst (λ (l : List Order). Gives (g.R.Radio.told c.args.radio.now) (g.R.Radio.told c.order.new.radio) l)

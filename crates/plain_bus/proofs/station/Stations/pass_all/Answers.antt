@@ -73,7 +73,7 @@ loop-station-preserved c =
     let passed : y ≡ station_after k d (heard_alone f reached i o d) =
     c.pass.ensures ∙ ap (λ (p : ℕ). station_after k d (heard_alone f reached p o d)) place in
     let station : (s : Setting) (m :
-        Moment) → IsMaskedFlood s t f → IsLone s o → SendsForInitiators s m → AreAt m nodes c.args.self.now → y ≡ station_at (next s k m) v =
+    Moment) → IsMaskedFlood s t f → IsLone s o → SendsForInitiators s m → AreAt m nodes c.args.self.now → y ≡ station_at (next s k m) v =
     λ s m flood lone known at.
     (let read : d ≡ station_at m v = station_read s m t f k flood known i below xs d at.each old in
     passed

@@ -37,7 +37,7 @@ tell-requires-clause-shown g c =
     ∙ ap (λ (b : List ℕ). w.air ++ HeardLine (record { rank = x.rank; node = u; from = x.node; start = x.start; end = x.end; packet = b })
     ∷ []) c.copy.ensures in
     let shown : FieldIsShown x.end w due c.args.place =
-        subst (λ (v : FieldState). FieldIsShown x.end v due c.args.place) (sym c.self.view_is) c.requires.shown in
+    subst (λ (v : FieldState). FieldIsShown x.end v due c.args.place) (sym c.self.view_is) c.requires.shown in
     subst (λ (l : List Entry). FieldIsShown x.end
     (record { medium = w.medium; devices = w.devices; air = l; deliveries = w.deliveries; drops = w.drops; sums = w.sums }) due c.args.place)
     (sym pushed) (is_shown_when_logged x.end c.args.place u x w due shown)
@@ -63,7 +63,7 @@ returns g c =
     ∙ ap (λ (b : List ℕ). w.air ++ HeardLine (record { rank = x.rank; node = u; from = x.node; start = x.start; end = x.end; packet = b })
     ∷ []) c.copy.ensures in
     let shown : FieldIsShown x.end w due c.args.place =
-        subst (λ (v : FieldState). FieldIsShown x.end v due c.args.place) (sym c.self.view_is) c.requires.shown in
+    subst (λ (v : FieldState). FieldIsShown x.end v due c.args.place) (sym c.self.view_is) c.requires.shown in
     let there : slice_get w.devices c.args.place ≡ Some st =
     subst (λ (k : ℕ). slice_get w.devices k ≡ Some st) c.from.ensures
     (read_there x.end w due c.from.result st (subst (λ (k : ℕ). FieldIsShown x.end w due k) (sym c.from.ensures) shown) c.index.ensures) in

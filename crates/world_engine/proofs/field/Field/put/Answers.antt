@@ -136,5 +136,5 @@ returns c = λ clock t due is_time is_shown own.
       λ s d shows.
           put_lost t p old due shown c.from.result c.from.ensures c.index_mut-device.result.now c.index_mut-device.ensures.value clock c.args.line.now
           c.args.stream c.args.payload.now true c.put.new.self puts is_own s d
-              (subst (λ (w : FieldState). FieldShows s t w due p d) (sym c.self.view_is) shows),
+          (subst (λ (w : FieldState). FieldShows s t w due p d) (sym c.self.view_is) shows),
     )

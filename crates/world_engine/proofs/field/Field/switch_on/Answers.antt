@@ -126,7 +126,7 @@ returns-else-switch_on g c = λ frame.
     ∙ state_taken t p old orders shown c.from.result c.from.ensures c.index_mut.result.now c.index_mut.ensures.value) happened
     (sym (append-nil old.drops))
     (λ s d. device_after_act clock s t frame d On d.power) (λ made. made)
-        (λ made. record { sent = refl; tuned = refl; deliveries = sym (append-nil made.deliveries) })
+    (λ made. record { sent = refl; tuned = refl; deliveries = sym (append-nil made.deliveries) })
     (subst (λ (d : DeviceState). StaysSet (whole c.index_mut.result.now nothing_made) (whole d nothing_made)) (sym same) (record {
       listening = refl;
       alarm = refl;
