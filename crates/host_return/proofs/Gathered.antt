@@ -10,7 +10,7 @@ use Rattle.std.proofs.lemmas.Bool.Decides.{nat_tests}
 use Rattle.std.proofs.lemmas.List.Sorted.{ranks_by, sorted_far}
 use Rattle.radio_model.specs.Hearing.{Before}
 use Rattle.radio_model.specs.OnAir.{Sending}
-use Rattle.radio_model.proofs.RivalLists.{filter_map_more}
+use Rattle.lwb_base.proofs.Lists.{filter_map_more}
 use Rattle.air_log.specs.declared.entry.Entry.{Entry}
 
 pub one_more : {Y : Type 0} (f : Entry → Option Y) (air : List Entry) (i : ℕ) (e : Entry) (old new : List Y) (o : Option Y) → i < length air
