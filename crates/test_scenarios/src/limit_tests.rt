@@ -92,6 +92,7 @@ fn doubled(alloc: Global, s: &Scenario) -> Result<Option<Scenario>, Memory> {
 fn lines_are_added_up_to_the_limit(rt: HostRuntime) -> Result<(), Fail> {
     let alloc = rt.alloc();
     let text = full_text(alloc, [0, 10_000, 0, 0, 0])?;
+    assert!(rt; text.len() <= 4_194_304);
     let Ok(scenario) = parse(alloc, text.as_bytes()) else {
         panic!(rt; "a text is not read");
     };
@@ -109,6 +110,7 @@ fn lines_are_added_up_to_the_limit(rt: HostRuntime) -> Result<(), Fail> {
     assert!(rt; printed.as_str() == expected.as_str());
 
     let text = full_text(alloc, [1, 10_000, 0, 0, 0])?;
+    assert!(rt; text.len() <= 4_194_304);
     let Ok(scenario) = parse(alloc, text.as_bytes()) else {
         panic!(rt; "a text is not read");
     };
