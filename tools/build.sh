@@ -111,7 +111,7 @@ mkdir -p "$out" && : >"$log" || exit 126
 trap stopped INT TERM HUP
 needed=$(needed)
 jobs=$(at_once)
-say "proving and building the program, $((jobs * 3 / 2)) crates at a time: from nothing about 28 minutes on 4 cores, some 40 on 2; 7 GB of memory, 7 GB of disk"
+say "proving and building the program, $((jobs * 3 / 2)) crates at a time: from nothing about 20 minutes on 4 cores, some 35 on 2; 7 GB of memory, 7 GB of disk"
 # In the folder of the program 'rt all' proves the program and what it stands on, and nothing else, each crate by one job. Once
 # only the last two are left, which wait for one another, 'rt run' goes on with all jobs. The built program is run once on the
 # input that is stored beside it, so status 0 says that it is there.
