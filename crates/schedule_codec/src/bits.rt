@@ -77,7 +77,7 @@ impl BitWriter {
 pub struct BitReader<'a> {
     rest: &'a [u8],
     // The bits that are left of the bytes before the rest: fewer than 8 between two calls.
-    pending: u32,
+    pending: u64,
     held: u8,
 }
 
@@ -116,7 +116,7 @@ impl<'a> BitReader<'a> {
             let [first, rest @ ..] = self.rest else {
                 unreachable!()
             };
-            self.pending = self.pending * 256 + u32::from(*first);
+            self.pending = self.pending * 256 + u64::from(*first);
             self.held += 8;
             self.rest = rest;
         }

@@ -13,7 +13,6 @@ use crate::differences::{differences, is_least, least_width};
 use crate::packing::{pack, unpack};
 use arrayvec::ArrayVec;
 use byteorder::{BigEndian, ByteOrder};
-use lwb_base::Owner;
 
 /// The count of owners; where there are any, the first code with the width, and the packed differences.
 pub fn write_owners(owners: &Owners) -> ArrayVec<u8, 52>
@@ -90,14 +89,21 @@ fn summed(first: u16, steps: &[u16]) -> Option<Owners>
     requires small { fit 10 steps.now ≡ true }
     ensures { SomeIff result (list_all (between 4 803) (summed_from first steps.now) ≡ true) (summed_from first steps.now) }
 {
-    let mut owners = Owners::new();
-    owners.add(Owner::from_code(first)?);
+    if first < 4 || first > 803 {
+        return None;
+    }
+    let mut codes = ArrayVec::new();
+    codes.push(first);
     let mut code = first;
     for step in steps {
         code += *step;
-        owners.add(Owner::from_code(code)?);
+        codes.push(code);
     }
-    Some(owners)
+    // No code is below the one before, so all others are in range where the last is.
+    if code > 803 {
+        return None;
+    }
+    Some(Owners::from_codes(codes))
 }
 
 // A number in two bytes.

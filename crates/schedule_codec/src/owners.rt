@@ -36,6 +36,14 @@ impl Owners {
         }
     }
 
+    // The owners of these codes.
+    pub(crate) fn from_codes(codes: ArrayVec<u16, 40>) -> Owners
+        requires { are_owners codes.items ≡ true }
+        ensures { result ≡ codes.items }
+    {
+        Owners { codes }
+    }
+
     /// Adds an owner at the end. Returns `false`, and nothing changes, if and only if 40 are there or it is below the last.
     pub fn add(&mut self, owner: Owner) -> bool
         ensures answer { result ≡ takes_owner self.old owner }

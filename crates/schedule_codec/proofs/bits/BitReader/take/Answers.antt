@@ -1,7 +1,7 @@
 use Rattle.std.proofs.Common.{◌^◌, ◌<◌, ◌≤◌, length, ◌-◌, ◌∙◌, arith}
 use Rattle.std.proofs.Math.Nat.{pow-le-pow_right}
 use Rattle.schedule_codec.specs.Packing.{packed_number}
-use Rattle.schedule_codec.proofs.Streams.{value_in, below_in, value_taken, below_taken, below_out}
+use Rattle.schedule_codec.proofs.Streams.{value_in, below_in, value_taken, below_taken, below_left}
 use Rattle.schedule_codec.proofs.bits.BitReader.take.Goals as goal
 
 pub loop-self-preserved : goal.loop-self-preserved
@@ -27,7 +27,7 @@ overflow_cast-result c =
 pub invariant_of-self : goal.invariant_of-self
 invariant_of-self c =
     let r = c.loop-self.self-inside in
-    (omega arith, below_out r.pending (r.held - c.args.width) (omega arith))
+    (omega arith, below_left r.pending (r.held - c.args.width) (omega arith))
 
 pub returns-clause-value : goal.returns-clause-value
 returns-clause-value c =
