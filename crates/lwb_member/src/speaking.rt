@@ -1,9 +1,9 @@
 //! What a member says in the slots of its round.
 
-ghost use Rattle.std.specs.Prelude.{◌≡◌, ◌≤◌, IfSome};
+ghost use Rattle.std.specs.Prelude.{◌≡◌, ◌≤◌, false, IfSome};
 ghost use Rattle.std.specs.Option.{option_map, option_and_then};
 ghost use Rattle.lwb_packets.specs.declared.kind.Kind.TheVariants.{Schedule as OfSchedule, Payload as OfData, Request as OfRequest};
-ghost use Rattle.bus_rules.specs.Slots.{opened_slot, data_opened, contention_opened};
+ghost use Rattle.bus_rules.specs.Slots.{opened_slot, data_opened, contention_opened, silent};
 ghost use Rattle.bus_rules.specs.declared.part.Part.TheVariants.{Opening, Closing};
 ghost use Rattle.lwb_member.specs.Said.{bytes_in_slot, message_of, IsInitialPacket};
 ghost use Rattle.lwb_member.specs.Planning.{IsEarly};
@@ -16,6 +16,18 @@ use lwb_packets::{DataPacket, Request, encode_payload, encode_request};
 use schedule_codec::write;
 
 impl Member {
+    /// Whether a slot of this part, in this frame, is the member's turn: the slot of its own round as a host, of one of its
+    /// streams, or its own contention slot. Where it is not, the member says nothing in the slot, and nothing changes.
+    pub fn has_turn(&self, part: &Part, frame: u32) -> bool
+        ensures { result ≡ false → opened_slot self.now.setup frame part.now self.now.core ≡ silent self.now.core }
+    {
+        match part {
+            Part::Opening | Part::Closing => self.hosts_now(frame),
+            Part::Data(owner) => owner.node() == self.id,
+            Part::Contention(own) => self.own_slot == Some(*own),
+        }
+    }
+
     /// The slot of this part opens in its round, in this frame, which is at most 16,777,215. What it says in the slot, if it
     /// says something: the packet with counter 0. A host plans its next round where it closes one.
     pub fn speak(&mut self, part: &Part, slot: u8, frame: u32) -> Option<Packet>

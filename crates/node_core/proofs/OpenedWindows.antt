@@ -45,19 +45,20 @@ module _ (p : Numbers) (z j owners contend : ℕ) (round : Round) (times : Windo
   window : times ≡ window_of_slot (round_of p (times_of p z) owners contend) j
   window = timed ∙ ap (λ (r : Round). window_of_slot r j) rounded
 
-  start_is : times.start ≡ starts_at p z j
+  pub start_is : times.start ≡ starts_at p z j
   start_is = ap (λ (w : Window). w.start) window ∙ omega arith
 
-  until_is : times.until ≡ closes_at p z j
+  pub until_is : times.until ≡ closes_at p z j
   until_is = ap (λ (w : Window). w.until) window ∙ omega arith
 
-  abbrev of : ℕ → List Order → ℕ → List Order
-  of rank sending until = Listen rank ∷ sending ++ Alarm until ∷ []
+abbrev orders_with : ℕ → List Order → ℕ → List Order
+orders_with rank sending until = Listen rank ∷ sending ++ Alarm until ∷ []
 
-  pub orders_are : (rank tuned : ℕ) (packet : Option (List ℕ)) (m : Option Message) → rank ≡ tuned → packet ≡ option_map (bytes_in_slot j) m
-      → Listen rank ∷ sent_first times.start packet ++ Alarm times.until ∷ [] ≡ Listen tuned ∷ initiating_orders p z j m ++ Alarm (closes_at p z j) ∷ []
-  orders_are rank tuned packet m ranked said =
-      let sending : sent_first times.start packet ≡ initiating_orders p z j m =
-      ap (λ (t : ℕ). sent_first t packet) start_is ∙ ap (sent_first (starts_at p z j)) said ∙ sending_is p z j m in
-      ap (λ (r : ℕ). of r (sent_first times.start packet) times.until) ranked ∙ ap (λ (l : List Order). of tuned l times.until) sending
-      ∙ ap (of tuned (initiating_orders p z j m)) until_is
+pub orders_are : (p : Numbers) (z j start until rank tuned : ℕ) (packet : Option (List ℕ)) (m : Option Message) → start ≡ starts_at p z j
+    → until ≡ closes_at p z j → rank ≡ tuned → packet ≡ option_map (bytes_in_slot j) m
+    → Listen rank ∷ sent_first start packet ++ Alarm until ∷ [] ≡ Listen tuned ∷ initiating_orders p z j m ++ Alarm (closes_at p z j) ∷ []
+orders_are p z j start until rank tuned packet m starts closes ranked said =
+    let sending : sent_first start packet ≡ initiating_orders p z j m =
+    ap (λ (t : ℕ). sent_first t packet) starts ∙ ap (sent_first (starts_at p z j)) said ∙ sending_is p z j m in
+    ap (λ (r : ℕ). orders_with r (sent_first start packet) until) ranked ∙ ap (λ (l : List Order). orders_with tuned l until) sending
+    ∙ ap (orders_with tuned (initiating_orders p z j m)) closes

@@ -3,7 +3,11 @@
 ghost use Rattle.std.specs.Prelude.{◌≡◌, ◌≤◌, [], ◌∷◌, ◌++◌, None, IfSome};
 ghost use Rattle.lwb_base.specs.declared.order.Order.TheVariants.{Listen, Alarm};
 ghost use Rattle.node_core.specs.declared.stage.Stage.TheVariants.{AwaitSlot, InWindow};
-ghost use Rattle.lwb_member.specs.Places.{kind_for};
+ghost use Rattle.bus_rules.specs.Plans.{last_slot};
+ghost use Rattle.bus_rules.specs.Slots.{opened_slot, part_of, silent};
+ghost use Rattle.glossy_relay.specs.FloodState.{listening};
+ghost use Rattle.lwb_member.specs.Places.{IsPartOfSlot, kind_for};
+ghost use Rattle.node_core.specs.Nodes.{starts_at, closes_at};
 ghost use Rattle.node_core.specs.Rows.{window_opens};
 ghost use Rattle.lwb_member.specs.Said.{IsInitialPacket};
 ghost use Rattle.node_core.specs.WindowOpening.{flood_with, sent_first};
@@ -16,7 +20,7 @@ use bus_rules::Part;
 use glossy_relay::Flood;
 use lwb_base::{Packet, Radio, Rank};
 use lwb_packets::Kind;
-use round_runner::Round;
+use round_runner::{Round, Window as WindowTimes};
 
 impl Node {
     // Window opens, with host plans in the last slot of a host.
@@ -26,23 +30,66 @@ impl Node {
         ensures node { self.new ≡ record self.old { node = (window_opens self.old.setup self.old.node slot).node; delivery = None } }
         ensures orders { Gives (R.told radio.old) (R.told radio.new) (window_opens self.old.setup self.old.node slot).orders }
     {
+        let part = self.member.part(slot);
+        // In most slots the turn is another node's, and then there is no packet, which is long.
+        if self.member.has_turn(&part, self.frame) {
+            self.open_own(slot, part, radio);
+        } else {
+            self.open_silent(slot, part, radio);
+        }
+    }
+
+    // As `open_window`, with what the slot is for: the node may say something.
+    fn open_own<R: Radio>(&mut self, slot: u8, part: Part, radio: &mut R)
+        requires stage { self.old.node.stage ≡ AwaitSlot slot }
+        requires part { part ≡ part_of self.old.node.core.plan slot }
+        requires placed { IsPartOfSlot self.old.node.core.plan slot part }
+        requires room { 3 ≤ (R.told radio.old).room }
+        ensures node { self.new ≡ record self.old { node = (window_opens self.old.setup self.old.node slot).node; delivery = None } }
+        ensures orders { Gives (R.told radio.old) (R.told radio.new) (window_opens self.old.setup self.old.node slot).orders }
+    {
         let frame = self.frame;
-        let profile = self.member.profile();
         let sends = self.member.sends();
         let last = self.member.last_slot();
-        let round = Round::new(
-            &profile,
-            self.reference,
-            self.member.owners(),
-            self.member.contend(),
-        );
-        let times = round.window(slot);
-        let part = self.member.part(slot);
+        let times = self.times_of(slot);
         let rank = self.member.rank();
         let packet = self.member.speak(&part, slot, frame);
         order(rank, &packet, times.start, times.until, radio);
         forget(&mut self.delivery);
         open(&mut self.stage, slot, part, last, sends, &packet);
+    }
+
+    // As `open_window`, with what the slot is for: the node says nothing.
+    fn open_silent<R: Radio>(&mut self, slot: u8, part: Part, radio: &mut R)
+        requires stage { self.old.node.stage ≡ AwaitSlot slot }
+        requires part { part ≡ part_of self.old.node.core.plan slot }
+        requires silent { opened_slot self.old.setup self.old.node.frame part self.old.node.core ≡ silent self.old.node.core }
+        requires room { 3 ≤ (R.told radio.old).room }
+        ensures node { self.new ≡ record self.old { node = (window_opens self.old.setup self.old.node slot).node; delivery = None } }
+        ensures orders { Gives (R.told radio.old) (R.told radio.new) (window_opens self.old.setup self.old.node slot).orders }
+    {
+        let sends = self.member.sends();
+        let last = self.member.last_slot();
+        let until = self.times_of(slot).until;
+        let rank = self.member.rank();
+        order_listening(rank, until, radio);
+        forget(&mut self.delivery);
+        listen(&mut self.stage, slot, part, last, sends);
+    }
+
+    // The window of a slot of the round, which is at most the last.
+    fn times_of(&self, slot: u8) -> WindowTimes
+        requires { slot ≤ last_slot self.now.node.core.plan }
+        ensures start { result.start ≡ starts_at self.now.setup.profile self.now.node.zero slot }
+        ensures until { result.until ≡ closes_at self.now.setup.profile self.now.node.zero slot }
+    {
+        let round = Round::new(
+            &self.member.profile(),
+            self.reference,
+            self.member.owners(),
+            self.member.contend(),
+        );
+        round.window(slot)
     }
 }
 
@@ -65,19 +112,25 @@ fn open(stage: &mut Stage, slot: u8, part: Part, last: u8, sends: u8, packet: &O
                 },
             );
         }
-        None => {
-            let kind = kind_in(&part);
-            *stage = Stage::InWindow(
-                slot,
-                Window {
-                    part,
-                    last,
-                    flood: Flood::listen(kind, slot, sends),
-                    reference: None,
-                },
-            );
-        }
+        None => listen(stage, slot, part, last, sends),
     }
+}
+
+// The window of a slot opens, whose flood listens.
+fn listen(stage: &mut Stage, slot: u8, part: Part, last: u8, sends: u8)
+    requires sends { (1 ≤ sends) × (sends ≤ 4) }
+    ensures { stage.new ≡ InWindow slot (record { part = part; last = last; flood = listening (kind_for part) slot sends; reference = None }) }
+{
+    let kind = kind_in(&part);
+    *stage = Stage::InWindow(
+        slot,
+        Window {
+            part,
+            last,
+            flood: Flood::listen(kind, slot, sends),
+            reference: None,
+        },
+    );
 }
 
 // The orders of a window: its radio is on, this packet starts, and the window closes.
@@ -90,6 +143,15 @@ fn order<R: Radio>(rank: Rank, packet: &Option<Packet>, start: u64, until: u64, 
         Some(packet) => radio.send_at(start, packet),
         None => {}
     }
+    radio.alarm(until);
+}
+
+// The orders of a window in which nothing is said: its radio is on, and the window closes.
+fn order_listening<R: Radio>(rank: Rank, until: u64, radio: &mut R)
+    requires { 2 ≤ (R.told radio.old).room }
+    ensures { Gives (R.told radio.old) (R.told radio.new) (Listen rank ∷ Alarm until ∷ []) }
+{
+    radio.listen(rank);
     radio.alarm(until);
 }
 

@@ -1,9 +1,6 @@
-use Rattle.std.proofs.Common.{◌∙◌, ap, subst, List, None, option_map, rules}
+use Rattle.std.proofs.Common.{◌∙◌, sym, ap, subst, List, None, option_map, rules}
 use Rattle.std.specs.declared.option.Option.{Option}
-use Rattle.lwb_base.specs.Profile.{Numbers}
 use Rattle.lwb_base.specs.declared.order.Order.{Order}
-use Rattle.time_reference.specs.Reference.{RoundTimes}
-use Rattle.round_runner.specs.Rounds.{round_of}
 use Rattle.bus_rules.specs.declared.delivery.Delivery.{Delivery}
 use Rattle.bus_rules.specs.declared.part.Part.{Part}
 use Rattle.bus_rules.specs.Plans.{last_slot}
@@ -12,26 +9,26 @@ use Rattle.bus_rules.specs.Slots.{opened_slot, part_of}
 use Rattle.lwb_member.specs.Members.{Member}
 use Rattle.lwb_member.specs.Said.{bytes_in_slot}
 use Rattle.node_core.specs.declared.stage.Stage.{Stage}
-use Rattle.node_core.specs.Nodes.{Node, NodeState}
+use Rattle.node_core.specs.Nodes.{Node, NodeState, starts_at, closes_at}
 use Rattle.node_core.specs.Rows.{window_opens}
 use Rattle.lwb_base.specs.Orders.{Gives}
 use Rattle.node_core.proofs.OpenedWindows.{orders_are, opened_stage, stage_is}
-use Rattle.node_core.proofs.node.Node.open_window.Goals as goal
+use Rattle.node_core.proofs.node.Node.open_own.Goals as goal
 
 pub returns-clause-orders : goal.returns-clause-orders
 returns-clause-orders g c =
     let i = c.self.inside in
     let m = i.member in
     let slot = c.args.slot in
-    let ranked = c.rank-rank.ensures in
     let p = m.setup.profile in
-    let rounded = c.new-round.ensures ∙ ap (λ (q : Numbers). round_of q i.reference c.owners.result c.contend.result) c.profile-profile.ensures
-    ∙ ap (λ (r : RoundTimes). round_of p r c.owners.result c.contend.result) c.self.invariant.timed in
-    let said =
-    c.speak-packet.ensures.packet ∙ ap (λ (p : Part). option_map (bytes_in_slot slot) (opened_slot m.setup i.frame p m.core).message)
-    c.part-part.ensures.value in
-    let orders = orders_are p i.reference.zero slot _ _ c.new-round.result c.window-times.result rounded c.window-times.ensures c.rank-rank.result
-    (rank_of m.core.tune) c.speak-packet.result (opened_slot m.setup i.frame (part_of m.core.plan slot) m.core).message ranked said in
+    let part_is = c.requires.part ∙ ap (λ (n : NodeState). part_of n.node.core.plan slot) (sym c.self.view_is) in
+    let said = c.speak-packet.ensures.packet
+    ∙ ap (λ (p : Part). option_map (bytes_in_slot slot) (opened_slot m.setup i.frame p m.core).message) part_is in
+    let starts = c.times_of-times.ensures.start ∙ ap (λ (n : NodeState). starts_at n.setup.profile n.node.zero slot) (sym c.self.view_is) in
+    let closes = c.times_of-times.ensures.until ∙ ap (λ (n : NodeState). closes_at n.setup.profile n.node.zero slot) (sym c.self.view_is) in
+    let orders = orders_are p i.reference.zero slot c.times_of-times.result.start c.times_of-times.result.until c.rank-rank.result
+    (rank_of m.core.tune) c.speak-packet.result (opened_slot m.setup i.frame (part_of m.core.plan slot) m.core).message starts closes
+    c.rank-rank.ensures said in
     subst (λ (l : List Order). Gives (g.R.Radio.told c.args.radio.now) (g.R.Radio.told c.order.new.radio) l)
     (orders ∙ ap (λ (n : NodeState). (window_opens n.setup n.node slot).orders) c.self.view_is) c.order.ensures
 
@@ -45,11 +42,12 @@ returns-clause-node g c =
     let slot = c.args.slot in
     let part = part_of m.core.plan slot in
     let o = opened_slot m.setup i.frame part m.core in
-    let spoken = c.speak-packet.ensures.packet in
-    let said = spoken ∙ ap (λ (p : Part). option_map (bytes_in_slot slot) (opened_slot m.setup i.frame p m.core).message) c.part-part.ensures.value in
-    let stage = c.open.ensures ∙ stage_is m.setup slot c.sends-sends.result c.last_slot-last.result (last_slot m.core.plan) c.part-part.result part
-    c.speak-packet.result o.message c.sends-sends.ensures.value c.last_slot-last.ensures.value c.part-part.ensures.value said in
-    let after = c.speak-packet.ensures.core ∙ ap (λ (p : Part). record m { core = (opened_slot m.setup i.frame p m.core).core }) c.part-part.ensures.value in
+    let part_is = c.requires.part ∙ ap (λ (n : NodeState). part_of n.node.core.plan slot) (sym c.self.view_is) in
+    let said = c.speak-packet.ensures.packet
+    ∙ ap (λ (p : Part). option_map (bytes_in_slot slot) (opened_slot m.setup i.frame p m.core).message) part_is in
+    let stage = c.open.ensures ∙ stage_is m.setup slot c.sends-sends.result c.last_slot-last.result (last_slot m.core.plan) c.args.part part
+    c.speak-packet.result o.message c.sends-sends.ensures.value c.last_slot-last.ensures.value part_is said in
+    let after = c.speak-packet.ensures.core ∙ ap (λ (p : Part). record m { core = (opened_slot m.setup i.frame p m.core).core }) part_is in
     let node : Member → Stage → Node = λ x s. record { core = x.core; frame = i.frame; zero = i.reference.zero; stage = s } in
     let at : Member → Stage → NodeState = λ x s. record { setup = x.setup; node = node x s; delivery = None } in
     let left : Option Delivery → NodeState = λ d.
