@@ -2,6 +2,8 @@
 use Rattle.std.proofs.Common.{◌≡◌, ℕ, ◌+◌, ◌≤◌, List, [], ◌∷◌, ◌++◌, Bool, false, cond, count_by, refl, arith, ap}
 use Rattle.std.proofs.lemmas.List.Sums.{sum_by-cons, sum_by-append}
 use Rattle.std.specs.List.{AllByRecursion}
+use Rattle.std.specs.List.Sorted.{IsPermutation}
+use Rattle.std.proofs.lemmas.List.Sorted.{sum_by-IsPermutation}
 
 abbrev pub one : Bool → ℕ
 one b = cond b 1 0
@@ -41,3 +43,7 @@ count_same P p q each [] all = refl
 count_same P p q each (x ∷ xs) all =
     let here : one (p x) ≡ one (q x) = ap one (each x all.0) in
     omega (arith, count_cons p x xs, count_cons q x xs, here, count_same P p q each xs all.1)
+
+-- in another order
+pub count_moved : {X : Type 0} (p : X → Bool) (xs ys : List X) → IsPermutation xs ys → count_by p ys ≡ count_by p xs
+count_moved p xs ys moved = sum_by-IsPermutation (λ (x : _). one (p x)) xs ys moved

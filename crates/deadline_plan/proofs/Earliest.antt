@@ -10,12 +10,12 @@ use Rattle.std.proofs.lemmas.List.Sorted.{IsPermutation-sym, All-permutation}
 use Rattle.std.specs.List.{AllByRecursion, flat_map}
 use Rattle.std.specs.List.Sorted.{IsPermutation}
 use Rattle.lwb_base.proofs.Lists.{each_more}
+use Rattle.lwb_base.specs.Sorting.{in_order}
+use Rattle.lwb_base.proofs.StableSorts.{Rises, in_order_moves, in_order_rises}
 use Rattle.deadline_plan.specs.declared.job.Job.{Job}
 use Rattle.deadline_plan.specs.Jobs.{load, NothingOver}
-use Rattle.deadline_plan.specs.Sorting.{sorted, IsOrdered}
-use Rattle.deadline_plan.specs.Grants.{comes_by, granted_jobs, jobs_left, grants_from, grants, AreGrantedInTime}
-use Rattle.deadline_plan.proofs.Counts.{one, count_cons, count_none, count_same}
-use Rattle.deadline_plan.proofs.InOrder.{count_moved, sorted_moves, ordered_sorted}
+use Rattle.deadline_plan.specs.Grants.{comes_before, granted_jobs, jobs_left, grants_from, grants, AreGrantedInTime}
+use Rattle.deadline_plan.proofs.Counts.{one, count_cons, count_none, count_same, count_moved}
 use Rattle.deadline_plan.proofs.JobOrder.{job_order, ends_rise}
 
 -- the ends do not fall
@@ -184,9 +184,9 @@ each_in_time slots frame (suc frames) js is (suc i) =
     (frame + 1) frames (jobs_left slots frame js)) i [])
     (each_in_time slots (frame + 1) frames (jobs_left slots frame js) (waits_on slots frame frames js is) i)
 
-rise_of : (js : List Job) → IsOrdered comes_by js → EndsRise js
+rise_of : (js : List Job) → Rises comes_before js → EndsRise js
 rise_of [] is = tt
-rise_of (j ∷ js) is = (each_more (λ k. comes_by j k ≡ true) (λ k. j.end ≤ k.end) (λ k after. ends_rise j k after) js is.0, rise_of js is.1)
+rise_of (j ∷ js) is = (each_more (λ k. comes_before k j ≡ false) (λ k. j.end ≤ k.end) (λ k after. ends_rise j k after) js is.0, rise_of js is.1)
 
 from_none : (r e u : ℕ) → nat_le e u ≡ (nat_le 0 r && nat_le e u)
 from_none r e u = grind (arith, nat_tests)
@@ -196,10 +196,10 @@ nothing_between a r e order = grind (arith, nat_tests)
 
 module _ (slots frames : ℕ) (js : List Job) (sound : All (λ j. (j.release < j.end) × (j.end ≤ frames)) js) (nothing : NothingOver slots js) where
   abbrev queue : List Job
-  queue = sorted comes_by js
+  queue = in_order comes_before js
 
   moved : IsPermutation js queue
-  moved = sorted_moves comes_by js
+  moved = in_order_moves comes_before js
 
   their_ends : AllByRecursion (λ j. (j.release < j.end) × (j.end ≤ frames)) queue
   their_ends = recursion_from_All (λ (j : Job). (j.release < j.end) × (j.end ≤ frames)) queue (All-permutation (λ (j : Job). (j.release < j.end) ×
@@ -218,7 +218,7 @@ module _ (slots frames : ℕ) (js : List Job) (sound : All (λ j. (j.release < j
 
   at_first : Waits slots 0 frames queue
   at_first = record {
-    rise = rise_of queue (ordered_sorted comes_by job_order js);
+    rise = rise_of queue (in_order_rises comes_before job_order js);
     due = λ d.
         let same = count_same (λ (j : Job). (j.release < j.end) × (j.end ≤ frames)) (ends_by (0 + d)) (falls 0 (0 + d)) (λ j is. from_none j.release j.end
         (0 + d)) queue their_ends in

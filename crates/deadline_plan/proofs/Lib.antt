@@ -2,7 +2,6 @@ pub mod PlanExamples
 pub mod TextExamples
 pub mod Counts
 pub mod Placed
-pub mod InOrder
 pub mod JobOrder
 pub mod Earliest
 pub mod StreamJobs
@@ -10,6 +9,5 @@ pub mod Spans
 pub mod SpansDown
 pub mod GrantSteps
 pub mod Admitted
-pub mod JobsSorted
 pub mod OwnersAscend
 pub mod ReleasedCounts

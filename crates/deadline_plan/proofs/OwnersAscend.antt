@@ -1,24 +1,42 @@
 -- Owners in ascending order, one after another.
 use Rattle.std.proofs.Common.{◌≡◌, ℕ, zero, suc, ◌-◌, ◌<◌, ◌≤◌, List, [], ◌∷◌, true, false, nat_le, nat_lt}
-use Rattle.std.proofs.Common.{length, take, get_or, refl, sym, ◌∙◌, ap, arith, inl, inr}
-use Rattle.std.proofs.lemmas.Bool.{cases_lt, leb-true, leb-false, le-leb, lt-ltb, and_from, false≢true}
+use Rattle.std.proofs.Common.{Bool, subst, length, take, get_or, refl, ◌∙◌, ap, arith}
+use Rattle.std.proofs.lemmas.Bool.{le-leb, lt-ltb, ltb-false, and_from}
 use Rattle.std.proofs.lemmas.List.{length-take}
 use Rattle.std.specs.List.{slice_get}
 use Rattle.std.specs.Ordering.{nat_cmp, is_lt}
-use Rattle.lwb_base.proofs.Orders.{is_less}
+use Rattle.std.specs.Cmp.{IsStrictWeakOrder}
+use Rattle.std.specs.List.Sorted.{IsSorted, IsSortedBy, IsStable, IsStableBy}
+use Rattle.std.proofs.Math.Path.{fun_ext}
+use Rattle.std.proofs.lemmas.Bool.Decides.{nat_tests}
+use Rattle.std.proofs.lemmas.List.Sorted.{IsStrictWeakOrder-by_number}
+use Rattle.lwb_base.specs.Sorting.{in_order}
+use Rattle.lwb_base.proofs.Lists.{each_more}
+use Rattle.lwb_base.proofs.StableSorts.{Rises, rises, sorted_by_insertion}
 use Rattle.schedule_codec.specs.OwnerLists.{takes_owner, may_follow}
 use Rattle.deadline_plan.specs.Sorting.{IsOrdered}
-use Rattle.deadline_plan.proofs.InOrder.{IsOrder}
 
-pub number_order : IsOrder nat_le
-number_order = record {
-  total = λ x y not. (let after = leb-false x y not in le-leb y x (omega arith));
-  further = λ x y z first second. (let a = leb-true x y first in let b = leb-true y z second in le-leb x z (omega arith));
-  same = λ x y first second. (let a = leb-true x y first in let b = leb-true y x second in omega arith);
-}
+-- what a sort of numbers leaves
+same_order : (λ (x y : ℕ). is_lt (nat_cmp x y)) ≡ nat_lt
+same_order = fun_ext (λ x. fun_ext (λ y. by_tests x y))
+  where
+    by_tests : (x y : ℕ) → is_lt (nat_cmp x y) ≡ nat_lt x y
+    by_tests x y = grind (arith, nat_tests)
 
-pub numbers_agree : (x y : ℕ) → is_lt (nat_cmp y x) ≡ false → nat_le x y ≡ true
-numbers_agree x y not = elim (cases_lt y x) [ inl before ↦ absurd (false≢true (sym not ∙ is_less y x before)) | inr at ↦ le-leb x y at ]
+number_order : IsStrictWeakOrder nat_lt
+number_order = IsStrictWeakOrder-by_number (λ (x : ℕ). x)
+
+from_rises : (xs : List ℕ) → Rises nat_lt xs → IsOrdered nat_le xs
+from_rises [] is = tt
+from_rises (x ∷ xs) is = (each_more (λ y. nat_lt y x ≡ false) (λ y. nat_le x y ≡ true) (λ y not. le-leb x y (ltb-false y x not)) xs is.0, from_rises xs is.1)
+
+pub ordered_by_sort : (xs : List ℕ) → IsSorted nat_cmp xs → IsOrdered nat_le xs
+ordered_by_sort xs sorted = from_rises xs (rises nat_lt number_order xs (subst (λ (lt : ℕ → ℕ → Bool). IsSortedBy lt xs) same_order sorted))
+
+pub numbers_in_order : (xs ys : List ℕ) → IsSorted nat_cmp ys → IsStable nat_cmp xs ys → ys ≡ in_order nat_lt xs
+numbers_in_order xs ys sorted stable =
+    sorted_by_insertion nat_lt number_order xs ys (subst (λ (lt : ℕ → ℕ → Bool). IsSortedBy lt ys) same_order sorted)
+    (subst (λ (lt : ℕ → ℕ → Bool). IsStableBy lt xs ys) same_order stable)
 
 follows : (xs : List ℕ) (i c d : ℕ) → IsOrdered nat_le xs → i < length xs → c ≡ get_or xs i d
     → may_follow (slice_get (take i xs) (length (take i xs) - 1)) c ≡ true

@@ -3,7 +3,6 @@ use Rattle.std.proofs.Common.{◌≡◌, List, [], ◌∷◌, ◌++◌, map, ref
 use Rattle.deadline_plan.specs.declared.job.Job.{Job}
 use Rattle.deadline_plan.specs.declared.stream.DeadlineStream.{DeadlineStream}
 use Rattle.deadline_plan.specs.Jobs.{jobs, load}
-use Rattle.deadline_plan.specs.Sorting.{sorted, insert_by}
 use Rattle.deadline_plan.specs.Grants.{granted_jobs, jobs_left, grants_from, grants, owners_of_round}
 
 -- one slot in each of four frames
@@ -14,7 +13,7 @@ abbrev third : DeadlineStream
 third = record { owner = 16; start = 0; period = 4; deadline = 4 }
 
 their_rounds : map owners_of_round (grants 1 4 (jobs 4 two_admitted)) ≡ (12 ∷ []) ∷ (8 ∷ []) ∷ (12 ∷ []) ∷ (8 ∷ []) ∷ []
-unfolding granted_jobs jobs_left grants_from sorted insert_by
+unfolding granted_jobs jobs_left grants_from
 their_rounds = refl
 
 their_loads : load (jobs 4 two_admitted) 0 1 ∷ load (jobs 4 two_admitted) 0 2 ∷ load (jobs 4 two_admitted) 0 4 ∷ load
@@ -35,5 +34,5 @@ without_job : jobs 1 (record { owner = 8; start = 0; period = 1; deadline = 2 } 
 without_job = refl
 
 no_owner : map owners_of_round (grants 40 1 (jobs 1 (record { owner = 8; start = 0; period = 1; deadline = 2 } ∷ []))) ≡ [] ∷ []
-unfolding granted_jobs jobs_left grants_from sorted insert_by
+unfolding granted_jobs jobs_left grants_from
 no_owner = refl

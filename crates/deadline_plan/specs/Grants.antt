@@ -1,13 +1,14 @@
 -- Earliest deadline first: which jobs are granted in which frame.
-use Rattle.std.specs.Prelude.{◌<◌, ◌≤◌, ℕ, zero, suc, ◌+◌, List, [], ◌∷◌, Bool, ◌&&◌, ◌||◌, ◌==◌, nat_lt, nat_le, if◌then◌else◌, map, All, slice_index_or}
+use Rattle.std.specs.Prelude.{◌<◌, ◌≤◌, ℕ, zero, suc, ◌+◌, List, [], ◌∷◌, Bool, nat_lt, nat_le, if◌then◌else◌, map, All, slice_index_or}
 use Rattle.std.specs.List.{flat_map}
 use Rattle.std.specs.List.Sorted.{IsPermutation}
+use Rattle.std.specs.Ordering.{nat_cmp, ordering_then, is_lt}
+use Rattle.lwb_base.specs.Sorting.{in_order}
 use Rattle.deadline_plan.specs.declared.job.Job.{Job}
-use Rattle.deadline_plan.specs.Sorting.{sorted}
 
 -- by end, then owner, then release
-abbrev pub comes_by : Job → Job → Bool
-comes_by j k = nat_lt j.end k.end || ((j.end == k.end) && (nat_lt j.owner k.owner || ((j.owner == k.owner) && nat_le j.release k.release)))
+abbrev pub comes_before : Job → Job → Bool
+comes_before j k = is_lt (ordering_then (nat_cmp j.end k.end) (ordering_then (nat_cmp j.owner k.owner) (nat_cmp j.release k.release)))
 
 -- of waiting jobs in their order, the first this many that are released by this frame
 unfoldable pub granted_jobs : ℕ → ℕ → List Job → List Job
@@ -28,11 +29,11 @@ grants_from slots frame (suc frames) js = granted_jobs slots frame js ∷ grants
 
 -- the jobs granted in each frame
 abbrev pub grants : ℕ → ℕ → List Job → List (List Job)
-grants slots frames js = grants_from slots 0 frames (sorted comes_by js)
+grants slots frames js = grants_from slots 0 frames (in_order comes_before js)
 
 -- the owners of a frame's slots, ascending
 abbrev pub owners_of_round : List Job → List ℕ
-owners_of_round js = sorted nat_le (map (λ (j : Job). j.owner) js)
+owners_of_round js = in_order nat_lt (map (λ (j : Job). j.owner) js)
 
 -- each job is granted once, in a frame from its release to its end - 1
 pub record AreGrantedInTime (js : List Job) (granted : List (List Job)) : Type 0 where

@@ -1,9 +1,10 @@
 //! Which frame grants which job its slot.
 
 ghost use Rattle.std.specs.Prelude.{◌≡◌, ◌<◌, ◌≤◌, ◌++◌, [], ◌∷◌, ◌&&◌, nat_le, nat_lt, if◌then◌else◌, length, map, IfOk, All};
-ghost use Rattle.deadline_plan.specs.Grants.{comes_by, granted_jobs as granted_of, jobs_left as left_of, grants_from, owners_of_round as round_of};
+ghost use Rattle.deadline_plan.specs.Grants.{comes_before, granted_jobs as granted_of, jobs_left as left_of, grants_from, owners_of_round as round_of};
 ghost use Rattle.deadline_plan.specs.Jobs.{IsDeadlineStream, job as job_of, jobs_of, jobs as all_jobs};
-ghost use Rattle.deadline_plan.specs.Sorting.{sorted, IsOrdered};
+ghost use Rattle.deadline_plan.specs.Sorting.{IsOrdered};
+ghost use Rattle.lwb_base.specs.Sorting.{in_order};
 
 use crate::{DeadlineStream, Job};
 use lwb_base::{Memory, Owner};
@@ -14,7 +15,7 @@ use std::alloc::Global;
 pub fn queue(alloc: Global, streams: &[DeadlineStream], frames: u32) -> Result<Vec<Job>, Memory>
     requires streams { All IsDeadlineStream streams.now }
     requires frames { frames ≤ 1024 }
-    ensures { IfOk result (λ v. v.items ≡ sorted comes_by (all_jobs frames streams.now)) }
+    ensures { IfOk result (λ v. v.items ≡ in_order comes_before (all_jobs frames streams.now)) }
 {
     let mut jobs = Vec::new(alloc);
     for stream in streams {

@@ -1,6 +1,7 @@
 //! Which links pass in which step of which slot, by the lines of a recorded trace.
 #![tactic(auto)]
 
+pub mod bits;
 mod captures;
 mod in_order;
 mod lines;

@@ -232,6 +232,12 @@ all_passes p (y ∷ ys) all x there =
     let both = and_parts _ _ all in
     elim (contains_cases y ys x there) [ inl is ↦ ap p (sym is) ∙ both.0 | inr later ↦ all_passes p ys both.1 x later ]
 
+-- what holds of any two elements, by what is known of each
+pub weaker_pairs : {X : Type 0} (R Q : X → X → Type 0) (xs : List X) → AllPairs R xs
+    → ((x y : X) → Contains xs x → Contains xs y → R x y → Q x y) → AllPairs Q xs
+weaker_pairs R Q xs all gives i j d less within =
+    gives (get_or xs i d) (get_or xs j d) (Contains-get_or xs i d (omega (arith, less, within))) (Contains-get_or xs j d within) (all i j d less within)
+
 -- pairs of a longer list
 pub pairs_cons : {X : Type 0} (R : X → X → Type 0) (x : X) (xs : List X) → ((y : X) → Contains xs y → R x y) → AllPairs R xs → AllPairs R (x ∷ xs)
 pairs_cons R x xs first rest zero zero d less below = absurd (omega arith)

@@ -4,5 +4,6 @@ pub mod Options
 pub mod Orders
 pub mod Lists
 pub mod Elements
+pub mod StableSorts
 -- for this crate alone
 mod KnownPieces

@@ -1,8 +1,9 @@
 -- Lists after a change of one place, a map, a filter, or with another after them.
 use Rattle.std.proofs.Common.{◌≡◌, ◌≢◌, ℕ, zero, suc, ◌+◌, ◌<◌, ◌≤◌, List, [], ◌∷◌, ◌++◌, Bool, true, false, cond, Option, Some, None}
-use Rattle.std.proofs.Common.{length, map, set, take, get_or, filter, filter_map, option_to_list, refl, sym, ◌∙◌, ap, arith}
+use Rattle.std.proofs.Common.{length, map, set, take, get_or, filter, filter_map, option_to_list, count_by, refl, sym, ◌∙◌, ap, arith, add-one}
 use Rattle.std.proofs.lemmas.List.{take_more}
 use Rattle.std.proofs.lemmas.List.Elements.{filter_map-append}
+use Rattle.std.proofs.lemmas.List.Sums.{sum_by_push}
 use Rattle.std.specs.List.{AllByRecursion, cons_option, range_with_len, slice_get}
 
 -- one place is changed
@@ -58,10 +59,37 @@ filter_map_more f xs i x below at =
     ∙ filter_map-append f (take i xs) (x ∷ [])
     ∙ ap (λ (l : List _). filter_map f (take i xs) ++ l) (one_kept f x)
 
+-- what was chosen so far, with the choice of one element more
+pub chosen_more : {X Y : Type 0} (f : X → Option Y) (xs : List X) (i : ℕ) (x : X) (old new : List Y) (o : Option Y) → i < length xs
+    → x ≡ get_or xs i x → o ≡ f x → old ≡ filter_map f (take i xs) → new ≡ old ++ option_to_list o → new ≡ filter_map f (take (i + 1) xs)
+chosen_more {X} {Y} f xs i x old new o below at is so adds =
+    adds ∙ ap (λ (l : List Y). l ++ option_to_list o) so ∙ ap (λ (p : Option Y). filter_map f (take i xs) ++ option_to_list p) is
+    ∙ sym (filter_map_more f xs i x below at)
+
 -- the numbers of a range
 pub range_more : (a n : ℕ) → range_with_len a (suc n) ≡ range_with_len a n ++ (a + n) ∷ []
 range_more a zero = ap (λ (k : ℕ). k ∷ []) (omega arith)
 range_more a (suc n) = ap (λ (xs : List ℕ). a ∷ xs) (range_more (a + 1) n ∙ ap (λ (k : ℕ). range_with_len (a + 1) n ++ k ∷ []) (omega arith))
+
+pub range_next : (n : ℕ) → range_with_len 0 (n + 1) ≡ range_with_len 0 n ++ n ∷ []
+range_next n = ap (range_with_len 0) (add-one n) ∙ range_more 0 n ∙ ap (λ (k : ℕ). range_with_len 0 n ++ k ∷ []) (omega arith)
+
+-- how many of them pass a test
+pub count_next : (p : ℕ → Bool) (n : ℕ) → count_by p (range_with_len 0 (n + 1)) ≡ count_by p (range_with_len 0 n) + cond (p n) 1 0
+count_next p n =
+    let as_one : ℕ → ℕ = λ k. cond (p k) 1 0 in
+    ap (count_by p) (range_next n) ∙ sum_by_push as_one (range_with_len 0 n) n
+
+pub counted_alike : (p q : ℕ → Bool) (n : ℕ) → ((k : ℕ) → k < n → p k ≡ q k) → count_by p (range_with_len 0 n) ≡ count_by q (range_with_len 0 n)
+counted_alike p q zero alike = refl
+counted_alike p q (suc n) alike =
+    let next : suc n ≡ n + 1 = omega arith in
+    ap (λ (k : ℕ). count_by p (range_with_len 0 k)) next
+    ∙ count_next p n
+    ∙ ap (λ (k : ℕ). k + cond (p n) 1 0) (counted_alike p q n (λ k less. alike k (omega (arith, less))))
+    ∙ ap (λ (b : Bool). count_by q (range_with_len 0 n) + cond b 1 0) (alike n (omega arith))
+    ∙ sym (count_next q n)
+    ∙ ap (λ (k : ℕ). count_by q (range_with_len 0 k)) (sym next)
 
 -- what holds of each element
 pub each_more : {X : Type 0} (P Q : X → Type 0) → ((x : X) → P x → Q x) → (xs : List X) → AllByRecursion P xs → AllByRecursion Q xs

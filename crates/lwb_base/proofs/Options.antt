@@ -16,3 +16,6 @@ none_not_some o none is = let x = some_is o is in none-some x.0 (sym none ∙ x.
 
 pub not_both : {X : Type 0} (o : Option X) (x : X) → o ≡ None → o ≡ Some x → ⊥
 not_both o x none some = none-some x (sym none ∙ some)
+
+pub one_value : {X : Type 0} (o : Option X) (x y : X) → o ≡ Some x → o ≡ Some y → x ≡ y
+one_value {X} o x y first second = let same : ◌≡◌ {A = Option X} (Some x) (Some y) = sym first ∙ second in cc

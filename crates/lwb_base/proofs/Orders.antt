@@ -1,12 +1,13 @@
 -- Numbers in order: how they compare, alone and three or four of them one after another, and when two are the same.
 use Rattle.std.proofs.Common.{◌≡◌, ℕ, suc, ◌*◌, ◌<◌, ◌≤◌, ◌==◌, Bool, true, false, List, length, get_or, AllPairs, inl, inr}
-use Rattle.std.proofs.Common.{Ordering, Less, Equal, refl, sym, ◌∙◌, ap, arith}
+use Rattle.std.proofs.Common.{Ordering, Less, Equal, Greater, refl, sym, ◌∙◌, ap, arith}
 use Rattle.std.proofs.lemmas.Bool.{cases_lt, cases_order, eq-eqb, eqb-true, eqb-false, ne_eqb}
+use Rattle.std.proofs.lemmas.Bool.Decides.{nat_tests}
 use Rattle.std.proofs.Math.Nat.{mul-le-mul_right}
 use Rattle.std.proofs.lemmas.List.Sorted.{IsPermutation-refl}
 use Rattle.std.specs.Cmp.{IsTotalOrder, nat_cmp_is, nat_cmp_total, on_total, then_total}
 use Rattle.std.specs.List.Sorted.{IsPermutation}
-use Rattle.std.specs.Ordering.{nat_cmp, ordering_then, is_lt}
+use Rattle.std.specs.Ordering.{nat_cmp, ordering_then, ordering_index, is_lt}
 
 pub compares_less : (x y : ℕ) → x < y → nat_cmp x y ≡ Less
 compares_less x y less = sym (nat_cmp_is x y Less less)
@@ -16,6 +17,22 @@ compares_equal x y same = sym (nat_cmp_is x y Equal same)
 
 pub is_less : (x y : ℕ) → x < y → is_lt (nat_cmp x y) ≡ true
 is_less x y before = ap is_lt (compares_less x y before)
+
+-- what a comparison says
+pub same_number : (x y : ℕ) → nat_cmp x y ≡ Equal → x ≡ y
+same_number x y is = grind (arith, nat_tests)
+
+pub not_less : (x y : ℕ) → x ≡ y → nat_cmp x y ≡ Less → ⊥
+not_less x y same is = grind (arith, nat_tests)
+
+pub not_greater : (x y : ℕ) → x ≡ y → nat_cmp x y ≡ Greater → ⊥
+not_greater x y same is = grind (arith, nat_tests)
+
+pub compares_higher : (x y z : ℕ) → x ≤ y → ordering_index (nat_cmp x z) ≤ ordering_index (nat_cmp y z)
+compares_higher x y z le = grind (arith, nat_tests)
+
+pub not_below : (x y : ℕ) → (x < y → ⊥) → y ≤ x
+not_below x y never = elim (cases_lt x y) [ inl less ↦ absurd (never less) | inr by ↦ by ]
 
 -- two numbers, neither below the other
 pub one_number : (x y : ℕ) → (x < y → ⊥) → (y < x → ⊥) → x ≡ y
@@ -43,6 +60,18 @@ rising ns ascending i j le inside = elim (cases_lt i j) [
 ]
 
 -- several numbers one after another
+abbrev pub by_two : ℕ × ℕ → ℕ × ℕ → Ordering
+by_two a b = ordering_then (nat_cmp a.0 b.0) (nat_cmp a.1 b.1)
+
+pub by_two_total : IsTotalOrder by_two
+by_two_total = then_total (on_total (λ (t : ℕ × ℕ). t.0) nat_cmp_total) (on_total (λ (t : ℕ × ℕ). t.1) nat_cmp_total)
+
+pub by_first : (m n p q : ℕ) → m < n → is_lt (ordering_then (nat_cmp m n) (nat_cmp p q)) ≡ true
+by_first m n p q less = grind (arith, nat_tests)
+
+pub by_second : (m n p q : ℕ) → m ≡ n → p < q → is_lt (ordering_then (nat_cmp m n) (nat_cmp p q)) ≡ true
+by_second m n p q same less = grind (arith, nat_tests)
+
 abbrev pub by_three : ℕ × ℕ × ℕ → ℕ × ℕ × ℕ → Ordering
 by_three a b = ordering_then (ordering_then (nat_cmp a.0 b.0) (nat_cmp a.1 b.1)) (nat_cmp a.2 b.2)
 

@@ -4,3 +4,4 @@ pub mod Causes
 pub mod Outside
 pub mod Reading
 pub mod Orders
+pub mod Sorting

@@ -15,6 +15,8 @@ pub mod AfterEnding
 pub mod AtFirst
 pub mod ChangedStations
 pub mod TunedStations
+pub mod OverlapWindows
+pub mod SendingOrder
 -- for this crate alone
 pub mod RivalLists
 pub mod PlacedStations
@@ -41,5 +43,4 @@ pub mod HearersInOrder
 pub mod SameHistory
 pub mod Named
 pub mod WorkedHearings
-pub mod OverlapWindows
 mod Received

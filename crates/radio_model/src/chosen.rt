@@ -8,12 +8,12 @@ ghost use Rattle.radio_model.specs.declared.station.Station.{Station};
 ghost use Rattle.radio_model.specs.Meetings.{rivals_in, rivals_to, comes_from};
 ghost use Rattle.radio_model.specs.Meetings.{is_chosen as chosen_by, IsPlaceOf};
 
-use crate::bits::has_bit;
 use crate::brought::brought_from;
 use crate::rivals::Key;
 use crate::sending::Sending;
 use crate::station::Station;
 use link_trace::Links;
+use link_trace::bits::has_bit;
 use lwb_base::{NodeId, Profile};
 
 /// Whether the sender that the trace names for the node at that key sends the packet of x, and that comes to the node.

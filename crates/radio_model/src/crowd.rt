@@ -12,13 +12,13 @@ ghost use Rattle.radio_model.specs.Meetings.{key_of, IsInOneFrame, rivals_in, ri
 ghost use Rattle.radio_model.specs.Meetings.{IsPlaceOf, IsCrowd, no_crowd, both_crowds};
 ghost use Rattle.radio_model.specs.Meetings.{IsFrom, AddsTo, HasBitsOf, TellsAt, IsNear, AreThose};
 
-use crate::bits::{lowest, without_bit, without_bits};
 use crate::brought::brought_from;
 use crate::mark::{Mark, Origin};
 use crate::rivals::{Key, reach_of};
 use crate::sending::Sending;
 use crate::station::Station;
 use link_trace::Links;
+use link_trace::bits::{lowest, without_bit, without_bits};
 use lwb_base::Profile;
 
 /// What keeps a transmission from being received: to which nodes other packets come while it does, and to which its own packet

@@ -1,7 +1,6 @@
 //! Who receives what on the air: the medium that all nodes share.
 #![tactic(auto)]
 
-mod bits;
 mod brought;
 mod chosen;
 mod crowd;

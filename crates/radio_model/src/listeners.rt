@@ -11,7 +11,6 @@ ghost use Rattle.link_trace.specs.Passes.{captured};
 ghost use Rattle.radio_model.specs.declared.station.Station.{Station};
 ghost use Rattle.radio_model.specs.Meetings.{hearers_to, is_chosen as is_chosen_by, is_ready as ready_for, AreThose, IsPlaceOf, rivals_to};
 
-use crate::bits::{has_bit, lowest, without_bit, without_bits};
 use crate::chosen::is_chosen;
 use crate::crowd::{crowd_of, lost_early};
 use crate::hearers::Hearers;
@@ -20,6 +19,7 @@ use crate::rivals::{Key, frame_start, reach_of};
 use crate::sending::Sending;
 use crate::station::Station;
 use link_trace::Links;
+use link_trace::bits::{has_bit, lowest, without_bit, without_bits};
 use lwb_base::Profile;
 
 /// Who receives x, the transmission of the station `from`, now that it ends. Its rivals are at those places, and its packet has

@@ -5,9 +5,9 @@ ghost use Rattle.std.specs.Prelude.{ℕ, ◌≡◌, ◌≤◌, ◌<◌, ◌^◌,
 ghost use Rattle.radio_model.specs.Marks.{no_mark, next_mark, next_marks, comes_close, comes_early, is_aside, is_same, comes_along, IsOrigin};
 ghost use Rattle.radio_model.specs.Marks.{sends_packet as packet_sent};
 
-use crate::bits::{lowest, without_bit};
 use crate::sending::Sending;
 use crate::station::Station;
+use link_trace::bits::{lowest, without_bit};
 use lwb_base::{NodeId, Packet, Rank};
 
 /// Where a packet on the air comes from: the first that began of those that have it and ran on, one into the next, by the place

@@ -3,7 +3,7 @@
 ghost use Rattle.std.specs.Prelude.{◌≡◌, ◌<◌, true, false};
 ghost use Rattle.radio_model.specs.Recent.{no_recent, IsRecentAfter};
 
-use crate::bits::with_bit;
+use link_trace::bits::with_bit;
 
 /// Whose transmissions can matter to one that still runs: the nodes by the bits of their places, and when all that was sent is
 /// over. What a node without its bit sent was over before any that runs began.

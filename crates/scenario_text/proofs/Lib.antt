@@ -8,8 +8,10 @@ pub mod ScenarioExamples
 pub mod CanonicalExamples
 pub mod BootsTold
 pub mod BootsCounted
--- for this crate alone
+pub mod NodeSearches
 pub mod FloodKeeps
+pub mod LinesAdded
+-- for this crate alone
 pub mod WordsRead
 pub mod Known
 pub mod FloodExamples
@@ -33,5 +35,4 @@ pub mod NetworkKept
 pub mod DraftKept
 pub mod RatesInTurn
 pub mod SaidParts
-pub mod LinesAdded
 pub mod RatesInOrder

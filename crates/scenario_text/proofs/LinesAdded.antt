@@ -13,7 +13,7 @@ use Rattle.std.specs.declared.cmp.Ordering.{Ordering}
 use Rattle.std.specs.declared.cmp.Ordering.TheVariants.{Less, Equal, Greater}
 use Rattle.link_trace.specs.Passes.{Lines}
 use Rattle.lwb_base.specs.Profile.{Numbers}
-use Rattle.scenario_text.specs.AddedLines.{in_frame, IsMerged, IsWithScript, HasRoom}
+use Rattle.scenario_text.specs.AddedLines.{in_frame, IsMerged, IsWithScript, HasRoom, frame_of_line}
 use Rattle.scenario_text.specs.FloodDrafts.{Climbs}
 use Rattle.scenario_text.specs.PartsInOrder.{carried, IsInOrder}
 use Rattle.scenario_text.specs.ScenarioFacts.{IsScriptLine}
@@ -64,14 +64,11 @@ filter_alike p q (l ∷ ls) same =
 abbrev some_line : ℕ → ScriptLine
 some_line f = record { frame = f; node = 1; act = On }
 
-abbrev pub frame_key : ScriptLine → ℕ
-frame_key l = l.frame
-
 tied_in_frame : (f : ℕ) (ls : List ScriptLine) → filter (ties by_frame (some_line f)) ls ≡ in_frame f ls
 tied_in_frame f ls = filter_alike (ties by_frame (some_line f)) (λ l. l.frame == f) ls (λ l. tied f l.frame)
 
 -- the lines of both, sorted by frame so that those of one frame keep their order
-pub sorted_merged : (old added all : List ScriptLine) → IsNonDecreasingBy frame_key all → IsStableByKey frame_key nat_cmp (old ++ added) all
+pub sorted_merged : (old added all : List ScriptLine) → IsNonDecreasingBy frame_of_line all → IsStableByKey frame_of_line nat_cmp (old ++ added) all
     → IsMerged old added all
 sorted_merged old added all up stable = record {
   ascends = λ i j d before within. up i j d (omega (arith, before)) within;

@@ -8,7 +8,7 @@ use Rattle.std.proofs.lemmas.List.Sums.{sum_by-cons}
 use Rattle.link_trace.specs.Masks.{AreNodes}
 use Rattle.std.proofs.lemmas.List.Elements.{All-from_recursion}
 use Rattle.std.specs.List.{AllByRecursion, AllPairs}
-use Rattle.scenario_text.specs.FloodParts.{knows}
+use Rattle.scenario_text.specs.FloodParts.{knows, node_id}
 use Rattle.scenario_text.specs.Network.{with_node}
 use Rattle.scenario_text.specs.FloodDrafts.{Rises}
 use Rattle.scenario_text.specs.declared.lines.NodeLine.{NodeLine}
@@ -119,16 +119,13 @@ pairs_rise (n ∷ ns) rises zero (suc j) d before within = All-from_recursion (�
 pairs_rise (n ∷ ns) rises (suc i) zero d before within = absurd (omega arith)
 pairs_rise (n ∷ ns) rises (suc i) (suc j) d before within = pairs_rise ns rises.1 i j d (omega arith) (omega arith)
 
-abbrev id_of : NodeLine → ℕ
-id_of n = n.node
-
 -- and so have their ids
-ids_rise : (ns : List NodeLine) → Rises ns → AllPairs (λ a b. a < b) (map id_of ns)
+ids_rise : (ns : List NodeLine) → Rises ns → AllPairs (λ a b. a < b) (map node_id ns)
 ids_rise [] rises i j d before within = absurd (omega arith)
 ids_rise (n ∷ ns) rises zero zero d before within = absurd (omega arith)
 ids_rise (n ∷ ns) rises zero (suc j) d before within =
-    let below : j < length ns = omega (arith, within, length-map ns id_of) in
-    let at : get_or (map id_of ns) j d ≡ (get_or ns j n).node = get_or-map id_of ns j n d below in
+    let below : j < length ns = omega (arith, within, length-map ns node_id) in
+    let at : get_or (map node_id ns) j d ≡ (get_or ns j n).node = get_or-map node_id ns j n d below in
     let lt : n.node < (get_or ns j n).node = All-from_recursion (λ (m : NodeLine). n.node < m.node) ns rises.0 j n below in
     omega (arith, at, lt)
 ids_rise (n ∷ ns) rises (suc i) zero d before within = absurd (omega arith)
@@ -138,7 +135,7 @@ ids_rise (n ∷ ns) rises (suc i) (suc j) d before within = ids_rise ns rises.1 
 pub nodes_seal : (ns : List NodeLine) (ids : List ℕ) → Rises ns → 2 ≤ length ns → length ns ≤ 64 → ids ≡ map (λ n. n.node) ns → AreNodes ids
 nodes_seal ns ids rises some few is =
     subst AreNodes (sym is) (record {
-      some = omega (arith, some, length-map ns id_of);
-      few = omega (arith, few, length-map ns id_of);
+      some = omega (arith, some, length-map ns node_id);
+      few = omega (arith, few, length-map ns node_id);
       ascending = ids_rise ns rises;
     })

@@ -6,6 +6,9 @@ use Rattle.scenario_text.specs.ScenarioFacts.{turned}
 use Rattle.scenario_text.specs.ScenarioParts.{ScenarioParts}
 use Rattle.scenario_text.specs.declared.script.ScriptLine.{ScriptLine}
 
+abbrev pub frame_of_line : ScriptLine → ℕ
+frame_of_line l = l.frame
+
 -- the lines of a frame, in their order
 abbrev pub in_frame : ℕ → List ScriptLine → List ScriptLine
 in_frame f ls = filter (λ l. l.frame == f) ls

@@ -15,6 +15,9 @@ pub record FloodParts : Type 0 where
   pub trace : Lines
   pub start : ℕ
 
+abbrev pub node_id : NodeLine → ℕ
+node_id n = n.node
+
 -- v is the id of one of these nodes
 abbrev pub knows : List NodeLine → ℕ → Bool
 knows ns v = list_any (λ n. n.node == v) ns

@@ -1,2 +1,4 @@
+-- kept for the crates above
 pub mod JoinedNumbers
+-- for this crate alone
 pub mod Places

@@ -4,7 +4,7 @@ use Rattle.std.proofs.lemmas.Bool.{cases_lt}
 use Rattle.std.proofs.lemmas.Nat.{and_le_l}
 use Rattle.std.proofs.lemmas.Nat.Bits.{bit_at_and, bit_at_above, bit_at_clear_same, bit_at_clear_other}
 use Rattle.std.proofs.Math.Nat.{min-le_left}
-use Rattle.radio_model.proofs.bits.without_bit.Goals as goal
+use Rattle.link_trace.proofs.bits.without_bit.Goals as goal
 
 -- a smaller number with another bit is less
 less : (n m k : ℕ) → m ≤ n → bit_at n k ≡ 1 → bit_at m k ≡ 0 → m < n

@@ -1,6 +1,6 @@
 use Rattle.std.proofs.Common.{w64}
 use Rattle.std.proofs.lemmas.Nat.Bits.{bit_at-trailing_zeros}
-use Rattle.radio_model.proofs.bits.lowest.Goals as goal
+use Rattle.link_trace.proofs.bits.lowest.Goals as goal
 
 pub returns-clause-set : goal.returns-clause-set
 returns-clause-set c = (bit_at-trailing_zeros w64 c.args.mask c.requires c.ranges.mask.fits).1
