@@ -1,6 +1,7 @@
 -- What is owed to the streams of a table, and what a host grants of it for one round.
 use Rattle.std.specs.Prelude.{ℕ, zero, suc, ◌+◌, ◌-◌, ◌*◌, ◌/◌, List, [], ◌++◌, ◌==◌, nat_lt, nat_le, if◌then◌else◌, map}
 use Rattle.std.specs.Prelude.{length, take, filter, flat_map, replicate, sum_by, count_by, slice_index}
+use Rattle.lwb_base.specs.declared.limits.TheConstants.{GREATEST_GAP}
 use Rattle.bus_rules.specs.Tables.{Entry, Table, code_in}
 
 -- the slots that have come due since the stream was accepted, less those granted. - stops at 0
@@ -13,10 +14,10 @@ owed_to seconds frame e = owed seconds frame e.accepted e.interval e.granted
 abbrev pub total : ℕ → ℕ → List Entry → ℕ
 total seconds frame es = sum_by (owed_to seconds frame) es
 
--- the greatest gap from 1 to 4 at which all that is owed fits one round, else 1
+-- the greatest gap at which all that is owed fits one round, else 1
 abbrev pub gap_of : ℕ → ℕ → List Entry → ℕ
 gap_of seconds frame es =
-    if nat_le (total seconds (frame + 4) es) 40 then 4
+    if nat_le (total seconds (frame + GREATEST_GAP) es) 40 then GREATEST_GAP
     else if nat_le (total seconds (frame + 3) es) 40 then 3
     else if nat_le (total seconds (frame + 2) es) 40 then 2
     else 1

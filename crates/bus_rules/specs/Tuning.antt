@@ -2,6 +2,7 @@
 use Rattle.std.specs.Prelude.{ℕ, ◌+◌, ◌%◌, ◌<◌, ◌≤◌, Bool, true, false, ◌&&◌, ◌==◌, nat_lt, if◌then◌else◌, Some, None, ⊤}
 use Rattle.std.specs.declared.option.Option.{Option}
 use Rattle.std.specs.Option.{IfSome}
+use Rattle.lwb_base.specs.declared.limits.TheConstants.{QUIET_FRAMES, SEARCH_FRAMES}
 use Rattle.bus_rules.specs.declared.tune.Tune.{Tune}
 use Rattle.bus_rules.specs.declared.tune.Tune.TheVariants.{Scan, Hold, Host}
 
@@ -15,12 +16,12 @@ is_rank None r = false
 is_rank (Some own) r = own == r
 
 -- a scanning node at the end of a frame. joined: it accepted the frame's opening. Of its own rank a node becomes the host after
--- 5 frames, and each rank is scanned for 12
+-- QUIET_FRAMES, and each rank is scanned for SEARCH_FRAMES
 abbrev pub scan_after : ℕ → ℕ → ℕ → Bool → Option ℕ → ℕ → Tune
 scan_after r waited frame joined own hosts =
     if joined then Scan r 0
-    else if is_rank own r && (waited + 1 == 5) then Host r (frame + 1)
-    else if waited + 1 == 12 then Scan ((r + 1) % hosts) 0
+    else if is_rank own r && (waited + 1 == QUIET_FRAMES) then Host r (frame + 1)
+    else if waited + 1 == SEARCH_FRAMES then Scan ((r + 1) % hosts) 0
     else Scan r (waited + 1)
 
 -- the tune after the end of this frame. own: the rank that the node hosts, if it does; hosts: how many ranks there are
@@ -29,9 +30,9 @@ next_tune (Host r due) frame joined own hosts = Host r due
 next_tune (Hold r due) frame joined own hosts = if nat_lt frame due then Hold r due else Scan r 0
 next_tune (Scan r waited) frame joined own hosts = scan_after r waited frame joined own hosts
 
--- a scan has waited at most 11 frames
+-- a scan has waited fewer frames than each rank is scanned for
 abbrev pub HasWaited : Tune → Type 0
-HasWaited (Scan r waited) = waited ≤ 11
+HasWaited (Scan r waited) = waited < SEARCH_FRAMES
 HasWaited (Hold r due) = ⊤
 HasWaited (Host r due) = ⊤
 

@@ -21,14 +21,14 @@ impl Model for FloodResult {
 }
 
 impl FloodResult {
-    /// A flood in which these nodes accept, each with a step, 0 to 11, and with this number of transmissions in all.
+    /// A flood in which these nodes accept, each with a step, 0 to `LAST_STEP`, and with this number of transmissions in all.
     pub fn new(accepts: Vec<(NodeId, u8)>, sent: u32) -> FloodResult
         ensures { result ≡ record { accepts = accepts.items; sent = sent } }
     {
         FloodResult { accepts, sent }
     }
 
-    /// The accepting nodes, each with the step of its acceptance, 0 to 11.
+    /// The accepting nodes, each with the step of its acceptance, 0 to `LAST_STEP`.
     pub fn accepts(&self) -> &[(NodeId, u8)]
         ensures { result.now ≡ self.now.accepts }
     {

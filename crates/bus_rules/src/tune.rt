@@ -1,14 +1,10 @@
 //! What a node listens to, and how that changes at the end of a frame.
 
 ghost use Rattle.std.specs.Prelude.{◌≡◌, ◌≤◌, ◌+◌, ◌%◌};
+ghost use Rattle.lwb_base.specs.declared.limits.TheConstants.{LAST_FRAME};
 ghost use Rattle.bus_rules.specs.Tuning.{next_tune, HasWaited};
 
-use lwb_base::Rank;
-
-// The frames in which a node scans its own rank before it hosts it, and those in which it scans any rank.
-const QUIET: u8 = 5;
-
-const SCANNED: u8 = 12;
+use lwb_base::{QUIET_FRAMES, Rank, SEARCH_FRAMES};
 
 /// What a node listens to, or what it hosts.
 #[derive(Clone, Copy, Debug, PartialEq, Eq)]
@@ -22,10 +18,10 @@ pub enum Tune {
 }
 
 /// The tune after the end of a frame. `joined` says that a scanning node accepted the frame's opening schedule, `own` is the
-/// rank that the node hosts, if it does, and `hosts` the number of ranks, 1 to 4. The frame is at most 16,777,215.
+/// rank that the node hosts, if it does, and `hosts` the number of ranks, 1 to 4. The frame is at most `LAST_FRAME`.
 pub fn next_tune(t: Tune, frame: u32, joined: bool, own: Option<Rank>, hosts: u8) -> Tune
     requires hosts { (1 ≤ hosts) × (hosts ≤ 4) }
-    requires frame { frame ≤ 16777215 }
+    requires frame { frame ≤ LAST_FRAME }
     requires waited { HasWaited t }
     ensures { result ≡ next_tune t frame joined own hosts }
 {
@@ -41,9 +37,9 @@ pub fn next_tune(t: Tune, frame: u32, joined: bool, own: Option<Rank>, hosts: u8
         Tune::Scan(rank, waited) => {
             if joined {
                 Tune::Scan(rank, 0)
-            } else if own == Some(rank) && waited + 1 == QUIET {
+            } else if own == Some(rank) && waited + 1 == QUIET_FRAMES {
                 Tune::Host(rank, frame + 1)
-            } else if waited + 1 == SCANNED {
+            } else if waited + 1 == SEARCH_FRAMES {
                 Tune::Scan(rank_after(rank, hosts), 0)
             } else {
                 Tune::Scan(rank, waited + 1)

@@ -3,6 +3,7 @@ use Rattle.std.specs.Prelude.{ℕ, ◌+◌, List, Bool, true, false, not, ◌&&�
 use Rattle.std.specs.declared.option.Option.{Option}
 use Rattle.std.specs.Option.{option_map}
 use Rattle.std.specs.Str.{bytes_eq}
+use Rattle.lwb_base.specs.declared.limits.TheConstants.{LAST_STEP}
 use Rattle.lwb_packets.specs.Body.{body}
 use Rattle.lwb_packets.specs.DataPackets.{is_data}
 use Rattle.lwb_packets.specs.Requests.{is_request}
@@ -45,7 +46,7 @@ abbrev pub relay_of : List ℕ → List ℕ
 relay_of p = slice_set p 2 (counter_of p + 1)
 
 abbrev pub reply_to : FloodState → List ℕ → Reply
-reply_to s p = if fits s p then (if nat_lt (counter_of p) 11 then Relay (relay_of p) else Keep) else Ignore
+reply_to s p = if fits s p then (if nat_lt (counter_of p) LAST_STEP then Relay (relay_of p) else Keep) else Ignore
 
 -- the first of two
 abbrev pub first_of : Option (List ℕ) → List ℕ → Option (List ℕ)
@@ -53,7 +54,7 @@ first_of None p = Some p
 first_of (Some first) p = Some first
 
 abbrev pub after_heard : FloodState → List ℕ → FloodState
-after_heard s p = if fits s p then record s { waiting = nat_lt (counter_of p) 11; first = first_of s.first p } else s
+after_heard s p = if fits s p then record s { waiting = nat_lt (counter_of p) LAST_STEP; first = first_of s.first p } else s
 
 abbrev pub after_sent : FloodState → FloodState
 after_sent s = record s { sent = s.sent + 1; waiting = false }

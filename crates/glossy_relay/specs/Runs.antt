@@ -1,6 +1,7 @@
 -- Whole runs of a flood at one node: lists of what it receives and of its transmissions that end.
 use Rattle.std.specs.Prelude.{◌≡◌, ℕ, ◌+◌, List, [], ◌∷◌, true, nat_lt, if◌then◌else◌, Some, None}
 use Rattle.std.specs.declared.option.Option.{Option}
+use Rattle.lwb_base.specs.declared.limits.TheConstants.{LAST_STEP}
 use Rattle.glossy_relay.specs.FloodState.{FloodState}
 use Rattle.glossy_relay.specs.Relaying.{fits, counter_of, after_heard, after_sent}
 
@@ -33,7 +34,7 @@ call_occasions s (call ∷ calls) = record { before = s; call = call } ∷ call_
 
 -- the transmissions ordered by a call
 abbrev pub orders_one : FloodState → Call → ℕ
-orders_one s (Heard p) = if fits s p then (if nat_lt (counter_of p) 11 then 1 else 0) else 0
+orders_one s (Heard p) = if fits s p then (if nat_lt (counter_of p) LAST_STEP then 1 else 0) else 0
 orders_one s Sent = 0
 
 -- the transmissions ordered by these calls

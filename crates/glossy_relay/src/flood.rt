@@ -6,13 +6,10 @@ ghost use Rattle.std.specs.Str.{bytes_eq};
 ghost use Rattle.lwb_packets.specs.Body.{body};
 ghost use Rattle.glossy_relay.specs.Relaying.{carries, is_packet, is_spelling as spells};
 
-use lwb_base::Packet;
+use lwb_base::{LAST_STEP, Packet};
 use lwb_packets::{Kind, decode_payload, decode_request, kind_of, same_body, with_counter};
 use schedule_codec::read;
 use std::marker::Model;
-
-/// The greatest relay counter. A packet that comes with it is kept and not relayed.
-const LAST_COUNTER: u8 = 11;
 
 /// What is to be done with a received packet.
 #[derive(Drop)]
@@ -121,7 +118,7 @@ impl Flood {
     }
 
     /// Returns `Ignore` if and only if the packet does not fit; `Relay`, with the counter plus 1, where it fits and its counter
-    /// is below 11; `Keep` where it fits and its counter is 11.
+    /// is below `LAST_STEP`; `Keep` where it fits and its counter is that.
     #[inline(always)]
     pub fn heard(&mut self, p: &Packet) -> Reply
         ensures reply { result ≡ reply_to self.old p.now }
@@ -138,7 +135,7 @@ impl Flood {
         if self.first.is_none() {
             self.first = Some(p.copy());
         }
-        if counter >= LAST_COUNTER {
+        if counter >= LAST_STEP {
             return Reply::Keep;
         }
         self.waiting = true;
@@ -198,12 +195,12 @@ fn takes(kind: Kind, first: &Option<Packet>, p: &Packet) -> bool
     }
 }
 
-// A spelling stays one with any counter up to 11, so no packet of a known body is decoded again.
+// A spelling stays one with any counter up to `LAST_STEP`, so no packet of a known body is decoded again.
 fn spells_body_of(kind: Kind, first: &Packet, p: &Packet) -> bool
     requires { spells kind first.now ≡ true }
     ensures { result ≡ (spells kind p.now && bytes_eq (body first.now) (body p.now)) }
 {
-    p.counter() <= LAST_COUNTER && same_body(first, p)
+    p.counter() <= LAST_STEP && same_body(first, p)
 }
 
 fn is_spelling(kind: Kind, p: &Packet) -> bool

@@ -2,6 +2,7 @@
 
 ghost use Rattle.std.specs.Prelude.{◌≡◌, ℕ, ◌+◌, ◌≤◌, ◌<◌, ◌↔◌, ◌++◌, ◌∷◌, List, Contains, true, None, slice_set};
 ghost use Rattle.std.specs.Option.{option_map};
+ghost use Rattle.lwb_base.specs.declared.limits.TheConstants.{LAST_STEP};
 ghost use Rattle.lwb_packets.specs.declared.kind.Kind.{Kind};
 ghost use Rattle.glossy_relay.specs.declared.flood.Reply.TheVariants.{Relay};
 ghost use Rattle.glossy_relay.specs.declared.flood.After.TheVariants.{Off};
@@ -9,12 +10,12 @@ ghost use Rattle.glossy_relay.specs.FloodState.{FloodState, listening, initiatin
 ghost use Rattle.glossy_relay.specs.Relaying.{counter_of, reply_to, accepted_of, after_ending};
 ghost use Rattle.glossy_relay.specs.Runs.{Call, Heard, Sent, CallOccasion, IsAllowed, call_occasions, flood_after_calls, orders, endings, first_fitting};
 
-/// However a flood is called, each packet that it relays is one that it received with a counter below 11, with the counter plus
+/// However a flood is called, each packet that it relays is one that it received with a counter below `LAST_STEP`, with the counter plus
 /// 1 and the same other bytes.
 pub fn relays_raise_the_counter()
     ensures { (s : FloodState) (calls : List Call) (before : FloodState) (p q : List ℕ)
         → Contains (call_occasions s calls) (record { before = before; call = Heard p }) → reply_to before p ≡ Relay q
-        → (counter_of p < 11) × (q ≡ slice_set p 2 (counter_of p + 1)) }
+        → (counter_of p < LAST_STEP) × (q ≡ slice_set p 2 (counter_of p + 1)) }
 {}
 
 /// However it is called, a listening flood orders at most n transmissions, and one that began here orders at most n with its

@@ -1,6 +1,7 @@
 //! The tune of one node, and what changes it.
 
 ghost use Rattle.std.specs.Prelude.{◌≡◌, ◌≤◌, ◌<◌, true, IfSome};
+ghost use Rattle.lwb_base.specs.declared.limits.TheConstants.{LAST_FRAME};
 ghost use Rattle.bus_rules.specs.declared.tune.Tune.TheVariants.{Hold};
 ghost use Rattle.bus_rules.specs.Tuning.{booted, tune_after_frame, hosts, with_due};
 
@@ -66,9 +67,9 @@ impl Tuner {
         self.tune = Tune::Hold(rank, due);
     }
 
-    /// The frame ends, which is at most 16,777,215. The tune for the next one.
+    /// The frame ends, which is at most `LAST_FRAME`. The tune for the next one.
     pub fn frame_ended(&mut self, frame: u32) -> Tune
-        requires { frame ≤ 16777215 }
+        requires { frame ≤ LAST_FRAME }
         ensures tune { result ≡ self.new.tune }
         ensures after { self.new ≡ tune_after_frame frame self.old }
     {

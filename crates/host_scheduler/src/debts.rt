@@ -1,6 +1,7 @@
 //! The slots that are owed to each owner.
 
 ghost use Rattle.std.specs.Prelude.{◌≡◌, ◌+◌, ◌≤◌, ◌++◌, All, length, replicate, sum_by};
+ghost use Rattle.lwb_base.specs.declared.limits.TheConstants.{GREATEST_GAP, LAST_FRAME};
 ghost use Rattle.bus_rules.specs.Granting.{owed_to};
 ghost use Rattle.bus_rules.specs.Tables.{AreEntries};
 ghost use Rattle.host_scheduler.specs.Debts.{debts_of, all_owed, IsCode, owed_in};
@@ -20,7 +21,7 @@ pub(crate) fn debts(table: &Table, seconds: u8, frame: u32) -> ArrayVec<Debt, 32
     requires kept { AreEntries table.now.entries }
     requires seconds { seconds ≤ 5 }
     requires accepted { All (λ e. e.accepted ≤ frame) table.now.entries }
-    requires frame { frame ≤ 16777219 }
+    requires frame { frame ≤ LAST_FRAME + GREATEST_GAP }
     ensures value { result.items ≡ debts_of (owed_to seconds frame) table.now.entries }
     ensures codes { All (λ d. IsCode d.code) result.items }
 {

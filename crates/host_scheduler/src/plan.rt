@@ -2,6 +2,7 @@
 
 ghost use Rattle.std.specs.Prelude.{◌≡◌, ◌+◌, ◌≤◌, All, length};
 ghost use Rattle.std.specs.List.Sorted.{IsPermutation, IsNonDecreasing};
+ghost use Rattle.lwb_base.specs.declared.limits.TheConstants.{GREATEST_GAP, LAST_FRAME};
 ghost use Rattle.bus_rules.specs.Granting.{gap_of, last_code, owed_to, plan_round as planned};
 ghost use Rattle.bus_rules.specs.Tables.{AreEntries};
 ghost use Rattle.host_scheduler.specs.Debts.{IsGrantable, granted_all, slots_given, place_after};
@@ -9,27 +10,27 @@ ghost use Rattle.host_scheduler.specs.Debts.{IsGrantable, granted_all, slots_giv
 use crate::debts::{all, debts};
 use crate::turns::give;
 use arrayvec::ArrayVec;
-use lwb_base::{Owner, Profile};
+use lwb_base::{GREATEST_GAP, Owner, Profile};
 use schedule_codec::Owners;
 use stream_table::Table;
 
 // The data slots of a round.
 const SLOTS: u32 = 40;
 
-/// What a host plans: its next round is `gap` frames from now, 1 to 4, and has these owners.
+/// What a host plans: its next round is `gap` frames from now, at least 1 and at most `GREATEST_GAP`, and has these owners.
 #[derive(Drop)]
 pub struct Plan {
-    /// The frames from this one to the round, 1 to 4.
+    /// The frames from this one to the round, 1 to `GREATEST_GAP`.
     pub gap: u8,
     /// The owners of its data slots, at most 40.
     pub owners: Owners,
 }
 
-/// Plans the next round in this frame, which is at most 16,777,215 and not below that in which any stream was accepted,
+/// Plans the next round in this frame, which is at most `LAST_FRAME` and not below that in which any stream was accepted,
 /// and counts in the table what it grants.
 pub fn plan_round(table: &mut Table, profile: &Profile, frame: u32) -> Plan
     requires accepted { All (λ e. e.accepted ≤ frame) table.old.entries }
-    requires frame { frame ≤ 16777215 }
+    requires frame { frame ≤ LAST_FRAME }
     ensures gap { result.gap ≡ (planned profile.now.seconds frame table.old).gap }
     ensures owners { result.owners ≡ (planned profile.now.seconds frame table.old).owners }
     ensures table { table.new ≡ (planned profile.now.seconds frame table.old).table }
@@ -45,7 +46,7 @@ pub fn plan_round(table: &mut Table, profile: &Profile, frame: u32) -> Plan
 fn slots(table: &mut Table, seconds: u8, frame: u32) -> ArrayVec<u16, 40>
     requires seconds { seconds ≤ 5 }
     requires accepted { All (λ e. e.accepted ≤ frame) table.old.entries }
-    requires frame { frame ≤ 16777219 }
+    requires frame { frame ≤ LAST_FRAME + GREATEST_GAP }
     ensures codes { result.items ≡ slots_given (owed_to seconds frame) table.old }
     ensures place { table.new ≡ record table.old { place = place_after (owed_to seconds frame) table.old } }
     ensures grantable { All (IsGrantable table.old.entries) result.items }
@@ -78,12 +79,12 @@ fn last_of(codes: &[u16]) -> u16
 fn gap(table: &Table, seconds: u8, frame: u32) -> u8
     requires seconds { seconds ≤ 5 }
     requires accepted { All (λ e. e.accepted ≤ frame) table.now.entries }
-    requires frame { frame ≤ 16777215 }
+    requires frame { frame ≤ LAST_FRAME }
     ensures value { result ≡ gap_of seconds frame table.now.entries }
-    ensures range { result ≤ 4 }
+    ensures range { result ≤ GREATEST_GAP }
 {
-    if table.total(seconds, frame + 4) <= SLOTS {
-        4
+    if table.total(seconds, frame + u32::from(GREATEST_GAP)) <= SLOTS {
+        GREATEST_GAP
     } else if table.total(seconds, frame + 3) <= SLOTS {
         3
     } else if table.total(seconds, frame + 2) <= SLOTS {

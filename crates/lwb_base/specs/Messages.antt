@@ -2,6 +2,7 @@
 -- stream of a node, seen as its code.
 use Rattle.std.specs.Prelude.{ℕ, zero, suc, ◌+◌, ◌-◌, ◌*◌, ◌/◌, ◌%◌, ◌^◌, List, [], ◌∷◌, Bool, ◌==◌, nat_lt, if◌then◌else◌, length}
 use Rattle.std.specs.List.{list_all}
+use Rattle.lwb_base.specs.declared.limits.TheConstants.{DATA_SLOTS}
 
 abbrev pub code : ℕ → ℕ → ℕ
 code node stream = node * 4 + stream
@@ -31,10 +32,10 @@ pub record Plan : Type 0 where
   pub acks : List Ask
   pub owners : List ℕ
 
--- the last slot of the longest round, by the number of contention slots that is named: after the opening come 40 data
+-- the last slot of the longest round, by the number of contention slots that is named: after the opening come the data
 -- slots, and one contention slot where none is named, else at most 4
 abbrev pub greatest_slot : ℕ → ℕ
-greatest_slot contend = if contend == 0 then 42 else 45
+greatest_slot contend = if contend == 0 then DATA_SLOTS + 2 else DATA_SLOTS + 5
 
 -- gap 0 opens the round of this plan, and gap g above 0 closes the round g frames before it
 pub record Schedule : Type 0 where

@@ -1,5 +1,5 @@
 -- The numbers of a profile. Times are ticks of 1/64 µs, lengths are bytes.
-use Rattle.std.specs.Prelude.{◌≡◌, ℕ, ◌+◌, ◌*◌, ◌≤◌, ◌⊎◌}
+use Rattle.std.specs.Prelude.{◌≡◌, ℕ, ◌+◌, ◌*◌, ◌≤◌, ◌⊎◌, Bool, ◌==◌}
 
 pub record Numbers : Type 0 where
   pub byte : ℕ
@@ -50,6 +50,10 @@ contended c = record {
   payload_max = 96;
   contend = c;
 }
+
+-- which of the two it is: a frame of the first counts 4 seconds, one of the second 5
+abbrev pub is_one : Numbers → Bool
+is_one p = p.seconds == one.seconds
 
 -- the numbers are those of a constructor
 abbrev pub IsProfile : Numbers → Type 0

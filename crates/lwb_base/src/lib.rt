@@ -2,6 +2,7 @@
 #![tactic(auto)]
 
 mod event;
+mod limits;
 mod local_clock;
 mod memory_sink;
 mod memory_source;
@@ -21,6 +22,10 @@ mod standard;
 mod write;
 
 pub use event::Event;
+pub use limits::{
+    DATA_SLOTS, DRIFT_BOUND, DRIFT_PERIOD, FLOOD_STEPS, GREATEST_GAP, GREATEST_ID, LAST_FRAME,
+    LAST_STEP, PLACES_BY_ID, QUIET_FRAMES, SEARCH_FRAMES,
+};
 pub use local_clock::LocalClock;
 pub use memory_sink::MemorySink;
 pub use memory_source::MemorySource;

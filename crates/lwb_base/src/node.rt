@@ -1,10 +1,12 @@
 //! Ids of nodes.
 
 ghost use Rattle.std.specs.Prelude.{◌≡◌, ℕ, ◌≤◌, SomeIff};
+ghost use Rattle.lwb_base.specs.declared.limits.TheConstants.{GREATEST_ID};
 
+use crate::GREATEST_ID;
 use std::marker::Model;
 
-/// The id of a node, 1 to 200. Contracts see the number.
+/// The id of a node, 1 to `GREATEST_ID`. Contracts see the number.
 #[derive(Clone, Copy, Debug, PartialEq, Eq, PartialOrd, Ord)]
 pub struct NodeId {
     id: u8,
@@ -15,27 +17,27 @@ impl Model for NodeId {
 
     ghost view = { λ n. n.id };
 
-    ghost invariant = { λ n. (1 ≤ n.id) × (n.id ≤ 200) };
+    ghost invariant = { λ n. (1 ≤ n.id) × (n.id ≤ GREATEST_ID) };
 
     ghost inverse = { λ n. record { id = n } };
 }
 
 impl NodeId {
-    /// None exactly outside 1 to 200.
+    /// None exactly outside 1 to `GREATEST_ID`.
     pub fn new(id: u8) -> Option<NodeId>
-        ensures { SomeIff result ((1 ≤ id) × (id ≤ 200)) id }
+        ensures { SomeIff result ((1 ≤ id) × (id ≤ GREATEST_ID)) id }
     {
-        if 1 <= id && id <= 200 {
+        if 1 <= id && id <= GREATEST_ID {
             Some(NodeId { id })
         } else {
             None
         }
     }
 
-    /// The id, 1 to 200.
+    /// The id, 1 to `GREATEST_ID`.
     pub fn number(&self) -> u8
         ensures value { result ≡ self.now }
-        ensures range { (1 ≤ self.now) × (self.now ≤ 200) }
+        ensures range { (1 ≤ self.now) × (self.now ≤ GREATEST_ID) }
     {
         self.id
     }

@@ -80,6 +80,7 @@ impl Model for Profile {
 
 impl Profile {
     ghost use Rattle.lwb_base.specs.Profile.{IsProfile, one as profile_one, contended as profile_two, airtime as airtime_of, step as step_of};
+    ghost use Rattle.lwb_base.specs.Profile.{is_one as is_profile_one};
 
     /// Frames of 4 seconds, payloads of at most 32 bytes, one contention slot a round.
     pub fn one() -> Profile
@@ -136,6 +137,13 @@ impl Profile {
             payload_max: 96,
             contend,
         }
+    }
+
+    /// Whether it is that of `one`: a frame of it counts 4 seconds, and one of the second profile 5.
+    pub fn is_one(&self) -> bool
+        ensures { result ≡ is_profile_one self.now }
+    {
+        self.seconds == 4
     }
 
     /// One byte on the air.

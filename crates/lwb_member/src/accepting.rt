@@ -2,6 +2,7 @@
 
 ghost use Rattle.std.specs.Prelude.{◌≡◌, ◌≤◌, ◌+◌, ◌%◌, ◌==◌, true, false, Some, None, IfSome, if◌then◌else◌};
 ghost use Rattle.std.specs.Option.{option_map};
+ghost use Rattle.lwb_base.specs.declared.limits.TheConstants.{LAST_FRAME};
 ghost use Rattle.lwb_packets.specs.Requests.{InRange};
 ghost use Rattle.schedule_codec.specs.AckLists.{ask_in_range};
 ghost use Rattle.bus_rules.specs.Plans.{slots_named};
@@ -21,7 +22,7 @@ use lwb_packets::{DataPacket, Request};
 use schedule_codec::{Ack, Schedule};
 
 impl Member {
-    /// A slot of this part closes, in this frame, which is at most 16,777,215; in it the node initiated, accepted this, or
+    /// A slot of this part closes, in this frame, which is at most `LAST_FRAME`; in it the node initiated, accepted this, or
     /// neither. What is delivered, if some is. A host accepts no schedule.
     pub fn close(
         &mut self,
@@ -31,7 +32,7 @@ impl Member {
         initiated: bool,
         accepted: Option<Heard>,
     ) -> Option<Delivery>
-        requires frame { frame ≤ 16777215 }
+        requires frame { frame ≤ LAST_FRAME }
         requires ranges { IfSome accepted IsHeardInRange }
         requires host { MayAccept self.old.core (option_map meaning accepted) }
         requires early { IsEarly frame self.old.core.table }
@@ -64,7 +65,7 @@ impl Member {
 
     /// As `close`, where the node accepted nothing. Most windows close so, and a message is long.
     pub fn pass(&mut self, frame: u32, part: Part, initiated: bool)
-        requires frame { frame ≤ 16777215 }
+        requires frame { frame ≤ LAST_FRAME }
         requires early { IsEarly frame self.old.core.table }
         ensures core { self.new ≡ record self.old { core = (closed_slot self.old.setup frame part initiated self.old.core None).core } }
         ensures early { IsEarly frame self.new.core.table }
@@ -74,7 +75,7 @@ impl Member {
 
     // A schedule was accepted in this frame, by a node that does not host.
     fn accept(&mut self, frame: u32, schedule: Schedule)
-        requires frame { frame ≤ 16777215 }
+        requires frame { frame ≤ LAST_FRAME }
         requires host { hosts self.old.core.tune ≡ false }
         requires plan { IsPlan schedule.plan }
         requires boot { IsBoot schedule.plan.boot }

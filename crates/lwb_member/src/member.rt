@@ -1,6 +1,7 @@
 //! A node as a member of its rounds.
 
 ghost use Rattle.std.specs.Prelude.{◌≡◌, ◌≤◌, ◌<◌, Some, None, IfOk, IfSome, length, is_some, [], if◌then◌else◌};
+ghost use Rattle.lwb_base.specs.declared.limits.TheConstants.{LAST_FRAME};
 ghost use Rattle.bus_rules.specs.Plans.{last_slot as last_slot_of};
 ghost use Rattle.bus_rules.specs.Tuning.{rank_of};
 ghost use Rattle.bus_rules.specs.Cores.{booted, frame_ended, is_fresh, begins_host as begins};
@@ -195,10 +196,10 @@ impl Member {
         self.own_slot.is_some()
     }
 
-    /// This frame ends, which is at most 16,777,215. Whether the node begins to host with the next one.
+    /// This frame ends, which is at most `LAST_FRAME`. Whether the node begins to host with the next one.
     #[tactic(auto, using(crate::proofs::Beginning::hosted_before))]
     pub fn frame_ended(&mut self, frame: u32) -> bool
-        requires { frame ≤ 16777215 }
+        requires { frame ≤ LAST_FRAME }
         ensures after { self.new ≡ record self.old { core = frame_ended self.old.setup frame self.old.core } }
         ensures begins { result ≡ is_some (begins self.old.core.tune self.new.core.tune) }
     {

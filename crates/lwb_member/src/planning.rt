@@ -4,6 +4,7 @@ ghost use Rattle.std.specs.Prelude.{◌≡◌, ◌≢◌, ◌+◌, ◌≤◌, �
 ghost use Rattle.std.specs.List.{list_all, position_or_len};
 ghost use Rattle.std.specs.Option.{option_map};
 ghost use Rattle.lwb_base.specs.Messages.{Ask, code_of, node_of, stream_of};
+ghost use Rattle.lwb_base.specs.declared.limits.TheConstants.{LAST_FRAME};
 ghost use Rattle.lwb_packets.specs.declared.kind.Kind.TheVariants.{Schedule as OfSchedule};
 ghost use Rattle.schedule_codec.specs.AckLists.{are_acks, ask_in_range};
 ghost use Rattle.bus_rules.specs.Plans.{last_slot as last_slot_of};
@@ -153,7 +154,7 @@ impl Member {
     // The last slot of its round: a host plans its next round, and closes this one by the new plan.
     pub(crate) fn plan_next(&mut self, frame: u32) -> Packet
         requires host { hosts self.old.core.tune ≡ true }
-        requires frame { frame ≤ 16777215 }
+        requires frame { frame ≤ LAST_FRAME }
         requires early { IsEarly frame self.old.core.table }
         ensures packet { Some result ≡ option_map (bytes_in_slot (last_slot_of self.old.core.plan)) (host_closes self.old.setup frame self.old.core).message }
         ensures told { message_of result ≡ (host_closes self.old.setup frame self.old.core).message }

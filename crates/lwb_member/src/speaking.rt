@@ -2,6 +2,7 @@
 
 ghost use Rattle.std.specs.Prelude.{◌≡◌, ◌≤◌, false, IfSome};
 ghost use Rattle.std.specs.Option.{option_map, option_and_then};
+ghost use Rattle.lwb_base.specs.declared.limits.TheConstants.{LAST_FRAME};
 ghost use Rattle.lwb_packets.specs.declared.kind.Kind.TheVariants.{Schedule as OfSchedule, Payload as OfData, Request as OfRequest};
 ghost use Rattle.bus_rules.specs.Slots.{opened_slot, data_opened, contention_opened, silent};
 ghost use Rattle.bus_rules.specs.declared.part.Part.TheVariants.{Opening, Closing};
@@ -28,11 +29,11 @@ impl Member {
         }
     }
 
-    /// The slot of this part opens in its round, in this frame, which is at most 16,777,215. What it says in the slot, if it
+    /// The slot of this part opens in its round, in this frame, which is at most `LAST_FRAME`. What it says in the slot, if it
     /// says something: the packet with counter 0. A host plans its next round where it closes one.
     pub fn speak(&mut self, part: &Part, slot: u8, frame: u32) -> Option<Packet>
         requires placed { IsPartOfSlot self.old.core.plan slot part.now }
-        requires frame { frame ≤ 16777215 }
+        requires frame { frame ≤ LAST_FRAME }
         requires early { IsEarly frame self.old.core.table }
         ensures packet { result ≡ option_map (bytes_in_slot slot) (opened_slot self.old.setup frame part.now self.old.core).message }
         ensures said { IfSome result (IsInitialPacket (kind_for part.now)) }
@@ -49,7 +50,7 @@ impl Member {
 
     /// The slot of this part opens, as for `speak`, in whatever place. The packet that it says reads as what it says.
     pub fn say(&mut self, part: &Part, frame: u32) -> Option<Packet>
-        requires frame { frame ≤ 16777215 }
+        requires frame { frame ≤ LAST_FRAME }
         requires early { IsEarly frame self.old.core.table }
         ensures told { option_and_then message_of result ≡ (opened_slot self.old.setup frame part.now self.old.core).message }
         ensures core { self.new ≡ record self.old { core = (opened_slot self.old.setup frame part.now self.old.core).core } }
@@ -67,7 +68,7 @@ impl Member {
     // The last slot: a host plans, and closes its round.
     fn close_round(&mut self, frame: u32, slot: u8) -> Option<Packet>
         requires slot { IsPartOfSlot self.old.core.plan slot Closing }
-        requires frame { frame ≤ 16777215 }
+        requires frame { frame ≤ LAST_FRAME }
         requires early { IsEarly frame self.old.core.table }
         ensures packet { result ≡ option_map (bytes_in_slot slot) (opened_slot self.old.setup frame Closing self.old.core).message }
         ensures said { IfSome result (IsInitialPacket OfSchedule) }

@@ -1,12 +1,13 @@
 -- Data packets and their bytes.
 use Rattle.std.specs.Prelude.{◌≡◌, ℕ, ◌+◌, ◌*◌, ◌/◌, ◌%◌, ◌≤◌, List, ◌∷◌, length, Bool, nat_le, ◌&&◌, ◌==◌, slice_index}
+use Rattle.lwb_base.specs.declared.limits.TheConstants.{LAST_STEP}
 use Rattle.lwb_packets.specs.Ranges.{between}
 use Rattle.lwb_packets.specs.declared.data_packet.DataPacket.{DataPacket}
 
 -- each field is in its range
 pub record InRange (d : DataPacket) : Type 0 where
   pub slot : (1 ≤ d.slot) × (d.slot ≤ 40)
-  pub counter : d.counter ≤ 11
+  pub counter : d.counter ≤ LAST_STEP
   pub boot : (1 ≤ d.boot) × (d.boot ≤ 200)
   pub stream : d.stream ≤ 3
   pub seq : d.seq ≤ 65534
@@ -25,6 +26,6 @@ pub record SpellsData (p : List ℕ) (d : DataPacket) : Type 0 where
 -- whether these bytes are a spelling: the length, the kind, and the range of each byte and of the number
 abbrev pub is_data : List ℕ → Bool
 is_data p =
-    between 8 104 (length p) && (slice_index p 0 == 2) && between 1 40 (slice_index p 1) && nat_le (slice_index p 2) 11
+    between 8 104 (length p) && (slice_index p 0 == 2) && between 1 40 (slice_index p 1) && nat_le (slice_index p 2) LAST_STEP
     && between 1 200 (slice_index p 3) && between 1 200 (slice_index p 4) && nat_le (slice_index p 5) 3
     && nat_le (256 * slice_index p 6 + slice_index p 7) 65534

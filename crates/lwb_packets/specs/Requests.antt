@@ -1,12 +1,13 @@
 -- Requests and their bytes.
 use Rattle.std.specs.Prelude.{◌≡◌, ℕ, ◌≤◌, List, [], ◌∷◌, length, Bool, nat_le, ◌&&◌, ◌==◌, slice_index}
+use Rattle.lwb_base.specs.declared.limits.TheConstants.{LAST_STEP}
 use Rattle.lwb_packets.specs.Ranges.{between}
 use Rattle.lwb_packets.specs.declared.request.Request.{Request}
 
 -- each field is in its range
 pub record InRange (r : Request) : Type 0 where
   pub slot : (1 ≤ r.slot) × (r.slot ≤ 44)
-  pub counter : r.counter ≤ 11
+  pub counter : r.counter ≤ LAST_STEP
   pub boot : (1 ≤ r.boot) × (r.boot ≤ 200)
   pub stream : r.stream ≤ 3
   pub interval : r.interval ≤ 120
@@ -24,5 +25,5 @@ pub record SpellsRequest (p : List ℕ) (r : Request) : Type 0 where
 -- whether these bytes are a spelling: the length, the kind, and the range of each byte
 abbrev pub is_request : List ℕ → Bool
 is_request p =
-    (length p == 7) && (slice_index p 0 == 3) && between 1 44 (slice_index p 1) && nat_le (slice_index p 2) 11
+    (length p == 7) && (slice_index p 0 == 3) && between 1 44 (slice_index p 1) && nat_le (slice_index p 2) LAST_STEP
     && between 1 200 (slice_index p 3) && between 1 200 (slice_index p 4) && nat_le (slice_index p 5) 3 && nat_le (slice_index p 6) 120

@@ -5,14 +5,14 @@ ghost use Rattle.lwb_packets.specs.DataPackets.{InRange, SpellsData, data_spelli
 ghost use Rattle.lwb_packets.specs.declared.data_packet.DataPacket.{DataPacket};
 
 use byteorder::{BigEndian, ByteOrder};
-use lwb_base::{NodeId, Packet, Payload};
+use lwb_base::{LAST_STEP, NodeId, Packet, Payload};
 
 /// A data packet: a payload of one stream of a node, with its place in the round and in the flood.
 #[derive(Drop)]
 pub struct DataPacket {
     /// The slot of the round, 1 to 40.
     pub slot: u8,
-    /// The relay counter, 0 to 11.
+    /// The relay counter, 0 to `LAST_STEP`.
     pub counter: u8,
     /// The node whose stream it is, 1 to 200.
     pub node: NodeId,
@@ -69,7 +69,7 @@ pub fn decode_payload(p: &Packet) -> Option<DataPacket>
     let seq = BigEndian::read_u16(&[*high, *low]);
     if *slot < 1
         || *slot > 40
-        || *counter > 11
+        || *counter > LAST_STEP
         || *boot < 1
         || *boot > 200
         || *stream > 3

@@ -4,14 +4,14 @@ ghost use Rattle.std.specs.Prelude.{◌≡◌, IfSome, is_some, Some};
 ghost use Rattle.lwb_packets.specs.Requests.{InRange, SpellsRequest, request_spelling, is_request};
 ghost use Rattle.lwb_packets.specs.declared.request.Request.{Request};
 
-use lwb_base::{NodeId, Packet};
+use lwb_base::{LAST_STEP, NodeId, Packet};
 
 /// A request of a stream of a node, which it sends to the host in a contention slot.
 #[derive(Clone, Copy, Debug, PartialEq, Eq)]
 pub struct Request {
     /// The slot of the round, 1 to 44.
     pub slot: u8,
-    /// The relay counter, 0 to 11.
+    /// The relay counter, 0 to `LAST_STEP`.
     pub counter: u8,
     /// The node that asks, 1 to 200.
     pub node: NodeId,
@@ -51,7 +51,7 @@ pub fn decode_request(p: &Packet) -> Option<Request>
     };
     if slot < 1
         || slot > 44
-        || counter > 11
+        || counter > LAST_STEP
         || boot < 1
         || boot > 200
         || stream > 3

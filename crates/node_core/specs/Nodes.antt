@@ -2,6 +2,7 @@
 use Rattle.std.specs.Prelude.{ℕ, ◌+◌, ◌-◌, ◌*◌, min, List, length}
 use Rattle.std.specs.declared.option.Option.{Option}
 use Rattle.lwb_base.specs.Profile.{Numbers, airtime}
+use Rattle.lwb_base.specs.declared.limits.TheConstants.{LAST_FRAME}
 use Rattle.time_reference.specs.Reference.{stopped, heard_zero, host_zero, slot_time, times_of}
 use Rattle.glossy_relay.specs.Relaying.{slot_of, counter_of}
 use Rattle.bus_rules.specs.declared.delivery.Delivery.{Delivery}
@@ -33,7 +34,7 @@ with_streams n streams = record n { core = record (n.core) { streams = streams }
 
 -- frame numbers stop here
 abbrev pub stopped_frame : ℕ → ℕ
-stopped_frame f = min f 16777215
+stopped_frame f = min f LAST_FRAME
 
 -- the alarm of frame f
 abbrev pub frame_alarm : Numbers → ℕ → ℕ

@@ -3,6 +3,7 @@ use Rattle.std.specs.Prelude.{◌≡◌, ℕ, ◌^◌, ◌<◌, ◌≤◌, ◌�
 use Rattle.std.specs.Option.{IfSome}
 use Rattle.lwb_base.specs.Profile.{Numbers}
 use Rattle.lwb_base.specs.Orders.{Told, Gives}
+use Rattle.lwb_base.specs.declared.limits.TheConstants.{LAST_FRAME}
 use Rattle.time_reference.specs.Reference.{RoundTimes, times_of}
 use Rattle.glossy_relay.specs.Relaying.{is_spelling}
 use Rattle.std.specs.declared.option.Option.{Option}
@@ -57,7 +58,7 @@ HostsIn frame c (InWindow j w) = (j < w.last → IsInOwnRound frame c) × (hosts
 
 -- reference: when the slots of its round begin, with the lengths of the profile
 pub record IsNode (p : Numbers) (c : Core) (frame : ℕ) (reference : RoundTimes) (stage : Stage) : Type 0 where
-  pub few : frame ≤ 16777215
+  pub few : frame ≤ LAST_FRAME
   pub timed : reference ≡ times_of p reference.zero
   pub stands : IsStage c stage
   pub accepted : IsEarly frame c.table

@@ -4,12 +4,9 @@ ghost use Rattle.std.specs.Prelude.{◌≡◌, ◌≤◌, ◌<◌, ◌^◌, ◌+
 ghost use Rattle.time_reference.specs.Reference.{times_of};
 ghost use Rattle.node_core.specs.Nodes.{frame_alarm as alarm_of_frame, zero_from, closes_at as closing_of_slot, stopped_frame};
 
-use lwb_base::{Packet, Profile};
+use lwb_base::{LAST_FRAME, Packet, Profile};
 use round_runner::Window;
 use time_reference::{Reference, stopped};
-
-// Frame numbers stop here.
-const LAST_FRAME: u32 = 16_777_215;
 
 // The alarm at the end of a frame.
 pub(crate) fn frame_alarm(profile: &Profile, frame: u32) -> u64
@@ -40,16 +37,16 @@ pub(crate) fn closes_at(profile: &Profile, reference: &Reference, slot: u8) -> u
 pub(crate) fn frame_at(profile: &Profile, now: u64) -> u32
     requires { now < 2 ^ 46 }
     ensures value { result ≡ stopped_frame ((now + profile.now.lead) / profile.now.frame) }
-    ensures range { result ≤ 16777215 }
+    ensures range { result ≤ LAST_FRAME }
 {
     ((now + profile.lead()) / profile.frame()).min(u64::from(LAST_FRAME)) as u32
 }
 
 // The frame after this one.
 pub(crate) fn next_frame(frame: u32) -> u32
-    requires { frame ≤ 16777215 }
+    requires { frame ≤ LAST_FRAME }
     ensures value { result ≡ stopped_frame (frame + 1) }
-    ensures range { result ≤ 16777215 }
+    ensures range { result ≤ LAST_FRAME }
 {
     LAST_FRAME.min(frame + 1)
 }

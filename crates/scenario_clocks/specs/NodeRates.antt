@@ -2,6 +2,7 @@
 use Rattle.std.specs.Prelude.{◌≡◌, ◌<◌, ◌≤◌, ◌^◌, ◌==◌, ℕ, ℤ, List, [], ◌∷◌, length, get_or, filter, All, ⊤}
 use Rattle.std.specs.Int.RustNames.{unsigned_abs}
 use Rattle.std.specs.List.{AllPairs}
+use Rattle.lwb_base.specs.declared.limits.TheConstants.{DRIFT_BOUND}
 use Rattle.tick_clock.specs.Rates.{segment_reading}
 use Rattle.tick_clock.specs.ClockReadings.{segment_clock_reads}
 use Rattle.tick_clock.specs.declared.segment_clock.SegmentClock.{SegmentClock}
@@ -14,7 +15,7 @@ pub record CanState (nodes : List NodeLine) (rates : List RateLine) : Type 0 whe
   pub offsets : All (λ n. n.offset ≤ 256000) nodes
   pub ascend : (v : ℕ) → AllPairs (λ a b. a.from < b.from) (filter (λ r. r.node == v) rates)
   pub early : All (λ r. r.from < 2 ^ 47) rates
-  pub small : All (λ r. unsigned_abs r.ppm ≤ 20) rates
+  pub small : All (λ r. unsigned_abs r.ppm ≤ DRIFT_BOUND) rates
 
 -- at the place of each id
 pub record AreRatesOf (rates : List RateLine) (lists : List (List (ℕ × ℤ))) : Type 0 where

@@ -3,6 +3,7 @@
 use Rattle.std.specs.Prelude.{ℕ, ◌+◌, ◌-◌, ◌*◌, ◌/◌, ◌%◌, ◌≤◌, pos, ◌-ℤ◌, List, [], ◌∷◌, ◌++◌, map, filter, Bool, ◌==◌, ◌&&◌, ◌||◌, nat_le, if◌then◌else◌}
 use Rattle.std.specs.List.{fold, flat_map, list_any, range_with_len}
 use Rattle.lwb_base.specs.Profile.{one}
+use Rattle.lwb_base.specs.declared.limits.TheConstants.{DRIFT_BOUND, FLOOD_STEPS}
 use Rattle.link_trace.specs.Order.{by_link, by_loss, with_line}
 use Rattle.link_trace.specs.Passes.{is_link, is_loss}
 use Rattle.link_trace.specs.declared.lines.LinkLine.{LinkLine}
@@ -33,7 +34,7 @@ abbrev pub node_line : Lcg → ℕ → NodeLine
 node_line g i = record { node = i; offset = drawn_word g (2 * (i - 1)) % 256001 }
 
 abbrev pub rate_line : Lcg → ℕ → RateLine
-rate_line g i = record { node = i; from = 0; ppm = pos (drawn_word g (2 * (i - 1) + 1) % 41) -ℤ pos 20 }
+rate_line g i = record { node = i; from = 0; ppm = pos (drawn_word g (2 * (i - 1) + 1) % (2 * DRIFT_BOUND + 1)) -ℤ pos DRIFT_BOUND }
 
 -- each node from 2 on, and one before it
 abbrev pub tree_pair : Lcg → ℕ → ℕ × ℕ
@@ -67,7 +68,7 @@ abbrev pub drawn_loss : Lcg → ℕ → ℕ → ℕ → LoseLine
 drawn_loss g n f t = record {
   frame = f;
   slot = drawn_word g (4 * t) % 43;
-  step = drawn_word g (4 * t + 1) % 12;
+  step = drawn_word g (4 * t + 1) % FLOOD_STEPS;
   from = 1 + drawn_word g (4 * t + 2) % n;
   to = 1 + drawn_word g (4 * t + 3) % n;
 }

@@ -7,7 +7,7 @@ ghost use Rattle.scenario_maker.specs.Made.{with_new_loss, drawn_losses, drawn_l
 
 use crate::draws::Draws;
 use link_trace::{LoseLine, Trace};
-use lwb_base::Memory;
+use lwb_base::{FLOOD_STEPS, Memory};
 
 /// Loses random links in random steps, in each frame half the number of nodes.
 pub fn add_losses(
@@ -47,7 +47,7 @@ fn draw_loss(draws: &mut Draws, nodes: u32, frame: u32) -> LoseLine
     ensures left { draws.new ≡ later 4 draws.old }
 {
     let slot = draws.below(43) as u8;
-    let step = draws.below(12) as u8;
+    let step = draws.below(u32::from(FLOOD_STEPS)) as u8;
     let from = draws.node(nodes);
     let to = draws.node(nodes);
     LoseLine {

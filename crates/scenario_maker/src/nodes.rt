@@ -5,7 +5,7 @@ ghost use Rattle.scenario_maker.specs.Drawn.{later, drawn_word};
 ghost use Rattle.scenario_maker.specs.Made.{all_nodes, node_line, rate_line};
 
 use crate::draws::{Draws, node_of};
-use lwb_base::Memory;
+use lwb_base::{DRIFT_BOUND, Memory};
 use scenario_text::{NodeLine, RateLine};
 use std::alloc::Global;
 
@@ -32,10 +32,10 @@ pub fn clocks(
     Ok((lines, rates))
 }
 
-// A rate in millionths, -20 to 20.
+// A rate in millionths, within the drift bound.
 fn rate(draws: &mut Draws) -> i8
-    ensures value { result ≡ pos (drawn_word draws.old 0 % 41) -ℤ pos 20 }
+    ensures value { result ≡ pos (drawn_word draws.old 0 % (2 * DRIFT_BOUND + 1)) -ℤ pos DRIFT_BOUND }
     ensures left { draws.new ≡ later 1 draws.old }
 {
-    draws.below(41) as i8 - 20
+    draws.below(2 * u32::from(DRIFT_BOUND) + 1) as i8 - DRIFT_BOUND as i8
 }

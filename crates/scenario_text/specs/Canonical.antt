@@ -4,7 +4,7 @@ use Rattle.std.specs.Prelude.{◌≡◌, ℕ, ◌+◌, List, [], ◌∷◌, ◌+
 use Rattle.std.specs.Fmt.{signed_decimal}
 use Rattle.text_writers.specs.Lines.{numbered, render}
 use Rattle.text_writers.specs.HexWords.{payload_word}
-use Rattle.lwb_base.specs.Profile.{Numbers}
+use Rattle.lwb_base.specs.Profile.{Numbers, is_one}
 use Rattle.link_trace.specs.declared.lines.LinkLine.{LinkLine}
 use Rattle.link_trace.specs.declared.lines.LoseLine.{LoseLine}
 use Rattle.link_trace.specs.declared.lines.CutLine.{CutLine}
@@ -17,9 +17,9 @@ use Rattle.scenario_text.specs.declared.script.ScriptLine.{ScriptLine}
 use Rattle.scenario_text.specs.declared.script.Act.{Act}
 use Rattle.scenario_text.specs.declared.script.Act.TheVariants.{On, Off, Declare, Leave, Put}
 
--- the profile by the seconds of its frames: 4 in the first, 5 in the second, which may have contention slots
+-- the second profile may have contention slots
 abbrev pub profile_number : Numbers → ℕ
-profile_number p = if p.seconds == 4 then 1 else 2
+profile_number p = if is_one p then 1 else 2
 
 abbrev pub contend_lines : ℕ → List (List (List ℕ))
 contend_lines c = if c == 0 then [] else numbered (codes "contend") (c ∷ []) ∷ []

@@ -2,6 +2,7 @@
 use Rattle.std.specs.Prelude.{◌≡◌, ◌<◌, ◌≤◌, ◌^◌, List, [], ◌∷◌, true, length, IfSome}
 use Rattle.std.specs.Int.RustNames.{unsigned_abs}
 use Rattle.std.specs.List.{AllByRecursion}
+use Rattle.lwb_base.specs.declared.limits.TheConstants.{DRIFT_BOUND}
 use Rattle.scenario_text.specs.FloodParts.{knows}
 use Rattle.scenario_text.specs.FloodGrammar.{Flood}
 use Rattle.scenario_text.specs.Network.{DraftedNetwork}
@@ -25,7 +26,7 @@ RatesBeginLater rs = Climbs (λ r s. r.node ≡ s.node → r.from < s.from) rs
 pub record IsRate (ns : List NodeLine) (r : RateLine) : Type 0 where
   pub known : knows ns r.node ≡ true
   pub early : r.from < 2 ^ 47
-  pub small : unsigned_abs r.ppm ≤ 20
+  pub small : unsigned_abs r.ppm ≤ DRIFT_BOUND
 
 pub record IsNetwork (d : DraftedNetwork) : Type 0 where
   pub sends : IfSome d.sends (λ n. (1 ≤ n) × (n ≤ 4))

@@ -5,6 +5,7 @@ use Rattle.std.specs.List.{list_all}
 use Rattle.std.specs.Option.{ok_or}
 use Rattle.std.specs.Str.{bytes_eq}
 use Rattle.std.specs.Str.Lines.{lines}
+use Rattle.lwb_base.specs.declared.limits.TheConstants.{LAST_STEP}
 use Rattle.scenario_text.specs.FloodParts.{FloodParts, knows}
 use Rattle.text_readers.specs.Faults.{first_fault, unless_fault, spelled, in_line, ◌>>=◌, draft_after_lines}
 use Rattle.text_readers.specs.Reading.{draft_after_line}
@@ -42,7 +43,7 @@ abbrev pub rule_fault : Flood → FloodLine → Option FaultKind
 rule_fault f (InNetwork l) = network_fault 1048576000000 f.network l
 rule_fault f (Lose k u v) =
     first_fault
-    ((nat_le k 11 && are_ends u v, Range) ∷ (knows f.network.nodes u && knows f.network.nodes v, UnknownNode)
+    ((nat_le k LAST_STEP && are_ends u v, Range) ∷ (knows f.network.nodes u && knows f.network.nodes v, UnknownNode)
     ∷ (not (has_loss f.network.trace 5 1 k u v), Twice) ∷ (has_script_room f.network, TooMany) ∷ [])
 rule_fault f (Start i) = first_fault ((is_id i, Range) ∷ (knows f.network.nodes i, UnknownNode) ∷ (is_none f.start, Twice) ∷ [])
 

@@ -2,6 +2,7 @@
 use Rattle.std.specs.Prelude.{◌≡◌, ◌<◌, ◌≤◌, ◌^◌, ℕ, List, map, filter, Bool, true, length, ◌==◌, All}
 use Rattle.std.specs.Int.RustNames.{unsigned_abs}
 use Rattle.std.specs.List.{list_any, AllPairs}
+use Rattle.lwb_base.specs.declared.limits.TheConstants.{DRIFT_BOUND}
 use Rattle.link_trace.specs.Passes.{Lines}
 use Rattle.link_trace.specs.Sealed.{Traced}
 use Rattle.scenario_text.specs.declared.lines.NodeLine.{NodeLine}
@@ -37,4 +38,4 @@ pub record IsSound (f : FloodParts) : Type 0 where
   pub rates_known : All (λ r. knows f.nodes r.node ≡ true) f.rates
   pub rates_ascend : (i : ℕ) → AllPairs (λ a b. a.from < b.from) (filter (λ r. r.node == i) f.rates)
   pub rates_early : All (λ r. r.from < 2 ^ 47) f.rates
-  pub rates_small : All (λ r. unsigned_abs r.ppm ≤ 20) f.rates
+  pub rates_small : All (λ r. unsigned_abs r.ppm ≤ DRIFT_BOUND) f.rates

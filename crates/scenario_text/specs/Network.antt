@@ -4,6 +4,7 @@ use Rattle.std.specs.Prelude.{Some, None, Option, is_none, length, drop, codes, 
 use Rattle.std.specs.List.{list_all, list_any, flat_map}
 use Rattle.std.specs.Str.{bytes_eq}
 use Rattle.std.specs.Option.{option_map_or}
+use Rattle.lwb_base.specs.declared.limits.TheConstants.{DRIFT_BOUND}
 use Rattle.link_trace.specs.Order.{with_line as in_order_with, by_link, by_loss, by_cut, by_capture}
 use Rattle.link_trace.specs.Passes.{Lines, is_link, is_loss, is_cut, is_capture}
 use Rattle.link_trace.specs.Sealed.{no_lines}
@@ -59,7 +60,7 @@ are_ends u v = is_id u && is_id v && not (u == v)
 abbrev pub numbers_in_range : ℕ → NetworkLine → Bool
 numbers_in_range last (Sends n) = nat_le 1 n && nat_le n 4
 numbers_in_range last (Node i o) = is_id i && nat_le o 256000
-numbers_in_range last (Rate i t slow p) = is_id i && nat_le t last && nat_le p 20
+numbers_in_range last (Rate i t slow p) = is_id i && nat_le t last && nat_le p DRIFT_BOUND
 numbers_in_range last (Link u v) = are_ends u v
 numbers_in_range last (Pair u v) = are_ends u v
 

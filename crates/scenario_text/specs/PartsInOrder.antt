@@ -5,6 +5,7 @@ use Rattle.std.specs.List.{AllPairs}
 use Rattle.std.specs.Ordering.{nat_cmp, ordering_then}
 use Rattle.std.specs.declared.cmp.Ordering.{Ordering}
 use Rattle.lwb_base.specs.Profile.{IsProfile}
+use Rattle.lwb_base.specs.declared.limits.TheConstants.{DRIFT_BOUND}
 use Rattle.link_trace.specs.Order.{Ascends, by_link, by_loss, by_cut, by_capture}
 use Rattle.scenario_text.specs.FloodParts.{knows}
 use Rattle.scenario_text.specs.ScenarioFacts.{AreEnds, IsStepOf, IsScriptLine, turned}
@@ -22,7 +23,7 @@ pub record IsNodeLine (n : NodeLine) : Type 0 where
 pub record IsRateLine (s : ScenarioParts) (r : RateLine) : Type 0 where
   pub known : knows s.nodes r.node ≡ true
   pub tick : r.from ≤ last_tick s.profile
-  pub millionths : unsigned_abs r.ppm ≤ 20
+  pub millionths : unsigned_abs r.ppm ≤ DRIFT_BOUND
 
 -- by node, and those of one node by tick
 abbrev pub by_rate : RateLine → RateLine → Ordering

@@ -3,6 +3,7 @@ use Rattle.std.specs.Prelude.{◌≡◌, ◌≢◌, ◌+◌, ◌*◌, ◌^◌, �
 use Rattle.std.specs.Int.RustNames.{unsigned_abs}
 use Rattle.std.specs.List.{AllPairs}
 use Rattle.lwb_base.specs.Profile.{Numbers, IsProfile}
+use Rattle.lwb_base.specs.declared.limits.TheConstants.{DRIFT_BOUND, LAST_STEP}
 use Rattle.link_trace.specs.Order.{Ascends, by_link, by_loss, by_cut, by_capture}
 use Rattle.scenario_text.specs.FloodParts.{knows}
 use Rattle.scenario_text.specs.ScenarioGrammar.{last_tick, greatest_slot_of}
@@ -22,7 +23,7 @@ pub record AreEnds (ns : List NodeLine) (u v : ℕ) : Type 0 where
 pub record IsStepOf (s : ScenarioParts) (frame slot step : ℕ) : Type 0 where
   pub in_run : frame < s.frames
   pub in_frame : slot ≤ greatest_slot_of s.profile
-  pub in_slot : step ≤ 11
+  pub in_slot : step ≤ LAST_STEP
 
 -- the numbers of what a node is given are in range
 abbrev pub IsAct : Numbers → Act → Type 0
@@ -66,7 +67,7 @@ pub record IsSoundScenario (s : ScenarioParts) : Type 0 where
   pub rates_ascend : (i : ℕ) → AllPairs (λ a b. a.from < b.from) (filter (λ r. r.node == i) s.rates)
   pub rates_in_run : All (λ r. r.from ≤ last_tick s.profile) s.rates
   pub rates_early : All (λ r. r.from < 2 ^ 47) s.rates
-  pub rates_small : All (λ r. unsigned_abs r.ppm ≤ 20) s.rates
+  pub rates_small : All (λ r. unsigned_abs r.ppm ≤ DRIFT_BOUND) s.rates
   pub some_hosts : 1 ≤ length s.hosts
   pub few_hosts : length s.hosts ≤ 4
   pub hosts_known : All (λ h. knows s.nodes h ≡ true) s.hosts

@@ -8,6 +8,7 @@ use Rattle.std.specs.Str.{bytes_eq}
 use Rattle.std.specs.Str.Lines.{lines}
 use Rattle.lwb_base.specs.Profile.{Numbers, one, contended}
 use Rattle.lwb_base.specs.Messages.{greatest_slot}
+use Rattle.lwb_base.specs.declared.limits.TheConstants.{LAST_STEP}
 use Rattle.link_trace.specs.Passes.{Lines}
 use Rattle.scenario_text.specs.FloodParts.{knows}
 use Rattle.scenario_text.specs.ScenarioParts.{ScenarioParts}
@@ -114,7 +115,7 @@ is_short p payload = option_map_or (λ bytes. nat_le (length bytes) p.payload_ma
 
 -- a step of a slot of a frame
 abbrev pub is_step : Scenario → ℕ → ℕ → ℕ → Bool
-is_step d f j k = is_frame d.frames f && nat_le j (greatest_slot_of d.profile) && nat_le k 11
+is_step d f j k = is_frame d.frames f && nat_le j (greatest_slot_of d.profile) && nat_le k LAST_STEP
 
 -- the numbers of the line are in their ranges
 abbrev pub line_in_range : Scenario → ScenarioLine → Bool

@@ -11,7 +11,7 @@ use crate::flood_line::FloodLine;
 use crate::known_nodes::{are_two_ids, is_id};
 use crate::network_draft::NetworkDraft;
 use crate::{FaultKind, FloodText};
-use lwb_base::{Memory, NodeId};
+use lwb_base::{LAST_STEP, Memory, NodeId};
 use std::alloc::Global;
 use std::marker::Model;
 use text_readers::{Draft, Refusal, refuse_unless};
@@ -67,7 +67,10 @@ impl FloodDraft {
         ensures fault { Refuses result (rule_fault self.old (Lose step from to)) }
         ensures added { OnOk result (self.new ≡ with_flood_line self.old (Lose step from to)) }
     {
-        refuse_unless(step <= 11 && are_two_ids(from, to), FaultKind::Range)?;
+        refuse_unless(
+            step <= u64::from(LAST_STEP) && are_two_ids(from, to),
+            FaultKind::Range,
+        )?;
         let (from, to) = self
             .network
             .two_nodes(from, to)

@@ -19,6 +19,6 @@ pub struct RateLine {
     pub node: NodeId,
     /// The tick, 0 to 1,048,576,000,000 in profile 1, and to 1,310,720,000,000 in profile 2.
     pub from: u64,
-    /// The millionths, -20 to 20.
+    /// The millionths, within the drift bound.
     pub ppm: i8,
 }

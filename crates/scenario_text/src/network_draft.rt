@@ -15,7 +15,7 @@ use crate::network_line::NetworkLine;
 use crate::rates::{by_node, is_later, ppm};
 use crate::{FaultKind, NodeLine, RateLine};
 use link_trace::Trace;
-use lwb_base::{Memory, NodeId};
+use lwb_base::{DRIFT_BOUND, Memory, NodeId};
 use std::alloc::Global;
 use std::marker::Model;
 use text_readers::{Refusal, refuse_unless};
@@ -206,7 +206,7 @@ impl NetworkDraft {
         ensures added { OnOk result (self.new ≡ with_network_line self.old (Rate id tick slow parts)) }
     {
         refuse_unless(
-            is_id(id) && tick <= last_tick && parts <= 20,
+            is_id(id) && tick <= last_tick && parts <= u64::from(DRIFT_BOUND),
             FaultKind::Range,
         )?;
         let node = known(&self.nodes, id).ok_or(FaultKind::UnknownNode)?;

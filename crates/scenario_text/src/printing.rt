@@ -48,7 +48,7 @@ fn text_of(alloc: Global, s: &Scenario) -> Result<String, AllocError>
 fn write_profile(text: &mut String, profile: Profile) -> Result<(), AllocError>
     ensures { OnOk result (string_bytes text.new ≡ string_bytes text.old ++ line_text (numbered (codes "profile") (profile_number profile ∷ []))) }
 {
-    let number = if profile.seconds() == 4 { 1u8 } else { 2u8 };
+    let number = if profile.is_one() { 1u8 } else { 2u8 };
     write_line(text, "profile", &[number])
 }
 

@@ -2,6 +2,7 @@
 
 ghost use Rattle.std.specs.Prelude.{◌≡◌, ◌≤◌, ◌==◌, ◌++◌, nat_lt, true, IfOk, OnOk, filter};
 ghost use Rattle.std.specs.Option.{option_copied, option_map_or};
+ghost use Rattle.lwb_base.specs.declared.limits.TheConstants.{DRIFT_BOUND};
 ghost use Rattle.scenario_text.specs.Network.{rates_by_node, last_rate as last_rate_of, ppm as ppm_of};
 
 use crate::{NodeLine, RateLine};
@@ -52,7 +53,7 @@ pub fn is_later(rates: &[RateLine], node: NodeId, tick: u64) -> bool
 
 /// A rate of this number of millionths, fast or slow.
 pub fn ppm(slow: bool, parts: u8) -> i8
-    requires { parts ≤ 20 }
+    requires { parts ≤ DRIFT_BOUND }
     ensures { result ≡ ppm_of slow parts }
 {
     let parts = parts as i8;

@@ -182,7 +182,7 @@ impl Scenario {
         &self.nodes
     }
 
-    /// The changes of the clocks' rates, by node and tick, each within -20 to 20 millionths.
+    /// The changes of the clocks' rates, by node and tick, each within the drift bound, in millionths.
     pub fn rates(&self) -> &[RateLine]
         ensures { result.now ≡ self.now.rates }
     {

@@ -12,7 +12,7 @@ pub struct Schedule {
     pub host: Rank,
     /// The boot of the host, 1 to 200.
     pub host_boot: u8,
-    /// 0 opens the round; 1 to 4 is the number of frames from this frame to the round.
+    /// 0 opens the round; 1 to `GREATEST_GAP` is the number of frames from this frame to the round.
     pub gap: u8,
     /// The number of contention slots, 1 to 4; 0 names none, and then there is one.
     pub contend: u8,

@@ -1,6 +1,7 @@
 //! The entry of one stream in a host's table.
 
-ghost use Rattle.std.specs.Prelude.{◌≡◌, ◌-◌, ◌≤◌, ◌<◌, ◌^◌};
+ghost use Rattle.std.specs.Prelude.{◌≡◌, ◌+◌, ◌-◌, ◌≤◌, ◌<◌, ◌^◌};
+ghost use Rattle.lwb_base.specs.declared.limits.TheConstants.{GREATEST_GAP, LAST_FRAME};
 ghost use Rattle.bus_rules.specs.Tables.{entry_after_data, missed, code_in, interval_in};
 ghost use Rattle.bus_rules.specs.Granting.{owed_to};
 ghost use Rattle.stream_table.specs.Entries.{granted_once};
@@ -85,7 +86,7 @@ impl Entry {
     pub(crate) fn owed(&self, seconds: u8, frame: u32) -> u32
         requires seconds { seconds ≤ 5 }
         requires accepted { self.now.accepted ≤ frame }
-        requires frame { frame ≤ 16777219 }
+        requires frame { frame ≤ LAST_FRAME + GREATEST_GAP }
         ensures value { result ≡ owed_to seconds frame self.now }
         ensures bound { result ≤ 83886095 }
     {

@@ -1,6 +1,7 @@
 //! The table of the streams that a host accepted.
 
-ghost use Rattle.std.specs.Prelude.{◌≡◌, ◌-◌, ◌≤◌, ◌<◌, ◌^◌, All, IfSome, IsSome, is_some, slice_get, map};
+ghost use Rattle.std.specs.Prelude.{◌≡◌, ◌+◌, ◌-◌, ◌≤◌, ◌<◌, ◌^◌, All, IfSome, IsSome, is_some, slice_get, map};
+ghost use Rattle.lwb_base.specs.declared.limits.TheConstants.{GREATEST_GAP, LAST_FRAME};
 ghost use Rattle.lwb_packets.specs.Requests.{InRange};
 ghost use Rattle.bus_rules.specs.Tables as rule;
 ghost use Rattle.bus_rules.specs.Tables.{AreEntries};
@@ -144,11 +145,11 @@ impl Table {
     }
 
     /// The slots owed to this owner in a frame, 0 for an owner that is not there. `seconds` are those of a frame, at most
-    /// 5; the frame is at most 16,777,219, and not below that in which any stream was accepted.
+    /// 5; the frame is at most a greatest gap after the last, and not below that in which any stream was accepted.
     pub fn owed(&self, seconds: u8, owner: Owner, frame: u32) -> u32
         requires seconds { seconds ≤ 5 }
         requires accepted { All (λ e. e.accepted ≤ frame) self.now.entries }
-        requires frame { frame ≤ 16777219 }
+        requires frame { frame ≤ LAST_FRAME + GREATEST_GAP }
         ensures { result ≡ owed_by seconds frame self.now owner }
     {
         match places::search(self.entries.as_slice(), owner.code()) {
@@ -161,7 +162,7 @@ impl Table {
     pub fn total(&self, seconds: u8, frame: u32) -> u32
         requires seconds { seconds ≤ 5 }
         requires accepted { All (λ e. e.accepted ≤ frame) self.now.entries }
-        requires frame { frame ≤ 16777219 }
+        requires frame { frame ≤ LAST_FRAME + GREATEST_GAP }
         ensures { result ≡ total seconds frame self.now.entries }
     {
         let mut sum = 0;

@@ -4,6 +4,7 @@ use Rattle.std.specs.declared.option.Option.{Option}
 use Rattle.std.specs.List.{zip}
 use Rattle.std.specs.Int.{int_div_euclid}
 use Rattle.std.specs.Int.RustNames.{unsigned_abs}
+use Rattle.lwb_base.specs.declared.limits.TheConstants.{DRIFT_BOUND}
 
 -- the rate of the last entry that has begun by tick t, else the given one
 abbrev pub rate_from : ℤ → List (ℕ × ℤ) → ℕ → ℤ
@@ -28,11 +29,11 @@ shifted n (negsuc less) = n - suc less
 abbrev pub segment_reading : ℕ → List (ℕ × ℤ) → ℕ → ℕ
 segment_reading offset rates t = shifted (offset + t) (int_div_euclid (sum_before rates t) (pos 1000000))
 
--- the rate of an entry is outside -20 to 20
+-- the rate of an entry is beyond the drift bound
 abbrev pub is_wild : ℕ × ℤ → Bool
-is_wild r = nat_lt 20 (unsigned_abs r.1)
+is_wild r = nat_lt DRIFT_BOUND (unsigned_abs r.1)
 
--- the first entry whose rate is outside -20 to 20
+-- the first entry whose rate is beyond the drift bound
 abbrev pub wild_at : List (ℕ × ℤ) → Option ℕ
 wild_at rates = position is_wild rates
 

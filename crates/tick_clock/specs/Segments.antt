@@ -3,6 +3,7 @@ use Rattle.std.specs.Prelude.{◌≡◌, ℕ, zero, suc, ◌+◌, ◌-◌, ◌*�
 use Rattle.std.specs.Int.RustNames.{unsigned_abs}
 use Rattle.std.specs.Coded.{×_prop, Unit-prop}
 use Rattle.std.proofs.Props.{props}
+use Rattle.lwb_base.specs.declared.limits.TheConstants.{DRIFT_BOUND}
 use Rattle.tick_clock.specs.declared.segment.Segment.{Segment}
 use Rattle.tick_clock.specs.Rates.{shifted}
 
@@ -25,7 +26,7 @@ first_segment = record { start = 0; ppm = pos 0; count = 0 }
 -- s follows r, and its count is what r has counted by then
 abbrev pub Follows : Segment → Segment → Type 0
 Follows r s =
-    (r.start ≤ s.start) × (s.start < 2 ^ 47) × (unsigned_abs s.ppm ≤ 20)
+    (r.start ≤ s.start) × (s.start < 2 ^ 47) × (unsigned_abs s.ppm ≤ DRIFT_BOUND)
     × (s.count ≤ count_until r s.start) × (count_until r s.start ≤ s.count)
 
 -- these segments come one after another, after r

@@ -1,12 +1,12 @@
-//! Clocks within 20 parts per million, as a trait.
+//! Clocks within the drift bound, as a trait.
 
 ghost use Rattle.std.specs.Prelude.{◌≡◌, ℕ, ◌+◌, ◌^◌, ◌≤◌};
 ghost use Rattle.tick_clock.specs.Clocks.{IsClock, due as due_tick};
 
-/// A clock that drifts by at most 20 parts per million and reads at most 256,000 at tick 0.
+/// A clock that drifts by at most `DRIFT_BOUND` parts per million and reads at most 256,000 at tick 0.
 ///
 /// Times are ticks of 1/64 µs. For ticks `t1 <= t2`, `d` apart, its law is
-/// `1,000,000 * |reading(t2) - reading(t1) - d| <= 20 * d + 1,000,000`.
+/// `1,000,000 * |reading(t2) - reading(t1) - d| <= DRIFT_BOUND * d + 1,000,000`.
 pub trait DriftClock: Drop {
     /// What the clock reads at each true tick.
     ghost readings: { Self → ℕ → ℕ };

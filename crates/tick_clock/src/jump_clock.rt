@@ -5,10 +5,11 @@ ghost use Rattle.tick_clock.specs.Jumps.{jump_reading};
 ghost use Rattle.tick_clock.specs.JumpLaw.{jump_law};
 
 use crate::DriftClock;
+use lwb_base::DRIFT_PERIOD;
 
-/// A clock that gains, or loses, each tick of a drift of 20 parts per million as early as it may.
+/// A clock that gains, or loses, each tick of the greatest drift as early as it may.
 ///
-/// It reads `offset + t + ceil(20 * t / 1,000,000)` if it is fast, else `offset + t - ceil(20 * t / 1,000,000)`.
+/// It reads `offset + t + ceil(DRIFT_BOUND * t / 1,000,000)` if it is fast, else `offset + t - ceil(DRIFT_BOUND * t / 1,000,000)`.
 #[derive(Clone, Copy, Debug)]
 pub struct JumpClock {
     offset: u64,
@@ -28,9 +29,6 @@ impl JumpClock {
     }
 }
 
-/// The ticks in which a jump clock gains or loses one.
-const JUMP: u64 = 50_000;
-
 impl DriftClock for JumpClock {
     ghost use Rattle.tick_clock.specs.ClockReadings.{jump_clock_reads};
 
@@ -39,7 +37,7 @@ impl DriftClock for JumpClock {
     ghost keeps_drift_law = { λ c. jump_law c.offset c.fast c.early };
 
     fn reading(&self, t: u64) -> u64 {
-        let jumped = t.div_ceil(JUMP);
+        let jumped = t.div_ceil(DRIFT_PERIOD);
         if self.fast {
             self.offset + t + jumped
         } else {
@@ -57,17 +55,17 @@ impl DriftClock for JumpClock {
     }
 }
 
-// In 50,000 ticks a fast clock reads 50,001 more, two of them in the first tick.
+// In a drift period a fast clock reads one tick more, two of them in the first tick.
 fn fast_due(ahead: u64) -> u64
     requires { ahead ≤ 2 ^ 48 }
     ensures reached { ahead ≤ jump_reading 0 true result }
     ensures before { (s : ℕ) → s < result → jump_reading 0 true s < ahead }
 {
-    let rest = ahead % (JUMP + 1);
-    ahead / (JUMP + 1) * JUMP + if rest < 2 { rest } else { rest - 1 }
+    let rest = ahead % (DRIFT_PERIOD + 1);
+    ahead / (DRIFT_PERIOD + 1) * DRIFT_PERIOD + if rest < 2 { rest } else { rest - 1 }
 }
 
-// In 50,000 ticks a slow clock reads 49,999 more, none of them in the first tick.
+// In a drift period a slow clock reads one tick less, none of them in the first tick.
 fn slow_due(ahead: u64) -> u64
     requires { ahead ≤ 2 ^ 48 }
     ensures reached { ahead ≤ jump_reading 0 false result }
@@ -76,6 +74,6 @@ fn slow_due(ahead: u64) -> u64
     if ahead == 0 {
         0
     } else {
-        ahead + (ahead - 1) / (JUMP - 1) + 1
+        ahead + (ahead - 1) / (DRIFT_PERIOD - 1) + 1
     }
 }

@@ -4,11 +4,13 @@ ghost use Rattle.std.specs.Prelude.{◌≡◌, ◌<◌, IfSome, position, length
 ghost use Rattle.std.specs.List.{zip};
 ghost use Rattle.tick_clock.specs.Rates.{is_late, unordered_at, wild_at};
 
-/// The first entry whose rate is outside -20 to 20.
+use lwb_base::DRIFT_BOUND;
+
+/// The first entry whose rate is beyond the drift bound.
 pub fn first_wild(rates: &[(u64, i8)]) -> Option<usize>
     ensures { result ≡ wild_at rates.now }
 {
-    rates.iter().position(|r| r.1.unsigned_abs() > 20)
+    rates.iter().position(|r| r.1.unsigned_abs() > DRIFT_BOUND)
 }
 
 /// The first entry whose start is not above the one before.

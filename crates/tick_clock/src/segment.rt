@@ -1,8 +1,9 @@
 //! The segments of a clock, each with one rate.
 
-ghost use Rattle.std.specs.Prelude.{◌≡◌, ℕ, ◌*◌, ◌^◌, ◌≤◌, ◌<◌, IfOk, All, length, map};
+ghost use Rattle.std.specs.Prelude.{◌≡◌, ℕ, ◌-◌, ◌*◌, ◌^◌, ◌≤◌, ◌<◌, IfOk, All, length, map};
 ghost use Rattle.std.specs.Int.{div_ceil};
 ghost use Rattle.std.specs.Int.RustNames.{unsigned_abs};
+ghost use Rattle.lwb_base.specs.declared.limits.TheConstants.{DRIFT_BOUND};
 ghost use Rattle.tick_clock.specs.Rates.{wild_at, unordered_at};
 ghost use Rattle.tick_clock.specs.RatesLaw.{count_before};
 ghost use Rattle.tick_clock.specs.Segments.{AreSegmentsAfter, IsLast, count_until as counted_by, counts_less, rate_entry_of, first_segment, has_begun};
@@ -25,7 +26,7 @@ pub struct Segment {
 impl Segment {
     // The millionths of a tick that the clock counts in a tick.
     fn pace(&self) -> u64
-        requires { unsigned_abs self.now.ppm ≤ 20 }
+        requires { unsigned_abs self.now.ppm ≤ DRIFT_BOUND }
         ensures { result ≡ pace_of self.now.ppm }
     {
         (1_000_000 + i64::from(self.ppm)) as u64
@@ -33,7 +34,7 @@ impl Segment {
 
     // What the clock has counted by tick t, if this segment lasts until then.
     fn counted(&self, t: u64) -> u128
-        requires rate { unsigned_abs self.now.ppm ≤ 20 }
+        requires rate { unsigned_abs self.now.ppm ≤ DRIFT_BOUND }
         requires begun { self.now.start ≤ t }
         requires small { self.now.count < 2 ^ 100 }
         ensures { result ≡ counted_by self.now t }
@@ -83,7 +84,7 @@ pub fn tick_of_count(segments: &[Segment], wanted: u128) -> u64
 // The least number of ticks in which a clock of this pace counts this many millionths. Most counts have 64 bits, whose
 // division takes a fraction of the time of that of 128 bits.
 fn ticks_for(count: u128, pace: u64) -> u64
-    requires pace { 999980 ≤ pace }
+    requires pace { 1000000 - DRIFT_BOUND ≤ pace }
     requires range { count ≤ 1000000 * 2 ^ 48 }
     ensures value { result ≡ div_ceil count pace }
     ensures few { result ≤ 2 ^ 49 }

@@ -28,9 +28,9 @@ pub struct SegmentClock {
 /// Why a clock is not made.
 #[derive(Clone, Copy, Debug, PartialEq, Eq)]
 pub enum ClockFault {
-    /// The first entry whose rate is outside -20 to 20.
+    /// The first entry whose rate is beyond the drift bound.
     Rate(usize),
-    /// Where each rate is within -20 to 20, the first entry whose start is not above the one before.
+    /// Where each rate is within the drift bound, the first entry whose start is not above the one before.
     Order(usize),
     /// Out of memory.
     Memory,

@@ -1,6 +1,7 @@
 -- What a node knows of the rounds: a zero on its clock, and formulas of times by it.
 use Rattle.std.specs.Prelude.{◌≡◌, ℕ, ◌+◌, ◌-◌, ◌*◌, ◌^◌, ◌≤◌, min}
 use Rattle.lwb_base.specs.Profile.{Numbers, airtime, step}
+use Rattle.lwb_base.specs.declared.limits.TheConstants.{LAST_STEP}
 use Rattle.tick_clock.specs.Clocks.{IsClock}
 use Rattle.time_reference.specs.Floods.{Relayed}
 
@@ -33,7 +34,7 @@ slot_time r j = stopped (r.zero + j * r.slot)
 -- the clock told `start` for the start of that reception; all within the ticks in which the clock keeps the drift law
 pub record IsHeardWhole (p : Numbers) (own : ℕ → ℕ) (origin start c n j : ℕ) : Type 0 where
   pub clock : IsClock own
-  pub few : c ≤ 11
+  pub few : c ≤ LAST_STEP
   pub late : p.listen + j * p.slot + 55 ≤ own origin
   pub begin : ℕ
   pub relayed : Relayed p n origin c begin

@@ -1,6 +1,7 @@
 -- The zeros of a round, each with where it comes from.
 use Rattle.std.specs.Prelude.{◌≡◌, ℕ, ◌+◌, ◌*◌, ◌<◌, ◌≤◌, ◌⊎◌}
 use Rattle.lwb_base.specs.Profile.{Numbers}
+use Rattle.lwb_base.specs.declared.limits.TheConstants.{GREATEST_GAP}
 use Rattle.tick_clock.specs.Clocks.{Near, due}
 use Rattle.time_reference.specs.Budgets.{Budget}
 use Rattle.time_reference.specs.Drift.{drift}
@@ -44,7 +45,7 @@ round_drift p b = drift (b.last * p.slot + p.listen)
 pub record Ref (p : Numbers) (b : Budget) (host own : ℕ → ℕ) (z f c j : ℕ) : Type 0 where
   pub begun : 1 ≤ c
   pub past : c ≤ f
-  pub young : f ≤ c + 4
+  pub young : f ≤ c + GREATEST_GAP
   pub in_run : c ≤ 4095
   pub slot : j ≤ b.last
   pub near : Near (own (start_tick p host c j) + f * p.frame) (z + j * p.slot + p.listen + c * p.frame) 55

@@ -2,6 +2,7 @@
 
 ghost use Rattle.std.specs.Prelude.{◌≡◌, ℕ, ◌+◌, ◌*◌, ◌/◌, ◌^◌, ◌<◌, ◌≤◌, ◌↔◌};
 ghost use Rattle.lwb_base.specs.Profile.{Numbers};
+ghost use Rattle.lwb_base.specs.declared.limits.TheConstants.{DRIFT_PERIOD, GREATEST_GAP};
 ghost use Rattle.tick_clock.specs.Clocks.{Near, IsClock, due};
 ghost use Rattle.time_reference.specs.Budgets.{Budget, Fits};
 ghost use Rattle.time_reference.specs.Drift.{drift};
@@ -19,9 +20,9 @@ pub fn readings_never_fall()
     ensures tick { (own : ℕ → ℕ) (t : ℕ) → IsClock own → t + 1 ≤ 2 ^ 48 → own (t + 1) ≤ own t + 2 }
 {}
 
-/// Over less than 50,000 ticks a clock keeps pace but for one tick.
+/// Over less than a drift period a clock keeps pace but for one tick.
 pub fn readings_over_short_times()
-    ensures { (own : ℕ → ℕ) (t d : ℕ) → IsClock own → t + d ≤ 2 ^ 48 → d < 50000
+    ensures { (own : ℕ → ℕ) (t d : ℕ) → IsClock own → t + d ≤ 2 ^ 48 → d < DRIFT_PERIOD
         → Near (own (t + d)) (own t + d) 1 }
 {}
 
@@ -83,7 +84,7 @@ pub fn two_legs()
 /// No sum of a run comes to the number at which sums stop.
 pub fn nothing_stops_in_the_run()
     ensures times { (p : Numbers) (b : Budget) → Fits p b → (own : ℕ → ℕ) → IsClock own → (f : ℕ) → f ≤ 4096
-        → ((f + 4) * p.frame + p.end + 2 * b.clock < 4103 * p.frame) × (4103 * p.frame < 2 ^ 45) }
+        → ((f + GREATEST_GAP) * p.frame + p.end + 2 * b.clock < 4103 * p.frame) × (4103 * p.frame < 2 ^ 45) }
     ensures readings { (p : Numbers) (b : Budget) → Fits p b → (own : ℕ → ℕ) → IsClock own → (t : ℕ)
         → t ≤ 4096 * p.frame → (t < 2 ^ 45) × (own t + p.turn < 2 ^ 45) }
 {}

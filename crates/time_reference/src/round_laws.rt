@@ -2,6 +2,7 @@
 
 ghost use Rattle.std.specs.Prelude.{◌≡◌, ℕ, ◌+◌, ◌*◌, ◌<◌, ◌≤◌, ◌↔◌, max};
 ghost use Rattle.lwb_base.specs.Profile.{Numbers};
+ghost use Rattle.lwb_base.specs.declared.limits.TheConstants.{GREATEST_GAP};
 ghost use Rattle.tick_clock.specs.Clocks.{Near, IsClock, due};
 ghost use Rattle.time_reference.specs.Budgets.{Budget, Fits, span};
 ghost use Rattle.time_reference.specs.Drift.{drift};
@@ -158,14 +159,14 @@ pub fn lateness_is_bounded()
         → own (tick_at_offset own y p.close) + p.slot ≤ z + opening_offset p 1 + p.close + apart b + 3 + drift (apart b) }
 {}
 
-/// A received schedule gives a reference for its frame, and for the frames up to four later.
+/// A received schedule gives a reference for its frame, and for the frames up to the greatest gap later.
 pub fn heard_schedules_give_references()
     ensures now { (p : Numbers) (b : Budget) → Fits p b → (host own : ℕ → ℕ) (z c j y : ℕ) → 1 ≤ c → c ≤ 4095
         → j ≤ b.last → Near y (own (start_tick p host c j)) 55 → y ≡ z + j * p.slot + p.listen
         → Ref p b host own z c c j }
     ensures ahead { (p : Numbers) (b : Budget) → Fits p b → (host own : ℕ → ℕ) (z c j y g : ℕ) → 1 ≤ c → c ≤ 4095
         → j ≤ b.last → Near y (own (start_tick p host c j)) 55 → y ≡ z + j * p.slot + p.listen
-        → g ≤ 4 → Ref p b host own (z + g * p.frame) (c + g) c j }
+        → g ≤ GREATEST_GAP → Ref p b host own (z + g * p.frame) (c + g) c j }
 {}
 
 /// The zero that is taken from a schedule is not below 0.

@@ -8,7 +8,7 @@ ghost use Rattle.scenario_text.specs.declared.scenario_line.ScenarioLine.TheVari
 use super::ScenarioDraft;
 use crate::FaultKind;
 use crate::known_nodes::{are_two_ids, is_id};
-use lwb_base::{Profile, greatest_slot};
+use lwb_base::{LAST_STEP, Profile, greatest_slot};
 use text_readers::{Refusal, refuse_unless};
 
 impl ScenarioDraft {
@@ -76,7 +76,7 @@ impl ScenarioDraft {
         ensures { result ≡ (if is_step self.now frame slot step then Some (frame, slot, step) else None) }
     {
         let frame = self.frame(frame)?;
-        if slot > last_slot(&self.profile) || step > 11 {
+        if slot > last_slot(&self.profile) || step > u64::from(LAST_STEP) {
             return None;
         }
         Some((frame, slot as u8, step as u8))

@@ -5,17 +5,17 @@ use Rattle.glossy_relay.specs.Relaying.{counter_of}
 use Rattle.glossy_relay.proofs.Counters.{counter_tells}
 use Rattle.glossy_relay.proofs.flood.spells_body_of.Goals as goal
 
-pub returns-then-counter-le-LAST_COUNTER : goal.returns-then-counter-le-LAST_COUNTER
-returns-then-counter-le-LAST_COUNTER c =
+pub returns-then-counter-le-LAST_STEP : goal.returns-then-counter-le-LAST_STEP
+returns-then-counter-le-LAST_STEP c =
     let same = bytes_eq (body c.args.first.now) (body c.args.p.now) in
     let low : nat_le (counter_of c.args.p.now) 11 ≡ true = le-leb (counter_of c.args.p.now) 11
-    (omega (arith, c.counter.ensures, c.if-counter-le-LAST_COUNTER.true)) in
+    (omega (arith, c.counter.ensures, c.if-counter-le-LAST_STEP.true)) in
     c.same_body.ensures ∙ ap (λ (b : Bool). b && same) (sym low) ∙ counter_tells c.args.kind c.args.first.now c.args.p.now c.requires
 
-pub returns-else-counter-le-LAST_COUNTER : goal.returns-else-counter-le-LAST_COUNTER
-returns-else-counter-le-LAST_COUNTER c =
+pub returns-else-counter-le-LAST_STEP : goal.returns-else-counter-le-LAST_STEP
+returns-else-counter-le-LAST_STEP c =
     let same = bytes_eq (body c.args.first.now) (body c.args.p.now) in
     let high : nat_le (counter_of c.args.p.now) 11 ≡ false = lt-leb (counter_of c.args.p.now) 11
-    (omega (arith, c.counter.ensures, c.if-counter-le-LAST_COUNTER.false)) in
-    lt-leb c.counter.result 11 c.if-counter-le-LAST_COUNTER.false ∙ ap (λ (b : Bool). b && same) (sym high)
+    (omega (arith, c.counter.ensures, c.if-counter-le-LAST_STEP.false)) in
+    lt-leb c.counter.result 11 c.if-counter-le-LAST_STEP.false ∙ ap (λ (b : Bool). b && same) (sym high)
     ∙ counter_tells c.args.kind c.args.first.now c.args.p.now c.requires

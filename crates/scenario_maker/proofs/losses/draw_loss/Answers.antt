@@ -11,7 +11,8 @@ returns-clause-value c =
     let two = steps_to 1 1 2 g c.below-slot.new.self c.below-step.new.self c.below-slot.ensures.left c.below-step.ensures.left refl in
     let three = steps_to 2 1 3 g c.below-step.new.self c.node-from.new.self two c.node-from.ensures.left refl in
     let slot : c.below-slot.result ≡ drawn_word g (4 * 0) % 43 = c.below-slot.ensures.value in
-    let step : c.below-step.result ≡ drawn_word g (4 * 0 + 1) % 12 = c.below-step.ensures.value ∙ ap (λ (x : ℕ). x % 12)
+    let step : c.below-step.result ≡ drawn_word g (4 * 0 + 1) % 12 = c.below-step.ensures.value
+    ∙ ap (λ (x : ℕ). drawn_word c.below-slot.new.self 0 % x) c.from.ensures ∙ ap (λ (x : ℕ). x % 12)
     (word_at 1 0 (4 * 0 + 1) g c.below-slot.new.self c.below-slot.ensures.left refl) in
     let from : c.node-from.result ≡ 1 + drawn_word g (4 * 0 + 2) % n = c.node-from.ensures.value ∙ ap (λ (x : ℕ). 1 + x % n)
     (word_at 2 0 (4 * 0 + 2) g c.below-step.new.self two refl) in
