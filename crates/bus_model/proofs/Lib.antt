@@ -1,6 +1,5 @@
 pub mod SlotsInTurn
 pub mod RanksInTurn
-pub mod KeptStates
 pub mod PowerKept
 pub mod LinesTold
 pub mod LinesAllowed

@@ -11,7 +11,7 @@ use Rattle.bus_terms.specs.Rounds.{rounds}
 use Rattle.bus_terms.specs.ScriptedStates.{state_after_act, states_after_end, setup_in}
 use Rattle.bus_terms.proofs.NumbersKept.{opened_core, closed_core}
 use Rattle.bus_model.specs.FrameNodes.{power}
-use Rattle.bus_model.proofs.KeptStates.{rounds_keep}
+use Rattle.bus_terms.proofs.KeptInRounds.{rounds_keep}
 
 pub act_power : (a : Act) (x : State) → power (state_after_act a x) ≡ turned_by a (power x)
 act_power On (StateOff boots) = refl

@@ -6,6 +6,7 @@ use Rattle.std.proofs.lemmas.List.Concat.{flat_map-append}
 use Rattle.std.proofs.lemmas.List.FromFn.{get_or-map-range_with_len, length-map-range_with_len}
 use Rattle.std.proofs.lemmas.List.Sums.{sum_by_push}
 use Rattle.lwb_base.specs.Messages.{Plan}
+use Rattle.lwb_base.proofs.Lists.{range_next}
 use Rattle.scenario_text.specs.ScenarioParts.{ScenarioParts}
 use Rattle.bus_rules.specs.declared.part.Part.{Part}
 use Rattle.bus_rules.specs.Plans.{last_slot}
@@ -20,7 +21,6 @@ use Rattle.plain_bus.specs.Leaders.{slot_parts}
 use Rattle.plain_bus.specs.Networks.{Network, IsReady, with_slot_at}
 use Rattle.plain_bus.specs.SlotCosts.{IsBelow}
 use Rattle.plain_bus.proofs.MembersOfSlots.{map_same}
-use Rattle.plain_bus.proofs.StepsCounted.{range_more}
 use Rattle.bus_model.specs.RoundCosts.{with_slots}
 
 -- room for more slots is room for fewer
@@ -55,11 +55,11 @@ pub before_first : (s : ScenarioParts) (rank f : ℕ) (p : Plan) (start others :
 before_first s rank f p start others = ap (λ (g : ℕ → State). nodes_in s rank start g others) (sym (first_slot s rank f p start))
 
 pub flat_more : {X : Type 0} (g : ℕ → List X) (n : ℕ) → flat_map g (range_with_len 0 (n + 1)) ≡ flat_map g (range_with_len 0 n) ++ g n
-flat_more g n = ap (flat_map g) (range_more n) ∙ flat_map-append g (range_with_len 0 n) (n ∷ []) ∙ ap (λ (l : List _). flat_map g (range_with_len 0 n) ++ l)
+flat_more g n = ap (flat_map g) (range_next n) ∙ flat_map-append g (range_with_len 0 n) (n ∷ []) ∙ ap (λ (l : List _). flat_map g (range_with_len 0 n) ++ l)
     (append-nil (g n))
 
 pub sum_more : (g : ℕ → ℕ) (n : ℕ) → sum_by g (range_with_len 0 (n + 1)) ≡ sum_by g (range_with_len 0 n) + g n
-sum_more g n = ap (sum_by g) (range_more n) ∙ sum_by_push g (range_with_len 0 n) n
+sum_more g n = ap (sum_by g) (range_next n) ∙ sum_by_push g (range_with_len 0 n) n
 
 module _ (s : ScenarioParts) (rank f : ℕ) (p : Plan) (start : ℕ → State) where
   -- what v costs after one slot more

@@ -10,14 +10,15 @@ pub mod ReceivedInRounds
 pub mod DeliveredSteps
 pub mod OtherRanks
 pub mod KeptRanks
+pub mod KeptInRounds
 pub mod NumbersKept
 pub mod ListsInTurn
 pub mod OrderedDeliveries
 pub mod WorkedBuses
+pub mod ReachByDistance
 -- for this crate alone
 mod WorkedFloods
 mod SameRounds
 mod AnyRankOrder
 pub mod NumberedStreams
 pub mod NumbersSaid
-pub mod ReachByDistance

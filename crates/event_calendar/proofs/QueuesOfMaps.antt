@@ -7,7 +7,7 @@ use Rattle.std.proofs.lemmas.Bool.{cases_eq}
 use Rattle.std.proofs.lemmas.List.Folds.{sum_by-replicate}
 use Rattle.std.proofs.lemmas.List.Sums.{sum_by-set, count_by-le-length}
 use Rattle.std.proofs.lemmas.List.Sorted.{Contains-permutation, length_permutation, IsPermutation-sym}
-use Rattle.lwb_base.proofs.Options.{not_both}
+use Rattle.lwb_base.proofs.Options.{not_both, one_value}
 use Rattle.event_calendar.specs.declared.class.Class.{Class}
 use Rattle.event_calendar.specs.declared.entry.Entry.{Entry}
 use Rattle.event_calendar.specs.declared.queues.Queues.{Queues}
@@ -53,9 +53,6 @@ has_room class map place q within is i =
     let more : count class (changed map place class (Some 0)) + 0 ≡ count class map + 1 = count_here class map place None (Some 0) within is in
     omega (arith, more, count_by-le-length (has_order_of_class class) (changed map place class (Some 0)), size_stays map place class (Some 0), i.count, i.room)
 
-some_same : (o : Option ℕ) (s t : ℕ) → o ≡ Some s → o ≡ Some t → s ≡ t
-some_same o s t first second = cc
-
 queue_stays : (class other : Class) (map : List Due) (place : ℕ) (tick : Option ℕ) (q : WaitingEntries) → place < length map → other ≢ class
     → IsQueueOf other map q → IsQueueOf other (changed map place class tick) q
 queue_stays class other map place tick q within apart i = record {
@@ -95,7 +92,7 @@ queue_added class map e q after within none i a = record {
     waits : (x : Entry) → later x.place ≡ Some x.tick → Contains (e ∷ q.entries) x
     waits x is = elim (cases_eq x.place e.place) [
       | inl same ↦
-          let ticks : e.tick ≡ x.tick = some_same (later x.place) e.tick x.tick (ap later same ∙ now) is in
+          let ticks : e.tick ≡ x.tick = one_value (later x.place) e.tick x.tick (ap later same ∙ now) is in
           subst (λ (y : Entry). Contains (e ∷ q.entries) y) (same_entry e x ticks (sym same)) (the_one e q.entries)
       | inr apart ↦
           let was = sym (elsewhere map e.place x.place class class (Some e.tick) (inl apart)) ∙ is in
@@ -127,7 +124,7 @@ queue_removed class map e q after within some i r = record {
     stands x c =
         let was = i.stands x (before x c) in
         let ticks : x.place ≡ e.place → x.tick ≡ e.tick =
-        λ same. some_same (at map x.place class) x.tick e.tick was (ap (λ (p : ℕ). at map p class) same ∙ some) in
+        λ same. one_value (at map x.place class) x.tick e.tick was (ap (λ (p : ℕ). at map p class) same ∙ some) in
         let apart : x.place ≢ e.place = λ same. r.gone (subst (λ (y : Entry). Contains after.entries y) (same_entry x e (ticks same) same) c) in
         elsewhere map e.place x.place class class None (inl apart) ∙ was
 

@@ -1,17 +1,17 @@
 -- What a node accepted in the window that closes: nothing of its rounds, or a schedule of its rank, by which it has a
 -- reference. An opening is accepted in slot 0, and a closing in the last slot.
-use Rattle.std.proofs.Common.{◌≡◌, ℕ, suc, ◌≤◌, ◌⊎◌, inl, inr, List, Bool, true, false, ◌==◌, nat_lt, if◌then◌else◌, Some, None, Option, option_and_then}
-use Rattle.std.proofs.Common.{option_map, IfSome, refl, sym, ◌∙◌, ap, subst, arith, true≢false, eq-eqb, lt-ltb, le-ltb}
+use Rattle.std.proofs.Common.{◌≡◌, ℕ, suc, ◌≤◌, ◌⊎◌, inl, inr, List, Bool, true, false, ◌==◌, nat_lt, Some, Option, option_and_then}
+use Rattle.std.proofs.Common.{IfSome, refl, sym, ◌∙◌, ap, subst, arith, true≢false, eq-eqb, lt-ltb, le-ltb}
 use Rattle.std.specs.Prelude.{⊤}
 use Rattle.std.proofs.lemmas.Bool.{cond-true, cond-false, ne_eqb}
 use Rattle.lwb_packets.specs.declared.kind.Kind as Kind
 use Rattle.lwb_base.specs.Messages.{Plan, Schedule}
-use Rattle.glossy_relay.specs.Relaying.{accepted_of, counter_of}
+use Rattle.glossy_relay.specs.Relaying.{accepted_of}
 use Rattle.bus_rules.specs.declared.part.Part.{Part}
 use Rattle.bus_rules.specs.declared.part.Part.TheVariants.{Opening, Data as DataSlot, Contention, Closing}
 use Rattle.bus_rules.specs.Plans.{last_slot}
 use Rattle.bus_rules.specs.Tuning.{hosts}
-use Rattle.bus_rules.specs.Slots.{Message, ScheduleOf, is_schedule_part}
+use Rattle.bus_rules.specs.Slots.{ScheduleOf, is_schedule_part}
 use Rattle.bus_rules.proofs.Ranks.{same_schedule}
 use Rattle.lwb_member.specs.Places.{kind_for}
 use Rattle.lwb_member.specs.Said.{message_of}
@@ -36,19 +36,7 @@ use Rattle.law_safety.specs.Rows.{AtTick}
 use Rattle.law_safety.proofs.AcceptedSchedules.{reference}
 use Rattle.law_safety.proofs.ClosedWindows.{Closes}
 use Rattle.law_safety.proofs.OpeningRoles.{StandsAt, stands}
-
--- what is read of an accepted packet
-packet_of : (o : Option (List ℕ × ℕ)) (m : Message) → option_and_then (λ (a : List ℕ × ℕ). message_of a.0) o ≡ Some m
-    → (a : List ℕ × ℕ) × (o ≡ Some a) × (message_of a.0 ≡ Some m)
-packet_of None m is = absurd cc
-packet_of (Some a) m is = (a, refl, is)
-
--- a listener's first packet
-listener : (begun : Bool) (first : Option (List ℕ)) (a : List ℕ × ℕ)
-    → (if begun then None else option_map {U = List ℕ × ℕ} (λ (q : List ℕ). (q, counter_of q)) first) ≡ Some a → (begun ≡ false) × (first ≡ Some a.0)
-listener true first a is = absurd cc
-listener false None a is = absurd cc
-listener false (Some q) a is = (refl, ap (option_map {U = List ℕ} (λ (b : List ℕ × ℕ). b.0)) is)
+use Rattle.law_safety.proofs.ReadPackets.{packet_of, listener}
 
 -- after slot 0 it is the last
 last_behind : (p : Plan) (j : ℕ) (part : Part) → StandsAt p j part → is_schedule_part part ≡ true → 1 ≤ j → last_slot p ≤ j

@@ -1,5 +1,12 @@
--- Each step of a tick keeps what it has to keep, so the invariant holds before each tick of a run.
-use Rattle.law_safety.specs.Invariant.{HoldsThroughout}
+-- Each step of a tick keeps what it has to keep, so the invariant holds before each tick of a run, and at its end.
+use Rattle.std.proofs.Common.{ℕ, List, arith}
+use Rattle.scenario_text.specs.ScenarioParts.{ScenarioParts}
+use Rattle.air_log.specs.declared.entry.Entry.{Entry}
+use Rattle.air_log.specs.Lawful.{Lawful}
+use Rattle.air_log.specs.Trails.{run_end}
+use Rattle.law_trails.proofs.HeedfulLogs.{lawful_is_heedful}
+use Rattle.law_safety.specs.Endings.{EndsInOrder}
+use Rattle.law_safety.specs.Invariant.{HoldsThroughout, IsDrivenWell, IsObedientRun}
 use Rattle.law_safety.specs.Rows.{AllRows}
 use Rattle.law_safety.proofs.RowBoot.{boot_row}
 use Rattle.law_safety.proofs.RowsOfScript.{declare_row, leave_row, loss_row, off_row, put_row}
@@ -38,3 +45,10 @@ all_rows = record {
 
 pub holds_throughout : HoldsThroughout
 holds_throughout = rows_suffice all_rows
+
+pub ends_in_order : (s : ScenarioParts) (clocks : ℕ → ℕ → ℕ) (air : List Entry) → IsObedientRun s clocks air → EndsInOrder s clocks air
+ends_in_order s clocks air run = record { run = run; ends = holds_throughout s clocks air run (run_end s) (omega arith) }
+
+pub whole_run : (s : ScenarioParts) (clocks : ℕ → ℕ → ℕ) (air : List Entry) → IsDrivenWell s clocks → Lawful s clocks air → EndsInOrder s clocks air
+whole_run s clocks air driven lawful =
+    ends_in_order s clocks air (record { driven = driven; heedful = lawful_is_heedful s clocks air lawful })

@@ -2,6 +2,7 @@
 pub mod RunFacts
 pub mod FloodTimes
 pub mod InvariantHolds
+pub mod ReadPackets
 pub mod AwaitedSlots
 pub mod FrameStarts
 pub mod HeardNow

@@ -26,7 +26,7 @@ use Rattle.bus_rules.proofs.Ranks.{same_schedule, rank_is}
 use Rattle.bus_terms.specs.Bus.{before_frame, state_at}
 use Rattle.bus_terms.specs.Rounds.{rounds, before_slot}
 use Rattle.bus_terms.specs.ScriptedStates.{state_after_act, state_after_line, lines_of, states_after_script, setup_in}
-use Rattle.law_service.proofs.KeptInRounds.{slots_keep, rounds_keep}
+use Rattle.bus_terms.proofs.KeptInRounds.{slots_keep, rounds_keep}
 
 pub record IsRightful (q : Setup) (c : Core) : Type 0 where
   pub own : hosts c.tune ≡ true → q.own ≡ Some (rank_of c.tune)

@@ -21,7 +21,7 @@ use Rattle.bus_terms.specs.Flooding.{has}
 use Rattle.bus_terms.specs.Rounds.{rounds, round_plan, rank_in, after_round}
 use Rattle.bus_terms.specs.ScriptedStates.{state_after_act, state_after_line, is_on_and, lines_of, states_after_script, setup_in}
 use Rattle.law_service.specs.ScheduleService.{IsHosted, state_after_round}
-use Rattle.law_service.proofs.KeptInRounds.{slots_keep}
+use Rattle.bus_terms.proofs.KeptInRounds.{slots_keep}
 use Rattle.law_service.proofs.HostedRounds.{leads, has_planned}
 
 abbrev pub kept_of : State → List Ask

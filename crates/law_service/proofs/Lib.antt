@@ -1,7 +1,6 @@
 -- for this crate alone
 mod LosslessSlots
 mod SoleVoices
-mod KeptInRounds
 mod HostsOfRanks
 mod HostedRounds
 mod AcceptedSchedules

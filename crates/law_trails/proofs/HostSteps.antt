@@ -1,5 +1,5 @@
 -- The trace of the host in the worked rounds of one packet, from each due tick to the next.
-use Rattle.std.proofs.Common.{ℕ, suc, List, take, drop, refl, sym, subst}
+use Rattle.std.proofs.Common.{ℕ, List, take, drop, refl, sym, subst}
 use Rattle.lwb_base.specs.Messages.{least_passing}
 use Rattle.schedule_codec.specs.Packing.{digits, packed_number}
 use Rattle.schedule_codec.specs.Reading.{schedule_of, asks_in}
@@ -14,9 +14,6 @@ use Rattle.law_trails.proofs.TrailSteps.{Leads, joined, stands}
 
 abbrev Steps : List DueDevice → Type 0
 Steps xs = Leads fast fast_due one_packet 1 heard_by_host xs
-
-join : (n : ℕ) (xs : List DueDevice) → Steps (take (suc n) xs) → Steps (drop n xs) → Steps xs
-join = joined fast fast_due one_packet 1 heard_by_host
 
 scans : Steps (take 7 (drop 0 host_dues))
 unfolding least_passing digits packed_number schedule_of asks_in schedule_heard host_plan plan_round turns
@@ -61,6 +58,7 @@ rests = λ w. (refl, refl, (refl, refl, (refl, refl, tt)))
 -- each part begins with the due tick with which the one before it ends
 all_steps : Steps host_dues
 all_steps =
+    let join = joined fast fast_due one_packet 1 heard_by_host in
     let closes_on = join 7 (drop 52 host_dues) closes rests in
     let hears_nothing_on = join 8 (drop 44 host_dues) hears_nothing closes_on in
     let hears_data_on = join 8 (drop 36 host_dues) hears_data hears_nothing_on in

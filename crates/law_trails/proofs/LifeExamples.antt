@@ -4,12 +4,12 @@ use Rattle.bus_rules.specs.Cores.{no_plan}
 use Rattle.lwb_base.proofs.Elements.{not_in_none}
 use Rattle.law_trails.specs.Lives.{Step, ComesOn, GoesOff, Closes, Ends, newborn, after_steps, AllMayCome}
 
-abbrev steps : List Step
-steps =
+abbrev steps_of_return : List Step
+steps_of_return =
     ComesOn 0 ∷ GoesOff 0 ∷ ComesOn 0 ∷ Ends false no_plan ∷ Ends false no_plan ∷ Ends false no_plan ∷ Ends false no_plan ∷ Ends false no_plan
     ∷ Closes 4 no_plan ∷ []
 
-may_come : AllMayCome 0 1 newborn steps
+may_come : AllMayCome 0 1 newborn steps_of_return
 unfolding AllMayCome
 may_come = (
   (refl, omega arith),
@@ -28,6 +28,6 @@ may_come = (
   ),
 )
 
-closed_late : (after_steps 0 1 newborn steps).closings ≡ record { frame = 5; gap = 4; plan = no_plan } ∷ []
+closed_late : (after_steps 0 1 newborn steps_of_return).closings ≡ record { frame = 5; gap = 4; plan = no_plan } ∷ []
 unfolding after_steps
 closed_late = refl

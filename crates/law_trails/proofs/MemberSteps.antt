@@ -1,5 +1,5 @@
 -- The trace of node 2 in the worked rounds of one packet, from each due tick to the next.
-use Rattle.std.proofs.Common.{ℕ, suc, List, take, drop, refl, sym, subst}
+use Rattle.std.proofs.Common.{ℕ, List, take, drop, refl, sym, subst}
 use Rattle.lwb_base.specs.Messages.{least_passing}
 use Rattle.schedule_codec.specs.Packing.{digits, packed_number}
 use Rattle.schedule_codec.specs.Reading.{schedule_of, asks_in}
@@ -14,9 +14,6 @@ use Rattle.law_trails.proofs.TrailSteps.{Leads, joined, stands}
 
 abbrev Steps : List DueDevice → Type 0
 Steps xs = Leads slow slow_due one_packet 2 heard_by_member xs
-
-join : (n : ℕ) (xs : List DueDevice) → Steps (take (suc n) xs) → Steps (drop n xs) → Steps xs
-join = joined slow slow_due one_packet 2 heard_by_member
 
 scans : Steps (take 7 (drop 0 member_dues))
 unfolding least_passing digits packed_number schedule_of asks_in schedule_heard host_plan plan_round turns
@@ -61,6 +58,7 @@ rests = λ w. (refl, refl, (refl, refl, (refl, refl, tt)))
 -- each part begins with the due tick with which the one before it ends
 all_steps : Steps member_dues
 all_steps =
+    let join = joined slow slow_due one_packet 2 heard_by_member in
     let closes_on = join 8 (drop 51 member_dues) closes rests in
     let is_quiet_on = join 8 (drop 43 member_dues) is_quiet closes_on in
     let says_on = join 6 (drop 37 member_dues) says is_quiet_on in

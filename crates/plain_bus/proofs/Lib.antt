@@ -2,9 +2,9 @@
 pub mod ListsInPlace
 pub mod MembersOfSlots
 pub mod SlotsMet
-pub mod StepsCounted
 pub mod TextFloods
 -- for this crate alone
+pub mod StepsCounted
 pub mod Picks
 pub mod PlacesSeen
 pub mod OffersRead

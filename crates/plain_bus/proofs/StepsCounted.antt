@@ -1,16 +1,13 @@
 -- The steps in which a node sent, counted off the masks of the senders.
 use Rattle.std.proofs.Common.{◌≡◌, ◌<◌, ◌==◌, ◌+◌, ◌∷◌, ◌++◌, [], ℕ, zero, suc, List, Bool, true, false, Option, Some, length, filter, get_or, refl}
-use Rattle.std.proofs.Common.{◌∙◌, ap, arith, if◌then◌else◌, add-one, append-nil}
+use Rattle.std.proofs.Common.{◌∙◌, ap, arith, if◌then◌else◌, append-nil}
 use Rattle.std.specs.Int.{bit_at}
 use Rattle.std.specs.List.{range_with_len, last_or}
 use Rattle.std.proofs.lemmas.List.Elements.{filter-append}
-use Rattle.lwb_base.proofs.Lists.{range_more as range_from}
+use Rattle.lwb_base.proofs.Lists.{range_next}
 use Rattle.plain_bus.specs.FloodMasks.{AreSendersOf}
 use Rattle.plain_bus.specs.SlotCosts.{steps_at, steps_in}
 use Rattle.plain_bus.proofs.HeardByMasks.{bit_tells}
-
-pub range_more : (n : ℕ) → range_with_len 0 (n + 1) ≡ range_with_len 0 n ++ n ∷ []
-range_more n = ap (range_with_len 0) (add-one n) ∙ range_from 0 n ∙ ap (λ (k : ℕ). range_with_len 0 n ++ k ∷ []) (omega arith)
 
 pub last_pushed : (o : Option ℕ) (xs : List ℕ) (x : ℕ) → last_or o (xs ++ x ∷ []) ≡ Some x
 last_pushed o [] x = refl
@@ -19,7 +16,7 @@ last_pushed o (y ∷ xs) x = last_pushed (Some y) xs x
 module _ (masks : List ℕ) (place n : ℕ) where
   pushed : (b : Bool) → (bit_at (get_or masks n 0) place == 1) ≡ b → steps_at masks place (n + 1) ≡ steps_at masks place n ++ filter
       (λ k. bit_at (get_or masks k 0) place == 1) (n ∷ [])
-  pushed b is = ap (filter (λ k. bit_at (get_or masks k 0) place == 1)) (range_more n) ∙ filter-append (λ k. bit_at (get_or masks k 0) place == 1)
+  pushed b is = ap (filter (λ k. bit_at (get_or masks k 0) place == 1)) (range_next n) ∙ filter-append (λ k. bit_at (get_or masks k 0) place == 1)
       (range_with_len 0 n) (n ∷ [])
 
   pub one_step_more : (bit_at (get_or masks n 0) place == 1) ≡ true → steps_at masks place (n + 1) ≡ steps_at masks place n ++ n ∷ []

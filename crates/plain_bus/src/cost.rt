@@ -4,8 +4,8 @@ ghost use Rattle.std.specs.Prelude.{◌≡◌, ◌≤◌, ◌<◌, ◌+◌, ℕ,
 ghost use Rattle.std.specs.List.{last_or};
 ghost use Rattle.plain_bus.specs.SlotCosts.{steps_at, with_slot, window_charge, IsBelow};
 
-use crate::bits::has_bit;
 use bus_rules::until_last_sending;
+use link_trace::bits::has_bit;
 use lwb_base::Profile;
 use std::marker::Model;
 

@@ -4,10 +4,10 @@ ghost use Rattle.std.specs.Prelude.{◌≡◌, ◌<◌, ◌≤◌, length, slice
 ghost use Rattle.bus_terms.specs.Flooding.{Setting, Moment, hears as hears_in, agrees as agrees_with};
 ghost use Rattle.plain_bus.specs.FloodMasks.{AreAt, IsMaskedFlood, SendsForInitiators, heard_alone, may_hear_at, takes_at};
 
-use crate::bits::has_bit;
 use crate::offers::picked;
 use crate::station::{Flood, Station, Stations};
 use link_trace::Trace;
+use link_trace::bits::has_bit;
 use lwb_base::NodeId;
 
 /// The initiator whose message the node at this place receives in the step, if it receives one.

@@ -3,7 +3,6 @@
 #![tactic(auto)]
 
 mod accepting;
-mod bits;
 mod charging;
 mod closing;
 mod cost;

@@ -6,9 +6,9 @@ ghost use Rattle.std.specs.Option.{option_map_or};
 ghost use Rattle.bus_terms.specs.Flooding.{Setting, Moment, offer, pick};
 ghost use Rattle.plain_bus.specs.FloodMasks.{AreOffers, IsOffer, AllOffer, IsMaskedFlood, SendsForInitiators};
 
-use crate::bits::{lowest, without_bit};
 use crate::station::{Flood, Station};
 use link_trace::Trace;
+use link_trace::bits::{lowest, without_bit};
 use lwb_base::NodeId;
 
 // One of the origins that the nodes of the mask send; None where they send nothing.

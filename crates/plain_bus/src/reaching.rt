@@ -3,9 +3,9 @@
 ghost use Rattle.std.specs.Prelude.{◌≡◌, ◌≤◌, length};
 ghost use Rattle.plain_bus.specs.FloodMasks.{AreReached};
 
-use crate::bits::{lowest, without_bit};
 use crate::station::Flood;
 use link_trace::Trace;
+use link_trace::bits::{lowest, without_bit};
 
 /// The nodes that a node of the senders' mask reaches in that step, among so many nodes.
 pub fn reached_by(trace: &Trace, flood: &Flood, step: u8, senders: u64, count: usize) -> u64

@@ -7,12 +7,12 @@ ghost use Rattle.scenario_text.specs.FloodParts.{IsSealed};
 ghost use Rattle.plain_bus.specs.FloodMasks.{AreAt, AreSenders, IsMaskedFlood, SendsForInitiators, IsLone, heard_alone, station_at, station_after};
 ghost use Rattle.plain_bus.specs.FloodMasks.{station_first, with_sender};
 
-use crate::bits::{has_bit, lowest, without_bit};
 use crate::hearing::{hears, hears_alone};
 use crate::reaching::reached_by;
 use crate::station::{Flood, Station, Stations};
 use arrayvec::ArrayVec;
 use link_trace::Trace;
+use link_trace::bits::{has_bit, lowest, without_bit};
 use lwb_base::NodeId;
 use scenario_text::NodeLine;
 
