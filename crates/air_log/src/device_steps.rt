@@ -1,12 +1,12 @@
 //! The parts of a tick at a device.
 
-ghost use Rattle.std.specs.Prelude.{◌≡◌, ◌≤◌, ◌^◌, ℕ, Some, None, is_some, Option, All, if◌then◌else◌, fold};
+ghost use Rattle.std.specs.Prelude.{◌≡◌, ◌≤◌, ◌^◌, ℕ, Some, None, true, is_some, IsSome, option_copied, Option, All, if◌then◌else◌, fold};
 ghost use Rattle.radio_model.specs.declared.sending.Sending.{Sending};
 ghost use Rattle.node_core.specs.Rows.{orders_by};
 ghost use Rattle.lwb_base.specs.Orders.{Gives};
 ghost use Rattle.air_log.specs.Devices.{Made, obeyed, event as event_at};
 ghost use Rattle.air_log.specs.Trails.{alarm_is_due, device_after_start, device_after_end};
-ghost use Rattle.air_log.specs.DeviceStates.{whole, IsSameNode, row_of, state_after_row, made_by, with_sent, packet_due, ending_at, told_of, HappenedBy};
+ghost use Rattle.air_log.specs.DeviceStates.{whole, IsSameNode, row_of, state_after_row, made_by, with_sent, ending_at, told_of, HappenedBy};
 ghost use Rattle.air_log.specs.DeviceStates.{IsTimely};
 
 use crate::device::Device;
@@ -80,34 +80,52 @@ impl Device {
         ensures node { IsSameNode self.old self.new }
         ensures core { self.new.core ≡ self.old.core }
     {
-        let packet = self.take_ordered(t)?;
-        let listening = self.listening?;
-        if self.sending.is_some() {
+        if !self.start(t) {
             return None;
         }
-        let x = Sending {
-            rank: listening.rank,
-            node: self.node,
-            start: t,
-            end: t + self.profile.airtime(packet.length()),
-            packet,
-        };
-        self.sending = Some(copy_of(&x));
-        Some(x)
+        let x = self.sending()?;
+        Some(copy_of(x))
     }
 
-    // The packet that is to be sent at tick t.
-    fn take_ordered(&mut self, t: u64) -> Option<Packet>
-        ensures packet { result ≡ packet_due t self.old.ordered }
-        ensures after { self.new ≡ record self.old { ordered = if is_some result then None else self.old.ordered } }
+    /// As `begin`, but the transmission is left in the device, where `sending` finds it: a packet is long. Returns `false` if and
+    /// only if none starts.
+    pub fn start(&mut self, t: u64) -> bool
+        requires early { t ≤ 2 ^ 45 }
+        ensures whole { (made : Made) → device_after_start self.old.setup t (whole self.old made)
+            ≡ whole self.new (with_sent (if result then self.new.sending else None) made) }
+        ensures stands { result ≡ true → IsSome self.new.sending }
+        ensures time { (now : ℕ) → HappenedBy now self.old → HappenedBy now self.new }
+        ensures node { IsSameNode self.old self.new }
+        ensures core { self.new.core ≡ self.old.core }
     {
-        match &self.ordered {
-            Some(ordered) if ordered.tick == t => {
-                let ordered = self.ordered.take()?;
-                Some(ordered.packet)
+        let listening = self.listening;
+        let sends = self.sending.is_some();
+        let ordered = match &self.ordered {
+            Some(ordered) if ordered.tick == t => ordered,
+            Some(_) | None => return false,
+        };
+        let starts = match listening {
+            Some(listening) if !sends => {
+                self.sending = Some(Sending {
+                    rank: listening.rank,
+                    node: self.node,
+                    start: t,
+                    end: t + self.profile.airtime(ordered.packet.length()),
+                    packet: ordered.packet.copy(),
+                });
+                true
             }
-            Some(_) | None => None,
-        }
+            Some(_) | None => false,
+        };
+        self.ordered = None;
+        starts
+    }
+
+    /// The own transmission that has started and not ended, if there is one.
+    pub fn sending(&self) -> Option<&Sending>
+        ensures { option_copied result ≡ self.now.sending }
+    {
+        self.sending.as_ref()
     }
 
     /// The own transmission that ends at tick t, of which the node has to be notified. Returns `None` if and only if none does.

@@ -65,6 +65,7 @@ mod SendingsRun
 mod ShownDevices
 mod ShownPlaces
 mod ShownTunings
+mod SortedParts
 mod StepsGoOn
 mod StepsInCode
 mod TickPoints

@@ -9,3 +9,4 @@ pub mod Worlds
 pub mod WorldShapes
 pub mod Frames
 pub mod EventOrders
+pub mod SortedRuns

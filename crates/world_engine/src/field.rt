@@ -199,8 +199,11 @@ impl Field {
     {
         orders.clear(place, Class::SendingStart);
         let device = &mut self.devices[usize::from(place)];
-        let Some(x) = device.begin(t) else {
+        if !device.start(t) {
             return Ok(());
+        }
+        let Some(x) = device.sending() else {
+            unreachable!()
         };
         orders.set(place, Class::SendingEnd, x.end);
         self.medium.start(x.node, t, &x.packet);
@@ -209,7 +212,7 @@ impl Field {
             node: x.node,
             start: x.start,
             end: x.end,
-            packet: x.packet,
+            packet: x.packet.copy(),
         }))
     }
 

@@ -64,7 +64,7 @@ impl Field {
         ensures rest { self.new ≡ record self.old { deliveries = [] } }
     {
         let mut deliveries = mem::replace(&mut self.deliveries, Vec::new(alloc));
-        sort_deliveries(&mut deliveries)?;
+        sort_deliveries(alloc, &mut deliveries)?;
         Ok(deliveries)
     }
 

@@ -81,6 +81,9 @@ impl Field {
         ensures { OnOk result ((places : List ℕ) × StandAtPlaces (ids_of self.old) (map (λ p. p.0) hearers.now) places
             × AllHear (readings_at C.readings clocks.now) x.now.end x.now places self.old (Q.map orders.old) self.new (Q.map orders.new)) }
     {
+        if hearers.count() == 0 {
+            return Ok(());
+        }
         let heard = Event::Heard(x.packet.copy());
         for i in 0..usize::from(hearers.count()) {
             let (node, _) = hearers.at(i).unwrap();

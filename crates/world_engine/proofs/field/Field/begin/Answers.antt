@@ -1,9 +1,11 @@
-use Rattle.std.proofs.Common.{◌≡◌, ℕ, List, Option, Some, None, set, sym, ◌∙◌, ap, subst}
+use Rattle.std.proofs.Common.{◌≡◌, ℕ, List, [], ◌∷◌, ◌++◌, Bool, if◌then◌else◌, Option, Some, None, option_copied, set, sym, ◌∙◌, ap, subst}
 use Rattle.std.proofs.lemmas.Result.{on_ok_weaker}
 use Rattle.radio_model.specs.Stations.{MediumState, IsTime}
 use Rattle.event_calendar.specs.Orders.{Due, at, changed}
 use Rattle.event_calendar.specs.declared.class.Class.TheVariants.{SendingEnd, SendingStart}
 use Rattle.radio_model.specs.declared.sending.Sending.{Sending}
+use Rattle.air_log.specs.declared.entry.Entry.{Entry}
+use Rattle.air_log.specs.declared.entry.Entry.TheVariants.{Sent}
 use Rattle.air_log.specs.Devices.{Made}
 use Rattle.air_log.specs.Trails.{device_after_start}
 use Rattle.air_log.specs.DeviceStates.{whole, with_sent}
@@ -30,13 +32,14 @@ invariant_of-self g c =
     (subst (λ (v : FieldState). FieldIsShown c.args.t v due c.args.place) (sym c.self.view_is) c.requires.shown) in
     let stands : at due i SendingStart ≡ Some c.args.t = ap (λ (k : ℕ). at due k SendingStart) c.from.ensures ∙ c.requires.stands in
     let time : IsTime w.medium c.args.t = subst (λ (v : FieldState). IsTime v.medium c.args.t) (sym c.self.view_is) c.requires.time in
-    let answers : (made : Made) → device_after_start st.setup c.args.t (whole st made) ≡ whole c.begin.new.self (with_sent None made) =
-    λ made. c.begin.ensures.whole made ∙ ap (λ (r : Option Sending). whole c.begin.new.self (with_sent r made)) c.in_default.is in
-    silent_is_field c.args.t i w c.self.invariant due st c.begin.new.self
-    (read_there c.args.t w due i st shown c.index_mut-device.ensures.value) c.begin.ensures.node c.begin.ensures.time stands shown time answers
+    let answers : (made : Made) → device_after_start st.setup c.args.t (whole st made) ≡ whole c.start.new.self (with_sent None made) =
+    λ made. c.start.ensures.whole made
+    ∙ ap (λ (b : Bool). whole c.start.new.self (with_sent (if b then c.start.new.self.sending else None) made)) c.if-not-start.true in
+    silent_is_field c.args.t i w c.self.invariant due st c.start.new.self
+    (read_there c.args.t w due i st shown c.index_mut-device.ensures.value) c.start.ensures.node c.start.ensures.time stands shown time answers
 
-pub returns-in_default : goal.returns-in_default
-returns-in_default g c =
+pub returns-then-not-start : goal.returns-then-not-start
+returns-then-not-start g c =
     let w : FieldState = record {
       medium = c.self.inside.medium;
       devices = c.self.inside.devices.items;
@@ -52,15 +55,16 @@ returns-in_default g c =
     (subst (λ (v : FieldState). FieldIsShown c.args.t v due c.args.place) (sym c.self.view_is) c.requires.shown) in
     let stands : at due i SendingStart ≡ Some c.args.t = ap (λ (k : ℕ). at due k SendingStart) c.from.ensures ∙ c.requires.stands in
     let time : IsTime w.medium c.args.t = subst (λ (v : FieldState). IsTime v.medium c.args.t) (sym c.self.view_is) c.requires.time in
-    let answers : (made : Made) → device_after_start st.setup c.args.t (whole st made) ≡ whole c.begin.new.self (with_sent None made) =
-    λ made. c.begin.ensures.whole made ∙ ap (λ (r : Option Sending). whole c.begin.new.self (with_sent r made)) c.in_default.is in
+    let answers : (made : Made) → device_after_start st.setup c.args.t (whole st made) ≡ whole c.start.new.self (with_sent None made) =
+    λ made. c.start.ensures.whole made
+    ∙ ap (λ (b : Bool). whole c.start.new.self (with_sent (if b then c.start.new.self.sending else None) made)) c.if-not-start.true in
     as_given c.args.t i c.args.place w c.args.self.now due _ _ _ c.self.view_is c.from.ensures
     (c.clear.ensures ∙ ap (λ (k : ℕ). changed due k SendingStart None) (sym c.from.ensures))
-    (not_begun c.args.t i w c.self.invariant due st c.begin.new.self
-    (read_there c.args.t w due i st shown c.index_mut-device.ensures.value) c.begin.ensures.node c.begin.ensures.time stands shown time answers)
+    (not_begun c.args.t i w c.self.invariant due st c.start.new.self
+    (read_there c.args.t w due i st shown c.index_mut-device.ensures.value) c.start.ensures.node c.start.ensures.time stands shown time answers)
 
-pub start-requires-clause-node : goal.start-requires-clause-node
-start-requires-clause-node g c =
+pub start-requires-2-clause-node : goal.start-requires-2-clause-node
+start-requires-2-clause-node g c =
     let w : FieldState = record {
       medium = c.self.inside.medium;
       devices = c.self.inside.devices.items;
@@ -76,10 +80,12 @@ start-requires-clause-node g c =
     (subst (λ (v : FieldState). FieldIsShown c.args.t v due c.args.place) (sym c.self.view_is) c.requires.shown) in
     let stands : at due i SendingStart ≡ Some c.args.t = ap (λ (k : ℕ). at due k SendingStart) c.from.ensures ∙ c.requires.stands in
     let time : IsTime w.medium c.args.t = subst (λ (v : FieldState). IsTime v.medium c.args.t) (sym c.self.view_is) c.requires.time in
-    let answers : (made : Made) → device_after_start st.setup c.args.t (whole st made) ≡ whole c.begin.new.self (with_sent (Some c.in-Some.x) made) =
-    λ made. c.begin.ensures.whole made ∙ ap (λ (r : Option Sending). whole c.begin.new.self (with_sent r made)) c.in-Some.is in
-    has_station c.args.t i w c.self.invariant due st c.begin.new.self
-    (read_there c.args.t w due i st shown c.index_mut-device.ensures.value) c.begin.ensures.node c.begin.ensures.time stands shown time c.in-Some.x answers
+    let answers : (made : Made) → device_after_start st.setup c.args.t (whole st made) ≡ whole c.start.new.self (with_sent (Some c.in-Some.x.now) made) =
+    λ made. c.start.ensures.whole made
+    ∙ ap (λ (b : Bool). whole c.start.new.self (with_sent (if b then c.start.new.self.sending else None) made)) c.if-not-start.false
+    ∙ ap (λ (r : Option Sending). whole c.start.new.self (with_sent r made)) (sym c.sending.ensures ∙ ap option_copied c.in-Some.is) in
+    has_station c.args.t i w c.self.invariant due st c.start.new.self
+    (read_there c.args.t w due i st shown c.index_mut-device.ensures.value) c.start.ensures.node c.start.ensures.time stands shown time c.in-Some.x.now answers
 
 pub invariant_of-self-2 : goal.invariant_of-self-2
 invariant_of-self-2 g c =
@@ -98,19 +104,21 @@ invariant_of-self-2 g c =
     (subst (λ (v : FieldState). FieldIsShown c.args.t v due c.args.place) (sym c.self.view_is) c.requires.shown) in
     let stands : at due i SendingStart ≡ Some c.args.t = ap (λ (k : ℕ). at due k SendingStart) c.from.ensures ∙ c.requires.stands in
     let time : IsTime w.medium c.args.t = subst (λ (v : FieldState). IsTime v.medium c.args.t) (sym c.self.view_is) c.requires.time in
-    let answers : (made : Made) → device_after_start st.setup c.args.t (whole st made) ≡ whole c.begin.new.self (with_sent (Some c.in-Some.x) made) =
-    λ made. c.begin.ensures.whole made ∙ ap (λ (r : Option Sending). whole c.begin.new.self (with_sent r made)) c.in-Some.is in
+    let answers : (made : Made) → device_after_start st.setup c.args.t (whole st made) ≡ whole c.start.new.self (with_sent (Some c.in-Some.x.now) made) =
+    λ made. c.start.ensures.whole made
+    ∙ ap (λ (b : Bool). whole c.start.new.self (with_sent (if b then c.start.new.self.sending else None) made)) c.if-not-start.false
+    ∙ ap (λ (r : Option Sending). whole c.start.new.self (with_sent r made)) (sym c.sending.ensures ∙ ap option_copied c.in-Some.is) in
     subst (λ (m : MediumState). IsField
     (record {
       medium = m;
-      devices = set w.devices i c.begin.new.self;
+      devices = set w.devices i c.start.new.self;
       air = c.push.new.self;
       deliveries = w.deliveries;
       drops = w.drops;
       sums = w.sums;
-    })) (sym c.start.ensures.state)
-    (begun_is_field c.args.t i w c.self.invariant due st c.begin.new.self
-    (read_there c.args.t w due i st shown c.index_mut-device.ensures.value) c.begin.ensures.node c.begin.ensures.time stands shown time c.in-Some.x
+    })) (sym c.start-2.ensures.state)
+    (begun_is_field c.args.t i w c.self.invariant due st c.start.new.self
+    (read_there c.args.t w due i st shown c.index_mut-device.ensures.value) c.start.ensures.node c.start.ensures.time stands shown time c.in-Some.x.now
     answers c.push.new.self)
 
 pub returns : goal.returns
@@ -130,12 +138,16 @@ returns g c =
     (subst (λ (v : FieldState). FieldIsShown c.args.t v due c.args.place) (sym c.self.view_is) c.requires.shown) in
     let stands : at due i SendingStart ≡ Some c.args.t = ap (λ (k : ℕ). at due k SendingStart) c.from.ensures ∙ c.requires.stands in
     let time : IsTime w.medium c.args.t = subst (λ (v : FieldState). IsTime v.medium c.args.t) (sym c.self.view_is) c.requires.time in
-    let answers : (made : Made) → device_after_start st.setup c.args.t (whole st made) ≡ whole c.begin.new.self (with_sent (Some c.in-Some.x) made) =
-    λ made. c.begin.ensures.whole made ∙ ap (λ (r : Option Sending). whole c.begin.new.self (with_sent r made)) c.in-Some.is in
+    let answers : (made : Made) → device_after_start st.setup c.args.t (whole st made) ≡ whole c.start.new.self (with_sent (Some c.in-Some.x.now) made) =
+    λ made. c.start.ensures.whole made
+    ∙ ap (λ (b : Bool). whole c.start.new.self (with_sent (if b then c.start.new.self.sending else None) made)) c.if-not-start.false
+    ∙ ap (λ (r : Option Sending). whole c.start.new.self (with_sent r made)) (sym c.sending.ensures ∙ ap option_copied c.in-Some.is) in
+    let x = c.in-Some.x.now in
+    let logged : List ℕ → List Entry = λ bytes. w.air ++ Sent (record { rank = x.rank; node = x.node; start = x.start; end = x.end; packet = bytes }) ∷ [] in
     on_ok_weaker c.push.result (λ pushed.
     as_given c.args.t i c.args.place w c.args.self.now due _ _ _ c.self.view_is c.from.ensures
-    (c.set.ensures ∙ ap (λ (q : List Due). changed q c.args.place SendingEnd (Some c.in-Some.x.end)) c.clear.ensures
-    ∙ ap (λ (k : ℕ). changed (changed due k SendingStart None) k SendingEnd (Some c.in-Some.x.end)) (sym c.from.ensures))
-    (has_begun c.args.t i w c.self.invariant due st c.begin.new.self
-    (read_there c.args.t w due i st shown c.index_mut-device.ensures.value) c.begin.ensures.node c.begin.ensures.time stands shown time c.in-Some.x answers
-    c.start.new.self c.start.ensures.state c.start.ensures.holds c.push.new.self pushed)) c.push.ensures.ok
+    (c.set.ensures ∙ ap (λ (q : List Due). changed q c.args.place SendingEnd (Some c.in-Some.x.now.end)) c.clear.ensures
+    ∙ ap (λ (k : ℕ). changed (changed due k SendingStart None) k SendingEnd (Some c.in-Some.x.now.end)) (sym c.from.ensures))
+    (has_begun c.args.t i w c.self.invariant due st c.start.new.self
+    (read_there c.args.t w due i st shown c.index_mut-device.ensures.value) c.start.ensures.node c.start.ensures.time stands shown time c.in-Some.x.now answers
+    c.start-2.new.self c.start-2.ensures.state c.start-2.ensures.holds c.push.new.self (pushed ∙ ap logged c.copy.ensures))) c.push.ensures.ok

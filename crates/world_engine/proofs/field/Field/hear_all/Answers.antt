@@ -1,10 +1,22 @@
-use Rattle.std.proofs.Common.{[], sym, ◌∙◌, arith}
+use Rattle.std.proofs.Common.{◌≡◌, ℕ, List, [], map, sym, subst, ◌∙◌, arith}
+use Rattle.std.proofs.lemmas.List.{nil_from_length}
 use Rattle.world_engine.specs.Fields.{ids_of}
+use Rattle.world_engine.specs.FieldHearings.{StandAtPlaces}
 use Rattle.world_engine.specs.FieldSteps.{readings_at}
 use Rattle.world_engine.proofs.HearersAtPlaces.{no_places}
 use Rattle.world_engine.proofs.HearersTold.{none_hear}
 use Rattle.world_engine.proofs.HearingLoop.{some_there, known_hearer, place_below, hearer_shown, heard_next, reads_there}
 use Rattle.world_engine.proofs.field.Field.hear_all.Goals as goal
+
+pub returns-then-count-eq0 : goal.returns-then-count-eq0
+returns-then-count-eq0 g c =
+    let ids = ids_of c.args.self.now in
+    let none : c.args.hearers.now ≡ [] = nil_from_length c.args.hearers.now (omega (arith, c.count.ensures.value, c.if-count-eq0.true)) in (
+      [],
+      subst (λ (l : List (ℕ × ℕ)). StandAtPlaces ids (map {A = ℕ × ℕ} {B = ℕ} (λ p. p.0) l) []) (sym none) (no_places ids),
+      none_hear (readings_at g.C.DriftClock.readings c.args.clocks.now) c.args.x.now.end c.args.x.now c.args.self.now
+          (g.Q.Orders.map c.args.orders.now) c.requires.time,
+    )
 
 pub loop-i-init : goal.loop-i-init
 loop-i-init g c = (
