@@ -139,7 +139,7 @@ module _ (s : Setup) (set : IsSetup s) where
         kept = is.kept;
       }
 
-  scanning : (c : Core) (r w : ℕ) → IsCore s c → r < s.ranks → w ≤ 11 → IsCore s (record c { tune = Scan r w; own_slot = None })
+  scanning : (c : Core) (r w : ℕ) → IsCore s c → r < s.ranks → w < 12 → IsCore s (record c { tune = Scan r w; own_slot = None })
   scanning c r w is rank waited = with_tune c (Scan r w) is rank waited (λ other. absurd (cc)) (λ host. absurd (cc))
 
   hosting : (c : Core) (r due : ℕ) → IsCore s c → r < s.ranks → s.own ≡ Some r → IsCore s (new_host s.profile r (record c {
@@ -175,7 +175,7 @@ module _ (s : Setup) (set : IsSetup s) where
       (λ missed. scanning c r 0 is rank (omega arith))
   frame_by f c (Scan r w) at is =
       let rank : r < s.ranks = subst (λ (t : Tune). rank_of t < s.ranks) at is.rank in
-      let waited : w ≤ 11 = subst HasWaited at is.waited in
+      let waited : w < 12 = subst HasWaited at is.waited in
       let rest : Tune = if w + 1 == 12 then Scan ((r + 1) % s.ranks) 0 else Scan r (w + 1) in
       let own : Tune = if is_rank s.own r && (w + 1 == 5) then Host r (f + 1) else rest in
       cond_both (is_fresh c) (Scan r 0) own (After c (Scan r w))

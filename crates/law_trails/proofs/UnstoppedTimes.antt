@@ -53,7 +53,7 @@ module _ (p : Numbers) (b : Budget) (fits : Fits p b) where
   turn_sum L clock t within = omega (arith, no_stop_reading p b fits L clock t within)
 
   pub turned_near : (L : ℕ → ℕ) → IsClock L → (t : ℕ) → t ≤ 4096 * p.frame → Near (due L (L t + p.turn)) (t + p.turn) 1
-  turned_near L clock t within = turn L p.turn t clock (omega arith) fits.turn_short (omega (arith, no_stop_reading p b fits L clock t within))
+  turned_near L clock t within = turn L p.turn t clock (omega arith) (omega (arith, fits.turn_short)) (omega (arith, no_stop_reading p b fits L clock t within))
 
   pub relay_is : (L : ℕ → ℕ) → IsClock L → (t : ℕ) → t ≤ 4096 * p.frame → relay_tick p L t ≡ due L (L t + p.turn)
   relay_is L clock t within =

@@ -1,6 +1,7 @@
 -- The life of the host of a rank, step by step: when it is on, what it opens and closes, and what it plans by that.
-use Rattle.std.specs.Prelude.{◌≡◌, ⊤, ℕ, ◌+◌, ◌<◌, ◌≤◌, ◌⊎◌, List, [], ◌∷◌, ◌++◌, Bool, true, false, Some, Contains, if◌then◌else◌}
+use Rattle.std.specs.Prelude.{◌≡◌, ⊤, ℕ, ◌+◌, ◌-◌, ◌<◌, ◌≤◌, ◌⊎◌, List, [], ◌∷◌, ◌++◌, Bool, true, false, Some, Contains, if◌then◌else◌}
 use Rattle.lwb_base.specs.Messages.{Plan}
+use Rattle.lwb_base.specs.declared.limits.TheConstants.{GREATEST_GAP, QUIET_FRAMES}
 use Rattle.bus_rules.specs.declared.tune.Tune.{Tune}
 use Rattle.bus_rules.specs.declared.tune.Tune.TheVariants.{Scan, Hold, Host}
 use Rattle.bus_rules.specs.Tuning.{hosts, next_tune}
@@ -50,7 +51,7 @@ abbrev pub MayCome : ℕ → Life → Step → Type 0
 MayCome rank l (ComesOn frame) = (l.on ≡ false) × (l.frame ≤ frame)
 MayCome rank l (GoesOff frame) = (l.on ≡ true) × (l.frame ≤ frame) × IsPast l frame
 MayCome rank l Opens = (l.on ≡ true) × (l.tune ≡ Host rank l.frame)
-MayCome rank l (Closes gap plan) = (l.on ≡ true) × (l.tune ≡ Host rank l.frame) × (1 ≤ gap) × (gap ≤ 4)
+MayCome rank l (Closes gap plan) = (l.on ≡ true) × (l.tune ≡ Host rank l.frame) × (1 ≤ gap) × (gap ≤ GREATEST_GAP)
 MayCome rank l (Holds r due) = (l.on ≡ true) × (hosts l.tune ≡ false)
 MayCome rank l (Ends joined plan) = (l.on ≡ true) × (l.tune ≡ Host rank l.frame → ⊥)
 
@@ -84,7 +85,7 @@ AllMayCome rank ranks l (x ∷ xs) = MayCome rank l x × AllMayCome rank ranks (
 pub record HostsQuietly (rank : ℕ) (l : Life) (r due : ℕ) : Type 0 where
   pub own : r ≡ rank
   pub ahead : l.frame ≤ due
-  pub waited : l.boot + 5 ≤ due
+  pub waited : l.boot + QUIET_FRAMES ≤ due
   pub closed : (c : ClosingMade) → Contains l.closings c → c.frame + c.gap ≤ due
   pub planned : (c : ClosingMade) → Contains l.closings c → c.frame + c.gap ≡ due → c.plan ≡ l.plan
   pub unclosed : due ≡ l.frame → (c : ClosingMade) → Contains l.closings c → c.frame < l.frame
@@ -103,7 +104,7 @@ ByPower rank l false = IsPast l l.frame
 pub record Quiet (rank : ℕ) (l : Life) : Type 0 where
   pub opened : (o : OpeningMade) → Contains l.openings o → o.frame ≤ l.frame
   pub closed : (c : ClosingMade) → Contains l.closings c → c.frame ≤ l.frame
-  pub gaps : (c : ClosingMade) → Contains l.closings c → (1 ≤ c.gap) × (c.gap ≤ 4)
+  pub gaps : (c : ClosingMade) → Contains l.closings c → (1 ≤ c.gap) × (c.gap ≤ GREATEST_GAP)
   pub one_opening : (o e : OpeningMade) → Contains l.openings o → Contains l.openings e → o.frame ≡ e.frame → o.plan ≡ e.plan
   pub one_closing : (c d : ClosingMade) → Contains l.closings c → Contains l.closings d → c.frame ≡ d.frame → c ≡ d
   pub apart : (c d : ClosingMade) → Contains l.closings c → Contains l.closings d → c.frame < d.frame → c.frame + c.gap ≤ d.frame
@@ -137,9 +138,10 @@ HostsAreQuiet = (rank ranks : ℕ) (xs : List Step) → AllMayCome rank ranks ne
 abbrev pub OnePlan : Type 0
 OnePlan = (rank : ℕ) (l : Life) → Quiet rank l → (frame : ℕ) (p q : Plan) → PlansFor l frame p → PlansFor l frame q → p ≡ q
 
--- after it went off in frame b nothing holds that it said before for more than 3 frames, and it says nothing for 5
+-- after it went off in frame b nothing holds that it said before for as long as a greatest gap, and it says nothing for QUIET_FRAMES
 abbrev pub QuietPeriod : Type 0
 QuietPeriod = (rank ranks b : ℕ) (xs ys : List Step) → AllMayCome rank ranks newborn (xs ++ GoesOff b ∷ ys)
     → ((y : Step) → Contains ys y → SaysNothing y)
     → let l : Life = after_steps rank ranks newborn (xs ++ GoesOff b ∷ ys) in
-    ((c : ClosingMade) → Contains l.closings c → c.frame + c.gap ≤ b + 3) × (hosts l.tune ≡ true → l.on ≡ true → l.tune ≡ Host rank l.frame → b + 5 ≤ l.frame)
+    ((c : ClosingMade) → Contains l.closings c → c.frame + c.gap ≤ b + (GREATEST_GAP - 1))
+    × (hosts l.tune ≡ true → l.on ≡ true → l.tune ≡ Host rank l.frame → b + QUIET_FRAMES ≤ l.frame)

@@ -1,6 +1,7 @@
 -- A node and its window in their ranges.
 use Rattle.std.specs.Prelude.{◌≡◌, ℕ, ◌<◌, ◌≤◌, ◌⊎◌, List, true, false, length, ⊤}
 use Rattle.std.specs.Option.{IfSome}
+use Rattle.lwb_base.specs.declared.limits.TheConstants.{LAST_FRAME}
 use Rattle.lwb_packets.specs.declared.kind.Kind.{Kind}
 use Rattle.glossy_relay.specs.FloodState.{FloodState}
 use Rattle.glossy_relay.specs.Relaying.{is_spelling, slot_of}
@@ -52,5 +53,5 @@ IsInStage s f c (InWindow j w) = IsOpenInRange s f c j w
 
 pub record IsNodeInRange (s : Setup) (n : Node) : Type 0 where
   pub core : IsCore s n.core
-  pub frame : n.frame ≤ 16777215
+  pub frame : n.frame ≤ LAST_FRAME
   pub stage : IsInStage s n.frame n.core n.stage

@@ -2,6 +2,7 @@
 -- transmission in its flood.
 use Rattle.std.specs.Prelude.{◌≡◌, ℕ, ◌+◌, ◌*◌, ◌≤◌, max}
 use Rattle.lwb_base.specs.Profile.{Numbers, step}
+use Rattle.lwb_base.specs.declared.limits.TheConstants.{LAST_STEP}
 use Rattle.tick_clock.specs.Clocks.{Near, due}
 use Rattle.time_reference.specs.Reference.{stopped}
 use Rattle.time_reference.specs.Zeros.{opening_offset, starting_offset, closing_offset, tick_at_offset}
@@ -21,5 +22,5 @@ relay_tick p own t = max (due own (stopped (own t + p.turn))) t
 -- a transmission of n bytes with counter k starts at s in the flood that a node with this clock and zero begins in slot j: k
 -- steps after it, but for k ticks
 pub record InFlood (p : Numbers) (own : ℕ → ℕ) (z j n k s : ℕ) : Type 0 where
-  pub few : k ≤ 11
+  pub few : k ≤ LAST_STEP
   pub near : Near s (tick_at_offset own z (starting_offset p j) + k * step p n) k

@@ -2,6 +2,7 @@
 use Rattle.std.specs.Prelude.{◌≡◌, ⊤, ℕ, ◌≤◌, true, List, length, Some}
 use Rattle.lwb_base.specs.Profile.{Numbers}
 use Rattle.lwb_base.specs.Messages.{Schedule}
+use Rattle.lwb_base.specs.declared.limits.TheConstants.{GREATEST_GAP, LAST_STEP}
 use Rattle.lwb_packets.specs.declared.kind.Kind as Kind
 use Rattle.glossy_relay.specs.FloodState.{kind_named}
 use Rattle.glossy_relay.specs.Relaying.{is_spelling, slot_of, counter_of}
@@ -16,7 +17,7 @@ kind_of_message (RequestOf a) = Kind.TheVariants.Request
 
 -- what the bytes of a packet are that says this message
 pub record IsPacketOf (m : Message) (p : List ℕ) : Type 0 where
-  pub counter : counter_of p ≤ 11
+  pub counter : counter_of p ≤ LAST_STEP
   pub place : MaySay (slot_of p) m
   pub spelled : is_spelling (kind_of_message m) p ≡ true
   pub named : kind_named p ≡ kind_of_message m
@@ -32,7 +33,7 @@ pub record SaysOfKind (kind : Kind.Kind) (p : List ℕ) : Type 0 where
 -- contention slot before it
 pub record IsInSlot (slot : ℕ) (x : Schedule) : Type 0 where
   pub rank : x.plan.rank ≤ 3
-  pub gap : x.gap ≤ 4
+  pub gap : x.gap ≤ GREATEST_GAP
   pub owners : length x.plan.owners ≤ 40
   pub opening : x.gap ≡ 0 → slot ≡ 0
   pub closing : 1 ≤ x.gap → 2 ≤ slot

@@ -3,6 +3,7 @@ use Rattle.std.specs.Prelude.{◌≡◌, ℕ, ◌≤◌, true, length}
 use Rattle.std.specs.List.{list_all}
 use Rattle.lwb_base.specs.Messages.{Plan}
 use Rattle.lwb_base.specs.Profile.{Numbers}
+use Rattle.lwb_base.specs.declared.limits.TheConstants.{GREATEST_GAP}
 use Rattle.schedule_codec.specs.AckLists.{are_acks, ask_in_range}
 use Rattle.schedule_codec.specs.OwnerLists.{are_owners}
 use Rattle.schedule_codec.specs.Spelling.{most_acks}
@@ -26,6 +27,6 @@ pub record IsHostPlan (p : Numbers) (own host : ℕ) (h : HostPlan) : Type 0 whe
   pub rank : h.plan.rank ≡ own
   pub boot : h.plan.boot ≡ host
   pub contend : h.plan.contend ≡ p.contend
-  pub gap : (1 ≤ h.gap) × (h.gap ≤ 4)
+  pub gap : (1 ≤ h.gap) × (h.gap ≤ GREATEST_GAP)
   pub table : IsTable h.table
   pub streams : AreStreams p h.streams

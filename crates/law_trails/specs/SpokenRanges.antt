@@ -1,6 +1,7 @@
 -- What is said on the air: packets that are spellings, of messages in their ranges, and what a profile has room for.
 use Rattle.std.specs.Prelude.{◌≡◌, ℕ, ◌≤◌, List, true, Some, length}
 use Rattle.lwb_base.specs.Profile.{Numbers}
+use Rattle.lwb_base.specs.declared.limits.TheConstants.{LAST_STEP}
 use Rattle.glossy_relay.specs.Relaying.{is_packet, slot_of, counter_of}
 use Rattle.bus_rules.specs.Slots.{Message}
 use Rattle.lwb_member.specs.Said.{message_of, MaySay}
@@ -16,7 +17,7 @@ pub record IsSpoken (p : Numbers) (q : List ℕ) : Type 0 where
   pub packet : is_packet q ≡ true
   pub least : 7 ≤ length q
   pub most : length q ≤ p.packet_max
-  pub counter : counter_of q ≤ 11
+  pub counter : counter_of q ≤ LAST_STEP
   pub says : SaysInItsSlot q
 
 -- the profile has room for the packet, and what it says, if it says something, is of the profile

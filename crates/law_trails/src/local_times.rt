@@ -7,6 +7,7 @@
 ghost use Rattle.std.specs.Prelude.{◌≡◌, ℕ, ◌+◌, ◌*◌, ◌/◌, ◌<◌, ◌≤◌, List, Some, length};
 ghost use Rattle.lwb_base.specs.Profile.{Numbers, IsProfile, airtime, step};
 ghost use Rattle.lwb_base.specs.Messages.{Schedule};
+ghost use Rattle.lwb_base.specs.declared.limits.TheConstants.{GREATEST_GAP, LAST_STEP};
 ghost use Rattle.tick_clock.specs.Clocks.{Near, IsClock, due};
 ghost use Rattle.time_reference.specs.Budgets.{Budget, Fits, budget_of, span};
 ghost use Rattle.time_reference.specs.Drift.{drift};
@@ -19,20 +20,20 @@ ghost use Rattle.node_core.specs.Nodes.{zero_of_host, frame_alarm, stopped_frame
 ghost use Rattle.law_trails.specs.NodeTimes.{AreSums, InFlood, relay_tick};
 ghost use Rattle.law_trails.specs.PacketKinds.{IsOfProfile};
 
-/// By a zero that is good, each time of a slot is the zero plus the time's offset. A good zero is of a frame up to
-/// 4,099.
+/// By a zero that is good, each time of a slot is the zero plus the time's offset. A good zero is of a frame up to the greatest gap after
+/// frame 4,095.
 pub fn times_of_slots_are_sums()
     ensures { (p : Numbers) (b : Budget) → Fits p b → (host own : ℕ → ℕ) (z f from j : ℕ) → IsClock host
         → IsClock own → Good p b host own z f from → j ≤ b.last → AreSums p z j }
 {}
 
-/// So are a host's zero and the alarm of a frame, up to frame 4,100: a host closes its last round in frame 4,095 with a
-/// gap of at most 4. Frame numbers count on there, and a node that boots at the start of a frame finds its number.
+/// So are a host's zero and the alarm of a frame, up to a greatest gap after frame 4,096: a host closes its last round in frame 4,095 with a
+/// gap of at most `GREATEST_GAP`. Frame numbers count on there, and a node that boots at the start of a frame finds its number.
 pub fn times_of_frames_are_sums()
-    ensures zero { (p : Numbers) (b : Budget) → Fits p b → (f : ℕ) → f ≤ 4100 → zero_of_host p f ≡ host_zero p f }
-    ensures alarm { (p : Numbers) (b : Budget) → Fits p b → (f : ℕ) → f ≤ 4100
+    ensures zero { (p : Numbers) (b : Budget) → Fits p b → (f : ℕ) → f ≤ 4096 + GREATEST_GAP → zero_of_host p f ≡ host_zero p f }
+    ensures alarm { (p : Numbers) (b : Budget) → Fits p b → (f : ℕ) → f ≤ 4096 + GREATEST_GAP
         → frame_alarm p f ≡ f * p.frame + p.end }
-    ensures next { (f : ℕ) → f ≤ 4100 → stopped_frame (f + 1) ≡ f + 1 }
+    ensures next { (f : ℕ) → f ≤ 4096 + GREATEST_GAP → stopped_frame (f + 1) ≡ f + 1 }
     ensures boot { (p : Numbers) (b : Budget) → Fits p b → (own : ℕ → ℕ) → IsClock own → (f : ℕ) → f ≤ 4095
         → stopped_frame ((own (f * p.frame) + p.lead) / p.frame) ≡ f }
 {}
@@ -47,7 +48,7 @@ pub fn hosts_start_at_nominal_times()
 /// (`any`). Every schedule of a profile does so with the profile's budget (`of_profile`).
 pub fn schedules_heard_whole_give_references()
     ensures any { (p : Numbers) (b : Budget) → Fits p b → (host own : ℕ → ℕ) (c s e : ℕ) (q : List ℕ) → IsClock host
-        → IsClock own → 1 ≤ c → c ≤ 4095 → slot_of q ≤ b.last → counter_of q ≤ 11 → length q ≤ b.packet
+        → IsClock own → 1 ≤ c → c ≤ 4095 → slot_of q ≤ b.last → counter_of q ≤ LAST_STEP → length q ≤ b.packet
         → drift (span p (length q) + 11) + 12 ≤ 55
         → Near s (start_tick p host c (slot_of q) + counter_of q * step p (length q)) (counter_of q)
         → e ≡ s + airtime p (length q) → Ref p b host own (zero_from p (own e) q) c c (slot_of q) }
@@ -58,19 +59,19 @@ pub fn schedules_heard_whole_give_references()
         → e ≡ s + airtime p (length q) → Ref p (budget_of p) host own (zero_from p (own e) q) c c (slot_of q) }
 {}
 
-/// A reference moves on by gaps, up to four frames past the frame in which it was taken (`moved`), and the sum does not stop
+/// A reference moves on by gaps, up to the greatest gap past the frame in which it was taken (`moved`), and the sum does not stop
 /// (`sum`). One that was taken in slot j of frame c is good at once from the closing of the window of that slot on (`now`), and
 /// by the gap of a closing schedule from the beginning of the round that is due then (`ahead`).
 pub fn references_move_on_by_gaps()
     ensures moved { (p : Numbers) (b : Budget) → Fits p b → (host own : ℕ → ℕ) (z f c j g : ℕ) → IsClock host
-        → IsClock own → Ref p b host own z f c j → f + g ≤ c + 4
+        → IsClock own → Ref p b host own z f c j → f + g ≤ c + GREATEST_GAP
         → Ref p b host own (stopped (z + g * p.frame)) (f + g) c j }
     ensures sum { (p : Numbers) (b : Budget) → Fits p b → (host own : ℕ → ℕ) (z f c j g : ℕ) → IsClock host
-        → IsClock own → Ref p b host own z f c j → f + g ≤ c + 4 → stopped (z + g * p.frame) ≡ z + g * p.frame }
+        → IsClock own → Ref p b host own z f c j → f + g ≤ c + GREATEST_GAP → stopped (z + g * p.frame) ≡ z + g * p.frame }
     ensures now { (p : Numbers) (b : Budget) → Fits p b → (host own : ℕ → ℕ) (z c j : ℕ) → Ref p b host own z c c j
         → Good p b host own z c (closing_offset p j) }
     ensures ahead { (p : Numbers) (b : Budget) → Fits p b → (host own : ℕ → ℕ) (z c j g : ℕ) → IsClock host
-        → IsClock own → Ref p b host own z c c j → 1 ≤ g → g ≤ 4
+        → IsClock own → Ref p b host own z c c j → 1 ≤ g → g ≤ GREATEST_GAP
         → Good p b host own (stopped (z + g * p.frame)) (c + g) 0 }
 {}
 
@@ -110,7 +111,7 @@ pub fn sendings_keep_to_their_slot()
         → InFlood p first y j n k s → s + airtime p n < (f + 1) * p.frame }
     ensures relay { (p : Numbers) (b : Budget) → Fits p b → (host first own : ℕ → ℕ) (y f j n k s t : ℕ)
         → IsClock host → IsClock first → IsClock own → j ≤ b.last → n ≤ b.packet → f ≤ 4095
-        → Good p b host first y f (starting_offset p j) → InFlood p first y j n k s → k < 11 → t ≡ s + airtime p n
+        → Good p b host first y f (starting_offset p j) → InFlood p first y j n k s → k < LAST_STEP → t ≡ s + airtime p n
         → InFlood p first y j n (k + 1) (relay_tick p own t) }
     ensures later { (p : Numbers) (b : Budget) → Fits p b → (host first other : ℕ → ℕ) (y z f i j n m k l s t : ℕ)
         → IsClock host → IsClock first → IsClock other → i < j → j ≤ b.last → n ≤ b.packet

@@ -3,6 +3,7 @@
 ghost use Rattle.std.specs.Prelude.{◌≡◌, ℕ, ◌+◌, ◌<◌, ◌≤◌, List, All, true, Some, is_some, length, slice_set};
 ghost use Rattle.lwb_base.specs.Profile.{Numbers, IsProfile};
 ghost use Rattle.lwb_base.specs.Messages.{Schedule};
+ghost use Rattle.lwb_base.specs.declared.limits.TheConstants.{LAST_STEP};
 ghost use Rattle.lwb_packets.specs.Body.{body};
 ghost use Rattle.lwb_packets.specs.declared.kind.Kind.{Kind};
 ghost use Rattle.time_reference.specs.Budgets.{budget_of, span};
@@ -13,19 +14,19 @@ ghost use Rattle.bus_rules.specs.Slots.{Message, ScheduleOf};
 ghost use Rattle.lwb_member.specs.Said.{MaySay, bytes_of, message_of};
 ghost use Rattle.law_trails.specs.PacketKinds.{IsPacketOf, SaysOfKind, IsInSlot, IsOfProfile};
 
-/// A packet says the same with every counter up to 11 (`again`). So the relay of a packet says what the packet says
+/// A packet says the same with every counter up to `LAST_STEP` (`again`). So the relay of a packet says what the packet says
 /// (`relay`), and two packets that are equal but for their counters say the same (`bodies`).
 pub fn counters_say_nothing()
-    ensures again { (q : List ℕ) (k : ℕ) → counter_of q ≤ 11 → k ≤ 11 → message_of (slice_set q 2 k) ≡ message_of q }
-    ensures relay { (q : List ℕ) → counter_of q < 11 → message_of (relay_of q) ≡ message_of q }
-    ensures bodies { (q r : List ℕ) → counter_of q ≤ 11 → counter_of r ≤ 11 → body q ≡ body r
+    ensures again { (q : List ℕ) (k : ℕ) → counter_of q ≤ LAST_STEP → k ≤ LAST_STEP → message_of (slice_set q 2 k) ≡ message_of q }
+    ensures relay { (q : List ℕ) → counter_of q < LAST_STEP → message_of (relay_of q) ≡ message_of q }
+    ensures bodies { (q r : List ℕ) → counter_of q ≤ LAST_STEP → counter_of r ≤ LAST_STEP → body q ≡ body r
         → message_of q ≡ message_of r }
 {}
 
-/// What an initiator says is read back off its packet with every counter up to 11 (`message`), as are the slot in which
+/// What an initiator says is read back off its packet with every counter up to `LAST_STEP` (`message`), as are the slot in which
 /// it says it and the counter (`place`), which is 0 in the packet that is written (`first`).
 pub fn what_is_written_is_read_back()
-    ensures message { (m : Message) (j k : ℕ) → MaySay j m → k ≤ 11
+    ensures message { (m : Message) (j k : ℕ) → MaySay j m → k ≤ LAST_STEP
         → message_of (slice_set (bytes_of m j) 2 k) ≡ Some m }
     ensures place { (m : Message) (j k : ℕ)
         → (slot_of (slice_set (bytes_of m j) 2 k) ≡ j) × (counter_of (slice_set (bytes_of m j) 2 k) ≡ k) }
@@ -41,7 +42,7 @@ pub fn what_is_read_is_written_again()
         → slot_of q ≡ slot_of r → All (λ b. b < 256) q → All (λ b. b < 256) r → body q ≡ body r }
 {}
 
-/// What a packet says determines its kind and its length; it may be said in the packet's slot, and the counter is at most 11
+/// What a packet says determines its kind and its length; it may be said in the packet's slot, and the counter is at most `LAST_STEP`
 /// (`packet`). The packets of each kind say something of that kind (`kind`), and only packets say something (`some`). A
 /// schedule is in slot 0 where it opens its round, and after slot 1 where it closes it (`place`).
 pub fn messages_tell_of_their_packets()

@@ -64,7 +64,7 @@ pub fn host_plans_can_be_written()
         → IsTable t → AreStreams p s → IsHostPlan p rank boot (host_plan p node boot rank frame kept t s) }
 {}
 
-/// A packet that is a spelling has at least 7 bytes and a counter of at most 11, and says a message that may be said in
+/// A packet that is a spelling has at least 7 bytes and a counter of at most `LAST_STEP`, and says a message that may be said in
 /// its slot (`spelling`). So do a relay of such a packet (`relay`) and the bytes of a message that may be said (`own`).
 pub fn spellings_say_what_may_be_said()
     ensures spelling { (p : Numbers) (q : List ℕ) → is_packet q ≡ true → length q ≤ p.packet_max
