@@ -14,33 +14,35 @@ ghost use Rattle.host_return.specs.Transmissions.{AreSent, TransmissionsAreSearc
 ghost use Rattle.host_return.specs.declared.returned.Return.{Return as ReturnOf};
 
 use crate::Return;
-use crate::trails::{NodeTrail, probed_rank, probes, trails_of};
+use crate::trails::{NodeTrail, probed_rank, probes};
 use crate::transmissions::Transmissions;
 use air_log::Air;
 use lwb_base::{Memory, NodeId};
 use scenario_text::{Act, Scenario, ScriptLine};
 use std::alloc::Global;
 
-/// The least candidate in a run of `s`, by frame and then node, that isn't listed yet. `read` is the scenario that was read.
+/// The least candidate in a run of `s`, by frame and then node, that isn't listed yet, by the traces of the backup hosts in
+/// this run. `read` is the scenario that was read.
 pub(crate) fn next_return(
     alloc: Global,
     read: &Scenario,
     s: &Scenario,
     air: &Air,
+    trails: &[NodeTrail],
     listed: &[Return],
 ) -> Result<Option<Return>, Memory>
     requires lawful { Lawful s.now (scenario_clock s.now) air.now }
     requires frames { read.now.frames ≡ s.now.frames }
+    requires trails { trails.now ≡ all_trails s.now air.now }
     ensures some { IfOk result (λ o. IfSome o (IsNextReturn read.now s.now air.now listed.now)) }
     ensures none { IfOk result (λ o. IfNone o (AllListed read.now s.now air.now listed.now)) }
 {
-    let trails = trails_of(alloc, s, air)?;
-    if !is_some_idle(&trails, s.frames()) {
+    if !is_some_idle(trails, s.frames()) {
         return Ok(None);
     }
     let sent = Transmissions::of(alloc, air)?;
     for frame in 0..s.frames() {
-        if let Some(next) = next_in_frame(read, s, &trails, &sent, listed, frame) {
+        if let Some(next) = next_in_frame(read, s, trails, &sent, listed, frame) {
             return Ok(Some(next));
         }
     }

@@ -1,17 +1,18 @@
 //! Runs a scenario again and again, with one return more each time.
 
-ghost use Rattle.std.specs.Prelude.{◌≡◌, true, false, Ok, IfOk};
-ghost use Rattle.scenario_text.specs.ScenarioGrammar.{IsScenario};
+ghost use Rattle.std.specs.Prelude.{◌≡◌, [], List, true, false, Ok, IfOk};
 ghost use Rattle.scenario_clocks.specs.StatedClocks.{scenario_clock};
 ghost use Rattle.air_log.specs.Lawful.{Lawful};
 ghost use Rattle.air_log.specs.Safe.{Safe};
+ghost use Rattle.air_log.specs.declared.entry.Entry.{Entry as EntryOf};
 ghost use Rattle.host_return.specs.AfterReturns.{AllProbed, AllQuiet};
-ghost use Rattle.host_return.specs.Courses.{IsOneMore};
+ghost use Rattle.host_return.specs.Courses.{IsFollowed, IsOneMore};
+ghost use Rattle.host_return.specs.NodeTrails.{all_trails};
 ghost use Rattle.host_return.specs.Returned.{ReturnsEnd, IsReturned, counts_in};
 
 use crate::candidates::next_return;
 use crate::restart::lines_of;
-use crate::trails::{probes, trails_of};
+use crate::trails::{NodeTrail, probes, trails_of};
 use crate::{Return, Returned, Runner};
 use air_log::Air;
 use lwb_base::{Memory, NodeId};
@@ -19,8 +20,8 @@ use scenario_text::{Scenario, with_script};
 use std::alloc::Global;
 
 /// Follows the returns of a scenario, at most 16: in each run it takes the least candidate by frame and then node, and runs the
-/// scenario again with the script lines of that return. The only error is out of memory; after it the runner may hold
-/// anything.
+/// scenario again with the script lines of that return. What the runner keeps is of the last run. The only error is out of
+/// memory; after it the runner may hold anything.
 pub fn follow_returns<R: Runner>(
     alloc: Global,
     s: &Scenario,
@@ -30,14 +31,9 @@ pub fn follow_returns<R: Runner>(
     ensures safe { IfOk result (λ x. Safe x.scenario (scenario_clock x.scenario) x.air) }
     ensures probed { IfOk result AllProbed }
     ensures quiet { IfOk result AllQuiet }
+    ensures kept { IfOk result (λ x. R.kept runner.new x.scenario x.air) }
 {
-    let scenario = copied(alloc, s)?;
-    let air = runner.run(alloc, &scenario)?;
-    let mut course = Course {
-        scenario,
-        air,
-        returns: Vec::new(alloc),
-    };
+    let mut course = Course::first(alloc, s, runner)?;
     while course.returns.len() < 16 {
         if !course.go_back(alloc, s, runner)? {
             return course.finish(alloc);
@@ -46,15 +42,35 @@ pub fn follow_returns<R: Runner>(
     course.finish(alloc)
 }
 
-// The scenario with the lines of the returns so far, and a run of it.
+// The scenario with the lines of the returns so far, a run of it, and the traces of the backup hosts in that run.
 #[derive(Drop)]
 struct Course {
     scenario: Scenario,
     air: Air,
+    trails: Vec<NodeTrail>,
     returns: Vec<Return>,
 }
 
 impl Course {
+    // The scenario as it was read, with no return.
+    fn first<R: Runner>(alloc: Global, read: &Scenario, runner: &mut R) -> Result<Course, Memory>
+        ensures followed { IfOk result (IsFollowed read.now) }
+        ensures none { IfOk result (λ c. c.returns.items ≡ []) }
+        ensures kept { IfOk result (λ c. R.kept runner.new c.scenario c.air) }
+    {
+        let air = runner.run(alloc, read)?;
+        let trails = trails_of(alloc, read, &air)?;
+        let Some(scenario) = with_script(alloc, read, &[])? else {
+            unreachable!();
+        };
+        Ok(Course {
+            scenario,
+            air,
+            trails,
+            returns: Vec::new(alloc),
+        })
+    }
+
     // Takes one return more. It is `false` where there is none, or no room for its lines.
     fn go_back<R: Runner>(
         &mut self,
@@ -64,26 +80,33 @@ impl Course {
     ) -> Result<bool, Memory>
         requires lawful { Lawful self.old.scenario (scenario_clock self.old.scenario) self.old.air }
         requires frames { read.now.frames ≡ self.old.scenario.frames }
+        requires trails { self.old.trails.items ≡ all_trails self.old.scenario self.old.air }
         ensures more { result ≡ Ok true → IsOneMore read.now self.old self.new }
         ensures end { result ≡ Ok false → (self.new ≡ self.old) × ReturnsEnd read.now self.old.scenario self.old.air self.old.returns.items }
+        ensures kept { result ≡ Ok true → R.kept runner.new self.new.scenario self.new.air }
+        ensures no_run { result ≡ Ok false → runner.new ≡ runner.old }
     {
-        let Some(r) = next_return(alloc, read, &self.scenario, &self.air, &self.returns)? else {
+        let s = &self.scenario;
+        let Some(r) = next_return(alloc, read, s, &self.air, &self.trails, &self.returns)? else {
             return Ok(false);
         };
-        let lines = lines_of(alloc, &self.scenario, &r)?;
-        let Some(scenario) = with_script(alloc, &self.scenario, &lines)? else {
+        let lines = lines_of(alloc, s, &r)?;
+        let Some(scenario) = with_script(alloc, s, &lines)? else {
             return Ok(false);
         };
-        let _frames = scenario.frames();
+        let air = runner.run(alloc, &scenario)?;
+        let trails = trails_of(alloc, &scenario, &air)?;
         self.returns.push(r)?;
-        self.air = runner.run(alloc, &scenario)?;
+        self.air = air;
+        self.trails = trails;
         self.scenario = scenario;
         Ok(true)
     }
 
     // What came of it, with the counts of its run.
     fn finish(self, alloc: Global) -> Result<Returned, Memory>
-        requires { Lawful self.scenario (scenario_clock self.scenario) self.air }
+        requires lawful { Lawful self.scenario (scenario_clock self.scenario) self.air }
+        requires trails { self.trails.items ≡ all_trails self.scenario self.air }
         ensures { IfOk result (λ x. x ≡ record {
           scenario = self.scenario;
           returns = self.returns.items;
@@ -91,11 +114,12 @@ impl Course {
           counts = counts_in self.scenario self.air;
         }) }
     {
-        let counts = counts_of(alloc, &self.scenario, &self.air)?;
+        let counts = counts_of(alloc, &self.scenario, &self.trails)?;
         let Course {
             scenario,
             air,
             returns,
+            ..
         } = self;
         Ok(Returned {
             scenario,
@@ -106,28 +130,19 @@ impl Course {
     }
 }
 
-// In how many frames each node is idle.
-fn counts_of(alloc: Global, s: &Scenario, air: &Air) -> Result<Vec<(NodeId, u32)>, Memory>
-    requires { Lawful s.now (scenario_clock s.now) air.now }
-    ensures { IfOk result (λ counts. counts.items ≡ counts_in s.now air.now) }
+// In how many frames each node is idle, by the traces of a run.
+fn counts_of(
+    alloc: Global,
+    s: &Scenario,
+    trails: &[NodeTrail],
+) -> Result<Vec<(NodeId, u32)>, Memory>
+    ensures { (air : List EntryOf) → Lawful s.now (scenario_clock s.now) air → trails.now ≡ all_trails s.now air
+        → IfOk result (λ counts. counts.items ≡ counts_in s.now air) }
 {
     let frames = s.frames();
-    let trails = trails_of(alloc, s, air)?;
     let mut counts = Vec::new(alloc);
-    for trail in &trails {
+    for trail in trails {
         counts.push((trail.node, probes(&trail.trail, frames)))?;
     }
     Ok(counts)
-}
-
-// The same scenario again.
-fn copied(alloc: Global, s: &Scenario) -> Result<Scenario, Memory>
-    ensures same { IfOk result (λ t. t ≡ s.now) }
-    ensures said { IfOk result IsScenario }
-{
-    let _frames = s.frames();
-    match with_script(alloc, s, &[])? {
-        Some(copy) => Ok(copy),
-        None => unreachable!(),
-    }
 }

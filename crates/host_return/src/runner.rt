@@ -1,18 +1,24 @@
 //! Whatever runs scenarios.
 
-ghost use Rattle.std.specs.Prelude.{IfOk};
+ghost use Rattle.std.specs.Prelude.{List, IfOk};
+ghost use Rattle.scenario_text.specs.ScenarioParts.{ScenarioParts};
 ghost use Rattle.scenario_clocks.specs.StatedClocks.{scenario_clock};
 ghost use Rattle.air_log.specs.Lawful.{Lawful};
+ghost use Rattle.air_log.specs.declared.entry.Entry.{Entry as EntryOf};
 
 use air_log::Air;
 use lwb_base::Memory;
 use scenario_text::Scenario;
 use std::alloc::Global;
 
-/// Whatever runs a scenario over the clocks that it states.
+/// Whatever runs a scenario over the clocks that it states. It may keep something of its last run, and `kept` says what: by
+/// the scenario of that run, and by its log.
 pub trait Runner {
-    /// The log of a run of the scenario, which is valid (`Lawful`). The only error is out of memory; after it the runner may
-    /// hold anything.
+    ghost kept: { Self → ScenarioParts → List EntryOf → Type 0 };
+
+    /// The log of a run of the scenario, which is valid (`Lawful`). The runner keeps what it does of this run. The only error
+    /// is out of memory; after it the runner may hold anything.
     fn run(&mut self, alloc: Global, s: &Scenario) -> Result<Air, Memory>
-        ensures { IfOk result (Lawful s.now (scenario_clock s.now)) };
+        ensures lawful { IfOk result (Lawful s.now (scenario_clock s.now)) }
+        ensures kept { IfOk result (kept self.new s.now) };
 }

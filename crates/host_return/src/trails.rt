@@ -4,6 +4,7 @@ ghost use Rattle.std.specs.Prelude.{◌≡◌, ◌%◌, ◌&&◌, IfOk, slice_ge
 ghost use Rattle.std.specs.List.{range_with_len};
 ghost use Rattle.std.specs.Option.{option_flatten};
 ghost use Rattle.bus_rules.specs.Cores.{own_rank as own_rank_of};
+ghost use Rattle.scenario_text.specs.ScenarioGrammar.{IsScenario};
 ghost use Rattle.air_log.specs.Lawful.{heard_by};
 ghost use Rattle.air_log.specs.TrailsTold.{trail_told};
 ghost use Rattle.host_return.specs.NodeTrails.{all_trails, is_backup as is_backup_of, probed_by};
@@ -26,7 +27,8 @@ pub(crate) struct NodeTrail {
 
 /// Those of all nodes, by ascending ids.
 pub(crate) fn trails_of(alloc: Global, s: &Scenario, air: &Air) -> Result<Vec<NodeTrail>, Memory>
-    ensures { IfOk result (λ trails. trails.items ≡ all_trails s.now air.now) }
+    ensures all { IfOk result (λ trails. trails.items ≡ all_trails s.now air.now) }
+    ensures said { IfOk result (λ trails. IsScenario s.now) }
 {
     let nodes = s.nodes();
     let clocks = stated_clocks(alloc, nodes, s.rates())?;

@@ -6,6 +6,7 @@ ghost use Rattle.air_log.specs.ClockLists.{clocks_by};
 ghost use Rattle.world_engine.specs.Runs.{orders_left};
 ghost use Rattle.world_engine.specs.Worlds.{new_world, core_of, HasEngineRun};
 
+use crate::RunParts;
 use crate::field::Field;
 use air_log::{Air, NodeCharge};
 use bus_rules::{Delivery, DropLine};
@@ -149,5 +150,27 @@ impl<'a, C: DriftClock> Engine<'a, C> {
     {
         let field = self.field;
         field.into_air()
+    }
+
+    /// The log of the run and its lists, and nothing else of the engine.
+    pub fn into_parts(self) -> RunParts
+        ensures air { result.air ≡ self.entry.0.air }
+        ensures deliveries { result.deliveries.items ≡ self.entry.0.deliveries }
+        ensures drops { result.drops.items ≡ self.entry.0.drops }
+        ensures charges { result.charges.items ≡ self.entry.0.charges }
+    {
+        let Engine {
+            field,
+            deliveries,
+            charges,
+            ..
+        } = self;
+        let (air, drops) = field.into_log();
+        RunParts {
+            air,
+            deliveries,
+            drops,
+            charges,
+        }
     }
 }

@@ -10,7 +10,7 @@ ghost use Rattle.air_log.specs.Deliveries.{delivery_comes_before};
 use crate::deliveries::sort_deliveries;
 use crate::field::Field;
 use air_log::{Air, Device, WindowSum};
-use bus_rules::Delivery;
+use bus_rules::{Delivery, DropLine};
 use lwb_base::{Memory, NodeId};
 use radio_model::Medium;
 use scenario_text::{NodeLine, Scenario};
@@ -72,6 +72,15 @@ impl Field {
         ensures { result ≡ self.air }
     {
         self.air
+    }
+
+    // The log, and the packets that were lost before they were queued.
+    pub(crate) fn into_log(self) -> (Air, Vec<DropLine>)
+        ensures air { result.0 ≡ self.air }
+        ensures drops { result.1.items ≡ self.drops }
+    {
+        let Field { air, drops, .. } = self;
+        (air, drops)
     }
 
     // How many places there are.

@@ -11,5 +11,7 @@ mod field_counts;
 mod field_ends;
 mod field_script;
 mod frames;
+mod run_parts;
 
 pub use engine::Engine;
+pub use run_parts::RunParts;

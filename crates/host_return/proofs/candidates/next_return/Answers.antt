@@ -16,7 +16,7 @@ loop-frame-preserved c =
     λ q candidate fresh less.
     elim (cases_lt q.frame c.loop-frame.frame) [
       | inl earlier ↦ c.loop-frame.invariant q candidate fresh earlier
-      | inr at ↦ c.in_default.ensures.none c.args.air.now c.requires.lawful (c.deref-in-loop-frame.ensures.value ∙ c.in_ok-trails.ensures) c.in_ok-sent.ensures.sent q candidate fresh
+      | inr at ↦ c.in_default.ensures.none c.args.air.now c.requires.lawful c.requires.trails c.in_ok-sent.ensures.sent q candidate fresh
           (omega (arith, less, at))
     ]
 
@@ -27,7 +27,7 @@ next_in_frame-requires-clause-early c =
 pub returns-in-Some-clause-some : goal.returns-in-Some-clause-some
 returns-in-Some-clause-some c =
     let r = c.in-Some.next in
-    let got = c.in-Some.ensures.some c.args.air.now c.requires.lawful (c.deref-in-loop-frame.ensures.value ∙ c.in_ok-trails.ensures) c.in_ok-sent.ensures.sent in
+    let got = c.in-Some.ensures.some c.args.air.now c.requires.lawful c.requires.trails c.in_ok-sent.ensures.sent in
     record {
       candidate = got.0;
       fresh = got.1;
@@ -42,7 +42,7 @@ returns-then-not-is_some_idle-clause-none c =
     let s = c.args.s.now in
     let air = c.args.air.now in
     let none : list_any (is_ever_idle s.frames) (all_trails s air) ≡ false =
-    subst (λ (ts : List NodeTrail). list_any (is_ever_idle s.frames) ts ≡ false) (c.deref.ensures.value ∙ c.in_ok-trails.ensures)
-    (subst (λ (k : ℕ). list_any (is_ever_idle k) c.deref.result.now ≡ false) c.frames.ensures.value
+    subst (λ (ts : List NodeTrail). list_any (is_ever_idle s.frames) ts ≡ false) c.requires.trails
+    (subst (λ (k : ℕ). list_any (is_ever_idle k) c.args.trails.now ≡ false) c.frames.ensures.value
     (sym c.is_some_idle.ensures ∙ c.if-not-is_some_idle.true)) in
     absurd (no_candidate c.args.read.now s air c.frames.ensures.said c.requires.lawful c.requires.frames q is none)

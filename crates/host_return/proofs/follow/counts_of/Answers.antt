@@ -9,7 +9,7 @@ use Rattle.host_return.proofs.follow.counts_of.Goals as goal
 pub loop-trail-preserved : goal.loop-trail-preserved
 loop-trail-preserved c =
     let s = c.args.s.now in
-    let xs = c.deref-trail-items.result.now in
+    let xs = c.args.trails.now in
     let t : NodeTrail = c.trail-item.result in
     let i = c.loop-trail.trail-index in
     let raw : c.push.new.self.items ≡ c.loop-trail.counts.items ++ (t.node, c.probes.result) ∷ [] = search rules in
@@ -22,10 +22,9 @@ loop-trail-preserved c =
 
 pub returns : goal.returns
 returns c =
+    λ air lawful is.
     let s = c.args.s.now in
-    let air = c.args.air.now in
     let past = c.loop-trail-test.false in
     c.loop-trail.invariant
-    ∙ ap (map (count_for s))
-    (take_all c.loop-trail.trail-index c.deref-trail-items.result.now (omega (arith, past)) ∙ c.deref-trail-items.ensures.value ∙ c.in_ok-trails.ensures)
-    ∙ counts_are s air c.frames-frames.ensures.said c.requires
+    ∙ ap (map (count_for s)) (take_all c.loop-trail.trail-index c.args.trails.now (omega (arith, past)) ∙ is)
+    ∙ counts_are s air c.frames-frames.ensures.said lawful

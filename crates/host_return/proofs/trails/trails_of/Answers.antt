@@ -32,8 +32,8 @@ loop-i-preserved c =
     pushed ∙ map_pushed (trail_for s air) nodes i n c.loop-i.trails.items one (omega arith) (ap (λ (d : NodeLine). get_or nodes i d) c.index-nodes-i.is)
     c.loop-i.invariant is
 
-pub returns : goal.returns
-returns c =
+pub returns-clause-all : goal.returns-clause-all
+returns-clause-all c =
     let s = c.args.s.now in
     let nodes = c.nodes-nodes.result.now in
     c.loop-i.invariant ∙ ap (map (trail_for s c.args.air.now)) (take_all c.loop-i.i nodes (omega arith) ∙ c.nodes-nodes.ensures.value)

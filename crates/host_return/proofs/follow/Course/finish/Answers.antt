@@ -1,0 +1,8 @@
+use Rattle.std.proofs.Common.{ℕ, List, ap, ◌∙◌}
+use Rattle.host_return.proofs.follow.Course.finish.Goals as goal
+
+pub returns : goal.returns
+returns c =
+    let k = c.args.self in
+    ap (λ (cs : List (ℕ × ℕ)). record { scenario = k.scenario; returns = k.returns.items; air = k.air; counts = cs })
+    (c.in_ok-counts.ensures k.air c.requires.lawful (c.deref.ensures.value ∙ c.requires.trails))
