@@ -13,7 +13,6 @@ use Rattle.air_log.specs.Courses.{hearing_of}
 use Rattle.air_log.specs.DeviceStates.{tuning_of}
 use Rattle.air_log.specs.Entries.{sending_in, hearing_in, tuning_in, node_of_entry}
 use Rattle.air_log.specs.Lawful.{sent_by, hearings_by, tuned_by}
-use Rattle.air_log.specs.TrailsTold.{sending_of_entry}
 use Rattle.air_check.specs.NodeLogs.{NodeLogState, empty_node_log, log_by, after_entry, AreLogsOf}
 
 -- what is picked of one entry more
@@ -37,12 +36,12 @@ log xs hs ts = record { sent = xs; heard = hs; tuned = ts }
 pub log_more : (air : List Entry) (e : Entry) (v : ℕ) → log_by (air ++ e ∷ []) v ≡ (if node_of_entry e == v then after_entry (log_by air v) e else log_by air v)
 log_more air (Sent x) v =
     rw (
-      one sending_in (λ (y : Sending). y.node == v) air (Sent x) (sending_of_entry x) refl,
+      one sending_in (λ (y : Sending). y.node == v) air (Sent x) x refl,
       none hearing_in (λ (h : Hearing). h.node == v) air (Sent x) refl,
       none tuning_in (λ (t : Tuning). t.node == v) air (Sent x) refl,
     ) (by_test (x.node == v))
   where
-    by_test : (b : Bool) → log (sent_by air v ++ (if b then sending_of_entry x ∷ [] else [])) (hearings_by air v) (tuned_by air v)
+    by_test : (b : Bool) → log (sent_by air v ++ (if b then x ∷ [] else [])) (hearings_by air v) (tuned_by air v)
         ≡ (if b then after_entry (log_by air v) (Sent x) else log_by air v)
     by_test true = refl
     by_test false = ap (λ (xs : List Sending). log xs (hearings_by air v) (tuned_by air v)) (append-nil (sent_by air v))

@@ -13,17 +13,15 @@ use Rattle.lwb_base.proofs.Elements.{pairs_tail}
 use Rattle.scenario_text.specs.FloodParts.{knows}
 use Rattle.scenario_text.specs.ScenarioParts.{ScenarioParts}
 use Rattle.air_log.specs.declared.entry.Entry.{Entry}
-use Rattle.air_log.specs.declared.entry.SentEntry.{SentEntry}
 use Rattle.air_log.specs.declared.entry.TunedEntry.{TunedEntry}
 use Rattle.air_log.specs.DeviceStates.{tuning_of}
-use Rattle.air_log.specs.TrailsTold.{sending_of_entry}
 use Rattle.air_log.specs.Lawful.{sent_by, tuned_by, trail_in, trail_sent, trail_tuned}
 use Rattle.air_log.specs.Trails.{Reception, trail}
 use Rattle.lwb_base.proofs.Elements.{reversed}
 use Rattle.air_log.proofs.TrailSendings.{in_order, pairs_push}
 use Rattle.air_log.proofs.TrailTunings.{each_tuned, tuned_in_turn}
 use Rattle.air_check.specs.Verdicts.{FollowsTrail}
-use Rattle.air_check.proofs.SameEntries.{sent_with, tuned_with}
+use Rattle.air_check.proofs.SameEntries.{tuned_with}
 use Rattle.air_check.proofs.InOrder.{Below, one_in_order}
 
 abbrev pub sent_start : Sending → ℕ
@@ -68,7 +66,7 @@ module _ (s : ScenarioParts) (v : ℕ) (clock : ℕ → ℕ) (hs : List Receptio
             (IsPermutation-trans (reverse made) made ys (IsPermutation-sym made (reverse made) turned) (IsPermutation-trans made xs ys from moved)) rises),
       )
 
--- lists of entries, by what they say
+-- lists of tunings, by what they say
 rises_map : {X Y : Type 0} (f : X → Y) (key : Y → ℕ) (back : Y → X) (xs : List X) → IsNonDecreasingBy (λ x. key (f x)) xs → IsNonDecreasingBy key (map f xs)
 rises_map f key back xs rises i j d le within =
     let long = length-map xs f in
@@ -78,12 +76,10 @@ rises_map f key back xs rises i j d le within =
     omega (arith, ap key first, ap key second, up)
 
 module _ (s : ScenarioParts) (v : ℕ) (clock : ℕ → ℕ) (hs : List Reception) where
-  pub sent_told : (made : List Sending) (own sorted : List SentEntry) (b : Bool) → made ≡ (trail s v clock hs).made.sent → IsPermutation own sorted
-      → IsNonDecreasingBy (λ x. x.start) sorted → Decides b (made ≡ map sending_of_entry sorted)
-      → Decides b (IsPermutation (trail s v clock hs).made.sent (map sending_of_entry own))
+  pub sent_told : (made own sorted : List Sending) (b : Bool) → made ≡ (trail s v clock hs).made.sent → IsPermutation own sorted
+      → IsNonDecreasingBy sent_start sorted → Decides b (made ≡ sorted) → Decides b (IsPermutation (trail s v clock hs).made.sent own)
   sent_told made own sorted b is moved rises same =
-      sent_decided s v clock hs (map sending_of_entry own) (map sending_of_entry sorted) b (IsPermutation-map sending_of_entry own sorted moved)
-      (rises_map sending_of_entry sent_start sent_with sorted rises) (subst (λ (l : List Sending). Decides b (l ≡ map sending_of_entry sorted)) is same)
+      sent_decided s v clock hs own sorted b moved rises (subst (λ (l : List Sending). Decides b (l ≡ sorted)) is same)
 
   pub tuned_told : (made : List Tuning) (own sorted : List TunedEntry) (b : Bool) → made ≡ (trail s v clock hs).made.tuned → IsPermutation own sorted
       → IsNonDecreasingBy (λ t. t.start) sorted → Decides b (reverse made ≡ map tuning_of sorted)
@@ -96,9 +92,9 @@ none_in : {X : Type 0} (xs : List X) → IsPermutation [] xs → xs ≡ []
 none_in [] moved = refl
 none_in (x ∷ xs) moved = let long = length_permutation [] (x ∷ xs) moved in absurd (omega (arith, long))
 
-pub none_mapped : {X Y : Type 0} (f : X → Y) (xs : List X) (n : ℕ) (b : Bool) → length xs ≡ n → b ≡ (n == 0) → Decides b (map f xs ≡ [])
-none_mapped f [] n b long is = (λ yes. refl, λ same. is ∙ eq-eqb n 0 (sym long))
-none_mapped f (x ∷ xs) n b long is = (
+pub none_held : {X : Type 0} (xs : List X) (n : ℕ) (b : Bool) → length xs ≡ n → b ≡ (n == 0) → Decides b (xs ≡ [])
+none_held [] n b long is = (λ yes. refl, λ same. is ∙ eq-eqb n 0 (sym long))
+none_held (x ∷ xs) n b long is = (
   λ yes. absurd (let zero = eqb-true n 0 (sym is ∙ yes) in omega (arith, zero, long)),
   λ same. absurd (let short = ap (λ (l : List _). length l) same in omega (arith, short)),
 )

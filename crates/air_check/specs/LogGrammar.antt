@@ -17,7 +17,7 @@ use Rattle.text_readers.specs.Words.{words, word, is_skipped, is_number, number_
 use Rattle.text_readers.specs.declared.fault.FaultKind.{FaultKind}
 use Rattle.text_readers.specs.declared.fault.FaultKind.TheVariants.{NotUtf8, Range, UnknownNode}
 use Rattle.air_log.specs.declared.entry.Entry.{Entry}
-use Rattle.air_log.specs.declared.entry.SentEntry.{SentEntry}
+use Rattle.radio_model.specs.declared.sending.Sending.{Sending}
 use Rattle.air_log.specs.declared.entry.HeardEntry.{HeardEntry}
 use Rattle.air_log.specs.declared.entry.TunedEntry.{TunedEntry}
 use Rattle.air_log.specs.declared.entry.Entry.TheVariants as entry
@@ -74,7 +74,7 @@ log_numbers (Heard r v u a b p) ws = list_all is_number (drop 1 (front ws))
 log_numbers (Tuned r v a b) ws = list_all is_number (drop 1 ws)
 
 -- the entry of a line whose numbers and packet are in their ranges: it ends after its start
-abbrev pub sent_of : ℕ → ℕ → ℕ → ℕ → Option (List ℕ) → Option SentEntry
+abbrev pub sent_of : ℕ → ℕ → ℕ → ℕ → Option (List ℕ) → Option Sending
 sent_of r v a b None = None
 sent_of r v a b (Some p) = if nat_le r 3 && (is_id v && nat_lt a b) then Some (record { rank = r; node = v; start = a; end = b; packet = p }) else None
 

@@ -7,7 +7,6 @@ use Rattle.air_log.specs.declared.entry.Entry.TheVariants.{Sent, Heard, Tuned}
 use Rattle.air_log.specs.Courses.{hearing_of}
 use Rattle.air_log.specs.DeviceStates.{tuning_of}
 use Rattle.air_log.specs.Lawful.{sent_by, hearings_by, tuned_by}
-use Rattle.air_log.specs.TrailsTold.{sending_of_entry}
 
 pub record NodeLogState : Type 0 where
   pub sent : List Sending
@@ -23,7 +22,7 @@ log_by air v = record { sent = sent_by air v; heard = hearings_by air v; tuned =
 
 -- one entry more
 abbrev pub after_entry : NodeLogState → Entry → NodeLogState
-after_entry n (Sent x) = record n { sent = n.sent ++ sending_of_entry x ∷ [] }
+after_entry n (Sent x) = record n { sent = n.sent ++ x ∷ [] }
 after_entry n (Heard h) = record n { heard = n.heard ++ hearing_of h ∷ [] }
 after_entry n (Tuned t) = record n { tuned = n.tuned ++ tuning_of t ∷ [] }
 

@@ -16,7 +16,7 @@ ghost use Rattle.air_check.specs.Verdicts.{IsGiven};
 use crate::receives::receives;
 use crate::tuned_index::tuned_of;
 use crate::tunings::Tuned;
-use air_log::{Air, Entry, SentEntry};
+use air_log::{Air, Entry};
 use lwb_base::{Memory, NodeId};
 use radio_model::near::{longest, near};
 use radio_model::sending::Sending;
@@ -154,19 +154,7 @@ fn sending_by(entry: &Entry) -> Option<Sending>
     ensures { result ≡ sending_in entry.now }
 {
     match entry {
-        Entry::Sent(sent) => Some(sending_of(sent)),
+        Entry::Sent(sent) => Some(sent.copy()),
         Entry::Heard(_) | Entry::Tuned(_) => None,
-    }
-}
-
-fn sending_of(sent: &SentEntry) -> Sending
-    ensures { result ≡ (record { rank = sent.now.rank; node = sent.now.node; start = sent.now.start; end = sent.now.end; packet = sent.now.packet }) }
-{
-    Sending {
-        rank: sent.rank,
-        node: sent.node,
-        start: sent.start,
-        end: sent.end,
-        packet: sent.packet.copy(),
     }
 }

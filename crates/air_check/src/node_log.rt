@@ -3,7 +3,6 @@
 ghost use Rattle.std.specs.Prelude.{◌≡◌, ◌++◌, ◌∷◌, [], OnOk};
 ghost use Rattle.air_log.specs.Courses.{hearing_of};
 ghost use Rattle.air_log.specs.DeviceStates.{tuning_of};
-ghost use Rattle.air_log.specs.TrailsTold.{sending_of_entry};
 ghost use Rattle.air_check.specs.NodeLogs.{after_entry, empty_node_log};
 
 use air_log::{Entry, HeardEntry, SentEntry, TunedEntry};
@@ -23,13 +22,12 @@ impl Model for NodeLog {
     ghost use Rattle.std.specs.Prelude.{map};
     ghost use Rattle.air_log.specs.Courses.{hearing_of};
     ghost use Rattle.air_log.specs.DeviceStates.{tuning_of};
-    ghost use Rattle.air_log.specs.TrailsTold.{sending_of_entry};
     ghost use Rattle.air_check.specs.NodeLogs.{NodeLogState};
 
     ghost Value = { NodeLogState };
 
     ghost view = { λ n. record {
-      sent = map sending_of_entry n.sent.items;
+      sent = n.sent.items;
       heard = map hearing_of n.heard.items;
       tuned = map tuning_of n.tuned.items;
     } };
@@ -58,15 +56,9 @@ impl NodeLog {
     }
 
     fn add_sent(&mut self, sent: &SentEntry) -> Result<(), Memory>
-        ensures { OnOk result (self.new ≡ record self.old { sent = self.old.sent ++ sending_of_entry sent.now ∷ [] }) }
+        ensures { OnOk result (self.new ≡ record self.old { sent = self.old.sent ++ sent.now ∷ [] }) }
     {
-        self.sent.push(SentEntry {
-            rank: sent.rank,
-            node: sent.node,
-            start: sent.start,
-            end: sent.end,
-            packet: sent.packet.copy(),
-        })?;
+        self.sent.push(sent.copy())?;
         Ok(())
     }
 

@@ -3,13 +3,12 @@
 ghost use Rattle.std.specs.Prelude.{◌≡◌, ◌<◌, length, map};
 ghost use Rattle.std.specs.Bool.{Decides};
 ghost use Rattle.air_log.specs.DeviceStates.{tuning_of};
-ghost use Rattle.air_log.specs.TrailsTold.{sending_of_entry};
 
 use air_log::{SentEntry, TunedEntry};
 
 /// Whether these are the same transmissions in the same order.
 pub fn are_same_sent(made: &[SentEntry], logged: &[SentEntry]) -> bool
-    ensures { Decides result (map sending_of_entry made.now ≡ map sending_of_entry logged.now) }
+    ensures { Decides result (made.now ≡ logged.now) }
 {
     if made.len() != logged.len() {
         return false;
@@ -23,7 +22,7 @@ pub fn are_same_sent(made: &[SentEntry], logged: &[SentEntry]) -> bool
 }
 
 fn is_same_sent(a: &SentEntry, b: &SentEntry) -> bool
-    ensures { Decides result (sending_of_entry a.now ≡ sending_of_entry b.now) }
+    ensures { Decides result (a.now ≡ b.now) }
 {
     a.rank == b.rank
         && a.node == b.node

@@ -6,7 +6,7 @@ use Rattle.radio_model.specs.declared.sending.Sending.{Sending}
 use Rattle.radio_model.specs.OnAir.{Tuning}
 use Rattle.air_log.specs.declared.entry.Entry.{Entry}
 use Rattle.air_log.specs.declared.entry.Entry.TheVariants.{Sent, Heard, Tuned}
-use Rattle.air_log.specs.Entries.{sending_in, hearing_in, tuning_in, node_of_entry, sendings_of, hearings_of, tunings_of, sent_entry, heard_entry}
+use Rattle.air_log.specs.Entries.{sending_in, hearing_in, tuning_in, node_of_entry, sendings_of, hearings_of, tunings_of, heard_entry}
 
 -- the node of an entry is that of what it says
 abbrev sender_in : Option Sending → ℕ → ℕ
@@ -29,14 +29,14 @@ tuning_node (Tuned t) x is = ap (λ (o : Option Tuning). tuner_in o 0) is
 
 -- a transmission more
 module _ (air : List Entry) (x : Sending) where
-  pub sendings_sent : sendings_of (air ++ sent_entry x ∷ []) ≡ sendings_of air ++ x ∷ []
-  sendings_sent = filter_map-append sending_in air (sent_entry x ∷ [])
+  pub sendings_sent : sendings_of (air ++ Sent x ∷ []) ≡ sendings_of air ++ x ∷ []
+  sendings_sent = filter_map-append sending_in air (Sent x ∷ [])
 
-  pub hearings_sent : hearings_of (air ++ sent_entry x ∷ []) ≡ hearings_of air
-  hearings_sent = filter_map-append hearing_in air (sent_entry x ∷ []) ∙ append-nil (hearings_of air)
+  pub hearings_sent : hearings_of (air ++ Sent x ∷ []) ≡ hearings_of air
+  hearings_sent = filter_map-append hearing_in air (Sent x ∷ []) ∙ append-nil (hearings_of air)
 
-  pub tunings_sent : tunings_of (air ++ sent_entry x ∷ []) ≡ tunings_of air
-  tunings_sent = filter_map-append tuning_in air (sent_entry x ∷ []) ∙ append-nil (tunings_of air)
+  pub tunings_sent : tunings_of (air ++ Sent x ∷ []) ≡ tunings_of air
+  tunings_sent = filter_map-append tuning_in air (Sent x ∷ []) ∙ append-nil (tunings_of air)
 
 -- a reception more
 module _ (air : List Entry) (u : ℕ) (x : Sending) where

@@ -6,7 +6,7 @@ use Rattle.radio_model.specs.declared.sending.Sending.{Sending}
 use Rattle.radio_model.specs.OnAir.{Hearing, Tuning}
 
 abbrev pub sending_in : Entry → Option Sending
-sending_in (Sent x) = Some (record { rank = x.rank; node = x.node; start = x.start; end = x.end; packet = x.packet })
+sending_in (Sent x) = Some x
 sending_in (Heard h) = None
 sending_in (Tuned t) = None
 
@@ -23,10 +23,7 @@ tuning_in (Sent x) = None
 tuning_in (Heard h) = None
 tuning_in (Tuned t) = Some (record { rank = t.rank; node = t.node; start = t.start; end = t.end })
 
--- the entry of a transmission, and that of its reception by v
-abbrev pub sent_entry : Sending → Entry
-sent_entry x = Sent (record { rank = x.rank; node = x.node; start = x.start; end = x.end; packet = x.packet })
-
+-- the entry of the reception of a transmission by v
 abbrev pub heard_entry : ℕ → Sending → Entry
 heard_entry v x = Heard (record { rank = x.rank; node = v; from = x.node; start = x.start; end = x.end; packet = x.packet })
 

@@ -7,8 +7,8 @@ use Rattle.scenario_text.specs.declared.script.Act.TheVariants.{On}
 use Rattle.radio_model.specs.declared.sending.Sending.{Sending}
 use Rattle.radio_model.specs.OnAir.{Hearing, Tuning}
 use Rattle.air_log.specs.declared.entry.Entry.{Entry}
-use Rattle.air_log.specs.declared.entry.Entry.TheVariants.{Tuned}
-use Rattle.air_log.specs.Entries.{sent_entry, heard_entry}
+use Rattle.air_log.specs.declared.entry.Entry.TheVariants.{Sent, Tuned}
+use Rattle.air_log.specs.Entries.{heard_entry}
 use Rattle.air_log.specs.Devices.{Device}
 use Rattle.air_log.specs.Trails.{Reception, tune_of}
 use Rattle.air_log.specs.Charges.{windows_charge}
@@ -117,4 +117,4 @@ abbrev pub tuned_entry : Tuning → Entry
 tuned_entry t = Tuned (record { rank = t.rank; node = t.node; start = t.start; end = t.end })
 
 abbrev pub first_round_log : List Entry
-first_round_log = map sent_entry sent_in_round ++ map entry_of_hearing heard_in_round ++ map tuned_entry (first_round_tuned_by_host ++ tuned_by_other)
+first_round_log = map Sent sent_in_round ++ map entry_of_hearing heard_in_round ++ map tuned_entry (first_round_tuned_by_host ++ tuned_by_other)

@@ -7,7 +7,7 @@ use Rattle.text_writers.specs.HexWords.{hex_word}
 use Rattle.air_log.specs.Entries.{node_of_entry}
 use Rattle.air_log.specs.declared.entry.Entry.{Entry}
 use Rattle.air_log.specs.declared.entry.Entry.TheVariants.{Sent, Heard, Tuned}
-use Rattle.air_log.specs.declared.entry.SentEntry.{SentEntry}
+use Rattle.radio_model.specs.declared.sending.Sending.{Sending}
 use Rattle.air_log.specs.declared.entry.HeardEntry.{HeardEntry}
 use Rattle.air_log.specs.declared.entry.TunedEntry.{TunedEntry}
 
@@ -36,7 +36,7 @@ abbrev pub in_order : {X : Type 0} → (X → X → Bool) → List X → List X
 in_order before [] = []
 in_order before (x ∷ xs) = with_inserted before x (in_order before xs)
 
-abbrev pub sent_line : SentEntry → List ℕ
+abbrev pub sent_line : Sending → List ℕ
 sent_line x = line_text (numbered (codes "sent") (x.rank ∷ x.node ∷ x.start ∷ x.end ∷ []) ++ hex_word x.packet ∷ [])
 
 abbrev pub heard_line : HeardEntry → List ℕ

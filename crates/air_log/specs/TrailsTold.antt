@@ -7,7 +7,6 @@ use Rattle.radio_model.specs.OnAir.{Tuning}
 use Rattle.scenario_text.specs.ScenarioParts.{ScenarioParts}
 use Rattle.bus_rules.specs.declared.delivery.Delivery.{Delivery}
 use Rattle.bus_rules.specs.declared.tune.Tune.{Tune}
-use Rattle.air_log.specs.declared.entry.SentEntry.{SentEntry}
 use Rattle.air_log.specs.Trails.{Reception, trail, tune_at}
 use Rattle.air_log.specs.Charges.{windows_charge, scanned_frames}
 
@@ -30,7 +29,3 @@ trail_told s v clock hs = record {
   scanned = scanned_frames s v clock hs;
   tunes = map (tune_at s v clock hs) (range_with_len 0 s.frames);
 }
-
--- the transmission that an entry says
-abbrev pub sending_of_entry : SentEntry → Sending
-sending_of_entry x = record { rank = x.rank; node = x.node; start = x.start; end = x.end; packet = x.packet }

@@ -13,12 +13,11 @@ ghost use Rattle.air_log.specs.Trails.{setup_of, alarm_is_due, one_alarm, alarme
 ghost use Rattle.air_log.specs.DeviceStates.{IsTimely, CanBoot, one_more};
 ghost use Rattle.air_log.specs.WindowLogs.{is_alarm};
 ghost use Rattle.air_log.specs.WindowSums.{sent_with};
-ghost use Rattle.air_log.specs.TrailsTold.{sending_of_entry};
 ghost use Rattle.air_log.specs.Courses.{CourseShows, HasListsOf, CourseIsShown, Goes, IsShownEnding};
 
+use crate::TunedEntry;
 use crate::device::Device;
 use crate::window_sum::WindowSum;
-use crate::{SentEntry, TunedEntry};
 use bus_rules::Delivery;
 use lwb_base::{Event, Memory, NodeId, Order, Packet, RecordingRadio};
 use radio_model::sending::Sending;
@@ -31,7 +30,7 @@ use tick_clock::DriftClock;
 #[derive(Drop)]
 pub(crate) struct Course {
     pub(crate) device: Device,
-    pub(crate) sent: Vec<SentEntry>,
+    pub(crate) sent: Vec<Sending>,
     pub(crate) tuned: Vec<TunedEntry>,
     pub(crate) deliveries: Vec<Delivery>,
     pub(crate) windows: WindowSum,
@@ -40,14 +39,13 @@ pub(crate) struct Course {
 impl Model for Course {
     ghost use Rattle.std.specs.Prelude.{map, reverse};
     ghost use Rattle.air_log.specs.DeviceStates.{tuning_of};
-    ghost use Rattle.air_log.specs.TrailsTold.{sending_of_entry};
     ghost use Rattle.air_log.specs.Courses.{CourseState};
 
     ghost Value = { CourseState };
 
     ghost view = { λ c. record {
       device = c.device;
-      sent = map sending_of_entry c.sent.items;
+      sent = c.sent.items;
       tuned = reverse (map tuning_of c.tuned.items);
       deliveries = c.deliveries.items;
       windows = c.windows;
@@ -250,21 +248,9 @@ impl Course {
         ensures { OnOk result (self.new ≡ record self.old { sent = self.old.sent ++ option_to_list sending }) }
     {
         if let Some(x) = sending {
-            self.sent.push(entry_of(x))?;
+            self.sent.push(x)?;
         }
         Ok(())
-    }
-}
-
-fn entry_of(x: Sending) -> SentEntry
-    ensures { sending_of_entry result ≡ x }
-{
-    SentEntry {
-        rank: x.rank,
-        node: x.node,
-        start: x.start,
-        end: x.end,
-        packet: x.packet,
     }
 }
 

@@ -84,7 +84,7 @@ impl Device {
             return None;
         }
         let x = self.sending()?;
-        Some(copy_of(x))
+        Some(x.copy())
     }
 
     /// As `begin`, but the transmission is left in the device, where `sending` finds it: a packet is long. Returns `false` if and
@@ -139,17 +139,5 @@ impl Device {
             Some(x) if x.end == t => self.sending.take(),
             Some(_) | None => None,
         }
-    }
-}
-
-fn copy_of(x: &Sending) -> Sending
-    ensures { result ≡ x.now }
-{
-    Sending {
-        rank: x.rank,
-        node: x.node,
-        start: x.start,
-        end: x.end,
-        packet: x.packet.copy(),
     }
 }

@@ -2,22 +2,15 @@
 
 use lwb_base::{NodeId, Packet, Rank};
 
+/// A node sent a packet: the entry is the transmission.
+pub use radio_model::sending::Sending as SentEntry;
+
 /// One entry of a log. Its times are true ticks of 1/64 µs; it contains its start and not its end.
 #[derive(Drop)]
 pub enum Entry {
     Sent(SentEntry),
     Heard(HeardEntry),
     Tuned(TunedEntry),
-}
-
-/// A node sent a packet on the channel of a rank.
-#[derive(Drop)]
-pub struct SentEntry {
-    pub rank: Rank,
-    pub node: NodeId,
-    pub start: u64,
-    pub end: u64,
-    pub packet: Packet,
 }
 
 /// A node received the packet that `from` sent, from its start to its end.

@@ -3,7 +3,6 @@
 ghost use Rattle.std.specs.Prelude.{◌≡◌, map, reverse, slice_get};
 ghost use Rattle.std.specs.Option.{option_flatten};
 ghost use Rattle.air_log.specs.DeviceStates.{tuning_of};
-ghost use Rattle.air_log.specs.TrailsTold.{sending_of_entry};
 
 use crate::{SentEntry, TunedEntry};
 use bus_rules::{Delivery, Tune};
@@ -24,12 +23,12 @@ pub struct Trail {
 impl Model for Trail {
     ghost use Rattle.std.specs.Prelude.{map, reverse};
     ghost use Rattle.air_log.specs.DeviceStates.{tuning_of};
-    ghost use Rattle.air_log.specs.TrailsTold.{TrailTold, sending_of_entry};
+    ghost use Rattle.air_log.specs.TrailsTold.{TrailTold};
 
     ghost Value = { TrailTold };
 
     ghost view = { λ t. record {
-      sent = map sending_of_entry t.sent.items;
+      sent = t.sent.items;
       tuned = reverse (map tuning_of t.tuned.items);
       deliveries = t.deliveries.items;
       windows = t.windows;
@@ -41,7 +40,7 @@ impl Model for Trail {
 impl Trail {
     /// The node's transmissions, by start.
     pub fn sent(&self) -> &[SentEntry]
-        ensures { map sending_of_entry result.now ≡ self.now.sent }
+        ensures { result.now ≡ self.now.sent }
     {
         &self.sent
     }

@@ -26,8 +26,7 @@ read_all : (p : Numbers) (air : List Entry) → filter_map (beginning_in p) air 
 read_all p [] = refl
 read_all p (Heard h ∷ air) = read_all p air
 read_all p (Tuned t ∷ air) = read_all p air
-read_all p (Sent e ∷ air) =
-    let x : Sending = record { rank = e.rank; node = e.node; start = e.start; end = e.end; packet = e.packet } in
+read_all p (Sent x ∷ air) =
     by_test p x (begins_data x) (filter_map (beginning_in p) air) (filter begins_data (sendings_of air)) (read_all p air)
 
 -- in their order

@@ -15,7 +15,6 @@ use Rattle.scenario_text.specs.ScenarioFacts.{IsSoundScenario}
 use Rattle.scenario_text.specs.ScenarioParts.{ScenarioParts}
 use Rattle.air_log.specs.declared.entry.Entry.{Entry}
 use Rattle.air_log.specs.declared.entry.Entry.TheVariants.{Sent, Heard, Tuned}
-use Rattle.air_log.specs.declared.entry.SentEntry.{SentEntry}
 use Rattle.air_log.specs.declared.entry.HeardEntry.{HeardEntry}
 use Rattle.air_log.specs.declared.entry.TunedEntry.{TunedEntry}
 use Rattle.air_log.specs.Entries.{sending_in, tuning_in, sendings_of, tunings_of}
@@ -89,13 +88,12 @@ module _ (air : List Entry) (old new : TimesState) (has : HasTimes air old) wher
       nothing : tuning_in e ≡ None → filter_map tuning_in (e ∷ []) ≡ []
       nothing is = rw is refl
 
-  pub sent_added : (x : SentEntry) → IsRaised x.node (x.end - x.start) old.sent new.sent → new.on ≡ old.on → HasTimes (air ++ Sent x ∷ []) new
+  pub sent_added : (x : Sending) → IsRaised x.node (x.end - x.start) old.sent new.sent → new.on ≡ old.on → HasTimes (air ++ Sent x ∷ []) new
   sent_added x is stays =
-      let y : Sending = record { rank = x.rank; node = x.node; start = x.start; end = x.end; packet = x.packet } in
       record {
         sent = λ v less. raised x.node (x.end - x.start) _ _ 0 v old.sent new.sent is (has.sent v less)
             (ap (λ (l : List Sending). sum_by sending_time (filter (λ (z : Sending). z.node == v) l)) (filter_map-append sending_in air (Sent x ∷ []))
-            ∙ one_more (λ (z : Sending). z.node) sending_time (sendings_of air) y v);
+            ∙ one_more (λ (z : Sending). z.node) sending_time (sendings_of air) x v);
         on = λ v less. ap (λ (l : List ℕ). slice_index_or l v 0) stays ∙ has.on v less ∙ ap (λ (l : List Tuning). sum_by tuning_time l % 2 ^ 64)
             (sym (same_tuned (Sent x) v refl));
       }

@@ -2,7 +2,6 @@
 use Rattle.std.specs.Prelude.{ℕ, ◌-◌, List, sum_by}
 use Rattle.radio_model.specs.declared.sending.Sending.{Sending}
 use Rattle.radio_model.specs.OnAir.{Tuning}
-use Rattle.air_log.specs.declared.entry.SentEntry.{SentEntry}
 use Rattle.air_log.specs.declared.entry.TunedEntry.{TunedEntry}
 use Rattle.air_log.specs.TrailsTold.{TrailTold}
 use Rattle.energy_account.specs.declared.energy.Energy.{Energy}
@@ -25,8 +24,5 @@ abbrev pub TuningsApart : List Tuning → Type 0
 TuningsApart ts = AreApart (λ t. t.start) (λ t. t.end) 0 ts
 
 -- how long an entry lasts
-abbrev pub sent_span : SentEntry → ℕ
-sent_span e = e.end - e.start
-
 abbrev pub tuned_span : TunedEntry → ℕ
 tuned_span e = e.end - e.start

@@ -2,7 +2,8 @@
 
 ghost use Rattle.std.specs.Prelude.{◌≡◌, reverse, sum_by};
 ghost use Rattle.energy_account.specs.Apart.{AreApart};
-ghost use Rattle.energy_account.specs.ToldEnergies.{SendingsApart, TuningsApart, told_energy, sent_span, tuned_span};
+ghost use Rattle.energy_account.specs.Energies.{sending_time};
+ghost use Rattle.energy_account.specs.ToldEnergies.{SendingsApart, TuningsApart, told_energy, tuned_span};
 
 use air_log::{SentEntry, Trail, TunedEntry};
 
@@ -36,8 +37,8 @@ pub fn energy_told(trail: &Trail) -> Energy
 
 // Together they last no longer than until the end of the last, so their sum fits.
 fn sent_time(sent: &[SentEntry]) -> u64
-    requires { AreApart (λ x. x.start) (λ x. x.end) 0 sent.now }
-    ensures { result ≡ sum_by sent_span sent.now }
+    requires { SendingsApart sent.now }
+    ensures { result ≡ sum_by sending_time sent.now }
 {
     let mut total = 0;
     for x in sent {

@@ -11,7 +11,7 @@ ghost use Rattle.air_log.specs.Trails.{frame_start as start_of_frame};
 ghost use Rattle.host_return.specs.Transmissions.{AreSent, TransmissionsAreSearchable};
 
 use crate::Return;
-use air_log::{Air, Entry, SentEntry};
+use air_log::{Air, Entry};
 use lwb_base::{Memory, Packet};
 use radio_model::near::{longest, near};
 use radio_model::reception::comes_through;
@@ -190,19 +190,7 @@ fn sending_by(entry: &Entry) -> Option<Sending>
     ensures { result ≡ sending_in entry.now }
 {
     match entry {
-        Entry::Sent(sent) => Some(sending_of(sent)),
+        Entry::Sent(sent) => Some(sent.copy()),
         Entry::Heard(_) | Entry::Tuned(_) => None,
-    }
-}
-
-fn sending_of(sent: &SentEntry) -> Sending
-    ensures { result ≡ (record { rank = sent.now.rank; node = sent.now.node; start = sent.now.start; end = sent.now.end; packet = sent.now.packet }) }
-{
-    Sending {
-        rank: sent.rank,
-        node: sent.node,
-        start: sent.start,
-        end: sent.end,
-        packet: sent.packet.copy(),
     }
 }

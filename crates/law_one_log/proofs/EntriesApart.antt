@@ -5,13 +5,11 @@ use Rattle.radio_model.specs.OnAir.{Hearing, Tuning}
 use Rattle.lwb_base.proofs.Elements.{in_filter, filter_from, pairs_cons, pairs_tail, pairs_head}
 use Rattle.air_log.specs.declared.entry.Entry.{Entry}
 use Rattle.air_log.specs.declared.entry.Entry.TheVariants.{Sent, Heard, Tuned}
-use Rattle.air_log.specs.declared.entry.SentEntry.{SentEntry}
 use Rattle.air_log.specs.declared.entry.HeardEntry.{HeardEntry}
 use Rattle.air_log.specs.declared.entry.TunedEntry.{TunedEntry}
 use Rattle.air_log.specs.Courses.{hearing_of}
 use Rattle.air_log.specs.DeviceStates.{tuning_of}
-use Rattle.air_log.specs.Entries.{sending_in, hearing_in, tuning_in, sent_entry, heard_entry, sendings_of, hearings_of, tunings_of}
-use Rattle.air_log.specs.TrailsTold.{sending_of_entry}
+use Rattle.air_log.specs.Entries.{sending_in, hearing_in, tuning_in, heard_entry, sendings_of, hearings_of, tunings_of}
 use Rattle.law_one_log.specs.OneLog.{SamePlace}
 
 -- not of one node and one start
@@ -27,7 +25,7 @@ HearingsApart g h = g.node ≡ h.node → g.sending.start ≢ h.sending.start
 -- where this is said of two receptions
 module _ (H : Hearing → Hearing → Type 0) where
   abbrev pub EntriesApart : Entry → Entry → Type 0
-  EntriesApart (Sent x) (Sent y) = SendingsApart (sending_of_entry x) (sending_of_entry y)
+  EntriesApart (Sent x) (Sent y) = SendingsApart x y
   EntriesApart (Sent x) (Heard h) = Unit {0}
   EntriesApart (Sent x) (Tuned e) = Unit {0}
   EntriesApart (Heard g) (Sent y) = Unit {0}
@@ -38,10 +36,10 @@ module _ (H : Hearing → Hearing → Type 0) where
   EntriesApart (Tuned d) (Tuned e) = TuningsApart (tuning_of d) (tuning_of e)
 
   module _ (air : List Entry) where
-    sent_first : (x : SentEntry) → AllPairs SendingsApart (sending_of_entry x ∷ sendings_of air) → (e : Entry) → Contains air e → EntriesApart (Sent x) e
+    sent_first : (x : Sending) → AllPairs SendingsApart (x ∷ sendings_of air) → (e : Entry) → Contains air e → EntriesApart (Sent x) e
     sent_first x all (Sent y) there =
-        pairs_head SendingsApart (sending_of_entry x) (sendings_of air) all (sending_of_entry y)
-        (in_filter sending_in air (Sent y) (sending_of_entry y) there refl)
+        pairs_head SendingsApart x (sendings_of air) all y
+        (in_filter sending_in air (Sent y) y there refl)
     sent_first x all (Heard h) there = tt
     sent_first x all (Tuned e) there = tt
 
@@ -62,7 +60,7 @@ module _ (H : Hearing → Hearing → Type 0) where
   all_apart [] sent heard tuned = λ i j d less within. absurd (omega (arith, within))
   all_apart (Sent x ∷ air) sent heard tuned =
       pairs_cons EntriesApart (Sent x) air (sent_first air x sent)
-      (all_apart air (pairs_tail SendingsApart (sending_of_entry x) (sendings_of air) sent) heard tuned)
+      (all_apart air (pairs_tail SendingsApart x (sendings_of air) sent) heard tuned)
   all_apart (Heard g ∷ air) sent heard tuned =
       pairs_cons EntriesApart (Heard g) air (heard_first air g heard)
       (all_apart air sent (pairs_tail H (hearing_of g) (hearings_of air) heard) tuned)
@@ -99,11 +97,11 @@ apart_placed (Tuned d) (Tuned e) apart same = apart same.node same.start
 
 -- an entry is there where what it says is
 module _ (air : List Entry) where
-  pub sent_there : (x : SentEntry) → Contains (sendings_of air) (sending_of_entry x) → Contains air (Sent x)
-  sent_there x there = let w = filter_from sending_in air (sending_of_entry x) there in by_entry w.0 w.1 w.2
+  pub sent_there : (x : Sending) → Contains (sendings_of air) x → Contains air (Sent x)
+  sent_there x there = let w = filter_from sending_in air x there in by_entry w.0 w.1 w.2
     where
-      by_entry : (e : Entry) → Contains air e → sending_in e ≡ Some (sending_of_entry x) → Contains air (Sent x)
-      by_entry (Sent y) at is = let same : sending_of_entry y ≡ sending_of_entry x = cc in subst (Contains air) (ap sent_entry same) at
+      by_entry : (e : Entry) → Contains air e → sending_in e ≡ Some x → Contains air (Sent x)
+      by_entry (Sent y) at is = let same : y ≡ x = cc in subst (Contains air) (ap Sent same) at
       by_entry (Heard h) at is = cc
       by_entry (Tuned e) at is = cc
 
@@ -132,6 +130,6 @@ module _ (air : List Entry) where
 pub also_there : (a b : List Entry) → ((x : Sending) → Contains (sendings_of a) x → Contains (sendings_of b) x)
     → ((h : Hearing) → Contains (hearings_of a) h → Contains (hearings_of b) h) → ((e : Tuning) → Contains (tunings_of a) e → Contains (tunings_of b) e)
     → (e : Entry) → Contains a e → Contains b e
-also_there a b sent heard tuned (Sent x) there = sent_there b x (sent (sending_of_entry x) (in_filter sending_in a (Sent x) (sending_of_entry x) there refl))
+also_there a b sent heard tuned (Sent x) there = sent_there b x (sent x (in_filter sending_in a (Sent x) x there refl))
 also_there a b sent heard tuned (Heard g) there = heard_there b g (heard (hearing_of g) (in_filter hearing_in a (Heard g) (hearing_of g) there refl))
 also_there a b sent heard tuned (Tuned d) there = tuned_there b d (tuned (tuning_of d) (in_filter tuning_in a (Tuned d) (tuning_of d) there refl))

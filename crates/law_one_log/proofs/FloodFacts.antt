@@ -49,8 +49,7 @@ module _ (f : FloodParts) (clocks : ℕ → ℕ → ℕ) (air : List Entry) (law
       (ap (λ (y : Sending). y.rank) last, omega (arith, end, long))
 
   pub known : (x : Sending) → Contains (sendings_of air) x → knows f.nodes x.node ≡ true
-  known x there =
-      law.known _ (sent_there air (record { rank = x.rank; node = x.node; start = x.start; end = x.end; packet = x.packet }) there)
+  known x there = law.known _ (sent_there air x there)
 
   -- a relay follows a reception with the counter before
   pub cause : (x : Sending) → knows f.nodes x.node ≡ true → (relay : IsRelay f (clocks x.node) (law.events x.node) x)

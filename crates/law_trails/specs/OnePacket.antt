@@ -10,7 +10,7 @@ use Rattle.scenario_text.specs.declared.script.Act.TheVariants.{On, Declare, Put
 use Rattle.radio_model.specs.declared.sending.Sending.{Sending}
 use Rattle.radio_model.specs.OnAir.{Hearing, Tuning}
 use Rattle.air_log.specs.declared.entry.Entry.{Entry}
-use Rattle.air_log.specs.Entries.{sent_entry}
+use Rattle.air_log.specs.declared.entry.Entry.TheVariants.{Sent}
 use Rattle.air_log.specs.Trails.{Reception}
 use Rattle.air_log.specs.Lawful.{reception_of}
 use Rattle.air_log.specs.FirstRound.{opening_with, sent_at, tuned_at, tuned_entry, entry_of_hearing}
@@ -192,4 +192,4 @@ tuned_by_member =
     ∷ []
 
 abbrev pub one_packet_log : List Entry
-one_packet_log = map sent_entry sent_in_rounds ++ map entry_of_hearing heard_in_rounds ++ map tuned_entry (tuned_by_host ++ tuned_by_member)
+one_packet_log = map Sent sent_in_rounds ++ map entry_of_hearing heard_in_rounds ++ map tuned_entry (tuned_by_host ++ tuned_by_member)

@@ -4,12 +4,13 @@ use Rattle.scenario_text.specs.ScenarioParts.{ScenarioParts}
 use Rattle.scenario_text.specs.declared.script.Act.TheVariants.{Off}
 use Rattle.radio_model.specs.declared.sending.Sending.{Sending}
 use Rattle.air_log.specs.declared.entry.Entry.{Entry}
-use Rattle.air_log.specs.Entries.{sent_entry, heard_entry}
+use Rattle.air_log.specs.declared.entry.Entry.TheVariants.{Sent}
+use Rattle.air_log.specs.Entries.{heard_entry}
 use Rattle.air_log.specs.FirstRound.{first_round, sent_at, opening_with, closing_with}
 use Rattle.law_trails.specs.OnePacket.{grant_with}
 
 abbrev pub log_of_sendings : List Sending → List Entry
-log_of_sendings xs = map sent_entry xs
+log_of_sendings xs = map Sent xs
 
 -- the opening of frame 5 by the host, and by node 2 as well; and one that ends as the next frame starts
 abbrev pub opening_transmission : Sending

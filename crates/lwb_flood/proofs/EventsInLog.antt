@@ -54,7 +54,7 @@ ended_is true z y is = let same : z ≡ y = cc in ap (λ (s : Sending). Some s) 
 ended_is false z y is = absurd (cc)
 
 event_sending : (u : ℕ) (e : Entry) (y : Sending) → event_in u e ≡ Some (Ended y) → sending_in e ≡ Some y
-event_sending u (Sent s) y is = ended_is (s.node == u) (record { rank = s.rank; node = s.node; start = s.start; end = s.end; packet = s.packet }) y is
+event_sending u (Sent s) y is = ended_is (s.node == u) s y is
 event_sending u (HeardOf h) y is = absurd (heard_is_not (h.node == u) (record {
   rank = h.rank;
   node = h.from;

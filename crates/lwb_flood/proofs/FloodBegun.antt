@@ -13,7 +13,8 @@ use Rattle.radio_model.proofs.Changes.{started_keeps}
 use Rattle.radio_model.proofs.OneStation.{same_nodes, changed_station, other_station}
 use Rattle.lwb_base.proofs.Elements.{in_filter as filter_contains, not_in_none}
 use Rattle.air_log.specs.declared.entry.Entry.{Entry}
-use Rattle.air_log.specs.Entries.{sending_in, sendings_of, tunings_of, HasHeardEntry, sent_entry}
+use Rattle.air_log.specs.declared.entry.Entry.TheVariants.{Sent}
+use Rattle.air_log.specs.Entries.{sending_in, sendings_of, tunings_of, HasHeardEntry}
 use Rattle.air_log.specs.NodeEvents.{Event, Ended, sending_of_event, EventsInOrder}
 use Rattle.air_log.specs.FloodLaw.{START, first_packet, sending_at, tuning_by}
 use Rattle.lwb_flood.specs.declared.member.Act.{Act}
@@ -183,9 +184,9 @@ module _ (f : FloodParts) (clocks : ℕ → ℕ → ℕ) (has : HasClocks f cloc
       }
 
   once_still : AllPairs (λ d e. d ≢ e) behind.air
-  once_still = pairs_push (λ d e. d ≢ e) w.air (sent_entry x) so.once
+  once_still = pairs_push (λ d e. d ≢ e) w.air (Sent x) so.once
       (λ e in_it same. new f clocks has w medium so m there t packet act next
-      (filter_contains sending_in w.air (sent_entry x) x (subst (λ (d : Entry). Contains w.air d) same in_it) refl))
+      (filter_contains sending_in w.air (Sent x) x (subst (λ (d : Entry). Contains w.air d) same in_it) refl))
 
   begins_still : Contains (sendings_of behind.air) (sending_at f.start START (first_packet f.start)) ⊎ WaitsToBegin f behind
   begins_still = elim so.begins [

@@ -15,7 +15,8 @@ use Rattle.lwb_flood.specs.declared.member.Act.TheVariants.{Sends, Off}
 use Rattle.lwb_flood.specs.declared.member.Member.{Member}
 use Rattle.lwb_flood.specs.FloodWorlds.{World, member_changed_at, with_change, member_with_act, after_own, hearing_by, flood_tuned_entry, world_after_start}
 use Rattle.lwb_flood.specs.FloodWorlds.{own_ended, gone, world_after_end, world_after_reception, heard_by_all, is_last}
-use Rattle.air_log.specs.Entries.{sent_entry, heard_entry}
+use Rattle.air_log.specs.declared.entry.Entry.TheVariants.{Sent}
+use Rattle.air_log.specs.Entries.{heard_entry}
 use Rattle.lwb_flood.proofs.FloodSoFar.{events_in}
 use Rattle.lwb_flood.proofs.WorldLists.{events_sent_own, events_sent_other, events_heard_own, events_heard_other, events_tuned}
 
@@ -72,10 +73,10 @@ started_more es x = ap length (filter_map-append own_end es (Ended x ∷ [])) �
 started_same : (es : List Event) (x : Sending) → length (own_ends (es ++ Heard x ∷ [])) ≡ length (own_ends es)
 started_same es x = ap length (filter_map-append own_end es (Heard x ∷ []) ∙ append-nil (own_ends es))
 
-pub started_sent_own : (air : List Entry) (x : Sending) → started (air ++ sent_entry x ∷ []) x.node ≡ started air x.node + 1
+pub started_sent_own : (air : List Entry) (x : Sending) → started (air ++ Sent x ∷ []) x.node ≡ started air x.node + 1
 started_sent_own air x = ap (λ (es : List Event). length (own_ends es)) (events_sent_own air x x.node refl) ∙ started_more (events_in air x.node) x
 
-pub started_sent_other : (air : List Entry) (x : Sending) (v : ℕ) → x.node ≢ v → started (air ++ sent_entry x ∷ []) v ≡ started air v
+pub started_sent_other : (air : List Entry) (x : Sending) (v : ℕ) → x.node ≢ v → started (air ++ Sent x ∷ []) v ≡ started air v
 started_sent_other air x v not = ap (λ (es : List Event). length (own_ends es)) (events_sent_other air x v not)
 
 pub started_heard : (air : List Entry) (u : ℕ) (x : Sending) (v : ℕ) → started (air ++ heard_entry u x ∷ []) v ≡ started air v
@@ -99,10 +100,10 @@ remaining w = total w.air w.members
 pub begun_less : (x : Sending) (w : World) (m : Member) → Contains w.members m → m.node ≡ x.node
     → m.flood.sent + started w.air m.node < m.flood.limit + m.flood.limit → remaining (world_after_start x w) < remaining w
 begun_less x w m there is room =
-    total_less w.air (w.air ++ sent_entry x ∷ []) x.node (member_with_act (Sends x)) w.members
+    total_less w.air (w.air ++ Sent x ∷ []) x.node (member_with_act (Sends x)) w.members
     (λ n in_it not. omega (arith, started_sent_other w.air x n.node (λ same. not (sym same))))
-    (λ n in_it same. let up = started_sent_own w.air x in omega (arith, ap (started (w.air ++ sent_entry x ∷ [])) same, ap (started w.air) same))
-    m there is (let up = started_sent_own w.air x in omega (arith, ap (started (w.air ++ sent_entry x ∷ [])) is, ap (started w.air) is))
+    (λ n in_it same. let up = started_sent_own w.air x in omega (arith, ap (started (w.air ++ Sent x ∷ [])) same, ap (started w.air) same))
+    m there is (let up = started_sent_own w.air x in omega (arith, ap (started (w.air ++ Sent x ∷ [])) is, ap (started w.air) is))
 
 pub own_ended_less : (x : Sending) (w : World) (m : Member) → Contains w.members m → m.node ≡ x.node
     → m.flood.sent + started w.air m.node < m.flood.limit + m.flood.limit → remaining (own_ended x w) < remaining w

@@ -51,7 +51,7 @@ heard_of (Tuned t) v x is = absurd (cc)
 
 ended_of : (e : Entry) (x : Sending) → sending_in e ≡ Some x → event_in x.node e ≡ Some (Ended x)
 ended_of (Sent s) x is =
-    let same : (let a : Sending = record { rank = s.rank; node = s.node; start = s.start; end = s.end; packet = s.packet } in a ≡ x) = same_Some _ _ is in
+    let same : s ≡ x = same_Some s x is in
     cond-true (s.node == x.node) _ _ (eq-eqb s.node x.node (ap (λ (a : Sending). a.node) same)) ∙ ap (λ (a : Sending). Some (Ended a)) same
 ended_of (HeardOf h) x is = absurd (cc)
 ended_of (Tuned t) x is = absurd (cc)
@@ -61,8 +61,7 @@ node_if n v true z x at own is = let same : z ≡ x = cc in ap (λ (a : Sending)
 node_if n v false z x at own is = absurd (cc)
 
 ended_node : (e : Entry) (v : ℕ) (x : Sending) → event_in v e ≡ Some (Ended x) → x.node ≡ v
-ended_node (Sent s) v x is = node_if s.node v (s.node == v)
-    (record { rank = s.rank; node = s.node; start = s.start; end = s.end; packet = s.packet }) x (λ same. eqb-true s.node v same) refl is
+ended_node (Sent s) v x is = node_if s.node v (s.node == v) s x (λ same. eqb-true s.node v same) refl is
 ended_node (HeardOf h) v x is =
     absurd (heard_is_not (h.node == v) (record { rank = h.rank; node = h.from; start = h.start; end = h.end; packet = h.packet }) x is)
 ended_node (Tuned t) v x is = absurd (cc)
@@ -141,9 +140,7 @@ module _ (f : FloodParts) (clocks : ℕ → ℕ → ℕ) (has : HasClocks f cloc
   }
 
   known_entry : (e : Entry) → Contains w.air e → knows f.nodes (entry_node e) ≡ true
-  known_entry (Sent s) there =
-      let x : Sending = record { rank = s.rank; node = s.node; start = s.start; end = s.end; packet = s.packet } in
-      (so.sent x (in_filter sending_in w.air (Sent s) x there refl)).known
+  known_entry (Sent s) there = (so.sent s (in_filter sending_in w.air (Sent s) s there refl)).known
   known_entry (HeardOf h) there =
       let x : Sending = record { rank = h.rank; node = h.from; start = h.start; end = h.end; packet = h.packet } in
       (so.heard h.node x (in_filter hearing_in w.air (HeardOf h) (record { node = h.node; sending = x }) there refl)).known

@@ -37,7 +37,7 @@ standing f w = as_it_stands w.medium w.medium.now (scene f w)
 
 -- the events of a node in the order of the log
 abbrev pub event_in : ℕ → Entry → Option Event
-event_in v (Sent x) = if x.node == v then Some (Ended (record { rank = x.rank; node = x.node; start = x.start; end = x.end; packet = x.packet })) else None
+event_in v (Sent x) = if x.node == v then Some (Ended x) else None
 event_in v (HeardOf h) = if h.node == v then Some (Heard (record { rank = h.rank; node = h.from; start = h.start; end = h.end; packet = h.packet })) else None
 event_in v (Tuned t) = None
 

@@ -23,12 +23,8 @@ use Rattle.glossy_relay.proofs.CountedPackets.{counter_set, fitting_long, relaye
 use Rattle.lwb_flood.proofs.SendingTimes.{occasion_event}
 
 -- a transmission tells its entry
-entry_of : (x : Sending) → Entry
-entry_of x = Sent (record { rank = x.rank; node = x.node; start = x.start; end = x.end; packet = x.packet })
-
-entry_from : (e : Entry) (x : Sending) → sending_in e ≡ Some x → e ≡ entry_of x
-unfolding entry_of
-entry_from (Sent s) x is = ap entry_of (same_Some (record { rank = s.rank; node = s.node; start = s.start; end = s.end; packet = s.packet }) x is)
+entry_from : (e : Entry) (x : Sending) → sending_in e ≡ Some x → e ≡ Sent x
+entry_from (Sent s) x is = ap Sent (same_Some s x is)
 entry_from (HeardOf h) x is = absurd (cc)
 entry_from (Tuned t) x is = absurd (cc)
 

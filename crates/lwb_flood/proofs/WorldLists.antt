@@ -10,7 +10,8 @@ use Rattle.std.proofs.lemmas.List.Quantifiers.{all_pairs_push}
 use Rattle.glossy_relay.specs.FloodState.{FloodState}
 use Rattle.radio_model.specs.declared.sending.Sending.{Sending}
 use Rattle.air_log.specs.declared.entry.Entry.{Entry}
-use Rattle.air_log.specs.Entries.{sending_in, hearing_in, tuning_in, sendings_of, hearings_of, tunings_of, sent_entry, heard_entry}
+use Rattle.air_log.specs.declared.entry.Entry.TheVariants.{Sent}
+use Rattle.air_log.specs.Entries.{sending_in, hearing_in, tuning_in, sendings_of, hearings_of, tunings_of, heard_entry}
 use Rattle.air_log.specs.NodeEvents.{Event, Heard, Ended, sending_of_event, EventsInOrder, flood_after_events, EventOccasion, event_occasions}
 use Rattle.lwb_base.proofs.Elements.{not_in_none, contains_cases, map_contains, map_from, Distinct}
 use Rattle.lwb_flood.specs.declared.member.Member.{Member}
@@ -60,14 +61,14 @@ nodes_kept v change keeps (m ∷ ms) =
 
 -- a log with one entry more
 module _ (air : List Entry) (x : Sending) where
-  pub events_sent_own : (v : ℕ) → x.node ≡ v → events_in (air ++ sent_entry x ∷ []) v ≡ events_in air v ++ Ended x ∷ []
+  pub events_sent_own : (v : ℕ) → x.node ≡ v → events_in (air ++ Sent x ∷ []) v ≡ events_in air v ++ Ended x ∷ []
   events_sent_own v is =
-      filter_map-append (event_in v) air (sent_entry x ∷ [])
+      filter_map-append (event_in v) air (Sent x ∷ [])
       ∙ ap (λ (o : Option Event). events_in air v ++ cons_option o []) (cond-true (x.node == v) (Some (Ended x)) None (eq-eqb x.node v is))
 
-  pub events_sent_other : (v : ℕ) → x.node ≢ v → events_in (air ++ sent_entry x ∷ []) v ≡ events_in air v
+  pub events_sent_other : (v : ℕ) → x.node ≢ v → events_in (air ++ Sent x ∷ []) v ≡ events_in air v
   events_sent_other v not =
-      filter_map-append (event_in v) air (sent_entry x ∷ [])
+      filter_map-append (event_in v) air (Sent x ∷ [])
       ∙ ap (λ (o : Option Event). events_in air v ++ cons_option o []) (cond-false (x.node == v) (Some (Ended x)) None (ne_eqb x.node v not))
       ∙ append-nil (events_in air v)
 

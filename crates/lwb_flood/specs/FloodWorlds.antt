@@ -19,8 +19,8 @@ use Rattle.link_trace.specs.Passes.{Lines}
 use Rattle.radio_model.specs.Stations.{MediumState, IsMedium, IsTime, Ends, nodes_of, sending_of_station, station_of, medium_after_change}
 use Rattle.radio_model.specs.Stations.{station_after_tuning, station_after_start, station_after_end, first_state}
 use Rattle.air_log.specs.declared.entry.Entry.{Entry}
-use Rattle.air_log.specs.declared.entry.Entry.TheVariants.{Tuned}
-use Rattle.air_log.specs.Entries.{sent_entry, heard_entry}
+use Rattle.air_log.specs.declared.entry.Entry.TheVariants.{Sent, Tuned}
+use Rattle.air_log.specs.Entries.{heard_entry}
 use Rattle.air_log.specs.FloodLaw.{OPENING, START, CLOSING, first_packet, first_flood, sending_at}
 use Rattle.lwb_flood.specs.declared.member.Act.{Act}
 use Rattle.lwb_flood.specs.declared.member.Act.TheVariants.{Listens, Waits, Sends, Off}
@@ -99,7 +99,7 @@ abbrev pub world_after_start : Sending → World → World
 world_after_start x w = record {
   medium = medium_after_change x.start x.node (station_after_start w.medium.numbers x.start x.packet) w.medium;
   members = with_change x.node (member_with_act (Sends x)) w.members;
-  air = w.air ++ sent_entry x ∷ [];
+  air = w.air ++ Sent x ∷ [];
 }
 
 -- a node goes off at t

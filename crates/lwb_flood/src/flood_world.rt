@@ -10,13 +10,13 @@ ghost use Rattle.air_log.specs.FloodLaw.{sending_at};
 ghost use Rattle.lwb_flood.specs.FloodWorlds.{World, node_of_member, moment_of, ActsNext, world_after_start, gone, world_after_reception, sooner as sooner_of};
 ghost use Rattle.lwb_flood.specs.FloodWorlds.{moment_comes_before as comes_before_of, heard_by_all, readings_of_node, Ended, CanStep, WorldSteps};
 ghost use Rattle.lwb_flood.specs.FloodWorlds.{world_closed_at, closed_all};
-ghost use Rattle.air_log.specs.Entries.{sent_entry as sent_entry_of, heard_entry as heard_entry_of};
+ghost use Rattle.air_log.specs.Entries.{heard_entry as heard_entry_of};
 ghost use Rattle.lwb_flood.specs.declared.member.Member.{Member};
 ghost use Rattle.glossy_relay.specs.declared.flood.After.TheVariants.{More};
 
 use crate::flood_nodes::{end_own, hear_at, place_of, set_act};
 use crate::member::{Act, Member, copy_of_act, is_off};
-use air_log::{Air, Entry, HeardEntry, SentEntry, TunedEntry};
+use air_log::{Air, Entry, HeardEntry, TunedEntry};
 use glossy_relay::After;
 use link_trace::Trace;
 use lwb_base::{Memory, NodeId, Packet, Profile, Rank};
@@ -130,7 +130,7 @@ impl FloodWorld {
             end: start + Profile::one().airtime(packet.length()),
             packet,
         };
-        self.air.push(sent_entry(&x))?;
+        self.air.push(Entry::Sent(x.copy()))?;
         self.medium.start(node, start, &x.packet);
         set_act(&mut self.members, node, Act::Sends(x));
         Ok(())
@@ -258,18 +258,6 @@ pub(crate) fn channel() -> Rank
     ensures { result ≡ 0 }
 {
     Rank::new(0).unwrap()
-}
-
-fn sent_entry(x: &Sending) -> Entry
-    ensures { result ≡ sent_entry_of x.now }
-{
-    Entry::Sent(SentEntry {
-        rank: x.rank,
-        node: x.node,
-        start: x.start,
-        end: x.end,
-        packet: x.packet.copy(),
-    })
 }
 
 fn heard_entry(node: NodeId, x: &Sending) -> Entry

@@ -39,13 +39,7 @@ pub(crate) fn copy_of_act(act: &Act) -> Act
     match act {
         Act::Listens => Act::Listens,
         Act::Waits(t, packet) => Act::Waits(*t, packet.copy()),
-        Act::Sends(x) => Act::Sends(Sending {
-            rank: x.rank,
-            node: x.node,
-            start: x.start,
-            end: x.end,
-            packet: x.packet.copy(),
-        }),
+        Act::Sends(x) => Act::Sends(x.copy()),
         Act::Off => Act::Off,
     }
 }

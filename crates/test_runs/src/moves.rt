@@ -42,17 +42,6 @@ impl MovedEntry {
     }
 }
 
-/// The same transmission once more.
-pub fn copied(x: &SentEntry) -> SentEntry {
-    SentEntry {
-        rank: x.rank,
-        node: x.node,
-        start: x.start,
-        end: x.end,
-        packet: x.packet.copy(),
-    }
-}
-
 fn with_byte(packet: &Packet, place: usize, byte: u8) -> Option<Packet> {
     let mut bytes = [0u8; 125];
     let length = packet.bytes().len();
@@ -64,7 +53,7 @@ fn with_byte(packet: &Packet, place: usize, byte: u8) -> Option<Packet> {
 
 /// The transmission after the move.
 pub fn after(x: &SentEntry, done: Move) -> Option<SentEntry> {
-    let mut moved = copied(x);
+    let mut moved = x.copy();
     match done {
         Move::Later(ticks) => {
             moved.start = x.start.checked_add(ticks)?;
@@ -95,7 +84,7 @@ pub fn moved(
             kept.push(after(x, row.done).ok_or("move")?)?;
             count = count.saturating_add(1);
         } else {
-            kept.push(copied(x))?;
+            kept.push(x.copy())?;
         }
     }
     Ok((kept, count))

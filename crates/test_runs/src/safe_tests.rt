@@ -1,6 +1,6 @@
 //! Logs of worked scenarios are safe, and some that were changed manually are not.
 
-use crate::moves::{Move, MovedEntry, copied, moved};
+use crate::moves::{Move, MovedEntry, moved};
 use crate::runs::{Speeds, scenario_between, trails, world_after};
 use crate::safe::Clause;
 use crate::texts::{BACKUP_HOST, COLLECTION_LINE, LONGEST_RUN, ONE_PACKET, TWO_CONTENDERS};
@@ -13,7 +13,7 @@ fn sendings(alloc: Global, air: &Air) -> Result<Vec<SentEntry>, AllocError> {
     let mut sent = Vec::new(alloc);
     for i in 0..air.len() {
         if let Some(Entry::Sent(x)) = air.at(i) {
-            sent.push(copied(x))?;
+            sent.push(x.copy())?;
         }
     }
     Ok(sent)

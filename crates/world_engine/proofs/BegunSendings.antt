@@ -25,7 +25,7 @@ use Rattle.event_calendar.specs.declared.class.Class.TheVariants.{SendingEnd, Se
 use Rattle.bus_rules.specs.Cores.{Setup}
 use Rattle.air_log.specs.Devices.{Device, Made, nothing_made}
 use Rattle.air_log.specs.Trails.{device_after_start, sendings_starting}
-use Rattle.air_log.specs.Entries.{sent_entry}
+use Rattle.air_log.specs.declared.entry.Entry.TheVariants.{Sent}
 use Rattle.air_log.specs.declared.entry.Entry.{Entry}
 use Rattle.air_log.proofs.LoggedEntries.{sendings_sent, hearings_sent}
 use Rattle.radio_model.proofs.ChangedStations.{node_of_station, station_changed}
@@ -57,7 +57,7 @@ module _ (t p : ℕ) (w : FieldState) (field : IsField w) (due : List Due) (st n
     begun_field = record {
       medium = medium_after_change t x.node (station_after_start w.medium.numbers t x.packet) w.medium;
       devices = set w.devices p new;
-      air = w.air ++ sent_entry x ∷ [];
+      air = w.air ++ Sent x ∷ [];
       deliveries = w.deliveries;
       drops = w.drops;
       sums = w.sums;
@@ -241,7 +241,7 @@ module _ (t p : ℕ) (w : FieldState) (field : IsField w) (due : List Due) (st n
         same = record {
           setups = map_stays setup_of_device w.devices p st new here node.setup;
           places = length-set (changed due p SendingStart None) p _ ∙ length-set due p _;
-          entries = entry_more w.air (ids_of w) (sent_entry x)
+          entries = entry_more w.air (ids_of w) (Sent x)
               (subst (λ (n : ℕ). Contains (ids_of w) n) (sym starts.node) (map_contains id_of w.devices st (contains_at w.devices p st here)));
           deliverers = λ d there. inl there;
         };

@@ -7,7 +7,8 @@ use Rattle.std.proofs.lemmas.List.Elements.{filter-append, Contains-push_cases}
 use Rattle.radio_model.specs.declared.sending.Sending.{Sending}
 use Rattle.radio_model.specs.OnAir.{Tuning}
 use Rattle.air_log.specs.declared.entry.Entry.{Entry}
-use Rattle.air_log.specs.Entries.{node_of_entry, sendings_of, sent_entry, heard_entry}
+use Rattle.air_log.specs.declared.entry.Entry.TheVariants.{Sent}
+use Rattle.air_log.specs.Entries.{node_of_entry, sendings_of, heard_entry}
 use Rattle.air_log.specs.Lawful.{sent_by, tuned_by}
 use Rattle.air_log.proofs.LoggedEntries.{sendings_sent, tunings_sent, sendings_heard, tunings_heard}
 
@@ -16,17 +17,17 @@ module _ (air : List Entry) (x : Sending) (v : ℕ) where
   abbrev is_of : Sending → Bool
   is_of y = y.node == v
 
-  split : sent_by (air ++ sent_entry x ∷ []) v ≡ sent_by air v ++ filter is_of (x ∷ [])
+  split : sent_by (air ++ Sent x ∷ []) v ≡ sent_by air v ++ filter is_of (x ∷ [])
   split = ap (filter is_of) (sendings_sent air x) ∙ filter-append is_of (sendings_of air) (x ∷ [])
 
-  pub sent_own : x.node ≡ v → sent_by (air ++ sent_entry x ∷ []) v ≡ sent_by air v ++ x ∷ []
+  pub sent_own : x.node ≡ v → sent_by (air ++ Sent x ∷ []) v ≡ sent_by air v ++ x ∷ []
   sent_own is = split ∙ ap (λ (l : List Sending). sent_by air v ++ l) (cond-true (x.node == v) (x ∷ []) [] (eq-eqb x.node v is))
 
-  pub sent_other : x.node ≢ v → sent_by (air ++ sent_entry x ∷ []) v ≡ sent_by air v
+  pub sent_other : x.node ≢ v → sent_by (air ++ Sent x ∷ []) v ≡ sent_by air v
   sent_other not = split ∙ ap (λ (l : List Sending). sent_by air v ++ l) (cond-false (x.node == v) (x ∷ []) [] (ne_eqb x.node v not))
       ∙ append-nil (sent_by air v)
 
-  pub tuned_beside_sent : tuned_by (air ++ sent_entry x ∷ []) v ≡ tuned_by air v
+  pub tuned_beside_sent : tuned_by (air ++ Sent x ∷ []) v ≡ tuned_by air v
   tuned_beside_sent = ap (filter (λ (k : Tuning). k.node == v)) (tunings_sent air x)
 
 -- a reception more

@@ -18,7 +18,7 @@ ghost use Rattle.world_engine.specs.Fields.{FieldShows, FieldIsShown, entries_of
 ghost use Rattle.world_engine.specs.FieldSteps.{Acts, IsFirstField, IsClosed};
 
 use crate::event_radio::{EventRadio, OrderRef};
-use air_log::{Air, Device, Entry, SentEntry, TunedEntry, WindowSum};
+use air_log::{Air, Device, Entry, TunedEntry, WindowSum};
 use bus_rules::{Delivery, DropLine};
 use event_calendar::{Class, Orders};
 use lwb_base::{Event, Memory, NodeId, Packet};
@@ -207,13 +207,7 @@ impl Field {
         };
         orders.set(place, Class::SendingEnd, x.end);
         self.medium.start(x.node, t, &x.packet);
-        self.air.push(Entry::Sent(SentEntry {
-            rank: x.rank,
-            node: x.node,
-            start: x.start,
-            end: x.end,
-            packet: x.packet.copy(),
-        }))
+        self.air.push(Entry::Sent(x.copy()))
     }
 
     // Whether the alarm of the device at the place is due at tick t; it is not set any more then.

@@ -4,11 +4,10 @@ use Rattle.std.specs.Bool.{Decides}
 use Rattle.radio_model.specs.declared.sending.Sending.{Sending}
 use Rattle.radio_model.specs.OnAir.{Tuning}
 use Rattle.scenario_clocks.specs.StatedClocks.{scenario_clock}
-use Rattle.air_log.specs.declared.entry.SentEntry.{SentEntry}
 use Rattle.air_log.specs.declared.entry.TunedEntry.{TunedEntry}
 use Rattle.air_log.specs.DeviceStates.{tuning_of}
 use Rattle.air_log.specs.Lawful.{by_end, heard_by, sent_by, tuned_by, reception_of, trail_in}
-use Rattle.air_log.specs.TrailsTold.{TrailTold, trail_told, sending_of_entry}
+use Rattle.air_log.specs.TrailsTold.{TrailTold, trail_told}
 use Rattle.air_check.specs.NodeLogs.{NodeLogState}
 use Rattle.air_check.specs.Verdicts.{FollowsTrail}
 use Rattle.air_check.proofs.OwnTrails.{sent_told, tuned_told, by_tuned, by_sent}
@@ -25,9 +24,9 @@ returns g c = λ air logged.
     c.in_ok-trail.ensures
     ∙ ap (λ (f : ℕ → ℕ). trail_told s v f (map reception_of (by_end (map Rattle.air_log.specs.Courses.hearing_of c.log.inside.heard.items)))) c.requires.reads
     ∙ ap (λ (n : NodeLogState). trail_told s v clock (map reception_of (by_end n.heard))) own in
-    let same_sent : Decides c.are_same_sent.result (c.in_ok-trail.trail.sent ≡ map sending_of_entry c.in_ok-sent.sent.items) =
-    subst (λ (l : List Sending). Decides c.are_same_sent.result (l ≡ map sending_of_entry c.in_ok-sent.sent.items)) c.sent.ensures
-    (subst (λ (l : List SentEntry). Decides c.are_same_sent.result (map sending_of_entry c.sent.result.now ≡ map sending_of_entry l)) c.deref.ensures.value
+    let same_sent : Decides c.are_same_sent.result (c.in_ok-trail.trail.sent ≡ c.in_ok-sent.sent.items) =
+    subst (λ (l : List Sending). Decides c.are_same_sent.result (l ≡ c.in_ok-sent.sent.items)) c.sent.ensures
+    (subst (λ (l : List Sending). Decides c.are_same_sent.result (c.sent.result.now ≡ l)) c.deref.ensures.value
     c.are_same_sent.ensures) in
     let sent : Decides c.are_same_sent.result (IsPermutation (trail_in s (scenario_clock s) air v).made.sent (sent_by air v)) =
     subst (λ (n : NodeLogState). Decides c.are_same_sent.result (IsPermutation (trail_in s (scenario_clock s) air v).made.sent n.sent)) own

@@ -1,9 +1,9 @@
 use Rattle.std.proofs.Common.{ℕ, rules}
 use Rattle.std.proofs.lemmas.List.Sorted.{IsNonDecreasingBy-from_sort_by_key}
-use Rattle.air_log.specs.declared.entry.SentEntry.{SentEntry}
+use Rattle.radio_model.specs.declared.sending.Sending.{Sending}
 use Rattle.air_check.proofs.own_trail.sent_by_start.Goals as goal
 
-abbrev start : SentEntry → ℕ
+abbrev start : Sending → ℕ
 start x = x.start
 
 pub returns-clause-rises : goal.returns-clause-rises

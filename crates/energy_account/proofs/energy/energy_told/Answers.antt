@@ -2,16 +2,13 @@ use Rattle.std.proofs.Common.{◌≡◌, List, sum_by, refl, sym, ◌∙◌, ap,
 use Rattle.radio_model.specs.declared.sending.Sending.{Sending}
 use Rattle.radio_model.specs.OnAir.{Tuning}
 use Rattle.air_log.specs.DeviceStates.{tuning_of}
-use Rattle.air_log.specs.TrailsTold.{sending_of_entry}
 use Rattle.energy_account.specs.Energies.{sending_time, tuning_time}
 use Rattle.energy_account.specs.ToldEnergies.{SendingsApart, TuningsApart}
 use Rattle.energy_account.proofs.ReadOff.{apart_under, sum_under, sum_turned}
 use Rattle.energy_account.proofs.energy.energy_told.Goals as goal
 
 pub sent_time-requires : goal.sent_time-requires
-sent_time-requires c =
-    apart_under sending_of_entry (λ (x : Sending). x.start) (λ (x : Sending). x.end) 0 c.sent.result.now
-    (subst (λ (xs : List Sending). SendingsApart xs) (sym c.sent.ensures) c.requires.sent)
+sent_time-requires c = subst (λ (xs : List Sending). SendingsApart xs) (sym c.sent.ensures) c.requires.sent
 
 pub tuned_time-requires : goal.tuned_time-requires
 tuned_time-requires c =
@@ -22,7 +19,7 @@ pub returns : goal.returns
 returns c =
     let told = c.args.trail.now in
     let sent : c.sent_time.result ≡ sum_by sending_time told.sent =
-    c.sent_time.ensures ∙ sum_under sending_of_entry sending_time c.sent.result.now ∙ ap (λ (xs : List Sending). sum_by sending_time xs) c.sent.ensures in
+    c.sent_time.ensures ∙ ap (λ (xs : List Sending). sum_by sending_time xs) c.sent.ensures in
     let on : c.tuned_time.result ≡ sum_by tuning_time told.tuned =
     c.tuned_time.ensures ∙ sum_under tuning_of tuning_time c.tuned.result.now ∙ ap (λ (ts : List Tuning). sum_by tuning_time ts) c.tuned.ensures
     ∙ sum_turned tuning_time told.tuned in

@@ -5,7 +5,6 @@ use Rattle.scenario_text.specs.declared.script.Act.{Act}
 use Rattle.air_log.specs.Devices.{event}
 use Rattle.air_log.specs.ScriptedDevices.{device_after_act, device_after_line}
 use Rattle.air_log.specs.DeviceStates.{DeviceState, whole, tuning_of}
-use Rattle.air_log.specs.TrailsTold.{sending_of_entry}
 use Rattle.air_log.specs.Courses.{CourseState, CourseIsShown}
 use Rattle.air_log.proofs.ShownCourses.{goes_seen}
 use Rattle.air_log.proofs.CourseSteps.{then_shown, then_goes, state_goes, device_goes, put_goes}
@@ -16,7 +15,7 @@ tell-requires-clause-shown g c =
     let t = c.args.t in
     let old : CourseState = record {
       device = c.self.inside.device;
-      sent = map sending_of_entry c.self.inside.sent.items;
+      sent = c.self.inside.sent.items;
       tuned = reverse (map tuning_of c.self.inside.tuned.items);
       deliveries = c.self.inside.deliveries.items;
       windows = c.self.inside.windows;
@@ -34,7 +33,7 @@ returns-in_ok-tell-in-On g c =
     let line = c.args.line.now in
     let old : CourseState = record {
       device = c.self.inside.device;
-      sent = map sending_of_entry c.self.inside.sent.items;
+      sent = c.self.inside.sent.items;
       tuned = reverse (map tuning_of c.self.inside.tuned.items);
       deliveries = c.self.inside.deliveries.items;
       windows = c.self.inside.windows;
@@ -57,7 +56,7 @@ returns-else-switch_on g c =
     let line = c.args.line.now in
     let old : CourseState = record {
       device = c.self.inside.device;
-      sent = map sending_of_entry c.self.inside.sent.items;
+      sent = c.self.inside.sent.items;
       tuned = reverse (map tuning_of c.self.inside.tuned.items);
       deliveries = c.self.inside.deliveries.items;
       windows = c.self.inside.windows;
@@ -80,7 +79,7 @@ returns-in-Off g c =
     let line = c.args.line.now in
     let old : CourseState = record {
       device = c.self-in-Off.inside.device;
-      sent = map sending_of_entry c.self-in-Off.inside.sent.items;
+      sent = c.self-in-Off.inside.sent.items;
       tuned = reverse (map tuning_of c.self-in-Off.inside.tuned.items);
       deliveries = c.self-in-Off.inside.deliveries.items;
       windows = c.self-in-Off.inside.windows;
@@ -101,7 +100,7 @@ returns-in-Declare g c =
     let line = c.args.line.now in
     let old : CourseState = record {
       device = c.self-in-Declare.inside.device;
-      sent = map sending_of_entry c.self-in-Declare.inside.sent.items;
+      sent = c.self-in-Declare.inside.sent.items;
       tuned = reverse (map tuning_of c.self-in-Declare.inside.tuned.items);
       deliveries = c.self-in-Declare.inside.deliveries.items;
       windows = c.self-in-Declare.inside.windows;
@@ -121,7 +120,7 @@ returns-in-Leave g c =
     let line = c.args.line.now in
     let old : CourseState = record {
       device = c.self-in-Leave.inside.device;
-      sent = map sending_of_entry c.self-in-Leave.inside.sent.items;
+      sent = c.self-in-Leave.inside.sent.items;
       tuned = reverse (map tuning_of c.self-in-Leave.inside.tuned.items);
       deliveries = c.self-in-Leave.inside.deliveries.items;
       windows = c.self-in-Leave.inside.windows;
@@ -141,7 +140,7 @@ returns-in-Put g c =
     let line = c.args.line.now in
     let old : CourseState = record {
       device = c.self-in-Put.inside.device;
-      sent = map sending_of_entry c.self-in-Put.inside.sent.items;
+      sent = c.self-in-Put.inside.sent.items;
       tuned = reverse (map tuning_of c.self-in-Put.inside.tuned.items);
       deliveries = c.self-in-Put.inside.deliveries.items;
       windows = c.self-in-Put.inside.windows;

@@ -2,7 +2,6 @@ use Rattle.std.proofs.Common.{◌≡◌, Bool, true, false, if◌then◌else◌,
 use Rattle.tick_clock.proofs.Readings.{read_in_range}
 use Rattle.air_log.specs.Trails.{alarm_is_due, alarmed}
 use Rattle.air_log.specs.DeviceStates.{DeviceState, tuning_of}
-use Rattle.air_log.specs.TrailsTold.{sending_of_entry}
 use Rattle.air_log.specs.AlarmRuns.{after_alarms}
 use Rattle.air_log.specs.Courses.{CourseState, CourseShows, CourseIsShown}
 use Rattle.air_log.proofs.AlarmsOfCourses.{none_taken, one_more_taken, all_taken, few_taken}
@@ -19,7 +18,7 @@ returns-then-not-take_alarm g c = λ q d shows runs.
     let t = c.args.t in
     let old : CourseState = record {
       device = c.self.inside.device;
-      sent = map sending_of_entry c.self.inside.sent.items;
+      sent = c.self.inside.sent.items;
       tuned = reverse (map tuning_of c.self.inside.tuned.items);
       deliveries = c.self.inside.deliveries.items;
       windows = c.self.inside.windows;
@@ -38,7 +37,7 @@ tell-requires-clause-shown g c =
     let t = c.args.t in
     let old : CourseState = record {
       device = c.self.inside.device;
-      sent = map sending_of_entry c.self.inside.sent.items;
+      sent = c.self.inside.sent.items;
       tuned = reverse (map tuning_of c.self.inside.tuned.items);
       deliveries = c.self.inside.deliveries.items;
       windows = c.self.inside.windows;
@@ -57,7 +56,7 @@ loop-preserved g c =
     let t = c.args.t in
     let old : CourseState = record {
       device = c.self.inside.device;
-      sent = map sending_of_entry c.self.inside.sent.items;
+      sent = c.self.inside.sent.items;
       tuned = reverse (map tuning_of c.self.inside.tuned.items);
       deliveries = c.self.inside.deliveries.items;
       windows = c.self.inside.windows;

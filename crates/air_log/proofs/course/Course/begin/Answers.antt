@@ -2,7 +2,6 @@ use Rattle.std.proofs.Common.{map, reverse, sym}
 use Rattle.std.proofs.lemmas.Result.{on_ok_weaker}
 use Rattle.air_log.specs.Trails.{device_after_start}
 use Rattle.air_log.specs.DeviceStates.{tuning_of}
-use Rattle.air_log.specs.TrailsTold.{sending_of_entry}
 use Rattle.air_log.specs.Courses.{CourseState}
 use Rattle.air_log.proofs.ShownCourses.{goes_seen}
 use Rattle.air_log.proofs.CourseSteps.{begin_goes}
@@ -12,7 +11,7 @@ pub returns : goal.returns
 returns c =
     let old : CourseState = record {
       device = c.self.inside.device;
-      sent = map sending_of_entry c.self.inside.sent.items;
+      sent = c.self.inside.sent.items;
       tuned = reverse (map tuning_of c.self.inside.tuned.items);
       deliveries = c.self.inside.deliveries.items;
       windows = c.self.inside.windows;

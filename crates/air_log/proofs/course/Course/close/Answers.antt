@@ -3,7 +3,6 @@ use Rattle.std.proofs.lemmas.Result.{on_ok_weaker}
 use Rattle.bus_rules.specs.Cores.{Setup}
 use Rattle.air_log.specs.Devices.{Device, silenced}
 use Rattle.air_log.specs.DeviceStates.{tuning_of, one_more}
-use Rattle.air_log.specs.TrailsTold.{sending_of_entry}
 use Rattle.air_log.specs.Courses.{CourseState, CourseShows, HasListsOf}
 use Rattle.air_log.proofs.CourseSteps.{close_tells}
 use Rattle.air_log.proofs.course.Course.close.Goals as goal
@@ -13,7 +12,7 @@ returns c =
     let t = c.args.t in
     let old : CourseState = record {
       device = c.self.inside.device;
-      sent = map sending_of_entry c.self.inside.sent.items;
+      sent = c.self.inside.sent.items;
       tuned = reverse (map tuning_of c.self.inside.tuned.items);
       deliveries = c.self.inside.deliveries.items;
       windows = c.self.inside.windows;

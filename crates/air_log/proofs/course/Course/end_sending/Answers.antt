@@ -5,7 +5,6 @@ use Rattle.radio_model.specs.declared.sending.Sending.{Sending}
 use Rattle.air_log.specs.Devices.{event}
 use Rattle.air_log.specs.Trails.{device_after_end}
 use Rattle.air_log.specs.DeviceStates.{DeviceState, whole, tuning_of, told_of}
-use Rattle.air_log.specs.TrailsTold.{sending_of_entry}
 use Rattle.air_log.specs.Courses.{CourseState, CourseIsShown}
 use Rattle.air_log.proofs.ShownCourses.{set_happened, goes_seen}
 use Rattle.air_log.proofs.CourseSteps.{then_shown, then_goes}
@@ -15,7 +14,7 @@ pub tell-requires-clause-shown : goal.tell-requires-clause-shown
 tell-requires-clause-shown g c =
     let old : CourseState = record {
       device = c.self.inside.device;
-      sent = map sending_of_entry c.self.inside.sent.items;
+      sent = c.self.inside.sent.items;
       tuned = reverse (map tuning_of c.self.inside.tuned.items);
       deliveries = c.self.inside.deliveries.items;
       windows = c.self.inside.windows;
@@ -32,7 +31,7 @@ returns-in-Some g c =
     let t = c.args.t in
     let old : CourseState = record {
       device = c.self.inside.device;
-      sent = map sending_of_entry c.self.inside.sent.items;
+      sent = c.self.inside.sent.items;
       tuned = reverse (map tuning_of c.self.inside.tuned.items);
       deliveries = c.self.inside.deliveries.items;
       windows = c.self.inside.windows;

@@ -2,7 +2,6 @@ use Rattle.std.proofs.Common.{map, reverse, sym, ◌∙◌, ap}
 use Rattle.std.proofs.lemmas.Result.{on_ok_weaker}
 use Rattle.air_log.specs.Devices.{obeyed}
 use Rattle.air_log.specs.DeviceStates.{whole, tuning_of}
-use Rattle.air_log.specs.TrailsTold.{sending_of_entry}
 use Rattle.air_log.specs.Courses.{CourseState}
 use Rattle.air_log.proofs.ShownCourses.{goes_seen}
 use Rattle.air_log.proofs.CourseSteps.{device_goes}
@@ -14,7 +13,7 @@ returns-in-Listen g c =
     let t = c.args.t in
     let old : CourseState = record {
       device = c.self.inside.device;
-      sent = map sending_of_entry c.self.inside.sent.items;
+      sent = c.self.inside.sent.items;
       tuned = reverse (map tuning_of c.self.inside.tuned.items);
       deliveries = c.self.inside.deliveries.items;
       windows = c.self.inside.windows;
@@ -33,7 +32,7 @@ returns-in-Off g c =
     let t = c.args.t in
     let old : CourseState = record {
       device = c.self-in-Off.inside.device;
-      sent = map sending_of_entry c.self-in-Off.inside.sent.items;
+      sent = c.self-in-Off.inside.sent.items;
       tuned = reverse (map tuning_of c.self-in-Off.inside.tuned.items);
       deliveries = c.self-in-Off.inside.deliveries.items;
       windows = c.self-in-Off.inside.windows;

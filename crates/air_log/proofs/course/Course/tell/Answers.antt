@@ -6,7 +6,6 @@ use Rattle.radio_model.specs.OnAir.{Sending, Tuning}
 use Rattle.node_core.specs.Rows.{orders_by}
 use Rattle.air_log.specs.Devices.{obeyed, event}
 use Rattle.air_log.specs.DeviceStates.{DeviceState, whole, row_of, made_by, tuning_of}
-use Rattle.air_log.specs.TrailsTold.{sending_of_entry}
 use Rattle.air_log.specs.WindowSums.{WindowSum, noted as noted_with}
 use Rattle.air_log.specs.Courses.{CourseState, CourseIsShown, Goes}
 use Rattle.air_log.proofs.ShownCourses.{goes_seen}
@@ -25,7 +24,7 @@ obey_all-requires-clause-shown g c =
     let clock = g.C.DriftClock.readings c.args.clock.now in
     let old : CourseState = record {
       device = c.self.inside.device;
-      sent = map sending_of_entry c.self.inside.sent.items;
+      sent = c.self.inside.sent.items;
       tuned = reverse (map tuning_of c.self.inside.tuned.items);
       deliveries = c.self.inside.deliveries.items;
       windows = c.self.inside.windows;
@@ -45,7 +44,7 @@ returns g c =
     let clock = g.C.DriftClock.readings c.args.clock.now in
     let old : CourseState = record {
       device = c.self.inside.device;
-      sent = map sending_of_entry c.self.inside.sent.items;
+      sent = c.self.inside.sent.items;
       tuned = reverse (map tuning_of c.self.inside.tuned.items);
       deliveries = c.self.inside.deliveries.items;
       windows = c.self.inside.windows;
