@@ -10,4 +10,4 @@ pub mod SlotNumbers
 pub mod CaptureKeys
 pub mod MaskReads
 pub mod MasksOfPassing
-pub mod MasksOfReaching
+pub mod MaskSides
