@@ -1,9 +1,8 @@
 -- Tunings in order, each until the end of those of its node and channel before it.
-use Rattle.std.proofs.Common.{◌≡◌, ℕ, ◌+◌, ◌-◌, ◌<◌, ◌≤◌, ◌⊎◌, inl, inr, List, [], ◌∷◌, ◌++◌, map, take, drop, length, get_or, Bool, true, false}
+use Rattle.std.proofs.Common.{◌≡◌, ℕ, ◌+◌, ◌-◌, ◌<◌, ◌≤◌, ◌⊎◌, inl, inr, List, [], ◌∷◌, ◌++◌, map, take, drop, length, get_or, Bool, true}
 use Rattle.std.proofs.Common.{refl, sym, ◌∙◌, ap, subst, arith, Contains, AllPairs, true≢false, length-append}
 use Rattle.std.specs.Prelude.{IsPermutation}
 use Rattle.std.specs.List.Sorted.{IsSortedBy}
-use Rattle.std.specs.Cmp.{IsStrictWeakOrder, nat_cmp_total, on_total, then_total}
 use Rattle.std.specs.Ordering.{nat_cmp, ordering_then, is_lt}
 use Rattle.std.proofs.lemmas.Bool.{cases_lt}
 use Rattle.std.proofs.lemmas.Bool.Decides.{nat_tests}
@@ -13,7 +12,7 @@ use Rattle.std.proofs.lemmas.List.Sorted.{ranks_by, sorted_far, Contains-permuta
 use Rattle.std.proofs.lemmas.List.Elements.{Contains-push, Contains-push_cases, Contains-append_left, Contains-get_or}
 use Rattle.radio_model.specs.OnAir.{Tuning}
 use Rattle.lwb_base.proofs.Elements.{not_in_none, contains_head, contains_tail}
-use Rattle.air_check.proofs.Gathered.{not_less}
+use Rattle.lwb_base.proofs.Orders.{by_three_total, not_below}
 use Rattle.air_check.specs.Tunings.{IsNoLater, IsOf, IsListedTuning, AreTuned, IsUntilAfter, tuning_of_tuned}
 use Rattle.air_check.specs.declared.tunings.Tuned.{Tuned}
 
@@ -243,10 +242,6 @@ place_of e = (e.node, e.rank, e.start)
 abbrev pub before : Tuned → Tuned → Bool
 before e f = is_lt (ordering_then (ordering_then (nat_cmp e.node f.node) (nat_cmp e.rank f.rank)) (nat_cmp e.start f.start))
 
-is_order : IsStrictWeakOrder before
-is_order = ranks_by (then_total (then_total (on_total (λ (t : ℕ × ℕ × ℕ). t.0) nat_cmp_total) (on_total (λ (t : ℕ × ℕ × ℕ). t.1) nat_cmp_total))
-    (on_total (λ (t : ℕ × ℕ × ℕ). t.2) nat_cmp_total)) place_of
-
 by_first : (m n p q u v : ℕ) → m < n → is_lt (ordering_then (ordering_then (nat_cmp m n) (nat_cmp p q)) (nat_cmp u v)) ≡ true
 by_first m n p q u v less = grind (arith, nat_tests)
 
@@ -260,12 +255,12 @@ pub before_pairs : (xs : List Tuned) → IsSortedBy before xs → AllPairs IsNoL
 before_pairs xs sorted i j d less below =
     let x = get_or xs i d in
     let y = get_or xs j d in
-    let so = sorted_far before is_order xs sorted i j d (omega (arith, less)) below in
+    let so = sorted_far before (ranks_by by_three_total place_of) xs sorted i j d (omega (arith, less)) below in
     record {
-      node = not_less y.node x.node (λ up. true≢false (sym (by_first y.node x.node y.rank x.rank y.start x.start up) ∙ so));
-      rank = λ same. not_less y.rank x.rank (λ up. true≢false (sym (by_second y.node x.node y.rank x.rank y.start x.start (sym same) up) ∙ so));
+      node = not_below y.node x.node (λ up. true≢false (sym (by_first y.node x.node y.rank x.rank y.start x.start up) ∙ so));
+      rank = λ same. not_below y.rank x.rank (λ up. true≢false (sym (by_second y.node x.node y.rank x.rank y.start x.start (sym same) up) ∙ so));
       start = λ same also.
-          not_less y.start x.start (λ up. true≢false (sym (by_third y.node x.node y.rank x.rank y.start x.start (sym same) (sym also) up) ∙ so));
+          not_below y.start x.start (λ up. true≢false (sym (by_third y.node x.node y.rank x.rank y.start x.start (sym same) (sym also) up) ∙ so));
     }
 
 -- in another order they are the same tunings

@@ -1,22 +1,17 @@
--- What a log holds, one entry more at a time, and in what order it is put.
-use Rattle.std.proofs.Common.{◌≡◌, ℕ, ◌+◌, ◌<◌, ◌≤◌, List, [], ◌++◌, take, map, length, get_or, Bool, true, false, ◌==◌}
+-- What a log holds, one entry more at a time, and what of it was sent by traces.
+use Rattle.std.proofs.Common.{◌≡◌, ℕ, ◌+◌, ◌<◌, List, [], ◌++◌, take, map, length, get_or, Bool, true, false, ◌==◌}
 use Rattle.std.proofs.Common.{if◌then◌else◌, Option, Some, None, option_map, option_to_list, filter_map, refl, sym, ◌∙◌, ap, arith, inl, inr}
-use Rattle.std.proofs.Common.{true≢false, eq-eqb, Contains, All, AllPairs}
+use Rattle.std.proofs.Common.{eq-eqb, Contains, All}
 use Rattle.std.specs.Prelude.{IsPermutation}
-use Rattle.std.specs.List.Sorted.{IsSortedBy}
-use Rattle.std.specs.Cmp.{IsStrictWeakOrder, nat_cmp_total, on_total, then_total}
-use Rattle.std.specs.Ordering.{nat_cmp, ordering_then, is_lt}
-use Rattle.std.proofs.lemmas.Bool.{cases_order, cases_lt}
-use Rattle.std.proofs.lemmas.Bool.Decides.{nat_tests}
+use Rattle.std.proofs.lemmas.Bool.{cases_order}
 use Rattle.std.proofs.lemmas.List.{map-append}
-use Rattle.std.proofs.lemmas.List.Sorted.{ranks_by, sorted_far, Contains-permutation, IsPermutation-sym}
+use Rattle.std.proofs.lemmas.List.Sorted.{Contains-permutation, IsPermutation-sym}
 use Rattle.std.proofs.lemmas.List.Elements.{All-contains, Contains-get_or}
 use Rattle.scenario_text.specs.FloodParts.{knows}
 use Rattle.scenario_text.specs.ScenarioParts.{ScenarioParts}
-use Rattle.radio_model.specs.Hearing.{Before}
 use Rattle.radio_model.specs.OnAir.{Sending}
 use Rattle.lwb_base.proofs.Elements.{not_in_none}
-use Rattle.lwb_base.proofs.Lists.{filter_map_more}
+use Rattle.lwb_base.proofs.Lists.{chosen_more}
 use Rattle.air_log.specs.Entries.{sendings_of}
 use Rattle.air_log.specs.Lawful.{FollowsTrails, trail_sent, trail_in, sent_by, heard_by}
 use Rattle.air_log.specs.TrailEntries.{IsSentBefore}
@@ -24,12 +19,6 @@ use Rattle.air_log.specs.Trails.{run_end}
 use Rattle.air_log.specs.declared.entry.Entry.{Entry}
 use Rattle.lwb_base.proofs.Elements.{in_filtered}
 use Rattle.air_log.proofs.TrailSendings.{in_order, each_sent}
-
-pub one_more : {Y : Type 0} (f : Entry → Option Y) (air : List Entry) (i : ℕ) (e : Entry) (old new : List Y) (o : Option Y) → i < length air
-    → e ≡ get_or air i e → o ≡ f e → old ≡ filter_map f (take i air) → new ≡ old ++ option_to_list o → new ≡ filter_map f (take (i + 1) air)
-one_more {Y} f air i e old new o below at is so adds =
-    adds ∙ ap (λ (l : List Y). l ++ option_to_list o) so ∙ ap (λ (p : Option Y). filter_map f (take i air) ++ option_to_list p) is
-    ∙ sym (filter_map_more f air i e below at)
 
 mapped : {X Y : Type 0} (g : X → Y) (o : Option X) → map g (option_to_list o) ≡ option_to_list (option_map g o)
 mapped g None = refl
@@ -39,37 +28,8 @@ pub one_more_of : {X Y : Type 0} (g : X → Y) (f : Entry → Option Y) (air : L
     → e ≡ get_or air i e → option_map g o ≡ f e → map g old ≡ filter_map f (take i air) → new ≡ old ++ option_to_list o
     → map g new ≡ filter_map f (take (i + 1) air)
 one_more_of {X} {Y} g f air i e old new o below at is so adds =
-    one_more f air i e (map g old) (map g new) (option_map g o) below at is so
+    chosen_more f air i e (map g old) (map g new) (option_map g o) below at is so
     (ap (map g) adds ∙ map-append g old (option_to_list o) ∙ ap (λ (l : List Y). map g old ++ l) (mapped g o))
-
--- the order of transmissions
-abbrev pub place_of : Sending → ℕ × ℕ
-place_of x = (x.start, x.node)
-
-abbrev pub before : Sending → Sending → Bool
-before x y = is_lt (ordering_then (nat_cmp x.start y.start) (nat_cmp x.node y.node))
-
-is_order : IsStrictWeakOrder before
-is_order = ranks_by (then_total (on_total (λ (t : ℕ × ℕ). t.0) nat_cmp_total) (on_total (λ (t : ℕ × ℕ). t.1) nat_cmp_total)) place_of
-
-pub not_less : (m n : ℕ) → (m < n → ⊥) → n ≤ m
-not_less m n never = elim (cases_lt m n) [ inl less ↦ absurd (never less) | inr by ↦ by ]
-
-by_first : (m n p q : ℕ) → m < n → is_lt (ordering_then (nat_cmp m n) (nat_cmp p q)) ≡ true
-by_first m n p q less = grind (arith, nat_tests)
-
-by_second : (m n p q : ℕ) → m ≡ n → p < q → is_lt (ordering_then (nat_cmp m n) (nat_cmp p q)) ≡ true
-by_second m n p q same less = grind (arith, nat_tests)
-
-pub before_pairs : (xs : List Sending) → IsSortedBy before xs → AllPairs Before xs
-before_pairs xs sorted i j d less below =
-    let x = get_or xs i d in
-    let y = get_or xs j d in
-    let so = sorted_far before is_order xs sorted i j d (omega (arith, less)) below in
-    record {
-      start = not_less y.start x.start (λ up. true≢false (sym (by_first y.start x.start y.node x.node up) ∙ so));
-      node = λ same. not_less y.node x.node (λ up. true≢false (sym (by_second y.start x.start y.node x.node (sym same) up) ∙ so));
-    }
 
 -- what follows its traces was sent by traces
 module _ (s : ScenarioParts) (clocks : ℕ → ℕ → ℕ) (air : List Entry) (trails : FollowsTrails s clocks air) where

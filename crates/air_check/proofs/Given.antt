@@ -2,10 +2,6 @@
 use Rattle.std.proofs.Common.{◌≡◌, ℕ, ◌-◌, ◌<◌, ◌≤◌, ◌^◌, ◌↔◌, List, [], ◌∷◌, All, get_or, length, take, drop, true, Bool, arith, ap, sym, subst, inl, inr}
 use Rattle.std.proofs.lemmas.List.{take_all}
 use Rattle.std.proofs.lemmas.List.Elements.{All-contains, Contains-get_or}
-use Rattle.std.proofs.Math.Nat.{mul-le-mul_right, mul-le-mul_left}
-use Rattle.lwb_base.specs.Profile.{Numbers}
-use Rattle.scenario_text.specs.ScenarioGrammar.{IsScenario}
-use Rattle.scenario_text.proofs.SoundScenarios.{sound}
 use Rattle.scenario_text.specs.ScenarioParts.{ScenarioParts}
 use Rattle.radio_model.proofs.Members.{in_tail, in_either}
 use Rattle.radio_model.specs.Hearing.{HearsInScene}
@@ -53,15 +49,3 @@ near_in_air air s i near x is are = record {
 pub given_so : (s : ScenarioParts) (air : List Entry) (v : ℕ) (x : Sending) (result : Bool) → x.end < run_end s
     → (result ≡ true ↔ HearsInScene (scene_of s.profile s.trace air) v x) → (result ≡ true ↔ IsGiven s air v x)
 given_so s air v x result ends hears = (λ so. record { ends = ends; heard = hears.0 so }, λ given. hears.1 given.heard)
-
-pub short_run : (s : ScenarioParts) → IsScenario s → run_end s ≤ 2 ^ 46
-short_run s said =
-    let all = sound s said in
-    let few = all.few_frames in
-    let frame : s.profile.frame ≤ 320000000 = elim all.profile [
-      | inl one ↦ (let is = ap (λ (p : Numbers). p.frame) one in omega arith)
-      | inr two ↦ (let is = ap (λ (p : Numbers). p.frame) two.0 in omega arith)
-    ] in
-    let most = mul-le-mul_right s.profile.frame few in
-    let more = mul-le-mul_left 4096 frame in
-    omega (arith, most, more)

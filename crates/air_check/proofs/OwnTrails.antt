@@ -9,6 +9,7 @@ use Rattle.std.proofs.lemmas.List.Sorted.{IsPermutation-refl, IsPermutation-sym,
 use Rattle.std.proofs.lemmas.List.Sorted.{All-permutation, length_permutation}
 use Rattle.radio_model.specs.declared.sending.Sending.{Sending}
 use Rattle.radio_model.specs.OnAir.{Tuning}
+use Rattle.radio_model.proofs.OverlapWindows.{start_of}
 use Rattle.lwb_base.proofs.Elements.{pairs_tail}
 use Rattle.scenario_text.specs.FloodParts.{knows}
 use Rattle.scenario_text.specs.ScenarioParts.{ScenarioParts}
@@ -23,9 +24,6 @@ use Rattle.air_log.proofs.TrailTunings.{each_tuned, tuned_in_turn}
 use Rattle.air_check.specs.Verdicts.{FollowsTrail}
 use Rattle.air_check.proofs.SameEntries.{tuned_with}
 use Rattle.air_check.proofs.InOrder.{Below, one_in_order}
-
-abbrev pub sent_start : Sending → ℕ
-sent_start x = x.start
 
 abbrev pub tuned_start : Tuning → ℕ
 tuned_start t = t.start
@@ -47,11 +45,11 @@ module _ (s : ScenarioParts) (v : ℕ) (clock : ℕ → ℕ) (hs : List Receptio
       let some = (each_tuned s v clock hs j d within).some in
       omega (arith, after, some)))
 
-  pub sent_decided : (xs ys : List Sending) (b : Bool) → IsPermutation xs ys → IsNonDecreasingBy sent_start ys
+  pub sent_decided : (xs ys : List Sending) (b : Bool) → IsPermutation xs ys → IsNonDecreasingBy start_of ys
       → Decides b ((trail s v clock hs).made.sent ≡ ys) → Decides b (IsPermutation (trail s v clock hs).made.sent xs)
   sent_decided xs ys b moved rises is = (
     λ yes. subst (λ (l : List Sending). IsPermutation l xs) (sym (is.0 yes)) (IsPermutation-sym xs ys moved),
-    λ from. is.1 (one_in_order sent_start (trail s v clock hs).made.sent ys (in_order s v clock hs)
+    λ from. is.1 (one_in_order start_of (trail s v clock hs).made.sent ys (in_order s v clock hs)
         (IsPermutation-trans (trail s v clock hs).made.sent xs ys from moved) rises),
   )
 
@@ -77,7 +75,7 @@ rises_map f key back xs rises i j d le within =
 
 module _ (s : ScenarioParts) (v : ℕ) (clock : ℕ → ℕ) (hs : List Reception) where
   pub sent_told : (made own sorted : List Sending) (b : Bool) → made ≡ (trail s v clock hs).made.sent → IsPermutation own sorted
-      → IsNonDecreasingBy sent_start sorted → Decides b (made ≡ sorted) → Decides b (IsPermutation (trail s v clock hs).made.sent own)
+      → IsNonDecreasingBy start_of sorted → Decides b (made ≡ sorted) → Decides b (IsPermutation (trail s v clock hs).made.sent own)
   sent_told made own sorted b is moved rises same =
       sent_decided s v clock hs own sorted b moved rises (subst (λ (l : List Sending). Decides b (l ≡ sorted)) is same)
 

@@ -16,7 +16,7 @@ use Rattle.air_log.specs.declared.entry.HeardEntry.{HeardEntry}
 use Rattle.air_log.specs.Entries.{hearing_in}
 use Rattle.air_log.specs.Lawful.{reception_comes_before, put_in, by_end, hearings_by, reception_of}
 use Rattle.air_log.specs.Trails.{Reception}
-use Rattle.air_log.specs.LogText.{with_inserted, in_order}
+use Rattle.lwb_base.specs.Sorting.{with_inserted, in_order}
 use Rattle.air_log.specs.Courses.{IsSortedByKey, end_of_reception, hearing_of, reception_in, only_of, hearing_with}
 
 -- one entry more

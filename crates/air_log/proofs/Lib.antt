@@ -1,5 +1,4 @@
 -- kept for the crates above
-pub mod StableSorts
 pub mod StrictOrders
 pub mod DeliveryOrder
 pub mod SameSendings
@@ -30,6 +29,7 @@ pub mod CourseSteps
 pub mod CourseEvents
 pub mod FramesOfCourses
 pub mod FirstRoundLog
+pub mod ShortRuns
 -- for this crate alone
 pub mod SmallCores
 mod DeviceEvents

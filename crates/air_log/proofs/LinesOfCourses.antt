@@ -17,7 +17,8 @@ use Rattle.air_log.specs.Devices.{Device, Power, PowerOff, PowerOn, seen_power}
 use Rattle.air_log.specs.ScriptedDevices.{device_after_line}
 use Rattle.air_log.specs.Trails.{frame_start, lines_at}
 use Rattle.air_log.specs.DeviceStates.{CanBoot}
-use Rattle.air_log.specs.Courses.{CourseState, CourseShows, CourseIsShown, Goes, IsSplitByKey, frame_of_line}
+use Rattle.scenario_text.specs.AddedLines.{frame_of_line}
+use Rattle.air_log.specs.Courses.{CourseState, CourseShows, CourseIsShown, Goes, IsSplitByKey}
 use Rattle.air_log.proofs.AlarmRows.{roomy}
 use Rattle.air_log.proofs.KeptPower.{line_power, few_before}
 use Rattle.air_log.proofs.ShownCourses.{shows_as}

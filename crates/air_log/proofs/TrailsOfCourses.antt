@@ -1,5 +1,5 @@
 -- The frames of a run, one after another, and what is given at their end.
-use Rattle.std.proofs.Common.{◌≡◌, ℕ, zero, suc, ◌+◌, ◌%◌, ◌^◌, ◌<◌, ◌≤◌, List, [], ◌∷◌, ◌++◌, map, take, drop, fold, Bool, false, cond}
+use Rattle.std.proofs.Common.{◌≡◌, ℕ, ◌+◌, ◌%◌, ◌^◌, ◌<◌, ◌≤◌, List, [], ◌∷◌, ◌++◌, map, take, drop, fold, Bool, false, cond}
 use Rattle.std.proofs.Common.{nat_lt, Option, None, sum_by, count_by, refl, sym, ◌∙◌, ap, subst, arith, lt-ltb, take-append-drop}
 use Rattle.std.specs.List.{range_with_len}
 use Rattle.std.proofs.lemmas.Bool.{cond-true}
@@ -20,9 +20,11 @@ use Rattle.air_log.specs.Devices.{Device, seen_power, silenced}
 use Rattle.air_log.specs.ScriptedDevices.{device_after_line}
 use Rattle.air_log.specs.Trails.{Reception, setup_of, run_end, frame_start, lines_at, at_frame, before_tick, trail, tune_of, tune_at}
 use Rattle.air_log.specs.TrailsTold.{TrailTold, trail_told}
-use Rattle.air_log.specs.Courses.{CourseState, CourseShows, HasListsOf, Goes, IsSplitByKey, frame_of_line, end_of_reception, reception_in}
+use Rattle.scenario_text.specs.AddedLines.{frame_of_line}
+use Rattle.air_log.specs.Courses.{CourseState, CourseShows, HasListsOf, Goes, IsSplitByKey, end_of_reception, reception_in}
 use Rattle.air_log.proofs.ChargedWindows.{charge_is}
 use Rattle.air_log.proofs.ListCuts.{first_cut}
+use Rattle.lwb_base.proofs.Lists.{range_next}
 
 module _ (clock : ℕ → ℕ) (s : ScenarioParts) (v : ℕ) (hs : List HeardEntry) where
   abbrev pub rs : List Reception
@@ -43,14 +45,6 @@ module _ (clock : ℕ → ℕ) (s : ScenarioParts) (v : ℕ) (hs : List HeardEnt
     pub tunes_are : tunes ≡ map tune (range_with_len 0 f)
     pub scanned_are : scanned ≡ count_by scans (range_with_len 0 f)
     pub few : scanned ≤ f
-
-  range_more : (a n : ℕ) → range_with_len a (suc n) ≡ range_with_len a n ++ (a + n) ∷ []
-  range_more a zero = ap (λ (k : ℕ). k ∷ []) (omega arith)
-  range_more a (suc n) = ap (λ (xs : List ℕ). a ∷ xs) (range_more (a + 1) n ∙ ap (λ (k : ℕ). range_with_len (a + 1) n ++ k ∷ []) (omega arith))
-
-  range_next : (f : ℕ) → range_with_len 0 (f + 1) ≡ range_with_len 0 f ++ f ∷ []
-  range_next f = let next : f + 1 ≡ suc f = omega arith in
-      ap (range_with_len 0) next ∙ range_more 0 f ∙ ap (λ (k : ℕ). range_with_len 0 f ++ k ∷ []) (omega arith)
 
   pub tunes_more : (f : ℕ) (tunes : List (Option Tune)) (t : Option Tune) → tunes ≡ map tune (range_with_len 0 f) → t ≡ tune f
       → tunes ++ t ∷ [] ≡ map tune (range_with_len 0 (f + 1))

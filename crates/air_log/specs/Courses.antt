@@ -7,7 +7,6 @@ use Rattle.radio_model.specs.OnAir.{Hearing, Tuning}
 use Rattle.bus_rules.specs.declared.delivery.Delivery.{Delivery}
 use Rattle.bus_rules.specs.declared.delivery.DropLine.{DropLine}
 use Rattle.bus_rules.specs.Cores.{Setup}
-use Rattle.scenario_text.specs.declared.script.ScriptLine.{ScriptLine}
 use Rattle.air_log.specs.declared.entry.Entry.{Entry}
 use Rattle.air_log.specs.declared.entry.HeardEntry.{HeardEntry}
 use Rattle.air_log.specs.Entries.{hearing_in}
@@ -65,9 +64,6 @@ pub record IsSplitByKey {X : Type 0} (key : X → ℕ) (xs : List X) (k t : ℕ)
 
 abbrev pub IsSortedByKey : {X : Type 0} → (X → ℕ) → List X → Type 0
 IsSortedByKey key xs = AllPairs (λ a b. key a ≤ key b) xs
-
-abbrev pub frame_of_line : ScriptLine → ℕ
-frame_of_line l = l.frame
 
 abbrev pub end_of_reception : HeardEntry → ℕ
 end_of_reception h = h.end

@@ -1,6 +1,6 @@
 -- The log text: a line for each entry, by start, then kind in the order sent, heard, tuned, then node.
 -- Entries that this order leaves equal stay in the log's order.
-use Rattle.std.specs.Prelude.{ℕ, List, [], ◌∷◌, ◌++◌, Bool, if◌then◌else◌, codes, flat_map}
+use Rattle.std.specs.Prelude.{ℕ, List, [], ◌∷◌, ◌++◌, Bool, codes, flat_map}
 use Rattle.std.specs.Ordering.{nat_cmp, ordering_then, is_lt}
 use Rattle.text_writers.specs.Lines.{line_text, numbered}
 use Rattle.text_writers.specs.HexWords.{hex_word}
@@ -10,6 +10,7 @@ use Rattle.air_log.specs.declared.entry.Entry.TheVariants.{Sent, Heard, Tuned}
 use Rattle.radio_model.specs.declared.sending.Sending.{Sending}
 use Rattle.air_log.specs.declared.entry.HeardEntry.{HeardEntry}
 use Rattle.air_log.specs.declared.entry.TunedEntry.{TunedEntry}
+use Rattle.lwb_base.specs.Sorting.{in_order}
 
 abbrev pub start_of : Entry → ℕ
 start_of (Sent x) = x.start
@@ -25,16 +26,6 @@ kind_number (Tuned t) = 2
 abbrev pub entry_is_before : Entry → Entry → Bool
 entry_is_before a b = is_lt
     (ordering_then (ordering_then (nat_cmp (start_of a) (start_of b)) (nat_cmp (kind_number a) (kind_number b))) (nat_cmp (node_of_entry a) (node_of_entry b)))
-
--- x in front of the first that is not before it
-abbrev pub with_inserted : {X : Type 0} → (X → X → Bool) → X → List X → List X
-with_inserted before x [] = x ∷ []
-with_inserted before x (y ∷ ys) = if before y x then y ∷ with_inserted before x ys else x ∷ y ∷ ys
-
--- each in its place among those that come after it in the list
-abbrev pub in_order : {X : Type 0} → (X → X → Bool) → List X → List X
-in_order before [] = []
-in_order before (x ∷ xs) = with_inserted before x (in_order before xs)
 
 abbrev pub sent_line : Sending → List ℕ
 sent_line x = line_text (numbered (codes "sent") (x.rank ∷ x.node ∷ x.start ∷ x.end ∷ []) ++ hex_word x.packet ∷ [])

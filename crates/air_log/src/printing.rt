@@ -2,7 +2,8 @@
 
 ghost use Rattle.std.specs.Prelude.{◌≡◌, ◌++◌, map, flat_map, IfOk, OnOk, string_bytes};
 ghost use Rattle.air_log.specs.Entries.{node_of_entry};
-ghost use Rattle.air_log.specs.LogText.{entry_line, log_text, in_order, entry_is_before, start_of, kind_number};
+ghost use Rattle.lwb_base.specs.Sorting.{in_order};
+ghost use Rattle.air_log.specs.LogText.{entry_line, log_text, entry_is_before, start_of, kind_number};
 
 use crate::line_writers::write_entry;
 use crate::{Air, Entry};

@@ -12,7 +12,8 @@ ghost use Rattle.air_log.specs.ScriptedDevices.{device_after_line};
 ghost use Rattle.air_log.specs.Lawful.{by_end, heard_by, reception_of};
 ghost use Rattle.air_log.specs.Trails.{Reception, setup_of, frame_start, tune_of, lines_at, device_after_receptions as heard_at, at_frame, before_tick};
 ghost use Rattle.air_log.specs.TrailsTold.{trail_told};
-ghost use Rattle.air_log.specs.Courses.{CourseShows, CourseIsShown, Goes, IsShownEnding, IsSplitByKey, IsSortedByKey, AlarmsEnd, frame_of_line};
+ghost use Rattle.scenario_text.specs.AddedLines.{frame_of_line};
+ghost use Rattle.air_log.specs.Courses.{CourseShows, CourseIsShown, Goes, IsShownEnding, IsSplitByKey, IsSortedByKey, AlarmsEnd};
 ghost use Rattle.air_log.specs.Courses.{end_of_reception, hearing_of, reception_in, before_alarms_in, rest_of_tick, least_of, least_due};
 
 use crate::course::Course;

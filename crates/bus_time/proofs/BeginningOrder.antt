@@ -4,7 +4,7 @@ use Rattle.std.proofs.lemmas.List.Sorted.{ranks_by}
 use Rattle.lwb_base.proofs.Orders.{by_three_total}
 use Rattle.bus_time.specs.Reading.{starts_first}
 use Rattle.bus_time.specs.declared.beginning.Beginning.{Beginning}
-use Rattle.bus_time.proofs.PlaceOrder.{Place, is_total}
+use Rattle.bus_time.proofs.PlaceOrder.{Place}
 
 -- what the order goes by
 abbrev pub place_of : Beginning → Place

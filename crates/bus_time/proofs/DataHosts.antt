@@ -10,19 +10,17 @@ use Rattle.radio_model.specs.declared.sending.Sending.{Sending}
 use Rattle.radio_model.specs.Hearing.{frame_of_sending, slot_of_sending, counter_of_sending}
 use Rattle.air_log.specs.declared.entry.Entry.{Entry}
 use Rattle.air_log.specs.Devices.{Power, PowerOff, PowerOn}
-use Rattle.air_log.specs.Lawful.{Lawful, heard_by}
+use Rattle.air_log.specs.Lawful.{heard_by}
 use Rattle.air_log.specs.Safe.{sender_hosts, is_hosting}
 use Rattle.air_log.specs.Trails.{run_end, frame_start, tune_of}
 use Rattle.law_trails.specs.Phases.{Start, device_at}
 use Rattle.law_trails.specs.TrailLinks.{device_in}
-use Rattle.law_trails.proofs.HeedfulLogs.{lawful_is_heedful}
 use Rattle.law_trails.proofs.SentInTrails.{sent_below, sent_known, sent_lasts}
 use Rattle.law_safety.specs.Beginnings.{MaySay, SaysData}
 use Rattle.law_safety.specs.Endings.{EndsInOrder}
-use Rattle.law_safety.specs.Invariant.{IsDrivenWell, IsObedientRun}
 use Rattle.law_safety.specs.SentPlans.{IsHostOf, HasHeardPlan, StaysOnUntil}
 use Rattle.law_safety.proofs.FloodPackets.{says_as_origin}
-use Rattle.law_safety.proofs.InvariantHolds.{holds_throughout}
+use Rattle.law_safety.proofs.InvariantHolds.{whole_run}
 use Rattle.law_safety.proofs.RunFacts.{frame_from, host_is}
 use Rattle.law_safety.proofs.RunSendings.{of_flood, begins_flood, in_trail}
 use Rattle.law_safety.proofs.SentPlans.{began_by_host}
@@ -30,12 +28,6 @@ use Rattle.bus_time.specs.StampLaws.{BeginsData, DataHostsLaw}
 use Rattle.bus_time.proofs.HostingRuns.{hosting_before, hosting_then}
 use Rattle.bus_time.proofs.HostingWalk.{HostsBy, IsHosting}
 use Rattle.bus_time.proofs.HeardWords.{over_before, origin_before}
-
--- a run in whose last tick the invariant holds
-pub whole_run : (s : ScenarioParts) (clocks : ℕ → ℕ → ℕ) (air : List Entry) → IsDrivenWell s clocks → Lawful s clocks air → EndsInOrder s clocks air
-whole_run s clocks air driven lawful =
-    let run : IsObedientRun s clocks air = record { driven = driven; heedful = lawful_is_heedful s clocks air lawful } in
-    record { run = run; ends = holds_throughout s clocks air run (run_end s) (omega arith) }
 
 hosting_is : (p : Power) → HostsBy p → is_hosting (tune_of p) ≡ true
 hosting_is (PowerOff count) host = absurd host

@@ -1,12 +1,10 @@
 -- Where a node begins the flood of data without hosting, it has received a schedule for the frame, and that was over before.
-use Rattle.std.proofs.Common.{◌≡◌, ℕ, ◌+◌, ◌<◌, ◌≤◌, inl, inr, List, length, Contains, Some, sym, subst, arith}
+use Rattle.std.proofs.Common.{◌≡◌, ℕ, ◌+◌, ◌<◌, ◌≤◌, inl, inr, List, length, Contains, Some, arith}
 use Rattle.std.specs.Prelude.{slice_index}
 use Rattle.std.proofs.Math.Nat.{mul-le-mul_right, mul-le-mul_left}
 use Rattle.std.proofs.lemmas.Bool.{cases_lt}
 use Rattle.lwb_base.specs.Profile.{step}
 use Rattle.lwb_base.specs.Messages.{Schedule}
-use Rattle.time_reference.specs.Budgets.{budget_of}
-use Rattle.time_reference.specs.Zeros.{starting_offset, Good}
 use Rattle.bus_rules.specs.Slots.{Data, DataOf, ScheduleOf}
 use Rattle.lwb_member.specs.Said.{message_of}
 use Rattle.scenario_text.specs.ScenarioParts.{ScenarioParts}
@@ -14,44 +12,20 @@ use Rattle.radio_model.specs.declared.sending.Sending.{Sending}
 use Rattle.radio_model.specs.Hearing.{frame_of_sending, slot_of_sending, counter_of_sending}
 use Rattle.air_log.specs.declared.entry.Entry.{Entry}
 use Rattle.air_log.specs.Entries.{sendings_of, HasHeardEntry}
-use Rattle.law_trails.proofs.SlotBounds.{slots_apart}
 use Rattle.law_trails.proofs.SaidPackets.{says}
 use Rattle.law_trails.proofs.ProfilePackets.{in_slot}
 use Rattle.law_safety.specs.FloodSendings.{IsOfFlood}
 use Rattle.law_safety.specs.Endings.{EndsInOrder}
-use Rattle.law_safety.proofs.FloodTimes.{after_frame_start, before_frame_end, host_drifts, in_flood, origin_drifts, packet_short, slot_in_round, zero_good}
+use Rattle.law_safety.proofs.FloodTimes.{after_frame_start, before_frame_end}
 use Rattle.law_safety.proofs.RunFacts.{run_fits}
 use Rattle.law_safety.proofs.RunSendings.{of_flood}
+use Rattle.law_safety.proofs.SafeSteps.{slots_of_round}
 
 -- data is sent in slot 1 or later
 pub data_slot : (q : List ℕ) (d : Data) → message_of q ≡ Some (DataOf d) → 1 ≤ slice_index q 1
 data_slot q d is = (says q (DataOf d) is).place.0.slot.0
 
 module _ (s : ScenarioParts) (clocks : ℕ → ℕ → ℕ) (air : List Entry) (whole : EndsInOrder s clocks air) where
-  -- what is of an earlier slot of the round is over
-  earlier_slot : (x y : Sending) (is : IsOfFlood s clocks air x) (also : IsOfFlood s clocks air y) → x.rank ≡ y.rank
-      → frame_of_sending s.profile x ≡ frame_of_sending s.profile y → slot_of_sending x < slot_of_sending y → x.end < y.start
-  earlier_slot x y is also channel frame less =
-      let p = s.profile in
-      let b = budget_of p in
-      let host = clocks (slice_index s.hosts x.rank) in
-      let first = clocks is.origin.node in
-      let other = clocks also.origin.node in
-      let f = frame_of_sending p x in
-      let drifts = host_drifts s clocks air whole.run x is in
-      let first_drifts = origin_drifts s clocks air whole.run x is in
-      let other_drifts = origin_drifts s clocks air whole.run y also in
-      let good : Good p b host other also.zero f (starting_offset p (slot_of_sending y)) =
-      subst (λ (r : ℕ). Good p b (clocks (slice_index s.hosts r)) other also.zero f (starting_offset p (slot_of_sending y))) (sym channel)
-      (subst (λ (g : ℕ). Good p b (clocks (slice_index s.hosts y.rank)) other also.zero g (starting_offset p (slot_of_sending y))) (sym frame)
-      (zero_good s clocks air whole.run y also)) in
-      subst (λ (e : ℕ). e < y.start) (sym is.lasts)
-      (slots_apart p b (run_fits s whole.run.driven.sound) host first other is.zero also.zero f (slot_of_sending x) (slot_of_sending y) (length x.packet)
-      (length y.packet)
-      (counter_of_sending x) (counter_of_sending y) x.start y.start drifts first_drifts other_drifts
-      less (slot_in_round s clocks air whole.run y also) (packet_short s clocks air whole.run x is) (zero_good s clocks air whole.run x is) good
-      (in_flood s clocks air whole.run x is) (in_flood s clocks air whole.run y also))
-
   was_sent : (v : ℕ) (h : Sending) → HasHeardEntry air v h → Contains (sendings_of air) h
   was_sent v h there = (whole.run.heedful.heard v h there).sent
 
@@ -74,7 +48,7 @@ module _ (s : ScenarioParts) (clocks : ℕ → ℕ → ℕ) (air : List Entry) (
         | inr none ↦ (
             let first : slot_of_sending h ≡ 0 = (in_slot h.packet y schedule).opening (omega (arith, none)) in
             let later = data_slot x.packet d payload in
-            earlier_slot h x is also channel (omega (arith, none, due)) (omega (arith, first, later))
+            slots_of_round s clocks air whole h x is also channel (omega (arith, none, due)) (omega (arith, first, later))
             )
       ]
 

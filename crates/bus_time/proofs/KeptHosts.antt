@@ -1,10 +1,10 @@
 -- A host stays a host through the rows of the node table.
-use Rattle.std.proofs.Common.{◌≡◌, ℕ, List, Bool, true, false, if◌then◌else◌, Some, None, Option, refl, sym, ◌∙◌, ap, subst, true≢false}
+use Rattle.std.proofs.Common.{◌≡◌, ℕ, List, Bool, true, false, Some, None, Option, refl, sym, ◌∙◌, ap, subst, true≢false}
 use Rattle.std.proofs.lemmas.Bool.{cond_both}
-use Rattle.std.specs.Option.{option_and_then, option_map, IfSome}
+use Rattle.std.specs.Option.{IfSome}
 use Rattle.lwb_base.specs.Messages.{Schedule}
 use Rattle.lwb_packets.specs.declared.kind.Kind as Kind
-use Rattle.glossy_relay.specs.Relaying.{accepted_of, counter_of, is_spelling}
+use Rattle.glossy_relay.specs.Relaying.{accepted_of, is_spelling}
 use Rattle.lwb_member.specs.Places.{kind_for}
 use Rattle.lwb_member.specs.Said.{message_of}
 use Rattle.node_core.specs.declared.stage.Stage.TheVariants.{InWindow}
@@ -16,6 +16,7 @@ use Rattle.law_trails.specs.NodeRanges.{IsNodeInRange, IsInStage, IsOpenInRange,
 use Rattle.law_trails.specs.PacketKinds.{kind_of_message}
 use Rattle.law_trails.proofs.SaidPackets.{kind_says}
 use Rattle.law_safety.specs.TunedNodes.{Either, Scans, by_hearing}
+use Rattle.law_safety.proofs.ReadPackets.{packet_of, listener}
 use Rattle.bus_rules.specs.declared.part.Part.{Part}
 use Rattle.bus_rules.specs.declared.part.Part.TheVariants.{Opening, Data as DataSlot, Contention, Closing}
 use Rattle.bus_rules.specs.declared.tune.Tune.{Tune}
@@ -60,19 +61,6 @@ closed_hosts s f part initiated c (Some (RequestOf a)) none host = host
 closed_hosts s f part initiated c (Some (ScheduleOf y)) none host = absurd (none y refl)
 
 -- ---- a host accepts no schedule
-
--- what is read of an accepted packet
-packet_of : (o : Option (List ℕ × ℕ)) (m : Message) → option_and_then (λ (a : List ℕ × ℕ). message_of a.0) o ≡ Some m
-    → (a : List ℕ × ℕ) × (o ≡ Some a) × (message_of a.0 ≡ Some m)
-packet_of None m is = absurd cc
-packet_of (Some a) m is = (a, refl, is)
-
--- a listener's first packet
-listener : (begun : Bool) (first : Option (List ℕ)) (a : List ℕ × ℕ)
-    → (if begun then None else option_map {U = List ℕ × ℕ} (λ (q : List ℕ). (q, counter_of q)) first) ≡ Some a → (begun ≡ false) × (first ≡ Some a.0)
-listener true first a is = absurd cc
-listener false None a is = absurd cc
-listener false (Some q) a is = (refl, ap (option_map {U = List ℕ} (λ (b : List ℕ × ℕ). b.0)) is)
 
 no_schedule : (part : Part) (kind : Kind.Kind) (q : List ℕ) (y : Schedule) → is_spelling kind q ≡ true → message_of q ≡ Some (ScheduleOf y)
     → kind ≡ Kind.TheVariants.Schedule

@@ -1,6 +1,4 @@
--- kept for the crates above
-pub mod OneList
--- for this crate alone
+mod OneList
 mod FirstWords
 mod KeptHosts
 mod HostingWalk
@@ -15,7 +13,6 @@ mod SameGaps
 mod GivenWords
 mod StampTimes
 mod StampedLists
-mod NodePlaces
 mod StampedRuns
 mod StampErrors
 mod StampAges

@@ -18,18 +18,19 @@ use Rattle.scenario_text.specs.ScenarioParts.{ScenarioParts}
 use Rattle.air_log.specs.declared.entry.Entry.{Entry}
 use Rattle.air_log.specs.Entries.{hearing_in, sending_in, sendings_of}
 use Rattle.air_log.specs.Safe.{Begins, SameSlot, sender_hosts}
-use Rattle.lwb_base.proofs.Elements.{contains_head, contains_tail, filtered, in_filtered}
+use Rattle.lwb_base.proofs.Elements.{contains_head, contains_tail, filtered, in_filtered, weaker_pairs}
 use Rattle.law_trails.specs.PacketKinds.{kind_of_message}
 use Rattle.law_trails.proofs.SaidPackets.{kind_says}
 use Rattle.law_safety.specs.Endings.{EndsInOrder}
 use Rattle.law_safety.proofs.SafeRuns.{safe_at_the_end}
+use Rattle.law_safety.proofs.InvariantHolds.{whole_run}
 use Rattle.bus_time.specs.Stamps.{HasReference, IsStamp, IsTick, begins_data, stamped}
 use Rattle.bus_time.specs.StampLaws.{BeginsData, OneListLaw}
 use Rattle.bus_time.specs.declared.stamp.Stamp.{Stamp}
-use Rattle.bus_time.proofs.DataHosts.{hosts_named, whole_run}
+use Rattle.bus_time.proofs.DataHosts.{hosts_named}
 use Rattle.bus_time.proofs.GivenWords.{begun_data}
 use Rattle.bus_time.proofs.OneReference.{HeardToo, one_tick, reference_too}
-use Rattle.bus_time.proofs.PlaceOrder.{Place, PlacesApart, same_list, weaker_pairs}
+use Rattle.bus_time.proofs.PlaceOrder.{Place, PlacesApart, same_list}
 use Rattle.bus_time.proofs.StampedLists.{stamped_begins}
 
 -- ---- the same entries

@@ -1,28 +1,20 @@
 -- The order by three numbers: where no two elements have the same three, the elements alone tell the list.
-use Rattle.std.proofs.Common.{◌≡◌, ℕ, ◌<◌, inl, inr, List, [], ◌∷◌, Bool, true, filter, Contains, AllPairs, get_or}
-use Rattle.std.proofs.Common.{Ordering, Less, Equal, refl, sym, ◌∙◌, ap, arith, true≢false}
-use Rattle.std.specs.Cmp.{IsStrictWeakOrder, IsTotalOrder, nat_cmp_is, nat_cmp_total, on_total, then_total}
+use Rattle.std.proofs.Common.{◌≡◌, ℕ, ◌<◌, inl, inr, List, [], ◌∷◌, Bool, true, filter, Contains, AllPairs}
+use Rattle.std.proofs.Common.{Ordering, Equal, refl, sym, ◌∙◌, ap, arith, true≢false}
+use Rattle.std.specs.Cmp.{IsStrictWeakOrder}
 use Rattle.std.specs.List.Sorted.{ties}
 use Rattle.std.specs.Ordering.{nat_cmp, ordering_then, is_lt}
-use Rattle.std.proofs.lemmas.Bool.{cases_order}
-use Rattle.std.proofs.lemmas.List.Elements.{Contains-get_or}
 use Rattle.std.proofs.lemmas.List.Kept.{AllPairs-filter}
 use Rattle.std.proofs.lemmas.List.Sorted.{ranks_by}
 use Rattle.radio_model.proofs.Members.{not_in_none, in_head, in_either}
-use Rattle.air_log.specs.LogText.{in_order}
+use Rattle.lwb_base.specs.Sorting.{in_order}
 use Rattle.lwb_base.proofs.Truths.{both_not}
-use Rattle.lwb_base.proofs.Elements.{in_filtered, filtered}
-use Rattle.air_log.proofs.StableSorts.{same_in_order}
+use Rattle.lwb_base.proofs.Elements.{in_filtered, filtered, weaker_pairs}
+use Rattle.lwb_base.proofs.StableSorts.{same_in_order}
+use Rattle.lwb_base.proofs.Orders.{by_three, by_three_total, compares_equal, compares_less, one_number}
 
 abbrev pub Place : Type 0
 Place = ℕ × ℕ × ℕ
-
-abbrev pub by_place : Place → Place → Ordering
-by_place a b = ordering_then (ordering_then (nat_cmp a.0 b.0) (nat_cmp a.1 b.1)) (nat_cmp a.2 b.2)
-
-pub is_total : IsTotalOrder by_place
-is_total = then_total (then_total (on_total (λ (t : Place). t.0) nat_cmp_total) (on_total (λ (t : Place). t.1) nat_cmp_total))
-    (on_total (λ (t : Place). t.2) nat_cmp_total)
 
 -- the same three numbers
 pub record SamePlace (a b : Place) : Type 0 where
@@ -30,36 +22,26 @@ pub record SamePlace (a b : Place) : Type 0 where
   pub second : a.1 ≡ b.1
   pub third : a.2 ≡ b.2
 
-less_is : (x y : ℕ) → x < y → nat_cmp x y ≡ Less
-less_is x y less = sym (nat_cmp_is x y Less less)
-
-same_is : (x y : ℕ) → x ≡ y → nat_cmp x y ≡ Equal
-same_is x y same = sym (nat_cmp_is x y Equal same)
-
 module _ (a b : Place) where
   abbrev then_so : Ordering → Ordering → Ordering → Bool
   then_so l m n = is_lt (ordering_then (ordering_then l m) n)
 
   abbrev Before : Type 0
-  Before = is_lt (by_place a b) ≡ true
+  Before = is_lt (by_three a b) ≡ true
 
   by_first : a.0 < b.0 → Before
-  by_first less = ap (λ (l : Ordering). then_so l (nat_cmp a.1 b.1) (nat_cmp a.2 b.2)) (less_is a.0 b.0 less)
+  by_first less = ap (λ (l : Ordering). then_so l (nat_cmp a.1 b.1) (nat_cmp a.2 b.2)) (compares_less a.0 b.0 less)
 
   by_second : a.0 ≡ b.0 → a.1 < b.1 → Before
   by_second first less =
-      ap (λ (l : Ordering). then_so l (nat_cmp a.1 b.1) (nat_cmp a.2 b.2)) (same_is a.0 b.0 first)
-      ∙ ap (λ (m : Ordering). then_so Equal m (nat_cmp a.2 b.2)) (less_is a.1 b.1 less)
+      ap (λ (l : Ordering). then_so l (nat_cmp a.1 b.1) (nat_cmp a.2 b.2)) (compares_equal a.0 b.0 first)
+      ∙ ap (λ (m : Ordering). then_so Equal m (nat_cmp a.2 b.2)) (compares_less a.1 b.1 less)
 
   by_third : a.0 ≡ b.0 → a.1 ≡ b.1 → a.2 < b.2 → Before
   by_third first second less =
-      ap (λ (l : Ordering). then_so l (nat_cmp a.1 b.1) (nat_cmp a.2 b.2)) (same_is a.0 b.0 first)
-      ∙ ap (λ (m : Ordering). then_so Equal m (nat_cmp a.2 b.2)) (same_is a.1 b.1 second)
-      ∙ ap (λ (n : Ordering). then_so Equal Equal n) (less_is a.2 b.2 less)
-
--- two numbers, neither below the other
-one_number : (x y : ℕ) → (x < y → ⊥) → (y < x → ⊥) → x ≡ y
-one_number x y up down = elim (cases_order x y) [ inl same ↦ same | inr (inl less) ↦ absurd (up less) | inr (inr more) ↦ absurd (down more) ]
+      ap (λ (l : Ordering). then_so l (nat_cmp a.1 b.1) (nat_cmp a.2 b.2)) (compares_equal a.0 b.0 first)
+      ∙ ap (λ (m : Ordering). then_so Equal m (nat_cmp a.2 b.2)) (compares_equal a.1 b.1 second)
+      ∙ ap (λ (n : Ordering). then_so Equal Equal n) (compares_less a.2 b.2 less)
 
 neither_before : (a b : Place) → (Before a b → ⊥) → (Before b a → ⊥) → SamePlace a b
 neither_before a b up down =
@@ -68,18 +50,12 @@ neither_before a b up down =
     let third = one_number a.2 b.2 (λ less. up (by_third a b first second less)) (λ less. down (by_third b a (sym first) (sym second) less)) in
     record { first = first; second = second; third = third }
 
--- what holds of any two of a list, by what is known of its elements
-pub weaker_pairs : {X : Type 0} (R Q : X → X → Type 0) (xs : List X) → AllPairs R xs
-    → ((x y : X) → Contains xs x → Contains xs y → R x y → Q x y) → AllPairs Q xs
-weaker_pairs R Q xs all gives i j d less within =
-    gives (get_or xs i d) (get_or xs j d) (Contains-get_or xs i d (omega (arith, less, within))) (Contains-get_or xs j d within) (all i j d less within)
-
 module _ {X : Type 0} (place : X → Place) where
   abbrev pub comes_first : X → X → Bool
-  comes_first x y = is_lt (by_place (place x) (place y))
+  comes_first x y = is_lt (by_three (place x) (place y))
 
   is_order : IsStrictWeakOrder comes_first
-  is_order = ranks_by is_total place
+  is_order = ranks_by by_three_total place
 
   abbrev pub PlacesApart : X → X → Type 0
   PlacesApart x y = SamePlace (place x) (place y) → ⊥

@@ -35,10 +35,10 @@ use Rattle.law_safety.proofs.FloodTimes.{frame_of_run, slot_in_round, zero_good}
 use Rattle.law_safety.proofs.RunFacts.{host_is, host_known, run_fits}
 use Rattle.law_safety.proofs.RunSendings.{of_flood}
 use Rattle.law_safety.proofs.SlotFloods.{one_flood}
+use Rattle.law_safety.proofs.InvariantHolds.{whole_run}
 use Rattle.bus_time.specs.Stamps.{IsReference, tick_by}
 use Rattle.bus_time.specs.StampErrors.{BeganFlood, StampsErrLittle, drifted, slack}
 use Rattle.bus_time.specs.StampLaws.{BeginsData}
-use Rattle.bus_time.proofs.DataHosts.{whole_run}
 use Rattle.bus_time.proofs.HeardWords.{origin_before, over_before}
 use Rattle.bus_time.proofs.StampTimes.{reference_heard}
 

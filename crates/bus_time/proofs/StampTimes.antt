@@ -21,12 +21,13 @@ use Rattle.air_log.proofs.AlarmLoop.{early_in_run}
 use Rattle.law_trails.proofs.SentInTrails.{sent_known, sent_lasts}
 use Rattle.law_safety.specs.SentPlans.{IsHostOf}
 use Rattle.law_safety.proofs.RunFacts.{run_fits, frame_begins, frame_in_run}
+use Rattle.law_safety.proofs.InvariantHolds.{whole_run}
 use Rattle.bus_time.specs.Stamps.{IsReference, HasReference}
 use Rattle.bus_time.specs.Stamping.{MayStamp, IsWordFor}
 use Rattle.bus_time.specs.declared.words.Word.{Word}
 use Rattle.bus_time.specs.declared.words.Words.{Words}
 use Rattle.bus_time.specs.declared.beginning.Beginning.{Beginning}
-use Rattle.bus_time.proofs.DataHosts.{whole_run, hosts_named}
+use Rattle.bus_time.proofs.DataHosts.{hosts_named}
 use Rattle.bus_time.proofs.GivenWords.{begun_data}
 
 -- a reference is received

@@ -9,9 +9,9 @@ use Rattle.radio_model.specs.declared.sending.Sending.{Sending}
 use Rattle.air_log.specs.declared.entry.Entry.{Entry}
 use Rattle.air_log.specs.declared.entry.Entry.TheVariants.{Sent, Heard, Tuned}
 use Rattle.air_log.specs.Entries.{sendings_of}
-use Rattle.air_log.specs.LogText.{in_order, with_inserted}
+use Rattle.lwb_base.specs.Sorting.{in_order, with_inserted}
 use Rattle.lwb_base.proofs.Elements.{contains_head, contains_tail, contains_cases, filtered, not_in_none}
-use Rattle.air_log.proofs.StableSorts.{map-in_order}
+use Rattle.lwb_base.proofs.StableSorts.{map-in_order}
 use Rattle.bus_time.specs.Reading.{beginning_in, beginning_of, starts_first}
 use Rattle.bus_time.specs.Stamps.{begins_data, stamped, comes_first}
 use Rattle.bus_time.specs.declared.beginning.Beginning.{Beginning}

@@ -16,7 +16,7 @@ use Rattle.energy_account.proofs.StatedPlaces.{stated_place}
 use Rattle.radio_model.specs.declared.sending.Sending.{Sending}
 use Rattle.air_log.specs.declared.entry.Entry.{Entry}
 use Rattle.air_log.specs.Lawful.{Lawful}
-use Rattle.air_log.specs.LogText.{in_order}
+use Rattle.lwb_base.specs.Sorting.{in_order}
 use Rattle.lwb_base.proofs.Elements.{contains_head, contains_tail}
 use Rattle.law_safety.specs.Invariant.{IsDrivenWell}
 use Rattle.bus_time.specs.Reading.{IsRead, beginning_of, starts_first}

@@ -14,7 +14,7 @@ use Rattle.radio_model.specs.Hearing.{frame_of_sending, slot_of_sending, counter
 use Rattle.scenario_text.specs.ScenarioParts.{ScenarioParts}
 use Rattle.air_log.specs.declared.entry.Entry.{Entry}
 use Rattle.air_log.specs.Entries.{sendings_of, HasHeardEntry}
-use Rattle.air_log.specs.LogText.{in_order}
+use Rattle.lwb_base.specs.Sorting.{in_order}
 use Rattle.air_log.specs.Safe.{sender_hosts}
 use Rattle.bus_time.specs.declared.stamp.Stamp.{Stamp}
 

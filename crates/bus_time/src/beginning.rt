@@ -2,7 +2,7 @@
 
 ghost use Rattle.std.specs.Prelude.{◌≡◌, OnOk};
 ghost use Rattle.air_log.specs.declared.entry.Entry.TheVariants.{Sent};
-ghost use Rattle.air_log.specs.LogText.{in_order};
+ghost use Rattle.lwb_base.specs.Sorting.{in_order};
 ghost use Rattle.bus_time.specs.Reading.{beginning_in, starts_first};
 
 use air_log::SentEntry;

@@ -1,7 +1,6 @@
 -- In how many frames a node is idle, by its trace.
-use Rattle.std.proofs.Common.{◌≡◌, ℕ, zero, suc, ◌+◌, List, [], ◌∷◌, ◌++◌, Bool, true, ◌==◌, cond, Option, Contains, map, count_by, is_some, refl, ◌∙◌, ap, arith}
+use Rattle.std.proofs.Common.{◌≡◌, ℕ, List, [], ◌∷◌, Bool, true, ◌==◌, Option, Contains, map, count_by, is_some, refl, ◌∙◌, ap}
 use Rattle.std.proofs.Math.Path.{fun_ext}
-use Rattle.std.proofs.lemmas.List.Sums.{sum_by_push}
 use Rattle.std.specs.List.{range_with_len}
 use Rattle.std.proofs.lemmas.Bool.{eq-eqb}
 use Rattle.radio_model.proofs.Members.{any_of, in_head, in_tail}
@@ -21,20 +20,6 @@ use Rattle.host_return.proofs.NodesProbing.{told_probe}
 
 abbrev pub is_idle : Option TrailTold → ℕ → Bool
 is_idle t f = is_some (probed_by f t)
-
-range_more : (a n : ℕ) → range_with_len a (suc n) ≡ range_with_len a n ++ (a + n) ∷ []
-range_more a zero = ap (λ (k : ℕ). k ∷ []) (omega arith)
-range_more a (suc n) = ap (λ (xs : List ℕ). a ∷ xs) (range_more (a + 1) n ∙ ap (λ (k : ℕ). range_with_len (a + 1) n ++ k ∷ []) (omega arith))
-
-range_next : (f : ℕ) → range_with_len 0 (f + 1) ≡ range_with_len 0 f ++ f ∷ []
-range_next f =
-    let next : f + 1 ≡ suc f = omega arith in
-    ap (range_with_len 0) next ∙ range_more 0 f ∙ ap (λ (k : ℕ). range_with_len 0 f ++ k ∷ []) (omega arith)
-
-pub count_next : (q : ℕ → Bool) (f : ℕ) → count_by q (range_with_len 0 (f + 1)) ≡ count_by q (range_with_len 0 f) + cond (q f) 1 0
-count_next q f =
-    let as_one : ℕ → ℕ = λ g. cond (q g) 1 0 in
-    ap (count_by q) (range_next f) ∙ sum_by_push as_one (range_with_len 0 f) f
 
 abbrev pub count_for : ScenarioParts → NodeTrail → ℕ × ℕ
 count_for s t = (t.node, count_by (is_idle t.trail) (range_with_len 0 s.frames))

@@ -3,10 +3,9 @@ use Rattle.std.proofs.Common.{◌≡◌, ℕ, ◌+◌, ◌*◌, ◌<◌, ◌≤�
 use Rattle.std.proofs.lemmas.Bool.{cases_lt}
 use Rattle.std.proofs.lemmas.List.{take_more, get_or-take, get_or_default}
 use Rattle.std.proofs.lemmas.List.Elements.{All-contains, Contains-get_or, Contains-append_cases}
-use Rattle.std.proofs.Math.Nat.{mul-le-mul_right, mul-le-mul_left}
+use Rattle.std.proofs.Math.Nat.{mul-le-mul_right}
 use Rattle.scenario_text.specs.ScenarioGrammar.{IsScenario}
 use Rattle.scenario_text.specs.ScenarioParts.{ScenarioParts}
-use Rattle.scenario_text.proofs.CanonicalGoes.{frame_bound}
 use Rattle.scenario_text.proofs.SoundScenarios.{sound}
 use Rattle.scenario_clocks.specs.StatedClocks.{scenario_clock}
 use Rattle.radio_model.specs.Hearing.{Before, TunedThrough}
@@ -18,7 +17,8 @@ use Rattle.air_log.specs.declared.entry.Entry.{Entry}
 use Rattle.air_log.specs.Entries.{tunings_of}
 use Rattle.air_log.specs.HearsAir.{scene_of}
 use Rattle.air_log.specs.Lawful.{Lawful}
-use Rattle.air_log.specs.Trails.{frame_start, run_end}
+use Rattle.air_log.specs.Trails.{frame_start}
+use Rattle.air_log.proofs.ShortRuns.{short_run}
 use Rattle.law_trails.proofs.SentInTrails.{sent_lasts}
 use Rattle.host_return.specs.Probes.{Brings, IsOfFrame, with_probe}
 use Rattle.host_return.specs.Transmissions.{AreSent}
@@ -45,28 +45,18 @@ pub near_early : (sent near : List Sending) (x : Sending) → AreNear sent x nea
 near_early sent near x are early k d below =
     All-contains (λ (y : Sending). y.start ≤ 2 ^ 46) sent (get_or near k d) early (are.among (get_or near k d) (Contains-get_or near k d below))
 
--- a run ends early enough
-pub short_run : (s : ScenarioParts) → IsScenario s → run_end s ≤ 2 ^ 46
-short_run s said =
-    let all = sound s said in
-    let few = all.few_frames in
-    let frame = frame_bound s.profile all.profile in
-    let most = mul-le-mul_right s.profile.frame few in
-    let more = mul-le-mul_left 4096 frame in
-    omega (arith, most, more)
-
 pub early_sent : (s : ScenarioParts) (air : List Entry) (t : Transmissions) → IsScenario s → Lawful s (scenario_clock s) air → AreSent air t
     → All (λ (y : Sending). y.start ≤ 2 ^ 46) t.sent.items
 early_sent s air t said lawful sent k d below =
     let y : Sending = get_or t.sent.items k d in
     let starts = (sent_lasts s (scenario_clock s) air lawful.trails y (sent.among y (Contains-get_or t.sent.items k d below))).0 in
-    let short = short_run s said in
+    let short = short_run s (sound s said) in
     omega (arith, starts, short)
 
 pub early_start : (s : ScenarioParts) (f : ℕ) → IsScenario s → f ≤ s.frames → f * s.profile.frame < 2 ^ 64
 early_start s f said few =
     let most = mul-le-mul_right s.profile.frame few in
-    let short = short_run s said in
+    let short = short_run s (sound s said) in
     omega (arith, most, short)
 
 -- none of the first is one, and the next is none

@@ -1,7 +1,6 @@
 mod BackupHosts
 mod CountedProbes
 mod Followed
-mod Gathered
 mod Heard
 mod NodesProbing
 mod OneReturned

@@ -61,12 +61,6 @@ pub moved_brings : (s : ScenarioParts) (air : List Entry) (f v r g u q : ℕ) (x
 moved_brings s air f v r g u q x frame node rank is =
     subst (λ (n : ℕ). Brings s air g u n x) rank (subst (λ (n : ℕ). Brings s air g n r x) node (subst (λ (n : ℕ). Brings s air n v r x) frame is))
 
-pub one_rank : (o : Option ℕ) (r q : ℕ) → o ≡ Some r → o ≡ Some q → r ≡ q
-one_rank o r q a b = let same : ◌≡◌ {A = Option ℕ} (Some r) (Some q) = sym a ∙ b in cc
-
-pub no_rank : (o : Option ℕ) (r : ℕ) → o ≡ None → o ≡ Some r → ⊥
-no_rank o r a b = let same : ◌≡◌ {A = Option ℕ} None (Some r) = sym a ∙ b in cc
-
 -- the trace at a place
 pub at_place : (s : ScenarioParts) (air : List Entry) (trails : List NodeTrail) (i : ℕ) (t : NodeTrail) (n : NodeLine) → trails ≡ all_trails s air → i < length trails
     → t ≡ get_or trails i t → (i < length s.nodes) × (t ≡ trail_for s air (get_or s.nodes i n))

@@ -1,9 +1,8 @@
 -- What comes of the returns of a scenario does not depend on which of its runs are taken.
-use Rattle.std.proofs.Common.{◌≡◌, ℕ, zero, suc, ◌+◌, ◌<◌, ◌≤◌, inl, inr, List, [], ◌∷◌, Bool, true, false, ◌||◌, ◌&&◌, ◌==◌, nat_lt, cond, map, length, reverse}
-use Rattle.std.proofs.Common.{count_by, is_some, Some, refl, sym, ◌∙◌, ap, subst, arith}
+use Rattle.std.proofs.Common.{◌≡◌, ℕ, ◌<◌, ◌≤◌, inl, inr, List, [], ◌∷◌, Bool, true, false, ◌||◌, ◌&&◌, ◌==◌, nat_lt, map, length, reverse}
+use Rattle.std.proofs.Common.{is_some, Some, refl, sym, ◌∙◌, ap, subst, arith}
 use Rattle.std.proofs.lemmas.Bool.{cases_lt, cases_order, lt-ltb, eq-eqb, true≢false}
 use Rattle.std.proofs.lemmas.List.{length-reverse, reverse-reverse}
-use Rattle.std.specs.List.{range_with_len}
 use Rattle.scenario_text.specs.AddedLines.{IsWithScript, HasRoom}
 use Rattle.scenario_text.specs.ScenarioGrammar.{IsScenario}
 use Rattle.scenario_text.specs.ScenarioParts.{ScenarioParts}
@@ -24,11 +23,12 @@ use Rattle.host_return.specs.Probes.{probed_rank, probes}
 use Rattle.host_return.specs.Restarts.{lines_of_going_back}
 use Rattle.host_return.specs.Returned.{Becomes, GoesBack, ReturnsEnd, Sixteen, NoneLeft, Full, ReturnedParts, counts_in, IsReturned}
 use Rattle.host_return.specs.declared.returned.Return.{Return}
-use Rattle.host_return.proofs.CountedProbes.{count_next}
-use Rattle.host_return.proofs.NodesProbing.{moved_probe, one_rank}
+use Rattle.host_return.proofs.NodesProbing.{moved_probe}
 use Rattle.host_return.proofs.ProbedStill.{not_before}
 use Rattle.host_return.proofs.Restarting.{restart_told}
 use Rattle.host_return.proofs.SettledProbes.{same_probe, still_probed}
+use Rattle.lwb_base.proofs.Lists.{counted_alike}
+use Rattle.lwb_base.proofs.Options.{one_value}
 
 return_is : (q r : Return) → q.frame ≡ r.frame → q.node ≡ r.node → q.rank ≡ r.rank → q ≡ r
 return_is q r frame node rank =
@@ -49,17 +49,6 @@ not_lower q r is same = elim (cases_lt q.node r.node) [
 
     both : nat_lt q.node r.node ≡ true → (q.frame == r.frame) ≡ true → return_comes_before q r ≡ true
     both less frame = by_tests (nat_lt q.frame r.frame) (q.frame == r.frame) (nat_lt q.node r.node) less frame
-
-counted_alike : (p q : ℕ → Bool) (f : ℕ) → ((g : ℕ) → g < f → p g ≡ q g) → count_by p (range_with_len 0 f) ≡ count_by q (range_with_len 0 f)
-counted_alike p q zero alike = refl
-counted_alike p q (suc f) alike =
-    let next : suc f ≡ f + 1 = omega arith in
-    ap (λ (k : ℕ). count_by p (range_with_len 0 k)) next
-    ∙ count_next p f
-    ∙ ap (λ (k : ℕ). k + cond (p f) 1 0) (counted_alike p q f (λ g less. alike g (omega (arith, less))))
-    ∙ ap (λ (b : Bool). count_by q (range_with_len 0 f) + cond b 1 0) (alike f (omega arith))
-    ∙ sym (count_next q f)
-    ∙ ap (λ (k : ℕ). count_by q (range_with_len 0 k)) (sym next)
 
 -- two runs of one scenario
 module _ (s : ScenarioParts) (said : IsScenario s) (a b : List Entry) (of_a : Lawful s (scenario_clock s) a) (of_b : Lawful s (scenario_clock s) b) where
@@ -108,7 +97,7 @@ next_same read s said frames a b of_a of_b listed q r first second =
     let frame : q.frame ≡ r.frame = omega (arith, not_before q r up, not_before r q down) in
     let node : q.node ≡ r.node = omega (arith, not_lower q r up frame, not_lower r q down (sym frame)) in
     return_is q r frame node
-    (one_rank (probed_rank s b r.frame r.node) q.rank r.rank
+    (one_value (probed_rank s b r.frame r.node) q.rank r.rank
     (moved_probe s b q.frame q.node r.frame r.node (Some q.rank) frame node q_too.probed.probes) second.candidate.probed.probes)
 
 module _ (read : ScenarioParts) (read_said : IsScenario read) where

@@ -1,10 +1,7 @@
 -- The rank that a node hosted is quiet after its return.
-use Rattle.std.proofs.Common.{◌≡◌, ℕ, zero, suc, ◌+◌, ◌<◌, inl, inr, List, length, Contains, Bool, true, false, ◌==◌, if◌then◌else◌, Some, None}
+use Rattle.std.proofs.Common.{◌≡◌, ℕ, zero, suc, ◌+◌, ◌<◌, inl, inr, List, Contains, Bool, true, false, ◌==◌, if◌then◌else◌, Some, None}
 use Rattle.std.proofs.Common.{refl, sym, ◌∙◌, ap, subst, arith}
-use Rattle.std.specs.Prelude.{slice_index}
 use Rattle.std.proofs.lemmas.Bool.{cases_Bool, cases_lt, cond-false, ne_eqb, lt-ltb}
-use Rattle.time_reference.specs.Budgets.{budget_of}
-use Rattle.time_reference.specs.Zeros.{starting_offset, Good}
 use Rattle.lwb_base.specs.Messages.{Schedule}
 use Rattle.lwb_packets.specs.DataPackets.{is_data}
 use Rattle.bus_rules.specs.declared.part.Part.{Part}
@@ -23,7 +20,7 @@ use Rattle.scenario_text.proofs.SoundScenarios.{sound}
 use Rattle.scenario_clocks.specs.StatedClocks.{scenario_clock}
 use Rattle.scenario_clocks.proofs.StatedDrift.{scenario_clocks_drift}
 use Rattle.radio_model.specs.declared.sending.Sending.{Sending}
-use Rattle.radio_model.specs.Hearing.{frame_of_sending, slot_of_sending, counter_of_sending}
+use Rattle.radio_model.specs.Hearing.{frame_of_sending, slot_of_sending}
 use Rattle.air_log.specs.declared.entry.Entry.{Entry}
 use Rattle.air_log.specs.Devices.{Power, PowerOn}
 use Rattle.air_log.specs.Entries.{sendings_of}
@@ -32,19 +29,15 @@ use Rattle.air_log.specs.Safe.{sender_hosts}
 use Rattle.air_log.specs.Trails.{run_end, tune_of, tune_at}
 use Rattle.air_log.specs.WindowLogs.{WindowLog}
 use Rattle.law_trails.specs.TrailLinks.{device_in}
-use Rattle.law_trails.proofs.HeedfulLogs.{lawful_is_heedful}
 use Rattle.law_trails.proofs.HostRanks.{host_is_of_rank}
 use Rattle.law_trails.proofs.SaidPackets.{says}
-use Rattle.law_trails.proofs.SlotBounds.{slots_apart}
 use Rattle.law_safety.specs.Beginnings.{MaySay, SaysData, SaysSchedule}
 use Rattle.law_safety.specs.Endings.{EndsInOrder}
-use Rattle.law_safety.specs.FloodSendings.{IsOfFlood}
-use Rattle.law_safety.specs.Invariant.{IsObedientRun}
 use Rattle.law_safety.specs.SentPlans.{IsHostOf}
-use Rattle.law_safety.proofs.FloodTimes.{host_drifts, in_flood, origin_drifts, packet_short, slot_in_round, zero_good}
-use Rattle.law_safety.proofs.InvariantHolds.{holds_throughout}
-use Rattle.law_safety.proofs.RunFacts.{frame_begins, frame_from, host_is, run_fits}
+use Rattle.law_safety.proofs.InvariantHolds.{whole_run}
+use Rattle.law_safety.proofs.RunFacts.{frame_begins, frame_from, host_is}
 use Rattle.law_safety.proofs.RunSendings.{begins_flood, in_trail, of_flood}
+use Rattle.law_safety.proofs.SafeSteps.{slots_of_round}
 use Rattle.law_terms.specs.FrameCourses.{power_at, IsWindowIn, IsCourse, GoesThrough}
 use Rattle.law_terms.specs.LawfulRuns.{IsLawfulRun}
 use Rattle.law_windows.specs.WindowRows.{OpensBy, OpensByAlarm, OpensByHearing}
@@ -59,18 +52,12 @@ use Rattle.host_return.proofs.BackupHosts.{on_node, own_of_host, in_run, probing
 use Rattle.host_return.proofs.Followed.{parts_of}
 use Rattle.host_return.proofs.ProbedStill.{AreProbed}
 
-whole_run : (s : ScenarioParts) (clocks : ℕ → ℕ → ℕ) (air : List Entry) → IsLawfulRun s clocks air → EndsInOrder s clocks air
-whole_run s clocks air is =
-    let run : IsObedientRun s clocks air =
-    record { driven = record { sound = is.sound; drift = is.drift }; heedful = lawful_is_heedful s clocks air is.lawful } in
-    record { run = run; ends = holds_throughout s clocks air run (run_end s) (omega arith) }
-
 data_message : (p : List ℕ) → is_data p ≡ true → message_of p ≡ Some (DataOf (data_in p))
 data_message p is = rw is refl
 
 module _ (s : ScenarioParts) (clocks : ℕ → ℕ → ℕ) (air : List Entry) (lawful : IsLawfulRun s clocks air) where
   whole : EndsInOrder s clocks air
-  whole = whole_run s clocks air lawful
+  whole = whole_run s clocks air (record { sound = lawful.sound; drift = lawful.drift }) lawful.lawful
 
   -- who waits for a later frame sends nothing in this one
   module _ (v f : ℕ) (known : knows s.nodes v ≡ true) (within : f < s.frames) (n : Node) (on : power_at s clocks air v f ≡ PowerOn n) where
@@ -106,27 +93,6 @@ module _ (s : ScenarioParts) (clocks : ℕ → ℕ → ℕ) (air : List Entry) (
           subst (λ (u : ℕ). Contains (device_in s clocks air u (run_end s)).made.sent y) node (in_trail s clocks air whole y there) in
           let call = (sends_as_called s clocks air whole.run v known (run_end s) (omega arith)).called y own in
           no_window call.window.slot call.window (record { there = call.there; frame = sym call.of_slot.frame ∙ frame }) refl
-
-  -- the transmissions of an earlier slot are over before those of a later one
-  slot_before : (x y : Sending) (is : IsOfFlood s clocks air x) (also : IsOfFlood s clocks air y) → x.rank ≡ y.rank
-      → frame_of_sending s.profile x ≡ frame_of_sending s.profile y → slot_of_sending x < slot_of_sending y → x.end < y.start
-  slot_before x y is also channel frame less =
-      let p = s.profile in
-      let b = budget_of p in
-      let host = clocks (slice_index s.hosts x.rank) in
-      let first = clocks is.origin.node in
-      let other = clocks also.origin.node in
-      let f = frame_of_sending p x in
-      let good : Good p b host other also.zero f (starting_offset p (slot_of_sending y)) =
-      subst (λ (r : ℕ). Good p b (clocks (slice_index s.hosts r)) other also.zero f (starting_offset p (slot_of_sending y))) (sym channel)
-      (subst (λ (g : ℕ). Good p b (clocks (slice_index s.hosts y.rank)) other also.zero g (starting_offset p (slot_of_sending y))) (sym frame)
-      (zero_good s clocks air whole.run y also)) in
-      subst (λ (e : ℕ). e < y.start) (sym is.lasts)
-      (slots_apart p b (run_fits s whole.run.driven.sound) host first other is.zero also.zero f (slot_of_sending x) (slot_of_sending y) (length x.packet)
-      (length y.packet)
-      (counter_of_sending x) (counter_of_sending y) x.start y.start (host_drifts s clocks air whole.run x is) (origin_drifts s clocks air whole.run x is)
-      (origin_drifts s clocks air whole.run y also) less (slot_in_round s clocks air whole.run y also) (packet_short s clocks air whole.run x is)
-      (zero_good s clocks air whole.run x is) good (in_flood s clocks air whole.run x is) (in_flood s clocks air whole.run y also))
 
   frame_before : (x y : Sending) → frame_of_sending s.profile y < frame_of_sending s.profile x → y.start < x.start
   frame_before x y less = elim (cases_lt y.start x.start) [
@@ -189,7 +155,7 @@ module _ (s : ScenarioParts) (clocks : ℕ → ℕ → ℕ) (air : List Entry) (
             after = after;
             before = elim began.part [
               | inl opens ↦
-                  let over = slot_before y x flood (of_flood s clocks air whole x there) is.channel (omega (arith, due_is, opens.0))
+                  let over = slots_of_round s clocks air whole y x flood (of_flood s clocks air whole x there) is.channel (omega (arith, due_is, opens.0))
                   (omega (arith, opens.1, not_first x may.owner may.plan may.part)) in
                   omega (arith, over, flood.lasts)
               | inr closes ↦ frame_before x y (let some = closes.some in omega (arith, due_is, some))

@@ -1,24 +1,10 @@
 -- The transmissions that start at a tick or after it.
-use Rattle.std.proofs.Common.{◌≡◌, ℕ, ◌+◌, ◌-◌, ◌≤◌, List, length, drop, inl, inr, true, false, nat_lt, sym, ◌∙◌, ap, arith, Contains, AllPairs, get_or}
+use Rattle.std.proofs.Common.{◌≡◌, ℕ, ◌+◌, ◌-◌, ◌≤◌, List, length, drop, inl, inr, true, false, nat_lt, sym, ◌∙◌, ap, arith, Contains, get_or}
 use Rattle.std.proofs.Common.{length-drop}
 use Rattle.std.proofs.lemmas.Bool.{cases_lt, ltb-true, ltb-false}
 use Rattle.std.proofs.lemmas.List.{get_or-drop}
-use Rattle.std.proofs.lemmas.List.Sorted.{IsPartitionedBy-ltb}
-use Rattle.std.specs.List.Sorted.{IsPartitionedBy, IsPartitionPoint, IsNonDecreasingBy}
-use Rattle.radio_model.specs.Hearing.{Before}
+use Rattle.std.specs.List.Sorted.{IsPartitionPoint}
 use Rattle.radio_model.specs.declared.sending.Sending.{Sending}
-
-abbrev start_of : Sending → ℕ
-start_of y = y.start
-
-by_start : (sent : List Sending) → AllPairs Before sent → IsNonDecreasingBy start_of sent
-by_start sent in_order i j d le below = elim (cases_lt i j) [
-  | inl less ↦ (in_order i j d less below).start
-  | inr not ↦ let same : i ≡ j = omega arith in let is = ap (λ (k : ℕ). (get_or sent k d).start) same in omega (arith, is)
-]
-
-pub parted : (sent : List Sending) (t : ℕ) → AllPairs Before sent → IsPartitionedBy (λ (y : Sending). nat_lt y.start t) sent
-parted sent t in_order = IsPartitionedBy-ltb start_of sent t (by_start sent in_order)
 
 module _ (sent : List Sending) (t first : ℕ) (within : first ≤ length sent)
     (begin : IsPartitionPoint (λ (y : Sending). nat_lt y.start t ≡ true) (λ y. nat_lt y.start t ≡ false) sent first) where

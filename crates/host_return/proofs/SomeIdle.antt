@@ -15,8 +15,9 @@ use Rattle.host_return.specs.Candidates.{IsCandidate}
 use Rattle.host_return.specs.NodeTrails.{trail_for, all_trails, told_for}
 use Rattle.host_return.specs.declared.returned.Return.{Return}
 use Rattle.host_return.specs.declared.trails.NodeTrail.{NodeTrail}
-use Rattle.host_return.proofs.CountedProbes.{is_idle, count_next}
+use Rattle.host_return.proofs.CountedProbes.{is_idle}
 use Rattle.host_return.proofs.NodesProbing.{told_probe, place_of}
+use Rattle.lwb_base.proofs.Lists.{count_next}
 
 some_counted : (p : ℕ → Bool) (n f : ℕ) → f < n → p f ≡ true → 0 < count_by p (range_with_len 0 n)
 some_counted p zero f less is = absurd (omega (arith, less))

@@ -7,11 +7,11 @@ use Rattle.std.specs.List.Sorted.{IsSortedBy, ties}
 use Rattle.std.proofs.lemmas.Bool.{cases_Bool}
 use Rattle.bus_rules.specs.declared.delivery.Delivery.{Delivery}
 use Rattle.air_log.specs.Deliveries.{delivery_comes_before}
-use Rattle.air_log.specs.LogText.{in_order}
+use Rattle.lwb_base.specs.Sorting.{in_order}
 use Rattle.air_log.proofs.DeliveryOrder.{Before, SamePlace, is_order, tied_place}
 use Rattle.lwb_base.proofs.Elements.{not_in_none, contains_cases, contains_head, in_filtered, filtered}
 use Rattle.lwb_base.proofs.Truths.{both_not}
-use Rattle.air_log.proofs.StableSorts.{sorted_by_insertion}
+use Rattle.lwb_base.proofs.StableSorts.{sorted_by_insertion}
 use Rattle.bus_terms.proofs.ListsInTurn.{in_turn_pairs}
 use Rattle.scenario_text.specs.FloodDrafts.{Climbs}
 

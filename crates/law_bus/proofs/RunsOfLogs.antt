@@ -29,7 +29,7 @@ use Rattle.law_safety.specs.Beginnings.{MaySay, SaysSchedule}
 use Rattle.law_safety.specs.FloodSendings.{IsOfFlood}
 use Rattle.law_safety.specs.Invariant.{IsObedientRun}
 use Rattle.law_safety.specs.SentPlans.{IsPlanned}
-use Rattle.law_safety.proofs.InvariantHolds.{holds_throughout}
+use Rattle.law_safety.proofs.InvariantHolds.{ends_in_order}
 use Rattle.law_safety.specs.Endings.{EndsInOrder}
 use Rattle.law_safety.proofs.RunSendings.{in_trail, of_flood}
 use Rattle.law_windows.specs.WindowCalls.{CallsFor, IsCalled}
@@ -67,7 +67,7 @@ module _ (s : ScenarioParts) (clocks : ℕ → ℕ → ℕ) (air : List Entry) (
   run = run_of s clocks air lawful
 
   pub whole : EndsInOrder s clocks air
-  whole = record { run = run; ends = holds_throughout s clocks air run (run_end s) (omega arith) }
+  whole = ends_in_order s clocks air run
 
   pub known_by : (v : ℕ) (w : WindowLog) → Contains (trail_in s clocks air v).made.windows w → knows s.nodes v ≡ true
   known_by v w there = by_name (knows s.nodes v) refl

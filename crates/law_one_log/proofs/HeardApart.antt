@@ -1,6 +1,7 @@
 -- A node receives at most one of the transmissions that start together.
 use Rattle.std.proofs.Common.{◌≡◌, ℕ, ◌<◌, inl, inr, List, Some, AllPairs, length, sym, ◌∙◌, ap, subst, arith}
 use Rattle.lwb_base.specs.Profile.{Numbers, IsProfile, airtime}
+use Rattle.lwb_base.proofs.Elements.{weaker_pairs}
 use Rattle.link_trace.specs.Passes.{captured}
 use Rattle.radio_model.specs.declared.sending.Sending.{Sending}
 use Rattle.radio_model.specs.Hearing.{Scene, Meets, Rival, Captured, frame_of_sending, slot_of_sending, counter_of_sending}
@@ -16,7 +17,6 @@ use Rattle.law_trails.specs.OnePacket.{reception_at as hearing}
 use Rattle.law_safety.proofs.SafeRuns.{lawful_logs_are_safe}
 use Rattle.law_terms.specs.LawfulRuns.{IsLawfulRun}
 use Rattle.law_one_log.proofs.EntriesApart.{HearingsApart, Other}
-use Rattle.law_one_log.proofs.KeptApart.{weaker_pairs}
 use Rattle.law_one_log.proofs.OfTrails.{lasts, one_of_node}
 
 -- a packet is on the air longer than the steps of those that reach a node at once may lie apart

@@ -1,14 +1,7 @@
 -- What holds of any two elements, put together from parts.
-use Rattle.std.proofs.Common.{◌≡◌, ℕ, inl, inr, List, [], ◌∷◌, Bool, true, ◌==◌, filter, Contains, AllPairs, get_or, refl, sym, subst, arith}
+use Rattle.std.proofs.Common.{◌≡◌, ℕ, inl, inr, List, [], ◌∷◌, Bool, true, ◌==◌, filter, Contains, AllPairs, refl, sym, subst, arith}
 use Rattle.std.proofs.lemmas.Bool.{cond_both, cond-true, eq-eqb}
-use Rattle.std.proofs.lemmas.List.Elements.{Contains-get_or}
 use Rattle.lwb_base.proofs.Elements.{not_in_none, contains_head, contains_tail, contains_cases, pairs_cons, pairs_tail, pairs_head}
-
--- what holds of any two of a list, by what is known of its elements
-pub weaker_pairs : {X : Type 0} (R Q : X → X → Type 0) (xs : List X) → AllPairs R xs
-    → ((x y : X) → Contains xs x → Contains xs y → R x y → Q x y) → AllPairs Q xs
-weaker_pairs R Q xs all gives i j d less within =
-    gives (get_or xs i d) (get_or xs j d) (Contains-get_or xs i d (omega (arith, less, within))) (Contains-get_or xs j d within) (all i j d less within)
 
 -- elements of nodes, of which any two of one node are so
 module _ {X : Type 0} (node : X → ℕ) (R : X → X → Type 0) where

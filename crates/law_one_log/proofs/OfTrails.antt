@@ -6,6 +6,7 @@ use Rattle.std.proofs.lemmas.Bool.{eqb-true}
 use Rattle.std.proofs.lemmas.List.Kept.{AllPairs-filter}
 use Rattle.radio_model.specs.declared.sending.Sending.{Sending}
 use Rattle.radio_model.specs.OnAir.{Hearing, Tuning}
+use Rattle.radio_model.proofs.OverlapWindows.{start_of}
 use Rattle.scenario_text.specs.ScenarioParts.{ScenarioParts}
 use Rattle.scenario_text.specs.ScenarioFacts.{IsSoundScenario}
 use Rattle.scenario_text.specs.FloodParts.{knows}
@@ -13,7 +14,7 @@ use Rattle.air_log.specs.declared.entry.Entry.{Entry}
 use Rattle.air_log.specs.Entries.{sendings_of, hearings_of, tunings_of}
 use Rattle.air_log.specs.Lawful.{Lawful, heard_by, hearings_by, sent_by, tuned_by}
 use Rattle.air_log.specs.Trails.{run_end, trail}
-use Rattle.lwb_base.proofs.Elements.{filtered}
+use Rattle.lwb_base.proofs.Elements.{filtered, weaker_pairs}
 use Rattle.air_log.proofs.SendingsKept.{profile_lasts}
 use Rattle.air_log.proofs.StrictOrders.{Apart, in_other_order}
 use Rattle.air_log.proofs.TrailSendings.{in_order}
@@ -21,12 +22,9 @@ use Rattle.air_log.proofs.TrailTunings.{each_tuned, tuned_in_turn}
 use Rattle.law_trails.proofs.SentInTrails.{sent_known, sent_lasts, sent_below}
 use Rattle.energy_account.proofs.SendingsApart.{sendings_apart}
 use Rattle.law_one_log.proofs.SameElements.{which_first}
-use Rattle.law_one_log.proofs.KeptApart.{weaker_pairs, of_all_nodes}
+use Rattle.law_one_log.proofs.KeptApart.{of_all_nodes}
 use Rattle.law_one_log.proofs.EntriesApart.{SendingsApart, TuningsApart, Other}
 use Rattle.law_one_log.proofs.InTurn.{EndApart}
-
-abbrev sent_start : Sending → ℕ
-sent_start x = x.start
 
 abbrev tuned_start : Tuning → ℕ
 tuned_start e = e.start
@@ -40,12 +38,12 @@ none_apart R = λ i j d less within. absurd (omega (arith, within))
 module _ (s : ScenarioParts) (clocks : ℕ → ℕ → ℕ) (air : List Entry) (sound : IsSoundScenario s) (lawful : Lawful s clocks air) where
   pub sent_differ : AllPairs SendingsApart (sendings_of air)
   sent_differ =
-      of_all_nodes (λ (x : Sending). x.node) (Apart sent_start) (sendings_of air)
-      (λ v. in_other_order sent_start _ (sent_by air v) (lawful.trails.sent v) (by_known v (knows s.nodes v)))
+      of_all_nodes (λ (x : Sending). x.node) (Apart start_of) (sendings_of air)
+      (λ v. in_other_order start_of _ (sent_by air v) (lawful.trails.sent v) (by_known v (knows s.nodes v)))
     where
-      by_known : (v : ℕ) (b : Bool) → AllPairs (Apart sent_start) (if b then (trail s v (clocks v) (heard_by air v)).made.sent else [])
+      by_known : (v : ℕ) (b : Bool) → AllPairs (Apart start_of) (if b then (trail s v (clocks v) (heard_by air v)).made.sent else [])
       by_known v true = λ i j d less within same. (let before = in_order s v (clocks v) (heard_by air v) i j d less within in omega (arith, before, same))
-      by_known v false = none_apart (Apart sent_start)
+      by_known v false = none_apart (Apart start_of)
 
   pub tuned_differ : AllPairs TuningsApart (tunings_of air)
   tuned_differ =

@@ -9,7 +9,7 @@ use Rattle.bus_terms.specs.FloodOfText.{setting}
 use Rattle.radio_model.specs.declared.sending.Sending.{Sending}
 use Rattle.radio_model.specs.OnAir.{Hearing, Tuning}
 use Rattle.radio_model.specs.Hearing.{Rival}
-use Rattle.lwb_base.proofs.Elements.{filter_from, in_filter, pairs_cons, pairs_tail, pairs_head}
+use Rattle.lwb_base.proofs.Elements.{filter_from, in_filter, pairs_cons, pairs_tail, pairs_head, weaker_pairs}
 use Rattle.scenario_text.specs.FloodParts.{FloodParts, knows}
 use Rattle.air_log.specs.declared.entry.Entry.{Entry}
 use Rattle.air_log.specs.Entries.{sendings_of, hearings_of, tunings_of, HasHeardEntry}
@@ -23,7 +23,6 @@ use Rattle.lwb_flood.specs.FloodRun.{counter}
 use Rattle.law_one_log.specs.OneLog.{OneFloodLogLaw}
 use Rattle.law_one_log.proofs.EntriesApart.{also_there}
 use Rattle.law_one_log.proofs.FloodFacts.{packet_at, same_sending, packet_is, timed, lasting, known, cause, meets}
-use Rattle.law_one_log.proofs.KeptApart.{weaker_pairs}
 use Rattle.law_one_log.proofs.SameElements.{same_elements}
 
 -- what a sends in step k, b sends

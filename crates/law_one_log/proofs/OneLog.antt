@@ -6,10 +6,10 @@ use Rattle.air_log.specs.declared.entry.Entry.{Entry}
 use Rattle.air_log.specs.Lawful.{Lawful}
 use Rattle.law_one_log.specs.OneLog.{OneLogLaw}
 use Rattle.law_one_log.proofs.EntriesApart.{EntriesApart, Other, all_apart, apart_differ, also_there}
-use Rattle.law_one_log.proofs.KeptApart.{weaker_pairs}
 use Rattle.law_one_log.proofs.OfTrails.{sent_differ, tuned_differ}
 use Rattle.law_one_log.proofs.SameBefore.{same_sendings, same_hearings, same_tunings}
 use Rattle.law_one_log.proofs.SameElements.{Differ, same_elements}
+use Rattle.lwb_base.proofs.Elements.{weaker_pairs}
 
 module _ (s : ScenarioParts) (clocks : ℕ → ℕ → ℕ) (sound : IsSoundScenario s) where
   -- no entry occurs twice

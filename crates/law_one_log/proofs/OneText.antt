@@ -7,17 +7,16 @@ use Rattle.std.specs.List.Sorted.{ties}
 use Rattle.std.specs.Ordering.{nat_cmp, ordering_then, is_lt}
 use Rattle.std.proofs.lemmas.List.Kept.{AllPairs-filter}
 use Rattle.std.proofs.lemmas.List.Sorted.{ranks_by, Contains-permutation, IsPermutation-sym}
-use Rattle.lwb_base.proofs.Elements.{not_in_none, contains_head, contains_cases, in_filtered, filtered}
+use Rattle.lwb_base.proofs.Elements.{not_in_none, contains_head, contains_cases, in_filtered, filtered, weaker_pairs}
 use Rattle.air_log.specs.declared.entry.Entry.{Entry}
 use Rattle.air_log.specs.Entries.{node_of_entry}
 use Rattle.air_log.specs.LogText.{start_of, kind_number, entry_is_before, entry_line}
 use Rattle.lwb_base.proofs.Orders.{compares_less, by_three_total, compares_equal, one_number}
 use Rattle.lwb_base.proofs.Truths.{both_not}
-use Rattle.air_log.proofs.StableSorts.{same_in_order}
+use Rattle.lwb_base.proofs.StableSorts.{same_in_order}
 use Rattle.law_one_log.specs.OneLog.{SamePlace, EntriesApartLaw, OneTextLaw}
 use Rattle.law_one_log.proofs.EntriesApart.{EntriesApart, HearingsApart, all_apart, apart_placed}
 use Rattle.law_one_log.proofs.HeardApart.{hearings_apart}
-use Rattle.law_one_log.proofs.KeptApart.{weaker_pairs}
 use Rattle.law_one_log.proofs.OfTrails.{sent_differ, tuned_differ}
 use Rattle.law_one_log.proofs.OneLog.{one_log}
 

@@ -21,7 +21,7 @@ use Rattle.law_trails.specs.TrailLinks.{device_in}
 use Rattle.air_log.proofs.SendingsKept.{profile_lasts}
 use Rattle.law_trails.proofs.SentInTrails.{sent_lasts}
 use Rattle.law_safety.specs.Invariant.{IsObedientRun}
-use Rattle.law_safety.proofs.InvariantHolds.{holds_throughout}
+use Rattle.law_safety.proofs.InvariantHolds.{ends_in_order}
 use Rattle.law_safety.specs.Endings.{EndsInOrder}
 use Rattle.law_safety.proofs.FloodPackets.{one_flood_says, says_as_origin}
 use Rattle.law_safety.proofs.RunSendings.{of_flood}
@@ -41,7 +41,7 @@ module _ (s : ScenarioParts) (clocks : ℕ → ℕ → ℕ) (air : List Entry) (
   within = omega arith
 
   whole : EndsInOrder s clocks air
-  whole = record { run = run; ends = holds_throughout s clocks air run (run_end s) (omega arith) }
+  whole = ends_in_order s clocks air run
 
   lasts : (x : Sending) → Contains (sendings_of air) x → x.start < x.end
   lasts x sent =

@@ -21,7 +21,7 @@ use Rattle.law_safety.specs.Beginnings.{MaySay, SaysSchedule}
 use Rattle.law_safety.specs.Rows.{AtTick}
 use Rattle.law_safety.specs.SetAlarms.{rank_at}
 use Rattle.law_safety.proofs.AwaitedSlots.{Awaits, awaits}
-use Rattle.law_safety.proofs.InvariantHolds.{all_rows, holds_throughout}
+use Rattle.law_safety.proofs.InvariantHolds.{all_rows, ends_in_order}
 use Rattle.law_safety.specs.Endings.{EndsInOrder}
 use Rattle.law_safety.proofs.FloodPackets.{says_as_origin}
 use Rattle.law_safety.proofs.SentPlans.{one_planned}
@@ -99,7 +99,7 @@ module _ (s : ScenarioParts) (clocks : ℕ → ℕ → ℕ) (air : List Entry) (
 pub one_part_a_slot : OnePartASlot
 one_part_a_slot s clocks air run v u known also w x there other same =
     let end : run_end s ≤ run_end s = omega arith in
-    let whole : EndsInOrder s clocks air = record { run = run; ends = holds_throughout s clocks air run (run_end s) (omega arith) } in
+    let whole : EndsInOrder s clocks air = ends_in_order s clocks air run in
     let first = for_their_part s clocks air run v known (run_end s) end w there in
     let second : IsPartOf s air w.rank w.frame w.slot x.last.part =
     subst (λ (r : ℕ). IsPartOf s air r w.frame w.slot x.last.part) (sym same.rank)

@@ -1,16 +1,16 @@
 -- In how many frames each node scans, counted frame by frame while the log grows.
-use Rattle.std.proofs.Common.{◌≡◌, ℕ, zero, suc, ◌+◌, ◌<◌, ◌≤◌, ◌^◌, List, [], ◌∷◌, ◌++◌, map, filter, length, replicate, Bool, true, false, cond, ◌&&◌, ◌==◌}
-use Rattle.std.proofs.Common.{nat_lt, if◌then◌else◌, count_by, Some, None, Option, Contains, ◌⊎◌, inl, inr, refl, sym, ◌∙◌, ap, arith, lt-ltb, eqb-true, fold}
+use Rattle.std.proofs.Common.{◌≡◌, ℕ, zero, suc, ◌+◌, ◌<◌, ◌≤◌, ◌^◌, List, [], ◌∷◌, map, filter, length, replicate, Bool, true, false, cond, ◌&&◌, ◌==◌}
+use Rattle.std.proofs.Common.{nat_lt, if◌then◌else◌, Some, None, Option, Contains, ◌⊎◌, inl, inr, refl, sym, ◌∙◌, ap, arith, lt-ltb, eqb-true, fold}
 use Rattle.std.specs.Prelude.{slice_get, All}
 use Rattle.std.specs.List.{range_with_len}
 use Rattle.std.specs.Option.{option_map}
 use Rattle.std.proofs.lemmas.Bool.{cond-true, cond-false, cases_order}
 use Rattle.std.proofs.lemmas.List.{length-map}
 use Rattle.std.proofs.lemmas.List.Elements.{All-map}
-use Rattle.std.proofs.lemmas.List.Sums.{sum_by_push, count_by-le-length}
+use Rattle.std.proofs.lemmas.List.Sums.{count_by-le-length}
 use Rattle.std.proofs.lemmas.Option.{slice_get-map}
 use Rattle.lwb_base.proofs.Elements.{among_or_not}
-use Rattle.lwb_base.proofs.Lists.{range_more}
+use Rattle.lwb_base.proofs.Lists.{counted_alike, count_next}
 use Rattle.scenario_text.specs.ScenarioParts.{ScenarioParts}
 use Rattle.scenario_text.specs.ScenarioFacts.{IsSoundScenario}
 use Rattle.scenario_text.specs.declared.lines.NodeLine.{NodeLine}
@@ -66,22 +66,6 @@ module _ (s : ScenarioParts) (clocks : ℕ → ℕ → ℕ) where
       by (inl hears) = ap over (heard.heard p n at hears)
           ∙ earlier_stays s n.node (clocks n.node) (heard_by old n.node) (reception x) u (omega (arith, now, less))
       by (inr deaf) = ap over (heard.unheard p n at deaf)
-
--- numbers of a range that pass two tests alike
-count_next : (q : ℕ → Bool) (f : ℕ) → count_by q (range_with_len 0 (suc f)) ≡ count_by q (range_with_len 0 f) + cond (q f) 1 0
-count_next q f =
-    let as_one : ℕ → ℕ = λ g. cond (q g) 1 0 in
-    ap (count_by q) (range_more 0 f ∙ ap (λ (k : ℕ). range_with_len 0 f ++ k ∷ []) (omega arith)) ∙ sum_by_push as_one (range_with_len 0 f) f
-
-counted_alike : (p q : ℕ → Bool) (f : ℕ) → ((g : ℕ) → g < f → p g ≡ q g) → count_by p (range_with_len 0 f) ≡ count_by q (range_with_len 0 f)
-counted_alike p q zero same = refl
-counted_alike p q (suc f) same =
-    let rest = counted_alike p q f (λ g less. same g (omega (arith, less))) in
-    let as_one : Bool → ℕ = λ b. cond b 1 0 in
-    let last = ap as_one (same f (omega arith)) in
-    let left = count_next p f in
-    let right = count_next q f in
-    omega (arith, rest, last, left, right)
 
 length_range : (a n : ℕ) → length (range_with_len a n) ≡ n
 length_range a zero = refl
@@ -185,10 +169,8 @@ module _ (s : ScenarioParts) (clocks : ℕ → ℕ → ℕ) where
             let so_far : slice_get old p ≡ Some (scans_before s clocks w.air f n) = ap (λ (l : List ℕ). slice_get l p) are
             ∙ slice_get-map (scans_before s clocks w.air f) s.nodes p ∙ ap (option_map (scans_before s clocks w.air f)) at in
             let as_one : Bool → ℕ = λ b. cond b 1 0 in
-            let next : suc f ≡ f + 1 = omega arith in
             let tests : ℕ → Bool = λ g. scans_with (tune_at s n.node (clocks n.node) (heard_by w.air n.node) g) in
             let more : scans_before s clocks w.air f n + scans_now on.shows.state ≡ scans_before s clocks w.air (f + 1) n =
             ap (λ (b : Bool). scans_before s clocks w.air f n + as_one b) (scans_here p n on.shows.state at on.shows.there)
-            ∙ sym (count_next tests f)
-            ∙ ap (λ (k : ℕ). count_by tests (range_with_len 0 k)) next in
+            ∙ sym (count_next tests f) in
             counted.each p on.shows.state (scans_before s clocks w.air f n) on.shows.there so_far ∙ ap (λ (k : ℕ). let o : Option ℕ = Some k in o) more

@@ -4,9 +4,9 @@ use Rattle.std.specs.List.{filter}
 use Rattle.std.specs.List.Sorted.{ties}
 use Rattle.bus_rules.specs.declared.delivery.Delivery.{Delivery}
 use Rattle.air_log.specs.Deliveries.{delivery_comes_before}
-use Rattle.air_log.specs.LogText.{in_order}
+use Rattle.lwb_base.specs.Sorting.{in_order}
 use Rattle.air_log.proofs.DeliveryOrder.{is_order, tied_place}
-use Rattle.air_log.proofs.StableSorts.{same_in_order}
+use Rattle.lwb_base.proofs.StableSorts.{same_in_order}
 use Rattle.air_log.proofs.QuietTicks.{refined}
 
 tied_node : (z d : Delivery) → ties delivery_comes_before z d ≡ true → (d.node == z.node) ≡ true

@@ -7,16 +7,16 @@ use Rattle.std.proofs.lemmas.List.{append-nil}
 use Rattle.std.proofs.lemmas.List.Elements.{filter-append, filter_passes, All-contains}
 use Rattle.scenario_text.specs.ScenarioParts.{ScenarioParts}
 use Rattle.scenario_text.specs.ScenarioFacts.{IsSoundScenario}
-use Rattle.scenario_text.specs.FloodParts.{knows}
+use Rattle.scenario_text.specs.FloodParts.{knows, node_id}
 use Rattle.scenario_text.specs.declared.lines.NodeLine.{NodeLine}
 use Rattle.event_calendar.specs.Orders.{Due}
 use Rattle.bus_rules.specs.declared.delivery.Delivery.{Delivery}
 use Rattle.air_log.specs.Trails.{run_end}
 use Rattle.air_log.specs.Deliveries.{delivery_comes_before, deliveries_of_node, deliveries_of}
-use Rattle.air_log.specs.LogText.{in_order}
+use Rattle.lwb_base.specs.Sorting.{in_order}
 use Rattle.lwb_base.proofs.Elements.{contains_head, contains_tail, map_contains, Distinct}
 use Rattle.world_engine.specs.Fields.{FieldState}
-use Rattle.world_engine.specs.FieldSteps.{IsClosed, node_id}
+use Rattle.world_engine.specs.FieldSteps.{IsClosed}
 use Rattle.world_engine.specs.Moments.{Before}
 use Rattle.world_engine.specs.Running.{IsRunning}
 use Rattle.world_engine.proofs.DeliveriesInOrder.{same_by_nodes}

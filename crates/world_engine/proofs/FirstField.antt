@@ -8,6 +8,7 @@ use Rattle.link_trace.specs.Masks.{AreNodes}
 use Rattle.scenario_text.specs.ScenarioParts.{ScenarioParts}
 use Rattle.scenario_text.specs.ScenarioFacts.{IsSoundScenario}
 use Rattle.scenario_text.specs.declared.lines.NodeLine.{NodeLine}
+use Rattle.scenario_text.specs.FloodParts.{node_id}
 use Rattle.radio_model.specs.Stations.{IsMedium, first_state, nodes_of}
 use Rattle.radio_model.proofs.Places.{nodes_from, first_is_medium}
 use Rattle.node_core.specs.Nodes.{rebooted, NodeState}
@@ -16,7 +17,7 @@ use Rattle.air_log.specs.Devices.{Device, at_rest, nothing_made}
 use Rattle.air_log.specs.Trails.{setup_of}
 use Rattle.air_log.specs.DeviceStates.{DeviceState, whole, one_more, core_in}
 use Rattle.world_engine.specs.Fields.{FieldState, IsField, id_of}
-use Rattle.world_engine.specs.FieldSteps.{first_device, node_id, IsFirstField}
+use Rattle.world_engine.specs.FieldSteps.{first_device, IsFirstField}
 use Rattle.world_engine.specs.Worlds.{new_core}
 use Rattle.lwb_base.proofs.Elements.{pairs_of_map}
 

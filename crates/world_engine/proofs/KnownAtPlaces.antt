@@ -21,7 +21,8 @@ use Rattle.air_log.specs.Trails.{setup_of}
 use Rattle.lwb_base.proofs.Elements.{contains_head, contains_tail}
 use Rattle.air_log.proofs.KeptPower.{few_before}
 use Rattle.air_log.specs.DeviceStates.{CanBoot}
-use Rattle.world_engine.specs.Fields.{FieldState, FieldShows, FieldIsShown, end_of}
+use Rattle.air_log.specs.Courses.{sending_end}
+use Rattle.world_engine.specs.Fields.{FieldState, FieldShows, FieldIsShown}
 use Rattle.world_engine.specs.FieldSteps.{DeviceSends}
 use Rattle.world_engine.specs.Moments.{TickMoment}
 use Rattle.world_engine.specs.Running.{HasPlaces, HasTakenLines}
@@ -61,7 +62,8 @@ module _ (s : ScenarioParts) (clocks : ℕ → ℕ → ℕ) (t : ℕ) (m : TickM
         let trail = trails p n there in
         of trail.device.sending refl (sym (stands_at (setup_of s n.node) t w due p trail.device trail.shows SendingEnd) ∙ stands)
       where
-        of : (o : Option Sending) → (trails p n there).device.sending ≡ o → option_map end_of o ≡ Some t → (x : Sending) × (x.end ≡ t) × DeviceSends t w due p x
+        of : (o : Option Sending) → (trails p n there).device.sending ≡ o → option_map sending_end o ≡ Some t
+            → (x : Sending) × (x.end ≡ t) × DeviceSends t w due p x
         of None is now = absurd (none_some now)
           where
             none_some : None ≡ Some t → ⊥

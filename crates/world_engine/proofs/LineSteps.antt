@@ -11,6 +11,7 @@ use Rattle.scenario_text.specs.ScenarioFacts.{IsSoundScenario, IsScriptLine, IsA
 use Rattle.scenario_text.specs.declared.lines.NodeLine.{NodeLine}
 use Rattle.scenario_text.specs.declared.script.Act.TheVariants.{On}
 use Rattle.scenario_text.specs.declared.script.ScriptLine.{ScriptLine}
+use Rattle.scenario_text.specs.FloodParts.{node_id}
 use Rattle.event_calendar.specs.Orders.{Due}
 use Rattle.bus_rules.specs.Cores.{Setup}
 use Rattle.air_log.specs.Devices.{Device}
@@ -19,7 +20,7 @@ use Rattle.lwb_base.proofs.Elements.{contains_head}
 use Rattle.air_log.specs.ClockLists.{clocks_by}
 use Rattle.air_log.specs.DeviceStates.{CanBoot}
 use Rattle.world_engine.specs.Fields.{FieldState, FieldShows, FieldIsShown, ids_of, id_of, setup_of_device}
-use Rattle.world_engine.specs.FieldSteps.{TakesLine, node_id}
+use Rattle.world_engine.specs.FieldSteps.{TakesLine}
 use Rattle.air_log.specs.ScriptedDevices.{device_after_act}
 use Rattle.world_engine.specs.Counting.{TrailsStay}
 use Rattle.world_engine.specs.Frames.{IsNextLine}

@@ -6,10 +6,9 @@ use Rattle.std.specs.List.{filter}
 use Rattle.std.specs.Option.{option_map}
 use Rattle.std.proofs.lemmas.Bool.{true≢false, false≢true, or_cases, or_left, or_right, eqb-true, ne_eqb}
 use Rattle.std.proofs.lemmas.Option.{slice_get_within, get_or_from_slice_get}
-use Rattle.scenario_text.specs.FloodParts.{knows}
+use Rattle.scenario_text.specs.FloodParts.{knows, node_id}
 use Rattle.scenario_text.specs.declared.lines.NodeLine.{NodeLine}
 use Rattle.lwb_base.proofs.Elements.{not_in_none, contains_head, contains_tail, contains_cases, map_from, pairs_head, pairs_tail, Distinct}
-use Rattle.world_engine.specs.FieldSteps.{node_id}
 
 -- a known id is that of a node at some place
 pub place_of_known : (ns : List NodeLine) (v : ℕ) → knows ns v ≡ true → (p : ℕ) × (n : NodeLine) × (slice_get ns p ≡ Some n) × (n.node ≡ v)

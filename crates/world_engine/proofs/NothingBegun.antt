@@ -15,12 +15,12 @@ use Rattle.air_log.specs.Devices.{Device, OrderedPacket, Made, nothing_made}
 use Rattle.air_log.specs.Trails.{device_after_start, sendings_starting}
 use Rattle.air_log.specs.Entries.{sendings_of}
 use Rattle.air_log.specs.DeviceStates.{DeviceState, whole, with_sent, HappenedBy, IsSameNode}
-use Rattle.world_engine.specs.Fields.{FieldState, IsField, IsKnownDevice, FieldShows, FieldIsShown, due_of_device, end_of, setup_of_device, channel_of}
+use Rattle.world_engine.specs.Fields.{FieldState, IsField, IsKnownDevice, FieldShows, FieldIsShown, due_of_device, setup_of_device, channel_of}
 use Rattle.world_engine.specs.FieldSteps.{Acts}
 use Rattle.world_engine.proofs.ShownPlaces.{there_now, still_field, still_shown, shown_as}
 use Rattle.world_engine.proofs.BegunDevices.{silent_with}
 use Rattle.world_engine.proofs.ObeyedOrders.{due_changed}
-use Rattle.air_log.specs.Courses.{tick_of_ordered}
+use Rattle.air_log.specs.Courses.{tick_of_ordered, sending_end}
 
 -- what the start at a device comes to
 abbrev pub Begins : ℕ → ℕ → FieldState → List Due → FieldState → List Due → Type 0
@@ -30,7 +30,7 @@ Begins t p old old_due new new_due =
 
 -- what a device has in the queue
 abbrev pub due_by : Option Sending → Option ℕ → Option OrderedPacket → Due
-due_by sending alarm ordered = record { sending_end = option_map end_of sending; alarm = alarm; sending_start = option_map tick_of_ordered ordered }
+due_by sending alarm ordered = record { sending_end = option_map sending_end sending; alarm = alarm; sending_start = option_map tick_of_ordered ordered }
 
 module _ (t p : ℕ) (w : FieldState) (field : IsField w) (due : List Due) (st new : DeviceState) (here : slice_get w.devices p ≡ Some st)
     (node : IsSameNode st new) (keeps_time : (now : ℕ) → HappenedBy now st → HappenedBy now new) (stands : at due p SendingStart ≡ Some t)

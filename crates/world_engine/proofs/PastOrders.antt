@@ -19,7 +19,7 @@ use Rattle.bus_rules.specs.declared.delivery.DropLine.{DropLine}
 use Rattle.air_log.specs.Devices.{Device, Listening, OrderedPacket}
 use Rattle.air_log.specs.AlarmRuns.{IsAlarmRun}
 use Rattle.air_log.specs.Trails.{setup_of, run_end, alarmed, device_after_start, begun_by, starts}
-use Rattle.world_engine.specs.Fields.{FieldState, FieldShows, end_of}
+use Rattle.world_engine.specs.Fields.{FieldState, FieldShows}
 use Rattle.world_engine.specs.FieldSteps.{Acts, EndsSending, told_of_end, told_of_hearing}
 use Rattle.world_engine.specs.Frames.{order_key, AllComeLater}
 use Rattle.world_engine.specs.Moments.{At}
@@ -33,7 +33,7 @@ use Rattle.world_engine.proofs.ToldDevices.{told_of_hearing_sending, told_of_end
 use Rattle.world_engine.proofs.ShownDevices.{stands_at}
 use Rattle.world_engine.proofs.TrailsGoOn.{AreClocks}
 use Rattle.world_engine.proofs.TickPoints.{alarm_at}
-use Rattle.air_log.specs.Courses.{tick_of_ordered as start_of}
+use Rattle.air_log.specs.Courses.{tick_of_ordered as start_of, sending_end}
 
 -- what is of the class at the tick is at later places
 abbrev pub LaterPlaces : ℕ → Class → ℕ → List Due → Type 0
@@ -125,7 +125,7 @@ module _ (s : ScenarioParts) (clocks : ℕ → ℕ → ℕ) (told : List ScriptL
       back : at old_due q SendingEnd ≡ Some t → at old_due q c ≡ Some t
       back was = subst (λ (k : Class). at old_due q k ≡ Some t) (sym is_end) was
 
-      no_end : (o : Option Sending) → o ≡ None → option_map end_of o ≡ Some t → ⊥
+      no_end : (o : Option Sending) → o ≡ None → option_map sending_end o ≡ Some t → ⊥
       no_end None none is = cc
       no_end (Some y) none is = cc
 
@@ -145,7 +145,7 @@ module _ (s : ScenarioParts) (clocks : ℕ → ℕ → ℕ) (told : List ScriptL
           let same : e.sending ≡ trail.device.sending = told_of_hearing_sending (at_places q) u t x trail.device in (
             other,
             back (stands_at u t old old_due q trail.device trail.shows SendingEnd
-                ∙ ap (option_map end_of) (sym same)
+                ∙ ap (option_map sending_end) (sym same)
                 ∙ sym (stands_at u t new new_due q e (ends.hearer q hears other u trail.device trail.shows) SendingEnd)
                 ∙ end_now),
           )

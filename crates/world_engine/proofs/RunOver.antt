@@ -6,7 +6,7 @@ use Rattle.event_calendar.specs.Orders.{Due}
 use Rattle.air_log.specs.Trails.{run_end}
 use Rattle.air_log.specs.Lawful.{FollowsHearing}
 use Rattle.air_log.specs.Deliveries.{delivery_comes_before}
-use Rattle.air_log.specs.LogText.{in_order}
+use Rattle.lwb_base.specs.Sorting.{in_order}
 use Rattle.air_log.specs.DeviceStates.{core_in}
 use Rattle.world_engine.specs.Fields.{FieldState}
 use Rattle.world_engine.specs.FieldSteps.{IsClosed}

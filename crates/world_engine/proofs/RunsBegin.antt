@@ -8,6 +8,7 @@ use Rattle.std.proofs.lemmas.Option.{same_Some, none-some, slice_get-map, get_or
 use Rattle.scenario_text.specs.ScenarioParts.{ScenarioParts}
 use Rattle.scenario_text.specs.ScenarioFacts.{IsSoundScenario}
 use Rattle.scenario_text.specs.declared.lines.NodeLine.{NodeLine}
+use Rattle.scenario_text.specs.FloodParts.{node_id}
 use Rattle.radio_model.specs.Stations.{MediumState, nodes_of, is_station_of, station_of, fresh, stations_from}
 use Rattle.event_calendar.specs.Orders.{Due, nothing_due}
 use Rattle.bus_rules.specs.Cores.{Setup}
@@ -19,7 +20,7 @@ use Rattle.lwb_base.proofs.Elements.{not_in_none}
 use Rattle.air_log.specs.DeviceStates.{DeviceState}
 use Rattle.air_log.specs.WindowSums.{WindowSum}
 use Rattle.world_engine.specs.Fields.{FieldState, IsField, FieldShows, setup_of_device, id_of}
-use Rattle.world_engine.specs.FieldSteps.{IsFirstField, first_device, node_id, nothing_counted}
+use Rattle.world_engine.specs.FieldSteps.{IsFirstField, first_device, nothing_counted}
 use Rattle.world_engine.specs.Moments.{Before}
 use Rattle.world_engine.specs.Running.{IsRunning, IsOnTrail, setup_by}
 use Rattle.world_engine.proofs.FirstField.{first_field}

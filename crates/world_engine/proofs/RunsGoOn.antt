@@ -23,8 +23,9 @@ use Rattle.air_log.specs.Lawful.{AreInTurn, reception_comes_before, reception_of
 use Rattle.air_log.specs.Trails.{Reception, run_end, frame_start}
 use Rattle.air_log.proofs.InTurn.{heard_in_turn}
 use Rattle.air_log.proofs.AlarmLoop.{early_in_run}
+use Rattle.air_log.specs.Courses.{sending_end}
 use Rattle.lwb_base.proofs.Elements.{map_contains, map_from, filtered}
-use Rattle.world_engine.specs.Fields.{FieldState, ids_of, due_of_device, end_of}
+use Rattle.world_engine.specs.Fields.{FieldState, ids_of, due_of_device}
 use Rattle.world_engine.specs.Moments.{TickMoment, Before, InLines, At, over_by}
 use Rattle.world_engine.specs.Running.{IsRunning, IsOnAir, HasTakenLines}
 use Rattle.world_engine.specs.Frames.{told_before}
@@ -66,7 +67,7 @@ module _ (s : ScenarioParts) (clocks : ℕ → ℕ → ℕ) (told : List ScriptL
           let runs : shows.state.sending ≡ Some y = sym shows.known.sending ∙ ap (λ (z : Station). z.sending) same ∙ sends in
           let set : at due place.place SendingEnd ≡ Some y.end =
           ap (λ (d : Due). d.sending_end) (get_or_from_slice_get due place.place (due_of_device shows.state) nothing_due shows.known.set)
-          ∙ ap (option_map end_of) runs in
+          ∙ ap (option_map sending_end) runs in
           none place.place SendingEnd y.end set
 
   -- all that was received is over

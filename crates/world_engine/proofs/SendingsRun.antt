@@ -12,8 +12,8 @@ use Rattle.air_log.proofs.HearingMore.{earlier_stays, heard_now}
 use Rattle.world_engine.specs.FieldSteps.{told_of_end}
 use Rattle.world_engine.specs.Moments.{At, IsAtMoment, device_at_point}
 use Rattle.air_log.proofs.OwnSendings.{IsOwn, own_heard, still_sent, none_ends}
+use Rattle.air_log.specs.Courses.{sending_end}
 use Rattle.world_engine.proofs.TickPoints.{IsOver, ends_nothing, end_at}
-use Rattle.world_engine.specs.Fields.{end_of}
 
 told_as_ended : (clock : ℕ → ℕ) (s : Setup) (t : ℕ) (d : Device) (x : Sending) (y : Option Sending) → y ≡ Some x → x.end ≡ t
     → device_ended_by clock s t d y ≡ told_of_end clock t x s d
@@ -33,14 +33,14 @@ module _ (s : ScenarioParts) (v : ℕ) (clock : ℕ → ℕ) (hs : List Receptio
   end_told d x runs now (inr at) =
       let runs_at : (device_after_end clock (setup_of s v) t heard_all).sending ≡ Some x = ap (λ (e : Device). e.sending) (sym at) ∙ runs in
       absurd (end_at t (device_after_end clock (setup_of s v) t heard_all).sending (none_ends clock (setup_of s v) t heard_all)
-      (ap (option_map end_of) runs_at ∙ ap (λ (n : ℕ). Some n) now))
+      (ap (option_map sending_end) runs_at ∙ ap (λ (n : ℕ). Some n) now))
 
   -- where no own transmission ends at the tick
   none_over : (d : Device) → d ≡ device_after_end clock (setup_of s v) t heard_all → ((y : Sending) → Contains d.made.sent y → y.end ≡ t → ⊥)
       → IsOver SendingEnd t heard_all
   none_over d at none = by heard_all.sending refl (own_heard s v clock hs t)
     where
-      by : (x : Option Sending) → heard_all.sending ≡ x → IsOwn x heard_all.made.sent → option_map end_of x ≡ Some t → ⊥
+      by : (x : Option Sending) → heard_all.sending ≡ x → IsOwn x heard_all.made.sent → option_map sending_end x ≡ Some t → ⊥
       by None is own now = cc
       by (Some y) is own now =
           let there : Contains d.made.sent y = subst (λ (e : Device). Contains e.made.sent y) (sym at) (still_sent y clock (setup_of s v) t heard_all own) in

@@ -15,11 +15,12 @@ use Rattle.air_log.specs.Devices.{Device, Listening}
 use Rattle.air_log.specs.Trails.{setup_of}
 use Rattle.air_log.specs.Lawful.{tuned_by, heard_by}
 use Rattle.air_log.specs.DeviceStates.{DeviceState, one_more}
-use Rattle.world_engine.specs.Fields.{FieldState, FieldShows, ids_of, setup_of_device as setup_in, id_of, end_of, due_of_device}
+use Rattle.world_engine.specs.Fields.{FieldState, FieldShows, ids_of, setup_of_device as setup_in, id_of, due_of_device}
 use Rattle.world_engine.specs.Moments.{TickMoment}
 use Rattle.world_engine.specs.Running.{HasPlaces, IsOnTrail, setup_by}
 use Rattle.air_log.specs.TunedTimes.{WasTuned}
 use Rattle.air_log.proofs.TunedBefore.{TunedAt, HasTunedBy, by_later}
+use Rattle.air_log.specs.Courses.{sending_end}
 use Rattle.world_engine.proofs.TunedMoments.{moment_by}
 use Rattle.world_engine.proofs.ShownDevices.{shows_later}
 
@@ -50,7 +51,7 @@ module _ (q : Setup) (t : ℕ) (w : FieldState) (due : List Due) (p : ℕ) (d : 
   pub shown_end : (y : Sending) → d.sending ≡ Some y → at due p SendingEnd ≡ Some y.end
   shown_end y sends =
       ap (λ (x : Due). x.sending_end) (get_or_from_slice_get due p (due_of_device is.state) nothing_due is.known.set)
-      ∙ ap (λ (x : Device). option_map end_of x.sending) is.is ∙ ap (option_map end_of) sends
+      ∙ ap (λ (x : Device). option_map sending_end x.sending) is.is ∙ ap (option_map sending_end) sends
 
   shown_tuned : d.made.tuned ≡ one_more is.state.closed (reverse (tuned_by w.air q.id))
   shown_tuned = ap (λ (x : Device). x.made.tuned) (sym is.is) ∙ ap (one_more is.state.closed) is.logged.tuned

@@ -25,14 +25,13 @@ use Rattle.world_engine.specs.Moments.{At, IsAtMoment, after_point}
 use Rattle.world_engine.specs.Runs.{standing}
 use Rattle.air_log.proofs.OwnSendings.{none_ends, none_ends_later}
 use Rattle.air_log.proofs.QuietTicks.{no_end, no_start, no_alarm}
-use Rattle.world_engine.specs.Fields.{end_of}
-use Rattle.air_log.specs.Courses.{tick_of_ordered as start_of}
+use Rattle.air_log.specs.Courses.{tick_of_ordered as start_of, sending_end}
 
 -- no order of the class is at the tick
 abbrev pub IsOver : Class → ℕ → Device → Type 0
 IsOver c t d = tick_of c (standing d) ≡ Some t → ⊥
 
-no_end_at : (t : ℕ) (x : Option Sending) → (option_map end_of x ≡ Some t → ⊥) → ends_at t x ≡ false
+no_end_at : (t : ℕ) (x : Option Sending) → (option_map sending_end x ≡ Some t → ⊥) → ends_at t x ≡ false
 no_end_at t None none = refl
 no_end_at t (Some x) none = ne_eqb x.end t (λ is. none (ap (λ (n : ℕ). Some n) is))
 
@@ -44,7 +43,7 @@ no_start_at : (t : ℕ) (o : Option OrderedPacket) → (option_map start_of o �
 no_start_at t None none = refl
 no_start_at t (Some o) none = ne_eqb o.tick t (λ is. none (ap (λ (n : ℕ). Some n) is))
 
-pub end_at : (t : ℕ) (x : Option Sending) → ends_at t x ≡ false → option_map end_of x ≡ Some t → ⊥
+pub end_at : (t : ℕ) (x : Option Sending) → ends_at t x ≡ false → option_map sending_end x ≡ Some t → ⊥
 end_at t None none is = cc
 end_at t (Some x) none is = true≢false (sym (eq-eqb x.end t (same_Some x.end t is)) ∙ none)
 
@@ -66,7 +65,7 @@ starts_nothing s t d over = no_start s t d d.ordered (no_start_at t d.ordered ov
 pub not_yet : (c : Class) (t u : ℕ) (d : Device) → u < t → IsAhead t d → IsOver c u d
 not_yet SendingEnd t u d less ahead is = by d.sending ahead.sending is
   where
-    by : (x : Option Sending) → IfSome x (λ y. t ≤ y.end) → option_map end_of x ≡ Some u → ⊥
+    by : (x : Option Sending) → IfSome x (λ y. t ≤ y.end) → option_map sending_end x ≡ Some u → ⊥
     by None after at = cc
     by (Some x) after at = omega (arith, less, after, same_Some x.end u at)
 not_yet Alarm t u d less ahead is = by d.alarm ahead.alarm is

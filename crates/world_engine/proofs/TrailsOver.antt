@@ -5,7 +5,7 @@ use Rattle.std.specs.List.{filter}
 use Rattle.std.proofs.lemmas.Simd.{map-map}
 use Rattle.std.proofs.lemmas.List.Sorted.{IsPermutation-refl, IsPermutation-reverse, IsPermutation-sym}
 use Rattle.scenario_text.specs.ScenarioParts.{ScenarioParts}
-use Rattle.scenario_text.specs.FloodParts.{knows}
+use Rattle.scenario_text.specs.FloodParts.{knows, node_id}
 use Rattle.scenario_text.specs.declared.lines.NodeLine.{NodeLine}
 use Rattle.radio_model.specs.declared.sending.Sending.{Sending}
 use Rattle.radio_model.specs.OnAir.{Hearing, Tuning}
@@ -18,7 +18,7 @@ use Rattle.air_log.specs.Lawful.{reception_of, by_end, heard_by, sent_by, tuned_
 use Rattle.air_log.proofs.LoggedEntries.{sending_node, tuning_node}
 use Rattle.lwb_base.proofs.Elements.{filter_from}
 use Rattle.world_engine.specs.Fields.{FieldState, FieldShows, IsLogged, ids_of, setup_of_device as setup_in}
-use Rattle.world_engine.specs.FieldSteps.{IsClosed, node_id}
+use Rattle.world_engine.specs.FieldSteps.{IsClosed}
 use Rattle.world_engine.specs.Moments.{Before}
 use Rattle.world_engine.specs.Running.{IsRunning, setup_by}
 use Rattle.world_engine.proofs.NodePlaces.{place_of_known, id_known, not_unknown, filter_none}

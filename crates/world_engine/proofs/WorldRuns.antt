@@ -8,7 +8,7 @@ use Rattle.bus_rules.specs.declared.delivery.Delivery.{Delivery}
 use Rattle.air_log.specs.declared.entry.Entry.{Entry}
 use Rattle.air_log.specs.Trails.{run_end}
 use Rattle.air_log.specs.Deliveries.{delivery_comes_before}
-use Rattle.air_log.specs.LogText.{in_order}
+use Rattle.lwb_base.specs.Sorting.{in_order}
 use Rattle.air_log.specs.ClockLists.{clocks_by}
 use Rattle.air_log.specs.DeviceStates.{core_in}
 use Rattle.air_log.specs.declared.charge.NodeCharge.{NodeCharge}

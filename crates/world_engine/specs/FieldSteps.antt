@@ -25,6 +25,7 @@ use Rattle.scenario_text.specs.ScenarioParts.{ScenarioParts}
 use Rattle.scenario_text.specs.declared.lines.NodeLine.{NodeLine}
 use Rattle.scenario_text.specs.declared.script.Act.{Act}
 use Rattle.scenario_text.specs.declared.script.ScriptLine.{ScriptLine}
+use Rattle.scenario_text.specs.FloodParts.{node_id}
 use Rattle.node_core.specs.Nodes.{rebooted}
 use Rattle.air_log.specs.DeviceStates.{DeviceState, IsCoreAt, whole, with_tuned}
 use Rattle.air_log.specs.WindowSums.{WindowSum}
@@ -159,9 +160,6 @@ first_device s n = record {
 -- of no windows
 abbrev pub nothing_counted : ScenarioParts → WindowSum
 nothing_counted s = record { profile = s.profile; sends = s.sends; earlier = 0; last = 0; by_alarm = false; sent = 0 }
-
-abbrev pub node_id : NodeLine → ℕ
-node_id n = n.node
 
 pub record IsFirstField (s : ScenarioParts) (w : FieldState) : Type 0 where
   pub medium : w.medium ≡ first_state s.profile (map node_id s.nodes)

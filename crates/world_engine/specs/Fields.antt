@@ -2,7 +2,6 @@
 use Rattle.std.specs.Prelude.{◌≡◌, ℕ, ◌≤◌, List, [], ◌∷◌, map, filter, reverse, slice_get, All, ◌==◌, Some, None}
 use Rattle.std.specs.declared.option.Option.{Option}
 use Rattle.std.specs.Option.{option_map}
-use Rattle.radio_model.specs.declared.sending.Sending.{Sending}
 use Rattle.radio_model.specs.declared.station.Station.{Station}
 use Rattle.radio_model.specs.declared.station.Tuned.{Tuned as TunedTo}
 use Rattle.radio_model.specs.Stations.{MediumState, IsMedium, nodes_of, station_of}
@@ -18,7 +17,7 @@ use Rattle.air_log.specs.Lawful.{sent_by, tuned_by}
 use Rattle.air_log.specs.DeviceStates.{DeviceState, whole, EndedBefore, HappenedBy}
 use Rattle.air_log.specs.WindowLogs.{WindowLog}
 use Rattle.air_log.specs.WindowSums.{WindowSum, IsCounted}
-use Rattle.air_log.specs.Courses.{tick_of_ordered}
+use Rattle.air_log.specs.Courses.{tick_of_ordered, sending_end}
 
 -- deliveries and drops are in the order in which they were made; sums: what the windows of each device count so far
 pub record FieldState : Type 0 where
@@ -56,11 +55,8 @@ entries_of None = []
 entries_of (Some e) = Tuned e ∷ []
 
 -- what is in the queue for a device
-abbrev pub end_of : Sending → ℕ
-end_of x = x.end
-
 abbrev pub due_of_device : DeviceState → Due
-due_of_device d = record { sending_end = option_map end_of d.sending; alarm = d.alarm; sending_start = option_map tick_of_ordered d.ordered }
+due_of_device d = record { sending_end = option_map sending_end d.sending; alarm = d.alarm; sending_start = option_map tick_of_ordered d.ordered }
 
 -- what v has made, but for drops and windows, is what the lists have of it
 pub record IsLogged (w : FieldState) (v : ℕ) (made : Made) : Type 0 where

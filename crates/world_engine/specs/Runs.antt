@@ -16,8 +16,7 @@ use Rattle.air_log.specs.Devices.{Device, Power, PowerOff, PowerOn}
 use Rattle.air_log.specs.Lawful.{Lawful, trail_in}
 use Rattle.air_log.specs.Deliveries.{deliveries_of}
 use Rattle.air_log.specs.Drops.{drops_of}
-use Rattle.air_log.specs.Courses.{tick_of_ordered}
-use Rattle.world_engine.specs.Fields.{end_of}
+use Rattle.air_log.specs.Courses.{tick_of_ordered, sending_end}
 
 -- the core of each node of the scenario that is on at the end is in the state in which its trace leaves it
 abbrev pub IsCoreOf : Option NodeState → Power → Type 0
@@ -27,7 +26,7 @@ IsCoreOf (Some core) (PowerOn n) = core.node ≡ n
 
 -- what is at a node at the end: the end of its transmission that runs, its alarm, and its ordered transmission that has not begun
 abbrev pub standing : Device → Due
-standing d = record { sending_end = option_map end_of d.sending; alarm = d.alarm; sending_start = option_map tick_of_ordered d.ordered }
+standing d = record { sending_end = option_map sending_end d.sending; alarm = d.alarm; sending_start = option_map tick_of_ordered d.ordered }
 
 abbrev pub standing_at : ScenarioParts → (ℕ → ℕ → ℕ) → List Entry → NodeLine → Due
 standing_at s clocks air n = standing (trail_in s clocks air n.node)

@@ -1,7 +1,7 @@
 //! The deliveries of a run in the order in which a report has them.
 
 ghost use Rattle.std.specs.Prelude.{◌≡◌, ◌<◌, ◌≤◌, OnOk, length};
-ghost use Rattle.air_log.specs.LogText.{in_order};
+ghost use Rattle.lwb_base.specs.Sorting.{in_order};
 ghost use Rattle.air_log.specs.Deliveries.{delivery_comes_before};
 ghost use Rattle.world_engine.specs.SortedRuns.{KeepsTies};
 

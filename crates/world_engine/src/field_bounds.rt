@@ -1,10 +1,11 @@
 //! A field at the beginning and at the end of a run.
 
 ghost use Rattle.std.specs.Prelude.{◌≡◌, ◌≤◌, ◌<◌, ◌^◌, ℕ, List, [], OnOk, IfOk, length, map, replicate, slice_get, Some, Contains};
+ghost use Rattle.scenario_text.specs.FloodParts.{node_id};
 ghost use Rattle.world_engine.specs.Fields.{FieldIsShown, ids_of};
-ghost use Rattle.world_engine.specs.FieldSteps.{IsFirstField, IsClosed, GoesSilent, first_device, node_id, nothing_counted};
+ghost use Rattle.world_engine.specs.FieldSteps.{IsFirstField, IsClosed, GoesSilent, first_device, nothing_counted};
 ghost use Rattle.event_calendar.specs.Orders.{Due as DueOf};
-ghost use Rattle.air_log.specs.LogText.{in_order};
+ghost use Rattle.lwb_base.specs.Sorting.{in_order};
 ghost use Rattle.air_log.specs.Deliveries.{delivery_comes_before};
 
 use crate::deliveries::sort_deliveries;

@@ -1,6 +1,6 @@
 use Rattle.std.proofs.Common.{rules}
 use Rattle.std.proofs.lemmas.List.Sorted.{answers_always}
-use Rattle.air_check.proofs.Gathered.{place_of, before_pairs}
+use Rattle.radio_model.proofs.SendingOrder.{place_of, before_pairs}
 use Rattle.air_check.proofs.index.sent_in_order.Goals as goal
 
 pub returns-clause-in_order : goal.returns-clause-in_order

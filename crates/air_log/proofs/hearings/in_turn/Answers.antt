@@ -1,7 +1,7 @@
 use Rattle.std.proofs.Common.{◌≡◌, rules}
 use Rattle.std.proofs.lemmas.List.Sorted.{answers_always}
-use Rattle.air_log.specs.LogText.{in_order}
-use Rattle.air_log.proofs.StableSorts.{sorted_by_insertion}
+use Rattle.lwb_base.specs.Sorting.{in_order}
+use Rattle.lwb_base.proofs.StableSorts.{sorted_by_insertion}
 use Rattle.air_log.proofs.HearingsInAir.{place_of, before, is_order, sorted_ascends, received}
 use Rattle.air_log.proofs.hearings.in_turn.Goals as goal
 

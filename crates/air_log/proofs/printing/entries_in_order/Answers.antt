@@ -2,9 +2,10 @@ use Rattle.std.proofs.Common.{◌≡◌, ℕ, map, Bor, rules, ap, ◌∙◌}
 use Rattle.std.specs.Cmp.{IsStrictWeakOrder, nat_cmp_total, on_total, then_total}
 use Rattle.std.proofs.lemmas.List.Sorted.{ranks_by, answers_always}
 use Rattle.air_log.specs.Entries.{node_of_entry}
-use Rattle.air_log.specs.LogText.{in_order, entry_is_before, start_of, kind_number}
+use Rattle.lwb_base.specs.Sorting.{in_order}
+use Rattle.air_log.specs.LogText.{entry_is_before, start_of, kind_number}
 use Rattle.air_log.specs.declared.entry.Entry.{Entry}
-use Rattle.air_log.proofs.StableSorts.{map-in_order, sorted_by_insertion}
+use Rattle.lwb_base.proofs.StableSorts.{map-in_order, sorted_by_insertion}
 use Rattle.air_log.proofs.printing.entries_in_order.Goals as goal
 
 pub returns : goal.returns

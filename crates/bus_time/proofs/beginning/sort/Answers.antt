@@ -1,6 +1,6 @@
 use Rattle.std.proofs.Common.{rules}
 use Rattle.std.proofs.lemmas.List.Sorted.{answers_always}
-use Rattle.air_log.proofs.StableSorts.{sorted_by_insertion}
+use Rattle.lwb_base.proofs.StableSorts.{sorted_by_insertion}
 use Rattle.bus_time.specs.Reading.{starts_first}
 use Rattle.bus_time.proofs.BeginningOrder.{place_of, is_order}
 use Rattle.bus_time.proofs.beginning.sort.Goals as goal

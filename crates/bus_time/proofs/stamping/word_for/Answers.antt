@@ -1,8 +1,8 @@
 use Rattle.std.proofs.Common.{◌≡◌, ◌⊎◌, ◌≤◌, inl, inr, filter_map, Some, None, ap, arith}
+use Rattle.law_safety.proofs.InvariantHolds.{whole_run}
 use Rattle.bus_time.specs.Reading.{now_in, ahead_in}
 use Rattle.bus_time.specs.declared.words.Word.{Word}
 use Rattle.bus_time.specs.declared.beginning.Beginning.{Beginning}
-use Rattle.bus_time.proofs.DataHosts.{whole_run}
 use Rattle.bus_time.proofs.FoundWords.{now_word, none_now, ahead_word}
 use Rattle.bus_time.proofs.GivenWords.{begun_data, given_ahead, found, late_word}
 use Rattle.bus_time.proofs.stamping.word_for.Goals.{in-Some+else-word-begun, in_default}

@@ -3,8 +3,9 @@ use Rattle.std.proofs.lemmas.Bool.{both_ways, true≢false}
 use Rattle.std.specs.List.{list_any}
 use Rattle.host_return.specs.Probes.{probed_rank}
 use Rattle.host_return.specs.declared.returned.Return.{Return}
-use Rattle.host_return.proofs.NodesProbing.{told_probe, moved_probe, moved_brings, one_rank, no_rank}
+use Rattle.host_return.proofs.NodesProbing.{told_probe, moved_probe, moved_brings}
 use Rattle.host_return.proofs.candidates.fresh_candidate.Goals as goal
+use Rattle.lwb_base.proofs.Options.{one_value, not_both}
 
 pub returns-in_default-clause-none : goal.returns-in_default-clause-none
 returns-in_default-clause-none c =
@@ -13,7 +14,7 @@ returns-in_default-clause-none c =
     let v = c.args.trail.now.node in
     let none : probed_rank s air c.args.frame v ≡ None =
     sym (told_probe s air c.requires.said lawful v known c.args.frame c.args.trail.now.trail told) ∙ sym c.probed_rank.ensures ∙ c.in_default.is in
-    no_rank (probed_rank s air c.args.frame v) q.rank none (moved_probe s air q.frame q.node c.args.frame v (Some q.rank) frame node candidate.probed.probes)
+    not_both (probed_rank s air c.args.frame v) q.rank none (moved_probe s air q.frame q.node c.args.frame v (Some q.rank) frame node candidate.probed.probes)
 
 pub returns-then-not-bring_schedule-clause-none : goal.returns-then-not-bring_schedule-clause-none
 returns-then-not-bring_schedule-clause-none c =
@@ -22,7 +23,7 @@ returns-then-not-bring_schedule-clause-none c =
     let v = c.args.trail.now.node in
     let here : probed_rank s air c.args.frame v ≡ Some c.in-Some.rank =
     sym (told_probe s air c.requires.said lawful v known c.args.frame c.args.trail.now.trail told) ∙ sym c.probed_rank.ensures ∙ c.in-Some.is in
-    let rank : q.rank ≡ c.in-Some.rank = one_rank (probed_rank s air c.args.frame v) q.rank c.in-Some.rank
+    let rank : q.rank ≡ c.in-Some.rank = one_value (probed_rank s air c.args.frame v) q.rank c.in-Some.rank
     (moved_probe s air q.frame q.node c.args.frame v (Some q.rank) frame node candidate.probed.probes) here in
     both_ways c.bring_schedule.result c.if-not-bring_schedule.true
     ((c.bring_schedule.ensures air sent).1 (

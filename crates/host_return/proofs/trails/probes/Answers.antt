@@ -1,8 +1,9 @@
 use Rattle.std.proofs.Common.{◌≡◌, ℕ, ◌+◌, ◌≤◌, cond, count_by, sym, ◌∙◌, ap, arith, rules}
 use Rattle.std.proofs.lemmas.Bool.{cond_both}
 use Rattle.std.specs.List.{range_with_len}
-use Rattle.host_return.proofs.CountedProbes.{is_idle, count_next}
+use Rattle.host_return.proofs.CountedProbes.{is_idle}
 use Rattle.host_return.proofs.trails.probes.Goals as goal
+use Rattle.lwb_base.proofs.Lists.{count_next}
 
 pub loop-frame-preserved : goal.loop-frame-preserved
 loop-frame-preserved c =

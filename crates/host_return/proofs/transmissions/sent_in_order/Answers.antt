@@ -1,6 +1,6 @@
 use Rattle.std.proofs.Common.{rules}
 use Rattle.std.proofs.lemmas.List.Sorted.{answers_always}
-use Rattle.host_return.proofs.Gathered.{place_of, before_pairs}
+use Rattle.radio_model.proofs.SendingOrder.{place_of, before_pairs}
 use Rattle.host_return.proofs.transmissions.sent_in_order.Goals as goal
 
 pub returns-clause-in_order : goal.returns-clause-in_order

@@ -2,7 +2,8 @@ use Rattle.std.proofs.Common.{◌≡◌, ◌-◌, nat_lt, length, take, drop, ar
 use Rattle.std.proofs.lemmas.List.{take_all}
 use Rattle.std.proofs.lemmas.List.Sorted.{IsPartitionPoint-from_clause}
 use Rattle.radio_model.specs.declared.sending.Sending.{Sending}
-use Rattle.host_return.proofs.Since.{parted, all_since, none_before}
+use Rattle.radio_model.proofs.OverlapWindows.{starts_before}
+use Rattle.host_return.proofs.Since.{all_since, none_before}
 use Rattle.host_return.proofs.transmissions.since.Goals as goal
 
 pub returns-clause-all : goal.returns-clause-all
@@ -12,7 +13,7 @@ returns-clause-all c =
     let start = c.args.start in
     let rest : take (length sent - first) (drop first sent) ≡ drop first sent = take_all (length sent - first) (drop first sent) (omega (arith, length-drop first sent)) in
     let begin = IsPartitionPoint-from_clause (λ (y : Sending). nat_lt y.start start) sent first c.partition_point-first.ensures.partitioned
-    (parted sent start c.requires) (λ a r g called. search rules) in
+    (starts_before sent start c.requires) (λ a r g called. search rules) in
     rw rest (all_since sent start first c.partition_point-first.ensures.bound begin)
 
 pub returns-clause-from : goal.returns-clause-from
@@ -22,5 +23,5 @@ returns-clause-from c =
     let start = c.args.start in
     let rest : take (length sent - first) (drop first sent) ≡ drop first sent = take_all (length sent - first) (drop first sent) (omega (arith, length-drop first sent)) in
     let begin = IsPartitionPoint-from_clause (λ (y : Sending). nat_lt y.start start) sent first c.partition_point-first.ensures.partitioned
-    (parted sent start c.requires) (λ a r g called. search rules) in
+    (starts_before sent start c.requires) (λ a r g called. search rules) in
     rw rest (none_before sent start first c.partition_point-first.ensures.bound begin)

@@ -3,9 +3,9 @@ use Rattle.std.proofs.lemmas.List.Sorted.{answers_always}
 use Rattle.std.specs.List.{filter}
 use Rattle.std.specs.List.Sorted.{ties}
 use Rattle.air_log.specs.Deliveries.{delivery_comes_before}
-use Rattle.air_log.specs.LogText.{in_order}
+use Rattle.lwb_base.specs.Sorting.{in_order}
 use Rattle.air_log.proofs.DeliveryOrder.{place_of, is_order}
-use Rattle.air_log.proofs.StableSorts.{sorted_by_insertion, same_in_order}
+use Rattle.lwb_base.proofs.StableSorts.{sorted_by_insertion, same_in_order}
 use Rattle.world_engine.proofs.SortedParts.{written_over}
 use Rattle.world_engine.proofs.deliveries.sort_deliveries.Goals as goal
 

@@ -1,5 +1,5 @@
 use Rattle.std.proofs.Common.{◌≡◌, take, map}
-use Rattle.world_engine.specs.FieldSteps.{node_id}
+use Rattle.scenario_text.specs.FloodParts.{node_id}
 use Rattle.world_engine.proofs.field_bounds.node_ids.Given as goal
 
 abbrev pub invariant-loop-line : goal.invariant-loop-line

@@ -1,6 +1,7 @@
 use Rattle.std.proofs.Common.{◌≤◌, ◌^◌, ℕ, sym, subst, arith}
 use Rattle.std.proofs.lemmas.Option.{slice_get_within}
-use Rattle.air_log.specs.Courses.{CourseIsShown, Goes, frame_of_line}
+use Rattle.scenario_text.specs.AddedLines.{frame_of_line}
+use Rattle.air_log.specs.Courses.{CourseIsShown, Goes}
 use Rattle.air_log.proofs.ListCuts.{read_at, read_past, cut_at, cut_end}
 use Rattle.air_log.proofs.LinesOfCourses.{none_told, in_range, boots, one_more_told, all_told, own_line}
 use Rattle.air_log.proofs.FramesOfCourses.{tick_of, start_early}

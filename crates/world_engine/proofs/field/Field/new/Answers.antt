@@ -1,10 +1,10 @@
 use Rattle.std.proofs.Common.{◌≡◌, ◌∙◌, sym, subst, ap, map}
 use Rattle.link_trace.specs.Masks.{AreNodes}
 use Rattle.scenario_text.proofs.SoundScenarios.{sound}
+use Rattle.scenario_text.specs.FloodParts.{node_id}
 use Rattle.lwb_base.specs.Profile.{Numbers}
 use Rattle.radio_model.specs.Holding.{Holds, nothing_yet}
 use Rattle.radio_model.specs.Stations.{first_state}
-use Rattle.world_engine.specs.FieldSteps.{node_id}
 use Rattle.world_engine.proofs.FirstField.{sound_nodes, first_field}
 use Rattle.world_engine.proofs.field.Field.new.Goals as goal
 
