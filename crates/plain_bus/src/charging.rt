@@ -13,36 +13,35 @@ ghost use Rattle.plain_bus.specs.SlotFloods.{seen_window};
 use crate::cost::{Cost, steps_of};
 use crate::node::BusNode;
 use crate::places::place_of;
+use crate::round_slot::Setting;
 use crate::station::Station;
 use crate::stepping::FloodEnd;
 use crate::window::Window;
 use arrayvec::ArrayVec;
-use lwb_base::{NodeId, Profile, Rank};
+use lwb_base::{NodeId, Rank};
 use lwb_member::message_in;
 
-/// A slot of the round of this rank costs the nodes that take part in its rounds, by their windows and the flood. A node
-/// sends at most `limit` times, 1 to 4.
+/// A slot of the round of this rank costs the nodes that take part in its rounds, by their windows and the flood.
 pub fn charge_all(
     costs: &mut [Cost],
     nodes: &[BusNode],
     windows: &[Window],
     end: &FloodEnd,
-    ids: &[NodeId],
     rank: Rank,
-    profile: &Profile,
-    limit: u8,
+    setting: &Setting,
 )
     requires few { length costs.old ≤ 64 }
     requires nodes { length nodes.now ≡ length costs.old }
     requires windows { length windows.now ≡ length costs.old }
     requires stations { length end.now.stations.each.items ≡ length costs.old }
-    requires ids { length ids.now ≡ length costs.old }
-    requires ascending { AllPairs (λ a b. a < b) ids.now }
+    requires ids { length setting.now.ids.now ≡ length costs.old }
+    requires ascending { AllPairs (λ a b. a < b) setting.now.ids.now }
     requires steps { length end.now.senders.items ≡ 12 }
     requires room { All (IsBelow 1048576) costs.old }
-    ensures costs { (b : Behind) (n : ℕ → NodeOf) (cost : ℕ → CostOf) (sends : ℕ → ℕ → Bool) → IsBehind b ids.now windows.now end.now.stations.each.items
-        → AreSendersOf sends ids.now end.now.senders.items → nodes.now ≡ map n ids.now → costs.old ≡ map cost ids.now → 1 ≤ limit
-        → costs.new ≡ map (slot_charged profile.now rank limit b sends n cost) ids.now }
+    ensures costs { (b : Behind) (n : ℕ → NodeOf) (cost : ℕ → CostOf) (sends : ℕ → ℕ → Bool) → IsBehind b setting.now.ids.now windows.now end.now.stations.each.items
+        → AreSendersOf sends setting.now.ids.now end.now.senders.items → nodes.now ≡ map n setting.now.ids.now → costs.old ≡ map cost setting.now.ids.now
+        → 1 ≤ setting.now.limit
+        → costs.new ≡ map (slot_charged setting.now.profile rank setting.now.limit b sends n cost) setting.now.ids.now }
     ensures room { (m : ℕ) → All (IsBelow m) costs.old → All (IsBelow (m + 1)) costs.new }
 {
     let lengths = lengths_of(windows);
@@ -56,10 +55,8 @@ pub fn charge_all(
             place,
             windows,
             end,
-            ids,
             lengths.as_slice(),
-            profile,
-            limit,
+            setting,
         );
         place += 1;
     }
@@ -72,22 +69,20 @@ fn charge(
     place: usize,
     windows: &[Window],
     end: &FloodEnd,
-    ids: &[NodeId],
     lengths: &[u8],
-    profile: &Profile,
-    limit: u8,
+    setting: &Setting,
 )
-    requires few { length ids.now ≤ 64 }
-    requires place { place < length ids.now }
-    requires windows { length windows.now ≡ length ids.now }
-    requires stations { length end.now.stations.each.items ≡ length ids.now }
+    requires few { length setting.now.ids.now ≤ 64 }
+    requires place { place < length setting.now.ids.now }
+    requires windows { length windows.now ≡ length setting.now.ids.now }
+    requires stations { length end.now.stations.each.items ≡ length setting.now.ids.now }
     requires lengths { lengths.now ≡ map (λ w. said_bytes (seen_window w)) windows.now }
-    requires ascending { AllPairs (λ a b. a < b) ids.now }
+    requires ascending { AllPairs (λ a b. a < b) setting.now.ids.now }
     requires steps { length end.now.senders.items ≡ 12 }
     requires room { IsBelow 1048576 cost.old }
-    ensures cost { (b : Behind) (sends : ℕ → ℕ → Bool) → IsBehind b ids.now windows.now end.now.stations.each.items
-        → AreSendersOf sends ids.now end.now.senders.items
-        → 1 ≤ limit → cost.new ≡ (if is_own then charged profile.now limit b sends (slice_index ids.now place) cost.old else cost.old) }
+    ensures cost { (b : Behind) (sends : ℕ → ℕ → Bool) → IsBehind b setting.now.ids.now windows.now end.now.stations.each.items
+        → AreSendersOf sends setting.now.ids.now end.now.senders.items → 1 ≤ setting.now.limit → cost.new
+        ≡ (if is_own then charged setting.now.profile setting.now.limit b sends (slice_index setting.now.ids.now place) cost.old else cost.old) }
     ensures room { (m : ℕ) → IsBelow m cost.old → IsBelow (m + 1) cost.new }
 {
     if !is_own {
@@ -95,9 +90,21 @@ fn charge(
     }
     let window = &windows[place];
     let stations = end.stations.each.as_slice();
-    let bytes = bytes_sent(window, &stations[place], lengths[place], ids, lengths);
+    let bytes = bytes_sent(
+        window,
+        &stations[place],
+        lengths[place],
+        setting.ids,
+        lengths,
+    );
     let steps = steps_of(end.senders.as_slice(), place as u8);
-    cost.add_slot(profile, limit, window.is_open, bytes, steps);
+    cost.add_slot(
+        &setting.profile,
+        setting.limit,
+        window.is_open,
+        bytes,
+        steps,
+    );
 }
 
 // How long what the node of this window and station sends is, in bytes. `own` is the length of what it says itself.

@@ -12,43 +12,47 @@ ghost use Rattle.plain_bus.specs.Closings.{Behind, IsBehind, AllMay, heard_in, c
 
 use crate::node::BusNode;
 use crate::places::place_of;
+use crate::round_slot::RoundSlot;
 use crate::station::Station;
 use crate::window::Window;
-use bus_rules::{Delivery, Part};
-use lwb_base::{Memory, NodeId, Rank};
+use bus_rules::Delivery;
+use lwb_base::{Memory, NodeId};
 use lwb_member::{Heard, message_in};
 
-/// The slot of this part and number closes at all nodes in the round of this rank and frame, which is at most 16,777,215: by
-/// the windows and the stations after the flood, in the order of the nodes, whose ids ascend. What they deliver is added at the
-/// end of `log`. `Err` means out of memory.
+/// The slot closes at all nodes, in a frame of at most 16,777,215: by the windows and the stations after the flood, in the
+/// order of the nodes, whose ids ascend. What they deliver is added at the end of `log`. `Err` means out of memory.
 pub fn close_all(
     nodes: &mut [BusNode],
     windows: &[Window],
     stations: &[Station],
     ids: &[NodeId],
-    rank: Rank,
-    frame: u32,
-    slot: u8,
-    part: &Part,
+    slot: &RoundSlot,
     log: &mut Vec<Delivery>,
 ) -> Result<(), Memory>
-    requires frame { frame ≤ 16777215 }
+    requires frame { slot.now.frame ≤ 16777215 }
     requires windows { length windows.now ≡ length nodes.old }
     requires stations { length stations.now ≡ length nodes.old }
     requires ids { length ids.now ≡ length nodes.old }
     requires ascending { AllPairs (λ a b. a < b) ids.now }
-    requires early { All (λ n. IsEarlyState frame n.state) nodes.old }
-    ensures early { OnOk result (All (λ n. IsEarlyState frame n.state) nodes.new) }
+    requires early { All (λ n. IsEarlyState slot.now.frame n.state) nodes.old }
+    ensures early { OnOk result (All (λ n. IsEarlyState slot.now.frame n.state) nodes.new) }
     ensures nodes { OnOk result ((b : Behind) (n : ℕ → NodeOf) → IsBehind b ids.now windows.now stations.now → nodes.old ≡ map n ids.now → AllMay b ids.now n
-        → nodes.new ≡ map (closed_node b frame part.now n) ids.now) }
+        → nodes.new ≡ map (closed_node b slot.now.frame slot.now.part n) ids.now) }
     ensures log { OnOk result ((b : Behind) (n : ℕ → NodeOf) → IsBehind b ids.now windows.now stations.now → nodes.old ≡ map n ids.now → AllMay b ids.now n
-        → log.new.items ≡ log.old.items ++ filter_map (delivers_node b rank frame slot part.now n) ids.now) }
+        → log.new.items ≡ log.old.items ++ filter_map (delivers_node b slot.now.rank slot.now.frame slot.now.number slot.now.part n) ids.now) }
 {
     let mut place = 0;
     for node in nodes.iter_mut() {
         let window = &windows[place];
         let accepted = heard_by(window, &stations[place], windows, ids);
-        let delivery = node.close(rank, frame, slot, *part, window, accepted);
+        let delivery = node.close(
+            slot.rank,
+            slot.frame,
+            slot.number,
+            slot.part,
+            window,
+            accepted,
+        );
         push_some(log, delivery)?;
         place += 1;
     }

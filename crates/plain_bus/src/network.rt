@@ -15,6 +15,7 @@ use crate::charging::charge_all;
 use crate::closing::close_all;
 use crate::cost::Cost;
 use crate::node::BusNode;
+use crate::round_slot::{RoundSlot, Setting};
 use crate::slot_flood::open_slot;
 use crate::stepping::flooded;
 use crate::window::Window;
@@ -113,25 +114,31 @@ impl Network {
             limit,
         )?;
         let end = flooded(s.trace(), &flood, s.nodes());
+        let setting = Setting {
+            ids: &self.ids,
+            profile,
+            limit,
+        };
         charge_all(
             &mut self.costs,
             &self.nodes,
             &self.windows,
             &end,
-            &self.ids,
             rank,
-            &profile,
-            limit,
+            &setting,
         );
+        let closing = RoundSlot {
+            rank,
+            frame,
+            number: slot,
+            part: *part,
+        };
         close_all(
             &mut self.nodes,
             &self.windows,
             end.stations.each.as_slice(),
             &self.ids,
-            rank,
-            frame,
-            slot,
-            part,
+            &closing,
             &mut self.deliveries,
         )
     }

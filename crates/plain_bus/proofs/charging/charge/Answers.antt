@@ -11,15 +11,15 @@ use Rattle.plain_bus.proofs.charging.charge.Goals as goal
 
 pub returns-clause-cost : goal.returns-clause-cost
 returns-clause-cost c b sends behind are some =
-    let ids = c.args.ids.now in
+    let ids = c.args.setting.now.ids.now in
     let ws = c.args.windows.now in
     let xs = c.args.end.now.stations.each.items in
     let place = c.args.place in
     let v : ℕ = get_or ids place 0 in
     let w = c.index-windows-place.result in
     let x = c.index-stations-place.result in
-    let p = c.args.profile.now in
-    let limit = c.args.limit in
+    let p = c.args.setting.now.profile in
+    let limit = c.args.setting.now.limit in
     let x_at : x ≡ get_or xs place x = c.index-stations-place.is ∙ ap (λ (l : List Station). get_or l place x) c.as_slice-stations.ensures.value in
     let window = window_at b ids ws xs behind place w (omega (arith, c.requires.place, c.requires.windows)) c.requires.place c.index-windows-place.is in
     let first = first_at b ids ws xs behind place x (omega (arith, c.requires.place, c.requires.stations)) x_at in

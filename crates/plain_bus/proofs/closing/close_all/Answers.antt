@@ -19,7 +19,7 @@ close-delivery-requires-clause-early c =
     let below : i < length olds = omega (arith, c.loop-node-test.true, size) in
     let at : n ≡ get_or olds i n = same_place c.loop-node.nodes olds i c.node-item.result c.loop-node.invariant.todo
     ∙ get_or_default olds i c.node-item.result n below in
-    subst (λ (x : BusNode). IsEarlyState c.args.frame x.state) (sym at) (c.requires.early i n below)
+    subst (λ (x : BusNode). IsEarlyState c.args.slot.now.frame x.state) (sym at) (c.requires.early i n below)
 
 pub loop-node-preserved : goal.loop-node-preserved
 loop-node-preserved c =
@@ -28,8 +28,8 @@ loop-node-preserved c =
     let now = c.loop-node.nodes in
     let ws = c.args.windows.now in
     let xs = c.args.stations.now in
-    let f = c.args.frame in
-    let part = c.args.part.now in
+    let f = c.args.slot.now.frame in
+    let part = c.args.slot.now.part in
     let n : BusNode = get_or now i c.node-item.result in
     let y = c.close-delivery.new.self in
     let w = c.index-windows-place.result in
@@ -56,7 +56,7 @@ loop-node-preserved c =
       todo = rest_unchanged olds now i y c.loop-node.invariant.todo;
       log = λ b g behind are may.
           (let heard = c.heard_by-accepted.ensures.value b behind.windows (origin_here b ids ws xs behind same g olds are may i in_xs w w_at x x_at n at) in
-          delivered_more b ids ws xs behind same g olds are may i in_xs w w_at x x_at n at h heard c.args.rank f c.args.slot part c.args.log.now.items
+          delivered_more b ids ws xs behind same g olds are may i in_xs w w_at x x_at n at h heard c.args.slot.now.rank f c.args.slot.now.number part c.args.log.now.items
           c.loop-node.log.items c.push_some.new.log.items c.close-delivery.result
           (c.close-delivery.ensures.delivery (may_here b ids ws xs behind same g olds are may i in_xs w w_at x x_at n at h heard))
           (c.loop-node.invariant.log b g behind are may) c.in_ok-push_some.ensures);
@@ -66,14 +66,14 @@ loop-node-preserved c =
 
 pub returns-clause-early : goal.returns-clause-early
 returns-clause-early c =
-    subst (λ (l : List BusNode). All (λ (z : BusNode). IsEarlyState c.args.frame z.state) l)
+    subst (λ (l : List BusNode). All (λ (z : BusNode). IsEarlyState c.args.slot.now.frame z.state) l)
     (take_all c.loop-node.node-index c.loop-node.nodes (let size = c.loop-node.auto.nodes in omega (arith, c.loop-node-test.false, size)))
     c.loop-node.invariant.early
 
 pub returns-clause-log : goal.returns-clause-log
 returns-clause-log c b n behind are may =
     let ids = c.args.ids.now in
-    let g = delivers_node b c.args.rank c.args.frame c.args.slot c.args.part.now n in
+    let g = delivers_node b c.args.slot.now.rank c.args.slot.now.frame c.args.slot.now.number c.args.slot.now.part n in
     let size = c.loop-node.auto.nodes in
     c.loop-node.invariant.log b n behind are may
     ∙ ap (λ (l : List ℕ). c.args.log.now.items ++ filter_map g l)

@@ -39,8 +39,8 @@ flooded-end-requires-clause-few c =
 
 pub charge_all-requires-clause-ascending : goal.charge_all-requires-clause-ascending
 charge_all-requires-clause-ascending c =
-    ids_ascend c.args.s.now (sound c.args.s.now c.profile-profile.ensures.said) c.deref-3.result.now
-    (c.deref-3.ensures.value ∙ ap (λ (n : Network). n.ids) c.self.view_is ∙ c.requires.ready.ids_are)
+    ids_ascend c.args.s.now (sound c.args.s.now c.profile-profile.ensures.said) c.deref.result.now
+    (c.deref.ensures.value ∙ ap (λ (n : Network). n.ids) c.self.view_is ∙ c.requires.ready.ids_are)
 
 pub close_all-requires-clause-ascending : goal.close_all-requires-clause-ascending
 close_all-requires-clause-ascending c =
@@ -62,8 +62,8 @@ opened_size c =
 stored : (c : goal.After-self-3-1) → c.deref_mut-3.result.now ≡ c.open_slot.new.nodes
 stored c = c.deref_mut-3.ensures.value ∙ put_back c.self.inside.nodes.len c.open_slot.new.nodes c.self.inside.nodes.items (size c) (opened_size c)
 
-stored_first : (c : goal.After-self-3-1) → c.deref.result.now ≡ c.open_slot.new.nodes
-stored_first c = c.deref.ensures.value ∙ put_back c.self.inside.nodes.len c.open_slot.new.nodes c.self.inside.nodes.items (size c) (opened_size c)
+stored_first : (c : goal.After-self-3-1) → c.deref-2.result.now ≡ c.open_slot.new.nodes
+stored_first c = c.deref-2.ensures.value ∙ put_back c.self.inside.nodes.len c.open_slot.new.nodes c.self.inside.nodes.items (size c) (opened_size c)
 
 ended : (c : goal.After-self-3-1) → (let n = c.self.inside.nodes.len in
     take n (c.close_all.new.nodes ++ drop (length c.close_all.new.nodes)
@@ -89,8 +89,8 @@ old_costs c = c.deref_mut-2.ensures.value ∙ ap (λ (n : Network). n.costs) c.s
 ids_are : (c : goal.After-self-3-1) → c.deref-5.result.now ≡ ids c.args.s.now.nodes
 ids_are c = c.deref-5.ensures.value ∙ ap (λ (n : Network). n.ids) c.self.view_is ∙ c.requires.ready.ids_are
 
-first_ids_are : (c : goal.After-self-3-1) → c.deref-3.result.now ≡ ids c.args.s.now.nodes
-first_ids_are c = c.deref-3.ensures.value ∙ ap (λ (n : Network). n.ids) c.self.view_is ∙ c.requires.ready.ids_are
+first_ids_are : (c : goal.After-self-3-1) → c.deref.result.now ≡ ids c.args.s.now.nodes
+first_ids_are c = c.deref.ensures.value ∙ ap (λ (n : Network). n.ids) c.self.view_is ∙ c.requires.ready.ids_are
 
 module _ (c : goal.After-self-3-1) (p : Plan) (start others : ℕ → State)
     (are : c.args.self.now.nodes ≡ nodes_before c.args.s.now c.args.rank c.args.frame p start others c.args.slot)
@@ -185,20 +185,20 @@ returns-clause-costs c = on_ok_weaker c.close_all.result (λ early p start other
     let b = behind s rank f p start others j in
     let n = node_at s rank f p start others j in
     let some = (sound s c.profile-profile.ensures.said).some_sends in
-    let sending : AreSendersOf (sends_in flood) c.deref-3.result.now c.flooded-end.result.senders.items =
+    let sending : AreSendersOf (sends_in flood) c.deref.result.now c.flooded-end.result.senders.items =
     subst (λ (l : List ℕ). AreSendersOf (sends_in flood) l c.flooded-end.result.senders.items) (c.trace.ensures.sealed ∙ sym (first_ids_are c))
     (c.flooded-end.ensures.senders flood (flood_is c p start others are is)) in
     let of_list : List ℕ → List Cost = λ l. map (slot_charged s.profile rank s.sends b (sends_in flood) n cost) l in
     charged c
     ∙ c.charge_all.ensures.costs b n cost (sends_in flood)
-    (met c p start others are is c.deref-2.result.now c.flooded-end.result.stations.each.items c.deref-3.result.now c.deref-2.ensures.value refl
+    (met c p start others are is c.deref-3.result.now c.flooded-end.result.stations.each.items c.deref.result.now c.deref-3.ensures.value refl
     (first_ids_are c))
     sending
     (stored_first c ∙ opened c p start others are is ∙ ap (map n) (sym (first_ids_are c)))
     (old_costs c ∙ costs ∙ ap (map cost) (sym (first_ids_are c)))
     (omega (arith, some, c.sends-limit.ensures))
-    ∙ ap (λ (m : ℕ). map (slot_charged c.profile-profile.result rank m b (sends_in flood) n cost) c.deref-3.result.now) c.sends-limit.ensures
-    ∙ ap (λ (q : Numbers). map (slot_charged q rank s.sends b (sends_in flood) n cost) c.deref-3.result.now) c.profile-profile.ensures.value
+    ∙ ap (λ (m : ℕ). map (slot_charged c.profile-profile.result rank m b (sends_in flood) n cost) c.deref.result.now) c.sends-limit.ensures
+    ∙ ap (λ (q : Numbers). map (slot_charged q rank s.sends b (sends_in flood) n cost) c.deref.result.now) c.profile-profile.ensures.value
     ∙ ap of_list (first_ids_are c) ∙ slot_costs s rank f p start others j cost))
     c.close_all.ensures.early
 
