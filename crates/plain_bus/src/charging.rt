@@ -38,7 +38,8 @@ pub fn charge_all(
     requires ascending { AllPairs (λ a b. a < b) setting.now.ids.now }
     requires steps { length end.now.senders.items ≡ 12 }
     requires room { All (IsBelow 1048576) costs.old }
-    ensures costs { (b : Behind) (n : ℕ → NodeOf) (cost : ℕ → CostOf) (sends : ℕ → ℕ → Bool) → IsBehind b setting.now.ids.now windows.now end.now.stations.each.items
+    ensures costs { (b : Behind) (n : ℕ → NodeOf) (cost : ℕ → CostOf) (sends : ℕ → ℕ → Bool)
+        → IsBehind b setting.now.ids.now windows.now end.now.stations.each.items
         → AreSendersOf sends setting.now.ids.now end.now.senders.items → nodes.now ≡ map n setting.now.ids.now → costs.old ≡ map cost setting.now.ids.now
         → 1 ≤ setting.now.limit
         → costs.new ≡ map (slot_charged setting.now.profile rank setting.now.limit b sends n cost) setting.now.ids.now }

@@ -56,7 +56,8 @@ loop-node-preserved c =
       todo = rest_unchanged olds now i y c.loop-node.invariant.todo;
       log = λ b g behind are may.
           (let heard = c.heard_by-accepted.ensures.value b behind.windows (origin_here b ids ws xs behind same g olds are may i in_xs w w_at x x_at n at) in
-          delivered_more b ids ws xs behind same g olds are may i in_xs w w_at x x_at n at h heard c.args.slot.now.rank f c.args.slot.now.number part c.args.log.now.items
+          delivered_more b ids ws xs behind same g olds are may i in_xs w w_at x x_at n at h heard c.args.slot.now.rank f c.args.slot.now.number part
+          c.args.log.now.items
           c.loop-node.log.items c.push_some.new.log.items c.close-delivery.result
           (c.close-delivery.ensures.delivery (may_here b ids ws xs behind same g olds are may i in_xs w w_at x x_at n at h heard))
           (c.loop-node.invariant.log b g behind are may) c.in_ok-push_some.ensures);
