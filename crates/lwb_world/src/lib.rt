@@ -6,3 +6,4 @@ mod world;
 
 pub use lwb_flood::{flood, flood_air};
 pub use world::World;
+pub use world_engine::RunParts;

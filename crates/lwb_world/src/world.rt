@@ -18,7 +18,7 @@ use scenario_text::Scenario;
 use std::alloc::Global;
 use std::marker::Model;
 use tick_clock::DriftClock;
-use world_engine::Engine;
+use world_engine::{Engine, RunParts};
 
 /// The nodes of a scenario over one radio medium in true time: a node core, a radio and a drifting clock each. Contracts
 /// see what the run has left, and the clocks by ascending ids of the nodes.
@@ -119,5 +119,16 @@ impl<'a, C: DriftClock> World<'a, C> {
     {
         let engine = self.engine;
         engine.into_air()
+    }
+
+    /// The log of the run and its lists, and nothing else of the world.
+    pub fn into_parts(self) -> RunParts
+        ensures air { result.air ≡ self.entry.0.air }
+        ensures deliveries { result.deliveries.items ≡ self.entry.0.deliveries }
+        ensures drops { result.drops.items ≡ self.entry.0.drops }
+        ensures charges { result.charges.items ≡ self.entry.0.charges }
+    {
+        let engine = self.engine;
+        engine.into_parts()
     }
 }

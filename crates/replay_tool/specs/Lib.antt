@@ -10,3 +10,4 @@ pub mod Commands
 pub mod Reports
 pub mod CommandLine
 pub mod Answers
+pub mod RunsKept

@@ -35,21 +35,6 @@ pub fn write_energies(
     Ok(())
 }
 
-/// The same by the log alone.
-pub fn write_energies_of_log(
-    alloc: Global,
-    text: &mut String,
-    s: &Scenario,
-    air: &Air,
-) -> Result<(), Memory>
-    requires { Lawful s.now (scenario_clock s.now) air.now }
-    ensures { OnOk result (string_bytes text.new ≡ string_bytes text.old ++ energy_lines s.now (scenario_clock s.now) air.now) }
-{
-    let account = Account::of(alloc, s, air)?;
-    write_account(text, s, &account)?;
-    Ok(())
-}
-
 // The line of each node of the scenario, by the account of a log.
 fn write_account(text: &mut String, s: &Scenario, account: &Account) -> Result<(), AllocError>
     ensures { (air : List Entry) → IsAccount s.now (scenario_clock s.now) air account.now

@@ -8,17 +8,19 @@ ghost use Rattle.scenario_text.specs.ScenarioGrammar.{IsScenario};
 ghost use Rattle.scenario_text.specs.ScenarioParts.{ScenarioParts};
 ghost use Rattle.replay_tool.specs.Answers.{Answers};
 ghost use Rattle.replay_tool.specs.ReturnReport.{return_report as report_of};
+ghost use Rattle.replay_tool.specs.RunsKept.{KeepsRun};
 ghost use Rattle.replay_tool.specs.declared.command.Command.TheVariants as asked;
 
 use crate::answer::{Answer, fault_answer};
-use crate::energy_lines::write_energies_of_log;
+use crate::energy_lines::write_energies;
 use crate::return_lines::{write_probes, write_returns};
 use crate::run_answer::world_after;
 use crate::run_report::write_report;
-use air_log::Air;
-use bus_model::Bus;
+use air_log::{Air, NodeCharge};
+use bus_rules::{Delivery, DropLine};
 use host_return::{Returned, Runner, follow_returns};
 use lwb_base::Memory;
+use lwb_world::RunParts;
 use scenario_text::{ParseFault, Scenario, parse};
 use std::alloc::Global;
 
@@ -33,25 +35,53 @@ pub fn return_answer(alloc: Global, bytes: &[u8]) -> Result<Answer, Memory>
         Err(ParseFault::Line(line, kind)) => return fault_answer(alloc, line, kind),
         Err(ParseFault::Memory) => return Err(Memory),
     };
-    let returned = follow_returns(alloc, &scenario, &mut Worlds)?;
-    let report = return_report(alloc, &returned)?;
+    let mut worlds = Worlds::new(alloc);
+    let returned = follow_returns(alloc, &scenario, &mut worlds)?;
+    let report = return_report(alloc, &returned, &worlds)?;
     Ok(Answer::Report(report, returned.into_air()))
 }
 
-// A world for each run, over the clocks that its scenario states.
+// A world for each run, over the clocks that its scenario states. The lists of the last one are kept for the report.
 #[derive(Drop)]
-struct Worlds;
+struct Worlds {
+    deliveries: Vec<Delivery>,
+    drops: Vec<DropLine>,
+    charges: Vec<NodeCharge>,
+}
 
-impl Runner for Worlds {
-    fn run(&mut self, alloc: Global, s: &Scenario) -> Result<Air, Memory> {
-        let world = world_after(alloc, s)?;
-        Ok(world.into_air())
+impl Worlds {
+    // Before the first run.
+    fn new(alloc: Global) -> Worlds {
+        Worlds {
+            deliveries: Vec::new(alloc),
+            drops: Vec::new(alloc),
+            charges: Vec::new(alloc),
+        }
     }
 }
 
-// What is delivered and lost comes from the bus, which has it without clocks: a log has the radios alone.
-fn return_report(alloc: Global, returned: &Returned) -> Result<String, Memory>
-    requires { (read : ScenarioParts) × IsReturned read returned.now }
+impl Runner for Worlds {
+    ghost kept = { λ w s air. KeepsRun w s air };
+
+    fn run(&mut self, alloc: Global, s: &Scenario) -> Result<Air, Memory> {
+        let world = world_after(alloc, s)?;
+        let RunParts {
+            air,
+            deliveries,
+            drops,
+            charges,
+        } = world.into_parts();
+        self.deliveries = deliveries;
+        self.drops = drops;
+        self.charges = charges;
+        Ok(air)
+    }
+}
+
+// The report of what came of the returns, by the lists that were kept of their last run.
+fn return_report(alloc: Global, returned: &Returned, worlds: &Worlds) -> Result<String, Memory>
+    requires returned { (read : ScenarioParts) × IsReturned read returned.now }
+    requires kept { KeepsRun worlds.now returned.now.scenario returned.now.air }
     ensures said { IfOk result (λ text. IsScenario returned.now.scenario) }
     ensures bytes { IfOk result (λ text. string_bytes text ≡ report_of returned.now.returns returned.now.counts (bus_deliveries returned.now.scenario)
         (bus_drops returned.now.scenario) returned.now.scenario (scenario_clock returned.now.scenario) returned.now.air) }
@@ -60,8 +90,7 @@ fn return_report(alloc: Global, returned: &Returned) -> Result<String, Memory>
     let mut text = String::new(alloc);
     write_returns(&mut text, returned.returns())?;
     write_probes(&mut text, scenario.nodes(), returned)?;
-    let bus = Bus::run(alloc, scenario)?;
-    write_report(&mut text, bus.deliveries(), bus.drops())?;
-    write_energies_of_log(alloc, &mut text, scenario, returned.air())?;
+    write_report(&mut text, &worlds.deliveries, &worlds.drops)?;
+    write_energies(alloc, &mut text, scenario, returned.air(), &worlds.charges)?;
     Ok(text)
 }
