@@ -1,5 +1,5 @@
 -- A process that calls `top` on its words, and one that has none.
-use Rattle.std.proofs.Common.{◌≡◌, ℕ, List, Result, Ok, Err, map, string_bytes, String, Vec, subst, sym, refl, inl, inr}
+use Rattle.std.proofs.Common.{◌≡◌, ℕ, List, Result, Ok, Err, String, Vec, subst, sym, refl, inl, inr}
 use Rattle.std.specs.declared.alloc.Global.{Global}
 use Rattle.std.specs.declared.io.Error.{Error}
 use Rattle.std.specs.declared.vec.IntoIter.{IntoIter}
@@ -12,15 +12,15 @@ module _ {S K : Type 0} (e : ProcessStreams S K) (started : Result (IntoIter (St
   -- `top` was given the words of the process, and its status is that of the process
   pub called : (words : Vec (String Global) Global) (given : List (String Global)) (status exit : ℕ) (air : List Entry)
       → IsWords started (Ok words) → given ≡ words.items → exit ≡ status
-      → IsTopCall e (map string_bytes given) source source_after sink sink_after status air
+      → IsTopCall e given source source_after sink sink_after status air
       → IsProcessRun e started source source_after sink sink_after exit
   called words given status exit air are same ends call =
       inr (record {
         words = words;
         are = are;
         air = air;
-        call = subst (λ (n : ℕ). IsTopCall e (map string_bytes words.items) source source_after sink sink_after n air) (sym ends)
-            (subst (λ (l : List (String Global)). IsTopCall e (map string_bytes l) source source_after sink sink_after status air) same call);
+        call = subst (λ (n : ℕ). IsTopCall e words.items source source_after sink sink_after n air) (sym ends)
+            (subst (λ (l : List (String Global)). IsTopCall e l source source_after sink sink_after status air) same call);
       })
 
 -- the process could not get its words

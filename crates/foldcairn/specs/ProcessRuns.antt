@@ -1,5 +1,5 @@
 -- The run of a process over its source and its sink.
-use Rattle.std.specs.Prelude.{◌≡◌, ◌≢◌, ◌⊎◌, ◌≤◌, ℕ, List, [], Option, Result, Ok, Err, String, Vec, map, string_bytes}
+use Rattle.std.specs.Prelude.{◌≡◌, ◌≢◌, ◌⊎◌, ◌≤◌, ℕ, List, [], Option, Result, Ok, Err, String, Vec}
 use Rattle.std.specs.declared.alloc.Global.{Global}
 use Rattle.std.specs.declared.io.Error.{Error}
 use Rattle.std.specs.declared.vec.IntoIter.{IntoIter}
@@ -18,7 +18,7 @@ pub record ProcessStreams (S K : Type 0) : Type 0 where
   pub write_faults : K → ℕ
 
 -- a call of `top`: each clause of its contract, by the same name
-pub record IsTopCall {S K : Type 0} (e : ProcessStreams S K) (words : List (List ℕ)) (source source_after : S) (sink sink_after : K)
+pub record IsTopCall {S K : Type 0} (e : ProcessStreams S K) (words : List (String Global)) (source source_after : S) (sink sink_after : K)
     (status : ℕ) (air : List Entry) : Type 0 where
   pub known : status ≤ 5
   pub report : status ≡ 0 → Written (e.held sink) (e.held sink_after) (ReportDue words (e.left source) (e.left source_after) air)
@@ -51,7 +51,7 @@ pub record CallsTop {S K : Type 0} (e : ProcessStreams S K) (started : Result (I
   pub words : Vec (String Global) Global
   pub are : IsWords started (Ok words)
   pub air : List Entry
-  pub call : IsTopCall e (map string_bytes words.items) source source_after sink sink_after status air
+  pub call : IsTopCall e words.items source source_after sink sink_after status air
 
 abbrev pub IsProcessRun : {S K : Type 0} (e : ProcessStreams S K) → Result (IntoIter (String Global) Global) Error → S → S → K → K → ℕ → Type 0
 IsProcessRun e started source source_after sink sink_after status =

@@ -1,5 +1,6 @@
 -- Which text is due, and that no status but its own can come.
-use Rattle.std.proofs.Common.{◌≡◌, ◌≤◌, ◌++◌, ◌↔◌, inl, ℕ, List, Bool, true, false, length, Option, Some, None, refl, sym, ◌∙◌, ap, subst, arith}
+use Rattle.std.proofs.Common.{◌≡◌, ◌≤◌, ◌++◌, ◌↔◌, inl, ℕ, List, Bool, true, false, length, Option, Some, None, String, refl, sym, ◌∙◌, ap, subst, arith}
+use Rattle.std.specs.declared.alloc.Global.{Global}
 use Rattle.std.specs.Result.{result_err}
 use Rattle.std.proofs.lemmas.List.{append-nil}
 use Rattle.std.specs.Io.KnownBytes.{Consumes, IsAtEnd}
@@ -7,7 +8,7 @@ use Rattle.lwb_base.specs.declared.read.TheConstants.{INPUT_LIMIT}
 use Rattle.text_readers.specs.declared.fault.FaultKind.{FaultKind}
 use Rattle.air_log.specs.declared.entry.Entry.{Entry}
 use Rattle.replay_tool.specs.Commands.{Asks, reads, IsReading, IsTextOf, HasFault}
-use Rattle.replay_tool.specs.CommandLine.{PartWritten, WholeRead, IsInput, IsFaultLine, IsComplete}
+use Rattle.replay_tool.specs.CommandLine.{PartWritten, IsRead, WasRead, IsInput, IsFaultLine, IsComplete}
 use Rattle.replay_tool.specs.Reports.{IsReport}
 use Rattle.replay_tool.specs.declared.command.Command.{Command}
 use Rattle.replay_tool.specs.declared.command.Command.TheVariants.{Flood, Run, Log, Bus, Demo, Check, Deadlines, Times, Return}
@@ -21,19 +22,18 @@ pub all_read : (b c : List ℕ) (new : Option (List ℕ)) → Consumes (Some b) 
 all_read b c None eaten end = absurd eaten
 all_read b c (Some rest) eaten end = eaten ∙ ap (λ (r : List ℕ). c ++ r) end ∙ append-nil c
 
--- what holds of the bytes that were read
-pub read_that : (reading : Bool) (old new : Option (List ℕ)) (bs : List ℕ) (P : List ℕ → Type 0) → WholeRead reading old new (λ b. b ≡ bs) → P bs
-    → WholeRead reading old new P
-read_that true old new bs P (b, eaten, end, few, is) holds = (b, eaten, end, few, subst P (sym is) holds)
-read_that false old new bs P is holds = subst P (sym is) holds
-
--- holds of the input, which is not too long
-read_is_input : (reading : Bool) (old new : Option (List ℕ)) (P : List ℕ → Type 0) (b : List ℕ) → WholeRead reading old new P → IsInput reading old b
-    → P b × (length b ≤ INPUT_LIMIT)
-read_is_input true old new P b (r, eaten, end, few, holds) is =
+-- what was read is the input, which is not too long
+read_is_input : (reading : Bool) (old new : Option (List ℕ)) (r b : List ℕ) → IsRead reading old new r → IsInput reading old b
+    → (r ≡ b) × (length b ≤ INPUT_LIMIT)
+read_is_input true old new r b (eaten, end, few) is =
     let same : b ≡ r = all_read b r new (subst (λ (o : Option (List ℕ)). Consumes o new r) is eaten) end in
-    (subst P (sym same) holds, subst (λ (l : List ℕ). length l ≤ INPUT_LIMIT) (sym same) few)
-read_is_input false old new P b holds is = (subst P (sym is) holds, subst (λ (l : List ℕ). length l ≤ INPUT_LIMIT) (sym is) (omega arith))
+    (sym same, subst (λ (l : List ℕ). length l ≤ INPUT_LIMIT) (sym same) few)
+read_is_input false old new r b none is = (none ∙ sym is, subst (λ (l : List ℕ). length l ≤ INPUT_LIMIT) (sym is) (omega arith))
+
+-- the same of a command, said of the one that the words ask for
+input_of : (c d : Command) (old new : Option (List ℕ)) (r b : List ℕ) → c ≡ d → WasRead c old new r → IsInput (reads d) old b
+    → (r ≡ b) × (length b ≤ INPUT_LIMIT)
+input_of c d old new r b one read at = read_is_input (reads c) old new r b read (subst (λ (e : Command). IsInput (reads e) old b) (sym one) at)
 
 -- a report tells that the bytes are a text
 is_text : (c : Command) (b : List ℕ) (air : List Entry) (text : List ℕ) → IsReport c b air text → IsTextOf c b
@@ -67,7 +67,7 @@ faulty_reads Return b n k fault = refl
 faulty_reads (Demo seed nodes frames) b n k fault = absurd (text_or_fault (Demo seed nodes frames) b n k refl fault)
 
 -- where no words ask for a command that reads, this one does not
-pub not_reading : (words : List (List ℕ)) (c : Command) → Asks words c → (IsReading words → ⊥) → reads c ≡ false
+pub not_reading : (words : List (String Global)) (c : Command) → Asks words c → (IsReading words → ⊥) → reads c ≡ false
 not_reading words c asks none = by_test (reads c) refl
   where
     by_test : (b : Bool) → reads c ≡ b → reads c ≡ false
@@ -75,7 +75,7 @@ not_reading words c asks none = by_test (reads c) refl
     by_test false is = is
 
 -- words ask for one command
-pub one_command : (words : List (List ℕ)) (found : Option Command) (c d : Command) → ((e : Command) → (found ≡ Some e) ↔ Asks words e) → found ≡ Some c
+pub one_command : (words : List (String Global)) (found : Option Command) (c d : Command) → ((e : Command) → (found ≡ Some e) ↔ Asks words e) → found ≡ Some c
     → Asks words d → c ≡ d
 one_command words found c d which is asked = some_same c d (sym is ∙ (which d).1 asked)
   where
@@ -83,26 +83,23 @@ one_command words found c d which is asked = some_same c d (sym is ∙ (which d)
     some_same x y same = cc
 
 -- the status is 0 where the bytes read are a text
-pub complete_report : (c d : Command) (old new : Option (List ℕ)) (air : List Entry) (text : List ℕ) (status : ℕ) → c ≡ d
-    → WholeRead (reads c) old new (λ b. IsReport c b air text) → status ≡ 0 → (b : List ℕ)
-    → IsInput (reads d) old b → IsComplete d b status
-complete_report c d old new air text status one read zero b at =
-    let input = read_is_input (reads c) old new (λ l. IsReport c l air text) b read (subst (λ (e : Command). IsInput (reads e) old b) (sym one) at) in
+pub complete_report : (c d : Command) (old new : Option (List ℕ)) (r : List ℕ) (air : List Entry) (text : List ℕ) (status : ℕ) → c ≡ d
+    → WasRead c old new r → IsReport c r air text → status ≡ 0 → (b : List ℕ) → IsInput (reads d) old b → IsComplete d b status
+complete_report c d old new r air text status one read report zero b at =
+    let input = input_of c d old new r b one read at in
     subst (λ (e : Command). IsComplete e b status) one record {
       accepted = λ other short. inl zero;
-      refused = λ n k other short. absurd (text_or_fault c b n k (is_text c b air text input.0) other);
+      refused = λ n k other short. absurd (text_or_fault c b n k (subst (IsTextOf c) input.0 (is_text c r air text report)) other);
       too_long = λ long. absurd (omega (arith, long, input.1));
     }
 
 -- the status is 1 where they have a fault
-pub complete_fault : (c d : Command) (old new : Option (List ℕ)) (text : List ℕ) (status : ℕ) → c ≡ d → reads c ≡ true
-    → WholeRead true old new (λ b. IsFaultLine c b text) → status ≡ 1 → (b : List ℕ)
-    → IsInput (reads d) old b → IsComplete d b status
-complete_fault c d old new text status one reading read is_1 b at =
-    let whole = subst (λ (e : Bool). IsInput e old b) reading (subst (λ (e : Command). IsInput (reads e) old b) (sym one) at) in
-    let input = read_is_input true old new (λ l. IsFaultLine c l text) b read whole in
+pub complete_fault : (c d : Command) (old new : Option (List ℕ)) (r text : List ℕ) (status : ℕ) → c ≡ d → WasRead c old new r
+    → IsFaultLine c r text → status ≡ 1 → (b : List ℕ) → IsInput (reads d) old b → IsComplete d b status
+complete_fault c d old new r text status one read fault is_1 b at =
+    let same = (input_of c d old new r b one read at).0 in
     subst (λ (e : Command). IsComplete e b status) one record {
-      accepted = λ other short. absurd (text_or_fault c b input.0.line input.0.kind other input.0.said);
+      accepted = λ other short. absurd (text_or_fault c r fault.line fault.kind (subst (IsTextOf c) (sym same) other) fault.said);
       refused = λ n k other short. inl is_1;
       too_long = λ long. inl is_1;
     }

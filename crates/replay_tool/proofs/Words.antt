@@ -8,7 +8,7 @@ use Rattle.std.proofs.lemmas.Bool.{false≢true}
 use Rattle.std.proofs.lemmas.Fmt.{decimal_injective}
 use Rattle.std.proofs.lemmas.Slice.Eq.{bytes_eq-Decides}
 use Rattle.scenario_maker.specs.Made.{IsSize}
-use Rattle.replay_tool.specs.Commands.{Asks, reads}
+use Rattle.replay_tool.specs.Commands.{Spell, reads}
 use Rattle.replay_tool.specs.declared.command.Command.{Command}
 use Rattle.replay_tool.specs.declared.command.Command.TheVariants.{Flood, Run, Log, Bus, Demo, Check, Deadlines, Times, Return}
 
@@ -64,7 +64,7 @@ found_by (Some x) P v is holds = ap (λ (c : Command). Some c) is.1
 module _ (ws : List (List ℕ)) (seed nodes frames : ℕ) (found : Option Command)
     (spells : ws ≡ codes "demo" ∷ decimal seed ∷ decimal nodes ∷ decimal frames ∷ []) (few_s : seed < 10 ^ 13) (few_n : nodes < 10 ^ 13)
     (few_f : frames < 10 ^ 13) (is : SomeIff found (IsSize nodes frames) (Demo seed nodes frames)) where
-  asked_for : (c : Command) → reads c ≡ false → Asks ws c → found ≡ Some c
+  asked_for : (c : Command) → reads c ≡ false → Spell ws c → found ≡ Some c
   asked_for Flood reading asks = absurd (false≢true (sym reading))
   asked_for Run reading asks = absurd (false≢true (sym reading))
   asked_for Log reading asks = absurd (false≢true (sym reading))
@@ -82,9 +82,9 @@ module _ (ws : List (List ℕ)) (seed nodes frames : ℕ) (found : Option Comman
       (ap (λ (l : List (List ℕ)). get_or l 3 []) words) in
       rw (← at_seed, ← at_nodes, ← at_frames) (found_by found (IsSize nodes frames) (Demo seed nodes frames) is (rw (at_nodes, at_frames) size))
 
-  pub demo_asked : (c : Command) → (found ≡ Some c) ↔ ((reads c ≡ false) × Asks ws c)
+  pub demo_asked : (c : Command) → (found ≡ Some c) ↔ ((reads c ≡ false) × Spell ws c)
   demo_asked c = (
     (λ got. let at = there found (IsSize nodes frames) (Demo seed nodes frames) c is got in
-        subst (λ (d : Command). (reads d ≡ false) × Asks ws d) (sym at.1) (refl, (spells, few_s, at.0))),
+        subst (λ (d : Command). (reads d ≡ false) × Spell ws d) (sym at.1) (refl, (spells, few_s, at.0))),
     λ both. asked_for c both.0 both.1,
   )

@@ -1,5 +1,6 @@
 -- The text that is due, by the words and by what was read, and what of it went out.
-use Rattle.std.specs.Prelude.{◌≡◌, ◌<◌, ◌≤◌, ◌+◌, ◌⊎◌, ℕ, List, [], ◌∷◌, ◌++◌, Bool, true, false, length, take, Option, Some, codes, decimal}
+use Rattle.std.specs.Prelude.{◌≡◌, ◌<◌, ◌≤◌, ◌+◌, ◌⊎◌, ℕ, List, [], ◌∷◌, ◌++◌, Bool, true, false, length, take, Option, Some, String, codes, decimal}
+use Rattle.std.specs.declared.alloc.Global.{Global}
 use Rattle.std.specs.Io.KnownBytes.{Appends, Consumes, IsAtEnd}
 use Rattle.lwb_base.specs.Reading.{Took}
 use Rattle.lwb_base.specs.declared.read.TheConstants.{INPUT_LIMIT}
@@ -28,10 +29,14 @@ abbrev pub IsInput : Bool → Option (List ℕ) → List ℕ → Type 0
 IsInput true left b = left ≡ Some b
 IsInput false left b = b ≡ []
 
--- all bytes of the input were read to the end, at most this many as are allowed, and this holds of them
-abbrev pub WholeRead : Bool → Option (List ℕ) → Option (List ℕ) → (List ℕ → Type 0) → Type 0
-WholeRead true old new P = (b : List ℕ) × Consumes old new b × IsAtEnd new × (length b ≤ INPUT_LIMIT) × P b
-WholeRead false old new P = P []
+-- these bytes were read: all that the source had, to its end and at most as many as are allowed; or none, where nothing is read
+abbrev pub IsRead : Bool → Option (List ℕ) → Option (List ℕ) → List ℕ → Type 0
+IsRead true old new b = Consumes old new b × IsAtEnd new × (length b ≤ INPUT_LIMIT)
+IsRead false old new b = b ≡ []
+
+-- the command has read these bytes, by what the source had left before and after
+abbrev pub WasRead : Command → Option (List ℕ) → Option (List ℕ) → List ℕ → Type 0
+WasRead c old new b = IsRead (reads c) old new b
 
 -- one byte more than is allowed was taken, and no more
 abbrev pub TooMuchRead : Option (List ℕ) → Option (List ℕ) → Type 0
@@ -42,21 +47,21 @@ abbrev pub PartRead : Option (List ℕ) → Option (List ℕ) → Type 0
 PartRead old new = Took old new (λ n. n ≤ INPUT_LIMIT)
 
 -- a report is due, by the words and by what the source had left before and after, and the log of what was run is given
-abbrev pub ReportDue : List (List ℕ) → Option (List ℕ) → Option (List ℕ) → List Entry → List ℕ → Type 0
-ReportDue words old new air text = (c : Command) × Asks words c × WholeRead (reads c) old new (λ b. IsReport c b air text)
+abbrev pub ReportDue : List (String Global) → Option (List ℕ) → Option (List ℕ) → List Entry → List ℕ → Type 0
+ReportDue words old new air text = (c : Command) × (b : List ℕ) × Asks words c × WasRead c old new b × IsReport c b air text
 
--- a fault line is due
-abbrev pub FaultDue : List (List ℕ) → Option (List ℕ) → Option (List ℕ) → List ℕ → Type 0
+-- a fault line is due, for the bytes that were read or for too many
+abbrev pub FaultDue : List (String Global) → Option (List ℕ) → Option (List ℕ) → List ℕ → Type 0
 FaultDue words old new text =
     (c : Command) × Asks words c × (reads c ≡ true)
-    × (WholeRead true old new (λ b. IsFaultLine c b text) ⊎ (TooMuchRead old new × (text ≡ too_long)))
+    × (((b : List ℕ) × WasRead c old new b × IsFaultLine c b text) ⊎ (TooMuchRead old new × (text ≡ too_long)))
 
 -- the usage line is due
-abbrev pub UsageDue : List (List ℕ) → List ℕ → Type 0
+abbrev pub UsageDue : List (String Global) → List ℕ → Type 0
 UsageDue words text = (IsCommand words → ⊥) × (text ≡ usage)
 
 -- one of them is due, and only a report has a log
-abbrev pub SomeDue : List (List ℕ) → Option (List ℕ) → Option (List ℕ) → List Entry → List ℕ → Type 0
+abbrev pub SomeDue : List (String Global) → Option (List ℕ) → Option (List ℕ) → List Entry → List ℕ → Type 0
 SomeDue words old new air text = ReportDue words old new air text ⊎ ((FaultDue words old new text ⊎ UsageDue words text) × (air ≡ []))
 
 -- the text that is due went out whole

@@ -1,5 +1,6 @@
 -- The commands: the words that ask for each, whether it reads, and which bytes its grammar rejects.
-use Rattle.std.specs.Prelude.{◌≡◌, ◌<◌, ◌^◌, ℕ, List, [], ◌∷◌, Bool, true, false, Option, Some, None, codes, decimal}
+use Rattle.std.specs.Prelude.{◌≡◌, ◌<◌, ◌^◌, ℕ, List, [], ◌∷◌, Bool, true, false, Option, Some, None, String, codes, decimal, map, string_bytes}
+use Rattle.std.specs.declared.alloc.Global.{Global}
 use Rattle.std.specs.Result.{result_err}
 use Rattle.scenario_text.specs.FloodGrammar.{flood_of}
 use Rattle.scenario_text.specs.ScenarioGrammar.{scenario_of}
@@ -10,18 +11,21 @@ use Rattle.air_check.specs.CheckedText.{checked_text}
 use Rattle.replay_tool.specs.declared.command.Command.{Command}
 use Rattle.replay_tool.specs.declared.command.Command.TheVariants.{Flood, Run, Log, Bus, Demo, Check, Deadlines, Times, Return}
 
--- the words ask for this command. A seed has at most 13 digits
-abbrev pub Asks : List (List ℕ) → Command → Type 0
-Asks words Flood = words ≡ codes "flood" ∷ []
-Asks words Run = words ≡ codes "run" ∷ []
-Asks words Log = words ≡ codes "log" ∷ []
-Asks words Bus = words ≡ codes "bus" ∷ []
-Asks words (Demo seed nodes frames) =
+-- words of these bytes ask for this command. A seed has at most 13 digits
+abbrev pub Spell : List (List ℕ) → Command → Type 0
+Spell words Flood = words ≡ codes "flood" ∷ []
+Spell words Run = words ≡ codes "run" ∷ []
+Spell words Log = words ≡ codes "log" ∷ []
+Spell words Bus = words ≡ codes "bus" ∷ []
+Spell words (Demo seed nodes frames) =
     (words ≡ codes "demo" ∷ decimal seed ∷ decimal nodes ∷ decimal frames ∷ []) × (seed < 10 ^ 13) × IsSize nodes frames
-Asks words Check = words ≡ codes "check" ∷ []
-Asks words Deadlines = words ≡ codes "deadlines" ∷ []
-Asks words Times = words ≡ codes "times" ∷ []
-Asks words Return = words ≡ codes "return" ∷ []
+Spell words Check = words ≡ codes "check" ∷ []
+Spell words Deadlines = words ≡ codes "deadlines" ∷ []
+Spell words Times = words ≡ codes "times" ∷ []
+Spell words Return = words ≡ codes "return" ∷ []
+
+abbrev pub Asks : List (String Global) → Command → Type 0
+Asks words c = Spell (map string_bytes words) c
 
 -- whether it reads its source
 abbrev pub reads : Command → Bool
@@ -54,10 +58,10 @@ abbrev pub HasFault : Command → List ℕ → ℕ → FaultKind → Type 0
 HasFault c b n k = fault_of c b ≡ Some (n, k)
 
 -- the words ask for some command, and for one that reads
-abbrev pub IsCommand : List (List ℕ) → Type 0
+abbrev pub IsCommand : List (String Global) → Type 0
 IsCommand words = (c : Command) × Asks words c
 
-abbrev pub IsReading : List (List ℕ) → Type 0
+abbrev pub IsReading : List (String Global) → Type 0
 IsReading words = (c : Command) × Asks words c × (reads c ≡ true)
 
 abbrev pub usage : List ℕ

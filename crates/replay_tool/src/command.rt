@@ -53,7 +53,7 @@ impl Command {
 
 /// The command that the words ask for: its one word, or `demo` and three numbers, and nothing after it.
 pub fn command_of(words: &[String]) -> Option<Command>
-    ensures { (c : CommandOf) → (result ≡ Some c) ↔ Asks (map string_bytes words.now) c }
+    ensures { (c : CommandOf) → (result ≡ Some c) ↔ Asks words.now c }
 {
     if is_word(words, b"flood") {
         Some(Command::Flood)
@@ -85,7 +85,7 @@ fn is_word(words: &[String], word: &[u8]) -> bool
 
 // The command that reads nothing.
 fn demo_of(words: &[String]) -> Option<Command>
-    ensures { (c : CommandOf) → (result ≡ Some c) ↔ ((reads_of c ≡ false) × Asks (map string_bytes words.now) c) }
+    ensures { (c : CommandOf) → (result ≡ Some c) ↔ ((reads_of c ≡ false) × Asks words.now c) }
 {
     let [word, seed, nodes, frames] = words else {
         return None;

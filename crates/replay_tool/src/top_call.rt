@@ -1,6 +1,6 @@
 //! The call `top`: from words and input to the text that is written.
 
-ghost use Rattle.std.specs.Prelude.{◌≡◌, ◌≢◌, ◌⊎◌, ◌≤◌, ◌<◌, ◌^◌, ℕ, List, [], Option, Some, length, take, IfOk, IsErrOf, false, map, string_bytes};
+ghost use Rattle.std.specs.Prelude.{◌≡◌, ◌≢◌, ◌⊎◌, ◌≤◌, ◌<◌, ◌^◌, ℕ, List, [], Option, Some, length, take, IfOk, IsErrOf, false};
 ghost use Rattle.std.specs.Io.KnownBytes.{Appends};
 ghost use Rattle.lwb_base.specs.Causes.{Rose};
 ghost use Rattle.lwb_base.specs.declared.read.ReadStop.TheVariants as stop;
@@ -55,28 +55,28 @@ pub fn top<S: Source, K: Sink>(
 ) -> Outcome
     ensures known { result.status ≤ 5 }
     ensures report { result.status ≡ 0
-        → Written (K.held sink.old) (K.held sink.new) (ReportDue (map string_bytes words.now) (S.left source.old) (S.left source.new) result.air) }
+        → Written (K.held sink.old) (K.held sink.new) (ReportDue words.now (S.left source.old) (S.left source.new) result.air) }
     ensures fault { result.status ≡ 1
-        → Written (K.held sink.old) (K.held sink.new) (FaultDue (map string_bytes words.now) (S.left source.old) (S.left source.new)) }
-    ensures usage { result.status ≡ 2 → Written (K.held sink.old) (K.held sink.new) (UsageDue (map string_bytes words.now)) }
+        → Written (K.held sink.old) (K.held sink.new) (FaultDue words.now (S.left source.old) (S.left source.new)) }
+    ensures usage { result.status ≡ 2 → Written (K.held sink.old) (K.held sink.new) (UsageDue words.now) }
 
     // A source that failed, a sink that failed, and out of memory. What was taken before is gone from the source, and no more is.
-    ensures read_fault { result.status ≡ 3 → IsReading (map string_bytes words.now) × Rose (S.faults source.old) (S.faults source.new)
+    ensures read_fault { result.status ≡ 3 → IsReading words.now × Rose (S.faults source.old) (S.faults source.new)
         × PartRead (S.left source.old) (S.left source.new) × (sink.new ≡ sink.old) }
     ensures write_fault { result.status ≡ 4 → Rose (K.faults sink.old) (K.faults sink.new)
-        × PartWritten (K.held sink.old) (K.held sink.new) (SomeDue (map string_bytes words.now) (S.left source.old) (S.left source.new) result.air) }
-    ensures memory { result.status ≡ 5 → IsCommand (map string_bytes words.now) × PartRead (S.left source.old) (S.left source.new) × (sink.new ≡ sink.old) }
+        × PartWritten (K.held sink.old) (K.held sink.new) (SomeDue words.now (S.left source.old) (S.left source.new) result.air) }
+    ensures memory { result.status ≡ 5 → IsCommand words.now × PartRead (S.left source.old) (S.left source.new) × (sink.new ≡ sink.old) }
 
     ensures no_log { result.status ≢ 0 → result.status ≢ 4 → result.air ≡ [] }
 
     // The counts of faults never fall, and for words that ask for no command that reads the source stays as it was.
     ensures source_later { S.faults source.old ≤ S.faults source.new }
     ensures sink_later { K.faults sink.old ≤ K.faults sink.new }
-    ensures complete { (c : CommandOf) → Asks (map string_bytes words.now) c → (Rose (S.faults source.old) (S.faults source.new) → ⊥)
+    ensures complete { (c : CommandOf) → Asks words.now c → (Rose (S.faults source.old) (S.faults source.new) → ⊥)
         → (Rose (K.faults sink.old) (K.faults sink.new) → ⊥)
         → (b : List ℕ) → IsInput (reads c) (S.left source.old) b → IsComplete c b result.status }
-    ensures complete_usage { (IsCommand (map string_bytes words.now) → ⊥) → (Rose (K.faults sink.old) (K.faults sink.new) → ⊥) → result.status ≡ 2 }
-    ensures untouched { (IsReading (map string_bytes words.now) → ⊥) → source.new ≡ source.old }
+    ensures complete_usage { (IsCommand words.now → ⊥) → (Rose (K.faults sink.old) (K.faults sink.new) → ⊥) → result.status ≡ 2 }
+    ensures untouched { (IsReading words.now → ⊥) → source.new ≡ source.old }
 {
     let Some(command) = command_of(words) else {
         return without_log(alloc, say(sink, USAGE, 2));
