@@ -1,6 +1,7 @@
 //! What comes to all nodes alike: the rounds of a frame begin, and a frame ends.
 
 ghost use Rattle.std.specs.Prelude.{◌≡◌, ◌≤◌, ◌<◌, ℕ, All, length, map};
+ghost use Rattle.lwb_base.specs.declared.limits.TheConstants.{LAST_FRAME};
 ghost use Rattle.bus_rules.specs.States.{State};
 ghost use Rattle.bus_terms.specs.Bus.{Cost as CostOf};
 ghost use Rattle.bus_terms.specs.FloodOfText.{ids};
@@ -19,9 +20,9 @@ pub fn begin_all(nodes: &mut [BusNode])
     }
 }
 
-/// This frame ends, which is at most 16,777,215.
+/// This frame ends, which is at most `LAST_FRAME`.
 pub fn end_all(nodes: &mut [BusNode], frame: u32)
-    requires { frame ≤ 16777215 }
+    requires { frame ≤ LAST_FRAME }
     ensures { nodes.new ≡ map (ended_at frame) nodes.old }
 {
     for node in nodes.iter_mut() {

@@ -1,6 +1,7 @@
 //! A frame of a scenario at all nodes.
 
 ghost use Rattle.std.specs.Prelude.{◌≡◌, ◌≤◌, ◌<◌, ◌+◌, ℕ, [], All, IfOk, OnOk, length, map, take};
+ghost use Rattle.lwb_base.specs.declared.limits.TheConstants.{LAST_FRAME};
 ghost use Rattle.bus_rules.specs.States.{State};
 ghost use Rattle.bus_terms.specs.Bus.{Cost as CostOf, before_frame, drops_below};
 ghost use Rattle.bus_terms.specs.FloodOfText.{ids};
@@ -64,7 +65,7 @@ fn begin_rounds(net: &mut Network)
 
 // The frame ends.
 fn end_frame(net: &mut Network, frame: u32)
-    requires { frame ≤ 16777215 }
+    requires { frame ≤ LAST_FRAME }
     ensures nodes { net.new.nodes ≡ map (ended_at frame) net.old.nodes }
     ensures rest { (net.new.ids ≡ net.old.ids) × (net.new.costs ≡ net.old.costs) × (net.new.deliveries ≡ net.old.deliveries) }
 {

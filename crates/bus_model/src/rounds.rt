@@ -2,6 +2,7 @@
 
 ghost use Rattle.std.specs.Prelude.{◌≡◌, ◌≤◌, ◌+◌, ◌*◌, ◌++◌, ◌==◌, ℕ, OnOk, flat_map, map, length, if◌then◌else◌};
 ghost use Rattle.lwb_base.specs.Messages.{Plan};
+ghost use Rattle.lwb_base.specs.declared.limits.TheConstants.{LAST_FRAME};
 ghost use Rattle.bus_rules.specs.Plans.{last_slot};
 ghost use Rattle.bus_rules.specs.States.{State};
 ghost use Rattle.bus_terms.specs.Bus.{Cost as CostOf};
@@ -21,7 +22,7 @@ use std::alloc::Global;
 
 /// The rounds of all ranks in this frame, one after another. `Err` means out of memory.
 pub fn run_rounds(alloc: Global, net: &mut Network, s: &Scenario, frame: u32) -> Result<(), Memory>
-    requires frame { frame ≤ 16777215 }
+    requires frame { frame ≤ LAST_FRAME }
     requires ready { IsReady s.now frame 1000000 net.old }
     ensures ready { OnOk result ((m : ℕ) → IsReady s.now frame m net.old → IsReady s.now frame (m + 184) net.new) }
     ensures nodes { OnOk result ((start : ℕ → State) → AreRanked s.now start → net.old.nodes ≡ nodes_with s.now (ranks_in start) start
@@ -62,7 +63,7 @@ fn run_round(
     rank: Rank,
     frame: u32,
 ) -> Result<(), Memory>
-    requires frame { frame ≤ 16777215 }
+    requires frame { frame ≤ LAST_FRAME }
     requires ready { IsReady s.now frame 1040000 net.old }
     ensures ready { OnOk result ((m : ℕ) → IsReady s.now frame m net.old → IsReady s.now frame (m + 46) net.new) }
     ensures nodes { OnOk result ((start others : ℕ → State) → net.old.nodes ≡ nodes_in s.now rank start start others
@@ -88,7 +89,7 @@ fn run_slots(
     frame: u32,
     parts: &[Part],
 ) -> Result<(), Memory>
-    requires frame { frame ≤ 16777215 }
+    requires frame { frame ≤ LAST_FRAME }
     requires few { length parts.now ≤ 46 }
     requires ready { IsReady s.now frame 1040000 net.old }
     ensures ready { OnOk result ((m : ℕ) → IsReady s.now frame m net.old → IsReady s.now frame (m + length parts.now) net.new) }

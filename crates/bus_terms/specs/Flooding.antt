@@ -4,6 +4,7 @@ use Rattle.std.specs.Prelude.{◌≡◌, ◌<◌, ℕ, zero, suc, ◌+◌, List,
 use Rattle.std.specs.Prelude.{if◌then◌else◌, is_none, is_some, Some, None, filter_map, option_and_then, count_by, sum_by}
 use Rattle.std.specs.declared.option.Option.{Option}
 use Rattle.std.specs.List.{list_any, list_all}
+use Rattle.lwb_base.specs.declared.limits.TheConstants.{FLOOD_STEPS}
 
 -- the most transmissions of a node; whether the link from u to v passes in step k (k, u, v); whom the capture line of step k at v names; the
 -- initiators; all that take part, initiators and listeners
@@ -20,9 +21,9 @@ pub record Moment : Type 0 where
   pub times : ℕ → ℕ
   pub heard : ℕ → Option (ℕ × ℕ)
 
--- a flood has the steps 0 to 11
+-- a flood has the steps below this
 abbrev pub STEPS : ℕ
-STEPS = 12
+STEPS = FLOOD_STEPS
 
 abbrev pub has : List ℕ → ℕ → Bool
 has xs v = list_any (λ x. x == v) xs

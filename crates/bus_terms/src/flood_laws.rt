@@ -5,7 +5,7 @@ ghost use Rattle.bus_terms.specs.Distances.{IsDistance};
 ghost use Rattle.bus_terms.specs.Flooding.{Setting, Hears, Accepts, has, accepted, STEPS};
 ghost use Rattle.bus_terms.specs.RelayPaths.{HasPath, IsLeast};
 
-/// What a node has accepted at the end of a flood is its first reception, and nothing is received after step 11.
+/// What a node has accepted at the end of a flood is its first reception, and nothing is received after `LAST_STEP`.
 pub fn accepts_the_first_hearing()
     ensures accepted { (s : Setting) (v o k : ℕ) → accepted s v ≡ Some (o, k) ↔ Accepts s v o k }
     ensures in_time { (s : Setting) (k v o : ℕ) → Hears s v k o → k < STEPS }
@@ -23,7 +23,7 @@ pub fn accepts_by_the_least_relay_path()
 {}
 
 /// With one initiator, where each link among those that take part passes in all steps or in none, a listener accepts if and
-/// only if its distance by these links is at most 12, in the step before that number: however often nodes may send.
+/// only if its distance by these links is at most `FLOOD_STEPS`, in the step before that number: however often nodes may send.
 pub fn accepts_by_distance()
     ensures { (s : Setting) (start : ℕ) (link : ℕ → ℕ → Bool) → s.initiators ≡ start ∷ [] → has s.everyone start ≡ true → 1 ≤ s.limit
         → ((k u v : ℕ) → k < STEPS → has s.everyone u ≡ true → has s.everyone v ≡ true → s.passes k u v ≡ link u v)

@@ -1,9 +1,10 @@
 -- How far a stamp is from what the clock of the host reads.
 use Rattle.std.specs.Prelude.{◌≡◌, ℕ, ◌+◌, ◌-◌, ◌*◌, ◌/◌, ◌<◌, ◌==◌, List, Contains, true, false, Some, if◌then◌else◌}
 use Rattle.std.specs.List.{AllZip}
-use Rattle.lwb_base.specs.Profile.{Numbers}
+use Rattle.lwb_base.specs.Profile.{Numbers, is_one}
 use Rattle.tick_clock.specs.Clocks.{Near}
 use Rattle.lwb_base.specs.Messages.{Schedule}
+use Rattle.lwb_base.specs.declared.limits.TheConstants.{DRIFT_BOUND}
 use Rattle.bus_rules.specs.Slots.{ScheduleOf}
 use Rattle.lwb_member.specs.Said.{message_of}
 use Rattle.radio_model.specs.declared.sending.Sending.{Sending}
@@ -23,9 +24,9 @@ use Rattle.bus_time.specs.declared.stamp.Stamp.{Stamp}
 abbrev pub slack : Schedule → ℕ
 slack y = if y.plan.contend == 0 then 51 else 58
 
--- the drift of two clocks in this many ticks, 40 millionths
+-- the drift of two clocks in this many ticks, each by the drift bound
 abbrev pub drifted : ℕ → ℕ
-drifted d = 40 * d / 1000000
+drifted d = 2 * DRIFT_BOUND * d / 1000000
 
 -- o is the transmission that began the flood of h
 pub record BeganFlood (s : ScenarioParts) (air : List Entry) (h o : Sending) : Type 0 where
@@ -43,7 +44,7 @@ StampsErrLittle =
 
 -- no stamp errs by this many ticks: 0.7 ms with frames of 4 s, and 0.92 ms with those of 5 s
 abbrev pub never_reached : Numbers → ℕ
-never_reached p = if p.seconds == 4 then 44960 else 58300
+never_reached p = if is_one p then 44960 else 58300
 
 -- m and n differ by less than d
 pub record DifferByLess (m n d : ℕ) : Type 0 where

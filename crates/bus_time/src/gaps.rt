@@ -4,7 +4,7 @@ ghost use Rattle.std.specs.Prelude.{◌≡◌, None, IfSome, IfNone};
 ghost use Rattle.schedule_codec.specs.Reading.{schedule_of};
 ghost use Rattle.bus_time.specs.Gaps.{IsGapOf};
 
-use lwb_base::Packet;
+use lwb_base::{LAST_STEP, Packet};
 use lwb_packets::{same_body, with_counter};
 use schedule_codec::read;
 use std::marker::Model;
@@ -34,7 +34,7 @@ impl Told {
     fn gap_of(&self, packet: &Packet) -> Option<u8>
         ensures { IfSome result (λ gap. IsGapOf packet.now gap) }
     {
-        if packet.counter() <= 11 && same_body(packet, &self.packet) {
+        if packet.counter() <= LAST_STEP && same_body(packet, &self.packet) {
             Some(self.gap)
         } else {
             None

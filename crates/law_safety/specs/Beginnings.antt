@@ -2,6 +2,7 @@
 use Rattle.std.specs.Prelude.{◌≡◌, ℕ, suc, ◌≤◌, ◌⊎◌, List, Bool, true, Some, None, slice_index}
 use Rattle.std.specs.declared.option.Option.{Option}
 use Rattle.lwb_base.specs.Messages.{Plan, Schedule, node_of, stream_of}
+use Rattle.lwb_base.specs.declared.limits.TheConstants.{GREATEST_GAP}
 use Rattle.time_reference.specs.Budgets.{budget_of}
 use Rattle.time_reference.specs.Reference.{host_zero}
 use Rattle.time_reference.specs.Zeros.{opening_offset}
@@ -22,7 +23,7 @@ module _ (s : ScenarioParts) (clocks : ℕ → ℕ → ℕ) (air : List Entry) (
     pub planned : IsPlanned s air rank f plan
     pub part : part_of plan j ≡ Closing
     pub some : 1 ≤ gap
-    pub few : gap ≤ 4
+    pub few : gap ≤ GREATEST_GAP
 
   -- a schedule is the host's: the opening in slot 0, or the closing
   pub record SaysSchedule (y : Schedule) : Type 0 where

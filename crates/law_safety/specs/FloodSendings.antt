@@ -2,6 +2,7 @@
 use Rattle.std.specs.Prelude.{◌≡◌, ℕ, ◌+◌, ◌*◌, ◌<◌, ◌≤◌, List, Contains, length}
 use Rattle.tick_clock.specs.Clocks.{Near}
 use Rattle.lwb_base.specs.Profile.{airtime, step}
+use Rattle.lwb_base.specs.declared.limits.TheConstants.{LAST_STEP}
 use Rattle.time_reference.specs.Zeros.{tick_at_offset, starting_offset}
 use Rattle.lwb_packets.specs.Body.{body}
 use Rattle.scenario_text.specs.ScenarioParts.{ScenarioParts}
@@ -22,7 +23,7 @@ module _ (s : ScenarioParts) (clocks : ℕ → ℕ → ℕ) (air : List Entry) w
   -- x is of the flood that its origin begins, as many steps after it as its counter says
   pub record IsOfFlood (x : Sending) : Type 0 where
     pub hosted : x.rank < length s.hosts
-    pub few : counter_of_sending x ≤ 11
+    pub few : counter_of_sending x ≤ LAST_STEP
     pub some : 7 ≤ length x.packet
     pub most : length x.packet ≤ s.profile.packet_max
     pub lasts : x.end ≡ x.start + airtime s.profile (length x.packet)

@@ -2,6 +2,7 @@
 use Rattle.std.specs.Prelude.{◌≡◌, ℕ, ◌+◌, ◌<◌, ◌⊎◌, List, true, Some, slice_index, length}
 use Rattle.tick_clock.specs.Clocks.{due}
 use Rattle.lwb_base.specs.Profile.{airtime}
+use Rattle.lwb_base.specs.declared.limits.TheConstants.{LAST_STEP}
 use Rattle.time_reference.specs.Zeros.{starting_offset, closing_offset}
 use Rattle.glossy_relay.specs.Relaying.{relay_of}
 use Rattle.bus_rules.specs.Tuning.{hosts}
@@ -36,7 +37,7 @@ module _ (s : ScenarioParts) (clocks : ℕ → ℕ → ℕ) (air : List Entry) (
   pub record IsRelay (told : ℕ) (n : Node) (j : ℕ) (o : OrderedPacket) : Type 0 where
     pub heard : Sending
     pub in_slot : HeardIn s air v told n j heard
-    pub few : counter_of_sending heard < 11
+    pub few : counter_of_sending heard < LAST_STEP
     pub packet : o.packet ≡ relay_of heard.packet
     pub at : o.tick ≡ due (clocks v) (clocks v heard.end + s.profile.turn)
 

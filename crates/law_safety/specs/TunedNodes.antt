@@ -1,5 +1,6 @@
 -- What the tune and the zero of a node are worth, by its place.
 use Rattle.std.specs.Prelude.{◌≡◌, ⊤, ℕ, ◌+◌, ◌<◌, ◌≤◌, Bool, true, false, not, nat_lt, length}
+use Rattle.lwb_base.specs.declared.limits.TheConstants.{GREATEST_GAP}
 use Rattle.time_reference.specs.Reference.{host_zero}
 use Rattle.time_reference.specs.Zeros.{opening_offset}
 use Rattle.bus_rules.specs.declared.tune.Tune.{Tune}
@@ -35,12 +36,12 @@ is_last_window j w = not (nat_lt j w.last)
 
 module _ (s : ScenarioParts) (clocks : ℕ → ℕ → ℕ) (v : ℕ) where
   -- the round of the node's frame is its own: a member's, or a fresh scanning node's from slot 1 on. While a host closes it, its
-  -- tune is that of its next one, which comes within four frames
+  -- tune is that of its next one, which comes within the greatest gap
   abbrev pub IsRoundOf : Node → ℕ → Bool → Tune → Type 0
   IsRoundOf n j closes (Scan r waited) = (is_fresh n.core ≡ true) × (1 ≤ j)
   IsRoundOf n j closes (Hold r due) = due ≡ n.frame
   IsRoundOf n j closes (Host r due) =
-      IsHostOf s r v × (n.zero ≡ host_zero s.profile n.frame) × Either closes ((n.frame < due) × (due ≤ n.frame + 4)) (due ≡ n.frame)
+      IsHostOf s r v × (n.zero ≡ host_zero s.profile n.frame) × Either closes ((n.frame < due) × (due ≤ n.frame + GREATEST_GAP)) (due ≡ n.frame)
 
   -- in slot j of this round, from which on the zero is good
   pub record IsMember (n : Node) (j last : ℕ) (closes : Bool) : Type 0 where

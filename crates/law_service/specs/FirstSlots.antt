@@ -1,6 +1,7 @@
 -- The round after an acknowledgement: when it comes, and what slots it has.
 use Rattle.std.specs.Prelude.{◌≡◌, ◌≢◌, ◌<◌, ◌≤◌, ◌+◌, ◌-◌, ◌*◌, ◌/◌, ℕ, false, Contains}
 use Rattle.lwb_base.specs.Messages.{Ask, Plan, code_of}
+use Rattle.lwb_base.specs.declared.limits.TheConstants.{GREATEST_GAP}
 use Rattle.scenario_text.specs.ScenarioParts.{ScenarioParts}
 use Rattle.scenario_text.specs.ScenarioGrammar.{IsScenario}
 use Rattle.bus_rules.specs.declared.tune.Tune.TheVariants.{Host}
@@ -30,11 +31,11 @@ pub record PlansRound (s : ScenarioParts) (rank f : ℕ) (p : Plan) (host : ℕ)
 abbrev pub FitsNextRound : ScenarioParts → ℕ → ℕ → Core → ℕ → Type 0
 FitsNextRound s f host c due = total s.profile.seconds due (table_at f host c).entries ≤ 40
 
--- the next round comes one to four frames later
+-- the next round comes one frame to the greatest gap later
 abbrev pub RoundsFollow : Type 0
 RoundsFollow =
     (s : ScenarioParts) → IsScenario s → (rank f : ℕ) (p : Plan) (host : ℕ) → IsHosted s rank f p host
-    → (c : Core) (due : ℕ) (plan : Plan) → PlansRound s rank f p host c due plan → (f < due) × (due ≤ f + 4)
+    → (c : Core) (due : ℕ) (plan : Plan) → PlansRound s rank f p host c due plan → (f < due) × (due ≤ f + GREATEST_GAP)
 
 -- and where all fits, each stream of the table has the slots that are owed to it by then
 abbrev pub OwedSlotsAreGranted : Type 0

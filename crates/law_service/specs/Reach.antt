@@ -21,7 +21,7 @@ TakesPart x v = has x.flood.everyone v ≡ true
 abbrev pub LosesNothing : ScenarioParts → Slot → Type 0
 LosesNothing s x = (k u v : ℕ) → k < STEPS → TakesPart x u → TakesPart x v → is_linked s u v ≡ true → x.flood.passes k u v ≡ true
 
--- v takes part, and the least number of hops to it from u, by links through nodes that take part, is this, and at most 12
+-- v takes part, and the least number of hops to it from u, by links through nodes that take part, is this, and at most FLOOD_STEPS
 pub record IsWithin (s : ScenarioParts) (x : Slot) (u hops v : ℕ) : Type 0 where
   pub there : TakesPart x v
   pub distance : IsDistance (is_linked s) x.flood.everyone u hops v

@@ -2,6 +2,7 @@
 use Rattle.std.specs.Prelude.{◌≡◌, ℕ, suc, ◌<◌, ◌≤◌, ◌↔◌, List, Contains, true, Some, is_some, length, slice_set}
 use Rattle.std.specs.Option.{IfSome}
 use Rattle.lwb_base.specs.Messages.{Plan}
+use Rattle.lwb_base.specs.declared.limits.TheConstants.{LAST_STEP}
 use Rattle.scenario_text.specs.ScenarioParts.{ScenarioParts}
 use Rattle.scenario_text.specs.FloodParts.{knows}
 use Rattle.radio_model.specs.declared.sending.Sending.{Sending}
@@ -62,9 +63,9 @@ pub record IsAcceptance (s : ScenarioParts) (clocks : ℕ → ℕ → ℕ) (air 
 
 -- Slot: who sends in a step, and who accepts, is the flood's
 pub record IsSlot (s : ScenarioParts) (clocks : ℕ → ℕ → ℕ) (air : List Entry) (f rank : ℕ) (p : Plan) (j : ℕ) : Type 0 where
-  pub sends : (v k o : ℕ) (m : Message) → Says s f rank p j o m → k ≤ 11
+  pub sends : (v k o : ℕ) (m : Message) → Says s f rank p j o m → k ≤ LAST_STEP
       → Sends (bus_slot s f rank p j).flood v k o ↔ IsSending s air f rank j v k m
-  pub accepts : (v k o : ℕ) (m : Message) → Says s f rank p j o m → k ≤ 11
+  pub accepts : (v k o : ℕ) (m : Message) → Says s f rank p j o m → k ≤ LAST_STEP
       → Accepts (bus_slot s f rank p j).flood v o k ↔ IsAcceptance s clocks air f rank j v k m
 
 abbrev pub SlotLaw : Type 0
@@ -81,7 +82,7 @@ pub record IsSaidIn (s : ScenarioParts) (x : Sending) : Type 0 where
   pub message : Message
   pub said : Says s (frame_of_sending s.profile x) x.rank plan (slot_byte x) origin message
   pub counter : ℕ
-  pub few : counter ≤ 11
+  pub few : counter ≤ LAST_STEP
   pub packet : x.packet ≡ slice_set (bytes_of message (slot_byte x)) 2 counter
   pub sends : Sends (bus_slot s (frame_of_sending s.profile x) x.rank plan (slot_byte x)).flood x.node counter origin
 

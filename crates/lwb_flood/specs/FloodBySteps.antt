@@ -1,5 +1,6 @@
 -- What the flood theorem says of a run: it is the flood by steps of its setting.
 use Rattle.std.specs.Prelude.{◌≡◌, ℕ, ◌+◌, ◌*◌, ◌≤◌, ◌↔◌, List, Contains, true, false, Some}
+use Rattle.lwb_base.specs.declared.limits.TheConstants.{LAST_STEP}
 use Rattle.tick_clock.specs.Clocks.{Near}
 use Rattle.glossy_relay.specs.FloodState.{FloodState}
 use Rattle.glossy_relay.specs.Relaying.{fits, accepted_of}
@@ -28,16 +29,16 @@ abbrev pub flood_at_end : Run → ℕ → FloodState
 flood_at_end r v = flood_after_events (flood_at_beginning r v) (r.events v)
 
 pub record IsFloodBySteps (r : Run) : Type 0 where
-  -- each transmission is an initiator's packet with a counter k up to 11, and starts within k ticks of k steps after it
+  -- each transmission is an initiator's packet with a counter k up to LAST_STEP, and starts within k ticks of k steps after it
   pub spelled : (x : Sending) → Contains r.sendings x
       → (o : ℕ) × initiates r o × (counter x ≤ 11) × (x.packet ≡ packet r o (counter x))
       × Near x.start (r.starts o + counter x * (r.air + r.turn)) (counter x)
-  pub sends : (v k o : ℕ) → initiates r o → k ≤ 11 → SendsOnAir r v k o ↔ Sends r.setting v k o
+  pub sends : (v k o : ℕ) → initiates r o → k ≤ LAST_STEP → SendsOnAir r v k o ↔ Sends r.setting v k o
   pub sends_once : (x y : Sending) → Contains r.sendings x → Contains r.sendings y
       → x.node ≡ y.node → counter x ≡ counter y → x ≡ y
   pub hears_once : (v : ℕ) (x y : Sending) → IsParticipant r v → Contains (r.events v) (Heard x) → Contains (r.events v) (Heard y)
       → counter x ≡ counter y → x ≡ y
-  pub hears : (v k o : ℕ) → IsParticipant r v → initiates r o → k ≤ 11 → HearsOnAir r v k o ↔ Hears r.setting v k o
+  pub hears : (v k o : ℕ) → IsParticipant r v → initiates r o → k ≤ LAST_STEP → HearsOnAir r v k o ↔ Hears r.setting v k o
   -- a listener's flood has accepted at the end what the node accepts by steps, and nothing else
   pub accepts : (v k o : ℕ) → IsParticipant r v → has r.setting.initiators v ≡ false → initiates r o
       → accepted_of (flood_at_end r v) ≡ Some (packet r o k, k) ↔ Accepts r.setting v o k

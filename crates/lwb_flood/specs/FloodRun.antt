@@ -1,5 +1,6 @@
 -- The record of what nodes did in one flood on the air, and what makes it one.
 use Rattle.std.specs.Prelude.{◌≡◌, ◌≢◌, ℕ, ◌+◌, ◌*◌, ◌<◌, ◌≤◌, ◌↔◌, ◌⊎◌, List, ◌++◌, Contains, slice_set, true, Some, None, if◌then◌else◌}
+use Rattle.lwb_base.specs.declared.limits.TheConstants.{FLOOD_STEPS, LAST_STEP}
 use Rattle.tick_clock.specs.Clocks.{Near}
 use Rattle.lwb_packets.specs.Body.{body}
 use Rattle.lwb_packets.specs.declared.kind.Kind.{Kind}
@@ -71,7 +72,7 @@ pub record InTime (r : Run) (x : Sending) : Type 0 where
   pub origin : ℕ
   pub initiator : initiates r origin
   pub since : r.starts origin ≤ x.start
-  pub until : x.end ≤ r.starts origin + 12 * (r.air + r.turn)
+  pub until : x.end ≤ r.starts origin + FLOOD_STEPS * (r.air + r.turn)
 
 -- y is on the air together with x and reaches v; if x does, it is a rival of itself
 pub record RivalInRun (r : Run) (v : ℕ) (x y : Sending) : Type 0 where
@@ -121,7 +122,7 @@ pub record RunHasRoom (r : Run) : Type 0 where
 pub record HasInitiators (r : Run) : Type 0 where
   pub there : (o : ℕ) → initiates r o → IsParticipant r o
   pub counter_zero : (o : ℕ) → initiates r o → counter_of (r.message o) ≡ 0
-  pub spelled : (o k : ℕ) → initiates r o → k ≤ 11 → is_spelling r.kind (packet r o k) ≡ true
+  pub spelled : (o k : ℕ) → initiates r o → k ≤ LAST_STEP → is_spelling r.kind (packet r o k) ≡ true
   pub slot : (o : ℕ) → initiates r o → slot_of (r.message o) ≡ r.slot
   pub different : (o p : ℕ) → initiates r o → initiates r p → body (r.message o) ≡ body (r.message p) → o ≡ p
   pub together : (o p : ℕ) → initiates r o → initiates r p → Near (r.starts o) (r.starts p) r.spread

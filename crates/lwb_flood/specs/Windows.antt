@@ -1,6 +1,7 @@
 -- When a node that listens in a window is tuned, and floods whose nodes listen in windows.
 use Rattle.std.specs.Prelude.{◌≡◌, ℕ, ◌+◌, ◌-◌, ◌*◌, ◌^◌, ◌≤◌, Contains, get_or}
 use Rattle.lwb_base.specs.Profile.{Numbers, airtime, step}
+use Rattle.lwb_base.specs.declared.limits.TheConstants.{FLOOD_STEPS}
 use Rattle.tick_clock.specs.Clocks.{IsClock, due}
 use Rattle.time_reference.specs.Budgets.{Budget}
 use Rattle.radio_model.specs.declared.sending.Sending.{Sending}
@@ -32,7 +33,7 @@ pub record IsSlotFlood (p : Numbers) (b : Budget) (n : ℕ) (clocks : ℕ → �
   pub turn : r.turn ≡ p.turn
   pub delta : r.delta ≡ p.delta
   pub spread : r.spread ≤ b.contenders
-  pub in_range : (o : ℕ) → initiates r o → r.starts o + 12 * step p n ≤ 2 ^ 45
+  pub in_range : (o : ℕ) → initiates r o → r.starts o + FLOOD_STEPS * step p n ≤ 2 ^ 45
   pub clocks_drift : (v : ℕ) → IsParticipant r v → IsClock (clocks v)
   pub relay_start : (v e : ℕ) → IsParticipant r v → r.relay_start v e ≡ due (clocks v) (clocks v e + p.turn)
   pub initiators : HasInitiators r

@@ -2,6 +2,7 @@
 
 ghost use Rattle.std.specs.Prelude.{◌≡◌, ◌≢◌, ℕ, ◌+◌, ◌<◌, ◌≤◌, ◌↔◌, List, Contains, AllPairs, length, slice_set, Bool, true};
 ghost use Rattle.lwb_base.specs.Profile.{Numbers, airtime};
+ghost use Rattle.lwb_base.specs.declared.limits.TheConstants.{LAST_STEP};
 ghost use Rattle.time_reference.specs.Budgets.{Budget, Fits};
 ghost use Rattle.lwb_packets.specs.declared.kind.Kind.{Kind};
 ghost use Rattle.glossy_relay.specs.Relaying.{is_spelling};
@@ -40,7 +41,7 @@ pub fn runs_hear_by_the_rule_of_the_air()
 pub fn premises_are_met()
     ensures numbers { (p : Numbers) (b : Budget) → Fits p b → (n q : ℕ) → 7 ≤ n → q ≤ b.contenders
         → (q + 23 < p.turn) × (q + 22 < airtime p n) × (22 ≤ p.delta) }
-    ensures spelled { (kind : Kind) (p : List ℕ) (k : ℕ) → is_spelling kind p ≡ true → k ≤ 11
+    ensures spelled { (kind : Kind) (p : List ℕ) (k : ℕ) → is_spelling kind p ≡ true → k ≤ LAST_STEP
         → is_spelling kind (slice_set p 2 k) ≡ true }
 {}
 

@@ -3,6 +3,7 @@
 ghost use Rattle.std.specs.Prelude.{◌≡◌, ◌≢◌, ℕ, suc, ◌≤◌, ◌↔◌, List, Contains, length, Some, true};
 ghost use Rattle.std.specs.declared.option.Option.{Option};
 ghost use Rattle.lwb_base.specs.Profile.{one};
+ghost use Rattle.lwb_base.specs.declared.limits.TheConstants.{LAST_STEP};
 ghost use Rattle.scenario_text.specs.FloodParts.{FloodParts, IsSound, knows};
 ghost use Rattle.bus_terms.specs.Flooding.{Sends, Hears};
 ghost use Rattle.bus_terms.specs.FloodOfText.{setting, ids, outcome};
@@ -28,7 +29,7 @@ pub fn flood_logs_are_floods_by_steps()
         → FloodLaw f clocks air → (v k : ℕ) → knows f.nodes v ≡ true → HasHeard air v k ↔ Hears (setting f) v k f.start }
     ensures keys { (f : FloodParts) (clocks : ℕ → ℕ → ℕ) (air : List Entry) → HasClocks f clocks
         → FloodLaw f clocks air → (x : Sending) → Contains (sendings_of air) x
-        → (frame_of_sending one x ≡ 5) × (slot_of_sending x ≡ 1) × (counter_of_sending x ≤ 11) }
+        → (frame_of_sending one x ≡ 5) × (slot_of_sending x ≡ 1) × (counter_of_sending x ≤ LAST_STEP) }
 {}
 
 /// What is read off such a log is the outcome of the flood: the nodes that accept with the counters of their first receptions,

@@ -3,6 +3,7 @@
 ghost use Rattle.std.specs.Prelude.{◌≡◌, ◌≤◌, ◌<◌, ◌++◌, ℕ, All, IfSome, OnOk, true, Some, length, map, take, filter_map, option_to_list};
 ghost use Rattle.std.specs.List.{AllPairs};
 ghost use Rattle.std.specs.Option.{option_map};
+ghost use Rattle.lwb_base.specs.declared.limits.TheConstants.{LAST_FRAME};
 ghost use Rattle.lwb_member.specs.Members.{IsHeardInRange};
 ghost use Rattle.lwb_member.specs.Said.{meaning};
 ghost use Rattle.bus_terms.specs.Flooding.{has};
@@ -19,7 +20,7 @@ use bus_rules::Delivery;
 use lwb_base::{Memory, NodeId};
 use lwb_member::{Heard, message_in};
 
-/// The slot closes at all nodes, in a frame of at most 16,777,215: by the windows and the stations after the flood, in the
+/// The slot closes at all nodes, in a frame of at most `LAST_FRAME`: by the windows and the stations after the flood, in the
 /// order of the nodes, whose ids ascend. What they deliver is added at the end of `log`. `Err` means out of memory.
 pub fn close_all(
     nodes: &mut [BusNode],
@@ -29,7 +30,7 @@ pub fn close_all(
     slot: &RoundSlot,
     log: &mut Vec<Delivery>,
 ) -> Result<(), Memory>
-    requires frame { slot.now.frame ≤ 16777215 }
+    requires frame { slot.now.frame ≤ LAST_FRAME }
     requires windows { length windows.now ≡ length nodes.old }
     requires stations { length stations.now ≡ length nodes.old }
     requires ids { length ids.now ≡ length nodes.old }

@@ -2,6 +2,7 @@
 
 ghost use Rattle.std.specs.Prelude.{◌≡◌, ◌≤◌, ◌<◌, ◌+◌, ◌++◌, ◌==◌, ℕ, OnOk, IfOk, IfSome, map, length, [], if◌then◌else◌};
 ghost use Rattle.lwb_base.specs.Messages.{Plan};
+ghost use Rattle.lwb_base.specs.declared.limits.TheConstants.{LAST_FRAME};
 ghost use Rattle.bus_rules.specs.Cores.{own_rank};
 ghost use Rattle.bus_rules.specs.States.{State};
 ghost use Rattle.bus_rules.specs.Slots.{part_of};
@@ -77,7 +78,7 @@ impl Network {
         })
     }
 
-    /// A slot of this part and number in the round of this rank and frame, which is at most 16,777,215: it opens, its flood
+    /// A slot of this part and number in the round of this rank and frame, which is at most `LAST_FRAME`: it opens, its flood
     /// runs, and it closes. `Err` means out of memory.
     pub fn run_slot(
         &mut self,
@@ -87,7 +88,7 @@ impl Network {
         slot: u8,
         part: &Part,
     ) -> Result<(), Memory>
-        requires frame { frame ≤ 16777215 }
+        requires frame { frame ≤ LAST_FRAME }
         requires ready { IsReady s.now frame 1048576 self.old }
         ensures ready { OnOk result ((m : ℕ) → IsReady s.now frame m self.old → IsReady s.now frame (m + 1) self.new) }
         ensures nodes { OnOk result

@@ -1,6 +1,7 @@
 //! A node of the bus: off, or on as a member of its rounds.
 
 ghost use Rattle.std.specs.Prelude.{◌≡◌, ◌≤◌, ◌<◌, IfOk, IfSome};
+ghost use Rattle.lwb_base.specs.declared.limits.TheConstants.{LAST_FRAME};
 ghost use Rattle.bus_rules.specs.Cores.{frame_ended as core_ended};
 ghost use Rattle.bus_rules.specs.States.{StateOff, at_core, state_after_on, state_after_off, declares, leaves, puts, loses};
 ghost use Rattle.scenario_text.specs.ScenarioFacts.{IsAct};
@@ -150,9 +151,9 @@ impl BusNode {
         };
     }
 
-    /// This frame ends, which is at most 16,777,215.
+    /// This frame ends, which is at most `LAST_FRAME`.
     pub fn end_frame(&mut self, frame: u32)
-        requires { frame ≤ 16777215 }
+        requires { frame ≤ LAST_FRAME }
         ensures { self.new ≡ record self.old { state = at_core (core_ended self.old.setup frame) self.old.state } }
     {
         if self.is_on {

@@ -9,6 +9,7 @@ ghost use Rattle.bus_rules.specs.declared.part.Part.{Part as PartOf};
 ghost use Rattle.bus_rules.specs.States.{State};
 ghost use Rattle.bus_rules.specs.Slots.{part_of};
 ghost use Rattle.lwb_base.specs.Messages.{Plan};
+ghost use Rattle.lwb_base.specs.declared.limits.TheConstants.{LAST_FRAME};
 ghost use Rattle.bus_terms.specs.FloodOfText.{ids};
 ghost use Rattle.bus_terms.specs.Rounds.{flood_in_slot, opened_at, slot_at};
 ghost use Rattle.plain_bus.specs.FloodMasks.{IsMaskedFlood};
@@ -22,7 +23,7 @@ use crate::window::Window;
 use bus_rules::Part;
 use lwb_base::{Memory, Rank};
 
-/// A slot of this part and number opens at all nodes in the round of this rank and frame, which is at most 16,777,215, and a
+/// A slot of this part and number opens at all nodes in the round of this rank and frame, which is at most `LAST_FRAME`, and a
 /// node sends at most `limit` times in its flood: the flood. The windows come in the place of what `windows` had, in the order
 /// of the nodes. `Err` means out of memory.
 pub fn open_slot(
@@ -34,7 +35,7 @@ pub fn open_slot(
     part: &Part,
     limit: u8,
 ) -> Result<Flood, Memory>
-    requires frame { frame ≤ 16777215 }
+    requires frame { frame ≤ LAST_FRAME }
     requires few { length nodes.old ≤ 64 }
     requires early { All (λ n. IsEarlyState frame n.state) nodes.old }
     ensures early { OnOk result (All (λ n. IsEarlyState frame n.state) nodes.new) }

@@ -1,6 +1,7 @@
 //! The windows of all nodes in a slot open.
 
 ghost use Rattle.std.specs.Prelude.{◌≡◌, ◌≤◌, All, OnOk, map};
+ghost use Rattle.lwb_base.specs.declared.limits.TheConstants.{LAST_FRAME};
 ghost use Rattle.plain_bus.specs.BusNodes.{IsEarlyState, node_opened};
 ghost use Rattle.plain_bus.specs.SlotFloods.{seen_window, seen_of};
 
@@ -9,7 +10,7 @@ use crate::window::Window;
 use bus_rules::Part;
 use lwb_base::{Memory, Rank};
 
-/// A slot of this part opens at all nodes in the round of this rank and frame, which is at most 16,777,215. The windows come in
+/// A slot of this part opens at all nodes in the round of this rank and frame, which is at most `LAST_FRAME`. The windows come in
 /// the place of what `windows` had, in the order of the nodes. `Err` means out of memory.
 pub fn open_all(
     nodes: &mut [BusNode],
@@ -18,7 +19,7 @@ pub fn open_all(
     frame: u32,
     part: &Part,
 ) -> Result<(), Memory>
-    requires frame { frame ≤ 16777215 }
+    requires frame { frame ≤ LAST_FRAME }
     requires early { All (λ n. IsEarlyState frame n.state) nodes.old }
     ensures early { OnOk result (All (λ n. IsEarlyState frame n.state) nodes.new) }
     ensures nodes { OnOk result (nodes.new ≡ map (node_opened rank frame part.now) nodes.old) }

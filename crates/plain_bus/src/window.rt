@@ -2,6 +2,7 @@
 
 ghost use Rattle.std.specs.Prelude.{◌≡◌, ◌≤◌, ◌↔◌, IfSome, is_some, true, false, None, Some};
 ghost use Rattle.std.specs.Option.{option_map, option_and_then};
+ghost use Rattle.lwb_base.specs.declared.limits.TheConstants.{LAST_FRAME};
 ghost use Rattle.bus_rules.specs.Cores.{is_member as is_core_member};
 ghost use Rattle.bus_rules.specs.Tuning.{hosts, scans as scans_rank};
 ghost use Rattle.bus_terms.specs.Rounds.{message_said, takes_part, left_by, rank_in};
@@ -72,10 +73,10 @@ impl Window {
 }
 
 impl BusNode {
-    /// A slot of this part opens in the round of this rank and frame, which is at most 16,777,215. A node of another rank
+    /// A slot of this part opens in the round of this rank and frame, which is at most `LAST_FRAME`. A node of another rank
     /// has nothing to do with it.
     pub fn open(&mut self, rank: Rank, frame: u32, part: &Part) -> Window
-        requires frame { frame ≤ 16777215 }
+        requires frame { frame ≤ LAST_FRAME }
         requires early { IsEarlyState frame self.old.state }
         ensures state { self.new ≡ node_opened rank frame part.now self.old }
         ensures seen { seen_window result ≡ seen_of rank frame part.now self.old }
@@ -89,7 +90,7 @@ impl BusNode {
 
     // The slot opens in the round of its own rank.
     fn open_own(&mut self, rank: Rank, frame: u32, part: &Part) -> Window
-        requires frame { frame ≤ 16777215 }
+        requires frame { frame ≤ LAST_FRAME }
         requires early { IsEarlyState frame self.old.state }
         ensures state { self.new ≡ record self.old { state = state_opened self.old.setup rank frame part.now self.old.state } }
         ensures is_open { result.is_open ≡ is_some (window_of_state self.old.setup rank frame part.now self.old.state) }
@@ -115,7 +116,7 @@ impl BusNode {
         }
     }
 
-    /// The slot of this part and number closes in the round of this rank and frame, which is at most 16,777,215: the node
+    /// The slot of this part and number closes in the round of this rank and frame, which is at most `LAST_FRAME`: the node
     /// initiated in it, accepted this, or neither. What it delivers, if something. A host accepts no schedule.
     pub fn close(
         &mut self,
@@ -126,7 +127,7 @@ impl BusNode {
         window: &Window,
         accepted: Option<Heard>,
     ) -> Option<Delivery>
-        requires frame { frame ≤ 16777215 }
+        requires frame { frame ≤ LAST_FRAME }
         requires ranges { IfSome accepted IsHeardInRange }
         requires early { IsEarlyState frame self.old.state }
         ensures state { MayAcceptIn self.old.state (option_map meaning accepted)
@@ -173,7 +174,7 @@ impl BusNode {
         initiated: bool,
         accepted: Option<Heard>,
     ) -> Option<Delivery>
-        requires frame { frame ≤ 16777215 }
+        requires frame { frame ≤ LAST_FRAME }
         requires ranges { IfSome accepted IsHeardInRange }
         requires host { MayAcceptIn self.old.state (option_map meaning accepted) }
         requires early { IsEarlyState frame self.old.state }

@@ -10,7 +10,7 @@ returns-then-same_body c =
     let told = c.self.inside in
     let packet = c.args.packet.now in
     let is = c.counter.ensures in
-    let least = c.if-counter-le11.true in
+    let least = c.if-counter-le-LAST_STEP.true in
     let few : counter_of packet ≤ 11 = omega (arith, is, least) in
     same_gap packet told.packet told.gap few
     ((bytes_eq-Decides (body packet) (body told.packet)).0 (sym c.same_body.ensures ∙ c.if-same_body.true)) c.self.invariant
