@@ -6,10 +6,10 @@ ghost use Rattle.air_log.specs.Lawful.{FollowsTrails};
 ghost use Rattle.air_check.specs.Verdicts.{IsFirstAstray};
 
 use crate::node_log::NodeLog;
-use crate::node_logs::{IDS, logs_by_id};
+use crate::node_logs::logs_by_id;
 use crate::own_trail::follows_trail;
 use air_log::Air;
-use lwb_base::{Memory, NodeId};
+use lwb_base::{Memory, NodeId, PLACES_BY_ID};
 use scenario_clocks::stated_clocks;
 use scenario_text::Scenario;
 use std::alloc::Global;
@@ -22,7 +22,7 @@ pub(crate) fn first_astray(alloc: Global, s: &Scenario, air: &Air) -> Result<Opt
 {
     let clocks = stated_clocks(alloc, s.nodes(), s.rates())?;
     let mut logs = logs_by_id(alloc, air.entries())?;
-    for id in 1..IDS {
+    for id in 1..PLACES_BY_ID {
         let node = NodeId::new(id as u8).unwrap();
         let log = mem::replace(&mut logs[id], NodeLog::new(alloc));
         if !follows_trail(alloc, s, &clocks, node, log)? {

@@ -10,35 +10,32 @@ ghost use Rattle.air_log.specs.Courses.{hearing_of};
 ghost use Rattle.air_check.specs.Flags.{AreFlags, flag};
 
 use air_log::{Entry, HeardEntry};
-use lwb_base::{Memory, NodeId};
+use lwb_base::{Memory, NodeId, PLACES_BY_ID};
 use radio_model::sending::Sending;
 use std::alloc::Global;
-
-/// Ids of nodes are below this number.
-const IDS: usize = 201;
 
 /// No reception of these transmissions is there.
 pub(crate) fn none_received(alloc: Global, sent: &[Sending]) -> Result<Vec<bool>, Memory>
     ensures { IfOk result (λ flags. AreFlags sent.now [] flags.items) }
 {
-    let size = sent.len().checked_mul(IDS).ok_or(Memory)?;
+    let size = sent.len().checked_mul(PLACES_BY_ID).ok_or(Memory)?;
     let flags = vec![in alloc; false; size]?;
     Ok(flags)
 }
 
 /// Whether the node has received the transmission at that place.
 pub(crate) fn is_received(flags: &[bool], place: usize, node: NodeId) -> bool
-    requires { place * IDS + 200 < length flags.now }
+    requires { place * PLACES_BY_ID + 200 < length flags.now }
     ensures value { result ≡ flag flags.now place node }
     ensures range { node ≤ 200 }
 {
-    flags[place * IDS + usize::from(node.number())]
+    flags[place * PLACES_BY_ID + usize::from(node.number())]
 }
 
 /// One more reception is there.
 pub(crate) fn receive(sent: &[Sending], flags: &mut Vec<bool>, h: &HeardEntry)
     requires in_order { AllPairs Before sent.now }
-    requires size { length flags.old.items ≡ length sent.now * IDS }
+    requires size { length flags.old.items ≡ length sent.now * PLACES_BY_ID }
     ensures { (hs : List Hearing) → AreFlags sent.now hs flags.old.items → AreFlags sent.now (hs ++ hearing_of h.now ∷ []) flags.new.items }
 {
     let (begin, end) = starting_at(sent, h.start);
@@ -50,11 +47,11 @@ pub(crate) fn receive(sent: &[Sending], flags: &mut Vec<bool>, h: &HeardEntry)
 }
 
 fn set_flag(flags: &mut Vec<bool>, place: usize, node: NodeId)
-    requires { place * IDS + 200 < length flags.old.items }
-    ensures value { flags.new.items ≡ set flags.old.items (place * IDS + node) true }
+    requires { place * PLACES_BY_ID + 200 < length flags.old.items }
+    ensures value { flags.new.items ≡ set flags.old.items (place * PLACES_BY_ID + node) true }
     ensures range { node ≤ 200 }
 {
-    flags[place * IDS + usize::from(node.number())] = true;
+    flags[place * PLACES_BY_ID + usize::from(node.number())] = true;
 }
 
 /// A place of the transmission that is received. None where it isn't there.

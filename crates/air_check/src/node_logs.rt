@@ -6,11 +6,8 @@ ghost use Rattle.air_check.specs.NodeLogs.{AreLogsOf, after_entry, empty_node_lo
 
 use crate::node_log::NodeLog;
 use air_log::Entry;
-use lwb_base::{Memory, NodeId};
+use lwb_base::{Memory, NodeId, PLACES_BY_ID};
 use std::alloc::Global;
-
-/// Ids are below this number.
-pub const IDS: usize = 201;
 
 /// What each id did by these entries, at the place of that id. `Err` means out of memory.
 pub fn logs_by_id(alloc: Global, entries: &[Entry]) -> Result<Vec<NodeLog>, Memory>
@@ -27,14 +24,14 @@ fn empty_logs(alloc: Global) -> Result<Vec<NodeLog>, Memory>
     ensures { IfOk result (λ logs. AreLogsOf [] logs.items) }
 {
     let mut logs = Vec::new(alloc);
-    for _ in 0..IDS {
+    for _ in 0..PLACES_BY_ID {
         logs.push(NodeLog::new(alloc))?;
     }
     Ok(logs)
 }
 
 fn add_entry(logs: &mut Vec<NodeLog>, entry: &Entry) -> Result<(), Memory>
-    requires { length logs.old.items ≡ IDS }
+    requires { length logs.old.items ≡ PLACES_BY_ID }
     ensures range { (1 ≤ node_with entry.now) × (node_with entry.now ≤ 200) }
     ensures added { OnOk result (logs.new.items
         ≡ set logs.old.items (node_with entry.now) (after_entry (get_or logs.old.items (node_with entry.now) empty_node_log) entry.now)) }

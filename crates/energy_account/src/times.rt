@@ -5,12 +5,9 @@ ghost use Rattle.air_log.specs.declared.entry.Entry.{Entry as EntryOf};
 ghost use Rattle.energy_account.specs.Times.{HasTimes, IsRaised, EndsEarly};
 
 use air_log::{Air, Entry};
-use lwb_base::{Memory, NodeId};
+use lwb_base::{Memory, NodeId, PLACES_BY_ID};
 use std::alloc::Global;
 use std::marker::Model;
-
-// Ids of nodes are 1 to 200.
-const IDS: usize = 201;
 
 // By the id of the node. That nobody sends or is tuned for 2^64 ticks is a law of valid logs, so on the way sums may wrap.
 #[derive(Drop)]
@@ -86,7 +83,7 @@ fn zeros(alloc: Global) -> Result<Vec<u64>, Memory>
     ensures { IfOk result (λ v. v.items ≡ replicate 201 0) }
 {
     let mut times = Vec::new(alloc);
-    for _ in 0..IDS {
+    for _ in 0..PLACES_BY_ID {
         times.push(0)?;
     }
     Ok(times)

@@ -9,12 +9,9 @@ ghost use Rattle.lwb_flood.specs.LogReading.{AreFirst, reception_of_entry, earli
 
 use air_log::{Air, Entry};
 use bus_rules::FloodResult;
-use lwb_base::{Memory, NodeId};
+use lwb_base::{Memory, NodeId, PLACES_BY_ID};
 use scenario_text::FloodText;
 use std::alloc::Global;
-
-/// Ids of nodes are below this number.
-const IDS: usize = 201;
 
 // The end of a reception, a true tick, and the counter of what was received.
 #[derive(Clone, Copy)]
@@ -55,10 +52,10 @@ fn is_sent(air: &Air, i: usize) -> bool
 }
 
 // The reception of each node that ends first, at the place of its id.
-fn first_hearings(air: &Air) -> [Option<FirstHearing>; IDS]
+fn first_hearings(air: &Air) -> [Option<FirstHearing>; PLACES_BY_ID]
     ensures { AreFirst air.now result }
 {
-    let mut firsts = [None; IDS];
+    let mut firsts = [None; PLACES_BY_ID];
     for i in 0..air.len() {
         if let Some(heard) = hearing_at(air, i) {
             keep_earlier(&mut firsts, heard);
@@ -82,7 +79,7 @@ fn hearing_at(air: &Air, i: usize) -> Option<(NodeId, FirstHearing)>
     }
 }
 
-fn keep_earlier(firsts: &mut [Option<FirstHearing>; IDS], heard: (NodeId, FirstHearing))
+fn keep_earlier(firsts: &mut [Option<FirstHearing>; PLACES_BY_ID], heard: (NodeId, FirstHearing))
     ensures range { heard.0 ≤ 200 }
     ensures kept { firsts.new ≡ with_earlier firsts.old (Some heard) }
 {
@@ -103,7 +100,7 @@ fn earlier(first: Option<FirstHearing>, hearing: FirstHearing) -> FirstHearing
 fn acceptances(
     alloc: Global,
     f: &FloodText,
-    firsts: &[Option<FirstHearing>; IDS],
+    firsts: &[Option<FirstHearing>; PLACES_BY_ID],
 ) -> Result<Vec<(NodeId, u8)>, Memory>
     ensures { IfOk result (λ v. v.items ≡ accepting (step_by f.now.start firsts.now) (ids f.now.nodes)) }
 {
@@ -117,7 +114,7 @@ fn acceptances(
 }
 
 // The step at which a node accepts.
-fn step_of(start: NodeId, firsts: &[Option<FirstHearing>; IDS], node: NodeId) -> Option<u8>
+fn step_of(start: NodeId, firsts: &[Option<FirstHearing>; PLACES_BY_ID], node: NodeId) -> Option<u8>
     ensures { result ≡ step_by start firsts.now node }
 {
     if node == start {
