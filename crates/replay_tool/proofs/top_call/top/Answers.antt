@@ -37,12 +37,12 @@ report_read g c =
 report_due : (g : Over) (c : goal.After-drop-bytes g)
     → ReportDue c.args.words.now (g.S.Source.left c.args.source.now) (g.S.Source.left c.input.new.source) c.in-Ok-Report.air c.as_bytes.result.now
 report_due g c = (
-      c.in-Some.command,
-      c.in-Ok.bytes.items,
-      (c.command_of.ensures c.in-Some.command).0 c.in-Some.is,
-      c.in-Ok.ensures.bytes.0,
-      report_read g c,
-    )
+  c.in-Some.command,
+  c.in-Ok.bytes.items,
+  (c.command_of.ensures c.in-Some.command).0 c.in-Some.is,
+  c.in-Ok.ensures.bytes.0,
+  report_read g c,
+)
 
 pub returns-in-Ok-Report-clause-untouched : goal.returns-in-Ok-Report-clause-untouched
 returns-in-Ok-Report-clause-untouched g c =
@@ -87,11 +87,11 @@ fault_read g c =
 fault_due : (g : Over) (c : goal.After-drop-bytes-in-Ok-Fault g)
     → FaultDue c.args.words.now (g.S.Source.left c.args.source.now) (g.S.Source.left c.input.new.source) c.as_bytes-in-Ok-Fault.result.now
 fault_due g c = (
-      c.in-Some.command,
-      (c.command_of.ensures c.in-Some.command).0 c.in-Some.is,
-      reads_there g c,
-      inl (c.in-Ok.bytes.items, c.in-Ok.ensures.bytes.0, fault_read g c),
-    )
+  c.in-Some.command,
+  (c.command_of.ensures c.in-Some.command).0 c.in-Some.is,
+  reads_there g c,
+  inl (c.in-Ok.bytes.items, c.in-Ok.ensures.bytes.0, fault_read g c),
+)
 
 pub returns-in-Ok-Fault-clause-fault : goal.returns-in-Ok-Fault-clause-fault
 returns-in-Ok-Fault-clause-fault g c = λ one.
