@@ -142,8 +142,7 @@ returns g c =
     λ made. c.start.ensures.whole made
     ∙ ap (λ (b : Bool). whole c.start.new.self (with_sent (if b then c.start.new.self.sending else None) made)) c.if-not-start.false
     ∙ ap (λ (r : Option Sending). whole c.start.new.self (with_sent r made)) (sym c.sending.ensures ∙ ap option_copied c.in-Some.is) in
-    let x = c.in-Some.x.now in
-    let logged : List ℕ → List Entry = λ bytes. w.air ++ Sent (record { rank = x.rank; node = x.node; start = x.start; end = x.end; packet = bytes }) ∷ [] in
+    let logged : Sending → List Entry = λ x. w.air ++ Sent x ∷ [] in
     on_ok_weaker c.push.result (λ pushed.
     as_given c.args.t i c.args.place w c.args.self.now due _ _ _ c.self.view_is c.from.ensures
     (c.set.ensures ∙ ap (λ (q : List Due). changed q c.args.place SendingEnd (Some c.in-Some.x.now.end)) c.clear.ensures
