@@ -7,13 +7,13 @@ use Rattle.replay_tool.proofs.return_answer.WorldsRunner.run.Goals as goal
 pub returns-clause-lawful : goal.returns-clause-lawful
 returns-clause-lawful c =
     let s = c.args.s.now in
-    subst (Lawful s (scenario_clock s)) (sym c.into_parts.ensures.air) c.in_ok-world.ensures.run.lawful
+    subst (Lawful s (scenario_clock s)) (sym c.into_parts-air.ensures.air) c.in_ok-world.ensures.run.lawful
 
 pub returns-clause-kept : goal.returns-clause-kept
 returns-clause-kept c =
     let s = c.args.s.now in
     let run = c.in_ok-world.ensures.run in
-    let parts = c.into_parts.ensures in
+    let parts = c.into_parts-air.ensures in
     record {
       deliveries = parts.deliveries ∙ run.deliveries ∙ run.bus.delivered;
       drops = parts.drops ∙ run.drops;
