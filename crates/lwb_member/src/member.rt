@@ -121,6 +121,13 @@ impl Member {
         self.boot
     }
 
+    /// The id of the node.
+    pub fn id(&self) -> NodeId
+        ensures { result ≡ self.now.setup.id }
+    {
+        self.id
+    }
+
     /// The profile of its network.
     pub fn profile(&self) -> Profile
         ensures { result ≡ self.now.setup.profile }

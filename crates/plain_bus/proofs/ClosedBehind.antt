@@ -56,13 +56,14 @@ module _ (b : Behind) (ids : List ℕ) (ws : List Window) (xs : List Station) (b
         (is ∙ ap (λ (s : Seen). node_closed f part s h m) window_is ∙ ap (λ (g : Option Message). node_closed f part (b.window v) g m) heard_is
         ∙ ap (node_closed f part (b.window v) (heard_at b v)) node_is)
 
-    pub delivered_more : (rank f j : ℕ) (part : Part) (before old new : List Delivery) (d : Option Delivery)
-        → d ≡ node_delivers rank f j part (seen_window w) h m
-        → old ≡ before ++ filter_map (delivers_node b rank f j part n) (take i ids) → new ≡ old ++ option_to_list d
+    pub delivered_more : (rank f j : ℕ) (part : Part) (before old new : List Delivery)
+        → old ≡ before ++ filter_map (delivers_node b rank f j part n) (take i ids)
+        → new ≡ old ++ option_to_list (node_delivers rank f j part (seen_window w) h m)
         → new ≡ before ++ filter_map (delivers_node b rank f j part n) (take (i + 1) ids)
-    delivered_more rank f j part before old new d is so_far more =
+    delivered_more rank f j part before old new so_far more =
         let g = delivers_node b rank f j part n in
-        let same_d : d ≡ g v = is ∙ ap (λ (s : Seen). node_delivers rank f j part s h m) window_is
+        let d : Option Delivery = node_delivers rank f j part (seen_window w) h m in
+        let same_d : d ≡ g v = ap (λ (s : Seen). node_delivers rank f j part s h m) window_is
         ∙ ap (λ (k : Option Message). node_delivers rank f j part (b.window v) k m) heard_is
         ∙ ap (node_delivers rank f j part (b.window v) (heard_at b v)) node_is in
         more ∙ ap (λ (l : List Delivery). l ++ option_to_list d) so_far

@@ -20,6 +20,7 @@ pub mod SendersKept
 pub mod FoundPlaces
 pub mod ReadLengths
 pub mod WindowTimes
+pub mod StepsAdded
 pub mod OriginsKept
 pub mod SlotsCharged
 pub mod RoundsLed

@@ -1,10 +1,9 @@
 -- What is picked of the origins that reach a node.
 use Rattle.std.proofs.Common.{◌≡◌, ℕ, List, [], ◌∷◌, true, inl, inr, Option, Some, None, refl, sym, ◌∙◌, ap, filter_map, ◌==◌}
-use Rattle.std.specs.Prelude.{◌⊎◌}
 use Rattle.std.specs.List.{list_all, cons_option}
-use Rattle.std.proofs.lemmas.Bool.{cases_Bool, or_cases, or_right, eqb-true, false≢true, cond-true, cond-false}
+use Rattle.std.proofs.lemmas.Bool.{cases_Bool, or_cases, eqb-true, false≢true, cond-false}
 use Rattle.bus_terms.specs.Flooding.{Setting, Moment, has, offer, candidates, named, only_one, pick}
-use Rattle.bus_terms.proofs.Options.{only_when, only_from, in_filter, from_filter, sends_parts, all_are}
+use Rattle.bus_terms.proofs.Options.{only_when, in_filter, from_filter, sends_parts, all_are}
 use Rattle.plain_bus.specs.FloodMasks.{SendsForInitiators}
 
 none_given : (give : ℕ → Option ℕ) → ((u : ℕ) → give u ≡ None) → (us : List ℕ) → filter_map give us ≡ []

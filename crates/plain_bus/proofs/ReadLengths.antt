@@ -1,5 +1,5 @@
 -- How many bytes a packet has that reads as something.
-use Rattle.std.proofs.Common.{◌≡◌, ◌+◌, ◌&&◌, ℕ, List, Bool, true, false, Option, Some, None, if◌then◌else◌, is_some, length, drop}
+use Rattle.std.proofs.Common.{◌≡◌, ◌+◌, ℕ, List, Bool, true, false, Option, Some, None, if◌then◌else◌, is_some, length, drop}
 use Rattle.std.proofs.Common.{slice_index, refl, sym, ◌∙◌, ap, arith, length-drop}
 use Rattle.std.specs.Option.{option_map, option_map_or}
 use Rattle.std.proofs.lemmas.Bool.{and_parts, eqb-true, leb-true}

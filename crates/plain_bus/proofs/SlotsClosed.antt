@@ -1,6 +1,6 @@
 -- What the closing of a slot changes and delivers is what the round's definition says of each node.
 use Rattle.std.proofs.Common.{◌≡◌, ℕ, Bool, true, false, ◌&&◌, ◌||◌, ◌==◌, Option, Some, None, is_some, refl, sym, ◌∙◌, ap, if◌then◌else◌, option_map}
-use Rattle.std.proofs.lemmas.Bool.{false≢true, eq-eqb, and_parts, and_right}
+use Rattle.std.proofs.lemmas.Bool.{false≢true, and_right}
 use Rattle.lwb_base.specs.Messages.{Schedule, node_of, stream_of}
 use Rattle.bus_rules.specs.Streams.{WaitingPacket, first_waiting, requested}
 use Rattle.scenario_text.specs.ScenarioParts.{ScenarioParts}

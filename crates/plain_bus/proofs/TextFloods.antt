@@ -1,13 +1,10 @@
 -- The flood of a flood text, read off its stations.
-use Rattle.std.proofs.Common.{◌≡◌, ◌<◌, ℕ, zero, suc, ◌+◌, List, [], ◌∷◌, ◌++◌, Bool, true, false, ◌||◌, ◌&&◌, nat_lt, subst, Option, Some, None, refl, sym}
-use Rattle.std.proofs.Common.{◌∙◌, ap, length, map, take, get_or, sum_by, option_to_list, option_map, filter_map, ◌==◌, if◌then◌else◌, arith, inl, inr}
+use Rattle.std.proofs.Common.{◌≡◌, ◌<◌, ℕ, zero, suc, List, [], ◌∷◌, Bool, true, false, ◌||◌, ◌&&◌, nat_lt, subst, Option, Some, None, refl, sym}
+use Rattle.std.proofs.Common.{◌∙◌, ap, length, map, get_or, sum_by, option_map, filter_map, ◌==◌, if◌then◌else◌, arith, inl, inr}
 use Rattle.std.specs.List.{cons_option}
 use Rattle.std.proofs.lemmas.Bool.{false≢true, eqb-true, eq-eqb, ne_eqb, cases_eq, or_left, or_right, cases_lt, le-ltb}
-use Rattle.std.proofs.lemmas.List.{take_more}
-use Rattle.std.proofs.lemmas.List.Elements.{filter_map-append}
 use Rattle.std.proofs.lemmas.List.Sums.{sum_by-cons}
 use Rattle.std.proofs.lemmas.Option.{same_Some}
-use Rattle.lwb_base.proofs.Lists.{one_kept}
 use Rattle.link_trace.specs.Masks.{IsMask}
 use Rattle.link_trace.specs.Passes.{Lines, passes, captured}
 use Rattle.link_trace.specs.Sealed.{Traced}

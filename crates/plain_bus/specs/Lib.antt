@@ -3,5 +3,6 @@ pub mod BusNodes
 pub mod SlotFloods
 pub mod Closings
 pub mod SlotCosts
+pub mod SentSteps
 pub mod Networks
 pub mod Leaders

@@ -3,12 +3,13 @@ use Rattle.std.specs.Prelude.{◌≡◌, ℕ, List, Bool, is_some, map, option_a
 use Rattle.std.specs.declared.option.Option.{Option}
 use Rattle.bus_rules.specs.declared.delivery.Delivery.{Delivery}
 use Rattle.bus_rules.specs.declared.part.Part.{Part}
-use Rattle.bus_rules.specs.Slots.{Message, Opened}
+use Rattle.bus_rules.specs.Slots.{Data, Message, Opened}
 use Rattle.bus_rules.specs.States.{State}
 use Rattle.scenario_text.specs.ScenarioParts.{ScenarioParts}
 use Rattle.bus_terms.specs.FloodOfText.{ids}
 use Rattle.bus_terms.specs.Rounds.{opened_at, message_said, takes_part, left_by}
 use Rattle.lwb_member.specs.Said.{message_of}
+use Rattle.lwb_packets.specs.declared.data_packet.DataPacket.{DataPacket}
 use Rattle.plain_bus.specs.BusNodes.{BusNode, shown, window_of_state, closed_of, delivered_of}
 use Rattle.plain_bus.specs.declared.window.Window.{Window}
 
@@ -33,6 +34,10 @@ seen_by rank part x window =
 
 abbrev pub seen_of : ℕ → ℕ → Part → BusNode → Seen
 seen_of rank f part n = seen_by rank part (shown rank n) (window_of_state n.setup rank f part (shown rank n))
+
+-- what a data packet says
+abbrev pub data_said : DataPacket → Data
+data_said d = record { node = d.node; boot = d.boot; stream = d.stream; seq = d.seq; payload = d.payload }
 
 -- a node where the slot closes after that window, in which it accepted this
 abbrev pub node_closed : ℕ → Part → Seen → Option Message → BusNode → BusNode

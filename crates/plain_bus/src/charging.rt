@@ -8,18 +8,27 @@ ghost use Rattle.plain_bus.specs.BusNodes.{BusNode as NodeOf};
 ghost use Rattle.plain_bus.specs.Closings.{Behind, IsBehind};
 ghost use Rattle.plain_bus.specs.FloodMasks.{AreSendersOf};
 ghost use Rattle.plain_bus.specs.SlotCosts.{IsBelow, bytes_in, charged, said_bytes, slot_charged};
+ghost use Rattle.plain_bus.specs.SentSteps.{AreStepsOf};
 ghost use Rattle.plain_bus.specs.SlotFloods.{seen_window};
 
-use crate::cost::{Cost, steps_of};
+use crate::cost::{Cost, Steps};
 use crate::node::BusNode;
 use crate::places::place_of;
 use crate::round_slot::Setting;
+use crate::sent_steps::steps_of_all;
 use crate::station::Station;
 use crate::stepping::FloodEnd;
 use crate::window::Window;
 use arrayvec::ArrayVec;
 use lwb_base::{NodeId, Rank};
 use lwb_member::message_in;
+
+// What was sent in a slot: how long what each node says is, in bytes, and in which steps each sent.
+#[derive(Drop)]
+struct SlotSends {
+    lengths: ArrayVec<u8, 64>,
+    steps: [Steps; 64],
+}
 
 /// A slot of the round of this rank costs the nodes that take part in its rounds, by their windows and the flood.
 pub fn charge_all(
@@ -45,20 +54,15 @@ pub fn charge_all(
         → costs.new ≡ map (slot_charged setting.now.profile rank setting.now.limit b sends n cost) setting.now.ids.now }
     ensures room { (m : ℕ) → All (IsBelow m) costs.old → All (IsBelow (m + 1)) costs.new }
 {
-    let lengths = lengths_of(windows);
+    let sent = SlotSends {
+        lengths: lengths_of(windows),
+        steps: steps_of_all(end.senders.as_slice()),
+    };
     let mut place = 0;
     for cost in costs.iter_mut() {
         let node = &nodes[place];
         let is_own = node.rank == rank;
-        charge(
-            cost,
-            is_own,
-            place,
-            windows,
-            end,
-            lengths.as_slice(),
-            setting,
-        );
+        charge(cost, is_own, place, windows, end, &sent, setting);
         place += 1;
     }
 }
@@ -70,16 +74,17 @@ fn charge(
     place: usize,
     windows: &[Window],
     end: &FloodEnd,
-    lengths: &[u8],
+    sent: &SlotSends,
     setting: &Setting,
 )
     requires few { length setting.now.ids.now ≤ 64 }
     requires place { place < length setting.now.ids.now }
     requires windows { length windows.now ≡ length setting.now.ids.now }
     requires stations { length end.now.stations.each.items ≡ length setting.now.ids.now }
-    requires lengths { lengths.now ≡ map (λ w. said_bytes (seen_window w)) windows.now }
+    requires lengths { sent.now.lengths.items ≡ map (λ w. said_bytes (seen_window w)) windows.now }
     requires ascending { AllPairs (λ a b. a < b) setting.now.ids.now }
     requires steps { length end.now.senders.items ≡ 12 }
+    requires counted { AreStepsOf end.now.senders.items 12 sent.now.steps }
     requires room { IsBelow 1048576 cost.old }
     ensures cost { (b : Behind) (sends : ℕ → ℕ → Bool) → IsBehind b setting.now.ids.now windows.now end.now.stations.each.items
         → AreSendersOf sends setting.now.ids.now end.now.senders.items → 1 ≤ setting.now.limit → cost.new
@@ -91,6 +96,7 @@ fn charge(
     }
     let window = &windows[place];
     let stations = end.stations.each.as_slice();
+    let lengths = sent.lengths.as_slice();
     let bytes = bytes_sent(
         window,
         &stations[place],
@@ -98,7 +104,7 @@ fn charge(
         setting.ids,
         lengths,
     );
-    let steps = steps_of(end.senders.as_slice(), place as u8);
+    let steps = sent.steps[place];
     cost.add_slot(
         &setting.profile,
         setting.limit,

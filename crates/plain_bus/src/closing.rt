@@ -1,11 +1,10 @@
 //! A slot closes at all nodes, by what each accepted of its flood.
 
-ghost use Rattle.std.specs.Prelude.{◌≡◌, ◌≤◌, ◌<◌, ◌++◌, ℕ, All, IfSome, OnOk, true, Some, length, map, take, filter_map, option_to_list};
+ghost use Rattle.std.specs.Prelude.{◌≡◌, ◌≤◌, ◌<◌, ◌++◌, ℕ, All, OnOk, true, Some, length, map, take, filter_map};
 ghost use Rattle.std.specs.List.{AllPairs};
-ghost use Rattle.std.specs.Option.{option_map};
+ghost use Rattle.std.specs.Option.{option_and_then, option_copied};
 ghost use Rattle.lwb_base.specs.declared.limits.TheConstants.{LAST_FRAME};
-ghost use Rattle.lwb_member.specs.Members.{IsHeardInRange};
-ghost use Rattle.lwb_member.specs.Said.{meaning};
+ghost use Rattle.lwb_member.specs.Said.{message_of};
 ghost use Rattle.bus_terms.specs.Flooding.{has};
 ghost use Rattle.plain_bus.specs.BusNodes.{BusNode as NodeOf, IsEarlyState};
 ghost use Rattle.plain_bus.specs.SlotFloods.{seen_window};
@@ -17,8 +16,7 @@ use crate::round_slot::RoundSlot;
 use crate::station::Station;
 use crate::window::Window;
 use bus_rules::Delivery;
-use lwb_base::{Memory, NodeId};
-use lwb_member::{Heard, message_in};
+use lwb_base::{Memory, NodeId, Packet};
 
 /// The slot closes at all nodes, in a frame of at most `LAST_FRAME`: by the windows and the stations after the flood, in the
 /// order of the nodes, whose ids ascend. What they deliver is added at the end of `log`. `Err` means out of memory.
@@ -45,28 +43,24 @@ pub fn close_all(
     let mut place = 0;
     for node in nodes.iter_mut() {
         let window = &windows[place];
-        let accepted = heard_by(window, &stations[place], windows, ids);
-        let delivery = node.close(
-            slot.rank,
-            slot.frame,
-            slot.number,
-            slot.part,
-            window,
-            accepted,
-        );
-        push_some(log, delivery)?;
+        let packet = heard_by(window, &stations[place], windows, ids);
+        node.hear(slot, window, packet, log)?;
         place += 1;
     }
     Ok(())
 }
 
-// What the node of this window and station accepts.
-fn heard_by(window: &Window, station: &Station, windows: &[Window], ids: &[NodeId]) -> Option<Heard>
+// What the node of this window and station receives.
+fn heard_by<'a>(
+    window: &Window,
+    station: &Station,
+    windows: &'a [Window],
+    ids: &[NodeId],
+) -> Option<&'a Packet>
     requires windows { length windows.now ≡ length ids.now }
     requires ascending { AllPairs (λ a b. a < b) ids.now }
-    ensures value { (b : Behind) → map seen_window windows.now ≡ map b.window ids.now → ((o k : ℕ) → station.now.heard ≡ Some (o, k) → has ids.now o ≡ true)
-        → option_map meaning result ≡ heard_in b window.now.initiates station.now.heard }
-    ensures ranges { IfSome result IsHeardInRange }
+    ensures { (b : Behind) → map seen_window windows.now ≡ map b.window ids.now → ((o k : ℕ) → station.now.heard ≡ Some (o, k) → has ids.now o ≡ true)
+        → option_and_then message_of (option_copied result) ≡ heard_in b window.now.initiates station.now.heard }
 {
     if window.initiates {
         return None;
@@ -78,12 +72,11 @@ fn heard_by(window: &Window, station: &Station, windows: &[Window], ids: &[NodeI
 }
 
 // What the node of this id says.
-fn said_by(windows: &[Window], ids: &[NodeId], origin: NodeId) -> Option<Heard>
+fn said_by<'a>(windows: &'a [Window], ids: &[NodeId], origin: NodeId) -> Option<&'a Packet>
     requires windows { length windows.now ≡ length ids.now }
     requires ascending { AllPairs (λ a b. a < b) ids.now }
-    ensures value { (b : Behind) → map seen_window windows.now ≡ map b.window ids.now → has ids.now origin ≡ true
-        → option_map meaning result ≡ (b.window origin).message }
-    ensures ranges { IfSome result IsHeardInRange }
+    ensures { (b : Behind) → map seen_window windows.now ≡ map b.window ids.now → has ids.now origin ≡ true
+        → option_and_then message_of (option_copied result) ≡ (b.window origin).message }
 {
     match place_of(ids, origin) {
         Some(place) => said_in(&windows[place]),
@@ -92,21 +85,11 @@ fn said_by(windows: &[Window], ids: &[NodeId], origin: NodeId) -> Option<Heard>
 }
 
 // What is said in a window.
-fn said_in(window: &Window) -> Option<Heard>
-    ensures value { option_map meaning result ≡ (seen_window window.now).message }
-    ensures ranges { IfSome result IsHeardInRange }
+fn said_in(window: &Window) -> Option<&Packet>
+    ensures { option_and_then message_of (option_copied result) ≡ (seen_window window.now).message }
 {
     match &window.said {
-        Some(packet) => message_in(packet),
+        Some(packet) => Some(packet),
         None => None,
     }
-}
-
-fn push_some(log: &mut Vec<Delivery>, delivery: Option<Delivery>) -> Result<(), Memory>
-    ensures { OnOk result (log.new.items ≡ log.old.items ++ option_to_list delivery) }
-{
-    if let Some(delivery) = delivery {
-        log.push(delivery)?;
-    }
-    Ok(())
 }

@@ -2,10 +2,9 @@
 
 ghost use Rattle.std.specs.Prelude.{◌≡◌, ◌≤◌, ◌<◌, ◌+◌, ℕ, List, Some, None, length};
 ghost use Rattle.std.specs.List.{last_or};
-ghost use Rattle.plain_bus.specs.SlotCosts.{steps_at, with_slot, window_charge, IsBelow};
+ghost use Rattle.plain_bus.specs.SlotCosts.{with_slot, window_charge, IsBelow};
 
 use bus_rules::until_last_sending;
-use link_trace::bits::has_bit;
 use lwb_base::Profile;
 use std::marker::Model;
 
@@ -68,24 +67,4 @@ fn window_time(profile: &Profile, limit: u8, is_open: bool, bytes: u8, steps: St
         Some(last) if steps.count == limit => until_last_sending(profile, last, bytes),
         _ => profile.close(),
     }
-}
-
-/// The steps in which the node at this place sent, by the masks of who sent in each.
-pub fn steps_of(senders: &[u64], place: u8) -> Steps
-    requires steps { length senders.now ≤ 12 }
-    requires place { place < 64 }
-    ensures count { result.count ≡ length (steps_at senders.now place (length senders.now)) }
-    ensures last { result.last ≡ last_or None (steps_at senders.now place (length senders.now)) }
-    ensures few { result.count ≤ 12 }
-    ensures early { (k : ℕ) → result.last ≡ Some k → k ≤ 11 }
-{
-    let mut count = 0;
-    let mut last = None;
-    for (step, mask) in senders.iter().enumerate() {
-        if has_bit(*mask, place) {
-            count += 1;
-            last = Some(step as u8);
-        }
-    }
-    Steps { count, last }
 }

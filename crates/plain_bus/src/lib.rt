@@ -14,11 +14,13 @@ mod offers;
 mod places;
 mod reaching;
 mod round_slot;
+mod sent_steps;
 mod slot_flood;
 mod slot_windows;
 mod station;
 mod stepping;
 mod window;
+mod window_closing;
 
 pub use accepting::accepts;
 pub use charging::charge_all;

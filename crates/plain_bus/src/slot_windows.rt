@@ -27,8 +27,7 @@ pub fn open_all(
 {
     windows.clear();
     for node in nodes.iter_mut() {
-        let window = node.open(rank, frame, part);
-        windows.push(window)?;
+        node.open_into(windows, rank, frame, part)?;
     }
     Ok(())
 }

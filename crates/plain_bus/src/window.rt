@@ -1,6 +1,6 @@
 //! The windows of a node of the bus in the slots of a round.
 
-ghost use Rattle.std.specs.Prelude.{◌≡◌, ◌≤◌, ◌↔◌, IfSome, is_some, true, false, None, Some};
+ghost use Rattle.std.specs.Prelude.{◌≡◌, ◌≤◌, ◌↔◌, ◌++◌, ◌∷◌, [], IfSome, OnOk, is_some, map, true, false, None, Some};
 ghost use Rattle.std.specs.Option.{option_map, option_and_then};
 ghost use Rattle.lwb_base.specs.declared.limits.TheConstants.{LAST_FRAME};
 ghost use Rattle.bus_rules.specs.Cores.{is_member as is_core_member};
@@ -13,7 +13,7 @@ ghost use Rattle.plain_bus.specs.BusNodes.{window_of_state, state_opened, closed
 
 use crate::node::BusNode;
 use bus_rules::{Delivery, Part, Tune};
-use lwb_base::{Packet, Rank};
+use lwb_base::{Memory, Packet, Rank};
 use lwb_member::{Heard, Member, message_in};
 
 /// What a node has to do with a slot that opens.
@@ -86,6 +86,35 @@ impl BusNode {
             return Window::shut();
         }
         self.open_own(rank, frame, part)
+    }
+
+    /// As `open`, and the window comes at the end of `windows`. In most slots the turn is another node's, and then there is no
+    /// packet, which is long. `Err` means out of memory.
+    pub(crate) fn open_into(
+        &mut self,
+        windows: &mut Vec<Window>,
+        rank: Rank,
+        frame: u32,
+        part: &Part,
+    ) -> Result<(), Memory>
+        requires frame { frame ≤ LAST_FRAME }
+        requires early { IsEarlyState frame self.old.state }
+        ensures state { OnOk result (self.new ≡ node_opened rank frame part.now self.old) }
+        ensures seen { OnOk result
+            (map seen_window windows.new.items ≡ map seen_window windows.old.items ++ seen_of rank frame part.now self.old ∷ []) }
+        ensures early { OnOk result (IsEarlyState frame self.new.state) }
+    {
+        if self.rank != rank || !self.is_on {
+            windows.push(Window::shut())?;
+            return Ok(());
+        }
+        if is_member(&self.member, rank, frame) && !self.member.has_turn(part, frame) {
+            windows.push(Window::silent())?;
+            return Ok(());
+        }
+        let window = self.open(rank, frame, part);
+        windows.push(window)?;
+        Ok(())
     }
 
     // The slot opens in the round of its own rank.

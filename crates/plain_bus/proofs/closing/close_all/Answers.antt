@@ -1,17 +1,18 @@
-use Rattle.std.proofs.Common.{◌≡◌, ◌<◌, ◌++◌, ℕ, List, All, Option, length, take, get_or, filter_map, option_map, subst, sym}
+use Rattle.std.proofs.Common.{◌≡◌, ◌<◌, ◌++◌, ℕ, List, All, Option, length, take, get_or, filter_map, subst, sym}
 use Rattle.std.proofs.Common.{◌∙◌, ap, arith, ◌+◌}
+use Rattle.std.specs.Option.{option_and_then, option_copied}
 use Rattle.std.proofs.lemmas.List.{take_all, length-map, get_or_default, take_more_set}
 use Rattle.std.proofs.lemmas.List.Elements.{All-push}
 use Rattle.bus_rules.specs.Slots.{Message}
-use Rattle.lwb_member.specs.Said.{meaning}
+use Rattle.lwb_member.specs.Said.{message_of}
 use Rattle.plain_bus.specs.BusNodes.{BusNode, IsEarlyState}
 use Rattle.plain_bus.specs.Closings.{delivers_node}
 use Rattle.plain_bus.proofs.ListsInPlace.{same_place, rest_unchanged}
 use Rattle.plain_bus.proofs.ClosedBehind.{closed_more, delivered_more, origin_here, may_here}
 use Rattle.plain_bus.proofs.closing.close_all.Goals as goal
 
-pub close-delivery-requires-clause-early : goal.close-delivery-requires-clause-early
-close-delivery-requires-clause-early c =
+pub hear-requires-clause-early : goal.hear-requires-clause-early
+hear-requires-clause-early c =
     let i = c.loop-node.node-index in
     let olds = c.args.nodes.now in
     let n : BusNode = get_or c.loop-node.nodes i c.node-item.result in
@@ -31,10 +32,10 @@ loop-node-preserved c =
     let f = c.args.slot.now.frame in
     let part = c.args.slot.now.part in
     let n : BusNode = get_or now i c.node-item.result in
-    let y = c.close-delivery.new.self in
+    let y = c.hear.new.self in
     let w = c.index-windows-place.result in
     let x = c.index-stations-place.result in
-    let h : Option Message = option_map meaning c.heard_by-accepted.result in
+    let h : Option Message = option_and_then message_of (option_copied c.heard_by-packet.result) in
     let size = c.loop-node.auto.nodes in
     let place = c.loop-node.invariant.place in
     let ids = c.args.ids.now in
@@ -49,20 +50,18 @@ loop-node-preserved c =
     record {
       place = ap (λ (k : ℕ). k + 1) place;
       done = λ b g behind are may.
-          (let heard = c.heard_by-accepted.ensures.value b behind.windows (origin_here b ids ws xs behind same g olds are may i in_xs w w_at x x_at n at) in
+          (let heard = c.heard_by-packet.ensures b behind.windows (origin_here b ids ws xs behind same g olds are may i in_xs w w_at x x_at n at) in
           closed_more b ids ws xs behind same g olds are may i in_xs w w_at x x_at n at h heard f part now y there
-          (c.close-delivery.ensures.state (may_here b ids ws xs behind same g olds are may i in_xs w w_at x x_at n at h heard))
+          (c.in_ok-hear.ensures.state (may_here b ids ws xs behind same g olds are may i in_xs w w_at x x_at n at h heard))
           (c.loop-node.invariant.done b g behind are may));
       todo = rest_unchanged olds now i y c.loop-node.invariant.todo;
       log = λ b g behind are may.
-          (let heard = c.heard_by-accepted.ensures.value b behind.windows (origin_here b ids ws xs behind same g olds are may i in_xs w w_at x x_at n at) in
-          delivered_more b ids ws xs behind same g olds are may i in_xs w w_at x x_at n at h heard c.args.slot.now.rank f c.args.slot.now.number part
-          c.args.log.now.items
-          c.loop-node.log.items c.push_some.new.log.items c.close-delivery.result
-          (c.close-delivery.ensures.delivery (may_here b ids ws xs behind same g olds are may i in_xs w w_at x x_at n at h heard))
-          (c.loop-node.invariant.log b g behind are may) c.in_ok-push_some.ensures);
+          (let heard = c.heard_by-packet.ensures b behind.windows (origin_here b ids ws xs behind same g olds are may i in_xs w w_at x x_at n at) in
+          delivered_more b ids ws xs behind same g olds are may i in_xs w w_at x x_at n at h heard c.args.slot.now.rank f c.args.slot.now.number part c.args.log.now.items
+          c.loop-node.log.items c.hear.new.log.items (c.loop-node.invariant.log b g behind are may)
+          (c.in_ok-hear.ensures.log (may_here b ids ws xs behind same g olds are may i in_xs w w_at x x_at n at h heard)));
       early = subst (λ (l : List BusNode). All (λ (z : BusNode). IsEarlyState f z.state) l) (sym (take_more_set now i y there))
-          (All-push (λ (z : BusNode). IsEarlyState f z.state) (take i now) y c.loop-node.invariant.early c.close-delivery.ensures.early);
+          (All-push (λ (z : BusNode). IsEarlyState f z.state) (take i now) y c.loop-node.invariant.early c.in_ok-hear.ensures.early);
     }
 
 pub returns-clause-early : goal.returns-clause-early

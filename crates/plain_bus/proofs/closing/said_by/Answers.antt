@@ -5,14 +5,12 @@ use Rattle.plain_bus.proofs.SaidBehind.{seen_there}
 use Rattle.plain_bus.proofs.closing.said_by.Goals as goal
 
 pub returns-in-Some : goal.returns-in-Some
-returns-in-Some c =
+returns-in-Some c b are there =
     let place = c.in-Some.ensures.place in
-    record {
-      value = λ b are there. c.said_in.ensures.value ∙ ap (λ (w : Seen). w.message)
-          (seen_there b c.args.ids.now c.args.windows.now are c.in-Some.place c.args.origin c.index-windows-place.result
-          (omega (arith, place.0, c.requires.windows)) place.0 place.1 c.index-windows-place.is);
-      ranges = c.said_in.ensures.ranges;
-    }
+    c.said_in.ensures
+    ∙ ap (λ (w : Seen). w.message)
+    (seen_there b c.args.ids.now c.args.windows.now are c.in-Some.place c.args.origin c.index-windows-place.result
+    (omega (arith, place.0, c.requires.windows)) place.0 place.1 c.index-windows-place.is)
 
 pub returns-in-None : goal.returns-in-None
-returns-in-None c = record { value = λ b are there. absurd (false≢true (sym c.in-None.ensures.none ∙ there)); ranges = tt }
+returns-in-None c b are there = absurd (false≢true (sym c.in-None.ensures.none ∙ there))

@@ -1,9 +1,9 @@
-use Rattle.std.proofs.Common.{◌≡◌, ◌<◌, ◌++◌, ◌∷◌, [], List, All, length, map, take, get_or, subst, sym, ◌∙◌, ap, arith, rules}
+use Rattle.std.proofs.Common.{◌≡◌, ◌<◌, List, All, length, map, take, get_or, refl, subst, sym, ◌∙◌, arith}
 use Rattle.std.proofs.lemmas.List.{take_all, length-map, get_or_default, take_more_set}
 use Rattle.std.proofs.lemmas.List.Elements.{All-push}
 use Rattle.plain_bus.specs.BusNodes.{BusNode, IsEarlyState, node_opened}
 use Rattle.plain_bus.specs.SlotFloods.{seen_window, seen_of}
-use Rattle.plain_bus.proofs.ListsInPlace.{map_more, same_place, one_more_mapped, one_more_changed, rest_unchanged}
+use Rattle.plain_bus.proofs.ListsInPlace.{same_place, one_more_mapped, one_more_changed, rest_unchanged}
 use Rattle.plain_bus.proofs.slot_windows.open_all.Goals as goal
 
 pub loop-node-preserved : goal.loop-node-preserved
@@ -12,27 +12,24 @@ loop-node-preserved c =
     let olds = c.args.nodes.now in
     let now = c.loop-node.nodes in
     let n : BusNode = get_or c.loop-node.nodes i c.node-item.result in
-    let w = c.open-window.result in
-    let told = c.open-window.ensures in
+    let told = c.in_ok-open_into.ensures in
+    let sees = seen_of c.args.rank c.args.frame c.args.part.now in
     let size = c.loop-node.auto.nodes in
     let below : i < length olds = omega (arith, c.loop-node-test.true, size) in
     let there : i < length now = omega (arith, c.loop-node-test.true, size) in
     let at : n ≡ get_or olds i n = same_place now olds i c.node-item.result c.loop-node.invariant.todo ∙ get_or_default olds i c.node-item.result n below in
-    let pushed : c.push.new.self.items ≡ c.loop-node.windows.items ++ w ∷ [] = search rules in
     record {
-      done = one_more_changed (node_opened c.args.rank c.args.frame c.args.part.now) olds now i n c.open-window.new.self below there at
+      done = one_more_changed (node_opened c.args.rank c.args.frame c.args.part.now) olds now i n c.open_into.new.self below there at
           c.loop-node.invariant.done told.state;
-      todo = rest_unchanged olds now i c.open-window.new.self c.loop-node.invariant.todo;
-      early = subst (λ (l : List BusNode). All (λ (z : BusNode). IsEarlyState c.args.frame z.state) l) (sym (take_more_set now i c.open-window.new.self there))
-          (All-push (λ (z : BusNode). IsEarlyState c.args.frame z.state) (take i now) c.open-window.new.self c.loop-node.invariant.early told.early);
+      todo = rest_unchanged olds now i c.open_into.new.self c.loop-node.invariant.todo;
+      early = subst (λ (l : List BusNode). All (λ (z : BusNode). IsEarlyState c.args.frame z.state) l) (sym (take_more_set now i c.open_into.new.self there))
+          (All-push (λ (z : BusNode). IsEarlyState c.args.frame z.state) (take i now) c.open_into.new.self c.loop-node.invariant.early told.early);
       seen =
-          ap (map seen_window) pushed ∙ map_more seen_window c.loop-node.windows.items w
-          ∙ one_more_mapped (seen_of c.args.rank c.args.frame c.args.part.now) olds i n (map seen_window c.loop-node.windows.items)
-          (seen_window w) below at c.loop-node.invariant.seen told.seen;
+          told.seen ∙ one_more_mapped sees olds i n (map seen_window c.loop-node.windows.items) (sees n) below at c.loop-node.invariant.seen refl;
     }
 
-pub open-window-requires-clause-early : goal.open-window-requires-clause-early
-open-window-requires-clause-early c =
+pub open_into-requires-clause-early : goal.open_into-requires-clause-early
+open_into-requires-clause-early c =
     let i = c.loop-node.node-index in
     let olds = c.args.nodes.now in
     let n : BusNode = get_or c.loop-node.nodes i c.node-item.result in
