@@ -44,3 +44,4 @@ pub mod SameHistory
 pub mod Named
 pub mod WorkedHearings
 mod Received
+mod ReceiverMasks

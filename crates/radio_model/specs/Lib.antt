@@ -8,3 +8,4 @@ pub mod Meetings
 pub mod Recent
 pub mod Holding
 pub mod Receptions
+pub mod Reaches

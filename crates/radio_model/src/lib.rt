@@ -11,6 +11,7 @@ mod mark;
 mod medium;
 pub mod near;
 mod overlapping;
+pub mod receivers;
 mod recent;
 pub mod reception;
 mod rivals;

@@ -1,6 +1,6 @@
 //! Which transmissions of a log can overlap one of them.
 
-ghost use Rattle.std.specs.Prelude.{◌≡◌, ◌+◌, ◌≤◌, All, AllPairs, Contains};
+ghost use Rattle.std.specs.Prelude.{◌≡◌, ◌+◌, ◌-◌, ◌≤◌, All, AllPairs, Contains, length, take, drop};
 ghost use Rattle.radio_model.specs.Hearing.{Before};
 ghost use Rattle.radio_model.specs.Receptions.{AreNear};
 
@@ -23,9 +23,21 @@ pub fn near<'a>(sent: &'a [Sending], longest: u64, x: &Sending) -> &'a [Sending]
     requires longest { All (λ y. y.end ≤ y.start + longest) sent.now }
     ensures { AreNear sent.now x.now result.now }
 {
+    let (first, count) = near_places(sent, longest, x);
+    &sent[first..][..count]
+}
+
+/// The place of the first of them, and how many they are.
+pub fn near_places(sent: &[Sending], longest: u64, x: &Sending) -> (usize, usize)
+    requires in_order { AllPairs Before sent.now }
+    requires longest { All (λ y. y.end ≤ y.start + longest) sent.now }
+    ensures first { result.0 ≤ length sent.now }
+    ensures count { result.1 ≤ length sent.now - result.0 }
+    ensures near { AreNear sent.now x.now (take result.1 (drop result.0 sent.now)) }
+{
     let earliest = x.start.saturating_sub(longest);
     let first = sent.partition_point(|y| y.start < earliest);
     let rest = &sent[first..];
     let count = rest.partition_point(|y| y.start < x.end);
-    &rest[..count]
+    (first, count)
 }

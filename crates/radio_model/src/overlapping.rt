@@ -109,33 +109,33 @@ fn comes_from(
     false
 }
 
-fn repeats(x: &Sending, y: &Sending) -> bool
+pub fn repeats(x: &Sending, y: &Sending) -> bool
     ensures { result ≡ repetition x.now y.now }
 {
     meets_on(x, y) && same_packet(x, y)
 }
 
 // Whether y is on the channel of x while x is on the air.
-fn meets_on(x: &Sending, y: &Sending) -> bool
+pub fn meets_on(x: &Sending, y: &Sending) -> bool
     ensures { result ≡ meets_on_channel x.now y.now }
 {
     y.rank == x.rank && overlap(x, y)
 }
 
-fn same_packet(x: &Sending, y: &Sending) -> bool
+pub fn same_packet(x: &Sending, y: &Sending) -> bool
     ensures { result ≡ bytes_eq y.now.packet x.now.packet }
 {
     y.packet.bytes() == x.packet.bytes()
 }
 
-fn overlap(x: &Sending, y: &Sending) -> bool
+pub fn overlap(x: &Sending, y: &Sending) -> bool
     ensures { result ≡ overlap_of x.now y.now }
 {
     x.start < y.end && y.start < x.end
 }
 
 // Whether y starts with x or after it, by start and then sender, and soon enough to be received as one with it.
-fn comes_in_time(profile: &Profile, x: &Sending, y: &Sending) -> bool
+pub fn comes_in_time(profile: &Profile, x: &Sending, y: &Sending) -> bool
     requires { x.now.start ≤ 2 ^ 46 }
     ensures { result ≡ in_time profile.now x.now y.now }
 {

@@ -1,0 +1,35 @@
+use Rattle.std.proofs.Common.{List, get_or, sym, subst}
+use Rattle.std.proofs.lemmas.List.{take_all}
+use Rattle.radio_model.specs.OnAir.{Sending}
+use Rattle.radio_model.specs.Receptions.{transmits, spoils, differs}
+use Rattle.radio_model.specs.Reaches.{IsReach, AreDisturbed}
+use Rattle.radio_model.specs.declared.receivers.Reach.{Reach}
+use Rattle.radio_model.proofs.ReceiverMasks.{one_more_near}
+use Rattle.radio_model.proofs.receivers.disturbance.Goals as goal
+
+pub loop-k-preserved : goal.loop-k-preserved
+loop-k-preserved c =
+    λ lines nodes are.
+    let p = c.args.profile.now in
+    let near = c.args.near.now in
+    let x = c.args.x.now in
+    let k = c.loop-k.k in
+    let y = c.index-near-k.result in
+    let so_far = c.loop-k.invariant lines nodes are in
+    let is : (d : Reach) → IsReach p lines nodes y (get_or c.args.reaches.now k d) =
+    λ d. subst (λ (z : Sending). IsReach p lines nodes z (get_or c.args.reaches.now k d)) (sym c.index-near-k.is) (are.each k y d c.loop-k-test.true) in
+    record {
+      busy = one_more_near nodes (λ v. transmits v x) near k y c.loop-k.busy c.busy_by-busy.result c.loop-k-test.true c.index-near-k.is so_far.busy
+          (c.busy_by-busy.ensures nodes (is _).from);
+      late = one_more_near nodes (λ v. spoils p lines v x) near k y c.loop-k.late c.late_by-late.result c.loop-k-test.true c.index-near-k.is so_far.late
+          (c.late_by-late.ensures lines nodes (is _).to);
+      mixed = one_more_near nodes (λ v. differs p lines v x) near k y c.loop-k.mixed c.mixed_by-mixed.result c.loop-k-test.true c.index-near-k.is so_far.mixed
+          (c.mixed_by-mixed.ensures p lines nodes (is _).to);
+    }
+
+pub returns : goal.returns
+returns c =
+    λ lines nodes are.
+    subst (λ (ys : List Sending). AreDisturbed c.args.profile.now lines nodes c.args.x.now ys
+    (record { busy = c.loop-k.busy; late = c.loop-k.late; mixed = c.loop-k.mixed }))
+    (take_all c.loop-k.k c.args.near.now c.loop-k-test.false) (c.loop-k.invariant lines nodes are)

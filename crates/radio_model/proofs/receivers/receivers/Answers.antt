@@ -1,0 +1,38 @@
+use Rattle.std.proofs.Common.{ℕ, not, ◌&&◌}
+use Rattle.std.specs.List.{list_any}
+use Rattle.link_trace.specs.Masks.{IsMask}
+use Rattle.link_trace.specs.Passes.{captured}
+use Rattle.link_trace.proofs.MaskBits.{same_tests}
+use Rattle.radio_model.specs.Hearing.{frame_of_sending, slot_of_sending, counter_of_sending}
+use Rattle.radio_model.specs.Receptions.{arrives, transmits, spoils, differs, is_captured, comes_through}
+use Rattle.radio_model.proofs.Received.{gives, asks}
+use Rattle.radio_model.proofs.ReceiverMasks.{unless_lost, passes_test, among_test}
+use Rattle.radio_model.proofs.receivers.receivers.Goals as goal
+
+pub returns : goal.returns
+returns c =
+    λ a v numbers trace are sent there tuned.
+    let nodes = c.args.nodes.now in
+    let few = c.requires.nodes.few in
+    let p = c.args.profile.now in
+    let lines = c.args.trace.now.lines in
+    let near = c.args.near.now in
+    let x = c.args.x.now in
+    let arriving = λ (u : ℕ). arrives p lines u x in
+    let busy = λ (u : ℕ). list_any (transmits u x) near in
+    let late = λ (u : ℕ). list_any (spoils p lines u x) near in
+    let mixed = λ (u : ℕ). list_any (differs p lines u x) near in
+    let chosen = λ (u : ℕ). is_captured p lines u x near (captured lines (frame_of_sending p x) (slot_of_sending x) (counter_of_sending x) u) in
+    let through = λ (u : ℕ). comes_through p lines u x near in
+    let does = c.disturbance-busy.ensures lines nodes c.requires.reaches in
+    let quiet = c.except-quiet.ensures nodes arriving busy few c.requires.reach.to does.busy in
+    let clean = c.except-clean.ensures nodes (λ u. arriving u && not (busy u)) late few quiet does.late in
+    let kept = c.except.ensures nodes (λ u. arriving u && not (busy u) && not (late u)) (λ u. mixed u && not (chosen u)) few clean
+    (c.lost-lost.ensures mixed does.mixed) in
+    let mask = c.except.result in
+    let is : IsMask through nodes mask =
+    same_tests nodes (λ u. (arriving u && not (busy u) && not (late u)) && not (mixed u && not (chosen u))) through mask
+    (λ u. unless_lost (arriving u && not (busy u) && not (late u)) (mixed u) (chosen u)) kept in (
+      λ among. gives p lines a numbers trace near x are v sent tuned (passes_test nodes through mask v is among),
+      λ hears. among_test nodes through mask v is there (asks p lines a numbers trace near x are v hears),
+    )
