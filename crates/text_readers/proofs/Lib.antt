@@ -5,3 +5,4 @@ pub mod LinesRead
 pub mod NumbersRead
 -- for this crate alone
 pub mod Digits
+pub mod WordsCut

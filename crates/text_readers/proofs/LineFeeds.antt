@@ -1,7 +1,7 @@
 -- Lines and words, as the code finds them.
-use Rattle.std.proofs.Common.{◌≡◌, ℕ, ◌+◌, ◌<◌, List, [], ◌∷◌, Bool, true, false, not, nat_lt, ◌==◌, Some, None, Result, Ok, Err}
+use Rattle.std.proofs.Common.{◌≡◌, ℕ, ◌+◌, ◌<◌, Option, List, [], ◌∷◌, Bool, true, false, not, nat_lt, ◌==◌, Some, None, Result, Ok, Err}
 use Rattle.std.proofs.Common.{◌++◌, length, take, drop, position, MatchResult, is_ok, refl, sym, ◌∙◌, ap, subst, arith, cond, All, append-nil, append_assoc, inl, inr}
-use Rattle.std.proofs.lemmas.Bool.{eqb-true, ltb-true, ltb-false, false_from_ne_true, cond-false, ne_eqb, not-true}
+use Rattle.std.proofs.lemmas.Bool.{cases_lt, cases_order, eqb-true, le-ltb, lt-ltb, ltb-true, ltb-false, false_from_ne_true, cond-true, cond-false, ne_eqb, not-true, true≢false}
 use Rattle.std.proofs.lemmas.List.Splits.{slice_split_at, slice_split_first, slice_split_none, length-slice_split}
 use Rattle.std.proofs.lemmas.List.Sums.{prefix_len_passes, split_at_first, fails_before_first, passes_at_first}
 use Rattle.std.proofs.lemmas.Grind.{common_steps}
@@ -10,10 +10,30 @@ use Rattle.std.proofs.lemmas.Str.{IsUtf8-from_is_utf8, is_utf8-from_IsUtf8}
 use Rattle.std.specs.List.{slice_split, position_or_len, before_first, after_first}
 use Rattle.std.specs.Str.{IsUtf8, is_utf8}
 use Rattle.std.specs.Str.Lines.{lines, lines_of_parts, strip_carriage_return}
+use Rattle.memchr.specs.Find.{IsFirstByte}
 use Rattle.text_readers.specs.LineEnds.{EndLines, IsLineAndRest}
 
 abbrev pub is_feed : ℕ → Bool
 is_feed b = b == 10
+
+-- the first place that a search finds is the one that `position` says
+pub first_place : (p : ℕ → Bool) (bytes : List ℕ) (r : Option ℕ) → IsFirstByte p bytes r → r ≡ position p bytes
+first_place p bytes None none = elim (cases_lt (position_or_len p bytes) (length bytes)) [
+  | inl below ↦ absurd (none (position_or_len p bytes) (omega arith) below (passes_at_first p bytes 0 below))
+  | inr past ↦ sym (cond-false (nat_lt (position_or_len p bytes) (length bytes)) (Some (position_or_len p bytes)) None (le-ltb _ _ past))
+]
+first_place p bytes (Some k) found =
+    let first : ℕ = position_or_len p bytes in
+    let is : first ≡ k = elim (cases_order first k) [
+      | inl same ↦ same
+      | inr apart ↦
+          elim apart [
+            | inl less ↦ absurd (found.0.before first (omega arith) less (passes_at_first p bytes 0 (omega (arith, less, found.0.high))))
+            | inr more ↦ absurd (true≢false (sym found.1 ∙ fails_before_first p bytes k 0 more))
+          ]
+    ] in
+    let below : nat_lt first (length bytes) ≡ true = lt-ltb first (length bytes) (omega (arith, is, found.0.high)) in
+    ap Some (sym is) ∙ sym (cond-true (nat_lt first (length bytes)) (Some first) None below)
 
 -- a part that others follow is a line
 pub part_is_line : (part : List ℕ) (parts : List (List ℕ)) → 0 < length parts
@@ -68,16 +88,19 @@ none_is : (n : ℕ) (b : Bool) → None ≡ cond b (Some n) None → b ≡ false
 none_is n true is = cc
 none_is n false is = refl
 
+-- no byte passes where none has a place
+pub none_passes : (p : ℕ → Bool) (bytes : List ℕ) → None ≡ position p bytes → All (λ b. p b ≡ false) bytes
+none_passes p bytes is k d below =
+    let past = ltb-false _ _ (none_is (position_or_len p bytes) (nat_lt (position_or_len p bytes) (length bytes)) is) in
+    not-true _ (prefix_len_passes (λ b. not (p b)) bytes k d (omega (arith, past, below)))
+
 one_part : (bytes : List ℕ) → 0 < length bytes → lines_of_parts (bytes ∷ []) ≡ bytes ∷ []
 one_part bytes some = cond-false (length bytes == 0) [] (bytes ∷ []) (ne_eqb (length bytes) 0 (λ none. omega arith))
 
 -- without a line feed the whole is the one line
 pub line_is_last : (bytes : List ℕ) → 0 < length bytes → None ≡ position is_feed bytes → lines bytes ≡ bytes ∷ []
 line_is_last bytes some is =
-    let past = ltb-false _ _ (none_is (position_or_len is_feed bytes) (nat_lt (position_or_len is_feed bytes) (length bytes)) is) in
-    let passes : All (λ b. is_feed b ≡ false) bytes =
-    λ k d below. not-true _ (prefix_len_passes (λ b. not (is_feed b)) bytes k d (omega (arith, past, below))) in
-    ap lines_of_parts (slice_split_none is_feed bytes passes) ∙ one_part bytes some
+    ap lines_of_parts (slice_split_none is_feed bytes (none_passes is_feed bytes is)) ∙ one_part bytes some
 
 -- without a line feed nothing ends it
 pub cut_at_end : (bytes : List ℕ) → 0 < length bytes → None ≡ position is_feed bytes → IsLineAndRest bytes bytes []

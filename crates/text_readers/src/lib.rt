@@ -13,4 +13,4 @@ pub use numbers::{
     five_numbers, four_numbers, number, one_number, signed_number, three_numbers, two_numbers,
 };
 pub use reading::read_lines;
-pub use words::{first_line, is, is_skipped, is_text, split_words, word};
+pub use words::{first_line, is, is_skipped, is_text, split_into, split_words, word};

@@ -1,6 +1,6 @@
 //! Numbers as words of a text.
 
-ghost use Rattle.std.specs.Prelude.{◌≡◌, ◌≤◌, ℕ, Ok, Err, if◌then◌else◌, length, map, drop, All};
+ghost use Rattle.std.specs.Prelude.{◌≡◌, ◌≤◌, ℕ, Ok, Err, Some, None, if◌then◌else◌, length, map, drop};
 ghost use Rattle.std.specs.Char.{is_ascii_digit};
 ghost use Rattle.std.specs.List.{list_all};
 ghost use Rattle.std.specs.Str.Parse.{digits_value};
@@ -12,40 +12,30 @@ ghost use Rattle.text_readers.specs.declared.fault.FaultKind.TheVariants.{BadNum
 use crate::FaultKind;
 use crate::fault::refuse_unless;
 
-fn are_digits(word: &[u8]) -> bool
-    ensures { result ≡ list_all is_ascii_digit word.now }
-{
-    word.iter().all(|b| b.is_ascii_digit())
-}
-
-// Whether the word is one digit, or up to 13 digits of which the first is not 0.
-fn is_number(word: &[u8]) -> bool
-    ensures { result ≡ is_number_of word.now }
-{
-    are_digits(word) && !word.is_empty() && word.len() <= 13 && (word.len() == 1 || word[0] != b'0')
-}
-
-fn value(digits: &[u8]) -> u64
-    requires digits { All (λ b. (48 ≤ b) × (b ≤ 57)) digits.now }
+// The value of the digits. None where another character is among them.
+fn value(digits: &[u8]) -> Option<u64>
     requires few { length digits.now ≤ 13 }
-    ensures { result ≡ digits_value 10 digits.now }
+    ensures { result ≡ (if list_all is_ascii_digit digits.now then Some (digits_value 10 digits.now) else None) }
 {
     let mut value = 0u64;
     for b in digits {
+        if !b.is_ascii_digit() {
+            return None;
+        }
         value = 10 * value + u64::from(*b - b'0');
     }
-    value
+    Some(value)
 }
 
 /// The number that the word is: one digit, or up to 13 digits of which the first is not 0. Else `BadNumber`.
 pub fn number(word: &[u8]) -> Result<u64, FaultKind>
     ensures { result ≡ (if is_number_of word.now then Ok (number_of word.now) else Err BadNumber) }
 {
-    if is_number(word) {
-        Ok(value(word))
-    } else {
-        Err(FaultKind::BadNumber)
+    let is_short = !word.is_empty() && word.len() <= 13;
+    if !is_short || (word.len() != 1 && word[0] == b'0') {
+        return Err(FaultKind::BadNumber);
     }
+    value(word).ok_or(FaultKind::BadNumber)
 }
 
 fn has_minus(word: &[u8]) -> bool

@@ -7,7 +7,7 @@ ghost use Rattle.text_readers.specs.Reading.{draft_after_line, Reads, Drafts};
 
 use crate::draft::Draft;
 use crate::fault::{Refusal, refuse_unless};
-use crate::words::{first_line, is_skipped, is_text, split_words};
+use crate::words::{first_line, is_skipped, is_text, split_into};
 use crate::{FaultKind, ParseFault};
 use std::alloc::Global;
 
@@ -19,11 +19,12 @@ pub fn read_lines<D: Draft>(alloc: Global, draft: D, bytes: &[u8]) -> Result<(D,
     ensures count { IfOk result (λ d. (d.1 ≡ length (lines bytes.now)) × (d.1 ≤ length bytes.now)) }
 {
     let mut draft = draft;
+    let mut words = Vec::new(alloc);
     let mut rest = bytes;
     let mut count = 0;
     while !rest.is_empty() {
         let (line, others) = first_line(rest);
-        match read_line(alloc, &mut draft, line) {
+        match read_line(&mut words, &mut draft, line) {
             Ok(()) => {}
             Err(refusal) => return Err(refusal.in_line(count + 1)),
         }
@@ -33,15 +34,20 @@ pub fn read_lines<D: Draft>(alloc: Global, draft: D, bytes: &[u8]) -> Result<(D,
     Ok((draft, count))
 }
 
-// Goes on by one line, unless it is rejected.
+// Goes on by one line, unless it is rejected. Its words take the place of those of the line before.
 #[tactic(auto, unfolding(crate::specs::Reading::draft_after_line))]
-fn read_line<D: Draft>(alloc: Global, draft: &mut D, line: &[u8]) -> Result<(), Refusal>
+fn read_line<'a, D: Draft>(
+    words: &mut Vec<&'a [u8]>,
+    draft: &mut D,
+    line: &'a [u8],
+) -> Result<(), Refusal>
     ensures { Reads result draft.new (draft_after_line D.after draft.old line.now) }
 {
-    let words = split_words(alloc, line)?;
-    if is_skipped(&words) {
+    split_into(words, line)?;
+    let words = words.as_slice();
+    if is_skipped(words) {
         return Ok(());
     }
     refuse_unless(is_text(line), FaultKind::NotUtf8)?;
-    draft.read(&words)
+    draft.read(words)
 }

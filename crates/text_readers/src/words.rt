@@ -1,12 +1,13 @@
 //! The lines of a text, and the words of a line.
 
-ghost use Rattle.std.specs.Prelude.{◌≡◌, ◌<◌, ◌==◌, ℕ, ◌∷◌, IfOk, position, length, map};
+ghost use Rattle.std.specs.Prelude.{◌≡◌, ◌<◌, ◌==◌, ℕ, [], ◌∷◌, ◌++◌, IfOk, OnOk, filter, position, length, map, nat_lt};
 ghost use Rattle.std.specs.Str.{bytes_eq, is_utf8 as is_utf8_of};
 ghost use Rattle.std.specs.Str.Lines.{lines, strip_carriage_return};
 ghost use Rattle.text_readers.specs.LineEnds.{IsLineAndRest};
 ghost use Rattle.text_readers.specs.Words.{is_blank as is_blank_of, words as words_of, word as word_of, is_skipped as is_skipped_of};
 
 use lwb_base::Memory;
+use memchr::memchr;
 use std::alloc::Global;
 
 /// The first line, without what ends it, and what follows.
@@ -25,7 +26,7 @@ pub fn first_line(bytes: &[u8]) -> (&[u8], &[u8])
 fn line_feed(bytes: &[u8]) -> Option<usize>
     ensures { result ≡ position (λ b. b == 10) bytes.now }
 {
-    bytes.iter().position(|b| *b == b'\n')
+    memchr(b'\n', bytes)
 }
 
 // Without the one carriage return at its end.
@@ -38,21 +39,49 @@ fn without_return(line: &[u8]) -> &[u8]
     }
 }
 
-fn is_blank(byte: u8) -> bool
-    ensures { result ≡ is_blank_of byte }
-{
-    byte == b' ' || byte == b'\t'
-}
-
 /// The words of a line, which blanks part.
 pub fn split_words(alloc: Global, line: &[u8]) -> Result<Vec<&[u8]>, Memory>
     ensures { IfOk result (λ v. map (λ w. w.now) v.items ≡ words_of line.now) }
 {
-    let words = line
-        .split(|b| is_blank(*b))
-        .filter(|w| !w.is_empty())
-        .collect(alloc)?;
+    let mut words = Vec::new(alloc);
+    split_into(&mut words, line)?;
     Ok(words)
+}
+
+/// Puts the words of a line in the place of those that were there: one list does for all lines of a text.
+pub fn split_into<'a>(words: &mut Vec<&'a [u8]>, line: &'a [u8]) -> Result<(), Memory>
+    ensures { OnOk result (map (λ w. w.now) words.new.items ≡ words_of line.now) }
+{
+    words.clear();
+    let mut rest = line;
+    while let Some(end) = blank(rest) {
+        push_word(words, &rest[..end])?;
+        rest = &rest[end + 1..];
+    }
+    push_word(words, rest)
+}
+
+fn blank(bytes: &[u8]) -> Option<usize>
+    ensures { result ≡ position is_blank_of bytes.now }
+{
+    bytes.iter().position(|b| is_blank(*b))
+}
+
+// Most bytes of a text are above both blanks, so one comparison passes over them.
+fn is_blank(byte: u8) -> bool
+    ensures { result ≡ is_blank_of byte }
+{
+    byte <= b' ' && (byte == b' ' || byte == b'\t')
+}
+
+// What is between two blanks is a word, unless it is empty.
+fn push_word<'a>(words: &mut Vec<&'a [u8]>, word: &'a [u8]) -> Result<(), Memory>
+    ensures { OnOk result (map (λ w. w.now) words.new.items ≡ map (λ w. w.now) words.old.items ++ filter (λ w. nat_lt 0 (length w)) (word.now ∷ [])) }
+{
+    if !word.is_empty() {
+        words.push(word)?;
+    }
+    Ok(())
 }
 
 /// Word i, where the first is word 0, or nothing.
