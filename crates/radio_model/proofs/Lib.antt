@@ -35,7 +35,8 @@ pub mod HeardInTurn
 pub mod RecentPlaces
 pub mod EndedSendings
 pub mod Reaching
-pub mod Ending
+pub mod SendingAtPlace
+pub mod EndingPlaces
 pub mod Retuned
 pub mod RivalFacts
 pub mod Heard

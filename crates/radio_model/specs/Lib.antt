@@ -6,6 +6,7 @@ pub mod Pairs
 pub mod Marks
 pub mod Meetings
 pub mod Recent
+pub mod Endings
 pub mod Holding
 pub mod Receptions
 pub mod Reaches

@@ -123,10 +123,14 @@ no_crowd = record { mixed = 0; spoiled = 0 }
 abbrev pub both_crowds : Crowd → Crowd → Crowd
 both_crowds a b = record { mixed = bit_or a.mixed b.mixed; spoiled = bit_or a.spoiled b.spoiled }
 
+-- to each node of this mask one of these rivals brings the same packet out of time
+abbrev pub AreSpoiled : Lines → List ℕ → List Rival → ℕ → Type 0
+AreSpoiled lines nodes rs mask = (i : ℕ) → bit_at mask i ≡ 1 → list_any (spoils lines (slice_index nodes i)) rs ≡ true
+
 -- each bit is of a node to which one of these rivals brings so
 pub record IsFrom (lines : Lines) (nodes : List ℕ) (rs : List Rival) (c : Crowd) : Type 0 where
   pub mixed : (i : ℕ) → bit_at c.mixed i ≡ 1 → list_any (differs lines (slice_index nodes i)) rs ≡ true
-  pub spoiled : (i : ℕ) → bit_at c.spoiled i ≡ 1 → list_any (spoils lines (slice_index nodes i)) rs ≡ true
+  pub spoiled : AreSpoiled lines nodes rs c.spoiled
 
 -- what these rivals bring to node i has its bit
 pub record HasBitsOf (lines : Lines) (nodes : List ℕ) (rs : List Rival) (i : ℕ) (c : Crowd) : Type 0 where

@@ -1,25 +1,20 @@
 //! What keeps a transmission from being received.
 
-ghost use Rattle.std.specs.Prelude.{◌≡◌, ◌≤◌, ◌<◌, ◌^◌, ℕ, length, All, IfSome, IfNone, slice_index, slice_index_or, true, not};
-ghost use Rattle.std.specs.List.{list_any};
+ghost use Rattle.std.specs.Prelude.{◌≡◌, ◌<◌, ℕ, length, IfSome, IfNone, slice_index_or, not};
 ghost use Rattle.std.specs.Int.{bit_at};
-ghost use Rattle.radio_model.specs.Stations.{on_air};
-ghost use Rattle.radio_model.specs.Ages.{IsAged, ByEnd};
-ghost use Rattle.radio_model.specs.Marks.{IsMark, AreMarks, IsAlike, AreAlikeTo, comes_close};
-ghost use Rattle.radio_model.specs.Recent.{AreAmong};
+ghost use Rattle.radio_model.specs.Endings.{IsEnding, rivals_at, rivals_of};
+ghost use Rattle.radio_model.specs.Marks.{comes_close};
 ghost use Rattle.radio_model.specs.declared.station.Station.{Station};
-ghost use Rattle.radio_model.specs.Meetings.{key_of, IsInOneFrame, rivals_in, rivals_to, spoils};
-ghost use Rattle.radio_model.specs.Meetings.{IsPlaceOf, IsCrowd, no_crowd, both_crowds};
-ghost use Rattle.radio_model.specs.Meetings.{IsFrom, AddsTo, HasBitsOf, TellsAt, IsNear, AreThose};
+ghost use Rattle.radio_model.specs.Meetings.{IsCrowd, no_crowd, both_crowds};
+ghost use Rattle.radio_model.specs.Meetings.{IsFrom, AddsTo, AreSpoiled, HasBitsOf, TellsAt, IsNear, AreThose};
 
 use crate::brought::brought_from;
+use crate::ending::Ending;
 use crate::mark::{Mark, Origin};
 use crate::rivals::{Key, reach_of};
 use crate::sending::Sending;
-use crate::station::Station;
 use link_trace::Links;
 use link_trace::bits::{lowest, without_bit, without_bits};
-use lwb_base::Profile;
 
 /// What keeps a transmission from being received: to which nodes other packets come while it does, and to which its own packet
 /// comes out of time, each node by the bit of its place.
@@ -49,40 +44,29 @@ impl Crowd {
     }
 }
 
-// What this station brings that keeps x from being received, whose key is this one and whose frame began at `opens`. Mostly
-// its mark tells that there is nothing, or that its packet is the one of x and comes before it.
-fn crowd_at<M: Links>(
-    links: &M,
-    profile: &Profile,
-    delta: u64,
-    station: &Station,
-    mark: Mark,
-    x: &Sending,
-    origin: Origin,
-    key: Key,
-    opens: u64,
-) -> Crowd
-    requires key { key ≡ key_of profile.now x.now }
-    requires opens { IsInOneFrame profile.now.frame x.now.start opens }
-    requires delta { (delta ≡ profile.now.delta) × (delta ≤ 2 ^ 32) }
-    requires start { x.now.start ≤ 2 ^ 46 }
-    requires end { x.now.end ≤ 2 ^ 46 }
-    requires by_end { ByEnd station.now.ended.items }
-    requires at { IsPlaceOf (M.nodes links.now) station.now.place station.now.node }
-    requires mark { IsMark (on_air station.now) mark }
-    requires alike { IsAlike (on_air station.now) station.now.node mark origin x.now }
-    ensures { IsCrowd (M.lines links.now) (M.nodes links.now) (rivals_in profile.now x.now station.now) result }
+// What the station at that place brings that keeps x from being received. Mostly its mark tells that there is nothing, or that
+// its packet is the one of x and comes before it.
+fn crowd_at<M: Links>(links: &M, ending: &Ending, place: u8) -> Crowd
+    requires ending { IsEnding (M.nodes links.now) ending.now }
+    requires place { place < length ending.now.stations.now }
+    ensures { (d : Station) → IsCrowd (M.lines links.now) (M.nodes links.now) (rivals_at ending.now (slice_index_or ending.now.stations.now place d)) result }
 {
-    if mark.comes_along(x, station.node, origin, delta) || mark.is_aside(x.start, x.end) {
+    let x = ending.x;
+    let i = usize::from(place);
+    let station = &ending.stations[i];
+    let mark = &ending.marks[i];
+    if mark.comes_along(x, station.node, ending.origin, ending.delta)
+        || mark.is_aside(x.start, x.end)
+    {
         return Crowd::none();
     }
-    if mark.comes_early(x, station.node, origin, opens) {
+    if mark.comes_early(x, station.node, ending.origin, ending.opens) {
         return Crowd {
             mixed: 0,
-            spoiled: reach_of(links, key, station.place),
+            spoiled: reach_of(links, ending.key, station.place),
         };
     }
-    let brought = brought_from(links, profile, station, x);
+    let brought = brought_from(links, ending.profile, station, x);
     Crowd {
         mixed: brought.mixed,
         spoiled: brought.spoiled,
@@ -93,45 +77,26 @@ fn crowd_at<M: Links>(
 // packet of x comes out of time to each node that is ready for it.
 fn crowd_with<M: Links>(
     links: &M,
-    profile: &Profile,
-    delta: u64,
-    stations: &[Station],
-    marks: &[Mark],
+    ending: &Ending,
     places: u64,
-    x: &Sending,
-    key: Key,
-    origin: Origin,
-    opens: u64,
     ready: u64,
     known: Crowd,
 ) -> Option<Crowd>
-    requires key { key ≡ key_of profile.now x.now }
-    requires opens { IsInOneFrame profile.now.frame x.now.start opens }
-    requires delta { (delta ≡ profile.now.delta) × (delta ≤ 2 ^ 32) }
-    requires start { x.now.start ≤ 2 ^ 46 }
-    requires end { x.now.end ≤ 2 ^ 46 }
-    requires aged { All (λ st. IsAged x.now.end st.ended.items) stations.now }
-    requires places { All (λ st. IsPlaceOf (M.nodes links.now) st.place st.node) stations.now }
-    requires marks { AreMarks stations.now marks.now }
-    requires alike { AreAlikeTo stations.now marks.now origin x.now }
-    requires within { (k : ℕ) → bit_at places k ≡ 1 → k < length stations.now }
-    requires known { IsFrom (M.lines links.now) (M.nodes links.now) (rivals_to profile.now x.now stations.now) known }
-    ensures from { IfSome result (IsFrom (M.lines links.now) (M.nodes links.now) (rivals_to profile.now x.now stations.now)) }
+    requires ending { IsEnding (M.nodes links.now) ending.now }
+    requires within { (k : ℕ) → bit_at places k ≡ 1 → k < length ending.now.stations.now }
+    requires known { IsFrom (M.lines links.now) (M.nodes links.now) (rivals_of ending.now) known }
+    ensures from { IfSome result (IsFrom (M.lines links.now) (M.nodes links.now) (rivals_of ending.now)) }
     ensures adds { IfSome result (AddsTo known) }
-    ensures tells { IfSome result (TellsAt (M.lines links.now) (M.nodes links.now) profile.now x.now stations.now (λ k. bit_at places k ≡ 1)) }
-    ensures none { IfNone result ((i : ℕ) → bit_at ready i ≡ 1
-        → list_any (spoils (M.lines links.now) (slice_index (M.nodes links.now) i)) (rivals_to profile.now x.now stations.now) ≡ true) }
+    ensures tells { IfSome result
+        (TellsAt (M.lines links.now) (M.nodes links.now) ending.now.profile.now ending.now.x.now ending.now.stations.now (λ k. bit_at places k ≡ 1)) }
+    ensures none { IfNone result (AreSpoiled (M.lines links.now) (M.nodes links.now) (rivals_of ending.now) ready) }
 {
     let mut crowd = known;
     let mut rest = places;
     while rest != 0 {
         let place = lowest(rest);
         rest = without_bit(rest, place);
-        let i = usize::from(place);
-        let station = &stations[i];
-        let other = crowd_at(
-            links, profile, delta, station, marks[i], x, origin, key, opens,
-        );
+        let other = crowd_at(links, ending, place);
         crowd = crowd.with(other);
         if crowd.spoiled & ready == ready {
             return None;
@@ -180,98 +145,55 @@ fn strangers(
     strange
 }
 
-/// What keeps x from being received by the nodes that are ready for it. x has that key, its packet has that origin, its frame
-/// began at `opens`, and its rivals are at those places. Returns `None` only if its packet comes out of time to each of these
-/// nodes. First come the stations from which a link passes to one of them. For the others a look at their marks is mostly
-/// enough.
-pub fn crowd_of<M: Links>(
-    links: &M,
-    profile: &Profile,
-    delta: u64,
-    stations: &[Station],
-    marks: &[Mark],
-    places: u64,
-    x: &Sending,
-    key: Key,
-    origin: Origin,
-    opens: u64,
-    ready: u64,
-) -> Option<Crowd>
-    requires key { key ≡ key_of profile.now x.now }
-    requires opens { IsInOneFrame profile.now.frame x.now.start opens }
-    requires delta { (delta ≡ profile.now.delta) × (delta ≤ 2 ^ 32) }
-    requires start { x.now.start ≤ 2 ^ 46 }
-    requires end { x.now.end ≤ 2 ^ 46 }
-    requires aged { All (λ st. IsAged x.now.end st.ended.items) stations.now }
-    requires places { All (λ st. IsPlaceOf (M.nodes links.now) st.place st.node) stations.now }
-    requires marks { AreMarks stations.now marks.now }
-    requires alike { AreAlikeTo stations.now marks.now origin x.now }
-    requires in_order { (k : ℕ) (d : Station) → k < length stations.now → (slice_index_or stations.now k d).place ≡ k }
-    requires among { AreAmong profile.now x.now stations.now places }
-    requires few { length stations.now ≤ 64 }
+/// What keeps x from being received by the nodes that are ready for it. Returns `None` only if its packet comes out of time to
+/// each of these nodes. First come the stations from which a link passes to one of them. For the others a look at their marks
+/// is mostly enough.
+pub fn crowd_of<M: Links>(links: &M, ending: &Ending, ready: u64) -> Option<Crowd>
+    requires ending { IsEnding (M.nodes links.now) ending.now }
     requires within { (i : ℕ) → bit_at ready i ≡ 1 → i < length (M.nodes links.now) }
-    ensures from { IfSome result (IsFrom (M.lines links.now) (M.nodes links.now) (rivals_to profile.now x.now stations.now)) }
+    ensures from { IfSome result (IsFrom (M.lines links.now) (M.nodes links.now) (rivals_of ending.now)) }
     ensures tells { IfSome result (λ c. (i : ℕ) → bit_at ready i ≡ 1
-        → HasBitsOf (M.lines links.now) (M.nodes links.now) (rivals_to profile.now x.now stations.now) i c) }
-    ensures none { IfNone result ((i : ℕ) → bit_at ready i ≡ 1
-        → list_any (spoils (M.lines links.now) (slice_index (M.nodes links.now) i)) (rivals_to profile.now x.now stations.now) ≡ true) }
+        → HasBitsOf (M.lines links.now) (M.nodes links.now) (rivals_of ending.now) i c) }
+    ensures none { IfNone result (AreSpoiled (M.lines links.now) (M.nodes links.now) (rivals_of ending.now) ready) }
 {
     if ready == 0 {
         return None;
     }
-    let near = near_of(links, key, ready);
-    let crowd = crowd_with(
-        links,
-        profile,
-        delta,
-        stations,
-        marks,
-        places & near,
-        x,
-        key,
-        origin,
-        opens,
-        ready,
-        Crowd::none(),
-    )?;
-    let far = without_bits(places, near);
-    let strange = strangers(marks, far, x, origin, opens, x.start + delta);
+    let near = near_of(links, ending.key, ready);
+    let crowd = crowd_with(links, ending, ending.places & near, ready, Crowd::none())?;
+    let far = without_bits(ending.places, near);
+    let latest = ending.x.start + ending.delta;
+    let strange = strangers(
+        ending.marks,
+        far,
+        ending.x,
+        ending.origin,
+        ending.opens,
+        latest,
+    );
     if strange == 0 {
         return Some(crowd);
     }
-    crowd_with(
-        links, profile, delta, stations, marks, strange, x, key, origin, opens, ready, crowd,
-    )
+    crowd_with(links, ending, strange, ready, crowd)
 }
 
 /// To which nodes the packet of x comes out of time from the node that began it, as far as the mark of this one shows. Where
 /// many receive each other, these are nearly all.
-pub fn lost_early<M: Links>(
-    links: &M,
-    profile: &Profile,
-    stations: &[Station],
-    marks: &[Mark],
-    x: &Sending,
-    key: Key,
-    origin: Origin,
-    opens: u64,
-) -> u64
-    requires key { key ≡ key_of profile.now x.now }
-    requires opens { IsInOneFrame profile.now.frame x.now.start opens }
-    requires places { All (λ st. IsPlaceOf (M.nodes links.now) st.place st.node) stations.now }
-    requires marks { AreMarks stations.now marks.now }
-    requires alike { AreAlikeTo stations.now marks.now origin x.now }
-    ensures { (i : ℕ) → bit_at result i ≡ 1
-        → list_any (spoils (M.lines links.now) (slice_index (M.nodes links.now) i)) (rivals_to profile.now x.now stations.now) ≡ true }
+pub fn lost_early<M: Links>(links: &M, ending: &Ending) -> u64
+    requires ending { IsEnding (M.nodes links.now) ending.now }
+    ensures { AreSpoiled (M.lines links.now) (M.nodes links.now) (rivals_of ending.now) result }
 {
-    let first = usize::from(origin.place);
-    if first >= stations.len() {
+    let x = ending.x;
+    let first = usize::from(ending.origin.place);
+    if first >= ending.stations.len() {
         return 0;
     }
-    let station = &stations[first];
-    let mark = &marks[first];
-    if mark.is_aside(x.start, x.end) || !mark.comes_early(x, station.node, origin, opens) {
+    let station = &ending.stations[first];
+    let mark = &ending.marks[first];
+    if mark.is_aside(x.start, x.end)
+        || !mark.comes_early(x, station.node, ending.origin, ending.opens)
+    {
         return 0;
     }
-    reach_of(links, key, station.place)
+    reach_of(links, ending.key, station.place)
 }

@@ -4,6 +4,7 @@
 mod brought;
 mod chosen;
 mod crowd;
+mod ending;
 mod hearers;
 pub mod laws;
 mod listeners;

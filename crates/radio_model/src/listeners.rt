@@ -1,63 +1,38 @@
 //! Finds who receives a transmission at its end.
 
-ghost use Rattle.std.specs.Prelude.{◌≡◌, ◌≤◌, ◌<◌, ◌^◌, All, length, map, ◌||◌, ◌==◌, not, ℕ, slice_index_or};
+ghost use Rattle.std.specs.Prelude.{◌≡◌, ◌<◌, All, length, ◌||◌, ◌==◌, not, ℕ, slice_index_or};
 ghost use Rattle.std.specs.List.{list_any};
-ghost use Rattle.radio_model.specs.Stations.{id_of_station, on_air, overlaps};
+ghost use Rattle.radio_model.specs.Stations.{on_air, overlaps};
 ghost use Rattle.radio_model.specs.Ages.{IsAged};
-ghost use Rattle.radio_model.specs.Marks.{IsMark, AreMarks, AreAlikeTo};
-ghost use Rattle.radio_model.specs.Recent.{AreAmong};
+ghost use Rattle.radio_model.specs.Endings.{IsEnding, rivals_of};
+ghost use Rattle.radio_model.specs.Marks.{IsMark, AreMarks};
 ghost use Rattle.std.specs.Int.{bit_at};
 ghost use Rattle.link_trace.specs.Passes.{captured};
 ghost use Rattle.radio_model.specs.declared.station.Station.{Station};
-ghost use Rattle.radio_model.specs.Meetings.{hearers_to, is_chosen as is_chosen_by, is_ready as ready_for, AreThose, IsPlaceOf, rivals_to};
+ghost use Rattle.radio_model.specs.Meetings.{hearers_to, is_chosen as is_chosen_by, is_ready as ready_for, AreThose, IsPlaceOf};
 
 use crate::chosen::is_chosen;
 use crate::crowd::{crowd_of, lost_early};
+use crate::ending::Ending;
 use crate::hearers::Hearers;
-use crate::mark::{Mark, Origin};
-use crate::rivals::{Key, frame_start, reach_of};
+use crate::mark::Mark;
+use crate::rivals::reach_of;
 use crate::sending::Sending;
 use crate::station::Station;
 use link_trace::Links;
 use link_trace::bits::{has_bit, lowest, without_bit, without_bits};
-use lwb_base::Profile;
 
-/// Who receives x, the transmission of the station `from`, now that it ends. Its rivals are at those places, and its packet has
-/// that origin.
-pub fn listeners<M: Links>(
-    links: &M,
-    profile: &Profile,
-    delta: u64,
-    stations: &[Station],
-    marks: &[Mark],
-    places: u64,
-    from: &Station,
-    x: &Sending,
-    origin: Origin,
-) -> Hearers
-    requires delta { (delta ≡ profile.now.delta) × (delta ≤ 2 ^ 32) }
-    requires start { x.now.start ≤ 2 ^ 46 }
-    requires end { x.now.end ≤ 2 ^ 46 }
-    requires few { length stations.now ≤ 64 }
-    requires aged { All (λ st. IsAged x.now.end st.ended.items) stations.now }
-    requires seal { (M.nodes links.now) ≡ map id_of_station stations.now }
-    requires places { All (λ st. IsPlaceOf (M.nodes links.now) st.place st.node) stations.now }
-    requires in_order { (k : ℕ) (d : Station) → k < length stations.now → (slice_index_or stations.now k d).place ≡ k }
-    requires marks { AreMarks stations.now marks.now }
-    requires alike { AreAlikeTo stations.now marks.now origin x.now }
-    requires among { AreAmong profile.now x.now stations.now places }
+/// Who receives x, the transmission of the station `from`, now that it ends.
+pub fn listeners<M: Links>(links: &M, ending: &Ending, from: &Station) -> Hearers
+    requires ending { IsEnding (M.nodes links.now) ending.now }
     requires from { IsPlaceOf (M.nodes links.now) from.now.place from.now.node }
-    ensures { result ≡ hearers_to profile.now (M.lines links.now) from.now.node x.now stations.now }
+    ensures { result ≡ hearers_to ending.now.profile.now (M.lines links.now) from.now.node ending.now.x.now ending.now.stations.now }
 {
-    let key = Key::of(profile, x);
-    let opens = frame_start(profile, x.start);
-    let reached = reach_of(links, key, from.place);
-    let lost = lost_early(links, profile, stations, marks, x, key, origin, opens);
+    let reached = reach_of(links, ending.key, from.place);
+    let lost = lost_early(links, ending);
     let left = without_bits(reached, lost);
-    let ready = ready_of(stations, marks, left, x);
-    let Some(crowd) = crowd_of(
-        links, profile, delta, stations, marks, places, x, key, origin, opens, ready,
-    ) else {
+    let ready = ready_of(ending.stations, ending.marks, left, ending.x);
+    let Some(crowd) = crowd_of(links, ending, ready) else {
         return Hearers::none();
     };
     let mut hearers = Hearers::none();
@@ -65,8 +40,8 @@ pub fn listeners<M: Links>(
     while rest != 0 {
         let place = lowest(rest);
         rest = without_bit(rest, place);
-        let at = &stations[usize::from(place)];
-        if is_taken(links, profile, stations, at, place, x, key, crowd.mixed) {
+        let at = &ending.stations[usize::from(place)];
+        if is_taken(links, ending, at, place, crowd.mixed) {
             hearers.push(at.node, from.node);
         }
     }
@@ -103,27 +78,22 @@ fn is_ready(at: &Station, mark: &Mark, x: &Sending) -> bool
 }
 
 // Whether the node at `at`, which is ready and reached by x in time, takes it: another packet may come to it too.
-fn is_taken<M: Links>(
-    links: &M,
-    profile: &Profile,
-    stations: &[Station],
-    at: &Station,
-    place: u8,
-    x: &Sending,
-    key: Key,
-    mixed: u64,
-) -> bool
-    requires start { x.now.start ≤ 2 ^ 46 }
-    requires end { x.now.end ≤ 2 ^ 46 }
-    requires few { length (M.nodes links.now) ≤ 64 }
-    requires aged { All (λ st. IsAged x.now.end st.ended.items) stations.now }
-    requires places { All (λ st. IsPlaceOf (M.nodes links.now) st.place st.node) stations.now }
+fn is_taken<M: Links>(links: &M, ending: &Ending, at: &Station, place: u8, mixed: u64) -> bool
+    requires ending { IsEnding (M.nodes links.now) ending.now }
     requires at { IsPlaceOf (M.nodes links.now) at.now.place at.now.node }
     requires place { place ≡ at.now.place }
-    ensures { result ≡ (not (bit_at mixed place == 1) || is_chosen_by (M.lines links.now) at.now.node (rivals_to profile.now x.now stations.now)
-        (captured (M.lines links.now) key.frame key.slot key.counter at.now.node)) }
+    ensures { result ≡ (not (bit_at mixed place == 1) || is_chosen_by (M.lines links.now) at.now.node (rivals_of ending.now)
+        (captured (M.lines links.now) ending.now.key.frame ending.now.key.slot ending.now.key.counter at.now.node)) }
 {
-    !has_bit(mixed, place) || is_chosen(links, profile, stations, at, x, key)
+    !has_bit(mixed, place)
+        || is_chosen(
+            links,
+            ending.profile,
+            ending.stations,
+            at,
+            ending.x,
+            ending.key,
+        )
 }
 
 // Whether no transmission of the node at `at` overlaps x, which ends now. Mostly its mark tells.

@@ -1,26 +1,22 @@
 //! The radio medium that all nodes share.
 
-ghost use Rattle.std.specs.Prelude.{◌≡◌, ◌≤◌, ◌<◌, ◌^◌, ◌∷◌, [], ℕ, IfOk, IfSome, IsSomeAnd, All, AllPairs, Contains, ◌↔◌};
-ghost use Rattle.std.specs.Prelude.{length, map, List, slice_index, slice_index_or, slice_set, Some, if◌then◌else◌};
-ghost use Rattle.std.specs.List.{HoldsAt};
-ghost use Rattle.lwb_base.specs.Profile.{Numbers};
+ghost use Rattle.std.specs.Prelude.{◌≡◌, ◌≤◌, ◌<◌, ◌^◌, ℕ, IfOk, IfSome, All, AllPairs, Contains, ◌↔◌, length, List, slice_index, Some};
 ghost use Rattle.link_trace.specs.Masks.{AreNodes};
 ghost use Rattle.link_trace.specs.Passes.{Lines};
 ghost use Rattle.radio_model.specs.Hearing.{Scene, HearsInScene};
 ghost use Rattle.radio_model.specs.Holding.{Holds, nothing_yet, after_tuning, after_starting, as_it_stands};
-ghost use Rattle.radio_model.specs.Stations.{MediumState, id_of_station, nodes_of, station_of, can_send, sending_of_station, station_after_tuning};
+ghost use Rattle.radio_model.specs.Stations.{MediumState, nodes_of, station_of, can_send, sending_of_station, station_after_tuning};
 ghost use Rattle.radio_model.specs.Stations.{station_after_start, station_after_end, medium_after_change, first_state, stations_from, IsTime, IsMedium, Ends};
-ghost use Rattle.radio_model.specs.Ages.{IsAged};
-ghost use Rattle.radio_model.specs.Meetings.{hearers_to, IsPlaceOf};
-ghost use Rattle.radio_model.specs.Marks.{AreAlike, AreMarks, ArePlaces};
-ghost use Rattle.radio_model.specs.Recent.{AreAmong};
+ghost use Rattle.radio_model.specs.Meetings.{hearers_to};
+ghost use Rattle.radio_model.specs.Marks.{ArePlaces};
 ghost use Rattle.radio_model.specs.declared.sending.Sending.{Sending};
-ghost use Rattle.radio_model.specs.declared.station.Station.{Station};
 
+use crate::ending::Ending;
 use crate::hearers::Hearers;
 use crate::listeners::listeners;
 use crate::mark::{Mark, origin_of, raise};
 use crate::recent::Recent;
+use crate::rivals::{Key, frame_start};
 use crate::station::Station;
 use link_trace::Links;
 use lwb_base::{Memory, NodeId, Packet, Profile, Rank};
@@ -168,51 +164,22 @@ impl Medium {
         ensures kept { IsMedium self.now }
     {
         let place = place_of(&self.places, node);
-        listeners_at(
-            links,
-            &self.profile,
-            self.delta,
-            &self.stations,
-            &self.marks,
-            self.recent.places,
-            place,
-        )
-    }
-}
-
-// Who receives the transmission of the station at that place, now that it ends.
-fn listeners_at<M: Links>(
-    links: &M,
-    profile: &Profile,
-    delta: u64,
-    stations: &[Station],
-    marks: &[Mark],
-    places: u64,
-    place: usize,
-) -> Hearers
-    requires place { place < length stations.now }
-    requires sends { (d : Station) → IsSomeAnd (slice_index_or stations.now place d).sending (λ x. (x.start ≤ 2 ^ 46) × (x.end ≤ 2 ^ 46)
-        × All (λ st. IsAged x.end st.ended.items) stations.now) }
-    requires few { length stations.now ≤ 64 }
-    requires seal { M.nodes links.now ≡ map id_of_station stations.now }
-    requires places { All (λ st. IsPlaceOf (M.nodes links.now) st.place st.node) stations.now }
-    requires in_order { (k : ℕ) (d : Station) → k < length stations.now → (slice_index_or stations.now k d).place ≡ k }
-    requires delta { (delta ≡ profile.now.delta) × (delta ≤ 2 ^ 32) }
-    requires marks { AreMarks stations.now marks.now }
-    requires alike { (now : ℕ) × AreAlike now stations.now marks.now }
-    requires among { (d : Station) → IsSomeAnd (slice_index_or stations.now place d).sending (λ x. AreAmong profile.now x stations.now places) }
-    ensures { (d : Station) → IfSome (slice_index_or stations.now place d).sending
-        (λ x. result ≡ hearers_to profile.now (M.lines links.now) (slice_index_or stations.now place d).node x stations.now) }
-{
-    let from = &stations[place];
-    match &from.sending {
-        Some(x) => {
-            let origin = marks[place].origin;
-            listeners(
-                links, profile, delta, stations, marks, places, from, x, origin,
-            )
-        }
-        None => unreachable!(),
+        let from = &self.stations[place];
+        let Some(x) = &from.sending else {
+            unreachable!()
+        };
+        let ending = Ending {
+            x,
+            key: Key::of(&self.profile, x),
+            origin: self.marks[place].origin,
+            opens: frame_start(&self.profile, x.start),
+            places: self.recent.places,
+            stations: &self.stations,
+            marks: &self.marks,
+            profile: &self.profile,
+            delta: self.delta,
+        };
+        listeners(links, &ending, from)
     }
 }
 

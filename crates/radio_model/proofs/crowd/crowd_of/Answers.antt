@@ -13,39 +13,44 @@ both_some P Q R None p q then = p
 both_some P Q R (Some x) p q then = then x p q
 
 pub crowd_with-requires-clause-within : goal.crowd_with-requires-clause-within
-crowd_with-requires-clause-within g c = λ k one. c.requires.among.within k (first_bit c.args.places c.near_of-near.result k one)
+crowd_with-requires-clause-within g c = λ k one. c.requires.ending.among.within k (first_bit c.args.ending.now.places c.near_of-near.result k one)
 
 pub returns-then-strange-eq0-clause-tells : goal.returns-then-strange-eq0-clause-tells
 returns-then-strange-eq0-clause-tells g c =
     let lines = g.M.Links.lines c.args.links.now in
     let nodes = g.M.Links.nodes c.args.links.now in
-    let p = c.args.profile.now in
-    let x = c.args.x.now in
-    let sts = c.args.stations.now in
+    let e = c.args.ending.now in
+    let ok = c.requires.ending in
+    let p = e.profile.now in
+    let x = e.x.now in
+    let sts = e.stations.now in
     let near = c.near_of-near.result in
     let strange = c.strangers-strange.result in
     let crowd = c.in_ok-crowd.crowd in
     λ i one.
     let inside = c.requires.within i one in
-    near_and_far lines nodes p x sts c.args.marks.now c.args.origin c.args.opens c.args.delta c.args.places near c.without_bits-far.result strange i inside
-    c.requires.few c.requires.opens c.requires.delta.0 c.requires.places c.requires.in_order c.requires.marks c.requires.alike c.requires.among
-    (λ k below none. ap (λ (q : Key). passes_at lines q (get_or nodes k 0) (get_or nodes i 0)) (sym c.requires.key) ∙ c.near_of-near.ensures i k one below none)
+    near_and_far lines nodes p x sts e.marks.now e.origin e.opens e.delta e.places near c.without_bits-far.result strange i inside
+    ok.few ok.opens ok.delta.0 ok.placed ok.in_order ok.marks ok.alike ok.among
+    (λ k below none. ap (λ (q : Key). passes_at lines q (get_or nodes k 0) (get_or nodes i 0)) (sym ok.key) ∙ c.near_of-near.ensures i k one below none)
     c.without_bits-far.ensures.bits c.strangers-strange.ensures crowd
-    (λ k d in_places in_near. c.in_ok-crowd.ensures.tells k i d inside (both_bits c.args.places near k in_places in_near))
+    (λ k d in_places in_near. c.in_ok-crowd.ensures.tells k i d inside (both_bits e.places near k in_places in_near))
     (λ k d there. absurd (omega (arith, there, ap (λ (n : ℕ). bit_at n k) c.if-strange-eq0.true, bit_at-zero k)))
 
 pub crowd_with-requires-2-clause-within : goal.crowd_with-requires-2-clause-within
 crowd_with-requires-2-clause-within g c =
-    λ k one. c.requires.among.within k (left_bits c.args.places c.near_of-near.result c.without_bits-far.result k c.without_bits-far.ensures.bits
+    λ k one. c.requires.ending.among.within k (left_bits c.args.ending.now.places c.near_of-near.result c.without_bits-far.result k
+    c.without_bits-far.ensures.bits
     c.without_bits-far.ensures.above ((c.strangers-strange.ensures no_mark).among k one)).0
 
 pub returns-clause-tells : goal.returns-clause-tells
 returns-clause-tells g c =
     let lines = g.M.Links.lines c.args.links.now in
     let nodes = g.M.Links.nodes c.args.links.now in
-    let p = c.args.profile.now in
-    let x = c.args.x.now in
-    let sts = c.args.stations.now in
+    let e = c.args.ending.now in
+    let ok = c.requires.ending in
+    let p = e.profile.now in
+    let x = e.x.now in
+    let sts = e.stations.now in
     let near = c.near_of-near.result in
     let strange = c.strangers-strange.result in
     let first = c.in_ok-crowd.crowd in
@@ -53,10 +58,10 @@ returns-clause-tells g c =
     (λ w. (i : ℕ) → bit_at c.args.ready i ≡ 1 → HasBitsOf lines nodes (rivals_to p x sts) i w) c.crowd_with-2.result c.crowd_with-2.ensures.adds
     c.crowd_with-2.ensures.tells (λ crowd adds tells i one.
     let inside = c.requires.within i one in
-    near_and_far lines nodes p x sts c.args.marks.now c.args.origin c.args.opens c.args.delta c.args.places near c.without_bits-far.result strange i inside
-    c.requires.few c.requires.opens c.requires.delta.0 c.requires.places c.requires.in_order c.requires.marks c.requires.alike c.requires.among
-    (λ k below none. ap (λ (q : Key). passes_at lines q (get_or nodes k 0) (get_or nodes i 0)) (sym c.requires.key) ∙ c.near_of-near.ensures i k one below none)
+    near_and_far lines nodes p x sts e.marks.now e.origin e.opens e.delta e.places near c.without_bits-far.result strange i inside
+    ok.few ok.opens ok.delta.0 ok.placed ok.in_order ok.marks ok.alike ok.among
+    (λ k below none. ap (λ (q : Key). passes_at lines q (get_or nodes k 0) (get_or nodes i 0)) (sym ok.key) ∙ c.near_of-near.ensures i k one below none)
     c.without_bits-far.ensures.bits c.strangers-strange.ensures crowd
     (λ k d in_places in_near. tells_more_of lines nodes (rivals_in p x (get_or sts k d)) i first crowd adds
-    (c.in_ok-crowd.ensures.tells k i d inside (both_bits c.args.places near k in_places in_near)))
+    (c.in_ok-crowd.ensures.tells k i d inside (both_bits e.places near k in_places in_near)))
     (λ k d there. tells k i d inside there))

@@ -1,13 +1,14 @@
 use Rattle.std.proofs.Common.{◌≡◌, ℕ}
 use Rattle.std.specs.Int.{bit_at}
-use Rattle.radio_model.specs.Meetings.{rivals_to, IsFrom, AddsTo, TellsAt}
+use Rattle.radio_model.specs.Endings.{rivals_of}
+use Rattle.radio_model.specs.Meetings.{IsFrom, AddsTo, TellsAt}
 use Rattle.radio_model.proofs.crowd.crowd_with.Given as goal
 
 abbrev pub invariant-loop-rest : goal.invariant-loop-rest
 invariant-loop-rest g l = record {
-  from : IsFrom (g.M.Links.lines l.links) (g.M.Links.nodes l.links) (rivals_to l.profile l.x l.stations) l.crowd;
+  from : IsFrom (g.M.Links.lines l.links) (g.M.Links.nodes l.links) (rivals_of l.ending) l.crowd;
   adds : AddsTo l.fn.known l.crowd;
-  tells : TellsAt (g.M.Links.lines l.links) (g.M.Links.nodes l.links) l.profile l.x l.stations
+  tells : TellsAt (g.M.Links.lines l.links) (g.M.Links.nodes l.links) l.ending.profile.now l.ending.x.now l.ending.stations.now
       (λ k. (bit_at l.places k ≡ 1) × (bit_at l.rest k ≡ 0)) l.crowd;
   left : (k : ℕ) → bit_at l.rest k ≡ 1 → bit_at l.places k ≡ 1;
 }

@@ -6,9 +6,9 @@ use Rattle.radio_model.proofs.listeners.listeners.Given as goal
 
 abbrev pub invariant-loop-rest : goal.invariant-loop-rest
 invariant-loop-rest g l = record {
-  pairs : l.hearers ++ filter_map (heard_at (g.M.Links.lines l.links) l.from.node l.x (key_of l.profile l.x)
-      (rivals_to l.profile l.x l.stations) l.rest) l.stations
-      ≡ hearers_to l.profile (g.M.Links.lines l.links) l.from.node l.x l.stations;
+  pairs : l.hearers ++ filter_map (heard_at (g.M.Links.lines l.links) l.from.node l.ending.x.now (key_of l.ending.profile.now l.ending.x.now)
+      (rivals_to l.ending.profile.now l.ending.x.now l.ending.stations.now) l.rest) l.ending.stations.now
+      ≡ hearers_to l.ending.profile.now (g.M.Links.lines l.links) l.from.node l.ending.x.now l.ending.stations.now;
   left : (k : ℕ) → bit_at l.rest k ≡ 1 → (bit_at l.ready k ≡ 1) × (bit_at l.crowd.spoiled k ≡ 0);
 }
 

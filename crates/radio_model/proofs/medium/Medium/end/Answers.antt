@@ -8,7 +8,7 @@ use Rattle.radio_model.proofs.PlacedStations.{found_place}
 use Rattle.radio_model.specs.Holding.{Holds}
 use Rattle.radio_model.proofs.AfterEnding.{holds_after_ending}
 use Rattle.radio_model.proofs.Named.{names_who_hears, names_one_sender, names_in_order}
-use Rattle.radio_model.proofs.Ending.{aged_after_ending}
+use Rattle.radio_model.proofs.SendingAtPlace.{aged_after_ending}
 use Rattle.radio_model.proofs.Marked.{marks_stay, mark_finished}
 use Rattle.radio_model.proofs.Origins.{alike_kept, newest_finished, newest_unfinished}
 use Rattle.radio_model.proofs.Changes.{finished_keeps}
