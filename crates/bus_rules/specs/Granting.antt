@@ -1,7 +1,7 @@
 -- What is owed to the streams of a table, and what a host grants of it for one round.
 use Rattle.std.specs.Prelude.{ℕ, zero, suc, ◌+◌, ◌-◌, ◌*◌, ◌/◌, List, [], ◌++◌, ◌==◌, nat_lt, nat_le, if◌then◌else◌, map}
 use Rattle.std.specs.Prelude.{length, take, filter, flat_map, replicate, sum_by, count_by, slice_index}
-use Rattle.lwb_base.specs.declared.limits.TheConstants.{GREATEST_GAP}
+use Rattle.lwb_base.specs.declared.limits.TheConstants.{DATA_SLOTS, GREATEST_GAP}
 use Rattle.bus_rules.specs.Tables.{Entry, Table, code_in}
 
 -- the slots that have come due since the stream was accepted, less those granted. - stops at 0
@@ -17,9 +17,9 @@ total seconds frame es = sum_by (owed_to seconds frame) es
 -- the greatest gap at which all that is owed fits one round, else 1
 abbrev pub gap_of : ℕ → ℕ → List Entry → ℕ
 gap_of seconds frame es =
-    if nat_le (total seconds (frame + GREATEST_GAP) es) 40 then GREATEST_GAP
-    else if nat_le (total seconds (frame + 3) es) 40 then 3
-    else if nat_le (total seconds (frame + 2) es) 40 then 2
+    if nat_le (total seconds (frame + GREATEST_GAP) es) DATA_SLOTS then GREATEST_GAP
+    else if nat_le (total seconds (frame + 3) es) DATA_SLOTS then 3
+    else if nat_le (total seconds (frame + 2) es) DATA_SLOTS then 2
     else 1
 
 -- how often a code is in a list
@@ -39,9 +39,9 @@ unfoldable pub turns : (Entry → ℕ) → List Entry → ℕ → List ℕ
 turns owes line zero = []
 turns owes line (suc k) = turns owes line k ++ turn owes line k
 
--- the 40 slots of a round that are given one at a time, in turns
+-- the data slots of a round that are given one at a time, in turns
 abbrev pub given : (Entry → ℕ) → Table → List ℕ
-given owes t = take 40 (turns owes (in_turn t.place t.entries) 40)
+given owes t = take DATA_SLOTS (turns owes (in_turn t.place t.entries) DATA_SLOTS)
 
 abbrev pub last_code : List ℕ → ℕ
 last_code cs = slice_index cs (length cs - 1)
@@ -70,10 +70,10 @@ granted_by share gap place es = record {
 abbrev pub share_in : List ℕ → Entry → ℕ
 share_in cs e = count_of e.code cs
 
--- all that is owed where it fits, else 40 slots in turns
+-- all that is owed where it fits, else all data slots in turns
 abbrev pub grants_for : (Entry → ℕ) → ℕ → Table → Grants
 grants_for owes gap t =
-    if nat_le (sum_by owes t.entries) 40
+    if nat_le (sum_by owes t.entries) DATA_SLOTS
     then granted_by owes gap t.place t.entries
     else granted_by (share_in (given owes t)) gap (last_code (given owes t) + 1) t.entries
 

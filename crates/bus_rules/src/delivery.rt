@@ -8,11 +8,11 @@ pub struct Delivery {
     /// The frame of the round.
     pub frame: u32,
     pub rank: Rank,
-    /// The data slot, 1 to 40.
+    /// The data slot, 1 to `DATA_SLOTS`.
     pub slot: u8,
     /// The node that accepted it.
     pub node: NodeId,
-    /// The node whose packet it is, and that node's boot, 1 to 200.
+    /// The node whose packet it is, and that node's boot, 1 to `MOST_BOOTS`.
     pub from: NodeId,
     pub boot: u8,
     /// The stream, 0 to 3, and the packet's number in it, 0 to 65,534.

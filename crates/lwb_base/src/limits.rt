@@ -27,8 +27,14 @@ pub const LAST_STEP: u8 = FLOOD_STEPS - 1;
 /// The most data slots of a round.
 pub const DATA_SLOTS: u8 = 40;
 
+/// The most owners of a round, which has a data slot for each.
+pub const MOST_OWNERS: usize = DATA_SLOTS as usize;
+
 /// The greatest id of a node. Ids begin at 1.
 pub const GREATEST_ID: u8 = 200;
+
+/// The most boots of a node, and so the greatest boot number. Boots are counted from 1.
+pub const MOST_BOOTS: u8 = 200;
 
 /// The length of a table with a place for each id. Its place 0 is no node's.
 pub const PLACES_BY_ID: usize = GREATEST_ID as usize + 1;

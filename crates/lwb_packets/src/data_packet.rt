@@ -5,18 +5,18 @@ ghost use Rattle.lwb_packets.specs.DataPackets.{InRange, SpellsData, data_spelli
 ghost use Rattle.lwb_packets.specs.declared.data_packet.DataPacket.{DataPacket};
 
 use byteorder::{BigEndian, ByteOrder};
-use lwb_base::{LAST_STEP, NodeId, Packet, Payload};
+use lwb_base::{DATA_SLOTS, LAST_STEP, MOST_BOOTS, NodeId, Packet, Payload};
 
 /// A data packet: a payload of one stream of a node, with its place in the round and in the flood.
 #[derive(Drop)]
 pub struct DataPacket {
-    /// The slot of the round, 1 to 40.
+    /// The slot of the round, 1 to `DATA_SLOTS`.
     pub slot: u8,
     /// The relay counter, 0 to `LAST_STEP`.
     pub counter: u8,
-    /// The node whose stream it is, 1 to 200.
+    /// The node whose stream it is.
     pub node: NodeId,
-    /// The boot of the node that sent it, 1 to 200.
+    /// The boot of the node that sent it, 1 to `MOST_BOOTS`.
     pub boot: u8,
     /// The stream of the node, 0 to 3.
     pub stream: u8,
@@ -68,10 +68,10 @@ pub fn decode_payload(p: &Packet) -> Option<DataPacket>
     };
     let seq = BigEndian::read_u16(&[*high, *low]);
     if *slot < 1
-        || *slot > 40
+        || *slot > DATA_SLOTS
         || *counter > LAST_STEP
         || *boot < 1
-        || *boot > 200
+        || *boot > MOST_BOOTS
         || *stream > 3
         || seq > 65534
     {

@@ -4,18 +4,18 @@ ghost use Rattle.std.specs.Prelude.{◌≡◌, IfSome, is_some, Some};
 ghost use Rattle.lwb_packets.specs.Requests.{InRange, SpellsRequest, request_spelling, is_request};
 ghost use Rattle.lwb_packets.specs.declared.request.Request.{Request};
 
-use lwb_base::{LAST_STEP, NodeId, Packet};
+use lwb_base::{DATA_SLOTS, LAST_STEP, MOST_BOOTS, NodeId, Packet};
 
 /// A request of a stream of a node, which it sends to the host in a contention slot.
 #[derive(Clone, Copy, Debug, PartialEq, Eq)]
 pub struct Request {
-    /// The slot of the round, 1 to 44.
+    /// The contention slot of the round, which comes after its data slots: 1 to `DATA_SLOTS + 4`.
     pub slot: u8,
     /// The relay counter, 0 to `LAST_STEP`.
     pub counter: u8,
-    /// The node that asks, 1 to 200.
+    /// The node that asks.
     pub node: NodeId,
-    /// The boot of the node, 1 to 200.
+    /// The boot of the node, 1 to `MOST_BOOTS`.
     pub boot: u8,
     /// The stream of the node, 0 to 3.
     pub stream: u8,
@@ -50,10 +50,10 @@ pub fn decode_request(p: &Packet) -> Option<Request>
         return None;
     };
     if slot < 1
-        || slot > 44
+        || slot > DATA_SLOTS + 4
         || counter > LAST_STEP
         || boot < 1
-        || boot > 200
+        || boot > MOST_BOOTS
         || stream > 3
         || interval > 120
     {

@@ -2,6 +2,7 @@
 use Rattle.std.specs.Prelude.{ℕ, ◌-◌, List, [], ◌∷◌, Bool, true, ◌&&◌, nat_lt, nat_le, length, Some, None}
 use Rattle.std.specs.declared.option.Option.{Option}
 use Rattle.std.specs.List.{slice_get}
+use Rattle.lwb_base.specs.declared.limits.TheConstants.{GREATEST_ID, MOST_BOOTS}
 use Rattle.lwb_base.specs.Messages.{Ask, code_of}
 use Rattle.lwb_packets.specs.Ranges.{between}
 
@@ -26,7 +27,7 @@ takes_ack acks a = nat_lt (length acks) 4 && may_follow (slice_get acks (length 
 
 -- the ranges of a request's fields
 abbrev pub ask_in_range : Ask → Bool
-ask_in_range a = between 1 200 a.node && between 1 200 a.boot && nat_le a.stream 3 && nat_le a.interval 120
+ask_in_range a = between 1 GREATEST_ID a.node && between 1 MOST_BOOTS a.boot && nat_le a.stream 3 && nat_le a.interval 120
 
 -- node, boot, stream, interval
 abbrev pub ask_bytes : Ask → List ℕ

@@ -2,6 +2,7 @@
 use Rattle.std.specs.Prelude.{ℕ, ◌+◌, ◌-◌, ◌*◌, List, [], ◌∷◌, ◌++◌, Bool, true, ◌&&◌, nat_lt, nat_le, length, Some, None}
 use Rattle.std.specs.declared.option.Option.{Option}
 use Rattle.std.specs.List.{list_all, slice_get}
+use Rattle.lwb_base.specs.declared.limits.TheConstants.{DATA_SLOTS}
 use Rattle.lwb_packets.specs.Ranges.{between}
 use Rattle.lwb_packets.specs.TwoBytes.{two_bytes}
 use Rattle.schedule_codec.specs.Packing.{packed}
@@ -14,9 +15,9 @@ ascend [] = true
 ascend (c ∷ []) = true
 ascend (c ∷ d ∷ cs) = nat_le c d && ascend (d ∷ cs)
 
--- at most 40 codes, ascending
+-- a code for each data slot at most, ascending
 abbrev pub are_owners : List ℕ → Bool
-are_owners cs = nat_le (length cs) 40 && list_all (between 4 803) cs && ascend cs
+are_owners cs = nat_le (length cs) DATA_SLOTS && list_all (between 4 803) cs && ascend cs
 
 -- not below the last
 abbrev pub may_follow : Option ℕ → ℕ → Bool
@@ -25,7 +26,7 @@ may_follow (Some last) c = nat_le last c
 
 -- the list has room for this code at its end
 abbrev pub takes_owner : List ℕ → ℕ → Bool
-takes_owner cs c = nat_lt (length cs) 40 && may_follow (slice_get cs (length cs - 1)) c
+takes_owner cs c = nat_lt (length cs) DATA_SLOTS && may_follow (slice_get cs (length cs - 1)) c
 
 -- the first code with the width, and the packed differences
 abbrev pub codes_bytes : ℕ → List ℕ → List ℕ

@@ -3,7 +3,7 @@ use Rattle.std.specs.Prelude.{◌≡◌, ◌≤◌, true, ℕ, ◌+◌, ◌-◌,
 use Rattle.std.specs.Prelude.{nat_le, if◌then◌else◌, length, flat_map, slice_index, bytes_eq}
 use Rattle.std.specs.List.{list_all}
 use Rattle.lwb_base.specs.Messages.{Ask, Schedule, greatest_slot}
-use Rattle.lwb_base.specs.declared.limits.TheConstants.{GREATEST_GAP, LAST_STEP}
+use Rattle.lwb_base.specs.declared.limits.TheConstants.{GREATEST_GAP, LAST_STEP, MOST_BOOTS}
 use Rattle.lwb_packets.specs.Ranges.{between}
 use Rattle.schedule_codec.specs.AckLists.{are_acks, ask_in_range, ask_bytes}
 use Rattle.schedule_codec.specs.OwnerLists.{are_owners, owners_bytes}
@@ -51,13 +51,13 @@ slot_fits gap contend slot = if gap == 0 then slot == 0 else between 2 (greatest
 abbrev pub schedule_in_range : Schedule → ℕ → ℕ → Bool
 schedule_in_range s slot counter =
     nat_le counter LAST_STEP && slot_fits s.gap s.plan.contend slot && nat_le s.gap GREATEST_GAP
-    && nat_le s.plan.rank 3 && between 1 200 s.plan.boot && nat_le s.plan.contend 4
+    && nat_le s.plan.rank 3 && between 1 MOST_BOOTS s.plan.boot && nat_le s.plan.contend 4
     && nat_le (length s.plan.acks) (most_acks s.plan.contend) && list_all ask_in_range s.plan.acks && are_acks s.plan.acks
     && are_owners s.plan.owners
 
 -- what a schedule needs next to what its types say, to be written in this slot
 pub record IsWritable (s : Schedule) (slot : ℕ) : Type 0 where
-  pub boot : (1 ≤ s.plan.boot) × (s.plan.boot ≤ 200)
+  pub boot : (1 ≤ s.plan.boot) × (s.plan.boot ≤ MOST_BOOTS)
   pub gap : s.gap ≤ GREATEST_GAP
   pub contend : s.plan.contend ≤ 4
   pub few : length s.plan.acks ≤ most_acks s.plan.contend

@@ -8,7 +8,7 @@ ghost use Rattle.schedule_codec.specs.Spelling.{acks_bytes, most_acks, SpellsAck
 
 use crate::{Ack, Acks};
 use arrayvec::ArrayVec;
-use lwb_base::NodeId;
+use lwb_base::{MOST_BOOTS, NodeId};
 
 /// Without a number of contention slots the four bytes of the one acknowledgement, zero for none. Else that number with
 /// the count of acknowledgements, and the four bytes of each.
@@ -120,7 +120,7 @@ fn read_ack(bytes: &[u8]) -> Option<Ack>
     let &[node, boot, stream, interval] = bytes else {
         return None;
     };
-    if boot < 1 || boot > 200 || stream > 3 || interval > 120 {
+    if boot < 1 || boot > MOST_BOOTS || stream > 3 || interval > 120 {
         return None;
     }
     Some(Ack {

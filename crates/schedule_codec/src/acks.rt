@@ -14,7 +14,7 @@ use std::marker::Model;
 pub struct Ack {
     /// The node that asked.
     pub node: NodeId,
-    /// The boot of the node, 1 to 200.
+    /// The boot of the node, 1 to `MOST_BOOTS`.
     pub boot: u8,
     /// The stream of the node, 0 to 3.
     pub stream: u8,

@@ -8,7 +8,7 @@ ghost use Rattle.schedule_codec.specs.Reading.{schedule_of};
 use crate::ack_bytes::{Acknowledged, read_acks};
 use crate::owner_bytes::read_owners;
 use crate::{Owners, Schedule};
-use lwb_base::{GREATEST_GAP, Packet, Rank, greatest_slot};
+use lwb_base::{GREATEST_GAP, MOST_BOOTS, Packet, Rank, greatest_slot};
 
 /// The schedule that these bytes spell, in any slot and with any counter. Returns `None` if and only if they spell none.
 pub fn read(p: &Packet) -> Option<Schedule>
@@ -48,7 +48,7 @@ fn spelled(p: &Packet) -> Option<Schedule>
         return None;
     };
     let gap = *head % 16;
-    if *counter > 11 || *host_boot < 1 || *host_boot > 200 || gap > GREATEST_GAP {
+    if *counter > 11 || *host_boot < 1 || *host_boot > MOST_BOOTS || gap > GREATEST_GAP {
         return None;
     }
     let host = Rank::new(*head / 16)?;

@@ -13,6 +13,7 @@ use crate::differences::{differences, is_least, least_width};
 use crate::packing::{pack, unpack};
 use arrayvec::ArrayVec;
 use byteorder::{BigEndian, ByteOrder};
+use lwb_base::DATA_SLOTS;
 
 /// The count of owners; where there are any, the first code with the width, and the packed differences.
 pub fn write_owners(owners: &Owners) -> ArrayVec<u8, 52>
@@ -73,7 +74,7 @@ fn read_codes(count: u8, bytes: &[u8]) -> Option<Owners>
     };
     let start = BigEndian::read_u16(&[*high, *low]);
     let width = (start % 16) as u8;
-    if count > 40 || width > 10 {
+    if count > DATA_SLOTS || width > 10 {
         return None;
     }
     let steps = unpack(packed, width, count - 1)?;

@@ -5,14 +5,14 @@ ghost use Rattle.schedule_codec.specs.OwnerLists.{are_owners, takes_owner, may_f
 ghost use Rattle.std.specs.Option.{option_copied};
 
 use arrayvec::ArrayVec;
-use lwb_base::Owner;
+use lwb_base::{MOST_OWNERS, Owner};
 use std::marker::Model;
 
-/// The owners of the data slots of a round, at most 40 in ascending order; one may be there more than once. Contracts see the
+/// The owners of the data slots of a round, at most `DATA_SLOTS` in ascending order; one may be there more than once. Contracts see the
 /// list of their codes.
 #[derive(Drop)]
 pub struct Owners {
-    codes: ArrayVec<u16, 40>,
+    codes: ArrayVec<u16, MOST_OWNERS>,
 }
 
 impl Model for Owners {
@@ -37,14 +37,14 @@ impl Owners {
     }
 
     // The owners of these codes.
-    pub(crate) fn from_codes(codes: ArrayVec<u16, 40>) -> Owners
+    pub(crate) fn from_codes(codes: ArrayVec<u16, MOST_OWNERS>) -> Owners
         requires { are_owners codes.items ≡ true }
         ensures { result ≡ codes.items }
     {
         Owners { codes }
     }
 
-    /// Adds an owner at the end. Returns `false`, and nothing changes, if and only if 40 are there or it is below the last.
+    /// Adds an owner at the end. Returns `false`, and nothing changes, if and only if `DATA_SLOTS` are there or it is below the last.
     pub fn add(&mut self, owner: Owner) -> bool
         ensures answer { result ≡ takes_owner self.old owner }
         ensures list { self.new ≡ (if result then self.old ++ owner ∷ [] else self.old) }

@@ -10,7 +10,7 @@ use std::marker::Model;
 pub struct Schedule {
     /// The rank of the host.
     pub host: Rank,
-    /// The boot of the host, 1 to 200.
+    /// The boot of the host, 1 to `MOST_BOOTS`.
     pub host_boot: u8,
     /// 0 opens the round; 1 to `GREATEST_GAP` is the number of frames from this frame to the round.
     pub gap: u8,

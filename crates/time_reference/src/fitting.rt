@@ -1,6 +1,7 @@
 //! Budgets that fit a profile, and what follows from them.
 
 ghost use Rattle.std.specs.Prelude.{◌≡◌, ℕ, ◌+◌, ◌*◌, ◌^◌, ◌<◌, ◌≤◌, max};
+ghost use Rattle.lwb_base.specs.declared.limits.TheConstants.{DATA_SLOTS};
 ghost use Rattle.lwb_base.specs.Profile.{Numbers, airtime, step, IsProfile, one, contended};
 ghost use Rattle.time_reference.specs.Budgets.{Budget, Fits, span, budget_one, budget_two, budget_of};
 ghost use Rattle.time_reference.specs.Drift.{drift};
@@ -15,10 +16,10 @@ pub fn profiles_fit()
 {}
 
 /// A profile's budget has its packets and every slot of its rounds, and its schedules allow a reference to err by
-/// at most 55 ticks, those of at most 61 bytes by at most 48. A round has at most 40 owners.
+/// at most 55 ticks, those of at most 61 bytes by at most 48. A round has at most `DATA_SLOTS` owners.
 pub fn budgets_cover_rounds()
     ensures packets { (p : Numbers) → IsProfile p → p.packet_max ≡ (budget_of p).packet }
-    ensures slots { (p : Numbers) → IsProfile p → 40 + max 1 p.contend + 1 ≤ (budget_of p).last }
+    ensures slots { (p : Numbers) → IsProfile p → DATA_SLOTS + max 1 p.contend + 1 ≤ (budget_of p).last }
     ensures schedules { (p : Numbers) → IsProfile p → (n : ℕ) → (n ≤ 61 → drift (span p n + 11) + 12 ≤ 48)
         × (n ≤ 74 → drift (span p n + 11) + 12 ≤ 55) }
 {}

@@ -5,8 +5,8 @@ use Rattle.schedule_codec.proofs.Heads.{heads_of, read_spells, body_behind, same
 use Rattle.schedule_codec.proofs.decode.spelled.Goals as goal
 use Rattle.schedule_codec.proofs.decode.spelled.Goals.{then-counter-gt11-via-then-counter-gt11}
 use Rattle.schedule_codec.proofs.decode.spelled.Goals.{then-counter-gt11-via-else-counter-gt11+then-host_boot-lt1}
-use Rattle.schedule_codec.proofs.decode.spelled.Goals.{then-counter-gt11-via-else-counter-gt11+else-host_boot-lt1+then-host_boot-gt200}
-use Rattle.schedule_codec.proofs.decode.spelled.Goals.{then-counter-gt11-via-else-counter-gt11+else-host_boot-lt1+else-host_boot-gt200+then-gap-gt-GREATEST_GAP}
+use Rattle.schedule_codec.proofs.decode.spelled.Goals.{then-counter-gt11-via-else-counter-gt11+else-host_boot-lt1+then-host_boot-gt-MOST_BOOTS}
+use Rattle.schedule_codec.proofs.decode.spelled.Goals.{then-counter-gt11-via-else-counter-gt11+else-host_boot-lt1+else-host_boot-gt-MOST_BOOTS+then-gap-gt-GREATEST_GAP}
 
 pub returns-in_default-clause-all : goal.returns-in_default-clause-all
 returns-in_default-clause-all c =
@@ -26,8 +26,8 @@ returns-then-counter-gt11-clause-all c =
     elim c.then-counter-gt11.branch [
       | then-counter-gt11-via-then-counter-gt11 w ↦ absurd (omega arith)
       | then-counter-gt11-via-else-counter-gt11+then-host_boot-lt1 w ↦ absurd (omega arith)
-      | then-counter-gt11-via-else-counter-gt11+else-host_boot-lt1+then-host_boot-gt200 w ↦ absurd (omega arith)
-      | then-counter-gt11-via-else-counter-gt11+else-host_boot-lt1+else-host_boot-gt200+then-gap-gt-GREATEST_GAP w ↦ absurd (omega arith)
+      | then-counter-gt11-via-else-counter-gt11+else-host_boot-lt1+then-host_boot-gt-MOST_BOOTS w ↦ absurd (omega arith)
+      | then-counter-gt11-via-else-counter-gt11+else-host_boot-lt1+else-host_boot-gt-MOST_BOOTS+then-gap-gt-GREATEST_GAP w ↦ absurd (omega arith)
     ]
 
 pub returns-in_err-host-clause-all : goal.returns-in_err-host-clause-all

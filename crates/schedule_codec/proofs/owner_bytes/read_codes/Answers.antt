@@ -9,15 +9,15 @@ use Rattle.schedule_codec.proofs.CodeBytes.{codes_in, codes_spelled, summed_are_
 use Rattle.schedule_codec.proofs.CodeBytes.{fit_wider, some_where, if_some_where, same_items}
 use Rattle.schedule_codec.proofs.owner_bytes.read_codes.Goals as goal
 
-pub returns-then-count-gt40-clause-all : goal.returns-then-count-gt40-clause-all
-returns-then-count-gt40-clause-all c =
+pub returns-then-count-gt-DATA_SLOTS-clause-all : goal.returns-then-count-gt-DATA_SLOTS-clause-all
+returns-then-count-gt-DATA_SLOTS-clause-all c =
     λ cs are is.
     let k = codes_in c.args.count c.args.bytes.now cs c.requires are is in
     let codes = k.2 in
     let start = codes.start in
     let narrow = codes.narrow in
     let few = codes.few in
-    elim c.then-count-gt40.either [ inl many ↦ absurd (omega arith) | inr wide ↦ absurd (omega arith) ]
+    elim c.then-count-gt-DATA_SLOTS.either [ inl many ↦ absurd (omega arith) | inr wide ↦ absurd (omega arith) ]
 
 pub returns-in_err-steps-clause-all : goal.returns-in_err-steps-clause-all
 returns-in_err-steps-clause-all c =
