@@ -1,6 +1,7 @@
 -- Which streams are admitted, and the rounds of those that are.
 use Rattle.std.specs.Prelude.{◌≡◌, ◌<◌, ◌≤◌, ℕ, List, [], ◌∷◌, ◌++◌, Bool, true, false, ◌==◌, length, map, All, Result, Ok, Err}
 use Rattle.std.specs.List.{list_any}
+use Rattle.lwb_base.specs.declared.limits.TheConstants.{DATA_SLOTS}
 use Rattle.lwb_base.specs.declared.outside.Memory.{Memory}
 use Rattle.deadline_plan.specs.declared.admission.Admit.{Admit}
 use Rattle.deadline_plan.specs.declared.admission.Admit.TheVariants.{Yes, Twice, Full, Over}
@@ -58,7 +59,7 @@ rounds_of p = map owners_of_round (grants_of p)
 -- what is true of each plan
 pub record IsDeadlinePlan (p : PlanOfDeadlines) : Type 0 where
   pub some_slots : 1 ≤ p.slots
-  pub few_slots : p.slots ≤ 40
+  pub few_slots : p.slots ≤ DATA_SLOTS
   pub some_frames : 1 ≤ p.frames
   pub few_frames : p.frames ≤ 1024
   pub few_streams : length p.streams ≤ 32

@@ -5,6 +5,7 @@ use Rattle.std.specs.List.{list_all}
 use Rattle.std.specs.Option.{ok_or}
 use Rattle.std.specs.Str.{bytes_eq}
 use Rattle.std.specs.Str.Lines.{lines}
+use Rattle.lwb_base.specs.declared.limits.TheConstants.{DATA_SLOTS, GREATEST_ID}
 use Rattle.lwb_base.specs.Messages.{code}
 use Rattle.text_readers.specs.Faults.{first_fault, unless_fault, spelled, in_line, ◌>>=◌, draft_after_lines}
 use Rattle.text_readers.specs.Reading.{draft_after_line}
@@ -38,11 +39,11 @@ empty_plan_draft = record { slots = None; frames = None; streams = [] }
 
 abbrev pub are_in_range : ℕ → ℕ → ℕ → ℕ → ℕ → Bool
 are_in_range node stream start period deadline =
-    between 1 200 node && (nat_le stream 3 && (nat_le start 1023 && (between 1 64 period && between 1 64 deadline)))
+    between 1 GREATEST_ID node && (nat_le stream 3 && (nat_le start 1023 && (between 1 64 period && between 1 64 deadline)))
 
 -- the fault of a line that is spelled right
 abbrev pub deadline_rule_fault : DraftedPlan → DeadlineLine → Option FaultKind
-deadline_rule_fault d (Slots n) = first_fault ((between 1 40 n, Range) ∷ (is_none d.slots, Twice) ∷ [])
+deadline_rule_fault d (Slots n) = first_fault ((between 1 DATA_SLOTS n, Range) ∷ (is_none d.slots, Twice) ∷ [])
 deadline_rule_fault d (Frames n) = first_fault ((between 1 1024 n, Range) ∷ (is_none d.frames, Twice) ∷ [])
 deadline_rule_fault d (Stream node stream start period deadline) =
     first_fault ((are_in_range node stream start period deadline, Range) ∷ (not (has_stream_of d.streams (code node stream)), Twice) ∷ (
@@ -82,13 +83,13 @@ plan_of bytes = do
 
 -- Internal: what is true of each draft, and of each text.
 pub record IsPlanDraft (d : DraftedPlan) : Type 0 where
-  pub slots : IfSome d.slots (λ n. (1 ≤ n) × (n ≤ 40))
+  pub slots : IfSome d.slots (λ n. (1 ≤ n) × (n ≤ DATA_SLOTS))
   pub frames : IfSome d.frames (λ n. (1 ≤ n) × (n ≤ 1024))
   pub streams : All IsDeadlineStream d.streams
   pub few : length d.streams ≤ 32
 
 pub record IsText (p : PlanOfDeadlines) : Type 0 where
-  pub slots : (1 ≤ p.slots) × (p.slots ≤ 40)
+  pub slots : (1 ≤ p.slots) × (p.slots ≤ DATA_SLOTS)
   pub frames : (1 ≤ p.frames) × (p.frames ≤ 1024)
   pub streams : All IsDeadlineStream p.streams
   pub some : 1 ≤ length p.streams

@@ -2,6 +2,7 @@
 
 ghost use Rattle.std.specs.Prelude.{◌≡◌, ◌≤◌, [], IfOk};
 ghost use Rattle.std.specs.List.{list_any};
+ghost use Rattle.lwb_base.specs.declared.limits.TheConstants.{DATA_SLOTS};
 ghost use Rattle.deadline_plan.specs.Admission.{PlanOfDeadlines, has_stream_of, after_admit, IsAdmission, rounds_of, grants_of, with_last};
 ghost use Rattle.deadline_plan.specs.Grants.{AreGrantedInTime};
 ghost use Rattle.deadline_plan.specs.Jobs.{IsDeadlineStream, jobs};
@@ -50,9 +51,9 @@ impl Model for Deadlines {
 }
 
 impl Deadlines {
-    /// A plan of 1 to 1,024 frames with 1 to 40 slots each, and no stream.
+    /// A plan of 1 to 1,024 frames with 1 to `DATA_SLOTS` slots each, and no stream.
     pub fn new(slots: u8, frames: u32) -> Deadlines
-        requires slots { (1 ≤ slots) × (slots ≤ 40) }
+        requires slots { (1 ≤ slots) × (slots ≤ DATA_SLOTS) }
         requires frames { (1 ≤ frames) × (frames ≤ 1024) }
         ensures { result ≡ record { slots = slots; frames = frames; streams = [] } }
     {

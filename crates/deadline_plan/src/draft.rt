@@ -10,7 +10,7 @@ ghost use Rattle.deadline_plan.specs.declared.line.DeadlineLine.TheVariants.{Slo
 use crate::admission::has_owner;
 use crate::line::DeadlineLine;
 use crate::{DeadlineStream, DeadlineText};
-use lwb_base::{NodeId, Owner};
+use lwb_base::{DATA_SLOTS, GREATEST_ID, NodeId, Owner};
 use std::alloc::Global;
 use std::marker::Model;
 use text_readers::{Draft, FaultKind, Refusal, refuse_unless};
@@ -76,7 +76,7 @@ impl DeadlineDraft {
         ensures fault { RefusesBy result (deadline_rule_fault self.old (Slots count)) }
         ensures added { OnOk result (self.new ≡ with_deadline_line self.old (Slots count)) }
     {
-        refuse_unless(between(1, 40, count), FaultKind::Range)?;
+        refuse_unless(between(1, u64::from(DATA_SLOTS), count), FaultKind::Range)?;
         refuse_unless(self.slots.is_none(), FaultKind::Twice)?;
         self.slots = Some(count as u8);
         Ok(())
@@ -147,6 +147,6 @@ fn between(low: u64, high: u64, n: u64) -> bool
 fn are_in_range(node: u64, stream: u64, start: u64, period: u64, deadline: u64) -> bool
     ensures { result ≡ are_in_range_of node stream start period deadline }
 {
-    between(1, 200, node)
+    between(1, u64::from(GREATEST_ID), node)
         && (stream <= 3 && (start <= 1_023 && (between(1, 64, period) && between(1, 64, deadline))))
 }

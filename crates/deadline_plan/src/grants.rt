@@ -1,6 +1,7 @@
 //! Which frame grants which job its slot.
 
 ghost use Rattle.std.specs.Prelude.{◌≡◌, ◌<◌, ◌≤◌, ◌++◌, [], ◌∷◌, ◌&&◌, nat_le, nat_lt, if◌then◌else◌, length, map, IfOk, All};
+ghost use Rattle.lwb_base.specs.declared.limits.TheConstants.{DATA_SLOTS};
 ghost use Rattle.deadline_plan.specs.Grants.{comes_before, granted_jobs as granted_of, jobs_left as left_of, grants_from, owners_of_round as round_of};
 ghost use Rattle.deadline_plan.specs.Jobs.{IsDeadlineStream, job as job_of, jobs_of, jobs as all_jobs};
 ghost use Rattle.deadline_plan.specs.Sorting.{IsOrdered};
@@ -69,7 +70,7 @@ pub fn rounds(
     slots: u8,
     frames: u32,
 ) -> Result<Vec<Owners>, Memory>
-    requires { slots ≤ 40 }
+    requires { slots ≤ DATA_SLOTS }
     ensures { IfOk result (λ v. v.items ≡ map round_of (grants_from slots 0 frames waiting.items)) }
 {
     let mut rounds = Vec::new(alloc);
@@ -113,7 +114,7 @@ fn add_if(jobs: &mut Vec<Job>, job: &Job, wanted: bool) -> Result<(), Memory>
 
 // The owners of the jobs, ascending.
 fn round(alloc: Global, granted: &[Job]) -> Result<Owners, Memory>
-    requires { length granted.now ≤ 40 }
+    requires { length granted.now ≤ DATA_SLOTS }
     ensures { IfOk result (λ r. r ≡ round_of granted.now) }
 {
     let mut owners = owners_of(alloc, granted)?;
@@ -129,7 +130,7 @@ fn owners_of(alloc: Global, granted: &[Job]) -> Result<Vec<Owner>, Memory>
 }
 
 fn of_ascending(owners: &[Owner]) -> Owners
-    requires few { length owners.now ≤ 40 }
+    requires few { length owners.now ≤ DATA_SLOTS }
     requires ascending { IsOrdered nat_le owners.now }
     ensures { result ≡ owners.now }
 {

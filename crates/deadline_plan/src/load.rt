@@ -1,6 +1,7 @@
 //! Pairs of frames between which more slots are needed than there are.
 
 ghost use Rattle.std.specs.Prelude.{◌≡◌, ◌<◌, ◌≤◌, ◌+◌, ◌-◌, ◌*◌, ℕ, length, count_by, slice_index, IfOk, IfSome, IfNone, All};
+ghost use Rattle.lwb_base.specs.declared.limits.TheConstants.{DATA_SLOTS};
 ghost use Rattle.deadline_plan.specs.Jobs.{IsDeadlineStream, jobs, load, NothingOver, IsFirstOver};
 ghost use Rattle.deadline_plan.specs.Load.{has_job, is_at, sum_from, IsLatestOver};
 
@@ -25,7 +26,7 @@ pub fn first_over(
 ) -> Result<Option<Overload>, Memory>
     requires streams { All IsDeadlineStream streams.now }
     requires few { length streams.now ≤ 33 }
-    requires slots { slots ≤ 40 }
+    requires slots { slots ≤ DATA_SLOTS }
     requires frames { frames ≤ 1024 }
     ensures over { IfOk result (λ o. IfSome o (λ o. IsFirstOver slots (jobs frames streams.now) o.from o.until)) }
     ensures demand { IfOk result (λ o. IfSome o (λ o. o.demand ≡ load (jobs frames streams.now) o.from o.until)) }
@@ -80,7 +81,7 @@ fn release_of(stream: &DeadlineStream, end: u32) -> Option<u32>
 
 // The latest frame from which more is released than there are slots until `until`.
 fn latest_over(released: &[u32], slots: u8, until: u32) -> Option<Overload>
-    requires slots { slots ≤ 40 }
+    requires slots { slots ≤ DATA_SLOTS }
     requires until { until ≤ length released.now }
     requires short { until ≤ 1024 }
     requires room { (a : ℕ) → slice_index released.now a ≤ 131072 }

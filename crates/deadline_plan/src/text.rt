@@ -40,7 +40,7 @@ impl DeadlineText {
         }
     }
 
-    /// The slots of each frame, 1 to 40.
+    /// The slots of each frame, 1 to `DATA_SLOTS`.
     pub fn slots(&self) -> u8
         ensures value { result ≡ self.now.slots }
         ensures sound { IsText self.now }

@@ -1,6 +1,7 @@
 -- What is owed to the streams of a table, as a list, and codes that may be granted a slot.
 use Rattle.std.specs.Prelude.{ℕ, zero, suc, ◌+◌, ◌<◌, ◌≤◌, ◌^◌, List, [], ◌++◌, Bool, ◌&&◌, nat_lt, nat_le, map}
 use Rattle.std.specs.Prelude.{filter, flat_map, replicate, sum_by, if◌then◌else◌, IsSome, IfSome}
+use Rattle.lwb_base.specs.declared.limits.TheConstants.{DATA_SLOTS}
 use Rattle.host_scheduler.specs.declared.debts.Debt.{Debt}
 use Rattle.bus_rules.specs.Tables.{Entry, Table, entry_of}
 use Rattle.bus_rules.specs.Granting.{grant, share_in, owners_by, given, last_code}
@@ -58,10 +59,10 @@ pub record IsGrantable (es : List Entry) (c : ℕ) : Type 0 where
 
 -- the slots that are given for a round, in some order
 abbrev pub slots_given : (Entry → ℕ) → Table → List ℕ
-slots_given owes t = if nat_le (sum_by owes t.entries) 40 then owners_by owes t.entries else given owes t
+slots_given owes t = if nat_le (sum_by owes t.entries) DATA_SLOTS then owners_by owes t.entries else given owes t
 
 abbrev pub place_after : (Entry → ℕ) → Table → ℕ
-place_after owes t = if nat_le (sum_by owes t.entries) 40 then t.place else last_code (given owes t) + 1
+place_after owes t = if nat_le (sum_by owes t.entries) DATA_SLOTS then t.place else last_code (given owes t) + 1
 
 abbrev pub granted_all : List ℕ → Table → Table
 granted_all codes t = record t { entries = map (grant (share_in codes)) t.entries }

@@ -1,12 +1,13 @@
 //! The slots that are owed to each owner.
 
 ghost use Rattle.std.specs.Prelude.{◌≡◌, ◌+◌, ◌≤◌, ◌++◌, All, length, replicate, sum_by};
-ghost use Rattle.lwb_base.specs.declared.limits.TheConstants.{GREATEST_GAP, LAST_FRAME};
+ghost use Rattle.lwb_base.specs.declared.limits.TheConstants.{DATA_SLOTS, GREATEST_GAP, LAST_FRAME};
 ghost use Rattle.bus_rules.specs.Granting.{owed_to};
 ghost use Rattle.bus_rules.specs.Tables.{AreEntries};
 ghost use Rattle.host_scheduler.specs.Debts.{debts_of, all_owed, IsCode, owed_in};
 
 use arrayvec::ArrayVec;
+use lwb_base::MOST_OWNERS;
 use stream_table::Table;
 
 // What is owed to an owner.
@@ -39,9 +40,9 @@ pub(crate) fn debts(table: &Table, seconds: u8, frame: u32) -> ArrayVec<Debt, 32
     debts
 }
 
-// Each code as often as it is owed, where that is at most 40 in all.
-pub(crate) fn all(debts: &[Debt]) -> ArrayVec<u16, 40>
-    requires { sum_by owed_in debts.now ≤ 40 }
+// Each code as often as it is owed, where that is at most `DATA_SLOTS` in all.
+pub(crate) fn all(debts: &[Debt]) -> ArrayVec<u16, MOST_OWNERS>
+    requires { sum_by owed_in debts.now ≤ DATA_SLOTS }
     ensures { result.items ≡ all_owed debts.now }
 {
     let mut codes = ArrayVec::new();
@@ -51,8 +52,8 @@ pub(crate) fn all(debts: &[Debt]) -> ArrayVec<u16, 40>
     codes
 }
 
-fn push_times(codes: &mut ArrayVec<u16, 40>, code: u16, times: u32)
-    requires { length codes.old.items + times ≤ 40 }
+fn push_times(codes: &mut ArrayVec<u16, MOST_OWNERS>, code: u16, times: u32)
+    requires { length codes.old.items + times ≤ DATA_SLOTS }
     ensures { codes.new.items ≡ codes.old.items ++ replicate times code }
 {
     for slot in 0..times {

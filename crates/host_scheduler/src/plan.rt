@@ -2,7 +2,7 @@
 
 ghost use Rattle.std.specs.Prelude.{◌≡◌, ◌+◌, ◌≤◌, All, length};
 ghost use Rattle.std.specs.List.Sorted.{IsPermutation, IsNonDecreasing};
-ghost use Rattle.lwb_base.specs.declared.limits.TheConstants.{GREATEST_GAP, LAST_FRAME};
+ghost use Rattle.lwb_base.specs.declared.limits.TheConstants.{DATA_SLOTS, GREATEST_GAP, LAST_FRAME};
 ghost use Rattle.bus_rules.specs.Granting.{gap_of, last_code, owed_to, plan_round as planned};
 ghost use Rattle.bus_rules.specs.Tables.{AreEntries};
 ghost use Rattle.host_scheduler.specs.Debts.{IsGrantable, granted_all, slots_given, place_after};
@@ -10,19 +10,19 @@ ghost use Rattle.host_scheduler.specs.Debts.{IsGrantable, granted_all, slots_giv
 use crate::debts::{all, debts};
 use crate::turns::give;
 use arrayvec::ArrayVec;
-use lwb_base::{GREATEST_GAP, Owner, Profile};
+use lwb_base::{DATA_SLOTS, GREATEST_GAP, MOST_OWNERS, Owner, Profile};
 use schedule_codec::Owners;
 use stream_table::Table;
 
 // The data slots of a round.
-const SLOTS: u32 = 40;
+pub(crate) const SLOTS: u32 = DATA_SLOTS as u32;
 
 /// What a host plans: its next round is `gap` frames from now, at least 1 and at most `GREATEST_GAP`, and has these owners.
 #[derive(Drop)]
 pub struct Plan {
     /// The frames from this one to the round, 1 to `GREATEST_GAP`.
     pub gap: u8,
-    /// The owners of its data slots, at most 40.
+    /// The owners of its data slots, at most `DATA_SLOTS`.
     pub owners: Owners,
 }
 
@@ -43,14 +43,14 @@ pub fn plan_round(table: &mut Table, profile: &Profile, frame: u32) -> Plan
 }
 
 // The slots that are given for a round in this frame. The place of the turns moves on where not all that is owed fits.
-fn slots(table: &mut Table, seconds: u8, frame: u32) -> ArrayVec<u16, 40>
+fn slots(table: &mut Table, seconds: u8, frame: u32) -> ArrayVec<u16, MOST_OWNERS>
     requires seconds { seconds ≤ 5 }
     requires accepted { All (λ e. e.accepted ≤ frame) table.old.entries }
     requires frame { frame ≤ LAST_FRAME + GREATEST_GAP }
     ensures codes { result.items ≡ slots_given (owed_to seconds frame) table.old }
     ensures place { table.new ≡ record table.old { place = place_after (owed_to seconds frame) table.old } }
     ensures grantable { All (IsGrantable table.old.entries) result.items }
-    ensures few { length result.items ≤ 40 }
+    ensures few { length result.items ≤ DATA_SLOTS }
     ensures kept { AreEntries table.old.entries }
 {
     let place = table.place();
@@ -94,7 +94,7 @@ fn gap(table: &Table, seconds: u8, frame: u32) -> u8
     }
 }
 
-fn sorted(codes: ArrayVec<u16, 40>) -> ArrayVec<u16, 40>
+fn sorted(codes: ArrayVec<u16, MOST_OWNERS>) -> ArrayVec<u16, MOST_OWNERS>
     ensures same { IsPermutation codes.items result.items }
     ensures ascend { IsNonDecreasing result.items }
 {
@@ -105,7 +105,7 @@ fn sorted(codes: ArrayVec<u16, 40>) -> ArrayVec<u16, 40>
 
 // Counts a slot for each of these codes, which ascend.
 fn grant(table: &mut Table, codes: &[u16]) -> Owners
-    requires few { length codes.now ≤ 40 }
+    requires few { length codes.now ≤ DATA_SLOTS }
     requires ascend { IsNonDecreasing codes.now }
     requires grantable { All (IsGrantable table.old.entries) codes.now }
     ensures owners { result ≡ codes.now }

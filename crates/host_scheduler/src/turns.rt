@@ -1,20 +1,23 @@
 //! The slots of a round where more are owed than it has.
 
 ghost use Rattle.std.specs.Prelude.{◌≡◌, ◌+◌, ◌<◌, ◌≤◌, [], ◌∷◌, ◌++◌, true, if◌then◌else◌, length, map, take};
+ghost use Rattle.lwb_base.specs.declared.limits.TheConstants.{DATA_SLOTS};
 ghost use Rattle.host_scheduler.specs.Debts.{debts_from_place, is_owed_from, early, turns_of, beyond, code_of_debt};
 
 use crate::debts::Debt;
+use crate::plan::SLOTS;
 use arrayvec::ArrayVec;
+use lwb_base::MOST_OWNERS;
 
 // The slots of a round where more is owed, in the order in which they are given: in each turn one to each owner that is
 // still owed something, beginning at the place and wrapping round.
-pub(crate) fn give(debts: &[Debt], place: u16) -> ArrayVec<u16, 40>
+pub(crate) fn give(debts: &[Debt], place: u16) -> ArrayVec<u16, MOST_OWNERS>
     requires { length debts.now ≤ 32 }
-    ensures { result.items ≡ take 40 (turns_of (debts_from_place place debts.now) 40) }
+    ensures { result.items ≡ take DATA_SLOTS (turns_of (debts_from_place place debts.now) DATA_SLOTS) }
 {
     let mut given = ArrayVec::new();
     let mut line = line_from(debts, place);
-    for turn in 0..40_u32 {
+    for turn in 0..SLOTS {
         line = give_turn(&mut given, line.as_slice(), turn);
     }
     given
@@ -50,11 +53,11 @@ fn is_early(debt: &Debt, place: u16) -> bool
 }
 
 // One turn, as far as there are slots. The owners that are still owed something after it.
-fn give_turn(given: &mut ArrayVec<u16, 40>, line: &[Debt], turn: u32) -> ArrayVec<Debt, 32>
-    requires turn { turn < 40 }
+fn give_turn(given: &mut ArrayVec<u16, MOST_OWNERS>, line: &[Debt], turn: u32) -> ArrayVec<Debt, 32>
+    requires turn { turn < DATA_SLOTS }
     requires line { length line.now ≤ 32 }
-    requires given { length given.old.items ≤ 40 }
-    ensures given { given.new.items ≡ take 40 (given.old.items ++ map code_of_debt line.now) }
+    requires given { length given.old.items ≤ DATA_SLOTS }
+    ensures given { given.new.items ≡ take DATA_SLOTS (given.old.items ++ map code_of_debt line.now) }
     ensures rest { result.items ≡ beyond (turn + 1) line.now }
 {
     let mut rest = ArrayVec::new();
@@ -66,8 +69,8 @@ fn give_turn(given: &mut ArrayVec<u16, 40>, line: &[Debt], turn: u32) -> ArrayVe
 }
 
 // One slot more, as long as the round has one.
-fn push_slot(given: &mut ArrayVec<u16, 40>, code: u16)
-    ensures { given.new.items ≡ take 40 (given.old.items ++ code ∷ []) }
+fn push_slot(given: &mut ArrayVec<u16, MOST_OWNERS>, code: u16)
+    ensures { given.new.items ≡ take DATA_SLOTS (given.old.items ++ code ∷ []) }
 {
     if !given.is_full() {
         given.push(code);

@@ -1,6 +1,7 @@
 //! One round as a node runs it.
 
-ghost use Rattle.std.specs.Prelude.{◌≡◌, ◌≤◌};
+ghost use Rattle.std.specs.Prelude.{◌≡◌, ◌+◌, ◌≤◌};
+ghost use Rattle.lwb_base.specs.declared.limits.TheConstants.{DATA_SLOTS};
 ghost use Rattle.lwb_base.specs.Profile.{IsProfile};
 ghost use Rattle.round_runner.specs.Rounds.{round_of, window_of_slot, last_slot_of_round, kind_of_slot};
 
@@ -25,22 +26,23 @@ pub struct Round {
 
 impl Model for Round {
     ghost use Rattle.std.specs.Prelude.{◌≤◌, ◌<◌, ◌^◌};
+    ghost use Rattle.lwb_base.specs.declared.limits.TheConstants.{DATA_SLOTS};
     ghost use Rattle.round_runner.specs.Rounds.{Round as RoundOf};
 
     ghost Value = { RoundOf };
 
     ghost view = { λ r. record { times = r.reference; listen = r.listen; close = r.close; owners = r.owners; contend = r.contend } };
 
-    ghost invariant = { λ r. (r.owners ≤ 40) × (r.contend ≤ 4) × (r.listen < 2 ^ 32) × (r.close < 2 ^ 32) };
+    ghost invariant = { λ r. (r.owners ≤ DATA_SLOTS) × (r.contend ≤ 4) × (r.listen < 2 ^ 32) × (r.close < 2 ^ 32) };
 
     ghost inverse = { λ r. record { reference = r.times; listen = r.listen; close = r.close; owners = r.owners; contend = r.contend } };
 }
 
 impl Round {
-    /// The round whose slots begin by this reference, with at most 40 owners. `contend` is the number of contention slots
+    /// The round whose slots begin by this reference, with at most `DATA_SLOTS` owners. `contend` is the number of contention slots
     /// that its schedule names, 1 to 4; 0 names none, and then there is one.
     pub fn new(profile: &Profile, reference: Reference, owners: u8, contend: u8) -> Round
-        requires owners { owners ≤ 40 }
+        requires owners { owners ≤ DATA_SLOTS }
         requires contend { contend ≤ 4 }
         ensures { result ≡ round_of profile.now reference owners contend }
     {
@@ -61,10 +63,10 @@ impl Round {
         Window::of_slot(&self.reference, slot, self.listen, self.close)
     }
 
-    /// The slot that closes the round, 2 to 45.
+    /// The slot that closes the round, 2 to `DATA_SLOTS + 5`.
     pub fn last(&self) -> u8
         ensures value { result ≡ last_slot_of_round self.now }
-        ensures range { (2 ≤ result) × (result ≤ 45) }
+        ensures range { (2 ≤ result) × (result ≤ DATA_SLOTS + 5) }
     {
         last_slot(self.owners, self.contend)
     }
