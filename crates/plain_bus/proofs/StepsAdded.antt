@@ -1,5 +1,6 @@
 -- The steps in which each node sent, counted mask by mask.
-use Rattle.std.proofs.Common.{◌≡◌, ◌≢◌, ◌<◌, ◌≤◌, ◌==◌, ◌+◌, ◌∷◌, ◌++◌, [], ℕ, List, Bool, true, false, inl, inr, Option, Some, None, not, ◌&&◌, length, get_or, set, refl}
+use Rattle.std.proofs.Common.{◌≡◌, ◌≢◌, ◌<◌, ◌≤◌, ◌==◌, ◌+◌, ◌∷◌, ◌++◌, [], ℕ, List, Bool, true, false, inl, inr, Option, Some}
+use Rattle.std.proofs.Common.{None, not, ◌&&◌, length, get_or, set, refl}
 use Rattle.std.proofs.Common.{sym, ◌∙◌, ap, subst, arith, if◌then◌else◌, length-append}
 use Rattle.std.specs.Int.{bit_at}
 use Rattle.std.specs.List.{range_with_len, last_or}
@@ -49,7 +50,8 @@ module _ (k mask rest next place : ℕ) (olds now : List Steps) (old_size : leng
   one_stepped y d₀ is i d inside = elim (cases_eq i place) [
     | inl same ↦
         (let here : get_or (set now place y) place d ≡ stepped k (bit_at mask place == 1) (bit_at next place == 1) (get_or olds place d) =
-        get_or-set_same now place y d (omega (arith, size, below)) ∙ is ∙ ap (with_step k) (as_before d₀ ∙ get_or_default olds place d₀ d (omega (arith, old_size, below)))
+        get_or-set_same now place y d (omega (arith, size, below)) ∙ is
+        ∙ ap (with_step k) (as_before d₀ ∙ get_or_default olds place d₀ d (omega (arith, old_size, below)))
         ∙ ap (λ (b : Bool). stepped k true b (get_or olds place d)) (sym (ap (λ (n : ℕ). n == 1) cleared))
         ∙ ap (λ (b : Bool). stepped k b (bit_at next place == 1) (get_or olds place d)) (sym (one_is (bit_at mask place) of_mask)) in
         subst (λ (j : ℕ). get_or (set now place y) j d ≡ stepped k (bit_at mask j == 1) (bit_at next j == 1) (get_or olds j d)) (sym same) here)

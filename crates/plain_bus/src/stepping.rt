@@ -1,6 +1,6 @@
 //! A flood from step to step.
 
-ghost use Rattle.std.specs.Prelude.{◌≡◌, ◌<◌, ◌≤◌, ◌+◌, ◌++◌, ◌∷◌, [], ℕ, Option, All, length, map, take, is_some, Some};
+ghost use Rattle.std.specs.Prelude.{◌≡◌, ◌<◌, ◌≤◌, ◌+◌, ◌++◌, ◌∷◌, [], ℕ, Option, All, length, map, take, is_some, Some, None};
 ghost use Rattle.bus_terms.specs.Flooding.{Setting, Moment, moment, beginning, next as next_moment, STEPS};
 ghost use Rattle.link_trace.specs.Sealed.{Traced};
 ghost use Rattle.scenario_text.specs.FloodParts.{IsSealed};
@@ -81,6 +81,20 @@ impl Stations {
     }
 }
 
+// A node that does not send goes after a step in which it received this origin.
+fn receive(station: &mut Station, step: u8, origin: NodeId)
+    requires step { step ≤ 11 }
+    requires rests { station.old.sends ≡ None }
+    ensures { station.new ≡ station_after step station.old (Some origin) }
+{
+    if step < LAST_STEP {
+        station.sends = Some(origin);
+    }
+    if station.heard.is_none() {
+        station.heard = Some((origin, step));
+    }
+}
+
 // A node goes after a step in which this origin alone is sent, and reaches the nodes of the mask.
 fn pass(station: &mut Station, flood: &Flood, step: u8, place: u8, reached: u64, origin: NodeId)
     requires step { step ≤ 11 }
@@ -93,7 +107,7 @@ fn pass(station: &mut Station, flood: &Flood, step: u8, place: u8, reached: u64,
         return;
     }
     if let Some(origin) = hears_alone(flood, station, place, reached, origin) {
-        *station = after(station, step, Some(origin));
+        receive(station, step, origin);
     }
 }
 

@@ -39,7 +39,8 @@ returns-clause-cost c b sends behind are some =
     ap (steps_at masks place) (sym c.requires.steps) ∙ steps_told sends ids masks place are c.requires.steps c.requires.place in
     let told = c.requires.counted.each place no_steps (omega (arith, c.requires.few, c.requires.place)) in
     let with_bytes : ℕ → Cost = λ n. with_slot p limit w.is_open n (steps_in (sends v)) c.args.cost.now in
-    c.add_slot.ensures.value (steps_in (sends v)) (ap (λ (y : Steps). y.count) told ∙ ap length steps) (ap (λ (y : Steps). y.last) told ∙ ap (last_or None) steps)
+    c.add_slot.ensures.value (steps_in (sends v)) (ap (λ (y : Steps). y.count) told ∙ ap length steps)
+    (ap (λ (y : Steps). y.last) told ∙ ap (last_or None) steps)
     some
     ∙ ap with_bytes bytes
     ∙ ap (λ (y : Seen). with_slot p limit y.is_open (bytes_sent_by b v) (steps_in (sends v)) c.args.cost.now) window

@@ -25,5 +25,6 @@ returns-in-Some-Data-clause-log c =
     let slot = c.args.slot.now in
     let w = seen_window c.args.window.now in
     on_ok_weaker c.deliver.result (λ made may. made w
-    ∙ ap (λ (m : Option Message). c.args.log.now.items ++ option_to_list (node_delivers slot.rank slot.frame slot.number slot.part w m c.args.self.now)) (says c))
+    ∙ ap (λ (m : Option Message). c.args.log.now.items ++ option_to_list (node_delivers slot.rank slot.frame slot.number slot.part w m c.args.self.now))
+    (says c))
     c.deliver.ensures.log
