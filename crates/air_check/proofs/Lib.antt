@@ -21,4 +21,5 @@ mod ChainsAdded
 mod LinksFound
 mod SameStart
 mod MissingOnes
+mod ReceiverMasks
 mod Extended

@@ -6,6 +6,7 @@ pub mod NodeLogs
 pub mod NodeClocks
 pub mod WorkedVerdicts
 pub mod Tunings
+pub mod ReceiverMasks
 pub mod Indexes
 pub mod Flags
 pub mod SenderLinks

@@ -1,9 +1,9 @@
 //! The transmissions and tunings of a log, in the orders in which they are searched.
 
-ghost use Rattle.std.specs.Prelude.{◌≡◌, nat_lt, ◌↔◌, ◌<◌, ◌≤◌, ◌^◌, ◌+◌, length, slice_index_or, IfOk, OnOk, IsPermutation, All, AllPairs, Contains, ◌++◌, option_to_list, true};
+ghost use Rattle.std.specs.Prelude.{◌≡◌, nat_lt, ◌↔◌, ◌<◌, ◌≤◌, ◌^◌, ◌+◌, length, slice_index_or, IfOk, OnOk, IsPermutation, AllPairs, map, ◌++◌, option_to_list, true};
 ghost use Rattle.radio_model.specs.Hearing.{Before};
 ghost use Rattle.radio_model.specs.OnAir.{Sending};
-ghost use Rattle.radio_model.specs.Receptions.{AreNear};
+ghost use Rattle.scenario_text.specs.ScenarioGrammar.{IsScenario};
 ghost use Rattle.scenario_clocks.specs.StatedClocks.{scenario_clock};
 ghost use Rattle.std.specs.Prelude.{List};
 ghost use Rattle.air_log.specs.declared.entry.Entry.{Entry};
@@ -13,12 +13,12 @@ ghost use Rattle.air_log.specs.Lawful.{FollowsTrails};
 ghost use Rattle.air_check.specs.Indexes.{IsIndex, IsSearchable};
 ghost use Rattle.air_check.specs.Verdicts.{IsGiven};
 
+use crate::receiver_masks::receiver_masks;
 use crate::receives::receives;
 use crate::tuned_index::tuned_of;
 use crate::tunings::Tuned;
 use air_log::{Air, Entry};
 use lwb_base::{Memory, NodeId};
-use radio_model::near::{longest, near};
 use radio_model::sending::Sending;
 use scenario_text::Scenario;
 use std::alloc::Global;
@@ -26,10 +26,12 @@ use std::alloc::Global;
 /// What the receptions of a log depend on.
 #[derive(Drop)]
 pub(crate) struct Index {
+    /// The ids of the nodes, ascending.
+    pub(crate) nodes: Vec<NodeId>,
     /// The transmissions by start, then sender.
     pub(crate) sent: Vec<Sending>,
-    /// The longest time that one of them is on the air, in ticks.
-    pub(crate) longest: u64,
+    /// For each transmission the nodes that receive it if they are tuned to it, as a mask of their places.
+    pub(crate) receivers: Vec<u64>,
     /// The tunings by node, then channel, then start.
     pub(crate) tuned: Vec<Tuned>,
 }
@@ -40,53 +42,37 @@ pub(crate) fn index_of(alloc: Global, s: &Scenario, air: &Air) -> Result<Index, 
     ensures holds { IfOk result (IsIndex air.now) }
     ensures searchable { IfOk result (IsSearchable s.now) }
 {
+    let nodes = ids(alloc, s)?;
     let sent = sent_in_order(alloc, air)?;
+    let receivers = receiver_masks(alloc, s, &nodes, &sent)?;
     let tuned = tuned_of(alloc, air)?;
     Ok(Index {
-        longest: longest(&sent),
+        nodes,
         sent,
+        receivers,
         tuned,
     })
 }
 
-/// The transmissions of the log that can overlap x.
-pub(crate) fn near_to<'a>(index: &'a Index, x: &Sending) -> &'a [Sending]
-    requires in_order { AllPairs Before index.now.sent.items }
-    requires longest { All (λ y. y.end ≤ y.start + index.now.longest) index.now.sent.items }
-    ensures { AreNear index.now.sent.items x.now result.now }
+// The ids of the nodes of a scenario.
+fn ids(alloc: Global, s: &Scenario) -> Result<Vec<NodeId>, Memory>
+    ensures ids { IfOk result (λ ids. ids.items ≡ map (λ n. n.node) s.now.nodes) }
+    ensures said { IfOk result (λ ids. IsScenario s.now) }
 {
-    without_ended(near(&index.sent, index.longest, x), x)
+    Ok(s.nodes().iter().map(|n| n.node).collect(alloc)?)
 }
 
-// Without those at the front that have ended when x starts.
-fn without_ended<'a>(near: &'a [Sending], x: &Sending) -> &'a [Sending]
-    ensures { (sent : List Sending) → AreNear sent x.now near.now → AreNear sent x.now result.now }
-{
-    let mut rest = near;
-    while !rest.is_empty() && rest[0].end <= x.start {
-        rest = &rest[1..];
-    }
-    rest
-}
-
-/// Whether the rules of the medium give the node a reception of x, a transmission of the log, where all are near that
-/// overlap it.
-pub(crate) fn is_given(
-    s: &Scenario,
-    index: &Index,
-    near: &[Sending],
-    node: NodeId,
-    x: &Sending,
-) -> bool
+/// Whether the rules of the medium give the node a reception of the transmission at that place.
+pub(crate) fn is_given(s: &Scenario, index: &Index, node: NodeId, place: usize) -> bool
     requires searchable { IsSearchable s.now index.now }
-    requires there { Contains index.now.sent.items x.now }
-    requires near { AreNear index.now.sent.items x.now near.now }
-    ensures { (air : List Entry) → IsIndex air index.now → (result ≡ true ↔ IsGiven s.now air node x.now) }
+    requires place { place < length index.now.sent.items }
+    ensures { (air : List Entry) (d : Sending) → IsIndex air index.now
+        → (result ≡ true ↔ IsGiven s.now air node (slice_index_or index.now.sent.items place d)) }
 {
-    if !ends_in_run(s, x) {
+    if !ends_in_run(s, &index.sent[place]) {
         return false;
     }
-    receives(&s.profile(), s.trace(), near, &index.tuned, node, x)
+    receives(s, index, node, place)
 }
 
 /// The entry at that place.

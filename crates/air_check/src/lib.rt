@@ -19,6 +19,7 @@ mod node_logs;
 mod own_trail;
 mod packet_words;
 mod reach;
+mod receiver_masks;
 mod receives;
 mod same_entries;
 mod tuned_index;

@@ -11,7 +11,7 @@ ghost use Rattle.air_check.specs.Indexes.{IsIndex, IsSearchable};
 ghost use Rattle.air_check.specs.Verdicts.{IsGiven, IsFirstMissing};
 
 use crate::due::is_due;
-use crate::index::{Index, near_to};
+use crate::index::Index;
 use crate::reach::links_from;
 use lwb_base::NodeId;
 use scenario_text::Scenario;
@@ -55,10 +55,9 @@ fn first_of(s: &Scenario, index: &Index, flags: &[bool], k: usize) -> Option<Nod
         → IsFirstOf s.now air (slice_index_or index.now.sent.items k d) result }
 {
     let x = &index.sent[k];
-    let near = near_to(index, x);
     let links = links_from(s.trace().links(), x.node);
     for link in links {
-        if is_due(s, index, near, flags, link.to, k) {
+        if is_due(s, index, flags, link.to, k) {
             return Some(link.to);
         }
     }

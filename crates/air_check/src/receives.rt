@@ -1,29 +1,26 @@
 //! Whether the rules of the medium give a reception.
 
-ghost use Rattle.std.specs.Prelude.{◌≡◌, ◌↔◌, ◌≤◌, ◌^◌, All, Contains, true};
+ghost use Rattle.std.specs.Prelude.{◌≡◌, ◌↔◌, ◌<◌, true, length, slice_index_or};
 ghost use Rattle.radio_model.specs.Hearing.{Scene, HearsInScene};
-ghost use Rattle.radio_model.specs.Receptions.{AreNear};
+ghost use Rattle.radio_model.specs.OnAir.{Sending};
+ghost use Rattle.air_check.specs.Indexes.{IsSearchable};
+ghost use Rattle.air_check.specs.ReceiverMasks.{HoldSame};
 ghost use Rattle.air_check.specs.Tunings.{AreTuned};
 
-use crate::tunings::{Tuned, is_tuned_through};
-use link_trace::Trace;
-use lwb_base::{NodeId, Profile};
-use radio_model::reception::comes_through;
-use radio_model::sending::Sending;
+use crate::index::Index;
+use crate::tunings::is_tuned_through;
+use lwb_base::NodeId;
+use radio_model::receivers::is_among;
+use scenario_text::Scenario;
 
-/// Whether the node receives x, where all transmissions are near that overlap it.
-pub(crate) fn receives(
-    profile: &Profile,
-    trace: &Trace,
-    near: &[Sending],
-    tuned: &[Tuned],
-    node: NodeId,
-    x: &Sending,
-) -> bool
-    requires start { x.now.start ≤ 2 ^ 46 }
-    requires starts { All (λ y. y.start ≤ 2 ^ 46) near.now }
-    ensures { (a : Scene) → a.numbers ≡ profile.now → a.lines ≡ trace.now.lines → AreNear a.sendings x.now near.now → AreTuned a.tunings tuned.now
-        → Contains a.sendings x.now → (result ≡ true ↔ HearsInScene a node x.now) }
+/// Whether the node receives the transmission at that place.
+pub(crate) fn receives(s: &Scenario, index: &Index, node: NodeId, place: usize) -> bool
+    requires searchable { IsSearchable s.now index.now }
+    requires place { place < length index.now.sent.items }
+    ensures { (a : Scene) (d : Sending) → a.numbers ≡ s.now.profile → a.lines ≡ s.now.trace → HoldSame a.sendings index.now.sent.items
+        → AreTuned a.tunings index.now.tuned.items → (result ≡ true ↔ HearsInScene a node (slice_index_or index.now.sent.items place d)) }
 {
-    is_tuned_through(tuned, node, x) && comes_through(profile, trace, near, node, x)
+    let mask = index.receivers[place];
+    let x = &index.sent[place];
+    is_among(&index.nodes, mask, node) && is_tuned_through(&index.tuned, node, x)
 }

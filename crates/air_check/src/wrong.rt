@@ -11,7 +11,7 @@ ghost use Rattle.air_check.specs.Verdicts.{IsFirstWrong, AreGiven};
 
 use crate::due::is_due;
 use crate::flags::{heard_in, place_of, receive};
-use crate::index::{Index, entry_at, near_to};
+use crate::index::{Index, entry_at};
 use air_log::{Air, Entry, HeardEntry};
 use scenario_text::Scenario;
 
@@ -62,8 +62,7 @@ fn take_in(s: &Scenario, index: &Index, flags: &mut Vec<bool>, h: &HeardEntry) -
     let Some(k) = place_of(&index.sent, h) else {
         return false;
     };
-    let near = near_to(index, &index.sent[k]);
-    if !is_due(s, index, near, flags, h.node, k) {
+    if !is_due(s, index, flags, h.node, k) {
         return false;
     }
     receive(&index.sent, flags, h);

@@ -7,10 +7,6 @@ use Rattle.air_check.specs.Verdicts.{IsGiven}
 use Rattle.air_check.proofs.DueOnes.{where_not, where_there}
 use Rattle.air_check.proofs.due.is_due.Goals as goal
 
-pub is_given-requires-clause-near : goal.is_given-requires-clause-near
-is_given-requires-clause-near c =
-    subst (λ (y : Sending). AreNear c.args.index.now.sent.items y c.args.near.now) (sym c.index.ensures) (c.requires.near c.index.result.now)
-
 pub returns-then-not-is_received : goal.returns-then-not-is_received
 returns-then-not-is_received c =
     λ air hs d is are.
@@ -23,8 +19,7 @@ returns-then-not-is_received c =
     (subst (λ (b : Bool). (b ≡ true) ↔ Contains hs (record { node = v; sending = x })) (sym c.is_received.ensures.value)
     (are.each k v d c.requires.place c.is_received.ensures.range))
     c.if-not-is_received.true c.is_given.result
-    (subst (λ (y : Sending). (c.is_given.result ≡ true) ↔ IsGiven s air v y) (c.index.ensures ∙ get_or_default sent k c.index.result.now d c.requires.place)
-    (c.is_given.ensures air is))
+    (c.is_given.ensures air d is)
 
 pub returns-else-not-is_received : goal.returns-else-not-is_received
 returns-else-not-is_received c =

@@ -13,14 +13,6 @@ use Rattle.air_check.proofs.DueOnes.{missing_so, heard_so}
 use Rattle.air_check.proofs.MissingOnes.{least, link_to}
 use Rattle.air_check.proofs.missing.first_of.Goals as goal
 
-pub is_due-requires-clause-near : goal.is_due-requires-clause-near
-is_due-requires-clause-near c =
-    λ d.
-    let sent = c.args.index.now.sent.items in
-    let k = c.args.k in
-    let x = c.index-x.result.now in
-    subst (λ (y : Sending). AreNear sent y c.near_to-near.result.now) (c.index-x.ensures ∙ same_default sent k x d c.requires.place) c.near_to-near.ensures
-
 pub returns-then-is_due : goal.returns-then-is_due
 returns-then-is_due c =
     λ air d is are.
