@@ -1,5 +1,6 @@
 -- Masks of the nodes that receive a transmission.
-use Rattle.std.proofs.Common.{◌≡◌, ℕ, ◌<◌, ◌↔◌, List, Bool, take, bit_or, ◌+◌, subst, Contains, AllPairs, Ok, Err, inl, inr, true, false, not, ◌&&◌, ◌||◌, ◌==◌, ap, length, get_or, nat_lt, refl, sym, ◌∙◌, arith}
+use Rattle.std.proofs.Common.{◌≡◌, ℕ, ◌<◌, ◌↔◌, List, Bool, take, bit_or, ◌+◌, subst, Contains, AllPairs, Ok, Err}
+use Rattle.std.proofs.Common.{inl, inr, true, false, not, ◌&&◌, ◌||◌, ◌==◌, ap, length, get_or, nat_lt, refl, sym, ◌∙◌, arith}
 use Rattle.std.proofs.lemmas.Bool.{lt-ltb, false≢true, eqb-true, eq-eqb, cases_order, cases_lt}
 use Rattle.std.proofs.lemmas.List.Sorted.{searched}
 use Rattle.std.specs.List.Sorted.{IsBinarySearchResult}

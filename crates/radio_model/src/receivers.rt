@@ -11,7 +11,7 @@ ghost use Rattle.radio_model.specs.Hearing.{Scene, HearsInScene, TunedThrough, f
 ghost use Rattle.radio_model.specs.Meetings.{comes_in_time as in_time};
 ghost use Rattle.radio_model.specs.Reaches.{IsReach, AreReaches, AreDisturbed, IsAmong};
 ghost use Rattle.radio_model.specs.Receptions.{AreNear, arrives as arrival, transmits, spoils, differs, is_captured as captured_by};
-ghost use Rattle.radio_model.specs.Receptions.{comes_through as passes_through, repeats as repetition, meets_on as meets_on_channel};
+ghost use Rattle.radio_model.specs.Receptions.{repeats as repetition, meets_on as meets_on_channel};
 
 use crate::overlapping::{arrives, comes_in_time, is_captured, meets_on, overlap, repeats};
 use crate::sending::Sending;

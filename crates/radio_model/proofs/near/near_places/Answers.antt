@@ -14,7 +14,8 @@ returns-clause-near c =
     let earliest = c.saturating_sub-earliest.result in
     let begin = IsPartitionPoint-from_clause (λ (y : Sending). nat_lt y.start earliest) sent first c.partition_point-first.ensures.partitioned
     (starts_before sent earliest c.requires.in_order) (λ a r g called. search rules) in
-    let rest : take (length sent - first) (drop first sent) ≡ drop first sent = take_all (length sent - first) (drop first sent) (omega (arith, length-drop first sent)) in
+    let rest : take (length sent - first) (drop first sent) ≡ drop first sent =
+    take_all (length sent - first) (drop first sent) (omega (arith, length-drop first sent)) in
     let end = IsPartitionPoint-from_clause (λ (y : Sending). nat_lt y.start x.end) (take (length sent - first) (drop first sent)) count
     c.partition_point-count.ensures.partitioned (rw rest (rest_starts_before sent x.end first c.requires.in_order)) (λ a r g called. search rules) in
     are_near sent c.args.longest x c.requires.in_order c.requires.longest earliest first count c.partition_point-first.ensures.bound

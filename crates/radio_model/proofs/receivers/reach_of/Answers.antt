@@ -10,7 +10,8 @@ returns-in-Ok c =
     let y = c.args.y.now in
     record {
       from = found_alone nodes c.requires.nodes.few c.requires.nodes.ascending y.node c.in-Ok.place c.in-Ok.ensures.bound c.in-Ok.ensures.position;
-      to = subst (λ (ns : List ℕ). IsMask (λ v. arrives c.args.profile.now c.args.trace.now.lines v y) ns c.reached_from.result) (sym c.requires.sealed) c.reached_from.ensures;
+      to = subst (λ (ns : List ℕ). IsMask (λ v. arrives c.args.profile.now c.args.trace.now.lines v y) ns c.reached_from.result)
+          (sym c.requires.sealed) c.reached_from.ensures;
     }
 
 pub returns-in-Err : goal.returns-in-Err
