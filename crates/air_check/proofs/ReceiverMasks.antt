@@ -1,6 +1,6 @@
 -- The masks of the nodes to which transmissions come.
-use Rattle.std.proofs.Common.{◌≡◌, ℕ, ◌+◌, ◌<◌, ◌≤◌, ◌↔◌, List, [], ◌∷◌, ◌++◌, ◌-◌, take, drop, Bool, true, ◌==◌, length, get_or, map, sym, ◌∙◌, ap, subst, arith, inl, inr}
-use Rattle.std.proofs.Common.{Contains, AllPairs, length-drop, length-take-le}
+use Rattle.std.proofs.Common.{◌≡◌, ℕ, ◌+◌, ◌<◌, ◌≤◌, ◌↔◌, List, [], ◌∷◌, ◌++◌, ◌-◌, take, drop, Bool, true}
+use Rattle.std.proofs.Common.{◌==◌, length, get_or, map, sym, ◌∙◌, ap, subst, arith, inl, inr, Contains, AllPairs, length-drop, length-take-le}
 use Rattle.std.proofs.lemmas.Bool.{cases_lt, eqb-true}
 use Rattle.std.proofs.lemmas.List.{length-map, get_or-map, get_or_default, get_or_append_left, get_or_push, get_or-take, get_or-drop}
 use Rattle.std.proofs.lemmas.List.Elements.{All-contains}
@@ -9,7 +9,6 @@ use Rattle.lwb_base.specs.Profile.{Numbers}
 use Rattle.link_trace.specs.Masks.{AreNodes}
 use Rattle.link_trace.specs.Passes.{Lines}
 use Rattle.link_trace.specs.declared.lines.LinkLine.{LinkLine}
-use Rattle.scenario_text.specs.FloodParts.{knows}
 use Rattle.scenario_text.specs.ScenarioFacts.{AreEnds}
 use Rattle.scenario_text.specs.ScenarioGrammar.{IsScenario}
 use Rattle.scenario_text.specs.ScenarioParts.{ScenarioParts}
@@ -96,7 +95,8 @@ reaches_of_some p lines nodes sent reaches first count within few are =
       one_each = omega (arith, size, also_size);
       each = λ k d e below. (
           let inside : k < count = omega (arith, below, size) in
-          let at : get_or (take count (drop first sent)) k d ≡ get_or sent (first + k) d = get_or-take count (drop first sent) k d inside ∙ get_or-drop first sent k d in
+          let at : get_or (take count (drop first sent)) k d ≡ get_or sent (first + k) d =
+          get_or-take count (drop first sent) k d inside ∙ get_or-drop first sent k d in
           let reach : get_or (take count (drop first reaches)) k e ≡ get_or reaches (first + k) e =
           get_or-take count (drop first reaches) k e inside ∙ get_or-drop first reaches k e in
           subst (λ (y : Sending). IsReach p lines nodes y (get_or (take count (drop first reaches)) k e)) (sym at)

@@ -1,6 +1,7 @@
 //! The transmissions and tunings of a log, in the orders in which they are searched.
 
-ghost use Rattle.std.specs.Prelude.{◌≡◌, nat_lt, ◌↔◌, ◌<◌, ◌≤◌, ◌^◌, ◌+◌, length, slice_index_or, IfOk, OnOk, IsPermutation, AllPairs, map, ◌++◌, option_to_list, true};
+ghost use Rattle.std.specs.Prelude.{◌≡◌, nat_lt, ◌↔◌, ◌<◌, ◌≤◌, ◌^◌, ◌+◌, length, slice_index_or, IfOk, OnOk, IsPermutation};
+ghost use Rattle.std.specs.Prelude.{AllPairs, map, ◌++◌, option_to_list, true};
 ghost use Rattle.radio_model.specs.Hearing.{Before};
 ghost use Rattle.radio_model.specs.OnAir.{Sending};
 ghost use Rattle.scenario_text.specs.ScenarioGrammar.{IsScenario};

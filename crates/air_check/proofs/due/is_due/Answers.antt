@@ -1,9 +1,5 @@
-use Rattle.std.proofs.Common.{◌≡◌, ◌∙◌, sym, subst, not, Bool, ◌↔◌, true, Contains, get_or}
-use Rattle.std.proofs.lemmas.List.{get_or_default}
-use Rattle.radio_model.specs.OnAir.{Sending}
-use Rattle.radio_model.specs.Receptions.{AreNear}
+use Rattle.std.proofs.Common.{◌≡◌, sym, subst, not, Bool, ◌↔◌, true, Contains, get_or}
 use Rattle.air_check.specs.Flags.{IsGivenAndMissing}
-use Rattle.air_check.specs.Verdicts.{IsGiven}
 use Rattle.air_check.proofs.DueOnes.{where_not, where_there}
 use Rattle.air_check.proofs.due.is_due.Goals as goal
 

@@ -4,8 +4,6 @@ use Rattle.std.proofs.lemmas.List.Elements.{Contains-push_cases}
 use Rattle.link_trace.specs.Passes.{Lines}
 use Rattle.link_trace.specs.declared.lines.LinkLine.{LinkLine}
 use Rattle.radio_model.proofs.Members.{same_default}
-use Rattle.radio_model.specs.OnAir.{Sending}
-use Rattle.radio_model.specs.Receptions.{AreNear}
 use Rattle.air_log.specs.Entries.{hearings_of, HasHeardEntry}
 use Rattle.air_check.specs.Flags.{IsGivenAndMissing}
 use Rattle.air_check.specs.Verdicts.{IsGiven}

@@ -1,4 +1,4 @@
-use Rattle.std.proofs.Common.{◌≡◌, ◌++◌, ◌∷◌, [], List, length, get_or, sym, ap, subst, arith, rules}
+use Rattle.std.proofs.Common.{◌≡◌, ◌++◌, ◌∷◌, [], length, get_or, sym, ap, subst, arith, rules}
 use Rattle.std.proofs.lemmas.List.{length_push}
 use Rattle.radio_model.specs.OnAir.{Sending}
 use Rattle.radio_model.specs.Reaches.{IsReach}

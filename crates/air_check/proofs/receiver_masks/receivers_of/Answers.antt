@@ -1,10 +1,10 @@
-use Rattle.std.proofs.Common.{◌≡◌, ◌≤◌, ◌^◌, List, take, drop, sym, ◌∙◌, subst}
+use Rattle.std.proofs.Common.{◌≤◌, ◌^◌, take, drop, sym, ◌∙◌, subst}
 use Rattle.std.proofs.lemmas.List.{take_rest}
 use Rattle.std.proofs.lemmas.List.Elements.{All-contains}
 use Rattle.lwb_base.specs.Profile.{Numbers}
 use Rattle.link_trace.specs.Passes.{Lines}
 use Rattle.radio_model.specs.OnAir.{Sending}
-use Rattle.radio_model.specs.Reaches.{AreReaches, IsReach}
+use Rattle.radio_model.specs.Reaches.{IsReach}
 use Rattle.air_check.proofs.Given.{near_early, near_in_same}
 use Rattle.air_check.proofs.ReceiverMasks.{reaches_of_some}
 use Rattle.air_check.proofs.receiver_masks.receivers_of.Goals as goal
@@ -40,4 +40,5 @@ returns c =
     let x = c.args.x.now in
     let at = c.near_places-first.result in
     c.receivers.ensures a v (numbers ∙ sym c.profile-profile.ensures.value) (lines ∙ sym c.trace.ensures.value)
-    (rw take_rest (near_in_same a.sendings sent (take at.1 (drop at.0 sent)) x same c.near_places-first.ensures.near)) (same.back x c.requires.there) known tuned
+    (rw take_rest (near_in_same a.sendings sent (take at.1 (drop at.0 sent)) x same c.near_places-first.ensures.near))
+    (same.back x c.requires.there) known tuned
