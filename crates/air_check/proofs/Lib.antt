@@ -17,7 +17,6 @@ mod Gathered
 mod Marked
 mod DueOnes
 mod RightEntries
-mod ChainsAdded
 mod LinksFound
 mod SameStart
 mod MissingOnes

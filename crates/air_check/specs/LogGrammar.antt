@@ -21,8 +21,15 @@ use Rattle.radio_model.specs.declared.sending.Sending.{Sending}
 use Rattle.air_log.specs.declared.entry.HeardEntry.{HeardEntry}
 use Rattle.air_log.specs.declared.entry.TunedEntry.{TunedEntry}
 use Rattle.air_log.specs.declared.entry.Entry.TheVariants as entry
-use Rattle.air_check.specs.declared.line.LogLine.{LogLine}
-use Rattle.air_check.specs.declared.line.LogLine.TheVariants.{Sent, Heard, Tuned}
+
+-- a line of a log, with its numbers as they are written. A packet is None where it has fewer than 3 or more than 125 bytes
+pub data LogLine : Type 0 where
+  -- a node transmits
+  Sent : (rank node start end : ℕ) → Option (List ℕ) → LogLine
+  -- a node receives what another one transmits
+  Heard : (rank node from start end : ℕ) → Option (List ℕ) → LogLine
+  -- the radio of a node is on
+  Tuned : (rank node start end : ℕ) → LogLine
 
 -- the words begin a line of a report, which is skipped whatever it holds
 abbrev pub is_report : List (List ℕ) → Bool
@@ -59,12 +66,16 @@ heard_log_line ws =
     (Heard (number_at ns 1) (number_at ns 2) (number_at ns 3) (number_at ns 4) (number_at ns 5) (packet_of_bytes (hex_bytes (last_word ws))))
     else None
 
+-- what the words of a line say that has no packet
+abbrev pub tuned_log_line : List (List ℕ) → Option LogLine
+tuned_log_line ws = line_of_words 5 ws (Tuned (number_at ws 1) (number_at ws 2) (number_at ws 3) (number_at ws 4))
+
 -- what the words say, if they are those of a line
 unfoldable pub log_line : List (List ℕ) → Option LogLine
 log_line ws =
     if first_word_is ws (codes "sent") then sent_log_line ws
     else if first_word_is ws (codes "heard") then heard_log_line ws
-    else if first_word_is ws (codes "tuned") then line_of_words 5 ws (Tuned (number_at ws 1) (number_at ws 2) (number_at ws 3) (number_at ws 4))
+    else if first_word_is ws (codes "tuned") then tuned_log_line ws
     else None
 
 -- the numbers of the line are spelled right
@@ -97,12 +108,16 @@ ids_are_known ns (entry.Sent x) = knows ns x.node
 ids_are_known ns (entry.Heard h) = knows ns h.node && knows ns h.from
 ids_are_known ns (entry.Tuned t) = knows ns t.node
 
--- after a line of these words, or its fault
-unfoldable pub entries_after_words : List NodeLine → List Entry → List (List ℕ) → Result (List Entry) FaultKind
-entries_after_words ns air ws = do
-  l ← spelled (log_line ws) (λ l. log_numbers l ws)
+-- after a line that the words say, if they are those of one, or its fault
+abbrev pub entries_after_line : List NodeLine → List Entry → List (List ℕ) → Option LogLine → Result (List Entry) FaultKind
+entries_after_line ns air ws line = do
+  l ← spelled line (λ l. log_numbers l ws)
   e ← ok_or (entry_of_line l) Range
   if ids_are_known ns e then Ok (air ++ e ∷ []) else Err UnknownNode
+
+-- after a line of these words, or its fault
+unfoldable pub entries_after_words : List NodeLine → List Entry → List (List ℕ) → Result (List Entry) FaultKind
+entries_after_words ns air ws = entries_after_line ns air ws (log_line ws)
 
 -- after a line, or its fault. A line that is skipped may hold any bytes
 unfoldable pub after_log_line : List NodeLine → List Entry → List ℕ → Result (List Entry) FaultKind

@@ -11,7 +11,7 @@ use air_log::Air;
 use lwb_base::Memory;
 use scenario_text::{Scenario, parse};
 use std::alloc::Global;
-use text_readers::{FaultKind, first_line, is, split_words, word};
+use text_readers::{FaultKind, first_line, is, split_into, word};
 
 /// Reads a text of fewer than 2^31 bytes: the lines of a scenario, a line whose only word is `log`, and the lines of a log.
 /// The first such line divides them.
@@ -52,11 +52,12 @@ fn divided(alloc: Global, bytes: &[u8]) -> Result<Division<'_>, Memory>
     ensures fewer { IfOk result (λ d. IfSome d.below (λ b. d.count + length b.now < length bytes.now)) }
     ensures short { IfOk result (λ d. length d.above.now ≤ length bytes.now) }
 {
+    let mut words = Vec::new(alloc);
     let mut rest = bytes;
     let mut count = 0;
     while !rest.is_empty() {
         let (line, others) = first_line(rest);
-        if is_log(alloc, line)? {
+        if is_log(&mut words, line)? {
             return Ok(Division {
                 above: &bytes[..bytes.len() - rest.len()],
                 count,
@@ -73,10 +74,10 @@ fn divided(alloc: Global, bytes: &[u8]) -> Result<Division<'_>, Memory>
     })
 }
 
-// Whether the only word of the line is `log`.
-fn is_log(alloc: Global, line: &[u8]) -> Result<bool, Memory>
+// Whether the only word of the line is `log`. Its words take the place of those of the line before.
+fn is_log<'a>(words: &mut Vec<&'a [u8]>, line: &'a [u8]) -> Result<bool, Memory>
     ensures { IfOk result (λ b. b ≡ is_log_of line.now) }
 {
-    let words = split_words(alloc, line)?;
-    Ok(words.len() == 1 && is(word(&words, 0), b"log"))
+    split_into(words, line)?;
+    Ok(words.len() == 1 && is(word(words.as_slice(), 0), b"log"))
 }

@@ -9,7 +9,6 @@ mod flags;
 mod index;
 pub mod laws;
 mod line;
-mod line_words;
 mod log_check;
 mod log_lines;
 mod missing;

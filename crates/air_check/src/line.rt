@@ -1,100 +1,88 @@
+//! A line of a log: its entry is added to those above.
+
 ghost use Rattle.std.specs.Prelude.{◌≡◌, map};
-ghost use Rattle.text_readers.specs.Faults.{spelled};
-ghost use Rattle.air_check.specs.LogGrammar.{log_line, log_numbers, sent_log_line as sent_line_of, heard_log_line as heard_line_of, front, last_word};
+ghost use Rattle.text_readers.specs.Reading.{Reads};
+ghost use Rattle.air_check.specs.LogGrammar.{sent_log_line, heard_log_line, tuned_log_line, entries_after_words, entries_after_line};
+ghost use Rattle.air_check.specs.LogGrammar.{front, last_word};
 
+use crate::entries::{heard_entry, knows, placed};
 use crate::packet_words::{is_hex, packet};
-use lwb_base::Packet;
-use text_readers::{FaultKind, five_numbers, four_numbers, is, refuse_unless, word};
+use air_log::{Air, Entry, SentEntry, TunedEntry};
+use scenario_text::NodeLine;
+use text_readers::{FaultKind, Refusal, five_numbers, four_numbers, is, refuse_unless, word};
 
-/// A line of a log, with its numbers as they are written. A packet is None where it has fewer than 3 or more than 125
-/// bytes.
-#[derive(Drop)]
-pub enum LogLine {
-    /// A node transmits.
-    Sent {
-        rank: u64,
-        node: u64,
-        start: u64,
-        end: u64,
-        packet: Option<Packet>,
-    },
-    /// A node receives what another one transmits.
-    Heard {
-        rank: u64,
-        node: u64,
-        from: u64,
-        start: u64,
-        end: u64,
-        packet: Option<Packet>,
-    },
-    /// The radio of a node is on.
-    Tuned {
-        rank: u64,
-        node: u64,
-        start: u64,
-        end: u64,
-    },
-}
-
-impl LogLine {
-    /// What the words say. `BadWord` comes where they are not those of a line, and else `BadNumber` where a number is
-    /// misspelled.
-    #[tactic(auto, unfolding(crate::specs::LogGrammar::log_line))]
-    pub fn new(words: &[&[u8]]) -> Result<LogLine, FaultKind>
-        ensures { let ws = map (λ w. w.now) words.now in result ≡ spelled (log_line ws) (λ l. log_numbers l ws) }
-    {
-        let first = word(words, 0);
-        if is(first, b"sent") {
-            sent_line(words)
-        } else if is(first, b"heard") {
-            heard_line(words)
-        } else if is(first, b"tuned") {
-            let (rank, node, start, end) = four_numbers(words)?;
-            Ok(LogLine::Tuned {
-                rank,
-                node,
-                start,
-                end,
-            })
-        } else {
-            Err(FaultKind::BadWord)
-        }
+/// Adds the entry that the words of a line say. The fault of the line is the first of these: `BadWord`, where they are
+/// not those of a line; `BadNumber`, where a number is misspelled; `Range`; `UnknownNode`.
+#[tactic(auto, unfolding(crate::specs::LogGrammar::entries_after_words, crate::specs::LogGrammar::log_line))]
+pub(crate) fn add_entry(nodes: &[NodeLine], air: &mut Air, words: &[&[u8]]) -> Result<(), Refusal>
+    ensures { Reads result air.new (entries_after_words nodes.now air.old (map (λ w. w.now) words.now)) }
+{
+    let first = word(words, 0);
+    if is(first, b"sent") {
+        add_sent(nodes, air, words)
+    } else if is(first, b"heard") {
+        add_heard(nodes, air, words)
+    } else if is(first, b"tuned") {
+        add_tuned(nodes, air, words)
+    } else {
+        Err(Refusal::Fault(FaultKind::BadWord))
     }
 }
 
-// What the words of a transmission say. A packet that is misspelled comes before a number that is.
+// A node transmits. A packet that is misspelled comes before a number that is.
 #[tactic(auto, unfolding(crate::specs::LogGrammar::sent_log_line))]
-fn sent_line(words: &[&[u8]]) -> Result<LogLine, FaultKind>
-    ensures { let ws = map (λ w. w.now) words.now in result ≡ spelled (sent_line_of ws) (λ l. log_numbers l ws) }
+fn add_sent(nodes: &[NodeLine], air: &mut Air, words: &[&[u8]]) -> Result<(), Refusal>
+    ensures { let ws = map (λ w. w.now) words.now in Reads result air.new (entries_after_line nodes.now air.old ws (sent_log_line ws)) }
 {
     let (front, hex) = packet_last(words);
     refuse_unless(is_hex(hex), FaultKind::BadWord)?;
     let (rank, node, start, end) = four_numbers(front)?;
-    Ok(LogLine::Sent {
+    let Some(packet) = packet(hex) else {
+        return Err(Refusal::Fault(FaultKind::Range));
+    };
+    let (rank, node) = placed(rank, node, start, end).ok_or(FaultKind::Range)?;
+    refuse_unless(knows(nodes, node), FaultKind::UnknownNode)?;
+    air.push(Entry::Sent(SentEntry {
         rank,
         node,
         start,
         end,
-        packet: packet(hex),
-    })
+        packet,
+    }))?;
+    Ok(())
 }
 
-// What the words of a reception say.
+// A node receives what another one transmits.
 #[tactic(auto, unfolding(crate::specs::LogGrammar::heard_log_line))]
-fn heard_line(words: &[&[u8]]) -> Result<LogLine, FaultKind>
-    ensures { let ws = map (λ w. w.now) words.now in result ≡ spelled (heard_line_of ws) (λ l. log_numbers l ws) }
+fn add_heard(nodes: &[NodeLine], air: &mut Air, words: &[&[u8]]) -> Result<(), Refusal>
+    ensures { let ws = map (λ w. w.now) words.now in Reads result air.new (entries_after_line nodes.now air.old ws (heard_log_line ws)) }
 {
     let (front, hex) = packet_last(words);
     refuse_unless(is_hex(hex), FaultKind::BadWord)?;
     let (rank, node, from, start, end) = five_numbers(front)?;
-    Ok(LogLine::Heard {
+    let Some(heard) = heard_entry(rank, node, from, start, end, packet(hex)) else {
+        return Err(Refusal::Fault(FaultKind::Range));
+    };
+    let known = knows(nodes, heard.node) && knows(nodes, heard.from);
+    refuse_unless(known, FaultKind::UnknownNode)?;
+    air.push(Entry::Heard(heard))?;
+    Ok(())
+}
+
+// The radio of a node is on.
+fn add_tuned(nodes: &[NodeLine], air: &mut Air, words: &[&[u8]]) -> Result<(), Refusal>
+    ensures { let ws = map (λ w. w.now) words.now in Reads result air.new (entries_after_line nodes.now air.old ws (tuned_log_line ws)) }
+{
+    let (rank, node, start, end) = four_numbers(words)?;
+    let (rank, node) = placed(rank, node, start, end).ok_or(FaultKind::Range)?;
+    refuse_unless(knows(nodes, node), FaultKind::UnknownNode)?;
+    air.push(Entry::Tuned(TunedEntry {
         rank,
         node,
-        from,
         start,
         end,
-        packet: packet(hex),
-    })
+    }))?;
+    Ok(())
 }
 
 // The words before the last, and the last. No words have none before an empty one.

@@ -3,16 +3,15 @@
 ghost use Rattle.std.specs.Prelude.{◌≡◌, ◌<◌, ◌^◌, length, map};
 ghost use Rattle.text_readers.specs.Faults.{IsAsDefined};
 ghost use Rattle.text_readers.specs.Reading.{Reads};
-ghost use Rattle.air_check.specs.LogGrammar.{entries_after_words, after_log_line, is_report as is_report_of, log_of};
+ghost use Rattle.air_check.specs.LogGrammar.{after_log_line, is_report as is_report_of, log_of};
 
-use crate::entries::knows_ids;
-use crate::line::LogLine;
-use crate::line_words::split_into;
+use crate::line::add_entry;
 use air_log::Air;
 use scenario_text::{NodeLine, Scenario};
 use std::alloc::Global;
 use text_readers::{
-    FaultKind, ParseFault, Refusal, first_line, is, is_skipped, is_text, refuse_unless, word,
+    FaultKind, ParseFault, Refusal, first_line, is, is_skipped, is_text, refuse_unless, split_into,
+    word,
 };
 
 /// Why a log is not read: the line, counted over the whole input, and the kind, or too little memory.
@@ -71,16 +70,4 @@ fn is_report(words: &[&[u8]]) -> bool
 {
     let first = word(words, 0);
     is(first, b"deliver") || is(first, b"drop") || is(first, b"energy")
-}
-
-// Adds the entry that the words say.
-#[tactic(auto, unfolding(crate::specs::LogGrammar::entries_after_words))]
-fn add_entry(nodes: &[NodeLine], air: &mut Air, words: &[&[u8]]) -> Result<(), Refusal>
-    ensures { Reads result air.new (entries_after_words nodes.now air.old (map (λ w. w.now) words.now)) }
-{
-    let line = LogLine::new(words)?;
-    let entry = line.entry().ok_or(FaultKind::Range)?;
-    refuse_unless(knows_ids(nodes, &entry), FaultKind::UnknownNode)?;
-    air.push(entry)?;
-    Ok(())
 }
