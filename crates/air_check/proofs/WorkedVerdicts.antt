@@ -8,12 +8,12 @@ use Rattle.schedule_codec.specs.Reading.{schedule_of, asks_in}
 use Rattle.bus_rules.specs.Streams.{schedule_heard}
 use Rattle.bus_rules.specs.Granting.{plan_round, turns}
 use Rattle.bus_rules.specs.HostPlans.{host_plan}
-use Rattle.air_log.specs.Devices.{Device, at_rest}
+use Rattle.air_log.specs.Devices.{Device, at_rest, silenced}
 use Rattle.air_log.specs.Lawful.{trail_sent, sent_by}
-use Rattle.air_log.specs.Trails.{Reception}
+use Rattle.air_log.specs.Trails.{Reception, trail}
 use Rattle.air_log.specs.FirstRound.{first_round, opening_with, closing_with, first_round_sent_by_host, first_round_tuned_by_host}
 use Rattle.air_log.specs.TwoNodeLog.{true_time}
-use Rattle.air_log.proofs.ComputedTrails.{goes_through}
+use Rattle.air_log.proofs.ComputedTrails.{goes_through, after_ticks, computed, true_due}
 use Rattle.air_log.proofs.FirstRound.{host_trail, of_trail, by_ticks}
 use Rattle.air_check.specs.Verdicts.{FollowsTrail, IsFirstAstray}
 use Rattle.air_check.specs.WorkedVerdicts.{first_reception_lost}
