@@ -1,5 +1,5 @@
 -- A node with its radio and its alarm: what an event does to it, and what it has made so far.
-use Rattle.std.specs.Prelude.{ℕ, List, [], ◌∷◌, ◌++◌, Bool, true, false, ◌&&◌, ◌==◌, nat_lt}
+use Rattle.std.specs.Prelude.{ℕ, List, [], ◌∷◌, ◌++◌, Bool, true, false, ◌==◌, nat_lt}
 use Rattle.std.specs.Prelude.{if◌then◌else◌, Some, None, max, option_to_list, option_and_then, fold}
 use Rattle.std.specs.declared.option.Option.{Option}
 use Rattle.lwb_base.specs.declared.event.Event.{Event}
@@ -7,7 +7,7 @@ use Rattle.lwb_base.specs.declared.order.Order.{Order}
 use Rattle.lwb_base.specs.declared.order.Order.TheVariants.{Listen, Off, SendAt, Alarm}
 use Rattle.tick_clock.specs.Clocks.{due}
 use Rattle.radio_model.specs.declared.sending.Sending.{Sending}
-use Rattle.radio_model.specs.OnAir.{Tuning}
+use Rattle.radio_model.specs.OnAir.{Tuning, goes_on_with}
 use Rattle.bus_rules.specs.declared.delivery.Delivery.{Delivery}
 use Rattle.bus_rules.specs.declared.delivery.DropLine.{DropLine}
 use Rattle.bus_rules.specs.Cores.{Setup}
@@ -79,11 +79,11 @@ with_tuning node t (Some l) tunings = if nat_lt l.since t then record { rank = l
 abbrev pub silenced : ℕ → ℕ → Device → Device
 silenced node t d = record d { listening = None; made = record (d.made) { tuned = with_tuning node t d.listening d.made.tuned } }
 
--- the radio goes on at t. A tuning of the same rank that ended at this very tick goes on
+-- the radio goes on at t, with the last tuning or with a new one
 abbrev pub tunes : ℕ → ℕ → Device → List Tuning → Device
 tunes rank t d [] = record d { listening = Some (record { rank = rank; since = t }) }
 tunes rank t d (e ∷ earlier) =
-    if (e.rank == rank) && (e.end == t)
+    if goes_on_with e.rank e.end rank t
     then record d { listening = Some (record { rank = rank; since = e.start }); made = record (d.made) { tuned = earlier } }
     else record d { listening = Some (record { rank = rank; since = t }) }
 

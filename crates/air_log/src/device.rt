@@ -18,6 +18,7 @@ use bus_rules::Tune;
 use lwb_base::{Memory, NodeId, Packet, Profile, Rank};
 use node_core::{Node, Place};
 use radio_model::sending::Sending;
+use radio_model::tuning::goes_on;
 use std::alloc::Global;
 use std::marker::Model;
 use tick_clock::DriftClock;
@@ -276,7 +277,7 @@ impl Device {
         }
     }
 
-    // From off. A tuning of the same rank that ended just now goes on.
+    // From off. It goes on with the tuning that was kept back, or begins by itself.
     fn tune(&mut self, rank: Rank, t: u64)
         requires off { self.old.listening ≡ None }
         requires time { HappenedBy t self.old }
@@ -287,7 +288,7 @@ impl Device {
     {
         let closed = self.closed;
         match closed {
-            Some(last) if last.rank == rank && last.end == t => {
+            Some(last) if goes_on(last.rank, last.end, rank, t) => {
                 self.closed = None;
                 let since = last.start;
                 self.listening = Some(Listening { rank, since });

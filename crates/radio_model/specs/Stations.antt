@@ -4,6 +4,7 @@ use Rattle.std.specs.Prelude.{◌&&◌, ◌||◌, ◌==◌, nat_lt, nat_le, if�
 use Rattle.circular_buffer.specs.Buffer.{Buffer, buffer, keep_last}
 use Rattle.lwb_base.specs.Profile.{Numbers, airtime, IsProfile}
 use Rattle.link_trace.specs.Masks.{AreNodes}
+use Rattle.radio_model.specs.OnAir.{goes_on_with}
 use Rattle.radio_model.specs.declared.sending.Sending.{Sending}
 use Rattle.radio_model.specs.declared.station.Tuned.{Tuned}
 use Rattle.radio_model.specs.declared.station.Past.{Past}
@@ -73,15 +74,15 @@ abbrev pub last_at : Option Tuned → Option Past → ℕ → Option Past
 last_at None last t = last
 last_at (Some o) last t = if nat_lt o.since t then Some (record { rank = o.rank; since = o.since; until = t }) else last
 
--- the last tuning was of this channel and ended at t
+-- one that begins at t on this channel goes on with the last tuning
 abbrev pub meets_at : Option Past → ℕ → ℕ → Bool
 meets_at None rank t = false
-meets_at (Some p) rank t = (p.rank == rank) && (p.until == t)
+meets_at (Some p) rank t = goes_on_with p.rank p.until rank t
 
 -- since when a tuning of this channel that begins at t lasts, with one that it meets counted as one
 abbrev pub since_with : Option Past → ℕ → ℕ → ℕ
 since_with None rank t = t
-since_with (Some p) rank t = if (p.rank == rank) && (p.until == t) then p.since else t
+since_with (Some p) rank t = if goes_on_with p.rank p.until rank t then p.since else t
 
 abbrev pub is_tuned_to : Option Tuned → ℕ → Bool
 is_tuned_to None rank = false

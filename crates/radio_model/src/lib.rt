@@ -18,6 +18,7 @@ pub mod reception;
 mod rivals;
 pub mod sending;
 mod station;
+pub mod tuning;
 
 pub use hearers::Hearers;
 pub use medium::Medium;

@@ -9,6 +9,7 @@ ghost use Rattle.radio_model.specs.Stations.{covers, overlaps};
 ghost use Rattle.radio_model.specs.Ages.{IsAged};
 
 use crate::sending::Sending;
+use crate::tuning::goes_on;
 use circular_buffer::HeapCircularBuffer;
 use lwb_base::{Memory, NodeId, Packet, Rank};
 use std::alloc::Global;
@@ -99,13 +100,13 @@ impl Station {
         self.tuned = None;
     }
 
-    // A tuning that meets the last one of the same channel is one with it.
+    // From off. It is one with the last tuning if it goes on with that.
     fn tune_in(&mut self, rank: Rank, t: u64)
         ensures { self.new ≡ tuned_in rank t self.old }
     {
         let mut since = t;
         if let Some(last) = self.last {
-            if last.rank == rank && last.until == t {
+            if goes_on(last.rank, last.until, rank, t) {
                 since = last.since;
                 self.last = None;
             }
