@@ -1,5 +1,5 @@
 -- What one step of a device is to a course: it shows the device of a trace that goes through the same.
-use Rattle.std.proofs.Common.{◌≡◌, ℕ, ◌<◌, List, [], ◌∷◌, ◌++◌, Bool, if◌then◌else◌, Option, Some}
+use Rattle.std.proofs.Common.{◌≡◌, ℕ, ◌<◌, List, ◌++◌, Option, Some}
 use Rattle.std.proofs.Common.{None, option_to_list, IfSome, refl, sym, ◌∙◌, ap, subst}
 use Rattle.std.proofs.lemmas.List.{append-nil}
 use Rattle.radio_model.specs.declared.sending.Sending.{Sending}
@@ -108,14 +108,19 @@ begin_goes t old after x change comes happened node =
       delivery = node.delivery;
     })
 
--- a put that is lost, or is not
-pub put_goes : (t : ℕ) (old : CourseState) (after : DeviceState) (lost : Bool) (drop : DropLine) (change : Setup → Device → Device)
-    → ((made : Made) → change old.device.setup (whole old.device made) ≡ whole after (with_drop lost drop made))
+-- a packet is lost, or none
+pub drop_made : (drop : Option DropLine) (made : Made) → with_drop drop made ≡ record made { drops = made.drops ++ option_to_list drop }
+drop_made None made = ap (λ (drops : List DropLine). record made { drops = drops }) (sym (append-nil made.drops))
+drop_made (Some drop) made = refl
+
+pub told_goes : (t : ℕ) (old : CourseState) (after : DeviceState) (drop : Option DropLine) (change : Setup → Device → Device)
+    → ((made : Made) → change old.device.setup (whole old.device made) ≡ whole after (with_drop drop made))
     → (HappenedBy t old.device → HappenedBy t after) → IsSameNode old.device after → Goes t change old (record old { device = after })
-put_goes t old after lost drop change comes happened node =
-    step_goes t old (record old { device = after }) change (with_drop lost drop) (λ drops. if lost then drops ++ drop ∷ [] else drops)
+told_goes t old after drop change comes happened node =
+    step_goes t old (record old { device = after }) change (λ made. record made { drops = made.drops ++ option_to_list drop })
+    (λ drops. drops ++ option_to_list drop)
     (record {
-      whole_is = λ made ended. comes made;
+      whole_is = λ made ended. comes made ∙ ap (whole after) (drop_made drop made);
       made = λ drops windows. refl;
       windows = refl;
       ended = λ ended. ended;

@@ -1,5 +1,5 @@
 -- A device as code keeps it, and what it makes known of itself step by step.
-use Rattle.std.specs.Prelude.{◌≡◌, ℕ, ◌^◌, ◌<◌, ◌≤◌, List, [], ◌∷◌, ◌++◌, Bool, ◌==◌, if◌then◌else◌, Some, None, option_to_list, ⊤}
+use Rattle.std.specs.Prelude.{◌≡◌, ℕ, ◌^◌, ◌<◌, ◌≤◌, List, [], ◌∷◌, ◌++◌, ◌==◌, if◌then◌else◌, Some, None, option_to_list, ⊤}
 use Rattle.std.specs.declared.option.Option.{Option}
 use Rattle.std.specs.Option.{IfSome}
 use Rattle.lwb_base.specs.declared.event.Event.{Event}
@@ -126,9 +126,10 @@ abbrev pub CanBoot : Power → Type 0
 CanBoot (PowerOff boots) = boots < 200
 CanBoot (PowerOn n) = ⊤
 
--- a put that is lost, or is not
-abbrev pub with_drop : Bool → DropLine → Made → Made
-with_drop lost drop made = record made { drops = if lost then made.drops ++ drop ∷ [] else made.drops }
+-- a packet that is lost, or none
+abbrev pub with_drop : Option DropLine → Made → Made
+with_drop None made = made
+with_drop (Some drop) made = record made { drops = made.drops ++ drop ∷ [] }
 
 -- the node core of a device
 abbrev pub core_in : DeviceState → NodeState

@@ -1,5 +1,5 @@
 -- What script lines do to a node with its radio.
-use Rattle.std.specs.Prelude.{ℕ, ◌+◌, List, [], ◌∷◌, ◌++◌, if◌then◌else◌, None}
+use Rattle.std.specs.Prelude.{ℕ, ◌+◌, List, [], ◌∷◌, ◌++◌, if◌then◌else◌, None, ⊤}
 use Rattle.lwb_base.specs.declared.event.Event.TheVariants.{Boot}
 use Rattle.scenario_text.specs.declared.script.Act.{Act}
 use Rattle.scenario_text.specs.declared.script.Act.TheVariants.{On, Off, Declare, Leave, Put}
@@ -27,6 +27,14 @@ with_new_core d n core = record d { power = PowerOn (record n { core = core }) }
 abbrev pub put_or_dropped : Setup → ℕ → ℕ → List ℕ → Device → Node → Device
 put_or_dropped s frame i payload d n =
     if refuses i n.core then dropped s.id frame i d else with_new_core d n (queues i payload n.core)
+
+-- all but those on power
+abbrev pub IsForStream : Act → Type 0
+IsForStream On = ⊥
+IsForStream Off = ⊥
+IsForStream (Declare i interval) = ⊤
+IsForStream (Leave i) = ⊤
+IsForStream (Put i payload) = ⊤
 
 -- what is done at tick t, in this frame
 abbrev pub device_after_act : (ℕ → ℕ) → Setup → ℕ → ℕ → Device → Act → Power → Device

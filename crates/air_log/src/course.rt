@@ -198,16 +198,8 @@ impl Course {
                 let closed = self.device.switch_off(t);
                 self.log_tuning(closed)
             }
-            Act::Declare(stream, interval) => {
-                self.device.declare(*stream, *interval);
-                Ok(())
-            }
-            Act::Leave(stream) => {
-                self.device.leave(*stream);
-                Ok(())
-            }
-            Act::Put(stream, payload) => {
-                let _ = self.device.put(*stream, payload);
+            Act::Declare(..) | Act::Leave(_) | Act::Put(..) => {
+                let _ = self.device.tell(line.frame, &line.act);
                 Ok(())
             }
         }

@@ -1,15 +1,17 @@
 //! What script lines do to a device.
 
-ghost use Rattle.std.specs.Prelude.{◌≡◌, ◌≤◌, ◌<◌, ℕ, Some, None, IfSome, length, false, if◌then◌else◌};
+ghost use Rattle.std.specs.Prelude.{◌≡◌, ◌<◌, ℕ, None, IfSome, false, if◌then◌else◌};
 ghost use Rattle.lwb_base.specs.declared.event.Event.TheVariants.{Boot};
-ghost use Rattle.scenario_text.specs.declared.script.Act.TheVariants.{On, Off, Declare, Leave, Put as PutAct};
+ghost use Rattle.scenario_text.specs.ScenarioFacts.{IsAct};
+ghost use Rattle.scenario_text.specs.declared.script.Act.TheVariants.{On, Off};
 ghost use Rattle.air_log.specs.Devices.{Made, event, power_is_on};
-ghost use Rattle.air_log.specs.ScriptedDevices.{device_after_act};
+ghost use Rattle.air_log.specs.ScriptedDevices.{IsForStream, device_after_act};
 ghost use Rattle.air_log.specs.DeviceStates.{whole, with_tuned, with_drop, HappenedBy, IsSameNode, CanBoot};
 
 use crate::TunedEntry;
 use crate::device::Device;
-use lwb_base::Payload;
+use bus_rules::DropLine;
+use scenario_text::Act;
 use stream_source::Put;
 
 impl Device {
@@ -51,52 +53,41 @@ impl Device {
         self.silence(t)
     }
 
-    /// A stream, 0 to 3, requests this interval, 1 to 120.
-    pub fn declare(&mut self, stream: u8, interval: u8)
-        requires stream { stream ≤ 3 }
-        requires interval { (1 ≤ interval) × (interval ≤ 120) }
-        ensures whole { (clock : ℕ → ℕ) (t frame : ℕ) (made : Made)
-            → device_after_act clock self.old.setup t frame (whole self.old made) (Declare stream interval) self.old.power ≡ whole self.new made }
+    /// A line for one of its streams, 0 to 3: the stream requests an interval, requests nothing more, or gets a packet. Returns
+    /// the packet if it is lost: the node is off, or the stream drops it.
+    pub fn tell(&mut self, frame: u32, act: &Act) -> Option<DropLine>
+        requires stream { IsForStream act.now }
+        requires range { IsAct self.old.setup.profile act.now }
+        ensures whole { (clock : ℕ → ℕ) (t : ℕ) (made : Made)
+            → device_after_act clock self.old.setup t frame (whole self.old made) act.now self.old.power ≡ whole self.new (with_drop result made) }
         ensures time { (now : ℕ) → HappenedBy now self.old → HappenedBy now self.new }
         ensures node { IsSameNode self.old self.new }
         ensures off { power_is_on self.old.power ≡ false → self.new ≡ self.old }
     {
-        if self.on {
-            self.core.declare(stream, interval);
-        }
-    }
-
-    /// A stream, 0 to 3, requests nothing more.
-    pub fn leave(&mut self, stream: u8)
-        requires { stream ≤ 3 }
-        ensures whole { (clock : ℕ → ℕ) (t frame : ℕ) (made : Made)
-            → device_after_act clock self.old.setup t frame (whole self.old made) (Leave stream) self.old.power ≡ whole self.new made }
-        ensures time { (now : ℕ) → HappenedBy now self.old → HappenedBy now self.new }
-        ensures node { IsSameNode self.old self.new }
-        ensures off { power_is_on self.old.power ≡ false → self.new ≡ self.old }
-    {
-        if self.on {
-            self.core.leave(stream);
-        }
-    }
-
-    /// A packet is put to a stream, 0 to 3. Returns `true` if and only if it is lost: the node is off, or the stream drops it.
-    pub fn put(&mut self, stream: u8, payload: &Payload) -> bool
-        requires stream { stream ≤ 3 }
-        requires payload { length payload.now ≤ self.old.setup.profile.payload_max }
-        ensures whole { (clock : ℕ → ℕ) (t frame : ℕ) (made : Made)
-            → device_after_act clock self.old.setup t frame (whole self.old made) (PutAct stream payload.now) self.old.power
-            ≡ whole self.new (with_drop result (record { frame = frame; node = self.old.setup.id; stream = stream }) made) }
-        ensures time { (now : ℕ) → HappenedBy now self.old → HappenedBy now self.new }
-        ensures node { IsSameNode self.old self.new }
-        ensures off { power_is_on self.old.power ≡ false → self.new ≡ self.old }
-    {
-        if !self.on {
-            return true;
-        }
-        match self.core.put(stream, payload) {
-            Put::Queued(_) => false,
-            Put::Dropped => true,
+        match act {
+            Act::On | Act::Off => unreachable!(),
+            Act::Declare(stream, interval) => {
+                if self.on {
+                    self.core.declare(*stream, *interval);
+                }
+                None
+            }
+            Act::Leave(stream) => {
+                if self.on {
+                    self.core.leave(*stream);
+                }
+                None
+            }
+            Act::Put(stream, payload) => {
+                if self.on && matches!(self.core.put(*stream, payload), Put::Queued(_)) {
+                    return None;
+                }
+                Some(DropLine {
+                    frame,
+                    node: self.node,
+                    stream: *stream,
+                })
+            }
         }
     }
 }

@@ -1,5 +1,5 @@
 -- A line of the script that is given to the device at a place, as code comes to it: from an index into the devices.
-use Rattle.std.proofs.Common.{◌≡◌, ◌<◌, ℕ, List, [], ◌∷◌, ◌++◌, set, get_or, length, Bool, if◌then◌else◌, Option, Some, None, IfSome, option_map}
+use Rattle.std.proofs.Common.{◌≡◌, ◌<◌, ℕ, List, [], ◌++◌, set, get_or, length, Option, Some, None, IfSome, option_map}
 use Rattle.std.proofs.Common.{option_to_list, refl, sym, ◌∙◌, ap, subst}
 use Rattle.std.specs.List.{slice_get}
 use Rattle.std.proofs.lemmas.List.{append-nil}
@@ -9,7 +9,7 @@ use Rattle.event_calendar.specs.declared.class.Class.TheVariants.{Alarm as Alarm
 use Rattle.event_calendar.proofs.QueuesOfMaps.{size_stays}
 use Rattle.lwb_base.specs.declared.event.Event.TheVariants.{Boot}
 use Rattle.scenario_text.specs.declared.script.Act.{Act}
-use Rattle.scenario_text.specs.declared.script.Act.TheVariants.{On, Put}
+use Rattle.scenario_text.specs.declared.script.Act.TheVariants.{On}
 use Rattle.scenario_text.specs.declared.script.ScriptLine.{ScriptLine}
 use Rattle.bus_rules.specs.Cores.{Setup}
 use Rattle.bus_rules.specs.declared.delivery.DropLine.{DropLine}
@@ -18,17 +18,18 @@ use Rattle.radio_model.specs.Holding.{Holds, after_tuning}
 use Rattle.radio_model.specs.Stations.{MediumState, IsTime, station_of, medium_after_change as medium_after, station_after_tuning}
 use Rattle.air_log.specs.declared.entry.TunedEntry.{TunedEntry}
 use Rattle.air_log.specs.Devices.{Device, Power, Listening, Made, nothing_made, event}
-use Rattle.air_log.specs.ScriptedDevices.{device_after_act}
+use Rattle.air_log.specs.ScriptedDevices.{IsForStream, device_after_act}
 use Rattle.air_log.specs.Drops.{drop_by}
 use Rattle.air_log.specs.DeviceStates.{DeviceState, whole, with_tuned, with_drop, HappenedBy, IsSameNode}
 use Rattle.air_log.specs.WindowLogs.{WindowLog}
+use Rattle.air_log.proofs.CourseSteps.{drop_made}
 use Rattle.world_engine.specs.Fields.{FieldState, HasCounted, FieldShows, FieldIsShown, IsField, entries_of, due_of_device, channel_of}
 use Rattle.world_engine.specs.FieldSteps.{Acts, TakesLine}
 use Rattle.world_engine.proofs.ActsInTurn.{acts_then, acts_as}
 use Rattle.world_engine.proofs.DeviceSteps.{IsStepAt, GoesOnMaking, acts_at}
 use Rattle.world_engine.proofs.DeviceRetuned.{retuned_goes_on, retuned_station, retuned_others}
 use Rattle.world_engine.proofs.ObeyedOrders.{due_changed, due_kept, same_due, tuned_goes_on}
-use Rattle.world_engine.proofs.LineChanges.{StaysSet, one_drop, put_stays, put_loses}
+use Rattle.world_engine.proofs.LineChanges.{StaysSet, told_stays, told_loses}
 use Rattle.world_engine.proofs.StepsInCode.{state_here, state_known, state_taken}
 use Rattle.world_engine.proofs.GoesOn.{goes_on_nothing}
 
@@ -211,15 +212,24 @@ module _ (t p : ℕ) (old : FieldState) (old_due : List Due) (shown : FieldIsSho
       (λ made. ap (λ (x : DeviceState). event clock state.setup t Boot None (whole x made)) (sym changed) ∙ sym (boots made)))
       (acts_then t p (turned after.power) (λ s d. event clock s t Boot None d) [] [] [] [] old mid new old_due old_due new_due on told)
 
-  -- a packet is put
-  module _ (clock : ℕ → ℕ) (line : ScriptLine) (stream : ℕ) (payload : List ℕ) (lost : Bool) (after : DeviceState)
-      (puts : (made : Made) → device_after_act clock state.setup t line.frame (whole state made) (Put stream payload) state.power ≡ whole after
-      (with_drop lost (one_drop line.frame state.setup.id stream) made)) where
-    abbrev pub lines : List DropLine
-    lines = if lost then one_drop line.frame state.setup.id stream ∷ [] else []
+  -- a line for a stream
+  module _ (clock : ℕ → ℕ) (line : ScriptLine) (drop : Option DropLine) (after : DeviceState) (for_stream : IsForStream line.act)
+      (comes : (made : Made) → device_after_act clock state.setup t line.frame (whole state made) line.act state.power ≡ whole after
+      (with_drop drop made)) where
+    told_drops : (made : Made) → device_after_act clock state.setup t line.frame (whole state made) line.act state.power
+        ≡ whole after (record made { drops = made.drops ++ option_to_list drop })
+    told_drops made = comes made ∙ ap (whole after) (drop_made drop made)
 
-    pub put_acts : IsField old → IsTime old.medium t → (drops : List DropLine) → IsSameNode state after → HappenedBy t after → drops ≡ old.drops ++ lines
-        → Acts t p (λ s d. device_after_act clock s t line.frame d (Put stream payload) d.power) [] lines old old_due (record {
+    loses : line.node ≡ state.setup.id → (s : Setup) (d : Device) → FieldShows s t old old_due p d
+        → option_to_list drop ≡ option_to_list (drop_by line line.act d.power)
+    loses own s d shows =
+        sym (ap (λ (d : Device). d.made.drops) (told_drops nothing_made))
+        ∙ told_loses clock state.setup t line.frame (whole state nothing_made) line line.act for_stream state.power refl own refl
+        ∙ ap (λ (x : Power). option_to_list (drop_by line line.act x)) (sym (power_shown s d shows))
+
+    pub line_told : IsField old → IsTime old.medium t → (drops : List DropLine) → IsSameNode state after → HappenedBy t after
+        → line.node ≡ state.setup.id → drops ≡ old.drops ++ option_to_list drop
+        → TakesLine clock line t p line.act old old_due (record {
           medium = old.medium;
           devices = set old.devices i after;
           air = old.air;
@@ -227,44 +237,13 @@ module _ (t p : ℕ) (old : FieldState) (old_due : List Due) (shown : FieldIsSho
           drops = drops;
           sums = old.sums;
         }) old_due
-    put_acts field time drops node happened more =
-        told_acts field time after lines drops node.setup (node.delivery ∙ state_taken t p old old_due shown i at state is) happened more
-        (λ s d. device_after_act clock s t line.frame d (Put stream payload) d.power) (with_drop lost (one_drop line.frame state.setup.id stream))
-        (λ made. record { sent = refl; tuned = refl; deliveries = sym (append-nil made.deliveries) })
-        (subst (λ (d : Device). StaysSet (whole state nothing_made) d) (puts nothing_made)
-        (put_stays clock state.setup t line.frame (whole state nothing_made) stream payload state.power))
-        puts (λ made. refl)
-
-    pub put_lost : line.node ≡ state.setup.id → (s : Setup) (d : Device) → FieldShows s t old old_due p d
-        → lines ≡ option_to_list (drop_by line (Put stream payload) d.power)
-    put_lost own s d shows =
-        sym (ap (λ (d : Device). d.made.drops) (puts nothing_made))
-        ∙ put_loses clock state.setup t line.frame (whole state nothing_made) line stream payload state.power refl own refl
-        ∙ ap (λ (x : Power). option_to_list (drop_by line (Put stream payload) x)) (sym (power_shown s d shows))
-
-  -- a stream requests an interval, or nothing more
-  module _ (clock : ℕ → ℕ) (line : ScriptLine) (act : Act) (loses : (power : Power) → drop_by line act power ≡ None)
-      (stays : (power : Power) → StaysSet (whole state nothing_made) (device_after_act clock state.setup t line.frame (whole state nothing_made) act power))
-      (after : DeviceState)
-      (wishes : (made : Made) → device_after_act clock state.setup t line.frame (whole state made) act state.power ≡ whole after made) where
-    pub wish_told : IsField old → IsTime old.medium t → IsSameNode state after → HappenedBy t after
-        → TakesLine clock line t p act old old_due (record {
-          medium = old.medium;
-          devices = set old.devices i after;
-          air = old.air;
-          deliveries = old.deliveries;
-          drops = old.drops;
-          sums = old.sums;
-        }) old_due
-    wish_told field time node happened = (
-      [],
-      told_acts field time after [] old.drops node.setup (node.delivery ∙ state_taken t p old old_due shown i at state is) happened (sym (append-nil old.drops))
-          (λ s d. device_after_act clock s t line.frame d act d.power) (λ made. made) (λ made. record {
-            sent = refl;
-            tuned = refl;
-            deliveries = sym (append-nil made.deliveries);
-          })
-          (subst (λ (d : Device). StaysSet (whole state nothing_made) d) (wishes nothing_made) (stays state.power))
-          wishes (λ made. refl),
-      λ s d shows. ap option_to_list (sym (loses d.power)),
+    line_told field time drops node happened own more = (
+      option_to_list drop,
+      told_acts field time after (option_to_list drop) drops node.setup (node.delivery ∙ state_taken t p old old_due shown i at state is) happened more
+          (λ s d. device_after_act clock s t line.frame d line.act d.power) (λ made. record made { drops = made.drops ++ option_to_list drop })
+          (λ made. record { sent = refl; tuned = refl; deliveries = sym (append-nil made.deliveries) })
+          (subst (λ (d : Device). StaysSet (whole state nothing_made) d) (told_drops nothing_made)
+          (told_stays clock state.setup t line.frame (whole state nothing_made) line.act for_stream state.power))
+          told_drops (λ made. refl),
+      loses own,
     )

@@ -4,19 +4,18 @@ ghost use Rattle.std.specs.Prelude.{◌≡◌, ◌≤◌, ◌<◌, ◌^◌, ℕ,
 ghost use Rattle.event_calendar.specs.Orders.{Due as DueOf};
 ghost use Rattle.bus_rules.specs.Cores.{Setup};
 ghost use Rattle.scenario_text.specs.ScenarioFacts.{IsAct};
-ghost use Rattle.scenario_text.specs.declared.script.Act.TheVariants.{On as OnOf, Off as OffOf, Put as PutOf};
+ghost use Rattle.scenario_text.specs.declared.script.Act.TheVariants.{On as OnOf, Off as OffOf};
 ghost use Rattle.radio_model.specs.Stations.{IsTime};
 ghost use Rattle.air_log.specs.Devices.{Device as DeviceOf};
-ghost use Rattle.air_log.specs.ScriptedDevices.{device_after_act};
+ghost use Rattle.air_log.specs.ScriptedDevices.{IsForStream, device_after_act};
 ghost use Rattle.air_log.specs.DeviceStates.{DeviceState as DeviceStateOf, CanBoot};
 ghost use Rattle.world_engine.specs.Fields.{FieldShows, FieldIsShown};
 ghost use Rattle.world_engine.specs.FieldSteps.{Acts, TakesLine};
 
 use crate::event_radio::EventRadio;
 use crate::field::Field;
-use bus_rules::DropLine;
 use event_calendar::{Class, Orders};
-use lwb_base::{Event, Memory, Payload};
+use lwb_base::{Event, Memory};
 use scenario_text::{Act, ScriptLine};
 use tick_clock::DriftClock;
 
@@ -42,15 +41,7 @@ impl Field {
         match &line.act {
             Act::On => self.switch_on(orders, clock, place, t, radio),
             Act::Off => self.switch_off(orders, place, t),
-            Act::Declare(stream, interval) => {
-                self.devices[usize::from(place)].declare(*stream, *interval);
-                Ok(())
-            }
-            Act::Leave(stream) => {
-                self.devices[usize::from(place)].leave(*stream);
-                Ok(())
-            }
-            Act::Put(stream, payload) => self.put(place, line, *stream, payload),
+            Act::Declare(..) | Act::Leave(_) | Act::Put(..) => self.tell_stream(place, line),
         }
     }
 
@@ -97,29 +88,18 @@ impl Field {
         self.log_tuning(closed)
     }
 
-    // A packet is put to a stream of the device at the place, or dropped.
-    fn put(
-        &mut self,
-        place: u8,
-        line: &ScriptLine,
-        stream: u8,
-        payload: &Payload,
-    ) -> Result<(), Memory>
+    // A line for a stream of the device at the place. A packet that is lost by it is one of the drops.
+    fn tell_stream(&mut self, place: u8, line: &ScriptLine) -> Result<(), Memory>
         requires within { place < length self.old.devices }
-        requires stream { stream ≤ 3 }
-        requires payload { (d : DeviceStateOf) → slice_get self.old.devices place ≡ Some d → length payload.now ≤ d.setup.profile.payload_max }
+        requires stream { IsForStream line.now.act }
+        requires range { (d : DeviceStateOf) → slice_get self.old.devices place ≡ Some d → IsAct d.setup.profile line.now.act }
         ensures { (clock : ℕ → ℕ) (t : ℕ) (due : List DueOf) → IsTime self.old.medium t → FieldIsShown t self.old due place
             → ((s : Setup) (d : DeviceOf) → FieldShows s t self.old due place d → line.now.node ≡ s.id)
-            → OnOk result (TakesLine clock line.now t place (PutOf stream payload.now) self.old due self.new due) }
+            → OnOk result (TakesLine clock line.now t place line.now.act self.old due self.new due) }
     {
         let device = &mut self.devices[usize::from(place)];
-        if !device.put(stream, payload) {
+        let Some(drop) = device.tell(line.frame, &line.act) else {
             return Ok(());
-        }
-        let drop = DropLine {
-            frame: line.frame,
-            node: line.node,
-            stream,
         };
         self.drops.push(drop)?;
         Ok(())

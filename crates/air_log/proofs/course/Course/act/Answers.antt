@@ -7,7 +7,7 @@ use Rattle.air_log.specs.ScriptedDevices.{device_after_act, device_after_line}
 use Rattle.air_log.specs.DeviceStates.{DeviceState, whole, tuning_of}
 use Rattle.air_log.specs.Courses.{CourseState, CourseIsShown}
 use Rattle.air_log.proofs.ShownCourses.{goes_seen}
-use Rattle.air_log.proofs.CourseSteps.{then_shown, then_goes, state_goes, device_goes, put_goes}
+use Rattle.air_log.proofs.CourseSteps.{then_shown, then_goes, state_goes, device_goes, told_goes}
 use Rattle.air_log.proofs.course.Course.act.Goals as goal
 
 pub tell-requires-clause-shown : goal.tell-requires-clause-shown
@@ -105,51 +105,7 @@ returns-in-Declare g c =
       deliveries = c.self-in-Declare.inside.deliveries.items;
       windows = c.self-in-Declare.inside.windows;
     } in
-    let x = c.declare in
+    let x = c.tell-in-Declare in
     let new : CourseState = record old { device = x.new.self } in
     goes_seen t (λ q d. device_after_line clock q t d line) old c.args.self.now new new c.self-in-Declare.view_is refl
-    (state_goes t old x.new.self (λ q d. device_after_line clock q t d line)
-    (λ made. ap (λ (a : Act). device_after_act clock old.device.setup t line.frame (whole old.device made) a old.device.power) c.in-Declare.is
-    ∙ x.ensures.whole clock t line.frame made)
-    (x.ensures.time t) x.ensures.node)
-
-pub returns-in-Leave : goal.returns-in-Leave
-returns-in-Leave g c =
-    let clock = g.C.DriftClock.readings c.args.clock.now in
-    let t = c.args.t in
-    let line = c.args.line.now in
-    let old : CourseState = record {
-      device = c.self-in-Leave.inside.device;
-      sent = c.self-in-Leave.inside.sent.items;
-      tuned = reverse (map tuning_of c.self-in-Leave.inside.tuned.items);
-      deliveries = c.self-in-Leave.inside.deliveries.items;
-      windows = c.self-in-Leave.inside.windows;
-    } in
-    let x = c.leave in
-    let new : CourseState = record old { device = x.new.self } in
-    goes_seen t (λ q d. device_after_line clock q t d line) old c.args.self.now new new c.self-in-Leave.view_is refl
-    (state_goes t old x.new.self (λ q d. device_after_line clock q t d line)
-    (λ made. ap (λ (a : Act). device_after_act clock old.device.setup t line.frame (whole old.device made) a old.device.power) c.in-Leave.is
-    ∙ x.ensures.whole clock t line.frame made)
-    (x.ensures.time t) x.ensures.node)
-
-pub returns-in-Put : goal.returns-in-Put
-returns-in-Put g c =
-    let clock = g.C.DriftClock.readings c.args.clock.now in
-    let t = c.args.t in
-    let line = c.args.line.now in
-    let old : CourseState = record {
-      device = c.self-in-Put.inside.device;
-      sent = c.self-in-Put.inside.sent.items;
-      tuned = reverse (map tuning_of c.self-in-Put.inside.tuned.items);
-      deliveries = c.self-in-Put.inside.deliveries.items;
-      windows = c.self-in-Put.inside.windows;
-    } in
-    let x = c.put in
-    let new : CourseState = record old { device = x.new.self } in
-    goes_seen t (λ q d. device_after_line clock q t d line) old c.args.self.now new new c.self-in-Put.view_is refl
-    (put_goes t old x.new.self x.result (record { frame = line.frame; node = old.device.setup.id; stream = c.in-Put.stream })
-    (λ q d. device_after_line clock q t d line)
-    (λ made. ap (λ (a : Act). device_after_act clock old.device.setup t line.frame (whole old.device made) a old.device.power) c.in-Put.is
-    ∙ x.ensures.whole clock t line.frame made)
-    (x.ensures.time t) x.ensures.node)
+    (told_goes t old x.new.self x.result (λ q d. device_after_line clock q t d line) (x.ensures.whole clock t) (x.ensures.time t) x.ensures.node)
