@@ -9,7 +9,7 @@ pub struct Stamp {
     pub frame: u32,
     /// The rank of the host of its round.
     pub rank: Rank,
-    /// The slot of the round, 1 to 40.
+    /// The slot of the round, 1 to `DATA_SLOTS`.
     pub slot: u8,
     /// The node that sent it.
     pub node: NodeId,

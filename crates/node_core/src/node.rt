@@ -87,7 +87,7 @@ impl Node {
         })
     }
 
-    /// As a new node, with this boot number, 1 to 200.
+    /// As a new node, with this boot number, 1 to `MOST_BOOTS`.
     pub fn reboot(&mut self, boot: u8)
         requires { IsBoot boot }
         ensures { self.new ≡ record self.old { node = rebooted boot; delivery = None } }

@@ -14,7 +14,7 @@ use std::alloc::Global;
 
 /// The scenario with these lines added to its script, each after all lines of its frame that stand there, and in the
 /// order given. They are known nodes' lines in ascending frames below the number of frames. Returns `None` if and only
-/// if a text would be refused for the result's number of lines: a node would boot more than 200 times, or there would be
+/// if a text would be refused for the result's number of lines: a node would boot more than `MOST_BOOTS` times, or there would be
 /// more than 20,000 script lines of all kinds.
 pub fn with_script(
     alloc: Global,

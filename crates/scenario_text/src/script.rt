@@ -5,7 +5,7 @@ use lwb_base::{NodeId, Payload};
 /// What a node has to do.
 #[derive(Drop)]
 pub enum Act {
-    /// It boots, unless it is on already. A node boots at most 200 times.
+    /// It boots, unless it is on already. A node boots at most `MOST_BOOTS` times.
     On,
     /// It is powered off.
     Off,
@@ -23,7 +23,7 @@ pub enum Act {
 pub struct ScriptLine {
     /// The frame, 0 to 4,095 and below the number of frames.
     pub frame: u32,
-    /// The node, 1 to 200.
+    /// The node.
     pub node: NodeId,
     /// What it has to do.
     pub act: Act,
