@@ -90,7 +90,7 @@ module _ (f : FloodParts) (clocks : ℕ → ℕ → ℕ) (air : List Entry) (is 
       let less = few_sent r (Tuned f clocks air is law) (log_run f clocks air is law) k few m at v x here h step in
       let sends : m.sends x.node ≡ Some f.start = at.sends x f.start h.sent (start_begins f clocks air is law)
       (p.1 ∙ ap (λ (i : ℕ). packet r f.start i) step) in
-      let passes : s.passes k x.node v ≡ true = subst (λ (i : ℕ). s.passes i x.node v ≡ true) step h.passes in
+      let passes : s.passes k x.node v ≡ true = subst (λ (i : ℕ). s.passes i x.node v ≡ true) step h.arrives in
       let may : may_hear s m v ≡ true = and_from _ _ (and_from _ _ here (rw quiet refl)) (lt-ltb (m.times v) s.limit less) in
       let some : is_some (m.sends x.node) ≡ true = rw sends refl in
       let reached : reaches s m k v ≡ true = any_of (λ u. s.passes k u v && is_some (m.sends u)) s.everyone x.node

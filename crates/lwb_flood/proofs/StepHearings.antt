@@ -11,10 +11,9 @@ use Rattle.glossy_relay.specs.FloodState.{FloodState}
 use Rattle.bus_terms.specs.Flooding.{Setting, Moment, has, offer, candidates, named, pick}
 use Rattle.tick_clock.specs.Clocks.{Near}
 use Rattle.radio_model.specs.declared.sending.Sending.{Sending}
-use Rattle.radio_model.specs.Hearing.{Before}
+use Rattle.radio_model.specs.Hearing.{Before, IsSilent, IsRival, IsAlone, IsCaptured}
 use Rattle.air_log.specs.NodeEvents.{Event, Heard, sending_of_event, flood_after_events}
-use Rattle.lwb_flood.specs.FloodRun.{counter, Run, FloodRun, initiates, IsParticipant, packet, flood_at_beginning, RivalInRun, SilentInRun, AloneInRun}
-use Rattle.lwb_flood.specs.FloodRun.{CapturedInRun, HearsIn}
+use Rattle.lwb_flood.specs.FloodRun.{counter, Run, FloodRun, initiates, IsParticipant, packet, flood_at_beginning, traffic_of_run, HearsIn}
 use Rattle.bus_terms.proofs.Options.{inspect, only_when, only_from, in_filter, from_filter, sends_parts, named_parts}
 use Rattle.lwb_flood.proofs.StepTimes.{close}
 use Rattle.lwb_flood.proofs.SendingTimes.{timed, in_time, counter_is, same_origin, over, meets, one_step, not_over, event_sent}
@@ -58,15 +57,16 @@ module _ (r : Run) (Tuned : ℕ → Sending → Type 0) (f : FloodRun r Tuned) (
   counter_sent v o z = counter_is r f.times o k z.sending z.initiator z.packet
 
   pub rival : (v : ℕ) (x y : Sending) → Contains r.sendings x → Contains r.sendings y → counter x ≡ k → counter y ≡ k → s.passes k y.node v ≡ true
-      → RivalInRun r v x y
+      → IsRival (traffic_of_run r) v x y
   rival v x y sent_x sent_y at_x at_y passes = record {
     sent = sent_y;
+    channel = (f.times.lasts y sent_y).0 ∙ sym (f.times.lasts x sent_x).0;
     meets = meets r f.times x y sent_x sent_y (at_x ∙ sym at_y);
-    passes = subst (λ (i : ℕ). s.passes i y.node v ≡ true) (sym at_y) passes;
+    arrives = subst (λ (i : ℕ). s.passes i y.node v ≡ true) (sym at_y) passes;
   }
 
   -- what meets a transmission of this step is of this step
-  pub rival_step : (v : ℕ) (x y : Sending) → Contains r.sendings x → counter x ≡ k → RivalInRun r v x y → counter y ≡ k
+  pub rival_step : (v : ℕ) (x y : Sending) → Contains r.sendings x → counter x ≡ k → IsRival (traffic_of_run r) v x y → counter y ≡ k
   rival_step v x y sent_x at_x is = sym (one_step r f.times x y sent_x is.sent is.meets) ∙ at_x
 
   pub silent_in : (v : ℕ) (x : Sending) → HearsIn r Tuned v x → counter x ≡ k → m.sends v ≡ None
@@ -81,7 +81,7 @@ module _ (r : Run) (Tuned : ℕ → Sending → Type 0) (f : FloodRun r Tuned) (
   pub picked : (v : ℕ) (x : Sending) (o : ℕ) → HearsIn r Tuned v x → counter x ≡ k → initiates r o → x.packet ≡ packet r o k → pick s m k v ≡ Some o
   picked v x o h step begun is =
       let here : has s.everyone x.node ≡ true = (timed r f.times x h.sent).here in
-      let passes : s.passes k x.node v ≡ true = subst (λ (i : ℕ). s.passes i x.node v ≡ true) step h.passes in
+      let passes : s.passes k x.node v ≡ true = subst (λ (i : ℕ). s.passes i x.node v ≡ true) step h.arrives in
       let mine : offer_to v x.node ≡ Some o = offered v x.node o passes (at.sends x o h.sent begun is) in
       only_when (candidates s m k v) (named s m k v) o (in_filter (offer_to v) s.everyone x.node o here mine)
       (elim h.chosen [
@@ -89,18 +89,18 @@ module _ (r : Run) (Tuned : ℕ → Sending → Type 0) (f : FloodRun r Tuned) (
         | inr c ↦ inr (chosen c)
       ])
     where
-      only : (p : ℕ) → AloneInRun r v x → (u : ℕ) × (has s.everyone u ≡ true) × (offer_to v u ≡ Some p) → p ≡ o
+      only : (p : ℕ) → IsAlone (traffic_of_run r) v x → (u : ℕ) × (has s.everyone u ≡ true) × (offer_to v u ≡ Some p) → p ≡ o
       only p alone u =
           let parts = sends_parts (s.passes k u.0 v) (m.sends u.0) p u.2 in
           let z = at.sent u.0 p parts.1 in
           let close = rival v x z.sending h.sent z.sent step (counter_sent u.0 p z) (subst (λ (w : ℕ). s.passes k w v ≡ true) (sym z.node) parts.0) in
           same_origin r f.times p o k k z.initiator begun (sym z.packet ∙ alone z.sending close ∙ is)
 
-      chosen : CapturedInRun r v x → named s m k v ≡ Some o
+      chosen : IsCaptured (traffic_of_run r) v x → named s m k v ≡ Some o
       chosen c =
           let at_step = rival_step v x c.winner h.sent step c.rival in
           let sends : m.sends c.winner.node ≡ Some o = at.sends c.winner o c.rival.sent begun (c.same ∙ is) in
-          let passes : s.passes k c.winner.node v ≡ true = subst (λ (i : ℕ). s.passes i c.winner.node v ≡ true) at_step c.rival.passes in
+          let passes : s.passes k c.winner.node v ≡ true = subst (λ (i : ℕ). s.passes i c.winner.node v ≡ true) at_step c.rival.arrives in
           let is_named : s.captured k v ≡ Some c.winner.node = subst (λ (i : ℕ). s.captured i v ≡ Some c.winner.node) step c.named in
           ap (λ (w : Option ℕ). option_and_then (offer_to v) w) is_named ∙ offered v c.winner.node o passes sends
 
@@ -132,7 +132,8 @@ module _ (r : Run) (Tuned : ℕ → Sending → Type 0) (f : FloodRun r Tuned) (
       }) h.silent).0 h.tuned in
       subst (λ (n : ℕ). n < s.limit) (sent_is v t) less
 
-  tuned_in : (v : ℕ) (x : Sending) → IsParticipant r v → Contains r.sendings x → counter x ≡ k → SilentInRun r v x → m.times v < s.limit → Tuned v x
+  tuned_in : (v : ℕ) (x : Sending) → IsParticipant r v → Contains r.sendings x → counter x ≡ k → IsSilent (traffic_of_run r) v x → m.times v < s.limit
+      → Tuned v x
   tuned_in v x here sent step silent less =
       let t = at.turns v here in
       (f.tuned v here x t.before t.rest sent (in_time r f.times x sent (timed r f.times x sent))
@@ -186,7 +187,7 @@ module _ (r : Run) (Tuned : ℕ → Sending → Type 0) (f : FloodRun r Tuned) (
         sent = mine.sent;
         tuned = tuned_in v x here mine.sent step (silent step) less;
         silent = silent step;
-        passes = passes;
+        arrives = passes;
         first = λ y rival same. first y (offer_of step y rival same) (timed r f.times y rival.sent).here;
         close = λ y rival same. near begun step y rival same;
         chosen = elim (only_from (candidates s m k v) (named s m k v) o is) [
@@ -195,19 +196,19 @@ module _ (r : Run) (Tuned : ℕ → Sending → Type 0) (f : FloodRun r Tuned) (
         ];
       }
     where
-      silent : counter x ≡ k → SilentInRun r v x
+      silent : counter x ≡ k → IsSilent (traffic_of_run r) v x
       silent step y sent node meet =
           let at_y : counter y ≡ k = sym (one_step r f.times x y mine.sent sent meet) ∙ step in
           let p = origin_at y sent at_y in
           not_both (m.sends v) p.0 quiet (subst (λ (w : ℕ). m.sends w ≡ Some p.0) node (at.sends y p.0 sent p.1 p.2))
 
-      passes_of : (y : Sending) → counter y ≡ k → RivalInRun r v x y → s.passes k y.node v ≡ true
-      passes_of y at_y rival = subst (λ (i : ℕ). s.passes i y.node v ≡ true) at_y rival.passes
+      passes_of : (y : Sending) → counter y ≡ k → IsRival (traffic_of_run r) v x y → s.passes k y.node v ≡ true
+      passes_of y at_y rival = subst (λ (i : ℕ). s.passes i y.node v ≡ true) at_y rival.arrives
 
-      offer_of : counter x ≡ k → (y : Sending) → RivalInRun r v x y → y.packet ≡ x.packet → Offered r k v o y
+      offer_of : counter x ≡ k → (y : Sending) → IsRival (traffic_of_run r) v x y → y.packet ≡ x.packet → Offered r k v o y
       offer_of step y rival same = record { sent = rival.sent; packet = same ∙ mine.packet; passes = passes_of y (rival_step v x y mine.sent step rival) rival }
 
-      near : initiates r o → counter x ≡ k → (y : Sending) → RivalInRun r v x y → y.packet ≡ x.packet → y.start ≤ x.start + r.delta
+      near : initiates r o → counter x ≡ k → (y : Sending) → IsRival (traffic_of_run r) v x y → y.packet ≡ x.packet → y.start ≤ x.start + r.delta
       near begun step y rival same =
           let t = timed r f.times x mine.sent in
           let u = timed r f.times y rival.sent in
@@ -220,7 +221,7 @@ module _ (r : Run) (Tuned : ℕ → Sending → Type 0) (f : FloodRun r Tuned) (
           let room = f.times.displacement in
           omega (arith, close r.air r.turn (counter x) x.start y.start (r.starts t.origin) t.few t.near near_y, room)
 
-      alone : initiates r o → counter x ≡ k → ((p : ℕ) → has (candidates s m k v) p ≡ true → p ≡ o) → AloneInRun r v x
+      alone : initiates r o → counter x ≡ k → ((p : ℕ) → has (candidates s m k v) p ≡ true → p ≡ o) → IsAlone (traffic_of_run r) v x
       alone begun step all y rival =
           let at_y = rival_step v x y mine.sent step rival in
           let p = origin_at y rival.sent at_y in
@@ -228,7 +229,7 @@ module _ (r : Run) (Tuned : ℕ → Sending → Type 0) (f : FloodRun r Tuned) (
           let same : p.0 ≡ o = all p.0 (in_filter (offer_to v) s.everyone y.node p.0 (timed r f.times y rival.sent).here offer_y) in
           p.2 ∙ ap (λ (i : ℕ). packet r i k) same ∙ sym mine.packet
 
-      winner : initiates r o → counter x ≡ k → named s m k v ≡ Some o → CapturedInRun r v x
+      winner : initiates r o → counter x ≡ k → named s m k v ≡ Some o → IsCaptured (traffic_of_run r) v x
       winner begun step other =
           let u = named_parts (offer_to v) (s.captured k v) o other in
           let parts = sends_parts (s.passes k u.0 v) (m.sends u.0) o u.2 in

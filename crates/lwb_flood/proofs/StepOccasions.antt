@@ -86,8 +86,8 @@ module _ (r : Run) (Tuned : ℕ → Sending → Type 0) (f : FloodRun r Tuned) (
       let same : p.0 ≡ q.0 = same_Some p.0 q.0
       (sym (picked r Tuned f k few m at v x p.0 h at_x p.1 p.2) ∙ picked r Tuned f k few m at v y q.0 g at_y q.1 q.2) in
       let packets : x.packet ≡ y.packet = p.2 ∙ ap (λ (i : ℕ). packet r i k) same ∙ sym q.2 in
-      let passes_x : s.passes k x.node v ≡ true = subst (λ (i : ℕ). s.passes i x.node v ≡ true) at_x h.passes in
-      let passes_y : s.passes k y.node v ≡ true = subst (λ (i : ℕ). s.passes i y.node v ≡ true) at_y g.passes in
+      let passes_x : s.passes k x.node v ≡ true = subst (λ (i : ℕ). s.passes i x.node v ≡ true) at_x h.arrives in
+      let passes_y : s.passes k y.node v ≡ true = subst (λ (i : ℕ). s.passes i y.node v ≡ true) at_y g.arrives in
       let first = h.first y (rival r Tuned f k few m at v x y h.sent g.sent at_x at_y passes_y) (sym packets) in
       let second = g.first x (rival r Tuned f k few m at v y x g.sent h.sent at_y at_x passes_x) packets in
       let start : x.start ≡ y.start = omega arith in

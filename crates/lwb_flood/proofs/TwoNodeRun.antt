@@ -7,11 +7,11 @@ use Rattle.glossy_relay.specs.Relaying.{reply_to}
 use Rattle.glossy_relay.specs.declared.flood.Reply.TheVariants.{Relay}
 use Rattle.radio_model.specs.declared.sending.Sending.{Sending}
 use Rattle.radio_model.specs.OnAir.{Hearing}
-use Rattle.radio_model.specs.Hearing.{Before}
+use Rattle.radio_model.specs.Hearing.{Before, IsRival, IsSilent}
 use Rattle.air_log.specs.NodeEvents.{Event, Heard, Ended, sending_of_event, flood_after_events, EventOccasion, EventsInOrder}
 use Rattle.air_log.proofs.EventKinds.{ended_not_heard, heard_not_ended}
 use Rattle.air_log.proofs.SameSendings.{same_sending as equal_sendings}
-use Rattle.lwb_flood.specs.FloodRun.{counter, sending_of_run, FloodRun, initiates, IsParticipant, flood_at_beginning, RivalInRun, SilentInRun, HearsIn}
+use Rattle.lwb_flood.specs.FloodRun.{counter, sending_of_run, FloodRun, initiates, IsParticipant, flood_at_beginning, traffic_of_run, HearsIn}
 use Rattle.lwb_flood.specs.FloodRun.{RelayedInRun, TunedByCount}
 use Rattle.lwb_flood.specs.TwoNodes.{packet_of, first_transmission, second_sending, two_node_run, two_tuned}
 use Rattle.lwb_base.proofs.Elements.{contains_head, contains_tail, one_of, one_of_two}
@@ -51,7 +51,7 @@ lasts_some : (x : Sending) → Contains two_node_run.sendings x → x.start < x.
 lasts_some x there = let last = lasting x there in omega (arith, last.1)
 
 -- the first rivals nobody
-rival_first : (v : ℕ) (y : Sending) → RivalInRun two_node_run v first_transmission y → first_transmission ≡ y
+rival_first : (v : ℕ) (y : Sending) → IsRival (traffic_of_run two_node_run) v first_transmission y → first_transmission ≡ y
 rival_first v y is =
     elim (one_of_two first_transmission second_sending y is.sent) [
       | inl same ↦ same
@@ -66,14 +66,14 @@ hears_first = record {
     | inl is ↦ (let same : 1 ≡ y.node = ap (λ (x : Sending). x.node) is in absurd (omega arith))
     | inr is ↦ (let start : 45056 ≡ y.start = ap (λ (x : Sending). x.start) is in absurd (omega arith))
   ];
-  passes = refl;
+  arrives = refl;
   first = λ y rival same. subst (λ (x : Sending). Before first_transmission x) (rival_first 2 y rival) (omega arith);
   close = λ y rival same. subst (λ (x : Sending). x.start ≤ 0 + 32) (rival_first 2 y rival) (omega arith);
   chosen = inl (λ y rival. ap (λ (x : Sending). x.packet) (sym (rival_first 2 y rival)));
 }
 
 -- a node does not receive its own transmission
-own_unheard : (v : ℕ) (x : Sending) → Contains two_node_run.sendings x → x.node ≡ v → SilentInRun two_node_run v x → ⊥
+own_unheard : (v : ℕ) (x : Sending) → Contains two_node_run.sendings x → x.node ≡ v → IsSilent (traffic_of_run two_node_run) v x → ⊥
 own_unheard v x there node silent = let some = lasts_some x there in silent x there node (omega arith)
 
 hears_only : (v : ℕ) (x : Sending) → IsParticipant two_node_run v → HearsIn two_node_run Tuned v x

@@ -1,5 +1,5 @@
 -- The record of what nodes did in one flood on the air, and what makes it one.
-use Rattle.std.specs.Prelude.{◌≡◌, ◌≢◌, ℕ, ◌+◌, ◌*◌, ◌<◌, ◌≤◌, ◌↔◌, ◌⊎◌, List, ◌++◌, Contains, slice_set, true, Some, None, if◌then◌else◌}
+use Rattle.std.specs.Prelude.{◌≡◌, ◌≢◌, ℕ, ◌+◌, ◌*◌, ◌<◌, ◌≤◌, ◌↔◌, List, ◌++◌, Contains, slice_set, true, Some, None, if◌then◌else◌}
 use Rattle.lwb_base.specs.declared.limits.TheConstants.{FLOOD_STEPS, LAST_STEP}
 use Rattle.tick_clock.specs.Clocks.{Near}
 use Rattle.lwb_packets.specs.Body.{body}
@@ -10,7 +10,7 @@ use Rattle.glossy_relay.specs.declared.flood.Reply.TheVariants.{Relay}
 use Rattle.bus_terms.specs.Flooding.{Setting, has}
 use Rattle.radio_model.specs.declared.sending.Sending.{Sending}
 use Rattle.radio_model.specs.OnAir.{Hearing}
-use Rattle.radio_model.specs.Hearing.{Meets, Before}
+use Rattle.radio_model.specs.Hearing.{Traffic, IsSilent, Hears}
 use Rattle.air_log.specs.NodeEvents.{Event, Heard, Ended, sending_of_event, EventsInOrder, flood_after_events, event_occasions}
 
 -- What is given: the setting of the flood by steps (its limit, links, capture lines, initiators, and all that take part);
@@ -74,35 +74,18 @@ pub record InTime (r : Run) (x : Sending) : Type 0 where
   pub since : r.starts origin ≤ x.start
   pub until : x.end ≤ r.starts origin + FLOOD_STEPS * (r.air + r.turn)
 
--- y is on the air together with x and reaches v; if x does, it is a rival of itself
-pub record RivalInRun (r : Run) (v : ℕ) (x y : Sending) : Type 0 where
-  pub sent : Contains r.sendings y
-  pub meets : Meets x y
-  pub passes : r.setting.passes (counter y) y.node v ≡ true
+-- what the rule of reception asks of a run: links pass and capture lines are sorted by the counter alone
+abbrev pub traffic_of_run : Run → Traffic
+traffic_of_run r = record {
+  sendings = r.sendings;
+  comes = λ y v. r.setting.passes (counter y) y.node v;
+  names = λ x v. r.setting.captured (counter x) v;
+  delta = r.delta;
+}
 
--- v sends nothing while x is sent
-abbrev pub SilentInRun : Run → ℕ → Sending → Type 0
-SilentInRun r v x = (y : Sending) → Contains r.sendings y → y.node ≡ v → Meets x y → ⊥
-
--- all that reaches v is the same packet, or the capture line names a node whose packet it is
-abbrev pub AloneInRun : Run → ℕ → Sending → Type 0
-AloneInRun r v x = (y : Sending) → RivalInRun r v x y → y.packet ≡ x.packet
-
-pub record CapturedInRun (r : Run) (v : ℕ) (x : Sending) : Type 0 where
-  pub winner : Sending
-  pub rival : RivalInRun r v x winner
-  pub same : winner.packet ≡ x.packet
-  pub named : r.setting.captured (counter x) v ≡ Some winner.node
-
--- v receives x by the rule of the air. `Tuned` says that a node is tuned while a transmission lasts
-pub record HearsIn (r : Run) (Tuned : ℕ → Sending → Type 0) (v : ℕ) (x : Sending) : Type 0 where
-  pub sent : Contains r.sendings x
-  pub tuned : Tuned v x
-  pub silent : SilentInRun r v x
-  pub passes : r.setting.passes (counter x) x.node v ≡ true
-  pub first : (y : Sending) → RivalInRun r v x y → y.packet ≡ x.packet → Before x y
-  pub close : (y : Sending) → RivalInRun r v x y → y.packet ≡ x.packet → y.start ≤ x.start + r.delta
-  pub chosen : AloneInRun r v x ⊎ CapturedInRun r v x
+-- v receives x by that rule. `Tuned` says that a node is tuned while a transmission lasts
+abbrev pub HearsIn : Run → (ℕ → Sending → Type 0) → ℕ → Sending → Type 0
+HearsIn r Tuned v x = Hears (traffic_of_run r) Tuned v x
 
 -- v's flood answered a reception with the packet of x, which starts a turnaround later
 pub record RelayedInRun (r : Run) (v : ℕ) (x : Sending) : Type 0 where
@@ -175,7 +158,8 @@ pub record IsSplitAtStart (r : Run) (v : ℕ) (x : Sending) (before rest : List 
 -- while it does not send, v is tuned if and only if fewer than its limit of own transmissions have ended
 abbrev pub TunedByCount : Run → (ℕ → Sending → Type 0) → ℕ → Type 0
 TunedByCount r Tuned v = (x : Sending) (before rest : List Event) → Contains r.sendings x → InTime r x
-    → IsSplitAtStart r v x before rest → SilentInRun r v x → Tuned v x ↔ ((flood_after_events (flood_at_beginning r v) before).sent < r.setting.limit)
+    → IsSplitAtStart r v x before rest → IsSilent (traffic_of_run r) v x
+    → Tuned v x ↔ ((flood_after_events (flood_at_beginning r v) before).sent < r.setting.limit)
 
 pub record FloodRun (r : Run) (Tuned : ℕ → Sending → Type 0) : Type 0 where
   pub times : RunHasTimes r

@@ -1,10 +1,10 @@
 -- Who receives a transmission is settled when it ends.
-use Rattle.std.proofs.Common.{ℕ, ◌<◌, ◌≤◌, ◌+◌, ◌↔◌, inl, inr, sym, ◌∙◌, ap, subst}
+use Rattle.std.proofs.Common.{◌≡◌, Some, ℕ, ◌<◌, ◌≤◌, ◌+◌, ◌↔◌, inl, inr, sym, ◌∙◌, ap, subst}
 use Rattle.lwb_base.specs.Profile.{Numbers}
 use Rattle.link_trace.specs.Passes.{Lines, passes}
 use Rattle.link_trace.specs.Passes.{captured}
 use Rattle.radio_model.specs.OnAir.{Sending}
-use Rattle.radio_model.specs.Hearing.{Scene, HearsInScene, Rival, Arrives, Captures, frame_of_sending, slot_of_sending, counter_of_sending}
+use Rattle.radio_model.specs.Hearing.{Scene, HearsInScene, Rival, Arrives, traffic_of_scene, frame_of_sending, slot_of_sending, counter_of_sending}
 use Rattle.radio_model.specs.Holding.{Agree}
 use Rattle.radio_model.proofs.Agreement.{agree_back}
 
@@ -13,7 +13,8 @@ arrives_on t a b v y s is =
     ap (λ (l : Lines). passes l (frame_of_sending b.numbers y) (slot_of_sending y) (counter_of_sending y) y.node v) (sym s.lines)
     ∙ ap (λ (p : Numbers). passes a.lines (frame_of_sending p y) (slot_of_sending y) (counter_of_sending y) y.node v) (sym s.numbers) ∙ is
 
-captures_on : (t : ℕ) (a b : Scene) (v : ℕ) (x : Sending) (u : ℕ) → Agree t a b → Captures a v x u → Captures b v x u
+captures_on : (t : ℕ) (a b : Scene) (v : ℕ) (x : Sending) (u : ℕ) → Agree t a b → (traffic_of_scene a).names x v ≡ Some u
+    → (traffic_of_scene b).names x v ≡ Some u
 captures_on t a b v x u s is =
     ap (λ (l : Lines). captured l (frame_of_sending b.numbers x) (slot_of_sending x) (counter_of_sending x) v) (sym s.lines)
     ∙ ap (λ (p : Numbers). captured a.lines (frame_of_sending p x) (slot_of_sending x) (counter_of_sending x) v) (sym s.numbers) ∙ is
