@@ -1,4 +1,4 @@
--- Backup hosts alone are idle.
+-- Nodes that host, and those of them that probe.
 use Rattle.std.proofs.Common.{◌≡◌, ℕ, ◌<◌, List, Bool, true, false, ◌&&◌, nat_lt, if◌then◌else◌, Some, None, Option, refl, sym, ◌∙◌, ap, subst}
 use Rattle.std.specs.Prelude.{◌%◌}
 use Rattle.std.proofs.lemmas.Bool.{and_parts, ltb-true, true≢false}
@@ -20,8 +20,6 @@ use Rattle.air_log.specs.Trails.{frame_start, setup_of, tune_of, tune_at, at_fra
 use Rattle.law_trails.specs.DeviceRanges.{IsPower}
 use Rattle.law_trails.proofs.LogsInRange.{all_through}
 use Rattle.law_safety.proofs.RunFacts.{known_id}
-use Rattle.host_return.specs.NodeTrails.{above_first, is_backup}
-use Rattle.host_return.specs.Probes.{probed_with, probed_rank}
 
 pub on_node : (p : Power) (t : Tune) → tune_of p ≡ Some t → (n : Node) × (p ≡ PowerOn n) × (n.core.tune ≡ t)
 on_node (PowerOff boots) t is = absurd (cc)
@@ -51,22 +49,3 @@ probing f rank due probed is = by_test (nat_lt 0 rank && nat_lt f due) refl is
     by_test : (b : Bool) → (nat_lt 0 rank && nat_lt f due) ≡ b → (if b then Some (f % rank) else None) ≡ Some probed → (nat_lt 0 rank ≡ true) × (f < due)
     by_test true both some = let parts = and_parts (nat_lt 0 rank) (nat_lt f due) both in (parts.0, ltb-true f due parts.1)
     by_test false neither none = absurd (cc)
-
-module _ (s : ScenarioParts) (said : IsScenario s) (air : List Entry) (lawful : Lawful s (scenario_clock s) air) (v f : ℕ) (known : knows s.nodes v ≡ true) where
-  by_tune : (o : Option Tune) (q : ℕ) → tune_at s v (scenario_clock s v) (heard_by air v) f ≡ o → probed_with f o ≡ Some q → is_backup s v ≡ true
-  by_tune None q tuned is = absurd (cc)
-  by_tune (Some (Scan r waited)) q tuned is = absurd (cc)
-  by_tune (Some (Hold r due)) q tuned is = absurd (cc)
-  by_tune (Some (Host r due)) q tuned is =
-      let power : Power = (at_frame s v (scenario_clock s v) (heard_by air v) f).power in
-      let now = in_run s f (tune_of power) (Host r due) tuned in
-      let on = on_node power (Host r due) now.1 in
-      ap above_first (own_of_host s (scenario_clock s) air (sound s said) lawful v f r due on.0 known on.1 on.2) ∙ (probing f r due q is).0
-
-  by_rank : (o : Option ℕ) → probed_rank s air f v ≡ o → is_backup s v ≡ false → o ≡ None
-  by_rank None is other = refl
-  by_rank (Some q) is other =
-      absurd (true≢false (sym (by_tune (tune_at s v (scenario_clock s v) (heard_by air v) f) q refl is) ∙ other))
-
-  pub never_idle : is_backup s v ≡ false → probed_rank s air f v ≡ None
-  never_idle other = by_rank (probed_rank s air f v) refl other

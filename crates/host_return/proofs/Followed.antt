@@ -16,7 +16,6 @@ use Rattle.air_log.specs.Safe.{Safe}
 use Rattle.law_safety.proofs.SafeRuns.{lawful_logs_are_safe}
 use Rattle.host_return.specs.Candidates.{IsNextReturn}
 use Rattle.host_return.specs.Courses.{IsFollowed, IsOneMore}
-use Rattle.host_return.specs.NodeTrails.{all_trails}
 use Rattle.host_return.specs.Returned.{Becomes, GoesBack, ReturnsEnd, Sixteen, ReturnedParts, counts_in, IsReturned}
 use Rattle.host_return.specs.declared.follow.Course.{Course}
 use Rattle.host_return.specs.declared.returned.Return.{Return}
@@ -35,12 +34,11 @@ copy_has_room s said none =
 
 -- at first there is no return
 pub nothing_yet : (read : ScenarioParts) (c : Course) → c.scenario ≡ read → c.returns.items ≡ [] → Lawful read (scenario_clock read) c.air
-    → c.trails.items ≡ all_trails read c.air → IsScenario read → IsFollowed read c
-nothing_yet read c same none lawful trails said = record {
+    → IsScenario read → IsFollowed read c
+nothing_yet read c same none lawful said = record {
   becomes = subst (λ (rs : List Return). Becomes read (reverse rs) c.scenario) (sym none) same;
   few = omega (arith, ap length none);
   lawful = subst (λ (s : ScenarioParts). Lawful s (scenario_clock s) c.air) (sym same) lawful;
-  trails = trails ∙ ap (λ (s : ScenarioParts). all_trails s c.air) (sym same);
   frames = sym (ap (λ (s : ScenarioParts). s.frames) same);
   said = subst IsScenario (sym same) said;
 }
@@ -61,7 +59,6 @@ one_more read old new less was more =
           (sym (ap reverse more.returns ∙ reverse-append old.returns.items (more.last ∷ []))) all;
       few = omega (arith, less, ap length more.returns, length_push old.returns.items more.last);
       lawful = more.lawful;
-      trails = more.trails;
       frames = was.frames ∙ sym (ap (λ (s : ScenarioParts). s.frames) more.added.parts);
       said = more.said;
     }

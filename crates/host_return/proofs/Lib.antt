@@ -1,7 +1,9 @@
 mod BackupHosts
-mod CountedProbes
 mod Followed
 mod Heard
+mod IdleCounted
+mod IdleInOrder
+mod IdleInRuns
 mod NodesProbing
 mod OneReturned
 mod ProbedStill
@@ -9,7 +11,6 @@ mod QuietReturns
 mod Restarting
 mod SettledProbes
 mod Since
-mod SomeIdle
 mod WishesInTick
 mod WishesKept
 mod WishesTold

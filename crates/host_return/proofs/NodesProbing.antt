@@ -1,57 +1,19 @@
--- Candidates by the traces of all nodes.
-use Rattle.std.proofs.Common.{◌≡◌, ℕ, ◌<◌, ◌≤◌, List, Bool, true, false, ◌&&◌, ◌||◌, ◌==◌, nat_lt, if◌then◌else◌, map, get_or, length, inl, inr, Option, Some, None, refl, sym, ◌∙◌, ap, subst, arith}
-use Rattle.std.proofs.lemmas.Bool.{cases_lt, cond-false, le-ltb, eqb-true, eq-eqb}
-use Rattle.std.proofs.lemmas.List.{get_or-map, length-map, get_or_default}
-use Rattle.std.proofs.lemmas.List.Elements.{Contains-get_or}
-use Rattle.std.proofs.lemmas.List.FromFn.{get_or-map-range_with_len, length-map-range_with_len}
-use Rattle.std.proofs.lemmas.Option.{slice_get-get_or, slice_get_past}
-use Rattle.std.specs.Prelude.{slice_get}
-use Rattle.std.specs.List.{range_with_len}
-use Rattle.std.specs.Option.{option_flatten}
-use Rattle.bus_rules.specs.declared.tune.Tune.{Tune}
+-- Probes of one node in one frame, and which come first.
+use Rattle.std.proofs.Common.{◌≡◌, ℕ, ◌<◌, ◌≤◌, List, Bool, true, false, ◌&&◌, ◌||◌, ◌==◌, nat_lt, inl, inr, length, get_or, Option, Some, refl, sym, ◌∙◌, ap, subst, arith}
+use Rattle.std.specs.Prelude.{AllPairs, Contains}
+use Rattle.std.proofs.lemmas.Bool.{cases_lt, cases_order, le-ltb, eqb-true}
+use Rattle.std.proofs.lemmas.List.{get_or_default}
 use Rattle.scenario_text.specs.FloodParts.{knows}
 use Rattle.scenario_text.specs.ScenarioFacts.{IsSoundScenario}
-use Rattle.scenario_text.specs.ScenarioGrammar.{IsScenario}
 use Rattle.scenario_text.specs.ScenarioParts.{ScenarioParts}
-use Rattle.scenario_text.specs.declared.lines.NodeLine.{NodeLine}
-use Rattle.scenario_clocks.specs.StatedClocks.{scenario_clock}
 use Rattle.radio_model.specs.declared.sending.Sending.{Sending}
-use Rattle.radio_model.proofs.Members.{any_of, some_of}
 use Rattle.air_log.specs.declared.entry.Entry.{Entry}
-use Rattle.air_log.specs.Lawful.{Lawful, heard_by}
-use Rattle.air_log.specs.Trails.{Reception, tune_at}
-use Rattle.air_log.specs.TrailsTold.{TrailTold, trail_told}
-use Rattle.host_return.specs.Candidates.{return_comes_before}
-use Rattle.host_return.specs.NodeTrails.{is_backup, told_for, trail_for, all_trails, probed_by}
-use Rattle.host_return.specs.Probes.{Brings, probed_with, probed_rank}
-use Rattle.host_return.proofs.BackupHosts.{never_idle}
+use Rattle.world_engine.specs.declared.idle.Idle.{Idle}
+use Rattle.host_return.specs.Candidates.{return_comes_before, is_listed}
+use Rattle.host_return.specs.Probes.{Brings, probed_rank, idle_of}
 use Rattle.host_return.specs.declared.returned.Return.{Return}
-use Rattle.host_return.specs.declared.trails.NodeTrail.{NodeTrail}
-
-told_tune : (s : ScenarioParts) (v : ℕ) (clock : ℕ → ℕ) (hs : List Reception) (f : ℕ)
-    → option_flatten (slice_get (map (tune_at s v clock hs) (range_with_len 0 s.frames)) f) ≡ tune_at s v clock hs f
-told_tune s v clock hs f =
-    let tunes = map (tune_at s v clock hs) (range_with_len 0 s.frames) in
-    let none : Option Tune = None in
-    elim (cases_lt f s.frames) [
-      | inl less ↦
-          ap option_flatten (slice_get-get_or tunes f none (omega (arith, less, length-map-range_with_len (tune_at s v clock hs) 0 s.frames)))
-          ∙ get_or-map-range_with_len (tune_at s v clock hs) 0 s.frames f f none less (omega arith)
-      | inr past ↦
-          ap option_flatten (slice_get_past tunes f (omega (arith, past, length-map-range_with_len (tune_at s v clock hs) 0 s.frames)))
-          ∙ sym (cond-false (nat_lt f s.frames) _ none (le-ltb f s.frames past))
-    ]
-
-pub told_probe : (s : ScenarioParts) (air : List Entry) → IsScenario s → Lawful s (scenario_clock s) air → (v : ℕ) → knows s.nodes v ≡ true → (f : ℕ)
-    (t : Option TrailTold) → t ≡ told_for s air v → probed_by f t ≡ probed_rank s air f v
-told_probe s air said lawful v known f t is = ap (probed_by f) is ∙ by_test (is_backup s v) refl
-  where
-    own : TrailTold
-    own = trail_told s v (scenario_clock s v) (heard_by air v)
-
-    by_test : (b : Bool) → is_backup s v ≡ b → probed_by f (if b then Some own else None) ≡ probed_rank s air f v
-    by_test true backup = ap (probed_with f) (told_tune s v (scenario_clock s v) (heard_by air v) f)
-    by_test false other = sym (never_idle s said air lawful v f known other)
+use Rattle.host_return.proofs.IdleInOrder.{IsEarlier, idle_ordered}
+use Rattle.host_return.proofs.IdleInRuns.{idle_listed}
 
 pub moved_probe : (s : ScenarioParts) (air : List Entry) (f v g u : ℕ) (o : Option ℕ) → f ≡ g → v ≡ u → probed_rank s air f v ≡ o → probed_rank s air g u ≡ o
 moved_probe s air f v g u o frame node is =
@@ -60,41 +22,6 @@ moved_probe s air f v g u o frame node is =
 pub moved_brings : (s : ScenarioParts) (air : List Entry) (f v r g u q : ℕ) (x : Sending) → f ≡ g → v ≡ u → r ≡ q → Brings s air f v r x → Brings s air g u q x
 moved_brings s air f v r g u q x frame node rank is =
     subst (λ (n : ℕ). Brings s air g u n x) rank (subst (λ (n : ℕ). Brings s air g n r x) node (subst (λ (n : ℕ). Brings s air n v r x) frame is))
-
--- the trace at a place
-pub at_place : (s : ScenarioParts) (air : List Entry) (trails : List NodeTrail) (i : ℕ) (t : NodeTrail) (n : NodeLine) → trails ≡ all_trails s air → i < length trails
-    → t ≡ get_or trails i t → (i < length s.nodes) × (t ≡ trail_for s air (get_or s.nodes i n))
-at_place s air trails i t n is below at =
-    let less : i < length s.nodes = omega (arith, below, ap length is, length-map s.nodes (trail_for s air)) in
-    (less, at ∙ ap (λ (ts : List NodeTrail). get_or ts i t) is ∙ get_or-map (trail_for s air) s.nodes i n t less)
-
-pub trail_is : (s : ScenarioParts) (air : List Entry) (t : NodeTrail) (n : NodeLine) → t ≡ trail_for s air n → t.trail ≡ told_for s air t.node
-trail_is s air t n is = subst (λ (u : NodeTrail). u.trail ≡ told_for s air u.node) (sym is) refl
-
-pub node_known : (s : ScenarioParts) (air : List Entry) (t : NodeTrail) (i : ℕ) (n : NodeLine) → i < length s.nodes → t ≡ trail_for s air (get_or s.nodes i n)
-    → knows s.nodes t.node ≡ true
-node_known s air t i n below is =
-    any_of (λ (m : NodeLine). m.node == t.node) s.nodes (get_or s.nodes i n) (Contains-get_or s.nodes i n below)
-    (eq-eqb (get_or s.nodes i n).node t.node (sym (ap (λ (u : NodeTrail). u.node) is)))
-
--- a known node has a place
-pub place_of : (s : ScenarioParts) (v : ℕ) → knows s.nodes v ≡ true → (k : ℕ) × (k < length s.nodes) × ((n : NodeLine) → v ≡ (get_or s.nodes k n).node)
-place_of s v known =
-    let w = some_of (λ (m : NodeLine). m.node == v) s.nodes known in
-    let k = w.1.0 in
-    let below = w.1.1 in
-    let at = w.1.2 in
-    (k, below, λ n. sym (ap (λ (m : NodeLine). m.node) (get_or_default s.nodes k n w.0 below ∙ at) ∙ eqb-true w.0.node v w.2))
-
--- and where it is no earlier, it is no lower
-pub no_lower : (s : ScenarioParts) (i k : ℕ) (n : NodeLine) → IsSoundScenario s → i ≤ k → k < length s.nodes → (get_or s.nodes i n).node ≤ (get_or s.nodes k n).node
-no_lower s i k n sound le below = elim (cases_lt i k) [
-  | inl less ↦ let up = sound.ascending i k n less below in omega (arith, up)
-  | inr not ↦ let same = ap (λ (m : ℕ). (get_or s.nodes m n).node) (antisym i k le not) in omega (arith, same)
-]
-  where
-    antisym : (i k : ℕ) → i ≤ k → k ≤ i → i ≡ k
-    antisym i k a b = omega (arith, a, b)
 
 -- a candidate that comes in no earlier frame, and there with no lower id
 neither : (a e n : Bool) → a ≡ false → (e ≡ true → n ≡ false) → (a || (e && n)) ≡ false
@@ -107,3 +34,63 @@ not_earlier q r never up =
     let from : r.frame ≤ q.frame = elim (cases_lt q.frame r.frame) [ inl less ↦ absurd (never less) | inr at ↦ at ] in
     neither (nat_lt q.frame r.frame) (q.frame == r.frame) (nat_lt q.node r.node) (le-ltb q.frame r.frame from)
     (λ is. le-ltb q.node r.node (up (eqb-true q.frame r.frame is)))
+
+-- none of the first i is of the frame and the node of q
+abbrev pub NoneAmong : List Idle → ℕ → Return → Type 0
+NoneAmong idle i q = (k : ℕ) (d : Idle) → k < i → k < length idle → (get_or idle k d).frame ≡ q.frame → (get_or idle k d).node ≡ q.node → ⊥
+
+-- where a run lists who is idle, what is listed first comes first
+module _ (s : ScenarioParts) (air : List Entry) (sound : IsSoundScenario s) (idle : List Idle) (are : idle ≡ idle_of s air) where
+  -- the place of a probe
+  record HasPlace (f v : ℕ) : Type 0 where
+    pub place : ℕ
+    pub one : Idle
+    pub below : place < length idle
+    pub here : get_or idle place one ≡ one
+    pub frame : one.frame ≡ f
+    pub node : one.node ≡ v
+
+  place_of : (f v q : ℕ) → knows s.nodes v ≡ true → f < s.frames → probed_rank s air f v ≡ Some q → HasPlace f v
+  place_of f v q known less probes =
+      let is = idle_listed s air f v q known less probes in
+      let there : Contains idle is.idle = subst (λ (l : List Idle). Contains l is.idle) (sym are) is.there in
+      record { place = there.0; one = is.idle; below = there.1; here = there.2; frame = is.frame; node = is.node }
+
+  not_in : (i : ℕ) (q : Return) (w : HasPlace q.frame q.node) → NoneAmong idle i q → w.place < i → ⊥
+  not_in i q w none less =
+      none w.place w.one less w.below (ap (λ (y : Idle). y.frame) w.here ∙ w.frame) (ap (λ (y : Idle). y.node) w.here ∙ w.node)
+
+  pub first_listed : (i : ℕ) (one : Idle) → i < length idle → one ≡ get_or idle i one → (q r : Return) → knows s.nodes q.node ≡ true → q.frame < s.frames
+      → probed_rank s air q.frame q.node ≡ Some q.rank → r.frame ≡ one.frame → r.node ≡ one.node → NoneAmong idle i q → return_comes_before q r ≡ false
+  first_listed i one below at q r known in_run probes frame node none =
+      let w = place_of q.frame q.node q.rank known in_run probes in
+      let x : Idle = w.one in
+      let frame_x = w.frame in
+      let node_x = w.node in
+      elim (cases_order w.place i) [
+        | inl same ↦
+            let is : one ≡ x = at ∙ get_or_default idle i one x below ∙ ap (λ (n : ℕ). get_or idle n x) (sym same) ∙ w.here in
+            let frames = ap (λ (y : Idle). y.frame) is in
+            let nodes = ap (λ (y : Idle). y.node) is in
+            not_earlier q r (λ less. absurd (omega (arith, less, frame, frames, frame_x))) (λ alike. omega (arith, node, nodes, node_x))
+        | inr (inl less) ↦ absurd (not_in i q w none less)
+        | inr (inr more) ↦
+            let raw : IsEarlier (get_or idle i x) (get_or idle w.place x) = subst (AllPairs IsEarlier) (sym are) (idle_ordered s air sound) i w.place x more w.below in
+            let earlier : IsEarlier one x = subst (IsEarlier one) w.here
+            (subst (λ (y : Idle). IsEarlier y (get_or idle w.place x)) (sym (at ∙ get_or_default idle i one x below)) raw) in
+            let up = earlier.frame in
+            not_earlier q r (λ less. absurd (omega (arith, less, up, frame, frame_x)))
+            (λ alike. (let higher = earlier.node (omega (arith, alike, frame, frame_x)) in omega (arith, higher, node, node_x)))
+      ]
+
+  -- where none of all is fresh, a candidate is listed
+  pub none_fresh : (listed : List Return) (i : ℕ) (q : Return) → length idle ≤ i → knows s.nodes q.node ≡ true → q.frame < s.frames
+      → probed_rank s air q.frame q.node ≡ Some q.rank → (is_listed listed q ≡ false → NoneAmong idle i q) → is_listed listed q ≡ true
+  none_fresh listed i q all known in_run probes none = by_test (is_listed listed q) refl
+    where
+      by_test : (b : Bool) → is_listed listed q ≡ b → is_listed listed q ≡ true
+      by_test true is = is
+      by_test false is =
+          let w = place_of q.frame q.node q.rank known in_run probes in
+          let within = w.below in
+          absurd (not_in i q w (none is) (omega (arith, within, all)))

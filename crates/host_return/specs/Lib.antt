@@ -4,7 +4,6 @@ pub mod Restarts
 pub mod Returned
 pub mod AfterReturns
 pub mod Transmissions
-pub mod NodeTrails
 pub mod Wishes
 pub mod Courses
 pub mod OneReturned

@@ -13,6 +13,9 @@ use Rattle.air_log.specs.Entries.{sendings_of}
 use Rattle.air_log.specs.HearsAir.{HearsAir}
 use Rattle.air_log.specs.Lawful.{heard_by}
 use Rattle.air_log.specs.Trails.{frame_start, tune_at}
+use Rattle.scenario_text.specs.FloodParts.{knows}
+use Rattle.world_engine.specs.Idling.{all_idle}
+use Rattle.world_engine.specs.declared.idle.Idle.{Idle}
 
 -- the rank that a node with this tune probes in frame f: it is idle where it hosts a rank r above 0 and its next round is in
 -- a later frame, and then it probes rank f mod r
@@ -25,6 +28,19 @@ probed_with f (Some (Host r due)) = if nat_lt 0 r && nat_lt f due then Some (f %
 -- that of v in a run over the clocks that the scenario states, by its tune after the script lines of frame f
 abbrev pub probed_rank : ScenarioParts → List Entry → ℕ → ℕ → Option ℕ
 probed_rank s air f v = probed_with f (tune_at s v (scenario_clock s v) (heard_by air v) f)
+
+-- where nodes are idle, by frame and then node
+abbrev pub idle_of : ScenarioParts → List Entry → List Idle
+idle_of s air = all_idle s (scenario_clock s) air
+
+-- the rank that the host of a rank probes in frame f, where it is idle
+abbrev pub probed_from : ℕ → ℕ → Option ℕ
+probed_from f rank = if nat_lt 0 rank then Some (f % rank) else None
+
+-- so a node does, where it is idle
+pub record IsIdleIn (s : ScenarioParts) (air : List Entry) (i : Idle) : Type 0 where
+  pub known : knows s.nodes i.node ≡ true
+  pub probes : probed_rank s air i.frame i.node ≡ probed_from i.frame i.rank
 
 -- how many frames there are in which v is idle
 abbrev pub probes : ScenarioParts → List Entry → ℕ → ℕ

@@ -1,21 +1,20 @@
 //! Runs a scenario again and again, with one return more each time.
 
-ghost use Rattle.std.specs.Prelude.{◌≡◌, [], List, true, false, Ok, IfOk};
+ghost use Rattle.std.specs.Prelude.{◌≡◌, [], true, false, Ok, IfOk};
+ghost use Rattle.scenario_text.specs.ScenarioGrammar.{IsScenario};
 ghost use Rattle.scenario_clocks.specs.StatedClocks.{scenario_clock};
 ghost use Rattle.air_log.specs.Lawful.{Lawful};
 ghost use Rattle.air_log.specs.Safe.{Safe};
-ghost use Rattle.air_log.specs.declared.entry.Entry.{Entry as EntryOf};
 ghost use Rattle.host_return.specs.AfterReturns.{AllProbed, AllQuiet};
 ghost use Rattle.host_return.specs.Courses.{IsFollowed, IsOneMore};
-ghost use Rattle.host_return.specs.NodeTrails.{all_trails};
 ghost use Rattle.host_return.specs.Returned.{ReturnsEnd, IsReturned, counts_in};
 
 use crate::candidates::next_return;
+use crate::probes::counts_of;
 use crate::restart::lines_of;
-use crate::trails::{NodeTrail, probes, trails_of};
 use crate::{Return, Returned, Runner};
 use air_log::Air;
-use lwb_base::{Memory, NodeId};
+use lwb_base::Memory;
 use scenario_text::{Scenario, with_script};
 use std::alloc::Global;
 
@@ -36,18 +35,17 @@ pub fn follow_returns<R: Runner>(
     let mut course = Course::first(alloc, s, runner)?;
     while course.returns.len() < 16 {
         if !course.go_back(alloc, s, runner)? {
-            return course.finish(alloc);
+            return course.finish(alloc, runner);
         }
     }
-    course.finish(alloc)
+    course.finish(alloc, runner)
 }
 
-// The scenario with the lines of the returns so far, a run of it, and the traces of the backup hosts in that run.
+// The scenario with the lines of the returns so far, and a run of it.
 #[derive(Drop)]
 struct Course {
     scenario: Scenario,
     air: Air,
-    trails: Vec<NodeTrail>,
     returns: Vec<Return>,
 }
 
@@ -58,15 +56,14 @@ impl Course {
         ensures none { IfOk result (λ c. c.returns.items ≡ []) }
         ensures kept { IfOk result (λ c. R.kept runner.new c.scenario c.air) }
     {
+        let _frames = read.frames();
         let air = runner.run(alloc, read)?;
-        let trails = trails_of(alloc, read, &air)?;
         let Some(scenario) = with_script(alloc, read, &[])? else {
             unreachable!();
         };
         Ok(Course {
             scenario,
             air,
-            trails,
             returns: Vec::new(alloc),
         })
     }
@@ -80,33 +77,33 @@ impl Course {
     ) -> Result<bool, Memory>
         requires lawful { Lawful self.old.scenario (scenario_clock self.old.scenario) self.old.air }
         requires frames { read.now.frames ≡ self.old.scenario.frames }
-        requires trails { self.old.trails.items ≡ all_trails self.old.scenario self.old.air }
+        requires said { IsScenario self.old.scenario }
+        requires kept { R.kept runner.old self.old.scenario self.old.air }
         ensures more { result ≡ Ok true → IsOneMore read.now self.old self.new }
         ensures end { result ≡ Ok false → (self.new ≡ self.old) × ReturnsEnd read.now self.old.scenario self.old.air self.old.returns.items }
         ensures kept { result ≡ Ok true → R.kept runner.new self.new.scenario self.new.air }
         ensures no_run { result ≡ Ok false → runner.new ≡ runner.old }
     {
         let s = &self.scenario;
-        let Some(r) = next_return(alloc, read, s, &self.air, &self.trails, &self.returns)? else {
+        let Some(r) = next_return(alloc, read, s, &self.air, runner.idle(), &self.returns)? else {
             return Ok(false);
         };
         let lines = lines_of(alloc, s, &r)?;
         let Some(scenario) = with_script(alloc, s, &lines)? else {
             return Ok(false);
         };
+        let _frames = scenario.frames();
         let air = runner.run(alloc, &scenario)?;
-        let trails = trails_of(alloc, &scenario, &air)?;
         self.returns.push(r)?;
         self.air = air;
-        self.trails = trails;
         self.scenario = scenario;
         Ok(true)
     }
 
     // What came of it, with the counts of its run.
-    fn finish(self, alloc: Global) -> Result<Returned, Memory>
+    fn finish<R: Runner>(self, alloc: Global, runner: &R) -> Result<Returned, Memory>
         requires lawful { Lawful self.scenario (scenario_clock self.scenario) self.air }
-        requires trails { self.trails.items ≡ all_trails self.scenario self.air }
+        requires kept { R.kept runner.now self.scenario self.air }
         ensures { IfOk result (λ x. x ≡ record {
           scenario = self.scenario;
           returns = self.returns.items;
@@ -114,7 +111,7 @@ impl Course {
           counts = counts_in self.scenario self.air;
         }) }
     {
-        let counts = counts_of(alloc, &self.scenario, &self.trails)?;
+        let counts = counts_of(alloc, &self.scenario, runner.idle())?;
         let Course {
             scenario,
             air,
@@ -128,21 +125,4 @@ impl Course {
             counts,
         })
     }
-}
-
-// In how many frames each node is idle, by the traces of a run.
-fn counts_of(
-    alloc: Global,
-    s: &Scenario,
-    trails: &[NodeTrail],
-) -> Result<Vec<(NodeId, u32)>, Memory>
-    ensures { (air : List EntryOf) → Lawful s.now (scenario_clock s.now) air → trails.now ≡ all_trails s.now air
-        → IfOk result (λ counts. counts.items ≡ counts_in s.now air) }
-{
-    let frames = s.frames();
-    let mut counts = Vec::new(alloc);
-    for trail in trails {
-        counts.push((trail.node, probes(&trail.trail, frames)))?;
-    }
-    Ok(counts)
 }

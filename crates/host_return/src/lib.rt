@@ -4,10 +4,10 @@
 mod candidates;
 mod follow;
 pub mod laws;
+mod probes;
 mod restart;
 mod returned;
 mod runner;
-mod trails;
 mod transmissions;
 
 pub use follow::follow_returns;

@@ -1,15 +1,17 @@
 //! Whatever runs scenarios.
 
-ghost use Rattle.std.specs.Prelude.{List, IfOk};
+ghost use Rattle.std.specs.Prelude.{◌≡◌, List, IfOk};
 ghost use Rattle.scenario_text.specs.ScenarioParts.{ScenarioParts};
 ghost use Rattle.scenario_clocks.specs.StatedClocks.{scenario_clock};
 ghost use Rattle.air_log.specs.Lawful.{Lawful};
 ghost use Rattle.air_log.specs.declared.entry.Entry.{Entry as EntryOf};
+ghost use Rattle.host_return.specs.Probes.{idle_of};
 
 use air_log::Air;
 use lwb_base::Memory;
 use scenario_text::Scenario;
 use std::alloc::Global;
+use world_engine::Idle;
 
 /// Whatever runs a scenario over the clocks that it states. It may keep something of its last run, and `kept` says what: by
 /// the scenario of that run, and by its log.
@@ -21,4 +23,8 @@ pub trait Runner {
     fn run(&mut self, alloc: Global, s: &Scenario) -> Result<Air, Memory>
         ensures lawful { IfOk result (Lawful s.now (scenario_clock s.now)) }
         ensures kept { IfOk result (kept self.new s.now) };
+
+    /// Where nodes were idle in the last run, by frame and then node. Such a node probes a lower rank.
+    fn idle(&self) -> &[Idle]
+        ensures { (s : ScenarioParts) (air : List EntryOf) → kept self.now s air → result.now ≡ idle_of s air };
 }

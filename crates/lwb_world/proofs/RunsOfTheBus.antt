@@ -20,6 +20,7 @@ has_run clocks old new has =
         cores = made.cores;
       };
       charges = has.charges;
+      idle = has.idle;
       setups = has.setups;
     }
 

@@ -127,6 +127,7 @@ impl<'a, C: DriftClock> World<'a, C> {
         ensures deliveries { result.deliveries.items ≡ self.entry.0.deliveries }
         ensures drops { result.drops.items ≡ self.entry.0.drops }
         ensures charges { result.charges.items ≡ self.entry.0.charges }
+        ensures idle { result.idle.items ≡ self.entry.0.idle }
     {
         let engine = self.engine;
         engine.into_parts()

@@ -13,6 +13,7 @@ use Rattle.air_log.specs.declared.entry.Entry.{Entry}
 use Rattle.air_log.specs.NodeCharges.{charges_in}
 use Rattle.lwb_world.specs.Runs.{IsRun}
 use Rattle.lwb_world.specs.Worlds.{HasRun}
+use Rattle.world_engine.specs.Idling.{all_idle}
 use Rattle.world_engine.specs.Worlds.{WorldState, new_world, core_of}
 
 -- a run over clocks is one over any that read the same
@@ -37,3 +38,10 @@ pub stated_charges : (s : ScenarioParts) (cs : List SegmentClock) (old new : Wor
 stated_charges s cs old new is same has =
     let over : WorldState → Type 0 = λ w. new.charges ≡ charges_in w.scenario (clocks_by segment_clock_reads w.scenario.nodes cs) new.air in
     subst (λ (c : ℕ → ℕ → ℕ). new.charges ≡ charges_in s c new.air) (fun_ext same) (subst over is has.charges)
+
+pub stated_idle : (s : ScenarioParts) (cs : List SegmentClock) (old new : WorldState) → old ≡ new_world s
+    → ((v : ℕ) → clocks_by segment_clock_reads s.nodes cs v ≡ scenario_clock s v)
+    → HasRun (clocks_by segment_clock_reads old.scenario.nodes cs) old new → new.idle ≡ all_idle s (scenario_clock s) new.air
+stated_idle s cs old new is same has =
+    let over : WorldState → Type 0 = λ w. new.idle ≡ all_idle w.scenario (clocks_by segment_clock_reads w.scenario.nodes cs) new.air in
+    subst (λ (c : ℕ → ℕ → ℕ). new.idle ≡ all_idle s c new.air) (fun_ext same) (subst over is has.idle)

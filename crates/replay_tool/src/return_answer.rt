@@ -23,6 +23,7 @@ use lwb_base::Memory;
 use lwb_world::RunParts;
 use scenario_text::{ParseFault, Scenario, parse};
 use std::alloc::Global;
+use world_engine::Idle;
 
 /// The report of a run in which backup hosts go back, of the scenario that the bytes are a text of, or the line of their first
 /// fault.
@@ -41,12 +42,13 @@ pub fn return_answer(alloc: Global, bytes: &[u8]) -> Result<Answer, Memory>
     Ok(Answer::Report(report, returned.into_air()))
 }
 
-// A world for each run, over the clocks that its scenario states. The lists of the last one are kept for the report.
+// A world for each run, over the clocks that its scenario states. The lists of the last one are kept.
 #[derive(Drop)]
 struct Worlds {
     deliveries: Vec<Delivery>,
     drops: Vec<DropLine>,
     charges: Vec<NodeCharge>,
+    idle: Vec<Idle>,
 }
 
 impl Worlds {
@@ -56,6 +58,7 @@ impl Worlds {
             deliveries: Vec::new(alloc),
             drops: Vec::new(alloc),
             charges: Vec::new(alloc),
+            idle: Vec::new(alloc),
         }
     }
 }
@@ -70,11 +73,17 @@ impl Runner for Worlds {
             deliveries,
             drops,
             charges,
+            idle,
         } = world.into_parts();
         self.deliveries = deliveries;
         self.drops = drops;
         self.charges = charges;
+        self.idle = idle;
         Ok(air)
+    }
+
+    fn idle(&self) -> &[Idle] {
+        &self.idle
     }
 }
 

@@ -6,6 +6,7 @@ ghost use Rattle.scenario_clocks.specs.ClockLists.{clocks_by};
 ghost use Rattle.scenario_clocks.specs.StatedClocks.{scenario_clock};
 ghost use Rattle.air_log.specs.NodeCharges.{charges_in};
 ghost use Rattle.lwb_world.specs.Runs.{IsRun};
+ghost use Rattle.world_engine.specs.Idling.{all_idle};
 ghost use Rattle.world_engine.specs.Worlds.{new_world, core_of};
 ghost use Rattle.replay_tool.specs.Answers.{Answers};
 ghost use Rattle.replay_tool.specs.declared.command.Command.TheVariants as asked;
@@ -56,6 +57,7 @@ pub fn log_answer(alloc: Global, bytes: &[u8]) -> Result<Answer, Memory>
 pub fn world_after(alloc: Global, s: &Scenario) -> Result<World<'_, SegmentClock>, Memory>
     ensures run { IfOk result (λ w. IsRun s.now (scenario_clock s.now) w.0.air w.0.deliveries w.0.drops (core_of w.0.cores)) }
     ensures charges { IfOk result (λ w. w.0.charges ≡ charges_in s.now (scenario_clock s.now) w.0.air) }
+    ensures idle { IfOk result (λ w. w.0.idle ≡ all_idle s.now (scenario_clock s.now) w.0.air) }
 {
     let mut world = stated_world(alloc, s)?;
     world.run(alloc)?;

@@ -140,9 +140,9 @@ module _ (s : ScenarioParts) (clocks : ℕ → ℕ → ℕ) where
         second false b is = cc
 
     -- so at each place the tune is that with which the frame begins
-    scans_here : (p : ℕ) (n : NodeLine) (d : DeviceState) → slice_get s.nodes p ≡ Some n → slice_get w.devices p ≡ Some d
-        → scans_with (tune_of d.power) ≡ scans_with (tune_at s n.node (clocks n.node) (heard_by w.air n.node) f)
-    scans_here p n d at there =
+    pub tune_here : (p : ℕ) (n : NodeLine) (d : DeviceState) → slice_get s.nodes p ≡ Some n → slice_get w.devices p ≡ Some d
+        → tune_of d.power ≡ tune_at s n.node (clocks n.node) (heard_by w.air n.node) f
+    tune_here p n d at there =
         let on = run.trails p n at in
         let v = n.node in
         let t = frame_start s f in
@@ -150,9 +150,9 @@ module _ (s : ScenarioParts) (clocks : ℕ → ℕ → ℕ) where
         let power : d.power ≡ on.device.power = ap (λ (x : DeviceState). x.power) state ∙ ap (λ (x : Device). x.power) on.shows.is in
         let lines = ap (λ (ls : List ScriptLine).
         (fold (device_after_line (clocks v) (setup_of s v) t) (before_tick s v (clocks v) (heard_by w.air v) t) ls).power) (own_lines v) in
-        ap (λ (x : Power). scans_with (tune_of x)) (power ∙ ap (λ (x : Device). x.power) on.at ∙ lines)
-        ∙ ap scans_with (sym (cond-true (nat_lt f s.frames)
-        (tune_of (device_after_script s v (clocks v) t (before_tick s v (clocks v) (heard_by w.air v) t)).power) None (lt-ltb f s.frames within)))
+        ap tune_of (power ∙ ap (λ (x : Device). x.power) on.at ∙ lines)
+        ∙ sym (cond-true (nat_lt f s.frames)
+        (tune_of (device_after_script s v (clocks v) t (before_tick s v (clocks v) (heard_by w.air v) t)).power) None (lt-ltb f s.frames within))
       where
         same : (x y : DeviceState) → (let o : Option DeviceState = Some x in o ≡ Some y) → x ≡ y
         same x y is = cc
@@ -171,6 +171,6 @@ module _ (s : ScenarioParts) (clocks : ℕ → ℕ → ℕ) where
             let as_one : Bool → ℕ = λ b. cond b 1 0 in
             let tests : ℕ → Bool = λ g. scans_with (tune_at s n.node (clocks n.node) (heard_by w.air n.node) g) in
             let more : scans_before s clocks w.air f n + scans_now on.shows.state ≡ scans_before s clocks w.air (f + 1) n =
-            ap (λ (b : Bool). scans_before s clocks w.air f n + as_one b) (scans_here p n on.shows.state at on.shows.there)
+            ap (λ (b : Bool). scans_before s clocks w.air f n + as_one b) (ap scans_with (tune_here p n on.shows.state at on.shows.there))
             ∙ sym (count_next tests f) in
             counted.each p on.shows.state (scans_before s clocks w.air f n) on.shows.there so_far ∙ ap (λ (k : ℕ). let o : Option ℕ = Some k in o) more

@@ -13,27 +13,31 @@ use Rattle.air_log.specs.Trails.{run_end, frame_start}
 use Rattle.world_engine.specs.Counting.{TrailsStay, scans_before, all_scans_before, AreCountedOn}
 use Rattle.world_engine.specs.Fields.{FieldState}
 use Rattle.world_engine.specs.Frames.{told_before, CountsScriptLinesBefore}
+use Rattle.world_engine.specs.Idling.{idle_before}
 use Rattle.world_engine.specs.Moments.{Before, InLines}
 use Rattle.world_engine.specs.Running.{IsRunning}
+use Rattle.world_engine.specs.declared.idle.Idle.{Idle}
 use Rattle.world_engine.proofs.CountedScans.{none_scanned, few_scans, scans_stay, scanned_on}
 use Rattle.world_engine.proofs.NextMoments.{starts_up}
 use Rattle.world_engine.proofs.PlacedNodes.{as_many_devices}
 use Rattle.world_engine.proofs.ScriptCuts.{told_at_cut, first_cut}
 
--- the run is at the beginning of frame f, line k of the script is the first that is not yet given, and it is counted in how many
--- frames each node scans
-pub record IsAtFrame (s : ScenarioParts) (clocks : ℕ → ℕ → ℕ) (k f : ℕ) (scanned : List ℕ) (w : FieldState) (due : List Due) : Type 0 where
+-- the run is at the beginning of frame f, line k of the script is the first that is not yet given, it is counted in how many
+-- frames each node scans, and listed where nodes are idle
+pub record IsAtFrame (s : ScenarioParts) (clocks : ℕ → ℕ → ℕ) (k f : ℕ) (scanned : List ℕ) (idle : List Idle) (w : FieldState) (due : List Due) : Type 0 where
   pub cut : CountsScriptLinesBefore s k f
   pub run : IsRunning s clocks (told_before s f) (frame_start s f) Before w due
   pub scanned_are : scanned ≡ all_scans_before s clocks w.air f
+  pub idle_are : idle ≡ idle_before s clocks w.air f
 
-pub first_frame : (s : ScenarioParts) (clocks : ℕ → ℕ → ℕ) (w : FieldState) (due : List Due) (places : ℕ) (scanned : List ℕ) → places ≡ length s.nodes
-    → scanned ≡ replicate places 0 → IsRunning s clocks [] 0 Before w due → IsAtFrame s clocks 0 0 scanned w due
-first_frame s clocks w due places scanned many are run = record {
+pub first_frame : (s : ScenarioParts) (clocks : ℕ → ℕ → ℕ) (w : FieldState) (due : List Due) (places : ℕ) (scanned : List ℕ) (idle : List Idle)
+    → places ≡ length s.nodes → scanned ≡ replicate places 0 → idle ≡ [] → IsRunning s clocks [] 0 Before w due → IsAtFrame s clocks 0 0 scanned idle w due
+first_frame s clocks w due places scanned idle many are none run = record {
   cut = first_cut s;
   run = subst (λ (told : List ScriptLine). IsRunning s clocks told (frame_start s 0) Before w due) (sym (told_at_cut s 0 0 (first_cut s)))
       (subst (λ (t : ℕ). IsRunning s clocks [] t Before w due) (omega arith) run);
   scanned_are = are ∙ ap (λ (n : ℕ). replicate n 0) many ∙ none_scanned s clocks w.air;
+  idle_are = none;
 }
 
 -- before the end of the last frame all lines are given
@@ -43,9 +47,9 @@ told_all s f (l ∷ ls) early =
     cond-true (nat_lt l.frame f) (l ∷ filter (λ k. nat_lt k.frame f) ls) (filter (λ k. nat_lt k.frame f) ls) (lt-ltb l.frame f (early l (contains_head l ls)))
     ∙ ap (λ (rest : List ScriptLine). l ∷ rest) (told_all s f ls (λ k there. early k (contains_tail l ls k there)))
 
-pub last_frame : (s : ScenarioParts) (clocks : ℕ → ℕ → ℕ) (sound : IsSoundScenario s) (k f : ℕ) (scanned : List ℕ) (w : FieldState) (due : List Due)
-    → f ≡ s.frames → IsAtFrame s clocks k f scanned w due → IsRunning s clocks s.script (run_end s) Before w due
-last_frame s clocks sound k f scanned w due last at =
+pub last_frame : (s : ScenarioParts) (clocks : ℕ → ℕ → ℕ) (sound : IsSoundScenario s) (k f : ℕ) (scanned : List ℕ) (idle : List Idle) (w : FieldState)
+    (due : List Due) → f ≡ s.frames → IsAtFrame s clocks k f scanned idle w due → IsRunning s clocks s.script (run_end s) Before w due
+last_frame s clocks sound k f scanned idle w due last at =
     subst (λ (told : List ScriptLine). IsRunning s clocks told (frame_start s s.frames) Before w due)
     (told_all s s.frames s.script (λ l there. (All-contains (IsScriptLine s) s.script l sound.script there).in_run))
     (subst (λ (g : ℕ). IsRunning s clocks (told_before s g) (frame_start s g) Before w due) last at.run)

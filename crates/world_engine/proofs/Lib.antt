@@ -1,3 +1,6 @@
+-- kept for the crates above
+pub mod IdleNodes
+-- for this crate alone
 mod ActsInTurn
 mod AheadInTick
 mod AirInTime

@@ -16,15 +16,19 @@ use Rattle.air_log.specs.NodeCharges.{charges_in}
 use Rattle.world_engine.specs.Counting.{all_scans_before, AreCharges}
 use Rattle.world_engine.specs.Fields.{FieldState, FieldIsShown}
 use Rattle.world_engine.specs.FieldSteps.{IsClosed}
+use Rattle.world_engine.specs.Idling.{all_idle}
 use Rattle.world_engine.specs.Moments.{Before}
 use Rattle.world_engine.specs.Running.{IsRunning, setup_by}
 use Rattle.world_engine.specs.Runs.{IsEngineRun, orders_left}
 use Rattle.world_engine.specs.Worlds.{WorldState, HasEngineRun, core_of, core_setup}
+use Rattle.world_engine.specs.declared.idle.Idle.{Idle}
 use Rattle.world_engine.proofs.ChargesOver.{charges_over}
+use Rattle.world_engine.proofs.IdleNodes.{heard_alike}
 use Rattle.world_engine.proofs.KnownAtPlaces.{shown_within}
 use Rattle.world_engine.proofs.RunOver.{run_over}
 use Rattle.world_engine.proofs.RunsOnAir.{hearing_followed}
 use Rattle.world_engine.proofs.TrailsGoOn.{AreClocks}
+use Rattle.world_engine.proofs.TrailsOver.{same_heard}
 
 module _ (s : ScenarioParts) (sound : IsSoundScenario s) (clocks : ℕ → ℕ → ℕ) (w : FieldState) (due : List Due)
     (run : IsRunning s clocks s.script (run_end s) Before w due) where
@@ -56,6 +60,14 @@ module _ (s : ScenarioParts) (sound : IsSoundScenario s) (clocks : ℕ → ℕ �
         charges_over s clocks w due closed sound drifts run over scanned charges counted
         (subst (λ (l : FieldState). AreCharges l.sums scanned charges) rest are)
         ∙ ap (λ (l : FieldState). charges_in s clocks l.air) (sym rest)
+
+    -- where they were idle
+    pub idle_left : (left : FieldState) → left ≡ record closed { deliveries = [] } → (idle : List Idle) → idle ≡ all_idle s clocks w.air
+        → idle ≡ all_idle s clocks left.air
+    idle_left left rest idle are =
+        are
+        ∙ heard_alike s clocks w.air closed.air (same_heard s clocks w due closed run over)
+        ∙ ap (λ (l : FieldState). all_idle s clocks l.air) (sym rest)
 
     -- and the set-ups of its cores
     pub cores_left : (left : FieldState) → left ≡ record closed { deliveries = [] } → map core_setup (map core_in left.devices) ≡ map (setup_by s) s.nodes

@@ -5,6 +5,7 @@ pub mod Moments
 pub mod Running
 pub mod Runs
 pub mod Counting
+pub mod Idling
 pub mod Worlds
 pub mod WorldShapes
 pub mod Frames

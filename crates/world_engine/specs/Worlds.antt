@@ -11,10 +11,12 @@ use Rattle.air_log.specs.declared.entry.Entry.{Entry}
 use Rattle.air_log.specs.declared.charge.NodeCharge.{NodeCharge}
 use Rattle.air_log.specs.NodeCharges.{charges_in}
 use Rattle.air_log.specs.Trails.{setup_of}
+use Rattle.world_engine.specs.Idling.{all_idle}
 use Rattle.world_engine.specs.Running.{setup_by}
 use Rattle.world_engine.specs.Runs.{IsEngineRun}
+use Rattle.world_engine.specs.declared.idle.Idle.{Idle}
 
--- ran: the run was begun; charges and cores: those of the nodes by ascending ids
+-- ran: the run was begun; charges and cores: those of the nodes by ascending ids; idle: by frame and then node
 pub record WorldState : Type 0 where
   pub scenario : ScenarioParts
   pub ran : Bool
@@ -22,6 +24,7 @@ pub record WorldState : Type 0 where
   pub deliveries : List Delivery
   pub drops : List DropLine
   pub charges : List NodeCharge
+  pub idle : List Idle
   pub cores : List NodeState
 
 -- the core of a node, if it is one of the scenario
@@ -38,7 +41,7 @@ new_core s n = record { setup = setup_of s n.node; node = rebooted 1; delivery =
 
 -- nothing has happened yet
 abbrev pub new_world : ScenarioParts → WorldState
-new_world s = record { scenario = s; ran = false; air = []; deliveries = []; drops = []; charges = []; cores = map (new_core s) s.nodes }
+new_world s = record { scenario = s; ran = false; air = []; deliveries = []; drops = []; charges = []; idle = []; cores = map (new_core s) s.nodes }
 
 -- what a run has left, over these clocks
 pub record HasEngineRun (clocks : ℕ → ℕ → ℕ) (old new : WorldState) : Type 0 where
@@ -46,5 +49,6 @@ pub record HasEngineRun (clocks : ℕ → ℕ → ℕ) (old new : WorldState) : 
   pub ran : new.ran ≡ true
   pub run : IsEngineRun old.scenario clocks new.air new.deliveries new.drops (core_of new.cores)
   pub charges : new.charges ≡ charges_in old.scenario clocks new.air
+  pub idle : new.idle ≡ all_idle old.scenario clocks new.air
   -- each node of the scenario has a core that is set up for it, and there is no other
   pub setups : map core_setup new.cores ≡ map (setup_by old.scenario) old.scenario.nodes

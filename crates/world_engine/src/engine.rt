@@ -6,8 +6,9 @@ ghost use Rattle.air_log.specs.ClockLists.{clocks_by};
 ghost use Rattle.world_engine.specs.Runs.{orders_left};
 ghost use Rattle.world_engine.specs.Worlds.{new_world, core_of, HasEngineRun};
 
-use crate::RunParts;
+use crate::{Idle, RunParts};
 use crate::field::Field;
+use crate::frames::FrameCounts;
 use air_log::{Air, NodeCharge};
 use bus_rules::{Delivery, DropLine};
 use event_calendar::Orders;
@@ -28,6 +29,7 @@ pub struct Engine<'a, C: DriftClock> {
     pub(crate) field: Field,
     pub(crate) deliveries: Vec<Delivery>,
     pub(crate) charges: Vec<NodeCharge>,
+    pub(crate) idle: Vec<Idle>,
 }
 
 impl<'a, C: DriftClock> Model for Engine<'a, C> {
@@ -46,6 +48,7 @@ impl<'a, C: DriftClock> Model for Engine<'a, C> {
         deliveries = w.deliveries.items;
         drops = w.field.drops;
         charges = w.charges.items;
+        idle = w.idle.items;
         cores = map core_in w.field.devices;
       },
       w.clocks.items,
@@ -68,6 +71,7 @@ impl<'a, C: DriftClock> Engine<'a, C> {
             field: Field::new(alloc, s)?,
             deliveries: Vec::new(alloc),
             charges: Vec::new(alloc),
+            idle: Vec::new(alloc),
         })
     }
 
@@ -85,13 +89,15 @@ impl<'a, C: DriftClock> Engine<'a, C> {
         let profile = self.scenario.profile();
         self.ran = true;
         let clocks = self.clocks.as_slice();
-        let scanned = self.field.frames(alloc, orders, self.scenario, clocks)?;
+        let counts = self.field.frames(alloc, orders, self.scenario, clocks)?;
+        let FrameCounts { scanned, idle } = counts;
         let end = u64::from(self.scenario.frames()) * profile.frame();
         self.field.close(end)?;
         let deliveries = self.field.take_deliveries(alloc)?;
         self.deliveries = deliveries;
         let charges = self.field.charges(alloc, scanned.as_slice())?;
         self.charges = charges;
+        self.idle = idle;
         Ok(())
     }
 
@@ -158,11 +164,13 @@ impl<'a, C: DriftClock> Engine<'a, C> {
         ensures deliveries { result.deliveries.items ≡ self.entry.0.deliveries }
         ensures drops { result.drops.items ≡ self.entry.0.drops }
         ensures charges { result.charges.items ≡ self.entry.0.charges }
+        ensures idle { result.idle.items ≡ self.entry.0.idle }
     {
         let Engine {
             field,
             deliveries,
             charges,
+            idle,
             ..
         } = self;
         let (air, drops) = field.into_log();
@@ -171,6 +179,7 @@ impl<'a, C: DriftClock> Engine<'a, C> {
             deliveries,
             drops,
             charges,
+            idle,
         }
     }
 }

@@ -8,6 +8,7 @@ ghost use Rattle.scenario_text.specs.declared.script.ScriptLine.{ScriptLine as L
 ghost use Rattle.air_log.specs.Trails.{run_end, frame_start};
 ghost use Rattle.air_log.specs.ClockLists.{clocks_by};
 ghost use Rattle.world_engine.specs.Counting.{TrailsStay, all_scans_before};
+ghost use Rattle.world_engine.specs.Idling.{all_idle};
 ghost use Rattle.world_engine.specs.Moments.{Before, InLines, At};
 ghost use Rattle.world_engine.specs.Running.{IsRunning};
 ghost use Rattle.world_engine.specs.Frames.{told_before, CountsScriptLinesBefore, IsNextLine, AllComeLater};
@@ -15,38 +16,48 @@ ghost use Rattle.world_engine.specs.Frames.{told_before, CountsScriptLinesBefore
 use crate::event_radio::EventRadio;
 use crate::field::Field;
 use crate::field_counts::none_scanned;
+use crate::idle::Idle;
 use event_calendar::{Class, Orders};
 use lwb_base::Memory;
 use scenario_text::{Scenario, ScriptLine};
 use std::alloc::Global;
 use tick_clock::DriftClock;
 
+// What is counted of all frames: in how many of them each device scans, by its place, and where nodes are idle.
+#[derive(Drop)]
+pub(crate) struct FrameCounts {
+    pub(crate) scanned: Vec<u32>,
+    pub(crate) idle: Vec<Idle>,
+}
+
 impl Field {
-    // All frames. What is given and what is due in a frame is done before the next one begins. It gives back in how many of
-    // them each device scans, by its place.
+    // All frames. What is given and what is due in a frame is done before the next one begins.
     pub(crate) fn frames<C: DriftClock, Q: Orders>(
         &mut self,
         alloc: Global,
         orders: &mut Q,
         s: &Scenario,
         clocks: &[C],
-    ) -> Result<Vec<u32>, Memory>
+    ) -> Result<FrameCounts, Memory>
         requires sound { IsSoundScenario s.now }
         requires clocks { length clocks.now ≡ length s.now.nodes }
         requires running { IsRunning s.now (clocks_by C.readings s.now.nodes clocks.now) [] 0 Before self.old (Q.map orders.old) }
         ensures running { OnOk result
             (IsRunning s.now (clocks_by C.readings s.now.nodes clocks.now) s.now.script (run_end s.now) Before self.new (Q.map orders.new)) }
-        ensures scanned { IfOk result (λ v. v.items ≡ all_scans_before s.now (clocks_by C.readings s.now.nodes clocks.now) self.new.air s.now.frames) }
+        ensures scanned { IfOk result (λ v. v.scanned.items ≡ all_scans_before s.now (clocks_by C.readings s.now.nodes clocks.now) self.new.air s.now.frames) }
+        ensures idle { IfOk result (λ v. v.idle.items ≡ all_idle s.now (clocks_by C.readings s.now.nodes clocks.now) self.new.air) }
     {
         let mut scanned = none_scanned(alloc, s.nodes().len())?;
+        let mut idle = Vec::new(alloc);
         let mut radio = EventRadio::new();
         let mut told = 0;
         for frame in 0..s.frames() {
             told = self.lines(orders, s, clocks, frame, told, &mut radio)?;
             self.count_scanners(&mut scanned);
+            self.list_idle(&mut idle, frame)?;
             self.events(orders, s, clocks, frame, &mut radio)?;
         }
-        Ok(scanned)
+        Ok(FrameCounts { scanned, idle })
     }
 
     // The script lines of a frame, of which this is the first. It gives back the first of a later frame.

@@ -11,7 +11,9 @@ mod field_counts;
 mod field_ends;
 mod field_script;
 mod frames;
+mod idle;
 mod run_parts;
 
 pub use engine::Engine;
+pub use idle::Idle;
 pub use run_parts::RunParts;

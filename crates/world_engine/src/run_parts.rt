@@ -1,5 +1,6 @@
 //! What is kept of a run after its engine.
 
+use crate::Idle;
 use air_log::{Air, NodeCharge};
 use bus_rules::{Delivery, DropLine};
 
@@ -14,4 +15,6 @@ pub struct RunParts {
     pub drops: Vec<DropLine>,
     /// What the windows of each node count and in how many frames it scans, by ascending ids.
     pub charges: Vec<NodeCharge>,
+    /// Where nodes were idle, by frame and then node.
+    pub idle: Vec<Idle>,
 }

@@ -1,48 +1,78 @@
-use Rattle.std.proofs.Common.{◌≡◌, ℕ, List, false, inl, inr, sym, ◌∙◌, subst, arith}
+use Rattle.std.proofs.Common.{◌≡◌, ◌+◌, ◌<◌, ◌≤◌, ℕ, List, false, inl, inr, length, get_or, sym, ◌∙◌, ap, subst, arith, rules}
 use Rattle.std.proofs.lemmas.Bool.{cases_lt}
+use Rattle.std.proofs.lemmas.List.{get_or_default}
+use Rattle.std.proofs.lemmas.List.Elements.{Contains-get_or}
+use Rattle.std.specs.Prelude.{Contains}
+use Rattle.scenario_text.proofs.SoundScenarios.{sound}
+use Rattle.world_engine.specs.declared.idle.Idle.{Idle}
+use Rattle.host_return.specs.Probes.{idle_of}
 use Rattle.host_return.proofs.Heard.{early_sent}
-use Rattle.host_return.proofs.NodesProbing.{not_earlier}
-use Rattle.std.specs.List.{list_any}
-use Rattle.host_return.specs.NodeTrails.{all_trails}
-use Rattle.host_return.specs.declared.trails.NodeTrail.{NodeTrail}
-use Rattle.host_return.proofs.SomeIdle.{is_ever_idle, no_candidate}
+use Rattle.host_return.proofs.IdleInOrder.{idle_ordered}
+use Rattle.host_return.proofs.IdleInRuns.{idle_in_run, idle_listed}
+use Rattle.host_return.proofs.NodesProbing.{first_listed, none_fresh}
 use Rattle.host_return.proofs.candidates.next_return.Goals as goal
 
-pub loop-frame-init : goal.loop-frame-init
-loop-frame-init c = λ q candidate fresh less. absurd (omega arith)
+pub loop-one-init : goal.loop-one-init
+loop-one-init c = λ q candidate fresh k d less within frame node. absurd (omega (arith, less))
 
-pub loop-frame-preserved : goal.loop-frame-preserved
-loop-frame-preserved c =
-    λ q candidate fresh less.
-    elim (cases_lt q.frame c.loop-frame.frame) [
-      | inl earlier ↦ c.loop-frame.invariant q candidate fresh earlier
-      | inr at ↦ c.in_default.ensures.none c.args.air.now c.requires.lawful c.requires.trails c.in_ok-sent.ensures.sent q candidate fresh
-          (omega (arith, less, at))
+pub loop-one-preserved : goal.loop-one-preserved
+loop-one-preserved c =
+    λ q candidate fresh k d less within frame node.
+    let air = c.args.air.now in
+    let idle = c.args.idle.now in
+    let i = c.loop-one.one-index in
+    let one : Idle = c.one-item.result in
+    elim (cases_lt k i) [
+      | inl earlier ↦ c.loop-one.invariant q candidate fresh k d earlier within frame node
+      | inr at ↦
+          let here : get_or idle k d ≡ one = ap (λ (n : ℕ). get_or idle n d) (same k i less at) ∙ get_or_default idle i d one c.loop-one-test.true
+          ∙ sym c.one-item.is in
+          c.in_default.ensures.none air c.in_ok-sent.ensures.sent
+          (idle_in_run c.args.s.now air one
+          (subst (λ (l : List Idle). Contains l one) c.requires.idle
+          (subst (Contains idle) (sym c.one-item.is) (Contains-get_or idle i one c.loop-one-test.true)))) q candidate fresh
+          (sym frame ∙ ap (λ (x : Idle). x.frame) here) (sym node ∙ ap (λ (x : Idle). x.node) here)
     ]
+  where
+    same : (k i : ℕ) → k < i + 1 → i ≤ k → k ≡ i
+    same k i less at = omega (arith, less, at)
 
-pub next_in_frame-requires-clause-early : goal.next_in_frame-requires-clause-early
-next_in_frame-requires-clause-early c =
-    early_sent c.args.s.now c.args.air.now c.in_ok-sent.sent c.frames-frame-end.ensures.said c.requires.lawful c.in_ok-sent.ensures.sent
+pub fresh_candidate-requires-clause-early : goal.fresh_candidate-requires-clause-early
+fresh_candidate-requires-clause-early c =
+    early_sent c.args.s.now c.args.air.now c.in_ok-sent.sent c.requires.said c.requires.lawful c.in_ok-sent.ensures.sent
 
 pub returns-in-Some-clause-some : goal.returns-in-Some-clause-some
 returns-in-Some-clause-some c =
+    let s = c.args.s.now in
+    let air = c.args.air.now in
+    let idle = c.args.idle.now in
+    let i = c.loop-one.one-index in
+    let one : Idle = c.one-item.result in
     let r = c.in-Some.next in
-    let got = c.in-Some.ensures.some c.args.air.now c.requires.lawful c.requires.trails c.in_ok-sent.ensures.sent in
+    let there : Contains (idle_of s air) one = subst (λ (l : List Idle). Contains l one) c.requires.idle
+    (subst (Contains idle) (sym c.one-item.is) (Contains-get_or idle i one c.loop-one-test.true)) in
+    let got = c.in-Some.ensures.some air c.in_ok-sent.ensures.sent (idle_in_run s air one there) in
     record {
       candidate = got.0;
       fresh = got.1;
       least = λ q candidate fresh.
-          not_earlier q r (λ less. c.loop-frame.invariant q candidate fresh (omega (arith, less, got.2)))
-          (λ same. got.3 q candidate fresh (same ∙ got.2));
+          first_listed s air (sound s c.requires.said) idle c.requires.idle i one c.loop-one-test.true c.one-item.is q r candidate.known
+          (let run = candidate.in_run in omega (arith, run, c.requires.frames)) candidate.probed.probes got.2 got.3
+          (c.loop-one.invariant q candidate fresh);
     }
 
-pub returns-then-not-is_some_idle-clause-none : goal.returns-then-not-is_some_idle-clause-none
-returns-then-not-is_some_idle-clause-none c =
+pub returns-clause-none : goal.returns-clause-none
+returns-clause-none c =
     λ q is.
-    let s = c.args.s.now in
-    let air = c.args.air.now in
-    let none : list_any (is_ever_idle s.frames) (all_trails s air) ≡ false =
-    subst (λ (ts : List NodeTrail). list_any (is_ever_idle s.frames) ts ≡ false) c.requires.trails
-    (subst (λ (k : ℕ). list_any (is_ever_idle k) c.args.trails.now ≡ false) c.frames.ensures.value
-    (sym c.is_some_idle.ensures ∙ c.if-not-is_some_idle.true)) in
-    absurd (no_candidate c.args.read.now s air c.frames.ensures.said c.requires.lawful c.requires.frames q is none)
+    let past = c.loop-one-test.false in
+    let run = is.in_run in
+    none_fresh c.args.s.now c.args.air.now (sound c.args.s.now c.requires.said) c.args.idle.now c.requires.idle c.args.listed.now c.loop-one.one-index q
+    (omega (arith, past)) is.known (omega (arith, run, c.requires.frames)) is.probed.probes (c.loop-one.invariant q is)
+
+pub returns-then-is_empty-clause-none : goal.returns-then-is_empty-clause-none
+returns-then-is_empty-clause-none c =
+    λ q is.
+    let run = is.in_run in
+    let none : length c.args.idle.now ≡ 0 = search rules in
+    none_fresh c.args.s.now c.args.air.now (sound c.args.s.now c.requires.said) c.args.idle.now c.requires.idle c.args.listed.now 0 q
+    (omega (arith, none)) is.known (omega (arith, run, c.requires.frames)) is.probed.probes (λ fresh k d less within frame node. absurd (omega (arith, less)))

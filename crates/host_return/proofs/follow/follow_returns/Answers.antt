@@ -6,7 +6,6 @@ use Rattle.air_log.specs.Lawful.{Lawful}
 use Rattle.air_log.specs.Safe.{Safe}
 use Rattle.host_return.specs.AfterReturns.{AllProbed, AllQuiet}
 use Rattle.host_return.specs.Courses.{IsOneMore}
-use Rattle.host_return.specs.NodeTrails.{all_trails}
 use Rattle.host_return.specs.Returned.{IsReturned}
 use Rattle.host_return.specs.declared.follow.Course.{Course}
 use Rattle.host_return.proofs.Followed.{one_more, ended_early, parts_of, sixteen, handed, run_is_safe}
@@ -49,10 +48,13 @@ finish-requires-clause-lawful g c =
     let end = c.in_ok-go_back.ensures.end (ap (λ (b : Bool). Ok b) c.if-not-branch.true) in
     subst (λ (k : Course). Lawful k.scenario (scenario_clock k.scenario) k.air) (sym end.0) c.loop-course.invariant.0.lawful
 
-pub finish-requires-clause-trails : goal.finish-requires-clause-trails
-finish-requires-clause-trails g c =
-    let end = c.in_ok-go_back.ensures.end (ap (λ (b : Bool). Ok b) c.if-not-branch.true) in
-    subst (λ (k : Course). k.trails.items ≡ all_trails k.scenario k.air) (sym end.0) c.loop-course.invariant.0.trails
+pub finish-requires-clause-kept : goal.finish-requires-clause-kept
+finish-requires-clause-kept g c =
+    let new = c.go_back.new.self in
+    let no_more = ap (λ (b : Bool). Ok b) c.if-not-branch.true in
+    let end = c.in_ok-go_back.ensures.end no_more in
+    subst (λ (r : g.row.R.Denot). g.R.Runner.kept r new.scenario new.air) (sym (c.in_ok-go_back.ensures.no_run no_more))
+    (subst (λ (k : Course). g.R.Runner.kept c.loop-course.runner k.scenario k.air) (sym end.0) c.loop-course.invariant.2)
 
 pub returns-then-not-branch : goal.returns-then-not-branch
 returns-then-not-branch g c =

@@ -1,4 +1,4 @@
-use Rattle.replay_tool.proofs.StatedRuns.{stated_run, stated_charges}
+use Rattle.replay_tool.proofs.StatedRuns.{stated_run, stated_charges, stated_idle}
 use Rattle.replay_tool.proofs.run_answer.world_after.Goals as goal
 
 pub returns-clause-run : goal.returns-clause-run
@@ -9,4 +9,9 @@ returns-clause-run c =
 pub returns-clause-charges : goal.returns-clause-charges
 returns-clause-charges c =
     stated_charges c.args.s.now c.in_ok-world.world.1 c.in_ok-world.world.0 c.run.new.self.0 c.in_ok-world.ensures.new c.in_ok-world.ensures.clocks
+    c.in_ok-run.ensures.run
+
+pub returns-clause-idle : goal.returns-clause-idle
+returns-clause-idle c =
+    stated_idle c.args.s.now c.in_ok-world.world.1 c.in_ok-world.world.0 c.run.new.self.0 c.in_ok-world.ensures.new c.in_ok-world.ensures.clocks
     c.in_ok-run.ensures.run

@@ -2,6 +2,7 @@ use Rattle.std.proofs.Common.{◌∙◌, ap, sym, subst}
 use Rattle.scenario_clocks.specs.StatedClocks.{scenario_clock}
 use Rattle.air_log.specs.Lawful.{Lawful}
 use Rattle.air_log.specs.NodeCharges.{charges_in}
+use Rattle.host_return.specs.Probes.{idle_of}
 use Rattle.replay_tool.proofs.return_answer.WorldsRunner.run.Goals as goal
 
 pub returns-clause-lawful : goal.returns-clause-lawful
@@ -18,4 +19,5 @@ returns-clause-kept c =
       deliveries = parts.deliveries ∙ run.deliveries ∙ run.bus.delivered;
       drops = parts.drops ∙ run.drops;
       charges = parts.charges ∙ c.in_ok-world.ensures.charges ∙ ap (charges_in s (scenario_clock s)) (sym parts.air);
+      idle = parts.idle ∙ c.in_ok-world.ensures.idle ∙ ap (idle_of s) (sym parts.air);
     }

@@ -5,13 +5,14 @@ use Rattle.event_calendar.specs.Orders.{nothing_due}
 use Rattle.air_log.specs.Trails.{run_end}
 use Rattle.air_log.specs.ClockLists.{clocks_by}
 use Rattle.world_engine.specs.Counting.{scans_before, all_scans_before}
+use Rattle.world_engine.specs.Idling.{all_idle}
 use Rattle.world_engine.specs.Moments.{Before}
 use Rattle.world_engine.specs.Running.{IsRunning}
 use Rattle.world_engine.specs.Worlds.{WorldState}
 use Rattle.world_engine.proofs.ChargesOver.{sums_at_nodes}
 use Rattle.world_engine.proofs.ClocksAtPlaces.{all_drift}
 use Rattle.world_engine.proofs.RunsBegin.{run_begins}
-use Rattle.world_engine.proofs.WorldRuns.{run_left, sums_left, charges_left, cores_left, has_run, has_left}
+use Rattle.world_engine.proofs.WorldRuns.{run_left, sums_left, charges_left, idle_left, cores_left, has_run, has_left}
 use Rattle.world_engine.proofs.engine.Engine.run_with.Goals as goal
 
 pub frames-requires-clause-sound : goal.frames-requires-clause-sound
@@ -35,7 +36,7 @@ returns-clause-run g c =
     let due = g.Q.Orders.map c.frames.new.orders in
     let run : IsRunning s (clocks_by g.C.DriftClock.readings s.nodes cs) s.script (run_end s) Before w due =
     subst (λ (l : List g.row.C.Denot). IsRunning s (clocks_by g.C.DriftClock.readings s.nodes l) s.script
-    (run_end s) Before w due) c.as_slice-clocks.ensures.value c.in_ok-scanned.ensures.running in
+    (run_end s) Before w due) c.as_slice-clocks.ensures.value c.in_ok-counts.ensures.running in
     let end : c.from.result * c.frame.result ≡ run_end s = search rules in
     let drifts = all_drift g.C.DriftClock.readings g.met.C.DriftClock.keeps_drift_law s.nodes cs in
     let left = run_left s (sound s c.profile-profile.ensures.said) (clocks_by g.C.DriftClock.readings s.nodes cs) w due run
@@ -44,14 +45,21 @@ returns-clause-run g c =
     let setups = cores_left s (sound s c.profile-profile.ensures.said) (clocks_by g.C.DriftClock.readings s.nodes cs) w due run
     (c.from.result * c.frame.result) end c.close.new.self c.in_ok-close.ensures
     c.take_deliveries.new.self c.take_deliveries.ensures.rest in
-    let scanned : c.in_ok-scanned.scanned.items ≡ all_scans_before s (clocks_by g.C.DriftClock.readings s.nodes cs) w.air s.frames =
-    subst (λ (l : List g.row.C.Denot). c.in_ok-scanned.scanned.items ≡ all_scans_before s
-    (clocks_by g.C.DriftClock.readings s.nodes l) w.air s.frames) c.as_slice-clocks.ensures.value c.in_ok-scanned.ensures.scanned in
+    let scanned : c.in_ok-counts.counts.scanned.items ≡ all_scans_before s (clocks_by g.C.DriftClock.readings s.nodes cs) w.air s.frames =
+    subst (λ (l : List g.row.C.Denot). c.in_ok-counts.counts.scanned.items ≡ all_scans_before s
+    (clocks_by g.C.DriftClock.readings s.nodes l) w.air s.frames) c.as_slice-clocks.ensures.value c.in_ok-counts.ensures.scanned in
     let charges = charges_left s (sound s c.profile-profile.ensures.said) (clocks_by g.C.DriftClock.readings s.nodes cs) w due run
     (c.from.result * c.frame.result) end c.close.new.self c.in_ok-close.ensures
     (all_drift g.C.DriftClock.readings g.met.C.DriftClock.keeps_drift_law s.nodes cs) c.take_deliveries.new.self c.take_deliveries.ensures.rest
     c.as_slice.result.now (c.as_slice.ensures.value ∙ scanned) c.in_ok-charges.charges.items c.in_ok-charges.ensures in
-    has_run g.C.DriftClock.readings _ c.args.self.now c.self.view_is _ (record { scenario = refl; ran = refl; run = left.0; charges = charges; setups = setups })
+    let listed : c.in_ok-counts.counts.idle.items ≡ all_idle s (clocks_by g.C.DriftClock.readings s.nodes cs) w.air =
+    subst (λ (l : List g.row.C.Denot). c.in_ok-counts.counts.idle.items ≡ all_idle s
+    (clocks_by g.C.DriftClock.readings s.nodes l) w.air) c.as_slice-clocks.ensures.value c.in_ok-counts.ensures.idle in
+    let idle = idle_left s (sound s c.profile-profile.ensures.said) (clocks_by g.C.DriftClock.readings s.nodes cs) w due run
+    (c.from.result * c.frame.result) end c.close.new.self c.in_ok-close.ensures
+    c.take_deliveries.new.self c.take_deliveries.ensures.rest c.in_ok-counts.counts.idle.items listed in
+    has_run g.C.DriftClock.readings _ c.args.self.now c.self.view_is _
+    (record { scenario = refl; ran = refl; run = left.0; charges = charges; idle = idle; setups = setups })
 
 pub returns-clause-left : goal.returns-clause-left
 returns-clause-left g c =
@@ -61,7 +69,7 @@ returns-clause-left g c =
     let due = g.Q.Orders.map c.frames.new.orders in
     let run : IsRunning s (clocks_by g.C.DriftClock.readings s.nodes cs) s.script (run_end s) Before w due =
     subst (λ (l : List g.row.C.Denot). IsRunning s (clocks_by g.C.DriftClock.readings s.nodes l) s.script
-    (run_end s) Before w due) c.as_slice-clocks.ensures.value c.in_ok-scanned.ensures.running in
+    (run_end s) Before w due) c.as_slice-clocks.ensures.value c.in_ok-counts.ensures.running in
     let end : c.from.result * c.frame.result ≡ run_end s = search rules in
     let drifts = all_drift g.C.DriftClock.readings g.met.C.DriftClock.keeps_drift_law s.nodes cs in
     let left = run_left s (sound s c.profile-profile.ensures.said) (clocks_by g.C.DriftClock.readings s.nodes cs) w due run
@@ -77,13 +85,13 @@ charges-requires g c =
     let due = g.Q.Orders.map c.frames.new.orders in
     let run : IsRunning s (clocks_by g.C.DriftClock.readings s.nodes cs) s.script (run_end s) Before w due =
     subst (λ (l : List g.row.C.Denot). IsRunning s (clocks_by g.C.DriftClock.readings s.nodes l) s.script
-    (run_end s) Before w due) c.as_slice-clocks.ensures.value c.in_ok-scanned.ensures.running in
+    (run_end s) Before w due) c.as_slice-clocks.ensures.value c.in_ok-counts.ensures.running in
     let end : c.from.result * c.frame.result ≡ run_end s = search rules in
     let sums = sums_left s (sound s c.profile-profile.ensures.said) (clocks_by g.C.DriftClock.readings s.nodes cs) w due run
     (c.from.result * c.frame.result) end c.close.new.self c.in_ok-close.ensures
     c.take_deliveries.new.self c.take_deliveries.ensures.rest in
     let enough = sums_at_nodes s (clocks_by g.C.DriftClock.readings s.nodes cs) w due run (sound s c.profile-profile.ensures.said) in
     let many = ap length c.as_slice.ensures.value in
-    let long = ap length c.in_ok-scanned.ensures.scanned in
+    let long = ap length c.in_ok-counts.ensures.scanned in
     let as_nodes = length-map s.nodes (scans_before s (clocks_by g.C.DriftClock.readings s.nodes c.as_slice-clocks.result.now) w.air s.frames) in
     omega (arith, enough, many, long, as_nodes, ap length sums)
