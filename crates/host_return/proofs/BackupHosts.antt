@@ -1,22 +1,19 @@
 -- Nodes that host, and those of them that probe.
-use Rattle.std.proofs.Common.{◌≡◌, ℕ, ◌<◌, List, Bool, true, false, ◌&&◌, nat_lt, if◌then◌else◌, Some, None, Option, refl, sym, ◌∙◌, ap, subst}
+use Rattle.std.proofs.Common.{◌≡◌, ℕ, ◌<◌, List, Bool, true, false, ◌&&◌, nat_lt, if◌then◌else◌, Some, None, Option, refl, ap, subst}
 use Rattle.std.specs.Prelude.{◌%◌}
-use Rattle.std.proofs.lemmas.Bool.{and_parts, ltb-true, true≢false}
+use Rattle.std.proofs.lemmas.Bool.{and_parts, ltb-true}
 use Rattle.bus_rules.specs.declared.tune.Tune.{Tune}
-use Rattle.bus_rules.specs.declared.tune.Tune.TheVariants.{Scan, Hold, Host}
+use Rattle.bus_rules.specs.declared.tune.Tune.TheVariants.{Host}
 use Rattle.bus_rules.specs.Cores.{own_rank}
 use Rattle.bus_rules.specs.Tuning.{hosts, rank_of}
 use Rattle.node_core.specs.Nodes.{Node}
 use Rattle.scenario_text.specs.FloodParts.{knows}
 use Rattle.scenario_text.specs.ScenarioFacts.{IsSoundScenario}
-use Rattle.scenario_text.specs.ScenarioGrammar.{IsScenario}
 use Rattle.scenario_text.specs.ScenarioParts.{ScenarioParts}
-use Rattle.scenario_text.proofs.SoundScenarios.{sound}
-use Rattle.scenario_clocks.specs.StatedClocks.{scenario_clock}
 use Rattle.air_log.specs.declared.entry.Entry.{Entry}
 use Rattle.air_log.specs.Devices.{Power, PowerOff, PowerOn}
 use Rattle.air_log.specs.Lawful.{Lawful, heard_by}
-use Rattle.air_log.specs.Trails.{frame_start, setup_of, tune_of, tune_at, at_frame}
+use Rattle.air_log.specs.Trails.{frame_start, setup_of, tune_of, at_frame}
 use Rattle.law_trails.specs.DeviceRanges.{IsPower}
 use Rattle.law_trails.proofs.LogsInRange.{all_through}
 use Rattle.law_safety.proofs.RunFacts.{known_id}

@@ -1,7 +1,7 @@
 -- In how many frames a node is idle, by where it is listed.
-use Rattle.std.proofs.Common.{◌≡◌, ℕ, zero, suc, ◌+◌, ◌<◌, List, [], ◌∷◌, ◌++◌, Bool, true, false, cond, ◌&&◌, ◌||◌, ◌==◌, nat_lt, if◌then◌else◌, filter_map, count_by, is_some, map, Option, Some, None, refl, sym, ◌∙◌, ap, arith, add-one}
+use Rattle.std.proofs.Common.{◌≡◌, ℕ, zero, suc, ◌+◌, ◌<◌, List, [], ◌∷◌, Bool, true, false, cond, ◌&&◌, ◌||◌, ◌==◌, nat_lt, if◌then◌else◌, filter_map, count_by, is_some, map, Option, Some, None, refl, sym, ◌∙◌, ap, arith, add-one}
 use Rattle.std.specs.Prelude.{◌%◌, ◌^◌, AllPairs, Contains}
-use Rattle.std.specs.List.{cons_option, list_any, range_with_len}
+use Rattle.std.specs.List.{cons_option, range_with_len}
 use Rattle.std.specs.Option.{option_map}
 use Rattle.std.proofs.lemmas.Bool.{eqb-true, eq-eqb}
 use Rattle.std.proofs.lemmas.List.FromFn.{length-range_with_len}
@@ -18,7 +18,7 @@ use Rattle.scenario_text.proofs.SoundScenarios.{sound}
 use Rattle.scenario_text.specs.declared.lines.NodeLine.{NodeLine}
 use Rattle.scenario_clocks.specs.StatedClocks.{scenario_clock}
 use Rattle.air_log.specs.declared.entry.Entry.{Entry}
-use Rattle.world_engine.specs.Idling.{idle_with, idle_node, idle_as, idle_at, idle_in, idle_before}
+use Rattle.world_engine.specs.Idling.{idle_with, idle_node, idle_at, idle_in, idle_before}
 use Rattle.world_engine.specs.declared.idle.Idle.{Idle}
 use Rattle.world_engine.proofs.IdleNodes.{frames_more}
 use Rattle.host_return.specs.Probes.{probed_with, probed_rank, probes, idle_of}

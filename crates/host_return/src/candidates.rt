@@ -1,6 +1,6 @@
 //! The next return in a run.
 
-ghost use Rattle.std.specs.Prelude.{◌≡◌, ◌≤◌, ◌^◌, List, true, false, IfOk, IfSome, IfNone, All};
+ghost use Rattle.std.specs.Prelude.{◌≡◌, ◌≤◌, ◌^◌, List, false, IfOk, IfSome, IfNone, All};
 ghost use Rattle.std.specs.List.{list_any};
 ghost use Rattle.scenario_clocks.specs.StatedClocks.{scenario_clock};
 ghost use Rattle.scenario_text.specs.ScenarioGrammar.{IsScenario};

@@ -21,7 +21,7 @@ use Rattle.bus_rules.specs.Cores.{Setup}
 use Rattle.bus_rules.specs.declared.delivery.DropLine.{DropLine}
 use Rattle.air_log.specs.declared.entry.Entry.{Entry}
 use Rattle.air_log.specs.Charges.{scans_with}
-use Rattle.air_log.specs.Devices.{Device, Power}
+use Rattle.air_log.specs.Devices.{Device}
 use Rattle.air_log.specs.DeviceStates.{DeviceState}
 use Rattle.air_log.specs.Lawful.{heard_by}
 use Rattle.air_log.specs.ScriptedDevices.{device_after_line}

@@ -7,8 +7,7 @@ use Rattle.scenario_text.proofs.SoundScenarios.{sound}
 use Rattle.world_engine.specs.declared.idle.Idle.{Idle}
 use Rattle.host_return.specs.Probes.{idle_of}
 use Rattle.host_return.proofs.Heard.{early_sent}
-use Rattle.host_return.proofs.IdleInOrder.{idle_ordered}
-use Rattle.host_return.proofs.IdleInRuns.{idle_in_run, idle_listed}
+use Rattle.host_return.proofs.IdleInRuns.{idle_in_run}
 use Rattle.host_return.proofs.NodesProbing.{first_listed, none_fresh}
 use Rattle.host_return.proofs.candidates.next_return.Goals as goal
 
