@@ -112,20 +112,43 @@ fn disturbance(profile: &Profile, near: &[Sending], reaches: &[Reach], x: &Sendi
     let mut late = 0;
     let mut mixed = 0;
     for (k, y) in near.iter().enumerate() {
-        let reach = &reaches[k];
-        let same = repeats(x, y);
-        busy |= busy_by(x, y, reach);
-        late |= late_by(profile, x, y, same, reach);
-        mixed |= mixed_by(x, y, same, reach);
+        let by = disturbed_by(profile, x, y, &reaches[k]);
+        busy |= by.busy;
+        late |= by.late;
+        mixed |= by.mixed;
     }
     Disturbed { busy, late, mixed }
 }
 
-// The sender of y, if y overlaps x.
-fn busy_by(x: &Sending, y: &Sending, reach: &Reach) -> u64
-    ensures { (nodes : List ℕ) → IsMask (λ v. y.now.node == v) nodes reach.now.from → IsMask (λ v. transmits v x.now y.now) nodes result }
+// What y does to x. Packets are compared last, and only if y overlaps x and comes to some node.
+fn disturbed_by(profile: &Profile, x: &Sending, y: &Sending, reach: &Reach) -> Disturbed
+    requires start { x.now.start ≤ 2 ^ 46 }
+    ensures busy { (nodes : List ℕ) → IsMask (λ v. y.now.node == v) nodes reach.now.from → IsMask (λ v. transmits v x.now y.now) nodes result.busy }
+    ensures late { (lines : Lines) (nodes : List ℕ) → IsMask (λ v. arrival profile.now lines v y.now) nodes reach.now.to
+        → IsMask (λ v. spoils profile.now lines v x.now y.now) nodes result.late }
+    ensures mixed { (lines : Lines) (nodes : List ℕ) → IsMask (λ v. arrival profile.now lines v y.now) nodes reach.now.to
+        → IsMask (λ v. differs profile.now lines v x.now y.now) nodes result.mixed }
 {
-    if overlap(x, y) { reach.from } else { 0 }
+    if !overlap(x, y) {
+        return Disturbed {
+            busy: 0,
+            late: 0,
+            mixed: 0,
+        };
+    }
+    if reach.to == 0 {
+        return Disturbed {
+            busy: reach.from,
+            late: 0,
+            mixed: 0,
+        };
+    }
+    let same = repeats(x, y);
+    Disturbed {
+        busy: reach.from,
+        late: late_by(profile, x, y, same, reach),
+        mixed: mixed_by(x, y, same, reach),
+    }
 }
 
 // The nodes to which y comes, if it repeats x but doesn't come in time.

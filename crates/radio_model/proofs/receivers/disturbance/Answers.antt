@@ -19,12 +19,12 @@ loop-k-preserved c =
     let is : (d : Reach) → IsReach p lines nodes y (get_or c.args.reaches.now k d) =
     λ d. subst (λ (z : Sending). IsReach p lines nodes z (get_or c.args.reaches.now k d)) (sym c.index-near-k.is) (are.each k y d c.loop-k-test.true) in
     record {
-      busy = one_more_near nodes (λ v. transmits v x) near k y c.loop-k.busy c.busy_by-busy.result c.loop-k-test.true c.index-near-k.is so_far.busy
-          (c.busy_by-busy.ensures nodes (is _).from);
-      late = one_more_near nodes (λ v. spoils p lines v x) near k y c.loop-k.late c.late_by-late.result c.loop-k-test.true c.index-near-k.is so_far.late
-          (c.late_by-late.ensures lines nodes (is _).to);
-      mixed = one_more_near nodes (λ v. differs p lines v x) near k y c.loop-k.mixed c.mixed_by-mixed.result c.loop-k-test.true c.index-near-k.is so_far.mixed
-          (c.mixed_by-mixed.ensures p lines nodes (is _).to);
+      busy = one_more_near nodes (λ v. transmits v x) near k y c.loop-k.busy c.disturbed_by-by.result.busy c.loop-k-test.true c.index-near-k.is so_far.busy
+          (c.disturbed_by-by.ensures.busy nodes (is _).from);
+      late = one_more_near nodes (λ v. spoils p lines v x) near k y c.loop-k.late c.disturbed_by-by.result.late c.loop-k-test.true c.index-near-k.is so_far.late
+          (c.disturbed_by-by.ensures.late lines nodes (is _).to);
+      mixed = one_more_near nodes (λ v. differs p lines v x) near k y c.loop-k.mixed c.disturbed_by-by.result.mixed c.loop-k-test.true c.index-near-k.is so_far.mixed
+          (c.disturbed_by-by.ensures.mixed lines nodes (is _).to);
     }
 
 pub returns : goal.returns
