@@ -1,12 +1,13 @@
 -- Masks of the nodes that receive a transmission.
-use Rattle.std.proofs.Common.{◌≡◌, ℕ, ◌<◌, ◌↔◌, List, Bool, take, bit_or, ◌+◌, subst, Contains, AllPairs, Ok, Err}
+use Rattle.std.proofs.Common.{◌≡◌, ℕ, ◌<◌, ◌↔◌, List, Bool, take, drop, bit_or, ◌+◌, subst, Contains, AllPairs, Ok, Err}
 use Rattle.std.proofs.Common.{inl, inr, true, false, not, ◌&&◌, ◌||◌, ◌==◌, ap, length, get_or, nat_lt, refl, sym, ◌∙◌, arith}
 use Rattle.std.proofs.lemmas.Bool.{lt-ltb, false≢true, eqb-true, eq-eqb, cases_order, cases_lt}
 use Rattle.std.proofs.lemmas.List.Sorted.{searched}
 use Rattle.std.specs.List.Sorted.{IsBinarySearchResult}
 use Rattle.std.specs.Ordering.{nat_cmp}
 use Rattle.lwb_base.proofs.Orders.{rising}
-use Rattle.std.proofs.lemmas.List.{get_or_default}
+use Rattle.std.proofs.lemmas.List.{get_or_default, take-append-drop}
+use Rattle.std.proofs.lemmas.List.Folds.{list_any-append}
 use Rattle.std.specs.Int.{bit_at}
 use Rattle.std.specs.List.{list_any}
 use Rattle.std.proofs.lemmas.Nat.Bits.{bit_at-zero}
@@ -27,6 +28,18 @@ with_true false = refl
 with_false : (b : Bool) → false ≡ (b && false)
 with_false true = refl
 with_false false = refl
+
+-- what the first k settle stays
+any_more : (test : Sending → Bool) (near : List Sending) (k : ℕ) → list_any test near ≡ (list_any test (take k near) || list_any test (drop k near))
+any_more test near k = ap (list_any test) (sym (take-append-drop k near)) ∙ list_any-append test (take k near) (drop k near)
+
+none_left : (n a b c l m : Bool) → one_if (n && (a && not b && not l)) ≡ 0 → one_if (n && (a && not (b || c) && not (l || m))) ≡ 0
+none_left false a b c l m so = refl
+none_left true false b c l m so = refl
+none_left true true true c l m so = refl
+none_left true true false true l m so = refl
+none_left true true false false true m so = refl
+none_left true true false false false m so = absurd (omega (arith, so))
 
 pub unless_lost : (free mixed chosen : Bool) → (free && not (mixed && not chosen)) ≡ (free && (not mixed || chosen))
 unless_lost free true true = refl
@@ -79,6 +92,16 @@ module _ (nodes : List ℕ) where
 
   pub shut_after : (b : Bool) (test : ℕ → Bool) → b ≡ false → IsMask (λ v. test v && b) nodes 0
   shut_after b test not_so = same_tests nodes (λ v. false) (λ v. test v && b) 0 (λ v. rw not_so (with_false (test v))) (empty_mask nodes)
+
+  -- where the first k leave no node
+  pub left_by_none : (kept : ℕ → Bool) (busy late : ℕ → Sending → Bool) (near : List Sending) (k mask : ℕ) → mask ≡ 0
+      → IsMask (λ v. kept v && not (list_any (busy v) (take k near)) && not (list_any (late v) (take k near))) nodes mask
+      → IsMask (λ v. kept v && not (list_any (busy v) near) && not (list_any (late v) near)) nodes 0
+  left_by_none kept busy late near k mask none is i =
+      let v = get_or nodes i 0 in
+      bit_at-zero i ∙ sym (rw (any_more (busy v) near k, any_more (late v) near k)
+      (none_left (nat_lt i (length nodes)) (kept v) (list_any (busy v) (take k near)) (list_any (busy v) (drop k near)) (list_any (late v) (take k near))
+      (list_any (late v) (drop k near)) (sym (is i) ∙ ap (λ (n : ℕ). bit_at n i) none ∙ bit_at-zero i)))
 
   -- where no node is in the mask
   pub none_lost : (test other : ℕ → Bool) (mask : ℕ) → mask ≡ 0 → IsMask test nodes mask → IsMask (λ v. test v && other v) nodes 0

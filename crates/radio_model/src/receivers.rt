@@ -1,7 +1,8 @@
 //! Which nodes receive a transmission, decided over a list of transmissions. Nodes are those of the seal of a trace, and bit i
 //! of a mask is that of node i.
 
-ghost use Rattle.std.specs.Prelude.{Bool, ◌≡◌, ◌==◌, ◌&&◌, ◌↔◌, ◌<◌, ◌≤◌, ◌^◌, ℕ, List, All, Contains, length, slice_index, not, true};
+ghost use Rattle.std.specs.Prelude.{Bool, ◌≡◌, ◌==◌, ◌&&◌, ◌↔◌, ◌<◌, ◌≤◌, ◌^◌, ℕ, List, All, Contains, length, slice_index, not, true, IfSome, IfNone};
+ghost use Rattle.std.specs.List.{list_any};
 ghost use Rattle.std.specs.Int.{bit_at};
 ghost use Rattle.std.specs.Str.{bytes_eq};
 ghost use Rattle.lwb_base.specs.Profile.{Numbers};
@@ -64,7 +65,10 @@ pub fn receivers(
     ensures { (a : Scene) (v : ℕ) → a.numbers ≡ profile.now → a.lines ≡ trace.now.lines → AreNear a.sendings x.now near.now → Contains a.sendings x.now
         → Contains nodes.now v → TunedThrough a v x.now → (IsAmong nodes.now result v ↔ HearsInScene a v x.now) }
 {
-    let Disturbed { busy, late, mixed } = disturbance(profile, near, reaches, x);
+    let Some(Disturbed { busy, late, mixed }) = disturbance(profile, near, reaches, x, reach.to)
+    else {
+        return 0;
+    };
     let lost = lost(profile, trace, nodes, near, x, mixed);
     let quiet = except(reach.to, busy);
     let clean = except(quiet, late);
@@ -101,12 +105,22 @@ pub struct Disturbed {
     pub mixed: u64,
 }
 
-// What those do to x that are near it.
-fn disturbance(profile: &Profile, near: &[Sending], reaches: &[Reach], x: &Sending) -> Disturbed
+// What those do to x that are near it, where x comes to these nodes. None where none of these nodes is left: each of them
+// transmits itself, or the packet of x comes to it at another time.
+fn disturbance(
+    profile: &Profile,
+    near: &[Sending],
+    reaches: &[Reach],
+    x: &Sending,
+    to: u64,
+) -> Option<Disturbed>
     requires start { x.now.start ≤ 2 ^ 46 }
     requires one_each { length reaches.now ≡ length near.now }
-    ensures { (lines : Lines) (nodes : List ℕ) → AreReaches profile.now lines nodes near.now reaches.now
-        → AreDisturbed profile.now lines nodes x.now near.now result }
+    ensures some { IfSome result (λ d. (lines : Lines) (nodes : List ℕ) → AreReaches profile.now lines nodes near.now reaches.now
+        → AreDisturbed profile.now lines nodes x.now near.now d) }
+    ensures none { IfNone result ((lines : Lines) (nodes : List ℕ) (m : ℕ → Bool) → length nodes ≤ 64
+        → AreReaches profile.now lines nodes near.now reaches.now → IsMask m nodes to
+        → IsMask (λ v. m v && not (list_any (transmits v x.now) near.now) && not (list_any (spoils profile.now lines v x.now) near.now)) nodes 0) }
 {
     let mut busy = 0;
     let mut late = 0;
@@ -116,8 +130,13 @@ fn disturbance(profile: &Profile, near: &[Sending], reaches: &[Reach], x: &Sendi
         busy |= by.busy;
         late |= by.late;
         mixed |= by.mixed;
+        let quiet = except(to, busy);
+        let left = except(quiet, late);
+        if left == 0 {
+            return None;
+        }
     }
-    Disturbed { busy, late, mixed }
+    Some(Disturbed { busy, late, mixed })
 }
 
 // What y does to x. Packets are compared last, and only if y overlaps x and comes to some node.
