@@ -1,5 +1,5 @@
 -- Transmissions by start, then node: what a sort by both leaves.
-use Rattle.std.proofs.Common.{◌≡◌, ℕ, List, Bool, get_or, AllPairs, sym, ◌∙◌, arith, true≢false}
+use Rattle.std.proofs.Common.{ℕ, List, Bool, get_or, AllPairs, sym, ◌∙◌, arith, true≢false}
 use Rattle.std.specs.Cmp.{IsStrictWeakOrder}
 use Rattle.std.specs.List.Sorted.{IsSortedBy}
 use Rattle.std.specs.Ordering.{nat_cmp, ordering_then, is_lt}

@@ -1,4 +1,4 @@
-use Rattle.std.proofs.Common.{◌+◌, ◌≤◌, ℕ, All, take, subst, arith}
+use Rattle.std.proofs.Common.{◌+◌, ◌≤◌, All, subst, arith}
 use Rattle.std.proofs.lemmas.List.{take_all}
 use Rattle.radio_model.specs.OnAir.{Sending}
 use Rattle.radio_model.proofs.OverlapWindows.{longer}

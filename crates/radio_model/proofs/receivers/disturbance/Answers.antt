@@ -41,11 +41,11 @@ returns-then-left-eq0-clause-none c =
     λ d. subst (λ (z : Sending). IsReach p lines nodes z (get_or c.args.reaches.now k d)) (sym c.index-near-k.is) (are.each k y d c.loop-k-test.true) in
     let busy = one_more_near nodes (λ v. transmits v x) near k y c.loop-k.busy c.disturbed_by-by.result.busy c.loop-k-test.true c.index-near-k.is so_far.busy
     (c.disturbed_by-by.ensures.busy nodes (is _).from) in
-    let late = one_more_near nodes (λ v. spoils p lines v x) near k y c.loop-k.late c.disturbed_by-by.result.late c.loop-k-test.true c.index-near-k.is so_far.late
-    (c.disturbed_by-by.ensures.late lines nodes (is _).to) in
+    let late = one_more_near nodes (λ v. spoils p lines v x) near k y c.loop-k.late c.disturbed_by-by.result.late c.loop-k-test.true c.index-near-k.is
+    so_far.late (c.disturbed_by-by.ensures.late lines nodes (is _).to) in
     let quiet = c.except-quiet.ensures nodes m (λ v. list_any (transmits v x) (take (k + 1) near)) few to busy in
-    let left = c.except-left.ensures nodes (λ v. m v && not (list_any (transmits v x) (take (k + 1) near))) (λ v. list_any (spoils p lines v x) (take (k + 1) near))
-    few quiet late in
+    let left = c.except-left.ensures nodes (λ v. m v && not (list_any (transmits v x) (take (k + 1) near)))
+    (λ v. list_any (spoils p lines v x) (take (k + 1) near)) few quiet late in
     left_by_none nodes m (λ v. transmits v x) (λ v. spoils p lines v x) near (k + 1) c.except-left.result c.if-left-eq0.true left
 
 pub returns-clause-some : goal.returns-clause-some
