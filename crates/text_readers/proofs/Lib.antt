@@ -5,4 +5,5 @@ pub mod LinesRead
 pub mod NumbersRead
 -- for this crate alone
 pub mod Digits
+pub mod BlanksFound
 pub mod WordsCut

@@ -1,6 +1,6 @@
 //! The lines of a text, and the words of a line.
 
-ghost use Rattle.std.specs.Prelude.{◌≡◌, ◌<◌, ◌==◌, ℕ, [], ◌∷◌, ◌++◌, IfOk, OnOk, filter, position, length, map, nat_lt};
+ghost use Rattle.std.specs.Prelude.{◌≡◌, ◌<◌, ◌==◌, ℕ, [], ◌∷◌, ◌++◌, IfOk, OnOk, filter, position, length, map, nat_le, nat_lt};
 ghost use Rattle.std.specs.Str.{bytes_eq, is_utf8 as is_utf8_of};
 ghost use Rattle.std.specs.Str.Lines.{lines, strip_carriage_return};
 ghost use Rattle.text_readers.specs.LineEnds.{IsLineAndRest};
@@ -64,14 +64,28 @@ pub fn split_into<'a>(words: &mut Vec<&'a [u8]>, line: &'a [u8]) -> Result<(), M
 fn blank(bytes: &[u8]) -> Option<usize>
     ensures { result ≡ position is_blank_of bytes.now }
 {
-    bytes.iter().position(|b| is_blank(*b))
+    let mut seen = 0;
+    while let Some(step) = low_byte(&bytes[seen..]) {
+        let end = seen + step;
+        if is_blank(bytes[end]) {
+            return Some(end);
+        }
+        seen = end + 1;
+    }
+    None
 }
 
 // Most bytes of a text are above both blanks, so one comparison passes over them.
+fn low_byte(bytes: &[u8]) -> Option<usize>
+    ensures { result ≡ position (λ b. nat_le b 32) bytes.now }
+{
+    bytes.iter().position(|b| *b <= b' ')
+}
+
 fn is_blank(byte: u8) -> bool
     ensures { result ≡ is_blank_of byte }
 {
-    byte <= b' ' && (byte == b' ' || byte == b'\t')
+    byte == b' ' || byte == b'\t'
 }
 
 // What is between two blanks is a word, unless it is empty.
