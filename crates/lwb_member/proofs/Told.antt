@@ -12,7 +12,7 @@ use Rattle.lwb_packets.specs.Requests as requests
 use Rattle.lwb_packets.specs.declared.data_packet.DataPacket.{DataPacket}
 use Rattle.lwb_packets.specs.declared.request.Request.{Request}
 use Rattle.schedule_codec.specs.Reading.{schedule_of}
-use Rattle.schedule_codec.specs.Spelling.{schedule_spelling, kind_byte, schedule_in_range}
+use Rattle.schedule_codec.specs.Spelling.{schedule_spelling, kind_byte}
 use Rattle.schedule_codec.proofs.Readings.{schedule_spelled}
 use Rattle.bus_rules.specs.Slots.{Message, ScheduleOf, DataOf, RequestOf}
 use Rattle.lwb_member.specs.declared.message.Heard.TheVariants.{Data as HeardData, Request as HeardRequest}

@@ -2,6 +2,7 @@
 use Rattle.std.specs.Prelude.{◌≡◌, ℕ, ◌≤◌, Bool, true, false, length, is_some, Some, None, ⊤}
 use Rattle.std.specs.declared.option.Option.{Option}
 use Rattle.std.specs.List.{list_all}
+use Rattle.lwb_base.specs.declared.limits.TheConstants.{MOST_BOOTS}
 use Rattle.lwb_base.specs.Messages.{Plan}
 use Rattle.lwb_packets.specs.Requests.{InRange}
 use Rattle.schedule_codec.specs.AckLists.{ask_in_range}
@@ -23,7 +24,7 @@ pub record IsPlan (p : Plan) : Type 0 where
   pub acks : list_all ask_in_range p.acks ≡ true
 
 abbrev pub IsBoot : ℕ → Type 0
-IsBoot boot = (1 ≤ boot) × (boot ≤ 200)
+IsBoot boot = (1 ≤ boot) × (boot ≤ MOST_BOOTS)
 
 -- what holds of a member at all times. joined: its tuner was given that it accepted this frame's opening
 pub record IsMember (s : Setup) (c : Core) (joined : Bool) : Type 0 where

@@ -1,6 +1,7 @@
 -- What is said in a slot, and its bytes.
 use Rattle.std.specs.Prelude.{◌≡◌, ℕ, true, ◌+◌, ◌*◌, ◌≤◌, List, length, if◌then◌else◌, slice_index, drop, Some, option_map}
 use Rattle.std.specs.declared.option.Option.{Option}
+use Rattle.lwb_base.specs.declared.limits.TheConstants.{GREATEST_ID}
 use Rattle.lwb_base.specs.Messages.{Ask}
 use Rattle.lwb_packets.specs.DataPackets.{is_data, data_spelling, InRange as IsData}
 use Rattle.lwb_packets.specs.Requests.{is_request, request_spelling, InRange as IsRequest}
@@ -37,8 +38,8 @@ bytes_of (RequestOf a) j = request_spelling (request_packet a j)
 -- what may be said in slot j: each part is in its range
 abbrev pub MaySay : ℕ → Message → Type 0
 MaySay j (ScheduleOf x) = schedule_in_range x j 0 ≡ true
-MaySay j (DataOf d) = IsData (data_packet d j) × (1 ≤ d.node) × (d.node ≤ 200) × (length d.payload ≤ 96)
-MaySay j (RequestOf a) = IsRequest (request_packet a j) × (1 ≤ a.node) × (a.node ≤ 200)
+MaySay j (DataOf d) = IsData (data_packet d j) × (1 ≤ d.node) × (d.node ≤ GREATEST_ID) × (length d.payload ≤ 96)
+MaySay j (RequestOf a) = IsRequest (request_packet a j) × (1 ≤ a.node) × (a.node ≤ GREATEST_ID)
 
 abbrev pub bytes_in_slot : ℕ → Message → List ℕ
 bytes_in_slot j m = bytes_of m j

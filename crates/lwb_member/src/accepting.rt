@@ -2,7 +2,7 @@
 
 ghost use Rattle.std.specs.Prelude.{◌≡◌, ◌≤◌, ◌+◌, ◌%◌, ◌==◌, true, false, Some, None, IfSome, if◌then◌else◌};
 ghost use Rattle.std.specs.Option.{option_map};
-ghost use Rattle.lwb_base.specs.declared.limits.TheConstants.{LAST_FRAME};
+ghost use Rattle.lwb_base.specs.declared.limits.TheConstants.{GREATEST_ID, LAST_FRAME};
 ghost use Rattle.lwb_packets.specs.Requests.{InRange};
 ghost use Rattle.schedule_codec.specs.AckLists.{ask_in_range};
 ghost use Rattle.bus_rules.specs.Plans.{slots_named};
@@ -153,7 +153,7 @@ impl Member {
 // What a request asks for.
 fn asked(request: &Request) -> Ack
     requires range { InRange request.now }
-    requires node { (1 ≤ request.now.node) × (request.now.node ≤ 200) }
+    requires node { (1 ≤ request.now.node) × (request.now.node ≤ GREATEST_ID) }
     ensures value { result ≡ record { node = request.now.node; boot = request.now.boot; stream = request.now.stream; interval = request.now.interval } }
     ensures range { ask_in_range result ≡ true }
 {

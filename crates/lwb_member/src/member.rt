@@ -1,7 +1,7 @@
 //! A node as a member of its rounds.
 
-ghost use Rattle.std.specs.Prelude.{◌≡◌, ◌≤◌, ◌<◌, Some, None, IfOk, IfSome, length, is_some, [], if◌then◌else◌};
-ghost use Rattle.lwb_base.specs.declared.limits.TheConstants.{LAST_FRAME};
+ghost use Rattle.std.specs.Prelude.{◌≡◌, ◌+◌, ◌≤◌, ◌<◌, Some, None, IfOk, IfSome, length, is_some, [], if◌then◌else◌};
+ghost use Rattle.lwb_base.specs.declared.limits.TheConstants.{DATA_SLOTS, LAST_FRAME};
 ghost use Rattle.bus_rules.specs.Plans.{last_slot as last_slot_of};
 ghost use Rattle.bus_rules.specs.Tuning.{rank_of};
 ghost use Rattle.bus_rules.specs.Cores.{booted, frame_ended, is_fresh, begins_host as begins};
@@ -99,7 +99,7 @@ impl Member {
         })
     }
 
-    /// As a new member, but with this boot number, 1 to 200.
+    /// As a new member, but with this boot number, 1 to `MOST_BOOTS`.
     pub fn reboot(&mut self, boot: u8)
         requires { IsBoot boot }
         ensures { self.new ≡ record self.old { core = booted boot } }
@@ -113,7 +113,7 @@ impl Member {
         self.kept = ArrayVec::new();
     }
 
-    /// How often its power came on, 1 to 200.
+    /// How often its power came on, 1 to `MOST_BOOTS`.
     pub fn boot(&self) -> u8
         ensures value { result ≡ self.now.core.boot }
         ensures range { IsBoot result }
@@ -224,18 +224,18 @@ impl Member {
         }
     }
 
-    /// The slot that closes the round of its plan, 2 to 45.
+    /// The slot that closes the round of its plan, 2 to `DATA_SLOTS + 5`.
     pub fn last_slot(&self) -> u8
         ensures value { result ≡ last_slot_of self.now.core.plan }
-        ensures range { (2 ≤ result) × (result ≤ 45) }
+        ensures range { (2 ≤ result) × (result ≤ DATA_SLOTS + 5) }
     {
         last_slot(&self.plan)
     }
 
-    /// How many data slots the round of its plan has, at most 40.
+    /// How many data slots the round of its plan has, at most `DATA_SLOTS`.
     pub fn owners(&self) -> u8
         ensures value { result ≡ length self.now.core.plan.owners }
-        ensures range { result ≤ 40 }
+        ensures range { result ≤ DATA_SLOTS }
     {
         self.plan.owners.count()
     }

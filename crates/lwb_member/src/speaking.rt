@@ -1,8 +1,8 @@
 //! What a member says in the slots of its round.
 
-ghost use Rattle.std.specs.Prelude.{◌≡◌, ◌≤◌, false, IfSome};
+ghost use Rattle.std.specs.Prelude.{◌≡◌, ◌+◌, ◌≤◌, false, IfSome};
 ghost use Rattle.std.specs.Option.{option_map, option_and_then};
-ghost use Rattle.lwb_base.specs.declared.limits.TheConstants.{LAST_FRAME};
+ghost use Rattle.lwb_base.specs.declared.limits.TheConstants.{DATA_SLOTS, LAST_FRAME};
 ghost use Rattle.lwb_packets.specs.declared.kind.Kind.TheVariants.{Schedule as OfSchedule, Payload as OfData, Request as OfRequest};
 ghost use Rattle.bus_rules.specs.Slots.{opened_slot, data_opened, contention_opened, silent};
 ghost use Rattle.bus_rules.specs.declared.part.Part.TheVariants.{Opening, Closing};
@@ -99,7 +99,7 @@ impl Member {
     // A data slot: of its own stream the node sends the packet that waits longest.
     #[tactic(auto, using(crate::proofs::Spoken::data_spoken, crate::proofs::Told::told_data))]
     fn send_data(&mut self, owner: Owner, slot: u8) -> Option<Packet>
-        requires { (1 ≤ slot) × (slot ≤ 40) }
+        requires { (1 ≤ slot) × (slot ≤ DATA_SLOTS) }
         ensures packet { result ≡ option_map (bytes_in_slot slot) (data_opened self.old.setup.id owner self.old.core).message }
         ensures told { option_and_then message_of result ≡ (data_opened self.old.setup.id owner self.old.core).message }
         ensures said { IfSome result (IsInitialPacket OfData) }
@@ -125,7 +125,7 @@ impl Member {
     // A contention slot, counted from 1: a fresh node whose own it is may request.
     #[tactic(auto, using(crate::proofs::Spoken::request_spoken))]
     fn request(&mut self, own: u8, slot: u8) -> Option<Packet>
-        requires { (1 ≤ slot) × (slot ≤ 44) }
+        requires { (1 ≤ slot) × (slot ≤ DATA_SLOTS + 4) }
         ensures packet { result ≡ option_map (bytes_in_slot slot) (contention_opened self.old.setup.id own self.old.core).message }
         ensures said { IfSome result (IsInitialPacket OfRequest) }
         ensures core { self.new ≡ record self.old { core = (contention_opened self.old.setup.id own self.old.core).core } }
