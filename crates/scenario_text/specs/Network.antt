@@ -4,7 +4,7 @@ use Rattle.std.specs.Prelude.{Some, None, Option, is_none, length, drop, codes, 
 use Rattle.std.specs.List.{list_all, list_any, flat_map}
 use Rattle.std.specs.Str.{bytes_eq}
 use Rattle.std.specs.Option.{option_map_or}
-use Rattle.lwb_base.specs.declared.limits.TheConstants.{DRIFT_BOUND}
+use Rattle.lwb_base.specs.declared.limits.TheConstants.{DRIFT_BOUND, GREATEST_ID}
 use Rattle.link_trace.specs.Order.{with_line as in_order_with, by_link, by_loss, by_cut, by_capture}
 use Rattle.link_trace.specs.Passes.{Lines, is_link, is_loss, is_cut, is_capture}
 use Rattle.link_trace.specs.Sealed.{no_lines}
@@ -50,7 +50,7 @@ abbrev pub no_network : DraftedNetwork
 no_network = record { sends = None; nodes = []; rates = []; trace = no_lines; scripted = 0 }
 
 abbrev pub is_id : ℕ → Bool
-is_id i = nat_le 1 i && nat_le i 200
+is_id i = nat_le 1 i && nat_le i GREATEST_ID
 
 -- two ids that differ
 abbrev pub are_ends : ℕ → ℕ → Bool

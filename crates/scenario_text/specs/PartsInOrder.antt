@@ -5,7 +5,7 @@ use Rattle.std.specs.List.{AllPairs}
 use Rattle.std.specs.Ordering.{nat_cmp, ordering_then}
 use Rattle.std.specs.declared.cmp.Ordering.{Ordering}
 use Rattle.lwb_base.specs.Profile.{IsProfile}
-use Rattle.lwb_base.specs.declared.limits.TheConstants.{DRIFT_BOUND}
+use Rattle.lwb_base.specs.declared.limits.TheConstants.{DRIFT_BOUND, GREATEST_ID, MOST_BOOTS}
 use Rattle.link_trace.specs.Order.{Ascends, by_link, by_loss, by_cut, by_capture}
 use Rattle.scenario_text.specs.FloodParts.{knows}
 use Rattle.scenario_text.specs.ScenarioFacts.{AreEnds, IsStepOf, IsScriptLine, turned}
@@ -17,7 +17,7 @@ use Rattle.scenario_text.specs.declared.script.Act.{Act}
 use Rattle.scenario_text.specs.declared.script.Act.TheVariants.{On, Off, Declare, Leave, Put}
 
 pub record IsNodeLine (n : NodeLine) : Type 0 where
-  pub id : (1 ≤ n.node) × (n.node ≤ 200)
+  pub id : (1 ≤ n.node) × (n.node ≤ GREATEST_ID)
   pub offset : n.offset ≤ 256000
 
 pub record IsRateLine (s : ScenarioParts) (r : RateLine) : Type 0 where
@@ -66,4 +66,4 @@ pub record IsInOrder (s : ScenarioParts) : Type 0 where
   pub script_ascends : AllPairs (λ a b. a.frame ≤ b.frame) s.script
   pub payload_bytes : All (λ l. All (λ b. b < 256) (carried l.act)) s.script
   pub few_lines : script_lines s ≤ 20000
-  pub few_boots : (v : ℕ) → (turned v (false, 0) s.script).1 ≤ 200
+  pub few_boots : (v : ℕ) → (turned v (false, 0) s.script).1 ≤ MOST_BOOTS

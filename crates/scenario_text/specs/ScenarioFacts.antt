@@ -3,7 +3,7 @@ use Rattle.std.specs.Prelude.{◌≡◌, ◌≢◌, ◌+◌, ◌*◌, ◌^◌, �
 use Rattle.std.specs.Int.RustNames.{unsigned_abs}
 use Rattle.std.specs.List.{AllPairs}
 use Rattle.lwb_base.specs.Profile.{Numbers, IsProfile}
-use Rattle.lwb_base.specs.declared.limits.TheConstants.{DRIFT_BOUND, LAST_STEP}
+use Rattle.lwb_base.specs.declared.limits.TheConstants.{DRIFT_BOUND, GREATEST_ID, LAST_STEP, MOST_BOOTS}
 use Rattle.link_trace.specs.Order.{Ascends, by_link, by_loss, by_cut, by_capture}
 use Rattle.scenario_text.specs.FloodParts.{knows}
 use Rattle.scenario_text.specs.ScenarioGrammar.{last_tick, greatest_slot_of}
@@ -60,7 +60,7 @@ pub record IsSoundScenario (s : ScenarioParts) : Type 0 where
   pub two_nodes : 2 ≤ length s.nodes
   pub few_nodes : length s.nodes ≤ 64
   pub node_frames : length s.nodes * s.frames ≤ 16384
-  pub ids : All (λ n. (1 ≤ n.node) × (n.node ≤ 200)) s.nodes
+  pub ids : All (λ n. (1 ≤ n.node) × (n.node ≤ GREATEST_ID)) s.nodes
   pub ascending : AllPairs (λ a b. a.node < b.node) s.nodes
   pub offsets : All (λ n. n.offset ≤ 256000) s.nodes
   pub rates_known : All (λ r. knows s.nodes r.node ≡ true) s.rates
@@ -82,4 +82,4 @@ pub record IsSoundScenario (s : ScenarioParts) : Type 0 where
   pub captures_ascend : Ascends by_capture s.trace.captures
   pub script : All (IsScriptLine s) s.script
   pub script_ascends : AllPairs (λ a b. a.frame ≤ b.frame) s.script
-  pub few_boots : (v : ℕ) → (turned v (false, 0) s.script).1 ≤ 200
+  pub few_boots : (v : ℕ) → (turned v (false, 0) s.script).1 ≤ MOST_BOOTS

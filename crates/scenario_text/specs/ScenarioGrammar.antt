@@ -8,7 +8,7 @@ use Rattle.std.specs.Str.{bytes_eq}
 use Rattle.std.specs.Str.Lines.{lines}
 use Rattle.lwb_base.specs.Profile.{Numbers, one, contended}
 use Rattle.lwb_base.specs.Messages.{greatest_slot}
-use Rattle.lwb_base.specs.declared.limits.TheConstants.{LAST_STEP}
+use Rattle.lwb_base.specs.declared.limits.TheConstants.{LAST_STEP, MOST_BOOTS, PLACES_BY_ID}
 use Rattle.link_trace.specs.Passes.{Lines}
 use Rattle.scenario_text.specs.FloodParts.{knows}
 use Rattle.scenario_text.specs.ScenarioParts.{ScenarioParts}
@@ -94,8 +94,8 @@ no_scenario = record {
   frames = None;
   hosts = [];
   script = [];
-  on = replicate 201 false;
-  boots = replicate 201 0;
+  on = replicate PLACES_BY_ID false;
+  boots = replicate PLACES_BY_ID 0;
 }
 
 -- the end of the last frame that a scenario may have
@@ -201,7 +201,7 @@ line_has_room d (Profile p) = true
 line_has_room d (Contend c) = true
 line_has_room d (Frames f) = true
 line_has_room d (Host r i) = true
-line_has_room d (On f i) = has_script_room d.network && (node_is_on d i || nat_lt (boots_of d i) 200)
+line_has_room d (On f i) = has_script_room d.network && (node_is_on d i || nat_lt (boots_of d i) MOST_BOOTS)
 line_has_room d (Off f i) = has_script_room d.network
 line_has_room d (Stream f i s n) = has_script_room d.network
 line_has_room d (Leave f i s) = has_script_room d.network

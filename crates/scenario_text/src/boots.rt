@@ -1,15 +1,17 @@
 //! How often each node boots along a script.
 
 ghost use Rattle.std.specs.Prelude.{◌≡◌, ◌<◌, ◌≤◌, ◌+◌, ℕ, ◌==◌, ◌||◌, if◌then◌else◌, nat_lt, true, false, slice_set, slice_index, slice_index_or};
+ghost use Rattle.lwb_base.specs.declared.limits.TheConstants.{GREATEST_ID, MOST_BOOTS};
 ghost use Rattle.scenario_text.specs.AddedLines.{boots_so_far};
 ghost use Rattle.scenario_text.specs.ScenarioFacts.{turned, turned_by};
 
 use crate::{Act, ScriptLine};
+use lwb_base::{MOST_BOOTS, PLACES_BY_ID};
 
-/// Whether no node boots more than 200 times along the script.
+/// Whether no node boots more than `MOST_BOOTS` times along the script.
 pub fn has_few_boots(script: &[ScriptLine]) -> bool
-    ensures few { result ≡ true → (v : ℕ) → (turned v (false, 0) script.now).1 ≤ 200 }
-    ensures many { result ≡ false → ((v : ℕ) → (turned v (false, 0) script.now).1 ≤ 200) → ⊥ }
+    ensures few { result ≡ true → (v : ℕ) → (turned v (false, 0) script.now).1 ≤ MOST_BOOTS }
+    ensures many { result ≡ false → ((v : ℕ) → (turned v (false, 0) script.now).1 ≤ MOST_BOOTS) → ⊥ }
 {
     let mut boots = Boots::none();
     for line in script {
@@ -23,8 +25,8 @@ pub fn has_few_boots(script: &[ScriptLine]) -> bool
 // For each id whether the node is on, and how often it booted.
 #[derive(Drop)]
 struct Boots {
-    on: [bool; 201],
-    counts: [u8; 201],
+    on: [bool; PLACES_BY_ID],
+    counts: [u8; PLACES_BY_ID],
 }
 
 impl Boots {
@@ -32,18 +34,18 @@ impl Boots {
         ensures { (v : ℕ) → boots_so_far result.on result.counts v ≡ (false, 0) }
     {
         Boots {
-            on: [false; 201],
-            counts: [0; 201],
+            on: [false; PLACES_BY_ID],
+            counts: [0; PLACES_BY_ID],
         }
     }
 
-    // What the line says happens. It is `false` where the node would boot for the 201st time.
+    // What the line says happens. It is `false` where the node would boot once too often.
     fn follow(&mut self, line: &ScriptLine) -> bool
-        requires { (v : ℕ) → (boots_so_far self.old.on self.old.counts v).1 ≤ 200 }
+        requires { (v : ℕ) → (boots_so_far self.old.on self.old.counts v).1 ≤ MOST_BOOTS }
         ensures told { result ≡ true → (v : ℕ) → boots_so_far self.new.on self.new.counts v
             ≡ (if line.now.node == v then turned_by line.now.act (boots_so_far self.old.on self.old.counts v) else boots_so_far self.old.on self.old.counts v) }
-        ensures few { result ≡ true → (v : ℕ) → (boots_so_far self.new.on self.new.counts v).1 ≤ 200 }
-        ensures many { result ≡ false → 200 < (turned_by line.now.act (boots_so_far self.old.on self.old.counts line.now.node)).1 }
+        ensures few { result ≡ true → (v : ℕ) → (boots_so_far self.new.on self.new.counts v).1 ≤ MOST_BOOTS }
+        ensures many { result ≡ false → MOST_BOOTS < (turned_by line.now.act (boots_so_far self.old.on self.old.counts line.now.node)).1 }
     {
         let id = usize::from(line.node.number());
         match &line.act {
@@ -57,15 +59,15 @@ impl Boots {
     }
 
     fn boot(&mut self, id: usize) -> bool
-        requires { id ≤ 200 }
+        requires { id ≤ GREATEST_ID }
         ensures on { result ≡ true → self.new.on ≡ slice_set self.old.on id true }
         ensures counts { result ≡ true → self.new.counts ≡ slice_set self.old.counts id
             (if slice_index_or self.old.on id false then slice_index self.old.counts id else slice_index self.old.counts id + 1) }
-        ensures room { result ≡ true → (slice_index_or self.old.on id false || nat_lt (slice_index self.old.counts id) 200) ≡ true }
-        ensures many { result ≡ false → (slice_index_or self.old.on id false ≡ false) × (200 ≤ slice_index self.old.counts id) }
+        ensures room { result ≡ true → (slice_index_or self.old.on id false || nat_lt (slice_index self.old.counts id) MOST_BOOTS) ≡ true }
+        ensures many { result ≡ false → (slice_index_or self.old.on id false ≡ false) × (MOST_BOOTS ≤ slice_index self.old.counts id) }
     {
         if !self.on[id] {
-            if self.counts[id] >= 200 {
+            if self.counts[id] >= MOST_BOOTS {
                 return false;
             }
             self.counts[id] += 1;

@@ -7,14 +7,14 @@ ghost use Rattle.scenario_text.specs.FloodParts.{knows as knows_of};
 ghost use Rattle.scenario_text.specs.Network.{are_ends, is_id as is_id_of};
 
 use crate::NodeLine;
-use lwb_base::{Memory, NodeId};
+use lwb_base::{GREATEST_ID, Memory, NodeId};
 use std::alloc::Global;
 
 /// Whether it is the id of a node.
 pub fn is_id(id: u64) -> bool
     ensures { result ≡ is_id_of id }
 {
-    1 <= id && id <= 200
+    1 <= id && id <= u64::from(GREATEST_ID)
 }
 
 /// The node with that id, if it is one.

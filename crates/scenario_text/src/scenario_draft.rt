@@ -17,7 +17,7 @@ use crate::network_draft::NetworkDraft;
 use crate::scenario::Scenario;
 use crate::scenario_line::ScenarioLine;
 use crate::{FaultKind, ScriptLine};
-use lwb_base::{NodeId, Profile};
+use lwb_base::{NodeId, PLACES_BY_ID, Profile};
 use std::alloc::Global;
 use std::marker::Model;
 use text_readers::{Draft, Refusal, refuse_unless};
@@ -34,8 +34,8 @@ pub struct ScenarioDraft {
     hosts: Vec<NodeId>,
     script: Vec<ScriptLine>,
     // For each id, whether the node is on, and how often it booted.
-    on: [bool; 201],
-    boots: [u8; 201],
+    on: [bool; PLACES_BY_ID],
+    boots: [u8; PLACES_BY_ID],
 }
 
 impl Model for ScenarioDraft {
@@ -79,8 +79,8 @@ impl ScenarioDraft {
             frames: None,
             hosts: Vec::new(alloc),
             script: Vec::new(alloc),
-            on: [false; 201],
-            boots: [0; 201],
+            on: [false; PLACES_BY_ID],
+            boots: [0; PLACES_BY_ID],
         }
     }
 

@@ -2,6 +2,7 @@
 
 ghost use Rattle.std.specs.Prelude.{◌≡◌, ◌&&◌, ◌||◌, [], ◌∷◌, true, IfOk, OnOk, nat_lt, nat_le};
 ghost use Rattle.std.specs.Option.{option_map_or};
+ghost use Rattle.lwb_base.specs.declared.limits.TheConstants.{MOST_BOOTS};
 ghost use Rattle.scenario_text.specs.FloodParts.{knows};
 ghost use Rattle.text_readers.specs.Faults.{first_fault, Refuses, RefusesBy};
 ghost use Rattle.scenario_text.specs.Network.{has_script_room, is_id as is_id_of};
@@ -13,7 +14,7 @@ ghost use Rattle.scenario_text.specs.declared.scenario_line.ScenarioLine.TheVari
 use super::ScenarioDraft;
 use crate::known_nodes::is_id;
 use crate::{Act, FaultKind, ScriptLine};
-use lwb_base::{NodeId, Payload};
+use lwb_base::{MOST_BOOTS, NodeId, Payload};
 use text_readers::{Refusal, refuse_unless};
 
 impl ScenarioDraft {
@@ -106,14 +107,14 @@ impl ScenarioDraft {
     }
 
     fn can_boot(&self, node: NodeId) -> bool
-        ensures { result ≡ (node_is_on self.now node || nat_lt (boots_of self.now node) 200) }
+        ensures { result ≡ (node_is_on self.now node || nat_lt (boots_of self.now node) MOST_BOOTS) }
     {
         let id = usize::from(node.number());
-        self.on[id] || self.boots[id] < 200
+        self.on[id] || self.boots[id] < MOST_BOOTS
     }
 
     fn boot(&mut self, node: NodeId)
-        requires { (node_is_on self.old node || nat_lt (boots_of self.old node) 200) ≡ true }
+        requires { (node_is_on self.old node || nat_lt (boots_of self.old node) MOST_BOOTS) ≡ true }
         ensures { self.new ≡ with_boot self.old node }
     {
         let id = usize::from(node.number());

@@ -1,6 +1,7 @@
 //! The lines of a scenario that its trace is of: losses, cuts and captures, each in a step of a slot.
 
-ghost use Rattle.std.specs.Prelude.{◌≡◌, ◌≤◌, if◌then◌else◌, Some, None, OnOk};
+ghost use Rattle.std.specs.Prelude.{◌≡◌, ◌+◌, ◌≤◌, if◌then◌else◌, Some, None, OnOk};
+ghost use Rattle.lwb_base.specs.declared.limits.TheConstants.{DATA_SLOTS};
 ghost use Rattle.text_readers.specs.Faults.{Refuses};
 ghost use Rattle.scenario_text.specs.ScenarioGrammar.{line_fault, line_added, greatest_slot_of as last_slot_of, is_step};
 ghost use Rattle.scenario_text.specs.declared.scenario_line.ScenarioLine.TheVariants.{Lose, Cut, Capture};
@@ -85,7 +86,7 @@ impl ScenarioDraft {
 
 fn last_slot(profile: &Profile) -> u64
     ensures value { result ≡ last_slot_of profile.now }
-    ensures small { result ≤ 45 }
+    ensures small { result ≤ DATA_SLOTS + 5 }
 {
     u64::from(greatest_slot(profile.contend()))
 }
