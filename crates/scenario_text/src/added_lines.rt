@@ -4,6 +4,7 @@ ghost use Rattle.std.specs.Prelude.{◌≡◌, ◌≤◌, ◌<◌, ◌+◌, ◌+
 ghost use Rattle.scenario_text.specs.AddedLines.{IsMerged, IsWithScript, HasRoom};
 ghost use Rattle.scenario_text.specs.PartsInOrder.{carried, script_lines};
 ghost use Rattle.scenario_text.specs.ScenarioFacts.{IsScriptLine};
+ghost use Rattle.scenario_text.specs.ScenarioGrammar.{IsScenario};
 ghost use Rattle.scenario_text.specs.ScenarioParts.{ScenarioParts};
 
 use crate::boots::has_few_boots;
@@ -23,7 +24,9 @@ pub fn with_script(
 ) -> Result<Option<Scenario>, Memory>
     requires in_range { All (IsScriptLine s.now) added.now }
     requires ascending { AllPairs (λ a b. a.frame ≤ b.frame) added.now }
+    ensures said { IsScenario s.now }
     ensures some { IfOk result (λ o. IfSome o (λ t. IsWithScript s.now added.now t × HasRoom t)) }
+    ensures still_said { IfOk result (λ o. IfSome o IsScenario) }
     ensures none { IfOk result (λ o. IfNone o ((t : ScenarioParts) → IsWithScript s.now added.now t → HasRoom t → ⊥)) }
 {
     let script = merged(alloc, s.script(), added)?;
