@@ -2,7 +2,7 @@
 use Rattle.std.specs.Prelude.{◌≡◌, ◌<◌, ◌≤◌, ◌^◌, ◌==◌, ℕ, ℤ, List, [], ◌∷◌, length, get_or, filter, All, ⊤}
 use Rattle.std.specs.Int.RustNames.{unsigned_abs}
 use Rattle.std.specs.List.{AllPairs}
-use Rattle.lwb_base.specs.declared.limits.TheConstants.{DRIFT_BOUND}
+use Rattle.lwb_base.specs.declared.limits.TheConstants.{DRIFT_BOUND, GREATEST_ID, PLACES_BY_ID}
 use Rattle.tick_clock.specs.Rates.{segment_reading}
 use Rattle.tick_clock.specs.ClockReadings.{segment_clock_reads}
 use Rattle.tick_clock.specs.declared.segment_clock.SegmentClock.{SegmentClock}
@@ -19,12 +19,12 @@ pub record CanState (nodes : List NodeLine) (rates : List RateLine) : Type 0 whe
 
 -- at the place of each id
 pub record AreRatesOf (rates : List RateLine) (lists : List (List (ℕ × ℤ))) : Type 0 where
-  pub ids : length lists ≡ 201
+  pub ids : length lists ≡ PLACES_BY_ID
   pub each : (v : ℕ) → get_or lists v [] ≡ rates_of rates v
 
 -- ids of nodes
 abbrev pub IsId : NodeLine → Type 0
-IsId n = (1 ≤ n.node) × (n.node ≤ 200)
+IsId n = (1 ≤ n.node) × (n.node ≤ GREATEST_ID)
 
 -- each clock reads what its node's offset and rates say
 abbrev pub AreClocks : List RateLine → List NodeLine → List SegmentClock → Type 0

@@ -1,6 +1,7 @@
 //! Makes the clocks that the lines of a text state.
 
 ghost use Rattle.std.specs.Prelude.{◌≡◌, ℕ, ◌^◌, ◌≤◌, ◌<◌, ◌++◌, ◌∷◌, [], IfOk, OnOk, All, get_or, length, set};
+ghost use Rattle.lwb_base.specs.declared.limits.TheConstants.{GREATEST_ID, PLACES_BY_ID};
 ghost use Rattle.tick_clock.specs.ClockReadings.{segment_clock_reads};
 ghost use Rattle.tick_clock.specs.Rates.{segment_reading, unordered_at, wild_at};
 ghost use Rattle.scenario_clocks.specs.ClockLists.{clocks_by};
@@ -8,13 +9,10 @@ ghost use Rattle.scenario_clocks.specs.StatedClocks.{rate_entry_of_line, stated_
 ghost use Rattle.scenario_clocks.specs.NodeRates.{AreRatesOf, CanState, IsId};
 
 use crate::node_rates::NodeRates;
-use lwb_base::{Memory, NodeId};
+use lwb_base::{Memory, NodeId, PLACES_BY_ID};
 use scenario_text::{NodeLine, RateLine};
 use std::alloc::Global;
 use tick_clock::{ClockFault, SegmentClock};
-
-/// Ids of nodes are below this number.
-const IDS: usize = 201;
 
 /// The clocks that these lines of a text state, one for each node by ascending ids. `Err` means out of memory.
 pub fn stated_clocks(
@@ -53,9 +51,9 @@ fn clock_of(alloc: Global, offset: u64, rates: &[(u64, i8)]) -> Result<SegmentCl
 }
 
 fn rates_of(lists: &[NodeRates], node: NodeId) -> &[(u64, i8)]
-    requires { length lists.now ≡ IDS }
+    requires { length lists.now ≡ PLACES_BY_ID }
     ensures value { result.now ≡ get_or lists.now node [] }
-    ensures range { (1 ≤ node) × (node ≤ 200) }
+    ensures range { (1 ≤ node) × (node ≤ GREATEST_ID) }
 {
     lists[node.number() as usize].entries()
 }
@@ -75,15 +73,15 @@ fn no_rates(alloc: Global) -> Result<Vec<NodeRates>, Memory>
     ensures { IfOk result (λ lists. AreRatesOf [] lists.items) }
 {
     let mut lists = Vec::new(alloc);
-    for _ in 0..IDS {
+    for _ in 0..PLACES_BY_ID {
         lists.push(NodeRates::new(alloc))?;
     }
     Ok(lists)
 }
 
 fn add_rate(lists: &mut Vec<NodeRates>, rate: &RateLine) -> Result<(), Memory>
-    requires { length lists.old.items ≡ IDS }
-    ensures range { rate.now.node ≤ 200 }
+    requires { length lists.old.items ≡ PLACES_BY_ID }
+    ensures range { rate.now.node ≤ GREATEST_ID }
     ensures added { OnOk result
         (lists.new.items ≡ set lists.old.items rate.now.node (get_or lists.old.items rate.now.node [] ++ rate_entry_of_line rate.now ∷ [])) }
 {
