@@ -2,6 +2,7 @@
 use Rattle.std.specs.Prelude.{◌≡◌, ℕ, ◌^◌, ◌<◌, ◌≤◌, List, [], ◌∷◌, ◌++◌, ◌==◌, if◌then◌else◌, Some, None, option_to_list, ⊤}
 use Rattle.std.specs.declared.option.Option.{Option}
 use Rattle.std.specs.Option.{IfSome}
+use Rattle.lwb_base.specs.declared.limits.TheConstants.{MOST_BOOTS}
 use Rattle.lwb_base.specs.declared.event.Event.{Event}
 use Rattle.lwb_base.specs.declared.event.Event.TheVariants.{Sent}
 use Rattle.lwb_base.specs.declared.order.Order.{Order}
@@ -121,9 +122,9 @@ abbrev pub told_of : (ℕ → ℕ) → Setup → ℕ → Option Sending → Devi
 told_of clock s t None d = d
 told_of clock s t (Some x) d = event clock s t Sent (Some x) d
 
--- there are at most 200 boots
+-- a node that is off may boot once more
 abbrev pub CanBoot : Power → Type 0
-CanBoot (PowerOff boots) = boots < 200
+CanBoot (PowerOff boots) = boots < MOST_BOOTS
 CanBoot (PowerOn n) = ⊤
 
 -- a packet that is lost, or none
