@@ -1,5 +1,6 @@
 -- How long each node sent and was tuned in a log, as it is summed.
 use Rattle.std.specs.Prelude.{◌≡◌, ◌≢◌, ℕ, ◌+◌, ◌%◌, ◌^◌, ◌<◌, List, length, slice_index_or, sum_by, ⊤}
+use Rattle.lwb_base.specs.declared.limits.TheConstants.{PLACES_BY_ID}
 use Rattle.air_log.specs.declared.entry.Entry.{Entry}
 use Rattle.air_log.specs.declared.entry.Entry.TheVariants.{Sent, Heard, Tuned}
 use Rattle.air_log.specs.Lawful.{sent_by, tuned_by}
@@ -12,8 +13,8 @@ pub record TimesState : Type 0 where
 
 -- the sums of a log as 64 bits have them
 pub record HasTimes (air : List Entry) (t : TimesState) : Type 0 where
-  pub sent : (v : ℕ) → v < 201 → slice_index_or t.sent v 0 ≡ sum_by sending_time (sent_by air v) % 2 ^ 64
-  pub on : (v : ℕ) → v < 201 → slice_index_or t.on v 0 ≡ sum_by tuning_time (tuned_by air v) % 2 ^ 64
+  pub sent : (v : ℕ) → v < PLACES_BY_ID → slice_index_or t.sent v 0 ≡ sum_by sending_time (sent_by air v) % 2 ^ 64
+  pub on : (v : ℕ) → v < PLACES_BY_ID → slice_index_or t.on v 0 ≡ sum_by tuning_time (tuned_by air v) % 2 ^ 64
 
 -- one of the sums is raised
 pub record IsRaised (v time : ℕ) (old new : List ℕ) : Type 0 where

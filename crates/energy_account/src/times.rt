@@ -1,6 +1,7 @@
 //! How long each node sent and was tuned in a log.
 
 ghost use Rattle.std.specs.Prelude.{◌≡◌, ◌<◌, ℕ, List, [], ◌∷◌, ◌++◌, IfOk, All, length, replicate, slice_index_or, get_or};
+ghost use Rattle.lwb_base.specs.declared.limits.TheConstants.{PLACES_BY_ID};
 ghost use Rattle.air_log.specs.declared.entry.Entry.{Entry as EntryOf};
 ghost use Rattle.energy_account.specs.Times.{HasTimes, IsRaised, EndsEarly};
 
@@ -18,13 +19,14 @@ pub(crate) struct Times {
 
 impl Model for Times {
     ghost use Rattle.std.specs.Prelude.{◌≡◌, length};
+    ghost use Rattle.lwb_base.specs.declared.limits.TheConstants.{PLACES_BY_ID};
     ghost use Rattle.energy_account.specs.Times.{TimesState};
 
     ghost Value = { TimesState };
 
     ghost view = { λ t. record { sent = t.sent.items; on = t.on.items } };
 
-    ghost invariant = { λ t. (length t.sent.items ≡ 201) × (length t.on.items ≡ 201) };
+    ghost invariant = { λ t. (length t.sent.items ≡ PLACES_BY_ID) × (length t.on.items ≡ PLACES_BY_ID) };
 }
 
 impl Times {
@@ -72,7 +74,7 @@ impl Times {
 }
 
 fn raise(times: &mut Vec<u64>, node: NodeId, time: u64)
-    requires { length times.old.items ≡ 201 }
+    requires { length times.old.items ≡ PLACES_BY_ID }
     ensures { IsRaised node time times.old.items times.new.items }
 {
     let i = usize::from(node.number());
@@ -80,7 +82,7 @@ fn raise(times: &mut Vec<u64>, node: NodeId, time: u64)
 }
 
 fn zeros(alloc: Global) -> Result<Vec<u64>, Memory>
-    ensures { IfOk result (λ v. v.items ≡ replicate 201 0) }
+    ensures { IfOk result (λ v. v.items ≡ replicate PLACES_BY_ID 0) }
 {
     let mut times = Vec::new(alloc);
     for _ in 0..PLACES_BY_ID {
