@@ -2,6 +2,7 @@
 use Rattle.std.specs.Prelude.{◌≡◌, ◌≢◌, ◌⊎◌, ℕ, ◌+◌, ◌≤◌, List, Contains, Some, None, filter_map, true}
 use Rattle.std.specs.declared.option.Option.{Option}
 use Rattle.std.specs.Option.{option_map}
+use Rattle.lwb_base.specs.declared.limits.TheConstants.{GREATEST_ID}
 use Rattle.lwb_base.specs.Profile.{one}
 use Rattle.tick_clock.specs.Clocks.{IsClock, due}
 use Rattle.lwb_packets.specs.declared.kind.Kind.TheVariants.{Payload}
@@ -17,7 +18,7 @@ use Rattle.lwb_flood.specs.FloodRun.{Run}
 -- a flood text, and a clock for each of its nodes that keeps the drift law
 pub record HasClocks (f : FloodParts) (clocks : ℕ → ℕ → ℕ) : Type 0 where
   pub sound : IsSound f
-  pub start : (1 ≤ f.start) × (f.start ≤ 200)
+  pub start : (1 ≤ f.start) × (f.start ≤ GREATEST_ID)
   pub drift : (v : ℕ) → knows f.nodes v ≡ true → IsClock (clocks v)
 
 -- the log as a run of the flood theorem: packets have 8 bytes, and there is one initiator

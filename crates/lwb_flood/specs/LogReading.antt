@@ -1,6 +1,7 @@
 -- Internal: what is kept of the receptions of a log while it is read.
 use Rattle.std.specs.Prelude.{◌≡◌, ℕ, ◌≤◌, ◌==◌, if◌then◌else◌, nat_le, List, Contains, length, get_or, set, option_map, Some, None}
 use Rattle.std.specs.declared.option.Option.{Option}
+use Rattle.lwb_base.specs.declared.limits.TheConstants.{PLACES_BY_ID}
 use Rattle.glossy_relay.specs.Relaying.{counter_of}
 use Rattle.air_log.specs.declared.entry.Entry.{Entry}
 use Rattle.air_log.specs.Entries.{hearings_of, hearing_in}
@@ -23,7 +24,7 @@ IsFirstReception hearings v (Some g) = EndsFirst hearings v g
 
 -- at the place of each id
 pub record AreFirst (air : List Entry) (firsts : List (Option FirstHearing)) : Type 0 where
-  pub ids : length firsts ≡ 201
+  pub ids : length firsts ≡ PLACES_BY_ID
   pub each : (v : ℕ) → IsFirstReception (hearings_of air) v (get_or firsts v None)
 
 abbrev pub kept_of : Hearing → ℕ × FirstHearing

@@ -1,6 +1,7 @@
 //! The world of a flood at its beginning.
 
 ghost use Rattle.std.specs.Prelude.{◌≡◌, ◌≤◌, ℕ, IfOk, map, slice_index, true};
+ghost use Rattle.lwb_base.specs.declared.limits.TheConstants.{GREATEST_ID};
 ghost use Rattle.scenario_text.specs.FloodParts.{IsSound};
 ghost use Rattle.lwb_base.specs.Profile.{one};
 ghost use Rattle.glossy_relay.specs.Relaying.{is_packet};
@@ -29,7 +30,7 @@ impl FloodWorld {
     pub(crate) fn new(alloc: Global, f: &FloodText) -> Result<FloodWorld, Memory>
         ensures world { IfOk result (λ w. w ≡ first_world f.now) }
         ensures sound { IfOk result (λ w. IsSound f.now) }
-        ensures start { IfOk result (λ w. (1 ≤ f.now.start) × (f.now.start ≤ 200)) }
+        ensures start { IfOk result (λ w. (1 ≤ f.now.start) × (f.now.start ≤ GREATEST_ID)) }
     {
         let nodes = node_ids(alloc, f.nodes())?;
         let mut medium = Medium::new(alloc, &Profile::one(), nodes.as_slice())?;
@@ -98,7 +99,7 @@ fn first_member(f: &FloodText, packet: &Packet, node: NodeId) -> Member
 fn first_packet(start: NodeId) -> Packet
     ensures value { result ≡ first_packet_of start }
     ensures spelled { (is_packet result ≡ true) × (slice_index result 2 ≡ 0) }
-    ensures start { (1 ≤ start) × (start ≤ 200) }
+    ensures start { (1 ≤ start) × (start ≤ GREATEST_ID) }
 {
     encode_payload(&DataPacket {
         slot: 1,

@@ -3,7 +3,7 @@
 ghost use Rattle.std.specs.Prelude.{◌≡◌, ◌≢◌, ℕ, suc, ◌≤◌, ◌↔◌, List, Contains, length, Some, true};
 ghost use Rattle.std.specs.declared.option.Option.{Option};
 ghost use Rattle.lwb_base.specs.Profile.{one};
-ghost use Rattle.lwb_base.specs.declared.limits.TheConstants.{LAST_STEP};
+ghost use Rattle.lwb_base.specs.declared.limits.TheConstants.{GREATEST_ID, LAST_STEP};
 ghost use Rattle.scenario_text.specs.FloodParts.{FloodParts, IsSound, knows};
 ghost use Rattle.bus_terms.specs.Flooding.{Sends, Hears};
 ghost use Rattle.bus_terms.specs.FloodOfText.{setting, ids, outcome};
@@ -51,5 +51,5 @@ pub fn flood_logs_accept_by_the_least_relay_path()
 
 /// The clocks that a flood text states keep the drift law, so what is said here holds of the logs over them.
 pub fn stated_clocks_keep_the_drift_law()
-    ensures { (f : FloodParts) → IsSound f → (1 ≤ f.start) × (f.start ≤ 200) → HasClocks f (stated_clock f) }
+    ensures { (f : FloodParts) → IsSound f → (1 ≤ f.start) × (f.start ≤ GREATEST_ID) → HasClocks f (stated_clock f) }
 {}

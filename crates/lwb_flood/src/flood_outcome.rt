@@ -1,6 +1,7 @@
 //! What one flood gives, read off its log.
 
 ghost use Rattle.std.specs.Prelude.{◌≡◌, ◌≤◌, ℕ, IfOk, length, slice_get, is_some, option_and_then, Some};
+ghost use Rattle.lwb_base.specs.declared.limits.TheConstants.{GREATEST_ID};
 ghost use Rattle.bus_terms.specs.FloodOfText.{ids, outcome};
 ghost use Rattle.air_log.specs.Entries.{sendings_of, sending_in};
 ghost use Rattle.air_log.specs.FloodLaw.{FloodLaw};
@@ -80,7 +81,7 @@ fn hearing_at(air: &Air, i: usize) -> Option<(NodeId, FirstHearing)>
 }
 
 fn keep_earlier(firsts: &mut [Option<FirstHearing>; PLACES_BY_ID], heard: (NodeId, FirstHearing))
-    ensures range { heard.0 ≤ 200 }
+    ensures range { heard.0 ≤ GREATEST_ID }
     ensures kept { firsts.new ≡ with_earlier firsts.old (Some heard) }
 {
     let (node, hearing) = heard;
