@@ -1,7 +1,7 @@
 -- The round after an acknowledgement: when it comes, and what slots it has.
 use Rattle.std.specs.Prelude.{◌≡◌, ◌≢◌, ◌<◌, ◌≤◌, ◌+◌, ◌-◌, ◌*◌, ◌/◌, ℕ, false, Contains}
 use Rattle.lwb_base.specs.Messages.{Ask, Plan, code_of}
-use Rattle.lwb_base.specs.declared.limits.TheConstants.{GREATEST_GAP}
+use Rattle.lwb_base.specs.declared.limits.TheConstants.{DATA_SLOTS, GREATEST_GAP}
 use Rattle.scenario_text.specs.ScenarioParts.{ScenarioParts}
 use Rattle.scenario_text.specs.ScenarioGrammar.{IsScenario}
 use Rattle.bus_rules.specs.declared.tune.Tune.TheVariants.{Host}
@@ -27,9 +27,9 @@ pub record PlansRound (s : ScenarioParts) (rank f : ℕ) (p : Plan) (host : ℕ)
   pub tune : next.tune ≡ Host rank due
   pub planned : next.plan ≡ plan
 
--- all that is owed by the next round fits into its 40 slots
+-- all that is owed by the next round fits into its data slots
 abbrev pub FitsNextRound : ScenarioParts → ℕ → ℕ → Core → ℕ → Type 0
-FitsNextRound s f host c due = total s.profile.seconds due (table_at f host c).entries ≤ 40
+FitsNextRound s f host c due = total s.profile.seconds due (table_at f host c).entries ≤ DATA_SLOTS
 
 -- the next round comes one frame to the greatest gap later
 abbrev pub RoundsFollow : Type 0
