@@ -1,6 +1,7 @@
 //! Random draws from a seeded generator.
 
 ghost use Rattle.std.specs.Prelude.{◌≡◌, ◌+◌, ◌%◌, ◌<◌, ◌≤◌};
+ghost use Rattle.lwb_base.specs.declared.limits.TheConstants.{GREATEST_ID};
 ghost use Rattle.scenario_maker.specs.Drawn.{seeded, later, drawn_word};
 
 use lwb_base::NodeId;
@@ -44,9 +45,9 @@ impl Draws {
         self.words.next_word() % count
     }
 
-    /// One of the nodes from 1 to `nodes`, which are at most 200.
+    /// One of the nodes from 1 to `nodes`, which are at most `GREATEST_ID`.
     pub fn node(&mut self, nodes: u32) -> NodeId
-        requires { (1 ≤ nodes) × (nodes ≤ 200) }
+        requires { (1 ≤ nodes) × (nodes ≤ GREATEST_ID) }
         ensures value { result ≡ 1 + drawn_word self.old 0 % nodes }
         ensures left { self.new ≡ later 1 self.old }
     {
@@ -54,9 +55,9 @@ impl Draws {
     }
 }
 
-/// The node of that number, 1 to 200.
+/// The node of that number, 1 to `GREATEST_ID`.
 pub fn node_of(number: u32) -> NodeId
-    requires { (1 ≤ number) × (number ≤ 200) }
+    requires { (1 ≤ number) × (number ≤ GREATEST_ID) }
     ensures { result ≡ number }
 {
     NodeId::new(number as u8).unwrap()

@@ -2,6 +2,7 @@
 
 ghost use Rattle.std.specs.Prelude.{◌≡◌, ◌+◌, ◌-◌, ◌≤◌, ◌<◌, ◌++◌, map, IfOk, OnOk};
 ghost use Rattle.std.specs.List.{flat_map, range_with_len};
+ghost use Rattle.lwb_base.specs.declared.limits.TheConstants.{GREATEST_ID};
 ghost use Rattle.scenario_maker.specs.Drawn.{later};
 ghost use Rattle.scenario_maker.specs.Made.{all_nodes, later_nodes, on_line, stream_line};
 ghost use Rattle.scenario_maker.specs.Made.{made_put_line as put_line_of, put_lines, frame_lines, script as whole_script};
@@ -107,7 +108,7 @@ fn add_puts(lines: &mut Vec<ScriptLine>, nodes: u32, frame: u32) -> Result<(), M
 
 // The number of the frame in two bytes, put by the node.
 fn put_line(frame: u32, node: u32) -> ScriptLine
-    requires node { (1 ≤ node) × (node ≤ 200) }
+    requires node { (1 ≤ node) × (node ≤ GREATEST_ID) }
     requires frame { frame < 4096 }
     ensures { result ≡ put_line_of frame node }
 {
