@@ -9,7 +9,7 @@ use Rattle.std.proofs.lemmas.List.{length-map}
 use Rattle.std.proofs.lemmas.List.Elements.{All-nil, All-cons, All-head, All-tail, All-map, All-weaker, All-filter}
 use Rattle.lwb_packets.specs.Ranges.{between}
 use Rattle.lwb_base.specs.Messages.{Ask, code_of}
-use Rattle.lwb_base.proofs.Lists.{length_cond, length_filtered, length_sifted}
+use Rattle.lwb_base.proofs.Lists.{length_filtered, length_sifted}
 use Rattle.schedule_codec.specs.AckLists.{ask_in_range}
 use Rattle.bus_rules.specs.Tables.{Entry, Table, AreEntries, EntriesAreAbove, EntriesAscend, no_table, has_code, entry_of, without, with_entry, is_full}
 use Rattle.bus_rules.specs.Tables.{new_entry, after_request, interval_in, interval_of, entry_after_data, missed}

@@ -1,6 +1,7 @@
 -- A device in its ranges: what its node keeps, what is ordered and sent, and what was sent.
 use Rattle.std.specs.Prelude.{ℕ, ◌<◌, ◌≤◌, List, All, length}
 use Rattle.std.specs.Option.{IfSome}
+use Rattle.lwb_base.specs.declared.limits.TheConstants.{MOST_BOOTS}
 use Rattle.bus_rules.specs.Cores.{Setup}
 use Rattle.air_log.specs.Devices.{Device, Power, PowerOff, PowerOn}
 use Rattle.air_log.specs.Trails.{Reception, setup_of, device_after_script, device_after_receptions, before_alarms, before_start, before_tick}
@@ -8,9 +9,9 @@ use Rattle.scenario_text.specs.ScenarioParts.{ScenarioParts}
 use Rattle.law_trails.specs.NodeRanges.{IsNodeInRange}
 use Rattle.law_trails.specs.SpokenRanges.{IsSpoken, IsProper}
 
--- at most 200 boots
+-- a node that is off has booted no more often than it may
 abbrev pub IsPower : Setup → Power → Type 0
-IsPower s (PowerOff boots) = boots ≤ 200
+IsPower s (PowerOff boots) = boots ≤ MOST_BOOTS
 IsPower s (PowerOn n) = IsNodeInRange s n
 
 -- Q holds of each packet that is ordered, sent or was sent

@@ -2,6 +2,7 @@
 
 ghost use Rattle.std.specs.Prelude.{◌≡◌, ◌≤◌, ℕ, suc, true, Contains, List, length};
 ghost use Rattle.std.specs.List.{list_all};
+ghost use Rattle.lwb_base.specs.declared.limits.TheConstants.{GREATEST_ID};
 ghost use Rattle.lwb_base.specs.Profile.{IsProfile, Numbers};
 ghost use Rattle.lwb_base.specs.Messages.{Ask, Schedule};
 ghost use Rattle.lwb_base.specs.declared.event.Event.{Event};
@@ -56,10 +57,10 @@ pub fn streams_stay_in_range()
 {}
 
 /// From a table and streams in their ranges, and few requests in theirs, a host makes a plan that can be written, and
-/// leaves a table and streams in their ranges. Its owners ascend, at most 40 of them.
+/// leaves a table and streams in their ranges. Its owners ascend, at most `DATA_SLOTS` of them.
 pub fn host_plans_can_be_written()
     ensures { (p : Numbers) (node boot rank frame : ℕ) (kept : List Ask) (t : Table) (s : Streams) → IsProfile p
-        → 1 ≤ node → node ≤ 200 → IsBoot boot → rank ≤ 3
+        → 1 ≤ node → node ≤ GREATEST_ID → IsBoot boot → rank ≤ 3
         → length kept ≤ slots_named p.contend → list_all ask_in_range kept ≡ true
         → IsTable t → AreStreams p s → IsHostPlan p rank boot (host_plan p node boot rank frame kept t s) }
 {}
@@ -91,13 +92,13 @@ pub fn rows_stay_in_range()
 /// longer than the profile's greatest packet (`before`). So it is after each phase of the tick, by what it received until then
 /// (`through`). Where all that it received is of the profile, so is all that it sends (`proper`).
 pub fn trails_stay_in_range()
-    ensures before { (s : ScenarioParts) → IsSoundScenario s → (v : ℕ) → 1 ≤ v → v ≤ 200
+    ensures before { (s : ScenarioParts) → IsSoundScenario s → (v : ℕ) → 1 ≤ v → v ≤ GREATEST_ID
         → (clock : ℕ → ℕ) (hs : List Reception) (t : ℕ) → AreShort s hs t
         → IsWell s v (before_tick s v clock hs t) }
-    ensures through { (s : ScenarioParts) → IsSoundScenario s → (v : ℕ) → 1 ≤ v → v ≤ 200
+    ensures through { (s : ScenarioParts) → IsSoundScenario s → (v : ℕ) → 1 ≤ v → v ≤ GREATEST_ID
         → (clock : ℕ → ℕ) (hs : List Reception) (t : ℕ) → AreShort s hs (suc t)
         → HoldsThrough (IsWell s v) s v clock hs t }
-    ensures proper { (s : ScenarioParts) → IsSoundScenario s → (v : ℕ) → 1 ≤ v → v ≤ 200
+    ensures proper { (s : ScenarioParts) → IsSoundScenario s → (v : ℕ) → 1 ≤ v → v ≤ GREATEST_ID
         → (clock : ℕ → ℕ) (hs : List Reception) (t : ℕ) → HeardBefore (IsFitting s.profile) hs (suc t)
         → HoldsThrough (IsWellAndProper s v) s v clock hs t }
 {}
@@ -114,5 +115,5 @@ pub fn packets_of_a_log_stay_in_range()
         → (v t : ℕ) → HeardBefore (IsFitting s.profile) (heard_by air v) t }
     ensures nodes { (s : ScenarioParts) → IsSoundScenario s → (clocks : ℕ → ℕ → ℕ) (air : List Entry)
         → FollowsTrails s clocks air → HearsWhatIsSent air
-        → (v t : ℕ) → 1 ≤ v → v ≤ 200 → HoldsThrough (IsWellAndProper s v) s v (clocks v) (heard_by air v) t }
+        → (v t : ℕ) → 1 ≤ v → v ≤ GREATEST_ID → HoldsThrough (IsWellAndProper s v) s v (clocks v) (heard_by air v) t }
 {}
