@@ -28,6 +28,6 @@ pub fn data_is_received_by_relay_paths()
 pub fn ranks_go_in_any_order()
     ensures states { (s : ScenarioParts) → IsSoundScenario s → (f v : ℕ) (order : List ℕ) → IsPermutation (ranks_of s) order
         → rounds_in_turn s f (state_at s f) order v ≡ rounds s f (state_at s f) v }
-    ensures deliveries { (s : ScenarioParts) (f rank : ℕ) (before : List ℕ) → has before rank ≡ false
+    ensures deliveries { (s : ScenarioParts) (rank f : ℕ) (before : List ℕ) → has before rank ≡ false
         → round_deliveries s rank f (rounds_in_turn s f (state_at s f) before) ≡ round_deliveries s rank f (state_at s f) }
 {}

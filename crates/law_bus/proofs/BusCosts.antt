@@ -21,12 +21,12 @@ use Rattle.law_bus.proofs.SentTimes.{sent_same}
 use Rattle.law_bus.proofs.WindowCharges.{windows_same}
 
 pub window_sendings : WindowSendingsLaw
-window_sendings s clocks air lawful f rank j v p round within w here =
-    let start = (all_slots (slots_heard slots_are_runs) s clocks air lawful f rank j p round within).0 in
-    let found = slots_are_runs s clocks air lawful f rank j p round within start in
+window_sendings s clocks air lawful rank f j v p round within w here =
+    let start = (all_slots (slots_heard slots_are_runs) s clocks air lawful rank f j p round within).0 in
+    let found = slots_are_runs s clocks air lawful rank f j p round within start in
     let part = nodes_take_part s clocks air (record { sound = lawful.sound; drift = lawful.drift }) lawful.lawful v
     (known_by s clocks air lawful v w here.there) w here.there in
-    packets_same s clocks air lawful f rank p j found.0 found.1 found.2 v w here part.has
+    packets_same s clocks air lawful rank f p j found.0 found.1 found.2 v w here part.has
 
 same_cost : (a b : Cost) → a.sent ≡ b.sent → a.windows ≡ b.windows → a.scanned ≡ b.scanned → a ≡ b
 same_cost a b sent windows scanned =

@@ -22,7 +22,7 @@ pub record IsMadeOnBus (s : ScenarioParts) (a : Delivery) : Type 0 where
   pub frame : ℕ
   pub rank : ℕ
   pub plan : Plan
-  pub round : IsRound s frame rank plan
+  pub round : IsRound s rank frame plan
   pub slot : ℕ
   pub within : slot ≤ last_slot plan
   pub line : NodeLine
@@ -31,27 +31,27 @@ pub record IsMadeOnBus (s : ScenarioParts) (a : Delivery) : Type 0 where
 
 module _ (s : ScenarioParts) where
   abbrev of_round : ℕ → ℕ → List Delivery
-  of_round f rank = round_deliveries s rank f (state_at s f)
+  of_round rank f = round_deliveries s rank f (state_at s f)
 
-  pub in_bus : (f rank j v : ℕ) (p : Plan) → IsRound s f rank p → j ≤ last_slot p → Contains (ids s.nodes) v → (a : Delivery)
+  pub in_bus : (rank f j v : ℕ) (p : Plan) → IsRound s rank f p → j ≤ last_slot p → Contains (ids s.nodes) v → (a : Delivery)
       → delivery_in_slot s rank f p (state_at s f) j v ≡ Some a → Contains (bus_deliveries s) a
-  in_bus f rank j v p round within named a is =
+  in_bus rank f j v p round within named a is =
       let in_slot : Contains (slot_deliveries s rank f p (state_at s f) j) a =
       in_filter (delivery_in_slot s rank f p (state_at s f) j) (ids s.nodes) v a named is in
       let in_plan : Contains (flat_map (slot_deliveries s rank f p (state_at s f)) (slots_of p)) a =
       in_flat (slot_deliveries s rank f p (state_at s f)) (slots_of p) j a (in_range 0 (last_slot p + 1) j (omega arith) (omega (arith, within))) in_slot in
-      let in_round : Contains (of_round f rank) a =
+      let in_round : Contains (of_round rank f) a =
       subst (λ (o : Option Plan). Contains (option_map_or (λ q. flat_map (slot_deliveries s rank f q (state_at s f)) (slots_of q)) o []) a)
       (sym round.plan) in_plan in
-      let in_frame : Contains (flat_map (of_round f) (ranks_of s)) a =
-      in_flat (of_round f) (ranks_of s) rank a (in_range 0 (length s.hosts) rank (omega arith) (let k = round.hosted in omega (arith, k))) in_round in
-      in_flat (λ (g : ℕ). flat_map (of_round g) (ranks_of s)) (frames_of s) f a
+      let in_frame : Contains (flat_map (λ rank. of_round rank f) (ranks_of s)) a =
+      in_flat (λ (r : ℕ). of_round r f) (ranks_of s) rank a (in_range 0 (length s.hosts) rank (omega arith) (let k = round.hosted in omega (arith, k))) in_round in
+      in_flat (λ (g : ℕ). flat_map (λ rank. of_round rank g) (ranks_of s)) (frames_of s) f a
       (in_range 0 s.frames f (omega arith) (let k = round.in_run in omega (arith, k))) in_frame
 
-  from_plan : (f rank : ℕ) (in_run : f < s.frames) (hosted : rank < length s.hosts) (a : Delivery) (o : Option Plan) → round_plan s rank f (state_at s f) ≡ o
+  from_plan : (rank f : ℕ) (in_run : f < s.frames) (hosted : rank < length s.hosts) (a : Delivery) (o : Option Plan) → round_plan s rank f (state_at s f) ≡ o
       → Contains (option_map_or (λ q. flat_map (slot_deliveries s rank f q (state_at s f)) (slots_of q)) o []) a → IsMadeOnBus s a
-  from_plan f rank in_run hosted a None is within = absurd (not_in_none a within)
-  from_plan f rank in_run hosted a (Some p) is within =
+  from_plan rank f in_run hosted a None is within = absurd (not_in_none a within)
+  from_plan rank f in_run hosted a (Some p) is within =
       let slot = from_flat (slot_deliveries s rank f p (state_at s f)) (slots_of p) a within in
       let node = filter_from (delivery_in_slot s rank f p (state_at s f) slot.0) (ids s.nodes) a slot.2 in
       let below = (from_range 0 (last_slot p + 1) slot.0 slot.1).1 in
@@ -70,11 +70,11 @@ module _ (s : ScenarioParts) where
 
   pub from_bus : (a : Delivery) → Contains (bus_deliveries s) a → IsMadeOnBus s a
   from_bus a within =
-      let frame = from_flat (λ (g : ℕ). flat_map (of_round g) (ranks_of s)) (frames_of s) a within in
-      let rank = from_flat (of_round frame.0) (ranks_of s) a frame.2 in
+      let frame = from_flat (λ (g : ℕ). flat_map (λ rank. of_round rank g) (ranks_of s)) (frames_of s) a within in
+      let rank = from_flat (λ (r : ℕ). of_round r frame.0) (ranks_of s) a frame.2 in
       let below = (from_range 0 s.frames frame.0 frame.1).1 in
       let hosted = (from_range 0 (length s.hosts) rank.0 rank.1).1 in
-      from_plan frame.0 rank.0 (omega (arith, below)) (omega (arith, hosted)) a (round_plan s rank.0 frame.0 (state_at s frame.0)) refl rank.2
+      from_plan rank.0 frame.0 (omega (arith, below)) (omega (arith, hosted)) a (round_plan s rank.0 frame.0 (state_at s frame.0)) refl rank.2
 
   pub line_known : (n : NodeLine) → Contains s.nodes n → knows s.nodes n.node ≡ true
   line_known n named = any_of (λ (m : NodeLine). m.node == n.node) s.nodes n named (eq-eqb n.node n.node refl)
@@ -92,9 +92,9 @@ module _ (s : ScenarioParts) where
     pub made_at : made.line.node ≡ a.node
     made_at = ap (λ (d : Delivery). d.node) parts.1
 
-    pub made_so : (f rank j : ℕ) (p : Plan) → IsRound s f rank p → a.frame ≡ f → a.rank ≡ rank → a.slot ≡ j
+    pub made_so : (rank f j : ℕ) (p : Plan) → IsRound s rank f p → a.frame ≡ f → a.rank ≡ rank → a.slot ≡ j
         → delivery_in_slot s rank f p (state_at s f) j a.node ≡ Some a
-    made_so f rank j p round frame channel slot =
+    made_so rank f j p round frame channel slot =
         let g : made.frame ≡ f = ap (λ (d : Delivery). d.frame) parts.1 ∙ frame in
         let r : made.rank ≡ rank = ap (λ (d : Delivery). d.rank) parts.1 ∙ channel in
         let i : made.slot ≡ j = ap (λ (d : Delivery). d.slot) parts.1 ∙ slot in

@@ -23,8 +23,8 @@ slots_go = all_slots heard
 
 -- before each slot the nodes are the bus's, so its flood is the bus's
 pub slots_are_floods : SlotLaw
-slots_are_floods s clocks air lawful f rank j p round within =
-    slots_started slots_are_runs s clocks air lawful f rank j p round within (slots_go s clocks air lawful f rank j p round within).0
+slots_are_floods s clocks air lawful rank f j p round within =
+    slots_started slots_are_runs s clocks air lawful rank f j p round within (slots_go s clocks air lawful rank f j p round within).0
 
 pub nothing_else : SentLaw
 nothing_else = sent_law heard slots_are_runs

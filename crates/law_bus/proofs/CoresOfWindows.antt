@@ -42,25 +42,25 @@ module _ (heards : SlotHeardLaw) where
   run_law s clocks air lawful v f known in_run = frame_starts heards s clocks air lawful f (omega (arith, in_run)) v known
 
   pub all_slots : AllSlotsLaw
-  all_slots s clocks air lawful f rank j p round within =
+  all_slots s clocks air lawful rank f j p round within =
       let in_run = round.in_run in
       let found : IsFrameStart s clocks air f = frame_starts heards s clocks air lawful f (omega (arith, in_run)) in
       (starts heards s clocks air lawful f found rank p round j within, hears heards s clocks air lawful f found rank p round j within)
 
   -- a member of the bus has a window, and who has one is a member
-  opens_at : (s : ScenarioParts) (f rank j v : ℕ) (p : Plan) (x : State) → is_some (opened_at s rank f (part_of p j) v x) ≡ true
+  opens_at : (s : ScenarioParts) (rank f j v : ℕ) (p : Plan) (x : State) → is_some (opened_at s rank f (part_of p j) v x) ≡ true
       → (c : Core) × (x ≡ StateOn c) × (is_member rank f c ≡ true)
-  opens_at s f rank j v p (StateOff boots) is = absurd (true≢false (sym is))
-  opens_at s f rank j v p (StateOn c) is = (c, refl, by_test (is_member rank f c) (Some (opened_slot (setup_in s v) f (part_of p j) c)) is)
+  opens_at s rank f j v p (StateOff boots) is = absurd (true≢false (sym is))
+  opens_at s rank f j v p (StateOn c) is = (c, refl, by_test (is_member rank f c) (Some (opened_slot (setup_in s v) f (part_of p j) c)) is)
     where
       by_test : (b : Bool) (o : Option Opened) → is_some (if b then o else None) ≡ true → b ≡ true
       by_test true o is = refl
       by_test false o is = absurd (true≢false (sym is))
 
   pub windows_law : WindowsLaw
-  windows_law s clocks air lawful f rank j v p round within known =
-      let start = (all_slots s clocks air lawful f rank j p round within).0 in (
-        (λ is. let on = opens_at s f rank j v p (bus_before s f rank p j v) is in start.window v on.0 known on.1 on.2),
+  windows_law s clocks air lawful rank f j v p round within known =
+      let start = (all_slots s clocks air lawful rank f j p round within).0 in (
+        (λ is. let on = opens_at s rank f j v p (bus_before s rank f p j v) is in start.window v on.0 known on.1 on.2),
         (λ has.
             let w = has.window in
             ap (λ (x : State). is_some (opened_at s rank f (part_of p j) v x)) (start.core v w has.here has.by_alarm)
@@ -92,7 +92,7 @@ module _ (heards : SlotHeardLaw) where
     abbrev f : ℕ
     f = w.frame
 
-    here : IsWindowOf s clocks air f w.rank w.slot v w
+    here : IsWindowOf s clocks air w.rank f w.slot v w
     here = record { there = there; frame = refl; channel = refl; slot = refl }
 
     found : IsFrameStart s clocks air f
@@ -100,32 +100,32 @@ module _ (heards : SlotHeardLaw) where
 
     round_there : (p : Plan) × (round_plan s w.rank f (state_at s f) ≡ Some p)
     round_there =
-        let led = led_round s clocks air lawful f frame_in_run w.rank w.slot v w here in
+        let led = led_round s clocks air lawful w.rank f frame_in_run w.slot v w here in
         has_round s w.rank f (state_at s f) led.host led.node.core led.known (sym (found led.host led.known) ∙ ap state_of_power led.on) led.leads
 
-    round_of : IsRound s f w.rank round_there.0
+    round_of : IsRound s w.rank f round_there.0
     round_of = record { in_run = frame_in_run; hosted = timed.hosted; plan = round_there.1 }
 
     abbrev p : Plan
     p = round_there.0
 
     within : w.slot ≤ last_slot p
-    within = (placed s clocks air lawful f frame_in_run w.rank p
-        (round_planned s clocks air lawful f frame_in_run w.rank found p round_of) w.slot v w here).within
+    within = (placed s clocks air lawful w.rank f frame_in_run p
+        (round_planned s clocks air lawful w.rank f frame_in_run found p round_of) w.slot v w here).within
 
-    start : IsSlotStart s clocks air f w.rank p w.slot
-    start = (all_slots s clocks air lawful f w.rank w.slot p round_of within).0
+    start : IsSlotStart s clocks air w.rank f p w.slot
+    start = (all_slots s clocks air lawful w.rank f w.slot p round_of within).0
 
-    heard : IsSlotHeard s clocks air f w.rank p w.slot
-    heard = (all_slots s clocks air lawful f w.rank w.slot p round_of within).1
+    heard : IsSlotHeard s clocks air w.rank f p w.slot
+    heard = (all_slots s clocks air lawful w.rank f w.slot p round_of within).1
 
-    before_by : (b : Bool) → w.by_alarm ≡ b → bus_before s f w.rank p w.slot v ≡ StateOn w.before.core
+    before_by : (b : Bool) → w.by_alarm ≡ b → bus_before s w.rank f p w.slot v ≡ StateOn w.before.core
     before_by true alarm = start.core v w here alarm
-    before_by false joined = up s clocks air lawful f frame_in_run w.rank w.slot p start heard v w here joined
+    before_by false joined = up s clocks air lawful w.rank f frame_in_run w.slot p start heard v w here joined
 
-    after_by : (o : Option Closing) → w.closed ≡ o → IfSome o (λ c. StateOn c.after.core ≡ bus_before s f w.rank p (suc w.slot) v)
+    after_by : (o : Option Closing) → w.closed ≡ o → IfSome o (λ c. StateOn c.after.core ≡ bus_before s w.rank f p (suc w.slot) v)
     after_by None is = tt
-    after_by (Some c) is = sym (left_by_window s clocks air lawful f frame_in_run w.rank w.slot p start heard v w here c is)
+    after_by (Some c) is = sym (left_by_window s clocks air lawful w.rank f frame_in_run w.slot p start heard v w here c is)
 
     pub aligned : IsAligned s v w
     aligned = record {

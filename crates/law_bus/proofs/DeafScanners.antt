@@ -35,16 +35,16 @@ use Rattle.law_bus.proofs.SlotParties.{Takes, Member, Scanner, known_party, part
 use Rattle.law_bus.proofs.SlotSendings.{IsOf}
 
 module _ (s : ScenarioParts) (clocks : ℕ → ℕ → ℕ) (air : List Entry) (lawful : IsLawfulRun s clocks air)
-    (f rank j : ℕ) (p : Plan) (round : IsRound s f rank p) (start : IsSlotStart s clocks air f rank p j)
-    (v : ℕ) (here : has (bus_slot s f rank p j).flood.everyone v ≡ true) (no_alarm : HasWindow s clocks air f rank j v → ⊥)
-    (x : Sending) (there : HasHeardEntry air v x) (is : IsOf s.profile f rank j x) where
+    (rank f j : ℕ) (p : Plan) (round : IsRound s rank f p) (start : IsSlotStart s clocks air rank f p j)
+    (v : ℕ) (here : has (bus_slot s rank f p j).flood.everyone v ≡ true) (no_alarm : HasWindow s clocks air rank f j v → ⊥)
+    (x : Sending) (there : HasHeardEntry air v x) (is : IsOf s.profile rank f j x) where
   -- it is a slot in which a schedule is said
   schedule_slot : is_schedule_part (part_of p j) ≡ true
-  schedule_slot = by (takes_so s clocks air lawful f rank j p round.in_run start v here)
+  schedule_slot = by (takes_so s clocks air lawful rank f j p round.in_run start v here)
     where
-      by : Takes rank f (part_of p j) (bus_before s f rank p j v) → is_schedule_part (part_of p j) ≡ true
+      by : Takes rank f (part_of p j) (bus_before s rank f p j v) → is_schedule_part (part_of p j) ≡ true
       by (Member c at member) =
-          absurd (no_alarm (start.window v c (known_party s clocks air lawful f rank j p round.in_run start v here) at member))
+          absurd (no_alarm (start.window v c (known_party s clocks air lawful rank f j p round.in_run start v here) at member))
       by (Scanner c at other schedule of_rank) = schedule
 
   sent : Contains (sendings_of air) x
@@ -61,7 +61,7 @@ module _ (s : ScenarioParts) (clocks : ℕ → ℕ → ℕ) (air : List Entry) (
       one_planned s clocks air (whole s clocks air lawful) rank f q p
       (subst (λ (r : ℕ). IsPlanned s air r f q) (sym flood.slot.channel ∙ is.0)
       (subst (λ (g : ℕ). IsPlanned s air o.rank g q) (sym flood.slot.frame ∙ is.1) planned))
-      (round_planned s clocks air lawful f round.in_run rank start.found p round)
+      (round_planned s clocks air lawful rank f round.in_run start.found p round)
 
   no_data : (q : Plan) → IsPlanned s air o.rank (frame_of_sending s.profile o) q → (part : Part) → part_of q (slot_of_sending o) ≡ part
       → is_schedule_part part ≡ true
@@ -90,14 +90,14 @@ module _ (s : ScenarioParts) (clocks : ℕ → ℕ → ℕ) (air : List Entry) (
   says_own = by_message (message_of o.packet) refl flood.begins.start.says
 
   open_ : IsOpenAsEnds s clocks air lawful v x
-  open_ = open_as_ends s clocks air lawful v (known_party s clocks air lawful f rank j p round.in_run start v here) x
+  open_ = open_as_ends s clocks air lawful v (known_party s clocks air lawful rank f j p round.in_run start v here) x
       says_own.schedule there says_own.says says_own.of_rank
 
   abbrev w : WindowLog
   w = open_.window
 
   rank_is : w.rank ≡ rank
-  rank_is = party_rank s clocks air lawful f rank j p round.in_run start v w.rank w.slot w here
+  rank_is = party_rank s clocks air lawful rank f j p round.in_run start v w.rank w.slot w here
       (record { there = open_.there; frame = open_.frame ∙ is.1; channel = refl; slot = refl })
 
   before_closing : (c : Option Closing) → is_some c ≡ true → IfSome c (λ c. x.end ≤ c.tick) → IfSome c (ClosesInTime s clocks air v w)
@@ -115,5 +115,5 @@ module _ (s : ScenarioParts) (clocks : ℕ → ℕ → ℕ) (air : List Entry) (
       (is.0 ∙ sym rank_is) (sym open_.frame) open_.opened (before_closing w.closed closes open_.closed in_time)) ∙ is.2
 
   -- so who receives something of the slot has a window of it
-  pub has_window : IsThere f rank j (trail_in s clocks air v).made.windows
+  pub has_window : IsThere rank f j (trail_in s clocks air v).made.windows
   has_window = record { window = w; there = open_.there; frame = open_.frame ∙ is.1; channel = rank_is; slot = slot_is }

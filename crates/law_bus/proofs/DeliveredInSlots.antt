@@ -36,8 +36,8 @@ none_data : (s : ScenarioParts) (f : ℕ) (part : Part) (v : ℕ) (x : State) �
 none_data s f part v x = refl
 
 module _ (s : ScenarioParts) (clocks : ℕ → ℕ → ℕ) (air : List Entry) (lawful : IsLawfulRun s clocks air)
-    (f : ℕ) (in_run : f < s.frames) (rank j : ℕ) (p : Plan)
-    (start : IsSlotStart s clocks air f rank p j) (heard : IsSlotHeard s clocks air f rank p j) (v : ℕ) where
+    (rank f : ℕ) (in_run : f < s.frames) (j : ℕ) (p : Plan)
+    (start : IsSlotStart s clocks air rank f p j) (heard : IsSlotHeard s clocks air rank f p j) (v : ℕ) where
   abbrev states : ℕ → State
   states = before_slot s rank f p (state_at s f) j
 
@@ -45,18 +45,18 @@ module _ (s : ScenarioParts) (clocks : ℕ → ℕ → ℕ) (air : List Entry) (
   brings d = option_map (delivery_of v f rank j) d
 
   abbrev m : Option Message
-  m = accepted_at (bus_slot s f rank p j) v
+  m = accepted_at (bus_slot s rank f p j) v
 
-  module _ (w : WindowLog) (here : IsWindowOf s clocks air f rank j v w) (c : Closing) (is : w.closed ≡ Some c) where
+  module _ (w : WindowLog) (here : IsWindowOf s clocks air rank f j v w) (c : Closing) (is : w.closed ≡ Some c) where
     by_kind : (b : Bool) → w.by_alarm ≡ b → delivery_in_slot s rank f p (state_at s f) j v ≡ brings (said_data m)
     by_kind true alarm =
-        let o = window_is s clocks air lawful f in_run rank j p start heard v w here alarm in
+        let o = window_is s clocks air lawful rank f in_run j p start heard v w here alarm in
         ap (λ (x : Option Opened). brings (data_by s f (part_of p j) v x m (states v))) o
         ∙ ap brings (member_data s f (part_of p j) v (opened_slot (setup_in s v) f (part_of p j) w.before.core) m (states v))
     by_kind false joined =
         ap (λ (x : Option Opened). brings (data_by s f (part_of p j) v x m (states v)))
-        (no_window s clocks air lawful f in_run rank j p start heard v w here joined)
-        ∙ ap (λ (x : State). brings (data_by s f (part_of p j) v None m x)) (up s clocks air lawful f in_run rank j p start heard v w here joined)
+        (no_window s clocks air lawful rank f in_run j p start heard v w here joined)
+        ∙ ap (λ (x : State). brings (data_by s f (part_of p j) v None m x)) (up s clocks air lawful rank f in_run j p start heard v w here joined)
         ∙ ap brings (guest_data s f (part_of p j) v m w.before.core)
 
     in_air : delivery_at_closing (setup_of s v) w ≡ brings (said_data m)
@@ -71,10 +71,10 @@ module _ (s : ScenarioParts) (clocks : ℕ → ℕ → ℕ) (air : List Entry) (
     pub delivered_same : delivery_in_slot s rank f p (state_at s f) j v ≡ delivery_at_closing (setup_of s v) w
     delivered_same = by_kind w.by_alarm refl ∙ sym in_air
 
-  pub delivered_nowhere : knows s.nodes v ≡ true → ((w : WindowLog) → IsWindowOf s clocks air f rank j v w → ⊥)
+  pub delivered_nowhere : knows s.nodes v ≡ true → ((w : WindowLog) → IsWindowOf s clocks air rank f j v w → ⊥)
       → delivery_in_slot s rank f p (state_at s f) j v ≡ None
   delivered_nowhere known none =
       ap (λ (x : Option Opened). brings (data_by s f (part_of p j) v x m (states v)))
-      (not_member s clocks air lawful f in_run rank j p start heard v known none (states v) refl)
+      (not_member s clocks air lawful rank f in_run j p start heard v known none (states v) refl)
       ∙ ap (λ (a : Option Message). brings (data_by s f (part_of p j) v None a (states v))) (heard.deaf v known none)
       ∙ ap brings (none_data s f (part_of p j) v (states v))

@@ -36,18 +36,18 @@ use Rattle.law_bus.proofs.DeliveriesApart.{Apart, places_apart}
 use Rattle.law_bus.proofs.RunsOfLogs.{run}
 
 -- where a delivery comes from
-pub record IsOf (f rank j v : ℕ) (a : Delivery) : Type 0 where
+pub record IsOf (rank f j v : ℕ) (a : Delivery) : Type 0 where
   pub frame : a.frame ≡ f
   pub rank_is : a.rank ≡ rank
   pub slot : a.slot ≡ j
   pub node : a.node ≡ v
 
-pub placed_so : (f rank j v : ℕ) (d : Option Data) (a : Delivery) → option_map (delivery_of v f rank j) d ≡ Some a → IsOf f rank j v a
-placed_so f rank j v None a is = absurd (none is)
+pub placed_so : (rank f j v : ℕ) (d : Option Data) (a : Delivery) → option_map (delivery_of v f rank j) d ≡ Some a → IsOf rank f j v a
+placed_so rank f j v None a is = absurd (none is)
   where
     none : ◌≡◌ {A = Option Delivery} None (Some a) → ⊥
     none is = cc
-placed_so f rank j v (Some d) a is = subst (IsOf f rank j v) (same is) (record { frame = refl; rank_is = refl; slot = refl; node = refl })
+placed_so rank f j v (Some d) a is = subst (IsOf rank f j v) (same is) (record { frame = refl; rank_is = refl; slot = refl; node = refl })
   where
     same : ◌≡◌ {A = Option Delivery} (Some (delivery_of v f rank j d)) (Some a) → delivery_of v f rank j d ≡ a
     same is = cc
@@ -55,69 +55,69 @@ placed_so f rank j v (Some d) a is = subst (IsOf f rank j v) (same is) (record {
 -- the lists of the bus, from the inside out
 module _ (s : ScenarioParts) (sound : IsSoundScenario s) where
   abbrev of_slot : ℕ → ℕ → Plan → ℕ → List Delivery
-  of_slot f rank p j = slot_deliveries s rank f p (state_at s f) j
+  of_slot rank f p j = slot_deliveries s rank f p (state_at s f) j
 
   abbrev AtSlot : ℕ → ℕ → ℕ → Delivery → Type 0
-  AtSlot f rank j a = (a.frame ≡ f) × (a.rank ≡ rank) × (a.slot ≡ j)
+  AtSlot rank f j a = (a.frame ≡ f) × (a.rank ≡ rank) × (a.slot ≡ j)
 
   abbrev AtRank : ℕ → ℕ → Delivery → Type 0
-  AtRank f rank a = (a.frame ≡ f) × (a.rank ≡ rank)
+  AtRank rank f a = (a.frame ≡ f) × (a.rank ≡ rank)
 
   abbrev AtFrame : ℕ → Delivery → Type 0
   AtFrame f a = a.frame ≡ f
 
-  in_slot : (f rank : ℕ) (p : Plan) (j : ℕ) → Climbs Before (of_slot f rank p j)
-  in_slot f rank p j =
+  in_slot : (rank f : ℕ) (p : Plan) (j : ℕ) → Climbs Before (of_slot rank f p j)
+  in_slot rank f p j =
       given_in_turn (λ u v. u < v) Before (delivery_in_slot s rank f p (state_at s f) j) by_nodes (ids s.nodes)
       (pairs_in_turn (λ u v. u < v) (ids s.nodes) (ids_rise s.nodes sound.ascending))
     where
       by_nodes : (u v : ℕ) → u < v → (a b : Delivery) → delivery_in_slot s rank f p (state_at s f) j u ≡ Some a
           → delivery_in_slot s rank f p (state_at s f) j v ≡ Some b → Before a b
       by_nodes u v less a b first second =
-          let one = placed_so f rank j u _ a first in
-          let two = placed_so f rank j v _ b second in
+          let one = placed_so rank f j u _ a first in
+          let two = placed_so rank f j v _ b second in
           let here = one.node in
           let there = two.node in
           by_node a b (one.frame ∙ sym two.frame) (one.rank_is ∙ sym two.rank_is) (one.slot ∙ sym two.slot) (omega (arith, here, there, less))
 
-  each_in_slot : (f rank : ℕ) (p : Plan) (j : ℕ) → AllByRecursion (AtSlot f rank j) (of_slot f rank p j)
-  each_in_slot f rank p j =
-      each_given (AtSlot f rank j) (delivery_in_slot s rank f p (state_at s f) j)
-      (λ v a is. let at = placed_so f rank j v _ a is in (at.frame, at.rank_is, at.slot)) (ids s.nodes)
+  each_in_slot : (rank f : ℕ) (p : Plan) (j : ℕ) → AllByRecursion (AtSlot rank f j) (of_slot rank f p j)
+  each_in_slot rank f p j =
+      each_given (AtSlot rank f j) (delivery_in_slot s rank f p (state_at s f) j)
+      (λ v a is. let at = placed_so rank f j v _ a is in (at.frame, at.rank_is, at.slot)) (ids s.nodes)
 
-  in_round : (f rank : ℕ) (p : Option Plan) → Climbs Before (option_map_or (λ p. flat_map (slot_deliveries s rank f p (state_at s f)) (slots_of p)) p [])
-  in_round f rank None = tt
-  in_round f rank (Some p) =
-      pieces_in_turn (λ j k. j < k) Before (AtSlot f rank) (of_slot f rank p) (each_in_slot f rank p) (in_slot f rank p)
+  in_round : (rank f : ℕ) (p : Option Plan) → Climbs Before (option_map_or (λ p. flat_map (slot_deliveries s rank f p (state_at s f)) (slots_of p)) p [])
+  in_round rank f None = tt
+  in_round rank f (Some p) =
+      pieces_in_turn (λ j k. j < k) Before (AtSlot rank f) (of_slot rank f p) (each_in_slot rank f p) (in_slot rank f p)
       (λ j k less a b first second. by_slot a b (first.0 ∙ sym second.0) (first.1 ∙ sym second.1)
       (let one = first.2 in let two = second.2 in omega (arith, one, two, less)))
       (slots_of p) (range_in_turn 0 (last_slot p + 1))
 
-  each_in_round : (f rank : ℕ) (p : Option Plan) → AllByRecursion (AtRank f rank)
+  each_in_round : (rank f : ℕ) (p : Option Plan) → AllByRecursion (AtRank rank f)
       (option_map_or (λ p. flat_map (slot_deliveries s rank f p (state_at s f)) (slots_of p)) p [])
-  each_in_round f rank None = tt
-  each_in_round f rank (Some p) =
-      each_of_pieces (AtRank f rank) (of_slot f rank p) (λ j. each_more (AtSlot f rank j) (AtRank f rank)
-      (λ a at. (at.0, at.1)) _ (each_in_slot f rank p j)) (slots_of p)
+  each_in_round rank f None = tt
+  each_in_round rank f (Some p) =
+      each_of_pieces (AtRank rank f) (of_slot rank f p) (λ j. each_more (AtSlot rank f j) (AtRank rank f)
+      (λ a at. (at.0, at.1)) _ (each_in_slot rank f p j)) (slots_of p)
 
   abbrev of_round : ℕ → ℕ → List Delivery
-  of_round f rank = round_deliveries s rank f (state_at s f)
+  of_round rank f = round_deliveries s rank f (state_at s f)
 
-  in_frame : (f : ℕ) → Climbs Before (flat_map (of_round f) (ranks_of s))
+  in_frame : (f : ℕ) → Climbs Before (flat_map (λ rank. of_round rank f) (ranks_of s))
   in_frame f =
-      pieces_in_turn (λ r q. r < q) Before (AtRank f) (of_round f)
-      (λ rank. each_in_round f rank (round_plan s rank f (state_at s f))) (λ rank. in_round f rank (round_plan s rank f (state_at s f)))
+      pieces_in_turn (λ r q. r < q) Before (λ rank. AtRank rank f) (λ rank. of_round rank f)
+      (λ rank. each_in_round rank f (round_plan s rank f (state_at s f))) (λ rank. in_round rank f (round_plan s rank f (state_at s f)))
       (λ r q less a b first second. by_rank a b (first.0 ∙ sym second.0) (let one = first.1 in let two = second.1 in omega (arith, one, two, less)))
       (ranks_of s) (range_in_turn 0 (length s.hosts))
 
-  each_in_frame : (f : ℕ) → AllByRecursion (AtFrame f) (flat_map (of_round f) (ranks_of s))
+  each_in_frame : (f : ℕ) → AllByRecursion (AtFrame f) (flat_map (λ rank. of_round rank f) (ranks_of s))
   each_in_frame f =
-      each_of_pieces (AtFrame f) (of_round f) (λ rank. each_more (AtRank f rank) (AtFrame f)
-      (λ a at. at.0) _ (each_in_round f rank (round_plan s rank f (state_at s f)))) (ranks_of s)
+      each_of_pieces (AtFrame f) (λ rank. of_round rank f) (λ rank. each_more (AtRank rank f) (AtFrame f)
+      (λ a at. at.0) _ (each_in_round rank f (round_plan s rank f (state_at s f)))) (ranks_of s)
 
   pub bus_in_turn : Climbs Before (bus_deliveries s)
   bus_in_turn =
-      pieces_in_turn (λ f g. f < g) Before AtFrame (λ f. flat_map (of_round f) (ranks_of s)) each_in_frame in_frame
+      pieces_in_turn (λ f g. f < g) Before AtFrame (λ f. flat_map (λ rank. of_round rank f) (ranks_of s)) each_in_frame in_frame
       (λ f g less a b first second. by_frame a b (omega (arith, first, second, less))) (frames_of s) (range_in_turn 0 s.frames)
 
 -- what is known of each element
@@ -162,9 +162,9 @@ from_windows S (w ∷ ws) a there =
 abbrev pub OtherSlot : WindowLog → WindowLog → Type 0
 OtherSlot x y = x.frame ≡ y.frame → x.rank ≡ y.rank → x.slot ≡ y.slot → ⊥
 
-window_place : (S : Setup) (w : WindowLog) (a : Delivery) → delivery_at_closing S w ≡ Some a → IsOf w.frame w.rank w.slot S.id a
+window_place : (S : Setup) (w : WindowLog) (a : Delivery) → delivery_at_closing S w ≡ Some a → IsOf w.rank w.frame w.slot S.id a
 window_place S w a is =
-    placed_so w.frame w.rank w.slot S.id (closed_slot S w.frame w.last.part w.last.flood.initiated w.after.core (accepted_in w.last)).delivered a is
+    placed_so w.rank w.frame w.slot S.id (closed_slot S w.frame w.last.part w.last.flood.initiated w.after.core (accepted_in w.last)).delivered a is
 
 windows_deliver_apart : (S : Setup) (ws : List WindowLog) → Climbs OtherSlot ws → Climbs Apart (delivered_in S ws)
 windows_deliver_apart S [] other = tt

@@ -33,8 +33,8 @@ stage_of_scan rank f (Hold r d) is = absurd (true≢false (sym is))
 stage_of_scan rank f (Host r d) is = absurd (true≢false (sym is))
 
 module _ (s : ScenarioParts) (clocks : ℕ → ℕ → ℕ) (air : List Entry) (lawful : IsLawfulRun s clocks air)
-    (f rank j : ℕ) (p : Plan) (in_run : f < s.frames) (start : IsSlotStart s clocks air f rank p j)
-    (v : ℕ) (here : has (bus_slot s f rank p j).flood.everyone v ≡ true) (no_alarm : HasWindow s clocks air f rank j v → ⊥) where
+    (rank f j : ℕ) (p : Plan) (in_run : f < s.frames) (start : IsSlotStart s clocks air rank f p j)
+    (v : ℕ) (here : has (bus_slot s rank f p j).flood.everyone v ≡ true) (no_alarm : HasWindow s clocks air rank f j v → ⊥) where
   -- it is on after the script lines of the frame, and scans
   pub record IsFound : Type 0 where
     pub node : Node
@@ -43,18 +43,18 @@ module _ (s : ScenarioParts) (clocks : ℕ → ℕ → ℕ) (air : List Entry) (
     pub of_rank : rank_at node ≡ rank
 
   pub known : knows s.nodes v ≡ true
-  known = known_party s clocks air lawful f rank j p in_run start v here
+  known = known_party s clocks air lawful rank f j p in_run start v here
 
   abbrev takes : State → Bool
   takes x = takes_part rank (part_of p j) x (opened_at s rank f (part_of p j) v x)
 
-  same : bus_before s f rank p j v ≡ state_of_power (power_at s clocks air v f)
+  same : bus_before s rank f p j v ≡ state_of_power (power_at s clocks air v f)
   same = start.others v known no_alarm ∙ sym (start.found v known)
 
   test : takes (state_of_power (power_at s clocks air v f)) ≡ true
   test =
       ap takes (sym same)
-      ∙ of_filtered (λ u. takes_part rank (part_of p j) (bus_before s f rank p j u) (opened_at s rank f (part_of p j) u (bus_before s f rank p j u)))
+      ∙ of_filtered (λ u. takes_part rank (part_of p j) (bus_before s rank f p j u) (opened_at s rank f (part_of p j) u (bus_before s rank f p j u)))
       (ids s.nodes) v here
 
   module _ (n : Node) (on : power_at s clocks air v f ≡ PowerOn n) where

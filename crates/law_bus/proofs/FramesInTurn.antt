@@ -42,33 +42,33 @@ round_off s rank f v states boots off (Some p) = slots_elsewhere s rank f p v st
 module _ (heards : SlotHeardLaw) (s : ScenarioParts) (clocks : ℕ → ℕ → ℕ) (air : List Entry) (lawful : IsLawfulRun s clocks air) where
   module _ (f : ℕ) (found : IsFrameStart s clocks air f) where
     -- the slots of a round, one after another
-    module _ (rank : ℕ) (p : Plan) (is_round : IsRound s f rank p) where
-      pub starts : (j : ℕ) → j ≤ last_slot p → IsSlotStart s clocks air f rank p j
-      starts zero within = first_slot s clocks air lawful f is_round.in_run rank p is_round found
+    module _ (rank : ℕ) (p : Plan) (is_round : IsRound s rank f p) where
+      pub starts : (j : ℕ) → j ≤ last_slot p → IsSlotStart s clocks air rank f p j
+      starts zero within = first_slot s clocks air lawful rank f is_round.in_run p is_round found
       starts (suc j) within =
           let start = starts j (omega (arith, within)) in
-          slot_step s clocks air lawful f is_round.in_run rank p is_round j start
-          (heards s clocks air lawful f rank j p is_round (omega (arith, within)) start) within
+          slot_step s clocks air lawful rank f is_round.in_run p is_round j start
+          (heards s clocks air lawful rank f j p is_round (omega (arith, within)) start) within
 
-      pub hears : (j : ℕ) → j ≤ last_slot p → IsSlotHeard s clocks air f rank p j
-      hears j within = heards s clocks air lawful f rank j p is_round within (starts j within)
+      pub hears : (j : ℕ) → j ≤ last_slot p → IsSlotHeard s clocks air rank f p j
+      hears j within = heards s clocks air lawful rank f j p is_round within (starts j within)
 
       -- who has a window has one in the last slot
       planned : IsPlanned s air rank f p
-      planned = round_planned s clocks air lawful f is_round.in_run rank found p is_round
+      planned = round_planned s clocks air lawful rank f is_round.in_run found p is_round
 
-      up_to_last : (more j v : ℕ) (w : WindowLog) → IsWindowOf s clocks air f rank j v w → j + more ≡ last_slot p
-          → ((x : WindowLog) → IsWindowOf s clocks air f rank (last_slot p) v x → ⊥) → ⊥
-      up_to_last zero j v w here end none = none w (subst (λ (i : ℕ). IsWindowOf s clocks air f rank i v w) (omega (arith, end)) here)
+      up_to_last : (more j v : ℕ) (w : WindowLog) → IsWindowOf s clocks air rank f j v w → j + more ≡ last_slot p
+          → ((x : WindowLog) → IsWindowOf s clocks air rank f (last_slot p) v x → ⊥) → ⊥
+      up_to_last zero j v w here end none = none w (subst (λ (i : ℕ). IsWindowOf s clocks air rank f i v w) (omega (arith, end)) here)
       up_to_last (suc more) j v w here end none =
-          let place = placed s clocks air lawful f is_round.in_run rank p planned j v w here in
-          let next = next_of s clocks air lawful f is_round.in_run rank j v w here (place.more (omega (arith, end))) in
+          let place = placed s clocks air lawful rank f is_round.in_run p planned j v w here in
+          let next = next_of s clocks air lawful rank f is_round.in_run j v w here (place.more (omega (arith, end))) in
           up_to_last more (suc j) v next.window next.here (omega (arith, end)) none
 
-      none_at_all : (v : ℕ) → ((x : WindowLog) → IsWindowOf s clocks air f rank (last_slot p) v x → ⊥) → (j : ℕ) (w : WindowLog)
-          → IsWindowOf s clocks air f rank j v w → ⊥
+      none_at_all : (v : ℕ) → ((x : WindowLog) → IsWindowOf s clocks air rank f (last_slot p) v x → ⊥) → (j : ℕ) (w : WindowLog)
+          → IsWindowOf s clocks air rank f j v w → ⊥
       none_at_all v none j w here =
-          let place = placed s clocks air lawful f is_round.in_run rank p planned j v w here in
+          let place = placed s clocks air lawful rank f is_round.in_run p planned j v w here in
           let within = place.within in
           up_to_last (last_slot p - j) j v w here (omega (arith, within)) none
 
@@ -98,14 +98,14 @@ module _ (heards : SlotHeardLaw) (s : ScenarioParts) (clocks : ℕ → ℕ → �
         of_rank c is = ap (λ (x : State). at_core (frame_ended (setup_in s v) f) (round_of_rank s (rank_in x) f states v)) at
             ∙ ap (at_core (frame_ended (setup_in s v) f)) is
 
-        as_of : (w : WindowLog) → IsWindowIn s clocks air v f w → IsWindowOf s clocks air f rank w.slot v w
+        as_of : (w : WindowLog) → IsWindowIn s clocks air v f w → IsWindowOf s clocks air rank f w.slot v w
         as_of w here = record { there = here.there; frame = here.frame; channel = course.ranks w here; slot = refl }
 
         -- without a round on the bus there is no window
         no_round : round_plan s rank f states ≡ None → After
         no_round none =
             course.rests (λ w here.
-            let led = led_round s clocks air lawful f in_run rank w.slot v w (as_of w here) in
+            let led = led_round s clocks air lawful rank f in_run w.slot v w (as_of w here) in
             let has = has_round s rank f states led.host led.node.core led.known (sym (found led.host led.known) ∙ ap state_of_power led.on) led.leads in
             never has.0 (sym none ∙ has.1))
             ∙ sym (of_rank n.core (ap (λ (o : Option Plan). after_round s rank f states o v) none ∙ at))
@@ -113,33 +113,33 @@ module _ (heards : SlotHeardLaw) (s : ScenarioParts) (clocks : ℕ → ℕ → �
             never : (q : Plan) → ◌≡◌ {A = Option Plan} None (Some q) → ⊥
             never q is = cc
 
-        module _ (p : Plan) (is_round : IsRound s f rank p) where
-          start : IsSlotStart s clocks air f rank p (last_slot p)
+        module _ (p : Plan) (is_round : IsRound s rank f p) where
+          start : IsSlotStart s clocks air rank f p (last_slot p)
           start = starts rank p is_round (last_slot p) (omega arith)
 
-          heard : IsSlotHeard s clocks air f rank p (last_slot p)
+          heard : IsSlotHeard s clocks air rank f p (last_slot p)
           heard = hears rank p is_round (last_slot p) (omega arith)
 
-          after_window : (w : WindowLog) → IsWindowOf s clocks air f rank (last_slot p) v w → After
+          after_window : (w : WindowLog) → IsWindowOf s clocks air rank f (last_slot p) v w → After
           after_window w here =
-              let c = closing_of s clocks air lawful f in_run rank (last_slot p) v w here in
-              let place = placed s clocks air lawful f in_run rank p (planned rank p is_round) (last_slot p) v w here in
+              let c = closing_of s clocks air lawful rank f in_run (last_slot p) v w here in
+              let place = placed s clocks air lawful rank f in_run p (planned rank p is_round) (last_slot p) v w here in
               let rests : c.closing.after.stage ≡ AwaitFrame = closes_last s clocks air lawful v w c.closing here.there c.is (place.last refl) in
               course.ends w c.closing (record { there = here.there; frame = here.frame }) c.is (λ awaits. stages (suc w.slot) (sym rests ∙ awaits))
-              ∙ sym (of_rank c.closing.after.core (round_left s clocks air lawful f in_run rank p is_round
+              ∙ sym (of_rank c.closing.after.core (round_left s clocks air lawful rank f in_run p is_round
               (last_slot p) start heard refl v w c.closing here c.is))
             where
               stages : (i : ℕ) → AwaitFrame ≡ AwaitSlot i → ⊥
               stages i is = cc
 
-          without_window : ((w : WindowLog) → IsWindowOf s clocks air f rank (last_slot p) v w → ⊥) → After
+          without_window : ((w : WindowLog) → IsWindowOf s clocks air rank f (last_slot p) v w → ⊥) → After
           without_window none =
               course.rests (λ w here. none_at_all rank p is_round v none w.slot w (as_of w here))
-              ∙ sym (of_rank n.core (round_without s clocks air lawful f in_run rank p is_round (last_slot p) start heard refl v known none ∙ at))
+              ∙ sym (of_rank n.core (round_without s clocks air lawful rank f in_run p is_round (last_slot p) start heard refl v known none ∙ at))
 
           with_round : After
           with_round =
-              elim (find_window s clocks air lawful f in_run rank p is_round (last_slot p) start heard v) [
+              elim (find_window s clocks air lawful rank f in_run p is_round (last_slot p) start heard v) [
                 | inl w ↦ after_window w.window (record { there = w.there; frame = w.frame; channel = w.channel; slot = w.slot })
                 | inr none ↦ without_window none
               ]
@@ -149,7 +149,7 @@ module _ (heards : SlotHeardLaw) (s : ScenarioParts) (clocks : ℕ → ℕ → �
             elim (find_plan (round_plan s rank f states) refl) [
               | inl none ↦ no_round none
               | inr some ↦
-                  (let hosted = hosted_by s clocks air lawful f in_run rank found some.0 some.1 in
+                  (let hosted = hosted_by s clocks air lawful rank f in_run found some.0 some.1 in
                   with_round some.0 (record { in_run = in_run; hosted = hosted; plan = some.1 }))
             ]
           where

@@ -62,19 +62,19 @@ begun_by s part j (Some m) = refl
 abbrev read : Option (List ℕ × ℕ) → Option Message
 read a = option_and_then (λ (b : List ℕ × ℕ). message_of b.0) a
 
-module _ (s : ScenarioParts) (clocks : ℕ → ℕ → ℕ) (air : List Entry) (lawful : IsLawfulRun s clocks air) (f rank : ℕ) (p : Plan) (j : ℕ)
-    (start : IsSlotStart s clocks air f rank p j) where
+module _ (s : ScenarioParts) (clocks : ℕ → ℕ → ℕ) (air : List Entry) (lawful : IsLawfulRun s clocks air) (rank f : ℕ) (p : Plan) (j : ℕ)
+    (start : IsSlotStart s clocks air rank f p j) where
   run : IsObedientRun s clocks air
   run = record { driven = record { sound = lawful.sound; drift = lawful.drift }; heedful = lawful_is_heedful s clocks air lawful.lawful }
 
   abbrev x : Slot
-  x = bus_slot s f rank p j
+  x = bus_slot s rank f p j
 
   abbrev states : ℕ → State
   states = before_slot s rank f p (state_at s f) j
 
   abbrev Of : ℕ → WindowLog → Type 0
-  Of v w = IsWindowOf s clocks air f rank j v w
+  Of v w = IsWindowOf s clocks air rank f j v w
 
   -- a member's window says on the bus what it says in the log
   module _ (v : ℕ) (known : knows s.nodes v ≡ true) (w : WindowLog) (here : Of v w) (alarm : w.by_alarm ≡ true) where
@@ -97,10 +97,10 @@ module _ (s : ScenarioParts) (clocks : ℕ → ℕ → ℕ) (air : List Entry) (
         ∙ ap (λ (k : Part). (opened_slot S w.before.frame k w.before.core).message) (sym part_is)
 
   -- who says something has such a window
-  says_in_window : (v : ℕ) → knows s.nodes v ≡ true → is_some (message_said (x.window v)) ≡ true → HasWindow s clocks air f rank j v
+  says_in_window : (v : ℕ) → knows s.nodes v ≡ true → is_some (message_said (x.window v)) ≡ true → HasWindow s clocks air rank f j v
   says_in_window v known some = by_state (states v) refl some
     where
-      by_state : (y : State) → states v ≡ y → is_some (message_said (opened_at s rank f (part_of p j) v y)) ≡ true → HasWindow s clocks air f rank j v
+      by_state : (y : State) → states v ≡ y → is_some (message_said (opened_at s rank f (part_of p j) v y)) ≡ true → HasWindow s clocks air rank f j v
       by_state (StateOff boots) at is = absurd (false≢true is)
       by_state (StateOn c) at is = elim (cases_Bool (is_member rank f c)) [
         | inl takes ↦ start.window v c known at takes
@@ -131,7 +131,7 @@ module _ (s : ScenarioParts) (clocks : ℕ → ℕ → ℕ) (air : List Entry) (
       ∙ leaves (flood_at_first (setup_of s v) w.by_alarm w) w.happenings
       ∙ begun_at v known w here w.by_alarm refl
 
-  module _ (r : Run) (is : IsRunOf s clocks air f rank p j r) (steps : IsFloodBySteps r) where
+  module _ (r : Run) (is : IsRunOf s clocks air rank f p j r) (steps : IsFloodBySteps r) where
     -- who takes part is a node
     part_known : (v : ℕ) → IsParticipant r v → knows s.nodes v ≡ true
     part_known v here =
@@ -142,7 +142,7 @@ module _ (s : ScenarioParts) (clocks : ℕ → ℕ → ℕ) (air : List Entry) (
     -- an initiator says something, which may be said
     record HasSaid (o : ℕ) : Type 0 where
       message : Message
-      said : Says s f rank p j o message
+      said : Says s rank f p j o message
       may : MaySay j message
 
     has_said : (o : ℕ) → initiates r o → HasSaid o
@@ -195,7 +195,7 @@ module _ (s : ScenarioParts) (clocks : ℕ → ℕ → ℕ) (air : List Entry) (
             ∙ sym h.said.1
             ∙ sym (ap (λ (q : Option (ℕ × ℕ)). option_and_then (λ b. message_said (x.window b.0)) q) on_bus)
 
-    heard_slot : IsSlotHeard s clocks air f rank p j
+    heard_slot : IsSlotHeard s clocks air rank f p j
     heard_slot = record {
       accepted = λ v w here closed.
           ap (λ (t : FloodState). read (accepted_of t)) (sym (is.flood v w here closed)) ∙ accepted_same v (is.part v w here);
@@ -207,14 +207,14 @@ module _ (s : ScenarioParts) (clocks : ℕ → ℕ → ℕ) (air : List Entry) (
     }
 
 pub slots_heard : RunsLaw → SlotHeardLaw
-slots_heard runs s clocks air lawful f rank j p round within start =
-    let found = runs s clocks air lawful f rank j p round within start in
-    heard_slot s clocks air lawful f rank p j start found.0 found.1 found.2
+slots_heard runs s clocks air lawful rank f j p round within start =
+    let found = runs s clocks air lawful rank f j p round within start in
+    heard_slot s clocks air lawful rank f p j start found.0 found.1 found.2
 
 pub slots_started : RunsLaw → StartedSlotLaw
-slots_started runs s clocks air lawful f rank j p round within start =
-    let found = runs s clocks air lawful f rank j p round within start in
+slots_started runs s clocks air lawful rank f j p round within start =
+    let found = runs s clocks air lawful rank f j p round within start in
     record {
-      sends = λ v k o m says few. sends_same s clocks air f rank p j found.0 found.1 found.2 v k o m says few;
-      accepts = λ v k o m says few. accepts_same s clocks air f rank p j found.0 found.1 found.2 v k o m says few;
+      sends = λ v k o m says few. sends_same s clocks air rank f p j found.0 found.1 found.2 v k o m says few;
+      accepts = λ v k o m says few. accepts_same s clocks air rank f p j found.0 found.1 found.2 v k o m says few;
     }

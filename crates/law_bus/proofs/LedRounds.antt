@@ -17,9 +17,9 @@ use Rattle.law_bus.proofs.WindowsInTurn.{of_kind, in_frame, goes, as_member, fra
 use Rattle.law_bus.proofs.PlannedRounds.{origin_here}
 
 module _ (s : ScenarioParts) (clocks : ℕ → ℕ → ℕ) (air : List Entry) (lawful : IsLawfulRun s clocks air)
-    (f : ℕ) (in_run : f < s.frames) (rank : ℕ) where
+    (rank f : ℕ) (in_run : f < s.frames) where
   abbrev Of : ℕ → ℕ → WindowLog → Type 0
-  Of j v w = IsWindowOf s clocks air f rank j v w
+  Of j v w = IsWindowOf s clocks air rank f j v w
 
   -- some node leads the round of which a window is
   pub record IsLed : Type 0 where
@@ -31,9 +31,9 @@ module _ (s : ScenarioParts) (clocks : ℕ → ℕ → ℕ) (air : List Entry) (
 
   led_first : (v : ℕ) (w : WindowLog) → Of 0 v w → w.by_alarm ≡ true → IsLed
   led_first v w here alarm =
-      let go = goes s clocks air lawful f in_run rank 0 v w here in
-      let is = as_member s clocks air lawful f in_run rank 0 v w here alarm in
-      let start : w.before ≡ go.node = go.course.begins w (in_frame s clocks air lawful f in_run rank 0 v w here) here.slot in
+      let go = goes s clocks air lawful rank f in_run 0 v w here in
+      let is = as_member s clocks air lawful rank f in_run 0 v w here alarm in
+      let start : w.before ≡ go.node = go.course.begins w (in_frame s clocks air lawful rank f in_run 0 v w here) here.slot in
       let led = round_led s clocks v w.before w.before.core.tune
       (subst (λ (i : ℕ). IsRoundOf s clocks v w.before i false w.before.core.tune) here.slot is.member.round) in
       record {
@@ -43,21 +43,21 @@ module _ (s : ScenarioParts) (clocks : ℕ → ℕ → ℕ) (air : List Entry) (
         on = go.on;
         leads =
             subst (λ (n : Node). leads_by rank f n.core.tune ≡ true) start
-            (subst (λ (r : ℕ). leads_by r f w.before.core.tune ≡ true) (rank_is s clocks air lawful f in_run rank 0 v w here alarm)
+            (subst (λ (r : ℕ). leads_by r f w.before.core.tune ≡ true) (rank_is s clocks air lawful rank f in_run 0 v w here alarm)
             (subst (λ (g : ℕ). leads_by (rank_at w.before) g w.before.core.tune ≡ true)
-            (frame_is s clocks air lawful f in_run rank 0 v w here alarm) led));
+            (frame_is s clocks air lawful rank f in_run 0 v w here alarm) led));
       }
 
   led_as : (j v : ℕ) (w : WindowLog) → Of j v w → (b : Bool) → w.by_alarm ≡ b → ((u : ℕ) (x : WindowLog) → Of j u x → x.by_alarm ≡ true → IsLed) → IsLed
   led_as j v w here true is members = members v w here is
-  led_as j v w here false is members = (let o = origin_here s clocks air lawful f in_run rank j v w here
+  led_as j v w here false is members = (let o = origin_here s clocks air lawful rank f in_run j v w here
       (of_kind s clocks air lawful v w false here.there is) in members o.host o.window o.here o.by_alarm)
 
   led_by_alarm : (j v : ℕ) (w : WindowLog) → Of j v w → w.by_alarm ≡ true → IsLed
   led_by_alarm zero v w here alarm = led_first v w here alarm
   led_by_alarm (suc j) v w here alarm =
-      let before = (goes s clocks air lawful f in_run rank (suc j) v w here).course.follows w j
-      (in_frame s clocks air lawful f in_run rank (suc j) v w here) alarm here.slot in
+      let before = (goes s clocks air lawful rank f in_run (suc j) v w here).course.follows w j
+      (in_frame s clocks air lawful rank f in_run (suc j) v w here) alarm here.slot in
       let x : Of j v before.window = record {
         there = before.here.there;
         frame = before.here.frame;

@@ -126,33 +126,33 @@ module _ (s : ScenarioParts) (clocks : ℕ → ℕ → ℕ) (air : List Entry) (
     ends_before_opening = by_kind w.by_alarm timed.by
 
 module _ (s : ScenarioParts) (clocks : ℕ → ℕ → ℕ) (air : List Entry) (lawful : IsLawfulRun s clocks air)
-    (f rank j : ℕ) (p : Plan) (round : IsRound s f rank p) (within : j ≤ last_slot p) (start : IsSlotStart s clocks air f rank p j) where
+    (rank f j : ℕ) (p : Plan) (round : IsRound s rank f p) (within : j ≤ last_slot p) (start : IsSlotStart s clocks air rank f p j) where
   abbrev Of : ℕ → ℕ → WindowLog → Type 0
-  Of i v w = IsWindowOf s clocks air f rank i v w
+  Of i v w = IsWindowOf s clocks air rank f i v w
 
   planned : IsPlanned s air rank f p
-  planned = round_planned s clocks air lawful f round.in_run rank start.found p round
+  planned = round_planned s clocks air lawful rank f round.in_run start.found p round
 
-  next : (v i : ℕ) (w : WindowLog) → Of i v w → i < last_slot p → HasNext s clocks air lawful f round.in_run rank i v w
-  next v i w here less = next_of s clocks air lawful f round.in_run rank i v w here
-      ((placed s clocks air lawful f round.in_run rank p planned i v w here).more less)
+  next : (v i : ℕ) (w : WindowLog) → Of i v w → i < last_slot p → HasNext s clocks air lawful rank f round.in_run i v w
+  next v i w here less = next_of s clocks air lawful rank f round.in_run i v w here
+      ((placed s clocks air lawful rank f round.in_run p planned i v w here).more less)
 
   -- a window of an earlier slot leads to one by an alarm in this
-  leads_on : (v d i : ℕ) (w : WindowLog) → Of i v w → i + suc d ≡ j → HasWindow s clocks air f rank j v
+  leads_on : (v d i : ℕ) (w : WindowLog) → Of i v w → i + suc d ≡ j → HasWindow s clocks air rank f j v
   leads_on v zero i w here is =
       let more = next v i w here (omega (arith, is, within)) in
-      subst (λ (k : ℕ). HasWindow s clocks air f rank k v) (omega (arith, is))
+      subst (λ (k : ℕ). HasWindow s clocks air rank f k v) (omega (arith, is))
       (record { window = more.window; here = more.here; by_alarm = more.by_alarm })
   leads_on v (suc d) i w here is =
       let more = next v i w here (omega (arith, is, within)) in
       leads_on v d (suc i) more.window more.here (omega (arith, is))
 
-  module _ (v : ℕ) (here : has (bus_slot s f rank p j).flood.everyone v ≡ true) (no_alarm : HasWindow s clocks air f rank j v → ⊥) where
+  module _ (v : ℕ) (here : has (bus_slot s rank f p j).flood.everyone v ≡ true) (no_alarm : HasWindow s clocks air rank f j v → ⊥) where
     abbrev In : WindowLog → Type 0
     In w = IsWindowIn s clocks air v f w
 
     of_rank : (w : WindowLog) → In w → w.rank ≡ rank
-    of_rank w is = party_rank s clocks air lawful f rank j p round.in_run start v w.rank w.slot w here
+    of_rank w is = party_rank s clocks air lawful rank f j p round.in_run start v w.rank w.slot w here
         (record { there = is.there; frame = is.frame; channel = refl; slot = refl })
 
     -- so it has no window of an earlier slot
@@ -163,7 +163,7 @@ module _ (s : ScenarioParts) (clocks : ℕ → ℕ → ℕ) (air : List Entry) (
         no_alarm (leads_on v d w.slot w (record { there = is.there; frame = is.frame; channel = of_rank w is; slot = refl }) sum)
 
     -- and one of a later slot opens when all that is sent in this has ended
-    pub opens_behind : (w : WindowLog) → In w → j < w.slot → (x : Sending) → Contains (sendings_of air) x → IsOf s.profile f rank j x
+    pub opens_behind : (w : WindowLog) → In w → j < w.slot → (x : Sending) → Contains (sendings_of air) x → IsOf s.profile rank f j x
         → x.end < w.opened
     opens_behind w is more x sent of =
         let slot = of.2 in

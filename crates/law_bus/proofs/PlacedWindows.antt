@@ -54,7 +54,7 @@ module _ (heards : SlotHeardLaw) (s : ScenarioParts) (clocks : ℕ → ℕ → �
   pub window_placed : (w : WindowLog) → Contains logs w → IsPlaced s v w.frame w.slot
   window_placed w there =
       let aligned : IsAligned s v w = cores_law heards s clocks air lawful v w known there in
-      let round : IsRound s w.frame w.rank aligned.plan = aligned.round in
+      let round : IsRound s w.rank w.frame aligned.plan = aligned.round in
       record {
         in_run = round.in_run;
         plan = aligned.plan;
@@ -63,10 +63,10 @@ module _ (heards : SlotHeardLaw) (s : ScenarioParts) (clocks : ℕ → ℕ → �
       }
 
   -- it has such a round
-  pub round_here : (f : ℕ) (p : Plan) → f < s.frames → plan_at s v f ≡ Some p → IsRound s f (rank_at s v f) p
+  pub round_here : (f : ℕ) (p : Plan) → f < s.frames → plan_at s v f ≡ Some p → IsRound s (rank_at s v f) f p
   round_here f p in_run is = record {
     in_run = in_run;
-    hosted = hosted_by s clocks air lawful f in_run (rank_at s v f) (found f in_run) p is;
+    hosted = hosted_by s clocks air lawful (rank_at s v f) f in_run (found f in_run) p is;
     plan = is;
   }
 

@@ -61,13 +61,13 @@ some_slots : (p : Plan) → 0 < last_slot p
 some_slots p = omega arith
 
 module _ (s : ScenarioParts) (clocks : ℕ → ℕ → ℕ) (air : List Entry) (lawful : IsLawfulRun s clocks air)
-    (f : ℕ) (in_run : f < s.frames) (rank : ℕ) where
+    (rank f : ℕ) (in_run : f < s.frames) where
   abbrev Of : ℕ → ℕ → WindowLog → Type 0
-  Of j v w = IsWindowOf s clocks air f rank j v w
+  Of j v w = IsWindowOf s clocks air rank f j v w
 
   module _ (j v : ℕ) (w : WindowLog) (here : Of j v w) (alarm : w.by_alarm ≡ true) where
     member : OfMember s clocks air v (run_end s) w
-    member = as_member s clocks air lawful f in_run rank j v w here alarm
+    member = as_member s clocks air lawful rank f in_run j v w here alarm
 
     opens : OpensByAlarm s clocks v w
     opens = opens_by s clocks air lawful v w true here.there alarm
@@ -115,7 +115,7 @@ module _ (s : ScenarioParts) (clocks : ℕ → ℕ → ℕ) (air : List Entry) (
       host_planned =
           let last = member.last in
           let some = some_slots w.before.core.plan in
-          let next = next_of s clocks air lawful f in_run rank j v w here (omega (arith, last, some, first)) in
+          let next = next_of s clocks air lawful rank f in_run j v w here (omega (arith, last, some, first)) in
           let x = next.window in
           let is : OfMember s clocks air v (run_end s) x = of_kind s clocks air lawful v x true next.here.there next.by_alarm in
           let slot = next.here.slot in
@@ -139,11 +139,11 @@ module _ (s : ScenarioParts) (clocks : ℕ → ℕ → ℕ) (air : List Entry) (
     member_planned = by_host (hosts w.before.core.tune) refl
 
   -- the window in which the flood of a scanning node's schedule began
-  pub origin_here : (j v : ℕ) (w : WindowLog) (here : Of j v w) (is : OfScanner s clocks air v w) → HasOrigin s clocks air lawful f rank j is.schedule
+  pub origin_here : (j v : ℕ) (w : WindowLog) (here : Of j v w) (is : OfScanner s clocks air v w) → HasOrigin s clocks air lawful rank f j is.schedule
   origin_here j v w here is =
-      subst (λ (i : ℕ). HasOrigin s clocks air lawful f rank i is.schedule) here.slot
-      (subst (λ (r : ℕ). HasOrigin s clocks air lawful f r w.slot is.schedule) here.channel
-      (subst (λ (g : ℕ). HasOrigin s clocks air lawful g w.rank w.slot is.schedule) here.frame (origin_of s clocks air lawful v w is)))
+      subst (λ (i : ℕ). HasOrigin s clocks air lawful rank f i is.schedule) here.slot
+      (subst (λ (r : ℕ). HasOrigin s clocks air lawful r f w.slot is.schedule) here.channel
+      (subst (λ (g : ℕ). HasOrigin s clocks air lawful w.rank g w.slot is.schedule) here.frame (origin_of s clocks air lawful v w is)))
 
   -- where a window is in a round by this plan
   pub record IsPlaced (p : Plan) (j : ℕ) (w : WindowLog) : Type 0 where
@@ -169,7 +169,7 @@ module _ (s : ScenarioParts) (clocks : ℕ → ℕ → ℕ) (air : List Entry) (
         }
 
     module _ (j v : ℕ) (w : WindowLog) (here : Of j v w) (is : OfScanner s clocks air v w) where
-      abbrev origin : HasOrigin s clocks air lawful f rank j is.schedule
+      abbrev origin : HasOrigin s clocks air lawful rank f j is.schedule
       origin = origin_here j v w here is
 
       placed_by : ((is.schedule.gap ≡ 0) × (j ≡ 0)) ⊎ Closes s clocks air origin.host rank f origin.zero j is.schedule.gap → IsPlaced p j w

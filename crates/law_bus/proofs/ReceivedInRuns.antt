@@ -32,12 +32,12 @@ use Rattle.law_bus.proofs.RunsOfLogs.{run}
 use Rattle.lwb_flood.proofs.LogEntries.{ids_known}
 
 module _ (s : ScenarioParts) (clocks : ℕ → ℕ → ℕ) (air : List Entry) (lawful : IsLawfulRun s clocks air)
-    (f rank j : ℕ) (p : Plan) (round : IsRound s f rank p) (owner : ℕ) (is : part_of p j ≡ DataSlot owner) where
+    (rank f j : ℕ) (p : Plan) (round : IsRound s rank f p) (owner : ℕ) (is : part_of p j ≡ DataSlot owner) where
   within : j ≤ last_slot p
   within = data_in_round p j owner is
 
-  slot : IsSlot s clocks air f rank p j
-  slot = slots_are_floods s clocks air lawful f rank j p round within
+  slot : IsSlot s clocks air rank f p j
+  slot = slots_are_floods s clocks air lawful rank f j p round within
 
   same : deliveries_of s clocks air ≡ bus_deliveries s
   same = delivered s clocks air lawful
@@ -46,7 +46,7 @@ module _ (s : ScenarioParts) (clocks : ℕ → ℕ → ℕ) (air : List Entry) (
   OnBus v k = DeliversAt s rank f p (state_at s f) j owner v k
 
   abbrev InRun : ℕ → ℕ → Type 0
-  InRun v k = DeliversIn s clocks air f rank j v k
+  InRun v k = DeliversIn s clocks air rank f j v k
 
   named : (v : ℕ) → knows s.nodes v ≡ true → Contains (ids s.nodes) v
   named v known =
@@ -56,11 +56,11 @@ module _ (s : ScenarioParts) (clocks : ℕ → ℕ → ℕ) (air : List Entry) (
   -- what is delivered on the bus in a step is delivered in the run in this step
   to_run : (v k : ℕ) → knows s.nodes v ≡ true → OnBus v k → InRun v k
   to_run v k known on =
-      let in_time = heard_in_time (bus_slot s f rank p j).flood k v (node_of owner) on.accepts.hears in
+      let in_time = heard_in_time (bus_slot s rank f p j).flood k v (node_of owner) on.accepts.hears in
       record {
         packet = on.packet;
         delivered = subst (λ (ds : List Delivery). Contains ds (delivery_of v f rank j on.packet)) (sym same)
-            (in_bus s f rank j v p round within (named v known) (delivery_of v f rank j on.packet) on.delivered);
+            (in_bus s rank f j v p round within (named v known) (delivery_of v f rank j on.packet) on.delivered);
         accepted = (slot.accepts v k (node_of owner) (DataOf on.packet) (on.speaks, on.said) (omega (arith, in_time))).0 on.accepts;
       }
 
@@ -69,7 +69,7 @@ module _ (s : ScenarioParts) (clocks : ℕ → ℕ → ℕ) (air : List Entry) (
       → IsDelivered s lawful.sound rank f p (state_at s f) j owner is d.node d
   of_bus d there frame channel at =
       let made = from_bus s d (subst (λ (ds : List Delivery). Contains ds d) same there) in
-      delivered_so s lawful.sound rank f p (state_at s f) j owner is d.node d (made_so s d made f rank j p round frame channel at)
+      delivered_so s lawful.sound rank f p (state_at s f) j owner is d.node d (made_so s d made rank f j p round frame channel at)
 
   -- a window accepts once
   one_step : (v k i : ℕ) → knows s.nodes v ≡ true → InRun v k → InRun v i → k ≡ i
@@ -93,13 +93,13 @@ module _ (s : ScenarioParts) (clocks : ℕ → ℕ → ℕ) (air : List Entry) (
       let step = one_step v k on.step known delivers (to_run v on.step known on.delivers) in
       subst (OnBus v) (sym step) on.delivers
 
-  by_paths : (v k : ℕ) → IsMemberIn s f rank p j v → v ≢ node_of owner → (InRun v k ↔ IsLeast (bus_slot s f rank p j).flood (node_of owner) (suc k) v)
+  by_paths : (v k : ℕ) → IsMemberIn s rank f p j v → v ≢ node_of owner → (InRun v k ↔ IsLeast (bus_slot s rank f p j).flood (node_of owner) (suc k) v)
   by_paths v k member other =
       let there : has (ids s.nodes) v ≡ true = ids_known s.nodes v ∙ member.known in
       let least = delivers_least s lawful.sound rank f p (state_at s f) j owner is v k there member.opens other in
       (λ delivers. least.0 (to_bus v k member.known delivers), λ path. to_run v k member.known (least.1 path))
 
-  pub received_in_slot : IsReceivedInSlot s clocks air f rank p j owner
+  pub received_in_slot : IsReceivedInSlot s clocks air rank f p j owner
   received_in_slot = record {
     by_paths = by_paths;
     nobody_else = λ d there frame channel at.

@@ -48,13 +48,13 @@ named_kind part (DataOf d) j is = sym is
 named_kind part (RequestOf a) j is = sym is
 
 module _ (s : ScenarioParts) (clocks : ℕ → ℕ → ℕ) (air : List Entry) (lawful : IsLawfulRun s clocks air)
-    (f rank j : ℕ) (p : Plan) (round : IsRound s f rank p) (start : IsSlotStart s clocks air f rank p j)
-    (events : ℕ → List Event) (are : AreEvents s clocks air f rank j events) where
+    (rank f j : ℕ) (p : Plan) (round : IsRound s rank f p) (start : IsSlotStart s clocks air rank f p j)
+    (events : ℕ → List Event) (are : AreEvents s clocks air rank f j events) where
   abbrev r : Run
-  r = run_of_slot s clocks air f rank p j events
+  r = run_of_slot s clocks air rank f p j events
 
   abbrev Of : ℕ → WindowLog → Type 0
-  Of v w = IsWindowOf s clocks air f rank j v w
+  Of v w = IsWindowOf s clocks air rank f j v w
 
   abbrev pub starting_by : ℕ → Bool → FloodState
   starting_by v b = record {
@@ -68,7 +68,7 @@ module _ (s : ScenarioParts) (clocks : ℕ → ℕ → ℕ) (air : List Entry) (
   }
 
   abbrev pub initiates_by : ℕ → Bool
-  initiates_by v = has (bus_slot s f rank p j).flood.initiators v
+  initiates_by v = has (bus_slot s rank f p j).flood.initiators v
 
   pub begins_by : (v : ℕ) (b : Bool) → initiates_by v ≡ b → flood_at_beginning r v ≡ starting_by v b
   begins_by v b is = ap (starting_by v) is
@@ -82,18 +82,18 @@ module _ (s : ScenarioParts) (clocks : ℕ → ℕ → ℕ) (air : List Entry) (
   -- who says something
   speaking : (v : ℕ) (w : WindowLog) → Of v w → initiates_by v ≡ true → starting_by v true ≡ first_of v w w.by_alarm
   speaking v w here is =
-      let who : IsSpeaker s clocks air lawful f rank j p round.in_run start v = speaker s clocks air lawful f rank j p round.in_run start v is in
-      let same : who.window ≡ w = same_window s clocks air lawful f rank j round.in_run v who.window w who.here here in
+      let who : IsSpeaker s clocks air lawful rank f j p round.in_run start v = speaker s clocks air lawful rank f j p round.in_run start v is in
+      let same : who.window ≡ w = same_window s clocks air lawful rank f j round.in_run v who.window w who.here here in
       let alarm : w.by_alarm ≡ true = ap (λ (x : WindowLog). x.by_alarm) (sym same) ∙ who.by_alarm in
       let said : initial_message (setup_of s v) w ≡ Some who.message = ap (λ (x : WindowLog). initial_message (setup_of s v) x) (sym same) ∙ who.said in
       let m = who.message in
       let k : KindIs (part_of w.before.core.plan w.slot) (Some m) = subst (KindIs (part_of w.before.core.plan w.slot)) said
       (said_kind (setup_of s v) w.before.frame (part_of w.before.core.plan w.slot) w.before.core) in
       let kind : r.kind ≡ kind_named (bytes_of m w.slot) =
-      ap kind_for (sym (part_is s clocks air lawful f rank j p round.in_run start v w here alarm))
+      ap kind_for (sym (part_is s clocks air lawful rank f j p round.in_run start v w here alarm))
       ∙ sym (named_kind (part_of w.before.core.plan w.slot) m w.slot k) in
       let message : r.message v ≡ bytes_of m w.slot =
-      message_is s clocks air lawful f rank j p round.in_run start events are v who ∙ ap (bytes_of m) (sym here.slot) in
+      message_is s clocks air lawful rank f j p round.in_run start events are v who ∙ ap (bytes_of m) (sym here.slot) in
       let slot : j ≡ slice_index (bytes_of m w.slot) 1 = sym here.slot ∙ sym (first_place m w.slot).0 in
       ap (λ (q : List ℕ). record { kind = r.kind; slot = j; limit = s.sends; sent = 0; waiting = true; initiated = true; first = Some q }) message
       ∙ ap (λ (i : ℕ). record { kind = r.kind; slot = i; limit = s.sends; sent = 0; waiting = true; initiated = true; first = Some (bytes_of m w.slot) }) slot
@@ -115,15 +115,15 @@ module _ (s : ScenarioParts) (clocks : ℕ → ℕ → ℕ) (air : List Entry) (
   silent_said v w here alarm is None said = refl
   silent_said v w here alarm is (Some m) said =
       let known = known_by s clocks air lawful v w here.there in
-      absurd (true≢false (sym (speaks s clocks air lawful f rank j p round.in_run start v w m known here alarm said) ∙ is))
+      absurd (true≢false (sym (speaks s clocks air lawful rank f j p round.in_run start v w m known here alarm said) ∙ is))
 
   listening_so : (v : ℕ) (w : WindowLog) → Of v w → initiates_by v ≡ false → (b : Bool) → w.by_alarm ≡ b → starting_by v false ≡ first_of v w b
   listening_so v w here is true alarm =
-      ap (λ (k : Part). listens_to (kind_for k) j) (sym (part_is s clocks air lawful f rank j p round.in_run start v w here alarm))
+      ap (λ (k : Part). listens_to (kind_for k) j) (sym (part_is s clocks air lawful rank f j p round.in_run start v w here alarm))
       ∙ ap (listens_to (kind_for (part_of w.before.core.plan w.slot))) (sym here.slot)
       ∙ ap (flood_for (setup_of s v) (part_of w.before.core.plan w.slot) w.slot) (sym (silent_said v w here alarm is (initial_message (setup_of s v) w) refl))
   listening_so v w here is false hears =
-      ap (λ (k : Kind.Kind). listens_to k j) (schedule_kind (part_of p j) (schedule_slot s clocks air lawful f rank j p round start v w here hears))
+      ap (λ (k : Kind.Kind). listens_to k j) (schedule_kind (part_of p j) (schedule_slot s clocks air lawful rank f j p round start v w here hears))
       ∙ ap (listens_to Kind.TheVariants.Schedule) (sym here.slot)
 
   first_by : (v : ℕ) (w : WindowLog) → Of v w → (b : Bool) → initiates_by v ≡ b → flood_at_beginning r v ≡ first_of v w w.by_alarm
@@ -145,13 +145,13 @@ module _ (s : ScenarioParts) (clocks : ℕ → ℕ → ℕ) (air : List Entry) (
       (subst (λ (g : FloodState). Contains (event_occasions g (events v)) o) first is.occasion) in
       let sends : SendsAt s clocks air v w (due (clocks v) (clocks v is.heard.end + s.profile.turn)) q =
       played.part.relayed is.heard is.flood q there is.answer in
-      sent_at s clocks air lawful f rank j p round.in_run start events are sends.sending
-      (sends.there, is_of_window s clocks air lawful f rank j p round.in_run start events are v w here sends.sending sends.of_slot)
+      sent_at s clocks air lawful rank f j p round.in_run start events are sends.sending
+      (sends.there, is_of_window s clocks air lawful rank f j p round.in_run start events are v w here sends.sending sends.of_slot)
       v tick q sends.node (sends.at ∙ sym is.start) sends.packet_is
 
   relayed_so : (v tick : ℕ) (q : List ℕ) → RelayedInRun r v (sending_of_run r v tick q) → Contains r.sendings (sending_of_run r v tick q)
   relayed_so v tick q is =
-      elim (look_up f rank j (trail_in s clocks air v).made.windows) [
+      elim (look_up rank f j (trail_in s clocks air v).made.windows) [
         | inl own ↦ relayed_by v tick q is own.window (record { there = own.there; frame = own.frame; channel = own.channel; slot = own.slot })
         | inr none ↦ (
             let empty : events v ≡ [] = are.without v (λ w here. none w here.there here.frame here.channel here.slot) in
@@ -162,13 +162,13 @@ module _ (s : ScenarioParts) (clocks : ℕ → ℕ → ℕ) (air : List Entry) (
 
   relays_so : (x : Sending) → Contains r.sendings x → counter x ≢ 0 → IsParticipant r x.node × RelayedInRun r x.node x
   relays_so x there more =
-      let is = here_so s clocks air lawful f rank j p round.in_run start events are x there in
-      let from = caller s clocks air lawful f rank j p round.in_run start events are x is in
+      let is = here_so s clocks air lawful rank f j p round.in_run start events are x there in
+      let from = caller s clocks air lawful rank f j p round.in_run start events are x is in
       let w = from.window in
       let played = are.by_window x.node w from.here in
       let answer = played.part.relays x is.0 refl from.of_slot more in
       let o : EventOccasion = record { before = answer.flood; event = Heard answer.heard } in (
-        window_takes s clocks air lawful f rank j p round start x.node w from.here,
+        window_takes s clocks air lawful rank f j p round start x.node w from.here,
         record {
           heard = answer.heard;
           flood = answer.flood;
@@ -182,7 +182,7 @@ module _ (s : ScenarioParts) (clocks : ℕ → ℕ → ℕ) (air : List Entry) (
   -- so the transmissions of the slot are those of a flood
   pub has_sendings : HasSendings r
   has_sendings =
-      let begun = begins_as_said s clocks air lawful f rank j p round.in_run start events are in
+      let begun = begins_as_said s clocks air lawful rank f j p round.in_run start events are in
       record {
         lasts = begun.lasts;
         begun = begun.begun;

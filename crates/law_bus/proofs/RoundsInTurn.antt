@@ -48,9 +48,9 @@ on_with c (PowerOn n) is = record { node = n; on = refl; core = same is }
     same is = cc
 
 module _ (s : ScenarioParts) (clocks : ℕ → ℕ → ℕ) (air : List Entry) (lawful : IsLawfulRun s clocks air)
-    (f : ℕ) (in_run : f < s.frames) (rank : ℕ) where
+    (rank f : ℕ) (in_run : f < s.frames) where
   abbrev Of : ℕ → ℕ → WindowLog → Type 0
-  Of j v w = IsWindowOf s clocks air f rank j v w
+  Of j v w = IsWindowOf s clocks air rank f j v w
 
   -- a member has a window in slot 0, which opens at it as the frame found it
   pub record BeginsAt (v : ℕ) (c : Core) : Type 0 where
@@ -98,93 +98,93 @@ module _ (s : ScenarioParts) (clocks : ℕ → ℕ → ℕ) (air : List Entry) (
       subst (λ (r : ℕ). r < length s.hosts) begins.here.channel timed.hosted
 
   -- the plan of the bus's round was sent
-  pub round_planned : IsFrameStart s clocks air f → (p : Plan) → IsRound s f rank p → IsPlanned s air rank f p
+  pub round_planned : IsFrameStart s clocks air f → (p : Plan) → IsRound s rank f p → IsPlanned s air rank f p
   round_planned found p round =
       let leader = leader_of s rank f (state_at s f) p round.plan in
       let begins = begins_at found leader.node leader.known leader.core leader.on (leads_member rank f leader.core.tune (is_fresh leader.core) leader.leads) in
       subst (IsPlanned s air rank f) (ap (λ (c : Core). c.plan) begins.core ∙ leader.plan)
-      (member_planned s clocks air lawful f in_run rank 0 leader.node begins.window begins.here begins.by_alarm)
+      (member_planned s clocks air lawful rank f in_run 0 leader.node begins.window begins.here begins.by_alarm)
 
-  module _ (p : Plan) (is_round : IsRound s f rank p) where
+  module _ (p : Plan) (is_round : IsRound s rank f p) where
     -- what is the same before each slot: who has a window by its alarm is a member, and goes by the plan
     plan_by : IsFrameStart s clocks air f → (j v : ℕ) (w : WindowLog) → Of j v w → w.by_alarm ≡ true → w.before.core.plan ≡ p
-    plan_by found j v w here alarm = plan_is s clocks air lawful f in_run rank p (round_planned found p is_round) j v w here alarm
+    plan_by found j v w here alarm = plan_is s clocks air lawful rank f in_run p (round_planned found p is_round) j v w here alarm
 
     -- slot 0
-    pub first_slot : IsFrameStart s clocks air f → IsSlotStart s clocks air f rank p zero
+    pub first_slot : IsFrameStart s clocks air f → IsSlotStart s clocks air rank f p zero
     unfolding before_slot
     first_slot found = record {
       found = found;
       core = λ v w here alarm.
-          (let go = goes s clocks air lawful f in_run rank 0 v w here in
-          let node : w.before ≡ go.node = go.course.begins w (in_frame s clocks air lawful f in_run rank 0 v w here) here.slot in
+          (let go = goes s clocks air lawful rank f in_run 0 v w here in
+          let node : w.before ≡ go.node = go.course.begins w (in_frame s clocks air lawful rank f in_run 0 v w here) here.slot in
           sym (found v (known_by s clocks air lawful v w here.there)) ∙ ap state_of_power go.on ∙ ap (λ (n : Node). StateOn n.core) (sym node));
-      member = λ v w here alarm. takes_part s clocks air lawful f in_run rank 0 v w here alarm;
+      member = λ v w here alarm. takes_part s clocks air lawful rank f in_run 0 v w here alarm;
       plan = λ v w here alarm. plan_by found 0 v w here alarm;
       window = λ v c known on member.
           (let begins = begins_at found v known c on member in record { window = begins.window; here = begins.here; by_alarm = begins.by_alarm });
       others = λ v known none. refl;
     }
 
-    module _ (j : ℕ) (start : IsSlotStart s clocks air f rank p j) (heard : IsSlotHeard s clocks air f rank p j) where
+    module _ (j : ℕ) (start : IsSlotStart s clocks air rank f p j) (heard : IsSlotHeard s clocks air rank f p j) where
       planned : IsPlanned s air rank f p
       planned = round_planned start.found p is_round
 
-      left : (v : ℕ) (w : WindowLog) (here : Of j v w) (c : Closing) → w.closed ≡ Some c → bus_before s f rank p (suc j) v ≡ StateOn c.after.core
-      left v w here c is = left_by_window s clocks air lawful f in_run rank j p start heard v w here c is
+      left : (v : ℕ) (w : WindowLog) (here : Of j v w) (c : Closing) → w.closed ≡ Some c → bus_before s rank f p (suc j) v ≡ StateOn c.after.core
+      left v w here c is = left_by_window s clocks air lawful rank f in_run j p start heard v w here c is
 
       abbrev Finds : ℕ → Type 0
-      Finds v = (IsThere f rank j (trail_in s clocks air v).made.windows) ⊎ ((w : WindowLog) → Of j v w → ⊥)
+      Finds v = (IsThere rank f j (trail_in s clocks air v).made.windows) ⊎ ((w : WindowLog) → Of j v w → ⊥)
 
       pub find_window : (v : ℕ) → Finds v
-      find_window v = elim (look_up f rank j (trail_in s clocks air v).made.windows) [
+      find_window v = elim (look_up rank f j (trail_in s clocks air v).made.windows) [
         | inl is ↦ inl is
         | inr none ↦ inr (λ w here. none w here.there here.frame here.channel here.slot)
       ]
 
-      as_found : (v : ℕ) → (w : IsThere f rank j (trail_in s clocks air v).made.windows) → Of j v w.window
+      as_found : (v : ℕ) → (w : IsThere rank f j (trail_in s clocks air v).made.windows) → Of j v w.window
       as_found v w = record { there = w.there; frame = w.frame; channel = w.channel; slot = w.slot }
 
       module _ (less : j < last_slot p) where
-        next_window : (v : ℕ) (w : WindowLog) → Of j v w → HasWindow s clocks air f rank (suc j) v
+        next_window : (v : ℕ) (w : WindowLog) → Of j v w → HasWindow s clocks air rank f (suc j) v
         next_window v w here =
-            let more = (placed s clocks air lawful f in_run rank p planned j v w here).more less in
-            let next = next_of s clocks air lawful f in_run rank j v w here more in
+            let more = (placed s clocks air lawful rank f in_run p planned j v w here).more less in
+            let next = next_of s clocks air lawful rank f in_run j v w here more in
             record { window = next.window; here = next.here; by_alarm = next.by_alarm }
 
-        core_next : (v : ℕ) (w : WindowLog) → Of (suc j) v w → w.by_alarm ≡ true → bus_before s f rank p (suc j) v ≡ StateOn w.before.core
+        core_next : (v : ℕ) (w : WindowLog) → Of (suc j) v w → w.by_alarm ≡ true → bus_before s rank f p (suc j) v ≡ StateOn w.before.core
         core_next v w here alarm =
-            let go = goes s clocks air lawful f in_run rank (suc j) v w here in
-            let x = go.course.follows w j (in_frame s clocks air lawful f in_run rank (suc j) v w here) alarm here.slot in
+            let go = goes s clocks air lawful rank f in_run (suc j) v w here in
+            let x = go.course.follows w j (in_frame s clocks air lawful rank f in_run (suc j) v w here) alarm here.slot in
             left v x.window (record { there = x.here.there; frame = x.here.frame; channel = x.channel ∙ here.channel; slot = x.slot }) x.closing x.closed
             ∙ ap (λ (n : Node). StateOn n.core) x.node
 
-        window_next : (v : ℕ) (c : Core) → knows s.nodes v ≡ true → bus_before s f rank p (suc j) v ≡ StateOn c → is_member rank f c ≡ true
-            → HasWindow s clocks air f rank (suc j) v
+        window_next : (v : ℕ) (c : Core) → knows s.nodes v ≡ true → bus_before s rank f p (suc j) v ≡ StateOn c → is_member rank f c ≡ true
+            → HasWindow s clocks air rank f (suc j) v
         window_next v c known on member =
             elim (find_window v) [
               | inl w ↦ next_window v w.window (as_found v w)
               | inr none ↦
-                  (let same = stays_without s clocks air lawful f in_run rank j p start heard v known none in
+                  (let same = stays_without s clocks air lawful rank f in_run j p start heard v known none in
                   let has = start.window v c known (sym same ∙ on) member in
                   absurd (none has.window has.here))
             ]
 
-        others_next : (v : ℕ) → knows s.nodes v ≡ true → (HasWindow s clocks air f rank (suc j) v → ⊥) → bus_before s f rank p (suc j) v ≡ state_at s f v
+        others_next : (v : ℕ) → knows s.nodes v ≡ true → (HasWindow s clocks air rank f (suc j) v → ⊥) → bus_before s rank f p (suc j) v ≡ state_at s f v
         others_next v known without =
             elim (find_window v) [
               | inl w ↦ absurd (without (next_window v w.window (as_found v w)))
               | inr none ↦
-                  stays_without s clocks air lawful f in_run rank j p start heard v known none
-                  ∙ found_without s clocks air lawful f in_run rank j p start heard v known none
+                  stays_without s clocks air lawful rank f in_run j p start heard v known none
+                  ∙ found_without s clocks air lawful rank f in_run j p start heard v known none
             ]
 
         -- the next slot
-        pub slot_step : IsSlotStart s clocks air f rank p (suc j)
+        pub slot_step : IsSlotStart s clocks air rank f p (suc j)
         slot_step = record {
           found = start.found;
           core = core_next;
-          member = λ v w here alarm. takes_part s clocks air lawful f in_run rank (suc j) v w here alarm;
+          member = λ v w here alarm. takes_part s clocks air lawful rank f in_run (suc j) v w here alarm;
           plan = λ v w here alarm. plan_by start.found (suc j) v w here alarm;
           window = window_next;
           others = others_next;
@@ -192,7 +192,7 @@ module _ (s : ScenarioParts) (clocks : ℕ → ℕ → ℕ) (air : List Entry) (
 
       -- after the last slot
       module _ (end : j ≡ last_slot p) where
-        over : (v : ℕ) → round_of_rank s rank f (state_at s f) v ≡ bus_before s f rank p (suc j) v
+        over : (v : ℕ) → round_of_rank s rank f (state_at s f) v ≡ bus_before s rank f p (suc j) v
         over v =
             ap (λ (o : Option Plan). after_round s rank f (state_at s f) o v) is_round.plan
             ∙ ap (λ (k : ℕ). before_slot s rank f p (state_at s f) k v) (omega (arith, end))
@@ -203,18 +203,18 @@ module _ (s : ScenarioParts) (clocks : ℕ → ℕ → ℕ) (air : List Entry) (
         pub round_without : (v : ℕ) → knows s.nodes v ≡ true → ((w : WindowLog) → Of j v w → ⊥) → round_of_rank s rank f (state_at s f) v ≡ state_at s f v
         round_without v known none =
             over v
-            ∙ stays_without s clocks air lawful f in_run rank j p start heard v known none
-            ∙ found_without s clocks air lawful f in_run rank j p start heard v known none
+            ∙ stays_without s clocks air lawful rank f in_run j p start heard v known none
+            ∙ found_without s clocks air lawful rank f in_run j p start heard v known none
 
 pub first_slots : FirstSlotLaw
-first_slots s clocks air lawful f found rank p round = first_slot s clocks air lawful f round.in_run rank p round found
+first_slots s clocks air lawful rank f p found round = first_slot s clocks air lawful rank f round.in_run p round found
 
 pub slot_steps : SlotStepLaw
-slot_steps s clocks air lawful f rank j p round less start heard =
-    slot_step s clocks air lawful f round.in_run rank p round j start heard less
+slot_steps s clocks air lawful rank f j p round less start heard =
+    slot_step s clocks air lawful rank f round.in_run p round j start heard less
 
 pub round_ends : RoundEndLaw
-round_ends s clocks air lawful f rank p round start heard = record {
-  core = λ v w c here is. round_left s clocks air lawful f round.in_run rank p round (last_slot p) start heard refl v w c here is;
-  others = λ v known none. round_without s clocks air lawful f round.in_run rank p round (last_slot p) start heard refl v known none;
+round_ends s clocks air lawful rank f p round start heard = record {
+  core = λ v w c here is. round_left s clocks air lawful rank f round.in_run p round (last_slot p) start heard refl v w c here is;
+  others = λ v known none. round_without s clocks air lawful rank f round.in_run p round (last_slot p) start heard refl v known none;
 }

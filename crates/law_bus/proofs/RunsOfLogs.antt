@@ -79,14 +79,14 @@ module _ (s : ScenarioParts) (clocks : ℕ → ℕ → ℕ) (air : List Entry) (
   pub round_by : (v : ℕ) (w : WindowLog) → Contains (trail_in s clocks air v).made.windows w → IsOfRound s clocks air v (run_end s) w
   round_by v w there = of_round s clocks air v run (known_by v w there) w there
 
-  module _ (f rank j : ℕ) where
+  module _ (rank f j : ℕ) where
     -- the window of a host in which it began the flood of this schedule
     pub record HasOrigin (y : Schedule) : Type 0 where
       pub host : ℕ
       pub zero : ℕ
       pub sending : Sending
       pub window : WindowLog
-      pub here : IsWindowOf s clocks air f rank j host window
+      pub here : IsWindowOf s clocks air rank f j host window
       pub by_alarm : window.by_alarm ≡ true
       pub says : SaysSchedule s clocks air host rank f zero j y
       pub planned : y.gap ≡ 0 → IsPlanned s air rank f y.plan
@@ -135,7 +135,7 @@ module _ (s : ScenarioParts) (clocks : ℕ → ℕ → ℕ) (air : List Entry) (
         absurd (not_first before relays.heard o.packet relays.answer (of_flood s clocks air whole o flood.begins.sent).some
         flood.begins.start.first)
 
-    pub origin_of : HasOrigin w.frame w.rank w.slot is.schedule
+    pub origin_of : HasOrigin w.rank w.frame w.slot is.schedule
     origin_of = record {
       host = o.node;
       zero = flood.zero;

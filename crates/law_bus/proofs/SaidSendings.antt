@@ -33,10 +33,10 @@ module _ (s : ScenarioParts) (clocks : ℕ → ℕ → ℕ) (air : List Entry) (
   f = frame_of_sending s.profile x
 
   abbrev slot : Slot
-  slot = bus_slot s f x.rank p (slot_byte x)
+  slot = bus_slot s x.rank f p (slot_byte x)
 
   -- where its slot is a run of the flood theorem
-  said_in_run : IsRound s f x.rank p → slot_byte x ≤ last_slot p → (r : Run) → IsRunOf s clocks air f x.rank p (slot_byte x) r → IsFloodBySteps r
+  said_in_run : IsRound s x.rank f p → slot_byte x ≤ last_slot p → (r : Run) → IsRunOf s clocks air x.rank f p (slot_byte x) r → IsFloodBySteps r
       → IsSaidIn s x
   said_in_run round within r is steps =
       let in_run : Contains r.sendings x = (is.sendings x).1 (there, refl, refl, refl) in
@@ -45,7 +45,7 @@ module _ (s : ScenarioParts) (clocks : ℕ → ℕ → ℕ) (air : List Entry) (
       let k = counter x in
       let begun : has slot.flood.initiators o ≡ true = subst (λ (g : Setting). has g.initiators o ≡ true) is.setting found.1 in
       let m = some_is (message_said (slot.window o)) (of_filtered (λ u. is_some (message_said (slot.window u))) (ids s.nodes) o begun) in
-      let says : Says s f x.rank p (slot_byte x) o m.0 = (begun, m.1) in
+      let says : Says s x.rank f p (slot_byte x) o m.0 = (begun, m.1) in
       record {
         plan = p;
         round = round;
@@ -73,17 +73,17 @@ module _ (heards : SlotHeardLaw) (runs : RunsLaw) (s : ScenarioParts) (clocks : 
   aligned : IsAligned s x.node called.window
   aligned = cores_law heards s clocks air lawful x.node called.window known called.there
 
-  round : IsRound s (frame_of_sending s.profile x) x.rank aligned.plan
-  round = subst (λ (g : ℕ). IsRound s g x.rank aligned.plan) (sym called.of_slot.frame)
-      (subst (λ (r : ℕ). IsRound s called.window.frame r aligned.plan) (sym called.of_slot.channel) aligned.round)
+  round : IsRound s x.rank (frame_of_sending s.profile x) aligned.plan
+  round = subst (λ (g : ℕ). IsRound s x.rank g aligned.plan) (sym called.of_slot.frame)
+      (subst (λ (r : ℕ). IsRound s r called.window.frame aligned.plan) (sym called.of_slot.channel) aligned.round)
 
   within : slot_byte x ≤ last_slot aligned.plan
   within = subst (λ (i : ℕ). i ≤ last_slot aligned.plan) (sym called.of_slot.slot) aligned.slot
 
   said : IsSaidIn s x
   said =
-      let start = (all_slots heards s clocks air lawful (frame_of_sending s.profile x) x.rank (slot_byte x) aligned.plan round within).0 in
-      let r = runs s clocks air lawful (frame_of_sending s.profile x) x.rank (slot_byte x) aligned.plan round within start in
+      let start = (all_slots heards s clocks air lawful x.rank (frame_of_sending s.profile x) (slot_byte x) aligned.plan round within).0 in
+      let r = runs s clocks air lawful x.rank (frame_of_sending s.profile x) (slot_byte x) aligned.plan round within start in
       said_in_run s clocks air x there aligned.plan round within r.0 r.1 r.2
 
 pub sent_law : SlotHeardLaw → RunsLaw → SentLaw

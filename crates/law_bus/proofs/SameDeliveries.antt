@@ -91,12 +91,12 @@ module _ (heards : SlotHeardLaw) (s : ScenarioParts) (clocks : ℕ → ℕ → �
   of_bus v w c a named there closed is =
       let known = known_by s clocks air lawful v w there in
       let aligned : IsAligned s v w = cores_law heards s clocks air lawful v w known there in
-      let round : IsRound s w.frame w.rank aligned.plan = aligned.round in
+      let round : IsRound s w.rank w.frame aligned.plan = aligned.round in
       let within = aligned.slot in
-      let both = all_slots heards s clocks air lawful w.frame w.rank w.slot aligned.plan round within in
-      let here : IsWindowOf s clocks air w.frame w.rank w.slot v w = record { there = there; frame = refl; channel = refl; slot = refl } in
-      let same = delivered_same s clocks air lawful w.frame round.in_run w.rank w.slot aligned.plan both.0 both.1 v w here c closed in
-      in_bus s w.frame w.rank w.slot v aligned.plan round within named a (same ∙ is)
+      let both = all_slots heards s clocks air lawful w.rank w.frame w.slot aligned.plan round within in
+      let here : IsWindowOf s clocks air w.rank w.frame w.slot v w = record { there = there; frame = refl; channel = refl; slot = refl } in
+      let same = delivered_same s clocks air lawful w.rank w.frame round.in_run w.slot aligned.plan both.0 both.1 v w here c closed in
+      in_bus s w.rank w.frame w.slot v aligned.plan round within named a (same ∙ is)
 
   there : (a : Delivery) → Contains all a → Contains (bus_deliveries s) a
   there a within =
@@ -109,28 +109,28 @@ module _ (heards : SlotHeardLaw) (s : ScenarioParts) (clocks : ℕ → ℕ → �
   no_delivery : (a : Delivery) → ◌≡◌ {A = Option Delivery} None (Some a) → ⊥
   no_delivery a is = cc
 
-  module _ (f rank j v : ℕ) (p : Plan) (round : IsRound s f rank p) (within : j ≤ last_slot p)
+  module _ (rank f j v : ℕ) (p : Plan) (round : IsRound s rank f p) (within : j ≤ last_slot p)
       (a : Delivery) (n : NodeLine) (named : Contains s.nodes n) (at : n.node ≡ v)
       (is : delivery_in_slot s rank f p (state_at s f) j v ≡ Some a) where
     known : knows s.nodes v ≡ true
     known = any_of (λ (m : NodeLine). m.node == v) s.nodes n named (eq-eqb n.node v at)
 
-    both : IsSlotStart s clocks air f rank p j × IsSlotHeard s clocks air f rank p j
-    both = all_slots heards s clocks air lawful f rank j p round within
+    both : IsSlotStart s clocks air rank f p j × IsSlotHeard s clocks air rank f p j
+    both = all_slots heards s clocks air lawful rank f j p round within
 
-    with_window : (w : WindowLog) → IsWindowOf s clocks air f rank j v w → Contains (made v) a
+    with_window : (w : WindowLog) → IsWindowOf s clocks air rank f j v w → Contains (made v) a
     with_window w here =
-        let c = closing_of s clocks air lawful f round.in_run rank j v w here in
-        let same = delivered_same s clocks air lawful f round.in_run rank j p both.0 both.1 v w here c.closing c.is in
+        let c = closing_of s clocks air lawful rank f round.in_run j v w here in
+        let same = delivered_same s clocks air lawful rank f round.in_run j p both.0 both.1 v w here c.closing c.is in
         subst (λ (l : List Delivery). Contains l a) (sym (of_windows v known))
         (in_windows (setup_of s v) (logs v) w c.closing a here.there c.is (sym same ∙ is))
 
     in_made : Contains (made v) a
     in_made =
-        elim (look_up f rank j (logs v)) [
+        elim (look_up rank f j (logs v)) [
           | inl w ↦ with_window w.window (record { there = w.there; frame = w.frame; channel = w.channel; slot = w.slot })
           | inr none ↦ absurd (no_delivery a (
-              sym (delivered_nowhere s clocks air lawful f round.in_run rank j p both.0 both.1 v known
+              sym (delivered_nowhere s clocks air lawful rank f round.in_run j p both.0 both.1 v known
               (λ w here. none w here.there here.frame here.channel here.slot)) ∙ is))
         ]
 
@@ -140,7 +140,7 @@ module _ (heards : SlotHeardLaw) (s : ScenarioParts) (clocks : ℕ → ℕ → �
   here : (a : Delivery) → Contains (bus_deliveries s) a → Contains all a
   here a within =
       let made = from_bus s a within in
-      in_all made.frame made.rank made.slot made.line.node made.plan made.round made.within a made.line made.named refl made.delivered
+      in_all made.rank made.frame made.slot made.line.node made.plan made.round made.within a made.line made.named refl made.delivered
 
   pub same_deliveries : deliveries_of s clocks air ≡ bus_deliveries s
   same_deliveries = sym (put_in_order all (bus_deliveries s) all_apart (bus_in_turn s lawful.sound) there here)

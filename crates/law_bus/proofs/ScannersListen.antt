@@ -50,11 +50,11 @@ ends_from k zero far (Ended x ∷ es) later within = later x (contains_head (End
 ends_from k (suc n) far (Ended x ∷ es) later within = ends_from k n far es (λ y there. later y (contains_tail (Ended x) es (Ended y) there)) within
 
 module _ (s : ScenarioParts) (clocks : ℕ → ℕ → ℕ) (air : List Entry) (lawful : IsLawfulRun s clocks air)
-    (f rank j : ℕ) (p : Plan) (round : IsRound s f rank p) (within : j ≤ last_slot p) (start : IsSlotStart s clocks air f rank p j)
-    (events : ℕ → List Event) (are : AreEvents s clocks air f rank j events)
-    (v : ℕ) (here : has (bus_slot s f rank p j).flood.everyone v ≡ true) (no_alarm : HasWindow s clocks air f rank j v → ⊥) where
+    (rank f j : ℕ) (p : Plan) (round : IsRound s rank f p) (within : j ≤ last_slot p) (start : IsSlotStart s clocks air rank f p j)
+    (events : ℕ → List Event) (are : AreEvents s clocks air rank f j events)
+    (v : ℕ) (here : has (bus_slot s rank f p j).flood.everyone v ≡ true) (no_alarm : HasWindow s clocks air rank f j v → ⊥) where
   abbrev r : Run
-  r = run_of_slot s clocks air f rank p j events
+  r = run_of_slot s clocks air rank f p j events
 
   abbrev a : Scene
   a = scene_of s.profile s.trace air
@@ -66,7 +66,7 @@ module _ (s : ScenarioParts) (clocks : ℕ → ℕ → ℕ) (air : List Entry) (
   go = run s clocks air lawful
 
   -- what is sent by the window that it has joined starts after its opening
-  module _ (w : WindowLog) (own : IsWindowOf s clocks air f rank j v w) where
+  module _ (w : WindowLog) (own : IsWindowOf s clocks air rank f j v w) where
     known : knows s.nodes v ≡ true
     known = known_by s clocks air lawful v w own.there
 
@@ -97,29 +97,29 @@ module _ (s : ScenarioParts) (clocks : ℕ → ℕ → ℕ) (air : List Entry) (
     own_starts y in_it =
         let played = are.by_window v w own in
         let is = (played.part.has.ended y).0 (subst (λ (es : List Event). Contains es (Ended y)) (sym played.same) in_it) in
-        let of_slot = is_of_window s clocks air lawful f rank j p round.in_run start events are v w own y is.2 in
+        let of_slot = is_of_window s clocks air lawful rank f j p round.in_run start events are v w own y is.2 in
         let sent = in_trail s clocks air (whole s clocks air lawful) y is.0 in
         let calls = sends_as_called s clocks air go v known (run_end s) (omega arith) in
         let call : IsCalled s clocks v (device_in s clocks air v (run_end s)).made.windows y =
         calls.called y (subst (λ (u : ℕ). Contains (device_in s clocks air u (run_end s)).made.sent y) is.1 sent) in
-        let same : call.window ≡ w = same_window s clocks air lawful f rank j round.in_run v call.window w (record {
+        let same : call.window ≡ w = same_window s clocks air lawful rank f j round.in_run v call.window w (record {
           there = call.there;
           frame = sym call.of_slot.frame ∙ of_slot.1;
           channel = sym call.of_slot.channel ∙ of_slot.0;
           slot = sym call.of_slot.slot ∙ of_slot.2;
         }) own in (
           behind_hearing y (subst (λ (u : WindowLog). CallsFor s clocks v u y.start y.packet) same call.call),
-          lasts_so s clocks air lawful f rank j p round.in_run start events are y (is.0, of_slot),
+          lasts_so s clocks air lawful rank f j p round.in_run start events are y (is.0, of_slot),
         )
 
     only_joined : (x : Sending) → Contains r.sendings x → x.end ≤ far → TunedThrough a v x → x.end ≤ get_or (own_ends (events v)) (s.sends - 1) far
     only_joined x there until tuned =
-        let is = here_so s clocks air lawful f rank j p round.in_run start events are x there in
+        let is = here_so s clocks air lawful rank f j p round.in_run start events are x there in
         let played = are.by_window v w own in
         elim (cases_lt x.start w.opened) [
           | inl before ↦ ends_from x.end (s.sends - 1) far (events v) (λ y in_it. (
               let later = own_starts y in_it in
-              let ends = lasts_so s clocks air lawful f rank j p round.in_run start events are x is in
+              let ends = lasts_so s clocks air lawful rank f j p round.in_run start events are x is in
               omega (arith, later.0, later.1, ends, before)
               )) until
           | inr opened ↦ subst (λ (es : List Event). x.end ≤ get_or (own_ends es) (s.sends - 1) far) played.same
@@ -135,7 +135,7 @@ module _ (s : ScenarioParts) (clocks : ℕ → ℕ → ℕ) (air : List Entry) (
 
   only : (x : Sending) → Contains r.sendings x → x.end ≤ far → TunedThrough a v x → x.end ≤ get_or (own_ends (events v)) (s.sends - 1) far
   only x there until tuned =
-      elim (look_up f rank j (trail_in s clocks air v).made.windows) [
+      elim (look_up rank f j (trail_in s clocks air v).made.windows) [
         | inl own ↦ only_joined own.window (record { there = own.there; frame = own.frame; channel = own.channel; slot = own.slot }) x there until tuned
         | inr none ↦ none_ended x (are.without v (λ w at. none w at.there at.frame at.channel at.slot)) until
       ]
@@ -145,25 +145,25 @@ module _ (s : ScenarioParts) (clocks : ℕ → ℕ → ℕ) (air : List Entry) (
     some = lawful.sound.some_sends;
     since = λ x time. (
         let since = time.since in
-        let begins = (origin_times s clocks air lawful f rank j p round start events are time.origin time.initiator).0 in
+        let begins = (origin_times s clocks air lawful rank f j p round start events are time.origin time.initiator).0 in
         omega (arith, since, begins)
         );
     until = ends_by;
     tuned = λ x there since off t from until.
-        tuned_then s clocks air lawful f rank j p round within start events are v here no_alarm x there far off t from until;
+        tuned_then s clocks air lawful rank f j p round within start events are v here no_alarm x there far off t from until;
     only = λ x there time tuned. only x there (ends_by x time) tuned;
   }
     where
       ends_by : (x : Sending) → InTime r x → x.end ≤ far
       ends_by x time =
           let until = time.until in
-          let begins = (origin_times s clocks air lawful f rank j p round start events are time.origin time.initiator).1 in
+          let begins = (origin_times s clocks air lawful rank f j p round start events are time.origin time.initiator).1 in
           omega (arith, until, begins)
 
   pub scanner_listens : ListensIn r (TunedThrough a) v
   scanner_listens = record { opening = frame_start s f; closing = far; window = covers_flood }
 
 pub scanners_listen : ScannersLaw
-scanners_listen s clocks air lawful f rank j p round within start events are = record {
-  listens = λ v here no_alarm. scanner_listens s clocks air lawful f rank j p round within start events are v here no_alarm;
+scanners_listen s clocks air lawful rank f j p round within start events are = record {
+  listens = λ v here no_alarm. scanner_listens s clocks air lawful rank f j p round within start events are v here no_alarm;
 }

@@ -42,9 +42,9 @@ pair k n = (k, n)
 abbrev some_pair : ℕ → ℕ → Option (ℕ × ℕ)
 some_pair k n = Some (k, n)
 
-module _ (s : ScenarioParts) (clocks : ℕ → ℕ → ℕ) (air : List Entry) (lawful : IsLawfulRun s clocks air) (f rank : ℕ) (p : Plan) (j : ℕ) where
+module _ (s : ScenarioParts) (clocks : ℕ → ℕ → ℕ) (air : List Entry) (lawful : IsLawfulRun s clocks air) (rank f : ℕ) (p : Plan) (j : ℕ) where
   abbrev pub x : Slot
-  x = bus_slot s f rank p j
+  x = bus_slot s rank f p j
 
   -- the step and the length of what v sends on the bus with counter k, as `sent_by` lists them
   abbrev pub on_bus : ℕ → ℕ → Option (ℕ × ℕ)
@@ -58,7 +58,7 @@ module _ (s : ScenarioParts) (clocks : ℕ → ℕ → ℕ) (air : List Entry) (
     pub frame : frame_of_sending s.profile y ≡ f
     pub slot : slot_of_sending y ≡ j
 
-  module _ (r : Run) (is : IsRunOf s clocks air f rank p j r) (steps : IsFloodBySteps r) where
+  module _ (r : Run) (is : IsRunOf s clocks air rank f p j r) (steps : IsFloodBySteps r) where
     in_run : (v : ℕ) (y : Sending) → IsSentHere v y → Contains r.sendings y
     in_run v y here = (is.sendings y).1 (here.there, here.channel, here.frame, here.slot)
 
@@ -69,7 +69,7 @@ module _ (s : ScenarioParts) (clocks : ℕ → ℕ → ℕ) (air : List Entry) (
     said_length : (o k : ℕ) → has x.flood.initiators o ≡ true → length (packet r o k) ≡ length_at x o
     said_length o k there =
         let said = some_is (message_said (x.window o)) (of_filtered (λ u. is_some (message_said (x.window u))) (ids s.nodes) o there) in
-        let says : Says s f rank p j o said.0 = (there, said.1) in
+        let says : Says s rank f p j o said.0 = (there, said.1) in
         length-set (r.message o) 2 k
         ∙ ap (λ (q : List ℕ). length q) (is.message o said.0 says)
         ∙ said_long said.0 j

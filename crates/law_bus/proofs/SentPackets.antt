@@ -60,16 +60,16 @@ last_of_mapped {X} {Y} g n xs =
 is_given : (a b : ℕ × ℕ) → ◌≡◌ {A = Option (ℕ × ℕ)} (Some a) (Some b) → a ≡ b
 is_given a b is = cc
 
-module _ (s : ScenarioParts) (clocks : ℕ → ℕ → ℕ) (air : List Entry) (lawful : IsLawfulRun s clocks air) (f rank : ℕ) (p : Plan) (j : ℕ)
-    (r : Run) (is : IsRunOf s clocks air f rank p j r) (by_steps : IsFloodBySteps r) (v : ℕ) where
+module _ (s : ScenarioParts) (clocks : ℕ → ℕ → ℕ) (air : List Entry) (lawful : IsLawfulRun s clocks air) (rank f : ℕ) (p : Plan) (j : ℕ)
+    (r : Run) (is : IsRunOf s clocks air rank f p j r) (by_steps : IsFloodBySteps r) (v : ℕ) where
   abbrev x : Slot
-  x = bus_slot s f rank p j
+  x = bus_slot s rank f p j
 
   abbrev given : ℕ → Option (ℕ × ℕ)
-  given = on_bus s clocks air lawful f rank p j v
+  given = on_bus s clocks air lawful rank f p j v
 
   abbrev SentHere : Sending → Type 0
-  SentHere y = IsSentHere s clocks air lawful f rank p j v y
+  SentHere y = IsSentHere s clocks air lawful rank f p j v y
 
   abbrev Lower : ℕ × ℕ → ℕ × ℕ → Type 0
   Lower a b = a.0 < b.0
@@ -88,7 +88,7 @@ module _ (s : ScenarioParts) (clocks : ℕ → ℕ → ℕ) (air : List Entry) (
       (λ k l less a b first second. let one = of_step k a first in let two = of_step l b second in omega (arith, less, one, two))
       steps (subst (Climbs (λ k l. k < l)) (sym all_steps) (range_in_turn 0 12))
 
-  module _ (w : WindowLog) (here : IsWindowOf s clocks air f rank j v w) (has : WindowHasEvents s air v w) where
+  module _ (w : WindowLog) (here : IsWindowOf s clocks air rank f j v w) (has : WindowHasEvents s air v w) where
     of_slot : (y : Sending) → IsOfSlot s w y → Contains has.events (Ended y) → SentHere y
     of_slot y of_ there =
         let sent = (has.ended y).0 there in
@@ -118,7 +118,7 @@ module _ (s : ScenarioParts) (clocks : ℕ → ℕ → ℕ) (air : List Entry) (
         let two = sent_here z second in
         lower_first s clocks air (whole s clocks air lawful) y z one.there two.there
         (record { channel = one.channel ∙ sym two.channel; frame = one.frame ∙ sym two.frame; slot = one.slot ∙ sym two.slot })
-        (λ same. other (ap Ended (sent_once s clocks air lawful f rank p j r is by_steps v y z one two same))) before
+        (λ same. other (ap Ended (sent_once s clocks air lawful rank f p j r is by_steps v y z one two same))) before
 
     across : (d e : Event) → Follows d e → (a b : ℕ × ℕ) → own_step d ≡ Some a → own_step e ≡ Some b → a.0 < b.0
     across (Heard y) e follows a b first second = absurd (not_given a first)
@@ -141,7 +141,7 @@ module _ (s : ScenarioParts) (clocks : ℕ → ℕ → ℕ) (air : List Entry) (
         by_event : (e : Event) → Contains has.events e → own_step e ≡ Some a → Contains (steps_sent_by x v) a
         by_event (Heard y) there at = absurd (not_given a at)
         by_event (Ended y) there at =
-            let step = step_of s clocks air lawful f rank p j r is by_steps v y (sent_here y there) in
+            let step = step_of s clocks air lawful rank f p j r is by_steps v y (sent_here y there) in
             let few = step.few in
             in_filter given steps (counter_of y.packet) a
             (subst (λ (l : List ℕ). Contains l (counter_of y.packet)) (sym all_steps)
@@ -153,7 +153,7 @@ module _ (s : ScenarioParts) (clocks : ℕ → ℕ → ℕ) (air : List Entry) (
         let found = filter_from given steps a within in
         let k = found.0 in
         let range = from_range 0 12 k (subst (λ (l : List ℕ). Contains l k) all_steps found.1) in
-        let sent = sent_as s clocks air lawful f rank p j r is by_steps v k a (omega (arith, range)) found.2 in
+        let sent = sent_as s clocks air lawful rank f p j r is by_steps v k a (omega (arith, range)) found.2 in
         let y = sent.sending in
         in_filter own_step has.events (Ended y) a
         ((has.ended y).1 (

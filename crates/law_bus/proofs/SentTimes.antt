@@ -73,16 +73,16 @@ module _ (runs : RunsLaw) (s : ScenarioParts) (clocks : ℕ → ℕ → ℕ) (ai
     rank = rank_at s v f
 
     abbrev x : Slot
-    x = bus_slot s f rank p j
+    x = bus_slot s rank f p j
 
-    round : IsRound s f rank p
+    round : IsRound s rank f p
     round = round_here heards s clocks air lawful v known f p in_run plan
 
-    found : (r : Run) × IsRunOf s clocks air f rank p j r × IsFloodBySteps r
-    found = runs s clocks air lawful f rank j p round within (all_slots heards s clocks air lawful f rank j p round within).0
+    found : (r : Run) × IsRunOf s clocks air rank f p j r × IsFloodBySteps r
+    found = runs s clocks air lawful rank f j p round within (all_slots heards s clocks air lawful rank f j p round within).0
 
     abbrev SentHere : Sending → Type 0
-    SentHere y = IsSentHere s clocks air lawful f rank p j v y
+    SentHere y = IsSentHere s clocks air lawful rank f p j v y
 
     sent_here : (y : Sending) → Contains sent y → frame_of_sending s.profile y ≡ f → slot_of_sending y ≡ j → SentHere y
     sent_here y there frame slot =
@@ -121,27 +121,27 @@ module _ (runs : RunsLaw) (s : ScenarioParts) (clocks : ℕ → ℕ → ℕ) (ai
           | inl frame ↦ elim (cases_eq (slot_of_sending y) j) [
             | inr other ↦ inr (counts_none y (λ same slot. other slot))
             | inl slot ↦
-                (let step = step_of s clocks air lawful f rank p j found.0 found.1 found.2 v y (sent_here y there frame slot) in
+                (let step = step_of s clocks air lawful rank f p j found.0 found.1 found.2 v y (sent_here y there frame slot) in
                 let low = step.few in
                 inl (omega (arith, low)))
           ]
         ]
 
     abbrev given : ℕ → Option (ℕ × ℕ)
-    given = on_bus s clocks air lawful f rank p j v
+    given = on_bus s clocks air lawful rank f p j v
 
     abbrev takes : ℕ × ℕ → ℕ
     takes a = airtime s.profile a.1
 
     -- with one counter
-    with_step : (k : ℕ) (a : ℕ × ℕ) → given k ≡ Some a → IsSent s clocks air lawful f rank p j found.0 found.1 found.2 v k a
+    with_step : (k : ℕ) (a : ℕ × ℕ) → given k ≡ Some a → IsSent s clocks air lawful rank f p j found.0 found.1 found.2 v k a
         → sum_by (under steps_sent here_counts k) sent ≡ takes a
     with_step k a is one =
         let y = one.sending in
         let there = in_trail y one.here in
         one_counts (under steps_sent here_counts k) y sent sent_distinct there
         (λ z also other. under_none steps_sent here_counts k z (λ step. counts_none z (λ frame slot.
-        other (sent_once s clocks air lawful f rank p j found.0 found.1 found.2 v z y (sent_here z also frame slot) one.here (step ∙ sym one.counter)))))
+        other (sent_once s clocks air lawful rank f p j found.0 found.1 found.2 v z y (sent_here z also frame slot) one.here (step ∙ sym one.counter)))))
         ∙ under_its steps_sent here_counts k y one.counter
         ∙ under_its slot_of_sending of_frame j y one.here.slot
         ∙ under_its (frame_of_sending s.profile) lasts f y one.here.frame
@@ -151,10 +151,10 @@ module _ (runs : RunsLaw) (s : ScenarioParts) (clocks : ℕ → ℕ → ℕ) (ai
     by_step : (k : ℕ) → k < 12 → (o : Option (ℕ × ℕ)) → given k ≡ o → sum_by (under steps_sent here_counts k) sent ≡ option_map_or takes o 0
     by_step k below None is =
         no_sum (under steps_sent here_counts k) sent (λ y there. under_none steps_sent here_counts k y (λ at. counts_none y (λ frame slot.
-        let step = step_of s clocks air lawful f rank p j found.0 found.1 found.2 v y (sent_here y there frame slot) in
+        let step = step_of s clocks air lawful rank f p j found.0 found.1 found.2 v y (sent_here y there frame slot) in
         not_given (counter_of y.packet, length y.packet) (sym is ∙ ap given (sym at) ∙ step.on_the_bus))))
     by_step k below (Some a) is =
-        with_step k a is (sent_as s clocks air lawful f rank p j found.0 found.1 found.2 v k a (omega (arith, below)) is)
+        with_step k a is (sent_as s clocks air lawful rank f p j found.0 found.1 found.2 v k a (omega (arith, below)) is)
 
     of_slot : sum_by here_counts sent ≡ slot_sent s.profile (slot_in s v f p j) v
     of_slot =

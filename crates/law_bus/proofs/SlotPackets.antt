@@ -65,28 +65,28 @@ asking_node v j (DataOf d) is first = absurd (omega (arith, first))
 asking_node v j (RequestOf a) is first = is
 
 module _ (s : ScenarioParts) (clocks : ℕ → ℕ → ℕ) (air : List Entry) (lawful : IsLawfulRun s clocks air)
-    (f rank j : ℕ) (p : Plan) (round : IsRound s f rank p) (start : IsSlotStart s clocks air f rank p j)
-    (events : ℕ → List Event) (are : AreEvents s clocks air f rank j events) where
+    (rank f j : ℕ) (p : Plan) (round : IsRound s rank f p) (start : IsSlotStart s clocks air rank f p j)
+    (events : ℕ → List Event) (are : AreEvents s clocks air rank f j events) where
   abbrev r : Run
-  r = run_of_slot s clocks air f rank p j events
+  r = run_of_slot s clocks air rank f p j events
 
   abbrev pub first_of : (o : ℕ) → initiates r o → Sending
-  first_of o here = x s clocks air lawful f rank j p round.in_run start events are o here
+  first_of o here = x s clocks air lawful rank f j p round.in_run start events are o here
 
-  abbrev who : (o : ℕ) → initiates r o → IsSpeaker s clocks air lawful f rank j p round.in_run start o
-  who o here = speaker s clocks air lawful f rank j p round.in_run start o here
+  abbrev who : (o : ℕ) → initiates r o → IsSpeaker s clocks air lawful rank f j p round.in_run start o
+  who o here = speaker s clocks air lawful rank f j p round.in_run start o here
 
   pub first_packet : (o : ℕ) (here : initiates r o) → (first_of o here).packet ≡ r.message o
-  first_packet o here = (first_sending s clocks air lawful f rank j p round.in_run start events are o (who o here)).packet_is
+  first_packet o here = (first_sending s clocks air lawful rank f j p round.in_run start events are o (who o here)).packet_is
 
   said_so : (o : ℕ) (here : initiates r o) → r.message o ≡ bytes_of (who o here).message j
-  said_so o here = message_is s clocks air lawful f rank j p round.in_run start events are o (who o here)
+  said_so o here = message_is s clocks air lawful rank f j p round.in_run start events are o (who o here)
 
   kind_so : (o : ℕ) (here : initiates r o) → is_spelling r.kind (r.message o) ≡ true
   kind_so o here =
       let heedful = (run s clocks air lawful).heedful in
       let proper = all_sent s lawful.sound clocks air heedful.trails (λ u z sent. (heedful.heard u z sent).sent)
-      (first_of o here) (in_it s clocks air lawful f rank j p round.in_run start events are o here).0 in
+      (first_of o here) (in_it s clocks air lawful rank f j p round.in_run start events are o here).0 in
       let said = proper.spoken.says in
       let of_packet : IsPacketOf said.message (first_of o here).packet = says (first_of o here).packet said.message said.read in
       let w = (who o here).window in
@@ -95,7 +95,7 @@ module _ (s : ScenarioParts) (clocks : ℕ → ℕ → ℕ) (air : List Entry) (
       (said_kind (setup_of s o) w.before.frame (part_of w.before.core.plan w.slot) w.before.core) in
       let named : kind_of_message said.message ≡ r.kind =
       sym of_packet.named ∙ ap kind_named (first_packet o here ∙ said_so o here) ∙ named_kind (part_of w.before.core.plan w.slot) (who o here).message j k
-      ∙ ap kind_for (part_is s clocks air lawful f rank j p round.in_run start o w (who o here).here (who o here).by_alarm) in
+      ∙ ap kind_for (part_is s clocks air lawful rank f j p round.in_run start o w (who o here).here (who o here).by_alarm) in
       ap (is_spelling r.kind) (sym (first_packet o here)) ∙ ap (λ (l : Kind). is_spelling l (first_of o here).packet) (sym named) ∙ of_packet.spelled
 
   asks_so : (o : ℕ) (here : initiates r o) → AsksFor o (Some (who o here).message)
@@ -112,18 +112,18 @@ module _ (s : ScenarioParts) (clocks : ℕ → ℕ → ℕ) (air : List Entry) (
 
   different : (o q : ℕ) → initiates r o → initiates r q → body (r.message o) ≡ body (r.message q) → o ≡ q
   different o q here also same =
-      let a = in_it s clocks air lawful f rank j p round.in_run start events are o here in
-      let b = in_it s clocks air lawful f rank j p round.in_run start events are q also in
-      let one = itself s clocks air lawful f rank j p round.in_run start events are o here in
-      let two = itself s clocks air lawful f rank j p round.in_run start events are q also in
+      let a = in_it s clocks air lawful rank f j p round.in_run start events are o here in
+      let b = in_it s clocks air lawful rank f j p round.in_run start events are q also in
+      let one = itself s clocks air lawful rank f j p round.in_run start events are o here in
+      let two = itself s clocks air lawful rank f j p round.in_run start events are q also in
       elim (one_flood s clocks air (whole s clocks air lawful) (first_of o here) (first_of q also)
-      (flood s clocks air lawful f rank j p round.in_run start events are (first_of o here) a)
-      (flood s clocks air lawful f rank j p round.in_run start events are (first_of q also) b)
-      (same_slot s clocks air lawful f rank j p round.in_run start events are (first_of o here) (first_of q also) a b)) [
+      (flood s clocks air lawful rank f j p round.in_run start events are (first_of o here) a)
+      (flood s clocks air lawful rank f j p round.in_run start events are (first_of q also) b)
+      (same_slot s clocks air lawful rank f j p round.in_run start events are (first_of o here) (first_of q also) a b)) [
         | inl origin ↦ (
-            sym (first_sending s clocks air lawful f rank j p round.in_run start events are o (who o here)).node
+            sym (first_sending s clocks air lawful rank f j p round.in_run start events are o (who o here)).node
             ∙ ap (λ (z : Sending). z.node) (sym one ∙ origin ∙ two)
-            ∙ (first_sending s clocks air lawful f rank j p round.in_run start events are q (who q also)).node
+            ∙ (first_sending s clocks air lawful rank f j p round.in_run start events are q (who q also)).node
             )
         | inr asks ↦ (
             let first : AsksForStream (message_of (first_of o here).packet) = subst (λ (z : Sending). AsksForStream (message_of z.packet)) one asks.0 in
@@ -134,7 +134,7 @@ module _ (s : ScenarioParts) (clocks : ℕ → ℕ → ℕ) (air : List Entry) (
 
   pub has_initiators : HasInitiators r
   has_initiators =
-      let begin = start_together s clocks air lawful f rank j p round.in_run start events are in
+      let begin = start_together s clocks air lawful rank f j p round.in_run start events are in
       record {
         there = begin.there;
         counter_zero = begin.counter_zero;

@@ -55,30 +55,30 @@ same_core : (c d : Core) → StateOn c ≡ StateOn d → c ≡ d
 same_core c d same = cc
 
 module _ (s : ScenarioParts) (clocks : ℕ → ℕ → ℕ) (air : List Entry) (lawful : IsLawfulRun s clocks air)
-    (f rank j : ℕ) (p : Plan) (in_run : f < s.frames) (start : IsSlotStart s clocks air f rank p j) where
+    (rank f j : ℕ) (p : Plan) (in_run : f < s.frames) (start : IsSlotStart s clocks air rank f p j) where
   abbrev pub Takes_part : ℕ → Type 0
-  Takes_part v = has (bus_slot s f rank p j).flood.everyone v ≡ true
+  Takes_part v = has (bus_slot s rank f p j).flood.everyone v ≡ true
 
   abbrev test : ℕ → Bool
-  test v = takes_part rank (part_of p j) (bus_before s f rank p j v) (opened_at s rank f (part_of p j) v (bus_before s f rank p j v))
+  test v = takes_part rank (part_of p j) (bus_before s rank f p j v) (opened_at s rank f (part_of p j) v (bus_before s rank f p j v))
 
   pub known_party : (v : ℕ) → Takes_part v → knows s.nodes v ≡ true
   known_party v here = sym (ids_known s.nodes v) ∙ in_whole test (ids s.nodes) v here
 
-  pub takes_so : (v : ℕ) → Takes_part v → Takes rank f (part_of p j) (bus_before s f rank p j v)
-  takes_so v here = takes_by s rank f (part_of p j) v (bus_before s f rank p j v) (of_filtered test (ids s.nodes) v here)
+  pub takes_so : (v : ℕ) → Takes_part v → Takes rank f (part_of p j) (bus_before s rank f p j v)
+  takes_so v here = takes_by s rank f (part_of p j) v (bus_before s rank f p j v) (of_filtered test (ids s.nodes) v here)
 
   -- the windows of a frame are of one rank
-  same_rank : (v i k l m : ℕ) (w x : WindowLog) → IsWindowOf s clocks air f i k v w → IsWindowOf s clocks air f l m v x → i ≡ l
+  same_rank : (v i k l m : ℕ) (w x : WindowLog) → IsWindowOf s clocks air i f k v w → IsWindowOf s clocks air l f m v x → i ≡ l
   same_rank v i k l m w x here also =
       let go : HasCourse s clocks air lawful v f = course_of s clocks air lawful v f w in_run (record { there = here.there; frame = here.frame }) in
       sym here.channel ∙ go.course.ranks w (record { there = here.there; frame = here.frame })
       ∙ sym (go.course.ranks x (record { there = also.there; frame = also.frame })) ∙ also.channel
 
-  pub party_rank : (v i k : ℕ) (w : WindowLog) → Takes_part v → IsWindowOf s clocks air f i k v w → i ≡ rank
+  pub party_rank : (v i k : ℕ) (w : WindowLog) → Takes_part v → IsWindowOf s clocks air i f k v w → i ≡ rank
   party_rank v i k w here window = by (takes_so v here)
     where
-      by : Takes rank f (part_of p j) (bus_before s f rank p j v) → i ≡ rank
+      by : Takes rank f (part_of p j) (bus_before s rank f p j v) → i ≡ rank
       by (Member c at member) =
           let own = start.window v c (known_party v here) at member in
           same_rank v i k rank j w own.window window own.here
@@ -87,7 +87,7 @@ module _ (s : ScenarioParts) (clocks : ℕ → ℕ → ℕ) (air : List Entry) (
           go : HasCourse s clocks air lawful v f
           go = course_of s clocks air lawful v f w in_run (record { there = window.there; frame = window.frame })
 
-          no_alarm : HasWindow s clocks air f rank j v → ⊥
+          no_alarm : HasWindow s clocks air rank f j v → ⊥
           no_alarm own =
               let same : own.window.before.core ≡ c = same_core own.window.before.core c (sym (start.core v own.window own.here own.by_alarm) ∙ at) in
               true≢false (sym (start.member v own.window own.here own.by_alarm) ∙ ap (is_member rank f) same ∙ other)

@@ -75,12 +75,12 @@ speaker_takes rank part x None is = absurd (true≢false (sym is))
 speaker_takes rank part x (Some o) is = refl
 
 module _ (s : ScenarioParts) (clocks : ℕ → ℕ → ℕ) (air : List Entry) (lawful : IsLawfulRun s clocks air)
-    (f rank j : ℕ) (p : Plan) (in_run : f < s.frames) (start : IsSlotStart s clocks air f rank p j) where
+    (rank f j : ℕ) (p : Plan) (in_run : f < s.frames) (start : IsSlotStart s clocks air rank f p j) where
   abbrev Of : ℕ → WindowLog → Type 0
-  Of v w = IsWindowOf s clocks air f rank j v w
+  Of v w = IsWindowOf s clocks air rank f j v w
 
   abbrev window_of : ℕ → Option Opened
-  window_of v = (bus_slot s f rank p j).window v
+  window_of v = (bus_slot s rank f p j).window v
 
   -- a window by alarm opens as on the bus, and its node says the same
   module _ (v : ℕ) (w : WindowLog) (here : Of v w) (alarm : w.by_alarm ≡ true) where
@@ -102,14 +102,14 @@ module _ (s : ScenarioParts) (clocks : ℕ → ℕ → ℕ) (air : List Entry) (
         ∙ ap (λ (g : ℕ). (opened_slot (setup_of s v) g (part_of w.before.core.plan w.slot) w.before.core).message) (sym frame_is)
 
   -- the window of v is the one that is looked up
-  pub window_found : (v : ℕ) (w : WindowLog) → Of v w → find (is_window_of_slot f rank j) (trail_in s clocks air v).made.windows ≡ Some w
+  pub window_found : (v : ℕ) (w : WindowLog) → Of v w → find (is_window_of_slot rank f j) (trail_in s clocks air v).made.windows ≡ Some w
   window_found v w here =
-      find_one (is_window_of_slot f rank j) (trail_in s clocks air v).made.windows w here.there
+      find_one (is_window_of_slot rank f j) (trail_in s clocks air v).made.windows w here.there
       (rw (eq-eqb w.rank rank here.channel, eq-eqb w.frame f here.frame, eq-eqb w.slot j here.slot) refl)
       (λ x there passes. (
       let first = and_parts (x.rank == rank) _ passes in
       let more = and_parts (x.frame == f) _ first.1 in
-      same_window s clocks air lawful f rank j in_run v x w
+      same_window s clocks air lawful rank f j in_run v x w
       (record { there = there; channel = eqb-true x.rank rank first.0; frame = eqb-true x.frame f more.0; slot = eqb-true x.slot j more.1 }) here
       ))
 
@@ -125,11 +125,11 @@ module _ (s : ScenarioParts) (clocks : ℕ → ℕ → ℕ) (air : List Entry) (
   abbrev says : ℕ → Bool
   says o = is_some (rounds.message_said (window_of o))
 
-  pub speaker : (o : ℕ) → has (bus_slot s f rank p j).flood.initiators o ≡ true → IsSpeaker o
+  pub speaker : (o : ℕ) → has (bus_slot s rank f p j).flood.initiators o ≡ true → IsSpeaker o
   speaker o initiates =
       let some = of_filtered says (ids s.nodes) o initiates in
       let known : knows s.nodes o ≡ true = sym (ids_known s.nodes o) ∙ in_whole says (ids s.nodes) o initiates in
-      let member = member_says s rank f (part_of p j) o (bus_before s f rank p j o) some in
+      let member = member_says s rank f (part_of p j) o (bus_before s rank f p j o) some in
       let own = start.window o member.0 known member.1 member.2 in
       let m = some_is (rounds.message_said (window_of o)) some in
       record {
@@ -142,21 +142,21 @@ module _ (s : ScenarioParts) (clocks : ℕ → ℕ → ℕ) (air : List Entry) (
       }
 
   -- it takes part
-  pub speaker_there : (o : ℕ) → has (bus_slot s f rank p j).flood.initiators o ≡ true → has (bus_slot s f rank p j).flood.everyone o ≡ true
+  pub speaker_there : (o : ℕ) → has (bus_slot s rank f p j).flood.initiators o ≡ true → has (bus_slot s rank f p j).flood.everyone o ≡ true
   speaker_there o initiates =
-      in_filtered (λ v. rounds.takes_part rank (part_of p j) (bus_before s f rank p j v) (window_of v)) (ids s.nodes) o
+      in_filtered (λ v. rounds.takes_part rank (part_of p j) (bus_before s rank f p j v) (window_of v)) (ids s.nodes) o
       (in_whole says (ids s.nodes) o initiates)
-      (speaker_takes rank (part_of p j) (bus_before s f rank p j o) (window_of o) (of_filtered says (ids s.nodes) o initiates))
+      (speaker_takes rank (part_of p j) (bus_before s rank f p j o) (window_of o) (of_filtered says (ids s.nodes) o initiates))
 
   -- who says something in its window initiates
   pub speaks : (v : ℕ) (w : WindowLog) (m : Message) → knows s.nodes v ≡ true → Of v w → w.by_alarm ≡ true → initial_message (setup_of s v) w ≡ Some m
-      → has (bus_slot s f rank p j).flood.initiators v ≡ true
+      → has (bus_slot s rank f p j).flood.initiators v ≡ true
   speaks v w m known here alarm said =
       in_filtered says (ids s.nodes) v (ids_known s.nodes v ∙ known) (ap (λ (o : Option Message). is_some o) (said_same v w here alarm ∙ said))
 
-  module _ (events : ℕ → List Event) (are : AreEvents s clocks air f rank j events) (o : ℕ) (is : IsSpeaker o) where
+  module _ (events : ℕ → List Event) (are : AreEvents s clocks air rank f j events) (o : ℕ) (is : IsSpeaker o) where
     abbrev r : Run
-    r = run_of_slot s clocks air f rank p j events
+    r = run_of_slot s clocks air rank f p j events
 
     pub message_is : r.message o ≡ bytes_of is.message j
     message_is = ap (bytes_said j) is.on_bus

@@ -35,16 +35,16 @@ pub record StartTogether (r : Run) : Type 0 where
   pub together : (o q : ℕ) → initiates r o → initiates r q → Near (r.starts o) (r.starts q) r.spread
 
 module _ (s : ScenarioParts) (clocks : ℕ → ℕ → ℕ) (air : List Entry) (lawful : IsLawfulRun s clocks air)
-    (f rank j : ℕ) (p : Plan) (in_run : f < s.frames) (start : IsSlotStart s clocks air f rank p j)
-    (events : ℕ → List Event) (are : AreEvents s clocks air f rank j events) where
+    (rank f j : ℕ) (p : Plan) (in_run : f < s.frames) (start : IsSlotStart s clocks air rank f p j)
+    (events : ℕ → List Event) (are : AreEvents s clocks air rank f j events) where
   abbrev r : Run
-  r = run_of_slot s clocks air f rank p j events
+  r = run_of_slot s clocks air rank f p j events
 
   abbrev pub InSlot : Sending → Type 0
-  InSlot x = Contains (sendings_of air) x × IsOf s.profile f rank j x
+  InSlot x = Contains (sendings_of air) x × IsOf s.profile rank f j x
 
   -- a transmission of a window of the slot is of the slot
-  pub is_of_window : (v : ℕ) (w : WindowLog) → IsWindowOf s clocks air f rank j v w → (x : Sending) → IsOfSlot s w x → IsOf s.profile f rank j x
+  pub is_of_window : (v : ℕ) (w : WindowLog) → IsWindowOf s clocks air rank f j v w → (x : Sending) → IsOfSlot s w x → IsOf s.profile rank f j x
   is_of_window v w here x is = (is.channel ∙ here.channel, is.frame ∙ here.frame, is.slot ∙ here.slot)
 
   pub same_slot : (x y : Sending) → InSlot x → InSlot y → SameSlot s.profile x y
@@ -68,32 +68,32 @@ module _ (s : ScenarioParts) (clocks : ℕ → ℕ → ℕ) (air : List Entry) (
       ]
 
   module _ (o : ℕ) (here : initiates r o) where
-    abbrev who : IsSpeaker s clocks air lawful f rank j p in_run start o
-    who = speaker s clocks air lawful f rank j p in_run start o here
+    abbrev who : IsSpeaker s clocks air lawful rank f j p in_run start o
+    who = speaker s clocks air lawful rank f j p in_run start o here
 
     abbrev pub x : Sending
-    x = (first_sending s clocks air lawful f rank j p in_run start events are o who).sending
+    x = (first_sending s clocks air lawful rank f j p in_run start events are o who).sending
 
     pub in_it : InSlot x
     in_it =
-        let is = first_sending s clocks air lawful f rank j p in_run start events are o who in
+        let is = first_sending s clocks air lawful rank f j p in_run start events are o who in
         (is.there, is_of_window o who.window who.here x is.of_slot)
 
     counts_zero : relaying.counter_of (r.message o) ≡ 0
-    counts_zero = ap relaying.counter_of (message_is s clocks air lawful f rank j p in_run start events are o who) ∙ (first_place who.message j).1
+    counts_zero = ap relaying.counter_of (message_is s clocks air lawful rank f j p in_run start events are o who) ∙ (first_place who.message j).1
 
     of_this_slot : relaying.slot_of (r.message o) ≡ j
-    of_this_slot = ap relaying.slot_of (message_is s clocks air lawful f rank j p in_run start events are o who) ∙ (first_place who.message j).0
+    of_this_slot = ap relaying.slot_of (message_is s clocks air lawful rank f j p in_run start events are o who) ∙ (first_place who.message j).0
 
     pub itself : (flood x in_it).origin ≡ x
     itself =
-        let is = first_sending s clocks air lawful f rank j p in_run start events are o who in
+        let is = first_sending s clocks air lawful rank f j p in_run start events are o who in
         (flood x in_it).itself (ap relaying.counter_of is.packet_is ∙ counts_zero)
 
   together : (o q : ℕ) → initiates r o → initiates r q → Near (r.starts o) (r.starts q) (budget_of s.profile).contenders
   together o q here also =
-      let first = first_sending s clocks air lawful f rank j p in_run start events are o (who o here) in
-      let second = first_sending s clocks air lawful f rank j p in_run start events are q (who q also) in
+      let first = first_sending s clocks air lawful rank f j p in_run start events are o (who o here) in
+      let second = first_sending s clocks air lawful rank f j p in_run start events are q (who q also) in
       let a = flood (x o here) (in_it o here) in
       let b = flood (x q also) (in_it q also) in
       let same = same_slot (x o here) (x q also) (in_it o here) (in_it q also) in
@@ -114,7 +114,7 @@ module _ (s : ScenarioParts) (clocks : ℕ → ℕ → ℕ) (air : List Entry) (
 
   pub start_together : StartTogether r
   start_together = record {
-    there = λ o here. speaker_there s clocks air lawful f rank j p in_run start o here;
+    there = λ o here. speaker_there s clocks air lawful rank f j p in_run start o here;
     counter_zero = counts_zero;
     slot = of_this_slot;
     together = together;

@@ -86,9 +86,9 @@ scans_so s clocks v rank n (Hold r d) is same = absurd is
 scans_so s clocks v rank n (Host r d) is same = absurd is
 
 module _ (s : ScenarioParts) (clocks : ℕ → ℕ → ℕ) (air : List Entry) (lawful : IsLawfulRun s clocks air)
-    (f rank j : ℕ) (p : Plan) (round : IsRound s f rank p) (start : IsSlotStart s clocks air f rank p j) where
+    (rank f j : ℕ) (p : Plan) (round : IsRound s rank f p) (start : IsSlotStart s clocks air rank f p j) where
   abbrev Of : ℕ → WindowLog → Type 0
-  Of v w = IsWindowOf s clocks air f rank j v w
+  Of v w = IsWindowOf s clocks air rank f j v w
 
   module _ (v : ℕ) (w : WindowLog) (here : Of v w) (hears : w.by_alarm ≡ false) where
     scanner : OfScanner s clocks air v w
@@ -97,51 +97,51 @@ module _ (s : ScenarioParts) (clocks : ℕ → ℕ → ℕ) (air : List Entry) (
     -- a scanning node joins in a slot in which a schedule is said
     pub schedule_slot : is_schedule_part (part_of p j) ≡ true
     schedule_slot =
-        let origin = origin_here s clocks air lawful f round.in_run rank j v w here scanner in
+        let origin = origin_here s clocks air lawful rank f round.in_run j v w here scanner in
         elim origin.says.part [
           | inl opens ↦ ap (λ (i : ℕ). is_schedule_part (part_of p i)) opens.1
           | inr closes ↦ (
-              let planned = round_planned s clocks air lawful f round.in_run rank start.found p round in
+              let planned = round_planned s clocks air lawful rank f round.in_run start.found p round in
               let same : closes.plan ≡ p = one_planned s clocks air (whole s clocks air lawful) rank f closes.plan p closes.planned planned in
               ap (λ (q : Plan). is_schedule_part (part_of q j)) (sym same) ∙ ap is_schedule_part closes.part
               )
         ]
 
-    no_alarm : HasWindow s clocks air f rank j v → ⊥
+    no_alarm : HasWindow s clocks air rank f j v → ⊥
     no_alarm own =
-        let same = same_window s clocks air lawful f rank j round.in_run v own.window w own.here here in
+        let same = same_window s clocks air lawful rank f j round.in_run v own.window w own.here here in
         true≢false (sym own.by_alarm ∙ ap (λ (x : WindowLog). x.by_alarm) same ∙ hears)
 
     -- it is as the frame found it
-    pub scans_on : bus_before s f rank p j v ≡ StateOn w.before.core
+    pub scans_on : bus_before s rank f p j v ≡ StateOn w.before.core
     scans_on =
         let known = known_by s clocks air lawful v w here.there in
-        let go = goes s clocks air lawful f round.in_run rank j v w here in
-        let node : w.before ≡ go.node = go.course.joins w (in_frame s clocks air lawful f round.in_run rank j v w here) hears in
+        let go = goes s clocks air lawful rank f round.in_run j v w here in
+        let node : w.before ≡ go.node = go.course.joins w (in_frame s clocks air lawful rank f round.in_run j v w here) hears in
         start.others v known no_alarm ∙ sym (start.found v known) ∙ ap state_of_power go.on ∙ ap (λ (n : Node). StateOn n.core) (sym node)
 
-    pub no_window : (bus_slot s f rank p j).window v ≡ None
+    pub no_window : (bus_slot s rank f p j).window v ≡ None
     no_window =
         ap (opened_at s rank f (part_of p j) v) scans_on
         ∙ cond-false (is_member rank f w.before.core) (Some (opened_slot (setup_in s v) f (part_of p j) w.before.core)) None
         (scanner_takes s clocks v w.before rank f w.before.core.tune scanner.scans)
 
-    scanner_test : takes_part rank (part_of p j) (bus_before s f rank p j v) ((bus_slot s f rank p j).window v) ≡ true
+    scanner_test : takes_part rank (part_of p j) (bus_before s rank f p j v) ((bus_slot s rank f p j).window v) ≡ true
     scanner_test =
-        ap (takes_part rank (part_of p j) (bus_before s f rank p j v)) no_window
-        ∙ ap (λ (b : Bool). b && is_on_and (λ c. scans rank c.tune) (bus_before s f rank p j v)) schedule_slot
+        ap (takes_part rank (part_of p j) (bus_before s rank f p j v)) no_window
+        ∙ ap (λ (b : Bool). b && is_on_and (λ c. scans rank c.tune) (bus_before s rank f p j v)) schedule_slot
         ∙ ap (λ (x : State). is_on_and (λ c. scans rank c.tune) x) scans_on
         ∙ scans_so s clocks v rank w.before w.before.core.tune scanner.scans
         ((opened_by s clocks air lawful v w here.there).rank_before ∙ here.channel)
 
   takes_test : (v : ℕ) (w : WindowLog) → Of v w → (b : Bool) → w.by_alarm ≡ b
-      → takes_part rank (part_of p j) (bus_before s f rank p j v) ((bus_slot s f rank p j).window v) ≡ true
+      → takes_part rank (part_of p j) (bus_before s rank f p j v) ((bus_slot s rank f p j).window v) ≡ true
   takes_test v w here true is =
-      ap (takes_part rank (part_of p j) (bus_before s f rank p j v)) (window_is s clocks air lawful f rank j p round.in_run start v w here is)
+      ap (takes_part rank (part_of p j) (bus_before s rank f p j v)) (window_is s clocks air lawful rank f j p round.in_run start v w here is)
   takes_test v w here false is = scanner_test v w here is
 
   -- who has a window takes part
-  pub window_takes : (v : ℕ) (w : WindowLog) → Of v w → has (bus_slot s f rank p j).flood.everyone v ≡ true
+  pub window_takes : (v : ℕ) (w : WindowLog) → Of v w → has (bus_slot s rank f p j).flood.everyone v ≡ true
   window_takes v w here =
-      in_filtered (λ u. takes_part rank (part_of p j) (bus_before s f rank p j u) ((bus_slot s f rank p j).window u)) (ids s.nodes) v
+      in_filtered (λ u. takes_part rank (part_of p j) (bus_before s rank f p j u) ((bus_slot s rank f p j).window u)) (ids s.nodes) v
       (ids_known s.nodes v ∙ known_by s clocks air lawful v w here.there) (takes_test v w here w.by_alarm refl)

@@ -41,10 +41,10 @@ least_of true = omega arith
 least_of false = omega arith
 
 module _ (s : ScenarioParts) (clocks : ℕ → ℕ → ℕ) (air : List Entry) (lawful : IsLawfulRun s clocks air)
-    (f rank j : ℕ) (p : Plan) (round : IsRound s f rank p) (start : IsSlotStart s clocks air f rank p j)
-    (events : ℕ → List Event) (are : AreEvents s clocks air f rank j events) where
+    (rank f j : ℕ) (p : Plan) (round : IsRound s rank f p) (start : IsSlotStart s clocks air rank f p j)
+    (events : ℕ → List Event) (are : AreEvents s clocks air rank f j events) where
   abbrev r : Run
-  r = run_of_slot s clocks air f rank p j events
+  r = run_of_slot s clocks air rank f p j events
 
   abbrev a : Scene
   a = scene_of s.profile s.trace air
@@ -53,7 +53,7 @@ module _ (s : ScenarioParts) (clocks : ℕ → ℕ → ℕ) (air : List Entry) (
   long o = length (r.message o)
 
   abbrev size : ℕ
-  size = size_by long (bus_slot s f rank p j).flood.initiators
+  size = size_by long (bus_slot s rank f p j).flood.initiators
 
   record HasSize (n : ℕ) : Type 0 where
     least : 7 ≤ n
@@ -61,10 +61,10 @@ module _ (s : ScenarioParts) (clocks : ℕ → ℕ → ℕ) (air : List Entry) (
 
   said_size : (o : ℕ) → initiates r o → HasSize (long o)
   said_size o here =
-      let x = first_of s clocks air lawful f rank j p round start events are o here in
-      let there = in_it s clocks air lawful f rank j p round.in_run start events are o here in
+      let x = first_of s clocks air lawful rank f j p round start events are o here in
+      let there = in_it s clocks air lawful rank f j p round.in_run start events are o here in
       let flood = of_flood s clocks air (whole s clocks air lawful) x there.0 in
-      let same : length x.packet ≡ long o = ap (λ (q : List ℕ). length q) (first_packet s clocks air lawful f rank j p round start events are o here) in
+      let same : length x.packet ≡ long o = ap (λ (q : List ℕ). length q) (first_packet s clocks air lawful rank f j p round start events are o here) in
       let least = flood.some in
       let most = flood.most in
       let room = (covers s.profile lawful.sound.profile).packets in
@@ -73,18 +73,18 @@ module _ (s : ScenarioParts) (clocks : ℕ → ℕ → ℕ) (air : List Entry) (
   least_packet : 7 ≤ (budget_of s.profile).packet
   least_packet = least_of (s.profile.seconds == 4)
 
-  size_in : (l : List ℕ) → (bus_slot s f rank p j).flood.initiators ≡ l → HasSize (size_by long l)
+  size_in : (l : List ℕ) → (bus_slot s rank f p j).flood.initiators ≡ l → HasSize (size_by long l)
   size_in [] is = record { least = omega arith; most = least_packet }
   size_in (o ∷ os) is = said_size o (ap (λ (l : List ℕ). has l o) is ∙ ap (λ (b : Bool). b || has os o) (eq-eqb o o refl))
 
   has_size : HasSize size
-  has_size = size_in (bus_slot s f rank p j).flood.initiators refl
+  has_size = size_in (bus_slot s rank f p j).flood.initiators refl
 
   in_range : (o : ℕ) → initiates r o → r.starts o + 12 * step s.profile size ≤ 2 ^ 45
   in_range o here =
       let b = budget_of s.profile in
       let fits = run_fits s lawful.sound in
-      let begins = (origin_times s clocks air lawful f rank j p round start events are o here).1 in
+      let begins = (origin_times s clocks air lawful rank f j p round start events are o here).1 in
       let frames : s.frames * s.profile.frame ≤ 4096 * s.profile.frame = mul-le-mul_right s.profile.frame lawful.sound.few_frames in
       let room = fits.run in
       let window = fits.window in
@@ -97,7 +97,7 @@ module _ (s : ScenarioParts) (clocks : ℕ → ℕ → ℕ) (air : List Entry) (
       let grows = (packets_grow s.profile b fits size b.packet has_size.most).1 in
       omega (arith, begins, frames, room, window, close, whole_round, alarm, clock, turn, slots, grows)
 
-  is_slot : ScannersListen s clocks air f rank j r → IsSlotFlood s.profile (budget_of s.profile) size clocks r (TunedThrough a)
+  is_slot : ScannersListen s clocks air rank f j r → IsSlotFlood s.profile (budget_of s.profile) size clocks r (TunedThrough a)
   is_slot scanners = record {
     size = has_size.least;
     air = refl;
@@ -105,26 +105,26 @@ module _ (s : ScenarioParts) (clocks : ℕ → ℕ → ℕ) (air : List Entry) (
     delta = refl;
     spread = omega arith;
     in_range = in_range;
-    clocks_drift = λ v here. lawful.drift v (known_party s clocks air lawful f rank j p round.in_run start v here);
+    clocks_drift = λ v here. lawful.drift v (known_party s clocks air lawful rank f j p round.in_run start v here);
     relay_start = λ v e here. refl;
-    initiators = has_initiators s clocks air lawful f rank j p round start events are;
-    sent = has_sendings s clocks air lawful f rank j p round start events are;
-    happened = has_events s clocks air lawful f rank j p round start events are;
-    hears = by_rule s clocks air lawful f rank j p round.in_run start events;
-    windows = listens s clocks air lawful f rank j p round start events are scanners;
+    initiators = has_initiators s clocks air lawful rank f j p round start events are;
+    sent = has_sendings s clocks air lawful rank f j p round start events are;
+    happened = has_events s clocks air lawful rank f j p round start events are;
+    hears = by_rule s clocks air lawful rank f j p round.in_run start events;
+    windows = listens s clocks air lawful rank f j p round start events are scanners;
   }
 
-  pub by_steps : ScannersListen s clocks air f rank j r → IsFloodBySteps r
+  pub by_steps : ScannersListen s clocks air rank f j r → IsFloodBySteps r
   by_steps scanners = flood_by_steps r (TunedThrough a)
       (slot_run s.profile (budget_of s.profile) (run_fits s lawful.sound) size clocks r (TunedThrough a) (is_slot scanners))
 
 runs_by_scanners : ScannersLaw → RunsLaw
-runs_by_scanners scanners s clocks air lawful f rank j p round within start =
-    let some = all_events s clocks air lawful f rank j round.in_run in
-    let listen = scanners s clocks air lawful f rank j p round within start some.0 some.1 in (
-      run_of_slot s clocks air f rank p j some.0,
-      is_run_of s clocks air lawful f rank j p round start some.0 some.1,
-      by_steps s clocks air lawful f rank j p round start some.0 some.1 listen,
+runs_by_scanners scanners s clocks air lawful rank f j p round within start =
+    let some = all_events s clocks air lawful rank f j round.in_run in
+    let listen = scanners s clocks air lawful rank f j p round within start some.0 some.1 in (
+      run_of_slot s clocks air rank f p j some.0,
+      is_run_of s clocks air lawful rank f j p round start some.0 some.1,
+      by_steps s clocks air lawful rank f j p round start some.0 some.1 listen,
     )
 
 pub slots_are_runs : RunsLaw

@@ -33,7 +33,7 @@ use Rattle.law_bus.proofs.WindowsInTurn.{opened_by, closed_as, of_kind, opens_by
 use Rattle.law_bus.proofs.WindowsOfRounds.{OfMember, OfScanner}
 
 -- a node has a window of a slot, or it has none
-module _ (f rank j : ℕ) where
+module _ (rank f j : ℕ) where
   pub record IsThere (logs : List WindowLog) : Type 0 where
     pub window : WindowLog
     pub there : Contains logs window
@@ -92,17 +92,17 @@ none_left : (s : ScenarioParts) (f v : ℕ) (part : Part) (x : State) → left_b
 none_left s f v part x = refl
 
 module _ (s : ScenarioParts) (clocks : ℕ → ℕ → ℕ) (air : List Entry) (lawful : IsLawfulRun s clocks air)
-    (f : ℕ) (in_run : f < s.frames) (rank j : ℕ) (p : Plan)
-    (start : IsSlotStart s clocks air f rank p j) (heard : IsSlotHeard s clocks air f rank p j) where
+    (rank f : ℕ) (in_run : f < s.frames) (j : ℕ) (p : Plan)
+    (start : IsSlotStart s clocks air rank f p j) (heard : IsSlotHeard s clocks air rank f p j) where
   abbrev Of : ℕ → WindowLog → Type 0
-  Of v w = IsWindowOf s clocks air f rank j v w
+  Of v w = IsWindowOf s clocks air rank f j v w
 
   abbrev states : ℕ → State
   states = before_slot s rank f p (state_at s f) j
 
   -- what is left of v, by what its window is, and what it accepted
   abbrev left_of : ℕ → Option Opened → State → State
-  left_of v w x = left_by x (closed_slot_of s f (part_of p j) v w (accepted_at (bus_slot s f rank p j) v) x)
+  left_of v w x = left_by x (closed_slot_of s f (part_of p j) v w (accepted_at (bus_slot s rank f p j) v) x)
 
   module _ (v : ℕ) (w : WindowLog) (here : Of v w) where
     frame_after : w.after.frame ≡ f
@@ -143,19 +143,19 @@ module _ (s : ScenarioParts) (clocks : ℕ → ℕ → ℕ) (air : List Entry) (
       known : knows s.nodes v ≡ true
       known = known_by s clocks air lawful v w here.there
 
-      by_no_alarm : HasWindow s clocks air f rank j v → ⊥
+      by_no_alarm : HasWindow s clocks air rank f j v → ⊥
       by_no_alarm has =
-          let go = goes s clocks air lawful f in_run rank j v w here in
+          let go = goes s clocks air lawful rank f in_run j v w here in
           let same : w ≡ has.window =
-          go.course.once w has.window (in_frame s clocks air lawful f in_run rank j v w here)
-          (in_frame s clocks air lawful f in_run rank j v has.window has.here) (here.slot ∙ sym has.here.slot) in
+          go.course.once w has.window (in_frame s clocks air lawful rank f in_run j v w here)
+          (in_frame s clocks air lawful rank f in_run j v has.window has.here) (here.slot ∙ sym has.here.slot) in
           true≢false (sym has.by_alarm ∙ ap (λ (x : WindowLog). x.by_alarm) (sym same) ∙ hears)
 
       -- as the frame found it
       pub up : states v ≡ StateOn w.before.core
       up =
-          let go = goes s clocks air lawful f in_run rank j v w here in
-          let node : w.before ≡ go.node = go.course.joins w (in_frame s clocks air lawful f in_run rank j v w here) hears in
+          let go = goes s clocks air lawful rank f in_run j v w here in
+          let node : w.before ≡ go.node = go.course.joins w (in_frame s clocks air lawful rank f in_run j v w here) hears in
           start.others v known by_no_alarm ∙ sym (start.found v known) ∙ ap state_of_power go.on ∙ ap (λ (n : Node). StateOn n.core) (sym node)
 
       pub no_window : opened_at s rank f (part_of p j) v (states v) ≡ None
@@ -172,7 +172,7 @@ module _ (s : ScenarioParts) (clocks : ℕ → ℕ → ℕ) (air : List Entry) (
       closes = ap (λ (o : Option Closing). is_some o) is
 
       -- a member
-      member_left : w.by_alarm ≡ true → bus_before s f rank p (suc j) v ≡ StateOn c.after.core
+      member_left : w.by_alarm ≡ true → bus_before s rank f p (suc j) v ≡ StateOn c.after.core
       unfolding before_slot
       member_left alarm =
           slot_aligned s rank f p j v states w.before.core (node_in_window w) w.last
@@ -190,10 +190,10 @@ module _ (s : ScenarioParts) (clocks : ℕ → ℕ → ℕ) (air : List Entry) (
           ∙ ap (λ (g : ℕ). (closed_slot (setup_of s v) g w.last.part w.last.flood.initiated w.before.core (accepted_in w.last)).core) frame_after
 
       -- a scanning node
-      scanner_left : w.by_alarm ≡ false → bus_before s f rank p (suc j) v ≡ StateOn c.after.core
+      scanner_left : w.by_alarm ≡ false → bus_before s rank f p (suc j) v ≡ StateOn c.after.core
       unfolding before_slot
       scanner_left hears =
-          let m = accepted_at (bus_slot s f rank p j) v in
+          let m = accepted_at (bus_slot s rank f p j) v in
           ap (λ (o : Option Opened). left_of v o (states v)) (no_window hears)
           ∙ ap (left_of v None) (up hears)
           ∙ guest_slot s f v (part_of p j) w.last.part w.last.flood.initiated w.before.core (guest hears) m
@@ -201,16 +201,16 @@ module _ (s : ScenarioParts) (clocks : ℕ → ℕ → ℕ) (air : List Entry) (
           (sym (heard.accepted v w here closes))
           ∙ ap StateOn (sym (row_left hears))
 
-      left_as : (b : Bool) → w.by_alarm ≡ b → bus_before s f rank p (suc j) v ≡ StateOn c.after.core
+      left_as : (b : Bool) → w.by_alarm ≡ b → bus_before s rank f p (suc j) v ≡ StateOn c.after.core
       left_as true alarm = member_left alarm
       left_as false hears = scanner_left hears
 
       -- who has a window is left as that closes
-      pub left_by_window : bus_before s f rank p (suc j) v ≡ StateOn c.after.core
+      pub left_by_window : bus_before s rank f p (suc j) v ≡ StateOn c.after.core
       left_by_window = left_as w.by_alarm refl
 
   module _ (v : ℕ) (known : knows s.nodes v ≡ true) (none : (w : WindowLog) → Of v w → ⊥) where
-    not_there : HasWindow s clocks air f rank j v → ⊥
+    not_there : HasWindow s clocks air rank f j v → ⊥
     not_there has = none has.window has.here
 
     pub not_member : (x : State) → states v ≡ x → opened_at s rank f (part_of p j) v x ≡ None
@@ -222,7 +222,7 @@ module _ (s : ScenarioParts) (clocks : ℕ → ℕ → ℕ) (air : List Entry) (
         ]
 
     -- who has none stays as it is
-    pub stays_without : bus_before s f rank p (suc j) v ≡ bus_before s f rank p j v
+    pub stays_without : bus_before s rank f p (suc j) v ≡ bus_before s rank f p j v
     unfolding before_slot
     stays_without =
         ap (λ (o : Option Opened). left_of v o (states v)) (not_member (states v) refl)
@@ -230,5 +230,5 @@ module _ (s : ScenarioParts) (clocks : ℕ → ℕ → ℕ) (air : List Entry) (
         ∙ none_left s f v (part_of p j) (states v)
 
     -- that is as the frame found it
-    pub found_without : bus_before s f rank p j v ≡ state_at s f v
+    pub found_without : bus_before s rank f p j v ≡ state_at s f v
     found_without = start.others v known not_there

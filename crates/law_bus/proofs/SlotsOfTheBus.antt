@@ -11,23 +11,23 @@ use Rattle.law_bus.specs.RunLaws.{IsOfBus}
 use Rattle.law_bus.proofs.SlotSendings.{of_slot, in_slot, heard_in_slot, in_heard}
 
 pub of_bus : (s : ScenarioParts) (clocks : ℕ → ℕ → ℕ) (air : List Entry) → IsLawfulRun s clocks air
-    → (f rank j : ℕ) (p : Plan) (events : ℕ → List Event) → IsOfBus s air f rank p j (run_of_slot s clocks air f rank p j events)
-of_bus s clocks air lawful f rank j p events = record {
+    → (rank f j : ℕ) (p : Plan) (events : ℕ → List Event) → IsOfBus s air rank f p j (run_of_slot s clocks air rank f p j events)
+of_bus s clocks air lawful rank f j p events = record {
   setting = refl;
   slot = refl;
   channel = refl;
   kind = refl;
   message = λ o m says. ap (bytes_said j) says.1;
   sendings = λ x. (
-    λ there. (let is = of_slot s.profile f rank j (sendings_of air) x there in (is.0, is.1.0, is.1.1, is.1.2)),
-    λ is. in_slot s.profile f rank j (sendings_of air) x is.0 (is.1, is.2, is.3),
+    λ there. (let is = of_slot s.profile rank f j (sendings_of air) x there in (is.0, is.1.0, is.1.1, is.1.2)),
+    λ is. in_slot s.profile rank f j (sendings_of air) x is.0 (is.1, is.2, is.3),
   );
   hearings = λ v x. (
     λ heard. (
-        let is = heard_in_slot s.profile f rank j (hearings_of air) (record { node = v; sending = x }) heard in
-        (is.0, in_slot s.profile f rank j (sendings_of air) x ((lawful.lawful.hearing.heard v x).0 is.0).1.sent is.1)
+        let is = heard_in_slot s.profile rank f j (hearings_of air) (record { node = v; sending = x }) heard in
+        (is.0, in_slot s.profile rank f j (sendings_of air) x ((lawful.lawful.hearing.heard v x).0 is.0).1.sent is.1)
         ),
-    λ is. in_heard s.profile f rank j (hearings_of air) (record { node = v; sending = x }) is.0
-        (of_slot s.profile f rank j (sendings_of air) x is.1).1,
+    λ is. in_heard s.profile rank f j (hearings_of air) (record { node = v; sending = x }) is.0
+        (of_slot s.profile rank f j (sendings_of air) x is.1).1,
   );
 }

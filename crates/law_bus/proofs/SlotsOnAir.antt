@@ -31,9 +31,9 @@ use Rattle.law_bus.proofs.SlotParties.{party_rank}
 use Rattle.law_bus.proofs.SlotSendings.{IsOf, of_slot, in_slot, heard_in_slot, in_heard}
 
 module _ (s : ScenarioParts) (clocks : ℕ → ℕ → ℕ) (air : List Entry) (lawful : IsLawfulRun s clocks air)
-    (f rank j : ℕ) (p : Plan) (in_run : f < s.frames) (start : IsSlotStart s clocks air f rank p j) (events : ℕ → List Event) where
+    (rank f j : ℕ) (p : Plan) (in_run : f < s.frames) (start : IsSlotStart s clocks air rank f p j) (events : ℕ → List Event) where
   abbrev r : Run
-  r = run_of_slot s clocks air f rank p j events
+  r = run_of_slot s clocks air rank f p j events
 
   abbrev a : Scene
   a = scene_of s.profile s.trace air
@@ -41,11 +41,11 @@ module _ (s : ScenarioParts) (clocks : ℕ → ℕ → ℕ) (air : List Entry) (
   pub safe : Safe s clocks air
   safe = safe_at_the_end s clocks air (whole s clocks air lawful)
 
-  pub sent_here : (x : Sending) → Contains r.sendings x → Contains (sendings_of air) x × IsOf s.profile f rank j x
-  sent_here x there = of_slot s.profile f rank j (sendings_of air) x there
+  pub sent_here : (x : Sending) → Contains r.sendings x → Contains (sendings_of air) x × IsOf s.profile rank f j x
+  sent_here x there = of_slot s.profile rank f j (sendings_of air) x there
 
-  pub sent_so : (x : Sending) → Contains (sendings_of air) x → IsOf s.profile f rank j x → Contains r.sendings x
-  sent_so x there is = in_slot s.profile f rank j (sendings_of air) x there is
+  pub sent_so : (x : Sending) → Contains (sendings_of air) x → IsOf s.profile rank f j x → Contains r.sendings x
+  sent_so x there is = in_slot s.profile rank f j (sendings_of air) x there is
 
   -- transmissions that meet are of one frame, on whatever channels
   earlier_frame : (x y : Sending) → Contains (sendings_of air) y → Meets x y → frame_of_sending s.profile x ≤ frame_of_sending s.profile y
@@ -81,8 +81,8 @@ module _ (s : ScenarioParts) (clocks : ℕ → ℕ → ℕ) (air : List Entry) (
       let call = called y there in
       let w = call.window in
       let frame : w.frame ≡ f = sym call.of_slot.frame ∙ sym (one_frame x y is.0 there meets) ∙ is.1.1 in
-      let window : IsWindowOf s clocks air f w.rank w.slot y.node w = record { there = call.there; frame = frame; channel = refl; slot = refl } in
-      call.of_slot.channel ∙ party_rank s clocks air lawful f rank j p in_run start y.node w.rank w.slot w here window
+      let window : IsWindowOf s clocks air w.rank f w.slot y.node w = record { there = call.there; frame = frame; channel = refl; slot = refl } in
+      call.of_slot.channel ∙ party_rank s clocks air lawful rank f j p in_run start y.node w.rank w.slot w here window
 
   pub part_of_air : IsPart a r
   part_of_air = record {
@@ -108,7 +108,7 @@ module _ (s : ScenarioParts) (clocks : ℕ → ℕ → ℕ) (air : List Entry) (
 
   pub heard_here : (v : ℕ) (x : Sending) → WasHeard r v x → Contains r.sendings x
   heard_here v x heard =
-      let is = heard_in_slot s.profile f rank j (hearings_of air) (record { node = v; sending = x }) heard in
+      let is = heard_in_slot s.profile rank f j (hearings_of air) (record { node = v; sending = x }) heard in
       sent_so x ((lawful.lawful.hearing.heard v x).0 is.0).1.sent is.1
 
   pub by_rule : HearsByRule r (TunedThrough a)
@@ -116,12 +116,12 @@ module _ (s : ScenarioParts) (clocks : ℕ → ℕ → ℕ) (air : List Entry) (
     where
       to : WasHeard r v x → HearsIn r (TunedThrough a) v x
       to heard =
-          let is = heard_in_slot s.profile f rank j (hearings_of air) (record { node = v; sending = x }) heard in
+          let is = heard_in_slot s.profile rank f j (hearings_of air) (record { node = v; sending = x }) heard in
           (rule_in_run a r part_of_air v x here (heard_here v x heard)).0 ((lawful.lawful.hearing.heard v x).0 is.0).1
 
       from : HearsIn r (TunedThrough a) v x → WasHeard r v x
       from hears =
           let sent = hears.sent in
           let is = sent_here x sent in
-          in_heard s.profile f rank j (hearings_of air) (record { node = v; sending = x })
+          in_heard s.profile rank f j (hearings_of air) (record { node = v; sending = x })
           ((lawful.lawful.hearing.heard v x).1 (ends_in_run x sent, (rule_in_run a r part_of_air v x here sent).1 hears)) is.1

@@ -69,10 +69,10 @@ on_not_off : (n : Node) (boots : ℕ) → PowerOn n ≡ PowerOff boots → ⊥
 on_not_off n boots same = cc
 
 module _ (s : ScenarioParts) (clocks : ℕ → ℕ → ℕ) (air : List Entry) (lawful : IsLawfulRun s clocks air)
-    (f rank j : ℕ) (p : Plan) (round : IsRound s f rank p) (within : j ≤ last_slot p) (start : IsSlotStart s clocks air f rank p j)
-    (events : ℕ → List Event) (are : AreEvents s clocks air f rank j events)
-    (v : ℕ) (here : has (bus_slot s f rank p j).flood.everyone v ≡ true) (no_alarm : HasWindow s clocks air f rank j v → ⊥)
-    (x : Sending) (there : Contains (run_of_slot s clocks air f rank p j events).sendings x) (far : ℕ)
+    (rank f j : ℕ) (p : Plan) (round : IsRound s rank f p) (within : j ≤ last_slot p) (start : IsSlotStart s clocks air rank f p j)
+    (events : ℕ → List Event) (are : AreEvents s clocks air rank f j events)
+    (v : ℕ) (here : has (bus_slot s rank f p j).flood.everyone v ≡ true) (no_alarm : HasWindow s clocks air rank f j v → ⊥)
+    (x : Sending) (there : Contains (run_of_slot s clocks air rank f p j events).sendings x) (far : ℕ)
     (off : x.end ≤ get_or (own_ends (events v)) (s.sends - 1) far) (t : ℕ) (from : x.start ≤ t) (until : t < x.end) where
   abbrev a : Scene
   a = scene_of s.profile s.trace air
@@ -87,19 +87,19 @@ module _ (s : ScenarioParts) (clocks : ℕ → ℕ → ℕ) (air : List Entry) (
   go = run s clocks air lawful
 
   is_node : knows s.nodes v ≡ true
-  is_node = known s clocks air lawful f rank j p round.in_run start v here no_alarm
+  is_node = known s clocks air lawful rank f j p round.in_run start v here no_alarm
 
-  scanner : IsFound s clocks air lawful f rank j p round.in_run start v here no_alarm
-  scanner = found s clocks air lawful f rank j p round.in_run start v here no_alarm
+  scanner : IsFound s clocks air lawful rank f j p round.in_run start v here no_alarm
+  scanner = found s clocks air lawful rank f j p round.in_run start v here no_alarm
 
-  is : Contains (sendings_of air) x × IsOf s.profile f rank j x
-  is = sent_here s clocks air lawful f rank j p round.in_run start events x there
+  is : Contains (sendings_of air) x × IsOf s.profile rank f j x
+  is = sent_here s clocks air lawful rank f j p round.in_run start events x there
 
   flood : IsOfFlood s clocks air x
   flood = of_flood s clocks air (whole s clocks air lawful) x is.0
 
   in_run : t < run_end s
-  in_run = let ends = ends_in_run s clocks air lawful f rank j p round.in_run start events x there in omega (arith, ends, until)
+  in_run = let ends = ends_in_run s clocks air lawful rank f j p round.in_run start events x there in omega (arith, ends, until)
 
   frame : t / s.profile.frame ≡ f
   frame =
@@ -131,16 +131,16 @@ module _ (s : ScenarioParts) (clocks : ℕ → ℕ → ℕ) (air : List Entry) (
 
     -- it is of this slot, for else it would have opened after x
     record IsJoined (u : WindowLog) : Type 0 where
-      own : IsWindowOf s clocks air f rank j v u
+      own : IsWindowOf s clocks air rank f j v u
       joined : u.by_alarm ≡ false
 
     is_joined : (bound : ℕ) (kept : IsStill bound y trail_windows) → IsJoined kept.window
     is_joined bound kept =
         let in_frame : IsWindowIn s clocks air v f kept.window = record { there = kept.there; frame = kept.frame ∙ of_frame } in
-        elim (which_window s clocks air lawful f rank j p round within start v here no_alarm kept.window in_frame) [
+        elim (which_window s clocks air lawful rank f j p round within start v here no_alarm kept.window in_frame) [
           | inl own ↦ record { own = own.0; joined = own.1 }
           | inr later ↦ absurd (
-              let behind = opens_behind s clocks air lawful f rank j p round within start v here no_alarm kept.window in_frame later x is.0 is.1 in
+              let behind = opens_behind s clocks air lawful rank f j p round within start v here no_alarm kept.window in_frame later x is.0 is.1 in
               let same = kept.opened in
               let opened = have.1.each y in_it in
               omega (arith, behind, same, opened, until)
@@ -167,7 +167,7 @@ module _ (s : ScenarioParts) (clocks : ℕ → ℕ → ℕ) (air : List Entry) (
       omega (arith, lies, in_time, past, until)
 
   -- in the window that it has joined fewer transmissions have ended than it sends at most
-  module _ (u : WindowLog) (own : IsWindowOf s clocks air f rank j v u) where
+  module _ (u : WindowLog) (own : IsWindowOf s clocks air rank f j v u) where
     few : sendings_by t u < s.sends
     few =
         let played = are.by_window v u own in

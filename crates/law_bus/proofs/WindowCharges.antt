@@ -48,16 +48,16 @@ module _ (runs : RunsLaw) (s : ScenarioParts) (clocks : ℕ → ℕ → ℕ) (ai
     rank = rank_at s v f
 
     abbrev x : Slot
-    x = bus_slot s f rank p j
+    x = bus_slot s rank f p j
 
-    round : IsRound s f rank p
+    round : IsRound s rank f p
     round = round_here heards s clocks air lawful v known f p in_run plan
 
-    start : IsSlotStart s clocks air f rank p j
-    start = (all_slots heards s clocks air lawful f rank j p round within).0
+    start : IsSlotStart s clocks air rank f p j
+    start = (all_slots heards s clocks air lawful rank f j p round within).0
 
-    heard : IsSlotHeard s clocks air f rank p j
-    heard = (all_slots heards s clocks air lawful f rank j p round within).1
+    heard : IsSlotHeard s clocks air rank f p j
+    heard = (all_slots heards s clocks air lawful rank f j p round within).1
 
     -- what a window counts in this slot
     abbrev of_frame : WindowLog → ℕ
@@ -72,18 +72,18 @@ module _ (runs : RunsLaw) (s : ScenarioParts) (clocks : ℕ → ℕ → ℕ) (ai
     none_counted : x.window v ≡ None → slot_window s.profile x v ≡ 0
     none_counted none = ap (λ (o : Option Opened). if is_some o then charge_of s.profile (last_if_all_sent x.flood.limit (steps_sent_by x v)) else 0) none
 
-    module _ (w : WindowLog) (here : IsWindowOf s clocks air f rank j v w) where
+    module _ (w : WindowLog) (here : IsWindowOf s clocks air rank f j v w) where
       -- the window of the slot counts what it does on the bus
       charge_by : (b : Bool) → w.by_alarm ≡ b → charge_of_window s w ≡ slot_window s.profile x v
       charge_by true alarm =
-          let found = runs s clocks air lawful f rank j p round within start in
+          let found = runs s clocks air lawful rank f j p round within start in
           let part = nodes_take_part s clocks air (record { sound = lawful.sound; drift = lawful.drift }) lawful.lawful v known w here.there in
-          charge_same s clocks air lawful f rank p j found.0 found.1 found.2 v w here part.has alarm
+          charge_same s clocks air lawful rank f p j found.0 found.1 found.2 v w here part.has alarm
           (opened_slot (setup_in s v) f (part_of p j) w.before.core)
-          (window_is s clocks air lawful f in_run rank j p start heard v w here alarm)
+          (window_is s clocks air lawful rank f in_run j p start heard v w here alarm)
       charge_by false joined =
           ap (λ (b : Bool). if b then charge_by_last s.profile (last_if_all_sent s.sends (sent_packets w)) else 0) joined
-          ∙ sym (none_counted (no_window s clocks air lawful f in_run rank j p start heard v w here joined))
+          ∙ sym (none_counted (no_window s clocks air lawful rank f in_run j p start heard v w here joined))
 
       -- and no other window is of the slot
       another : (y : WindowLog) → Contains ws y → (y ≡ w → ⊥) → y.frame ≡ f → y.slot ≡ j → ⊥
@@ -99,7 +99,7 @@ module _ (runs : RunsLaw) (s : ScenarioParts) (clocks : ℕ → ℕ → ℕ) (ai
           ∙ under_its frame_in (charge_of_window s) f w here.frame
           ∙ charge_by w.by_alarm refl
 
-    without_window : ((w : WindowLog) → IsWindowOf s clocks air f rank j v w → ⊥)
+    without_window : ((w : WindowLog) → IsWindowOf s clocks air rank f j v w → ⊥)
         → sum_by counts ws ≡ slot_window s.profile x v
     without_window none =
         no_sum counts ws (λ y there. counts_none y (λ frame slot. none y (record {
@@ -109,11 +109,11 @@ module _ (runs : RunsLaw) (s : ScenarioParts) (clocks : ℕ → ℕ → ℕ) (ai
               ∙ ap (rank_at s v) frame;
           slot = slot;
         })))
-        ∙ sym (none_counted (not_member s clocks air lawful f in_run rank j p start heard v known none (before_slot s rank f p (state_at s f) j v) refl))
+        ∙ sym (none_counted (not_member s clocks air lawful rank f in_run j p start heard v known none (before_slot s rank f p (state_at s f) j v) refl))
 
     of_slot : sum_by counts ws ≡ slot_window s.profile (slot_in s v f p j) v
     of_slot =
-        elim (look_up f rank j ws) [
+        elim (look_up rank f j ws) [
           | inl w ↦ with_window w.window (record { there = w.there; frame = w.frame; channel = w.channel; slot = w.slot })
           | inr none ↦ without_window (λ w here. none w here.there here.frame here.channel here.slot)
         ]

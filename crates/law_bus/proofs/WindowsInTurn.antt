@@ -55,9 +55,9 @@ module _ (s : ScenarioParts) (clocks : ℕ → ℕ → ℕ) (air : List Entry) (
       ∙ cond_both (nat_lt w.slot w.last.last) (AwaitSlot (w.slot + 1)) AwaitFrame (λ (st : Stage). st ≡ AwaitFrame)
       (λ less. absurd (let k = ltb-true w.slot w.last.last less in omega (arith, k, end))) (λ done. refl)
 
-  module _ (f : ℕ) (in_run : f < s.frames) (rank : ℕ) where
+  module _ (rank f : ℕ) (in_run : f < s.frames) where
     abbrev pub Of : ℕ → ℕ → WindowLog → Type 0
-    Of j v w = IsWindowOf s clocks air f rank j v w
+    Of j v w = IsWindowOf s clocks air rank f j v w
 
     pub in_frame : (j v : ℕ) (w : WindowLog) → Of j v w → IsWindowIn s clocks air v f w
     in_frame j v w here = record { there = here.there; frame = here.frame }

@@ -10,5 +10,5 @@ use Rattle.law_terms.specs.SlotSteps.{IsSlotStart, IsSlotHeard}
 
 abbrev pub AllSlotsLaw : Type 0
 AllSlotsLaw = (s : ScenarioParts) (clocks : ℕ → ℕ → ℕ) (air : List Entry) → IsLawfulRun s clocks air
-    → (f rank j : ℕ) (p : Plan) → IsRound s f rank p → j ≤ last_slot p
-    → IsSlotStart s clocks air f rank p j × IsSlotHeard s clocks air f rank p j
+    → (rank f j : ℕ) (p : Plan) → IsRound s rank f p → j ≤ last_slot p
+    → IsSlotStart s clocks air rank f p j × IsSlotHeard s clocks air rank f p j

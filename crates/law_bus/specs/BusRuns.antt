@@ -23,8 +23,8 @@ pub record AgreesWithBus (s : ScenarioParts) (clocks : ℕ → ℕ → ℕ) (air
   pub delivered : deliveries_of s clocks air ≡ bus_deliveries s
   pub lost : drops_of s clocks air ≡ bus_drops s
   pub in_order : Ordered (deliveries_of s clocks air)
-  pub received : (f rank j : ℕ) (p : Plan) → IsRound s f rank p → (owner : ℕ) → part_of p j ≡ Data owner
-      → IsReceivedInSlot s clocks air f rank p j owner
+  pub received : (rank f j : ℕ) (p : Plan) → IsRound s rank f p → (owner : ℕ) → part_of p j ≡ Data owner
+      → IsReceivedInSlot s clocks air rank f p j owner
   pub costs : (v : ℕ) → knows s.nodes v ≡ true → cost_in (energy_of s clocks air v) ≡ bus_cost s v
 
 -- each valid run is

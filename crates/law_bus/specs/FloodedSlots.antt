@@ -11,5 +11,5 @@ use Rattle.law_terms.specs.SlotSteps.{IsSlotStart}
 -- who sends in a step of it, and who accepts, is the flood's
 abbrev pub StartedSlotLaw : Type 0
 StartedSlotLaw = (s : ScenarioParts) (clocks : ℕ → ℕ → ℕ) (air : List Entry) → IsLawfulRun s clocks air
-    → (f rank j : ℕ) (p : Plan) → IsRound s f rank p → j ≤ last_slot p → IsSlotStart s clocks air f rank p j
-    → IsSlot s clocks air f rank p j
+    → (rank f j : ℕ) (p : Plan) → IsRound s rank f p → j ≤ last_slot p → IsSlotStart s clocks air rank f p j
+    → IsSlot s clocks air rank f p j

@@ -11,20 +11,20 @@ use Rattle.air_log.specs.Deliveries.{deliveries_of}
 use Rattle.law_terms.specs.SlotLaws.{IsAcceptance, bus_slot}
 
 -- v delivers a packet in this slot, and its window there had accepted that first with this counter
-pub record DeliversIn (s : ScenarioParts) (clocks : ℕ → ℕ → ℕ) (air : List Entry) (f rank j v step : ℕ) : Type 0 where
+pub record DeliversIn (s : ScenarioParts) (clocks : ℕ → ℕ → ℕ) (air : List Entry) (rank f j v step : ℕ) : Type 0 where
   pub packet : Data
   pub delivered : Contains (deliveries_of s clocks air) (delivery_of v f rank j packet)
-  pub accepted : IsAcceptance s clocks air f rank j v step (DataOf packet)
+  pub accepted : IsAcceptance s clocks air rank f j v step (DataOf packet)
 
 -- v is a member of the round in slot j: a node with a window there
-pub record IsMemberIn (s : ScenarioParts) (f rank : ℕ) (p : Plan) (j v : ℕ) : Type 0 where
+pub record IsMemberIn (s : ScenarioParts) (rank f : ℕ) (p : Plan) (j v : ℕ) : Type 0 where
   pub known : knows s.nodes v ≡ true
-  pub opens : is_some ((bus_slot s f rank p j).window v) ≡ true
+  pub opens : is_some ((bus_slot s rank f p j).window v) ≡ true
 
 -- in slot j of a round, which this owner's stream has: a member other than the owner's node delivers, in the step before the least
 -- length of a relay path that leads to it from there, if and only if there is one; and nobody else delivers
-pub record IsReceivedInSlot (s : ScenarioParts) (clocks : ℕ → ℕ → ℕ) (air : List Entry) (f rank : ℕ) (p : Plan) (j owner : ℕ) : Type 0 where
-  pub by_paths : (v step : ℕ) → IsMemberIn s f rank p j v → v ≢ node_of owner
-      → (DeliversIn s clocks air f rank j v step ↔ IsLeast (bus_slot s f rank p j).flood (node_of owner) (suc step) v)
+pub record IsReceivedInSlot (s : ScenarioParts) (clocks : ℕ → ℕ → ℕ) (air : List Entry) (rank f : ℕ) (p : Plan) (j owner : ℕ) : Type 0 where
+  pub by_paths : (v step : ℕ) → IsMemberIn s rank f p j v → v ≢ node_of owner
+      → (DeliversIn s clocks air rank f j v step ↔ IsLeast (bus_slot s rank f p j).flood (node_of owner) (suc step) v)
   pub nobody_else : (d : Delivery) → Contains (deliveries_of s clocks air) d → d.frame ≡ f → d.rank ≡ rank → d.slot ≡ j
-      → IsMemberIn s f rank p j d.node × (d.node ≢ node_of owner) × ((step : ℕ) × DeliversIn s clocks air f rank j d.node step)
+      → IsMemberIn s rank f p j d.node × (d.node ≢ node_of owner) × ((step : ℕ) × DeliversIn s clocks air rank f j d.node step)

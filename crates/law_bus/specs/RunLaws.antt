@@ -25,67 +25,67 @@ use Rattle.law_bus.specs.SlotRun.{AreEvents, run_of_slot}
 -- of each such slot, whatever the events of its nodes
 abbrev pub OfSlots : ((s : ScenarioParts) → (ℕ → ℕ → ℕ) → List Entry → ℕ → ℕ → Plan → ℕ → (ℕ → List Event) → Type 0) → Type 0
 OfSlots Is = (s : ScenarioParts) (clocks : ℕ → ℕ → ℕ) (air : List Entry) → IsLawfulRun s clocks air
-    → (f rank j : ℕ) (p : Plan) → IsRound s f rank p → j ≤ last_slot p → IsSlotStart s clocks air f rank p j
-    → (events : ℕ → List Event) → Is s clocks air f rank p j events
+    → (rank f j : ℕ) (p : Plan) → IsRound s rank f p → j ≤ last_slot p → IsSlotStart s clocks air rank f p j
+    → (events : ℕ → List Event) → Is s clocks air rank f p j events
 
 -- who takes part is a node, and each window that it has in the frame is of the rank
-pub record IsOfRank (s : ScenarioParts) (clocks : ℕ → ℕ → ℕ) (air : List Entry) (f rank : ℕ) (r : Run) : Type 0 where
+pub record IsOfRank (s : ScenarioParts) (clocks : ℕ → ℕ → ℕ) (air : List Entry) (rank f : ℕ) (r : Run) : Type 0 where
   pub known : (v : ℕ) → IsParticipant r v → knows s.nodes v ≡ true
-  pub rank_is : (v i k : ℕ) (w : WindowLog) → IsParticipant r v → IsWindowOf s clocks air f i k v w → i ≡ rank
+  pub rank_is : (v i k : ℕ) (w : WindowLog) → IsParticipant r v → IsWindowOf s clocks air i f k v w → i ≡ rank
 
 abbrev pub PartiesLaw : Type 0
-PartiesLaw = OfSlots (λ s clocks air f rank p j events. IsOfRank s clocks air f rank (run_of_slot s clocks air f rank p j events))
+PartiesLaw = OfSlots (λ s clocks air rank f p j events. IsOfRank s clocks air rank f (run_of_slot s clocks air rank f p j events))
 
 -- nothing else on the air matters for it
 abbrev pub PartLaw : Type 0
-PartLaw = OfSlots (λ s clocks air f rank p j events.
-    IsPart (scene_of s.profile s.trace air) (run_of_slot s clocks air f rank p j events))
+PartLaw = OfSlots (λ s clocks air rank f p j events.
+    IsPart (scene_of s.profile s.trace air) (run_of_slot s clocks air rank f p j events))
 
 -- so its nodes receive by its rule
 abbrev pub RuleLaw : Type 0
-RuleLaw = OfSlots (λ s clocks air f rank p j events.
-    HearsByRule (run_of_slot s clocks air f rank p j events) (TunedThrough (scene_of s.profile s.trace air)))
+RuleLaw = OfSlots (λ s clocks air rank f p j events.
+    HearsByRule (run_of_slot s clocks air rank f p j events) (TunedThrough (scene_of s.profile s.trace air)))
 
 -- it is the bus's flood, with all transmissions of its slot and what was received of them
-pub record IsOfBus (s : ScenarioParts) (air : List Entry) (f rank : ℕ) (p : Plan) (j : ℕ) (r : Run) : Type 0 where
-  pub setting : r.setting ≡ (bus_slot s f rank p j).flood
+pub record IsOfBus (s : ScenarioParts) (air : List Entry) (rank f : ℕ) (p : Plan) (j : ℕ) (r : Run) : Type 0 where
+  pub setting : r.setting ≡ (bus_slot s rank f p j).flood
   pub slot : r.slot ≡ j
   pub channel : r.rank ≡ rank
-  pub kind : r.kind ≡ kind_for (bus_slot s f rank p j).part
-  pub message : (o : ℕ) (m : Message) → Says s f rank p j o m → r.message o ≡ bytes_of m j
+  pub kind : r.kind ≡ kind_for (bus_slot s rank f p j).part
+  pub message : (o : ℕ) (m : Message) → Says s rank f p j o m → r.message o ≡ bytes_of m j
   pub sendings : (x : Sending) → Contains r.sendings x
       ↔ (Contains (sendings_of air) x × (x.rank ≡ rank) × (frame_of_sending s.profile x ≡ f) × (slot_of_sending x ≡ j))
   pub hearings : (v : ℕ) (x : Sending) → WasHeard r v x ↔ (HasHeardEntry air v x × Contains r.sendings x)
 
 abbrev pub BusLaw : Type 0
-BusLaw = OfSlots (λ s clocks air f rank p j events. IsOfBus s air f rank p j (run_of_slot s clocks air f rank p j events))
+BusLaw = OfSlots (λ s clocks air rank f p j events. IsOfBus s air rank f p j (run_of_slot s clocks air rank f p j events))
 
 -- each slot has events for its nodes
 abbrev pub EventsLaw : Type 0
 EventsLaw = (s : ScenarioParts) (clocks : ℕ → ℕ → ℕ) (air : List Entry) → IsLawfulRun s clocks air
-    → (f rank j : ℕ) (p : Plan) → IsRound s f rank p → (events : ℕ → List Event) × AreEvents s clocks air f rank j events
+    → (rank f j : ℕ) (p : Plan) → IsRound s rank f p → (events : ℕ → List Event) × AreEvents s clocks air rank f j events
 
 -- with these events of its nodes, they are all that each receives and sends in it
 abbrev pub HappenedLaw : Type 0
-HappenedLaw = OfSlots (λ s clocks air f rank p j events. AreEvents s clocks air f rank j events
-    → HasEvents (run_of_slot s clocks air f rank p j events))
+HappenedLaw = OfSlots (λ s clocks air rank f p j events. AreEvents s clocks air rank f j events
+    → HasEvents (run_of_slot s clocks air rank f p j events))
 
 -- with these events of its nodes, initiators say packets of the slot that differ in more than the counter, and start together
 abbrev pub InitiatorsLaw : Type 0
-InitiatorsLaw = OfSlots (λ s clocks air f rank p j events. AreEvents s clocks air f rank j events
-    → HasInitiators (run_of_slot s clocks air f rank p j events))
+InitiatorsLaw = OfSlots (λ s clocks air rank f p j events. AreEvents s clocks air rank f j events
+    → HasInitiators (run_of_slot s clocks air rank f p j events))
 
 -- with counter 0 they send, and with another exactly who relays
 abbrev pub SendingsLaw : Type 0
-SendingsLaw = OfSlots (λ s clocks air f rank p j events. AreEvents s clocks air f rank j events
-    → HasSendings (run_of_slot s clocks air f rank p j events))
+SendingsLaw = OfSlots (λ s clocks air rank f p j events. AreEvents s clocks air rank f j events
+    → HasSendings (run_of_slot s clocks air rank f p j events))
 
 -- who has a window in the slot takes part in it
 abbrev pub WindowsTakePartLaw : Type 0
-WindowsTakePartLaw = OfSlots (λ s clocks air f rank p j events. (v : ℕ) (w : WindowLog) → IsWindowOf s clocks air f rank j v w
-    → IsParticipant (run_of_slot s clocks air f rank p j events) v)
+WindowsTakePartLaw = OfSlots (λ s clocks air rank f p j events. (v : ℕ) (w : WindowLog) → IsWindowOf s clocks air rank f j v w
+    → IsParticipant (run_of_slot s clocks air rank f p j events) v)
 
 -- the floods of its nodes end as their windows do
 abbrev pub RecordsLaw : Type 0
-RecordsLaw = OfSlots (λ s clocks air f rank p j events. AreEvents s clocks air f rank j events
-    → IsRunOf s clocks air f rank p j (run_of_slot s clocks air f rank p j events))
+RecordsLaw = OfSlots (λ s clocks air rank f p j events. AreEvents s clocks air rank f j events
+    → IsRunOf s clocks air rank f p j (run_of_slot s clocks air rank f p j events))

@@ -11,10 +11,10 @@ use Rattle.law_bus.specs.SlotRun.{AreEvents, run_of_slot}
 use Rattle.law_bus.specs.RunLaws.{OfSlots}
 
 -- each listens in some window that covers the flood
-pub record ScannersListen (s : ScenarioParts) (clocks : ℕ → ℕ → ℕ) (air : List Entry) (f rank j : ℕ) (r : Run) : Type 0 where
-  pub listens : (v : ℕ) → IsParticipant r v → (HasWindow s clocks air f rank j v → ⊥)
+pub record ScannersListen (s : ScenarioParts) (clocks : ℕ → ℕ → ℕ) (air : List Entry) (rank f j : ℕ) (r : Run) : Type 0 where
+  pub listens : (v : ℕ) → IsParticipant r v → (HasWindow s clocks air rank f j v → ⊥)
       → ListensIn r (TunedThrough (scene_of s.profile s.trace air)) v
 
 abbrev pub ScannersLaw : Type 0
-ScannersLaw = OfSlots (λ s clocks air f rank p j events. AreEvents s clocks air f rank j events
-    → ScannersListen s clocks air f rank j (run_of_slot s clocks air f rank p j events))
+ScannersLaw = OfSlots (λ s clocks air rank f p j events. AreEvents s clocks air rank f j events
+    → ScannersListen s clocks air rank f j (run_of_slot s clocks air rank f p j events))

@@ -25,11 +25,11 @@ use Rattle.law_terms.specs.SlotLaws.{IsWindowOf, bus_slot}
 
 -- a transmission is of this frame, channel and slot
 abbrev pub is_sending_of_slot : Numbers → ℕ → ℕ → ℕ → Sending → Bool
-is_sending_of_slot p f rank j x = (x.rank == rank) && ((frame_of_sending p x == f) && (slot_of_sending x == j))
+is_sending_of_slot p rank f j x = (x.rank == rank) && ((frame_of_sending p x == f) && (slot_of_sending x == j))
 
 -- and so is a window
 abbrev pub is_window_of_slot : ℕ → ℕ → ℕ → WindowLog → Bool
-is_window_of_slot f rank j w = (w.rank == rank) && ((w.frame == f) && (w.slot == j))
+is_window_of_slot rank f j w = (w.rank == rank) && ((w.frame == f) && (w.slot == j))
 
 -- what is said, in bytes
 abbrev pub bytes_said : ℕ → Option Message → List ℕ
@@ -48,8 +48,8 @@ start_in p clock (Some w) = tick_at_offset clock w.after.zero (starting_offset p
 
 -- slot j of the round by this plan, where the nodes have these events
 abbrev pub run_of_slot : ScenarioParts → (ℕ → ℕ → ℕ) → List Entry → ℕ → ℕ → Plan → ℕ → (ℕ → List Event) → Run
-run_of_slot s clocks air f rank p j events =
-    let slot : Slot = bus_slot s f rank p j in
+run_of_slot s clocks air rank f p j events =
+    let slot : Slot = bus_slot s rank f p j in
     let says = λ (o : ℕ). bytes_said j (message_said (slot.window o)) in
     record {
       setting = slot.flood;
@@ -57,13 +57,13 @@ run_of_slot s clocks air f rank p j events =
       slot = j;
       rank = rank;
       message = says;
-      starts = λ o. start_in s.profile (clocks o) (find (is_window_of_slot f rank j) (trail_in s clocks air o).made.windows);
+      starts = λ o. start_in s.profile (clocks o) (find (is_window_of_slot rank f j) (trail_in s clocks air o).made.windows);
       air = airtime s.profile (size_by (λ o. length (says o)) slot.flood.initiators);
       turn = s.profile.turn;
       delta = s.profile.delta;
       spread = (budget_of s.profile).contenders;
-      sendings = filter (is_sending_of_slot s.profile f rank j) (sendings_of air);
-      hearings = filter (λ (h : Hearing). is_sending_of_slot s.profile f rank j h.sending) (hearings_of air);
+      sendings = filter (is_sending_of_slot s.profile rank f j) (sendings_of air);
+      hearings = filter (λ (h : Hearing). is_sending_of_slot s.profile rank f j h.sending) (hearings_of air);
       events = events;
       relay_start = λ v e. due (clocks v) (clocks v e + s.profile.turn);
     }
@@ -74,6 +74,6 @@ pub record IsPlayed (s : ScenarioParts) (clocks : ℕ → ℕ → ℕ) (air : Li
   pub same : part.has.events ≡ events
 
 -- the events of each node are those of its window of the slot, and who has none has no events
-pub record AreEvents (s : ScenarioParts) (clocks : ℕ → ℕ → ℕ) (air : List Entry) (f rank j : ℕ) (events : ℕ → List Event) : Type 0 where
-  pub by_window : (v : ℕ) (w : WindowLog) → IsWindowOf s clocks air f rank j v w → IsPlayed s clocks air v w (events v)
-  pub without : (v : ℕ) → ((w : WindowLog) → IsWindowOf s clocks air f rank j v w → ⊥) → events v ≡ []
+pub record AreEvents (s : ScenarioParts) (clocks : ℕ → ℕ → ℕ) (air : List Entry) (rank f j : ℕ) (events : ℕ → List Event) : Type 0 where
+  pub by_window : (v : ℕ) (w : WindowLog) → IsWindowOf s clocks air rank f j v w → IsPlayed s clocks air v w (events v)
+  pub without : (v : ℕ) → ((w : WindowLog) → IsWindowOf s clocks air rank f j v w → ⊥) → events v ≡ []

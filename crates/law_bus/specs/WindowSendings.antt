@@ -13,6 +13,6 @@ use Rattle.law_terms.specs.SlotLaws.{IsRound, IsWindowOf, bus_slot}
 -- by step and length, one after another, in each window of each slot
 abbrev pub WindowSendingsLaw : Type 0
 WindowSendingsLaw = (s : ScenarioParts) (clocks : ℕ → ℕ → ℕ) (air : List Entry) → IsLawfulRun s clocks air
-    → (f rank j v : ℕ) (p : Plan) → IsRound s f rank p → j ≤ last_slot p
-    → (w : WindowLog) → IsWindowOf s clocks air f rank j v w
-    → map step_and_length (sent_packets w) ≡ steps_sent_by (bus_slot s f rank p j) v
+    → (rank f j v : ℕ) (p : Plan) → IsRound s rank f p → j ≤ last_slot p
+    → (w : WindowLog) → IsWindowOf s clocks air rank f j v w
+    → map step_and_length (sent_packets w) ≡ steps_sent_by (bus_slot s rank f p j) v

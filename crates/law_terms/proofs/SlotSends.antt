@@ -43,12 +43,12 @@ listener r v a is = by_start (has r.setting.initiators v) refl
         sym (none_accepted (flood_at_end r v) (kept (flood_at_beginning r v) (r.events v) ∙ e)) ∙ is in
         cc
 
-module _ (s : ScenarioParts) (clocks : ℕ → ℕ → ℕ) (air : List Entry) (f rank : ℕ) (p : Plan) (j : ℕ) (r : Run)
-    (run : IsRunOf s clocks air f rank p j r) (steps : IsFloodBySteps r) (v k o : ℕ) (m : Message) (says : Says s f rank p j o m) (few : k ≤ 11) where
+module _ (s : ScenarioParts) (clocks : ℕ → ℕ → ℕ) (air : List Entry) (rank f : ℕ) (p : Plan) (j : ℕ) (r : Run)
+    (run : IsRunOf s clocks air rank f p j r) (steps : IsFloodBySteps r) (v k o : ℕ) (m : Message) (says : Says s rank f p j o m) (few : k ≤ 11) where
   starts : initiates r o
   starts = subst (λ (x : Setting). has x.initiators o ≡ true) (sym run.setting) says.0
 
-  on_air : SendsOnAir r v k o → IsSending s air f rank j v k m
+  on_air : SendsOnAir r v k o → IsSending s air rank f j v k m
   on_air a =
       let here = (run.sendings a.sending).0 a.sent in
       record {
@@ -60,7 +60,7 @@ module _ (s : ScenarioParts) (clocks : ℕ → ℕ → ℕ) (air : List Entry) (
         packet = a.packet ∙ ap (λ q. slice_set q 2 k) (run.message o m says);
       }
 
-  in_run : IsSending s air f rank j v k m → SendsOnAir r v k o
+  in_run : IsSending s air rank f j v k m → SendsOnAir r v k o
   in_run x = record {
     sending = x.sending;
     sent = (run.sendings x.sending).1 (x.there, x.channel, x.frame, ap (λ q. slice_index q 1) x.packet ∙ slot_said m j k);
@@ -68,17 +68,17 @@ module _ (s : ScenarioParts) (clocks : ℕ → ℕ → ℕ) (air : List Entry) (
     packet = x.packet ∙ ap (λ q. slice_set q 2 k) (sym (run.message o m says));
   }
 
-  pub sends_same : Sends (bus_slot s f rank p j).flood v k o ↔ IsSending s air f rank j v k m
+  pub sends_same : Sends (bus_slot s rank f p j).flood v k o ↔ IsSending s air rank f j v k m
   sends_same =
       subst
-      (λ (x : Setting). Sends x v k o ↔ IsSending s air f rank j v k m)
+      (λ (x : Setting). Sends x v k o ↔ IsSending s air rank f j v k m)
       run.setting
       ((λ h. on_air ((steps.sends v k o starts few).1 h)), (λ x. (steps.sends v k o starts few).0 (in_run x)))
 
   abbrev with_counter : List ℕ → Option (List ℕ × ℕ)
   with_counter q = Some (slice_set q 2 k, k)
 
-  accepted_on_air : Accepts r.setting v o k → IsAcceptance s clocks air f rank j v k m
+  accepted_on_air : Accepts r.setting v o k → IsAcceptance s clocks air rank f j v k m
   accepted_on_air h =
       let is = (steps.accepts v k o h.here h.listens starts).1 h in
       let c = run.closes v h.here (ap is_some is) in
@@ -89,12 +89,12 @@ module _ (s : ScenarioParts) (clocks : ℕ → ℕ → ℕ) (air : List Entry) (
         accepted = ap accepted_of (sym (run.flood v c.window c.here c.closed)) ∙ is ∙ ap with_counter (run.message o m says);
       }
 
-  accepted_in_run : IsAcceptance s clocks air f rank j v k m → Accepts r.setting v o k
+  accepted_in_run : IsAcceptance s clocks air rank f j v k m → Accepts r.setting v o k
   accepted_in_run a =
       let is : accepted_of (flood_at_end r v) ≡ Some (packet r o k, k) = ap accepted_of (run.flood v a.window a.here a.closed) ∙ a.accepted
       ∙ ap with_counter (sym (run.message o m says)) in
       (steps.accepts v k o (run.part v a.window a.here) (listener r v (packet r o k, k) is) starts).0 is
 
-  pub accepts_same : Accepts (bus_slot s f rank p j).flood v o k ↔ IsAcceptance s clocks air f rank j v k m
+  pub accepts_same : Accepts (bus_slot s rank f p j).flood v o k ↔ IsAcceptance s clocks air rank f j v k m
   accepts_same =
-      subst (λ (x : Setting). Accepts x v o k ↔ IsAcceptance s clocks air f rank j v k m) run.setting (accepted_on_air, accepted_in_run)
+      subst (λ (x : Setting). Accepts x v o k ↔ IsAcceptance s clocks air rank f j v k m) run.setting (accepted_on_air, accepted_in_run)

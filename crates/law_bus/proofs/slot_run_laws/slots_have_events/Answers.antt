@@ -4,6 +4,6 @@ use Rattle.law_bus.proofs.slot_run_laws.slots_have_events.Goals as goal
 
 pub returns : goal.returns
 returns c = record {
-  some = λ s clocks air lawful f rank j p round. all_events s clocks air lawful f rank j round.in_run;
-  happened = λ s clocks air lawful f rank j p round within start events are. has_events s clocks air lawful f rank j p round start events are;
+  some = λ s clocks air lawful rank f j p round. all_events s clocks air lawful rank f j round.in_run;
+  happened = λ s clocks air lawful rank f j p round within start events are. has_events s clocks air lawful rank f j p round start events are;
 }
