@@ -1,10 +1,10 @@
 -- One frame more of a run.
 use Rattle.std.proofs.Common.{◌≡◌, ◌<◌, ◌≤◌, ◌+◌, ◌*◌, ◌++◌, [], ℕ, suc, List, All, inl, inr, if◌then◌else◌, length, map}
-use Rattle.std.proofs.Common.{get_or, take, sum_by, subst, refl, sym, ◌∙◌, ap, arith, add-one}
-use Rattle.std.specs.List.{range_with_len}
+use Rattle.std.proofs.Common.{get_or, filter_map, sum_by, subst, refl, sym, ◌∙◌, ap, arith, add-one}
+use Rattle.std.specs.List.{range_with_len, enumerate_from}
 use Rattle.std.proofs.lemmas.Bool.{cases_lt}
 use Rattle.std.proofs.lemmas.List.{get_or-map, length-map, take_all}
-use Rattle.std.proofs.lemmas.List.FromFn.{length-range_with_len}
+use Rattle.std.proofs.lemmas.List.FromFn.{length-range_with_len, length-enumerate_from}
 use Rattle.std.proofs.lemmas.List.Sums.{count_by-le-length}
 use Rattle.scenario_text.specs.ScenarioParts.{ScenarioParts}
 use Rattle.scenario_text.specs.ScenarioFacts.{IsSoundScenario}
@@ -12,7 +12,7 @@ use Rattle.scenario_text.specs.declared.script.Act.TheVariants.{Off}
 use Rattle.scenario_text.specs.declared.script.ScriptLine.{ScriptLine}
 use Rattle.bus_rules.specs.States.{State, StateOff}
 use Rattle.bus_rules.specs.Tuning.{is_scan}
-use Rattle.bus_terms.specs.Bus.{Cost, before_frame, state_at}
+use Rattle.bus_terms.specs.Bus.{Cost, before_frame, bus_drops, drop_at, state_at}
 use Rattle.bus_terms.specs.Costs.{over_round, slot_sent, slot_window}
 use Rattle.bus_terms.specs.FloodOfText.{ids}
 use Rattle.bus_terms.specs.Rounds.{rank_in, rounds}
@@ -22,7 +22,8 @@ use Rattle.plain_bus.specs.Networks.{Network, IsReady, no_cost, node_at_first}
 use Rattle.plain_bus.specs.SlotCosts.{IsBelow}
 use Rattle.plain_bus.proofs.MembersOfSlots.{map_of_map, map_same}
 use Rattle.plain_bus.proofs.SlotsMet.{ids_each}
-use Rattle.bus_model.specs.FrameNodes.{HavePower, CountsLinesBefore, with_round_rank, deliveries_to, ended_at, frame_deliveries, nodes_with, power, prior_ranks}
+use Rattle.bus_model.specs.FrameNodes.{HavePower, CountsLinesBefore, deliveries_to, drops_to, ended_at, frame_deliveries, nodes_with, power}
+use Rattle.bus_model.specs.FrameNodes.{prior_ranks, with_round_rank}
 use Rattle.bus_model.specs.RoundCosts.{cost_after, with_round, with_scan}
 use Rattle.bus_model.proofs.LinesAllowed.{ended_early}
 use Rattle.bus_model.proofs.PowerKept.{ended_power, rounds_power}
@@ -151,7 +152,7 @@ module _ (s : ScenarioParts) where
   cut_off = record { within = omega arith; before = λ i d low. absurd (omega (arith, low)); from = λ i d high near. omega arith }
 
   -- after the last frame the script is over
-  pub script_over : (sound : IsSoundScenario s) (n : ℕ) → CountsLinesBefore s.script s.frames n → take n s.script ≡ s.script
+  pub script_over : (sound : IsSoundScenario s) (n : ℕ) → CountsLinesBefore s.script s.frames n → drops_to s n ≡ bus_drops s
   script_over sound n cut = elim (cases_lt n (length s.script)) [
     | inl less ↦ absurd (
         let d : ScriptLine = record { frame = 0; node = 0; act = Off } in
@@ -159,5 +160,5 @@ module _ (s : ScenarioParts) where
         let line = sound.script n d less in
         let early = line.in_run in
         omega (arith, late, early))
-    | inr over ↦ take_all n s.script over
+    | inr over ↦ ap (filter_map (drop_at s)) (take_all n (enumerate_from 0 s.script) (omega (arith, over, length-enumerate_from 0 s.script)))
   ]

@@ -1,22 +1,23 @@
 -- The lines of a frame, given one after another.
 use Rattle.std.proofs.Common.{◌≡◌, ◌<◌, ◌≤◌, ◌+◌, ◌++◌, ◌∷◌, ◌==◌, ◌&&◌, [], ℕ, zero, suc, List, Bool, true, false, inl, inr, if◌then◌else◌, length}
-use Rattle.std.proofs.Common.{map, take, drop, get_or, set, filter, fold, option_to_list, refl, sym, ◌∙◌, ap, arith, append-nil, append_assoc}
+use Rattle.std.proofs.Common.{map, take, drop, get_or, set, filter, filter_map, fold, Option, None, Some, option_to_list, refl, sym, ◌∙◌, ap, arith, append-nil}
 use Rattle.std.proofs.Common.{take-append-drop, length-drop}
-use Rattle.std.specs.List.{AllPairs}
+use Rattle.std.specs.List.{AllPairs, cons_option, enumerate_from}
 use Rattle.std.proofs.lemmas.Bool.{cases_lt, eq-eqb, ne_eqb, and_right}
 use Rattle.std.proofs.lemmas.List.{take_more, length-take-le, get_or-take, get_or-drop, get_or-map}
-use Rattle.std.proofs.lemmas.List.Elements.{filter-append}
+use Rattle.std.proofs.lemmas.List.Elements.{filter-append, filter_map-append}
+use Rattle.std.proofs.lemmas.List.FromFn.{length-enumerate_from, get_or-enumerate_from}
 use Rattle.std.proofs.lemmas.List.Sums.{fold_push}
 use Rattle.scenario_text.specs.ScenarioParts.{ScenarioParts}
 use Rattle.scenario_text.specs.ScenarioFacts.{turned, turned_by}
 use Rattle.scenario_text.specs.declared.script.ScriptLine.{ScriptLine}
 use Rattle.bus_rules.specs.declared.delivery.DropLine.{DropLine}
 use Rattle.bus_rules.specs.States.{State}
-use Rattle.bus_terms.specs.Bus.{before_frame, state_before_line, drops_below, state_at}
+use Rattle.bus_terms.specs.Bus.{before_frame, drop_at, state_at}
 use Rattle.bus_terms.specs.FloodOfText.{ids}
 use Rattle.bus_terms.specs.ScriptedStates.{state_after_line, lost_by}
 use Rattle.plain_bus.specs.BusNodes.{BusNode, bus_node}
-use Rattle.bus_model.specs.FrameNodes.{HavePower, CountsLinesBefore, nodes_with, power, node_after_line, told_at}
+use Rattle.bus_model.specs.FrameNodes.{HavePower, CountsLinesBefore, drops_to, nodes_with, power, node_after_line, told_at}
 use Rattle.bus_model.proofs.PowerKept.{act_power}
 
 -- a filter that keeps nothing
@@ -138,23 +139,21 @@ module _ (s : ScenarioParts) (f : ℕ) where
       by_node false = have v
 
   -- and what is lost
-  drops_more : (above ls : List ScriptLine) (l : ScriptLine) → drops_below s above (ls ++ l ∷ [])
-      ≡ drops_below s above ls ++ option_to_list (lost_by l l.act (state_before_line s (above ++ ls) l))
-  drops_more above [] l =
-      append-nil (option_to_list (lost_by l l.act (state_before_line s above l)))
-      ∙ ap (λ (xs : List ScriptLine). option_to_list (lost_by l l.act (state_before_line s xs l))) (sym (append-nil above))
-  drops_more above (x ∷ ls) l =
-      let first = option_to_list (lost_by x x.act (state_before_line s above x)) in
-      let rest = drops_below s (above ++ x ∷ []) ls in
-      ap (λ (ds : List DropLine). first ++ ds) (drops_more (above ++ x ∷ []) ls l)
-      ∙ sym (append_assoc first rest (option_to_list (lost_by l l.act (state_before_line s ((above ++ x ∷ []) ++ ls) l))))
-      ∙ ap (λ (xs : List ScriptLine). (first ++ rest) ++ option_to_list (lost_by l l.act (state_before_line s xs l))) (append_assoc above (x ∷ []) ls)
+  last_lost : (o : Option DropLine) → cons_option o [] ≡ option_to_list o
+  last_lost None = refl
+  last_lost (Some d) = refl
 
   pub lost_more : (n : ℕ) (l : ScriptLine) → n < length s.script → l ≡ get_or s.script n l → l.frame ≡ f
-      → drops_below s [] (take (n + 1) s.script) ≡ drops_below s [] (take n s.script) ++ option_to_list (lost_by l l.act (told_at s f n l.node))
+      → drops_to s (n + 1) ≡ drops_to s n ++ option_to_list (lost_by l l.act (told_at s f n l.node))
   lost_more n l below at is =
-      ap (drops_below s []) (take_more s.script n l below ∙ ap (λ (y : ScriptLine). take n s.script ++ y ∷ []) (sym at))
-      ∙ drops_more [] (take n s.script) l
-      ∙ ap (λ (k : ℕ). drops_below s []
-      (take n s.script) ++ option_to_list (lost_by l l.act
+      let lines : List (ℕ × ScriptLine) = enumerate_from 0 s.script in
+      let near : n < length lines = omega (arith, below, length-enumerate_from 0 s.script) in
+      let place : 0 + n ≡ n = omega arith in
+      let line : get_or lines n (n, l) ≡ (n, l) =
+      get_or-enumerate_from 0 s.script n (n, l) below ∙ ap {B = ℕ × ScriptLine} (λ k. (k, get_or s.script n l)) place
+      ∙ ap {B = ℕ × ScriptLine} (λ y. (n, y)) (sym at) in
+      ap (filter_map (drop_at s)) (take_more lines n (n, l) near ∙ ap (λ (y : ℕ × ScriptLine). take n lines ++ y ∷ []) line)
+      ∙ filter_map-append (drop_at s) (take n lines) ((n, l) ∷ [])
+      ∙ ap (λ (ds : List DropLine). drops_to s n ++ ds) (last_lost (drop_at s (n, l)))
+      ∙ ap (λ (k : ℕ). drops_to s n ++ option_to_list (lost_by l l.act
       (fold state_after_line (before_frame s k l.node) (filter (λ m. (m.node == l.node) && (m.frame == k)) (take n s.script))))) is

@@ -1,14 +1,15 @@
 -- The nodes in the course of a frame as the code has them.
-use Rattle.std.specs.Prelude.{◌*◌, zero, suc, ◌≡◌, ◌<◌, ◌≤◌, ◌==◌, ◌&&◌, nat_lt, ℕ, List, Bool, true, false, map, fold, filter, take, flat_map, length}
-use Rattle.std.specs.Prelude.{slice_index_or, if◌then◌else◌}
-use Rattle.std.specs.List.{range_with_len}
+use Rattle.std.specs.Prelude.{◌*◌, zero, suc, ◌≡◌, ◌<◌, ◌≤◌, ◌==◌, ◌&&◌, nat_lt, ℕ, List, Bool, true, false, map, fold, filter, take, flat_map}
+use Rattle.std.specs.Prelude.{filter_map, length, slice_index_or, if◌then◌else◌}
+use Rattle.std.specs.List.{range_with_len, enumerate_from}
 use Rattle.scenario_text.specs.ScenarioFacts.{turned}
 use Rattle.scenario_text.specs.ScenarioParts.{ScenarioParts}
 use Rattle.scenario_text.specs.declared.script.ScriptLine.{ScriptLine}
 use Rattle.bus_rules.specs.declared.delivery.Delivery.{Delivery}
+use Rattle.bus_rules.specs.declared.delivery.DropLine.{DropLine}
 use Rattle.bus_rules.specs.Cores.{frame_ended}
 use Rattle.bus_rules.specs.States.{State, StateOff, StateOn, at_core}
-use Rattle.bus_terms.specs.Bus.{before_frame, state_at, ranks_of}
+use Rattle.bus_terms.specs.Bus.{before_frame, drop_at, state_at, ranks_of}
 use Rattle.bus_terms.specs.FloodOfText.{ids}
 use Rattle.bus_terms.specs.Rounds.{rank_in, rounds, round_deliveries}
 use Rattle.bus_terms.specs.ScriptedStates.{state_after_act, state_after_line}
@@ -33,6 +34,10 @@ frame_deliveries s f states = flat_map (λ rank. round_deliveries s rank f state
 
 abbrev pub deliveries_to : ScenarioParts → ℕ → List Delivery
 deliveries_to s n = flat_map (λ f. frame_deliveries s f (state_at s f)) (range_with_len 0 n)
+
+-- what the first n lines of the script lose
+abbrev pub drops_to : ScenarioParts → ℕ → List DropLine
+drops_to s n = filter_map (drop_at s) (take n (enumerate_from 0 s.script))
 
 -- the state of v in frame f after those of the first n lines that it is given then
 abbrev pub told_at : ScenarioParts → ℕ → ℕ → ℕ → State

@@ -1,13 +1,13 @@
 //! A frame of a scenario at all nodes.
 
-ghost use Rattle.std.specs.Prelude.{◌≡◌, ◌≤◌, ◌<◌, ◌+◌, ℕ, [], All, IfOk, OnOk, length, map, take};
+ghost use Rattle.std.specs.Prelude.{◌≡◌, ◌≤◌, ◌<◌, ◌+◌, ℕ, All, IfOk, OnOk, length, map};
 ghost use Rattle.lwb_base.specs.declared.limits.TheConstants.{LAST_FRAME};
 ghost use Rattle.bus_rules.specs.States.{State};
-ghost use Rattle.bus_terms.specs.Bus.{Cost as CostOf, before_frame, drops_below};
+ghost use Rattle.bus_terms.specs.Bus.{Cost as CostOf, before_frame};
 ghost use Rattle.bus_terms.specs.FloodOfText.{ids};
 ghost use Rattle.scenario_text.specs.ScenarioParts.{ScenarioParts};
 ghost use Rattle.plain_bus.specs.Networks.{IsReady};
-ghost use Rattle.bus_model.specs.FrameNodes.{HavePower, IsAtFrame, CountsLinesBefore, with_round_rank, ended_at, nodes_with};
+ghost use Rattle.bus_model.specs.FrameNodes.{HavePower, IsAtFrame, CountsLinesBefore, drops_to, with_round_rank, ended_at, nodes_with};
 ghost use Rattle.bus_model.specs.RoundCosts.{with_scan};
 
 use crate::all_nodes::{begin_all, count_scans, end_all};
@@ -35,11 +35,11 @@ pub fn run_frame(
     requires at { IsAtFrame s.now frame net.old }
     requires cut { CountsLinesBefore s.now.script frame told }
     requires power { HavePower s.now (before_frame s.now frame) told }
-    requires drops { drops.old.items ≡ drops_below s.now [] (take told s.now.script) }
+    requires drops { drops.old.items ≡ drops_to s.now told }
     ensures at { OnOk result (IsAtFrame s.now (frame + 1) net.new) }
     ensures cut { IfOk result (CountsLinesBefore s.now.script (frame + 1)) }
     ensures power { IfOk result (HavePower s.now (before_frame s.now (frame + 1))) }
-    ensures drops { IfOk result (λ next. drops.new.items ≡ drops_below s.now [] (take next s.now.script)) }
+    ensures drops { IfOk result (λ next. drops.new.items ≡ drops_to s.now next) }
 {
     let next = tell_lines(net, s, frame, told, drops)?;
     begin_rounds(net);

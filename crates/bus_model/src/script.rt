@@ -1,17 +1,17 @@
 //! What the script has for a frame.
 
-ghost use Rattle.std.specs.Prelude.{◌≡◌, ◌≤◌, ◌<◌, ◌+◌, ◌++◌, ℕ, Some, [], IfOk, OnOk, length};
-ghost use Rattle.std.specs.Prelude.{option_to_list, slice_index, slice_index_or, slice_set, take, true};
+ghost use Rattle.std.specs.Prelude.{◌≡◌, ◌≤◌, ◌<◌, ◌+◌, ◌++◌, ℕ, Some, IfOk, OnOk, length};
+ghost use Rattle.std.specs.Prelude.{option_to_list, slice_index, slice_index_or, slice_set, true};
 ghost use Rattle.std.specs.List.{AllPairs};
 ghost use Rattle.bus_rules.specs.States.{State};
 ghost use Rattle.scenario_text.specs.ScenarioFacts.{IsAct};
 ghost use Rattle.scenario_text.specs.ScenarioGrammar.{IsScenario};
-ghost use Rattle.bus_terms.specs.Bus.{before_frame, drops_below, state_at};
+ghost use Rattle.bus_terms.specs.Bus.{before_frame, state_at};
 ghost use Rattle.bus_terms.specs.Flooding.{has};
 ghost use Rattle.bus_terms.specs.ScriptedStates.{lost_by};
 ghost use Rattle.plain_bus.specs.BusNodes.{BusNode as NodeOf, MayDo, loses_by};
 ghost use Rattle.plain_bus.specs.Networks.{IsReady};
-ghost use Rattle.bus_model.specs.FrameNodes.{HavePower, CountsLinesBefore, nodes_with, prior_ranks, node_after_line};
+ghost use Rattle.bus_model.specs.FrameNodes.{HavePower, CountsLinesBefore, drops_to, nodes_with, prior_ranks, node_after_line};
 
 use bus_rules::DropLine;
 use lwb_base::Memory;
@@ -31,11 +31,11 @@ pub fn tell_lines(
     requires power { HavePower s.now (before_frame s.now frame) from }
     requires nodes { net.old.nodes ≡ nodes_with s.now (prior_ranks s.now frame) (before_frame s.now frame) }
     requires ready { IsReady s.now frame 1000000 net.old }
-    requires drops { drops.old.items ≡ drops_below s.now [] (take from s.now.script) }
+    requires drops { drops.old.items ≡ drops_to s.now from }
     ensures cut { IfOk result (CountsLinesBefore s.now.script (frame + 1)) }
     ensures power { IfOk result (HavePower s.now (state_at s.now frame)) }
     ensures nodes { OnOk result (net.new.nodes ≡ nodes_with s.now (prior_ranks s.now frame) (state_at s.now frame)) }
-    ensures drops { IfOk result (λ next. drops.new.items ≡ drops_below s.now [] (take next s.now.script)) }
+    ensures drops { IfOk result (λ next. drops.new.items ≡ drops_to s.now next) }
     ensures ready { OnOk result ((m : ℕ) → IsReady s.now frame m net.old → IsReady s.now frame m net.new) }
     ensures rest { OnOk result ((net.new.costs ≡ net.old.costs) × (net.new.deliveries ≡ net.old.deliveries)) }
     ensures said { IsScenario s.now }

@@ -12,6 +12,7 @@ pub mod OtherRanks
 pub mod KeptRanks
 pub mod KeptInRounds
 pub mod NumbersKept
+pub mod DropsBelow
 pub mod ListsInTurn
 pub mod OrderedDeliveries
 pub mod WorkedBuses
@@ -20,5 +21,6 @@ pub mod ReachByDistance
 mod WorkedFloods
 mod SameRounds
 mod AnyRankOrder
+pub mod LinesAbove
 pub mod NumberedStreams
 pub mod NumbersSaid

@@ -10,6 +10,7 @@ use Rattle.scenario_text.specs.declared.script.Act.{Act}
 use Rattle.scenario_text.specs.declared.script.Act.TheVariants.{On, Off, Declare, Put}
 use Rattle.scenario_text.specs.declared.script.ScriptLine.{ScriptLine}
 use Rattle.bus_rules.specs.declared.delivery.Delivery.{Delivery}
+use Rattle.bus_rules.specs.declared.delivery.DropLine.{DropLine}
 use Rattle.bus_rules.specs.Streams.{schedule_heard}
 use Rattle.bus_rules.specs.Granting.{plan_round}
 use Rattle.bus_rules.specs.HostPlans.{host_plan}
@@ -173,6 +174,24 @@ backup_host_takes_over_costs = (refl, refl, refl)
 full : bus_drops (simple 5 [] (replicate 16 (at 0 2 (Put 0 (0xaa ∷ []))))) ≡ record { frame = 0; node = 2; stream = 0 } ∷ []
 unfolding before_frame before_slot moment schedule_heard host_plan plan_round least_passing
 full = refl
+
+-- packets are lost at a node that is off, and where their stream was not declared since the node was powered on
+abbrev put_at : ℕ → ℕ → ScriptLine
+put_at f v = at f v (Put 0 (0xaa ∷ []))
+
+abbrev lost_at : ℕ → ℕ → DropLine
+lost_at f v = record { frame = f; node = v; stream = 0 }
+
+abbrev some_lost : ScenarioParts
+some_lost = record (simple 4 [] []) {
+  script =
+      put_at 0 2 ∷ at 0 1 On ∷ at 0 2 On ∷ put_at 0 2 ∷ at 0 2 (Declare 0 4) ∷ put_at 0 2 ∷ put_at 0 1
+      ∷ put_at 1 2 ∷ at 2 2 Off ∷ put_at 2 2 ∷ at 3 2 On ∷ put_at 3 2 ∷ at 3 2 (Declare 0 4) ∷ put_at 3 2 ∷ [];
+}
+
+rejected : bus_drops some_lost ≡ lost_at 0 2 ∷ lost_at 0 2 ∷ lost_at 0 1 ∷ lost_at 2 2 ∷ lost_at 3 2 ∷ []
+unfolding before_frame before_slot moment schedule_heard host_plan plan_round least_passing
+rejected = refl
 
 -- the second profile, also with its longest payload
 abbrev second : List ℕ → ScenarioParts

@@ -1,6 +1,7 @@
 -- The network as one shared bus, frame by frame: what is delivered, what is lost before it is queued, and what it costs.
-use Rattle.std.specs.Prelude.{◌≡◌, ◌<◌, ℕ, zero, suc, List, [], ◌∷◌, ◌++◌, length, fold, flat_map, sum_by, count_by, option_to_list, AllPairs}
-use Rattle.std.specs.List.{range_with_len}
+use Rattle.std.specs.Prelude.{◌≡◌, ◌<◌, ℕ, zero, suc, List, length, take, fold, flat_map, filter_map, sum_by, count_by, AllPairs}
+use Rattle.std.specs.List.{range_with_len, enumerate_from}
+use Rattle.std.specs.declared.option.Option.{Option}
 use Rattle.scenario_text.specs.ScenarioParts.{ScenarioParts}
 use Rattle.scenario_text.specs.declared.script.ScriptLine.{ScriptLine}
 use Rattle.bus_rules.specs.declared.delivery.Delivery.{Delivery}
@@ -38,14 +39,13 @@ bus_deliveries s = flat_map (λ f. flat_map (λ rank. round_deliveries s rank f 
 abbrev pub state_before_line : ScenarioParts → List ScriptLine → ScriptLine → State
 state_before_line s above l = fold state_after_line (before_frame s l.frame l.node) (told_above above l)
 
--- what these lines lose, where the others are above them
-abbrev pub drops_below : ScenarioParts → List ScriptLine → List ScriptLine → List DropLine
-drops_below s above [] = []
-drops_below s above (l ∷ ls) = option_to_list (lost_by l l.act (state_before_line s above l)) ++ drops_below s (above ++ l ∷ []) ls
+-- what line l at place i of the script loses: its packet, if its node rejects that as the lines above leave it
+abbrev pub drop_at : ScenarioParts → ℕ × ScriptLine → Option DropLine
+drop_at s (i, l) = lost_by l l.act (state_before_line s (take i s.script) l)
 
--- in the order of the text
+-- what all lines lose, in the order of the text
 abbrev pub bus_drops : ScenarioParts → List DropLine
-bus_drops s = drops_below s [] s.script
+bus_drops s = filter_map (drop_at s) (enumerate_from 0 s.script)
 
 -- how long a node sends and what its windows count, in ticks; and the number of frames in which it scans
 pub record Cost : Type 0 where

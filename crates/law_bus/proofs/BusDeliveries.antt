@@ -44,7 +44,8 @@ module _ (s : ScenarioParts) where
       subst (λ (o : Option Plan). Contains (option_map_or (λ q. flat_map (slot_deliveries s rank f q (state_at s f)) (slots_of q)) o []) a)
       (sym round.plan) in_plan in
       let in_frame : Contains (flat_map (λ rank. of_round rank f) (ranks_of s)) a =
-      in_flat (λ (r : ℕ). of_round r f) (ranks_of s) rank a (in_range 0 (length s.hosts) rank (omega arith) (let k = round.hosted in omega (arith, k))) in_round in
+      in_flat (λ (r : ℕ). of_round r f) (ranks_of s) rank a
+      (in_range 0 (length s.hosts) rank (omega arith) (let k = round.hosted in omega (arith, k))) in_round in
       in_flat (λ (g : ℕ). flat_map (λ rank. of_round rank g) (ranks_of s)) (frames_of s) f a
       (in_range 0 s.frames f (omega arith) (let k = round.in_run in omega (arith, k))) in_frame
 

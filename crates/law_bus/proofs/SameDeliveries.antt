@@ -31,7 +31,7 @@ use Rattle.law_terms.specs.LawfulRuns.{IsLawfulRun}
 use Rattle.law_terms.specs.RunLaws.{AnyClocksLaw, DeliveriesLaw, DropsLaw}
 use Rattle.law_terms.specs.SlotLaws.{IsAligned, IsRound, IsWindowOf}
 use Rattle.law_terms.specs.SlotSteps.{IsSlotStart, IsSlotHeard, SlotHeardLaw}
-use Rattle.law_terms.proofs.SameDrops.{IsStart, drops_same}
+use Rattle.law_terms.proofs.SameDrops.{IsStart, all_drops_same}
 use Rattle.law_bus.proofs.BusDeliveries.{from_bus, in_bus}
 use Rattle.law_bus.proofs.CoresOfWindows.{all_slots, cores_law}
 use Rattle.law_bus.proofs.DeliveredInSlots.{delivered_nowhere, delivered_same}
@@ -156,7 +156,7 @@ module _ (heards : SlotHeardLaw) (s : ScenarioParts) (clocks : ℕ → ℕ → �
       frame_before heards s clocks air lawful (get_or s.script k l).frame (omega (arith, within)) (get_or s.script k l).node line.known
 
   pub same_drops : drops_of s clocks air ≡ bus_drops s
-  same_drops = drops_same s clocks air some_ticks [] s.script starts
+  same_drops = all_drops_same s clocks air some_ticks starts
 
 module _ (heards : SlotHeardLaw) where
   pub deliveries_law : DeliveriesLaw

@@ -1,4 +1,4 @@
-use Rattle.std.proofs.Common.{◌≡◌, ◌<◌, ◌≤◌, ◌+◌, ◌++◌, [], ℕ, List, All, false, inl, inr, length, take, get_or, set, option_to_list, subst, refl, sym, ◌∙◌, ap}
+use Rattle.std.proofs.Common.{◌≡◌, ◌<◌, ◌≤◌, ◌+◌, ◌++◌, ℕ, List, All, false, inl, inr, length, take, get_or, set, option_to_list, subst, refl, sym, ◌∙◌, ap}
 use Rattle.std.proofs.Common.{arith}
 use Rattle.std.proofs.lemmas.Bool.{cases_lt}
 use Rattle.std.proofs.lemmas.List.{get_or-map, get_or_default, length-set}
@@ -7,14 +7,14 @@ use Rattle.scenario_text.specs.ScenarioFacts.{IsAct, turned}
 use Rattle.scenario_text.specs.declared.script.ScriptLine.{ScriptLine}
 use Rattle.scenario_text.proofs.SoundScenarios.{sound}
 use Rattle.bus_rules.specs.declared.delivery.DropLine.{DropLine}
-use Rattle.bus_terms.specs.Bus.{Cost, drops_below}
+use Rattle.bus_terms.specs.Bus.{Cost}
 use Rattle.bus_terms.specs.FloodOfText.{ids}
 use Rattle.bus_terms.specs.Flooding.{has}
 use Rattle.bus_terms.specs.ScriptedStates.{lost_by}
 use Rattle.plain_bus.specs.BusNodes.{BusNode, bus_node, IsEarlyState, MayDo}
 use Rattle.plain_bus.specs.SlotCosts.{IsBelow}
 use Rattle.plain_bus.proofs.SlotsMet.{ids_ascend, ids_each}
-use Rattle.bus_model.specs.FrameNodes.{CountsLinesBefore, nodes_with, power, prior_ranks, node_after_line, told_at}
+use Rattle.bus_model.specs.FrameNodes.{CountsLinesBefore, drops_to, nodes_with, power, prior_ranks, node_after_line, told_at}
 use Rattle.bus_model.proofs.LinesTold.{none_told, all_told, node_told, power_told, lost_more}
 use Rattle.bus_model.proofs.LinesAllowed.{line_act, line_known, may_do, act_early, later_lines}
 use Rattle.bus_model.proofs.script.tell_lines.Goals as goal
@@ -139,7 +139,7 @@ loop-next-preserved c =
       nodes_are = here.0 ∙ ap (λ (ns : List BusNode). set ns i (node_after_line l (get_or ns i d))) inv.nodes_are
           ∙ node_told s f (prior_ranks s f) n l below at is (ids_ascend s (sound s c.script-script.ensures.said) (ids s.nodes) refl) i near own d;
       lost = here.1 ∙ ap (λ (ds : List DropLine). ds ++ option_to_list (lost_by l l.act (get_or c.loop-next.net.nodes i d).state)) inv.lost
-          ∙ ap (λ (x : BusNode). drops_below s [] (take n s.script) ++ option_to_list (lost_by l l.act x.state)) node
+          ∙ ap (λ (x : BusNode). drops_to s n ++ option_to_list (lost_by l l.act x.state)) node
           ∙ sym (lost_more s f n l below at is);
       ready = λ m first.
           (let old = inv.ready m first in
@@ -188,4 +188,4 @@ returns-clause-nodes c =
     (λ i v. all_told c.args.s.now c.args.frame c.loop-next.next (none_later c) v i)
 
 pub returns-clause-drops : goal.returns-clause-drops
-returns-clause-drops c = c.loop-next.invariant.lost ∙ ap (λ (n : ℕ). drops_below c.args.s.now [] (take n c.args.s.now.script)) (sym (counted c))
+returns-clause-drops c = c.loop-next.invariant.lost ∙ ap (drops_to c.args.s.now) (sym (counted c))

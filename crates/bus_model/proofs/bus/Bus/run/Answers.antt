@@ -1,6 +1,5 @@
-use Rattle.std.proofs.Common.{◌≡◌, ◌*◌, [], ℕ, length, subst, sym, ◌∙◌, ap, arith}
+use Rattle.std.proofs.Common.{◌≡◌, ◌*◌, ℕ, length, subst, sym, ◌∙◌, ap, arith}
 use Rattle.scenario_text.proofs.SoundScenarios.{sound}
-use Rattle.bus_terms.specs.Bus.{drops_below}
 use Rattle.plain_bus.specs.Networks.{Network, IsReady}
 use Rattle.plain_bus.proofs.SlotsMet.{ids_ascend, ids_each}
 use Rattle.bus_model.specs.FrameNodes.{IsAtFrame, CountsLinesBefore}
@@ -36,7 +35,7 @@ returns c =
       nodes = at.ready.ids_are;
       each_cost = at.costs_are;
       delivered = at.delivered;
-      lost = inv.lost ∙ ap (drops_below s []) (script_over s (sound s c.frames-frame-end.ensures.said) c.loop-frame.told cut);
+      lost = inv.lost ∙ script_over s (sound s c.frames-frame-end.ensures.said) c.loop-frame.told cut;
     }
 
 pub invariant_of-result : goal.invariant_of-result
