@@ -17,7 +17,7 @@ use Rattle.scenario_text.specs.declared.script.Act.TheVariants.{On, Off as Switc
 use Rattle.scenario_text.specs.declared.script.ScriptLine.{ScriptLine}
 use Rattle.bus_rules.specs.Streams.{Streams, declared, streams_after_leaving, put}
 use Rattle.bus_rules.specs.States.{refuses, queues}
-use Rattle.bus_rules.specs.Cores.{Setup}
+use Rattle.bus_rules.specs.Cores.{Core, Setup}
 use Rattle.node_core.specs.Nodes.{Node, rebooted}
 use Rattle.node_core.specs.Rows.{row, at_alarm}
 use Rattle.node_core.specs.Nodes.{with_streams}
@@ -26,9 +26,9 @@ use Rattle.node_core.specs.declared.stage.Stage.{Stage}
 use Rattle.node_core.specs.declared.stage.Stage.TheVariants.{Idle, Scanning, AwaitFrame, AwaitSlot, InWindow}
 use Rattle.air_log.specs.Devices.{Device, Power, PowerOff, PowerOn, Listening, OrderedPacket, obeyed, moved, stepped, event, event_by, silenced, tunes}
 use Rattle.air_log.specs.Devices.{listens_to}
-use Rattle.air_log.specs.ScriptedDevices.{device_after_act, device_after_line, dropped, with_new_core}
+use Rattle.air_log.specs.ScriptedDevices.{device_after_act, device_after_line, with_new_core}
 use Rattle.air_log.specs.Trails.{Reception, run_end, setup_of, lines_at, device_after_script, ending_at, device_after_reception, device_after_receptions}
-use Rattle.air_log.specs.Trails.{device_ended_by, device_after_end, alarm_is_due, alarms, alarmed, before_start, begun_by, starts, before_tick}
+use Rattle.air_log.specs.Trails.{device_ended_by, device_after_end, alarm_is_due, alarms, alarm_limit, alarmed, before_start, begun_by, starts, before_tick}
 use Rattle.air_log.proofs.AlarmRows.{IsRoomy, roomy, Waits, Goes, GoesBy, alarm_by, alarm_after, progress, most}
 use Rattle.air_log.proofs.AlarmRows.{in_reach, boot_goes, heard_goes, sent_goes, alarm_goes, Rises}
 
@@ -85,27 +85,27 @@ module _ (s : Setup) (L : ℕ → ℕ) (t : ℕ) where
     with_streams_goes : (n : Node) (a : Option ℕ) (streams : Streams) → Goes s L t n a → Goes s L t (with_streams n streams) a
     with_streams_goes n a streams goes = (record { small = goes.0.small; frame = goes.0.frame; stage = goes.0.stage }, goes.1)
 
-    pub act_sound : (frame : ℕ) (d : Device) (a : Act) (power : Power) → d.power ≡ power → SoundBy power d.alarm
-        → Sound (device_after_act L s t frame d a power)
-    act_sound frame d On (PowerOff boots) at sound =
+    pub act_sound : (d : Device) (a : Act) (power : Power) → d.power ≡ power → SoundBy power d.alarm
+        → Sound (device_after_act L s t d a power)
+    act_sound d On (PowerOff boots) at sound =
         let n = rebooted (boots + 1) in
         let x : Device = record d { power = PowerOn n } in
         step_sound Boot None x n (boot_goes s L t room n d.alarm)
-    act_sound frame d On (PowerOn n) at sound = rw at sound
-    act_sound frame d SwitchOff (PowerOff boots) at sound = rw at sound
-    act_sound frame d SwitchOff (PowerOn n) at sound = refl
-    act_sound frame d (Declare i interval) (PowerOff boots) at sound = rw at sound
-    act_sound frame d (Declare i interval) (PowerOn n) at sound = with_streams_goes n d.alarm (declared i interval n.core.streams) sound
-    act_sound frame d (Leave i) (PowerOff boots) at sound = rw at sound
-    act_sound frame d (Leave i) (PowerOn n) at sound = with_streams_goes n d.alarm (streams_after_leaving i n.core.streams) sound
-    act_sound frame d (Put i payload) (PowerOff boots) at sound = rw at sound
-    act_sound frame d (Put i payload) (PowerOn n) at sound =
-        cond_both (refuses i n.core) (dropped s.id frame i d) (with_new_core d n (queues i payload n.core)) Sound (λ is. rw at sound)
+    act_sound d On (PowerOn n) at sound = rw at sound
+    act_sound d SwitchOff (PowerOff boots) at sound = rw at sound
+    act_sound d SwitchOff (PowerOn n) at sound = refl
+    act_sound d (Declare i interval) (PowerOff boots) at sound = rw at sound
+    act_sound d (Declare i interval) (PowerOn n) at sound = with_streams_goes n d.alarm (declared i interval n.core.streams) sound
+    act_sound d (Leave i) (PowerOff boots) at sound = rw at sound
+    act_sound d (Leave i) (PowerOn n) at sound = with_streams_goes n d.alarm (streams_after_leaving i n.core.streams) sound
+    act_sound d (Put i payload) (PowerOff boots) at sound = rw at sound
+    act_sound d (Put i payload) (PowerOn n) at sound =
+        cond_both (refuses i n.core) n.core (queues i payload n.core) (λ (c : Core). Sound (with_new_core d n c)) (λ is. sound)
         (λ is. with_streams_goes n d.alarm (put i payload n.core.streams) sound)
 
     lines_sound : (ls : List ScriptLine) (d : Device) → Sound d → Sound (fold (device_after_line L s t) d ls)
     lines_sound [] d sound = sound
-    lines_sound (l ∷ ls) d sound = lines_sound ls (device_after_line L s t d l) (act_sound l.frame d l.act d.power refl sound)
+    lines_sound (l ∷ ls) d sound = lines_sound ls (device_after_line L s t d l) (act_sound d l.act d.power refl sound)
 
     hearings_sound : (hs : List Reception) (d : Device) → Sound d → Sound (fold (device_after_reception L s t) d hs)
     hearings_sound [] d sound = sound
@@ -188,7 +188,7 @@ module _ (s : Setup) (L : ℕ → ℕ) (t : ℕ) where
           let times : k * 2 ^ 23 ≤ k * F = mul-le-mul_left k long in
           omega (arith, times, fits, suc-mul k F)
 
-      allowed : (power : Power) → Left power (L t + 300)
+      allowed : (power : Power) → Left power (alarm_limit L t)
       allowed (PowerOff boots) = tt
       allowed (PowerOn n) =
           omega (
@@ -197,7 +197,7 @@ module _ (s : Setup) (L : ℕ → ℕ) (t : ℕ) where
           )
 
       alarms_end : (d : Device) → Sound d → Ends (alarmed L s t d)
-      alarms_end d sound = loop (L t + 300) (alarm_is_due t d.alarm) d refl sound (allowed d.power)
+      alarms_end d sound = loop (alarm_limit L t) (alarm_is_due t d.alarm) d refl sound (allowed d.power)
 
 pub later : (s : Setup) (L : ℕ → ℕ) (t : ℕ) (d : Device) → L t ≤ L (suc t) → Sound s L t d → Sound s L (suc t) d
 later s L t d on sound = by_power d.power sound

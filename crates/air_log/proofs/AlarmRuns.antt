@@ -1,12 +1,12 @@
 -- The alarms of a tick are those that are due one after another, until none is.
-use Rattle.std.proofs.Common.{◌≡◌, ℕ, zero, suc, ◌<◌, ◌≤◌, List, ◌+◌, Bool, true, false, refl, ◌∙◌, ap, subst, sym, arith, true≢false, inl, inr}
+use Rattle.std.proofs.Common.{◌≡◌, ℕ, zero, suc, ◌<◌, ◌≤◌, List, Bool, true, false, refl, ◌∙◌, ap, subst, sym, arith, true≢false, inl, inr}
 use Rattle.std.proofs.lemmas.Bool.{cases_order}
 use Rattle.tick_clock.specs.Clocks.{IsClock}
 use Rattle.scenario_text.specs.ScenarioParts.{ScenarioParts}
 use Rattle.scenario_text.specs.ScenarioFacts.{IsSoundScenario}
 use Rattle.bus_rules.specs.Cores.{Setup}
 use Rattle.air_log.specs.Devices.{Device}
-use Rattle.air_log.specs.Trails.{Reception, run_end, setup_of, alarm_is_due, one_alarm, alarms, before_alarms, before_start, before_tick, alarmed}
+use Rattle.air_log.specs.Trails.{Reception, run_end, setup_of, alarm_is_due, one_alarm, alarms, before_alarms, before_start, before_tick, alarm_limit, alarmed}
 use Rattle.air_log.specs.AlarmRuns.{after_alarms, IsAlarmRun}
 use Rattle.air_log.proofs.AlarmLoop.{no_alarm_left}
 
@@ -41,19 +41,19 @@ module _ (clock : ℕ → ℕ) (s : Setup) (t : ℕ) where
       (λ j less. ap (λ (x : Device). alarm_is_due t x.alarm) (first_of j d) ∙ due (suc j) (omega (arith, less)))
 
   pub are_fewer : (d : Device) (k : ℕ) → IsAlarmRun clock s t d (alarmed clock s t d)
-      → ((j : ℕ) → j < k → alarm_is_due t (after_alarms clock s t j d).alarm ≡ true) → k ≤ clock t + 300
-  are_fewer d k run due = elim (cases_order k (clock t + 300)) [
+      → ((j : ℕ) → j < k → alarm_is_due t (after_alarms clock s t j d).alarm ≡ true) → k ≤ alarm_limit clock t
+  are_fewer d k run due = elim (cases_order k (alarm_limit clock t)) [
     | inl is ↦ omega (arith, is)
     | inr (inl less) ↦ omega (arith, less)
     | inr (inr more) ↦ absurd
-        (true≢false (sym (due_still (clock t + 300) d (alarm_is_due t d.alarm) refl (λ j less. due j (omega (arith, less, more)))) ∙ run.over))
+        (true≢false (sym (due_still (alarm_limit clock t) d (alarm_is_due t d.alarm) refl (λ j less. due j (omega (arith, less, more)))) ∙ run.over))
   ]
 
 pub alarms_are_run : (s : ScenarioParts) (v : ℕ) (clock : ℕ → ℕ) (hs : List Reception) (t : ℕ) → IsSoundScenario s → IsClock clock → t ≤ run_end s
     → IsAlarmRun clock (setup_of s v) t (before_alarms s v clock hs t (before_tick s v clock hs t)) (before_start s v clock hs t (before_tick s v clock hs t))
 alarms_are_run s v clock hs t sound drifts within =
     let d = before_alarms s v clock hs t (before_tick s v clock hs t) in
-    is_run clock (setup_of s v) t (alarm_is_due t d.alarm) (clock t + 300) d refl (no_alarm_left s v clock hs t sound drifts within)
+    is_run clock (setup_of s v) t (alarm_is_due t d.alarm) (alarm_limit clock t) d refl (no_alarm_left s v clock hs t sound drifts within)
 
 -- a run that is over is as long as any other
 module _ (clock : ℕ → ℕ) (s : Setup) (t : ℕ) (d : Device) where

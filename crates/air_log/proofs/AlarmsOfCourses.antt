@@ -5,7 +5,7 @@ use Rattle.lwb_base.specs.declared.event.Event.TheVariants.{Alarm}
 use Rattle.bus_rules.specs.Cores.{Setup}
 use Rattle.radio_model.specs.OnAir.{Sending}
 use Rattle.air_log.specs.Devices.{Device, event}
-use Rattle.air_log.specs.Trails.{alarm_is_due, alarmed}
+use Rattle.air_log.specs.Trails.{alarm_is_due, alarm_limit, alarmed}
 use Rattle.air_log.specs.AlarmRuns.{after_alarms, IsAlarmRun}
 use Rattle.air_log.specs.Courses.{CourseState, CourseShows, Goes, IsShownEnding}
 use Rattle.air_log.proofs.AlarmRuns.{runs_agree, are_fewer}
@@ -55,5 +55,5 @@ module _ (clock : ℕ → ℕ) (t : ℕ) where
         })
         runs)
 
-    pub few_taken : IsShownEnding clock t (λ q d. d) old → k ≤ clock t + 300
+    pub few_taken : IsShownEnding clock t (λ q d. d) old → k ≤ alarm_limit clock t
     few_taken shown = are_fewer clock shown.setup t shown.device k shown.ends (taken.due shown.setup shown.device shown.shows)

@@ -16,14 +16,15 @@ use Rattle.scenario_text.specs.ScenarioParts.{ScenarioParts}
 use Rattle.scenario_text.specs.declared.script.Act.{Act}
 use Rattle.scenario_text.specs.declared.script.Act.TheVariants.{On, Off as SwitchOff, Declare, Leave, Put}
 use Rattle.scenario_text.specs.declared.script.ScriptLine.{ScriptLine}
-use Rattle.bus_rules.specs.States.{declares, leaves}
+use Rattle.bus_rules.specs.States.{declares, leaves, puts}
 use Rattle.bus_rules.specs.Cores.{Setup}
 use Rattle.node_core.specs.Nodes.{Node, rebooted}
 use Rattle.node_core.specs.Rows.{row}
 use Rattle.node_core.specs.Rows.{orders_by}
 use Rattle.air_log.specs.Devices.{Device, Power, PowerOff, PowerOn, OrderedPacket, at_rest, silenced, listens_to, device_after_tuning, moved}
-use Rattle.air_log.specs.ScriptedDevices.{dropped, device_after_off, with_new_core, put_or_dropped}
-use Rattle.air_log.specs.Trails.{Reception, setup_of, frame_start, lines_at, ending_at, alarm_is_due, alarms, device_after_start, tick, before_tick}
+use Rattle.air_log.specs.ScriptedDevices.{device_after_off, with_new_core}
+use Rattle.air_log.specs.Trails.{Reception, setup_of, frame_start, lines_at, ending_at, alarm_is_due, alarms, alarm_limit, device_after_start, tick}
+use Rattle.air_log.specs.Trails.{before_tick}
 use Rattle.air_log.specs.Ahead.{NextDue}
 use Rattle.lwb_base.proofs.Elements.{all_passes}
 use Rattle.lwb_base.proofs.Truths.{implied}
@@ -47,20 +48,20 @@ module _ (D : ℕ → ℕ) (clock : ℕ → ℕ) where
   abbrev event : Setup → ℕ → Event → Option Sending → Device → Device
   event s t e ended d = event_by s t e ended d d.power
 
-  abbrev after_act : Setup → ℕ → ℕ → Device → Act → Power → Device
-  after_act s t frame d On (PowerOff boots) = event s t Boot None (record d { power = PowerOn (rebooted (boots + 1)) })
-  after_act s t frame d On (PowerOn n) = d
-  after_act s t frame d SwitchOff (PowerOff boots) = d
-  after_act s t frame d SwitchOff (PowerOn n) = device_after_off s.id t n d
-  after_act s t frame d (Declare i interval) (PowerOff boots) = d
-  after_act s t frame d (Declare i interval) (PowerOn n) = with_new_core d n (declares i interval n.core)
-  after_act s t frame d (Leave i) (PowerOff boots) = d
-  after_act s t frame d (Leave i) (PowerOn n) = with_new_core d n (leaves i n.core)
-  after_act s t frame d (Put i payload) (PowerOff boots) = dropped s.id frame i d
-  after_act s t frame d (Put i payload) (PowerOn n) = put_or_dropped s frame i payload d n
+  abbrev after_act : Setup → ℕ → Device → Act → Power → Device
+  after_act s t d On (PowerOff boots) = event s t Boot None (record d { power = PowerOn (rebooted (boots + 1)) })
+  after_act s t d On (PowerOn n) = d
+  after_act s t d SwitchOff (PowerOff boots) = d
+  after_act s t d SwitchOff (PowerOn n) = device_after_off s.id t n d
+  after_act s t d (Declare i interval) (PowerOff boots) = d
+  after_act s t d (Declare i interval) (PowerOn n) = with_new_core d n (declares i interval n.core)
+  after_act s t d (Leave i) (PowerOff boots) = d
+  after_act s t d (Leave i) (PowerOn n) = with_new_core d n (leaves i n.core)
+  after_act s t d (Put i payload) (PowerOff boots) = d
+  after_act s t d (Put i payload) (PowerOn n) = with_new_core d n (puts i payload n.core)
 
   abbrev after_line : Setup → ℕ → Device → ScriptLine → Device
-  after_line s t d l = after_act s t l.frame d l.act d.power
+  after_line s t d l = after_act s t d l.act d.power
 
   abbrev hears : Setup → ℕ → Device → Reception → Device
   hears s t d h = event s t (Heard h.packet) None d
@@ -87,7 +88,7 @@ module _ (D : ℕ → ℕ) (clock : ℕ → ℕ) where
   in_tick s v hs t d =
       let x = setup_of s v in
       let e = before_alarms s v hs t d in
-      device_after_start x t (all_alarms x t (alarm_is_due t e.alarm) (clock t + 300) e)
+      device_after_start x t (all_alarms x t (alarm_is_due t e.alarm) (alarm_limit clock t) e)
 
   -- nothing is due from tick a on before tick b
   abbrev alarm_from : ℕ → Option ℕ → Bool
@@ -132,7 +133,7 @@ module _ (clock : ℕ → ℕ) where
   same_tick s v hs t d =
       let x = setup_of s v in
       let e = before_alarms (due clock) clock s v hs t d in
-      ap (device_after_start x t) (same_alarms x t (alarm_is_due t e.alarm) (clock t + 300) e)
+      ap (device_after_start x t) (same_alarms x t (alarm_is_due t e.alarm) (alarm_limit clock t) e)
 
   one_tick : (s : ScenarioParts) (v : ℕ) (hs : List Reception) (t : ℕ) (d : Device) → before_tick s v clock hs t ≡ d
       → before_tick s v clock hs (suc t) ≡ in_tick (due clock) clock s v hs t d

@@ -68,24 +68,23 @@ module _ (clock : ℕ → ℕ) (t : ℕ) (e : Event) (ended : Option Sending) (o
 
   module _ (less : after_event_is.windows.last ≤ 2 ^ 28) (q : Setup) (d : Device) (shows : CourseShows q t old d) where
     abbrev making : Made
-    making = made_by t e ended old.device.power row_now (made_in old shows.drops shows.windows)
+    making = made_by t e ended old.device.power row_now (made_in old shows.windows)
 
-    made_is : made_in after_event_is shows.drops making.windows ≡ making
+    made_is : made_in after_event_is making.windows ≡ making
     made_is =
-        ap (λ (ds : List Delivery). record (made_in old shows.drops shows.windows) { deliveries = ds; windows = making.windows })
-        (sym (delivered clock t e ended old.device shows.taken old.device.setup old.device.power (made_in old shows.drops shows.windows)))
-        ∙ sym (made_sent clock t e ended old.device shows.taken old.device.power row_now (made_in old shows.drops shows.windows))
+        ap (λ (ds : List Delivery). record (made_in old shows.windows) { deliveries = ds; windows = making.windows })
+        (sym (delivered clock t e ended old.device shows.taken old.device.setup old.device.power (made_in old shows.windows)))
+        ∙ sym (made_sent clock t e ended old.device shows.taken old.device.power row_now (made_in old shows.windows))
 
     -- it shows the device after the row
     pub event_shows : CourseShows q t after_event_is (whole (reacted old.device row_now) making)
     event_shows = record {
-      drops = shows.drops;
       windows = making.windows;
       is = ap (whole (reacted old.device row_now)) made_is;
       setup = keeps_setup old.device row_now ∙ shows.setup;
       counted =
           counted_then clock t e ended old.device q.profile q.sends shows.few old.windows old.device.setup old.device.power
-          (made_in old shows.drops shows.windows) refl shows.counted less;
+          (made_in old shows.windows) refl shows.counted less;
       few = shows.few;
       ended = shows.ended;
       happened = keeps_happened t old.device row_now shows.happened;
@@ -98,7 +97,7 @@ module _ (clock : ℕ → ℕ) (t : ℕ) (e : Event) (ended : Option Sending) (o
         (orders_by row_now))
         → fold (obeyed clock q.id t) (whole (reacted old.device row_now) making) orders ≡ event clock q t e ended d
     event_comes orders is comes =
-        let made = made_in old shows.drops shows.windows in
+        let made = made_in old shows.windows in
         let same_whole : whole (reacted old.device row_now) making ≡ whole (state_after_row old.device row_now) making = whole_same row_now in
         ap (λ (z : Setup). fold (obeyed clock z.id t) (whole (reacted old.device row_now) making) orders) (sym shows.setup)
         ∙ ap (λ (os : List Order). fold (obeyed clock old.device.setup.id t) (whole (reacted old.device row_now) making) os) is
@@ -153,7 +152,7 @@ module _ (clock : ℕ → ℕ) (t : ℕ) (e : Event) (ended : Option Sending) (o
       → Goes t (λ q d. event clock q t e ended d) old last
   event_goes last orders is comes goes less = λ q d shows.
       let after = whole (reacted old.device (row_of clock t e old.device))
-      (made_by t e ended old.device.power (row_of clock t e old.device) (made_in old shows.drops shows.windows)) in
+      (made_by t e ended old.device.power (row_of clock t e old.device) (made_in old shows.windows)) in
       shows_as q t last (fold (obeyed clock q.id t) after orders) (event clock q t e ended d) (goes q after (event_shows clock t e ended old less q d shows))
       (event_comes clock t e ended old less q d shows orders is comes)
 

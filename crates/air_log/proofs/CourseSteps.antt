@@ -5,10 +5,9 @@ use Rattle.std.proofs.lemmas.List.{append-nil}
 use Rattle.radio_model.specs.declared.sending.Sending.{Sending}
 use Rattle.radio_model.specs.OnAir.{Tuning}
 use Rattle.bus_rules.specs.Cores.{Setup}
-use Rattle.bus_rules.specs.declared.delivery.DropLine.{DropLine}
 use Rattle.air_log.specs.declared.entry.TunedEntry.{TunedEntry}
 use Rattle.air_log.specs.Devices.{Device, Made, silenced}
-use Rattle.air_log.specs.DeviceStates.{DeviceState, whole, with_tuned, one_more, with_sent, with_drop}
+use Rattle.air_log.specs.DeviceStates.{DeviceState, whole, with_tuned, one_more, with_sent}
 use Rattle.air_log.specs.DeviceStates.{EndedBefore, HappenedBy, IsSameNode}
 use Rattle.air_log.specs.WindowLogs.{WindowLog}
 use Rattle.air_log.specs.WindowSums.{WindowSum, IsCounted}
@@ -23,24 +22,23 @@ ended_more t (Some e) es before ended = before
 
 -- a step without a window
 module _ (t : ℕ) (old new : CourseState) where
-  pub record IsStep (change : Setup → Device → Device) (making : Made → Made) (dropping : List DropLine → List DropLine) : Type 0 where
+  pub record IsStep (change : Setup → Device → Device) (making : Made → Made) : Type 0 where
     pub whole_is : (made : Made) → EndedBefore t made.tuned → change old.device.setup (whole old.device made) ≡ whole new.device (making made)
-    pub made : (drops : List DropLine) (windows : List WindowLog) → making (made_in old drops windows) ≡ made_in new (dropping drops) windows
+    pub made : (windows : List WindowLog) → making (made_in old windows) ≡ made_in new windows
     pub windows : new.windows ≡ old.windows
     pub ended : EndedBefore t old.tuned → EndedBefore t new.tuned
     pub happened : HappenedBy t old.device → HappenedBy t new.device
     pub setup : new.device.setup ≡ old.device.setup
     pub delivery : new.device.delivery ≡ old.device.delivery
 
-  pub step_goes : (change : Setup → Device → Device) (making : Made → Made) (dropping : List DropLine → List DropLine) → IsStep change making dropping
+  pub step_goes : (change : Setup → Device → Device) (making : Made → Made) → IsStep change making
       → Goes t change old new
-  step_goes change making dropping step q d shows =
-      let made = made_in old shows.drops shows.windows in
-      let comes : change q (whole old.device made) ≡ whole new.device (made_in new (dropping shows.drops) shows.windows) =
+  step_goes change making step q d shows =
+      let made = made_in old shows.windows in
+      let comes : change q (whole old.device made) ≡ whole new.device (made_in new shows.windows) =
       ap (λ (z : Setup). change z (whole old.device made)) (sym shows.setup) ∙ step.whole_is made shows.ended
-      ∙ ap (whole new.device) (step.made shows.drops shows.windows) in
+      ∙ ap (whole new.device) (step.made shows.windows) in
       record {
-        drops = dropping shows.drops;
         windows = shows.windows;
         is = sym comes ∙ ap (change q) shows.is;
         setup = step.setup ∙ shows.setup;
@@ -51,19 +49,16 @@ module _ (t : ℕ) (old new : CourseState) where
         taken = step.delivery ∙ shows.taken;
       }
 
-abbrev nothing_dropped : List DropLine → List DropLine
-nothing_dropped drops = drops
-
 -- the device changes, and a tuning of it is handed out
 pub device_goes : (t : ℕ) (old : CourseState) (after : DeviceState) (closed : Option TunedEntry) (change : Setup → Device → Device)
     → ((made : Made) → EndedBefore t made.tuned → change old.device.setup (whole old.device made) ≡ whole after (with_tuned closed made))
     → IfSome closed (λ e. e.end < t) → (HappenedBy t old.device → HappenedBy t after) → IsSameNode old.device after
     → Goes t change old (record old { device = after; tuned = one_more closed old.tuned })
 device_goes t old after closed change comes before happened node =
-    step_goes t old (record old { device = after; tuned = one_more closed old.tuned }) change (with_tuned closed) nothing_dropped
+    step_goes t old (record old { device = after; tuned = one_more closed old.tuned }) change (with_tuned closed)
     (record {
       whole_is = comes;
-      made = λ drops windows. refl;
+      made = λ windows. refl;
       windows = refl;
       ended = ended_more t closed old.tuned before;
       happened = happened;
@@ -76,10 +71,10 @@ pub state_goes : (t : ℕ) (old : CourseState) (after : DeviceState) (change : S
     → ((made : Made) → change old.device.setup (whole old.device made) ≡ whole after made)
     → (HappenedBy t old.device → HappenedBy t after) → IsSameNode old.device after → Goes t change old (record old { device = after })
 state_goes t old after change comes happened node =
-    step_goes t old (record old { device = after }) change (λ made. made) nothing_dropped
+    step_goes t old (record old { device = after }) change (λ made. made)
     (record {
       whole_is = λ made ended. comes made;
-      made = λ drops windows. refl;
+      made = λ windows. refl;
       windows = refl;
       ended = λ ended. ended;
       happened = happened;
@@ -97,31 +92,10 @@ pub begin_goes : (t : ℕ) (old : CourseState) (after : DeviceState) (x : Option
     → (HappenedBy t old.device → HappenedBy t after) → IsSameNode old.device after
     → Goes t change old (record old { device = after; sent = old.sent ++ option_to_list x })
 begin_goes t old after x change comes happened node =
-    step_goes t old (record old { device = after; sent = old.sent ++ option_to_list x }) change (with_sent x) nothing_dropped
+    step_goes t old (record old { device = after; sent = old.sent ++ option_to_list x }) change (with_sent x)
     (record {
       whole_is = λ made ended. comes made;
-      made = λ drops windows. sent_made x (made_in old drops windows);
-      windows = refl;
-      ended = λ ended. ended;
-      happened = happened;
-      setup = node.setup;
-      delivery = node.delivery;
-    })
-
--- a packet is lost, or none
-pub drop_made : (drop : Option DropLine) (made : Made) → with_drop drop made ≡ record made { drops = made.drops ++ option_to_list drop }
-drop_made None made = ap (λ (drops : List DropLine). record made { drops = drops }) (sym (append-nil made.drops))
-drop_made (Some drop) made = refl
-
-pub told_goes : (t : ℕ) (old : CourseState) (after : DeviceState) (drop : Option DropLine) (change : Setup → Device → Device)
-    → ((made : Made) → change old.device.setup (whole old.device made) ≡ whole after (with_drop drop made))
-    → (HappenedBy t old.device → HappenedBy t after) → IsSameNode old.device after → Goes t change old (record old { device = after })
-told_goes t old after drop change comes happened node =
-    step_goes t old (record old { device = after }) change (λ made. record made { drops = made.drops ++ option_to_list drop })
-    (λ drops. drops ++ option_to_list drop)
-    (record {
-      whole_is = λ made ended. comes made ∙ ap (whole after) (drop_made drop made);
-      made = λ drops windows. refl;
+      made = λ windows. sent_made x (made_in old windows);
       windows = refl;
       ended = λ ended. ended;
       happened = happened;
@@ -136,7 +110,7 @@ pub close_tells : (t : ℕ) (old : CourseState) (silent closed : DeviceState) (b
     → new ≡ record old { device = closed; tuned = one_more last (one_more before old.tuned) }
     → (q : Setup) (d : Device) → CourseShows q t old d → HasListsOf q new (silenced q.id t d)
 close_tells t old silent closed before last new first second none is q d shows =
-    let made = made_in old shows.drops shows.windows in
+    let made = made_in old shows.windows in
     let end : CourseState = record old { device = closed; tuned = one_more last (one_more before old.tuned) } in
     let all : silenced q.id t d ≡ whole closed (with_tuned last (with_tuned before made)) =
     ap (silenced q.id t) (sym shows.is) ∙ ap (λ (z : Setup). silenced z.id t (whole old.device made)) (sym shows.setup) ∙ first made
@@ -157,9 +131,9 @@ module _ (t : ℕ) (old : CourseState) (after : DeviceState) (happened : Happene
   abbrev pub middle : CourseState
   middle = record old { device = after }
 
-  middle_shows : (q : Setup) (d : Device) → (shows : CourseShows q t old d) → CourseShows q t middle (whole after (made_in old shows.drops shows.windows))
+  middle_shows : (q : Setup) (d : Device) → (shows : CourseShows q t old d) → CourseShows q t middle (whole after (made_in old shows.windows))
   middle_shows q d shows =
-      whole_shows q t middle shows.drops shows.windows (setup ∙ shows.setup) shows.counted shows.few shows.ended (happened shows.happened) (taken shows.taken)
+      whole_shows q t middle shows.windows (setup ∙ shows.setup) shows.counted shows.few shows.ended (happened shows.happened) (taken shows.taken)
 
   pub then_shown : CourseIsShown t old → CourseIsShown t middle
   then_shown shown = record { setup = shown.setup; device = _; shows = middle_shows shown.setup shown.device shown.shows }
@@ -168,7 +142,7 @@ module _ (t : ℕ) (old : CourseState) (after : DeviceState) (happened : Happene
       → ((made : Made) → first old.device.setup (whole old.device made) ≡ second old.device.setup (whole after made)) → Goes t second middle last
       → Goes t first old last
   then_goes first second last comes goes = λ q d shows.
-      let made = made_in old shows.drops shows.windows in
+      let made = made_in old shows.windows in
       shows_as q t last (second q (whole after made)) (first q d) (goes q (whole after made) (middle_shows q d shows))
       (ap (λ (z : Setup). second z (whole after made)) (sym shows.setup) ∙ sym (comes made) ∙ ap (first old.device.setup) shows.is
       ∙ ap (λ (z : Setup). first z d) shows.setup)

@@ -12,16 +12,16 @@ use Rattle.scenario_text.specs.declared.script.Act.{Act}
 use Rattle.scenario_text.specs.declared.script.Act.TheVariants.{On, Off, Declare, Leave, Put}
 use Rattle.scenario_text.specs.declared.script.ScriptLine.{ScriptLine}
 use Rattle.bus_rules.specs.States.{refuses, queues}
-use Rattle.bus_rules.specs.Cores.{Setup}
+use Rattle.bus_rules.specs.Cores.{Core, Setup}
 use Rattle.node_core.specs.Nodes.{Node, rebooted}
 use Rattle.node_core.specs.Rows.{row, boots}
 use Rattle.node_core.specs.Rows.{node_after}
 use Rattle.node_core.specs.declared.stage.Stage.{Stage}
 use Rattle.node_core.specs.declared.stage.Stage.TheVariants.{Idle, Scanning, AwaitFrame, AwaitSlot, InWindow}
 use Rattle.air_log.specs.Devices.{Device, Power, PowerOff, PowerOn, Listening, OrderedPacket, stepped, event_by}
-use Rattle.air_log.specs.ScriptedDevices.{device_after_act, device_after_line, dropped, with_new_core}
+use Rattle.air_log.specs.ScriptedDevices.{device_after_act, device_after_line, with_new_core}
 use Rattle.air_log.specs.Trails.{Reception, run_end, setup_of, lines_at, device_after_script, ending_at, device_after_reception, device_after_receptions}
-use Rattle.air_log.specs.Trails.{device_ended_by, device_after_end, alarm_is_due, alarms, alarmed, begun_by, starts, before_tick, trail}
+use Rattle.air_log.specs.Trails.{device_ended_by, device_after_end, alarm_is_due, alarms, alarm_limit, alarmed, begun_by, starts, before_tick, trail}
 use Rattle.air_log.proofs.AlarmRows.{IsRoomy, roomy, InRange, IsGoing, alarm_goes}
 use Rattle.air_log.proofs.AlarmLoop.{Sound, SoundBy, step_sound, heard_sound, sent_sound, act_sound, fires, begun_sound, later, early_in_run}
 use Rattle.air_log.proofs.OpenedByAlarm.{by_alarm, place_spent, FewBy, Few, one_at_most, row_few, heard_few, sent_few, alarm_few}
@@ -100,25 +100,25 @@ module _ (s : Setup) (L : ℕ → ℕ) (t : ℕ) where
       pub off_few : (n : Node) (k : ℕ) → IsGoing s L t n → FewBy (PowerOn n) k → k ≤ n.core.boot * 2 ^ 20
       off_few n k going few = omega (arith, few, in_run n going, in_frame n.stage going.stage)
 
-      act_few : (frame : ℕ) (d : Device) (a : Act) (power : Power) → d.power ≡ power → SoundBy s L t power d.alarm → FewBy power (by_alarm d.made.windows)
-          → Few (device_after_act L s t frame d a power)
-      act_few frame d On (PowerOff b) at sound few = booted b d few
-      act_few frame d On (PowerOn n) at sound few = rw at few
-      act_few frame d Off (PowerOff b) at sound few = rw at few
-      act_few frame d Off (PowerOn n) at sound few = off_few n (by_alarm d.made.windows) sound.0 few
-      act_few frame d (Declare i interval) (PowerOff b) at sound few = rw at few
-      act_few frame d (Declare i interval) (PowerOn n) at sound few = few
-      act_few frame d (Leave i) (PowerOff b) at sound few = rw at few
-      act_few frame d (Leave i) (PowerOn n) at sound few = few
-      act_few frame d (Put i payload) (PowerOff b) at sound few = rw at few
-      act_few frame d (Put i payload) (PowerOn n) at sound few =
-          cond_both (refuses i n.core) (dropped s.id frame i d) (with_new_core d n (queues i payload n.core)) Few (λ is. rw at few) (λ is. few)
+      act_few : (d : Device) (a : Act) (power : Power) → d.power ≡ power → SoundBy s L t power d.alarm → FewBy power (by_alarm d.made.windows)
+          → Few (device_after_act L s t d a power)
+      act_few d On (PowerOff b) at sound few = booted b d few
+      act_few d On (PowerOn n) at sound few = rw at few
+      act_few d Off (PowerOff b) at sound few = rw at few
+      act_few d Off (PowerOn n) at sound few = off_few n (by_alarm d.made.windows) sound.0 few
+      act_few d (Declare i interval) (PowerOff b) at sound few = rw at few
+      act_few d (Declare i interval) (PowerOn n) at sound few = few
+      act_few d (Leave i) (PowerOff b) at sound few = rw at few
+      act_few d (Leave i) (PowerOn n) at sound few = few
+      act_few d (Put i payload) (PowerOff b) at sound few = rw at few
+      act_few d (Put i payload) (PowerOn n) at sound few =
+          cond_both (refuses i n.core) n.core (queues i payload n.core) (λ (c : Core). Few (with_new_core d n c)) (λ is. few) (λ is. few)
 
       lines_both : (ls : List ScriptLine) (d : Device) → Goes_few d → Goes_few (fold (device_after_line L s t) d ls)
       lines_both [] d both = both
       lines_both (l ∷ ls) d both =
           lines_both ls (device_after_line L s t d l)
-          (record { sound = act_sound s L t room l.frame d l.act d.power refl both.sound; few = act_few l.frame d l.act d.power refl both.sound both.few })
+          (record { sound = act_sound s L t room d l.act d.power refl both.sound; few = act_few d l.act d.power refl both.sound both.few })
 
 -- a whole run
 module _ (s : ScenarioParts) (v : ℕ) (L : ℕ → ℕ) (hs : List Reception) (sound : IsSoundScenario s) (clock : IsClock L) where
@@ -153,7 +153,7 @@ module _ (s : ScenarioParts) (v : ℕ) (L : ℕ → ℕ) (hs : List Reception) (
       let d2 = device_after_receptions L x t hs d1 in
       let three = end_both x L t room d2 d2.sending two in
       let d3 = device_after_end L x t d2 in
-      let four = alarms_both x L t room clock early (in_run t less) (L t + 300) (alarm_is_due t d3.alarm) d3 refl three in
+      let four = alarms_both x L t room clock early (in_run t less) (alarm_limit L t) (alarm_is_due t d3.alarm) d3 refl three in
       let d4 = alarmed L x t d3 in
       let on = never_back L t (suc t) clock (omega arith) (omega (arith, early)) in
       record {

@@ -9,15 +9,14 @@ use Rattle.scenario_text.specs.ScenarioParts.{ScenarioParts}
 use Rattle.scenario_text.specs.declared.script.Act.{Act}
 use Rattle.scenario_text.specs.declared.script.Act.TheVariants.{On, Off, Declare, Leave, Put}
 use Rattle.scenario_text.specs.declared.script.ScriptLine.{ScriptLine}
-use Rattle.bus_rules.specs.States.{refuses, queues}
 use Rattle.bus_rules.specs.Cores.{Setup}
 use Rattle.node_core.specs.Nodes.{Node, rebooted}
 use Rattle.node_core.specs.Rows.{orders_by}
 use Rattle.node_core.specs.Rows.{Stepped, row}
 use Rattle.air_log.specs.Devices.{Device, Power, PowerOff, PowerOn, obeyed, moved, event, event_by, silenced}
-use Rattle.air_log.specs.ScriptedDevices.{device_after_act, device_after_line, dropped, with_new_core}
+use Rattle.air_log.specs.ScriptedDevices.{device_after_act, device_after_line}
 use Rattle.air_log.specs.Trails.{Reception, setup_of, lines_at, device_after_script, ending_at, device_after_reception, device_after_receptions}
-use Rattle.air_log.specs.Trails.{device_ended_by, device_after_end, alarm_is_due, alarms, alarmed, before_start}
+use Rattle.air_log.specs.Trails.{device_ended_by, device_after_end, alarm_is_due, alarms, alarm_limit, alarmed, before_start}
 
 -- at tick t. Neither the power nor what is set or runs matters
 pub record IsKept (P : Device → Type 0) (clock : ℕ → ℕ) (s : Setup) (t : ℕ) : Type 0 where
@@ -27,7 +26,6 @@ pub record IsKept (P : Device → Type 0) (clock : ℕ → ℕ) (s : Setup) (t :
   pub without_alarm : (d : Device) → P d → P (record d { alarm = None })
   pub off : (d : Device) (boots : ℕ) → P d → P (record (silenced s.id t d) { power = PowerOff boots; alarm = None; ordered = None })
   pub after_sending : (d : Device) → P d → P (record d { sending = None })
-  pub dropping : (frame i : ℕ) (d : Device) → P d → P (dropped s.id frame i d)
 
 module _ (P : Device → Type 0) (clock : ℕ → ℕ) (s : Setup) (t : ℕ) (kept : IsKept P clock s t) where
   all_obeyed : (os : List Order) (d : Device) → P d → P (fold (obeyed clock s.id t) d os)
@@ -40,25 +38,23 @@ module _ (P : Device → Type 0) (clock : ℕ → ℕ) (s : Setup) (t : ℕ) (ke
       let r = row s n (clock t) e in
       all_obeyed (orders_by r) (moved t e x d n r) (kept.moving e x d n r holds)
 
-  by_act : (frame : ℕ) (d : Device) (a : Act) (p : Power) → P d → P (device_after_act clock s t frame d a p)
-  by_act frame d On (PowerOff boots) holds =
+  by_act : (d : Device) (a : Act) (p : Power) → P d → P (device_after_act clock s t d a p)
+  by_act d On (PowerOff boots) holds =
       by_event Boot None (record d { power = PowerOn (rebooted (boots + 1)) }) (PowerOn (rebooted (boots + 1)))
       (kept.powered d (PowerOn (rebooted (boots + 1))) holds)
-  by_act frame d On (PowerOn n) holds = holds
-  by_act frame d Off (PowerOff boots) holds = holds
-  by_act frame d Off (PowerOn n) holds = kept.off d n.core.boot holds
-  by_act frame d (Declare i interval) (PowerOff boots) holds = holds
-  by_act frame d (Declare i interval) (PowerOn n) holds = kept.powered d _ holds
-  by_act frame d (Leave i) (PowerOff boots) holds = holds
-  by_act frame d (Leave i) (PowerOn n) holds = kept.powered d _ holds
-  by_act frame d (Put i payload) (PowerOff boots) holds = kept.dropping frame i d holds
-  by_act frame d (Put i payload) (PowerOn n) holds =
-      cond_both (refuses i n.core) (dropped s.id frame i d) (with_new_core d n (queues i payload n.core)) P (λ is. kept.dropping frame i d holds)
-      (λ is. kept.powered d _ holds)
+  by_act d On (PowerOn n) holds = holds
+  by_act d Off (PowerOff boots) holds = holds
+  by_act d Off (PowerOn n) holds = kept.off d n.core.boot holds
+  by_act d (Declare i interval) (PowerOff boots) holds = holds
+  by_act d (Declare i interval) (PowerOn n) holds = kept.powered d _ holds
+  by_act d (Leave i) (PowerOff boots) holds = holds
+  by_act d (Leave i) (PowerOn n) holds = kept.powered d _ holds
+  by_act d (Put i payload) (PowerOff boots) holds = holds
+  by_act d (Put i payload) (PowerOn n) holds = kept.powered d _ holds
 
   by_lines : (ls : List ScriptLine) (d : Device) → P d → P (fold (device_after_line clock s t) d ls)
   by_lines [] d holds = holds
-  by_lines (l ∷ ls) d holds = by_lines ls (device_after_line clock s t d l) (by_act l.frame d l.act d.power holds)
+  by_lines (l ∷ ls) d holds = by_lines ls (device_after_line clock s t d l) (by_act d l.act d.power holds)
 
   by_hearings : (hs : List Reception) (d : Device) → P d → P (fold (device_after_reception clock s t) d hs)
   by_hearings [] d holds = holds
@@ -93,7 +89,7 @@ pub in_event : (P : Device → Type 0) (clock : ℕ → ℕ) (s : Setup) (t : �
 in_event P clock s t e x d kept holds = by_event P clock s t kept e x d d.power holds
 
 pub in_alarms : (P : Device → Type 0) (clock : ℕ → ℕ) (s : Setup) (t : ℕ) (d : Device) → IsKept P clock s t → P d → P (alarmed clock s t d)
-in_alarms P clock s t d kept holds = by_alarms P clock s t kept (alarm_is_due t d.alarm) (clock t + 300) d holds
+in_alarms P clock s t d kept holds = by_alarms P clock s t kept (alarm_is_due t d.alarm) (alarm_limit clock t) d holds
 
 pub in_tick : (P : Device → Type 0) (s : ScenarioParts) (v : ℕ) (clock : ℕ → ℕ) (hs : List Reception) (t : ℕ) (d : Device) → IsKept P clock (setup_of s v) t
     → P d → P (before_start s v clock hs t d)

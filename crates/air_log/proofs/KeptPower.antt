@@ -16,14 +16,14 @@ use Rattle.scenario_text.specs.declared.script.ScriptLine.{ScriptLine}
 use Rattle.scenario_text.proofs.BootsTold.{turned_over, Boots}
 use Rattle.scenario_text.proofs.BootsCounted.{never_less}
 use Rattle.bus_rules.specs.States.{refuses, queues}
-use Rattle.bus_rules.specs.Cores.{Setup}
+use Rattle.bus_rules.specs.Cores.{Core, Setup}
 use Rattle.node_core.specs.Nodes.{Node, rebooted}
 use Rattle.node_core.specs.Rows.{Stepped, row}
 use Rattle.node_core.specs.Rows.{node_after, orders_by}
 use Rattle.air_log.specs.Devices.{Device, Power, PowerOff, PowerOn, Listening, OrderedPacket, obeyed, moved, event, event_by, silenced, tunes, listens_to}
 use Rattle.air_log.specs.Devices.{seen_power}
-use Rattle.air_log.specs.ScriptedDevices.{device_after_act, device_after_line, dropped, with_new_core}
-use Rattle.air_log.specs.Trails.{alarm_is_due, alarms, alarmed, device_after_start, begun_by, starts, one_alarm}
+use Rattle.air_log.specs.ScriptedDevices.{device_after_act, device_after_line}
+use Rattle.air_log.specs.Trails.{alarm_is_due, alarms, alarm_limit, alarmed, device_after_start, begun_by, starts, one_alarm}
 use Rattle.node_core.proofs.KeptBoots.{KeepsBoot, boot_kept}
 
 -- orders change no power
@@ -69,24 +69,24 @@ module _ (clock : ℕ → ℕ) (s : Setup) (t : ℕ) where
       let e = one_alarm clock s t d in by_alarms (alarm_is_due t e.alarm) more e ∙ event_power AlarmEvent None (record d { alarm = None })
 
   pub alarmed_power : (d : Device) → seen_power (alarmed clock s t d).power ≡ seen_power d.power
-  alarmed_power d = by_alarms (alarm_is_due t d.alarm) (clock t + 300) d
+  alarmed_power d = by_alarms (alarm_is_due t d.alarm) (alarm_limit clock t) d
 
-  by_act : (frame : ℕ) (d : Device) (a : Act) (p : Power) → d.power ≡ p → seen_power (device_after_act clock s t frame d a p).power ≡ turned_by a (seen_power p)
-  by_act frame d On (PowerOff boots) is = event_power Boot None (record d { power = PowerOn (rebooted (boots + 1)) })
-  by_act frame d On (PowerOn n) is = ap seen_power is
-  by_act frame d Off (PowerOff boots) is = ap seen_power is
-  by_act frame d Off (PowerOn n) is = refl
-  by_act frame d (Declare i interval) (PowerOff boots) is = ap seen_power is
-  by_act frame d (Declare i interval) (PowerOn n) is = refl
-  by_act frame d (Leave i) (PowerOff boots) is = ap seen_power is
-  by_act frame d (Leave i) (PowerOn n) is = refl
-  by_act frame d (Put i payload) (PowerOff boots) is = ap seen_power is
-  by_act frame d (Put i payload) (PowerOn n) is =
-      cond_both (refuses i n.core) (dropped s.id frame i d) (with_new_core d n (queues i payload n.core))
-      (λ (e : Device). seen_power e.power ≡ (true, n.core.boot)) (λ lost. ap seen_power is) (λ kept. refl)
+  by_act : (d : Device) (a : Act) (p : Power) → d.power ≡ p → seen_power (device_after_act clock s t d a p).power ≡ turned_by a (seen_power p)
+  by_act d On (PowerOff boots) is = event_power Boot None (record d { power = PowerOn (rebooted (boots + 1)) })
+  by_act d On (PowerOn n) is = ap seen_power is
+  by_act d Off (PowerOff boots) is = ap seen_power is
+  by_act d Off (PowerOn n) is = refl
+  by_act d (Declare i interval) (PowerOff boots) is = ap seen_power is
+  by_act d (Declare i interval) (PowerOn n) is = refl
+  by_act d (Leave i) (PowerOff boots) is = ap seen_power is
+  by_act d (Leave i) (PowerOn n) is = refl
+  by_act d (Put i payload) (PowerOff boots) is = ap seen_power is
+  by_act d (Put i payload) (PowerOn n) is =
+      cond_both (refuses i n.core) n.core (queues i payload n.core) (λ (c : Core). seen_power (PowerOn (record n { core = c })) ≡ seen_power (PowerOn n))
+      (λ lost. refl) (λ kept. refl)
 
   pub line_power : (d : Device) (l : ScriptLine) → seen_power (device_after_line clock s t d l).power ≡ turned_by l.act (seen_power d.power)
-  line_power d l = by_act l.frame d l.act d.power refl
+  line_power d l = by_act d l.act d.power refl
 
   starts_power : (packet : List ℕ) (d : Device) (l : Option Listening) (x : Option Sending) → (starts s t packet d l x).power ≡ d.power
   starts_power packet d None x = refl

@@ -60,7 +60,6 @@ kept_ahead clock s t = record {
   without_alarm = λ d ahead. (tt, ahead.1, ahead.2);
   off = λ d boots ahead. (tt, tt, ahead.2);
   after_sending = λ d ahead. (ahead.0, ahead.1, tt);
-  dropping = λ frame i d ahead. ahead;
 }
 
 -- the transmission that runs
@@ -93,7 +92,6 @@ kept_sends clock s t u = record {
   without_alarm = λ d ahead. ahead;
   off = λ d boots ahead. ahead;
   after_sending = λ d ahead. tt;
-  dropping = λ frame i d ahead. ahead;
 }
 
 -- after its phase no transmission ends at the tick any more

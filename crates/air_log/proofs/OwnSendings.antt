@@ -41,7 +41,6 @@ module _ (Q : Option Sending → List Sending → Type 0) (over : (x : Option Se
     without_alarm = λ d is. is;
     off = λ d boots is. is;
     after_sending = λ d is. over d.sending d.made.sent is;
-    dropping = λ frame i d is. is;
   }
 
 -- the transmission that runs is among all

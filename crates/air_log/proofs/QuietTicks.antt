@@ -5,8 +5,8 @@ use Rattle.radio_model.specs.declared.sending.Sending.{Sending}
 use Rattle.scenario_text.specs.ScenarioParts.{ScenarioParts}
 use Rattle.bus_rules.specs.Cores.{Setup}
 use Rattle.air_log.specs.Devices.{Device, OrderedPacket, silenced}
-use Rattle.air_log.specs.Trails.{Reception, setup_of, ending_at, device_ended_by, begun_by, alarms, alarm_is_due, before_start, device_after_start, tick}
-use Rattle.air_log.specs.Trails.{before_tick, run_end, trail}
+use Rattle.air_log.specs.Trails.{Reception, setup_of, ending_at, device_ended_by, begun_by, alarms, alarm_is_due, alarm_limit, before_start, device_after_start}
+use Rattle.air_log.specs.Trails.{tick, before_tick, run_end, trail}
 use Rattle.air_log.specs.QuietTicks.{IsQuiet, ends_at, ordered_starts_at, ends_before}
 
 -- where nothing is due, a phase changes nothing
@@ -25,7 +25,7 @@ no_alarm clock s t more d b none = rw none refl
 pub quiet_tick : (s : ScenarioParts) (v : ℕ) (clock : ℕ → ℕ) (hs : List Reception) (t : ℕ) (d : Device) → IsQuiet s v hs t d → tick s v clock hs t d ≡ d
 quiet_tick s v clock hs t d q =
     rw q.lines rw q.hearings
-    (rw (no_end clock (setup_of s v) t d d.sending q.sending) rw (no_alarm clock (setup_of s v) t (clock t + 300) d (alarm_is_due t d.alarm) q.alarm)
+    (rw (no_end clock (setup_of s v) t d d.sending q.sending) rw (no_alarm clock (setup_of s v) t (alarm_limit clock t) d (alarm_is_due t d.alarm) q.alarm)
     (no_start (setup_of s v) t d d.ordered q.start))
 
 module _ (s : ScenarioParts) (v : ℕ) (clock : ℕ → ℕ) where

@@ -12,14 +12,13 @@ use Rattle.radio_model.specs.OnAir.{Tuning}
 use Rattle.scenario_text.specs.declared.script.Act.{Act}
 use Rattle.scenario_text.specs.declared.script.Act.TheVariants.{On, Off as OffOf, Declare, Leave, Put}
 use Rattle.scenario_text.specs.declared.script.ScriptLine.{ScriptLine}
-use Rattle.bus_rules.specs.States.{refuses, queues}
 use Rattle.bus_rules.specs.Cores.{Setup}
 use Rattle.node_core.specs.Nodes.{rebooted}
 use Rattle.node_core.specs.Rows.{orders_by}
 use Rattle.node_core.specs.Rows.{row}
 use Rattle.air_log.specs.Devices.{Device, Power, PowerOff, PowerOn, Listening, OrderedPacket, obeyed, silenced, tunes, listens_to, moved, event, event_by}
-use Rattle.air_log.specs.ScriptedDevices.{device_after_act, device_after_line, dropped, with_new_core}
-use Rattle.air_log.specs.Trails.{device_after_start, begun_by, starts, sending_from, alarm_is_due, alarms, alarmed, sendings_starting, starting_by}
+use Rattle.air_log.specs.ScriptedDevices.{device_after_act, device_after_line}
+use Rattle.air_log.specs.Trails.{device_after_start, begun_by, starts, sending_from, alarm_is_due, alarms, alarm_limit, alarmed, sendings_starting, starting_by}
 
 tuned_sending : (rank t : ℕ) (d : Device) (es : List Tuning) → (tunes rank t d es).sending ≡ d.sending
 tuned_sending rank t d [] = refl
@@ -46,22 +45,20 @@ module _ (clock : ℕ → ℕ) (s : Setup) (t : ℕ) where
   pub event_sending : (e : Event) (x : Option Sending) (d : Device) → (event clock s t e x d).sending ≡ d.sending
   event_sending e x d = by_power e x d d.power
 
-  act_sending : (frame : ℕ) (d : Device) (a : Act) (p : Power) → (device_after_act clock s t frame d a p).sending ≡ d.sending
-  act_sending frame d On (PowerOff boots) = event_sending Boot None (record d { power = PowerOn (rebooted (boots + 1)) })
-  act_sending frame d On (PowerOn n) = refl
-  act_sending frame d OffOf (PowerOff boots) = refl
-  act_sending frame d OffOf (PowerOn n) = refl
-  act_sending frame d (Declare i interval) (PowerOff boots) = refl
-  act_sending frame d (Declare i interval) (PowerOn n) = refl
-  act_sending frame d (Leave i) (PowerOff boots) = refl
-  act_sending frame d (Leave i) (PowerOn n) = refl
-  act_sending frame d (Put i payload) (PowerOff boots) = refl
-  act_sending frame d (Put i payload) (PowerOn n) =
-      cond_both (refuses i n.core) (dropped s.id frame i d) (with_new_core d n (queues i payload n.core)) (λ (y : Device). y.sending ≡ d.sending) (λ at. refl)
-      (λ at. refl)
+  act_sending : (d : Device) (a : Act) (p : Power) → (device_after_act clock s t d a p).sending ≡ d.sending
+  act_sending d On (PowerOff boots) = event_sending Boot None (record d { power = PowerOn (rebooted (boots + 1)) })
+  act_sending d On (PowerOn n) = refl
+  act_sending d OffOf (PowerOff boots) = refl
+  act_sending d OffOf (PowerOn n) = refl
+  act_sending d (Declare i interval) (PowerOff boots) = refl
+  act_sending d (Declare i interval) (PowerOn n) = refl
+  act_sending d (Leave i) (PowerOff boots) = refl
+  act_sending d (Leave i) (PowerOn n) = refl
+  act_sending d (Put i payload) (PowerOff boots) = refl
+  act_sending d (Put i payload) (PowerOn n) = refl
 
   pub line_sending : (d : Device) (line : ScriptLine) → (device_after_line clock s t d line).sending ≡ d.sending
-  line_sending d line = act_sending line.frame d line.act d.power
+  line_sending d line = act_sending d line.act d.power
 
   alarms_sending : (b : Bool) (more : ℕ) (d : Device) → (alarms clock s t b more d).sending ≡ d.sending
   unfolding alarms
@@ -72,7 +69,7 @@ module _ (clock : ℕ → ℕ) (s : Setup) (t : ℕ) where
       alarms_sending (alarm_is_due t after.alarm) more after ∙ event_sending AlarmOf None (record d { alarm = None })
 
   pub alarmed_sending : (d : Device) → (alarmed clock s t d).sending ≡ d.sending
-  alarmed_sending d = alarms_sending (alarm_is_due t d.alarm) (clock t + 300) d
+  alarmed_sending d = alarms_sending (alarm_is_due t d.alarm) (alarm_limit clock t) d
 
 -- nothing starts, or this transmission does where none ran
 abbrev pub Begins : Setup → ℕ → Device → List Sending → Device → Type 0

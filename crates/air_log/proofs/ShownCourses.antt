@@ -3,7 +3,6 @@ use Rattle.std.proofs.Common.{◌≡◌, ℕ, ◌≤◌, List, [], ◌∷◌, Op
 use Rattle.std.proofs.Common.{None, IfSome, refl, sym, subst, arith}
 use Rattle.radio_model.specs.OnAir.{Tuning}
 use Rattle.bus_rules.specs.Cores.{Setup}
-use Rattle.bus_rules.specs.declared.delivery.DropLine.{DropLine}
 use Rattle.air_log.specs.declared.entry.TunedEntry.{TunedEntry}
 use Rattle.air_log.specs.Devices.{Device, Listening}
 use Rattle.air_log.specs.DeviceStates.{DeviceState, whole}
@@ -21,11 +20,10 @@ shown_still t change old new goes shown = record {
 }
 
 -- what a device shows, by its state and by what was made
-pub whole_shows : (q : Setup) (t : ℕ) (c : CourseState) (drops : List DropLine) (windows : List WindowLog) → c.device.setup ≡ q
+pub whole_shows : (q : Setup) (t : ℕ) (c : CourseState) (windows : List WindowLog) → c.device.setup ≡ q
     → IsCounted q.profile q.sends windows c.windows → q.sends ≤ 4 → EndedBefore t c.tuned → HappenedBy t c.device → c.device.delivery ≡ None
-    → CourseShows q t c (whole c.device (made_in c drops windows))
-whole_shows q t c drops windows setup counted few ended happened taken = record {
-  drops = drops;
+    → CourseShows q t c (whole c.device (made_in c windows))
+whole_shows q t c windows setup counted few ended happened taken = record {
   windows = windows;
   is = refl;
   setup = setup;
@@ -62,7 +60,6 @@ happened_later t u s le happened = record { closed = closed s.closed happened.cl
 
 pub shows_later : (q : Setup) (t u : ℕ) (c : CourseState) (d : Device) → t ≤ u → CourseShows q t c d → CourseShows q u c d
 shows_later q t u c d le shows = record {
-  drops = shows.drops;
   windows = shows.windows;
   is = shows.is;
   setup = shows.setup;

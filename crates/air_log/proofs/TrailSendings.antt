@@ -36,7 +36,6 @@ module _ (Q : List Sending → Type 0) where
     without_alarm = λ d all. all;
     off = λ d boots all. all;
     after_sending = λ d all. all;
-    dropping = λ frame i d all. all;
   }
 
 -- one more that comes after all

@@ -82,7 +82,6 @@ kept clock s t = record {
   without_alarm = λ d all. all;
   off = λ d boots all. silent s.id t d all;
   after_sending = λ d all. all;
-  dropping = λ frame i d all. all;
 }
 
 -- the start of a transmission leaves the radio on

@@ -13,11 +13,10 @@ use Rattle.scenario_text.specs.ScenarioParts.{ScenarioParts}
 use Rattle.scenario_text.specs.declared.script.Act.{Act}
 use Rattle.scenario_text.specs.declared.script.Act.TheVariants.{On, Off as OffOf, Declare, Leave, Put}
 use Rattle.scenario_text.specs.declared.script.ScriptLine.{ScriptLine}
-use Rattle.bus_rules.specs.States.{refuses, queues}
 use Rattle.bus_rules.specs.Cores.{Setup}
 use Rattle.node_core.specs.Nodes.{rebooted}
 use Rattle.air_log.specs.Devices.{Device, Power, PowerOff, PowerOn, Listening, OrderedPacket, obeyed, silenced, tunes, with_tuning, listens_to, event}
-use Rattle.air_log.specs.ScriptedDevices.{device_after_act, device_after_line, dropped, with_new_core}
+use Rattle.air_log.specs.ScriptedDevices.{device_after_act, device_after_line}
 use Rattle.air_log.specs.Trails.{Reception, setup_of, device_after_start, begun_by, starts, alarmed, before_tick, before_start}
 use Rattle.air_log.proofs.KeptByEvents.{IsKept, in_event, in_alarms, in_tick}
 use Rattle.air_log.specs.TunedTimes.{CoversTick, listened}
@@ -172,27 +171,25 @@ module _ (clock : ℕ → ℕ) (s : Setup) (t : ℕ) (es : List Tuning) (l : Opt
     without_alarm = λ d is. is;
     off = λ d boots is. stays_on t es l d.made.tuned d.listening _ _ is (silenced_stays s.id t d is.by);
     after_sending = λ d is. is;
-    dropping = λ frame i d is. is;
   }
 
   pub event_as : (e : Event) (x : Option Sending) (d : Device) → As d → As (event clock s t e x d)
   event_as e x d is = in_event As clock s t e x d kept is
 
-  act_as : (frame : ℕ) (d : Device) (a : Act) (p : Power) → As d → As (device_after_act clock s t frame d a p)
-  act_as frame d On (PowerOff boots) is = event_as Boot None (record d { power = PowerOn (rebooted (boots + 1)) }) is
-  act_as frame d On (PowerOn n) is = is
-  act_as frame d OffOf (PowerOff boots) is = is
-  act_as frame d OffOf (PowerOn n) is = kept.off d n.core.boot is
-  act_as frame d (Declare i interval) (PowerOff boots) is = is
-  act_as frame d (Declare i interval) (PowerOn n) is = is
-  act_as frame d (Leave i) (PowerOff boots) is = is
-  act_as frame d (Leave i) (PowerOn n) is = is
-  act_as frame d (Put i payload) (PowerOff boots) is = is
-  act_as frame d (Put i payload) (PowerOn n) is =
-      cond_both (refuses i n.core) (dropped s.id frame i d) (with_new_core d n (queues i payload n.core)) As (λ at. is) (λ at. is)
+  act_as : (d : Device) (a : Act) (p : Power) → As d → As (device_after_act clock s t d a p)
+  act_as d On (PowerOff boots) is = event_as Boot None (record d { power = PowerOn (rebooted (boots + 1)) }) is
+  act_as d On (PowerOn n) is = is
+  act_as d OffOf (PowerOff boots) is = is
+  act_as d OffOf (PowerOn n) is = kept.off d n.core.boot is
+  act_as d (Declare i interval) (PowerOff boots) is = is
+  act_as d (Declare i interval) (PowerOn n) is = is
+  act_as d (Leave i) (PowerOff boots) is = is
+  act_as d (Leave i) (PowerOn n) is = is
+  act_as d (Put i payload) (PowerOff boots) is = is
+  act_as d (Put i payload) (PowerOn n) is = is
 
   pub line_as : (d : Device) (line : ScriptLine) → As d → As (device_after_line clock s t d line)
-  line_as d line is = act_as line.frame d line.act d.power is
+  line_as d line is = act_as d line.act d.power is
 
   pub lines_as : (d : Device) (lines : List ScriptLine) → As d → As (fold (device_after_line clock s t) d lines)
   lines_as d [] is = is

@@ -5,7 +5,6 @@ use Rattle.radio_model.specs.declared.sending.Sending.{Sending}
 use Rattle.std.specs.Option.{option_map}
 use Rattle.radio_model.specs.OnAir.{Hearing, Tuning}
 use Rattle.bus_rules.specs.declared.delivery.Delivery.{Delivery}
-use Rattle.bus_rules.specs.declared.delivery.DropLine.{DropLine}
 use Rattle.bus_rules.specs.Cores.{Setup}
 use Rattle.air_log.specs.declared.entry.Entry.{Entry}
 use Rattle.air_log.specs.declared.entry.HeardEntry.{HeardEntry}
@@ -25,15 +24,14 @@ pub record CourseState : Type 0 where
   pub deliveries : List Delivery
   pub windows : WindowSum
 
--- all that was made, with these drops and windows, which are not kept
-abbrev pub made_in : CourseState → List DropLine → List WindowLog → Made
-made_in c drops windows = record { sent = c.sent; tuned = c.tuned; deliveries = c.deliveries; drops = drops; windows = windows }
+-- all that was made, with these windows, which are not kept
+abbrev pub made_in : CourseState → List WindowLog → Made
+made_in c windows = record { sent = c.sent; tuned = c.tuned; deliveries = c.deliveries; windows = windows }
 
 -- at tick t it is this device of a trace
 pub record CourseShows (q : Setup) (t : ℕ) (c : CourseState) (d : Device) : Type 0 where
-  pub drops : List DropLine
   pub windows : List WindowLog
-  pub is : whole c.device (made_in c drops windows) ≡ d
+  pub is : whole c.device (made_in c windows) ≡ d
   pub setup : c.device.setup ≡ q
   pub counted : IsCounted q.profile q.sends windows c.windows
   pub few : q.sends ≤ 4

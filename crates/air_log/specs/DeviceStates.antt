@@ -10,7 +10,6 @@ use Rattle.lwb_base.specs.declared.order.Order.TheVariants.{Listen, Off, SendAt,
 use Rattle.radio_model.specs.declared.sending.Sending.{Sending}
 use Rattle.radio_model.specs.OnAir.{Tuning}
 use Rattle.bus_rules.specs.declared.delivery.Delivery.{Delivery}
-use Rattle.bus_rules.specs.declared.delivery.DropLine.{DropLine}
 use Rattle.bus_rules.specs.Cores.{Setup}
 use Rattle.node_core.specs.Nodes.{Node, NodeState}
 use Rattle.node_core.specs.Rows.{Stepped, row}
@@ -126,11 +125,6 @@ told_of clock s t (Some x) d = event clock s t Sent (Some x) d
 abbrev pub CanBoot : Power → Type 0
 CanBoot (PowerOff boots) = boots < MOST_BOOTS
 CanBoot (PowerOn n) = ⊤
-
--- a packet that is lost, or none
-abbrev pub with_drop : Option DropLine → Made → Made
-with_drop None made = made
-with_drop (Some drop) made = record made { drops = made.drops ++ drop ∷ [] }
 
 -- the node core of a device
 abbrev pub core_in : DeviceState → NodeState

@@ -9,7 +9,6 @@ use Rattle.tick_clock.specs.Clocks.{due}
 use Rattle.radio_model.specs.declared.sending.Sending.{Sending}
 use Rattle.radio_model.specs.OnAir.{Tuning, goes_on_with}
 use Rattle.bus_rules.specs.declared.delivery.Delivery.{Delivery}
-use Rattle.bus_rules.specs.declared.delivery.DropLine.{DropLine}
 use Rattle.bus_rules.specs.Cores.{Setup}
 use Rattle.bus_rules.specs.States.{State, StateOff, StateOn}
 use Rattle.node_core.specs.Nodes.{Node}
@@ -46,13 +45,11 @@ pub record OrderedPacket : Type 0 where
   pub tick : ℕ
   pub packet : List ℕ
 
--- all that a node has made: transmissions, deliveries and drops in their order, tunings that ended and windows with the last
--- first
+-- all that a node has made: transmissions and deliveries in their order, tunings that ended and windows with the last first
 pub record Made : Type 0 where
   pub sent : List Sending
   pub tuned : List Tuning
   pub deliveries : List Delivery
-  pub drops : List DropLine
   pub windows : List WindowLog
 
 -- the node, its radio, its one alarm with the tick, its one ordered transmission, and its transmission that runs
@@ -65,7 +62,7 @@ pub record Device : Type 0 where
   pub made : Made
 
 abbrev pub nothing_made : Made
-nothing_made = record { sent = []; tuned = []; deliveries = []; drops = []; windows = [] }
+nothing_made = record { sent = []; tuned = []; deliveries = []; windows = [] }
 
 -- before the run
 abbrev pub at_rest : Device

@@ -31,11 +31,15 @@ drop_by l (Declare i interval) power = None
 drop_by l (Leave i) power = None
 drop_by l (Put i payload) power = if loses i (state_of_power power) then Some (record { frame = l.frame; node = l.node; stream = i }) else None
 
+-- what a line loses at a node of this power
+abbrev pub drop_of_line : ScriptLine → Power → Option DropLine
+drop_of_line l power = drop_by l l.act power
+
 -- what these lines lose, where the others are above them
 abbrev pub trail_drops_below : ScenarioParts → (ℕ → ℕ → ℕ) → List Entry → List ScriptLine → List ScriptLine → List DropLine
 trail_drops_below s clocks air above [] = []
 trail_drops_below s clocks air above (l ∷ ls) =
-    option_to_list (drop_by l l.act (device_before_line s clocks air above l).power) ++ trail_drops_below s clocks air (above ++ l ∷ []) ls
+    option_to_list (drop_of_line l (device_before_line s clocks air above l).power) ++ trail_drops_below s clocks air (above ++ l ∷ []) ls
 
 -- in the order of the text
 abbrev pub drops_of : ScenarioParts → (ℕ → ℕ → ℕ) → List Entry → List DropLine

@@ -1,17 +1,13 @@
 -- What script lines do to a node with its radio.
-use Rattle.std.specs.Prelude.{ℕ, ◌+◌, List, [], ◌∷◌, ◌++◌, if◌then◌else◌, None, ⊤}
+use Rattle.std.specs.Prelude.{ℕ, ◌+◌, None, ⊤}
 use Rattle.lwb_base.specs.declared.event.Event.TheVariants.{Boot}
 use Rattle.scenario_text.specs.declared.script.Act.{Act}
 use Rattle.scenario_text.specs.declared.script.Act.TheVariants.{On, Off, Declare, Leave, Put}
 use Rattle.scenario_text.specs.declared.script.ScriptLine.{ScriptLine}
 use Rattle.bus_rules.specs.Cores.{Core, Setup}
-use Rattle.bus_rules.specs.States.{declares, leaves, refuses, queues}
+use Rattle.bus_rules.specs.States.{declares, leaves, puts}
 use Rattle.node_core.specs.Nodes.{Node, rebooted}
 use Rattle.air_log.specs.Devices.{Device, Power, PowerOff, PowerOn, event, silenced}
-
--- a put of this frame that is lost
-abbrev pub dropped : ℕ → ℕ → ℕ → Device → Device
-dropped node frame stream d = record d { made = record (d.made) { drops = d.made.drops ++ record { frame = frame; node = node; stream = stream } ∷ [] } }
 
 -- power comes on: the next boot
 abbrev pub device_after_on : (ℕ → ℕ) → Setup → ℕ → ℕ → Device → Device
@@ -24,10 +20,6 @@ device_after_off node t n d = record (silenced node t d) { power = PowerOff n.co
 abbrev pub with_new_core : Device → Node → Core → Device
 with_new_core d n core = record d { power = PowerOn (record n { core = core }) }
 
-abbrev pub put_or_dropped : Setup → ℕ → ℕ → List ℕ → Device → Node → Device
-put_or_dropped s frame i payload d n =
-    if refuses i n.core then dropped s.id frame i d else with_new_core d n (queues i payload n.core)
-
 -- all but those on power
 abbrev pub IsForStream : Act → Type 0
 IsForStream On = ⊥
@@ -36,19 +28,19 @@ IsForStream (Declare i interval) = ⊤
 IsForStream (Leave i) = ⊤
 IsForStream (Put i payload) = ⊤
 
--- what is done at tick t, in this frame
-abbrev pub device_after_act : (ℕ → ℕ) → Setup → ℕ → ℕ → Device → Act → Power → Device
-device_after_act clock s t frame d On (PowerOff boots) = device_after_on clock s t boots d
-device_after_act clock s t frame d On (PowerOn n) = d
-device_after_act clock s t frame d Off (PowerOff boots) = d
-device_after_act clock s t frame d Off (PowerOn n) = device_after_off s.id t n d
-device_after_act clock s t frame d (Declare i interval) (PowerOff boots) = d
-device_after_act clock s t frame d (Declare i interval) (PowerOn n) = with_new_core d n (declares i interval n.core)
-device_after_act clock s t frame d (Leave i) (PowerOff boots) = d
-device_after_act clock s t frame d (Leave i) (PowerOn n) = with_new_core d n (leaves i n.core)
-device_after_act clock s t frame d (Put i payload) (PowerOff boots) = dropped s.id frame i d
-device_after_act clock s t frame d (Put i payload) (PowerOn n) = put_or_dropped s frame i payload d n
+-- what is done at tick t. An act for a stream changes the core of a node that is on, and nothing else
+abbrev pub device_after_act : (ℕ → ℕ) → Setup → ℕ → Device → Act → Power → Device
+device_after_act clock s t d On (PowerOff boots) = device_after_on clock s t boots d
+device_after_act clock s t d On (PowerOn n) = d
+device_after_act clock s t d Off (PowerOff boots) = d
+device_after_act clock s t d Off (PowerOn n) = device_after_off s.id t n d
+device_after_act clock s t d (Declare i interval) (PowerOff boots) = d
+device_after_act clock s t d (Declare i interval) (PowerOn n) = with_new_core d n (declares i interval n.core)
+device_after_act clock s t d (Leave i) (PowerOff boots) = d
+device_after_act clock s t d (Leave i) (PowerOn n) = with_new_core d n (leaves i n.core)
+device_after_act clock s t d (Put i payload) (PowerOff boots) = d
+device_after_act clock s t d (Put i payload) (PowerOn n) = with_new_core d n (puts i payload n.core)
 
 -- what a line of the node says, at tick t
 abbrev pub device_after_line : (ℕ → ℕ) → Setup → ℕ → Device → ScriptLine → Device
-device_after_line clock s t d l = device_after_act clock s t l.frame d l.act d.power
+device_after_line clock s t d l = device_after_act clock s t d l.act d.power

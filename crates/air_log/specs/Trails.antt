@@ -69,9 +69,13 @@ alarms clock s t true (suc more) d =
     let after = one_alarm clock s t d in
     alarms clock s t (alarm_is_due t after.alarm) more after
 
--- by a clock that keeps the drift law there are never as many as this
+-- The recursion needs a limit. By a clock that keeps the drift law it cuts no alarm off: they end within it, by the law
+-- `alarms_of_a_tick_end` (src/trail_laws.rt)
+abbrev pub alarm_limit : (ℕ → ℕ) → ℕ → ℕ
+alarm_limit clock t = clock t + 300
+
 abbrev pub alarmed : (ℕ → ℕ) → Setup → ℕ → Device → Device
-alarmed clock s t d = alarms clock s t (alarm_is_due t d.alarm) (clock t + 300) d
+alarmed clock s t d = alarms clock s t (alarm_is_due t d.alarm) (alarm_limit clock t) d
 
 -- fifth: the start of the ordered transmission. It has no effect where the radio is off or the node still sends
 abbrev pub sending_from : Setup → ℕ → List ℕ → Listening → Sending

@@ -6,7 +6,8 @@ ghost use Rattle.scenario_text.specs.ScenarioFacts.{IsAct};
 ghost use Rattle.scenario_text.specs.declared.script.Act.TheVariants.{On, Off};
 ghost use Rattle.air_log.specs.Devices.{Made, event, power_is_on};
 ghost use Rattle.air_log.specs.ScriptedDevices.{IsForStream, device_after_act};
-ghost use Rattle.air_log.specs.DeviceStates.{whole, with_tuned, with_drop, HappenedBy, IsSameNode, CanBoot};
+ghost use Rattle.air_log.specs.DeviceStates.{whole, with_tuned, HappenedBy, IsSameNode, CanBoot};
+ghost use Rattle.air_log.specs.Drops.{drop_of_line};
 
 use crate::TunedEntry;
 use crate::device::Device;
@@ -18,8 +19,8 @@ impl Device {
     /// Power comes on. Returns `true` if and only if it was off; then the node has to be notified of its boot.
     pub fn switch_on(&mut self) -> bool
         requires { CanBoot self.old.power }
-        ensures whole { (clock : ℕ → ℕ) (t frame : ℕ) (made : Made)
-            → device_after_act clock self.old.setup t frame (whole self.old made) On self.old.power
+        ensures whole { (clock : ℕ → ℕ) (t : ℕ) (made : Made)
+            → device_after_act clock self.old.setup t (whole self.old made) On self.old.power
             ≡ (if result then event clock self.old.setup t Boot None (whole self.new made) else whole self.new made) }
         ensures after { self.new ≡ (if result then record self.old { core = self.new.core; power = self.new.power; delivery = None } else self.old) }
         ensures time { (now : ℕ) → HappenedBy now self.old → HappenedBy now self.new }
@@ -36,8 +37,8 @@ impl Device {
     /// Power goes off at tick t, and with it the radio, the alarm and what is ordered; a running transmission goes on. A tuning
     /// that does not go on any more is handed out.
     pub fn switch_off(&mut self, t: u64) -> Option<TunedEntry>
-        ensures whole { (clock : ℕ → ℕ) (frame : ℕ) (made : Made)
-            → device_after_act clock self.old.setup t frame (whole self.old made) Off self.old.power ≡ whole self.new (with_tuned result made) }
+        ensures whole { (clock : ℕ → ℕ) (made : Made)
+            → device_after_act clock self.old.setup t (whole self.old made) Off self.old.power ≡ whole self.new (with_tuned result made) }
         ensures before { IfSome result (λ e. e.end < t) }
         ensures own { IfSome result (λ e. e.node ≡ self.old.setup.id) }
         ensures time { HappenedBy t self.old → HappenedBy t self.new }
@@ -59,7 +60,8 @@ impl Device {
         requires stream { IsForStream act.now }
         requires range { IsAct self.old.setup.profile act.now }
         ensures whole { (clock : ℕ → ℕ) (t : ℕ) (made : Made)
-            → device_after_act clock self.old.setup t frame (whole self.old made) act.now self.old.power ≡ whole self.new (with_drop result made) }
+            → device_after_act clock self.old.setup t (whole self.old made) act.now self.old.power ≡ whole self.new made }
+        ensures lost { result ≡ drop_of_line (record { frame = frame; node = self.old.setup.id; act = act.now }) self.old.power }
         ensures time { (now : ℕ) → HappenedBy now self.old → HappenedBy now self.new }
         ensures node { IsSameNode self.old self.new }
         ensures off { power_is_on self.old.power ≡ false → self.new ≡ self.old }

@@ -7,6 +7,7 @@ ghost use Rattle.tick_clock.specs.Clocks.{IsClock};
 ghost use Rattle.air_log.specs.AlarmRuns.{IsAlarmRun};
 ghost use Rattle.air_log.specs.Trails.{Reception, device_after_reception, device_after_receptions, setup_of, run_end, before_alarms, before_start, before_tick};
 ghost use Rattle.air_log.specs.Trails.{trail};
+ghost use Rattle.air_log.specs.Courses.{AlarmsEnd};
 ghost use Rattle.air_log.specs.QuietTicks.{IsQuiet, ends_before};
 ghost use Rattle.air_log.specs.Ahead.{IsAhead, NextDue};
 ghost use Rattle.air_log.specs.FirstRound.{IsWorked, first_round, first_round_log, first_round_heard_by_host};
@@ -46,13 +47,12 @@ pub fn hearings_in_turn_are_taken_as_they_stand()
         → heard_by air v ≡ map reception_of (hearings_by air v) }
 {}
 
-/// Alarms of a tick come to an end, whatever a node receives: they are due one after another, until none is. So whoever takes
-/// them one after another until none is due comes to the same.
+/// Alarms of a tick come to an end, whatever a node receives: they are due one after another, until none is, so the limit of a
+/// trace (`alarm_limit`) cuts none off. So whoever takes them one after another until none is due comes to the same.
 pub fn alarms_of_a_tick_end()
     ensures end { (s : ScenarioParts) (v : ℕ) (clock : ℕ → ℕ) (hs : List Reception) (t : ℕ)
         → IsSoundScenario s → IsClock clock → t ≤ run_end s
-        → IsAlarmRun clock (setup_of s v) t (before_alarms s v clock hs t (before_tick s v clock hs t))
-        (before_start s v clock hs t (before_tick s v clock hs t)) }
+        → AlarmsEnd clock (setup_of s v) t (before_alarms s v clock hs t (before_tick s v clock hs t)) }
     ensures agree { (clock : ℕ → ℕ) (s : Setup) (t : ℕ) (d e f : Device)
         → IsAlarmRun clock s t d e → IsAlarmRun clock s t d f → e ≡ f }
 {}

@@ -24,7 +24,7 @@ use Rattle.scenario_text.specs.declared.script.Act.TheVariants.{Off}
 use Rattle.scenario_text.specs.declared.script.ScriptLine.{ScriptLine}
 use Rattle.air_log.specs.declared.entry.Entry.{Entry}
 use Rattle.air_log.specs.Devices.{Device, Power, PowerOff, PowerOn, Listening, OrderedPacket, listens_to, moved}
-use Rattle.air_log.specs.ScriptedDevices.{device_after_on, device_after_off, with_new_core, dropped}
+use Rattle.air_log.specs.ScriptedDevices.{device_after_on, device_after_off, with_new_core}
 use Rattle.air_log.specs.Lawful.{heard_by}
 use Rattle.air_log.specs.Safe.{sender_hosts, is_hosting}
 use Rattle.air_log.specs.Trails.{setup_of, sending_from, tune_of}
@@ -233,10 +233,6 @@ module _ (s : ScenarioParts) (clocks : ℕ → ℕ → ℕ) (air : List Entry) (
         putting = λ d l n i payload here next act on taken. (
           rows.putting s clocks air v t at d l n i payload (fine t Lines d here) next act on taken,
           still t d (with_new_core d n (queues i payload n.core)) refl (told t d n on) here.holds.1,
-        );
-        loss = λ d l i payload here next act lost. (
-          rows.loss s clocks air v t at d l i payload (fine t Lines d here) next act lost,
-          still t d (dropped v l.frame i d) refl (λ host. host) here.holds.1,
         );
         joining = λ d h n y here next on stage says rank. (
           rows.joining s clocks air v t at d h n y (fine t Hearings d here) next on stage says rank,

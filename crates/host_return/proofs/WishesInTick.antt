@@ -10,7 +10,7 @@ use Rattle.lwb_base.specs.declared.event.Event.{Event}
 use Rattle.lwb_base.specs.declared.event.Event.TheVariants.{Alarm, Heard, Sent}
 use Rattle.bus_rules.specs.Streams.{Stream, no_stream, cleared, stream_at, wishes, emptied, refuses as drops, queued, put_to}
 use Rattle.bus_rules.specs.States.{refuses, queues}
-use Rattle.bus_rules.specs.Cores.{Setup}
+use Rattle.bus_rules.specs.Cores.{Core, Setup}
 use Rattle.node_core.specs.Nodes.{Node}
 use Rattle.node_core.specs.Rows.{Stepped, row, node_after}
 use Rattle.radio_model.specs.declared.sending.Sending.{Sending}
@@ -20,7 +20,7 @@ use Rattle.scenario_text.specs.declared.script.Act.{Act}
 use Rattle.scenario_text.specs.declared.script.Act.TheVariants.{On, Off, Declare, Leave, Put}
 use Rattle.scenario_text.specs.declared.script.ScriptLine.{ScriptLine}
 use Rattle.air_log.specs.Devices.{Device, Power, PowerOff, PowerOn, Listening, OrderedPacket, event, event_by}
-use Rattle.air_log.specs.ScriptedDevices.{device_after_act, device_after_line, dropped, with_new_core}
+use Rattle.air_log.specs.ScriptedDevices.{device_after_act, device_after_line}
 use Rattle.air_log.specs.Trails.{Reception, device_after_reception, device_ended_by, alarm_is_due, alarms, one_alarm, begun_by, starts}
 use Rattle.law_trails.proofs.RowsOfDevices.{switched_on_is}
 use Rattle.air_log.proofs.EventPower.{stepped_power}
@@ -130,17 +130,17 @@ module _ (i : ℕ) where
         cond_both (o.tick == t) (starts s t o.packet d d.listening d.sending) d (λ (e : Device). IsTold w e.power)
         (λ now. moved_to w _ d.power (start_power o.packet d d.listening d.sending) was) (λ other. was)
 
-    by_act : (w : Wish) (p : Numbers) (frame : ℕ) (d : Device) (a : Act) (q : Power) → IsAct p a → d.power ≡ q → IsTold w q
-        → IsTold (told_by i a w) (device_after_act clock s t frame d a q).power
-    by_act w p frame d On (PowerOff boots) range at was =
+    by_act : (w : Wish) (p : Numbers) (d : Device) (a : Act) (q : Power) → IsAct p a → d.power ≡ q → IsTold w q
+        → IsTold (told_by i a w) (device_after_act clock s t d a q).power
+    by_act w p d On (PowerOff boots) range at was =
         let on = switched_on_is clock s t boots d in
         moved_to _ _ _ on.power (record { four = refl; is = ap (λ (k : ℕ). (true, k)) (cleared_wish i) ∙ ap (λ (u : Wish). (true, u.1)) was.is })
-    by_act w p frame d On (PowerOn n) range at was = moved_to _ _ _ at (record { four = was.four; is = ap (λ (u : Wish). (true, u.1)) was.is })
-    by_act w p frame d Off (PowerOff boots) range at was = moved_to _ _ _ at (record { four = tt; is = refl })
-    by_act w p frame d Off (PowerOn n) range at was = record { four = tt; is = refl }
-    by_act w p frame d (Declare j interval) (PowerOff boots) range at was =
+    by_act w p d On (PowerOn n) range at was = moved_to _ _ _ at (record { four = was.four; is = ap (λ (u : Wish). (true, u.1)) was.is })
+    by_act w p d Off (PowerOff boots) range at was = moved_to _ _ _ at (record { four = tt; is = refl })
+    by_act w p d Off (PowerOn n) range at was = record { four = tt; is = refl }
+    by_act w p d (Declare j interval) (PowerOff boots) range at was =
         moved_to _ _ _ at (record { four = tt; is = ap (λ (u : Wish). (u.0, if u.0 && (j == i) then interval else u.1)) was.is })
-    by_act w p frame d (Declare j interval) (PowerOn n) range at was =
+    by_act w p d (Declare j interval) (PowerOn n) range at was =
         let all = n.core.streams.all in
         let x = wishes interval (stream_at n.core.streams j) in
         record {
@@ -148,13 +148,13 @@ module _ (i : ℕ) where
           is = ap (λ (k : ℕ). (true, k)) (set_new all j i x (omega (arith, range.0, was.four)))
               ∙ ap (λ (u : Wish). (u.0, if u.0 && (j == i) then interval else u.1)) was.is;
         }
-    by_act w p frame d (Leave j) (PowerOff boots) range at was =
+    by_act w p d (Leave j) (PowerOff boots) range at was =
         moved_to _ _ _ at (record {
           four = tt;
           is = cond_both (j == i) 0 0 (λ (k : ℕ). ◌≡◌ {A = Wish} (false, 0) (false, k)) (λ is. refl) (λ is. refl)
               ∙ ap (λ (u : Wish). (u.0, if j == i then 0 else u.1)) was.is;
         })
-    by_act w p frame d (Leave j) (PowerOn n) range at was =
+    by_act w p d (Leave j) (PowerOn n) range at was =
         let all = n.core.streams.all in
         let x = emptied (stream_at n.core.streams j) in
         record {
@@ -162,11 +162,10 @@ module _ (i : ℕ) where
           is = ap (λ (k : ℕ). (true, k)) (set_new all j i x (omega (arith, range, was.four)))
               ∙ ap (λ (u : Wish). (u.0, if j == i then 0 else u.1)) was.is;
         }
-    by_act w p frame d (Put j payload) (PowerOff boots) range at was = moved_to _ _ _ at was
-    by_act w p frame d (Put j payload) (PowerOn n) range at was =
+    by_act w p d (Put j payload) (PowerOff boots) range at was = moved_to _ _ _ at was
+    by_act w p d (Put j payload) (PowerOn n) range at was =
         let x = put_to payload (stream_at n.core.streams j) in
-        cond_both (refuses j n.core) (dropped s.id frame j d) (with_new_core d n (queues j payload n.core)) (λ (e : Device). IsTold w e.power)
-        (λ lost. moved_to w _ _ at was)
+        cond_both (refuses j n.core) n.core (queues j payload n.core) (λ (c : Core). IsTold w (PowerOn (record n { core = c }))) (λ lost. was)
         (λ kept. after_same w n (record n { core = queues j payload n.core })
         (with_same n.core.streams j x (put_wish payload (stream_at n.core.streams j))) was)
 
@@ -175,4 +174,4 @@ module _ (i : ℕ) where
     lines_told w p [] d ranges was = was
     lines_told w p (l ∷ ls) d ranges was =
         lines_told (told_by i l.act w) p ls (device_after_line clock s t d l) (λ m there. ranges m (in_tail ls l m there))
-        (by_act w p l.frame d l.act d.power (ranges l (in_head ls l)) refl was)
+        (by_act w p d l.act d.power (ranges l (in_head ls l)) refl was)

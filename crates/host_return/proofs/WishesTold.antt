@@ -1,5 +1,5 @@
 -- What a stream of a node requests is given by the script alone.
-use Rattle.std.proofs.Common.{◌≡◌, ℕ, zero, suc, ◌+◌, ◌*◌, ◌≤◌, List, [], ◌∷◌, Bool, true, false, ◌&&◌, ◌||◌, ◌==◌, nat_lt, nat_le, if◌then◌else◌}
+use Rattle.std.proofs.Common.{◌≡◌, ℕ, zero, suc, ◌*◌, ◌≤◌, List, [], ◌∷◌, Bool, true, false, ◌&&◌, ◌||◌, ◌==◌, nat_lt, nat_le, if◌then◌else◌}
 use Rattle.std.proofs.Common.{fold, filter, refl, sym, ◌∙◌, ap, subst, arith, inl, inr, Contains, lt-ltb}
 use Rattle.std.specs.List.{AllByRecursion}
 use Rattle.std.proofs.lemmas.Bool.{cond_both, cases_lt, cases_order, le-ltb, le-leb, lt-leb, eq-eqb, ne_eqb}
@@ -14,7 +14,7 @@ use Rattle.scenario_text.specs.declared.script.Act.TheVariants.{On, Off, Declare
 use Rattle.scenario_text.specs.declared.script.ScriptLine.{ScriptLine}
 use Rattle.scenario_text.proofs.EachPair.{pairs_climb}
 use Rattle.air_log.specs.Devices.{Device, Power, PowerOff, PowerOn}
-use Rattle.air_log.specs.Trails.{Reception, setup_of, frame_start, lines_at, device_after_script, ending_at, device_after_receptions, alarm_is_due}
+use Rattle.air_log.specs.Trails.{Reception, setup_of, frame_start, lines_at, device_after_script, ending_at, device_after_receptions, alarm_is_due, alarm_limit}
 use Rattle.air_log.specs.Trails.{before_alarms, before_start, before_tick, at_frame}
 use Rattle.lwb_base.proofs.Elements.{filtered}
 use Rattle.law_safety.proofs.RunFacts.{frame_lasts}
@@ -109,7 +109,7 @@ module _ (s : ScenarioParts) (sound : IsSoundScenario s) (v i : ℕ) (clock : �
       let d3 = before_alarms s v clock hs t d in
       let d4 = before_start s v clock hs t d in
       begun_told i clock x t w d4 d4.ordered
-      (alarms_told i clock x t w (alarm_is_due t d3.alarm) (clock t + 300) d3
+      (alarms_told i clock x t w (alarm_is_due t d3.alarm) (alarm_limit clock t) d3
       (end_told i clock x t w d2 d2.sending
       (hearings_told i clock x t w (ending_at t hs) d1 (scripted_told t d (tick_told t)))))
 

@@ -114,7 +114,6 @@ module _ (t : ℕ) (first : WindowLog) where
     without_alarm = λ d is. is;
     off = λ d boots is. is;
     after_sending = λ d is. is;
-    dropping = λ frame i d is. is;
   }
 
   module _ (s : ScenarioParts) (v : ℕ) (clock : ℕ → ℕ) (hs : List Reception) where

@@ -59,7 +59,6 @@ module _ (s : ScenarioParts) (clocks : ℕ → ℕ → ℕ) (air : List Entry) (
     declaring = rows.declaring s clocks air v t at;
     leaving = rows.leaving s clocks air v t at;
     putting = rows.putting s clocks air v t at;
-    loss = rows.loss s clocks air v t at;
     joining = rows.joining s clocks air v t at;
     hearing = rows.hearing s clocks air v t at;
     sent = rows.sent s clocks air v t at;

@@ -1,7 +1,5 @@
--- Other streams of a node, and other drops of its device, leave the clauses of its frame, its alarm, its tune, its radio and
--- what it has begun.
-use Rattle.std.proofs.Common.{◌≡◌, ℕ, inl, inr, List, Bool, true, false, refl, sym, subst}
-use Rattle.bus_rules.specs.declared.delivery.DropLine.{DropLine}
+-- Other streams of a node leave the clauses of its frame, its alarm, its tune, its radio and what it has begun.
+use Rattle.std.proofs.Common.{◌≡◌, ℕ, inl, inr, Bool, true, false, refl, sym, subst}
 use Rattle.bus_rules.specs.declared.tune.Tune.{Tune}
 use Rattle.bus_rules.specs.declared.tune.Tune.TheVariants.{Scan, Hold, Host}
 use Rattle.bus_rules.specs.Plans.{last_slot}
@@ -14,7 +12,7 @@ use Rattle.node_core.specs.Nodes.{with_streams}
 use Rattle.scenario_text.specs.ScenarioParts.{ScenarioParts}
 use Rattle.radio_model.specs.declared.sending.Sending.{Sending}
 use Rattle.air_log.specs.Devices.{Device, Power}
-use Rattle.law_safety.specs.StillDevices.{IsStill, IsOff}
+use Rattle.law_safety.specs.StillDevices.{IsStill}
 use Rattle.law_safety.specs.CountedFrames.{InFrame, BeganBy}
 use Rattle.law_safety.specs.SetAlarms.{HasAlarm, AlarmFor, rank_at}
 use Rattle.law_safety.specs.RoundZeros.{RefFor}
@@ -30,9 +28,9 @@ either_kept a b same P Q R S f g is = subst (λ (c : Bool). Either c R S) (sym s
     by true is = f is
     by false is = g is
 
--- the device of a node with these streams and drops
-abbrev pub with_drops : Device → Power → List DropLine → Device
-with_drops d p drops = record d { power = p; made = record (d.made) { drops = drops } }
+-- the same device but for its power
+abbrev pub with_power : Device → Power → Device
+with_power d p = record d { power = p }
 
 -- whether a node joins is no matter of its streams
 pub joins_same : (n : Node) (streams : Streams) (T : Tune) → by_hearing (with_streams n streams) T ≡ by_hearing n T
@@ -40,16 +38,13 @@ joins_same n streams (Scan r waited) = refl
 joins_same n streams (Hold r due) = refl
 joins_same n streams (Host r due) = refl
 
-pub still_kept : (d : Device) (p : Power) (drops : List DropLine) → IsStill d → IsStill (with_drops d p drops)
-still_kept d p drops is = record { ordered = is.ordered; sending = is.sending }
-
-pub off_kept : (d : Device) (p : Power) (drops : List DropLine) → IsOff d → IsOff (with_drops d p drops)
-off_kept d p drops is = record { alarm = is.alarm; radio = is.radio; still = still_kept d p drops is.still }
+pub still_kept : (d : Device) (p : Power) → IsStill d → IsStill (with_power d p)
+still_kept d p is = record { ordered = is.ordered; sending = is.sending }
 
 -- what was begun
-module _ (s : ScenarioParts) (d : Device) (p : Power) (drops : List DropLine) where
+module _ (s : ScenarioParts) (d : Device) (p : Power) where
   abbrev same_sent : Device
-  same_sent = with_drops d p drops
+  same_sent = with_power d p
 
   pub then_begun : (f : ℕ) (x : Sending) → HasBegun s f d x → HasBegun s f same_sent x
   then_begun f x is = record { sent = is.sent; first = is.first; frame = is.frame }
@@ -119,18 +114,18 @@ module _ (s : ScenarioParts) (clocks : ℕ → ℕ → ℕ) (v : ℕ) (n : Node)
   pub tune_kept : HasTune s clocks v n → HasTune s clocks v m
   tune_kept is = record { rank = is.rank; at = tuned_at n.stage is.at }
 
-  module _ (d : Device) (p : Power) (drops : List DropLine) where
+  module _ (d : Device) (p : Power) where
     abbrev e : Device
-    e = with_drops d p drops
+    e = with_power d p
 
     pub alarm_kept : HasAlarm s clocks v n d → HasAlarm s clocks v m e
     alarm_kept is = record { alarm = is.alarm; set = is.set; at = alarm_for is.alarm n.stage is.at }
 
     radio_for : (st : Stage) → RadioFor n d st → RadioFor m e st
     radio_for Idle is = is
-    radio_for Scanning is = (is.0, still_kept d p drops is.1)
-    radio_for AwaitFrame is = (is.0, still_kept d p drops is.1)
-    radio_for (AwaitSlot j) is = (is.0, still_kept d p drops is.1)
+    radio_for Scanning is = (is.0, still_kept d p is.1)
+    radio_for AwaitFrame is = (is.0, still_kept d p is.1)
+    radio_for (AwaitSlot j) is = (is.0, still_kept d p is.1)
     radio_for (InWindow j w) is = is
 
     pub radio_kept : HasRadio n d → HasRadio m e
@@ -138,20 +133,20 @@ module _ (s : ScenarioParts) (clocks : ℕ → ℕ → ℕ) (v : ℕ) (n : Node)
 
     begun_in_window : (j : ℕ) (w : Window) → BegunInWindow s n d j w → BegunInWindow s m e j w
     begun_in_window j w is = record {
-      below = λ x begun. is.below x (was_begun s d p drops n.frame x begun);
-      packet = λ x begun same. is.packet x (was_begun s d p drops n.frame x begun) same;
+      below = λ x begun. is.below x (was_begun s d p n.frame x begun);
+      packet = λ x begun same. is.packet x (was_begun s d p n.frame x begun) same;
       made = λ began. elim (is.made began) [
         | inl first ↦ inl first
-        | inr of ↦ inr (record { sending = of.sending; begun = then_begun s d p drops n.frame of.sending of.begun; slot = of.slot })
+        | inr of ↦ inr (record { sending = of.sending; begun = then_begun s d p n.frame of.sending of.begun; slot = of.slot })
       ];
     }
 
     begun_at : (st : Stage) → BegunAt s n d st → BegunAt s m e st
     begun_at Idle is = is
-    begun_at Scanning is = λ x begun. is x (was_begun s d p drops n.frame x begun)
+    begun_at Scanning is = λ x begun. is x (was_begun s d p n.frame x begun)
     begun_at AwaitFrame is = is
-    begun_at (AwaitSlot j) is = λ x begun. is x (was_begun s d p drops n.frame x begun)
+    begun_at (AwaitSlot j) is = λ x begun. is x (was_begun s d p n.frame x begun)
     begun_at (InWindow j w) is = begun_in_window j w is
 
     pub begun_kept : BeginsOnce s n d → BeginsOnce s m e
-    begun_kept is = record { at = begun_at n.stage is.at; once = once_kept s d p drops is.once }
+    begun_kept is = record { at = begun_at n.stage is.at; once = once_kept s d p is.once }

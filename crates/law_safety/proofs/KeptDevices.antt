@@ -1,6 +1,5 @@
--- What a device keeps whose node has other streams, or which dropped something: all that is known of it.
+-- What a device keeps whose node has other streams: all that is known of it.
 use Rattle.std.proofs.Common.{◌≡◌, ℕ, ◌/◌, ◌≤◌, List, subst, arith}
-use Rattle.bus_rules.specs.declared.delivery.DropLine.{DropLine}
 use Rattle.bus_rules.specs.Streams.{Streams}
 use Rattle.node_core.specs.Nodes.{Node}
 use Rattle.node_core.specs.Nodes.{with_streams}
@@ -11,7 +10,7 @@ use Rattle.law_trails.specs.Phases.{SilentBy}
 use Rattle.law_trails.specs.Lives.{Life}
 use Rattle.law_safety.specs.NodesInOrder.{IsOn, InOrderBy, IsInOrder}
 use Rattle.law_safety.specs.QuietHosts.{LivesAs, LivesBy, HostsInOrder}
-use Rattle.law_safety.proofs.KeptClauses.{with_drops, off_kept, once_kept}
+use Rattle.law_safety.proofs.KeptClauses.{with_power}
 use Rattle.law_safety.proofs.KeptPlans.{TellsOn, on_kept}
 
 -- a node that is on, in order
@@ -28,20 +27,19 @@ silent_by s clocks air v t told d (PowerOn n) is = tt
 pub silent_of : (s : ScenarioParts) (clocks : ℕ → ℕ → ℕ) (air : List Entry) (v t told : ℕ) (d : Device) → IsInOrder s clocks air v t told d → SilentBy d d.power
 silent_of s clocks air v t told d is = silent_by s clocks air v t told d d.power is.by_power
 
--- the same power, with other drops, after more of the script
+-- the same device, after more of the script
 pub power_kept : (s : ScenarioParts) (clocks : ℕ → ℕ → ℕ) (air : List Entry) (v told later : ℕ) → TellsOn s v told later
-    → (t : ℕ) (d : Device) (drops : List DropLine) (p : Power)
-    → InOrderBy s clocks air v t told d p → InOrderBy s clocks air v t later (with_drops d d.power drops) p
-power_kept s clocks air v told later on t d drops (PowerOff boots) is = (off_kept d d.power drops is.0, once_kept s d d.power drops is.1)
-power_kept s clocks air v told later on t d drops (PowerOn n) is = on_kept s clocks air v told later on n n.core.streams d d.power drops t is
+    → (t : ℕ) (d : Device) (p : Power) → InOrderBy s clocks air v t told d p → InOrderBy s clocks air v t later d p
+power_kept s clocks air v told later on t d (PowerOff boots) is = is
+power_kept s clocks air v told later on t d (PowerOn n) is = on_kept s clocks air v told later on n n.core.streams d d.power t is
 
 pub lives_kept : (l : Life) (n : Node) (streams : Streams) → LivesAs l n → LivesAs l (with_streams n streams)
 lives_kept l n streams is = record { on = is.on; frame = is.frame; tune = is.tune; plan = is.plan }
 
 -- a host with the same life
-pub host_kept : (s : ScenarioParts) (rank t told later : ℕ) → told ≤ later → (d : Device) (p : Power) (drops : List DropLine)
-    → (h : HostsInOrder s rank t told d) → LivesBy h.life (t / s.profile.frame) p → HostsInOrder s rank t later (with_drops d p drops)
-host_kept s rank t told later more d p drops h lives = record {
+pub host_kept : (s : ScenarioParts) (rank t told later : ℕ) → told ≤ later → (d : Device) (p : Power)
+    → (h : HostsInOrder s rank t told d) → LivesBy h.life (t / s.profile.frame) p → HostsInOrder s rank t later (with_power d p)
+host_kept s rank t told later more d p h lives = record {
   life = h.life;
   quiet = h.quiet;
   lives = lives;

@@ -1,11 +1,10 @@
--- Other streams of a node, and other drops of its device, leave the clauses of its plan and its window. And so does a script
--- that was given further, if no off line came.
+-- Other streams of a node leave the clauses of its plan and its window. And so does a script that was given further, if no off
+-- line came.
 use Rattle.std.proofs.Common.{ℕ, ◌≤◌, inl, inr, List, sym, ◌∙◌, arith}
 use Rattle.std.specs.Bool.{⊤}
 use Rattle.std.proofs.lemmas.Option.{IfSome_then}
 use Rattle.lwb_base.specs.Messages.{Plan}
 use Rattle.glossy_relay.specs.Relaying.{accepted_of}
-use Rattle.bus_rules.specs.declared.delivery.DropLine.{DropLine}
 use Rattle.bus_rules.specs.declared.tune.Tune.{Tune}
 use Rattle.bus_rules.specs.declared.tune.Tune.TheVariants.{Scan, Hold, Host}
 use Rattle.bus_rules.specs.Streams.{Streams}
@@ -27,7 +26,7 @@ use Rattle.law_safety.specs.OrderedSendings.{HeardIn, HasOrder}
 use Rattle.law_safety.specs.KnownPlans.{KnowsPlan, InRound, HasRound, PlanFor, PlanAt, HasPlan}
 use Rattle.law_safety.specs.AcceptedPackets.{IsAccepted, HasAccepted}
 use Rattle.law_safety.specs.NodesInOrder.{WindowAt, IsOn}
-use Rattle.law_safety.proofs.KeptClauses.{with_drops, joins_same, either_kept, frame_kept, alarm_kept, tune_kept, radio_kept, begun_kept}
+use Rattle.law_safety.proofs.KeptClauses.{with_power, joins_same, either_kept, frame_kept, alarm_kept, tune_kept, radio_kept, begun_kept}
 
 -- the script was given further, and brought no off line
 pub record TellsOn (s : ScenarioParts) (v told later : ℕ) : Type 0 where
@@ -133,9 +132,9 @@ module _ (s : ScenarioParts) (clocks : ℕ → ℕ → ℕ) (air : List Entry) (
         });
   }
 
-  module _ (d : Device) (p : Power) (drops : List DropLine) where
+  module _ (d : Device) (p : Power) where
     abbrev e : Device
-    e = with_drops d p drops
+    e = with_power d p
 
     flood_kept : (j : ℕ) (w : Window) → HasFlood s n d j w → HasFlood s m e j w
     flood_kept j w is = record {
@@ -164,10 +163,10 @@ module _ (s : ScenarioParts) (clocks : ℕ → ℕ → ℕ) (air : List Entry) (
     pub on_kept : (t : ℕ) → IsOn s clocks air v t told d n → IsOn s clocks air v t later e m
     on_kept t is = record {
       frame = frame_kept s clocks v n streams t is.frame;
-      alarm = alarm_kept s clocks v n streams d p drops is.alarm;
+      alarm = alarm_kept s clocks v n streams d p is.alarm;
       tune = tune_kept s clocks v n streams is.tune;
-      radio = radio_kept s clocks v n streams d p drops is.radio;
-      begun = begun_kept s clocks v n streams d p drops is.begun;
+      radio = radio_kept s clocks v n streams d p is.radio;
+      begun = begun_kept s clocks v n streams d p is.begun;
       plan = plan_kept is.plan;
       window = window_at n.stage is.window;
     }

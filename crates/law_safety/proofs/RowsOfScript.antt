@@ -1,6 +1,5 @@
--- The rows of the script: a node that is given something of its streams, loses a put, or goes off.
-use Rattle.std.proofs.Common.{◌≡◌, ℕ, ◌/◌, ◌≤◌, List, [], ◌∷◌, ◌++◌, length, refl, subst, arith}
-use Rattle.bus_rules.specs.declared.delivery.DropLine.{DropLine}
+-- The rows of the script: a node that is given something of its streams, or goes off.
+use Rattle.std.proofs.Common.{◌≡◌, ℕ, ◌/◌, ◌≤◌, List, length, refl, subst, arith}
 use Rattle.bus_rules.specs.Streams.{Streams, declared, streams_after_leaving, put}
 use Rattle.node_core.specs.Nodes.{Node}
 use Rattle.node_core.specs.Nodes.{with_streams}
@@ -15,11 +14,10 @@ use Rattle.law_trails.specs.Phases.{Lines, IsNextLineOf}
 use Rattle.law_trails.proofs.LifeSteps.{step_quiet}
 use Rattle.law_safety.specs.BegunFloods.{BeganOnce}
 use Rattle.law_safety.specs.QuietHosts.{LivesAs, LivesBy}
-use Rattle.law_safety.specs.Rows.{IsFine, AtTick, OffRow, DeclareRow, LeaveRow, PutRow, LossRow}
+use Rattle.law_safety.specs.Rows.{IsFine, AtTick, OffRow, DeclareRow, LeaveRow, PutRow}
 use Rattle.law_safety.proofs.RunFacts.{frame_in_run}
-use Rattle.law_safety.proofs.KeptClauses.{with_drops}
 use Rattle.law_safety.proofs.KeptPlans.{nothing_told, on_kept}
-use Rattle.law_safety.proofs.KeptDevices.{on_of, power_kept, lives_kept, host_kept}
+use Rattle.law_safety.proofs.KeptDevices.{on_of, lives_kept, host_kept}
 use Rattle.law_safety.proofs.FrameStarts.{frame_before, line_starts, rests_still, rests_at_start, counts_at_start}
 
 module _ (s : ScenarioParts) (clocks : ℕ → ℕ → ℕ) (air : List Entry) (v t : ℕ) where
@@ -30,23 +28,14 @@ module _ (s : ScenarioParts) (clocks : ℕ → ℕ → ℕ) (air : List Entry) (
       let m : Node = with_streams n streams in
       let is = on_of s clocks air v t t d n fine.node on in
       record {
-        node = record { by_power = on_kept s clocks air v t t (nothing_told s v t) n streams d (PowerOn m) d.made.drops t is };
+        node = record { by_power = on_kept s clocks air v t t (nothing_told s v t) n streams d (PowerOn m) t is };
         host = λ rank of.
             (let h = fine.host rank of in
             let lives : LivesAs h.life n = subst (λ (p : Power). LivesBy h.life (t / s.profile.frame) p) on h.lives in
-            host_kept s rank t t t (omega arith) d (PowerOn m) d.made.drops h (lives_kept h.life n streams lives));
+            host_kept s rank t t t (omega arith) d (PowerOn m) h (lives_kept h.life n streams lives));
         sent = fine.sent;
         before = fine.before;
       }
-
-  -- a put is lost
-  pub drops_told : (d : Device) (drops : List DropLine) → IsFine s clocks air v t Lines d → IsFine s clocks air v t Lines (with_drops d d.power drops)
-  drops_told d drops fine = record {
-    node = record { by_power = power_kept s clocks air v t t (nothing_told s v t) t d drops d.power fine.node.by_power };
-    host = λ rank of. (let h = fine.host rank of in host_kept s rank t t t (omega arith) d d.power drops h h.lives);
-    sent = fine.sent;
-    before = fine.before;
-  }
 
   -- what a node that goes off has begun, it began once
   pub once_off : (d : Device) (n : Node) → IsFine s clocks air v t Lines d → d.power ≡ PowerOn n
@@ -103,11 +92,6 @@ leave_row s clocks air v t at d l n i here next act on = streams_told s clocks a
 
 pub put_row : PutRow
 put_row s clocks air v t at d l n i payload here next act on taken = streams_told s clocks air v t d n (put i payload n.core.streams) here.holds on
-
-pub loss_row : LossRow
-loss_row s clocks air v t at d l i payload here next act lost =
-    let line : DropLine = record { frame = l.frame; node = v; stream = i } in
-    drops_told s clocks air v t d (d.made.drops ++ line ∷ []) here.holds
 
 pub off_row : OffRow
 off_row s clocks air v t at d l n here next act on = goes_off s clocks air v t at d l n here.holds next on

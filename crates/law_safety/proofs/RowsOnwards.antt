@@ -68,14 +68,14 @@ module _ (s : ScenarioParts) (clocks : ℕ → ℕ → ℕ) (air : List Entry) (
             subst (λ (e : Device). WentOff (clocks v) (setup_of s v) t (boots_of_power before.power) e) (sym enters)
             (went_off s v (clocks v) t before silent one.0 one.1 one.2) in
             record { by_power = went_by (boots_of_power before.power) d d.power went is.by_power }
-        | inr none ↦ record { by_power = power_kept s clocks air v t (suc t) (tells_on none) t d d.made.drops d.power is.by_power }
+        | inr none ↦ record { by_power = power_kept s clocks air v t (suc t) (tells_on none) t d d.power is.by_power }
       ]
 
   onwards : AtTick s clocks air v t → (phase : Phase) (d : Device) → IsFine s clocks air v t phase d
       → d ≡ device_at s v (clocks v) (heard_by air v) t (next_phase phase) → IsFine s clocks air v t (next_phase phase) d
   onwards tick Lines d fine enters = record {
     node = all_told tick d enters fine.node;
-    host = λ rank of. (let h = fine.host rank of in host_kept s rank t t (suc t) (omega arith) d d.power d.made.drops h h.lives);
+    host = λ rank of. (let h = fine.host rank of in host_kept s rank t t (suc t) (omega arith) d d.power h h.lives);
     sent = fine.sent;
     before = fine.before;
   }

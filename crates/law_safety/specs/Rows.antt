@@ -8,7 +8,7 @@ use Rattle.air_log.specs.Lawful.{heard_by}
 use Rattle.air_log.specs.Trails.{Reception, run_end}
 use Rattle.air_log.specs.Devices.{Device}
 use Rattle.law_trails.specs.Phases.{Phase, Lines, Hearings, End, Alarms, Start, Over, starts_from}
-use Rattle.law_trails.specs.Walks.{BootKept, OffKept, DeclareKept, LeaveKept, PutKept, LossKept, JoiningKept, HearingKept, SentKept, LateSentKept}
+use Rattle.law_trails.specs.Walks.{BootKept, OffKept, DeclareKept, LeaveKept, PutKept, JoiningKept, HearingKept, SentKept, LateSentKept}
 use Rattle.law_trails.specs.Walks.{SentElsewhereKept, FrameAlarmKept, OpeningKept, ClosingKept, AlarmElsewhereKept, BeginningKept, MissedStartKept, OnwardsKept}
 use Rattle.law_trails.specs.Walks.{PassingKept}
 use Rattle.law_safety.specs.SentPlans.{IsHostOf}
@@ -63,9 +63,6 @@ LeaveRow = Row LeaveKept
 abbrev pub PutRow : Type 0
 PutRow = Row PutKept
 
-abbrev pub LossRow : Type 0
-LossRow = Row LossKept
-
 -- receptions
 abbrev pub JoiningRow : Type 0
 JoiningRow = Row JoiningKept
@@ -116,7 +113,6 @@ pub record AllRows : Type 0 where
   pub declaring : DeclareRow
   pub leaving : LeaveRow
   pub putting : PutRow
-  pub loss : LossRow
   pub joining : JoiningRow
   pub hearing : HearingRow
   pub sent : SentRow

@@ -1,48 +1,39 @@
 -- Script lines at a device and in the bus.
-use Rattle.std.proofs.Common.{◌≡◌, ℕ, ◌+◌, List, [], ◌∷◌, Bool, true, false, None, refl, ap, ◌∙◌, fold}
+use Rattle.std.proofs.Common.{◌≡◌, ℕ, ◌+◌, List, [], ◌∷◌, None, refl, ap, ◌∙◌, fold}
 use Rattle.lwb_base.specs.declared.event.Event.TheVariants.{Boot}
 use Rattle.scenario_text.specs.declared.script.Act.{Act}
 use Rattle.scenario_text.specs.declared.script.Act.TheVariants.{On, Off, Declare, Leave, Put}
 use Rattle.scenario_text.specs.declared.script.ScriptLine.{ScriptLine}
 use Rattle.bus_rules.specs.Cores.{Setup}
-use Rattle.node_core.specs.Nodes.{Node, rebooted}
+use Rattle.node_core.specs.Nodes.{rebooted}
 use Rattle.air_log.specs.Devices.{Device, Power, PowerOff, PowerOn}
 use Rattle.air_log.specs.ScriptedDevices as Air
 use Rattle.air_log.specs.Drops as AirDrops
-use Rattle.bus_rules.specs.States.{State, StateOn, refuses}
+use Rattle.bus_rules.specs.States.{State}
 use Rattle.bus_terms.specs.ScriptedStates as Bus
 use Rattle.air_log.specs.Devices.{state_of_power}
 use Rattle.air_log.proofs.EventPower.{stepped_power}
 
-put_same : (s : Setup) (f i : ℕ) (payload : List ℕ) (d : Device) (n : Node) → d.power ≡ PowerOn n
-    → state_of_power (Air.put_or_dropped s f i payload d n).power ≡ Bus.state_after_act (Put i payload) (StateOn n.core)
-put_same s f i payload d n is = by_drop (refuses i n.core) refl
-  where
-    by_drop : (b : Bool) → refuses i n.core ≡ b
-        → state_of_power (Air.put_or_dropped s f i payload d n).power ≡ Bus.state_after_act (Put i payload) (StateOn n.core)
-    by_drop true e = rw (e, is) refl
-    by_drop false e = rw e refl
-
-act_same : (clock : ℕ → ℕ) (s : Setup) (t f : ℕ) (d : Device) (a : Act) (p : Power) → d.power ≡ p
-    → state_of_power (Air.device_after_act clock s t f d a p).power ≡ Bus.state_after_act a (state_of_power p)
-act_same clock s t f d On (PowerOff b) is =
+act_same : (clock : ℕ → ℕ) (s : Setup) (t : ℕ) (d : Device) (a : Act) (p : Power) → d.power ≡ p
+    → state_of_power (Air.device_after_act clock s t d a p).power ≡ Bus.state_after_act a (state_of_power p)
+act_same clock s t d On (PowerOff b) is =
     ap state_of_power (stepped_power clock s t Boot None (record d { power = PowerOn (rebooted (b + 1)) }) (rebooted (b + 1)))
-act_same clock s t f d On (PowerOn n) is = ap state_of_power is
-act_same clock s t f d Off (PowerOff b) is = ap state_of_power is
-act_same clock s t f d Off (PowerOn n) is = refl
-act_same clock s t f d (Declare i x) (PowerOff b) is = ap state_of_power is
-act_same clock s t f d (Declare i x) (PowerOn n) is = refl
-act_same clock s t f d (Leave i) (PowerOff b) is = ap state_of_power is
-act_same clock s t f d (Leave i) (PowerOn n) is = refl
-act_same clock s t f d (Put i payload) (PowerOff b) is = ap state_of_power is
-act_same clock s t f d (Put i payload) (PowerOn n) is = put_same s f i payload d n is
+act_same clock s t d On (PowerOn n) is = ap state_of_power is
+act_same clock s t d Off (PowerOff b) is = ap state_of_power is
+act_same clock s t d Off (PowerOn n) is = refl
+act_same clock s t d (Declare i x) (PowerOff b) is = ap state_of_power is
+act_same clock s t d (Declare i x) (PowerOn n) is = refl
+act_same clock s t d (Leave i) (PowerOff b) is = ap state_of_power is
+act_same clock s t d (Leave i) (PowerOn n) is = refl
+act_same clock s t d (Put i payload) (PowerOff b) is = ap state_of_power is
+act_same clock s t d (Put i payload) (PowerOn n) is = refl
 
 -- any list of lines of the node, at one tick
 pub lines_same : (clock : ℕ → ℕ) (s : Setup) (t : ℕ) (d : Device) (x : State) (ls : List ScriptLine) → state_of_power d.power ≡ x
     → state_of_power (fold (Air.device_after_line clock s t) d ls).power ≡ fold Bus.state_after_line x ls
 lines_same clock s t d x [] is = is
 lines_same clock s t d x (l ∷ ls) is = lines_same clock s t (Air.device_after_line clock s t d l) (Bus.state_after_line x l) ls
-    (act_same clock s t l.frame d l.act d.power refl ∙ ap (Bus.state_after_act l.act) is)
+    (act_same clock s t d l.act d.power refl ∙ ap (Bus.state_after_act l.act) is)
 
 -- a lost put is the same
 pub drop_same : (l : ScriptLine) (a : Act) (p : Power) → AirDrops.drop_by l a p ≡ Bus.lost_by l a (state_of_power p)

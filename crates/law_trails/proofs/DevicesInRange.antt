@@ -26,9 +26,9 @@ use Rattle.node_core.specs.Rows.{Stepped, row}
 use Rattle.node_core.specs.Rows.{node_after, orders_by}
 use Rattle.air_log.specs.Devices.{Device, Power, PowerOff, PowerOn, Listening, OrderedPacket, obeyed, moved}
 use Rattle.air_log.specs.Devices.{stepped, event, event_by, silenced, tunes, listens_to, seen_power}
-use Rattle.air_log.specs.ScriptedDevices.{device_after_act, device_after_line, dropped, with_new_core}
+use Rattle.air_log.specs.ScriptedDevices.{device_after_act, device_after_line, with_new_core}
 use Rattle.air_log.specs.Trails.{Reception, ending_at, device_after_reception, device_after_receptions, device_ended_by, device_after_end, alarm_is_due}
-use Rattle.air_log.specs.Trails.{alarms, alarmed, one_alarm, device_after_start, begun_by, starts, sending_from}
+use Rattle.air_log.specs.Trails.{alarms, alarm_limit, alarmed, one_alarm, device_after_start, begun_by, starts, sending_from}
 use Rattle.air_log.proofs.KeptPower.{line_power}
 use Rattle.law_trails.specs.StreamRanges.{AreStreams}
 use Rattle.law_trails.specs.CoreRanges.{IsSetup}
@@ -132,30 +132,28 @@ module _ (s : Setup) (set : IsSetup s) (Q H : List ℕ → Type 0) (rules : AreR
     sent = is.sent;
   }
 
-  dropped_is : (frame i : ℕ) (d : Device) → IsRanged Q s d → IsRanged Q s (dropped s.id frame i d)
-  dropped_is frame i d is = record { power = is.power; ordered = is.ordered; sending = is.sending; sent = is.sent }
-
-  act_is : (frame : ℕ) (d : Device) (a : Act) (p : Power) → d.power ≡ p → IsAct s.profile a → (turned_by a (seen_power p)).1 ≤ 200 → IsRanged Q s d
-      → IsRanged Q s (device_after_act clock s t frame d a p)
-  act_is frame d On (PowerOff boots) at act few is =
+  act_is : (d : Device) (a : Act) (p : Power) → d.power ≡ p → IsAct s.profile a → (turned_by a (seen_power p)).1 ≤ 200 → IsRanged Q s d
+      → IsRanged Q s (device_after_act clock s t d a p)
+  act_is d On (PowerOff boots) at act few is =
       let n = rebooted (boots + 1) in
       let after = boots_is s set Q H rules n (clock t) (omega arith, few) in
       step_is Boot None (record d { power = PowerOn n }) n (record { ordered = is.ordered; sending = is.sending; sent = is.sent }) after.0 after.1
-  act_is frame d On (PowerOn n) at act few is = is
-  act_is frame d Off (PowerOff boots) at act few is = is
-  act_is frame d Off (PowerOn n) at act few is = record { power = few; ordered = tt; sending = is.sending; sent = is.sent }
-  act_is frame d (Declare i interval) (PowerOff boots) at act few is = is
-  act_is frame d (Declare i interval) (PowerOn n) at act few is =
+  act_is d On (PowerOn n) at act few is = is
+  act_is d Off (PowerOff boots) at act few is = is
+  act_is d Off (PowerOn n) at act few is = record { power = few; ordered = tt; sending = is.sending; sent = is.sent }
+  act_is d (Declare i interval) (PowerOff boots) at act few is = is
+  act_is d (Declare i interval) (PowerOn n) at act few is =
       let node : IsNodeInRange s n = subst (IsPower s) at is.power in
       new_streams d n (declared i interval n.core.streams) node (declared_are s.profile n.core.streams i interval act.2 node.core.streams) is
-  act_is frame d (Leave i) (PowerOff boots) at act few is = is
-  act_is frame d (Leave i) (PowerOn n) at act few is =
+  act_is d (Leave i) (PowerOff boots) at act few is = is
+  act_is d (Leave i) (PowerOn n) at act few is =
       let node : IsNodeInRange s n = subst (IsPower s) at is.power in
       new_streams d n (streams_after_leaving i n.core.streams) node (left_are s.profile n.core.streams i node.core.streams) is
-  act_is frame d (Put i payload) (PowerOff boots) at act few is = dropped_is frame i d is
-  act_is frame d (Put i payload) (PowerOn n) at act few is =
+  act_is d (Put i payload) (PowerOff boots) at act few is = is
+  act_is d (Put i payload) (PowerOn n) at act few is =
       let node : IsNodeInRange s n = subst (IsPower s) at is.power in
-      cond_both (refuses i n.core) (dropped s.id frame i d) (with_new_core d n (queues i payload n.core)) (IsRanged Q s) (λ lost. dropped_is frame i d is)
+      cond_both (refuses i n.core) n.core (queues i payload n.core) (λ (c : Core). IsRanged Q s (with_new_core d n c))
+      (λ lost. new_streams d n n.core.streams node node.core.streams is)
       (λ kept. new_streams d n (put i payload n.core.streams) node (put_are s.profile n.core.streams i payload act.1 node.core.streams) is)
 
   -- the lines of this node
@@ -171,7 +169,7 @@ module _ (s : Setup) (set : IsSetup s) (Q H : List ℕ → Type 0) (rules : AreR
       subst (λ (own : Bool). (turned s.id (if own then turned_by l.act b else b) ls).1 ≤ 200) all.0.0 few in
       let now : (turned_by l.act b).1 ≤ 200 = omega (arith, never_less s.id (turned_by l.act b) ls, next) in
       lines_are ls (device_after_line clock s t d l) all.1 (subst (λ (c : Bool × ℕ). (turned s.id c ls).1 ≤ 200) (sym (line_power clock s t d l)) next)
-      (act_is l.frame d l.act d.power refl all.0.1 now is)
+      (act_is d l.act d.power refl all.0.1 now is)
 
   -- receptions
   abbrev IsShort : Reception → Type 0
@@ -207,7 +205,7 @@ module _ (s : Setup) (set : IsSetup s) (Q H : List ℕ → Type 0) (rules : AreR
       (event_is AlarmEvent None (record d { alarm = None }) tt (record { power = is.power; ordered = is.ordered; sending = is.sending; sent = is.sent }))
 
   pub alarmed_is : (d : Device) → IsRanged Q s d → IsRanged Q s (alarmed clock s t d)
-  alarmed_is d is = alarms_are (alarm_is_due t d.alarm) (clock t + 300) d is
+  alarmed_is d is = alarms_are (alarm_is_due t d.alarm) (alarm_limit clock t) d is
 
   -- the start of a transmission
   starts_is : (q : List ℕ) (d : Device) (l : Option Listening) (x : Option Sending) → Q q → IsRanged Q s d → IsRanged Q s (starts s t q d l x)

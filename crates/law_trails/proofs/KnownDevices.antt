@@ -7,11 +7,10 @@ use Rattle.radio_model.specs.declared.sending.Sending.{Sending}
 use Rattle.scenario_text.specs.declared.script.Act.{Act}
 use Rattle.scenario_text.specs.declared.script.Act.TheVariants.{On, Off, Declare, Leave, Put}
 use Rattle.scenario_text.specs.declared.script.ScriptLine.{ScriptLine}
-use Rattle.bus_rules.specs.States.{refuses, queues}
 use Rattle.bus_rules.specs.Cores.{Setup}
 use Rattle.node_core.specs.Nodes.{rebooted}
 use Rattle.air_log.specs.Devices.{Device, Power, PowerOff, PowerOn, Listening, OrderedPacket, event, event_by}
-use Rattle.air_log.specs.ScriptedDevices.{device_after_act, device_after_line, dropped, device_after_on, with_new_core}
+use Rattle.air_log.specs.ScriptedDevices.{device_after_act, device_after_line, device_after_on}
 use Rattle.air_log.specs.Trails.{Reception, device_after_reception, device_after_end, device_ended_by, alarm_is_due, one_alarm, device_after_start, begun_by}
 use Rattle.air_log.specs.Trails.{starts}
 use Rattle.air_log.proofs.KeptByEvents.{IsKept, in_event, in_end}
@@ -22,20 +21,18 @@ use Rattle.law_trails.proofs.RowsOfDevices.{switched_on_is}
 
 module _ (clock : ℕ → ℕ) (s : Setup) (t : ℕ) where
   -- what each event keeps, a script line keeps
-  pub act_keeps : (P : Device → Type 0) → IsKept P clock s t → (frame : ℕ) (d : Device) (a : Act) (p : Power) → P d → P (device_after_act clock s t frame d a p)
-  act_keeps P kept frame d On (PowerOff boots) is =
+  pub act_keeps : (P : Device → Type 0) → IsKept P clock s t → (d : Device) (a : Act) (p : Power) → P d → P (device_after_act clock s t d a p)
+  act_keeps P kept d On (PowerOff boots) is =
       let n = PowerOn (rebooted (boots + 1)) in in_event P clock s t Boot None (record d { power = n }) kept (kept.powered d n is)
-  act_keeps P kept frame d On (PowerOn n) is = is
-  act_keeps P kept frame d Off (PowerOff boots) is = is
-  act_keeps P kept frame d Off (PowerOn n) is = kept.off d n.core.boot is
-  act_keeps P kept frame d (Declare i interval) (PowerOff boots) is = is
-  act_keeps P kept frame d (Declare i interval) (PowerOn n) is = kept.powered d _ is
-  act_keeps P kept frame d (Leave i) (PowerOff boots) is = is
-  act_keeps P kept frame d (Leave i) (PowerOn n) is = kept.powered d _ is
-  act_keeps P kept frame d (Put i payload) (PowerOff boots) is = kept.dropping frame i d is
-  act_keeps P kept frame d (Put i payload) (PowerOn n) is =
-      cond_both (refuses i n.core) (dropped s.id frame i d) (with_new_core d n (queues i payload n.core)) P (λ lost. kept.dropping frame i d is)
-      (λ queued. kept.powered d _ is)
+  act_keeps P kept d On (PowerOn n) is = is
+  act_keeps P kept d Off (PowerOff boots) is = is
+  act_keeps P kept d Off (PowerOn n) is = kept.off d n.core.boot is
+  act_keeps P kept d (Declare i interval) (PowerOff boots) is = is
+  act_keeps P kept d (Declare i interval) (PowerOn n) is = kept.powered d _ is
+  act_keeps P kept d (Leave i) (PowerOff boots) is = is
+  act_keeps P kept d (Leave i) (PowerOn n) is = kept.powered d _ is
+  act_keeps P kept d (Put i payload) (PowerOff boots) is = is
+  act_keeps P kept d (Put i payload) (PowerOn n) is = kept.powered d _ is
 
   -- a node that is off is silent
   abbrev pub Silent : Device → Type 0
@@ -48,28 +45,22 @@ module _ (clock : ℕ → ℕ) (s : Setup) (t : ℕ) where
   pub event_silent : (e : Event) (x : Option Sending) (d : Device) → Silent d → Silent (event clock s t e x d)
   event_silent e x d is = silent_by e x d d.power refl is
 
-  act_silent : (frame : ℕ) (d : Device) (a : Act) (p : Power) → d.power ≡ p → SilentBy d p → Silent (device_after_act clock s t frame d a p)
-  act_silent frame d On (PowerOff boots) on is = subst (SilentBy (device_after_on clock s t boots d)) (sym (switched_on_is clock s t boots d).power) tt
-  act_silent frame d On (PowerOn n) on is = subst (SilentBy d) (sym on) tt
-  act_silent frame d Off (PowerOff boots) on is = subst (SilentBy d) (sym on) is
-  act_silent frame d Off (PowerOn n) on is = record { radio = refl; alarm = refl; ordered = refl }
-  act_silent frame d (Declare i interval) (PowerOff boots) on is = subst (SilentBy d) (sym on) is
-  act_silent frame d (Declare i interval) (PowerOn n) on is = tt
-  act_silent frame d (Leave i) (PowerOff boots) on is = subst (SilentBy d) (sym on) is
-  act_silent frame d (Leave i) (PowerOn n) on is = tt
-  act_silent frame d (Put i payload) (PowerOff boots) on is = subst (SilentBy (dropped s.id frame i d)) (sym on) (record {
-    radio = is.radio;
-    alarm = is.alarm;
-    ordered = is.ordered;
-  })
-  act_silent frame d (Put i payload) (PowerOn n) on is =
-      cond_both (refuses i n.core) (dropped s.id frame i d) (with_new_core d n (queues i payload n.core)) Silent
-      (λ lost. subst (SilentBy (dropped s.id frame i d)) (sym on) tt) (λ queued. tt)
+  act_silent : (d : Device) (a : Act) (p : Power) → d.power ≡ p → SilentBy d p → Silent (device_after_act clock s t d a p)
+  act_silent d On (PowerOff boots) on is = subst (SilentBy (device_after_on clock s t boots d)) (sym (switched_on_is clock s t boots d).power) tt
+  act_silent d On (PowerOn n) on is = subst (SilentBy d) (sym on) tt
+  act_silent d Off (PowerOff boots) on is = subst (SilentBy d) (sym on) is
+  act_silent d Off (PowerOn n) on is = record { radio = refl; alarm = refl; ordered = refl }
+  act_silent d (Declare i interval) (PowerOff boots) on is = subst (SilentBy d) (sym on) is
+  act_silent d (Declare i interval) (PowerOn n) on is = tt
+  act_silent d (Leave i) (PowerOff boots) on is = subst (SilentBy d) (sym on) is
+  act_silent d (Leave i) (PowerOn n) on is = tt
+  act_silent d (Put i payload) (PowerOff boots) on is = subst (SilentBy d) (sym on) is
+  act_silent d (Put i payload) (PowerOn n) on is = tt
 
   pub line_known : (d : Device) (l : ScriptLine) → NothingDue t Lines d → NothingDue t Lines (device_after_line clock s t d l)
   line_known d l is =
-      let ahead = act_keeps (Ahead t) (kept_ahead clock s t) l.frame d l.act d.power (is.alarm, is.ordered, is.sending) in
-      record { alarm = ahead.0; ordered = ahead.1; sending = ahead.2; off = act_silent l.frame d l.act d.power refl is.off }
+      let ahead = act_keeps (Ahead t) (kept_ahead clock s t) d l.act d.power (is.alarm, is.ordered, is.sending) in
+      record { alarm = ahead.0; ordered = ahead.1; sending = ahead.2; off = act_silent d l.act d.power refl is.off }
 
   pub told_known : (d : Device) → NothingDue t Lines d → NothingDue t Hearings d
   told_known d is = record { alarm = is.alarm; ordered = is.ordered; sending = is.sending; off = is.off }

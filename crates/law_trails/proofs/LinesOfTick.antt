@@ -12,7 +12,7 @@ use Rattle.node_core.specs.Nodes.{Node, rebooted}
 use Rattle.node_core.specs.Rows.{boots}
 use Rattle.node_core.specs.Nodes.{with_streams}
 use Rattle.air_log.specs.Devices.{Device, Power, PowerOff, PowerOn}
-use Rattle.air_log.specs.ScriptedDevices.{device_after_act, device_after_line, dropped, device_after_on, with_new_core}
+use Rattle.air_log.specs.ScriptedDevices.{device_after_act, device_after_line, device_after_on, with_new_core}
 use Rattle.air_log.specs.Trails.{setup_of, frame_start, lines_at, device_after_script}
 use Rattle.lwb_base.proofs.Elements.{not_in_none, contains_head, contains_tail, contains_cases, in_filtered, filtered}
 use Rattle.law_trails.specs.Phases.{IsSilent, SilentBy}
@@ -50,30 +50,22 @@ module _ (clock : ℕ → ℕ) (s : Setup) (t before : ℕ) where
   counted : (count : ℕ) (d : Device) → before ≤ count → Counts (device_after_on clock s t count d)
   counted count d fewer = subst (CountsBy (device_after_on clock s t count d)) (sym (switched_on_is clock s t count d).power) (tt, omega (arith, fewer))
 
-  counts_on : (frame : ℕ) (d : Device) (a : Act) (p : Power) → d.power ≡ p → CountsBy d p → Counts (device_after_act clock s t frame d a p)
-  counts_on frame d On (PowerOff count) at is = counted count d is.1
-  counts_on frame d On (PowerOn n) at is = subst (CountsBy d) (sym at) is
-  counts_on frame d Off (PowerOff count) at is = subst (CountsBy d) (sym at) is
-  counts_on frame d Off (PowerOn n) at is = (record { radio = refl; alarm = refl; ordered = refl }, is.1)
-  counts_on frame d (Declare i interval) (PowerOff count) at is = subst (CountsBy d) (sym at) is
-  counts_on frame d (Declare i interval) (PowerOn n) at is = is
-  counts_on frame d (Leave i) (PowerOff count) at is = subst (CountsBy d) (sym at) is
-  counts_on frame d (Leave i) (PowerOn n) at is = is
-  counts_on frame d (Put i payload) (PowerOff count) at is = subst (CountsBy (dropped s.id frame i d)) (sym at) (
-    record {
-      radio = is.0.radio;
-      alarm = is.0.alarm;
-      ordered = is.0.ordered;
-    },
-    is.1,
-  )
-  counts_on frame d (Put i payload) (PowerOn n) at is =
-      cond_both (refuses i n.core) (dropped s.id frame i d) (with_new_core d n (queues i payload n.core)) Counts
-      (λ lost. subst (CountsBy (dropped s.id frame i d)) (sym at) is) (λ kept. is)
+  counts_on : (d : Device) (a : Act) (p : Power) → d.power ≡ p → CountsBy d p → Counts (device_after_act clock s t d a p)
+  counts_on d On (PowerOff count) at is = counted count d is.1
+  counts_on d On (PowerOn n) at is = subst (CountsBy d) (sym at) is
+  counts_on d Off (PowerOff count) at is = subst (CountsBy d) (sym at) is
+  counts_on d Off (PowerOn n) at is = (record { radio = refl; alarm = refl; ordered = refl }, is.1)
+  counts_on d (Declare i interval) (PowerOff count) at is = subst (CountsBy d) (sym at) is
+  counts_on d (Declare i interval) (PowerOn n) at is = is
+  counts_on d (Leave i) (PowerOff count) at is = subst (CountsBy d) (sym at) is
+  counts_on d (Leave i) (PowerOn n) at is = is
+  counts_on d (Put i payload) (PowerOff count) at is = subst (CountsBy d) (sym at) is
+  counts_on d (Put i payload) (PowerOn n) at is =
+      cond_both (refuses i n.core) n.core (queues i payload n.core) (λ (c : Core). Counts (with_new_core d n c)) (λ lost. is) (λ kept. is)
 
-  goes_off : (frame : ℕ) (d : Device) (p : Power) → d.power ≡ p → CountsBy d p → Gone (device_after_act clock s t frame d Off p)
-  goes_off frame d (PowerOff count) at is = subst (GoneBy d) (sym at) is
-  goes_off frame d (PowerOn n) at is = (record { radio = refl; alarm = refl; ordered = refl }, is.1)
+  goes_off : (d : Device) (p : Power) → d.power ≡ p → CountsBy d p → Gone (device_after_act clock s t d Off p)
+  goes_off d (PowerOff count) at is = subst (GoneBy d) (sym at) is
+  goes_off d (PowerOn n) at is = (record { radio = refl; alarm = refl; ordered = refl }, is.1)
 
   -- streams are given something
   other_streams : (d : Device) (n : Node) (streams : Streams) → WentOffBy clock s t before d (PowerOn n)
@@ -98,52 +90,34 @@ module _ (clock : ℕ → ℕ) (s : Setup) (t before : ℕ) where
         ),
       )
 
-  gone_on : (frame : ℕ) (d : Device) (a : Act) (p : Power) → d.power ≡ p → GoneBy d p → Gone (device_after_act clock s t frame d a p)
-  gone_on frame d On (PowerOff count) at is = on_again count d is.0 is.1
-  gone_on frame d On (PowerOn n) at is = subst (GoneBy d) (sym at) is
-  gone_on frame d Off (PowerOff count) at is = subst (GoneBy d) (sym at) is
-  gone_on frame d Off (PowerOn n) at is = (record { radio = refl; alarm = refl; ordered = refl }, (let later = is.1.0 in omega (arith, later)))
-  gone_on frame d (Declare i interval) (PowerOff count) at is = subst (GoneBy d) (sym at) is
-  gone_on frame d (Declare i interval) (PowerOn n) at is = other_streams d n (declared i interval n.core.streams) is.1
-  gone_on frame d (Leave i) (PowerOff count) at is = subst (GoneBy d) (sym at) is
-  gone_on frame d (Leave i) (PowerOn n) at is = other_streams d n (streams_after_leaving i n.core.streams) is.1
-  gone_on frame d (Put i payload) (PowerOff count) at is = subst (GoneBy (dropped s.id frame i d)) (sym at) (
-    record {
-      radio = is.0.radio;
-      alarm = is.0.alarm;
-      ordered = is.0.ordered;
-    },
-    is.1,
-  )
-  gone_on frame d (Put i payload) (PowerOn n) at is =
-      cond_both (refuses i n.core) (dropped s.id frame i d) (with_new_core d n (queues i payload n.core)) Gone
-      (λ lost. subst (GoneBy (dropped s.id frame i d)) (sym at) (
-        tt,
-        (
-          is.1.0,
-          record {
-            node = is.1.1.node;
-            channel = is.1.1.channel;
-            alarm = is.1.1.alarm;
-            ordered = is.1.1.ordered;
-          },
-        ),
-      ))
+  gone_on : (d : Device) (a : Act) (p : Power) → d.power ≡ p → GoneBy d p → Gone (device_after_act clock s t d a p)
+  gone_on d On (PowerOff count) at is = on_again count d is.0 is.1
+  gone_on d On (PowerOn n) at is = subst (GoneBy d) (sym at) is
+  gone_on d Off (PowerOff count) at is = subst (GoneBy d) (sym at) is
+  gone_on d Off (PowerOn n) at is = (record { radio = refl; alarm = refl; ordered = refl }, (let later = is.1.0 in omega (arith, later)))
+  gone_on d (Declare i interval) (PowerOff count) at is = subst (GoneBy d) (sym at) is
+  gone_on d (Declare i interval) (PowerOn n) at is = other_streams d n (declared i interval n.core.streams) is.1
+  gone_on d (Leave i) (PowerOff count) at is = subst (GoneBy d) (sym at) is
+  gone_on d (Leave i) (PowerOn n) at is = other_streams d n (streams_after_leaving i n.core.streams) is.1
+  gone_on d (Put i payload) (PowerOff count) at is = subst (GoneBy d) (sym at) is
+  gone_on d (Put i payload) (PowerOn n) at is =
+      cond_both (refuses i n.core) n.core (queues i payload n.core) (λ (c : Core). Gone (with_new_core d n c))
+      (λ lost. other_streams d n n.core.streams is.1)
       (λ kept. other_streams d n (put i payload n.core.streams) is.1)
 
   gone_lines : (ls : List ScriptLine) (d : Device) → Gone d → Gone (fold (device_after_line clock s t) d ls)
   gone_lines [] d is = is
-  gone_lines (l ∷ ls) d is = gone_lines ls (device_after_line clock s t d l) (gone_on l.frame d l.act d.power refl is)
+  gone_lines (l ∷ ls) d is = gone_lines ls (device_after_line clock s t d l) (gone_on d l.act d.power refl is)
 
   off_lines : (ls : List ScriptLine) (d : Device) → Counts d → (l : ScriptLine) → Contains ls l → l.act ≡ Off → Gone (fold (device_after_line clock s t) d ls)
   off_lines [] d is l there off = absurd (not_in_none l there)
   off_lines (x ∷ ls) d is l there off =
       elim (contains_cases x ls l there) [
         | inl same ↦
-            let gone = goes_off x.frame d d.power refl is in
+            let gone = goes_off d d.power refl is in
             let act : x.act ≡ Off = ap (λ (k : ScriptLine). k.act) same ∙ off in
-            gone_lines ls (device_after_line clock s t d x) (subst (λ (a : Act). Gone (device_after_act clock s t x.frame d a d.power)) (sym act) gone)
-        | inr later ↦ off_lines ls (device_after_line clock s t d x) (counts_on x.frame d x.act d.power refl is) l later off
+            gone_lines ls (device_after_line clock s t d x) (subst (λ (a : Act). Gone (device_after_act clock s t d a d.power)) (sym act) gone)
+        | inr later ↦ off_lines ls (device_after_line clock s t d x) (counts_on d x.act d.power refl is) l later off
       ]
 
 -- no off line
@@ -160,27 +134,27 @@ module _ (clock : ℕ → ℕ) (s : Setup) (t : ℕ) (n : Node) (d : Device) whe
   }
 
   -- the node of e, with what is given
-  stays : (frame : ℕ) (e : Device) (a : Act) → a ≢ Off → DeviceStaysOn n d e → DeviceStaysOn n d (device_after_act clock s t frame e a e.power)
-  stays frame e a other is = subst (λ (p : Power). DeviceStaysOn n d (device_after_act clock s t frame e a p)) (sym is.power) (by_act a other)
+  stays : (e : Device) (a : Act) → a ≢ Off → DeviceStaysOn n d e → DeviceStaysOn n d (device_after_act clock s t e a e.power)
+  stays e a other is = subst (λ (p : Power). DeviceStaysOn n d (device_after_act clock s t e a p)) (sym is.power) (by_act a other)
     where
       m : Node
       m = with_streams n is.streams
 
-      by_act : (a : Act) → a ≢ Off → DeviceStaysOn n d (device_after_act clock s t frame e a (PowerOn m))
+      by_act : (a : Act) → a ≢ Off → DeviceStaysOn n d (device_after_act clock s t e a (PowerOn m))
       by_act On other = is
       by_act Off other = absurd (other refl)
       by_act (Declare i interval) other = new_streams e is m (declared i interval is.streams)
       by_act (Leave i) other = new_streams e is m (streams_after_leaving i is.streams)
       by_act (Put i payload) other =
-          cond_both (refuses i m.core) (dropped s.id frame i e) (with_new_core e m (queues i payload m.core)) (DeviceStaysOn n d)
-          (λ lost. record { streams = is.streams; power = is.power; listening = is.listening; alarm = is.alarm; ordered = is.ordered; sending = is.sending })
+          cond_both (refuses i m.core) m.core (queues i payload m.core) (λ (c : Core). DeviceStaysOn n d (with_new_core e m c))
+          (λ lost. new_streams e is m is.streams)
           (λ kept. new_streams e is m (put i payload is.streams))
 
   stays_lines : (ls : List ScriptLine) (e : Device) → DeviceStaysOn n d e → ((l : ScriptLine) → Contains ls l → l.act ≢ Off)
       → DeviceStaysOn n d (fold (device_after_line clock s t) e ls)
   stays_lines [] e is none = is
   stays_lines (l ∷ ls) e is none =
-      let on = stays l.frame e l.act (none l (contains_head l ls)) is in
+      let on = stays e l.act (none l (contains_head l ls)) is in
       stays_lines ls (device_after_line clock s t e l) on (λ k there. none k (contains_tail l ls k there))
 
 pub off_or_none : (ls : List ScriptLine) → ((l : ScriptLine) × Contains ls l × (l.act ≡ Off)) ⊎ ((l : ScriptLine) → Contains ls l → l.act ≢ Off)

@@ -26,7 +26,6 @@ module _ (clock : ℕ → ℕ) (v t : ℕ) where
     sending = refl;
     sent = refl;
     deliveries = refl;
-    drops = refl;
     windows = refl;
   }
 
@@ -71,6 +70,5 @@ module _ (clock : ℕ → ℕ) (v t : ℕ) where
         sending = b.sending ∙ a.sending;
         sent = b.sent ∙ a.sent;
         deliveries = b.deliveries ∙ a.deliveries;
-        drops = b.drops ∙ a.drops;
         windows = b.windows ∙ a.windows;
       }

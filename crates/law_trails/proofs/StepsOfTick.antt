@@ -15,7 +15,7 @@ use Rattle.scenario_text.specs.declared.script.Act.{Act}
 use Rattle.scenario_text.specs.declared.script.Act.TheVariants.{On, Off, Declare, Leave, Put}
 use Rattle.scenario_text.specs.declared.script.ScriptLine.{ScriptLine}
 use Rattle.bus_rules.specs.Tuning.{rank_of}
-use Rattle.bus_rules.specs.Cores.{Setup}
+use Rattle.bus_rules.specs.Cores.{Core, Setup}
 use Rattle.bus_rules.specs.Slots.{Message, ScheduleOf, DataOf, RequestOf}
 use Rattle.bus_rules.specs.States.{refuses, queues}
 use Rattle.lwb_member.specs.Said.{message_of}
@@ -24,7 +24,7 @@ use Rattle.node_core.specs.declared.stage.Stage.TheVariants.{Idle, Scanning, Awa
 use Rattle.node_core.specs.Nodes.{Node}
 use Rattle.node_core.specs.Rows.{Stepped, at_alarm, at_heard, at_sent, scanner_hears, joins, sends, orders_by}
 use Rattle.air_log.specs.Devices.{Device, Power, PowerOff, PowerOn, Listening, OrderedPacket, obeyed, moved, event, event_by}
-use Rattle.air_log.specs.ScriptedDevices.{device_after_act, device_after_line, dropped, with_new_core}
+use Rattle.air_log.specs.ScriptedDevices.{device_after_act, device_after_line, with_new_core}
 use Rattle.air_log.specs.AlarmRuns.{IsAlarmRun, after_alarms}
 use Rattle.air_log.specs.Trails.{Reception, setup_of, run_end, lines_at, ending_at, device_after_reception, device_after_end, device_ended_by, alarm_is_due}
 use Rattle.air_log.specs.Trails.{device_after_start, begun_by, starts, before_tick}
@@ -32,7 +32,7 @@ use Rattle.air_log.proofs.AlarmRuns.{alarms_are_run}
 use Rattle.air_log.proofs.NextDue.{some_byte}
 use Rattle.lwb_base.proofs.Elements.{contains_head, filtered}
 use Rattle.law_trails.specs.Phases.{Phase, Lines, Hearings, End, Alarms, Start, Over, device_at, NothingDue, SilentBy, IsNextLineOf, IsNextHearing, IsNextAlarm}
-use Rattle.law_trails.specs.Walks.{AwaitsFrame, NoWindow, HasNoWindow, IsLost, Now, Keeps}
+use Rattle.law_trails.specs.Walks.{AwaitsFrame, NoWindow, HasNoWindow, Now, Keeps}
 use Rattle.law_trails.proofs.KnownDevices.{line_known, told_known, hearing_known, taken_known, end_known, alarm_known, over_known, begun_known, passed_known}
 use Rattle.law_trails.proofs.LinesOfTick.{is_told}
 use Rattle.law_trails.proofs.UnmovedDevices.{unmoved}
@@ -77,7 +77,7 @@ module _ (P : ℕ → Phase → Device → Type 0) (s : ScenarioParts) (v : ℕ)
 
   -- script lines
   by_line : (d : Device) (l : ScriptLine) → In Lines d → ToldNext l d → (a : Act) (p : Power) → l.act ≡ a → d.power ≡ p
-      → P t Lines (device_after_act clock node t l.frame d a p)
+      → P t Lines (device_after_act clock node t d a p)
   by_line d l here next On (PowerOff count) act on = keeps.boot d l count here next act on
   by_line d l here next On (PowerOn n) act on = here.holds
   by_line d l here next Off (PowerOff count) act on = here.holds
@@ -86,10 +86,10 @@ module _ (P : ℕ → Phase → Device → Type 0) (s : ScenarioParts) (v : ℕ)
   by_line d l here next (Declare i interval) (PowerOn n) act on = keeps.declaring d l n i interval here next act on
   by_line d l here next (Leave i) (PowerOff count) act on = here.holds
   by_line d l here next (Leave i) (PowerOn n) act on = keeps.leaving d l n i here next act on
-  by_line d l here next (Put i payload) (PowerOff count) act on = keeps.loss d l i payload here next act (subst (IsLost i) (sym on) tt)
+  by_line d l here next (Put i payload) (PowerOff count) act on = here.holds
   by_line d l here next (Put i payload) (PowerOn n) act on =
-      cond_both (refuses i n.core) (dropped v l.frame i d) (with_new_core d n (queues i payload n.core)) (P t Lines)
-      (λ lost. keeps.loss d l i payload here next act (subst (IsLost i) (sym on) lost))
+      cond_both (refuses i n.core) n.core (queues i payload n.core) (λ (c : Core). P t Lines (with_new_core d n c))
+      (λ lost. subst (λ (p : Power). P t Lines (record d { power = p })) on here.holds)
       (λ kept. keeps.putting d l n i payload here next act on kept)
 
   lines_from : (told rest : List ScriptLine) (d : Device) → lines_at s v t ≡ told ++ rest

@@ -21,7 +21,6 @@ keeps_nothing s v clock hs t = record {
   declaring = λ d l n i interval here next act on. tt;
   leaving = λ d l n i here next act on. tt;
   putting = λ d l n i payload here next act on kept. tt;
-  loss = λ d l i payload here next act lost. tt;
   joining = λ d h n y here next on stage says rank. tt;
   hearing = λ d h n j w here next on stage. tt;
   sent = λ d x n j w here is own ends on stage waits. tt;

@@ -39,5 +39,4 @@ pub record HasObeyed (clock : ℕ → ℕ) (t : ℕ) (os : List Order) (d e : De
   pub sending : e.sending ≡ d.sending
   pub sent : e.made.sent ≡ d.made.sent
   pub deliveries : e.made.deliveries ≡ d.made.deliveries
-  pub drops : e.made.drops ≡ d.made.drops
   pub windows : e.made.windows ≡ d.made.windows

@@ -102,7 +102,7 @@ abbrev pub to_send : ℕ → List ℕ → OrderedPacket
 to_send tick packet = record { tick = tick; packet = packet }
 
 abbrev pub made_with : List Sending → List Tuning → List Delivery → List WindowLog → Made
-made_with sent tuned deliveries windows = record { sent = sent; tuned = tuned; deliveries = deliveries; drops = []; windows = windows }
+made_with sent tuned deliveries windows = record { sent = sent; tuned = tuned; deliveries = deliveries; windows = windows }
 
 -- the first this many transmissions, and all but the last this many tunings
 abbrev pub made_by_host : ℕ → ℕ → List Delivery → List WindowLog → Made

@@ -22,7 +22,7 @@ use Rattle.node_core.specs.Windows.{Window}
 use Rattle.node_core.specs.Nodes.{Node}
 use Rattle.node_core.specs.Rows.{Stepped, frame_alarms, window_opens, window_closes, window_hears, joins, sends}
 use Rattle.air_log.specs.Devices.{Device, Power, PowerOff, PowerOn, Listening, OrderedPacket, at_rest, obeyed, moved}
-use Rattle.air_log.specs.ScriptedDevices.{dropped, device_after_on, device_after_off, with_new_core}
+use Rattle.air_log.specs.ScriptedDevices.{device_after_on, device_after_off, with_new_core}
 use Rattle.air_log.specs.Trails.{Reception, setup_of, run_end, sending_from, before_tick}
 use Rattle.law_trails.specs.Phases.{Phase, Lines, Hearings, End, Alarms, Start, Over, next_phase, device_at, NothingDue, IsNextLineOf, IsNextHearing}
 use Rattle.law_trails.specs.Phases.{IsNextAlarm}
@@ -51,11 +51,6 @@ abbrev pub HasNoWindow : Power → Type 0
 HasNoWindow (PowerOff boots) = ⊤
 HasNoWindow (PowerOn n) = NoWindow n.stage
 
--- a put on this stream is lost
-abbrev pub IsLost : ℕ → Power → Type 0
-IsLost stream (PowerOff boots) = ⊤
-IsLost stream (PowerOn n) = refuses stream n.core ≡ true
-
 -- a start is missed where the radio is off or another transmission runs
 abbrev pub CannotSend : Device → Type 0
 CannotSend d = (d.listening ≡ None) ⊎ ((x : Sending) × (d.sending ≡ Some x))
@@ -71,7 +66,7 @@ pub record Now (P : ℕ → Phase → Device → Type 0) (s : ScenarioParts) (t 
   pub holds : P t phase d
 
 -- what each step of tick t at v keeps, a name each. Left out is what changes nothing: a line that switches on a node that
--- is on, all other lines but a put where the power is off, and packets for which the table has no row
+-- is on, all other lines where the power is off, a put that is rejected, and packets for which the table has no row
 module _ (P : ℕ → Phase → Device → Type 0) (s : ScenarioParts) (v : ℕ) (clock : ℕ → ℕ) (hs : List Reception) (t : ℕ) where
   abbrev pub Here : Phase → Device → Type 0
   Here phase d = Now P s t phase d
@@ -113,10 +108,6 @@ module _ (P : ℕ → Phase → Device → Type 0) (s : ScenarioParts) (v : ℕ)
   PutKept = (d : Device) (l : ScriptLine) (n : Node) (i : ℕ) (payload : List ℕ) → Here Lines d → ToldNext l d
       → l.act ≡ Put i payload → d.power ≡ PowerOn n → refuses i n.core ≡ false
       → P t Lines (with_new_core d n (queues i payload n.core))
-
-  abbrev pub LossKept : Type 0
-  LossKept = (d : Device) (l : ScriptLine) (i : ℕ) (payload : List ℕ) → Here Lines d → ToldNext l d
-      → l.act ≡ Put i payload → IsLost i d.power → P t Lines (dropped v l.frame i d)
 
   -- receptions: while scanning, of a schedule of the rank, and in a window
   abbrev pub JoiningKept : Type 0
@@ -188,7 +179,6 @@ module _ (P : ℕ → Phase → Device → Type 0) (s : ScenarioParts) (v : ℕ)
     pub declaring : DeclareKept
     pub leaving : LeaveKept
     pub putting : PutKept
-    pub loss : LossKept
     pub joining : JoiningKept
     pub hearing : HearingKept
     pub sent : SentKept

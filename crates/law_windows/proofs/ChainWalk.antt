@@ -232,7 +232,6 @@ module _ (s : ScenarioParts) (clocks : ℕ → ℕ → ℕ) (air : List Entry) (
         leaving = λ d l n i here next act on. (k.leaving d l n i (base t Lines d here) next act on, told t at d l n (leaves i n.core) here next on);
         putting = λ d l n i payload here next act on taken.
             (k.putting d l n i payload (base t Lines d here) next act on taken, told t at d l n (queues i payload n.core) here next on);
-        loss = λ d l i payload here next act lost. (k.loss d l i payload (base t Lines d here) next act lost, here.holds.1);
         joining = λ d h n y here next on stage says rank.
             (k.joining d h n y (base t Hearings d here) next on stage says rank, joins_so t d h.packet n y on stage here.holds.1);
         hearing = λ d h n j w here next on stage. (

@@ -138,7 +138,6 @@ module _ (s : ScenarioParts) (clocks : ℕ → ℕ → ℕ) (air : List Entry) (
           at_lines t at d l next (PowerOn (record n { core = queues i payload n.core })),
           here.holds.2,
         );
-        loss = λ d l i payload here next act lost. (k.loss d l i payload (base t Lines d here) next act lost, here.holds.1, here.holds.2);
         joining = λ d h n y here next on stage says rank. (
           k.joining d h n y (base t Hearings d here) next on stage says rank,
           row_leaves t (Heard h.packet) None d n (joins S n (c t) h.packet y) tt,

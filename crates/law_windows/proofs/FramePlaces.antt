@@ -2,9 +2,8 @@
 use Rattle.std.proofs.Common.{◌≡◌, ℕ, zero, suc, ◌<◌, List, [], ◌∷◌, true, refl, sym, subst, arith, fold}
 use Rattle.std.specs.Bool.{⊤}
 use Rattle.std.proofs.lemmas.Bool.{cond_both}
-use Rattle.bus_rules.specs.Cores.{Setup}
+use Rattle.bus_rules.specs.Cores.{Core, Setup}
 use Rattle.bus_rules.specs.States.{queues, refuses}
-use Rattle.node_core.specs.Nodes.{Node}
 use Rattle.scenario_text.specs.ScenarioParts.{ScenarioParts}
 use Rattle.scenario_text.specs.FloodParts.{knows}
 use Rattle.scenario_text.specs.declared.script.Act.{Act}
@@ -13,7 +12,7 @@ use Rattle.scenario_text.specs.declared.script.ScriptLine.{ScriptLine}
 use Rattle.air_log.specs.declared.entry.Entry.{Entry}
 use Rattle.air_log.specs.Devices.{Device, Power, PowerOff, PowerOn}
 use Rattle.air_log.specs.Lawful.{heard_by}
-use Rattle.air_log.specs.ScriptedDevices.{device_after_act, device_after_line, dropped, with_new_core}
+use Rattle.air_log.specs.ScriptedDevices.{device_after_act, device_after_line}
 use Rattle.air_log.specs.Trails.{before_tick, frame_start, lines_at, setup_of}
 use Rattle.law_trails.specs.TrailLinks.{device_in}
 use Rattle.law_trails.proofs.RowsOfDevices.{switched_on_is}
@@ -30,28 +29,23 @@ PlacedBy (PowerOn n) = StandsByTune n
 
 module _ (clock : ℕ → ℕ) (s : Setup) (t : ℕ) where
   -- a line that is given
-  put_place : (f i : ℕ) (payload : List ℕ) (d : Device) (n : Node) → d.power ≡ PowerOn n → StandsByTune n
-      → PlacedBy (device_after_act clock s t f d (Put i payload) (PowerOn n)).power
-  put_place f i payload d n is placed =
-      cond_both (refuses i n.core) (dropped s.id f i d) (with_new_core d n (queues i payload n.core)) (λ (e : Device). PlacedBy e.power)
-      (λ refused. subst PlacedBy (sym is) placed)
+  act_place : (d : Device) (a : Act) (p : Power) → d.power ≡ p → PlacedBy p → PlacedBy (device_after_act clock s t d a p).power
+  act_place d On (PowerOff boots) is placed = subst PlacedBy (sym (switched_on_is clock s t boots d).power) (record { place = refl; fresh = refl })
+  act_place d On (PowerOn n) is placed = subst PlacedBy (sym is) placed
+  act_place d Off (PowerOff boots) is placed = subst PlacedBy (sym is) tt
+  act_place d Off (PowerOn n) is placed = tt
+  act_place d (Declare i interval) (PowerOff boots) is placed = subst PlacedBy (sym is) tt
+  act_place d (Declare i interval) (PowerOn n) is placed = record { place = placed.place; fresh = placed.fresh }
+  act_place d (Leave i) (PowerOff boots) is placed = subst PlacedBy (sym is) tt
+  act_place d (Leave i) (PowerOn n) is placed = record { place = placed.place; fresh = placed.fresh }
+  act_place d (Put i payload) (PowerOff boots) is placed = subst PlacedBy (sym is) tt
+  act_place d (Put i payload) (PowerOn n) is placed =
+      cond_both (refuses i n.core) n.core (queues i payload n.core) (λ (c : Core). StandsByTune (record n { core = c })) (λ refused. placed)
       (λ taken. record { place = placed.place; fresh = placed.fresh })
-
-  act_place : (f : ℕ) (d : Device) (a : Act) (p : Power) → d.power ≡ p → PlacedBy p → PlacedBy (device_after_act clock s t f d a p).power
-  act_place f d On (PowerOff boots) is placed = subst PlacedBy (sym (switched_on_is clock s t boots d).power) (record { place = refl; fresh = refl })
-  act_place f d On (PowerOn n) is placed = subst PlacedBy (sym is) placed
-  act_place f d Off (PowerOff boots) is placed = subst PlacedBy (sym is) tt
-  act_place f d Off (PowerOn n) is placed = tt
-  act_place f d (Declare i interval) (PowerOff boots) is placed = subst PlacedBy (sym is) tt
-  act_place f d (Declare i interval) (PowerOn n) is placed = record { place = placed.place; fresh = placed.fresh }
-  act_place f d (Leave i) (PowerOff boots) is placed = subst PlacedBy (sym is) tt
-  act_place f d (Leave i) (PowerOn n) is placed = record { place = placed.place; fresh = placed.fresh }
-  act_place f d (Put i payload) (PowerOff boots) is placed = subst PlacedBy (sym is) tt
-  act_place f d (Put i payload) (PowerOn n) is placed = put_place f i payload d n is placed
 
   lines_place : (ls : List ScriptLine) (d : Device) → PlacedBy d.power → PlacedBy (fold (device_after_line clock s t) d ls).power
   lines_place [] d placed = placed
-  lines_place (l ∷ ls) d placed = lines_place ls (device_after_line clock s t d l) (act_place l.frame d l.act d.power refl placed)
+  lines_place (l ∷ ls) d placed = lines_place ls (device_after_line clock s t d l) (act_place d l.act d.power refl placed)
 
 module _ (s : ScenarioParts) (clocks : ℕ → ℕ → ℕ) (air : List Entry) (v : ℕ) where
   -- before the script lines

@@ -204,7 +204,6 @@ module _ (s : ScenarioParts) (clocks : ℕ → ℕ → ℕ) (air : List Entry) (
             (k.leaving d l n i (base t Lines d here) next act on, told t at d l n (leaves i n.core) here next on, here.holds.2);
         putting = λ d l n i payload here next act on taken.
             (k.putting d l n i payload (base t Lines d here) next act on taken, told t at d l n (queues i payload n.core) here next on, here.holds.2);
-        loss = λ d l i payload here next act lost. (k.loss d l i payload (base t Lines d here) next act lost, here.holds.1, here.holds.2);
         joining = λ d h n y here next on stage says rank. (
           k.joining d h n y (base t Hearings d here) next on stage says rank,
           row_leaves t t (Heard h.packet) None d n (joins S n (c t) h.packet y) tt,

@@ -1,5 +1,5 @@
 -- An id of no node is given nothing, so it stays off, does nothing, and has no windows.
-use Rattle.std.proofs.Common.{◌≡◌, ℕ, zero, suc, ◌+◌, List, [], ◌∷◌, Bool, true, false, ◌==◌, ◌&&◌, if◌then◌else◌, filter, fold, Contains, refl, sym, ◌∙◌, ap}
+use Rattle.std.proofs.Common.{◌≡◌, ℕ, zero, suc, List, [], ◌∷◌, Bool, true, false, ◌==◌, ◌&&◌, if◌then◌else◌, filter, fold, Contains, refl, sym, ◌∙◌, ap}
 use Rattle.std.proofs.Common.{subst, eqb-true, true≢false}
 use Rattle.std.proofs.lemmas.List.Elements.{All-contains}
 use Rattle.scenario_text.specs.ScenarioParts.{ScenarioParts}
@@ -11,8 +11,8 @@ use Rattle.air_log.specs.declared.entry.Entry.{Entry}
 use Rattle.air_log.specs.Devices.{Device, at_rest}
 use Rattle.air_log.specs.Lawful.{heard_by}
 use Rattle.air_log.specs.ScriptedDevices.{device_after_line}
-use Rattle.air_log.specs.Trails.{Reception, alarmed, alarms, before_tick, device_after_start, device_after_end, ending_at, frame_start, device_after_reception}
-use Rattle.air_log.specs.Trails.{lines_at, run_end, setup_of, tick}
+use Rattle.air_log.specs.Trails.{Reception, alarm_limit, alarmed, alarms, before_tick, device_after_start, device_after_end, ending_at, frame_start}
+use Rattle.air_log.specs.Trails.{device_after_reception, lines_at, run_end, setup_of, tick}
 use Rattle.lwb_base.proofs.Elements.{not_in_none, contains_head, contains_tail}
 use Rattle.law_terms.specs.LawfulRuns.{IsLawfulRun}
 use Rattle.law_windows.specs.FramePlaces.{StrangersLaw}
@@ -50,7 +50,7 @@ module _ (s : ScenarioParts) (v : ℕ) (clock : ℕ → ℕ) (hs : List Receptio
   rests t =
       ap (λ (ls : List ScriptLine). behind t (told t ls)) (none t)
       ∙ ap (behind t) (hears_nothing clock S t (ending_at t hs))
-      ∙ ap (device_after_start S t) (no_alarm clock S t (clock t + 300))
+      ∙ ap (device_after_start S t) (no_alarm clock S t (alarm_limit clock t))
 
   stays : (t : ℕ) → before_tick s v clock hs t ≡ at_rest
   unfolding before_tick

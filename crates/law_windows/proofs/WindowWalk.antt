@@ -170,8 +170,6 @@ module _ (s : ScenarioParts) (clocks : ℕ → ℕ → ℕ) (air : List Entry) (
         rows.putting s clocks air v t at d l n i payload (fine t Lines d here) next act on taken,
         told_on t d n (queues i payload n.core) (told_rests t at d l n here.holds.0 next on) on here.holds.1,
       );
-      loss = λ d l i payload here next act lost.
-          (rows.loss s clocks air v t at d l i payload (fine t Lines d here) next act lost, still _ t d here.holds.1);
       joining = λ d h n y here next on stage says rank. (
         rows.joining s clocks air v t at d h n y (fine t Hearings d here) next on stage says rank,
         joins_in s clocks v (K t t) t d n h.packet y on stage

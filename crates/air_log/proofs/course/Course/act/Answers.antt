@@ -7,7 +7,7 @@ use Rattle.air_log.specs.ScriptedDevices.{device_after_act, device_after_line}
 use Rattle.air_log.specs.DeviceStates.{DeviceState, whole, tuning_of}
 use Rattle.air_log.specs.Courses.{CourseState, CourseIsShown}
 use Rattle.air_log.proofs.ShownCourses.{goes_seen}
-use Rattle.air_log.proofs.CourseSteps.{then_shown, then_goes, state_goes, device_goes, told_goes}
+use Rattle.air_log.proofs.CourseSteps.{then_shown, then_goes, state_goes, device_goes}
 use Rattle.air_log.proofs.course.Course.act.Goals as goal
 
 pub tell-requires-clause-shown : goal.tell-requires-clause-shown
@@ -44,8 +44,8 @@ returns-in_ok-tell-in-On g c =
     goes_seen t (λ q d. device_after_line clock q t d line) old c.args.self.now c.tell.new.self c.tell.new.self c.self.view_is refl
     (then_goes t old x (c.switch_on.ensures.time t) (ap (λ (s : DeviceState). s.setup) is) (λ none. ap (λ (s : DeviceState). s.delivery) is)
     (λ q d. device_after_line clock q t d line) (λ q d. event clock q t Boot None d) c.tell.new.self
-    (λ made. ap (λ (a : Act). device_after_act clock old.device.setup t line.frame (whole old.device made) a old.device.power) c.in-On.is
-    ∙ c.switch_on.ensures.whole clock t line.frame made
+    (λ made. ap (λ (a : Act). device_after_act clock old.device.setup t (whole old.device made) a old.device.power) c.in-On.is
+    ∙ c.switch_on.ensures.whole clock t made
     ∙ ap (λ (b : Bool). if b then event clock old.device.setup t Boot None (whole x made) else whole x made) c.if-switch_on.true)
     c.in_ok-tell-in-On.ensures)
 
@@ -67,8 +67,8 @@ returns-else-switch_on g c =
     let new : CourseState = record old { device = x } in
     goes_seen t (λ q d. device_after_line clock q t d line) old c.args.self.now new new c.self.view_is refl
     (state_goes t old x (λ q d. device_after_line clock q t d line)
-    (λ made. ap (λ (a : Act). device_after_act clock old.device.setup t line.frame (whole old.device made) a old.device.power) c.in-On.is
-    ∙ c.switch_on.ensures.whole clock t line.frame made
+    (λ made. ap (λ (a : Act). device_after_act clock old.device.setup t (whole old.device made) a old.device.power) c.in-On.is
+    ∙ c.switch_on.ensures.whole clock t made
     ∙ ap (λ (b : Bool). if b then event clock old.device.setup t Boot None (whole x made) else whole x made) c.if-switch_on.false)
     (c.switch_on.ensures.time t) (record { setup = ap (λ (s : DeviceState). s.setup) is; delivery = ap (λ (s : DeviceState). s.delivery) is }))
 
@@ -88,8 +88,8 @@ returns-in-Off g c =
     on_ok_weaker c.log_tuning.result (λ logged.
     goes_seen t (λ q d. device_after_line clock q t d line) old c.args.self.now _ c.log_tuning.new.self c.self-in-Off.view_is (sym logged)
     (device_goes t old x.new.self x.result (λ q d. device_after_line clock q t d line)
-    (λ made ended. ap (λ (a : Act). device_after_act clock old.device.setup t line.frame (whole old.device made) a old.device.power) c.in-Off.is
-    ∙ x.ensures.whole clock line.frame made)
+    (λ made ended. ap (λ (a : Act). device_after_act clock old.device.setup t (whole old.device made) a old.device.power) c.in-Off.is
+    ∙ x.ensures.whole clock made)
     x.ensures.before x.ensures.time x.ensures.node))
     c.log_tuning.ensures
 
@@ -108,4 +108,4 @@ returns-in-Declare g c =
     let x = c.tell-in-Declare in
     let new : CourseState = record old { device = x.new.self } in
     goes_seen t (λ q d. device_after_line clock q t d line) old c.args.self.now new new c.self-in-Declare.view_is refl
-    (told_goes t old x.new.self x.result (λ q d. device_after_line clock q t d line) (x.ensures.whole clock t) (x.ensures.time t) x.ensures.node)
+    (state_goes t old x.new.self (λ q d. device_after_line clock q t d line) (x.ensures.whole clock t) (x.ensures.time t) x.ensures.node)
