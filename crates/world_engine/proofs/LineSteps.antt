@@ -107,5 +107,5 @@ module _ {C : Type 0} (R : C → ℕ → ℕ) (s : ScenarioParts) (sound : IsSou
     line_done c clock new new_due all = (
       line_goes_on s (clocks_by R s.nodes cs) sound told t p node.0 node.1 old old_due new new_due (R c)
           (own_clock R s sound cs count p c clock) line own next.now all.0 all.1 all.2 run,
-      acts_stay s (clocks_by R s.nodes cs) t p (λ x d. device_after_act (R c) x t line.frame d line.act d.power) [] all.0 old old_due new new_due all.1,
+      acts_stay s (clocks_by R s.nodes cs) t p (λ x d. device_after_act (R c) x t d line.act d.power) [] all.0 old old_due new new_due all.1,
     )

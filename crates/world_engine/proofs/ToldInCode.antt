@@ -19,17 +19,16 @@ use Rattle.radio_model.specs.Stations.{MediumState, IsTime, station_of, medium_a
 use Rattle.air_log.specs.declared.entry.TunedEntry.{TunedEntry}
 use Rattle.air_log.specs.Devices.{Device, Power, Listening, Made, nothing_made, event}
 use Rattle.air_log.specs.ScriptedDevices.{IsForStream, device_after_act}
-use Rattle.air_log.specs.Drops.{drop_by}
-use Rattle.air_log.specs.DeviceStates.{DeviceState, whole, with_tuned, with_drop, HappenedBy, IsSameNode}
+use Rattle.air_log.specs.Drops.{drop_of_line}
+use Rattle.air_log.specs.DeviceStates.{DeviceState, whole, with_tuned, HappenedBy, IsSameNode}
 use Rattle.air_log.specs.WindowLogs.{WindowLog}
-use Rattle.air_log.proofs.CourseSteps.{drop_made}
 use Rattle.world_engine.specs.Fields.{FieldState, HasCounted, FieldShows, FieldIsShown, IsField, entries_of, due_of_device, channel_of}
 use Rattle.world_engine.specs.FieldSteps.{Acts, TakesLine}
 use Rattle.world_engine.proofs.ActsInTurn.{acts_then, acts_as}
 use Rattle.world_engine.proofs.DeviceSteps.{IsStepAt, GoesOnMaking, acts_at}
 use Rattle.world_engine.proofs.DeviceRetuned.{retuned_goes_on, retuned_station, retuned_others}
 use Rattle.world_engine.proofs.ObeyedOrders.{due_changed, due_kept, same_due, tuned_goes_on}
-use Rattle.world_engine.proofs.LineChanges.{StaysSet, told_stays, told_loses}
+use Rattle.world_engine.proofs.LineChanges.{StaysSet, told_stays}
 use Rattle.world_engine.proofs.StepsInCode.{state_here, state_known, state_taken}
 use Rattle.world_engine.proofs.GoesOn.{goes_on_nothing}
 
@@ -197,35 +196,31 @@ module _ (t p : ℕ) (old : FieldState) (old_due : List Due) (shown : FieldIsSho
       }))
       comes (λ made. refl)
 
-  pub booted_acts : (clock : ℕ → ℕ) (frame : ℕ) (after : DeviceState) (mid new : FieldState) (new_due : List Due) → after ≡ record state {
+  pub booted_acts : (clock : ℕ → ℕ) (after : DeviceState) (mid new : FieldState) (new_due : List Due) → after ≡ record state {
     core = after.core;
     power = after.power;
     delivery = None;
   }
-      → ((made : Made) → device_after_act clock state.setup t frame (whole state made) On state.power ≡ event clock state.setup t Boot None (whole after made))
+      → ((made : Made) → device_after_act clock state.setup t (whole state made) On state.power ≡ event clock state.setup t Boot None (whole after made))
       → Acts t p (turned after.power) [] [] old old_due mid old_due → Acts t p (λ s d. event clock s t Boot None d) [] [] mid old_due new new_due
-      → Acts t p (λ s d. device_after_act clock s t frame d On d.power) [] [] old old_due new new_due
-  booted_acts clock frame after mid new new_due changed boots on told =
-      acts_as t p (λ s d. event clock s t Boot None (turned after.power s d)) (λ s d. device_after_act clock s t frame d On d.power) [] [] old new old_due
+      → Acts t p (λ s d. device_after_act clock s t d On d.power) [] [] old old_due new new_due
+  booted_acts clock after mid new new_due changed boots on told =
+      acts_as t p (λ s d. event clock s t Boot None (turned after.power s d)) (λ s d. device_after_act clock s t d On d.power) [] [] old new old_due
       new_due
-      (same_shown (λ s d. event clock s t Boot None (turned after.power s d)) (λ s d. device_after_act clock s t frame d On d.power)
+      (same_shown (λ s d. event clock s t Boot None (turned after.power s d)) (λ s d. device_after_act clock s t d On d.power)
       (λ made. ap (λ (x : DeviceState). event clock state.setup t Boot None (whole x made)) (sym changed) ∙ sym (boots made)))
       (acts_then t p (turned after.power) (λ s d. event clock s t Boot None d) [] [] [] [] old mid new old_due old_due new_due on told)
 
   -- a line for a stream
   module _ (clock : ℕ → ℕ) (line : ScriptLine) (drop : Option DropLine) (after : DeviceState) (for_stream : IsForStream line.act)
-      (comes : (made : Made) → device_after_act clock state.setup t line.frame (whole state made) line.act state.power ≡ whole after
-      (with_drop drop made)) where
-    told_drops : (made : Made) → device_after_act clock state.setup t line.frame (whole state made) line.act state.power
-        ≡ whole after (record made { drops = made.drops ++ option_to_list drop })
-    told_drops made = comes made ∙ ap (whole after) (drop_made drop made)
-
+      (comes : (made : Made) → device_after_act clock state.setup t (whole state made) line.act state.power ≡ whole after made)
+      (lost : drop ≡ drop_of_line (record line { node = state.setup.id }) state.power) where
     loses : line.node ≡ state.setup.id → (s : Setup) (d : Device) → FieldShows s t old old_due p d
-        → option_to_list drop ≡ option_to_list (drop_by line line.act d.power)
+        → option_to_list drop ≡ option_to_list (drop_of_line line d.power)
     loses own s d shows =
-        sym (ap (λ (d : Device). d.made.drops) (told_drops nothing_made))
-        ∙ told_loses clock state.setup t line.frame (whole state nothing_made) line line.act for_stream state.power refl own refl
-        ∙ ap (λ (x : Power). option_to_list (drop_by line line.act x)) (sym (power_shown s d shows))
+        ap (λ (o : Option DropLine). option_to_list o) lost
+        ∙ ap (λ (v : ℕ). option_to_list (drop_of_line (record line { node = v }) state.power)) (sym own)
+        ∙ ap (λ (x : Power). option_to_list (drop_of_line line x)) (sym (power_shown s d shows))
 
     pub line_told : IsField old → IsTime old.medium t → (drops : List DropLine) → IsSameNode state after → HappenedBy t after
         → line.node ≡ state.setup.id → drops ≡ old.drops ++ option_to_list drop
@@ -240,10 +235,10 @@ module _ (t p : ℕ) (old : FieldState) (old_due : List Due) (shown : FieldIsSho
     line_told field time drops node happened own more = (
       option_to_list drop,
       told_acts field time after (option_to_list drop) drops node.setup (node.delivery ∙ state_taken t p old old_due shown i at state is) happened more
-          (λ s d. device_after_act clock s t line.frame d line.act d.power) (λ made. record made { drops = made.drops ++ option_to_list drop })
+          (λ s d. device_after_act clock s t d line.act d.power) (λ made. made)
           (λ made. record { sent = refl; tuned = refl; deliveries = sym (append-nil made.deliveries) })
-          (subst (λ (d : Device). StaysSet (whole state nothing_made) d) (told_drops nothing_made)
-          (told_stays clock state.setup t line.frame (whole state nothing_made) line.act for_stream state.power))
-          told_drops (λ made. refl),
+          (subst (λ (d : Device). StaysSet (whole state nothing_made) d) (comes nothing_made)
+          (told_stays clock state.setup t (whole state nothing_made) line.act for_stream state.power))
+          comes (λ made. refl),
       loses own,
     )

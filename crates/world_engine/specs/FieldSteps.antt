@@ -69,7 +69,7 @@ pub record Acts (t p : ℕ) (change : Setup → Device → Device) (begun : List
 -- at tick t the device at place p is given this by a line of the script, and these puts of it are lost
 abbrev pub TakesLine : (ℕ → ℕ) → ScriptLine → ℕ → ℕ → Act → FieldState → List Due → FieldState → List Due → Type 0
 TakesLine clock line t p act old old_due new new_due =
-    (lost : List DropLine) × Acts t p (λ s d. device_after_act clock s t line.frame d act d.power) [] lost old old_due new new_due
+    (lost : List DropLine) × Acts t p (λ s d. device_after_act clock s t d act d.power) [] lost old old_due new new_due
     × ((s : Setup) (d : Device) → FieldShows s t old old_due p d → lost ≡ option_to_list (drop_by line act d.power))
 
 -- what the clock at a place reads; past them it is the true tick

@@ -58,7 +58,7 @@ entries_of (Some e) = Tuned e ∷ []
 abbrev pub due_of_device : DeviceState → Due
 due_of_device d = record { sending_end = option_map sending_end d.sending; alarm = d.alarm; sending_start = option_map tick_of_ordered d.ordered }
 
--- what v has made, but for drops and windows, is what the lists have of it
+-- what v has made, but for windows, is what the lists have of it
 pub record IsLogged (w : FieldState) (v : ℕ) (made : Made) : Type 0 where
   pub sent : made.sent ≡ sent_by w.air v
   pub tuned : made.tuned ≡ reverse (tuned_by w.air v)

@@ -58,8 +58,8 @@ impl Field {
         requires time { IsTime self.old.medium t }
         requires early { t ≤ 2 ^ 45 }
         requires boots { (s : Setup) (d : DeviceOf) → FieldShows s t self.old (Q.map orders.old) place d → CanBoot d.power }
-        ensures { (frame : ℕ) → OnOk result
-            (Acts t place (λ s d. device_after_act (C.readings clock.now) s t frame d OnOf d.power) [] [] self.old (Q.map orders.old) self.new
+        ensures { OnOk result
+            (Acts t place (λ s d. device_after_act (C.readings clock.now) s t d OnOf d.power) [] [] self.old (Q.map orders.old) self.new
             (Q.map orders.new)) }
     {
         if self.devices[usize::from(place)].switch_on() {
@@ -72,9 +72,9 @@ impl Field {
     fn switch_off<Q: Orders>(&mut self, orders: &mut Q, place: u8, t: u64) -> Result<(), Memory>
         requires shown { FieldIsShown t self.old (Q.map orders.old) place }
         requires time { IsTime self.old.medium t }
-        ensures { (clock : ℕ → ℕ) (frame : ℕ)
+        ensures { (clock : ℕ → ℕ)
             → OnOk result
-            (Acts t place (λ s d. device_after_act clock s t frame d OffOf d.power) [] [] self.old (Q.map orders.old) self.new (Q.map orders.new)) }
+            (Acts t place (λ s d. device_after_act clock s t d OffOf d.power) [] [] self.old (Q.map orders.old) self.new (Q.map orders.new)) }
     {
         let device = &mut self.devices[usize::from(place)];
         if !device.is_on() {

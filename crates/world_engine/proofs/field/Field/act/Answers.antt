@@ -22,12 +22,12 @@ tell_stream-requires-clause-range g c = λ d there.
 pub returns-in-On : goal.returns-in-On
 returns-in-On g c = on_ok_weaker c.switch_on.result
     (λ acts. as_told (g.C.DriftClock.readings c.args.clock.now) c.args.line.now refl (sym c.in-On.is) ([], acts, λ s d shows. refl))
-    (c.switch_on.ensures c.args.line.now.frame)
+    c.switch_on.ensures
 
 pub returns-in-Off : goal.returns-in-Off
 returns-in-Off g c = on_ok_weaker c.switch_off.result
     (λ acts. as_told (g.C.DriftClock.readings c.args.clock.now) c.args.line.now refl (sym c.in-Off.is) ([], acts, λ s d shows. refl))
-    (c.switch_off.ensures (g.C.DriftClock.readings c.args.clock.now) c.args.line.now.frame)
+    (c.switch_off.ensures (g.C.DriftClock.readings c.args.clock.now))
 
 pub returns-in-Declare : goal.returns-in-Declare
 returns-in-Declare g c =

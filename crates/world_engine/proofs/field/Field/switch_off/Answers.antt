@@ -87,7 +87,7 @@ invariant_of-self-2 g c =
     c.switch_off-closed.new.self c.switch_off-closed.ensures.node.setup c.self.inside.air c.node-node.result None c.tune.new.self c.tune.ensures.state
 
 pub returns-then-not-is_on : goal.returns-then-not-is_on
-returns-then-not-is_on g c = λ clock frame.
+returns-then-not-is_on g c = λ clock.
     let t = c.args.t in
     let p = c.args.place in
     let orders = g.Q.Orders.map c.args.orders.now in
@@ -109,17 +109,17 @@ returns-then-not-is_on g c = λ clock frame.
     (state_taken t p old orders shown c.from.result c.from.ensures c.index_mut-device.result.now c.index_mut-device.ensures.value)
     (state_happened t p old orders shown c.from.result c.from.ensures c.index_mut-device.result.now c.index_mut-device.ensures.value)
     (sym (append-nil old.drops))
-    (λ s d. device_after_act clock s t frame d Off d.power) (λ made. made) (λ made. record {
+    (λ s d. device_after_act clock s t d Off d.power) (λ made. made) (λ made. record {
       sent = refl;
       tuned = refl;
       deliveries = sym (append-nil made.deliveries);
     })
     (record { listening = refl; alarm = refl; ordered = refl; sending = refl })
-    (λ made. off_stays clock state.setup t frame (whole state made) state.power off) (λ made. refl)
+    (λ made. off_stays clock state.setup t (whole state made) state.power off) (λ made. refl)
     )
 
 pub returns : goal.returns
-returns g c = λ clock frame.
+returns g c = λ clock.
     let t = c.args.t in
     let p = c.args.place in
     let orders = g.Q.Orders.map c.args.orders.now in
@@ -141,13 +141,13 @@ returns g c = λ clock frame.
     let happened = c.switch_off-closed.ensures.time
     (state_happened t p old orders shown c.from.result c.from.ensures c.index_mut-device.result.now c.index_mut-device.ensures.value) in
     let off : IsOffAfter (whole state nothing_made) (whole after (with_tuned closed nothing_made)) =
-    subst (λ (d : Device). IsOffAfter (whole state nothing_made) d) (c.switch_off-closed.ensures.whole clock frame nothing_made)
-    (off_then clock state.setup t frame (whole state nothing_made) state.power on) in
+    subst (λ (d : Device). IsOffAfter (whole state nothing_made) d) (c.switch_off-closed.ensures.whole clock nothing_made)
+    (off_then clock state.setup t (whole state nothing_made) state.power on) in
     on_ok_weaker c.log_tuning.result (λ is. acts_seen c.self.view_is (
     off_acts t p old orders shown c.from.result c.from.ensures c.index_mut-device.result.now c.index_mut-device.ensures.value c.self.invariant time
     after closed c.node-node.result c.tune.new.self c.log_tuning.new.self (g.Q.Orders.map c.clear.new.self) (g.Q.Orders.map c.clear-2.new.self)
     id c.tune.ensures.state c.tune.ensures.holds is c.clear.ensures c.clear-2.ensures c.switch_off-closed.ensures.node.setup
     c.switch_off-closed.ensures.node.delivery c.switch_off-closed.ensures.own c.switch_off-closed.ensures.before happened
     off.listening off.alarm off.ordered off.sending
-    (λ s d. device_after_act clock s t frame d Off d.power) (c.switch_off-closed.ensures.whole clock frame)
+    (λ s d. device_after_act clock s t d Off d.power) (c.switch_off-closed.ensures.whole clock)
     )) c.log_tuning.ensures

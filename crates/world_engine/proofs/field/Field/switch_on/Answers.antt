@@ -74,7 +74,7 @@ tell-requires-clause-shown g c =
     record { setup = shown.setup; device = turned c.switch_on.new.self.power shown.setup shown.device; shows = on.own shown.setup shown.device shown.shows }
 
 pub returns-in_ok-tell : goal.returns-in_ok-tell
-returns-in_ok-tell g c = λ frame.
+returns-in_ok-tell g c =
     let t = c.args.t in
     let p = c.args.place in
     let orders = g.Q.Orders.map c.args.orders.now in
@@ -95,13 +95,13 @@ returns-in_ok-tell g c = λ frame.
     on_acts t p old orders shown c.from.result c.from.ensures c.index_mut.result.now c.index_mut.ensures.value c.self.invariant time
     c.switch_on.new.self c.if-switch_on.ensures.after happened in
     acts_seen c.self.view_is (
-    booted_acts t p old orders shown c.from.result c.from.ensures c.index_mut.result.now c.index_mut.ensures.value clock frame c.switch_on.new.self _
-    c.tell.new.self (g.Q.Orders.map c.tell.new.orders) c.if-switch_on.ensures.after (c.if-switch_on.ensures.whole clock t frame) on
+    booted_acts t p old orders shown c.from.result c.from.ensures c.index_mut.result.now c.index_mut.ensures.value clock c.switch_on.new.self _
+    c.tell.new.self (g.Q.Orders.map c.tell.new.orders) c.if-switch_on.ensures.after (c.if-switch_on.ensures.whole clock t) on
     (c.in_ok-tell.ensures None refl)
     )
 
 pub returns-else-switch_on : goal.returns-else-switch_on
-returns-else-switch_on g c = λ frame.
+returns-else-switch_on g c =
     let t = c.args.t in
     let p = c.args.place in
     let orders = g.Q.Orders.map c.args.orders.now in
@@ -125,7 +125,7 @@ returns-else-switch_on g c = λ frame.
     (ap (λ (d : DeviceState). d.delivery) same
     ∙ state_taken t p old orders shown c.from.result c.from.ensures c.index_mut.result.now c.index_mut.ensures.value) happened
     (sym (append-nil old.drops))
-    (λ s d. device_after_act clock s t frame d On d.power) (λ made. made)
+    (λ s d. device_after_act clock s t d On d.power) (λ made. made)
     (λ made. record { sent = refl; tuned = refl; deliveries = sym (append-nil made.deliveries) })
     (subst (λ (d : DeviceState). StaysSet (whole c.index_mut.result.now nothing_made) (whole d nothing_made)) (sym same) (record {
       listening = refl;
@@ -133,5 +133,5 @@ returns-else-switch_on g c = λ frame.
       ordered = refl;
       sending = refl;
     }))
-    (c.if-switch_on.ensures.whole clock t frame) (λ made. refl)
+    (c.if-switch_on.ensures.whole clock t) (λ made. refl)
     )

@@ -1,11 +1,9 @@
-use Rattle.std.proofs.Common.{◌≡◌, ◌++◌, ◌∷◌, [], length, set, Option, Some, None, refl, sym, ◌∙◌, ap, subst, arith, rules}
+use Rattle.std.proofs.Common.{◌≡◌, ◌++◌, ◌∷◌, [], length, set, Some, None, refl, sym, ◌∙◌, ap, subst, arith, rules}
 use Rattle.std.specs.Prelude.{slice_get}
 use Rattle.std.proofs.lemmas.List.{append-nil}
 use Rattle.std.proofs.lemmas.Option.{slice_get_read}
 use Rattle.bus_rules.specs.Cores.{Setup}
-use Rattle.bus_rules.specs.declared.delivery.DropLine.{DropLine}
 use Rattle.radio_model.specs.Stations.{IsTime}
-use Rattle.air_log.specs.DeviceStates.{whole, with_drop}
 use Rattle.world_engine.specs.Fields.{FieldState, FieldIsShown}
 use Rattle.world_engine.proofs.DeviceSteps.{field_stays}
 use Rattle.world_engine.proofs.StepsInCode.{state_happened}
@@ -96,7 +94,7 @@ returns-in_default c = λ clock t due is_time is_shown own.
     as_told clock c.args.line.now c.self.view_is refl
     (line_told t p old due shown c.from.result c.from.ensures c.index_mut-device.result.now c.index_mut-device.ensures.value clock c.args.line.now
     None c.tell.new.self c.requires.stream
-    (λ made. c.tell.ensures.whole clock t made ∙ ap (λ (o : Option DropLine). whole c.tell.new.self (with_drop o made)) none)
+    (c.tell.ensures.whole clock t) (sym none ∙ c.tell.ensures.lost)
     c.self.invariant time old.drops c.tell.ensures.node happened is_own (sym (append-nil old.drops)))
 
 pub returns : goal.returns
@@ -123,5 +121,5 @@ returns c = λ clock t due is_time is_shown own.
     as_told clock c.args.line.now c.self.view_is refl
     (line_told t p old due shown c.from.result c.from.ensures c.index_mut-device.result.now c.index_mut-device.ensures.value clock c.args.line.now
     (Some c.in-Some.drop) c.tell.new.self c.requires.stream
-    (λ made. c.tell.ensures.whole clock t made ∙ ap (λ (o : Option DropLine). whole c.tell.new.self (with_drop o made)) some)
+    (c.tell.ensures.whole clock t) (sym some ∙ c.tell.ensures.lost)
     c.self.invariant time c.push.new.self.items c.tell.ensures.node happened is_own pushed)
