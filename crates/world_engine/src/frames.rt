@@ -142,31 +142,32 @@ impl Field {
             if t >= until {
                 return Ok(());
             }
-            self.event(orders, s, clocks, t, class, place, radio)?;
+            self.event(orders, s, clocks, (t, class, place), radio)?;
         }
         Ok(())
     }
 
-    // What is due next: at tick t, of this class, at this place.
+    // What is due next: at a tick, of a class, at a place.
     fn event<C: DriftClock, Q: Orders>(
         &mut self,
         orders: &mut Q,
         s: &Scenario,
         clocks: &[C],
-        t: u64,
-        class: Class,
-        place: u8,
+        due: (u64, Class, u8),
         radio: &mut EventRadio,
     ) -> Result<(), Memory>
         requires sound { IsSoundScenario s.now }
         requires clocks { length clocks.now ≡ length s.now.nodes }
-        requires within { t < run_end s.now }
-        requires next { IsNext (Q.map orders.old) (Some (t, class, place)) }
-        requires running { (told : List LineOf) × IsRunning s.now (clocks_by C.readings s.now.nodes clocks.now) told t (At class) self.old (Q.map orders.old) }
-        ensures { (told : List LineOf) → IsRunning s.now (clocks_by C.readings s.now.nodes clocks.now) told t (At class) self.old (Q.map orders.old)
-            → OnOk result (IsRunning s.now (clocks_by C.readings s.now.nodes clocks.now) told t (At class) self.new (Q.map orders.new)
-            × AllComeLater t class place (Q.map orders.new) × TrailsStay s.now (clocks_by C.readings s.now.nodes clocks.now) t self.old.air self.new.air) }
+        requires within { due.0 < run_end s.now }
+        requires next { IsNext (Q.map orders.old) (Some due) }
+        requires running { (told : List LineOf)
+            × IsRunning s.now (clocks_by C.readings s.now.nodes clocks.now) told due.0 (At due.1) self.old (Q.map orders.old) }
+        ensures { (told : List LineOf) → IsRunning s.now (clocks_by C.readings s.now.nodes clocks.now) told due.0 (At due.1) self.old (Q.map orders.old)
+            → OnOk result (IsRunning s.now (clocks_by C.readings s.now.nodes clocks.now) told due.0 (At due.1) self.new (Q.map orders.new)
+            × AllComeLater due.0 due.1 due.2 (Q.map orders.new)
+            × TrailsStay s.now (clocks_by C.readings s.now.nodes clocks.now) due.0 self.old.air self.new.air) }
     {
+        let (t, class, place) = due;
         match class {
             Class::SendingEnd => self.end_due(orders, s, clocks, t, place, radio),
             Class::Alarm => self.alarm_due(orders, s, clocks, t, place, radio),
