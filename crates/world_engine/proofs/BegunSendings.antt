@@ -54,13 +54,10 @@ module _ (t p : ℕ) (w : FieldState) (field : IsField w) (due : List Due) (st n
   -- where x starts
   module _ (x : Sending) (is : (made : Made) → device_after_start st.setup t (whole st made) ≡ whole new (with_sent (Some x) made)) where
     abbrev begun_field : FieldState
-    begun_field = record {
+    begun_field = record w {
       medium = medium_after_change t x.node (station_after_start w.medium.numbers t x.packet) w.medium;
       devices = set w.devices p new;
       air = w.air ++ Sent x ∷ [];
-      deliveries = w.deliveries;
-      drops = w.drops;
-      sums = w.sums;
     }
 
     abbrev begun_due : List Due

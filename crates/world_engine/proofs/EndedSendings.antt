@@ -39,14 +39,7 @@ pub record IsEnding (t p : ℕ) (w : FieldState) (due : List Due) (st : DeviceSt
   pub until : x.end ≡ t
 
 abbrev pub over : ℕ → ℕ → DeviceState → FieldState → FieldState
-over t p st w = record {
-  medium = medium_after_change t st.setup.id station_after_end w.medium;
-  devices = set w.devices p (record st { sending = None });
-  air = w.air;
-  deliveries = w.deliveries;
-  drops = w.drops;
-  sums = w.sums;
-}
+over t p st w = record w { medium = medium_after_change t st.setup.id station_after_end w.medium; devices = set w.devices p (record st { sending = None }) }
 
 pub one_sending : (r : Option Sending) (x y : Sending) → r ≡ Some x → r ≡ Some y → x ≡ y
 one_sending r x y is_x is_y = of_some (sym is_x ∙ is_y)

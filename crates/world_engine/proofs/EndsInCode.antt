@@ -33,14 +33,7 @@ says_end t sending r x runs until is = is ∙ ap (ending_at t) runs ∙ cond-tru
 
 -- the field with another medium and another device
 abbrev changed_field : FieldState → MediumState → List DeviceState → FieldState
-changed_field w medium devices = record {
-  medium = medium;
-  devices = devices;
-  air = w.air;
-  deliveries = w.deliveries;
-  drops = w.drops;
-  sums = w.sums;
-}
+changed_field w medium devices = record w { medium = medium; devices = devices }
 
 as_over : (t i p u : ℕ) (w : FieldState) (m : MediumState) (st new : DeviceState) → i ≡ p → u ≡ st.setup.id
     → m ≡ medium_after_change t u station_after_end w.medium → new ≡ record st { sending = None } → changed_field w m (set w.devices i new) ≡ over t p st w

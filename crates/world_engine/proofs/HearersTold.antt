@@ -28,7 +28,7 @@ id_there w p st at = get_or-map id_of w.devices p st 0 (slice_get_within w.devic
 
 -- a Heard entry more is seen at no device
 abbrev pub logged : ℕ → Sending → FieldState → FieldState
-logged u x w = record { medium = w.medium; devices = w.devices; air = w.air ++ heard_entry u x ∷ []; deliveries = w.deliveries; drops = w.drops; sums = w.sums }
+logged u x w = record w { air = w.air ++ heard_entry u x ∷ [] }
 
 pub shown_when_logged : (t q u : ℕ) (x : Sending) (w : FieldState) (due : List Due) (s : Setup) (d : Device) → FieldShows s t w due q d
     → FieldShows s t (logged u x w) due q d

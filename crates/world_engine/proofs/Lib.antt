@@ -24,6 +24,7 @@ mod DropsOver
 mod DueSteps
 mod EndedSendings
 mod EndsInCode
+mod EndsNoticed
 mod EndsOfSendings
 mod EventsInCode
 mod FieldClosing

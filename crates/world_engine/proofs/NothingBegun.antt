@@ -47,7 +47,7 @@ module _ (t p : ℕ) (w : FieldState) (field : IsField w) (due : List Due) (st n
   -- where nothing starts
   module _ (is : (made : Made) → device_after_start st.setup t (whole st made) ≡ whole new (with_sent None made)) where
     abbrev silent_field : FieldState
-    silent_field = record { medium = w.medium; devices = set w.devices p new; air = w.air; deliveries = w.deliveries; drops = w.drops; sums = w.sums }
+    silent_field = record w { devices = set w.devices p new }
 
     abbrev silent_due : List Due
     silent_due = changed due p SendingStart None

@@ -126,14 +126,7 @@ module _ (t p : ℕ) (old : FieldState) (due : List Due) (shown : FieldIsShown t
       → (sums : List WindowSum) → ((q : ℕ) → q ≢ p → slice_get sums q ≡ slice_get old.sums q)
       → ((made : Made) → HasCounted old.sums p state.setup made.windows
       → HasCounted sums p state.setup (made_by t e ended state.power stepped made).windows)
-      → new ≡ record {
-        medium = old.medium;
-        devices = set old.devices i after;
-        air = old.air;
-        deliveries = old.deliveries ++ option_to_list delivery;
-        drops = old.drops;
-        sums = sums;
-      }
+      → new ≡ record old { devices = set old.devices i after; deliveries = old.deliveries ++ option_to_list delivery; sums = sums }
       → Acts t p (moves t e ended state stepped) [] [] old due new due
   moves_acts field time ended after delivery new is_after is_delivery sums others counts is_new =
       let taken = state_taken t p old due shown i at state is in
@@ -147,22 +140,9 @@ module _ (t p : ℕ) (old : FieldState) (due : List Due) (shown : FieldIsShown t
       (making_goes_on clock t e ended state taken state.setup state.power)
       (λ made before. moved_whole t e ended state state.power stepped made) sums others counts in
       subst (λ (w : FieldState). Acts t p (moves t e ended state stepped) [] [] old due w due)
-      (ap (λ (x : DeviceState). record {
-        medium = old.medium;
-        devices = set old.devices i x;
-        air = old.air;
-        deliveries = old.deliveries ++ option_to_list gives;
-        drops = old.drops;
-        sums = sums;
-      }) (sym is_after)
-      ∙ ap (λ (o : Option Delivery). record {
-        medium = old.medium;
-        devices = set old.devices i after;
-        air = old.air;
-        deliveries = old.deliveries ++ option_to_list o;
-        drops = old.drops;
-        sums = sums;
-      }) (sym is_delivery) ∙ sym is_new)
+      (ap (λ (x : DeviceState). record old { devices = set old.devices i x; deliveries = old.deliveries ++ option_to_list gives; sums = sums }) (sym is_after)
+      ∙ ap (λ (o : Option Delivery). record old { devices = set old.devices i after; deliveries = old.deliveries ++ option_to_list o; sums = sums })
+      (sym is_delivery) ∙ sym is_new)
       acts
 
   -- with all orders obeyed it is the event

@@ -65,31 +65,17 @@ module _ (t p : ℕ) (old : FieldState) (old_due : List Due) (shown : FieldIsSho
 
   -- the field after it, where the medium stays
   pub field_as_was : IsField old → (after : DeviceState) → after.setup ≡ state.setup → (air : List Entry) (deliveries : List Delivery)
-      → IsField (record { medium = old.medium; devices = set old.devices i after; air = air; deliveries = deliveries; drops = old.drops; sums = old.sums })
+      → IsField (record old { devices = set old.devices i after; air = air; deliveries = deliveries })
   field_as_was field after setup air deliveries =
-      field_stays p old (record {
-        medium = old.medium;
-        devices = set old.devices i after;
-        air = air;
-        deliveries = deliveries;
-        drops = old.drops;
-        sums = old.sums;
-      }) state after field state_here setup
+      field_stays p old (record old { devices = set old.devices i after; air = air; deliveries = deliveries }) state after field state_here setup
       (ap (λ (n : ℕ). set old.devices n after) at) field.medium refl refl
 
   -- and where the device is tuned
   pub field_retuned : IsField old → (after : DeviceState) → after.setup ≡ state.setup
       → (air : List Entry) (v : ℕ) (rank : Option ℕ) (medium : MediumState) → medium ≡ medium_after t v (station_after_tuning rank t) old.medium
-      → IsField (record { medium = medium; devices = set old.devices i after; air = air; deliveries = old.deliveries; drops = old.drops; sums = old.sums })
+      → IsField (record old { medium = medium; devices = set old.devices i after; air = air })
   field_retuned field after setup air v rank medium same =
-      field_stays p old (record {
-        medium = medium;
-        devices = set old.devices i after;
-        air = air;
-        deliveries = old.deliveries;
-        drops = old.drops;
-        sums = old.sums;
-      }) state after field state_here setup
+      field_stays p old (record old { medium = medium; devices = set old.devices i after; air = air }) state after field state_here setup
       (ap (λ (n : ℕ). set old.devices n after) at) (retuned_medium t v rank old.medium medium same field.medium)
       (retuned_nodes t v rank old.medium medium same) (retuned_numbers t v rank old.medium medium same)
 
@@ -99,28 +85,14 @@ module _ (t p : ℕ) (old : FieldState) (old_due : List Due) (shown : FieldIsSho
       → v ≡ state.setup.id
       → medium ≡ medium_after t v (station_after_tuning rank t) old.medium
       → ((a : Scene) → Holds old.medium a → Holds medium (after_tuning old.medium v rank t a))
-      → new ≡ record {
-        medium = medium;
-        devices = set old.devices i after;
-        air = old.air ++ entries_of closed;
-        deliveries = old.deliveries;
-        drops = old.drops;
-        sums = old.sums;
-      }
+      → new ≡ record old { medium = medium; devices = set old.devices i after; air = old.air ++ entries_of closed }
       → IsSameNode state after → IfSome closed (λ e. e.node ≡ state.setup.id) → IfSome closed (λ e. e.end < t) → HappenedBy t after
       → IsSetAs (whole after (with_tuned closed shows.made)) (whole state shows.made) → option_map channel_of after.listening ≡ rank
       → (change : Setup → Device → Device)
       → ((made : Made) → EndedBefore t made.tuned → change state.setup (whole state made) ≡ whole after (with_tuned closed made))
       → Acts t p change [] [] old old_due new old_due
   retuned_acts field time after closed rank v medium new id tuned holds is_new node own before happened set_as channel change comes =
-      let next : FieldState = record {
-        medium = medium;
-        devices = set old.devices i after;
-        air = old.air ++ entries_of closed;
-        deliveries = old.deliveries;
-        drops = old.drops;
-        sums = old.sums;
-      } in
+      let next : FieldState = record old { medium = medium; devices = set old.devices i after; air = old.air ++ entries_of closed } in
       let step : Retunes t p state after closed rank old next old_due = record {
         field = field;
         time = time;
@@ -153,23 +125,10 @@ module _ (t p : ℕ) (old : FieldState) (old_due : List Due) (shown : FieldIsSho
       → ((made : Made) → EndedBefore t made.tuned → change state.setup (whole state made) ≡ whole after (making made))
       → (sums : List WindowSum) → ((q : ℕ) → q ≢ p → slice_get sums q ≡ slice_get old.sums q)
       → ((made : Made) → HasCounted old.sums p state.setup made.windows → HasCounted sums p state.setup (making made).windows)
-      → Acts t p change [] [] old old_due (record {
-        medium = old.medium;
-        devices = set old.devices i after;
-        air = old.air;
-        deliveries = old.deliveries ++ option_to_list delivery;
-        drops = old.drops;
-        sums = sums;
-      }) new_due
+      → Acts t p change [] [] old old_due
+      (record old { devices = set old.devices i after; deliveries = old.deliveries ++ option_to_list delivery; sums = sums }) new_due
   quiet_acts field time after delivery new_due setup listening sending taken happened own due dues places change making goes comes sums others counts =
-      let next : FieldState = record {
-        medium = old.medium;
-        devices = set old.devices i after;
-        air = old.air;
-        deliveries = old.deliveries ++ option_to_list delivery;
-        drops = old.drops;
-        sums = sums;
-      } in
+      let next : FieldState = record old { devices = set old.devices i after; deliveries = old.deliveries ++ option_to_list delivery; sums = sums } in
       let step : IsQuietStep t p state after delivery old next old_due new_due = record {
         time = time;
         here = state_here;
@@ -198,14 +157,7 @@ module _ (t p : ℕ) (old : FieldState) (old_due : List Due) (shown : FieldIsSho
       → new_due ≡ changed old_due p class tick → with_tick class tick (due_of_device state) ≡ due_of_device after
       → (change : Setup → Device → Device)
       → ((made : Made) → change state.setup (whole state made) ≡ whole after made)
-      → Acts t p change [] [] old old_due (record {
-        medium = old.medium;
-        devices = set old.devices i after;
-        air = old.air;
-        deliveries = old.deliveries;
-        drops = old.drops;
-        sums = old.sums;
-      }) new_due
+      → Acts t p change [] [] old old_due (record old { devices = set old.devices i after }) new_due
   set_acts field time after class tick new_due setup listening sending delivery closed is_due due change comes =
       let none : Option Delivery = None in
       let acts = quiet_acts field time after none new_due setup listening sending (delivery ∙ state_taken)
@@ -220,28 +172,14 @@ module _ (t p : ℕ) (old : FieldState) (old_due : List Due) (shown : FieldIsSho
       change (λ made. made) (λ made. record { sent = refl; tuned = refl; deliveries = sym (append-nil made.deliveries) })
       (λ made ended. comes made) old.sums (λ q other. refl) (λ made is. is) in
       subst (λ (l : List Delivery). Acts t p change [] [] old old_due
-      (record {
-        medium = old.medium;
-        devices = set old.devices i after;
-        air = old.air;
-        deliveries = l;
-        drops = old.drops;
-        sums = old.sums;
-      }) new_due) (append-nil old.deliveries) acts
+      (record old { devices = set old.devices i after; deliveries = l }) new_due) (append-nil old.deliveries) acts
 
   -- a packet is ordered
   pub ordered_acts : IsField old → IsTime old.medium t
       → (clock : ℕ → ℕ) (after : DeviceState) (tick local : ℕ) (packet : List ℕ) (order : Order) (new_due : List Due)
       → tick ≡ max (due_by clock local) t → after ≡ record state { ordered = Some (record { tick = tick; packet = packet }) }
       → new_due ≡ changed old_due p SendingStart (Some tick) → order ≡ SendAt local packet
-      → Acts t p (λ s d. obeyed clock s.id t d order) [] [] old old_due (record {
-        medium = old.medium;
-        devices = set old.devices i after;
-        air = old.air;
-        deliveries = old.deliveries;
-        drops = old.drops;
-        sums = old.sums;
-      }) new_due
+      → Acts t p (λ s d. obeyed clock s.id t d order) [] [] old old_due (record old { devices = set old.devices i after }) new_due
   ordered_acts field time clock after tick local packet order new_due is_tick is_after is_due is_order =
       set_acts field time after SendingStart (Some tick) new_due
       (ap (λ (d : DeviceState). d.setup) is_after) (ap (λ (d : DeviceState). d.listening) is_after) (ap (λ (d : DeviceState). d.sending) is_after)
@@ -256,14 +194,7 @@ module _ (t p : ℕ) (old : FieldState) (old_due : List Due) (shown : FieldIsSho
   -- the alarm is set
   pub alarm_acts : IsField old → IsTime old.medium t → (clock : ℕ → ℕ) (after : DeviceState) (tick local : ℕ) (order : Order) (new_due : List Due)
       → tick ≡ max (due_by clock local) t → after ≡ record state { alarm = Some tick } → new_due ≡ changed old_due p AlarmOf (Some tick) → order ≡ Alarm local
-      → Acts t p (λ s d. obeyed clock s.id t d order) [] [] old old_due (record {
-        medium = old.medium;
-        devices = set old.devices i after;
-        air = old.air;
-        deliveries = old.deliveries;
-        drops = old.drops;
-        sums = old.sums;
-      }) new_due
+      → Acts t p (λ s d. obeyed clock s.id t d order) [] [] old old_due (record old { devices = set old.devices i after }) new_due
   alarm_acts field time clock after tick local order new_due is_tick is_after is_due is_order =
       set_acts field time after AlarmOf (Some tick) new_due
       (ap (λ (d : DeviceState). d.setup) is_after) (ap (λ (d : DeviceState). d.listening) is_after) (ap (λ (d : DeviceState). d.sending) is_after)
@@ -278,14 +209,7 @@ module _ (t p : ℕ) (old : FieldState) (old_due : List Due) (shown : FieldIsSho
   -- the alarm is taken
   pub taken_acts : IsField old → IsTime old.medium t → (after : DeviceState) (new_due : List Due) → after ≡ record state { alarm = None }
       → new_due ≡ changed old_due p AlarmOf None
-      → Acts t p (λ s d. record d { alarm = None }) [] [] old old_due (record {
-        medium = old.medium;
-        devices = set old.devices i after;
-        air = old.air;
-        deliveries = old.deliveries;
-        drops = old.drops;
-        sums = old.sums;
-      }) new_due
+      → Acts t p (λ s d. record d { alarm = None }) [] [] old old_due (record old { devices = set old.devices i after }) new_due
   taken_acts field time after new_due is_after is_due =
       set_acts field time after AlarmOf None new_due
       (ap (λ (d : DeviceState). d.setup) is_after) (ap (λ (d : DeviceState). d.listening) is_after) (ap (λ (d : DeviceState). d.sending) is_after)

@@ -50,23 +50,9 @@ module _ (t p : ℕ) (old : FieldState) (old_due : List Due) (shown : FieldIsSho
       → StaysSet (whole state nothing_made) (whole after (making nothing_made))
       → ((made : Made) → change state.setup (whole state made) ≡ whole after (making made))
       → ((made : Made) → (making made).windows ≡ made.windows)
-      → Acts t p change [] lost old old_due (record {
-        medium = old.medium;
-        devices = set old.devices i after;
-        air = old.air;
-        deliveries = old.deliveries;
-        drops = lines;
-        sums = old.sums;
-      }) old_due
+      → Acts t p change [] lost old old_due (record old { devices = set old.devices i after; drops = lines }) old_due
   told_acts field time after lost lines setup taken happened more change making goes set_as comes still =
-      let next : FieldState = record {
-        medium = old.medium;
-        devices = set old.devices i after;
-        air = old.air;
-        deliveries = old.deliveries;
-        drops = lines;
-        sums = old.sums;
-      } in
+      let next : FieldState = record old { devices = set old.devices i after; drops = lines } in
       let known = state_known t p old old_due shown i at state is in
       let step : IsStepAt t p state after None None lost old old_due next old_due = record {
         here = state_here t p old old_due shown i at state is;
@@ -99,14 +85,7 @@ module _ (t p : ℕ) (old : FieldState) (old_due : List Due) (shown : FieldIsSho
       → v ≡ state.setup.id
       → medium ≡ medium_after t v (station_after_tuning None t) old.medium
       → ((a : Scene) → Holds old.medium a → Holds medium (after_tuning old.medium v None t a))
-      → new ≡ record {
-        medium = medium;
-        devices = set old.devices i after;
-        air = old.air ++ entries_of closed;
-        deliveries = old.deliveries;
-        drops = old.drops;
-        sums = old.sums;
-      }
+      → new ≡ record old { medium = medium; devices = set old.devices i after; air = old.air ++ entries_of closed }
       → mid ≡ changed old_due p AlarmOf None → new_due ≡ changed mid p SendingStart None
       → after.setup ≡ state.setup → after.delivery ≡ state.delivery → IfSome closed (λ e. e.node ≡ state.setup.id) → IfSome closed (λ e. e.end < t)
       → HappenedBy t after
@@ -116,14 +95,7 @@ module _ (t p : ℕ) (old : FieldState) (old_due : List Due) (shown : FieldIsSho
   off_acts field time after closed v medium new mid new_due id tuned holds is_new is_mid is_due setup delivery own before happened silent no_alarm
       no_order sending change comes =
       let known = state_known t p old old_due shown i at state is in
-      let next : FieldState = record {
-        medium = medium;
-        devices = set old.devices i after;
-        air = old.air ++ entries_of closed;
-        deliveries = old.deliveries;
-        drops = old.drops;
-        sums = old.sums;
-      } in
+      let next : FieldState = record old { medium = medium; devices = set old.devices i after; air = old.air ++ entries_of closed } in
       let cleared : slice_get new_due p ≡ Some (due_of_device after) =
       ap (λ (l : List Due). slice_get l p) is_due
       ∙ due_changed mid p SendingStart None (with_tick AlarmOf None (due_of_device state))
@@ -174,14 +146,7 @@ module _ (t p : ℕ) (old : FieldState) (old_due : List Due) (shown : FieldIsSho
   -- the device goes on, of which it is to be given
   pub on_acts : IsField old → IsTime old.medium t → (after : DeviceState)
       → after ≡ record state { core = after.core; power = after.power; delivery = None } → HappenedBy t after
-      → Acts t p (turned after.power) [] [] old old_due (record {
-        medium = old.medium;
-        devices = set old.devices i after;
-        air = old.air;
-        deliveries = old.deliveries;
-        drops = old.drops;
-        sums = old.sums;
-      }) old_due
+      → Acts t p (turned after.power) [] [] old old_due (record old { devices = set old.devices i after }) old_due
   on_acts field time after changed happened =
       let comes : (made : Made) → turned after.power state.setup (whole state made) ≡ whole after made = λ made. ap (λ (x : DeviceState). whole x made)
       (sym changed) in
@@ -224,14 +189,7 @@ module _ (t p : ℕ) (old : FieldState) (old_due : List Due) (shown : FieldIsSho
 
     pub line_told : IsField old → IsTime old.medium t → (drops : List DropLine) → IsSameNode state after → HappenedBy t after
         → line.node ≡ state.setup.id → drops ≡ old.drops ++ option_to_list drop
-        → TakesLine clock line t p line.act old old_due (record {
-          medium = old.medium;
-          devices = set old.devices i after;
-          air = old.air;
-          deliveries = old.deliveries;
-          drops = drops;
-          sums = old.sums;
-        }) old_due
+        → TakesLine clock line t p line.act old old_due (record old { devices = set old.devices i after; drops = drops }) old_due
     line_told field time drops node happened own more = (
       option_to_list drop,
       told_acts field time after (option_to_list drop) drops node.setup (node.delivery ∙ state_taken t p old old_due shown i at state is) happened more

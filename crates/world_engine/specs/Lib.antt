@@ -1,4 +1,5 @@
 pub mod Fields
+pub mod FieldParts
 pub mod FieldSteps
 pub mod FieldHearings
 pub mod Moments
@@ -10,4 +11,5 @@ pub mod Worlds
 pub mod WorldShapes
 pub mod Frames
 pub mod EventOrders
+pub mod Notices
 pub mod SortedRuns

@@ -12,16 +12,16 @@ ghost use Rattle.air_log.specs.Devices.{Device as DeviceOf, obeyed, event as eve
 ghost use Rattle.air_log.specs.Trails.{alarm_is_due, alarmed, device_after_start as begun_at, sendings_starting};
 ghost use Rattle.air_log.specs.DeviceStates.{IsTimely};
 ghost use Rattle.air_log.specs.WindowLogs.{is_alarm};
-ghost use Rattle.air_log.specs.WindowSums.{sent_with};
 ghost use Rattle.world_engine.specs.EventOrders.{order_of};
 ghost use Rattle.world_engine.specs.Fields.{FieldShows, FieldIsShown, entries_of};
 ghost use Rattle.world_engine.specs.FieldSteps.{Acts, IsFirstField, IsClosed};
 
 use crate::event_radio::{EventRadio, OrderRef};
+use crate::notice::Notice;
 use air_log::{Air, Device, Entry, TunedEntry, WindowSum};
 use bus_rules::{Delivery, DropLine};
 use event_calendar::{Class, Orders};
-use lwb_base::{Event, Memory, NodeId, Packet};
+use lwb_base::{Event, Memory};
 use radio_model::Medium;
 use scenario_text::Scenario;
 use std::alloc::Global;
@@ -45,45 +45,38 @@ impl Model for Field {
 
     ghost Value = { FieldState };
 
-    ghost view = { λ w. record {
-      medium = w.medium;
-      devices = w.devices.items;
-      air = w.air;
-      deliveries = w.deliveries.items;
-      drops = w.drops.items;
-      sums = w.sums.items;
-    } };
+    ghost use Rattle.world_engine.specs.FieldParts.{state_of};
 
-    ghost invariant = { λ w. IsField
-        (record { medium = w.medium; devices = w.devices.items; air = w.air; deliveries = w.deliveries.items; drops = w.drops.items; sums = w.sums.items }) };
+    ghost view = { state_of };
+
+    ghost invariant = { λ w. IsField (state_of w) };
 }
 
 impl Field {
-    // The device at the place is notified of an event at tick t, and what it orders is done. A Sent comes with the packet of the
-    // transmission that ended. What the radio kept before goes: it is handed down for its room alone, which takes long to make.
+    // The device at the place is notified of an event at tick t, and what it orders is done. What the radio kept before goes: it
+    // is handed down for its room alone, which takes long to make.
     pub(crate) fn tell<C: DriftClock, Q: Orders>(
         &mut self,
         orders: &mut Q,
         clock: &C,
         place: u8,
         t: u64,
-        event: &Event,
-        sent: Option<&Packet>,
+        notice: &Notice<'_, '_>,
         radio: &mut EventRadio,
     ) -> Result<(), Memory>
-        requires sent { (ended : Option SendingOf) × (option_copied sent ≡ sent_with event.now ended) }
         requires shown { FieldIsShown t self.old (Q.map orders.old) place }
         requires time { IsTime self.old.medium t }
         requires early { t ≤ 2 ^ 45 }
-        ensures { (ended : Option SendingOf) → option_copied sent.entry ≡ sent_with event.now ended
-            → OnOk result
-            (Acts t place (λ s d. event_at (C.readings clock.now) s t event.now ended d) [] [] self.old (Q.map orders.old) self.new (Q.map orders.new)) }
+        ensures { OnOk result
+            (Acts t place (λ s d. event_at (C.readings clock.now) s t notice.now.event.now (option_copied notice.now.ended) d) [] [] self.old (Q.map orders.old)
+            self.new (Q.map orders.new)) }
     {
-        let by_alarm = is_alarm(event);
+        let by_alarm = is_alarm(notice.event);
+        let sent = notice.sent();
         radio.clear();
         let device = &mut self.devices[usize::from(place)];
         let before = device.is_in_window();
-        device.react(clock, t, event, radio);
+        device.react(clock, t, notice.event, radio);
         let after = device.is_in_window();
         let logged = log_delivery(device, &mut self.deliveries);
         let windows = &mut self.sums[usize::from(place)];
@@ -173,12 +166,16 @@ impl Field {
         ensures { OnOk result (Acts t place (λ s d. alarmed (C.readings clock.now) s t d) [] [] self.old (Q.map orders.old) self.new (Q.map orders.new)) }
     {
         let event = Event::Alarm;
+        let notice = Notice {
+            event: &event,
+            ended: None,
+        };
         // There are fewer of them than this.
         for _ in 0..u64::MAX {
             if !self.take_alarm(orders, place, t) {
                 return Ok(());
             }
-            self.tell(orders, clock, place, t, &event, None, radio)?;
+            self.tell(orders, clock, place, t, &notice, radio)?;
         }
         unreachable!()
     }

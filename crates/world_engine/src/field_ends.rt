@@ -14,6 +14,7 @@ ghost use Rattle.world_engine.specs.FieldSteps.{EndsSending, DeviceSends, readin
 
 use crate::event_radio::EventRadio;
 use crate::field::Field;
+use crate::notice::Notice;
 use air_log::{Entry, HeardEntry};
 use event_calendar::{Class, Orders};
 use link_trace::Links;
@@ -52,13 +53,17 @@ impl Field {
             return Ok(());
         };
         self.hear_all(orders, clocks, &hearers, &x, radio)?;
+        let event = Event::Sent;
+        let notice = Notice {
+            event: &event,
+            ended: Some(&x),
+        };
         self.tell(
             orders,
             &clocks[usize::from(place)],
             place,
             t,
-            &Event::Sent,
-            Some(&x.packet),
+            &notice,
             radio,
         )
     }
@@ -118,6 +123,10 @@ impl Field {
             end: x.end,
             packet: x.packet.copy(),
         }))?;
-        self.tell(orders, clock, place, x.end, heard, None, radio)
+        let notice = Notice {
+            event: heard,
+            ended: None,
+        };
+        self.tell(orders, clock, place, x.end, &notice, radio)
     }
 }

@@ -14,6 +14,7 @@ ghost use Rattle.world_engine.specs.FieldSteps.{Acts, TakesLine};
 
 use crate::event_radio::EventRadio;
 use crate::field::Field;
+use crate::notice::Notice;
 use event_calendar::{Class, Orders};
 use lwb_base::{Event, Memory};
 use scenario_text::{Act, ScriptLine};
@@ -63,7 +64,12 @@ impl Field {
             (Q.map orders.new)) }
     {
         if self.devices[usize::from(place)].switch_on() {
-            self.tell(orders, clock, place, t, &Event::Boot, None, radio)?;
+            let event = Event::Boot;
+            let notice = Notice {
+                event: &event,
+                ended: None,
+            };
+            self.tell(orders, clock, place, t, &notice, radio)?;
         }
         Ok(())
     }

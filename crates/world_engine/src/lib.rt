@@ -12,6 +12,7 @@ mod field_ends;
 mod field_script;
 mod frames;
 mod idle;
+mod notice;
 mod run_parts;
 
 pub use engine::Engine;

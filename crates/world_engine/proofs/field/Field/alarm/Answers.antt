@@ -1,7 +1,6 @@
-use Rattle.std.proofs.Common.{List, [], Option, None, refl, sym, ◌∙◌, subst, arith}
+use Rattle.std.proofs.Common.{List, [], sym, ◌∙◌, subst, arith}
 use Rattle.tick_clock.proofs.Readings.{read_in_range}
 use Rattle.event_calendar.specs.Orders.{Due}
-use Rattle.radio_model.specs.OnAir.{Sending}
 use Rattle.air_log.specs.Trails.{alarmed}
 use Rattle.world_engine.specs.Fields.{FieldState}
 use Rattle.world_engine.specs.FieldSteps.{Acts}
@@ -31,9 +30,6 @@ returns-then-not-take_alarm g c =
     subst (λ (w : FieldState). Acts t p (λ s d. alarmed clock s t d) [] [] old old_due w (g.Q.Orders.map c.take_alarm.new.orders)) (sym stays.0)
     (subst (λ (due : List Due). Acts t p (λ s d. alarmed clock s t d) [] [] old old_due c.loop.self due) (sym stays.1) acts)
 
-pub tell-requires-clause-sent : goal.tell-requires-clause-sent
-tell-requires-clause-sent g c = (None, refl)
-
 pub tell-requires-clause-shown : goal.tell-requires-clause-shown
 tell-requires-clause-shown g c = shown_still _ _ _ _ _ _ _ (c.take_alarm.ensures.taken c.if-not-take_alarm.false)
     (shown_still _ _ _ _ _ _ _ c.loop.invariant.acts c.requires.shown)
@@ -43,13 +39,12 @@ tell-requires-clause-time g c = (c.take_alarm.ensures.taken c.if-not-take_alarm.
 
 pub loop-preserved : goal.loop-preserved
 loop-preserved g c =
-    let none : Option Sending = None in
     one_more_taken (g.C.DriftClock.readings c.args.clock.now) c.args.t c.args.place c.loop.counter c.args.self.now c.loop.self
     (g.Q.Orders.map c.args.orders.now) (g.Q.Orders.map c.loop.orders) c.loop.invariant
     c.take_alarm.new.self c.tell.new.self (g.Q.Orders.map c.take_alarm.new.orders) (g.Q.Orders.map c.tell.new.orders)
     (λ s d shows. sym (c.take_alarm.ensures.due s d shows) ∙ c.if-not-take_alarm.false)
     (c.take_alarm.ensures.taken c.if-not-take_alarm.false)
-    (c.in_ok-tell.ensures none refl)
+    c.in_ok-tell.ensures
 
 pub unreachable-requires : goal.unreachable-requires
 unreachable-requires g c =

@@ -10,6 +10,7 @@ use Rattle.air_log.specs.Devices.{Made}
 use Rattle.air_log.specs.Trails.{device_after_start}
 use Rattle.air_log.specs.DeviceStates.{whole, with_sent}
 use Rattle.world_engine.specs.Fields.{FieldState, IsField, FieldIsShown}
+use Rattle.world_engine.specs.FieldParts.{state_of}
 use Rattle.world_engine.proofs.BegunSendings.{has_begun, has_station, begun_is_field, as_given}
 use Rattle.world_engine.proofs.NothingBegun.{not_begun, silent_is_field}
 use Rattle.world_engine.proofs.ShownPlaces.{read_there}
@@ -17,14 +18,7 @@ use Rattle.world_engine.proofs.field.Field.begin.Goals as goal
 
 pub invariant_of-self : goal.invariant_of-self
 invariant_of-self g c =
-    let w : FieldState = record {
-      medium = c.self.inside.medium;
-      devices = c.self.inside.devices.items;
-      air = c.self.inside.air;
-      deliveries = c.self.inside.deliveries.items;
-      drops = c.self.inside.drops.items;
-      sums = c.self.inside.sums.items;
-    } in
+    let w = state_of c.self.inside in
     let due : List Due = g.Q.Orders.map c.args.orders.now in
     let i = c.from.result in
     let st = c.index_mut-device.result.now in
@@ -40,14 +34,7 @@ invariant_of-self g c =
 
 pub returns-then-not-start : goal.returns-then-not-start
 returns-then-not-start g c =
-    let w : FieldState = record {
-      medium = c.self.inside.medium;
-      devices = c.self.inside.devices.items;
-      air = c.self.inside.air;
-      deliveries = c.self.inside.deliveries.items;
-      drops = c.self.inside.drops.items;
-      sums = c.self.inside.sums.items;
-    } in
+    let w = state_of c.self.inside in
     let due : List Due = g.Q.Orders.map c.args.orders.now in
     let i = c.from.result in
     let st = c.index_mut-device.result.now in
@@ -65,14 +52,7 @@ returns-then-not-start g c =
 
 pub start-requires-2-clause-node : goal.start-requires-2-clause-node
 start-requires-2-clause-node g c =
-    let w : FieldState = record {
-      medium = c.self.inside.medium;
-      devices = c.self.inside.devices.items;
-      air = c.self.inside.air;
-      deliveries = c.self.inside.deliveries.items;
-      drops = c.self.inside.drops.items;
-      sums = c.self.inside.sums.items;
-    } in
+    let w = state_of c.self.inside in
     let due : List Due = g.Q.Orders.map c.args.orders.now in
     let i = c.from.result in
     let st = c.index_mut-device.result.now in
@@ -89,14 +69,7 @@ start-requires-2-clause-node g c =
 
 pub invariant_of-self-2 : goal.invariant_of-self-2
 invariant_of-self-2 g c =
-    let w : FieldState = record {
-      medium = c.self.inside.medium;
-      devices = c.self.inside.devices.items;
-      air = c.self.inside.air;
-      deliveries = c.self.inside.deliveries.items;
-      drops = c.self.inside.drops.items;
-      sums = c.self.inside.sums.items;
-    } in
+    let w = state_of c.self.inside in
     let due : List Due = g.Q.Orders.map c.args.orders.now in
     let i = c.from.result in
     let st = c.index_mut-device.result.now in
@@ -109,28 +82,14 @@ invariant_of-self-2 g c =
     ∙ ap (λ (b : Bool). whole c.start.new.self (with_sent (if b then c.start.new.self.sending else None) made)) c.if-not-start.false
     ∙ ap (λ (r : Option Sending). whole c.start.new.self (with_sent r made)) (sym c.sending.ensures ∙ ap option_copied c.in-Some.is) in
     subst (λ (m : MediumState). IsField
-    (record {
-      medium = m;
-      devices = set w.devices i c.start.new.self;
-      air = c.push.new.self;
-      deliveries = w.deliveries;
-      drops = w.drops;
-      sums = w.sums;
-    })) (sym c.start-2.ensures.state)
+    (record w { medium = m; devices = set w.devices i c.start.new.self; air = c.push.new.self })) (sym c.start-2.ensures.state)
     (begun_is_field c.args.t i w c.self.invariant due st c.start.new.self
     (read_there c.args.t w due i st shown c.index_mut-device.ensures.value) c.start.ensures.node c.start.ensures.time stands shown time c.in-Some.x.now
     answers c.push.new.self)
 
 pub returns : goal.returns
 returns g c =
-    let w : FieldState = record {
-      medium = c.self.inside.medium;
-      devices = c.self.inside.devices.items;
-      air = c.self.inside.air;
-      deliveries = c.self.inside.deliveries.items;
-      drops = c.self.inside.drops.items;
-      sums = c.self.inside.sums.items;
-    } in
+    let w = state_of c.self.inside in
     let due : List Due = g.Q.Orders.map c.args.orders.now in
     let i = c.from.result in
     let st = c.index_mut-device.result.now in

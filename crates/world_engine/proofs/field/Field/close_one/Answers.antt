@@ -6,6 +6,7 @@ use Rattle.air_log.specs.declared.entry.TunedEntry.{TunedEntry}
 use Rattle.bus_rules.specs.Cores.{Setup}
 use Rattle.air_log.specs.DeviceStates.{DeviceState, with_tuned}
 use Rattle.world_engine.specs.Fields.{FieldState, entries_of}
+use Rattle.world_engine.specs.FieldParts.{state_of}
 use Rattle.world_engine.proofs.DeviceSteps.{field_stays}
 use Rattle.world_engine.proofs.field.Field.close_one.Goals as goal
 
@@ -20,14 +21,7 @@ both_logged w old first new p d a b is one two =
 
 pub invariant_of-self : goal.invariant_of-self
 invariant_of-self c =
-    let w : FieldState = record {
-      medium = c.self.inside.medium;
-      devices = c.self.inside.devices.items;
-      air = c.self.inside.air;
-      deliveries = c.self.inside.deliveries.items;
-      drops = c.self.inside.drops.items;
-      sums = c.self.inside.sums.items;
-    } in
+    let w = state_of c.self.inside in
     let old = c.index_mut-device.result.now in
     let below : c.args.place < length w.devices = omega (arith, c.requires, ap (λ (f : FieldState). length f.devices) c.self.view_is) in
     let at : slice_get w.devices c.args.place ≡ Some old =
@@ -38,14 +32,7 @@ invariant_of-self c =
 
 pub returns : goal.returns
 returns c =
-    let w : FieldState = record {
-      medium = c.self.inside.medium;
-      devices = c.self.inside.devices.items;
-      air = c.self.inside.air;
-      deliveries = c.self.inside.deliveries.items;
-      drops = c.self.inside.drops.items;
-      sums = c.self.inside.sums.items;
-    } in
+    let w = state_of c.self.inside in
     let old = c.index_mut-device.result.now in
     let new = c.hand_out-last.new.self in
     let below : c.args.place < length w.devices = omega (arith, c.requires, ap (λ (f : FieldState). length f.devices) c.self.view_is) in

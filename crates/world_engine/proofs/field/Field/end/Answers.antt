@@ -1,4 +1,4 @@
-use Rattle.std.proofs.Common.{◌≡◌, ℕ, [], Some, refl, sym, subst, arith}
+use Rattle.std.proofs.Common.{◌≡◌, ℕ, [], Some, sym, subst, arith}
 use Rattle.std.proofs.lemmas.Result.{on_ok_weaker}
 use Rattle.radio_model.specs.Hearing.{Scene}
 use Rattle.radio_model.specs.Holding.{Holds}
@@ -69,9 +69,6 @@ hear_all-requires-clause-time g c =
     c.clear.ensures c.end-hearers.ensures.holds in
     time_at_end it
 
-pub tell-requires-clause-sent : goal.tell-requires-clause-sent
-tell-requires-clause-sent g c = (Some c.in-Some.x, refl)
-
 pub tell-requires-clause-shown : goal.tell-requires-clause-shown
 tell-requires-clause-shown g c =
     let it =
@@ -107,4 +104,4 @@ returns g c =
           (subst (λ (r : ℕ → ℕ). Acts t p (λ s d. event r s t Sent (Some x) d) [] [] c.hear_all.new.self (g.Q.Orders.map c.hear_all.new.orders)
           c.tell.new.self (g.Q.Orders.map c.tell.new.orders)) reads acts)),
     ))
-    (c.tell.ensures (Some x) refl)
+    c.tell.ensures

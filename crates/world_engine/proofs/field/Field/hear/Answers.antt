@@ -8,27 +8,17 @@ use Rattle.air_log.specs.declared.entry.Entry.{Entry}
 use Rattle.air_log.specs.declared.entry.Entry.TheVariants.{Heard as HeardLine}
 use Rattle.air_log.specs.Devices.{event}
 use Rattle.air_log.specs.Entries.{heard_entry}
-use Rattle.air_log.specs.WindowSums.{sent_with}
 use Rattle.world_engine.specs.Fields.{FieldState, FieldIsShown}
 use Rattle.world_engine.specs.FieldSteps.{Acts}
 use Rattle.world_engine.specs.FieldHearings.{AllHear}
+use Rattle.world_engine.specs.FieldParts.{state_of}
 use Rattle.world_engine.proofs.ShownPlaces.{read_there}
 use Rattle.world_engine.proofs.HearersTold.{logged, is_shown_when_logged, heard_there}
 use Rattle.world_engine.proofs.field.Field.hear.Goals as goal
 
-pub tell-requires-clause-sent : goal.tell-requires-clause-sent
-tell-requires-clause-sent g c = (None, ap (λ (e : Event). sent_with e None) (sym c.requires.heard))
-
 pub tell-requires-clause-shown : goal.tell-requires-clause-shown
 tell-requires-clause-shown g c =
-    let w : FieldState = record {
-      medium = c.self.inside.medium;
-      devices = c.self.inside.devices.items;
-      air = c.self.inside.air;
-      deliveries = c.self.inside.deliveries.items;
-      drops = c.self.inside.drops.items;
-      sums = c.self.inside.sums.items;
-    } in
+    let w = state_of c.self.inside in
     let due : List Due = g.Q.Orders.map c.args.orders.now in
     let x = c.args.x.now in
     let u = c.node-node.result in
@@ -39,19 +29,12 @@ tell-requires-clause-shown g c =
     let shown : FieldIsShown x.end w due c.args.place =
     subst (λ (v : FieldState). FieldIsShown x.end v due c.args.place) (sym c.self.view_is) c.requires.shown in
     subst (λ (l : List Entry). FieldIsShown x.end
-    (record { medium = w.medium; devices = w.devices; air = l; deliveries = w.deliveries; drops = w.drops; sums = w.sums }) due c.args.place)
+    (record w { air = l }) due c.args.place)
     (sym pushed) (is_shown_when_logged x.end c.args.place u x w due shown)
 
 pub returns : goal.returns
 returns g c =
-    let w : FieldState = record {
-      medium = c.self.inside.medium;
-      devices = c.self.inside.devices.items;
-      air = c.self.inside.air;
-      deliveries = c.self.inside.deliveries.items;
-      drops = c.self.inside.drops.items;
-      sums = c.self.inside.sums.items;
-    } in
+    let w = state_of c.self.inside in
     let due : List Due = g.Q.Orders.map c.args.orders.now in
     let new_due : List Due = g.Q.Orders.map c.tell.new.orders in
     let clock : ℕ → ℕ = g.C.DriftClock.readings c.args.clock.now in
@@ -71,23 +54,9 @@ returns g c =
     on_ok_weaker c.tell.result (λ acts.
     let told : Acts x.end c.args.place (λ s d. event clock s x.end (Heard x.packet) None d) [] [] (logged u x w) due c.tell.new.self new_due =
     subst (λ (l : List Entry). Acts x.end c.args.place (λ s d. event clock s x.end (Heard x.packet) None d) [] []
-    (record {
-      medium = w.medium;
-      devices = w.devices;
-      air = l;
-      deliveries = w.deliveries;
-      drops = w.drops;
-      sums = w.sums;
-    }) due c.tell.new.self new_due) pushed
+    (record w { air = l }) due c.tell.new.self new_due) pushed
     (subst (λ (e : Event). Acts x.end c.args.place (λ s d. event clock s x.end e None d) [] []
-    (record {
-      medium = w.medium;
-      devices = w.devices;
-      air = c.push.new.self;
-      deliveries = w.deliveries;
-      drops = w.drops;
-      sums = w.sums;
-    }) due c.tell.new.self new_due) c.requires.heard acts) in
+    (record w { air = c.push.new.self }) due c.tell.new.self new_due) c.requires.heard acts) in
     subst (λ (v : FieldState). AllHear (λ q. clock) x.end x (c.args.place ∷ []) v due c.tell.new.self new_due) c.self.view_is
     (heard_there clock c.args.place u x w due st c.tell.new.self new_due there id told))
-    (c.tell.ensures None (ap (λ (e : Event). sent_with e None) (sym c.requires.heard)))
+    c.tell.ensures

@@ -10,6 +10,7 @@ use Rattle.air_log.specs.Devices.{Device, nothing_made, power_is_on}
 use Rattle.air_log.specs.ScriptedDevices.{device_after_act}
 use Rattle.air_log.specs.DeviceStates.{whole, with_tuned}
 use Rattle.world_engine.specs.Fields.{FieldState, FieldIsShown}
+use Rattle.world_engine.specs.FieldParts.{state_of}
 use Rattle.world_engine.proofs.ActsInTurn.{acts_seen}
 use Rattle.world_engine.proofs.StepsInCode.{field_retuned, in_queue, in_medium, state_happened, state_taken}
 use Rattle.world_engine.proofs.LineChanges.{IsOffAfter, off_stays, off_then}
@@ -21,14 +22,7 @@ tune-requires-clause-node g c =
     let t = c.args.t in
     let p = c.args.place in
     let orders = g.Q.Orders.map c.args.orders.now in
-    let old : FieldState = record {
-      medium = c.self.inside.medium;
-      devices = c.self.inside.devices.items;
-      air = c.self.inside.air;
-      deliveries = c.self.inside.deliveries.items;
-      drops = c.self.inside.drops.items;
-      sums = c.self.inside.sums.items;
-    } in
+    let old = state_of c.self.inside in
     let shown : FieldIsShown t old orders p = subst (λ (w : FieldState). FieldIsShown t w orders p) (sym c.self.view_is) c.requires.shown in
     let id : c.node-node.result ≡ c.index_mut-device.result.now.setup.id = c.node-node.ensures in
     subst (λ (v : ℕ). Contains (nodes_of old.medium) v) (sym id)
@@ -39,14 +33,7 @@ clear-requires g c =
     let t = c.args.t in
     let p = c.args.place in
     let orders = g.Q.Orders.map c.args.orders.now in
-    let old : FieldState = record {
-      medium = c.self.inside.medium;
-      devices = c.self.inside.devices.items;
-      air = c.self.inside.air;
-      deliveries = c.self.inside.deliveries.items;
-      drops = c.self.inside.drops.items;
-      sums = c.self.inside.sums.items;
-    } in
+    let old = state_of c.self.inside in
     let shown : FieldIsShown t old orders p = subst (λ (w : FieldState). FieldIsShown t w orders p) (sym c.self.view_is) c.requires.shown in
     in_queue t p old orders shown c.from.result c.from.ensures c.index_mut-device.result.now c.index_mut-device.ensures.value
 
@@ -55,14 +42,7 @@ clear-requires-2 g c =
     let t = c.args.t in
     let p = c.args.place in
     let orders = g.Q.Orders.map c.args.orders.now in
-    let old : FieldState = record {
-      medium = c.self.inside.medium;
-      devices = c.self.inside.devices.items;
-      air = c.self.inside.air;
-      deliveries = c.self.inside.deliveries.items;
-      drops = c.self.inside.drops.items;
-      sums = c.self.inside.sums.items;
-    } in
+    let old = state_of c.self.inside in
     let shown : FieldIsShown t old orders p = subst (λ (w : FieldState). FieldIsShown t w orders p) (sym c.self.view_is) c.requires.shown in
     let long = ap length c.clear.ensures in
     let within = in_queue t p old orders shown c.from.result c.from.ensures c.index_mut-device.result.now c.index_mut-device.ensures.value in
@@ -74,14 +54,7 @@ invariant_of-self-2 g c =
     let t = c.args.t in
     let p = c.args.place in
     let orders = g.Q.Orders.map c.args.orders.now in
-    let old : FieldState = record {
-      medium = c.self.inside.medium;
-      devices = c.self.inside.devices.items;
-      air = c.self.inside.air;
-      deliveries = c.self.inside.deliveries.items;
-      drops = c.self.inside.drops.items;
-      sums = c.self.inside.sums.items;
-    } in
+    let old = state_of c.self.inside in
     let shown : FieldIsShown t old orders p = subst (λ (w : FieldState). FieldIsShown t w orders p) (sym c.self.view_is) c.requires.shown in
     field_retuned t p old orders shown c.from.result c.from.ensures c.index_mut-device.result.now c.index_mut-device.ensures.value c.self.invariant
     c.switch_off-closed.new.self c.switch_off-closed.ensures.node.setup c.self.inside.air c.node-node.result None c.tune.new.self c.tune.ensures.state
@@ -91,14 +64,7 @@ returns-then-not-is_on g c = λ clock.
     let t = c.args.t in
     let p = c.args.place in
     let orders = g.Q.Orders.map c.args.orders.now in
-    let old : FieldState = record {
-      medium = c.self.inside.medium;
-      devices = c.self.inside.devices.items;
-      air = c.self.inside.air;
-      deliveries = c.self.inside.deliveries.items;
-      drops = c.self.inside.drops.items;
-      sums = c.self.inside.sums.items;
-    } in
+    let old = state_of c.self.inside in
     let shown : FieldIsShown t old orders p = subst (λ (w : FieldState). FieldIsShown t w orders p) (sym c.self.view_is) c.requires.shown in
     let time : IsTime old.medium t = subst (λ (w : FieldState). IsTime w.medium t) (sym c.self.view_is) c.requires.time in
     let state = c.index_mut-device.result.now in
@@ -123,14 +89,7 @@ returns g c = λ clock.
     let t = c.args.t in
     let p = c.args.place in
     let orders = g.Q.Orders.map c.args.orders.now in
-    let old : FieldState = record {
-      medium = c.self.inside.medium;
-      devices = c.self.inside.devices.items;
-      air = c.self.inside.air;
-      deliveries = c.self.inside.deliveries.items;
-      drops = c.self.inside.drops.items;
-      sums = c.self.inside.sums.items;
-    } in
+    let old = state_of c.self.inside in
     let shown : FieldIsShown t old orders p = subst (λ (w : FieldState). FieldIsShown t w orders p) (sym c.self.view_is) c.requires.shown in
     let time : IsTime old.medium t = subst (λ (w : FieldState). IsTime w.medium t) (sym c.self.view_is) c.requires.time in
     let state = c.index_mut-device.result.now in

@@ -1,4 +1,4 @@
-use Rattle.std.proofs.Common.{[], None, refl, sym, ◌∙◌, ap, subst}
+use Rattle.std.proofs.Common.{[], refl, sym, ◌∙◌, ap, subst}
 use Rattle.std.proofs.lemmas.List.{append-nil}
 use Rattle.scenario_text.specs.declared.script.Act.TheVariants.{On}
 use Rattle.radio_model.specs.Stations.{IsTime}
@@ -6,6 +6,7 @@ use Rattle.air_log.specs.Devices.{nothing_made}
 use Rattle.air_log.specs.ScriptedDevices.{device_after_act}
 use Rattle.air_log.specs.DeviceStates.{DeviceState, whole, CanBoot}
 use Rattle.world_engine.specs.Fields.{FieldState, FieldIsShown}
+use Rattle.world_engine.specs.FieldParts.{state_of}
 use Rattle.world_engine.proofs.ActsInTurn.{acts_seen}
 use Rattle.world_engine.proofs.StepsInCode.{field_as_was, state_happened, state_taken}
 use Rattle.world_engine.proofs.LineChanges.{StaysSet}
@@ -17,14 +18,7 @@ switch_on-requires g c =
     let t = c.args.t in
     let p = c.args.place in
     let orders = g.Q.Orders.map c.args.orders.now in
-    let old : FieldState = record {
-      medium = c.self.inside.medium;
-      devices = c.self.inside.devices.items;
-      air = c.self.inside.air;
-      deliveries = c.self.inside.deliveries.items;
-      drops = c.self.inside.drops.items;
-      sums = c.self.inside.sums.items;
-    } in
+    let old = state_of c.self.inside in
     let shown : FieldIsShown t old orders p = subst (λ (w : FieldState). FieldIsShown t w orders p) (sym c.self.view_is) c.requires.shown in
     let first = c.requires.shown in
     subst CanBoot
@@ -36,34 +30,17 @@ invariant_of-self g c =
     let t = c.args.t in
     let p = c.args.place in
     let orders = g.Q.Orders.map c.args.orders.now in
-    let old : FieldState = record {
-      medium = c.self.inside.medium;
-      devices = c.self.inside.devices.items;
-      air = c.self.inside.air;
-      deliveries = c.self.inside.deliveries.items;
-      drops = c.self.inside.drops.items;
-      sums = c.self.inside.sums.items;
-    } in
+    let old = state_of c.self.inside in
     let shown : FieldIsShown t old orders p = subst (λ (w : FieldState). FieldIsShown t w orders p) (sym c.self.view_is) c.requires.shown in
     field_as_was t p old orders shown c.from.result c.from.ensures c.index_mut.result.now c.index_mut.ensures.value c.self.invariant c.switch_on.new.self
     (ap (λ (d : DeviceState). d.setup) c.if-switch_on.ensures.after) c.self.inside.air c.self.inside.deliveries.items
-
-pub tell-requires-clause-sent : goal.tell-requires-clause-sent
-tell-requires-clause-sent g c = (None, refl)
 
 pub tell-requires-clause-shown : goal.tell-requires-clause-shown
 tell-requires-clause-shown g c =
     let t = c.args.t in
     let p = c.args.place in
     let orders = g.Q.Orders.map c.args.orders.now in
-    let old : FieldState = record {
-      medium = c.self.inside.medium;
-      devices = c.self.inside.devices.items;
-      air = c.self.inside.air;
-      deliveries = c.self.inside.deliveries.items;
-      drops = c.self.inside.drops.items;
-      sums = c.self.inside.sums.items;
-    } in
+    let old = state_of c.self.inside in
     let shown : FieldIsShown t old orders p = subst (λ (w : FieldState). FieldIsShown t w orders p) (sym c.self.view_is) c.requires.shown in
     let time : IsTime old.medium t = subst (λ (w : FieldState). IsTime w.medium t) (sym c.self.view_is) c.requires.time in
     let happened = c.switch_on.ensures.time t
@@ -78,14 +55,7 @@ returns-in_ok-tell g c =
     let t = c.args.t in
     let p = c.args.place in
     let orders = g.Q.Orders.map c.args.orders.now in
-    let old : FieldState = record {
-      medium = c.self.inside.medium;
-      devices = c.self.inside.devices.items;
-      air = c.self.inside.air;
-      deliveries = c.self.inside.deliveries.items;
-      drops = c.self.inside.drops.items;
-      sums = c.self.inside.sums.items;
-    } in
+    let old = state_of c.self.inside in
     let shown : FieldIsShown t old orders p = subst (λ (w : FieldState). FieldIsShown t w orders p) (sym c.self.view_is) c.requires.shown in
     let time : IsTime old.medium t = subst (λ (w : FieldState). IsTime w.medium t) (sym c.self.view_is) c.requires.time in
     let happened = c.switch_on.ensures.time t
@@ -97,7 +67,7 @@ returns-in_ok-tell g c =
     acts_seen c.self.view_is (
     booted_acts t p old orders shown c.from.result c.from.ensures c.index_mut.result.now c.index_mut.ensures.value clock c.switch_on.new.self _
     c.tell.new.self (g.Q.Orders.map c.tell.new.orders) c.if-switch_on.ensures.after (c.if-switch_on.ensures.whole clock t) on
-    (c.in_ok-tell.ensures None refl)
+    c.in_ok-tell.ensures
     )
 
 pub returns-else-switch_on : goal.returns-else-switch_on
@@ -105,14 +75,7 @@ returns-else-switch_on g c =
     let t = c.args.t in
     let p = c.args.place in
     let orders = g.Q.Orders.map c.args.orders.now in
-    let old : FieldState = record {
-      medium = c.self.inside.medium;
-      devices = c.self.inside.devices.items;
-      air = c.self.inside.air;
-      deliveries = c.self.inside.deliveries.items;
-      drops = c.self.inside.drops.items;
-      sums = c.self.inside.sums.items;
-    } in
+    let old = state_of c.self.inside in
     let shown : FieldIsShown t old orders p = subst (λ (w : FieldState). FieldIsShown t w orders p) (sym c.self.view_is) c.requires.shown in
     let time : IsTime old.medium t = subst (λ (w : FieldState). IsTime w.medium t) (sym c.self.view_is) c.requires.time in
     let happened = c.switch_on.ensures.time t

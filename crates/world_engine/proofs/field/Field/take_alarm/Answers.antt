@@ -3,6 +3,7 @@ use Rattle.radio_model.specs.Stations.{IsTime}
 use Rattle.air_log.specs.Trails.{alarm_is_due}
 use Rattle.air_log.specs.DeviceStates.{DeviceState}
 use Rattle.world_engine.specs.Fields.{FieldState, FieldShows, FieldIsShown}
+use Rattle.world_engine.specs.FieldParts.{state_of}
 use Rattle.world_engine.proofs.ActsInTurn.{acts_seen}
 use Rattle.world_engine.proofs.StepsInCode.{field_as_was, taken_acts, alarm_shown}
 use Rattle.world_engine.proofs.field.Field.take_alarm.Goals.{then-due, else-due}
@@ -13,14 +14,7 @@ invariant_of-self g c =
     let t = c.args.t in
     let p = c.args.place in
     let orders = g.Q.Orders.map c.args.orders.now in
-    let old : FieldState = record {
-      medium = c.self.inside.medium;
-      devices = c.self.inside.devices.items;
-      air = c.self.inside.air;
-      deliveries = c.self.inside.deliveries.items;
-      drops = c.self.inside.drops.items;
-      sums = c.self.inside.sums.items;
-    } in
+    let old = state_of c.self.inside in
     let shown : FieldIsShown t old orders p = subst (λ (w : FieldState). FieldIsShown t w orders p) (sym c.self.view_is) c.requires.shown in
     field_as_was t p old orders shown c.from.result c.from.ensures c.index_mut-device.result.now c.index_mut-device.ensures.value c.self.invariant
     c.take_alarm-due.new.self
@@ -31,14 +25,7 @@ returns-clause-due g c = λ s d shows.
     let t = c.args.t in
     let p = c.args.place in
     let orders = g.Q.Orders.map c.args.orders.now in
-    let old : FieldState = record {
-      medium = c.self.inside.medium;
-      devices = c.self.inside.devices.items;
-      air = c.self.inside.air;
-      deliveries = c.self.inside.deliveries.items;
-      drops = c.self.inside.drops.items;
-      sums = c.self.inside.sums.items;
-    } in
+    let old = state_of c.self.inside in
     let shown : FieldIsShown t old orders p = subst (λ (w : FieldState). FieldIsShown t w orders p) (sym c.self.view_is) c.requires.shown in
     let there : FieldShows s t old orders p d = subst (λ (w : FieldState). FieldShows s t w orders p d) (sym c.self.view_is) shows in
     c.take_alarm-due.ensures.due
@@ -50,14 +37,7 @@ returns-clause-taken g c = λ due.
     let t = c.args.t in
     let p = c.args.place in
     let orders = g.Q.Orders.map c.args.orders.now in
-    let old : FieldState = record {
-      medium = c.self.inside.medium;
-      devices = c.self.inside.devices.items;
-      air = c.self.inside.air;
-      deliveries = c.self.inside.deliveries.items;
-      drops = c.self.inside.drops.items;
-      sums = c.self.inside.sums.items;
-    } in
+    let old = state_of c.self.inside in
     let shown : FieldIsShown t old orders p = subst (λ (w : FieldState). FieldIsShown t w orders p) (sym c.self.view_is) c.requires.shown in
     let time : IsTime old.medium t = subst (λ (w : FieldState). IsTime w.medium t) (sym c.self.view_is) c.requires.time in
     let state = c.index_mut-device.result.now in

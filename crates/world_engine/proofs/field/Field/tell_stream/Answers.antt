@@ -5,6 +5,7 @@ use Rattle.std.proofs.lemmas.Option.{slice_get_read}
 use Rattle.bus_rules.specs.Cores.{Setup}
 use Rattle.radio_model.specs.Stations.{IsTime}
 use Rattle.world_engine.specs.Fields.{FieldState, FieldIsShown}
+use Rattle.world_engine.specs.FieldParts.{state_of}
 use Rattle.world_engine.proofs.DeviceSteps.{field_stays}
 use Rattle.world_engine.proofs.StepsInCode.{state_happened}
 use Rattle.world_engine.proofs.ToldInCode.{setup_shown, as_told, line_told}
@@ -12,14 +13,7 @@ use Rattle.world_engine.proofs.field.Field.tell_stream.Goals as goal
 
 pub invariant_of-self : goal.invariant_of-self
 invariant_of-self c =
-    let w : FieldState = record {
-      medium = c.self.inside.medium;
-      devices = c.self.inside.devices.items;
-      air = c.self.inside.air;
-      deliveries = c.self.inside.deliveries.items;
-      drops = c.self.inside.drops.items;
-      sums = c.self.inside.sums.items;
-    } in
+    let w = state_of c.self.inside in
     let state = c.index_mut-device.result.now in
     let at : slice_get w.devices c.from.result ≡ Some state =
     slice_get_read w.devices (length w.devices) c.from.result state refl
@@ -33,14 +27,7 @@ invariant_of-self c =
 
 pub invariant_of-self-in_err-push : goal.invariant_of-self-in_err-push
 invariant_of-self-in_err-push c =
-    let w : FieldState = record {
-      medium = c.self.inside.medium;
-      devices = c.self.inside.devices.items;
-      air = c.self.inside.air;
-      deliveries = c.self.inside.deliveries.items;
-      drops = c.self.inside.drops.items;
-      sums = c.self.inside.sums.items;
-    } in
+    let w = state_of c.self.inside in
     let state = c.index_mut-device.result.now in
     let at : slice_get w.devices c.from.result ≡ Some state =
     slice_get_read w.devices (length w.devices) c.from.result state refl
@@ -53,14 +40,7 @@ invariant_of-self-in_err-push c =
 
 pub invariant_of-self-2 : goal.invariant_of-self-2
 invariant_of-self-2 c =
-    let w : FieldState = record {
-      medium = c.self.inside.medium;
-      devices = c.self.inside.devices.items;
-      air = c.self.inside.air;
-      deliveries = c.self.inside.deliveries.items;
-      drops = c.self.inside.drops.items;
-      sums = c.self.inside.sums.items;
-    } in
+    let w = state_of c.self.inside in
     let state = c.index_mut-device.result.now in
     let at : slice_get w.devices c.from.result ≡ Some state =
     slice_get_read w.devices (length w.devices) c.from.result state refl
@@ -74,14 +54,7 @@ invariant_of-self-2 c =
 pub returns-in_default : goal.returns-in_default
 returns-in_default c = λ clock t due is_time is_shown own.
     let p = c.args.place in
-    let old : FieldState = record {
-      medium = c.self.inside.medium;
-      devices = c.self.inside.devices.items;
-      air = c.self.inside.air;
-      deliveries = c.self.inside.deliveries.items;
-      drops = c.self.inside.drops.items;
-      sums = c.self.inside.sums.items;
-    } in
+    let old = state_of c.self.inside in
     let shown : FieldIsShown t old due p = subst (λ (w : FieldState). FieldIsShown t w due p) (sym c.self.view_is) is_shown in
     let time : IsTime old.medium t = subst (λ (w : FieldState). IsTime w.medium t) (sym c.self.view_is) is_time in
     let happened = c.tell.ensures.time t
@@ -100,14 +73,7 @@ returns-in_default c = λ clock t due is_time is_shown own.
 pub returns : goal.returns
 returns c = λ clock t due is_time is_shown own.
     let p = c.args.place in
-    let old : FieldState = record {
-      medium = c.self.inside.medium;
-      devices = c.self.inside.devices.items;
-      air = c.self.inside.air;
-      deliveries = c.self.inside.deliveries.items;
-      drops = c.self.inside.drops.items;
-      sums = c.self.inside.sums.items;
-    } in
+    let old = state_of c.self.inside in
     let shown : FieldIsShown t old due p = subst (λ (w : FieldState). FieldIsShown t w due p) (sym c.self.view_is) is_shown in
     let time : IsTime old.medium t = subst (λ (w : FieldState). IsTime w.medium t) (sym c.self.view_is) is_time in
     let happened = c.tell.ensures.time t
