@@ -20,19 +20,11 @@ impl Node {
         self.handle(clock, radio, &event);
     }
 
-    /// As `step`, with an event that stays where it is.
+    /// As `step`, with an event that stays where it is. The clock is read only where a time is needed.
     pub fn handle<C: LocalClock, R: Radio>(&mut self, clock: &C, radio: &mut R, event: &Event)
         requires { 4 ≤ (R.told radio.old).room }
         ensures row { GoesThroughRow self.old self.new (R.told radio.old) (R.told radio.new) (row self.old.setup self.old.node (C.time clock.now) event.now) }
         ensures setup { self.new.setup ≡ self.old.setup }
-    {
-        self.go_through(clock, radio, event);
-    }
-
-    // The clock is read only where a time is needed.
-    fn go_through<C: LocalClock, R: Radio>(&mut self, clock: &C, radio: &mut R, event: &Event)
-        requires { 4 ≤ (R.told radio.old).room }
-        ensures { GoesThroughRow self.old self.new (R.told radio.old) (R.told radio.new) (row self.old.setup self.old.node (C.time clock.now) event.now) }
     {
         match event {
             Event::Boot => self.boot(clock.now(), radio),
