@@ -5,7 +5,8 @@ use lib.Utf8.{encode}
 use Rattle.text_readers.specs.Reading.{draft_after_line}
 use Rattle.text_readers.specs.declared.fault.FaultKind.TheVariants.{BadWord, Missing, Order, UnknownNode}
 use Rattle.scenario_text.specs.Network.{network_line}
-use Rattle.scenario_text.specs.ScenarioGrammar.{scenario_after_words, scenario_line, script_line, step_line}
+use Rattle.scenario_text.specs.ScriptGrammar.{script_line, step_line}
+use Rattle.scenario_text.specs.ScenarioGrammar.{scenario_after_words, scenario_line}
 use Rattle.air_log.specs.declared.entry.Entry.{Entry}
 use Rattle.air_log.specs.declared.entry.Entry.TheVariants.{Tuned}
 use Rattle.air_log.specs.FirstRound.{first_round}

@@ -2,7 +2,8 @@
 use Rattle.std.specs.Prelude.{ℕ, ◌+◌, List, [], ◌∷◌, Bool, not, ◌&&◌, ◌==◌, Ok, Err, Result, length, take, drop, codes}
 use Rattle.std.specs.List.{take_while}
 use Rattle.std.specs.Str.Lines.{lines}
-use Rattle.scenario_text.specs.ScenarioGrammar.{first_word_is, scenario_after_words, no_scenario, whole_scenario}
+use Rattle.scenario_text.specs.ScriptGrammar.{first_word_is}
+use Rattle.scenario_text.specs.ScenarioGrammar.{scenario_after_words, no_scenario, whole_scenario}
 use Rattle.scenario_text.specs.ScenarioParts.{ScenarioParts}
 use Rattle.text_readers.specs.Faults.{in_line, ◌>>=◌, draft_after_lines}
 use Rattle.text_readers.specs.Reading.{draft_after_line}

@@ -10,7 +10,7 @@ use Rattle.scenario_text.specs.declared.lines.NodeLine.{NodeLine}
 use Rattle.scenario_text.specs.FloodParts.{knows}
 use Rattle.scenario_text.specs.Network.{is_id}
 use Rattle.scenario_text.specs.Payloads.{hex_bytes}
-use Rattle.scenario_text.specs.ScenarioGrammar.{first_word_is}
+use Rattle.scenario_text.specs.ScriptGrammar.{first_word_is}
 use Rattle.scenario_text.specs.ScenarioParts.{ScenarioParts}
 use Rattle.text_readers.specs.Faults.{spelled, ◌>>=◌, draft_after_lines}
 use Rattle.text_readers.specs.Words.{words, word, is_skipped, is_number, number_at, line_of_words}

@@ -3,7 +3,7 @@ use Rattle.std.specs.Prelude.{ℕ, List, [], ◌∷◌, ◌++◌, ◌&&◌, ◌=
 use Rattle.std.specs.declared.option.Option.{Option}
 use Rattle.scenario_text.specs.ScenarioParts.{ScenarioParts}
 use Rattle.scenario_text.specs.declared.script.Act.{Act}
-use Rattle.scenario_text.specs.declared.script.Act.TheVariants.{On, Off, Declare, Leave, Put}
+use Rattle.scenario_text.specs.declared.script.Act.TheVariants.{Put}
 use Rattle.scenario_text.specs.declared.script.ScriptLine.{ScriptLine}
 use Rattle.bus_rules.specs.declared.delivery.DropLine.{DropLine}
 use Rattle.bus_rules.specs.States.{loses}
@@ -25,11 +25,8 @@ device_before_line s clocks air above l =
 
 -- a put is lost where the node is off or its stream rejects it
 abbrev pub drop_by : ScriptLine → Act → Power → Option DropLine
-drop_by l On power = None
-drop_by l Off power = None
-drop_by l (Declare i interval) power = None
-drop_by l (Leave i) power = None
 drop_by l (Put i payload) power = if loses i (state_of_power power) then Some (record { frame = l.frame; node = l.node; stream = i }) else None
+drop_by l other power = None
 
 -- what a line loses at a node of this power
 abbrev pub drop_of_line : ScriptLine → Power → Option DropLine

@@ -24,9 +24,7 @@ with_new_core d n core = record d { power = PowerOn (record n { core = core }) }
 abbrev pub IsForStream : Act → Type 0
 IsForStream On = ⊥
 IsForStream Off = ⊥
-IsForStream (Declare i interval) = ⊤
-IsForStream (Leave i) = ⊤
-IsForStream (Put i payload) = ⊤
+IsForStream other = ⊤
 
 -- what is done at tick t. An act for a stream changes the core of a node that is on, and nothing else
 abbrev pub device_after_act : (ℕ → ℕ) → Setup → ℕ → Device → Act → Power → Device

@@ -37,11 +37,8 @@ states_after_script s f states v = fold state_after_line (states v) (lines_of s 
 
 -- what is lost by a line at a node in this state
 abbrev pub lost_by : ScriptLine → Act → State → Option DropLine
-lost_by l On x = None
-lost_by l Off x = None
-lost_by l (Declare i interval) x = None
-lost_by l (Leave i) x = None
 lost_by l (Put i payload) x = if loses i x then Some (record { frame = l.frame; node = l.node; stream = i }) else None
+lost_by l other x = None
 
 -- of the lines above one, those that its node is given in its frame
 abbrev pub told_above : List ScriptLine → ScriptLine → List ScriptLine

@@ -4,7 +4,7 @@ use Rattle.std.specs.List.{list_any}
 use Rattle.scenario_text.specs.FloodParts.{knows}
 use Rattle.scenario_text.specs.ScenarioParts.{ScenarioParts}
 use Rattle.scenario_text.specs.declared.script.Act.{Act}
-use Rattle.scenario_text.specs.declared.script.Act.TheVariants.{On, Off, Declare, Leave, Put}
+use Rattle.scenario_text.specs.declared.script.Act.TheVariants.{Off}
 use Rattle.scenario_text.specs.declared.script.ScriptLine.{ScriptLine}
 use Rattle.air_log.specs.declared.entry.Entry.{Entry}
 use Rattle.host_return.specs.Probes.{Probed}
@@ -13,10 +13,7 @@ use Rattle.host_return.specs.declared.returned.Return.{Return}
 -- whether the line sends node v off in frame f
 abbrev pub is_off_act : Act → Bool
 is_off_act Off = true
-is_off_act On = false
-is_off_act (Declare i interval) = false
-is_off_act (Leave i) = false
-is_off_act (Put i payload) = false
+is_off_act other = false
 
 abbrev pub switches_off : ℕ → ℕ → ScriptLine → Bool
 switches_off f v l = (l.frame == f) && (l.node == v) && is_off_act l.act

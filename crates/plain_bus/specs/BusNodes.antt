@@ -8,7 +8,7 @@ use Rattle.bus_rules.specs.declared.part.Part.{Part}
 use Rattle.bus_rules.specs.States.{State, StateOff, StateOn, loses}
 use Rattle.scenario_text.specs.ScenarioParts.{ScenarioParts}
 use Rattle.scenario_text.specs.declared.script.Act.{Act}
-use Rattle.scenario_text.specs.declared.script.Act.TheVariants.{On, Off, Declare, Leave, Put}
+use Rattle.scenario_text.specs.declared.script.Act.TheVariants.{On, Put}
 use Rattle.lwb_member.specs.Members.{MayAccept}
 use Rattle.lwb_member.specs.Planning.{IsEarly}
 use Rattle.bus_terms.specs.FloodOfText.{ids}
@@ -40,18 +40,12 @@ MayBoot (StateOn c) = ⊤
 
 abbrev pub MayDo : Act → State → Type 0
 MayDo On x = MayBoot x
-MayDo Off x = ⊤
-MayDo (Declare i interval) x = ⊤
-MayDo (Leave i) x = ⊤
-MayDo (Put i payload) x = ⊤
+MayDo other x = ⊤
 
 -- whether a packet is lost by what it is given
 abbrev pub loses_by : Act → State → Bool
-loses_by On x = false
-loses_by Off x = false
-loses_by (Declare i interval) x = false
-loses_by (Leave i) x = false
 loses_by (Put i payload) x = loses i x
+loses_by other x = false
 
 -- no stream of its table was accepted after this frame
 abbrev pub IsEarlyState : ℕ → State → Type 0

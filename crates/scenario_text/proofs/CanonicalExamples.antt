@@ -8,7 +8,8 @@ use Rattle.lwb_base.specs.Profile.{Numbers, one}
 use Rattle.link_trace.specs.Passes.{Lines}
 use Rattle.scenario_text.specs.Network.{network_line}
 use Rattle.text_writers.specs.HexWords.{payload_word}
-use Rattle.scenario_text.specs.ScenarioGrammar.{scenario_of, scenario_after_words, scenario_line, script_line, step_line, put_line}
+use Rattle.scenario_text.specs.ScriptGrammar.{script_line, step_line, put_line}
+use Rattle.scenario_text.specs.ScenarioGrammar.{scenario_of, scenario_after_words, scenario_line}
 use Rattle.text_readers.specs.Reading.{draft_after_line}
 use Rattle.scenario_text.specs.declared.lines.NodeLine.{NodeLine}
 use Rattle.scenario_text.specs.declared.lines.RateLine.{RateLine}

@@ -23,6 +23,8 @@ use Rattle.scenario_text.specs.declared.lines.RateLine.{RateLine}
 use Rattle.scenario_text.specs.declared.network_line.NetworkLine.TheVariants.{Link}
 use Rattle.scenario_text.specs.declared.scenario_line.ScenarioLine.{ScenarioLine}
 use Rattle.scenario_text.specs.declared.scenario_line.ScenarioLine.TheVariants as line
+use Rattle.scenario_text.specs.declared.written_act.WrittenAct.{WrittenAct}
+use Rattle.scenario_text.specs.declared.written_act.WrittenAct.TheVariants as act
 use Rattle.scenario_text.specs.declared.script.ScriptLine.{ScriptLine}
 use Rattle.scenario_text.specs.declared.script.Act.{Act}
 use Rattle.scenario_text.specs.declared.script.Act.TheVariants.{On, Off, Declare, Leave, Put}
@@ -41,16 +43,11 @@ after_act w i On = record {
   boots = slice_set w.boots i (if slice_index_or w.on i false then slice_index w.boots i else slice_index w.boots i + 1);
 }
 after_act w i Off = record { on = slice_set w.on i false; boots = w.boots }
-after_act w i (Declare s n) = w
-after_act w i (Leave s) = w
-after_act w i (Put s p) = w
+after_act w i other = w
 
 abbrev pub can_boot : Power → ℕ → Act → Bool
 can_boot w i On = slice_index_or w.on i false || nat_lt (slice_index w.boots i) 200
-can_boot w i Off = true
-can_boot w i (Declare s n) = true
-can_boot w i (Leave s) = true
-can_boot w i (Put s p) = true
+can_boot w i other = true
 
 abbrev pub power_after : Power → List ScriptLine → Power
 power_after w [] = w
@@ -75,12 +72,16 @@ mid s ns rs hs t ls w n = record {
   boots = w.boots;
 }
 
+-- as it is written
+abbrev pub written : Act → WrittenAct
+written On = act.On
+written Off = act.Off
+written (Declare s n) = act.Stream s n
+written (Leave s) = act.Leave s
+written (Put s p) = act.Put s (Some p)
+
 abbrev pub said_act : ℕ → ℕ → Act → ScenarioLine
-said_act f i On = line.On f i
-said_act f i Off = line.Off f i
-said_act f i (Declare s n) = line.Stream f i s n
-said_act f i (Leave s) = line.Leave f i s
-said_act f i (Put s p) = line.Put f i s (Some p)
+said_act f i a = line.Script f i (written a)
 
 abbrev pub said_link : LinkLine → ScenarioLine
 said_link l = line.InNetwork (Link l.from l.to)
@@ -101,11 +102,8 @@ pub record Fits (d : Scenario) (l : ScenarioLine) : Type 0 where
 
 -- a payload has bytes
 abbrev pub HasBytes : Act → Type 0
-HasBytes On = Unit {0}
-HasBytes Off = Unit {0}
-HasBytes (Declare s n) = Unit {0}
-HasBytes (Leave s) = Unit {0}
 HasBytes (Put s p) = AllByRecursion (λ b. b < 256) p
+HasBytes other = Unit {0}
 
 pub record FitsAct (d : Scenario) (l : ScriptLine) : Type 0 where
   pub fits : Fits d (said_act l.frame l.node l.act)

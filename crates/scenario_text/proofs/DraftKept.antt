@@ -13,20 +13,22 @@ use Rattle.scenario_text.specs.Network.{is_id, with_loss_at, with_cut_at, with_c
 use Rattle.scenario_text.specs.ScenarioGrammar.{Scenario, line_fault, with_scenario_line, is_frame}
 use Rattle.scenario_text.specs.declared.scenario_line.ScenarioLine.{ScenarioLine}
 use Rattle.scenario_text.specs.declared.scenario_line.ScenarioLine.TheVariants as line
+use Rattle.scenario_text.specs.declared.written_act.WrittenAct.TheVariants as written
+use Rattle.scenario_text.specs.declared.script.Act.{Act}
 use Rattle.scenario_text.specs.declared.script.Act.TheVariants.{On, Off, Declare, Leave, Put}
 use Rattle.scenario_text.proofs.RatesKept.{map_all, climbs_more}
 use Rattle.scenario_text.proofs.LineRuns.{Allowed}
-use Rattle.scenario_text.proofs.CanonicalFacts.{said_link, said_loss, said_cut, said_capture, Fits, FitsAct, judged}
+use Rattle.scenario_text.proofs.CanonicalFacts.{can_boot, said_act, said_link, said_loss, said_cut, said_capture, Fits, FitsAct, HasBytes, judged}
 use Rattle.scenario_text.proofs.DraftFacts.{IsFine, with_line_length}
 use Rattle.scenario_text.proofs.LineRuns.{allowed}
 use Rattle.scenario_text.proofs.FirstDrafts.{fine_top, profile_fine}
-use Rattle.scenario_text.proofs.ScriptKept.{act_fine}
+use Rattle.scenario_text.proofs.ScriptKept.{power_of, next, act_fine}
 use Rattle.scenario_text.proofs.TraceKept.{trace_fine, loss_trace, cut_trace, capture_trace}
 use Rattle.scenario_text.proofs.NetworkKept.{network_fine}
 
 -- the bytes of a payload
 abbrev pub IsRead : ScenarioLine → Type 0
-IsRead (line.Put f i s (Some p)) = AllByRecursion (λ b. b < 256) p
+IsRead (line.Script f i (written.Put s (Some p))) = AllByRecursion (λ b. b < 256) p
 IsRead other = Unit {0}
 
 -- hosts
@@ -107,6 +109,12 @@ frames_fine d f fine a =
     none_is None is = refl
     none_is (Some n) is = absurd (false≢true is)
 
+-- a line of the script
+given_fine : (d : Scenario) (f i : ℕ) (a : Act) → IsFine d → HasBytes a → Allowed d (said_act f i a) → can_boot (power_of d) i a ≡ true → IsFine (next d f i a)
+given_fine d f i a fine bytes can boot =
+    let room = and_parts (has_script_room d.network) _ can.room in
+    act_fine d f i a fine (record { range = can.range; known = can.known }) bytes can.order room.0 boot
+
 -- each line
 pub line_fine : (d : Scenario) (l : ScenarioLine) → IsFine d → IsRead l → line_fault d l ≡ None → IsFine (with_scenario_line d l)
 line_fine d (line.InNetwork l) fine read none = network_fine d l fine none
@@ -119,25 +127,20 @@ line_fine d (line.Contend c) fine read none =
     (fine_top (contended c) false (inr (refl, leb-true c 4 (and_parts (nat_le 1 c) (nat_le c 4) a.range).1)) (λ is. absurd (false≢true is)))
 line_fine d (line.Frames f) fine read none = frames_fine d f fine (allowed d (line.Frames f) none)
 line_fine d (line.Host r i) fine read none = host_fine d r i fine (allowed d (line.Host r i) none)
-line_fine d (line.On f i) fine read none =
-    let a = allowed d (line.On f i) none in
-    let room = and_parts (has_script_room d.network) _ a.room in
-    act_fine d f i On fine (record { range = a.range; known = a.known }) tt a.order room.0 room.1
-line_fine d (line.Off f i) fine read none =
-    let a = allowed d (line.Off f i) none in
-    act_fine d f i Off fine (record { range = a.range; known = a.known }) tt a.order a.room refl
-line_fine d (line.Stream f i s n) fine read none =
-    let a = allowed d (line.Stream f i s n) none in
-    act_fine d f i (Declare s n) fine (record { range = a.range; known = a.known }) tt a.order a.room refl
-line_fine d (line.Leave f i s) fine read none =
-    let a = allowed d (line.Leave f i s) none in
-    act_fine d f i (Leave s) fine (record { range = a.range; known = a.known }) tt a.order a.room refl
-line_fine d (line.Put f i s (Some p)) fine read none =
-    let a = allowed d (line.Put f i s (Some p)) none in
-    act_fine d f i (Put s p) fine (record { range = a.range; known = a.known }) read a.order a.room refl
-line_fine d (line.Put f i s None) fine read none =
-    let a = allowed d (line.Put f i s None) none in
-    absurd (false≢true (sym (and_right (is_frame d.frames f && is_id i && nat_le s 3) false refl) ∙ a.range))
+line_fine d (line.Script f i written.On) fine read none =
+    let a = allowed d (line.Script f i written.On) none in
+    given_fine d f i On fine tt a (and_parts (has_script_room d.network) _ a.room).1
+line_fine d (line.Script f i written.Off) fine read none = given_fine d f i Off fine tt (allowed d (line.Script f i written.Off) none) refl
+line_fine d (line.Script f i (written.Stream s n)) fine read none =
+    given_fine d f i (Declare s n) fine tt (allowed d (line.Script f i (written.Stream s n)) none) refl
+line_fine d (line.Script f i (written.Leave s)) fine read none =
+    given_fine d f i (Leave s) fine tt (allowed d (line.Script f i (written.Leave s)) none) refl
+line_fine d (line.Script f i (written.Put s (Some p))) fine read none =
+    given_fine d f i (Put s p) fine read (allowed d (line.Script f i (written.Put s (Some p))) none) refl
+line_fine d (line.Script f i (written.Put s None)) fine read none =
+    let a = allowed d (line.Script f i (written.Put s None)) none in
+    let range = and_parts (is_frame d.frames f && is_id i) (nat_le s 3 && false) a.range in
+    absurd (false≢true (sym (and_right (nat_le s 3) false refl) ∙ range.1))
 line_fine d (line.Lose f j k u v) fine read none =
     let a = allowed d (line.Lose f j k u v) none in
     let t = d.network.trace in

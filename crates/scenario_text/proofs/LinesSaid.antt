@@ -13,14 +13,16 @@ use Rattle.scenario_text.specs.Network.{network_line}
 use Rattle.text_writers.specs.HexWords.{payload_word}
 use Rattle.scenario_text.specs.Payloads.{is_payload, payload}
 use Rattle.text_writers.specs.Lines.{numbered}
-use Rattle.scenario_text.specs.ScenarioGrammar.{Scenario, scenario_line, script_line, step_line, put_line, scenario_numbers}
+use Rattle.scenario_text.specs.ScriptGrammar.{script_line, step_line, put_line}
+use Rattle.scenario_text.specs.ScenarioGrammar.{Scenario, scenario_line, scenario_numbers}
 use Rattle.scenario_text.specs.ScenarioGrammar.{line_fault, with_scenario_line, after_spelled, scenario_after_words}
 use Rattle.text_readers.specs.declared.fault.FaultKind.{FaultKind}
 use Rattle.text_readers.specs.declared.fault.FaultKind.TheVariants.{NotUtf8, BadNumber}
 use Rattle.scenario_text.specs.declared.network_line.NetworkLine.TheVariants.{Sends, Node, Rate, Link}
 use Rattle.scenario_text.specs.declared.scenario_line.ScenarioLine.{ScenarioLine}
-use Rattle.scenario_text.specs.declared.scenario_line.ScenarioLine.TheVariants.{InNetwork, Profile, Contend, Frames, Host, On, Off}
-use Rattle.scenario_text.specs.declared.scenario_line.ScenarioLine.TheVariants.{Stream, Leave, Put, Lose, Cut, Capture}
+use Rattle.scenario_text.specs.declared.scenario_line.ScenarioLine.TheVariants.{InNetwork, Profile, Contend, Frames, Host, Script}
+use Rattle.scenario_text.specs.declared.scenario_line.ScenarioLine.TheVariants.{Lose, Cut, Capture}
+use Rattle.scenario_text.specs.declared.written_act.WrittenAct.TheVariants.{On, Off, Stream, Leave, Put}
 use Rattle.scenario_text.proofs.TextBack.{IsGlyph, IsWord, words_back, line_is_text}
 use Rattle.scenario_text.proofs.NumbersBack.{is_number_back, number_back, decimal_word, signed_back, ReadsPayload}
 
@@ -147,29 +149,30 @@ says_link a b sa sb =
     with_numbers (codes "link") (a ∷ b ∷ []) (InNetwork (Link a b)) (letters (codes "link") refl) (sa, (sb, tt)) refl
     (two (λ x0 x1. InNetwork (Link x0 x1)) a b sa sb) refl
 
-pub says_on : (a b : ℕ) → Small a → Small b → Says (numbered (codes "on") (a ∷ b ∷ [])) (On a b)
+pub says_on : (a b : ℕ) → Small a → Small b → Says (numbered (codes "on") (a ∷ b ∷ [])) (Script a b On)
 unfolding scenario_line script_line step_line put_line
 says_on a b sa sb =
-    with_numbers (codes "on") (a ∷ b ∷ []) (On a b) (letters (codes "on") refl) (sa, (sb, tt)) refl
-    (two (λ x0 x1. On x0 x1) a b sa sb) refl
+    with_numbers (codes "on") (a ∷ b ∷ []) (Script a b On) (letters (codes "on") refl) (sa, (sb, tt)) refl
+    (two (λ x0 x1. Script x0 x1 On) a b sa sb) refl
 
-pub says_off : (a b : ℕ) → Small a → Small b → Says (numbered (codes "off") (a ∷ b ∷ [])) (Off a b)
+pub says_off : (a b : ℕ) → Small a → Small b → Says (numbered (codes "off") (a ∷ b ∷ [])) (Script a b Off)
 unfolding scenario_line script_line step_line put_line
 says_off a b sa sb =
-    with_numbers (codes "off") (a ∷ b ∷ []) (Off a b) (letters (codes "off") refl) (sa, (sb, tt)) refl
-    (two (λ x0 x1. Off x0 x1) a b sa sb) refl
+    with_numbers (codes "off") (a ∷ b ∷ []) (Script a b Off) (letters (codes "off") refl) (sa, (sb, tt)) refl
+    (two (λ x0 x1. Script x0 x1 Off) a b sa sb) refl
 
-pub says_stream : (a b c d : ℕ) → Small a → Small b → Small c → Small d → Says (numbered (codes "stream") (a ∷ b ∷ c ∷ d ∷ [])) (Stream a b c d)
+pub says_stream : (a b c d : ℕ) → Small a → Small b → Small c → Small d
+    → Says (numbered (codes "stream") (a ∷ b ∷ c ∷ d ∷ [])) (Script a b (Stream c d))
 unfolding scenario_line script_line step_line put_line
 says_stream a b c d sa sb sc sd =
-    with_numbers (codes "stream") (a ∷ b ∷ c ∷ d ∷ []) (Stream a b c d) (letters (codes "stream") refl) (sa, (sb, (sc, (sd, tt)))) refl
-    (four (λ x0 x1 x2 x3. Stream x0 x1 x2 x3) a b c d sa sb sc sd) refl
+    with_numbers (codes "stream") (a ∷ b ∷ c ∷ d ∷ []) (Script a b (Stream c d)) (letters (codes "stream") refl) (sa, (sb, (sc, (sd, tt)))) refl
+    (four (λ x0 x1 x2 x3. Script x0 x1 (Stream x2 x3)) a b c d sa sb sc sd) refl
 
-pub says_leave : (a b c : ℕ) → Small a → Small b → Small c → Says (numbered (codes "leave") (a ∷ b ∷ c ∷ [])) (Leave a b c)
+pub says_leave : (a b c : ℕ) → Small a → Small b → Small c → Says (numbered (codes "leave") (a ∷ b ∷ c ∷ [])) (Script a b (Leave c))
 unfolding scenario_line script_line step_line put_line
 says_leave a b c sa sb sc =
-    with_numbers (codes "leave") (a ∷ b ∷ c ∷ []) (Leave a b c) (letters (codes "leave") refl) (sa, (sb, (sc, tt))) refl
-    (three (λ x0 x1 x2. Leave x0 x1 x2) a b c sa sb sc) refl
+    with_numbers (codes "leave") (a ∷ b ∷ c ∷ []) (Script a b (Leave c)) (letters (codes "leave") refl) (sa, (sb, (sc, tt))) refl
+    (three (λ x0 x1 x2. Script x0 x1 (Leave x2)) a b c sa sb sc) refl
 
 pub says_lose : (a b c d e : ℕ) → Small a → Small b → Small c → Small d → Small e → Says (numbered (codes "lose") (a ∷ b ∷ c ∷ d ∷ e ∷ [])) (Lose a b c d e)
 unfolding scenario_line script_line step_line put_line
@@ -207,15 +210,15 @@ says_rate i t z si st few =
 
 -- the last word of a `put` is a payload
 pub says_put : (f i s : ℕ) (p : List ℕ) → Small f → Small i → Small s → ReadsPayload p (payload_word p)
-    → Says (numbered (codes "put") (f ∷ i ∷ s ∷ []) ++ payload_word p ∷ []) (Put f i s (Some p))
+    → Says (numbered (codes "put") (f ∷ i ∷ s ∷ []) ++ payload_word p ∷ []) (Script f i (Put s (Some p)))
 unfolding scenario_line script_line step_line put_line
 says_put f i s p sf si ss reads =
     let w : List ℕ = payload_word p in
     record {
       are_words = (letters (codes "put") refl, (decimal_word f sf, (decimal_word i si, (decimal_word s ss, (reads.is_word, tt)))));
       unskipped = refl;
-      line = cond-true (is_payload w) (Some (Put (number (decimal f)) (number (decimal i)) (number (decimal s)) (payload w))) None reads.right
-          ∙ ap (λ (o : Option (List ℕ)). Some (Put (number (decimal f)) (number (decimal i)) (number (decimal s)) o)) reads.back
-          ∙ three (λ x y z. Put x y z (Some p)) f i s sf si ss;
+      line = cond-true (is_payload w) (Some (Script (number (decimal f)) (number (decimal i)) (Put (number (decimal s)) (payload w)))) None reads.right
+          ∙ ap (λ (o : Option (List ℕ)). Some (Script (number (decimal f)) (number (decimal i)) (Put (number (decimal s)) o))) reads.back
+          ∙ three (λ x y z. Script x y (Put z (Some p))) f i s sf si ss;
       right = and_from _ _ (and_from _ _ (is_number_back f sf) (is_number_back i si)) (is_number_back s ss);
     }

@@ -1,9 +1,10 @@
 -- Parts in range and in order keep the rules of the canonical text, and what some text says is in range and in order.
-use Rattle.std.proofs.Common.{◌≡◌, ℕ, ◌<◌, ◌≤◌, List, [], ◌∷◌, true, false, not, ◌&&◌, ◌==◌, nat_lt, nat_le, Some, length, All, subst}
+use Rattle.std.proofs.Common.{◌≡◌, refl, ℕ, ◌<◌, ◌≤◌, List, [], ◌∷◌, true, false, not, ◌&&◌, ◌==◌, nat_lt, nat_le, Some, length, All, subst}
 use Rattle.std.proofs.lemmas.Bool.{and_from, not_from_false, lt-ltb, le-leb, ne_eqb}
 use Rattle.std.proofs.lemmas.List.Elements.{All-from_recursion, recursion_from_All}
 use Rattle.std.specs.List.{AllByRecursion}
 use Rattle.std.specs.declared.cmp.Ordering.TheVariants.{Less}
+use Rattle.lwb_base.specs.Profile.{Numbers}
 use Rattle.link_trace.specs.Order.{by_link, by_loss, by_cut, by_capture}
 use Rattle.link_trace.specs.declared.lines.LinkLine.{LinkLine}
 use Rattle.link_trace.specs.declared.lines.LoseLine.{LoseLine}
@@ -15,13 +16,14 @@ use Rattle.scenario_text.specs.Network.{is_id, are_ends}
 use Rattle.scenario_text.specs.Canonical.{IsSaid}
 use Rattle.scenario_text.specs.PartsInOrder.{IsNodeLine, IsRateLine, carried, IsInOrder}
 use Rattle.scenario_text.specs.ScenarioFacts.{AreEnds, IsStepOf, IsAct, IsScriptLine, IsSoundScenario}
-use Rattle.scenario_text.specs.ScenarioGrammar.{greatest_slot_of, is_step, is_short, IsScenario}
+use Rattle.scenario_text.specs.ScriptGrammar.{act_in_range, is_short}
+use Rattle.scenario_text.specs.ScenarioGrammar.{greatest_slot_of, is_step, IsScenario}
 use Rattle.scenario_text.specs.ScenarioParts.{ScenarioParts}
 use Rattle.scenario_text.specs.declared.script.Act.{Act}
 use Rattle.scenario_text.specs.declared.script.Act.TheVariants.{On, Off, Declare, Leave, Put}
 use Rattle.scenario_text.specs.declared.script.ScriptLine.{ScriptLine}
 use Rattle.scenario_text.proofs.BootsCounted.{boots_from}
-use Rattle.scenario_text.proofs.CanonicalFacts.{HasBytes, IsNode, IsRateOf, IsHost, Fits, FitsAct, said_act, said_link}
+use Rattle.scenario_text.proofs.CanonicalFacts.{HasBytes, IsNode, IsRateOf, IsHost, Fits, FitsAct, written, said_act, said_link}
 use Rattle.scenario_text.proofs.CanonicalFacts.{said_loss, said_cut, said_capture, judge, KeepsRules}
 use Rattle.scenario_text.proofs.CanonicalSays.{canonical_says}
 use Rattle.scenario_text.proofs.EachPair.{climbs_pairs, pairs_climb}
@@ -81,22 +83,18 @@ capture_fits s l ids is = record {
 told_from : (s : ScenarioParts) (f i : ℕ) → f < s.frames → is_id i ≡ true → (nat_lt f s.frames && is_id i) ≡ true
 told_from s f i below id = and_from (nat_lt f s.frames) (is_id i) (lt-ltb f s.frames below) id
 
-stream_from : (s : ScenarioParts) (f i x : ℕ) → f < s.frames → is_id i ≡ true → x ≤ 3 → (nat_lt f s.frames && is_id i && nat_le x 3) ≡ true
-stream_from s f i x below id few = and_from (nat_lt f s.frames && is_id i) (nat_le x 3) (told_from s f i below id) (le-leb x 3 few)
+in_range_from : (p : Numbers) (a : Act) → IsAct p a → act_in_range p (written a) ≡ true
+in_range_from p On act = refl
+in_range_from p Off act = refl
+in_range_from p (Declare x y) act =
+    and_from (nat_le x 3 && nat_le 1 y) (nat_le y 120) (and_from (nat_le x 3) (nat_le 1 y) (le-leb x 3 act.0) (le-leb 1 y act.1)) (le-leb y 120 act.2)
+in_range_from p (Leave x) act = le-leb x 3 act
+in_range_from p (Put x b) act = and_from (nat_le x 3) (is_short p (Some b)) (le-leb x 3 act.0) (le-leb (length b) p.payload_max act.1)
 
 act_fits : (s : ScenarioParts) (f i : ℕ) (a : Act) → f < s.frames → is_id i ≡ true → knows s.nodes i ≡ true → IsAct s.profile a
     → Fits (judge s) (said_act f i a)
-act_fits s f i On below id known act = record { range = told_from s f i below id; known = known }
-act_fits s f i Off below id known act = record { range = told_from s f i below id; known = known }
-act_fits s f i (Declare x y) below id known act = record {
-  range = and_from (nat_lt f s.frames && is_id i && nat_le x 3 && nat_le 1 y) (nat_le y 120)
-      (and_from (nat_lt f s.frames && is_id i && nat_le x 3) (nat_le 1 y) (stream_from s f i x below id act.0) (le-leb 1 y act.1)) (le-leb y 120 act.2);
-  known = known;
-}
-act_fits s f i (Leave x) below id known act = record { range = stream_from s f i x below id act; known = known }
-act_fits s f i (Put x b) below id known act = record {
-  range = and_from (nat_lt f s.frames && is_id i && nat_le x 3) (is_short s.profile (Some b)) (stream_from s f i x below id act.0)
-      (le-leb (length b) s.profile.payload_max act.1);
+act_fits s f i a below id known act = record {
+  range = and_from (nat_lt f s.frames && is_id i) (act_in_range s.profile (written a)) (told_from s f i below id) (in_range_from s.profile a act);
   known = known;
 }
 

@@ -16,8 +16,9 @@ use Rattle.text_readers.specs.Reading.{draft_after_line}
 use Rattle.scenario_text.specs.Network.{is_id, network_parts, network_line, rates_by_node}
 use Rattle.scenario_text.specs.Payloads.{is_payload, payload, payload_bytes, hex_bytes, hex_value}
 use Rattle.scenario_text.specs.ScenarioGrammar.{Scenario, no_scenario, last_tick, line_fault, with_scenario_line, after_spelled}
-use Rattle.scenario_text.specs.ScenarioGrammar.{scenario_after_words, scenario_line, script_line, step_line, put_line, scenario_numbers}
-use Rattle.scenario_text.specs.ScenarioGrammar.{first_word_is, whole_scenario, finished_parts, if_small, scenario_of, IsScenario}
+use Rattle.scenario_text.specs.ScriptGrammar.{first_word_is, script_line, step_line, put_line, script_of}
+use Rattle.scenario_text.specs.ScenarioGrammar.{scenario_after_words, scenario_line, scenario_numbers}
+use Rattle.scenario_text.specs.ScenarioGrammar.{whole_scenario, finished_parts, if_small, scenario_of, IsScenario}
 use Rattle.scenario_text.specs.ScenarioParts.{ScenarioParts}
 use Rattle.scenario_text.specs.Canonical.{canonical}
 use Rattle.text_readers.specs.declared.fault.FaultKind.{FaultKind}
@@ -25,8 +26,9 @@ use Rattle.text_readers.specs.declared.fault.FaultKind.TheVariants.{Missing, Too
 use Rattle.scenario_text.specs.declared.lines.NodeLine.{NodeLine}
 use Rattle.scenario_text.specs.declared.lines.RateLine.{RateLine}
 use Rattle.scenario_text.specs.declared.scenario_line.ScenarioLine.{ScenarioLine}
-use Rattle.scenario_text.specs.declared.scenario_line.ScenarioLine.TheVariants.{InNetwork, Profile, Contend, Frames, Host, On, Off}
-use Rattle.scenario_text.specs.declared.scenario_line.ScenarioLine.TheVariants.{Stream, Leave, Put, Lose, Cut, Capture}
+use Rattle.scenario_text.specs.declared.scenario_line.ScenarioLine.TheVariants.{InNetwork, Profile, Contend, Frames, Host, Script}
+use Rattle.scenario_text.specs.declared.scenario_line.ScenarioLine.TheVariants.{Lose, Cut, Capture}
+use Rattle.scenario_text.specs.declared.written_act.WrittenAct.TheVariants.{On, Off, Stream, Leave, Put}
 use Rattle.text_readers.proofs.AllowedLines.{unless_keeps, spelled_keeps}
 use Rattle.text_readers.proofs.LinesRead.{line_keeps, lines_keep}
 use Rattle.scenario_text.proofs.RatesKept.{map_all, all_by_node}
@@ -49,9 +51,9 @@ are_bytes [] = tt
 are_bytes (a ∷ []) = tt
 are_bytes (a ∷ b ∷ w) = (omega (arith, hex_small a, hex_small b), are_bytes w)
 
-payload_read : (f i s : ℕ) (w : List ℕ) → IsRead (Put f i s (payload w))
+payload_read : (f i s : ℕ) (w : List ℕ) → IsRead (Script f i (Put s (payload w)))
 payload_read f i s w =
-    cond_both (nat_le (length (payload_bytes w)) 96) (Some (payload_bytes w)) None (λ (o : Option (List ℕ)). IsRead (Put f i s o))
+    cond_both (nat_le (length (payload_bytes w)) 96) (Some (payload_bytes w)) None (λ (o : Option (List ℕ)). IsRead (Script f i (Put s o)))
     (λ short. cond_both (bytes_eq w (codes "-")) [] (hex_bytes w) (AllByRecursion (λ b. b < 256)) (λ dash. tt) (λ other. are_bytes w)) (λ long. tt)
 
 either : (b : Bool) (x y : Option ScenarioLine) → IfSome x IsRead → IfSome y IsRead → IfSome (if b then x else y) IsRead
@@ -72,13 +74,13 @@ line_read ws =
     (either (first_word_is ws (codes "contend")) _ _ (counted_read 2 ws (Contend (number_at ws 1)) tt)
     (either (first_word_is ws (codes "frames")) _ _ (counted_read 2 ws (Frames (number_at ws 1)) tt)
     (either (first_word_is ws (codes "host")) _ _ (counted_read 3 ws (Host (number_at ws 1) (number_at ws 2)) tt)
-    (either (first_word_is ws (codes "on")) _ _ (counted_read 3 ws (On (number_at ws 1) (number_at ws 2)) tt)
-    (either (first_word_is ws (codes "off")) _ _ (counted_read 3 ws (Off (number_at ws 1) (number_at ws 2)) tt)
-    (either (first_word_is ws (codes "stream")) _ _ (counted_read 5 ws (Stream (number_at ws 1) (number_at ws 2) (number_at ws 3) (number_at ws 4)) tt)
-    (either (first_word_is ws (codes "leave")) _ _ (counted_read 4 ws (Leave (number_at ws 1) (number_at ws 2) (number_at ws 3)) tt)
+    (either (first_word_is ws (codes "on")) _ _ (counted_read 3 ws (script_of ws On) tt)
+    (either (first_word_is ws (codes "off")) _ _ (counted_read 3 ws (script_of ws Off) tt)
+    (either (first_word_is ws (codes "stream")) _ _ (counted_read 5 ws (script_of ws (Stream (number_at ws 3) (number_at ws 4))) tt)
+    (either (first_word_is ws (codes "leave")) _ _ (counted_read 4 ws (script_of ws (Leave (number_at ws 3))) tt)
     (either (first_word_is ws (codes "put")) _ _
     (either (is_payload (word ws 4)) _ None
-    (counted_read 5 ws (Put (number_at ws 1) (number_at ws 2) (number_at ws 3) (payload (word ws 4)))
+    (counted_read 5 ws (script_of ws (Put (number_at ws 3) (payload (word ws 4))))
     (payload_read (number_at ws 1) (number_at ws 2) (number_at ws 3) (word ws 4))) tt)
     (either (first_word_is ws (codes "lose")) _ _
     (counted_read 6 ws (Lose (number_at ws 1) (number_at ws 2) (number_at ws 3) (number_at ws 4) (number_at ws 5)) tt)

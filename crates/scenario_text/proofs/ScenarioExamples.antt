@@ -7,7 +7,8 @@ use Rattle.link_trace.specs.Sealed.{no_lines}
 use Rattle.scenario_text.specs.Network.{network_line}
 use Rattle.scenario_text.specs.Payloads.{is_payload, payload}
 use Rattle.scenario_text.specs.ScenarioParts.{ScenarioParts}
-use Rattle.scenario_text.specs.ScenarioGrammar.{scenario_of, scenario_after_words, scenario_line, script_line, step_line, put_line}
+use Rattle.scenario_text.specs.ScriptGrammar.{script_line, step_line, put_line}
+use Rattle.scenario_text.specs.ScenarioGrammar.{scenario_of, scenario_after_words, scenario_line}
 use Rattle.text_readers.specs.Reading.{draft_after_line}
 use Rattle.text_readers.specs.declared.fault.FaultKind.{FaultKind}
 use Rattle.text_readers.specs.declared.fault.FaultKind.TheVariants.{NotUtf8, BadWord, BadNumber, Range, UnknownNode, Order, Twice, Missing}

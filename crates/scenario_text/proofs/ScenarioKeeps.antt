@@ -12,8 +12,9 @@ use Rattle.scenario_text.specs.ScenarioGrammar.{no_scenario, scenario_line, scen
 use Rattle.text_readers.specs.Faults.{draft_after_lines}
 use Rattle.text_readers.specs.Reading.{draft_after_line}
 use Rattle.scenario_text.specs.declared.scenario_line.ScenarioLine.{ScenarioLine}
-use Rattle.scenario_text.specs.declared.scenario_line.ScenarioLine.TheVariants.{InNetwork, Profile, Contend, Frames, Host, On, Off}
-use Rattle.scenario_text.specs.declared.scenario_line.ScenarioLine.TheVariants.{Stream, Leave, Put, Lose, Cut, Capture}
+use Rattle.scenario_text.specs.declared.scenario_line.ScenarioLine.TheVariants.{InNetwork, Profile, Contend, Frames, Host, Script}
+use Rattle.scenario_text.specs.declared.scenario_line.ScenarioLine.TheVariants.{Lose, Cut, Capture}
+use Rattle.scenario_text.specs.declared.written_act.WrittenAct.TheVariants.{On, Off, Stream, Leave, Put}
 use Rattle.scenario_text.proofs.FloodKeeps.{network_keeps}
 use Rattle.text_readers.proofs.AllowedLines.{unless_keeps, spelled_keeps}
 use Rattle.text_readers.proofs.LinesRead.{line_keeps, lines_keep}
@@ -36,12 +37,12 @@ added_keeps d (Profile p) sound none =
 added_keeps d (Contend c) sound none = record { network = sound.network; frame = omega arith }
 added_keeps d (Frames f) sound none = record { network = sound.network; frame = sound.frame }
 added_keeps d (Host r i) sound none = record { network = sound.network; frame = sound.frame }
-added_keeps d (On f i) sound none = record { network = kept d.network sound.network; frame = sound.frame }
-added_keeps d (Off f i) sound none = record { network = kept d.network sound.network; frame = sound.frame }
-added_keeps d (Stream f i s n) sound none = record { network = kept d.network sound.network; frame = sound.frame }
-added_keeps d (Leave f i s) sound none = record { network = kept d.network sound.network; frame = sound.frame }
-added_keeps d (Put f i s (Some p)) sound none = record { network = kept d.network sound.network; frame = sound.frame }
-added_keeps d (Put f i s None) sound none = record { network = sound.network; frame = sound.frame }
+added_keeps d (Script f i On) sound none = record { network = kept d.network sound.network; frame = sound.frame }
+added_keeps d (Script f i Off) sound none = record { network = kept d.network sound.network; frame = sound.frame }
+added_keeps d (Script f i (Stream s n)) sound none = record { network = kept d.network sound.network; frame = sound.frame }
+added_keeps d (Script f i (Leave s)) sound none = record { network = kept d.network sound.network; frame = sound.frame }
+added_keeps d (Script f i (Put s (Some p))) sound none = record { network = kept d.network sound.network; frame = sound.frame }
+added_keeps d (Script f i (Put s None)) sound none = record { network = sound.network; frame = sound.frame }
 added_keeps d (Lose f j k u v) sound none = record { network = kept d.network sound.network; frame = sound.frame }
 added_keeps d (Cut f j k i) sound none = record { network = kept d.network sound.network; frame = sound.frame }
 added_keeps d (Capture f j k a b) sound none = record { network = kept d.network sound.network; frame = sound.frame }

@@ -17,7 +17,8 @@ use Rattle.link_trace.specs.declared.lines.CaptureLine.{CaptureLine}
 use Rattle.scenario_text.specs.FloodDrafts.{Climbs}
 use Rattle.scenario_text.specs.Network.{is_id, are_ends}
 use Rattle.scenario_text.specs.Canonical.{script_words, act_words, loss_words, cut_words, capture_words}
-use Rattle.scenario_text.specs.ScenarioGrammar.{Scenario, greatest_slot_of, is_step, last_script_line, with_scenario_line}
+use Rattle.scenario_text.specs.ScriptGrammar.{act_of}
+use Rattle.scenario_text.specs.ScenarioGrammar.{Scenario, greatest_slot_of, is_step, last_script_line, may_take, with_scenario_line}
 use Rattle.scenario_text.specs.ScenarioParts.{ScenarioParts}
 use Rattle.scenario_text.specs.declared.lines.RateLine.{RateLine}
 use Rattle.scenario_text.specs.declared.script.ScriptLine.{ScriptLine}
@@ -26,7 +27,7 @@ use Rattle.scenario_text.specs.declared.script.Act.TheVariants.{On, Off, Declare
 use Rattle.scenario_text.proofs.NumbersBack.{payload_back}
 use Rattle.scenario_text.proofs.LinesSaid.{Says, Small, says_on, says_off, says_stream, says_leave, says_put, says_lose, says_cut, says_capture}
 use Rattle.scenario_text.proofs.LineRuns.{Step, step, Allowed, Goes, goes_list, middle, climbs_before, with_line_last, none_among}
-use Rattle.scenario_text.proofs.CanonicalFacts.{Power, no_power, after_act, can_boot, power_after, Boots, mid, said_act, said_loss}
+use Rattle.scenario_text.proofs.CanonicalFacts.{Power, no_power, after_act, can_boot, power_after, Boots, mid, written, said_act, said_loss}
 use Rattle.scenario_text.proofs.CanonicalFacts.{said_cut, said_capture, Fits, HasBytes, FitsAct, judge, KeepsRules}
 use Rattle.scenario_text.proofs.CanonicalGoes.{small_id, small_ends, of_links}
 
@@ -54,16 +55,24 @@ not_later f ls all = by_last (last_script_line ls) (found_holds (λ l. l.frame �
     by_last None holds = refl
     by_last (Some l) holds = le-leb l.frame f holds
 
+same_room : (s : ScenarioParts) (hs : List ℕ) (rs : List RateLine) (t : Lines) (ls : List ScriptLine) (w : Power) (n i : ℕ) (a : Act)
+    → option_map_or (may_take (mid s s.nodes rs hs t ls w n) i) (act_of (written a)) true ≡ can_boot w i a
+same_room s hs rs t ls w n i On = refl
+same_room s hs rs t ls w n i Off = refl
+same_room s hs rs t ls w n i (Declare x y) = refl
+same_room s hs rs t ls w n i (Leave x) = refl
+same_room s hs rs t ls w n i (Put x p) = refl
+
 act_allowed : (s : ScenarioParts) (hs : List ℕ) (rs : List RateLine) (t : Lines) (ls : List ScriptLine) (w : Power) (n f i : ℕ) (a : Act)
     → Fits (judge s) (said_act f i a) → option_map_or (λ l. nat_le l.frame f) (last_script_line ls) true ≡ true → nat_lt n 20000 ≡ true → can_boot w i a ≡ true
     → Allowed (mid s s.nodes rs hs t ls w n) (said_act f i a)
-act_allowed s hs rs t ls w n f i On fits order room boot =
-    record { range = fits.range; known = fits.known; order = order; fresh = refl; room = and_from _ _ room boot }
-act_allowed s hs rs t ls w n f i Off fits order room boot = record { range = fits.range; known = fits.known; order = order; fresh = refl; room = room }
-act_allowed s hs rs t ls w n f i (Declare x y) fits order room boot =
-    record { range = fits.range; known = fits.known; order = order; fresh = refl; room = room }
-act_allowed s hs rs t ls w n f i (Leave x) fits order room boot = record { range = fits.range; known = fits.known; order = order; fresh = refl; room = room }
-act_allowed s hs rs t ls w n f i (Put x p) fits order room boot = record { range = fits.range; known = fits.known; order = order; fresh = refl; room = room }
+act_allowed s hs rs t ls w n f i a fits order room boot = record {
+  range = fits.range;
+  known = fits.known;
+  order = order;
+  fresh = refl;
+  room = and_from _ _ room (same_room s hs rs t ls w n i a ∙ boot);
+}
 
 act_next : (s : ScenarioParts) (hs : List ℕ) (rs : List RateLine) (t : Lines) (ls : List ScriptLine) (w : Power) (n f i : ℕ) (a : Act)
     → with_scenario_line (mid s s.nodes rs hs t ls w n) (said_act f i a)
@@ -79,14 +88,20 @@ payload_bound p (inl is) = subst (λ (q : Numbers). q.payload_max ≤ 96) (sym i
 payload_bound p (inr is) = subst (λ (q : Numbers). q.payload_max ≤ 96) (sym is.0) (omega arith)
 
 act_says : (s : ScenarioParts) (f i : ℕ) (a : Act) → KeepsRules s → Fits (judge s) (said_act f i a) → HasBytes a → Says (act_words f i a) (said_act f i a)
-act_says s f i On is fits bytes = let p = and_parts (nat_lt f s.frames) (is_id i) fits.range in says_on f i (frame_small s f is p.0) (small_id i p.1)
-act_says s f i Off is fits bytes = let p = and_parts (nat_lt f s.frames) (is_id i) fits.range in says_off f i (frame_small s f is p.0) (small_id i p.1)
-act_says s f i (Declare x y) is fits bytes =
-    let o = and_parts (nat_lt f s.frames && is_id i && nat_le x 3 && nat_le 1 y) (nat_le y 120) fits.range in
-    let q = and_parts (nat_lt f s.frames && is_id i && nat_le x 3) (nat_le 1 y) o.0 in
-    let r = and_parts (nat_lt f s.frames && is_id i) (nat_le x 3) q.0 in
+act_says s f i On is fits bytes =
+    let r = and_parts (nat_lt f s.frames && is_id i) true fits.range in
     let p = and_parts (nat_lt f s.frames) (is_id i) r.0 in
-    let stream = leb-true x 3 r.1 in
+    says_on f i (frame_small s f is p.0) (small_id i p.1)
+act_says s f i Off is fits bytes =
+    let r = and_parts (nat_lt f s.frames && is_id i) true fits.range in
+    let p = and_parts (nat_lt f s.frames) (is_id i) r.0 in
+    says_off f i (frame_small s f is p.0) (small_id i p.1)
+act_says s f i (Declare x y) is fits bytes =
+    let r = and_parts (nat_lt f s.frames && is_id i) (nat_le x 3 && nat_le 1 y && nat_le y 120) fits.range in
+    let o = and_parts (nat_le x 3 && nat_le 1 y) (nat_le y 120) r.1 in
+    let q = and_parts (nat_le x 3) (nat_le 1 y) o.0 in
+    let p = and_parts (nat_lt f s.frames) (is_id i) r.0 in
+    let stream = leb-true x 3 q.0 in
     let interval = leb-true y 120 o.1 in
     says_stream f i x y (frame_small s f is p.0) (small_id i p.1) (omega (arith, stream)) (omega (arith, interval))
 act_says s f i (Leave x) is fits bytes =
@@ -95,10 +110,10 @@ act_says s f i (Leave x) is fits bytes =
     let stream = leb-true x 3 r.1 in
     says_leave f i x (frame_small s f is p.0) (small_id i p.1) (omega (arith, stream))
 act_says s f i (Put x b) is fits bytes =
-    let o = and_parts (nat_lt f s.frames && is_id i && nat_le x 3) (nat_le (length b) s.profile.payload_max) fits.range in
-    let r = and_parts (nat_lt f s.frames && is_id i) (nat_le x 3) o.0 in
+    let r = and_parts (nat_lt f s.frames && is_id i) (nat_le x 3 && nat_le (length b) s.profile.payload_max) fits.range in
+    let o = and_parts (nat_le x 3) (nat_le (length b) s.profile.payload_max) r.1 in
     let p = and_parts (nat_lt f s.frames) (is_id i) r.0 in
-    let stream = leb-true x 3 r.1 in
+    let stream = leb-true x 3 o.0 in
     let long = leb-true (length b) s.profile.payload_max o.1 in
     let most = payload_bound s.profile is.profile in
     says_put f i x b (frame_small s f is p.0) (small_id i p.1) (omega (arith, stream)) (payload_back b bytes (omega (arith, long, most)))

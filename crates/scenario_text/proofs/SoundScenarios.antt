@@ -5,18 +5,20 @@ use Rattle.std.proofs.lemmas.List.Elements.{All-from_recursion}
 use Rattle.std.specs.Int.RustNames.{unsigned_abs}
 use Rattle.std.specs.List.{AllByRecursion}
 use Rattle.std.specs.declared.cmp.Ordering.TheVariants.{Less}
+use Rattle.lwb_base.specs.Profile.{Numbers}
 use Rattle.link_trace.specs.Order.{by_link, by_loss, by_cut, by_capture}
 use Rattle.link_trace.specs.declared.lines.LoseLine.{LoseLine}
 use Rattle.link_trace.specs.declared.lines.CutLine.{CutLine}
 use Rattle.link_trace.specs.declared.lines.CaptureLine.{CaptureLine}
 use Rattle.scenario_text.specs.FloodParts.{knows}
 use Rattle.scenario_text.specs.Network.{is_id, are_ends}
-use Rattle.scenario_text.specs.ScenarioFacts.{AreEnds, IsStepOf, IsScriptLine, IsSoundScenario}
+use Rattle.scenario_text.specs.ScenarioFacts.{AreEnds, IsStepOf, IsAct, IsScriptLine, IsSoundScenario}
+use Rattle.scenario_text.specs.ScriptGrammar.{act_in_range}
 use Rattle.scenario_text.specs.ScenarioGrammar.{last_tick, greatest_slot_of, is_step, IsScenario}
 use Rattle.scenario_text.specs.ScenarioParts.{ScenarioParts}
 use Rattle.scenario_text.specs.declared.script.Act.{Act}
 use Rattle.scenario_text.specs.declared.script.Act.TheVariants.{On, Off, Declare, Leave, Put}
-use Rattle.scenario_text.proofs.CanonicalFacts.{IsNode, IsRateOf, IsHost, Fits, FitsAct, said_act, said_link}
+use Rattle.scenario_text.proofs.CanonicalFacts.{IsNode, IsRateOf, IsHost, Fits, FitsAct, written, said_act, said_link}
 use Rattle.scenario_text.proofs.CanonicalFacts.{said_loss, said_cut, said_capture, judge, KeepsRules}
 use Rattle.scenario_text.proofs.CanonicalGoes.{frame_bound}
 use Rattle.scenario_text.proofs.TraceKept.{ends_differ}
@@ -54,29 +56,22 @@ capture_is s l fits =
     let p = and_parts (is_step (judge s) l.frame l.slot l.step) (are_ends l.at l.from) fits.range in
     (step_is s l.frame l.slot l.step p.0, ends_are s l.at l.from p.1 fits.known)
 
+in_range_is : (p : Numbers) (a : Act) → act_in_range p (written a) ≡ true → IsAct p a
+in_range_is p On range = tt
+in_range_is p Off range = tt
+in_range_is p (Declare x y) range =
+    let o = and_parts (nat_le x 3 && nat_le 1 y) (nat_le y 120) range in
+    let q = and_parts (nat_le x 3) (nat_le 1 y) o.0 in
+    (leb-true x 3 q.0, leb-true 1 y q.1, leb-true y 120 o.1)
+in_range_is p (Leave x) range = leb-true x 3 range
+in_range_is p (Put x b) range =
+    let o = and_parts (nat_le x 3) (nat_le (length b) p.payload_max) range in
+    (leb-true x 3 o.0, leb-true (length b) p.payload_max o.1)
+
 act_is : (s : ScenarioParts) (f i : ℕ) (a : Act) → Fits (judge s) (said_act f i a) → IsScriptLine s (record { frame = f; node = i; act = a })
-act_is s f i On fits = record { in_run = ltb-true f s.frames (and_parts (nat_lt f s.frames) (is_id i) fits.range).0; known = fits.known; act = tt }
-act_is s f i Off fits = record { in_run = ltb-true f s.frames (and_parts (nat_lt f s.frames) (is_id i) fits.range).0; known = fits.known; act = tt }
-act_is s f i (Declare x y) fits =
-    let o = and_parts (nat_lt f s.frames && is_id i && nat_le x 3 && nat_le 1 y) (nat_le y 120) fits.range in
-    let q = and_parts (nat_lt f s.frames && is_id i && nat_le x 3) (nat_le 1 y) o.0 in
-    let r = and_parts (nat_lt f s.frames && is_id i) (nat_le x 3) q.0 in
-    record {
-      in_run = ltb-true f s.frames (and_parts (nat_lt f s.frames) (is_id i) r.0).0;
-      known = fits.known;
-      act = (leb-true x 3 r.1, leb-true 1 y q.1, leb-true y 120 o.1);
-    }
-act_is s f i (Leave x) fits =
-    let r = and_parts (nat_lt f s.frames && is_id i) (nat_le x 3) fits.range in
-    record { in_run = ltb-true f s.frames (and_parts (nat_lt f s.frames) (is_id i) r.0).0; known = fits.known; act = leb-true x 3 r.1 }
-act_is s f i (Put x b) fits =
-    let o = and_parts (nat_lt f s.frames && is_id i && nat_le x 3) (nat_le (length b) s.profile.payload_max) fits.range in
-    let r = and_parts (nat_lt f s.frames && is_id i) (nat_le x 3) o.0 in
-    record {
-      in_run = ltb-true f s.frames (and_parts (nat_lt f s.frames) (is_id i) r.0).0;
-      known = fits.known;
-      act = (leb-true x 3 r.1, leb-true (length b) s.profile.payload_max o.1);
-    }
+act_is s f i a fits =
+    let r = and_parts (nat_lt f s.frames && is_id i) (act_in_range s.profile (written a)) fits.range in
+    record { in_run = ltb-true f s.frames (and_parts (nat_lt f s.frames) (is_id i) r.0).0; known = fits.known; act = in_range_is s.profile a r.1 }
 
 small_node : (s : ScenarioParts) (i : ℕ) → KeepsRules s → knows s.nodes i ≡ true → i ≤ 200
 small_node s i is known = (id_range i (known_id s.nodes i (map_all IsNode (λ n. is_id n.node ≡ true) s.nodes (λ n node. node.id) is.nodes) known)).1

@@ -4,14 +4,16 @@ use Rattle.std.proofs.Common.{Option, Result, Ok, Err, Bor, length, get_or, refl
 use Rattle.text_readers.specs.Faults.{spelled, ◌>>=◌}
 use Rattle.scenario_text.specs.Network.{network_numbers}
 use Rattle.scenario_text.specs.Payloads.{is_payload, payload}
-use Rattle.scenario_text.specs.ScenarioGrammar.{put_line, scenario_numbers}
+use Rattle.scenario_text.specs.ScriptGrammar.{put_line}
+use Rattle.scenario_text.specs.ScenarioGrammar.{scenario_numbers}
 use Rattle.text_readers.specs.Words.{line_of_words, word, is_number, number, number_at, is_signed, has_minus, magnitude}
 use Rattle.text_readers.specs.declared.fault.FaultKind.{FaultKind}
 use Rattle.text_readers.specs.declared.fault.FaultKind.TheVariants.{BadNumber}
 use Rattle.scenario_text.specs.declared.network_line.NetworkLine.{NetworkLine}
 use Rattle.scenario_text.specs.declared.network_line.NetworkLine.TheVariants.{Rate}
 use Rattle.scenario_text.specs.declared.scenario_line.ScenarioLine.{ScenarioLine}
-use Rattle.scenario_text.specs.declared.scenario_line.ScenarioLine.TheVariants.{Put}
+use Rattle.scenario_text.specs.declared.scenario_line.ScenarioLine.TheVariants.{Script}
+use Rattle.scenario_text.specs.declared.written_act.WrittenAct.TheVariants.{Put}
 use Rattle.text_readers.proofs.NumbersRead.{read, bytes_of}
 
 -- what a word says that may have a `-`
@@ -51,12 +53,12 @@ pub put_read : (vs : List (Bor (List ℕ))) (z : Bor (List ℕ)) (p q r : Result
     → 5 ≤ length vs → length vs < 6 → is_payload (word (bytes_of vs) 4) ≡ true → o ≡ payload (word (bytes_of vs) 4)
     → p ≡ read (get_or vs 1 z).now → q ≡ read (get_or vs 2 z).now → r ≡ read (get_or vs 3 z).now
     → ◌≡◌ {A = Result ScenarioLine FaultKind} (spelled (put_line (bytes_of vs)) (λ l. scenario_numbers l (bytes_of vs)))
-    (p >>= (λ f. q >>= (λ i. r >>= (λ s. Ok (Put f i s o)))))
+    (p >>= (λ f. q >>= (λ i. r >>= (λ s. Ok (Script f i (Put s o))))))
 unfolding put_line
 put_read (h ∷ u ∷ v ∷ w ∷ x ∷ []) z p q r o least below pays is_o is_p is_q is_r =
     rw (pays, is_o, is_p, is_q, is_r)
     (three_tests (is_number u.now) (is_number v.now) (is_number w.now) (number u.now) (number v.now) (number w.now)
-    (λ f i s. Put f i s (payload x.now)))
+    (λ f i s. Script f i (Put s (payload x.now))))
 put_read [] z p q r o least below pays is_o is_p is_q is_r = absurd (omega (arith, least))
 put_read (h ∷ []) z p q r o least below pays is_o is_p is_q is_r = absurd (omega (arith, least))
 put_read (h ∷ u ∷ []) z p q r o least below pays is_o is_p is_q is_r = absurd (omega (arith, least))

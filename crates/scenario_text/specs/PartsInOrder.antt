@@ -14,7 +14,7 @@ use Rattle.scenario_text.specs.ScenarioParts.{ScenarioParts}
 use Rattle.scenario_text.specs.declared.lines.NodeLine.{NodeLine}
 use Rattle.scenario_text.specs.declared.lines.RateLine.{RateLine}
 use Rattle.scenario_text.specs.declared.script.Act.{Act}
-use Rattle.scenario_text.specs.declared.script.Act.TheVariants.{On, Off, Declare, Leave, Put}
+use Rattle.scenario_text.specs.declared.script.Act.TheVariants.{Put}
 
 pub record IsNodeLine (n : NodeLine) : Type 0 where
   pub id : (1 ≤ n.node) × (n.node ≤ GREATEST_ID)
@@ -31,11 +31,8 @@ by_rate a b = ordering_then (nat_cmp a.node b.node) (nat_cmp a.from b.from)
 
 -- the payload of a put
 abbrev pub carried : Act → List ℕ
-carried On = []
-carried Off = []
-carried (Declare stream interval) = []
-carried (Leave stream) = []
 carried (Put stream payload) = payload
+carried other = []
 
 -- the script lines of all kinds
 abbrev pub script_lines : ScenarioParts → ℕ

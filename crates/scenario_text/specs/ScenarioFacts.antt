@@ -42,9 +42,7 @@ pub record IsScriptLine (s : ScenarioParts) (l : ScriptLine) : Type 0 where
 abbrev pub turned_by : Act → Bool × ℕ → Bool × ℕ
 turned_by On t = (true, if t.0 then t.1 else t.1 + 1)
 turned_by Off t = (false, t.1)
-turned_by (Declare stream interval) t = t
-turned_by (Leave stream) t = t
-turned_by (Put stream payload) t = t
+turned_by other t = t
 
 -- and after these lines of a script
 abbrev pub turned : ℕ → Bool × ℕ → List ScriptLine → Bool × ℕ

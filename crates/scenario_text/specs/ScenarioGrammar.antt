@@ -14,7 +14,7 @@ use Rattle.scenario_text.specs.FloodParts.{knows}
 use Rattle.scenario_text.specs.ScenarioParts.{ScenarioParts}
 use Rattle.text_readers.specs.Faults.{first_fault, unless_fault, spelled, in_line, ◌>>=◌, draft_after_lines}
 use Rattle.text_readers.specs.Reading.{draft_after_line}
-use Rattle.scenario_text.specs.Payloads.{is_payload, payload}
+use Rattle.scenario_text.specs.ScriptGrammar.{first_word_is, script_line, act_numbers, act_in_range, act_of}
 use Rattle.text_readers.specs.Words.{word, is_number, number_at, line_of_words}
 use Rattle.scenario_text.specs.Network.{DraftedNetwork, Parts, network_parts, network_line, network_numbers, no_network, is_id, are_ends}
 use Rattle.scenario_text.specs.Network.{has_loss, has_cut, has_capture, has_script_room, with_network_line, with_loss_at, with_cut_at}
@@ -22,40 +22,11 @@ use Rattle.scenario_text.specs.Network.{with_capture_at, with_script_line, numbe
 use Rattle.text_readers.specs.declared.fault.FaultKind.{FaultKind}
 use Rattle.text_readers.specs.declared.fault.FaultKind.TheVariants.{Range, UnknownNode, Order, Twice, TooMany, Missing, TooBig}
 use Rattle.scenario_text.specs.declared.scenario_line.ScenarioLine.{ScenarioLine}
-use Rattle.scenario_text.specs.declared.scenario_line.ScenarioLine.TheVariants.{InNetwork, Profile, Contend, Frames, Host, On, Off}
-use Rattle.scenario_text.specs.declared.scenario_line.ScenarioLine.TheVariants.{Stream, Leave, Put, Lose, Cut, Capture}
+use Rattle.scenario_text.specs.declared.scenario_line.ScenarioLine.TheVariants.{InNetwork, Profile, Contend, Frames, Host, Script}
+use Rattle.scenario_text.specs.declared.scenario_line.ScenarioLine.TheVariants.{Lose, Cut, Capture}
 use Rattle.scenario_text.specs.declared.script.ScriptLine.{ScriptLine}
 use Rattle.scenario_text.specs.declared.script.Act.{Act}
 use Rattle.scenario_text.specs.declared.script.Act.TheVariants as act
-
-abbrev pub first_word_is : List (List ℕ) → List ℕ → Bool
-first_word_is ws letters = bytes_eq (word ws 0) letters
-
--- what the words after `put` say, if they are those of such a line
-unfoldable pub put_line : List (List ℕ) → Option ScenarioLine
-put_line ws =
-    if is_payload (word ws 4)
-    then line_of_words 5 ws (Put (number_at ws 1) (number_at ws 2) (number_at ws 3) (payload (word ws 4)))
-    else None
-
--- a line that names a step, or one that flood texts have too
-unfoldable pub step_line : List (List ℕ) → Option ScenarioLine
-step_line ws =
-    if first_word_is ws (codes "lose") then line_of_words 6 ws (Lose (number_at ws 1) (number_at ws 2) (number_at ws 3) (number_at ws 4) (number_at ws 5))
-    else if first_word_is ws (codes "cut") then line_of_words 5 ws (Cut (number_at ws 1) (number_at ws 2) (number_at ws 3) (number_at ws 4))
-    else if first_word_is ws (codes "capture") then line_of_words 6 ws
-    (Capture (number_at ws 1) (number_at ws 2) (number_at ws 3) (number_at ws 4) (number_at ws 5))
-    else option_map InNetwork (network_line ws)
-
--- a line of the script, or one of those
-unfoldable pub script_line : List (List ℕ) → Option ScenarioLine
-script_line ws =
-    if first_word_is ws (codes "on") then line_of_words 3 ws (On (number_at ws 1) (number_at ws 2))
-    else if first_word_is ws (codes "off") then line_of_words 3 ws (Off (number_at ws 1) (number_at ws 2))
-    else if first_word_is ws (codes "stream") then line_of_words 5 ws (Stream (number_at ws 1) (number_at ws 2) (number_at ws 3) (number_at ws 4))
-    else if first_word_is ws (codes "leave") then line_of_words 4 ws (Leave (number_at ws 1) (number_at ws 2) (number_at ws 3))
-    else if first_word_is ws (codes "put") then put_line ws
-    else step_line ws
 
 -- what the words say, if they are those of a line
 unfoldable pub scenario_line : List (List ℕ) → Option ScenarioLine
@@ -69,7 +40,7 @@ scenario_line ws =
 -- the numbers of the line are spelled right
 abbrev pub scenario_numbers : ScenarioLine → List (List ℕ) → Bool
 scenario_numbers (InNetwork l) ws = network_numbers l ws
-scenario_numbers (Put f i s p) ws = is_number (word ws 1) && is_number (word ws 2) && is_number (word ws 3)
+scenario_numbers (Script f i a) ws = act_numbers a ws
 scenario_numbers other ws = list_all is_number (drop 1 ws)
 
 -- what the lines above say: whether there are none, whether the last of them is `profile 2`, the profile, the frames, the
@@ -110,9 +81,6 @@ abbrev pub is_frame : Option ℕ → ℕ → Bool
 is_frame None f = nat_le f 4095
 is_frame (Some n) f = nat_lt f n
 
-abbrev pub is_short : Numbers → Option (List ℕ) → Bool
-is_short p payload = option_map_or (λ bytes. nat_le (length bytes) p.payload_max) payload false
-
 -- a step of a slot of a frame
 abbrev pub is_step : Scenario → ℕ → ℕ → ℕ → Bool
 is_step d f j k = is_frame d.frames f && nat_le j (greatest_slot_of d.profile) && nat_le k LAST_STEP
@@ -124,11 +92,7 @@ line_in_range d (Profile p) = nat_le 1 p && nat_le p 2
 line_in_range d (Contend c) = nat_le 1 c && nat_le c 4
 line_in_range d (Frames f) = nat_le 1 f && nat_le f 4096
 line_in_range d (Host r i) = nat_le r 3 && is_id i
-line_in_range d (On f i) = is_frame d.frames f && is_id i
-line_in_range d (Off f i) = is_frame d.frames f && is_id i
-line_in_range d (Stream f i s n) = is_frame d.frames f && is_id i && nat_le s 3 && nat_le 1 n && nat_le n 120
-line_in_range d (Leave f i s) = is_frame d.frames f && is_id i && nat_le s 3
-line_in_range d (Put f i s p) = is_frame d.frames f && is_id i && nat_le s 3 && is_short d.profile p
+line_in_range d (Script f i a) = is_frame d.frames f && is_id i && act_in_range d.profile a
 line_in_range d (Lose f j k u v) = is_step d f j k && are_ends u v
 line_in_range d (Cut f j k i) = is_step d f j k && is_id i
 line_in_range d (Capture f j k a b) = is_step d f j k && are_ends a b
@@ -140,11 +104,7 @@ line_knows_ids d (Profile p) = true
 line_knows_ids d (Contend c) = true
 line_knows_ids d (Frames f) = true
 line_knows_ids d (Host r i) = knows d.network.nodes i
-line_knows_ids d (On f i) = knows d.network.nodes i
-line_knows_ids d (Off f i) = knows d.network.nodes i
-line_knows_ids d (Stream f i s n) = knows d.network.nodes i
-line_knows_ids d (Leave f i s) = knows d.network.nodes i
-line_knows_ids d (Put f i s p) = knows d.network.nodes i
+line_knows_ids d (Script f i a) = knows d.network.nodes i
 line_knows_ids d (Lose f j k u v) = knows d.network.nodes u && knows d.network.nodes v
 line_knows_ids d (Cut f j k i) = knows d.network.nodes i
 line_knows_ids d (Capture f j k a b) = knows d.network.nodes a && knows d.network.nodes b
@@ -163,11 +123,7 @@ line_in_order d (Profile p) = d.first
 line_in_order d (Contend c) = d.after_two
 line_in_order d (Frames f) = true
 line_in_order d (Host r i) = nat_le r (length d.hosts)
-line_in_order d (On f i) = in_script_order d f
-line_in_order d (Off f i) = in_script_order d f
-line_in_order d (Stream f i s n) = in_script_order d f
-line_in_order d (Leave f i s) = in_script_order d f
-line_in_order d (Put f i s p) = in_script_order d f
+line_in_order d (Script f i a) = in_script_order d f
 line_in_order d (Lose f j k u v) = is_some d.frames
 line_in_order d (Cut f j k i) = is_some d.frames
 line_in_order d (Capture f j k a b) = is_some d.frames
@@ -179,11 +135,7 @@ line_is_new d (Profile p) = true
 line_is_new d (Contend c) = true
 line_is_new d (Frames f) = is_none d.frames
 line_is_new d (Host r i) = (r == length d.hosts) && not (list_any (λ h. h == i) d.hosts)
-line_is_new d (On f i) = true
-line_is_new d (Off f i) = true
-line_is_new d (Stream f i s n) = true
-line_is_new d (Leave f i s) = true
-line_is_new d (Put f i s p) = true
+line_is_new d (Script f i a) = true
 line_is_new d (Lose f j k u v) = not (has_loss d.network.trace f j k u v)
 line_is_new d (Cut f j k i) = not (has_cut d.network.trace f j k i)
 line_is_new d (Capture f j k a b) = not (has_capture d.network.trace f j k a)
@@ -194,6 +146,11 @@ node_is_on d i = slice_index_or d.on i false
 abbrev pub boots_of : Scenario → ℕ → ℕ
 boots_of d i = slice_index d.boots i
 
+-- a node that is off boots once more where that is not too often
+abbrev pub may_take : Scenario → ℕ → Act → Bool
+may_take d i act.On = node_is_on d i || nat_lt (boots_of d i) MOST_BOOTS
+may_take d i other = true
+
 -- there are not too many nodes, script lines or boots yet
 abbrev pub line_has_room : Scenario → ScenarioLine → Bool
 line_has_room d (InNetwork l) = has_room d.network l
@@ -201,11 +158,7 @@ line_has_room d (Profile p) = true
 line_has_room d (Contend c) = true
 line_has_room d (Frames f) = true
 line_has_room d (Host r i) = true
-line_has_room d (On f i) = has_script_room d.network && (node_is_on d i || nat_lt (boots_of d i) MOST_BOOTS)
-line_has_room d (Off f i) = has_script_room d.network
-line_has_room d (Stream f i s n) = has_script_room d.network
-line_has_room d (Leave f i s) = has_script_room d.network
-line_has_room d (Put f i s p) = has_script_room d.network
+line_has_room d (Script f i a) = has_script_room d.network && option_map_or (may_take d i) (act_of a) true
 line_has_room d (Lose f j k u v) = has_script_room d.network
 line_has_room d (Cut f j k i) = has_script_room d.network
 line_has_room d (Capture f j k a b) = has_script_room d.network
@@ -229,6 +182,17 @@ with_trace d t = record d { network = with_script_line d.network t }
 abbrev pub with_boot : Scenario → ℕ → Scenario
 with_boot d i = record d { on = slice_set d.on i true; boots = slice_set d.boots i (if node_is_on d i then boots_of d i else boots_of d i + 1) }
 
+-- the node is on, off, or as it was
+abbrev pub with_power : Scenario → ℕ → Act → Scenario
+with_power d i act.On = with_boot d i
+with_power d i act.Off = record d { on = slice_set d.on i false }
+with_power d i other = d
+
+-- with one more line of the script, if it says what the node has to do
+abbrev pub with_act_if : Scenario → ℕ → ℕ → Option Act → Scenario
+with_act_if d f i None = d
+with_act_if d f i (Some a) = with_act (with_power d i a) f i a
+
 -- what the lines say with an allowed line more
 abbrev pub line_added : Scenario → ScenarioLine → Scenario
 line_added d (InNetwork l) = record d { network = with_network_line d.network l }
@@ -236,12 +200,7 @@ line_added d (Profile p) = record d { profile = if p == 2 then contended 0 else 
 line_added d (Contend c) = record d { profile = contended c }
 line_added d (Frames f) = record d { frames = Some f }
 line_added d (Host r i) = record d { hosts = d.hosts ++ i ∷ [] }
-line_added d (On f i) = with_boot (with_act d f i act.On) i
-line_added d (Off f i) = record (with_act d f i act.Off) { on = slice_set d.on i false }
-line_added d (Stream f i s n) = with_act d f i (act.Declare s n)
-line_added d (Leave f i s) = with_act d f i (act.Leave s)
-line_added d (Put f i s (Some p)) = with_act d f i (act.Put s p)
-line_added d (Put f i s None) = d
+line_added d (Script f i a) = with_act_if d f i (act_of a)
 line_added d (Lose f j k u v) = with_trace d (with_loss_at f j k u v d.network.trace)
 line_added d (Cut f j k i) = with_trace d (with_cut_at f j k i d.network.trace)
 line_added d (Capture f j k a b) = with_trace d (with_capture_at f j k a b d.network.trace)

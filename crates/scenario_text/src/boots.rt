@@ -54,7 +54,7 @@ impl Boots {
                 self.on[id] = false;
                 true
             }
-            Act::Declare(_, _) | Act::Leave(_) | Act::Put(_, _) => true,
+            _ => true,
         }
     }
 

@@ -24,6 +24,7 @@ mod scenario_draft;
 mod scenario_line;
 mod script;
 mod script_writers;
+mod written_act;
 
 pub use added_lines::with_script;
 pub use flood::parse_flood;

@@ -105,21 +105,7 @@ impl ScenarioDraft {
             ScenarioLine::Contend { slots } => Ok(self.add_contend(slots)?),
             ScenarioLine::Frames { count } => Ok(self.add_frames(count)?),
             ScenarioLine::Host { rank, id } => self.add_host(rank, id),
-            ScenarioLine::On { frame, id } => self.add_on(frame, id),
-            ScenarioLine::Off { frame, id } => self.add_off(frame, id),
-            ScenarioLine::Stream {
-                frame,
-                id,
-                stream,
-                interval,
-            } => self.add_stream(frame, id, stream, interval),
-            ScenarioLine::Leave { frame, id, stream } => self.add_leave(frame, id, stream),
-            ScenarioLine::Put {
-                frame,
-                id,
-                stream,
-                payload,
-            } => self.add_put(frame, id, stream, payload),
+            ScenarioLine::Script { frame, id, act } => self.add_act(frame, id, act),
             ScenarioLine::Lose {
                 frame,
                 slot,

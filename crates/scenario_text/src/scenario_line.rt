@@ -2,17 +2,13 @@
 
 ghost use Rattle.std.specs.Prelude.{◌≡◌, map};
 ghost use Rattle.text_readers.specs.Faults.{spelled};
-ghost use Rattle.scenario_text.specs.ScenarioGrammar.{scenario_line as scenario_line_of, script_line as script_line_of};
-ghost use Rattle.scenario_text.specs.ScenarioGrammar.{step_line as step_line_of, put_line as put_line_of, scenario_numbers, is_profile_two};
+ghost use Rattle.scenario_text.specs.ScenarioGrammar.{scenario_line as scenario_line_of, scenario_numbers, is_profile_two};
+ghost use Rattle.scenario_text.specs.ScriptGrammar.{step_line as step_line_of};
 
 use crate::FaultKind;
 use crate::network_line::NetworkLine;
-use crate::payloads::{is_payload, payload};
-use lwb_base::Payload;
-use text_readers::{
-    five_numbers, four_numbers, is, number, one_number, refuse_unless, three_numbers, two_numbers,
-    word,
-};
+use crate::written_act::{WrittenAct, script_line};
+use text_readers::{five_numbers, four_numbers, is, one_number, two_numbers, word};
 
 /// A line of a scenario, with its numbers as written.
 #[derive(Drop)]
@@ -36,35 +32,11 @@ pub enum ScenarioLine {
         rank: u64,
         id: u64,
     },
-    /// At the start of the frame the node boots.
-    On {
+    /// At the start of the frame the node has to do this.
+    Script {
         frame: u64,
         id: u64,
-    },
-    /// At the start of the frame the node is powered off.
-    Off {
-        frame: u64,
-        id: u64,
-    },
-    /// From the frame on the node's stream has an interval of this number of seconds.
-    Stream {
-        frame: u64,
-        id: u64,
-        stream: u64,
-        interval: u64,
-    },
-    /// At the start of the frame the node's stream ends.
-    Leave {
-        frame: u64,
-        id: u64,
-        stream: u64,
-    },
-    /// The node's stream gets a payload to send. None where that is longer than any may be.
-    Put {
-        frame: u64,
-        id: u64,
-        stream: u64,
-        payload: Option<Payload>,
+        act: WrittenAct,
     },
     /// In that step the link is lost.
     Lose {
@@ -126,40 +98,9 @@ impl ScenarioLine {
     }
 }
 
-// What the words of a line of the script say, or of one that `step_line` knows.
-#[tactic(auto, unfolding(crate::specs::ScenarioGrammar::script_line))]
-fn script_line(words: &[&[u8]]) -> Result<ScenarioLine, FaultKind>
-    ensures { let ws = map (λ w. w.now) words.now in
-        result ≡ spelled (script_line_of ws) (λ l. scenario_numbers l ws) }
-{
-    let first = word(words, 0);
-    if is(first, b"on") {
-        let (frame, id) = two_numbers(words)?;
-        Ok(ScenarioLine::On { frame, id })
-    } else if is(first, b"off") {
-        let (frame, id) = two_numbers(words)?;
-        Ok(ScenarioLine::Off { frame, id })
-    } else if is(first, b"stream") {
-        let (frame, id, stream, interval) = four_numbers(words)?;
-        Ok(ScenarioLine::Stream {
-            frame,
-            id,
-            stream,
-            interval,
-        })
-    } else if is(first, b"leave") {
-        let (frame, id, stream) = three_numbers(words)?;
-        Ok(ScenarioLine::Leave { frame, id, stream })
-    } else if is(first, b"put") {
-        put_line(words)
-    } else {
-        step_line(words)
-    }
-}
-
-// What the words of a line say that names a step, or of one that flood texts have too.
-#[tactic(auto, unfolding(crate::specs::ScenarioGrammar::step_line))]
-fn step_line(words: &[&[u8]]) -> Result<ScenarioLine, FaultKind>
+/// What the words of a line say that names a step, or of one that flood texts have too.
+#[tactic(auto, unfolding(crate::specs::ScriptGrammar::step_line))]
+pub fn step_line(words: &[&[u8]]) -> Result<ScenarioLine, FaultKind>
     ensures { let ws = map (λ w. w.now) words.now in
         result ≡ spelled (step_line_of ws) (λ l. scenario_numbers l ws) }
 {
@@ -194,26 +135,4 @@ fn step_line(words: &[&[u8]]) -> Result<ScenarioLine, FaultKind>
         let line = NetworkLine::new(words)?;
         Ok(ScenarioLine::InNetwork(line))
     }
-}
-
-// What the words after `put` say. A payload that is misspelled comes before a number that is.
-#[tactic(auto, unfolding(crate::specs::ScenarioGrammar::put_line))]
-fn put_line(words: &[&[u8]]) -> Result<ScenarioLine, FaultKind>
-    ensures { let ws = map (λ w. w.now) words.now in
-        result ≡ spelled (put_line_of ws) (λ l. scenario_numbers l ws) }
-{
-    let hex = word(words, 4);
-    refuse_unless(is_payload(hex), FaultKind::BadWord)?;
-    let [_, frame, id, stream, _] = words else {
-        return Err(FaultKind::BadWord);
-    };
-    let frame = number(frame)?;
-    let id = number(id)?;
-    let stream = number(stream)?;
-    Ok(ScenarioLine::Put {
-        frame,
-        id,
-        stream,
-        payload: payload(hex),
-    })
 }

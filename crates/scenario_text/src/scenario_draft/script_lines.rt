@@ -7,83 +7,28 @@ ghost use Rattle.scenario_text.specs.FloodParts.{knows};
 ghost use Rattle.text_readers.specs.Faults.{first_fault, Refuses, RefusesBy};
 ghost use Rattle.scenario_text.specs.Network.{has_script_room, is_id as is_id_of};
 ghost use Rattle.scenario_text.specs.ScenarioGrammar.{line_fault, line_added, last_script_line, is_frame, in_script_order};
-ghost use Rattle.scenario_text.specs.ScenarioGrammar.{with_act, with_boot, node_is_on, boots_of};
+ghost use Rattle.scenario_text.specs.ScenarioGrammar.{may_take, with_act, with_boot, with_power, node_is_on, boots_of};
 ghost use Rattle.text_readers.specs.declared.fault.FaultKind.TheVariants.{Range, UnknownNode, Order, TooMany};
-ghost use Rattle.scenario_text.specs.declared.scenario_line.ScenarioLine.TheVariants.{On, Off, Stream, Leave, Put};
+ghost use Rattle.scenario_text.specs.declared.scenario_line.ScenarioLine.TheVariants.{Script};
 
 use super::ScenarioDraft;
 use crate::known_nodes::is_id;
+use crate::written_act::WrittenAct;
 use crate::{Act, FaultKind, ScriptLine};
-use lwb_base::{MOST_BOOTS, NodeId, Payload};
+use lwb_base::{MOST_BOOTS, NodeId};
 use text_readers::{Refusal, refuse_unless};
 
 impl ScenarioDraft {
-    pub(super) fn add_on(&mut self, frame: u64, id: u64) -> Result<(), Refusal>
-        ensures fault { Refuses result (line_fault self.old (On frame id)) }
-        ensures added { OnOk result (self.new ≡ line_added self.old (On frame id)) }
+    // A node is given something to do.
+    pub(super) fn add_act(&mut self, frame: u64, id: u64, act: WrittenAct) -> Result<(), Refusal>
+        ensures fault { Refuses result (line_fault self.old (Script frame id act)) }
+        ensures added { OnOk result (self.new ≡ line_added self.old (Script frame id act)) }
     {
+        let act = act.in_range(&self.profile)?;
         let (frame, node) = self.told_node(frame, id)?;
-        refuse_unless(self.can_boot(node), FaultKind::TooMany)?;
-        self.push_act(frame, node, Act::On)?;
-        self.boot(node);
-        Ok(())
-    }
-
-    pub(super) fn add_off(&mut self, frame: u64, id: u64) -> Result<(), Refusal>
-        ensures fault { Refuses result (line_fault self.old (Off frame id)) }
-        ensures added { OnOk result (self.new ≡ line_added self.old (Off frame id)) }
-    {
-        let (frame, node) = self.told_node(frame, id)?;
-        self.push_act(frame, node, Act::Off)?;
-        self.on[usize::from(node.number())] = false;
-        Ok(())
-    }
-
-    pub(super) fn add_stream(
-        &mut self,
-        frame: u64,
-        id: u64,
-        stream: u64,
-        interval: u64,
-    ) -> Result<(), Refusal>
-        ensures fault { Refuses result (line_fault self.old (Stream frame id stream interval)) }
-        ensures added { OnOk result (self.new ≡ line_added self.old (Stream frame id stream interval)) }
-    {
-        refuse_unless(
-            stream <= 3 && 1 <= interval && interval <= 120,
-            FaultKind::Range,
-        )?;
-        let (frame, node) = self.told_node(frame, id)?;
-        self.push_act(frame, node, Act::Declare(stream as u8, interval as u8))
-    }
-
-    pub(super) fn add_leave(&mut self, frame: u64, id: u64, stream: u64) -> Result<(), Refusal>
-        ensures fault { Refuses result (line_fault self.old (Leave frame id stream)) }
-        ensures added { OnOk result (self.new ≡ line_added self.old (Leave frame id stream)) }
-    {
-        refuse_unless(stream <= 3, FaultKind::Range)?;
-        let (frame, node) = self.told_node(frame, id)?;
-        self.push_act(frame, node, Act::Leave(stream as u8))
-    }
-
-    pub(super) fn add_put(
-        &mut self,
-        frame: u64,
-        id: u64,
-        stream: u64,
-        payload: Option<Payload>,
-    ) -> Result<(), Refusal>
-        ensures fault { Refuses result (line_fault self.old (Put frame id stream payload)) }
-        ensures added { OnOk result (self.new ≡ line_added self.old (Put frame id stream payload)) }
-    {
-        let payload = payload.ok_or(FaultKind::Range)?;
-        let longest = usize::from(self.profile.payload_max());
-        refuse_unless(
-            stream <= 3 && payload.bytes().len() <= longest,
-            FaultKind::Range,
-        )?;
-        let (frame, node) = self.told_node(frame, id)?;
-        self.push_act(frame, node, Act::Put(stream as u8, payload))
+        refuse_unless(self.may_take(node, &act), FaultKind::TooMany)?;
+        self.switch(node, &act);
+        self.push_act(frame, node, act)
     }
 
     // The frame and the node of a line of the script, where nodes are given something.
@@ -106,11 +51,29 @@ impl ScenarioDraft {
         self.frames.is_some() && is_last(&self.script, frame)
     }
 
-    fn can_boot(&self, node: NodeId) -> bool
-        ensures { result ≡ (node_is_on self.now node || nat_lt (boots_of self.now node) MOST_BOOTS) }
+    // Whether it does not boot once too often by that.
+    fn may_take(&self, node: NodeId, act: &Act) -> bool
+        ensures { result ≡ may_take self.now node act.now }
     {
         let id = usize::from(node.number());
-        self.on[id] || self.boots[id] < MOST_BOOTS
+        match act {
+            Act::On => self.on[id] || self.boots[id] < MOST_BOOTS,
+            _ => true,
+        }
+    }
+
+    // The node is on or off by that, or stays as it is.
+    fn switch(&mut self, node: NodeId, act: &Act)
+        requires { may_take self.old node act.now ≡ true }
+        ensures power { self.new ≡ with_power self.old node act.now }
+        ensures network { self.new.network ≡ self.old.network }
+    {
+        let id = usize::from(node.number());
+        match act {
+            Act::On => self.boot(node),
+            Act::Off => self.on[id] = false,
+            _ => {}
+        }
     }
 
     fn boot(&mut self, node: NodeId)

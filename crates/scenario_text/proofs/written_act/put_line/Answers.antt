@@ -4,7 +4,7 @@ use Rattle.scenario_text.specs.Payloads.{is_payload, payload}
 use Rattle.text_readers.specs.Words.{word}
 use Rattle.text_readers.proofs.NumbersRead.{bytes_of}
 use Rattle.scenario_text.proofs.WordsRead.{put_read}
-use Rattle.scenario_text.proofs.scenario_line.put_line.Goals as goal
+use Rattle.scenario_text.proofs.written_act.put_line.Goals as goal
 
 pub returns-in_err-frame : goal.returns-in_err-frame
 returns-in_err-frame c =
@@ -40,7 +40,7 @@ pub returns : goal.returns
 returns c =
     let pays : is_payload (word (bytes_of c.args.words.now) 4) ≡ true =
     sym (c.is_payload.ensures ∙ ap is_payload c.word-hex.ensures) ∙ c.in_ok-refuse_unless.ensures in
-    sym (put_read c.args.words.now _ (Ok c.in_ok-frame.frame) (Ok c.in_ok-id.id) (Ok c.in_ok-stream.stream) c.payload.result
+    sym (put_read c.args.words.now _ (Ok c.in_ok-frame.frame) (Ok c.in_ok-id.id) (Ok c.in_ok-stream.stream) c.payload-payload.result
     c.in-len5.len_at_least c.in-len5.len_below pays
-    (c.payload.ensures ∙ ap payload c.word-hex.ensures)
+    (c.payload-payload.ensures ∙ ap payload c.word-hex.ensures)
     (sym c.in_ok-frame.was ∙ c.number.ensures) (sym c.in_ok-id.was ∙ c.number-2.ensures) (sym c.in_ok-stream.was ∙ c.number-3.ensures))
