@@ -3,14 +3,12 @@
 use plain_bus::accepts;
 use scenario_text::parse_flood;
 use std::test::Fail;
+use test_texts::THREE_IN_A_LINE;
 
 #[test]
 fn three_in_a_line(rt: HostRuntime) -> Result<(), Fail> {
     let alloc = rt.alloc();
-    let flood = parse_flood(
-        alloc,
-        b"sends 2\nnode 1 0\nnode 2 0\nnode 3 0\npair 1 2\npair 2 3\nstart 1\n",
-    )?;
+    let flood = parse_flood(alloc, THREE_IN_A_LINE.as_bytes())?;
     let result = accepts(alloc, &flood)?;
     assert_eq!(rt; result.sent(), 6);
     let accepted = result.accepts();

@@ -3,13 +3,13 @@
 ghost use Rattle.std.specs.Prelude.{◌≡◌, IfOk, OnOk};
 ghost use Rattle.lwb_base.specs.Profile.{one};
 
-use crate::texts::ONE_PACKET;
-use crate::worlds::{scenario, stated_world};
+use crate::worlds::stated_world;
 use air_log::{Air, Entry, HeardEntry, SentEntry};
 use lwb_base::{Event, NodeId, Order, Packet, Payload, Profile, Rank, RecordingRadio};
 use node_core::Node;
 use std::alloc::Global;
 use std::test::Fail;
+use test_texts::{ONE_PACKET, scenario};
 use tick_clock::{At, DriftClock, SegmentClock};
 
 // No tick or reading of the run comes to this.

@@ -1,25 +1,14 @@
 //! Texts that are cut off, and ends that fail, at each place: the scenario of one stream and one packet.
 
 use crate::calls::{answer, owned};
-use crate::texts::{ONE_PACKET, THREE_IN_A_LINE};
 use lwb_base::{MemorySink, MemorySource};
 use replay_tool::top;
 use std::alloc::{AllocError, Global};
 use std::test::Fail;
+use test_texts::{ONE_PACKET, THREE_IN_A_LINE};
 
-// The text of this scenario, line by line. Without the first six it lacks what a scenario must have.
-const LINES: [&str; 10] = [
-    "sends 2",
-    "node 1 0",
-    "node 2 0",
-    "host 0 1",
-    "pair 1 2",
-    "frames 12",
-    "on 0 1",
-    "on 0 2",
-    "stream 0 2 0 4",
-    "put 0 2 0 aa",
-];
+// The lines of this scenario. Without the first six it lacks what a scenario must have.
+const LINES: usize = 10;
 
 const ENOUGH: usize = 6;
 
@@ -48,7 +37,7 @@ fn wanted(alloc: Global, whole: usize, next: &str, cut: usize) -> Result<(u8, St
     // With no line that switches a node on, none costs anything.
     let beginning = if read == ENOUGH {
         "cost 1 0 0 0\ncost 2 0 0 0\n"
-    } else if read < LINES.len() {
+    } else if read < LINES {
         "cost 1 "
     } else {
         BUS_REPORT
@@ -59,8 +48,9 @@ fn wanted(alloc: Global, whole: usize, next: &str, cut: usize) -> Result<(u8, St
 #[test]
 fn each_prefix_of_a_scenario_from_a_source_of_one_byte_a_call(rt: HostRuntime) -> Result<(), Fail> {
     let alloc = rt.alloc();
+    let scenario = ONE_PACKET.concat(alloc)?;
     let mut text = Vec::new(alloc);
-    for (whole, line) in LINES.iter().enumerate() {
+    for (whole, line) in scenario.split_terminator('\n').enumerate() {
         for cut in 0..line.len() + 1 {
             let mut prefix = Vec::from_slice(alloc, &text)?;
             prefix.extend_from_slice(&line.as_bytes()[..cut])?;
@@ -85,9 +75,10 @@ fn each_prefix_of_a_scenario_from_a_source_of_one_byte_a_call(rt: HostRuntime) -
 #[test]
 fn source_that_fails_at_each_call(rt: HostRuntime) -> Result<(), Fail> {
     let alloc = rt.alloc();
+    let text = ONE_PACKET.concat(alloc)?;
     let words = owned(alloc, &["run"])?;
     for call in 1..9u64 {
-        let mut source = MemorySource::new(alloc, ONE_PACKET.as_bytes(), 16, &[call])?;
+        let mut source = MemorySource::new(alloc, text.as_bytes(), 16, &[call])?;
         let mut sink = MemorySink::new(alloc, 4096, 4096, &[])?;
         let outcome = top(alloc, &words, &mut source, &mut sink);
         let (status, written) = if call < 8 { (3, "") } else { (0, RUN_REPORT) };
@@ -101,9 +92,10 @@ fn source_that_fails_at_each_call(rt: HostRuntime) -> Result<(), Fail> {
 #[test]
 fn sink_that_fails_at_each_call(rt: HostRuntime) -> Result<(), Fail> {
     let alloc = rt.alloc();
+    let text = ONE_PACKET.concat(alloc)?;
     let words = owned(alloc, &["run"])?;
     for call in 1..17u64 {
-        let mut source = MemorySource::new(alloc, ONE_PACKET.as_bytes(), 4096, &[])?;
+        let mut source = MemorySource::new(alloc, text.as_bytes(), 4096, &[])?;
         let mut sink = MemorySink::new(alloc, 7, 4096, &[call])?;
         let outcome = top(alloc, &words, &mut source, &mut sink);
         let gone = RUN_REPORT.len().min(7 * (call as usize - 1));

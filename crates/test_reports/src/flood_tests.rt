@@ -3,7 +3,6 @@
 ghost use Rattle.std.specs.Prelude.{◌≡◌, IfOk, length};
 
 use crate::calls::owned;
-use crate::texts::THREE_IN_A_LINE;
 use air_log::{Air, Entry};
 use bus_rules::FloodResult;
 use lwb_base::{INPUT_LIMIT, MemorySink, MemorySource};
@@ -13,6 +12,7 @@ use scenario_text::{FloodText, parse_flood};
 use std::alloc::{AllocError, Global};
 use std::fmt::Write;
 use std::test::Fail;
+use test_texts::THREE_IN_A_LINE;
 use tick_clock::JumpClock;
 
 // One clock for each node: of the first three the fast ones are those whose bit is in `fast`, the others are slow.

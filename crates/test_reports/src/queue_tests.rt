@@ -3,14 +3,14 @@
 ghost use Rattle.std.specs.Prelude.{◌≡◌, IfOk, length, replicate};
 ghost use Rattle.event_calendar.specs.Orders.{nothing_due};
 
-use crate::texts::ONE_PACKET;
-use crate::worlds::{scenario, stated_world};
+use crate::worlds::stated_world;
 use air_log::{Air, Entry};
 use event_calendar::{Calendar, Class, Orders};
 use lwb_base::Memory;
 use scenario_text::Scenario;
 use std::alloc::Global;
 use std::test::Fail;
+use test_texts::{ONE_PACKET, scenario};
 
 /// A calendar that notes the ticks at which transmissions are to end.
 #[derive(Drop)]

@@ -1,12 +1,13 @@
 //! Worked runs, by the schedules in their logs and the nodes at the end.
 
-use crate::texts::{FIRST_ROUND, ONE_PACKET, TWO_CONTENTION_SLOTS};
-use crate::worlds::{scenario, stated_world};
+use crate::texts::FIRST_ROUND;
+use crate::worlds::stated_world;
 use air_log::{Air, Entry};
 use bus_rules::Tune;
 use lwb_base::{NodeId, Rank};
 use node_core::{Node, Place};
 use std::test::Fail;
+use test_texts::{ONE_PACKET, TWO_CONTENTION_SLOTS, scenario};
 
 // Whether one of these nodes sends that from a tick on and before another.
 fn is_in(air: &Air, nodes: &[u8], (from, before): (u64, u64), bytes: &[u8]) -> bool {

@@ -1,7 +1,7 @@
 //! What each node does in a worked run, by its log: the trace and the account.
 
 use crate::texts::FIRST_ROUND;
-use crate::worlds::{clocks_of, scenario, world_after};
+use crate::worlds::{clocks_of, world_after};
 use air_log::{Air, Trail, trail_of};
 use bus_rules::Tune;
 use energy_account::{Account, Energy};
@@ -9,6 +9,7 @@ use lwb_base::NodeId;
 use scenario_text::Scenario;
 use std::alloc::Global;
 use std::test::Fail;
+use test_texts::scenario;
 
 /// A node of the first round: what its radio costs, its first transmission, and the first times at which it is tuned to rank 0.
 struct Row {

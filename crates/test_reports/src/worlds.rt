@@ -1,4 +1,4 @@
-//! Scenarios, and their worlds over the clocks that they state.
+//! The worlds of scenarios over the clocks that they state.
 
 ghost use Rattle.std.specs.Prelude.{◌≡◌, ℕ, IfOk, length};
 ghost use Rattle.tick_clock.specs.ClockReadings.{segment_clock_reads};
@@ -7,22 +7,12 @@ ghost use Rattle.scenario_clocks.specs.StatedClocks.{scenario_clock};
 ghost use Rattle.air_log.specs.Lawful.{Lawful};
 ghost use Rattle.world_engine.specs.Worlds.{new_world};
 
-use lwb_base::{INPUT_LIMIT, Memory};
+use lwb_base::Memory;
 use lwb_world::World;
 use scenario_clocks::stated_clocks;
-use scenario_text::{Scenario, parse};
+use scenario_text::Scenario;
 use std::alloc::Global;
-use std::test::Fail;
 use tick_clock::SegmentClock;
-
-/// The scenario of a text.
-pub fn scenario(alloc: Global, text: &str) -> Result<Scenario, Fail> {
-    let bytes = text.as_bytes();
-    if bytes.len() > INPUT_LIMIT {
-        return Err("length")?;
-    }
-    Ok(parse(alloc, bytes)?)
-}
 
 /// The clocks that a scenario states.
 pub fn clocks_of(alloc: Global, s: &Scenario) -> Result<Vec<SegmentClock>, Memory>

@@ -1,15 +1,25 @@
 //! What is delivered and dropped over any clocks is what the bus delivers and drops.
 
-use crate::runs::{bus_lines, differing, scenario_between};
-use crate::texts::{BACKUP_HOST, ONE_PACKET};
+use crate::runs::{bus_lines, differing};
+use scenario_text::Scenario;
 use std::alloc::{AllocError, Global};
 use std::fmt::Write;
 use std::test::Fail;
+use test_texts::{
+    FAILOVER, OF_NODE_2, ONE_HOST, THREE_NODES, TWO_HOSTS, TWO_NODES, TWO_ON, scenario,
+};
 
-// Whether that is delivered on the bus and over all kinds of clocks, with lines before and after those of one stream and one
-// packet.
-fn delivers(alloc: Global, first: &str, last: &str, lines: &str) -> Result<bool, Fail> {
-    let s = scenario_between(alloc, first, ONE_PACKET, last)?;
+// One packet of node 2, with so many frames, and lines at the end.
+fn one_packet(alloc: Global, frames: &str, last: &str) -> Result<Scenario, Fail> {
+    scenario(
+        alloc,
+        &[TWO_NODES, ONE_HOST, frames, TWO_ON, OF_NODE_2, last],
+    )
+}
+
+// Whether that is delivered of one packet, on the bus and over all kinds of clocks.
+fn delivers(alloc: Global, frames: &str, last: &str, lines: &str) -> Result<bool, Fail> {
+    let s = one_packet(alloc, frames, last)?;
     Ok(bus_lines(alloc, &s)?.as_str() == lines && differing(alloc, &s)?.is_none())
 }
 
@@ -29,7 +39,7 @@ fn cuts_of_a_sender(rt: HostRuntime) -> Result<(), Fail> {
     for slot in 0..7u8 {
         for step in 0..12u8 {
             let lines = format!(in alloc; "cut 9 {slot} {step} 2\n")?;
-            let s = scenario_between(alloc, "frames 12\n", ONE_PACKET, lines.as_str())?;
+            let s = one_packet(alloc, "frames 12\n", lines.as_str())?;
             assert_eq!(rt; differing(alloc, &s)?, None, "with {lines}");
         }
     }
@@ -41,7 +51,7 @@ fn restarts_of_the_host(rt: HostRuntime) -> Result<(), Fail> {
     let alloc = rt.alloc();
     for frame in 1..13u8 {
         let lines = format!(in alloc; "off {frame} 1\non {frame} 1\n")?;
-        let s = scenario_between(alloc, "frames 20\n", ONE_PACKET, lines.as_str())?;
+        let s = one_packet(alloc, "frames 20\n", lines.as_str())?;
         assert_eq!(rt; differing(alloc, &s)?, None, "with {lines}");
     }
     Ok(())
@@ -61,7 +71,14 @@ fn lost_directions(rt: HostRuntime) -> Result<(), Fail> {
     let alloc = rt.alloc();
     for (from, to) in [(1, 2), (2, 1), (1, 3), (3, 1), (2, 3), (3, 2)] {
         let lines = losses(alloc, from, to)?;
-        let s = scenario_between(alloc, "", BACKUP_HOST, lines.as_str())?;
+        let text = [
+            THREE_NODES,
+            TWO_HOSTS,
+            "frames 32\n",
+            FAILOVER,
+            lines.as_str(),
+        ];
+        let s = scenario(alloc, &text)?;
         assert_eq!(rt; differing(alloc, &s)?, None, "from {from} to {to}");
     }
     Ok(())

@@ -11,5 +11,3 @@ mod runs;
 mod safe;
 #[cfg(test)]
 mod safe_tests;
-#[cfg(test)]
-mod texts;

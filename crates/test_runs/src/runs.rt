@@ -3,9 +3,8 @@
 use air_log::{Air, Trail, trail_of};
 use bus_model::Bus;
 use bus_rules::{Delivery, DropLine};
-use lwb_base::INPUT_LIMIT;
 use lwb_world::World;
-use scenario_text::{NodeLine, Scenario, parse};
+use scenario_text::{NodeLine, Scenario};
 use std::alloc::{AllocError, Global};
 use std::fmt::Write;
 use std::test::Fail;
@@ -31,23 +30,6 @@ impl Speeds {
             Speeds::Alternating => place % 2 == 0,
         }
     }
-}
-
-/// The scenario of a text with lines before and after it.
-pub fn scenario_between(
-    alloc: Global,
-    first: &str,
-    text: &str,
-    last: &str,
-) -> Result<Scenario, Fail> {
-    let mut whole = String::from_str(alloc, first)?;
-    whole.push_str(text)?;
-    whole.push_str(last)?;
-    let bytes = whole.as_bytes();
-    if bytes.len() > INPUT_LIMIT {
-        return Err("length")?;
-    }
-    Ok(parse(alloc, bytes)?)
 }
 
 fn jump_clocks(alloc: Global, nodes: &[NodeLine], speeds: Speeds) -> Result<Vec<JumpClock>, Fail> {

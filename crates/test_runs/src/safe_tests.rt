@@ -1,13 +1,44 @@
 //! Logs of worked scenarios are safe, and some that were changed manually are not.
 
 use crate::moves::{Move, MovedEntry, moved};
-use crate::runs::{Speeds, scenario_between, trails, world_after};
+use crate::runs::{Speeds, trails, world_after};
 use crate::safe::Clause;
-use crate::texts::{BACKUP_HOST, COLLECTION_LINE, LONGEST_RUN, ONE_PACKET, TWO_CONTENDERS};
 use air_log::{Air, Entry, HeardEntry, SentEntry, Trail};
 use scenario_text::Scenario;
 use std::alloc::{AllocError, Global};
 use std::test::Fail;
+use test_texts::{
+    FAILOVER, LONGEST_RUN, OF_NODE_2, OF_NODE_3, ONE_HOST, ONE_PACKET, THREE_NODES, THREE_ON,
+    TWO_HOSTS, TWO_NODES, TWO_ON, scenario,
+};
+
+const TWO_CONTENDERS: &[&str] = &[
+    THREE_NODES,
+    ONE_HOST,
+    "pair 1 3\nframes 18\n",
+    THREE_ON,
+    OF_NODE_2,
+    OF_NODE_3,
+];
+
+const RESTART: &[&str] = &[
+    TWO_NODES,
+    ONE_HOST,
+    "frames 16\n",
+    TWO_ON,
+    OF_NODE_2,
+    "off 6 1\non 6 1\nput 10 2 0 bb\n",
+];
+
+const TAKE_OVER: &[&str] = &[THREE_NODES, TWO_HOSTS, "frames 32\n", FAILOVER];
+
+const COLLECTION_LINE: &[&str] = &[
+    "node 1 0\nnode 2 9000\nnode 3 100\nnode 4 256000\nrate 1 0 15\nrate 2 0 -12\nrate 3 0 3\nrate 4 0 -20\n",
+    ONE_HOST,
+    "pair 2 3\npair 3 4\nframes 14\n",
+    THREE_ON,
+    "on 0 4\nstream 0 4 0 10\nput 0 4 0 aa\nput 8 4 0 bb\n",
+];
 
 fn sendings(alloc: Global, air: &Air) -> Result<Vec<SentEntry>, AllocError> {
     let mut sent = Vec::new(alloc);
@@ -62,9 +93,9 @@ fn broken_over(alloc: Global, s: &Scenario, speeds: Speeds) -> Result<Option<Cla
     Ok(first_broken(s, &sent, &heard, &trails))
 }
 
-// Whether the logs of a scenario are safe over all kinds of clocks: that of a text with lines before and after it.
-fn is_safe(alloc: Global, first: &str, text: &str, last: &str) -> Result<bool, Fail> {
-    let s = scenario_between(alloc, first, text, last)?;
+// Whether the logs of a scenario are safe over all kinds of clocks.
+fn is_safe(alloc: Global, parts: &[&str]) -> Result<bool, Fail> {
+    let s = scenario(alloc, parts)?;
     for speeds in Speeds::ALL {
         if broken_over(alloc, &s, speeds)?.is_some() {
             return Ok(false);
@@ -76,13 +107,12 @@ fn is_safe(alloc: Global, first: &str, text: &str, last: &str) -> Result<bool, F
 #[test]
 fn every_pair_of_sendings(rt: HostRuntime) -> Result<(), Fail> {
     let alloc = rt.alloc();
-    assert!(rt; is_safe(alloc, "frames 12\n", ONE_PACKET, "")?);
-    assert!(rt; is_safe(alloc, "", TWO_CONTENDERS, "")?);
-    let restart = "off 6 1\non 6 1\nput 10 2 0 bb\n";
-    assert!(rt; is_safe(alloc, "frames 16\n", ONE_PACKET, restart)?);
-    assert!(rt; is_safe(alloc, "", BACKUP_HOST, "")?);
-    assert!(rt; is_safe(alloc, "", LONGEST_RUN, "")?);
-    assert!(rt; is_safe(alloc, "", COLLECTION_LINE, "")?);
+    assert!(rt; is_safe(alloc, ONE_PACKET)?);
+    assert!(rt; is_safe(alloc, TWO_CONTENDERS)?);
+    assert!(rt; is_safe(alloc, RESTART)?);
+    assert!(rt; is_safe(alloc, TAKE_OVER)?);
+    assert!(rt; is_safe(alloc, LONGEST_RUN)?);
+    assert!(rt; is_safe(alloc, COLLECTION_LINE)?);
     Ok(())
 }
 
@@ -146,7 +176,7 @@ const MOVES: [MovedEntry; 6] = [
 #[test]
 fn logs_with_one_entry_moved(rt: HostRuntime) -> Result<(), Fail> {
     let alloc = rt.alloc();
-    let s = scenario_between(alloc, "", TWO_CONTENDERS, "")?;
+    let s = scenario(alloc, TWO_CONTENDERS)?;
     let p = s.profile();
     let world = world_after(alloc, &s, Speeds::Alternating)?;
     let sent = sendings(alloc, world.air())?;

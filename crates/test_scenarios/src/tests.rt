@@ -11,6 +11,7 @@ use scenario_text::FaultKind::{
 use scenario_text::{Act, FaultKind, NodeLine, ParseFault, Scenario, ScriptLine, parse, print};
 use std::alloc::Global;
 use std::test::Fail;
+use test_texts::{ONE_PACKET, scenario};
 
 // The first fault of a text of a scenario.
 fn first_fault(alloc: Global, text: &[u8]) -> Result<Option<ParseFault>, Fail> {
@@ -39,32 +40,23 @@ fn printed(alloc: Global, scenario: &Scenario) -> Result<String, Fail> {
     }
 }
 
-fn read_and_printed(alloc: Global, text: &str) -> Result<String, Fail> {
-    let bytes = text.as_bytes();
-    if bytes.len() > INPUT_LIMIT {
-        return Err("length")?;
-    }
-    match parse(alloc, bytes) {
-        Ok(scenario) => printed(alloc, &scenario),
-        Err(_) => Err("refused")?,
-    }
+fn read_and_printed(alloc: Global, parts: &[&str]) -> Result<String, Fail> {
+    printed(alloc, &scenario(alloc, parts)?)
 }
 
-// Whether that is the canonical text of a text, and its own.
-fn is_canonical(alloc: Global, text: &str, canonical: &str) -> Result<bool, Fail> {
-    let once = read_and_printed(alloc, text)?;
-    let twice = read_and_printed(alloc, once.as_str())?;
+// Whether that is the canonical text of a text in parts, and its own.
+fn is_canonical(alloc: Global, parts: &[&str], canonical: &str) -> Result<bool, Fail> {
+    let once = read_and_printed(alloc, parts)?;
+    let twice = read_and_printed(alloc, &[once.as_str()])?;
     Ok(once.as_str() == canonical && twice.as_str() == canonical)
 }
 
 #[test]
 fn one_packet_in_its_canonical_text(rt: HostRuntime) -> Result<(), Fail> {
-    let text = "sends 2\nnode 1 0\nnode 2 0\nhost 0 1\npair 1 2\nframes 12\non 0 1\non 0 2\n\
-        stream 0 2 0 4\nput 0 2 0 aa\n";
     let canonical =
         "profile 1\nframes 12\nsends 2\nnode 1 0\nnode 2 0\nhost 0 1\nlink 1 2\nlink 2 1\non 0 1\n\
         on 0 2\nstream 0 2 0 4\nput 0 2 0 aa\n";
-    assert!(rt; is_canonical(rt.alloc(), text, canonical)?);
+    assert!(rt; is_canonical(rt.alloc(), ONE_PACKET, canonical)?);
     Ok(())
 }
 
@@ -77,7 +69,7 @@ fn all_kinds_of_lines_in_their_canonical_text(rt: HostRuntime) -> Result<(), Fai
         "profile 2\ncontend 3\nframes 3\nsends 1\nnode 4 0\nnode 9 7\nrate 4 6 0\nrate 9 5 -20\n\
         host 0 9\nhost 1 4\nlink 4 9\nlink 9 4\nput 0 9 3 -\nput 0 9 0 00af\nleave 1 9 3\n\
         off 2 4\nlose 0 0 0 9 4\nlose 1 0 11 9 4\ncut 2 1 0 4\ncapture 1 45 2 9 4\n";
-    assert!(rt; is_canonical(rt.alloc(), text, canonical)?);
+    assert!(rt; is_canonical(rt.alloc(), &[text], canonical)?);
     Ok(())
 }
 

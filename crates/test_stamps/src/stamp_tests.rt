@@ -2,11 +2,12 @@
 
 use crate::cases::CASES;
 use crate::definition::defined;
-use crate::worlds::{air_of, clocks_of, scenario, stamp_lines, write_stamp};
+use crate::worlds::{air_of, clocks_of, stamp_lines, write_stamp};
 use scenario_maker::made;
 use scenario_text::Scenario;
 use std::alloc::Global;
 use std::test::Fail;
+use test_texts::scenario;
 
 #[test]
 fn stamps_of_worked_scenarios(rt: HostRuntime) -> Result<(), Fail> {

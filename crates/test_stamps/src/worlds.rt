@@ -1,4 +1,4 @@
-//! Scenarios, and the stamps of their runs over the clocks that they state.
+//! The stamps of the runs of scenarios over the clocks that they state.
 
 ghost use Rattle.std.specs.Prelude.{◌≡◌, ℕ, IfOk, length};
 ghost use Rattle.tick_clock.specs.ClockReadings.{segment_clock_reads};
@@ -9,27 +9,14 @@ ghost use Rattle.world_engine.specs.Worlds.{new_world};
 
 use air_log::Air;
 use bus_time::{Stamp, stamps};
-use lwb_base::{INPUT_LIMIT, Memory};
+use lwb_base::Memory;
 use lwb_world::World;
 use scenario_clocks::stated_clocks;
-use scenario_text::{Scenario, parse};
+use scenario_text::Scenario;
 use std::alloc::{AllocError, Global};
 use std::fmt::Write;
 use std::test::Fail;
 use tick_clock::SegmentClock;
-
-/// The scenario of a text in parts.
-pub fn scenario(alloc: Global, parts: &[&str]) -> Result<Scenario, Fail> {
-    let mut text = String::new(alloc);
-    for part in parts {
-        text.push_str(part)?;
-    }
-    let bytes = text.as_bytes();
-    if bytes.len() > INPUT_LIMIT {
-        return Err("length")?;
-    }
-    Ok(parse(alloc, bytes)?)
-}
 
 /// The clocks that a scenario states.
 pub fn clocks_of(alloc: Global, s: &Scenario) -> Result<Vec<SegmentClock>, Memory>

@@ -2,7 +2,7 @@
 
 use lwb_base::{MemorySink, MemorySource};
 use replay_tool::top;
-use std::alloc::{AllocError, Global};
+use std::alloc::Global;
 use std::test::Fail;
 
 /// The status of a command of one word, and what it wrote.
@@ -13,13 +13,4 @@ pub fn answer(alloc: Global, word: &str, text: &str) -> Result<(u8, Vec<u8>), Fa
     let mut sink = MemorySink::new(alloc, 4096, 1 << 20, &[])?;
     let outcome = top(alloc, &words, &mut source, &mut sink);
     Ok((outcome.status, Vec::from_slice(alloc, sink.bytes())?))
-}
-
-/// The text of these parts.
-pub fn joined(alloc: Global, parts: &[&str]) -> Result<String, AllocError> {
-    let mut text = String::new(alloc);
-    for part in parts {
-        text.push_str(part)?;
-    }
-    Ok(text)
 }

@@ -1,13 +1,6 @@
 //! Worked texts in which a host comes back, and what `return` writes of them before the energy lines.
 
-/// Three nodes within reach of each other. Node 1 is the host of rank 0, and node 2 that of rank 1.
-pub const THREE: &str =
-    "sends 2\nnode 1 0\nnode 2 0\nnode 3 0\nhost 0 1\nhost 1 2\npair 1 2\npair 1 3\npair 2 3\n";
-
-/// Node 1 goes off in frame 6. Nodes 2 and 3 come to the round of frame 9, scan for rank 0 from frame 10 to 21 and for rank 1
-/// from frame 22 on, and node 2 hosts from frame 27 on, each fourth frame. Node 3 has its packet in the round of frame 31.
-pub const FAILOVER: &str =
-    "on 0 1\non 0 2\non 0 3\nstream 0 3 0 4\nput 0 3 0 aa\noff 6 1\nput 20 3 0 bb\n";
+use test_texts::{FAILOVER, OF_NODE_3, THREE_ON};
 
 /// Node 1 comes back, scans for 5 frames, and hosts from frame 36 on, each fourth frame.
 pub const BACK: &str = "on 31 1\n";
@@ -17,7 +10,7 @@ pub const FIRST_TWO: &str = "deliver 9 0 1 2 3 1 0 0 aa\ndeliver 31 1 1 2 3 1 0 
 /// Node 3 comes to the round of frame 39, which has no host, scans for rank 1 from frame 40 to 51, and then for rank 0.
 pub const LAST_TWO: &str = "deliver 56 0 1 1 3 1 0 2 cc\ndeliver 56 0 1 2 3 1 0 2 cc\n";
 
-/// Nodes that go back. Node 2 is idle in frames 28 to 30, 32 to 34 and 36, and in the last of them it receives node 1.
+/// Nodes that go back, of three nodes and two hosts. Node 2 is idle in frames 28 to 30, 32 to 34 and 36, and in the last of them it receives node 1.
 pub const RETURNS: &[(&str, &[&str], &[&str])] = &[
     (
         "backup goes back",
@@ -72,7 +65,7 @@ pub const RETURNS: &[(&str, &[&str], &[&str])] = &[
     // Two hosts apart: nobody goes back to a higher rank, nor does a host that never had a lower one.
     (
         "no failover",
-        &["frames 12\non 0 1\non 0 2\non 0 3\nstream 0 3 0 4\nput 0 3 0 aa\n"],
+        &["frames 12\n", THREE_ON, OF_NODE_3],
         &["deliver 9 0 1 1 3 1 0 0 aa\ndeliver 9 0 1 2 3 1 0 0 aa\n"],
     ),
 ];

@@ -1,10 +1,11 @@
 //! The command `return` on worked texts.
 
-use crate::calls::{answer, joined};
-use crate::return_cases::{BACK, CHAIN, CHAINS, FAILOVER, FIRST_TWO, LAST_TWO, RETURNS, THREE};
+use crate::calls::answer;
+use crate::return_cases::{BACK, CHAIN, CHAINS, FIRST_TWO, LAST_TWO, RETURNS};
 use std::alloc::{AllocError, Global};
 use std::fmt::Write;
 use std::test::Fail;
+use test_texts::{FAILOVER, ONE_PACKET, THREE_NODES, TWO_HOSTS};
 
 // Whether a call wrote this, and the energy lines after it.
 fn begins(got: &[u8], report: &str) -> bool {
@@ -25,9 +26,9 @@ fn write_again(text: &mut String, line: &str, times: u32) -> Result<(), AllocErr
 fn returns_of_worked_texts(rt: HostRuntime) -> Result<(), Fail> {
     let alloc = rt.alloc();
     for (name, text, report) in RETURNS {
-        let mut scenario = String::from_str(alloc, THREE)?;
-        scenario.push_str(joined(alloc, text)?.as_str())?;
-        let report = joined(alloc, report)?;
+        let mut scenario = [THREE_NODES, TWO_HOSTS].concat(alloc)?;
+        scenario.push_str(text.concat(alloc)?.as_str())?;
+        let report = report.concat(alloc)?;
         let (status, got) = answer(alloc, "return", scenario.as_str())?;
         assert_eq!(rt; status, 0, "of {name}");
         assert!(rt; begins(&got, report.as_str()), "of {name}");
@@ -39,7 +40,7 @@ fn returns_of_worked_texts(rt: HostRuntime) -> Result<(), Fail> {
 fn returns_of_three_hosts(rt: HostRuntime) -> Result<(), Fail> {
     let alloc = rt.alloc();
     for (name, frames, report) in CHAINS {
-        let text = joined(alloc, &[THREE, *frames, CHAIN])?;
+        let text = [THREE_NODES, TWO_HOSTS, *frames, CHAIN].concat(alloc)?;
         let (status, got) = answer(alloc, "return", text.as_str())?;
         assert_eq!(rt; status, 0, "of {name}");
         assert!(rt; begins(&got, report), "of {name}");
@@ -49,7 +50,7 @@ fn returns_of_three_hosts(rt: HostRuntime) -> Result<(), Fail> {
 
 // Node 2 has booted so often in frame 0.
 fn booted(alloc: Global, boots: u32) -> Result<String, AllocError> {
-    let mut text = joined(alloc, &[THREE, "frames 58\non 0 2\n"])?;
+    let mut text = [THREE_NODES, TWO_HOSTS, "frames 58\non 0 2\n"].concat(alloc)?;
     write_again(&mut text, "off 0 2\non 0 2\n", boots.saturating_sub(1))?;
     for part in [FAILOVER, BACK, "put 40 3 0 cc\n"] {
         text.push_str(part)?;
@@ -63,14 +64,11 @@ fn booted(alloc: Global, boots: u32) -> Result<String, AllocError> {
 fn the_last_boot_of_a_backup_host(rt: HostRuntime) -> Result<(), Fail> {
     let alloc = rt.alloc();
     let (status, got) = answer(alloc, "return", booted(alloc, 199)?.as_str())?;
-    let report = joined(alloc, &["return 36 2 0\nprobe 2 7\n", FIRST_TWO, LAST_TWO])?;
+    let report = ["return 36 2 0\nprobe 2 7\n", FIRST_TWO, LAST_TWO].concat(alloc)?;
     assert_eq!(rt; status, 0);
     assert!(rt; begins(&got, report.as_str()));
     let (status, got) = answer(alloc, "return", booted(alloc, 200)?.as_str())?;
-    let report = joined(
-        alloc,
-        &["probe 2 23\n", FIRST_TWO, "deliver 43 1 1 2 3 1 0 2 cc\n"],
-    )?;
+    let report = ["probe 2 23\n", FIRST_TWO, "deliver 43 1 1 2 3 1 0 2 cc\n"].concat(alloc)?;
     assert_eq!(rt; status, 0);
     assert!(rt; begins(&got, report.as_str()));
     Ok(())
@@ -78,7 +76,7 @@ fn the_last_boot_of_a_backup_host(rt: HostRuntime) -> Result<(), Fail> {
 
 // A text of nine script lines, and this many rates of node 1, which change nothing.
 fn rated(alloc: Global, rates: u32) -> Result<String, AllocError> {
-    let mut text = joined(alloc, &[THREE, "frames 58\n"])?;
+    let mut text = [THREE_NODES, TWO_HOSTS, "frames 58\n"].concat(alloc)?;
     for tick in 0..rates {
         write!(text, "rate 1 {tick} 0\n")?;
     }
@@ -134,11 +132,11 @@ fn sixteen_returns(rt: HostRuntime) -> Result<(), Fail> {
 // Where nobody goes back, and no node has probed, the report is that of the run.
 #[test]
 fn a_run_without_return(rt: HostRuntime) -> Result<(), Fail> {
-    let text =
-        "sends 2\nnode 1 0\nnode 2 0\nhost 0 1\npair 1 2\nframes 12\non 0 1\non 0 2\nstream 0 2 0 4\nput 0 2 0 aa\n";
+    let alloc = rt.alloc();
+    let text = ONE_PACKET.concat(alloc)?;
     let report =
         "deliver 9 0 1 1 2 1 0 0 aa\nenergy 1 450560 9681408 5 1238481408\nenergy 2 450560 9551872 6 1353800192\n";
-    let (status, got) = answer(rt.alloc(), "return", text)?;
+    let (status, got) = answer(alloc, "return", text.as_str())?;
     assert_eq!(rt; status, 0);
     assert_eq!(rt; got.as_slice(), report.as_bytes());
     Ok(())

@@ -1,6 +1,6 @@
 //! The command `times` on worked texts.
 
-use crate::calls::{answer, joined};
+use crate::calls::answer;
 use crate::times_cases::STAMPS;
 use std::test::Fail;
 
@@ -8,7 +8,7 @@ use std::test::Fail;
 fn stamps_of_worked_texts(rt: HostRuntime) -> Result<(), Fail> {
     let alloc = rt.alloc();
     for (name, text, stamps) in STAMPS {
-        let text = joined(alloc, text)?;
+        let text = text.concat(alloc)?;
         let (status, got) = answer(alloc, "times", text.as_str())?;
         assert_eq!(rt; status, 0, "of {name}");
         assert_eq!(rt; got.as_slice(), stamps.as_bytes(), "of {name}");

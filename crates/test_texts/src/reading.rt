@@ -1,0 +1,16 @@
+//! The scenario of a text in parts.
+
+use lwb_base::INPUT_LIMIT;
+use scenario_text::{Scenario, parse};
+use std::alloc::Global;
+use std::test::Fail;
+
+/// The scenario that the text of these parts says. The test fails if the text is rejected, or longer than `INPUT_LIMIT`.
+pub fn scenario(alloc: Global, parts: &[&str]) -> Result<Scenario, Fail> {
+    let text = parts.concat(alloc)?;
+    let bytes = text.as_bytes();
+    if bytes.len() > INPUT_LIMIT {
+        return Err("length")?;
+    }
+    Ok(parse(alloc, bytes)?)
+}
