@@ -56,7 +56,6 @@ impl Course {
         ensures none { IfOk result (λ c. c.returns.items ≡ []) }
         ensures kept { IfOk result (λ c. R.kept runner.new c.scenario c.air) }
     {
-        let _frames = read.frames();
         let air = runner.run(alloc, read)?;
         let Some(scenario) = with_script(alloc, read, &[])? else {
             unreachable!();
@@ -92,7 +91,6 @@ impl Course {
         let Some(scenario) = with_script(alloc, s, &lines)? else {
             return Ok(false);
         };
-        let _frames = scenario.frames();
         let air = runner.run(alloc, &scenario)?;
         self.returns.push(r)?;
         self.air = air;

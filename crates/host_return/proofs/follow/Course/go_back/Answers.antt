@@ -1,6 +1,7 @@
 use Rattle.std.proofs.Common.{◌≡◌, ◌≤◌, List, All, AllPairs, Option, IfSome, IfNone, refl, sym, ◌∙◌, subst, rules}
 use Rattle.scenario_text.specs.AddedLines.{IsWithScript, HasRoom}
 use Rattle.scenario_text.specs.ScenarioFacts.{IsScriptLine}
+use Rattle.scenario_text.specs.ScenarioGrammar.{IsScenario}
 use Rattle.scenario_text.specs.ScenarioParts.{ScenarioParts}
 use Rattle.scenario_text.specs.declared.script.ScriptLine.{ScriptLine}
 use Rattle.host_return.specs.Candidates.{IsNextReturn}
@@ -49,7 +50,7 @@ returns-clause-more g c =
           (subst (λ (o : Option Return). IfSome o (IsNextReturn c.args.read.now s air c.deref.result.now)) c.in-Some.is c.in_ok-r.ensures.some);
       added = subst (λ (ls : List ScriptLine). IsWithScript s ls c.in-Some-2.scenario) lines both.0;
       room = both.1;
-      said = c.frames-frames.ensures.said;
+      said = subst (λ (o : Option ScenarioParts). IfSome o IsScenario) c.in-Some-2.is c.in_ok-scenario.ensures.still_said;
       lawful = c.in_ok-air.ensures.lawful;
     }
 
