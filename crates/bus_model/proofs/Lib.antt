@@ -1,4 +1,5 @@
 pub mod SlotsInTurn
+pub mod RoomInRounds
 pub mod RanksInTurn
 pub mod PowerKept
 pub mod LinesTold

@@ -8,7 +8,7 @@ ghost use Rattle.bus_rules.specs.States.{State};
 ghost use Rattle.bus_terms.specs.Bus.{Cost as CostOf};
 ghost use Rattle.bus_terms.specs.FloodOfText.{ids};
 ghost use Rattle.bus_terms.specs.Rounds.{before_slot, round_of_rank, rounds, round_deliveries, slot_deliveries, slots_of};
-ghost use Rattle.plain_bus.specs.BusNodes.{nodes_in, ranks_in};
+ghost use Rattle.plain_bus.specs.BusNodes.{nodes_in, ranks_in, HaveRoom, HaveRoomInRound};
 ghost use Rattle.plain_bus.specs.Leaders.{slot_parts};
 ghost use Rattle.plain_bus.specs.Networks.{IsReady};
 ghost use Rattle.bus_model.specs.FrameNodes.{AreRanked, frame_deliveries, nodes_with};
@@ -26,11 +26,11 @@ pub fn run_rounds(alloc: Global, net: &mut Network, s: &Scenario, frame: u32) ->
     requires ready { IsReady s.now frame 1000000 net.old }
     ensures ready { OnOk result ((m : ℕ) → IsReady s.now frame m net.old → IsReady s.now frame (m + 184) net.new) }
     ensures nodes { OnOk result ((start : ℕ → State) → AreRanked s.now start → net.old.nodes ≡ nodes_with s.now (ranks_in start) start
-        → net.new.nodes ≡ nodes_with s.now (ranks_in start) (rounds s.now frame start)) }
+        → ((rank : ℕ) → HaveRoomInRound s.now rank frame start) → net.new.nodes ≡ nodes_with s.now (ranks_in start) (rounds s.now frame start)) }
     ensures deliveries { OnOk result ((start : ℕ → State) → AreRanked s.now start → net.old.nodes ≡ nodes_with s.now (ranks_in start) start
-        → net.new.deliveries ≡ net.old.deliveries ++ frame_deliveries s.now frame start) }
+        → ((rank : ℕ) → HaveRoomInRound s.now rank frame start) → net.new.deliveries ≡ net.old.deliveries ++ frame_deliveries s.now frame start) }
     ensures costs { OnOk result ((start : ℕ → State) (cost : ℕ → CostOf) → AreRanked s.now start → net.old.nodes ≡ nodes_with s.now (ranks_in start) start
-        → net.old.costs ≡ map cost (ids s.now.nodes)
+        → ((rank : ℕ) → HaveRoomInRound s.now rank frame start) → net.old.costs ≡ map cost (ids s.now.nodes)
         → net.new.costs ≡ map (λ v. with_round s.now (ranks_in start v) frame start v (cost v)) (ids s.now.nodes)) }
 {
     let ranks = hosts_of(s);
@@ -67,11 +67,12 @@ fn run_round(
     requires ready { IsReady s.now frame 1040000 net.old }
     ensures ready { OnOk result ((m : ℕ) → IsReady s.now frame m net.old → IsReady s.now frame (m + 46) net.new) }
     ensures nodes { OnOk result ((start others : ℕ → State) → net.old.nodes ≡ nodes_in s.now rank start start others
-        → net.new.nodes ≡ nodes_in s.now rank start (round_of_rank s.now rank frame start) others) }
+        → HaveRoomInRound s.now rank frame start → net.new.nodes ≡ nodes_in s.now rank start (round_of_rank s.now rank frame start) others) }
     ensures deliveries { OnOk result ((start others : ℕ → State) → net.old.nodes ≡ nodes_in s.now rank start start others
-        → net.new.deliveries ≡ net.old.deliveries ++ round_deliveries s.now rank frame start) }
+        → HaveRoomInRound s.now rank frame start → net.new.deliveries ≡ net.old.deliveries ++ round_deliveries s.now rank frame start) }
     ensures costs { OnOk result
-        ((start others : ℕ → State) (cost : ℕ → CostOf) → net.old.nodes ≡ nodes_in s.now rank start start others → net.old.costs ≡ map cost (ids s.now.nodes)
+        ((start others : ℕ → State) (cost : ℕ → CostOf) → net.old.nodes ≡ nodes_in s.now rank start start others
+        → HaveRoomInRound s.now rank frame start → net.old.costs ≡ map cost (ids s.now.nodes)
         → net.new.costs ≡ map (λ v. if ranks_in start v == rank then with_round s.now rank frame start v (cost v) else cost v) (ids s.now.nodes)) }
 {
     let parts = parts_of_round(alloc, &net.nodes, rank, frame)?;
@@ -94,12 +95,14 @@ fn run_slots(
     requires ready { IsReady s.now frame 1040000 net.old }
     ensures ready { OnOk result ((m : ℕ) → IsReady s.now frame m net.old → IsReady s.now frame (m + length parts.now) net.new) }
     ensures nodes { OnOk result ((p : Plan) (start others : ℕ → State) → parts.now ≡ slot_parts p → net.old.nodes ≡ nodes_in s.now rank start start others
+        → ((j : ℕ) → HaveRoom s.now rank frame p start j)
         → net.new.nodes ≡ nodes_in s.now rank start (before_slot s.now rank frame p start (last_slot p + 1)) others) }
     ensures deliveries { OnOk result ((p : Plan) (start others : ℕ → State) → parts.now ≡ slot_parts p → net.old.nodes ≡ nodes_in s.now rank start start others
+        → ((j : ℕ) → HaveRoom s.now rank frame p start j)
         → net.new.deliveries ≡ net.old.deliveries ++ flat_map (slot_deliveries s.now rank frame p start) (slots_of p)) }
     ensures costs { OnOk result
         ((p : Plan) (start others : ℕ → State) (cost : ℕ → CostOf) → parts.now ≡ slot_parts p → net.old.nodes ≡ nodes_in s.now rank start start others
-        → net.old.costs ≡ map cost (ids s.now.nodes)
+        → ((j : ℕ) → HaveRoom s.now rank frame p start j) → net.old.costs ≡ map cost (ids s.now.nodes)
         → net.new.costs
         ≡ map (λ v. if ranks_in start v == rank then with_slots s.now rank frame p start (last_slot p + 1) v (cost v) else cost v) (ids s.now.nodes)) }
 {

@@ -1,14 +1,13 @@
 -- One slot of a round at one node: what is done where its window opens, and where it closes.
-use Rattle.std.specs.Prelude.{ℕ, ◌+◌, ◌-◌, List, [], ◌∷◌, ◌++◌, Bool, true, false, ◌&&◌, ◌==◌, nat_lt, nat_le}
+use Rattle.std.specs.Prelude.{ℕ, ◌+◌, ◌-◌, List, [], ◌∷◌, ◌++◌, Bool, true, false, ◌==◌, nat_lt, nat_le}
 use Rattle.std.specs.Prelude.{if◌then◌else◌, Some, None, slice_index, length, option_map}
 use Rattle.std.specs.declared.option.Option.{Option}
-use Rattle.lwb_base.specs.Profile.{Numbers}
 use Rattle.lwb_base.specs.Messages.{Ask, Plan, Schedule, node_of, stream_of, length_of}
 use Rattle.bus_rules.specs.declared.delivery.Delivery.{Delivery}
 use Rattle.bus_rules.specs.declared.part.Part.{Part}
 use Rattle.bus_rules.specs.declared.part.Part.TheVariants.{Opening, Data as DataSlot, Contention, Closing}
 use Rattle.bus_rules.specs.declared.tune.Tune.TheVariants.{Host}
-use Rattle.bus_rules.specs.Plans.{opening, last_slot, slots_named}
+use Rattle.bus_rules.specs.Plans.{opening, last_slot}
 use Rattle.bus_rules.specs.Streams.{WaitingPacket, first_waiting, taken, requested, after_contention, stream_at}
 use Rattle.bus_rules.specs.Tables.{Table, heard_owner, unheard_owner}
 use Rattle.bus_rules.specs.Tuning.{hosts_in, rank_of}
@@ -110,17 +109,13 @@ slot_heard f Opening heard c = c
 slot_heard f (Contention i) heard c = c
 slot_heard f Closing heard c = c
 
--- a host keeps a request for each contention slot, and its rounds have as many as its profile names
-abbrev pub most_kept : Numbers → ℕ
-most_kept p = slots_named p.contend
-
 -- the window of a slot closes in frame f. initiated: the node said something itself; last, what it accepted
 abbrev pub closed_slot : Setup → ℕ → Part → Bool → Core → Option Message → Closed
 closed_slot s f part initiated c None = record { core = slot_heard f part initiated c; delivered = None }
 closed_slot s f part initiated c (Some (ScheduleOf x)) = record { core = schedule_accepted s.id f x c; delivered = None }
 closed_slot s f part initiated c (Some (DataOf d)) = record { core = slot_heard f part true c; delivered = Some d }
 closed_slot s f part initiated c (Some (RequestOf a)) = record {
-  core = record c { kept = if hosts_now f c && nat_lt (length c.kept) (most_kept s.profile) then c.kept ++ a ∷ [] else c.kept };
+  core = record c { kept = if hosts_now f c then c.kept ++ a ∷ [] else c.kept };
   delivered = None;
 }
 

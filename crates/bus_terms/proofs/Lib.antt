@@ -17,6 +17,13 @@ pub mod ListsInTurn
 pub mod OrderedDeliveries
 pub mod WorkedBuses
 pub mod ReachByDistance
+pub mod SaidByParts
+pub mod HostsOfRanks
+pub mod HostedRounds
+pub mod ContentionSlots
+pub mod KeptNone
+pub mod KeptByHosts
+pub mod RoomInSlots
 -- for this crate alone
 mod WorkedFloods
 mod SameRounds

@@ -8,3 +8,4 @@ pub mod Bus
 pub mod RankOrders
 pub mod Received
 pub mod Distances
+pub mod HostedRounds

@@ -28,10 +28,11 @@ use Rattle.bus_terms.specs.ScriptedStates.{is_on_and, setup_in}
 use Rattle.bus_terms.proofs.ReceivedByPaths.{in_filtered, of_filtered}
 use Rattle.bus_terms.proofs.ReceivedInRounds.{ids_rise}
 use Rattle.law_service.specs.Reach.{TakesPart, LosesNothing, IsWithin}
-use Rattle.law_service.specs.ScheduleService.{IsHosted, slot_in, state_after_round, OpeningsAreAccepted, ClosingsAreAccepted}
-use Rattle.law_service.proofs.HostsOfRanks.{due_rank}
-use Rattle.law_service.proofs.HostedRounds.{Hosting, has_planned, closing_opens, opening_said, leads, sole_host, said_message, host_member, closing_last}
-use Rattle.law_service.proofs.SaidByParts.{windowed}
+use Rattle.bus_terms.specs.HostedRounds.{IsHosted, slot_in, state_after_round}
+use Rattle.law_service.specs.ScheduleService.{OpeningsAreAccepted, ClosingsAreAccepted}
+use Rattle.bus_terms.proofs.HostsOfRanks.{due_rank}
+use Rattle.bus_terms.proofs.HostedRounds.{Hosting, has_planned, closing_opens, opening_said, leads, sole_host, said_message, host_member, closing_last}
+use Rattle.bus_terms.proofs.SaidByParts.{windowed}
 use Rattle.law_service.proofs.SoleVoices.{accepts, accepts_said}
 use Rattle.law_service.proofs.GrantedSlots.{some_gap}
 

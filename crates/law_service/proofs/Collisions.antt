@@ -23,9 +23,9 @@ use Rattle.bus_terms.proofs.ReceivedByPaths.{in_filtered, of_filtered, in_whole}
 use Rattle.bus_terms.proofs.ReceivedInRounds.{accepted_none}
 use Rattle.law_service.specs.Contenders.{DifferentPacketsCollide, Collide, ContendersAreLost, ContendersStayTied, AreTied}
 use Rattle.law_service.specs.Reach.{is_linked, TakesPart}
-use Rattle.law_service.specs.ScheduleService.{slot_in, node_before}
-use Rattle.law_service.proofs.ContentionSlots.{contention_at, requests, only_requests}
-use Rattle.law_service.proofs.HostedRounds.{said_message, left_windowed}
+use Rattle.bus_terms.specs.HostedRounds.{slot_in, node_before}
+use Rattle.bus_terms.proofs.ContentionSlots.{contention_at, requests, only_requests}
+use Rattle.bus_terms.proofs.HostedRounds.{said_message, left_windowed}
 use Rattle.law_service.proofs.TiedNodes.{contention_keeps}
 
 -- what nobody receives

@@ -21,7 +21,7 @@ use Rattle.bus_terms.proofs.ReceivedByPaths.{of_filtered, in_whole}
 use Rattle.bus_terms.proofs.ReceivedInRounds.{ids_rise}
 use Rattle.law_service.specs.Reach.{TakesPart}
 use Rattle.law_service.specs.DataService.{DataIsDelivered}
-use Rattle.law_service.proofs.SaidByParts.{window_of, owner_alone}
+use Rattle.bus_terms.proofs.SaidByParts.{window_of, owner_alone}
 use Rattle.law_service.proofs.SoleVoices.{accepts, accepts_said}
 
 -- what the owner says

@@ -18,9 +18,9 @@ use Rattle.bus_terms.specs.Bus.{state_at}
 use Rattle.bus_terms.specs.Rounds.{before_slot}
 use Rattle.bus_terms.specs.ScriptedStates.{setup_in}
 use Rattle.law_service.specs.FirstSlots.{table_at, PlansRound, FitsNextRound, RoundsFollow, OwedSlotsAreGranted, NewStreamsAreGranted}
-use Rattle.law_service.specs.ScheduleService.{IsHosted, slot_in, node_before, state_after_round}
+use Rattle.bus_terms.specs.HostedRounds.{IsHosted, slot_in, node_before, state_after_round}
 use Rattle.law_service.proofs.GrantedSlots.{gap_range, round_gap, fitting_grants, table_has}
-use Rattle.law_service.proofs.HostedRounds.{Hosting, leads, has_planned}
+use Rattle.bus_terms.proofs.HostedRounds.{Hosting, leads, has_planned}
 use Rattle.law_service.proofs.LoneRequests.{same_core, at_closing, asked}
 use Rattle.law_service.proofs.SoleVoices.{is_another}
 

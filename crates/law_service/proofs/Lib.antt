@@ -1,17 +1,11 @@
 -- for this crate alone
 mod LosslessSlots
 mod SoleVoices
-mod HostsOfRanks
-mod HostedRounds
 mod AcceptedSchedules
 mod AcknowledgedRequests
-mod ContentionSlots
-mod KeptNone
-mod KeptByHosts
 mod LoneRequests
 mod GrantedSlots
 mod FirstRounds
-mod SaidByParts
 mod DeliveredData
 mod TiedNodes
 mod Collisions

@@ -1,7 +1,7 @@
 -- A request that alone is said in a contention slot without losses is kept by the host within reach, and acknowledged.
-use Rattle.std.proofs.Common.{◌≡◌, ◌≢◌, ◌<◌, ◌≤◌, ◌+◌, ◌-◌, ◌&&◌, ℕ, zero, suc, List, [], ◌∷◌, ◌++◌, Bool, false, inl, inr, Option, Some, None}
-use Rattle.std.proofs.Common.{length, nat_lt, add-one, refl, sym, ◌∙◌, ap, subst, arith}
-use Rattle.std.proofs.lemmas.Bool.{cond-true, lt-ltb, and_from, cases_Bool, cond-false}
+use Rattle.std.proofs.Common.{◌≡◌, ◌≢◌, ◌<◌, ◌≤◌, ◌+◌, ◌-◌, ℕ, zero, suc, List, [], ◌∷◌, ◌++◌, false, Option, Some, None}
+use Rattle.std.proofs.Common.{length, add-one, refl, sym, ◌∙◌, ap, subst, arith}
+use Rattle.std.proofs.lemmas.Bool.{cond-true}
 use Rattle.std.proofs.lemmas.List.{append_assoc}
 use Rattle.std.proofs.lemmas.Option.{same_Some}
 use Rattle.lwb_base.specs.Messages.{Ask, Plan, code_of}
@@ -11,7 +11,7 @@ use Rattle.scenario_text.proofs.SoundScenarios.{sound}
 use Rattle.bus_rules.specs.declared.part.Part.{Part}
 use Rattle.bus_rules.specs.Cores.{Core}
 use Rattle.bus_rules.specs.Plans.{last_slot}
-use Rattle.bus_rules.specs.Slots.{Message, ScheduleOf, DataOf, RequestOf, opened_slot, part_of, hosts_now, host_closes, most_kept}
+use Rattle.bus_rules.specs.Slots.{Message, ScheduleOf, DataOf, RequestOf, opened_slot, part_of, hosts_now, host_closes}
 use Rattle.bus_rules.specs.States.{State, StateOn}
 use Rattle.bus_rules.specs.Tables.{Table, is_full}
 use Rattle.bus_rules.specs.HostPlans.{answers_to}
@@ -23,13 +23,13 @@ use Rattle.bus_terms.specs.Rounds.{Slot, accepted_at, before_slot, takes_part}
 use Rattle.bus_terms.specs.ScriptedStates.{setup_in}
 use Rattle.bus_terms.proofs.ReceivedByPaths.{in_whole}
 use Rattle.bus_terms.proofs.ReceivedInRounds.{ids_rise}
-use Rattle.law_service.specs.ScheduleService.{slot_in}
+use Rattle.bus_terms.specs.HostedRounds.{slot_in}
 use Rattle.law_service.specs.RequestService.{ReachesHost, Acknowledges, LoneRequestsAreKept, LoneRequestsAreAcknowledged}
 use Rattle.law_service.proofs.AcknowledgedRequests.{NoneOf, none_more, plan_acks}
-use Rattle.law_service.proofs.ContentionSlots.{contention_at, IsRequest, requests, kept_by, own_of}
-use Rattle.law_service.proofs.HostedRounds.{Hosting, leads, has_planned, said_message}
+use Rattle.bus_terms.proofs.ContentionSlots.{contention_at, IsRequest, requests, kept_by, own_of}
+use Rattle.bus_terms.proofs.HostedRounds.{Hosting, leads, has_planned, said_message}
 use Rattle.law_service.proofs.SoleVoices.{accepts_said}
-use Rattle.law_service.proofs.KeptByHosts.{request_from, own_same, slot_kept, room}
+use Rattle.bus_terms.proofs.KeptByHosts.{request_from, own_same, slot_kept}
 
 -- the host with the request that it kept, and with those that it kept after
 pub record Tracked (c : Core) (a : Ask) (x : State) : Type 0 where
@@ -66,13 +66,11 @@ module _ (s : ScenarioParts) (scenario : IsSoundScenario s) (rank f : ℕ) (p : 
       let lead = leads s rank f p host reaches.hosted j (let soon = early in omega (arith, soon)) in
       let d = slot_kept s rank f p host reaches.hosted j late early lead in
       let same : lead.core ≡ c = same_core lead.core c (at j host) lead.on reaches.on in
-      let free = room s rank f p host reaches.hosted j late early lead in
-      let takes = and_from (hosts_now f lead.core) (nat_lt (length lead.core.kept) (most_kept s.profile)) (hosts_own rank f lead.core.tune lead.due)
-      (lt-ltb (length lead.core.kept) (most_kept s.profile) free) in (
+      let now = hosts_own rank f lead.core.tune lead.due in (
         d.0,
         d.1,
         d.2 ∙ ap (λ (h : Option Message). kept_by (setup_in s host) f lead.core h) heard
-            ∙ cond-true (hosts_now f lead.core && nat_lt (length lead.core.kept) (most_kept s.profile)) (lead.core.kept ++ a ∷ []) lead.core.kept takes
+            ∙ cond-true (hosts_now f lead.core) (lead.core.kept ++ a ∷ []) lead.core.kept now
             ∙ ap (λ (e : Core). e.kept ++ a ∷ []) same,
         d.3 ∙ ap (λ (e : Core). e.table) same,
       )
@@ -147,11 +145,8 @@ module _ (s : ScenarioParts) (scenario : IsSoundScenario s) (rank f : ℕ) (p : 
       by_heard (Some (DataOf y)) is = keeps (d.2 ∙ ap (λ (h : Option Message). kept_by (setup_in s host) f lead.core h) is)
       by_heard (Some (RequestOf b)) is =
           let kept = d.2 ∙ ap (λ (h : Option Message). kept_by (setup_in s host) f lead.core h) is in
-          let takes : Bool = hosts_now f lead.core && nat_lt (length lead.core.kept) (most_kept s.profile) in
-          elim (cases_Bool takes) [
-            | inl room ↦ adds b (other n soon b is) (kept ∙ cond-true takes (lead.core.kept ++ b ∷ []) lead.core.kept room)
-            | inr full ↦ keeps (kept ∙ cond-false takes (lead.core.kept ++ b ∷ []) lead.core.kept full)
-          ]
+          let now = hosts_own rank f lead.core.tune lead.due in
+          adds b (other n soon b is) (kept ∙ cond-true (hosts_now f lead.core) (lead.core.kept ++ b ∷ []) lead.core.kept now)
 
   track : (n : ℕ) → j + suc n ≤ last_slot p → Tracked c a (at (j + suc n) host)
   track zero within = subst (λ (i : ℕ). Tracked c a (at i host)) (omega arith) kept_now

@@ -13,7 +13,7 @@ use Rattle.bus_terms.specs.Distances.{walks}
 use Rattle.bus_terms.specs.Flooding.{moment}
 use Rattle.bus_terms.specs.Rounds.{before_slot, message_said}
 use Rattle.law_service.specs.Reach.{is_linked, HasNoLines, LosesNothing, IsWithin}
-use Rattle.law_service.specs.ScheduleService.{IsHosted, slot_in}
+use Rattle.bus_terms.specs.HostedRounds.{IsHosted, slot_in}
 use Rattle.law_service.proofs.LosslessSlots.{lose_nothing}
 use Rattle.law_service.proofs.WorkedReach.{three}
 

@@ -13,7 +13,7 @@ use Rattle.bus_terms.specs.Flooding.{moment, accepted}
 use Rattle.bus_terms.specs.Rounds.{before_slot, rounds}
 use Rattle.bus_terms.specs.ScriptedStates.{is_on_and}
 use Rattle.bus_terms.specs.Bus.{before_frame, state_at}
-use Rattle.law_service.specs.ScheduleService.{slot_in}
+use Rattle.bus_terms.specs.HostedRounds.{slot_in}
 use Rattle.law_service.proofs.WorkedReach.{line, three}
 
 -- node 1 hosts its first round in frame 5

@@ -11,7 +11,7 @@ use Rattle.bus_rules.specs.Streams.{Streams, after_contention, due_stream, is_ho
 use Rattle.bus_terms.specs.Flooding.{Setting, candidates, has, hears, moment}
 use Rattle.bus_terms.specs.Rounds.{Slot, accepted_at, message_said}
 use Rattle.law_service.specs.Reach.{is_linked, TakesPart, LosesNothing}
-use Rattle.law_service.specs.ScheduleService.{slot_in, node_before}
+use Rattle.bus_terms.specs.HostedRounds.{slot_in, node_before}
 
 -- nodes u and v have ids that are equal modulo 16, equal tries and equal backoff
 pub record AreTied (u v : ℕ) (a b : Streams) : Type 0 where

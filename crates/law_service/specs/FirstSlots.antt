@@ -12,7 +12,7 @@ use Rattle.bus_rules.specs.Plans.{last_slot}
 use Rattle.bus_rules.specs.States.{StateOn}
 use Rattle.bus_rules.specs.Tables.{Entry, Table, is_full}
 use Rattle.law_service.specs.RequestService.{ReachesHost}
-use Rattle.law_service.specs.ScheduleService.{IsHosted, node_before, state_after_round}
+use Rattle.bus_terms.specs.HostedRounds.{IsHosted, node_before, state_after_round}
 
 -- the table from which a host, which is c before the closing slot of frame f, plans its next round: with the requests that it
 -- kept, and then its own

@@ -11,7 +11,7 @@ use Rattle.bus_rules.specs.States.{StateOn}
 use Rattle.bus_rules.specs.Tables.{is_full}
 use Rattle.bus_terms.specs.Rounds.{message_said}
 use Rattle.law_service.specs.Reach.{TakesPart, LosesNothing, IsWithin}
-use Rattle.law_service.specs.ScheduleService.{IsHosted, slot_in, node_before, state_after_round}
+use Rattle.bus_terms.specs.HostedRounds.{IsHosted, slot_in, node_before, state_after_round}
 
 -- slot j of the round is one of contention, after those of data and before the last, and in it u requests a, and nobody else
 -- says anything

@@ -1,37 +1,15 @@
 -- What the schedules of a round reach where nothing is lost.
-use Rattle.std.specs.Prelude.{◌≡◌, ◌<◌, ◌+◌, ℕ, suc, true, Some}
+use Rattle.std.specs.Prelude.{◌≡◌, ◌<◌, ℕ, suc, true}
 use Rattle.lwb_base.specs.Messages.{Plan}
 use Rattle.scenario_text.specs.ScenarioParts.{ScenarioParts}
 use Rattle.scenario_text.specs.ScenarioGrammar.{IsScenario}
 use Rattle.bus_rules.specs.declared.tune.Tune.TheVariants.{Hold, Host}
 use Rattle.bus_rules.specs.Cores.{Core, is_fresh}
 use Rattle.bus_rules.specs.Plans.{last_slot}
-use Rattle.bus_rules.specs.States.{State, StateOn}
-use Rattle.bus_rules.specs.Tuning.{hosts_in}
-use Rattle.bus_terms.specs.Bus.{state_at}
-use Rattle.bus_terms.specs.Flooding.{Accepts, has}
-use Rattle.bus_terms.specs.FloodOfText.{ids}
-use Rattle.bus_terms.specs.Rounds.{Slot, slot_at, before_slot, round_plan}
-use Rattle.bus_terms.specs.ScriptedStates.{is_on_and}
+use Rattle.bus_rules.specs.States.{StateOn}
+use Rattle.bus_terms.specs.Flooding.{Accepts}
+use Rattle.bus_terms.specs.HostedRounds.{IsHosted, slot_in, node_before, state_after_round}
 use Rattle.law_service.specs.Reach.{LosesNothing, IsWithin}
-
--- slot j of the round of this rank and frame, which has plan p
-abbrev pub slot_in : ScenarioParts → ℕ → ℕ → Plan → ℕ → Slot
-slot_in s rank f p j = slot_at s rank f p (state_at s f) j
-
--- node v before that slot
-abbrev pub node_before : ScenarioParts → ℕ → ℕ → Plan → ℕ → ℕ → State
-node_before s rank f p j v = before_slot s rank f p (state_at s f) j v
-
--- and after the round
-abbrev pub state_after_round : ScenarioParts → ℕ → ℕ → Plan → ℕ → State
-state_after_round s rank f p v = node_before s rank f p (last_slot p + 1) v
-
--- a node of the scenario hosts the round of this rank in frame f, which has plan p
-pub record IsHosted (s : ScenarioParts) (rank f : ℕ) (p : Plan) (host : ℕ) : Type 0 where
-  pub known : has (ids s.nodes) host ≡ true
-  pub due : is_on_and (λ c. hosts_in rank f c.tune) (state_at s f host) ≡ true
-  pub plan : round_plan s rank f (state_at s f) ≡ Some p
 
 -- v accepts the opening schedule in step k. It then has the plan of this round, and is fresh: it may request in it
 pub record AcceptsOpening (s : ScenarioParts) (rank f : ℕ) (p : Plan) (host k v : ℕ) : Type 0 where

@@ -1,8 +1,8 @@
 -- What a node keeps stays in its ranges through boots, ends of frames, openings and closings of windows.
-use Rattle.std.proofs.Common.{◌≡◌, ℕ, ◌+◌, ◌%◌, ◌<◌, ◌≤◌, List, [], ◌∷◌, ◌++◌, length, Bool, true, false, ◌&&◌, ◌==◌, nat_lt, if◌then◌else◌, Some, None, Option}
+use Rattle.std.proofs.Common.{◌≡◌, ℕ, ◌+◌, ◌%◌, ◌<◌, ◌≤◌, List, [], ◌∷◌, ◌++◌, Bool, true, false, ◌&&◌, ◌==◌, nat_lt, if◌then◌else◌, Some, None, Option}
 use Rattle.std.proofs.Common.{IfSome, refl, sym, ◌∙◌, ap, subst, arith, mod-lt}
 use Rattle.std.specs.List.{list_all}
-use Rattle.std.proofs.lemmas.Bool.{cond_both, and_parts, and_from, ltb-true, eqb-false}
+use Rattle.std.proofs.lemmas.Bool.{cond_both, and_parts, and_from, eqb-false}
 use Rattle.std.proofs.lemmas.List.{length_push}
 use Rattle.std.proofs.lemmas.List.Folds.{list_all-append}
 use Rattle.lwb_base.specs.Messages.{Ask, Schedule, node_of, stream_of}
@@ -18,9 +18,9 @@ use Rattle.bus_rules.specs.HostPlans.{host_plan}
 use Rattle.bus_rules.specs.Cores.{Core, Setup, booted, is_fresh, begins_host, new_host, as_host, frame_ended, opening_accepted, closing_accepted}
 use Rattle.bus_rules.specs.Cores.{schedule_accepted}
 use Rattle.bus_rules.specs.Slots.{Opened, Message, ScheduleOf, DataOf, RequestOf, hosts_now, opened_slot, host_closes, silent, is_own, owner_heard, slot_heard}
-use Rattle.bus_rules.specs.Slots.{most_kept, closed_slot}
+use Rattle.bus_rules.specs.Slots.{closed_slot}
 use Rattle.bus_rules.proofs.Ranks.{rank_is}
-use Rattle.lwb_member.specs.Members.{IsBoot}
+use Rattle.lwb_member.specs.Members.{IsBoot, MayAccept}
 use Rattle.lwb_member.proofs.HostPlanned.{contend_few}
 use Rattle.law_trails.specs.StreamRanges.{AreStreams}
 use Rattle.law_trails.specs.TableRanges.{IsTable}
@@ -266,12 +266,12 @@ module _ (s : Setup) (set : IsSetup s) where
         kept = is.kept;
       })
 
-  kept_is : (f : ℕ) (c : Core) (a : Ask) → ask_in_range a ≡ true → IsCore s c
-      → IsCore s (record c { kept = if hosts_now f c && nat_lt (length c.kept) (most_kept s.profile) then c.kept ++ a ∷ [] else c.kept })
-  kept_is f c a range is =
-      cond_both (hosts_now f c && nat_lt (length c.kept) (most_kept s.profile)) (c.kept ++ a ∷ []) c.kept (λ (l : List Ask). IsCore s (record c { kept = l }))
-      (λ more.
-      let less = ltb-true (length c.kept) (most_kept s.profile) (and_parts (hosts_now f c) (nat_lt (length c.kept) (most_kept s.profile)) more).1 in
+  kept_is : (f : ℕ) (c : Core) (a : Ask) → ask_in_range a ≡ true → MayAccept s f c (Some (RequestOf a)) → IsCore s c
+      → IsCore s (record c { kept = if hosts_now f c then c.kept ++ a ∷ [] else c.kept })
+  kept_is f c a range room is =
+      cond_both (hosts_now f c) (c.kept ++ a ∷ []) c.kept (λ (l : List Ask). IsCore s (record c { kept = l }))
+      (λ now.
+      let less = room now in
       let long = length_push c.kept a in
       record {
         boot = is.boot;
@@ -283,15 +283,15 @@ module _ (s : Setup) (set : IsSetup s) where
         hosted = is.hosted;
         streams = is.streams;
         table = is.table;
-        few = omega arith;
+        few = omega (arith, less, long);
         kept = list_all-append ask_in_range c.kept (a ∷ [])
             ∙ and_from (list_all ask_in_range c.kept) (list_all ask_in_range (a ∷ [])) is.kept (and_from _ _ range refl);
       })
-      (λ full. is)
+      (λ other. is)
 
-  pub closed_is : (f : ℕ) (part : Part) (initiated : Bool) (c : Core) (m : Option Message) → IfSome m (MayTake c) → IsCore s c
+  pub closed_is : (f : ℕ) (part : Part) (initiated : Bool) (c : Core) (m : Option Message) → IfSome m (MayTake c) → MayAccept s f c m → IsCore s c
       → IsCore s (closed_slot s f part initiated c m).core
-  closed_is f part initiated c None may is = slot_is f part initiated c is
-  closed_is f part initiated c (Some (ScheduleOf x)) may is = accepted_is f x c may is
-  closed_is f part initiated c (Some (DataOf d)) may is = slot_is f part true c is
-  closed_is f part initiated c (Some (RequestOf a)) may is = kept_is f c a may is
+  closed_is f part initiated c None may room is = slot_is f part initiated c is
+  closed_is f part initiated c (Some (ScheduleOf x)) may room is = accepted_is f x c may is
+  closed_is f part initiated c (Some (DataOf d)) may room is = slot_is f part true c is
+  closed_is f part initiated c (Some (RequestOf a)) may room is = kept_is f c a may room is

@@ -70,6 +70,7 @@ stage_stays s f c x (InWindow j w) at = record {
   next = at.next;
   flood = at.flood;
   own = at.own;
+  inside = at.inside;
   goes_on = at.goes_on;
   hosted = at.hosted;
 }
@@ -126,7 +127,12 @@ module _ (s : Setup) (set : IsSetup s) (Q H : List ℕ → Type 0) (rules : AreR
   new_streams : (d : Device) (n : Node) (x : Streams) → IsNodeInRange s n → AreStreams s.profile x → IsRanged Q s d
       → IsRanged Q s (with_new_core d n (record (n.core) { streams = x }))
   new_streams d n x node are is = record {
-    power = record { core = with_streams s set n.core x node.core are; frame = node.frame; stage = stage_stays s n.frame n.core x n.stage node.stage };
+    power = record {
+      core = with_streams s set n.core x node.core are;
+      frame = node.frame;
+      stage = stage_stays s n.frame n.core x n.stage node.stage;
+      kept = record { few = node.kept.few; none = node.kept.none; named = node.kept.named };
+    };
     ordered = is.ordered;
     sending = is.sending;
     sent = is.sent;

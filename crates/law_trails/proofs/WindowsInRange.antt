@@ -19,12 +19,17 @@ use Rattle.bus_rules.specs.declared.part.Part.TheVariants.{Opening, Data as Data
 use Rattle.bus_rules.specs.Plans.{last_slot, opening}
 use Rattle.bus_rules.specs.Tuning.{rank_of, hosts}
 use Rattle.bus_rules.specs.Cores.{Core, Setup}
-use Rattle.bus_rules.specs.Slots.{Opened, Message, ScheduleOf, DataOf, RequestOf, hosts_now, part_of, opened_slot, host_closes, silent, is_schedule_part}
+use Rattle.bus_rules.specs.Slots.{Opened, Message, ScheduleOf, DataOf, RequestOf, hosts_now, part_of, opened_slot}
+use Rattle.bus_rules.specs.Slots.{host_closes, silent, is_schedule_part, closed_slot}
+use Rattle.lwb_member.specs.Members.{MayAccept}
 use Rattle.lwb_member.specs.Places.{IsPartOfSlot, kind_for}
 use Rattle.lwb_member.specs.Said.{message_of, data_in, request_in, MaySay}
 use Rattle.node_core.specs.Windows.{Window}
+use Rattle.node_core.specs.WindowClosing.{waits_after}
 use Rattle.node_core.specs.Rows.{flood_for, last_by, part_by, is_foreign, flood_by, hearing, accepted_in}
-use Rattle.node_core.specs.Standing.{IsInOwnRound}
+use Rattle.node_core.specs.Standing.{IsInOwnRound, IsInside, KeepsFew}
+use Rattle.node_core.specs.declared.stage.Stage.TheVariants.{InWindow}
+use Rattle.node_core.proofs.KeptRequests.{opens_inside, may_take, closes_keeps}
 use Rattle.air_log.proofs.SmallPlans.{few_slots, read_few}
 use Rattle.law_trails.specs.PlanRanges.{IsWholePlan}
 use Rattle.law_trails.specs.CoreRanges.{IsSetup, IsCore}
@@ -133,6 +138,7 @@ module _ (s : Setup) (set : IsSetup s) where
         next = next_is f j part c at;
         flood = flood_is part j o.message (says_in s set f j part c is at);
         own = λ other. own_first part j o.message (λ q. is_foreign (rank_of o.core.tune) (message_of q) ≡ false) other;
+        inside = opens_inside s f j c part refl;
         goes_on = goes_is f j part c at own;
         hosted = hosted_is f j part c own;
       }
@@ -171,6 +177,7 @@ module _ (s : Setup) (set : IsSetup s) where
         flood = subst (λ (k : Kind). IsFloodOfSlot s k j (after_heard start q)) (of_schedules x)
             (heard_is s Kinds.Schedule j start q few (listening_is s Kinds.Schedule j));
         own = λ other. heard_first (λ p. is_foreign (rank_of c.tune) (message_of p) ≡ false) start q mine tt;
+        inside = cond_both (x.gap == 0) Opening Closing (IsInside c.plan j (last_by x j)) (λ opens. tt) (λ closes. tt);
         goes_on = λ less host. absurd (none host);
         hosted = λ host is. absurd (none host);
       }
@@ -193,6 +200,7 @@ module _ (s : Setup) (set : IsSetup s) where
             (λ own. heard_is s (kind_for w.part) j w.flood q few is.flood);
         own = λ other. cond_both (is_foreign rank (message_of q)) w.flood (after_heard w.flood q) (λ (g : FloodState). IfSome g.first Mine)
             (λ foreign. is.own (sym same ∙ other)) (λ mine. heard_first Mine w.flood q mine (is.own (sym same ∙ other)));
+        inside = is.inside;
         goes_on = is.goes_on;
         hosted = λ host said. same ∙ is.hosted host said;
       }
@@ -206,6 +214,7 @@ module _ (s : Setup) (set : IsSetup s) where
     next = is.next;
     flood = sent_is s (kind_for w.part) j w.flood waits is.flood;
     own = is.own;
+    inside = is.inside;
     goes_on = is.goes_on;
     hosted = is.hosted;
   }
@@ -244,3 +253,19 @@ module _ (s : Setup) (set : IsSetup s) where
 
   pub accepted_may : (f j : ℕ) (c : Core) (w : Window) → IsOpenInRange s f c j w → IfSome (accepted_in w) (MayTake c)
   accepted_may f j c w is = by_first f j c w w.flood.initiated w.flood.first is refl refl
+
+  -- and what it keeps
+  spelled_of : (j : ℕ) (w : Window) (first : Option (List ℕ)) → IfSome first (IsCarried s (kind_for w.part) j)
+      → IfSome first (λ q. is_spelling (kind_for w.part) q ≡ true)
+  spelled_of j w None carried = tt
+  spelled_of j w (Some q) carried = carried.spelled
+
+  pub accepted_room : (f j : ℕ) (c : Core) (w : Window) → IsOpenInRange s f c j w → KeepsFew s.profile c (InWindow j w)
+      → MayAccept s f c (accepted_in w)
+  accepted_room f j c w is kept =
+      may_take s f j c w is.next (spelled_of j w w.flood.first is.flood.first) is.inside is.hosted kept (accepted_in w) refl
+
+  pub closed_keeps : (f j : ℕ) (c : Core) (w : Window) → IsOpenInRange s f c j w → KeepsFew s.profile c (InWindow j w)
+      → KeepsFew s.profile (closed_slot s f w.part w.flood.initiated c (accepted_in w)).core (waits_after j w.last)
+  closed_keeps f j c w is kept = closes_keeps s f j c w is.next (spelled_of j w w.flood.first is.flood.first) is.inside is.hosted kept
+      (waits_after j w.last) w.flood.initiated (accepted_in w) refl refl

@@ -7,9 +7,9 @@ use Rattle.lwb_base.specs.Profile.{IsProfile}
 use Rattle.lwb_base.specs.Messages.{Plan}
 use Rattle.schedule_codec.specs.AckLists.{ask_in_range}
 use Rattle.bus_rules.specs.declared.tune.Tune.{Tune}
+use Rattle.bus_rules.specs.Plans.{slots_named}
 use Rattle.bus_rules.specs.Tuning.{rank_of, hosts, is_scan, HasWaited}
 use Rattle.bus_rules.specs.Cores.{Core, Setup}
-use Rattle.bus_rules.specs.Slots.{most_kept}
 use Rattle.lwb_member.specs.Members.{IsBoot}
 use Rattle.law_trails.specs.StreamRanges.{AreStreams}
 use Rattle.law_trails.specs.TableRanges.{IsTable}
@@ -45,5 +45,5 @@ pub record IsCore (s : Setup) (c : Core) : Type 0 where
   pub hosted : hosts c.tune ≡ true → IsHosting s c.boot c.tune c.plan
   pub streams : AreStreams s.profile c.streams
   pub table : IsTable c.table
-  pub few : length c.kept ≤ most_kept s.profile
+  pub few : length c.kept ≤ slots_named s.profile.contend
   pub kept : list_all ask_in_range c.kept ≡ true

@@ -16,7 +16,7 @@ use Rattle.node_core.specs.declared.stage.Stage.TheVariants.{Idle, Scanning, Awa
 use Rattle.node_core.specs.Windows.{Window}
 use Rattle.node_core.specs.Nodes.{Node}
 use Rattle.node_core.specs.Rows.{is_foreign}
-use Rattle.node_core.specs.Standing.{IsInOwnRound}
+use Rattle.node_core.specs.Standing.{IsInOwnRound, IsInside, KeepsFew}
 use Rattle.law_trails.specs.CoreRanges.{IsCore}
 
 -- what a flood carries
@@ -41,6 +41,7 @@ pub record IsOpenInRange (s : Setup) (f : ℕ) (c : Core) (j : ℕ) (w : Window)
   pub next : j < w.last → (j ≡ 0) ⊎ ((is_schedule_part w.part ≡ false) × (w.last ≡ last_slot c.plan))
   pub flood : IsFloodOfSlot s (kind_for w.part) j w.flood
   pub own : w.flood.initiated ≡ false → IfSome w.flood.first (λ q. is_foreign (rank_of c.tune) (message_of q) ≡ false)
+  pub inside : IsInside c.plan j w.last w.part
   pub goes_on : j < w.last → IsInOwnRound f c
   pub hosted : hosts c.tune ≡ true → is_schedule_part w.part ≡ true → w.flood.initiated ≡ true
 
@@ -55,3 +56,4 @@ pub record IsNodeInRange (s : Setup) (n : Node) : Type 0 where
   pub core : IsCore s n.core
   pub frame : n.frame ≤ LAST_FRAME
   pub stage : IsInStage s n.frame n.core n.stage
+  pub kept : KeepsFew s.profile n.core n.stage

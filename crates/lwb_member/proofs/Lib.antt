@@ -4,8 +4,8 @@ pub mod Lengths
 pub mod Told
 pub mod Answering
 pub mod HostPlanned
+pub mod Beginning
 -- for this crate alone
 pub mod AnswersInOrder
 pub mod Meanings
-pub mod Beginning
 pub mod KeptTables

@@ -23,7 +23,8 @@ use schedule_codec::{Ack, Schedule};
 
 impl Member {
     /// A slot of this part closes, in this frame, which is at most `LAST_FRAME`; in it the node initiated, accepted this, or
-    /// neither. What is delivered, if some is. A host accepts no schedule.
+    /// neither. What is delivered, if some is. A host accepts no schedule, and at most one request in each contention slot of
+    /// its round.
     pub fn close(
         &mut self,
         frame: u32,
@@ -34,7 +35,7 @@ impl Member {
     ) -> Option<Delivery>
         requires frame { frame ≤ LAST_FRAME }
         requires ranges { IfSome accepted IsHeardInRange }
-        requires host { MayAccept self.old.core (option_map meaning accepted) }
+        requires host { MayAccept self.old.setup frame self.old.core (option_map meaning accepted) }
         requires early { IsEarly frame self.old.core.table }
         ensures core { self.new ≡ record self.old
             { core = (closed_slot self.old.setup frame part initiated self.old.core (option_map meaning accepted)).core } }
@@ -121,12 +122,11 @@ impl Member {
     // A host keeps an accepted request until it plans.
     #[tactic(auto, using(crate::proofs::HostPlanned::contend_few))]
     fn keep(&mut self, frame: u32, ask: Ack)
-        requires { ask_in_range ask ≡ true }
+        requires ask { ask_in_range ask ≡ true }
+        requires room { MayAccept self.old.setup frame self.old.core (Some (RequestOf ask)) }
         ensures { self.new ≡ record self.old { core = (closed_slot self.old.setup frame (Contention 1) false self.old.core (Some (RequestOf ask))).core } }
     {
-        if self.hosts_now(frame)
-            && self.kept.len() < usize::from(contention_slots(self.profile.contend()))
-        {
+        if self.hosts_now(frame) {
             self.kept.push(Kept { ask });
         }
     }

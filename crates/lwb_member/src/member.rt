@@ -1,8 +1,8 @@
 //! A node as a member of its rounds.
 
-ghost use Rattle.std.specs.Prelude.{◌≡◌, ◌+◌, ◌≤◌, ◌<◌, Some, None, IfOk, IfSome, length, is_some, [], if◌then◌else◌};
+ghost use Rattle.std.specs.Prelude.{◌≡◌, ◌+◌, ◌≤◌, ◌<◌, Some, None, IfOk, IfSome, length, is_some, nat_lt, [], if◌then◌else◌};
 ghost use Rattle.lwb_base.specs.declared.limits.TheConstants.{DATA_SLOTS, LAST_FRAME};
-ghost use Rattle.bus_rules.specs.Plans.{last_slot as last_slot_of};
+ghost use Rattle.bus_rules.specs.Plans.{last_slot as last_slot_of, slots_named};
 ghost use Rattle.bus_rules.specs.Tuning.{rank_of};
 ghost use Rattle.bus_rules.specs.Cores.{booted, frame_ended, is_fresh, begins_host as begins};
 ghost use Rattle.bus_rules.specs.Slots.{part_of, hosts_now};
@@ -14,7 +14,7 @@ ghost use Rattle.lwb_member.specs.Places.{IsPartOfSlot};
 use crate::kept::Kept;
 use crate::round_end::last_slot;
 use arrayvec::ArrayVec;
-use bus_rules::{Part, Tune};
+use bus_rules::{Part, Tune, contention_slots};
 use host_failover::Tuner;
 use lwb_base::{Memory, NodeId, Payload, Profile, Rank};
 use schedule_codec::{Acks, Owners, Schedule};
@@ -194,6 +194,13 @@ impl Member {
             Tune::Host(_, due) => due == frame,
             Tune::Hold(..) | Tune::Scan(..) => false,
         }
+    }
+
+    /// Whether it keeps fewer requests than a round that it hosts has contention slots.
+    pub fn has_room(&self) -> bool
+        ensures { result ≡ nat_lt (length self.now.core.kept) (slots_named self.now.setup.profile.contend) }
+    {
+        self.kept.len() < usize::from(contention_slots(self.profile.contend()))
     }
 
     /// Whether it accepted this frame's opening schedule as a scanning node, and so takes part in its round.

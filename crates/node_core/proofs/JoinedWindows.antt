@@ -13,7 +13,7 @@ use Rattle.bus_rules.specs.Plans.{last_slot}
 use Rattle.bus_rules.specs.Cores.{Core}
 use Rattle.lwb_member.specs.Places.{kind_for}
 use Rattle.node_core.specs.Rows.{last_by, part_by}
-use Rattle.node_core.specs.Standing.{IsWindow}
+use Rattle.node_core.specs.Standing.{IsInside, IsWindow}
 use Rattle.node_core.proofs.KeptWindows.{Carries, carried}
 
 -- an opening is in slot 0, and nothing follows a closing
@@ -38,4 +38,6 @@ joined_stands c x p j n last z part flood part_is last_is flood_is fits early =
       kind = own.0;
       carried = own.1;
       reference = early;
+      inside = subst (IsInside c.plan j last) (sym part_is)
+          (cond_both (x.gap == 0) Opening Closing (IsInside c.plan j last) (λ opens. tt) (λ closes. tt));
     }

@@ -52,6 +52,7 @@ hearing_stands p rank now j c w q early is =
       carried = after.1;
       reference =
           cond_both test (Some (zero_from p now q)) w.reference (λ (o : Option ℕ). IfSome o (λ z. z < 2 ^ 47)) (λ first. omega arith) (λ not. is.reference);
+      inside = is.inside;
     }
 
 -- a host that says the schedules of its round itself goes on doing so

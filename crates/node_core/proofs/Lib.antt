@@ -2,7 +2,9 @@
 pub mod KeptBoots
 pub mod NamedDeliveries
 pub mod WindowKinds
+pub mod KeptRequests
 -- for this crate alone
+pub mod AcceptedKinds
 pub mod KeptWindows
 pub mod PassedWindows
 pub mod Timed

@@ -10,7 +10,7 @@ use Rattle.node_core.specs.Windows.{Window}
 use Rattle.node_core.specs.Rows.{Stepped, row_to_next_slot, zero_by, window_closes}
 use Rattle.node_core.proofs.WindowKinds.{zero_stays}
 
-said_none : (a : Option (List ℕ × ℕ)) → is_some a ≡ false → option_and_then (λ (x : List ℕ × ℕ). message_of x.0) a ≡ None
+pub said_none : (a : Option (List ℕ × ℕ)) → is_some a ≡ false → option_and_then (λ (x : List ℕ × ℕ). message_of x.0) a ≡ None
 said_none None is = refl
 said_none (Some x) is = cc
 

@@ -1,5 +1,5 @@
--- The row of the alarm at which a window closes, by the stage of the node.
-use Rattle.std.specs.Prelude.{Some, None}
+-- The row of the alarm at which a window closes, by the stage of the node, and where the node waits then.
+use Rattle.std.specs.Prelude.{ℕ, ◌+◌, nat_lt, if◌then◌else◌, Some, None}
 use Rattle.std.specs.declared.option.Option.{Option}
 use Rattle.bus_rules.specs.Cores.{Setup}
 use Rattle.node_core.specs.declared.stage.Stage.{Stage}
@@ -13,3 +13,7 @@ row_at_closing s n Idle = None
 row_at_closing s n Scanning = None
 row_at_closing s n AwaitFrame = None
 row_at_closing s n (AwaitSlot j) = None
+
+-- after the window of slot j of a round that ends with the last
+abbrev pub waits_after : ℕ → ℕ → Stage
+waits_after j last = if nat_lt j last then AwaitSlot (j + 1) else AwaitFrame

@@ -1,6 +1,6 @@
 //! The rows of the node table in which power comes on and in which a frame ends.
 
-ghost use Rattle.std.specs.Prelude.{◌≡◌, ◌≤◌, ◌<◌, ◌^◌, ◌==◌, None, if◌then◌else◌};
+ghost use Rattle.std.specs.Prelude.{◌≡◌, ◌≤◌, ◌<◌, ◌^◌, ◌==◌, [], None, if◌then◌else◌};
 ghost use Rattle.node_core.specs.declared.stage.Stage.TheVariants.{AwaitFrame, AwaitSlot};
 ghost use Rattle.node_core.specs.Rows.{boots, frame_alarms, waits};
 ghost use Rattle.node_core.specs.Standing.{IsDue};
@@ -31,8 +31,10 @@ impl Node {
     }
 
     // Frame alarm, and quiet ends where the node begins to host.
+    #[tactic(auto, using(crate::proofs::KeptRequests::frame_keeps))]
     pub(crate) fn end_frame<R: Radio>(&mut self, radio: &mut R)
-        requires { 2 ≤ (R.told radio.old).room }
+        requires kept { self.old.node.core.kept ≡ [] }
+        requires room { 2 ≤ (R.told radio.old).room }
         ensures node { self.new ≡ record self.old { node = (frame_alarms self.old.setup self.old.node).node; delivery = None } }
         ensures orders { Gives (R.told radio.old) (R.told radio.new) (frame_alarms self.old.setup self.old.node).orders }
     {
@@ -57,8 +59,9 @@ impl Node {
         }
     }
 
-    // It waits for slot 0 where the round is due in this frame, else for the end of the frame.
+    // It waits for slot 0 where the round is due in this frame, else further for the end of the frame.
     fn wait_for<R: Radio>(&mut self, due: u32, radio: &mut R)
+        requires stage { self.old.node.stage ≡ AwaitFrame }
         requires room { 2 ≤ (R.told radio.old).room }
         requires due { IsDue due self.old.node.core.tune }
         ensures node { self.new ≡ record self.old { node = record self.old.node { stage = if due == self.old.node.frame then AwaitSlot 0 else AwaitFrame } } }
@@ -69,7 +72,6 @@ impl Node {
             self.stage = Stage::AwaitSlot(0);
             radio.alarm(self.reference.zero());
         } else {
-            self.stage = Stage::AwaitFrame;
             radio.alarm(frame_alarm(&self.member.profile(), self.frame));
         }
     }

@@ -35,6 +35,7 @@ impl Node {
     }
 
     // The alarm is due.
+    #[tactic(auto, using(crate::proofs::KeptRequests::scanner_keeps_none, crate::proofs::KeptRequests::waiter_keeps_none))]
     fn alarm<R: Radio>(&mut self, radio: &mut R)
         requires { 3 ≤ (R.told radio.old).room }
         ensures { GoesThroughRow self.old self.new (R.told radio.old) (R.told radio.new) (at_alarm self.old.setup self.old.node self.old.node.stage) }

@@ -3,12 +3,11 @@
 ghost use Rattle.std.specs.Prelude.{◌≡◌, ◌≤◌, ◌<◌, ◌^◌, ◌+◌, IfSome};
 ghost use Rattle.std.specs.Option.{option_map};
 ghost use Rattle.time_reference.specs.Reference.{times_of};
-ghost use Rattle.bus_rules.specs.Plans.{last_slot};
-ghost use Rattle.node_core.specs.WindowClosing.{row_at_closing};
+ghost use Rattle.node_core.specs.WindowClosing.{row_at_closing, waits_after};
 ghost use Rattle.lwb_member.specs.Members.{IsHeardInRange};
 ghost use Rattle.node_core.specs.Rows.{accepted_in, row_to_next_slot, window_closes, zero_by as zero_taken};
 ghost use Rattle.lwb_member.specs.Said.{meaning};
-ghost use Rattle.node_core.specs.Standing.{GoesThroughRow, HostsIn, IsInOwnRound, IsWindow};
+ghost use Rattle.node_core.specs.Standing.{GoesThroughRow, HostsIn, IsWindow};
 ghost use Rattle.lwb_base.specs.Orders.{Gives};
 ghost use Rattle.node_core.specs.declared.stage.Stage.TheVariants.{InWindow};
 
@@ -38,7 +37,7 @@ impl Node {
         }
         let (slot, last, part) = (*slot, window.last, window.part);
         let initiated = window.flood.initiated();
-        self.stage = Stage::AwaitFrame;
+        self.stage = stage_after(slot, last);
         forget(&mut self.delivery);
         self.member.pass(self.frame, part, initiated);
         self.go_on(slot, last, radio);
@@ -56,7 +55,7 @@ impl Node {
         let initiated = window.flood.initiated();
         let accepted = window.accepted();
         self.reference = self.reference_after(window.reference, &accepted);
-        self.stage = Stage::AwaitFrame;
+        self.stage = stage_after(slot, last);
         self.delivery = self
             .member
             .close(self.frame, slot, part, initiated, accepted);
@@ -80,8 +79,7 @@ impl Node {
     // After the window of this slot of a round that ends with the last.
     #[tactic(auto, using(crate::proofs::Timed::opening_is))]
     fn go_on<R: Radio>(&mut self, slot: u8, last: u8, radio: &mut R)
-        requires next { slot < last → slot + 1 ≤ last_slot self.old.node.core.plan }
-        requires own { slot < last → IsInOwnRound self.old.node.frame self.old.node.core }
+        requires stage { self.old.node.stage ≡ waits_after slot last }
         requires room { 2 ≤ (R.told radio.old).room }
         ensures node { self.new ≡ record self.old { node = (row_to_next_slot self.old.setup slot last self.old.node self.old.delivery).node } }
         ensures orders { Gives (R.told radio.old) (R.told radio.new) (row_to_next_slot self.old.setup slot last self.old.node self.old.delivery).orders }
@@ -89,15 +87,24 @@ impl Node {
         let profile = self.member.profile();
         radio.off();
         if slot < last {
-            self.stage = Stage::AwaitSlot(slot + 1);
             radio.alarm(self.reference.slot_start(slot + 1));
         } else {
-            self.stage = Stage::AwaitFrame;
             if let Tune::Host(_, due) = self.member.tune() {
                 self.reference = Reference::of_host(&profile, due);
             }
             radio.alarm(frame_alarm(&profile, self.frame));
         }
+    }
+}
+
+// Where a node waits after the window of this slot of a round that ends with the last.
+fn stage_after(slot: u8, last: u8) -> Stage
+    ensures { result ≡ waits_after slot last }
+{
+    if slot < last {
+        Stage::AwaitSlot(slot + 1)
+    } else {
+        Stage::AwaitFrame
     }
 }
 

@@ -17,7 +17,7 @@ use Rattle.plain_bus.proofs.SaidBehind.{window_at, first_at, as_many}
 use Rattle.plain_bus.proofs.TextFloods.{has_element}
 
 module _ (b : Behind) (ids : List ℕ) (ws : List Window) (xs : List Station) (behind : IsBehind b ids ws xs) (same : length ws ≡ length xs)
-    (n : ℕ → BusNode) (olds : List BusNode) (are : olds ≡ map n ids) (may : AllMay b ids n)
+    (n : ℕ → BusNode) (olds : List BusNode) (are : olds ≡ map n ids) (frame : ℕ) (may : AllMay frame b ids n)
     (i : ℕ) (here : i < length xs) (w : Window) (w_at : w ≡ get_or ws i w) (x : Station) (x_at : x ≡ get_or xs i x) (m : BusNode)
     (m_at : m ≡ get_or olds i m) where
   abbrev v : ℕ
@@ -41,9 +41,9 @@ module _ (b : Behind) (ids : List ℕ) (ws : List Window) (xs : List Station) (b
         heard ∙ ap (λ (y : Seen). heard_in b y.initiates x.heard) window_is
         ∙ ap (heard_in b (b.window v).initiates) (first_at b ids ws xs behind i x here x_at)
 
-    pub may_here : MayAcceptIn m.state h
-    may_here = subst (λ (z : BusNode). MayAcceptIn z.state h) (sym node_is)
-        (subst (λ (g : Option Message). MayAcceptIn (n v).state g) (sym heard_is) (may v (has_element ids i in_ids)))
+    pub may_here : MayAcceptIn m.setup frame m.state h
+    may_here = subst (λ (z : BusNode). MayAcceptIn z.setup frame z.state h) (sym node_is)
+        (subst (λ (g : Option Message). MayAcceptIn (n v).setup frame (n v).state g) (sym heard_is) (may v (has_element ids i in_ids)))
 
     v_at : v ≡ get_or ids i v
     v_at = get_or_default ids i 0 v in_ids

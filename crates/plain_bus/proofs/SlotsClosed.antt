@@ -1,10 +1,12 @@
 -- What the closing of a slot changes and delivers is what the round's definition says of each node.
 use Rattle.std.proofs.Common.{◌≡◌, ℕ, Bool, true, false, ◌&&◌, ◌||◌, ◌==◌, Option, Some, None, is_some, refl, sym, ◌∙◌, ap, if◌then◌else◌, option_map}
 use Rattle.std.proofs.lemmas.Bool.{false≢true, and_right}
-use Rattle.lwb_base.specs.Messages.{Schedule, node_of, stream_of}
+use Rattle.lwb_base.specs.Messages.{Ask, Schedule, node_of, stream_of}
+use Rattle.bus_rules.specs.Plans.{opening}
 use Rattle.bus_rules.specs.Streams.{WaitingPacket, first_waiting, requested}
 use Rattle.scenario_text.specs.ScenarioParts.{ScenarioParts}
 use Rattle.bus_rules.specs.Slots.{Message, ScheduleOf, DataOf, RequestOf, Opened, opened_slot, data_of, request_of, is_own, is_schedule_part}
+use Rattle.bus_rules.specs.Slots.{hosts_now, host_closes, silent}
 use Rattle.bus_rules.specs.Cores.{Core, is_member, is_fresh}
 use Rattle.bus_rules.specs.Tuning.{rank_of, hosts, hosts_in, holds_in, scans}
 use Rattle.bus_rules.specs.declared.tune.Tune.{Tune}
@@ -16,7 +18,8 @@ use Rattle.bus_rules.proofs.Ranks.{not_scanner, hosts_own}
 use Rattle.bus_terms.specs.Rounds.{opened_at, message_said, takes_part, closed_slot_of, left_by}
 use Rattle.bus_terms.specs.ScriptedStates.{setup_in}
 use Rattle.bus_terms.proofs.OtherRanks.{IsElsewhere, no_window}
-use Rattle.plain_bus.specs.BusNodes.{window_of_state, state_opened, closed_of, MayAcceptIn}
+use Rattle.lwb_member.specs.Members.{MayAccept}
+use Rattle.plain_bus.specs.BusNodes.{window_of_state, state_opened, closed_of, MayAcceptIn, HasRoom}
 use Rattle.plain_bus.specs.SlotFloods.{seen_by}
 use Rattle.plain_bus.proofs.MembersOfSlots.{window_at}
 
@@ -97,17 +100,46 @@ host_scans_not rank (Host r d) host = refl
 never : (m : Message) → ◌≡◌ {A = Option Message} (Some m) None → ⊥
 never m is = cc
 
--- a host accepts no schedule: in its own round it says one itself, and otherwise it takes no part
+-- who hosts now hosts the round of which it is a member
+host_now : (rank f : ℕ) (c : Core) → is_member rank f c ≡ true → hosts_now f c ≡ true → hosts_in rank f c.tune ≡ true
+host_now rank f c is now = by_test (hosts c.tune) refl
+  where
+    by_test : (b : Bool) → hosts c.tune ≡ b → hosts_in rank f c.tune ≡ true
+    by_test true host = member_host rank f c.tune (is_fresh c) host is
+    by_test false guest = absurd (false≢true (sym (hosts_none (rank_of c.tune) f c.tune guest) ∙ now))
+
+-- the opening of a data slot or a contention slot leaves the room
+room_opened : (s : ScenarioParts) (rank f : ℕ) (part : Part) (v : ℕ) (c : Core) → is_schedule_part part ≡ false → is_member rank f c ≡ true
+    → HasRoom (setup_in s v) rank f part (StateOn c) → (a : Ask) → MayAccept (setup_in s v) f (opened_slot (setup_in s v) f part c).core (Some (RequestOf a))
+room_opened s rank f Opening v c plain is room a = absurd (false≢true (sym plain))
+room_opened s rank f Closing v c plain is room a = absurd (false≢true (sym plain))
+room_opened s rank f (DataSlot owner) v c plain is room a = λ now. room plain (host_now rank f c is now)
+room_opened s rank f (Contention i) v c plain is room a = λ now. room plain (host_now rank f c is now)
+
+-- a host accepts no schedule: in its own round it says one itself, and otherwise it takes no part. Where it accepts a request,
+-- it has room
 pub may_accept : (s : ScenarioParts) (rank f : ℕ) (part : Part) (v : ℕ) (x : State) (heard : Option Message)
     → (is_some (message_said (opened_at s rank f part v x)) ≡ true → heard ≡ None)
     → (takes_part rank part x (opened_at s rank f part v x) ≡ false → heard ≡ None)
     → (is_schedule_part part ≡ false → (m : Schedule) → heard ≡ Some (ScheduleOf m) → ⊥)
-    → MayAcceptIn (state_opened (setup_in s v) rank f part x) heard
-may_accept s rank f part v (StateOff boots) heard quiet outside plain = tt
-may_accept s rank f part v (StateOn c) None quiet outside plain = tt
-may_accept s rank f part v (StateOn c) (Some (DataOf d)) quiet outside plain = tt
-may_accept s rank f part v (StateOn c) (Some (RequestOf a)) quiet outside plain = tt
-may_accept s rank f part v (StateOn c) (Some (ScheduleOf m)) quiet outside plain =
+    → (is_schedule_part part ≡ true → (a : Ask) → heard ≡ Some (RequestOf a) → ⊥)
+    → HasRoom (setup_in s v) rank f part x
+    → MayAcceptIn (setup_in s v) f (state_opened (setup_in s v) rank f part x) heard
+may_accept s rank f part v (StateOff boots) heard quiet outside plain asks room = tt
+may_accept s rank f part v (StateOn c) None quiet outside plain asks room = tt
+may_accept s rank f part v (StateOn c) (Some (DataOf d)) quiet outside plain asks room = tt
+may_accept s rank f part v (StateOn c) (Some (RequestOf a)) quiet outside plain asks room =
+    by_tests (is_member rank f c) (is_schedule_part part) refl refl outside
+  where
+    by_tests : (b t : Bool) → is_member rank f c ≡ b → is_schedule_part part ≡ t
+        → (takes_part rank part (StateOn c) (if b then Some (opened_slot (setup_in s v) f part c) else None) ≡ false
+        → ◌≡◌ {A = Option Message} (Some (RequestOf a)) None)
+        → MayAccept (setup_in s v) f (if b then (opened_slot (setup_in s v) f part c).core else c) (Some (RequestOf a))
+    by_tests b true is sched outside = absurd (asks sched a refl)
+    by_tests true false is sched outside = room_opened s rank f part v c sched is room a
+    by_tests false false is sched outside =
+        absurd (never (RequestOf a) (outside (ap (λ (t : Bool). t && scans rank c.tune) sched)))
+may_accept s rank f part v (StateOn c) (Some (ScheduleOf m)) quiet outside plain asks room =
     by_tests (is_member rank f c) (hosts c.tune) (is_schedule_part part) refl refl refl quiet outside
   where
     by_tests : (b h t : Bool) → is_member rank f c ≡ b → hosts c.tune ≡ h → is_schedule_part part ≡ t
@@ -147,4 +179,28 @@ no_schedule s rank f part v (StateOn c) m plain is = by_member (is_member rank f
 
     by_member : (b : Bool) → message_said (if b then Some (opened_slot (setup_in s v) f part c) else None) ≡ Some (ScheduleOf m) → ⊥
     by_member true is = by_part part plain is
+    by_member false is = cc
+
+-- and a request in no slot of schedules
+pub no_request : (s : ScenarioParts) (rank f : ℕ) (part : Part) (v : ℕ) (x : State) (a : Ask) → is_schedule_part part ≡ true
+    → message_said (opened_at s rank f part v x) ≡ Some (RequestOf a) → ⊥
+no_request s rank f part v (StateOff boots) a sched is = cc
+no_request s rank f part v (StateOn c) a sched is = by_member (is_member rank f c) is
+  where
+    by_part : (part : Part) → is_schedule_part part ≡ true → (opened_slot (setup_in s v) f part c).message ≡ Some (RequestOf a) → ⊥
+    by_part (DataSlot owner) sched is = false≢true sched
+    by_part (Contention i) sched is = false≢true sched
+    by_part Opening sched is = by_host (hosts_now f c) is
+      where
+        by_host : (b : Bool) → (if b then Some (ScheduleOf (opening c.plan)) else None) ≡ Some (RequestOf a) → ⊥
+        by_host true is = cc
+        by_host false is = cc
+    by_part Closing sched is = by_host (hosts_now f c) is
+      where
+        by_host : (b : Bool) → (if b then host_closes (setup_in s v) f c else silent c).message ≡ Some (RequestOf a) → ⊥
+        by_host true is = cc
+        by_host false is = cc
+
+    by_member : (b : Bool) → message_said (if b then Some (opened_slot (setup_in s v) f part c) else None) ≡ Some (RequestOf a) → ⊥
+    by_member true is = by_part part sched is
     by_member false is = cc

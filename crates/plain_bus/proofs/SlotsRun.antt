@@ -3,11 +3,12 @@ use Rattle.std.proofs.Common.{◌≡◌, ℕ, ◌+◌, suc, List, [], ◌∷◌,
 use Rattle.std.proofs.Common.{option_map, option_and_then, subst, map, filter_map, add-one}
 use Rattle.std.specs.List.{cons_option}
 use Rattle.std.proofs.lemmas.Bool.{false≢true, or_left, or_right, eq-eqb}
-use Rattle.lwb_base.specs.Messages.{Plan, Schedule}
+use Rattle.lwb_base.specs.Messages.{Ask, Plan, Schedule}
 use Rattle.lwb_base.proofs.Truths.{and_false}
 use Rattle.scenario_text.specs.ScenarioParts.{ScenarioParts}
 use Rattle.bus_rules.specs.declared.part.Part.{Part}
-use Rattle.bus_rules.specs.Slots.{Message, ScheduleOf, Opened, Closed, part_of, is_schedule_part, delivery_of}
+use Rattle.bus_rules.specs.Cores.{Setup}
+use Rattle.bus_rules.specs.Slots.{Message, ScheduleOf, RequestOf, Opened, Closed, part_of, is_schedule_part, delivery_of}
 use Rattle.bus_rules.specs.States.{State, StateOff, StateOn}
 use Rattle.bus_terms.specs.FloodOfText.{ids}
 use Rattle.bus_terms.specs.Flooding.{moment, has, STEPS}
@@ -17,11 +18,11 @@ use Rattle.bus_terms.specs.ScriptedStates.{setup_in}
 use Rattle.bus_terms.proofs.OtherRanks.{IsElsewhere, no_window, slots_elsewhere}
 use Rattle.bus_terms.proofs.ReceivedByPaths.{of_filtered}
 use Rattle.bus_terms.proofs.ReceivedInRounds.{accepted_none}
-use Rattle.plain_bus.specs.BusNodes.{BusNode, bus_node, mixed, ranks_in, nodes_before, node_opened, state_opened, closed_of, MayAcceptIn}
+use Rattle.plain_bus.specs.BusNodes.{BusNode, bus_node, mixed, ranks_in, nodes_before, node_opened, state_opened, closed_of, MayAcceptIn, HaveRoom}
 use Rattle.plain_bus.specs.Closings.{Behind, heard_at, closed_node, delivers_node}
 use Rattle.plain_bus.specs.SlotFloods.{Seen, seen_of, seen_by}
 use Rattle.plain_bus.proofs.MembersOfSlots.{closing_at, has_filtered, map_of_map, map_same}
-use Rattle.plain_bus.proofs.SlotsClosed.{seen_mixed, left_opened, untouched, none_takes, may_accept, no_schedule}
+use Rattle.plain_bus.proofs.SlotsClosed.{seen_mixed, left_opened, untouched, none_takes, may_accept, no_schedule, no_request}
 
 pub elsewhere_by : (rank : ℕ) (x : State) → (rank_in x == rank) ≡ false → IsElsewhere rank x
 elsewhere_by rank (StateOff boots) is = tt
@@ -49,9 +50,9 @@ kept_same_in g h (x ∷ xs) same =
     ap (λ (o : Option _). cons_option o (filter_map g xs)) (same x (or_left (x == x) (has xs x) (eq-eqb x x refl)))
     ∙ ap (cons_option (h x)) (kept_same_in g h xs (λ v there. same v (or_right (x == v) (has xs v) there)))
 
-may_none : (x : State) → MayAcceptIn x None
-may_none (StateOff boots) = tt
-may_none (StateOn c) = tt
+may_none : (q : Setup) (f : ℕ) (x : State) → MayAcceptIn q f x None
+may_none q f (StateOff boots) = tt
+may_none q f (StateOn c) = tt
 
 module _ (s : ScenarioParts) (rank f : ℕ) (p : Plan) (start others : ℕ → State) (j : ℕ) where
   abbrev part : Part
@@ -130,17 +131,29 @@ module _ (s : ScenarioParts) (rank f : ℕ) (p : Plan) (start others : ℕ → S
       by_first false None is = cc
       by_first false (Some a) is = no_schedule s rank f part a.0 (states a.0) m no_sched is
 
-  -- no host accepts a schedule
-  pub all_may : (v : ℕ) → has (ids s.nodes) v ≡ true → MayAcceptIn (node_at v).state (heard_at behind v)
-  all_may v there = by_rank (ranks_in start v == rank) refl
+  -- a request is said in no slot of schedules
+  unasked : (v : ℕ) → is_schedule_part part ≡ true → (a : Ask) → heard_at behind v ≡ Some (RequestOf a) → ⊥
+  unasked v sched a is = by_first (is_some (message_said (window v))) ((moment x.flood STEPS).heard v) is
+    where
+      by_first : (c : Bool) (o : Option (ℕ × ℕ)) → (if c then None else option_and_then (λ (a : ℕ × ℕ). message_said (window a.0)) o) ≡ Some (RequestOf a) → ⊥
+      by_first true o is = cc
+      by_first false None is = cc
+      by_first false (Some b) is = no_request s rank f part b.0 (states b.0) a sched is
+
+  -- no host accepts a schedule, and each has room
+  pub all_may : HaveRoom s rank f p start j → (v : ℕ) → has (ids s.nodes) v ≡ true
+      → MayAcceptIn (node_at v).setup f (node_at v).state (heard_at behind v)
+  all_may room v there = by_rank (ranks_in start v == rank) refl
     where
       by_rank : (c : Bool) → (ranks_in start v == rank) ≡ c
-          → MayAcceptIn (if c then state_opened (setup_in s v) rank f part (if c then states v else others v) else (if c then states v else others v))
+          → MayAcceptIn (setup_in s v) f
+          (if c then state_opened (setup_in s v) rank f part (if c then states v else others v) else (if c then states v else others v))
           (heard_at behind v)
       by_rank true is = may_accept s rank f part v (states v) (heard_at behind v)
           (λ says. ap (λ (c : Bool). if c then None else option_and_then (λ (a : ℕ × ℕ). message_said (window a.0)) ((moment x.flood STEPS).heard v)) says)
-          (outside v there) (plain v)
-      by_rank false is = subst (λ (h : Option Message). MayAcceptIn (others v) h) (sym (apart v there is)) (may_none (others v))
+          (outside v there) (plain v) (unasked v) (room v there)
+      by_rank false is =
+          subst (λ (h : Option Message). MayAcceptIn (setup_in s v) f (others v) h) (sym (apart v there is)) (may_none (setup_in s v) f (others v))
 
   -- the closing of a node
   closes : (v : ℕ) → has (ids s.nodes) v ≡ true → (c : Bool) → (ranks_in start v == rank) ≡ c

@@ -1,8 +1,9 @@
 -- The nodes of the bus as the code has them.
-use Rattle.std.specs.Prelude.{◌<◌, ◌==◌, ℕ, List, map, Bool, true, false, Some, None, if◌then◌else◌, option_map, option_and_then, ⊤}
+use Rattle.std.specs.Prelude.{◌≡◌, ◌<◌, ◌==◌, ℕ, List, length, map, Bool, true, false, Some, None, if◌then◌else◌, option_map, option_and_then, ⊤}
 use Rattle.std.specs.declared.option.Option.{Option}
 use Rattle.bus_rules.specs.Cores.{Core, Setup, is_member}
-use Rattle.bus_rules.specs.Slots.{Message, Opened, Closed, opened_slot, closed_slot, delivery_of}
+use Rattle.bus_rules.specs.Plans.{slots_named}
+use Rattle.bus_rules.specs.Slots.{Message, Opened, Closed, opened_slot, closed_slot, delivery_of, part_of, is_schedule_part}
 use Rattle.bus_rules.specs.declared.delivery.Delivery.{Delivery}
 use Rattle.bus_rules.specs.declared.part.Part.{Part}
 use Rattle.bus_rules.specs.States.{State, StateOff, StateOn, loses}
@@ -11,8 +12,10 @@ use Rattle.scenario_text.specs.declared.script.Act.{Act}
 use Rattle.scenario_text.specs.declared.script.Act.TheVariants.{On, Put}
 use Rattle.lwb_member.specs.Members.{MayAccept}
 use Rattle.lwb_member.specs.Planning.{IsEarly}
+use Rattle.bus_rules.specs.Tuning.{hosts_in}
 use Rattle.bus_terms.specs.FloodOfText.{ids}
-use Rattle.bus_terms.specs.Rounds.{rank_in, before_slot}
+use Rattle.bus_terms.specs.Flooding.{has}
+use Rattle.bus_terms.specs.Rounds.{rank_in, before_slot, round_plan}
 use Rattle.bus_terms.specs.ScriptedStates.{setup_in}
 use Rattle.lwb_base.specs.Messages.{Plan}
 
@@ -70,10 +73,10 @@ closed_of s f part true initiated heard (StateOn c) = Some (closed_slot s f part
 closed_of s f part false initiated None (StateOn c) = None
 closed_of s f part false initiated (Some m) (StateOn c) = Some (closed_slot s f part false c (Some m))
 
--- a host accepts no schedule
-abbrev pub MayAcceptIn : State → Option Message → Type 0
-MayAcceptIn (StateOff boots) heard = ⊤
-MayAcceptIn (StateOn c) heard = MayAccept c heard
+-- a host accepts no schedule, and in its own round no more requests than the round has contention slots
+abbrev pub MayAcceptIn : Setup → ℕ → State → Option Message → Type 0
+MayAcceptIn s f (StateOff boots) heard = ⊤
+MayAcceptIn s f (StateOn c) heard = MayAccept s f c heard
 
 -- what it delivers in the slot of this number
 abbrev pub delivered_of : ℕ → ℕ → ℕ → ℕ → Option Closed → Option Delivery
@@ -96,3 +99,16 @@ nodes_in s rank start inner others = map (bus_node s (ranks_in start) (mixed ran
 
 abbrev pub nodes_before : ScenarioParts → ℕ → ℕ → Plan → (start others : ℕ → State) → ℕ → List BusNode
 nodes_before s rank f p start others j = nodes_in s rank start (before_slot s rank f p start j) others
+
+-- before a data slot and a contention slot, a host of the round keeps fewer requests than the round has contention slots
+abbrev pub HasRoom : Setup → ℕ → ℕ → Part → State → Type 0
+HasRoom s rank f part (StateOff boots) = ⊤
+HasRoom s rank f part (StateOn c) = is_schedule_part part ≡ false → hosts_in rank f c.tune ≡ true → length c.kept < slots_named s.profile.contend
+
+-- so it is at all nodes, before slot j of the round that began in these states
+abbrev pub HaveRoom : ScenarioParts → ℕ → ℕ → Plan → (ℕ → State) → ℕ → Type 0
+HaveRoom s rank f p start j = (v : ℕ) → has (ids s.nodes) v ≡ true → HasRoom (setup_in s v) rank f (part_of p j) (before_slot s rank f p start j v)
+
+-- and before each slot of the round of this rank, if there is one
+abbrev pub HaveRoomInRound : ScenarioParts → ℕ → ℕ → (ℕ → State) → Type 0
+HaveRoomInRound s rank f start = (p : Plan) → round_plan s rank f start ≡ Some p → (j : ℕ) → HaveRoom s rank f p start j

@@ -29,9 +29,9 @@ heard_in b initiates first = if initiates then None else option_and_then (λ a. 
 abbrev pub heard_at : Behind → ℕ → Option Message
 heard_at b v = heard_in b (b.window v).initiates (b.first v)
 
--- no host accepts a schedule
-abbrev pub AllMay : Behind → List ℕ → (ℕ → BusNode) → Type 0
-AllMay b nodes n = (v : ℕ) → has nodes v ≡ true → MayAcceptIn (n v).state (heard_at b v)
+-- no host accepts a schedule, and each has room for the request that it accepts
+abbrev pub AllMay : ℕ → Behind → List ℕ → (ℕ → BusNode) → Type 0
+AllMay f b nodes n = (v : ℕ) → has nodes v ≡ true → MayAcceptIn (n v).setup f (n v).state (heard_at b v)
 
 abbrev pub closed_node : Behind → ℕ → Part → (ℕ → BusNode) → ℕ → BusNode
 closed_node b f part n v = node_closed f part (b.window v) (heard_at b v) (n v)

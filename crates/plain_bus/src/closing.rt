@@ -35,9 +35,11 @@ pub fn close_all(
     requires ascending { AllPairs (λ a b. a < b) ids.now }
     requires early { All (λ n. IsEarlyState slot.now.frame n.state) nodes.old }
     ensures early { OnOk result (All (λ n. IsEarlyState slot.now.frame n.state) nodes.new) }
-    ensures nodes { OnOk result ((b : Behind) (n : ℕ → NodeOf) → IsBehind b ids.now windows.now stations.now → nodes.old ≡ map n ids.now → AllMay b ids.now n
+    ensures nodes { OnOk result ((b : Behind) (n : ℕ → NodeOf) → IsBehind b ids.now windows.now stations.now → nodes.old ≡ map n ids.now
+        → AllMay slot.now.frame b ids.now n
         → nodes.new ≡ map (closed_node b slot.now.frame slot.now.part n) ids.now) }
-    ensures log { OnOk result ((b : Behind) (n : ℕ → NodeOf) → IsBehind b ids.now windows.now stations.now → nodes.old ≡ map n ids.now → AllMay b ids.now n
+    ensures log { OnOk result ((b : Behind) (n : ℕ → NodeOf) → IsBehind b ids.now windows.now stations.now → nodes.old ≡ map n ids.now
+        → AllMay slot.now.frame b ids.now n
         → log.new.items ≡ log.old.items ++ filter_map (delivers_node b slot.now.rank slot.now.frame slot.now.number slot.now.part n) ids.now) }
 {
     let mut place = 0;

@@ -9,7 +9,7 @@ ghost use Rattle.bus_rules.specs.Slots.{part_of};
 ghost use Rattle.bus_terms.specs.Bus.{Cost as CostOf};
 ghost use Rattle.bus_terms.specs.FloodOfText.{ids};
 ghost use Rattle.bus_terms.specs.Rounds.{slot_deliveries};
-ghost use Rattle.plain_bus.specs.BusNodes.{nodes_before, ranks_in};
+ghost use Rattle.plain_bus.specs.BusNodes.{nodes_before, ranks_in, HaveRoom};
 ghost use Rattle.plain_bus.specs.Networks.{IsReady, no_cost, node_at_first, with_slot_at};
 
 use crate::charging::charge_all;
@@ -93,13 +93,13 @@ impl Network {
         ensures ready { OnOk result ((m : ℕ) → IsReady s.now frame m self.old → IsReady s.now frame (m + 1) self.new) }
         ensures nodes { OnOk result
             ((p : Plan) (start others : ℕ → State) → self.old.nodes ≡ nodes_before s.now rank frame p start others slot → part.now ≡ part_of p slot
-            → self.new.nodes ≡ nodes_before s.now rank frame p start others (slot + 1)) }
+            → HaveRoom s.now rank frame p start slot → self.new.nodes ≡ nodes_before s.now rank frame p start others (slot + 1)) }
         ensures deliveries { OnOk result
             ((p : Plan) (start others : ℕ → State) → self.old.nodes ≡ nodes_before s.now rank frame p start others slot → part.now ≡ part_of p slot
-            → self.new.deliveries ≡ self.old.deliveries ++ slot_deliveries s.now rank frame p start slot) }
+            → HaveRoom s.now rank frame p start slot → self.new.deliveries ≡ self.old.deliveries ++ slot_deliveries s.now rank frame p start slot) }
         ensures costs { OnOk result ((p : Plan) (start others : ℕ → State) (cost : ℕ → CostOf)
             → self.old.nodes ≡ nodes_before s.now rank frame p start others slot → part.now ≡ part_of p slot
-            → self.old.costs ≡ map cost (ids s.now.nodes)
+            → HaveRoom s.now rank frame p start slot → self.old.costs ≡ map cost (ids s.now.nodes)
             → self.new.costs
             ≡ map (λ v. if ranks_in start v == rank then with_slot_at s.now rank frame p start slot v (cost v) else cost v) (ids s.now.nodes)) }
     {

@@ -1,9 +1,11 @@
 //! The windows of a node of the bus in the slots of a round.
 
-ghost use Rattle.std.specs.Prelude.{◌≡◌, ◌≤◌, ◌↔◌, ◌++◌, ◌∷◌, [], IfSome, OnOk, is_some, map, true, false, None, Some};
+ghost use Rattle.std.specs.Prelude.{◌≡◌, ◌<◌, ◌≤◌, ◌↔◌, length, ◌++◌, ◌∷◌, [], IfSome, OnOk, is_some, map, true, false, None, Some};
 ghost use Rattle.std.specs.Option.{option_map, option_and_then};
 ghost use Rattle.lwb_base.specs.declared.limits.TheConstants.{LAST_FRAME};
 ghost use Rattle.bus_rules.specs.Cores.{is_member as is_core_member};
+ghost use Rattle.bus_rules.specs.Plans.{slots_named};
+ghost use Rattle.bus_rules.specs.Slots.{hosts_now};
 ghost use Rattle.bus_rules.specs.Tuning.{hosts, scans as scans_rank};
 ghost use Rattle.bus_terms.specs.Rounds.{message_said, takes_part, left_by, rank_in};
 ghost use Rattle.lwb_member.specs.Members.{IsHeardInRange};
@@ -146,7 +148,8 @@ impl BusNode {
     }
 
     /// The slot of this part and number closes in the round of this rank and frame, which is at most `LAST_FRAME`: the node
-    /// initiated in it, accepted this, or neither. What it delivers, if something. A host accepts no schedule.
+    /// initiated in it, accepted this, or neither. What it delivers, if something. A host accepts no schedule, and no more
+    /// requests than its round has contention slots.
     pub fn close(
         &mut self,
         rank: Rank,
@@ -159,13 +162,13 @@ impl BusNode {
         requires frame { frame ≤ LAST_FRAME }
         requires ranges { IfSome accepted IsHeardInRange }
         requires early { IsEarlyState frame self.old.state }
-        ensures state { MayAcceptIn self.old.state (option_map meaning accepted)
+        ensures state { MayAcceptIn self.old.setup frame self.old.state (option_map meaning accepted)
             → self.new ≡ node_closed frame part (seen_window window.now) (option_map meaning accepted) self.old }
-        ensures delivery { MayAcceptIn self.old.state (option_map meaning accepted)
+        ensures delivery { MayAcceptIn self.old.setup frame self.old.state (option_map meaning accepted)
             → result ≡ node_delivers rank frame slot part (seen_window window.now) (option_map meaning accepted) self.old }
         ensures early { IsEarlyState frame self.new.state }
     {
-        if self.refuses(&accepted) {
+        if self.refuses(frame, &accepted) {
             return None;
         }
         let mut delivery = self.close_with(
@@ -180,16 +183,17 @@ impl BusNode {
         Some(delivery)
     }
 
-    // A host that is given a schedule.
-    fn refuses(&self, accepted: &Option<Heard>) -> bool
-        ensures { (result ≡ false) ↔ MayAcceptIn self.now.state (option_map meaning accepted.now) }
+    // A host that is given a schedule, or in its own round a request for which it has no room.
+    fn refuses(&self, frame: u32, accepted: &Option<Heard>) -> bool
+        ensures { (result ≡ false) ↔ MayAcceptIn self.now.setup frame self.now.state (option_map meaning accepted.now) }
     {
         if !self.is_on {
             return false;
         }
         match accepted {
             Some(Heard::Schedule(_)) => is_host(&self.member),
-            Some(Heard::Data(_)) | Some(Heard::Request(_)) | None => false,
+            Some(Heard::Request(_)) => is_full(&self.member, frame),
+            Some(Heard::Data(_)) | None => false,
         }
     }
 
@@ -205,7 +209,7 @@ impl BusNode {
     ) -> Option<Delivery>
         requires frame { frame ≤ LAST_FRAME }
         requires ranges { IfSome accepted IsHeardInRange }
-        requires host { MayAcceptIn self.old.state (option_map meaning accepted) }
+        requires host { MayAcceptIn self.old.setup frame self.old.state (option_map meaning accepted) }
         requires early { IsEarlyState frame self.old.state }
         ensures state { self.new ≡ record self.old {
           state = left_by self.old.state (closed_of self.old.setup frame part is_open initiated (option_map meaning accepted) self.old.state);
@@ -234,6 +238,13 @@ fn is_host(member: &Member) -> bool
         Tune::Host(..) => true,
         Tune::Hold(..) | Tune::Scan(..) => false,
     }
+}
+
+// A host in its own round that keeps as many requests as the round has contention slots.
+fn is_full(member: &Member, frame: u32) -> bool
+    ensures { (result ≡ false) ↔ (hosts_now frame member.now.core ≡ true → length member.now.core.kept < slots_named member.now.setup.profile.contend) }
+{
+    member.hosts_now(frame) && !member.has_room()
 }
 
 // A host or a synchronized member whose round this is, or a fresh scanning node of its rank.

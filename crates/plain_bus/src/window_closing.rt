@@ -18,7 +18,8 @@ use lwb_packets::DataPacket;
 
 impl BusNode {
     /// The slot closes after this window, in a frame of at most `LAST_FRAME`: the node received this packet, or nothing. What it
-    /// delivers is added at the end of `log`. A host accepts no schedule. `Err` means out of memory.
+    /// delivers is added at the end of `log`. A host accepts no schedule, and no more requests than its round has contention
+    /// slots. `Err` means out of memory.
     pub(crate) fn hear(
         &mut self,
         slot: &RoundSlot,
@@ -28,9 +29,11 @@ impl BusNode {
     ) -> Result<(), Memory>
         requires frame { slot.now.frame ≤ LAST_FRAME }
         requires early { IsEarlyState slot.now.frame self.old.state }
-        ensures state { OnOk result (MayAcceptIn self.old.state (option_and_then message_of (option_copied packet.entry)) → self.new
+        ensures state { OnOk result (MayAcceptIn self.old.setup slot.now.frame self.old.state (option_and_then message_of (option_copied packet.entry))
+            → self.new
             ≡ node_closed slot.now.frame slot.now.part (seen_window window.now) (option_and_then message_of (option_copied packet.entry)) self.old) }
-        ensures log { OnOk result (MayAcceptIn self.old.state (option_and_then message_of (option_copied packet.entry)) → log.new.items
+        ensures log { OnOk result (MayAcceptIn self.old.setup slot.now.frame self.old.state (option_and_then message_of (option_copied packet.entry))
+            → log.new.items
             ≡ log.old.items ++ option_to_list (node_delivers slot.now.rank slot.now.frame slot.now.number slot.now.part (seen_window window.now)
             (option_and_then message_of (option_copied packet.entry)) self.old)) }
         ensures early { OnOk result (IsEarlyState slot.now.frame self.new.state) }

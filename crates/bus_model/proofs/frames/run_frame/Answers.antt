@@ -9,6 +9,7 @@ use Rattle.bus_model.specs.FrameNodes.{with_round_rank, ended_at, frame_deliveri
 use Rattle.bus_model.specs.RoundCosts.{cost_after, with_scan}
 use Rattle.bus_model.proofs.FramesInTurn.{nodes_begun, nodes_ended, costs_more, delivered_more, power_next, all_few, ready_begun, ready_ended}
 use Rattle.bus_terms.proofs.KeptRanks.{hosted}
+use Rattle.bus_model.proofs.RoomInRounds.{rooms_in}
 use Rattle.bus_model.proofs.SlotsInTurn.{ready_more}
 use Rattle.bus_model.proofs.frames.run_frame.Goals as goal
 
@@ -51,6 +52,7 @@ returns-clause-at c =
     let ran = c.in_ok-run_rounds.ensures in
     let ends = c.end_frame.ensures in
     let in_rank = hosted s (sound s told.said) f in
+    let rooms = rooms_in s f in
     let first : c.tell_lines.new.net.costs ≡ map (cost_after s f) (ids s.nodes) = told.rest.0 ∙ c.requires.at.costs_are in
     let begun_nodes : c.begin_rounds.new.net.nodes ≡ nodes_with s (ranks_in st) st = begins.nodes ∙ ap (map with_round_rank) told.nodes
     ∙ nodes_begun s f (prior_ranks s f) st in
@@ -59,9 +61,9 @@ returns-clause-at c =
     let begun_ready = ready_begun s f (f * 184) c.tell_lines.new.net c.begin_rounds.new.net st (cost_after s f) begins.rest.0 begins.nodes begins.same first
     scanned (told.ready (f * 184) c.requires.at.ready) in
     record {
-      nodes_are = ends.nodes ∙ ap (map (ended_at f)) (ran.nodes st in_rank begun_nodes) ∙ nodes_ended s f;
-      costs_are = ends.rest.1 ∙ ran.costs st (λ (v : ℕ). with_scan (st v) (cost_after s f v)) in_rank begun_nodes scanned ∙ costs_more s f;
-      delivered = ends.rest.2 ∙ ran.deliveries st in_rank begun_nodes
+      nodes_are = ends.nodes ∙ ap (map (ended_at f)) (ran.nodes st in_rank begun_nodes rooms) ∙ nodes_ended s f;
+      costs_are = ends.rest.1 ∙ ran.costs st (λ (v : ℕ). with_scan (st v) (cost_after s f v)) in_rank begun_nodes rooms scanned ∙ costs_more s f;
+      delivered = ends.rest.2 ∙ ran.deliveries st in_rank begun_nodes rooms
           ∙ ap (λ (l : List Delivery). l ++ frame_deliveries s f st) (begins.rest.1 ∙ told.rest.1 ∙ c.requires.at.delivered) ∙ delivered_more s f;
       ready = ready_more s (f + 1) (f * 184 + 184) ((f + 1) * 184) c.end_frame.new.net (omega arith)
           (ready_ended s f (f * 184 + 184) c.run_rounds.new.net c.end_frame.new.net ends.rest.0 ends.nodes ends.rest.1 (ran.ready (f * 184) begun_ready));

@@ -34,24 +34,24 @@ returns-in-Some-clause-ready c =
     (m + 46) c.run_slots.new.net (omega (arith, few, ap length c.deref-in-Some.ensures.value)) (ran m is))) c.run_slots.ensures.ready
 
 pub returns-in-Some-clause-nodes : goal.returns-in-Some-clause-nodes
-returns-in-Some-clause-nodes c = on_ok_weaker c.run_slots.result (λ ran start others olds.
+returns-in-Some-clause-nodes c = on_ok_weaker c.run_slots.result (λ ran start others olds room.
     (let l = led c start others olds in
-    ran l.0 start others (parts_are c start others olds) olds
+    ran l.0 start others (parts_are c start others olds) olds (room l.0 l.1)
     ∙ ap (λ (o : Option Plan). nodes_in c.args.s.now c.args.rank start (after_round c.args.s.now c.args.rank c.args.frame start o) others) (sym l.1)))
     c.run_slots.ensures.nodes
 
 pub returns-in-Some-clause-deliveries : goal.returns-in-Some-clause-deliveries
-returns-in-Some-clause-deliveries c = on_ok_weaker c.run_slots.result (λ ran start others olds.
+returns-in-Some-clause-deliveries c = on_ok_weaker c.run_slots.result (λ ran start others olds room.
     (let l = led c start others olds in
-    ran l.0 start others (parts_are c start others olds) olds
+    ran l.0 start others (parts_are c start others olds) olds (room l.0 l.1)
     ∙ ap (λ (o : Option Plan). c.args.net.now.deliveries ++ option_map_or {T = Plan} {U = List Delivery}
     (λ p. flat_map (slot_deliveries c.args.s.now c.args.rank c.args.frame p start) (slots_of p)) o []) (sym l.1)))
     c.run_slots.ensures.deliveries
 
 pub returns-in-Some-clause-costs : goal.returns-in-Some-clause-costs
-returns-in-Some-clause-costs c = on_ok_weaker c.run_slots.result (λ ran start others cost olds costs.
+returns-in-Some-clause-costs c = on_ok_weaker c.run_slots.result (λ ran start others cost olds room costs.
     (let l = led c start others olds in
-    ran l.0 start others cost (parts_are c start others olds) olds costs
+    ran l.0 start others cost (parts_are c start others olds) olds (room l.0 l.1) costs
     ∙ ap (λ (o : Option Plan). map (λ (v : ℕ). if ranks_in start v == c.args.rank then with_plan c.args.s.now c.args.rank c.args.frame start o v
     (cost v) else cost v) (ids c.args.s.now.nodes)) (sym l.1)))
     c.run_slots.ensures.costs
@@ -63,18 +63,18 @@ module _ (c : goal.In-None) (start others : ℕ → State) (olds : c.args.net.no
       ∙ c.in_ok-parts.ensures.parts c.args.s.now start others (c.deref.ensures.value ∙ ap (λ (n : Network). n.nodes) c.net.view_is ∙ olds))
 
 pub returns-in-None-clause-nodes : goal.returns-in-None-clause-nodes
-returns-in-None-clause-nodes c start others olds =
+returns-in-None-clause-nodes c start others olds room =
     olds ∙ ap (λ (o : Option Plan). nodes_in c.args.s.now c.args.rank start (after_round c.args.s.now c.args.rank c.args.frame start o) others)
     (sym (no_plan c start others olds))
 
 pub returns-in-None-clause-deliveries : goal.returns-in-None-clause-deliveries
-returns-in-None-clause-deliveries c start others olds =
+returns-in-None-clause-deliveries c start others olds room =
     sym (append-nil c.args.net.now.deliveries)
     ∙ ap (λ (o : Option Plan). c.args.net.now.deliveries ++ option_map_or {T = Plan} {U = List Delivery}
     (λ p. flat_map (slot_deliveries c.args.s.now c.args.rank c.args.frame p start) (slots_of p)) o []) (sym (no_plan c start others olds))
 
 pub returns-in-None-clause-costs : goal.returns-in-None-clause-costs
-returns-in-None-clause-costs c start others cost olds costs =
+returns-in-None-clause-costs c start others cost olds room costs =
     costs ∙ no_round c.args.s.now c.args.rank c.args.frame start cost
     ∙ ap (λ (o : Option Plan). map (λ (v : ℕ). if ranks_in start v == c.args.rank then with_plan c.args.s.now c.args.rank c.args.frame start o v
     (cost v) else cost v) (ids c.args.s.now.nodes)) (sym (no_plan c start others olds))

@@ -5,7 +5,7 @@ use Rattle.bus_rules.specs.declared.delivery.Delivery.{Delivery}
 use Rattle.bus_rules.specs.States.{State}
 use Rattle.bus_terms.specs.FloodOfText.{ids}
 use Rattle.bus_terms.specs.Rounds.{round_of_rank, round_deliveries}
-use Rattle.plain_bus.specs.BusNodes.{nodes_in, ranks_in}
+use Rattle.plain_bus.specs.BusNodes.{nodes_in, ranks_in, HaveRoomInRound}
 use Rattle.bus_model.specs.FrameNodes.{nodes_with, run_below}
 use Rattle.bus_model.specs.RoundCosts.{cost_below, with_round}
 use Rattle.bus_model.proofs.RanksInTurn.{enters, leaves, costs_left, none_run, none_charged, all_run, all_charged}
@@ -21,9 +21,9 @@ run_round-requires-clause-ready c =
 pub loop-rank-init : goal.loop-rank-init
 loop-rank-init c = record {
   ready = λ m is. ready_more c.args.s.now c.args.frame m (m + 0 * 46) c.args.net.now (omega arith) is;
-  nodes_are = λ start olds. olds ∙ none_run c.args.s.now c.args.frame start;
-  delivered = λ start olds. sym (append-nil c.args.net.now.deliveries);
-  costs_are = λ start cost olds costs. costs ∙ none_charged c.args.s.now c.args.frame start cost;
+  nodes_are = λ start olds rooms. olds ∙ none_run c.args.s.now c.args.frame start;
+  delivered = λ start olds rooms. sym (append-nil c.args.net.now.deliveries);
+  costs_are = λ start cost olds rooms costs. costs ∙ none_charged c.args.s.now c.args.frame start cost;
 }
 
 pub loop-rank-preserved : goal.loop-rank-preserved
@@ -34,23 +34,25 @@ loop-rank-preserved c =
     let own = c.rank_at.ensures in
     let inv = c.loop-rank.invariant in
     let ran = c.in_ok-run_round.ensures in
-    let enter = λ (start : ℕ → State) (olds : c.args.net.now.nodes ≡ nodes_with s (ranks_in start) start).
-    inv.nodes_are start olds ∙ enters s f start r ∙ ap (λ (k : ℕ). nodes_in s k start start (run_below s f start r)) (sym own) in
+    let enter = λ (start : ℕ → State) (olds : c.args.net.now.nodes ≡ nodes_with s (ranks_in start) start)
+    (rooms : (rank : ℕ) → HaveRoomInRound s rank f start).
+    inv.nodes_are start olds rooms ∙ enters s f start r ∙ ap (λ (k : ℕ). nodes_in s k start start (run_below s f start r)) (sym own) in
     record {
       ready = λ m is. ready_more s f (m + r * 46 + 46) (m + (r + 1) * 46) c.run_round.new.net (omega arith) (ran.ready (m + r * 46) (inv.ready m is));
-      nodes_are = λ start olds.
-          ran.nodes start (run_below s f start r) (enter start olds)
+      nodes_are = λ start olds rooms.
+          ran.nodes start (run_below s f start r) (enter start olds rooms) (rooms c.rank_at.result)
           ∙ ap (λ (k : ℕ). nodes_in s k start (round_of_rank s k f start) (run_below s f start r)) own ∙ leaves s f start r;
-      delivered = λ start olds.
+      delivered = λ start olds rooms.
           (let first = c.args.net.now.deliveries in
           let said : ℕ → List Delivery = λ rank. round_deliveries s rank f start in
-          ran.deliveries start (run_below s f start r) (enter start olds)
+          ran.deliveries start (run_below s f start r) (enter start olds rooms) (rooms c.rank_at.result)
           ∙ ap (λ (k : ℕ). c.loop-rank.net.deliveries ++ said k) own
-          ∙ ap (λ (l : List Delivery). l ++ said r) (inv.delivered start olds)
+          ∙ ap (λ (l : List Delivery). l ++ said r) (inv.delivered start olds rooms)
           ∙ append_assoc first (flat_map said (range_with_len 0 r)) (said r)
           ∙ ap (λ (l : List Delivery). first ++ l) (sym (flat_more said r)));
-      costs_are = λ start cost olds costs.
-          ran.costs start (run_below s f start r) (cost_below s f start r cost) (enter start olds) (inv.costs_are start cost olds costs)
+      costs_are = λ start cost olds rooms costs.
+          ran.costs start (run_below s f start r) (cost_below s f start r cost) (enter start olds rooms) (rooms c.rank_at.result)
+          (inv.costs_are start cost olds rooms costs)
           ∙ ap (λ (k : ℕ). map (λ (v : ℕ). if ranks_in start v == k then with_round s k f start v (cost_below s f start r cost v) else cost_below s f start r
           cost v) (ids s.nodes)) own
           ∙ costs_left s f start r cost;
@@ -63,21 +65,21 @@ returns-clause-ready c m is =
     ready_more c.args.s.now c.args.frame (m + c.loop-rank.rank * 46) (m + 184) c.loop-rank.net (omega (arith, few, all)) (c.loop-rank.invariant.ready m is)
 
 pub returns-clause-nodes : goal.returns-clause-nodes
-returns-clause-nodes c start ranked olds =
+returns-clause-nodes c start ranked olds rooms =
     let all : c.loop-rank.rank ≡ length c.args.s.now.hosts = omega (arith, c.loop-rank-test.false, c.loop-rank.auto.rank-end, c.hosts_of-ranks.ensures.value) in
-    c.loop-rank.invariant.nodes_are start olds
+    c.loop-rank.invariant.nodes_are start olds rooms
     ∙ ap (λ (n : ℕ). nodes_with c.args.s.now (ranks_in start) (run_below c.args.s.now c.args.frame start n)) all
     ∙ all_run c.args.s.now c.args.frame start (length c.args.s.now.hosts) ranked
 
 pub returns-clause-deliveries : goal.returns-clause-deliveries
-returns-clause-deliveries c start ranked olds =
+returns-clause-deliveries c start ranked olds rooms =
     let all : c.loop-rank.rank ≡ length c.args.s.now.hosts = omega (arith, c.loop-rank-test.false, c.loop-rank.auto.rank-end, c.hosts_of-ranks.ensures.value) in
-    c.loop-rank.invariant.delivered start olds
+    c.loop-rank.invariant.delivered start olds rooms
     ∙ ap (λ (n : ℕ). c.args.net.now.deliveries ++ flat_map (λ (rank : ℕ). round_deliveries c.args.s.now rank c.args.frame start) (range_with_len 0 n)) all
 
 pub returns-clause-costs : goal.returns-clause-costs
-returns-clause-costs c start cost ranked olds costs =
+returns-clause-costs c start cost ranked olds rooms costs =
     let all : c.loop-rank.rank ≡ length c.args.s.now.hosts = omega (arith, c.loop-rank-test.false, c.loop-rank.auto.rank-end, c.hosts_of-ranks.ensures.value) in
-    c.loop-rank.invariant.costs_are start cost olds costs
+    c.loop-rank.invariant.costs_are start cost olds rooms costs
     ∙ ap (λ (n : ℕ). map (cost_below c.args.s.now c.args.frame start n cost) (ids c.args.s.now.nodes)) all
     ∙ all_charged c.args.s.now c.args.frame start (length c.args.s.now.hosts) ranked cost

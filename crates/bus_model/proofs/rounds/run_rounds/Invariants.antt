@@ -4,7 +4,7 @@ use Rattle.bus_rules.specs.States.{State}
 use Rattle.bus_terms.specs.Bus.{Cost}
 use Rattle.bus_terms.specs.FloodOfText.{ids}
 use Rattle.bus_terms.specs.Rounds.{round_deliveries}
-use Rattle.plain_bus.specs.BusNodes.{ranks_in}
+use Rattle.plain_bus.specs.BusNodes.{ranks_in, HaveRoomInRound}
 use Rattle.plain_bus.specs.Networks.{IsReady}
 use Rattle.bus_model.specs.FrameNodes.{nodes_with, run_below}
 use Rattle.bus_model.specs.RoundCosts.{cost_below}
@@ -14,9 +14,11 @@ abbrev pub invariant-loop-rank : goal.invariant-loop-rank
 invariant-loop-rank l = record {
   ready : (m : ℕ) → IsReady l.s l.frame m l.fn.net → IsReady l.s l.frame (m + l.rank * 46) l.net;
   nodes_are : (start : ℕ → State) → l.fn.net.nodes ≡ nodes_with l.s (ranks_in start) start
-      → l.net.nodes ≡ nodes_with l.s (ranks_in start) (run_below l.s l.frame start l.rank);
+      → ((rank : ℕ) → HaveRoomInRound l.s rank l.frame start) → l.net.nodes ≡ nodes_with l.s (ranks_in start) (run_below l.s l.frame start l.rank);
   delivered : (start : ℕ → State) → l.fn.net.nodes ≡ nodes_with l.s (ranks_in start) start
+      → ((rank : ℕ) → HaveRoomInRound l.s rank l.frame start)
       → l.net.deliveries ≡ l.fn.net.deliveries ++ flat_map (λ rank. round_deliveries l.s rank l.frame start) (range_with_len 0 l.rank);
-  costs_are : (start : ℕ → State) (cost : ℕ → Cost) → l.fn.net.nodes ≡ nodes_with l.s (ranks_in start) start → l.fn.net.costs ≡ map cost (ids l.s.nodes)
+  costs_are : (start : ℕ → State) (cost : ℕ → Cost) → l.fn.net.nodes ≡ nodes_with l.s (ranks_in start) start
+      → ((rank : ℕ) → HaveRoomInRound l.s rank l.frame start) → l.fn.net.costs ≡ map cost (ids l.s.nodes)
       → l.net.costs ≡ map (cost_below l.s l.frame start l.rank cost) (ids l.s.nodes);
 }

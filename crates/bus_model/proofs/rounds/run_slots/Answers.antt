@@ -13,9 +13,9 @@ use Rattle.bus_model.proofs.rounds.run_slots.Goals as goal
 pub loop-slot-init : goal.loop-slot-init
 loop-slot-init c = record {
   ready = λ m is. ready_more c.args.s.now c.args.frame m (m + 0) c.args.net.now (omega arith) is;
-  nodes_are = λ p start others are olds. olds ∙ before_first c.args.s.now c.args.rank c.args.frame p start others;
-  delivered = λ p start others are olds. sym (append-nil c.args.net.now.deliveries);
-  costs_are = λ p start others cost are olds costs. costs ∙ costs_first c.args.s.now c.args.rank c.args.frame p start cost;
+  nodes_are = λ p start others are olds room. olds ∙ before_first c.args.s.now c.args.rank c.args.frame p start others;
+  delivered = λ p start others are olds room. sym (append-nil c.args.net.now.deliveries);
+  costs_are = λ p start others cost are olds room costs. costs ∙ costs_first c.args.s.now c.args.rank c.args.frame p start cost;
 }
 
 pub run_slot-requires-clause-ready : goal.run_slot-requires-clause-ready
@@ -35,21 +35,22 @@ loop-slot-preserved c =
     let ran = c.in_ok-run_slot.ensures in
     record {
       ready = λ m is. ready_more s f (m + i + 1) (m + (i + 1)) c.run_slot.new.self (omega arith) (ran.ready (m + i) (inv.ready m is));
-      nodes_are = λ p start others are olds.
-          ran.nodes p start others (inv.nodes_are p start others are olds)
-          (part_at p c.args.parts.now i c.index-parts-slot.result are c.loop-slot-test.true c.index-parts-slot.is);
-      delivered = λ p start others are olds.
+      nodes_are = λ p start others are olds room.
+          ran.nodes p start others (inv.nodes_are p start others are olds room)
+          (part_at p c.args.parts.now i c.index-parts-slot.result are c.loop-slot-test.true c.index-parts-slot.is) (room i);
+      delivered = λ p start others are olds room.
           (let first = c.args.net.now.deliveries in
           let said = slot_deliveries s rank f p start in
-          ran.deliveries p start others (inv.nodes_are p start others are olds)
-          (part_at p c.args.parts.now i c.index-parts-slot.result are c.loop-slot-test.true c.index-parts-slot.is)
-          ∙ ap (λ (l : List Delivery). l ++ said i) (inv.delivered p start others are olds)
+          ran.deliveries p start others (inv.nodes_are p start others are olds room)
+          (part_at p c.args.parts.now i c.index-parts-slot.result are c.loop-slot-test.true c.index-parts-slot.is) (room i)
+          ∙ ap (λ (l : List Delivery). l ++ said i) (inv.delivered p start others are olds room)
           ∙ append_assoc first (flat_map said (range_with_len 0 i)) (said i)
           ∙ ap (λ (l : List Delivery). first ++ l) (sym (flat_more said i)));
-      costs_are = λ p start others cost are olds costs.
+      costs_are = λ p start others cost are olds room costs.
           ran.costs p start others (λ (v : ℕ). if ranks_in start v == rank then with_slots s rank f p start i v (cost v) else cost v)
-          (inv.nodes_are p start others are olds) (part_at p c.args.parts.now i c.index-parts-slot.result are c.loop-slot-test.true c.index-parts-slot.is)
-          (inv.costs_are p start others cost are olds costs)
+          (inv.nodes_are p start others are olds room)
+          (part_at p c.args.parts.now i c.index-parts-slot.result are c.loop-slot-test.true c.index-parts-slot.is) (room i)
+          (inv.costs_are p start others cost are olds room costs)
           ∙ costs_more s rank f p start i cost;
     }
 
@@ -59,21 +60,21 @@ returns-clause-ready c m is =
     subst (λ (n : ℕ). IsReady c.args.s.now c.args.frame (m + n) c.loop-slot.net) all (c.loop-slot.invariant.ready m is)
 
 pub returns-clause-nodes : goal.returns-clause-nodes
-returns-clause-nodes c p start others are olds =
+returns-clause-nodes c p start others are olds room =
     let all : c.loop-slot.slot ≡ length c.args.parts.now = omega (arith, c.loop-slot-test.false, c.loop-slot.auto.slot-end) in
-    c.loop-slot.invariant.nodes_are p start others are olds
+    c.loop-slot.invariant.nodes_are p start others are olds room
     ∙ ap (λ (n : ℕ). nodes_before c.args.s.now c.args.rank c.args.frame p start others n) (all ∙ parts_count p c.args.parts.now are)
 
 pub returns-clause-deliveries : goal.returns-clause-deliveries
-returns-clause-deliveries c p start others are olds =
+returns-clause-deliveries c p start others are olds room =
     let all : c.loop-slot.slot ≡ length c.args.parts.now = omega (arith, c.loop-slot-test.false, c.loop-slot.auto.slot-end) in
-    c.loop-slot.invariant.delivered p start others are olds
+    c.loop-slot.invariant.delivered p start others are olds room
     ∙ ap (λ (n : ℕ). c.args.net.now.deliveries ++ flat_map (slot_deliveries c.args.s.now c.args.rank c.args.frame p start) (range_with_len 0 n))
     (all ∙ parts_count p c.args.parts.now are)
 
 pub returns-clause-costs : goal.returns-clause-costs
-returns-clause-costs c p start others cost are olds costs =
+returns-clause-costs c p start others cost are olds room costs =
     let all : c.loop-slot.slot ≡ length c.args.parts.now = omega (arith, c.loop-slot-test.false, c.loop-slot.auto.slot-end) in
-    c.loop-slot.invariant.costs_are p start others cost are olds costs
+    c.loop-slot.invariant.costs_are p start others cost are olds room costs
     ∙ ap (λ (n : ℕ). map (λ (v : ℕ). if ranks_in start v == c.args.rank then with_slots c.args.s.now c.args.rank c.args.frame p start n v
     (cost v) else cost v) (ids c.args.s.now.nodes)) (all ∙ parts_count p c.args.parts.now are)

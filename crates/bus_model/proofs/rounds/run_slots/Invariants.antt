@@ -5,7 +5,7 @@ use Rattle.bus_rules.specs.States.{State}
 use Rattle.bus_terms.specs.Bus.{Cost}
 use Rattle.bus_terms.specs.FloodOfText.{ids}
 use Rattle.bus_terms.specs.Rounds.{slot_deliveries}
-use Rattle.plain_bus.specs.BusNodes.{nodes_before, nodes_in, ranks_in}
+use Rattle.plain_bus.specs.BusNodes.{nodes_before, nodes_in, ranks_in, HaveRoom}
 use Rattle.plain_bus.specs.Leaders.{slot_parts}
 use Rattle.plain_bus.specs.Networks.{IsReady}
 use Rattle.bus_model.specs.RoundCosts.{with_slots}
@@ -15,10 +15,11 @@ abbrev pub invariant-loop-slot : goal.invariant-loop-slot
 invariant-loop-slot l = record {
   ready : (m : ℕ) → IsReady l.s l.frame m l.fn.net → IsReady l.s l.frame (m + l.slot) l.net;
   nodes_are : (p : Plan) (start others : ℕ → State) → l.parts ≡ slot_parts p → l.fn.net.nodes ≡ nodes_in l.s l.rank start start others
-      → l.net.nodes ≡ nodes_before l.s l.rank l.frame p start others l.slot;
+      → ((j : ℕ) → HaveRoom l.s l.rank l.frame p start j) → l.net.nodes ≡ nodes_before l.s l.rank l.frame p start others l.slot;
   delivered : (p : Plan) (start others : ℕ → State) → l.parts ≡ slot_parts p → l.fn.net.nodes ≡ nodes_in l.s l.rank start start others
+      → ((j : ℕ) → HaveRoom l.s l.rank l.frame p start j)
       → l.net.deliveries ≡ l.fn.net.deliveries ++ flat_map (slot_deliveries l.s l.rank l.frame p start) (range_with_len 0 l.slot);
   costs_are : (p : Plan) (start others : ℕ → State) (cost : ℕ → Cost) → l.parts ≡ slot_parts p → l.fn.net.nodes ≡ nodes_in l.s l.rank start start others
-      → l.fn.net.costs ≡ map cost (ids l.s.nodes)
+      → ((j : ℕ) → HaveRoom l.s l.rank l.frame p start j) → l.fn.net.costs ≡ map cost (ids l.s.nodes)
       → l.net.costs ≡ map (λ v. if ranks_in start v == l.rank then with_slots l.s l.rank l.frame p start l.slot v (cost v) else cost v) (ids l.s.nodes);
 }

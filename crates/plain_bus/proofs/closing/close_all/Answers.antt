@@ -50,16 +50,16 @@ loop-node-preserved c =
     record {
       place = ap (λ (k : ℕ). k + 1) place;
       done = λ b g behind are may.
-          (let heard = c.heard_by-packet.ensures b behind.windows (origin_here b ids ws xs behind same g olds are may i in_xs w w_at x x_at n at) in
-          closed_more b ids ws xs behind same g olds are may i in_xs w w_at x x_at n at h heard f part now y there
-          (c.in_ok-hear.ensures.state (may_here b ids ws xs behind same g olds are may i in_xs w w_at x x_at n at h heard))
+          (let heard = c.heard_by-packet.ensures b behind.windows (origin_here b ids ws xs behind same g olds are f may i in_xs w w_at x x_at n at) in
+          closed_more b ids ws xs behind same g olds are f may i in_xs w w_at x x_at n at h heard f part now y there
+          (c.in_ok-hear.ensures.state (may_here b ids ws xs behind same g olds are f may i in_xs w w_at x x_at n at h heard))
           (c.loop-node.invariant.done b g behind are may));
       todo = rest_unchanged olds now i y c.loop-node.invariant.todo;
       log = λ b g behind are may.
-          (let heard = c.heard_by-packet.ensures b behind.windows (origin_here b ids ws xs behind same g olds are may i in_xs w w_at x x_at n at) in
-          delivered_more b ids ws xs behind same g olds are may i in_xs w w_at x x_at n at h heard c.args.slot.now.rank f c.args.slot.now.number part
+          (let heard = c.heard_by-packet.ensures b behind.windows (origin_here b ids ws xs behind same g olds are f may i in_xs w w_at x x_at n at) in
+          delivered_more b ids ws xs behind same g olds are f may i in_xs w w_at x x_at n at h heard c.args.slot.now.rank f c.args.slot.now.number part
           c.args.log.now.items c.loop-node.log.items c.hear.new.log.items (c.loop-node.invariant.log b g behind are may)
-          (c.in_ok-hear.ensures.log (may_here b ids ws xs behind same g olds are may i in_xs w w_at x x_at n at h heard)));
+          (c.in_ok-hear.ensures.log (may_here b ids ws xs behind same g olds are f may i in_xs w w_at x x_at n at h heard)));
       early = subst (λ (l : List BusNode). All (λ (z : BusNode). IsEarlyState f z.state) l) (sym (take_more_set now i y there))
           (All-push (λ (z : BusNode). IsEarlyState f z.state) (take i now) y c.loop-node.invariant.early c.in_ok-hear.ensures.early);
     }

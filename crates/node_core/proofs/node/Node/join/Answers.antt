@@ -2,6 +2,7 @@ use Rattle.std.proofs.Common.{◌∙◌, ap, arith, rules}
 use Rattle.glossy_relay.specs.FloodState.{FloodState}
 use Rattle.glossy_relay.specs.Relaying.{after_heard}
 use Rattle.node_core.proofs.JoinedWindows.{joined_stands}
+use Rattle.node_core.proofs.KeptRequests.{keeps_none}
 use Rattle.node_core.proofs.Timed.{timed_by}
 use Rattle.node_core.proofs.node.Node.join.Goals as goal
 
@@ -16,4 +17,5 @@ invariant_of-self g c =
           c.part_by.ensures c.last_by.ensures flood_is (search rules) (omega (arith, c.zero.ensures.value, c.zero.ensures.range));
       accepted = search rules;
       hosted = search rules;
+      kept = keeps_none _ _ _ (c.self.invariant.kept.none (search rules)) c.self.invariant.kept.named;
     }

@@ -13,7 +13,7 @@ use Rattle.bus_terms.specs.Bus.{Cost}
 use Rattle.bus_terms.specs.FloodOfText.{ids}
 use Rattle.bus_terms.specs.Flooding.{STEPS, moment}
 use Rattle.bus_terms.specs.Rounds.{slot_at, slot_deliveries}
-use Rattle.plain_bus.specs.BusNodes.{BusNode, IsEarlyState, node_opened, nodes_before}
+use Rattle.plain_bus.specs.BusNodes.{BusNode, IsEarlyState, HaveRoom, node_opened, nodes_before}
 use Rattle.plain_bus.specs.Closings.{IsBehind, AllMay, closed_node, delivers_node}
 use Rattle.plain_bus.specs.FloodMasks.{AreSendersOf, IsMaskedFlood, sends_in, station_at}
 use Rattle.plain_bus.specs.Networks.{Network}
@@ -153,30 +153,31 @@ module _ (c : goal.After-self-3-1) (p : Plan) (start others : ℕ → State)
   nodes_now : c.deref_mut-3.result.now ≡ map (node_at c.args.s.now c.args.rank c.args.frame p start others c.args.slot) c.deref-5.result.now
   nodes_now = stored c ∙ opened ∙ ap (map (node_at c.args.s.now c.args.rank c.args.frame p start others c.args.slot)) (sym (ids_are c))
 
-  none_refuses : AllMay (behind c.args.s.now c.args.rank c.args.frame p start others c.args.slot) c.deref-5.result.now
+  none_refuses : HaveRoom c.args.s.now c.args.rank c.args.frame p start c.args.slot
+      → AllMay c.args.frame (behind c.args.s.now c.args.rank c.args.frame p start others c.args.slot) c.deref-5.result.now
       (node_at c.args.s.now c.args.rank c.args.frame p start others c.args.slot)
-  none_refuses = subst (λ (l : List ℕ). AllMay (behind c.args.s.now c.args.rank c.args.frame p start others c.args.slot) l
+  none_refuses room = subst (λ (l : List ℕ). AllMay c.args.frame (behind c.args.s.now c.args.rank c.args.frame p start others c.args.slot) l
       (node_at c.args.s.now c.args.rank c.args.frame p start others c.args.slot))
-      (sym (ids_are c)) (all_may c.args.s.now c.args.rank c.args.frame p start others c.args.slot)
+      (sym (ids_are c)) (all_may c.args.s.now c.args.rank c.args.frame p start others c.args.slot room)
 
 pub returns-clause-nodes : goal.returns-clause-nodes
-returns-clause-nodes c = on_ok_weaker c.close_all.result (λ made p start others are is.
+returns-clause-nodes c = on_ok_weaker c.close_all.result (λ made p start others are is room.
     ended c ∙ closes c p start others are is
     (made (behind c.args.s.now c.args.rank c.args.frame p start others c.args.slot) (node_at c.args.s.now c.args.rank c.args.frame p start others c.args.slot)
     (met c p start others are is c.deref-4.result.now c.as_slice.result.now c.deref-5.result.now c.deref-4.ensures.value c.as_slice.ensures.value (ids_are c))
-    (nodes_now c p start others are is) (none_refuses c p start others are is)))
+    (nodes_now c p start others are is) (none_refuses c p start others are is room)))
     c.close_all.ensures.nodes
 
 pub returns-clause-deliveries : goal.returns-clause-deliveries
-returns-clause-deliveries c = on_ok_weaker c.close_all.result (λ made p start others are is.
+returns-clause-deliveries c = on_ok_weaker c.close_all.result (λ made p start others are is room.
     delivers c p start others are is
     (made (behind c.args.s.now c.args.rank c.args.frame p start others c.args.slot) (node_at c.args.s.now c.args.rank c.args.frame p start others c.args.slot)
     (met c p start others are is c.deref-4.result.now c.as_slice.result.now c.deref-5.result.now c.deref-4.ensures.value c.as_slice.ensures.value (ids_are c))
-    (nodes_now c p start others are is) (none_refuses c p start others are is)))
+    (nodes_now c p start others are is) (none_refuses c p start others are is room)))
     c.close_all.ensures.log
 
 pub returns-clause-costs : goal.returns-clause-costs
-returns-clause-costs c = on_ok_weaker c.close_all.result (λ early p start others cost are is costs.
+returns-clause-costs c = on_ok_weaker c.close_all.result (λ early p start others cost are is room costs.
     (let s = c.args.s.now in
     let rank = c.args.rank in
     let f = c.args.frame in

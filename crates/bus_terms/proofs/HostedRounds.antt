@@ -22,10 +22,10 @@ use Rattle.bus_terms.specs.Flooding.{has, accepted, moment, STEPS}
 use Rattle.bus_terms.specs.Rounds.{Slot, slot_at, opened_at, message_said, accepted_at, closed_slot_of, left_by, before_slot, plan_in, first_node}
 use Rattle.bus_terms.specs.ScriptedStates.{is_on_and, setup_in}
 use Rattle.bus_terms.proofs.ReceivedByPaths.{in_filtered}
-use Rattle.law_service.specs.ScheduleService.{IsHosted, slot_in, state_after_round}
-use Rattle.law_service.proofs.HostsOfRanks.{IsRightfulState, rightful, rightful_before, due_hosts, due_rank, one_of_rank}
-use Rattle.law_service.proofs.HostsOfRanks.{data_no_schedule, contention_no_schedule}
-use Rattle.law_service.proofs.SaidByParts.{windowed, window_of, speaks}
+use Rattle.bus_terms.specs.HostedRounds.{IsHosted, slot_in, state_after_round}
+use Rattle.bus_terms.proofs.HostsOfRanks.{IsRightfulState, rightful, rightful_before, due_hosts, due_rank, one_of_rank}
+use Rattle.bus_terms.proofs.HostsOfRanks.{data_no_schedule, contention_no_schedule}
+use Rattle.bus_terms.proofs.SaidByParts.{windowed, window_of, speaks}
 
 -- the only one that passes a test is found
 pub found_only : (test : ℕ → Bool) (u : ℕ) → test u ≡ true → ((v : ℕ) → test v ≡ true → v ≡ u) → (xs : List ℕ) → has xs u ≡ true → find test xs ≡ Some u

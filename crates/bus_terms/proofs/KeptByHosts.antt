@@ -1,25 +1,30 @@
 -- What a host keeps in the contention slots of its round: one request of each at most, so that there is room for the next.
 use Rattle.std.proofs.Common.{◌≡◌, ◌<◌, ◌≤◌, ◌+◌, ◌-◌, ◌==◌, ℕ, zero, suc, Bool, true, false, inl, inr, Some, None}
 use Rattle.std.proofs.Common.{is_some, length, nat_le, add-zero, add-suc, refl, sym, ◌∙◌, ap, subst, arith}
-use Rattle.std.proofs.lemmas.Bool.{false≢true, cond_both, cond-true, cases_lt, le-leb}
+use Rattle.std.proofs.lemmas.Bool.{false≢true, cond_both, cond-true, cases_lt, le-leb, eqb-false}
 use Rattle.lwb_base.specs.Messages.{Ask, Plan, Schedule}
 use Rattle.scenario_text.specs.ScenarioParts.{ScenarioParts}
 use Rattle.bus_rules.specs.declared.part.Part.{Part}
 use Rattle.bus_rules.specs.declared.part.Part.TheVariants.{Opening, Data as DataSlot, Contention, Closing}
 use Rattle.bus_rules.specs.Cores.{Core}
 use Rattle.bus_rules.specs.Plans.{last_slot, slots_named, opening}
-use Rattle.bus_rules.specs.Slots.{Message, Data, ScheduleOf, DataOf, RequestOf, opened_slot, closed_slot, part_of, hosts_now, most_kept}
+use Rattle.bus_rules.specs.Slots.{Message, Data, ScheduleOf, DataOf, RequestOf, opened_slot, closed_slot, part_of, hosts_now}
 use Rattle.bus_rules.specs.States.{State, StateOn}
 use Rattle.bus_rules.proofs.Ranks.{hosts_own}
 use Rattle.bus_terms.specs.Bus.{state_at}
 use Rattle.bus_terms.specs.Rounds.{accepted_at, opened_at, closed_slot_of, left_by, before_slot}
 use Rattle.bus_terms.specs.ScriptedStates.{setup_in}
-use Rattle.law_service.specs.ScheduleService.{IsHosted, slot_in}
-use Rattle.law_service.proofs.ContentionSlots.{contention_at, IsRequest, requests, only_requests, only_data}
-use Rattle.law_service.proofs.ContentionSlots.{few_more, kept_by, keeps_by, keeps_none, own_of, own_stays}
-use Rattle.law_service.proofs.HostedRounds.{Hosting, leads, heard_from, host_member, left_windowed, accepts_none}
-use Rattle.law_service.proofs.HostsOfRanks.{rightful_before, due_hosts, IsRightfulState}
-use Rattle.law_service.proofs.KeptNone.{kept_of, keeps_nothing}
+use Rattle.bus_terms.specs.HostedRounds.{IsHosted, slot_in}
+use Rattle.bus_terms.proofs.ContentionSlots.{contention_at, IsRequest, requests, only_requests, only_data}
+use Rattle.bus_terms.proofs.ContentionSlots.{few_more, kept_by, keeps_by, keeps_none, own_of, own_stays}
+use Rattle.bus_terms.proofs.HostedRounds.{Hosting, leads, heard_from, host_member, left_windowed, accepts_none}
+use Rattle.bus_terms.proofs.HostsOfRanks.{rightful_before, due_hosts, IsRightfulState}
+use Rattle.bus_terms.proofs.KeptNone.{kept_of, keeps_nothing}
+
+-- each round has a contention slot
+some_named : (contend : ℕ) → 1 ≤ slots_named contend
+some_named contend = cond_both (contend == 0) 1 contend (λ (n : ℕ). 1 ≤ n) (λ none. omega arith)
+    (λ some. (let is = eqb-false contend 0 some in omega (arith, is)))
 
 module _ (s : ScenarioParts) (rank f : ℕ) (p : Plan) where
   abbrev before : ℕ → ℕ → State
@@ -139,12 +144,12 @@ module _ (s : ScenarioParts) (rank f : ℕ) (p : Plan) where
     ]
 
     -- so there is room for another
-    pub room : (j : ℕ) → length p.owners < j → j < last_slot p → (is : Hosting rank f p (before j host)) → length is.core.kept < most_kept s.profile
-    room j late early is =
+    pub room : (j : ℕ) → j < last_slot p → (is : Hosting rank f p (before j host)) → length is.core.kept < slots_named s.profile.contend
+    room j early is =
         let few = bound j (omega (arith, early)) in
         let was = ap (λ (x : State). length (kept_of x)) is.on in
         let rightful : IsRightfulState (setup_in s host) (StateOn is.core) =
         subst (λ (x : State). IsRightfulState (setup_in s host) x) is.on (rightful_before s rank f p j host) in
         let contend : p.contend ≡ s.profile.contend = ap (λ (q : Plan). q.contend) (sym is.plan) ∙ rightful.contend (due_hosts rank f is.core.tune is.due) in
-        let named : slots_named p.contend ≡ most_kept s.profile = ap slots_named contend in
-        omega (arith, few, was, named, late, early)
+        let named : slots_named p.contend ≡ slots_named s.profile.contend = ap slots_named contend in
+        omega (arith, few, was, named, early, some_named s.profile.contend)

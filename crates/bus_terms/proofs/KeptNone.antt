@@ -1,6 +1,6 @@
 -- When a frame starts no node of the scenario keeps a request: a host that kept some has planned since.
-use Rattle.std.proofs.Common.{◌≡◌, ◌+◌, ◌==◌, ◌&&◌, ℕ, zero, suc, List, [], ◌∷◌, ◌++◌, Bool, true, false, Option, Some, None, if◌then◌else◌, nat_lt}
-use Rattle.std.proofs.Common.{fold, length, refl, sym, ◌∙◌, ap, subst, arith}
+use Rattle.std.proofs.Common.{◌≡◌, ◌+◌, ◌==◌, ℕ, zero, suc, List, [], ◌∷◌, ◌++◌, Bool, true, false, Option, Some, None, if◌then◌else◌}
+use Rattle.std.proofs.Common.{fold, refl, sym, ◌∙◌, ap, subst, arith}
 use Rattle.std.proofs.lemmas.Bool.{cond_both, cond-false}
 use Rattle.lwb_base.specs.Messages.{Ask, Plan}
 use Rattle.scenario_text.specs.ScenarioParts.{ScenarioParts}
@@ -12,7 +12,6 @@ use Rattle.bus_rules.specs.declared.part.Part.TheVariants.{Opening, Data as Data
 use Rattle.bus_rules.specs.Cores.{Core, Setup, as_host, begins_host, frame_ended, is_fresh, opening_accepted, closing_accepted}
 use Rattle.bus_rules.specs.Plans.{last_slot}
 use Rattle.bus_rules.specs.Slots.{Message, Opened, ScheduleOf, DataOf, RequestOf, opened_slot, closed_slot, slot_heard, hosts_now, host_closes, silent}
-use Rattle.bus_rules.specs.Slots.{most_kept}
 use Rattle.bus_rules.specs.States.{State, StateOff, StateOn, at_core, refuses, queues}
 use Rattle.bus_rules.specs.Tuning.{next_tune, hosts_in}
 use Rattle.bus_terms.specs.Bus.{before_frame, state_at}
@@ -20,9 +19,9 @@ use Rattle.bus_terms.specs.FloodOfText.{ids}
 use Rattle.bus_terms.specs.Flooding.{has}
 use Rattle.bus_terms.specs.Rounds.{rounds, round_plan, rank_in, after_round}
 use Rattle.bus_terms.specs.ScriptedStates.{state_after_act, state_after_line, is_on_and, lines_of, states_after_script, setup_in}
-use Rattle.law_service.specs.ScheduleService.{IsHosted, state_after_round}
+use Rattle.bus_terms.specs.HostedRounds.{IsHosted, state_after_round}
 use Rattle.bus_terms.proofs.KeptInRounds.{slots_keep}
-use Rattle.law_service.proofs.HostedRounds.{leads, has_planned}
+use Rattle.bus_terms.proofs.HostedRounds.{leads, has_planned}
 
 abbrev pub kept_of : State → List Ask
 kept_of (StateOff boots) = []
@@ -54,12 +53,7 @@ closes q f part b c (Some (ScheduleOf x)) is = by_test (x.gap == 0)
     by_test true = is
     by_test false = (refl, is.1)
 closes q f part b c (Some (DataOf d)) is = heard f part true c is
-closes q f part b c (Some (RequestOf a)) is = (
-  is.0,
-  cond-false (hosts_now f c && nat_lt (length c.kept) (most_kept q.profile)) (c.kept ++ a ∷ []) c.kept
-      (ap (λ (t : Bool). t && nat_lt (length c.kept) (most_kept q.profile)) is.0)
-      ∙ is.1,
-)
+closes q f part b c (Some (RequestOf a)) is = (is.0, cond-false (hosts_now f c) (c.kept ++ a ∷ []) c.kept is.0 ∙ is.1)
 
 -- the script and the ends of frames
 acts : (a : Act) (x : State) → kept_of x ≡ [] → kept_of (state_after_act a x) ≡ []

@@ -1,5 +1,5 @@
 -- What a contention slot changes: the requests that a host keeps, and nothing else of its table, and nobody's own slot.
-use Rattle.std.proofs.Common.{◌≡◌, ◌<◌, ◌≤◌, ◌+◌, ◌-◌, ◌==◌, ◌&&◌, ℕ, List, [], ◌∷◌, ◌++◌, Bool, true, false, Option, Some, None, if◌then◌else◌}
+use Rattle.std.proofs.Common.{◌≡◌, ◌<◌, ◌≤◌, ◌+◌, ◌-◌, ◌==◌, ℕ, List, [], ◌∷◌, ◌++◌, Bool, true, false, Option, Some, None, if◌then◌else◌}
 use Rattle.std.proofs.Common.{length, length-append, option_map, nat_le, nat_lt, refl, sym, ◌∙◌, ap, arith}
 use Rattle.std.proofs.lemmas.Bool.{false≢true, eqb-true, cond_both, cond-true, cond-false, lt-ltb, lt-leb, ne_eqb}
 use Rattle.lwb_base.specs.Messages.{Ask, Plan, Schedule, node_of, stream_of}
@@ -8,7 +8,7 @@ use Rattle.bus_rules.specs.declared.part.Part.{Part}
 use Rattle.bus_rules.specs.declared.part.Part.TheVariants.{Opening, Data as DataSlot, Contention, Closing}
 use Rattle.bus_rules.specs.Cores.{Core, Setup, is_member}
 use Rattle.bus_rules.specs.Plans.{last_slot}
-use Rattle.bus_rules.specs.Slots.{Message, Data, data_of, ScheduleOf, DataOf, RequestOf, opened_slot, closed_slot, part_of, hosts_now, most_kept, is_own}
+use Rattle.bus_rules.specs.Slots.{Message, Data, data_of, ScheduleOf, DataOf, RequestOf, opened_slot, closed_slot, part_of, hosts_now, is_own}
 use Rattle.bus_rules.specs.Slots.{request_of}
 use Rattle.bus_rules.specs.States.{State, StateOff, StateOn}
 use Rattle.bus_rules.specs.Streams.{Streams, WaitingPacket, first_waiting, requested, stream_at, due_stream, request_is_due}
@@ -88,14 +88,14 @@ abbrev pub kept_by : Setup → ℕ → Core → Option Message → List Ask
 kept_by q f c None = c.kept
 kept_by q f c (Some (ScheduleOf x)) = c.kept
 kept_by q f c (Some (DataOf d)) = c.kept
-kept_by q f c (Some (RequestOf a)) = if hosts_now f c && nat_lt (length c.kept) (most_kept q.profile) then c.kept ++ a ∷ [] else c.kept
+kept_by q f c (Some (RequestOf a)) = if hosts_now f c then c.kept ++ a ∷ [] else c.kept
 
 pub few_more : (q : Setup) (f : ℕ) (c : Core) (heard : Option Message) → length (kept_by q f c heard) ≤ length c.kept + 1
 few_more q f c None = omega arith
 few_more q f c (Some (ScheduleOf x)) = omega arith
 few_more q f c (Some (DataOf d)) = omega arith
 few_more q f c (Some (RequestOf a)) =
-    cond_both (hosts_now f c && nat_lt (length c.kept) (most_kept q.profile)) (c.kept ++ a ∷ []) c.kept (λ (l : List Ask). length l ≤ length c.kept + 1)
+    cond_both (hosts_now f c) (c.kept ++ a ∷ []) c.kept (λ (l : List Ask). length l ≤ length c.kept + 1)
     (λ _. omega (arith, length-append c.kept (a ∷ []))) (λ _. omega arith)
 
 pub keeps_by : (q : Setup) (f i : ℕ) (b : Bool) (c : Core) (heard : Option Message) → ((y : Schedule) → heard ≡ Some (ScheduleOf y) → ⊥)
