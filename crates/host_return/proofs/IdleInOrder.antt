@@ -1,5 +1,5 @@
 -- Where nodes are idle is listed by frame and then node.
-use Rattle.std.proofs.Common.{◌≡◌, ℕ, zero, suc, ◌+◌, ◌<◌, ◌≤◌, List, [], ◌∷◌, filter_map, Option, Some, None, refl, sym, subst, arith, add-one}
+use Rattle.std.proofs.Common.{◌≡◌, ℕ, zero, suc, ◌<◌, ◌≤◌, List, [], ◌∷◌, filter_map, Option, Some, None, refl, sym, subst, arith, add-one}
 use Rattle.std.specs.Prelude.{AllPairs, Contains}
 use Rattle.std.specs.List.{cons_option, range_with_len}
 use Rattle.lwb_base.proofs.Elements.{filter_from, from_flat, pairs_cons, pairs_append, pairs_head, pairs_tail}

@@ -1,4 +1,4 @@
-use Rattle.std.proofs.Common.{◌≡◌, ◌<◌, Bool, Ok, length, sym, ap, subst, arith, rules}
+use Rattle.std.proofs.Common.{◌<◌, Bool, Ok, length, sym, ap, subst, arith, rules}
 use Rattle.std.proofs.lemmas.List.{length_push}
 use Rattle.scenario_text.proofs.SoundScenarios.{sound}
 use Rattle.scenario_clocks.specs.StatedClocks.{scenario_clock}
