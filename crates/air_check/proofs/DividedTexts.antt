@@ -18,7 +18,8 @@ passes_on : (xs ys : List (List ℕ)) → take_while is_other xs ≡ xs → take
 passes_on [] ys all = refl
 passes_on (x ∷ xs) ys all = by (λ rest. passes_on xs ys rest) (is_other x) refl
   where
-    by : (take_while is_other xs ≡ xs → take_while is_other (xs ++ ys) ≡ xs ++ take_while is_other ys) → (b : Bool) → is_other x ≡ b → take_while is_other (x ∷ (xs ++ ys)) ≡ x ∷ (xs ++ take_while is_other ys)
+    by : (take_while is_other xs ≡ xs → take_while is_other (xs ++ ys) ≡ xs ++ take_while is_other ys) → (b : Bool) → is_other x ≡ b
+        → take_while is_other (x ∷ (xs ++ ys)) ≡ x ∷ (xs ++ take_while is_other ys)
     by more true is =
         let first : take_while is_other (x ∷ xs) ≡ x ∷ take_while is_other xs =
         take_while-cons is_other x xs ∙ ap (λ (b : Bool). cond b (x ∷ take_while is_other xs) []) is in

@@ -1,5 +1,6 @@
 -- Schedules that a node receives as it probes their channel.
-use Rattle.std.proofs.Common.{◌≡◌, ℕ, ◌+◌, ◌*◌, ◌<◌, ◌≤◌, ◌^◌, List, [], ◌∷◌, ◌++◌, zero, suc, take, get_or, length, length-take, inl, inr, Contains, All, AllPairs, refl, sym, ◌∙◌, ap, subst, arith}
+use Rattle.std.proofs.Common.{◌≡◌, ℕ, ◌+◌, ◌*◌, ◌<◌, ◌≤◌, ◌^◌, List, [], ◌∷◌, ◌++◌, zero, suc, take, get_or, length, length-take}
+use Rattle.std.proofs.Common.{inl, inr, Contains, All, AllPairs, refl, sym, ◌∙◌, ap, subst, arith}
 use Rattle.std.proofs.lemmas.Bool.{cases_lt}
 use Rattle.std.proofs.lemmas.List.{take_more, get_or-take, get_or_default}
 use Rattle.std.proofs.lemmas.List.Elements.{All-contains, Contains-get_or, Contains-append_cases}
@@ -31,7 +32,14 @@ tuned_through s air f v rank x channel starts ends t after before =
     let own : Tuning = record { rank = rank; node = v; start = frame_start s f; end = frame_start s (f + 1) } in
     let since = starts.since in
     let until = ends.until in
-    record { tuning = own; there = in_head (tunings_of air) own; node = refl; rank = sym channel; since = omega (arith, since, after); until = omega (arith, until, before) }
+    record {
+      tuning = own;
+      there = in_head (tunings_of air) own;
+      node = refl;
+      rank = sym channel;
+      since = omega (arith, since, after);
+      until = omega (arith, until, before);
+    }
 
 pub near_sent : (s : ScenarioParts) (air : List Entry) (f v rank : ℕ) (t : Transmissions) (near : List Sending) (x : Sending) → AreSent air t
     → AreNear t.sent.items x near → AreNear (scene_of s.profile s.trace (with_probe s air f v rank)).sendings x near

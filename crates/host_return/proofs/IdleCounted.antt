@@ -1,5 +1,6 @@
 -- In how many frames a node is idle, by where it is listed.
-use Rattle.std.proofs.Common.{◌≡◌, ℕ, zero, suc, ◌+◌, ◌<◌, List, [], ◌∷◌, Bool, true, false, cond, ◌&&◌, ◌||◌, ◌==◌, nat_lt, if◌then◌else◌, filter_map, count_by, is_some, map, Option, Some, None, refl, sym, ◌∙◌, ap, arith, add-one}
+use Rattle.std.proofs.Common.{◌≡◌, ℕ, zero, suc, ◌+◌, ◌<◌, List, [], ◌∷◌, Bool, true, false, cond, ◌&&◌, ◌||◌, ◌==◌, nat_lt, if◌then◌else◌}
+use Rattle.std.proofs.Common.{filter_map, count_by, is_some, map, Option, Some, None, refl, sym, ◌∙◌, ap, arith, add-one}
 use Rattle.std.specs.Prelude.{◌%◌, ◌^◌, AllPairs, Contains}
 use Rattle.std.specs.List.{cons_option, range_with_len}
 use Rattle.std.specs.Option.{option_map}
@@ -106,7 +107,8 @@ module _ (s : ScenarioParts) (air : List Entry) (v : ℕ) where
           → count_by (is_of v) (filter_map (idle_at s (scenario_clock s) air f) (n ∷ ns)) ≡ as_one (is_some (probed_rank s air f v))
       by rest true is any =
           let same : n.node ≡ v = eqb-true n.node v is in
-          let others = none_of_it f ns (λ m there at. (let up = pairs_head (λ (a b : NodeLine). a.node < b.node) n ns ascend m there in omega (arith, up, at, same))) in
+          let others = none_of_it f ns (λ m there at. (
+          let up = pairs_head (λ (a b : NodeLine). a.node < b.node) n ns ascend m there in omega (arith, up, at, same))) in
           let one = one_at f n true is ∙ ap (λ (u : ℕ). as_one (is_some (probed_rank s air f u))) same in
           omega (arith, step, others, one)
       by rest false is any =

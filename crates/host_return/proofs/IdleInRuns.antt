@@ -1,5 +1,6 @@
 -- Where nodes are idle, as a run lists it: those are listed that probe.
-use Rattle.std.proofs.Common.{◌≡◌, ℕ, ◌+◌, ◌<◌, List, Bool, true, false, ◌&&◌, ◌==◌, nat_lt, if◌then◌else◌, Option, Some, None, refl, sym, ◌∙◌, ap, subst, arith}
+use Rattle.std.proofs.Common.{◌≡◌, ℕ, ◌<◌, List, Bool, true, false, ◌&&◌, ◌==◌, nat_lt, if◌then◌else◌, Option, Some, None}
+use Rattle.std.proofs.Common.{refl, sym, ◌∙◌, ap, subst, arith}
 use Rattle.std.specs.Prelude.{◌%◌, Contains}
 use Rattle.std.specs.List.{range_with_len}
 use Rattle.std.specs.Option.{option_map}
@@ -60,7 +61,8 @@ module _ (f v : ℕ) where
       hosted : Bool → Option ℕ
       hosted b = if b then Some r else None
 
-      by_test : (b : Bool) → (nat_lt 0 r && nat_lt f due) ≡ b → probed b ≡ Some q → (i : Idle) × (option_map (idle_node f v) (hosted (nat_lt 0 r && nat_lt f due)) ≡ Some i)
+      by_test : (b : Bool) → (nat_lt 0 r && nat_lt f due) ≡ b → probed b ≡ Some q
+          → (i : Idle) × (option_map (idle_node f v) (hosted (nat_lt 0 r && nat_lt f due)) ≡ Some i)
       by_test true both some = (idle_node f v r, ap (λ (b : Bool). option_map (idle_node f v) (hosted b)) both)
       by_test false neither none = absurd (cc)
 

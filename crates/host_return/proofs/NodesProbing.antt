@@ -1,5 +1,6 @@
 -- Probes of one node in one frame, and which come first.
-use Rattle.std.proofs.Common.{◌≡◌, ℕ, ◌<◌, ◌≤◌, List, Bool, true, false, ◌&&◌, ◌||◌, ◌==◌, nat_lt, inl, inr, length, get_or, Option, Some, refl, sym, ◌∙◌, ap, subst, arith}
+use Rattle.std.proofs.Common.{◌≡◌, ℕ, ◌<◌, ◌≤◌, List, Bool, true, false, ◌&&◌, ◌||◌, ◌==◌, nat_lt, inl, inr, length, get_or, Option, Some}
+use Rattle.std.proofs.Common.{refl, sym, ◌∙◌, ap, subst, arith}
 use Rattle.std.specs.Prelude.{AllPairs, Contains}
 use Rattle.std.proofs.lemmas.Bool.{cases_lt, cases_order, le-ltb, eqb-true}
 use Rattle.std.proofs.lemmas.List.{get_or_default}
@@ -75,7 +76,8 @@ module _ (s : ScenarioParts) (air : List Entry) (sound : IsSoundScenario s) (idl
             not_earlier q r (λ less. absurd (omega (arith, less, frame, frames, frame_x))) (λ alike. omega (arith, node, nodes, node_x))
         | inr (inl less) ↦ absurd (not_in i q w none less)
         | inr (inr more) ↦
-            let raw : IsEarlier (get_or idle i x) (get_or idle w.place x) = subst (AllPairs IsEarlier) (sym are) (idle_ordered s air sound) i w.place x more w.below in
+            let raw : IsEarlier (get_or idle i x) (get_or idle w.place x) =
+            subst (AllPairs IsEarlier) (sym are) (idle_ordered s air sound) i w.place x more w.below in
             let earlier : IsEarlier one x = subst (IsEarlier one) w.here
             (subst (λ (y : Idle). IsEarlier y (get_or idle w.place x)) (sym (at ∙ get_or_default idle i one x below)) raw) in
             let up = earlier.frame in

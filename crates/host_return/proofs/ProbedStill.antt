@@ -76,7 +76,8 @@ module _ (read : ScenarioParts) (old new : Course) (sound : IsSoundScenario old.
 
   back : (f v rank : ℕ) → f < g → f < s.frames → Probed new.scenario new.air f v rank → Probed s old.air f v rank
   back f v rank soon within is =
-      still_probed s g new.scenario.script s.script new.air old.air (turned s (scenario_clock s) (frame_start s g) s.script new.scenario.script old.air new.air twins)
+      still_probed s g new.scenario.script s.script new.air old.air
+      (turned s (scenario_clock s) (frame_start s g) s.script new.scenario.script old.air new.air twins)
       f v rank soon within (subst (λ (u : ScenarioParts). Probed u new.air f v rank) more.added.parts is)
 
   was_candidate : (q : Return) → read.frames ≡ s.frames → q.frame < g → IsCandidate read new.scenario new.air q → IsCandidate read s old.air q

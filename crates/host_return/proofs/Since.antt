@@ -14,7 +14,11 @@ module _ (sent : List Sending) (t first : ℕ) (within : first ≤ length sent)
         let so = ltb-true (get_or sent k y).start t (begin.0 k y (omega arith) early) in
         let start = ap (λ (z : Sending). z.start) at in
         absurd (omega (arith, so, start, late))
-    | inr from ↦ (k - first, omega (arith, below, length-drop first sent), get_or-drop first sent (k - first) y ∙ ap (λ (n : ℕ). get_or sent n y) (omega arith) ∙ at)
+    | inr from ↦ (
+      k - first,
+      omega (arith, below, length-drop first sent),
+      get_or-drop first sent (k - first) y ∙ ap (λ (n : ℕ). get_or sent n y) (omega arith) ∙ at,
+    )
   ]
 
   pub none_before : (y : Sending) → Contains (drop first sent) y → t ≤ y.start

@@ -112,7 +112,8 @@ served_same frame node boot (k ∷ ks) x =
     let y = serve frame node boot x k in
     in_turn x.streams y.streams (fold (serve frame node boot) y ks).streams (with_same x.streams k _ refl) (served_same frame node boot ks y)
 
-plan_same : (p : Numbers) (node boot rank frame : ℕ) (kept : List Ask) (t : Table) (s : Streams) → SameWishes s (host_plan p node boot rank frame kept t s).streams
+plan_same : (p : Numbers) (node boot rank frame : ℕ) (kept : List Ask) (t : Table) (s : Streams)
+    → SameWishes s (host_plan p node boot rank frame kept t s).streams
 unfolding host_plan
 plan_same p node boot rank frame kept t s =
     served_same frame node boot (0 ∷ 1 ∷ 2 ∷ 3 ∷ []) (record { table = (answers_to frame kept t).table; streams = s })

@@ -69,8 +69,8 @@ module _ (s : ScenarioParts) (v i : ℕ) where
       let k : ℕ = frame_start s l.frame in
       let rest = splits t ls up.1 in
       elim (cases_order k t) [
-        | inl same ↦ by_tests t l ls w false true (l.node == v) (le-ltb k t (omega (arith, same))) (lt-ltb k (suc t) (omega (arith, same))) (eq-eqb k t same) refl
-            refl (λ is u. still t ls u (later_too t l.frame ls (omega (arith, same)) up.0)) rest
+        | inl same ↦ by_tests t l ls w false true (l.node == v) (le-ltb k t (omega (arith, same))) (lt-ltb k (suc t) (omega (arith, same)))
+            (eq-eqb k t same) refl refl (λ is u. still t ls u (later_too t l.frame ls (omega (arith, same)) up.0)) rest
         | inr (inl less) ↦ by_tests t l ls w true false (l.node == v) (lt-ltb k t less) (lt-ltb k (suc t) (omega (arith, less)))
             (ne_eqb k t (λ same. omega (arith, less, same))) refl refl (λ is u. absurd (cc)) rest
         | inr (inr more) ↦ by_tests t l ls w false false (l.node == v) (le-ltb k t (omega (arith, more))) (le-ltb k (suc t) (omega (arith, more)))
@@ -153,7 +153,8 @@ few_by p i (Declare j interval) w range few =
 few_by p i (Leave j) w range few = cond_both (j == i) 0 w.1 (λ (k : ℕ). k ≤ 120) (λ is. omega arith) (λ is. few)
 few_by p i (Put j payload) w range few = few
 
-few_told : (s : ScenarioParts) (f v i : ℕ) (ls : List ScriptLine) (w : Wish) → AllByRecursion (IsScriptLine s) ls → w.1 ≤ 120 → (fold (told_line f v i) w ls).1 ≤ 120
+few_told : (s : ScenarioParts) (f v i : ℕ) (ls : List ScriptLine) (w : Wish) → AllByRecursion (IsScriptLine s) ls → w.1 ≤ 120
+    → (fold (told_line f v i) w ls).1 ≤ 120
 few_told s f v i [] w all few = few
 few_told s f v i (l ∷ ls) w all few =
     few_told s f v i ls (told_line f v i w l) all.1

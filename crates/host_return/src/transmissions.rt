@@ -1,6 +1,7 @@
 //! The transmissions of a log by start, and the schedules among them that a node would receive.
 
-ghost use Rattle.std.specs.Prelude.{◌≡◌, ◌↔◌, ◌≤◌, ◌<◌, ◌^◌, ◌++◌, ℕ, List, true, IfOk, OnOk, IsPermutation, All, AllPairs, Contains, option_to_list, slice_index_or, length};
+ghost use Rattle.std.specs.Prelude.{◌≡◌, ◌↔◌, ◌≤◌, ◌<◌, ◌^◌, ◌++◌, ℕ, List, true, IfOk, OnOk, IsPermutation, All, AllPairs, Contains};
+ghost use Rattle.std.specs.Prelude.{option_to_list, slice_index_or, length};
 ghost use Rattle.schedule_codec.specs.Reading.{is_schedule as is_schedule_of};
 ghost use Rattle.radio_model.specs.Hearing.{Before};
 ghost use Rattle.radio_model.specs.declared.sending.Sending.{Sending as SendingOf};

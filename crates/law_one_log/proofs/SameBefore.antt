@@ -1,7 +1,7 @@
 -- Tick by tick: two valid logs over the same clocks have the same receptions, as long as their scenarios, which differ in
 -- nothing but the script, have the same script lines.
-use Rattle.std.proofs.Common.{◌≡◌, ℕ, zero, suc, ◌<◌, ◌≤◌, inl, inr, List, [], ◌∷◌, Bool, true, false, ◌==◌, nat_lt, cond, if◌then◌else◌, None, map, filter, fold, Contains, AllPairs}
-use Rattle.std.proofs.Common.{refl, sym, ◌∙◌, ap, subst, arith, ltb-true}
+use Rattle.std.proofs.Common.{◌≡◌, ℕ, zero, suc, ◌<◌, ◌≤◌, inl, inr, List, [], ◌∷◌, Bool, true, false, ◌==◌, nat_lt, cond, if◌then◌else◌}
+use Rattle.std.proofs.Common.{None, map, filter, fold, Contains, AllPairs, refl, sym, ◌∙◌, ap, subst, arith, ltb-true}
 use Rattle.std.proofs.lemmas.Bool.{cases_lt}
 use Rattle.std.proofs.lemmas.List.Kept.{AllPairs-filter}
 use Rattle.std.proofs.lemmas.List.Sorted.{Contains-permutation, IsPermutation-sym}
@@ -127,7 +127,8 @@ module _ (p : ScenarioParts) (clocks : ℕ → ℕ → ℕ) (until : ℕ) where
     same_device t v soon alike = prefix s v (clocks v) (heard_by a v) (heard_by b v) t (same_heard t v alike) ∙ same_script v (heard_by b v) t soon
 
     -- so before the tick the same nodes begin to send the same, and are tuned alike
-    pub sent_too : (t : ℕ) → t ≤ run_end p → t ≤ until → HeardAlike a b t → (x : Sending) → x.start < t → Contains (sendings_of a) x → Contains (sendings_of b) x
+    pub sent_too : (t : ℕ) → t ≤ run_end p → t ≤ until → HeardAlike a b t → (x : Sending) → x.start < t → Contains (sendings_of a) x
+        → Contains (sendings_of b) x
     sent_too t within soon alike x before there =
         let v = x.node in
         let known = sent_known s clocks a twins.of_a.trails x there in

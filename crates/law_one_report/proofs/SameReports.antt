@@ -117,7 +117,8 @@ module _ (laws : Laws) (read : ScenarioParts) (said : IsScenario read) where
       let y = also.returned in
       let same = laws.returned read x y said is.is also.is in
       let alike : ToldAlike laws x.scenario is.said (return_report x.returns x.counts) =
-      λ m n of_m of_n. ap (λ (l : List ℕ). flat_map return_line x.returns ++ flat_map node_probes x.counts ++ l) (run_alike laws x.scenario is.said m n of_m of_n) in
+      λ m n of_m of_n. ap (λ (l : List ℕ). flat_map return_line x.returns ++ flat_map node_probes x.counts ++ l)
+      (run_alike laws x.scenario is.said m n of_m of_n) in
       let scenario : IsOfRun (return_report y.returns y.counts) x.scenario b other =
       subst (λ (s : ScenarioParts). IsOfRun (return_report y.returns y.counts) s b other) (sym same.scenario) also.of_run in
       let returns : IsOfRun (return_report x.returns y.counts) x.scenario b other =

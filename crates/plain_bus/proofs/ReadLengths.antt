@@ -15,7 +15,8 @@ use Rattle.plain_bus.proofs.MembersOfSlots.{first_of}
 
 data_long : (p : List ℕ) → is_data p ≡ true → 8 + length (drop 8 p) ≡ length p
 data_long p is =
-    let long = leb-true 8 (length p) (first_of _ _ (first_of _ _ (first_of _ _ (first_of _ _ (first_of _ _ (first_of _ _ (first_of _ _ (first_of _ _ is)))))))) in
+    let long = leb-true 8 (length p)
+    (first_of _ _ (first_of _ _ (first_of _ _ (first_of _ _ (first_of _ _ (first_of _ _ (first_of _ _ (first_of _ _ is)))))))) in
     omega (arith, long, length-drop 8 p)
 
 request_long : (p : List ℕ) → is_request p ≡ true → 7 ≡ length p

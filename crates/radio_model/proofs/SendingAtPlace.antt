@@ -28,8 +28,9 @@ module _ (m : MediumState) (is : IsMedium m) (v i : ℕ) (st : Station) (below :
           let one : Some ends.sending ≡ Some x = sym runs_there ∙ sends in
           let until = ends.until in
           let lasts = ends.lasts in
-          subst (λ (o : Option Sending). IsSomeAnd o (λ y. (y.start ≤ 2 ^ 46) × (y.end ≤ 2 ^ 46) × All (λ (s : Station). IsAged y.end s.ended.items) m.stations))
-          one (omega arith, omega arith, all_aged_later m.now ends.sending.end m.stations (omega arith) aged)
+          subst (λ (o : Option Sending).
+          IsSomeAnd o (λ y. (y.start ≤ 2 ^ 46) × (y.end ≤ 2 ^ 46) × All (λ (s : Station). IsAged y.end s.ended.items) m.stations)) one
+          (omega arith, omega arith, all_aged_later m.now ends.sending.end m.stations (omega arith) aged)
 
     pub hearers_there : (lines : Lines) (result : List (ℕ × ℕ)) (x : Sending) → st.sending ≡ Some x → result ≡ hearers_to m.numbers lines v x m.stations
         → IfSome (sending_of_station (station_of m v)) (λ y. result ≡ hearers_to m.numbers lines v y m.stations)

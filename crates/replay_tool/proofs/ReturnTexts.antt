@@ -27,8 +27,10 @@ pub written : (x : ReturnedParts) (s : ScenarioParts) (rs : List HostReturn) (ds
 written x s rs ds ls air t0 t1 t2 t3 t4 is_s is_r is_d is_l is_a none first second third fourth =
     joined t0 t1 t2 t3 t4 (flat_map return_line rs) (flat_map node_probes x.counts) (report_lines ds ls) (energy_lines s (scenario_clock s) air)
     none first second third fourth
-    ∙ ap (λ (l : List HostReturn). flat_map return_line l ++ flat_map node_probes x.counts ++ (report_lines ds ls ++ energy_lines s (scenario_clock s) air)) is_r
-    ∙ ap (λ (l : List Delivery). flat_map return_line x.returns ++ flat_map node_probes x.counts ++ (report_lines l ls ++ energy_lines s (scenario_clock s) air)) is_d
+    ∙ ap (λ (l : List HostReturn).
+    flat_map return_line l ++ flat_map node_probes x.counts ++ (report_lines ds ls ++ energy_lines s (scenario_clock s) air)) is_r
+    ∙ ap (λ (l : List Delivery).
+    flat_map return_line x.returns ++ flat_map node_probes x.counts ++ (report_lines l ls ++ energy_lines s (scenario_clock s) air)) is_d
     ∙ ap (λ (l : List DropLine). flat_map return_line x.returns ++ flat_map node_probes x.counts ++ (report_lines (bus_deliveries s) l
     ++ energy_lines s (scenario_clock s) air)) is_l
     ∙ ap (λ (l : List Entry). return_report x.returns x.counts (bus_deliveries s) (bus_drops s) s (scenario_clock s) l) is_a

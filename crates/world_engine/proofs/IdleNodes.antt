@@ -1,5 +1,6 @@
 -- Where nodes are idle, listed frame by frame while the log grows.
-use Rattle.std.proofs.Common.{◌≡◌, ℕ, zero, suc, ◌+◌, ◌<◌, ◌≤◌, List, [], ◌∷◌, ◌++◌, length, filter_map, Option, Some, None, nat_lt, if◌then◌else◌, refl, sym, ◌∙◌, ap, arith, add-one, append-nil}
+use Rattle.std.proofs.Common.{◌≡◌, ℕ, zero, suc, ◌+◌, ◌<◌, ◌≤◌, List, [], ◌∷◌, ◌++◌, length, filter_map, Option, Some, None, nat_lt}
+use Rattle.std.proofs.Common.{if◌then◌else◌, refl, sym, ◌∙◌, ap, arith, add-one, append-nil}
 use Rattle.std.specs.Prelude.{slice_get, flat_map, Contains}
 use Rattle.std.specs.List.{cons_option, range_with_len}
 use Rattle.std.proofs.lemmas.Grind.{flat_map-append}
@@ -62,7 +63,8 @@ module _ (s : ScenarioParts) (clocks : ℕ → ℕ → ℕ) where
   idle_stay t f old new before stay = frames_alike (idle_in s clocks old) (idle_in s clocks new) f (λ g less.
       filter_same (idle_at s clocks old g) (idle_at s clocks new g) s.nodes (λ n there.
       let at = place_in s.nodes n there in
-      ap (λ (d : Device). idle_as g n.node (if nat_lt g s.frames then tune_of (device_after_script s n.node (clocks n.node) (frame_start s g) d).power else None))
+      ap (λ (d : Device).
+      idle_as g n.node (if nat_lt g s.frames then tune_of (device_after_script s n.node (clocks n.node) (frame_start s g) d).power else None))
       (sym (stay at.0 n at.1 (frame_start s g) (before g less)))))
 
   pub heard_alike : (old new : List Entry) → ((v : ℕ) → heard_by new v ≡ heard_by old v) → all_idle s clocks old ≡ all_idle s clocks new

@@ -24,7 +24,8 @@ loop-k-preserved c =
           (λ d. get_or_default sent k d c.index-sent-k.result below ∙ sym c.index-sent-k.is ∙ c.is_of.ensures.0 w.if-is_of.true))
       | else-is_of w ↦ rw w.flags-is
           (passed sent old h.node h.sending begin k flags c.loop-k.invariant
-          (λ d is. both_ways c.is_of.result w.if-is_of.false (c.is_of.ensures.1 (c.index-sent-k.is ∙ get_or_default sent k c.index-sent-k.result d below ∙ is))))
+          (λ d is. both_ways c.is_of.result w.if-is_of.false
+          (c.is_of.ensures.1 (c.index-sent-k.is ∙ get_or_default sent k c.index-sent-k.result d below ∙ is))))
     ]
 
 pub returns : goal.returns

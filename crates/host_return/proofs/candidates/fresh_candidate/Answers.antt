@@ -14,7 +14,8 @@ returns-in_default-clause-none c =
     let v = c.args.idle.now.node in
     let none : probed_rank s air c.args.idle.now.frame v ≡ None =
     idle.probes ∙ sym c.probed_rank.ensures ∙ c.in_default.is in
-    not_both (probed_rank s air c.args.idle.now.frame v) q.rank none (moved_probe s air q.frame q.node c.args.idle.now.frame v (Some q.rank) frame node candidate.probed.probes)
+    not_both (probed_rank s air c.args.idle.now.frame v) q.rank none
+    (moved_probe s air q.frame q.node c.args.idle.now.frame v (Some q.rank) frame node candidate.probed.probes)
 
 pub returns-then-not-bring_schedule-clause-none : goal.returns-then-not-bring_schedule-clause-none
 returns-then-not-bring_schedule-clause-none c =

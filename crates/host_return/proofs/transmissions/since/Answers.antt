@@ -11,7 +11,8 @@ returns-clause-all c =
     let sent = c.args.sent.now in
     let first = c.partition_point-first.result in
     let start = c.args.start in
-    let rest : take (length sent - first) (drop first sent) ≡ drop first sent = take_all (length sent - first) (drop first sent) (omega (arith, length-drop first sent)) in
+    let rest : take (length sent - first) (drop first sent) ≡ drop first sent =
+    take_all (length sent - first) (drop first sent) (omega (arith, length-drop first sent)) in
     let begin = IsPartitionPoint-from_clause (λ (y : Sending). nat_lt y.start start) sent first c.partition_point-first.ensures.partitioned
     (starts_before sent start c.requires) (λ a r g called. search rules) in
     rw rest (all_since sent start first c.partition_point-first.ensures.bound begin)
@@ -21,7 +22,8 @@ returns-clause-from c =
     let sent = c.args.sent.now in
     let first = c.partition_point-first.result in
     let start = c.args.start in
-    let rest : take (length sent - first) (drop first sent) ≡ drop first sent = take_all (length sent - first) (drop first sent) (omega (arith, length-drop first sent)) in
+    let rest : take (length sent - first) (drop first sent) ≡ drop first sent =
+    take_all (length sent - first) (drop first sent) (omega (arith, length-drop first sent)) in
     let begin = IsPartitionPoint-from_clause (λ (y : Sending). nat_lt y.start start) sent first c.partition_point-first.ensures.partitioned
     (starts_before sent start c.requires) (λ a r g called. search rules) in
     rw rest (none_before sent start first c.partition_point-first.ensures.bound begin)

@@ -42,7 +42,8 @@ returns-clause-more g c =
     let air = c.args.self.now.air in
     let r = c.in-Some.r in
     let lines : c.deref-2.result.now ≡ lines_of_going_back s air r = c.deref-2.ensures.value ∙ c.in_ok-lines.ensures.lines air in
-    let both = subst (λ (o : Option ScenarioParts). IfSome o (λ t. IsWithScript s c.deref-2.result.now t × HasRoom t)) c.in-Some-2.is c.in_ok-scenario.ensures.some in
+    let both = subst (λ (o : Option ScenarioParts). IfSome o (λ t. IsWithScript s c.deref-2.result.now t × HasRoom t)) c.in-Some-2.is
+    c.in_ok-scenario.ensures.some in
     record {
       last = r;
       returns = search rules;

@@ -7,4 +7,5 @@ use Rattle.host_return.proofs.transmissions.Transmissions.bring_one_of.Given as 
 
 abbrev pub invariant-loop-x : goal.invariant-loop-x
 invariant-loop-x l =
-    (air : List Entry) → AreSent air l.fn.self → (y : Sending) → Contains (take l.x-index l.fn.some) y → Brings l.fn.s air l.fn.r.frame l.fn.r.node l.fn.r.rank y → ⊥
+    (air : List Entry) → AreSent air l.fn.self → (y : Sending) → Contains (take l.x-index l.fn.some) y
+    → Brings l.fn.s air l.fn.r.frame l.fn.r.node l.fn.r.rank y → ⊥

@@ -28,8 +28,8 @@ returns-clause-orders g c =
     let said : none ≡ option_map (bytes_in_slot slot) o.message = ap (λ (x : Opened). option_map (bytes_in_slot slot) x.message) (sym quiet) in
     let closes = ap (λ (n : NodeState). closes_at n.setup.profile n.node.zero slot) (sym c.self.view_is) in
     let until = c.times_of-until.ensures.until ∙ closes in
-    let orders = orders_are m.setup.profile i.reference.zero slot (starts_at m.setup.profile i.reference.zero slot) c.times_of-until.result.until c.rank-rank.result
-    (rank_of m.core.tune) none o.message refl until c.rank-rank.ensures said in
+    let orders = orders_are m.setup.profile i.reference.zero slot (starts_at m.setup.profile i.reference.zero slot)
+    c.times_of-until.result.until c.rank-rank.result (rank_of m.core.tune) none o.message refl until c.rank-rank.ensures said in
     subst (λ (l : List Order). Gives (g.R.Radio.told c.args.radio.now) (g.R.Radio.told c.order_listening.new.radio) l)
     (orders ∙ ap (λ (n : NodeState). (window_opens n.setup n.node slot).orders) c.self.view_is) c.order_listening.ensures
 
