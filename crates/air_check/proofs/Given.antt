@@ -1,6 +1,5 @@
 -- What is received by an index of a log is given.
-use Rattle.std.proofs.Common.{◌≡◌, ℕ, ◌<◌, ◌≤◌, ◌^◌, ◌↔◌, List, All, get_or, true, Bool, arith}
-use Rattle.std.proofs.lemmas.List.Elements.{All-contains, Contains-get_or}
+use Rattle.std.proofs.Common.{◌≡◌, ℕ, ◌<◌, ◌≤◌, ◌^◌, ◌↔◌, List, All, true, Bool, arith}
 use Rattle.scenario_text.specs.ScenarioParts.{ScenarioParts}
 use Rattle.radio_model.specs.Hearing.{HearsInScene}
 use Rattle.radio_model.specs.OnAir.{Sending}
@@ -12,11 +11,6 @@ use Rattle.air_check.specs.Indexes.{IsIndex}
 use Rattle.air_check.specs.ReceiverMasks.{HoldSame}
 use Rattle.air_check.specs.Verdicts.{IsGiven}
 use Rattle.air_check.specs.declared.index.Index.{Index}
-
-pub near_early : (sent near : List Sending) (x : Sending) → AreNear sent x near → All (λ (y : Sending). y.start ≤ 2 ^ 46) sent
-    → All (λ (y : Sending). y.start ≤ 2 ^ 46) near
-near_early sent near x are early k d below =
-    All-contains (λ (y : Sending). y.start ≤ 2 ^ 46) sent (get_or near k d) early (are.among (get_or near k d) (Contains-get_or near k d below))
 
 -- what is near among some is so among the same ones
 pub near_in_same : (xs ys near : List Sending) (x : Sending) → HoldSame xs ys → AreNear ys x near → AreNear xs x near

@@ -3,7 +3,7 @@ use Rattle.std.proofs.Common.{◌≡◌, ℕ, ◌+◌, ◌*◌, ◌<◌, ◌≤�
 use Rattle.std.proofs.Common.{inl, inr, Contains, All, AllPairs, refl, sym, ◌∙◌, ap, subst, arith}
 use Rattle.std.proofs.lemmas.Bool.{cases_lt}
 use Rattle.std.proofs.lemmas.List.{take_more, get_or-take, get_or_default}
-use Rattle.std.proofs.lemmas.List.Elements.{All-contains, Contains-get_or, Contains-append_cases}
+use Rattle.std.proofs.lemmas.List.Elements.{Contains-get_or, Contains-append_cases}
 use Rattle.std.proofs.Math.Nat.{mul-le-mul_right}
 use Rattle.scenario_text.specs.ScenarioGrammar.{IsScenario}
 use Rattle.scenario_text.specs.ScenarioParts.{ScenarioParts}
@@ -47,11 +47,6 @@ near_sent s air f v rank t near x sent are = record {
   among = λ y there. sent.among y (are.among y there);
   all = λ y there meets. are.all y (sent.all y there) meets;
 }
-
-pub near_early : (sent near : List Sending) (x : Sending) → AreNear sent x near → All (λ (y : Sending). y.start ≤ 2 ^ 46) sent
-    → All (λ (y : Sending). y.start ≤ 2 ^ 46) near
-near_early sent near x are early k d below =
-    All-contains (λ (y : Sending). y.start ≤ 2 ^ 46) sent (get_or near k d) early (are.among (get_or near k d) (Contains-get_or near k d below))
 
 pub early_sent : (s : ScenarioParts) (air : List Entry) (t : Transmissions) → IsScenario s → Lawful s (scenario_clock s) air → AreSent air t
     → All (λ (y : Sending). y.start ≤ 2 ^ 46) t.sent.items

@@ -1,9 +1,9 @@
 -- Which transmissions can overlap one: a stretch of those by start.
-use Rattle.std.proofs.Common.{◌≡◌, ℕ, ◌+◌, ◌-◌, ◌<◌, ◌≤◌, List, length, take, drop, inl, inr, true, false, nat_lt, nat_le, sym, ◌∙◌, ap, subst, arith}
+use Rattle.std.proofs.Common.{◌≡◌, ℕ, ◌+◌, ◌-◌, ◌<◌, ◌≤◌, ◌^◌, List, length, take, drop, inl, inr, true, false, nat_lt, nat_le, sym, ◌∙◌, ap, subst, arith}
 use Rattle.std.proofs.Common.{All, AllPairs, get_or, true≢false, length-drop, length-take-le}
 use Rattle.std.proofs.lemmas.Bool.{cases_lt, ltb-true, lt-ltb, le-leb}
 use Rattle.std.proofs.lemmas.List.{get_or-take, get_or-drop}
-use Rattle.std.proofs.lemmas.List.Elements.{All-more, All-weaker, All-contains}
+use Rattle.std.proofs.lemmas.List.Elements.{All-more, All-weaker, All-contains, Contains-get_or}
 use Rattle.std.proofs.lemmas.List.Sorted.{IsPartitionedBy-ltb, IsPartitionedBy-leb, IsNonDecreasingBy-drop}
 use Rattle.std.specs.List.Sorted.{IsPartitionedBy, IsPartitionPoint, IsNonDecreasingBy}
 use Rattle.radio_model.specs.Hearing.{Before}
@@ -33,6 +33,12 @@ starts_before sent t in_order = IsPartitionedBy-ltb start_of sent t (by_start se
 pub rest_starts_before : (sent : List Sending) (t first : ℕ) → AllPairs Before sent → IsPartitionedBy (λ (y : Sending). nat_lt y.start t) (drop first sent)
 rest_starts_before sent t first in_order =
     IsPartitionedBy-ltb start_of (drop first sent) t (IsNonDecreasingBy-drop start_of first sent (by_start sent in_order))
+
+-- what is near some starts as early as they do
+pub near_early : (sent near : List Sending) (x : Sending) → AreNear sent x near → All (λ (y : Sending). y.start ≤ 2 ^ 46) sent
+    → All (λ (y : Sending). y.start ≤ 2 ^ 46) near
+near_early sent near x are early k d below =
+    All-contains (λ (y : Sending). y.start ≤ 2 ^ 46) sent (get_or near k d) early (are.among (get_or near k d) (Contains-get_or near k d below))
 
 module _ (sent : List Sending) (longest : ℕ) (x : Sending) (in_order : AllPairs Before sent) (long : All (λ (y : Sending). y.end ≤ y.start + longest) sent)
     (earliest first count : ℕ) (within : first ≤ length sent) (few : count ≤ length (drop first sent)) (since : earliest ≤ x.start - longest)

@@ -5,7 +5,8 @@ use Rattle.lwb_base.specs.Profile.{Numbers}
 use Rattle.link_trace.specs.Passes.{Lines}
 use Rattle.radio_model.specs.OnAir.{Sending}
 use Rattle.radio_model.specs.Reaches.{IsReach}
-use Rattle.air_check.proofs.Given.{near_early, near_in_same}
+use Rattle.radio_model.proofs.OverlapWindows.{near_early}
+use Rattle.air_check.proofs.Given.{near_in_same}
 use Rattle.air_check.proofs.ReceiverMasks.{reaches_of_some}
 use Rattle.air_check.proofs.receiver_masks.receivers_of.Goals as goal
 

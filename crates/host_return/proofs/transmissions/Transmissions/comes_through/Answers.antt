@@ -3,9 +3,10 @@ use Rattle.std.proofs.lemmas.List.Elements.{All-contains}
 use Rattle.radio_model.specs.Hearing.{Before}
 use Rattle.radio_model.specs.Receptions.{AreNear}
 use Rattle.radio_model.specs.declared.sending.Sending.{Sending}
+use Rattle.radio_model.proofs.OverlapWindows.{near_early}
 use Rattle.air_log.specs.HearsAir.{scene_of}
 use Rattle.host_return.specs.Probes.{with_probe}
-use Rattle.host_return.proofs.Heard.{tuned_through, near_sent, near_early}
+use Rattle.host_return.proofs.Heard.{tuned_through, near_sent}
 use Rattle.host_return.proofs.transmissions.Transmissions.comes_through.Goals as goal
 
 pub near-near-requires-clause-in_order : goal.near-near-requires-clause-in_order
