@@ -1,6 +1,7 @@
 -- Which receptions are there, by a flag for each transmission of a list and each id.
 use Rattle.std.specs.Prelude.{◌≡◌, ℕ, ◌+◌, ◌*◌, ◌<◌, ◌≤◌, ◌↔◌, ◌⊎◌, List, [], ◌∷◌, ◌++◌, Bool, true, false, Option, Some, None}
 use Rattle.std.specs.Prelude.{Contains, length, slice_index_or}
+use Rattle.lwb_base.specs.declared.limits.TheConstants.{GREATEST_ID, PLACES_BY_ID}
 use Rattle.scenario_text.specs.ScenarioParts.{ScenarioParts}
 use Rattle.radio_model.specs.OnAir.{Hearing, Sending}
 use Rattle.air_log.specs.declared.entry.Entry.{Entry}
@@ -9,12 +10,12 @@ use Rattle.air_check.specs.Verdicts.{IsGiven, AreGiven, IsMissing}
 
 -- the flag of transmission k and node v
 abbrev pub flag : List Bool → ℕ → ℕ → Bool
-flag flags k v = slice_index_or flags (k * 201 + v) false
+flag flags k v = slice_index_or flags (k * PLACES_BY_ID + v) false
 
 -- exactly these receptions have their flags
 pub record AreFlags (sent : List Sending) (hs : List Hearing) (flags : List Bool) : Type 0 where
-  pub size : length flags ≡ length sent * 201
-  pub each : (k v : ℕ) (d : Sending) → k < length sent → v ≤ 200
+  pub size : length flags ≡ length sent * PLACES_BY_ID
+  pub each : (k v : ℕ) (d : Sending) → k < length sent → v ≤ GREATEST_ID
       → (flag flags k v ≡ true) ↔ Contains hs (record { node = v; sending = slice_index_or sent k d })
 
 -- whether a reception is given and not among these

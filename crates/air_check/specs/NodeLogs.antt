@@ -1,5 +1,6 @@
 -- What each id did by a log, at the place of that id.
 use Rattle.std.specs.Prelude.{◌≡◌, ℕ, List, [], ◌∷◌, ◌++◌, length, get_or}
+use Rattle.lwb_base.specs.declared.limits.TheConstants.{PLACES_BY_ID}
 use Rattle.radio_model.specs.declared.sending.Sending.{Sending}
 use Rattle.radio_model.specs.OnAir.{Hearing, Tuning}
 use Rattle.air_log.specs.declared.entry.Entry.{Entry}
@@ -26,8 +27,8 @@ after_entry n (Sent x) = record n { sent = n.sent ++ x ∷ [] }
 after_entry n (Heard h) = record n { heard = n.heard ++ hearing_of h ∷ [] }
 after_entry n (Tuned t) = record n { tuned = n.tuned ++ tuning_of t ∷ [] }
 
--- ids are 1 to 200
+-- ids are 1 to GREATEST_ID
 pub record AreLogsOf (air : List Entry) (logs : List NodeLogState) : Type 0 where
-  pub ids : length logs ≡ 201
+  pub ids : length logs ≡ PLACES_BY_ID
   pub none : get_or logs 0 empty_node_log ≡ empty_node_log
   pub each : (v : ℕ) → get_or logs v empty_node_log ≡ log_by air v

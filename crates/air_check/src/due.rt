@@ -1,6 +1,7 @@
 //! Whether a reception is given and not there.
 
 ghost use Rattle.std.specs.Prelude.{◌≡◌, ◌*◌, ◌<◌, List, length, slice_index_or};
+ghost use Rattle.lwb_base.specs.declared.limits.TheConstants.{PLACES_BY_ID};
 ghost use Rattle.radio_model.specs.OnAir.{Hearing, Sending};
 ghost use Rattle.air_log.specs.declared.entry.Entry.{Entry};
 ghost use Rattle.air_check.specs.Flags.{AreFlags, IsGivenAndMissing};
@@ -20,7 +21,7 @@ pub(crate) fn is_due(
     place: usize,
 ) -> bool
     requires searchable { IsSearchable s.now index.now }
-    requires size { length flags.now ≡ length index.now.sent.items * 201 }
+    requires size { length flags.now ≡ length index.now.sent.items * PLACES_BY_ID }
     requires place { place < length index.now.sent.items }
     ensures { (air : List Entry) (hs : List Hearing) (d : Sending) → IsIndex air index.now → AreFlags index.now.sent.items hs flags.now
         → IsGivenAndMissing s.now air hs node (slice_index_or index.now.sent.items place d) result }

@@ -3,6 +3,7 @@
 ghost use Rattle.std.specs.Prelude.{◌≡◌, ◌+◌, ◌*◌, ◌<◌, ◌≤◌, ◌↔◌, ◌++◌, ◌∷◌, [], ℕ, List, true, IfOk, IfSome, IfNone};
 ghost use Rattle.std.specs.Prelude.{AllPairs, Contains, length, set, slice_index_or};
 ghost use Rattle.std.specs.Option.{option_map, option_copied};
+ghost use Rattle.lwb_base.specs.declared.limits.TheConstants.{GREATEST_ID, PLACES_BY_ID};
 ghost use Rattle.radio_model.specs.Hearing.{Before};
 ghost use Rattle.air_log.specs.Entries.{hearing_in};
 ghost use Rattle.radio_model.specs.OnAir.{Hearing, Sending};
@@ -25,9 +26,9 @@ pub(crate) fn none_received(alloc: Global, sent: &[Sending]) -> Result<Vec<bool>
 
 /// Whether the node has received the transmission at that place.
 pub(crate) fn is_received(flags: &[bool], place: usize, node: NodeId) -> bool
-    requires { place * PLACES_BY_ID + 200 < length flags.now }
+    requires { place * PLACES_BY_ID + GREATEST_ID < length flags.now }
     ensures value { result ≡ flag flags.now place node }
-    ensures range { node ≤ 200 }
+    ensures range { node ≤ GREATEST_ID }
 {
     flags[place * PLACES_BY_ID + usize::from(node.number())]
 }
@@ -47,9 +48,9 @@ pub(crate) fn receive(sent: &[Sending], flags: &mut Vec<bool>, h: &HeardEntry)
 }
 
 fn set_flag(flags: &mut Vec<bool>, place: usize, node: NodeId)
-    requires { place * PLACES_BY_ID + 200 < length flags.old.items }
+    requires { place * PLACES_BY_ID + GREATEST_ID < length flags.old.items }
     ensures value { flags.new.items ≡ set flags.old.items (place * PLACES_BY_ID + node) true }
-    ensures range { node ≤ 200 }
+    ensures range { node ≤ GREATEST_ID }
 {
     flags[place * PLACES_BY_ID + usize::from(node.number())] = true;
 }

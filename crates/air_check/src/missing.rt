@@ -1,6 +1,7 @@
 //! The first reception that is missing in a log.
 
 ghost use Rattle.std.specs.Prelude.{◌≡◌, ◌*◌, ◌<◌, ℕ, List, IfSome, IfNone, length, slice_index_or};
+ghost use Rattle.lwb_base.specs.declared.limits.TheConstants.{PLACES_BY_ID};
 ghost use Rattle.scenario_clocks.specs.StatedClocks.{scenario_clock};
 ghost use Rattle.air_log.specs.declared.entry.Entry.{Entry};
 ghost use Rattle.air_log.specs.Entries.{hearings_of, HasHeardEntry};
@@ -27,7 +28,7 @@ pub(crate) struct Missed {
 /// where each is there. The index and the flags are of the same log.
 pub(crate) fn first_missing(s: &Scenario, index: &Index, flags: &[bool]) -> Option<Missed>
     requires searchable { IsSearchable s.now index.now }
-    requires size { length flags.now ≡ length index.now.sent.items * 201 }
+    requires size { length flags.now ≡ length index.now.sent.items * PLACES_BY_ID }
     ensures some { (air : List Entry) → FollowsTrails s.now (scenario_clock s.now) air → IsIndex air index.now
         → AreFlags index.now.sent.items (hearings_of air) flags.now → IfSome result (λ m. IsFirstMissing s.now air m.receiver m.sender m.start) }
     ensures none { (air : List Entry) → IsIndex air index.now → AreFlags index.now.sent.items (hearings_of air) flags.now
@@ -49,7 +50,7 @@ pub(crate) fn first_missing(s: &Scenario, index: &Index, flags: &[bool]) -> Opti
 // The least node that should have received the transmission at that place and hasn't: it has a link from the sender.
 fn first_of(s: &Scenario, index: &Index, flags: &[bool], k: usize) -> Option<NodeId>
     requires searchable { IsSearchable s.now index.now }
-    requires size { length flags.now ≡ length index.now.sent.items * 201 }
+    requires size { length flags.now ≡ length index.now.sent.items * PLACES_BY_ID }
     requires place { k < length index.now.sent.items }
     ensures { (air : List Entry) (d : Sending) → IsIndex air index.now → AreFlags index.now.sent.items (hearings_of air) flags.now
         → IsFirstOf s.now air (slice_index_or index.now.sent.items k d) result }

@@ -1,6 +1,7 @@
 //! The entries of a log by ids.
 
 ghost use Rattle.std.specs.Prelude.{◌≡◌, ◌≤◌, [], IfOk, OnOk, length, get_or, set};
+ghost use Rattle.lwb_base.specs.declared.limits.TheConstants.{GREATEST_ID};
 ghost use Rattle.air_log.specs.Entries.{node_of_entry as node_with};
 ghost use Rattle.air_check.specs.NodeLogs.{AreLogsOf, after_entry, empty_node_log};
 
@@ -32,7 +33,7 @@ fn empty_logs(alloc: Global) -> Result<Vec<NodeLog>, Memory>
 
 fn add_entry(logs: &mut Vec<NodeLog>, entry: &Entry) -> Result<(), Memory>
     requires { length logs.old.items ≡ PLACES_BY_ID }
-    ensures range { (1 ≤ node_with entry.now) × (node_with entry.now ≤ 200) }
+    ensures range { (1 ≤ node_with entry.now) × (node_with entry.now ≤ GREATEST_ID) }
     ensures added { OnOk result (logs.new.items
         ≡ set logs.old.items (node_with entry.now) (after_entry (get_or logs.old.items (node_with entry.now) empty_node_log) entry.now)) }
 {

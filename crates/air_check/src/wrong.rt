@@ -1,6 +1,7 @@
 //! The first reception of a log that is wrong.
 
 ghost use Rattle.std.specs.Prelude.{◌≡◌, ◌*◌, List, [], IfSome, IfNone, length};
+ghost use Rattle.lwb_base.specs.declared.limits.TheConstants.{PLACES_BY_ID};
 ghost use Rattle.air_log.specs.declared.entry.Entry.{Entry};
 ghost use Rattle.air_log.specs.Entries.{hearings_of};
 ghost use Rattle.air_log.specs.Courses.{hearing_of};
@@ -42,7 +43,7 @@ pub(crate) fn first_wrong(
 // Whether an entry is no reception, or one that is given and new.
 fn is_right(s: &Scenario, index: &Index, flags: &mut Vec<bool>, entry: &Entry) -> bool
     requires searchable { IsSearchable s.now index.now }
-    requires size { length flags.old.items ≡ length index.now.sent.items * 201 }
+    requires size { length flags.old.items ≡ length index.now.sent.items * PLACES_BY_ID }
     ensures { (air above : List Entry) → IsIndex air index.now → AreFlags index.now.sent.items (hearings_of above) flags.old.items
         → IsRightNext s.now air index.now.sent.items above entry.now flags.new.items result }
 {
@@ -55,7 +56,7 @@ fn is_right(s: &Scenario, index: &Index, flags: &mut Vec<bool>, entry: &Entry) -
 // Whether a reception is given and new; if so it is there from now on.
 fn take_in(s: &Scenario, index: &Index, flags: &mut Vec<bool>, h: &HeardEntry) -> bool
     requires searchable { IsSearchable s.now index.now }
-    requires size { length flags.old.items ≡ length index.now.sent.items * 201 }
+    requires size { length flags.old.items ≡ length index.now.sent.items * PLACES_BY_ID }
     ensures { (air : List Entry) (hs : List Hearing) → IsIndex air index.now → AreFlags index.now.sent.items hs flags.old.items
         → TakesIn s.now air index.now.sent.items hs (hearing_of h.now) flags.new.items result }
 {

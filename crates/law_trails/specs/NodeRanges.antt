@@ -1,7 +1,7 @@
 -- A node and its window in their ranges.
-use Rattle.std.specs.Prelude.{◌≡◌, ℕ, ◌<◌, ◌≤◌, ◌⊎◌, List, true, false, length, ⊤}
+use Rattle.std.specs.Prelude.{◌≡◌, ℕ, ◌+◌, ◌<◌, ◌≤◌, ◌⊎◌, List, true, false, length, ⊤}
 use Rattle.std.specs.Option.{IfSome}
-use Rattle.lwb_base.specs.declared.limits.TheConstants.{LAST_FRAME}
+use Rattle.lwb_base.specs.declared.limits.TheConstants.{DATA_SLOTS, LAST_FRAME}
 use Rattle.lwb_packets.specs.declared.kind.Kind.{Kind}
 use Rattle.glossy_relay.specs.FloodState.{FloodState}
 use Rattle.glossy_relay.specs.Relaying.{is_spelling, slot_of}
@@ -37,7 +37,7 @@ pub record IsFloodOfSlot (s : Setup) (k : Kind) (j : ℕ) (f : FloodState) : Typ
 -- the window of slot j. own: what it accepted is of its rank; hosted: a host says the schedules of its round itself
 pub record IsOpenInRange (s : Setup) (f : ℕ) (c : Core) (j : ℕ) (w : Window) : Type 0 where
   pub slot : j ≤ w.last
-  pub last : w.last ≤ 45
+  pub last : w.last ≤ DATA_SLOTS + 5
   pub next : j < w.last → (j ≡ 0) ⊎ ((is_schedule_part w.part ≡ false) × (w.last ≡ last_slot c.plan))
   pub flood : IsFloodOfSlot s (kind_for w.part) j w.flood
   pub own : w.flood.initiated ≡ false → IfSome w.flood.first (λ q. is_foreign (rank_of c.tune) (message_of q) ≡ false)

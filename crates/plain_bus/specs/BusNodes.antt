@@ -1,6 +1,7 @@
 -- The nodes of the bus as the code has them.
 use Rattle.std.specs.Prelude.{◌≡◌, ◌<◌, ◌==◌, ℕ, List, length, map, Bool, true, false, Some, None, if◌then◌else◌, option_map, option_and_then, ⊤}
 use Rattle.std.specs.declared.option.Option.{Option}
+use Rattle.lwb_base.specs.declared.limits.TheConstants.{MOST_BOOTS}
 use Rattle.bus_rules.specs.Cores.{Core, Setup, is_member}
 use Rattle.bus_rules.specs.Plans.{slots_named}
 use Rattle.bus_rules.specs.Slots.{Message, Opened, Closed, opened_slot, closed_slot, delivery_of, part_of, is_schedule_part}
@@ -38,7 +39,7 @@ state_by on c boots = if on then StateOn c else StateOff boots
 
 -- it may boot once more
 abbrev pub MayBoot : State → Type 0
-MayBoot (StateOff boots) = boots < 200
+MayBoot (StateOff boots) = boots < MOST_BOOTS
 MayBoot (StateOn c) = ⊤
 
 abbrev pub MayDo : Act → State → Type 0

@@ -2,6 +2,7 @@
 use Rattle.std.specs.Prelude.{◌≡◌, ℕ, ◌+◌, ◌<◌, ◌≤◌, ◌⊎◌, All, List, Bool, false, ◌&&◌, ◌||◌, ◌==◌, nat_lt, nat_le}
 use Rattle.std.specs.Prelude.{Option, Some, None, length, slice_index, slice_index_or, slice_set}
 use Rattle.std.specs.Str.{bytes_eq}
+use Rattle.lwb_base.specs.declared.limits.TheConstants.{PLACES_BY_ID}
 use Rattle.radio_model.specs.Stations.{on_air}
 use Rattle.radio_model.specs.declared.sending.Sending.{Sending}
 use Rattle.radio_model.specs.declared.station.Station.{Station}
@@ -65,9 +66,9 @@ pub record AreMarks (sts : List Station) (mks : List Mark) : Type 0 where
   pub one_each : length mks ≡ length sts
   pub each : (k : ℕ) (d : Station) (e : Mark) → k < length sts → IsMark (on_air (slice_index_or sts k d)) (slice_index_or mks k e)
 
--- each node has its place at its id, which is at most 200
+-- each node has its place at its id
 pub record ArePlaces (nodes places : List ℕ) : Type 0 where
-  pub all : length places ≡ 201
+  pub all : length places ≡ PLACES_BY_ID
   pub each : (k : ℕ) → k < length nodes → slice_index places (slice_index nodes k) ≡ k
 
 -- this station and this mark are at the place

@@ -1,6 +1,7 @@
 //! The radio medium that all nodes share.
 
 ghost use Rattle.std.specs.Prelude.{◌≡◌, ◌≤◌, ◌<◌, ◌^◌, ℕ, IfOk, IfSome, All, AllPairs, Contains, ◌↔◌, length, List, slice_index, Some};
+ghost use Rattle.lwb_base.specs.declared.limits.TheConstants.{PLACES_BY_ID};
 ghost use Rattle.link_trace.specs.Masks.{AreNodes};
 ghost use Rattle.link_trace.specs.Passes.{Lines};
 ghost use Rattle.radio_model.specs.Hearing.{Scene, HearsInScene};
@@ -19,7 +20,7 @@ use crate::recent::Recent;
 use crate::rivals::{Key, frame_start};
 use crate::station::Station;
 use link_trace::Links;
-use lwb_base::{Memory, NodeId, Packet, Profile, Rank};
+use lwb_base::{Memory, NodeId, PLACES_BY_ID, Packet, Profile, Rank};
 use std::alloc::Global;
 use std::marker::Model;
 
@@ -200,7 +201,7 @@ fn places_of(alloc: Global, nodes: &[NodeId]) -> Result<Vec<u8>, Memory>
     requires { AreNodes nodes.now }
     ensures { IfOk result (λ p. ArePlaces nodes.now p.items) }
 {
-    let mut places = vec![in alloc; 0u8; 201]?;
+    let mut places = vec![in alloc; 0u8; PLACES_BY_ID]?;
     for (i, node) in nodes.iter().enumerate() {
         places[usize::from(node.number())] = i as u8;
     }
@@ -209,7 +210,7 @@ fn places_of(alloc: Global, nodes: &[NodeId]) -> Result<Vec<u8>, Memory>
 
 // The place of a node, by the list of places.
 fn place_of(places: &[u8], node: NodeId) -> usize
-    requires { length places.now ≡ 201 }
+    requires { length places.now ≡ PLACES_BY_ID }
     ensures { (nodes : List ℕ) → ArePlaces nodes places.now → Contains nodes node → (result < length nodes) × (slice_index nodes result ≡ node) }
 {
     usize::from(places[usize::from(node.number())])
