@@ -27,9 +27,6 @@ use Rattle.air_log.proofs.EventPower.{stepped_power}
 use Rattle.host_return.specs.Wishes.{told_by}
 use Rattle.host_return.proofs.WishesKept.{SameWishes, KeepsWishes, IsNoBoot, wishes_kept, same, with_same}
 
-abbrev pub Wish : Type 0
-Wish = Bool × ℕ
-
 -- the requested interval of a stream that is exchanged
 set_here : (xs : List Stream) (k : ℕ) (x : Stream) → k < length xs → slice_index_or (slice_set xs k x) k no_stream ≡ x
 set_here [] k x below = absurd (omega arith)
@@ -70,19 +67,19 @@ HasFour (PowerOff boots) = Unit {0}
 HasFour (PowerOn n) = length n.core.streams.all ≡ 4
 
 -- whether a node is on, and the requested interval of one of its streams
-abbrev pub seen_wish : ℕ → Power → Wish
+abbrev pub seen_wish : ℕ → Power → (Bool × ℕ)
 seen_wish i (PowerOff boots) = (false, 0)
 seen_wish i (PowerOn n) = (true, (stream_at n.core.streams i).wish)
 
 module _ (i : ℕ) where
-  pub record IsTold (w : Wish) (p : Power) : Type 0 where
+  pub record IsTold (w : Bool × ℕ) (p : Power) : Type 0 where
     pub four : HasFour p
     pub is : seen_wish i p ≡ w
 
-  moved_to : (w : Wish) (p q : Power) → p ≡ q → IsTold w q → IsTold w p
+  moved_to : (w : Bool × ℕ) (p q : Power) → p ≡ q → IsTold w q → IsTold w p
   moved_to w p q same is = subst (IsTold w) (sym same) is
 
-  after_same : (w : Wish) (n m : Node) → SameWishes n.core.streams m.core.streams → IsTold w (PowerOn n) → IsTold w (PowerOn m)
+  after_same : (w : Bool × ℕ) (n m : Node) → SameWishes n.core.streams m.core.streams → IsTold w (PowerOn n) → IsTold w (PowerOn m)
   after_same w n m kept was = record { four = kept.count ∙ was.four; is = ap (λ (k : ℕ). (true, k)) (kept.wish i) ∙ was.is }
 
   row_same : (n : Node) (r : Option Stepped) → KeepsWishes n r → SameWishes n.core.streams (node_after n r).core.streams
@@ -90,7 +87,7 @@ module _ (i : ℕ) where
   row_same n (Some r) kept = kept
 
   module _ (clock : ℕ → ℕ) (s : Setup) (t : ℕ) where
-    by_event : (w : Wish) (e : Event) (x : Option Sending) (d : Device) (p : Power) → IsNoBoot e → d.power ≡ p → IsTold w p
+    by_event : (w : Bool × ℕ) (e : Event) (x : Option Sending) (d : Device) (p : Power) → IsNoBoot e → d.power ≡ p → IsTold w p
         → IsTold w (event_by clock s t e x d p).power
     by_event w e x d (PowerOff boots) other at was = moved_to w d.power (PowerOff boots) at was
     by_event w e x d (PowerOn n) other at was =
@@ -98,20 +95,20 @@ module _ (i : ℕ) where
         moved_to w _ (PowerOn (node_after n r)) (stepped_power clock s t e x d n)
         (after_same w n (node_after n r) (row_same n r (wishes_kept s n (clock t) e other)) was)
 
-    event_told : (w : Wish) (e : Event) (x : Option Sending) (d : Device) → IsNoBoot e → IsTold w d.power → IsTold w (event clock s t e x d).power
+    event_told : (w : Bool × ℕ) (e : Event) (x : Option Sending) (d : Device) → IsNoBoot e → IsTold w d.power → IsTold w (event clock s t e x d).power
     event_told w e x d other was = by_event w e x d d.power other refl was
 
-    pub hearings_told : (w : Wish) (hs : List Reception) (d : Device) → IsTold w d.power → IsTold w (fold (device_after_reception clock s t) d hs).power
+    pub hearings_told : (w : Bool × ℕ) (hs : List Reception) (d : Device) → IsTold w d.power → IsTold w (fold (device_after_reception clock s t) d hs).power
     hearings_told w [] d was = was
     hearings_told w (h ∷ hs) d was = hearings_told w hs (device_after_reception clock s t d h) (event_told w (Heard h.packet) None d tt was)
 
-    pub end_told : (w : Wish) (d : Device) (x : Option Sending) → IsTold w d.power → IsTold w (device_ended_by clock s t d x).power
+    pub end_told : (w : Bool × ℕ) (d : Device) (x : Option Sending) → IsTold w d.power → IsTold w (device_ended_by clock s t d x).power
     end_told w d None was = was
     end_told w d (Some x) was =
         cond_both (x.end == t) (event clock s t Sent (Some x) (record d { sending = None })) d (λ (e : Device). IsTold w e.power)
         (λ is. event_told w Sent (Some x) (record d { sending = None }) tt was) (λ is. was)
 
-    pub alarms_told : (w : Wish) (b : Bool) (more : ℕ) (d : Device) → IsTold w d.power → IsTold w (alarms clock s t b more d).power
+    pub alarms_told : (w : Bool × ℕ) (b : Bool) (more : ℕ) (d : Device) → IsTold w d.power → IsTold w (alarms clock s t b more d).power
     unfolding alarms
     alarms_told w false more d was = was
     alarms_told w true zero d was = was
@@ -124,35 +121,35 @@ module _ (i : ℕ) where
     start_power packet d (Some l) (Some x) = refl
     start_power packet d (Some l) None = refl
 
-    pub begun_told : (w : Wish) (d : Device) (o : Option OrderedPacket) → IsTold w d.power → IsTold w (begun_by s t d o).power
+    pub begun_told : (w : Bool × ℕ) (d : Device) (o : Option OrderedPacket) → IsTold w d.power → IsTold w (begun_by s t d o).power
     begun_told w d None was = was
     begun_told w d (Some o) was =
         cond_both (o.tick == t) (starts s t o.packet d d.listening d.sending) d (λ (e : Device). IsTold w e.power)
         (λ now. moved_to w _ d.power (start_power o.packet d d.listening d.sending) was) (λ other. was)
 
-    by_act : (w : Wish) (p : Numbers) (d : Device) (a : Act) (q : Power) → IsAct p a → d.power ≡ q → IsTold w q
+    by_act : (w : Bool × ℕ) (p : Numbers) (d : Device) (a : Act) (q : Power) → IsAct p a → d.power ≡ q → IsTold w q
         → IsTold (told_by i a w) (device_after_act clock s t d a q).power
     by_act w p d On (PowerOff boots) range at was =
         let on = switched_on_is clock s t boots d in
-        moved_to _ _ _ on.power (record { four = refl; is = ap (λ (k : ℕ). (true, k)) (cleared_wish i) ∙ ap (λ (u : Wish). (true, u.1)) was.is })
-    by_act w p d On (PowerOn n) range at was = moved_to _ _ _ at (record { four = was.four; is = ap (λ (u : Wish). (true, u.1)) was.is })
+        moved_to _ _ _ on.power (record { four = refl; is = ap (λ (k : ℕ). (true, k)) (cleared_wish i) ∙ ap (λ (u : Bool × ℕ). (true, u.1)) was.is })
+    by_act w p d On (PowerOn n) range at was = moved_to _ _ _ at (record { four = was.four; is = ap (λ (u : Bool × ℕ). (true, u.1)) was.is })
     by_act w p d Off (PowerOff boots) range at was = moved_to _ _ _ at (record { four = tt; is = refl })
     by_act w p d Off (PowerOn n) range at was = record { four = tt; is = refl }
     by_act w p d (Declare j interval) (PowerOff boots) range at was =
-        moved_to _ _ _ at (record { four = tt; is = ap (λ (u : Wish). (u.0, if u.0 && (j == i) then interval else u.1)) was.is })
+        moved_to _ _ _ at (record { four = tt; is = ap (λ (u : Bool × ℕ). (u.0, if u.0 && (j == i) then interval else u.1)) was.is })
     by_act w p d (Declare j interval) (PowerOn n) range at was =
         let all = n.core.streams.all in
         let x = wishes interval (stream_at n.core.streams j) in
         record {
           four = length-set all j x ∙ was.four;
           is = ap (λ (k : ℕ). (true, k)) (set_new all j i x (omega (arith, range.0, was.four)))
-              ∙ ap (λ (u : Wish). (u.0, if u.0 && (j == i) then interval else u.1)) was.is;
+              ∙ ap (λ (u : Bool × ℕ). (u.0, if u.0 && (j == i) then interval else u.1)) was.is;
         }
     by_act w p d (Leave j) (PowerOff boots) range at was =
         moved_to _ _ _ at (record {
           four = tt;
-          is = cond_both (j == i) 0 0 (λ (k : ℕ). ◌≡◌ {A = Wish} (false, 0) (false, k)) (λ is. refl) (λ is. refl)
-              ∙ ap (λ (u : Wish). (u.0, if j == i then 0 else u.1)) was.is;
+          is = cond_both (j == i) 0 0 (λ (k : ℕ). ◌≡◌ {A = (Bool × ℕ)} (false, 0) (false, k)) (λ is. refl) (λ is. refl)
+              ∙ ap (λ (u : Bool × ℕ). (u.0, if j == i then 0 else u.1)) was.is;
         })
     by_act w p d (Leave j) (PowerOn n) range at was =
         let all = n.core.streams.all in
@@ -160,7 +157,7 @@ module _ (i : ℕ) where
         record {
           four = length-set all j x ∙ was.four;
           is = ap (λ (k : ℕ). (true, k)) (set_new all j i x (omega (arith, range, was.four)))
-              ∙ ap (λ (u : Wish). (u.0, if j == i then 0 else u.1)) was.is;
+              ∙ ap (λ (u : Bool × ℕ). (u.0, if j == i then 0 else u.1)) was.is;
         }
     by_act w p d (Put j payload) (PowerOff boots) range at was = moved_to _ _ _ at was
     by_act w p d (Put j payload) (PowerOn n) range at was =
@@ -169,8 +166,8 @@ module _ (i : ℕ) where
         (λ kept. after_same w n (record n { core = queues j payload n.core })
         (with_same n.core.streams j x (put_wish payload (stream_at n.core.streams j))) was)
 
-    pub lines_told : (w : Wish) (p : Numbers) (ls : List ScriptLine) (d : Device) → ((l : ScriptLine) → Contains ls l → IsAct p l.act) → IsTold w d.power
-        → IsTold (fold (λ (u : Wish) (l : ScriptLine). told_by i l.act u) w ls) (fold (device_after_line clock s t) d ls).power
+    pub lines_told : (w : Bool × ℕ) (p : Numbers) (ls : List ScriptLine) (d : Device) → ((l : ScriptLine) → Contains ls l → IsAct p l.act) → IsTold w d.power
+        → IsTold (fold (λ (u : Bool × ℕ) (l : ScriptLine). told_by i l.act u) w ls) (fold (device_after_line clock s t) d ls).power
     lines_told w p [] d ranges was = was
     lines_told w p (l ∷ ls) d ranges was =
         lines_told (told_by i l.act w) p ls (device_after_line clock s t d l) (λ m there. ranges m (in_tail ls l m there))

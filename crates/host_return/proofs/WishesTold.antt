@@ -20,22 +20,22 @@ use Rattle.lwb_base.proofs.Elements.{filtered}
 use Rattle.law_safety.proofs.RunFacts.{frame_lasts}
 use Rattle.host_return.specs.Restarts.{wish_of}
 use Rattle.host_return.specs.Wishes.{told_by, told_line, told}
-use Rattle.host_return.proofs.WishesInTick.{Wish, seen_wish, IsTold, hearings_told, end_told, alarms_told, begun_told, lines_told}
+use Rattle.host_return.proofs.WishesInTick.{seen_wish, IsTold, hearings_told, end_told, alarms_told, begun_told, lines_told}
 use Rattle.host_return.proofs.WishesKept.{same}
 
 -- the lines of a tick are given after those before it
 module _ (s : ScenarioParts) (v i : ℕ) where
-  abbrev before_line : ℕ → Wish → ScriptLine → Wish
+  abbrev before_line : ℕ → Bool × ℕ → ScriptLine → Bool × ℕ
   before_line t w l = if nat_lt (frame_start s l.frame) t && (l.node == v) then told_by i l.act w else w
 
   abbrev at_tick : ℕ → ScriptLine → Bool
   at_tick t l = (l.node == v) && (frame_start s l.frame == t)
 
-  abbrev tells : Wish → ScriptLine → Wish
+  abbrev tells : Bool × ℕ → ScriptLine → Bool × ℕ
   tells w l = told_by i l.act w
 
   -- none is before the tick
-  still : (t : ℕ) (ls : List ScriptLine) (w : Wish) → AllByRecursion (λ l. t ≤ frame_start s l.frame) ls → fold (before_line t) w ls ≡ w
+  still : (t : ℕ) (ls : List ScriptLine) (w : Bool × ℕ) → AllByRecursion (λ l. t ≤ frame_start s l.frame) ls → fold (before_line t) w ls ≡ w
   still t [] w late = refl
   still t (l ∷ ls) w late = rw (le-ltb (frame_start s l.frame) t late.0) (still t ls w late.1)
 
@@ -45,25 +45,25 @@ module _ (s : ScenarioParts) (v i : ℕ) where
       let up : frame_start s f ≤ frame_start s l.frame = mul-le-mul_right s.profile.frame all.0 in
       (omega (arith, from, up), later_too t f ls from all.1)
 
-  abbrev Splits : ℕ → List ScriptLine → Wish → Type 0
+  abbrev Splits : ℕ → List ScriptLine → (Bool × ℕ) → Type 0
   Splits t ls w = fold (before_line (suc t)) w ls ≡ fold tells (fold (before_line t) w ls) (filter (at_tick t) ls)
 
-  by_tests : (t : ℕ) (l : ScriptLine) (ls : List ScriptLine) (w : Wish) (a e own : Bool) → nat_lt (frame_start s l.frame) t ≡ a
+  by_tests : (t : ℕ) (l : ScriptLine) (ls : List ScriptLine) (w : Bool × ℕ) (a e own : Bool) → nat_lt (frame_start s l.frame) t ≡ a
       → nat_lt (frame_start s l.frame) (suc t) ≡ (a || e) → (frame_start s l.frame == t) ≡ e → (l.node == v) ≡ own → (a && e) ≡ false
-      → (e ≡ true → (u : Wish) → fold (before_line t) u ls ≡ u) → ((u : Wish) → Splits t ls u) → Splits t (l ∷ ls) w
+      → (e ≡ true → (u : Bool × ℕ) → fold (before_line t) u ls ≡ u) → ((u : Bool × ℕ) → Splits t ls u) → Splits t (l ∷ ls) w
   by_tests t l ls w true true own is next at mine apart quiet rest = absurd (cc)
   by_tests t l ls w true false true is next at mine apart quiet rest = rw (is, next, at, mine) (rest (tells w l))
   by_tests t l ls w true false false is next at mine apart quiet rest = rw (is, next, at, mine) (rest w)
   by_tests t l ls w false true true is next at mine apart quiet rest =
       rw (is, next, at, mine)
       (rest (tells w l)
-      ∙ ap (λ (u : Wish). fold tells u (filter (at_tick t) ls)) (quiet refl (tells w l))
-      ∙ ap (λ (u : Wish). fold tells (tells u l) (filter (at_tick t) ls)) (sym (quiet refl w)))
+      ∙ ap (λ (u : Bool × ℕ). fold tells u (filter (at_tick t) ls)) (quiet refl (tells w l))
+      ∙ ap (λ (u : Bool × ℕ). fold tells (tells u l) (filter (at_tick t) ls)) (sym (quiet refl w)))
   by_tests t l ls w false true false is next at mine apart quiet rest = rw (is, next, at, mine) (rest w)
   by_tests t l ls w false false true is next at mine apart quiet rest = rw (is, next, at, mine) (rest w)
   by_tests t l ls w false false false is next at mine apart quiet rest = rw (is, next, at, mine) (rest w)
 
-  splits : (t : ℕ) (ls : List ScriptLine) → Climbs (λ a b. a.frame ≤ b.frame) ls → (w : Wish) → Splits t ls w
+  splits : (t : ℕ) (ls : List ScriptLine) → Climbs (λ a b. a.frame ≤ b.frame) ls → (w : Bool × ℕ) → Splits t ls w
   splits t [] up w = refl
   splits t (l ∷ ls) up w =
       let k : ℕ = frame_start s l.frame in
@@ -79,7 +79,7 @@ module _ (s : ScenarioParts) (v i : ℕ) where
 
 -- so it goes from tick to tick
 module _ (s : ScenarioParts) (sound : IsSoundScenario s) (v i : ℕ) (clock : ℕ → ℕ) (hs : List Reception) where
-  abbrev so_far : ℕ → Wish
+  abbrev so_far : ℕ → (Bool × ℕ)
   so_far t = fold (before_line s v i t) (false, 0) s.script
 
   acts : (t : ℕ) (l : ScriptLine) → Contains (lines_at s v t) l → IsAct s.profile l.act
@@ -89,7 +89,7 @@ module _ (s : ScenarioParts) (sound : IsSoundScenario s) (v i : ℕ) (clock : �
 
   scripted_told : (t : ℕ) (d : Device) → IsTold i (so_far t) d.power → IsTold i (so_far (suc t)) (device_after_script s v clock t d).power
   scripted_told t d was =
-      subst (λ (w : Wish). IsTold i w (device_after_script s v clock t d).power)
+      subst (λ (w : Bool × ℕ). IsTold i w (device_after_script s v clock t d).power)
       (sym (splits s v i t s.script (pairs_climb (λ a b. a.frame ≤ b.frame) s.script sound.script_ascends) (false, 0)))
       (lines_told i clock (setup_of s v) t (so_far t) s.profile (lines_at s v t) d (acts t) was)
 
@@ -116,9 +116,9 @@ module _ (s : ScenarioParts) (sound : IsSoundScenario s) (v i : ℕ) (clock : �
   told_in_frame : (f : ℕ) → IsTold i (so_far (suc (frame_start s f))) (at_frame s v clock hs f).power
   told_in_frame f = scripted_told (frame_start s f) (before_tick s v clock hs (frame_start s f)) (tick_told (frame_start s f))
 
-  by_power : (w : Wish) (p : Power) → seen_wish i p ≡ w → wish_of i p ≡ w.1
-  by_power w (PowerOff boots) is = ap (λ (u : Wish). u.1) is
-  by_power w (PowerOn n) is = ap (λ (u : Wish). u.1) is
+  by_power : (w : Bool × ℕ) (p : Power) → seen_wish i p ≡ w → wish_of i p ≡ w.1
+  by_power w (PowerOff boots) is = ap (λ (u : Bool × ℕ). u.1) is
+  by_power w (PowerOn n) is = ap (λ (u : Bool × ℕ). u.1) is
 
   -- a line of frame f at most is one before the tick after the start of frame f
   same_test : (f : ℕ) (l : ScriptLine) → nat_lt (frame_start s l.frame) (suc (frame_start s f)) ≡ nat_le l.frame f
@@ -133,7 +133,7 @@ module _ (s : ScenarioParts) (sound : IsSoundScenario s) (v i : ℕ) (clock : �
             lt-ltb (frame_start s l.frame) (suc (frame_start s f)) (omega (arith, up)) ∙ sym (le-leb l.frame f within)
       ]
 
-  same_lines : (f : ℕ) (ls : List ScriptLine) (w : Wish) → fold (before_line s v i (suc (frame_start s f))) w ls ≡ fold (told_line f v i) w ls
+  same_lines : (f : ℕ) (ls : List ScriptLine) (w : Bool × ℕ) → fold (before_line s v i (suc (frame_start s f))) w ls ≡ fold (told_line f v i) w ls
   same_lines f [] w = refl
   same_lines f (l ∷ ls) w =
       ap (λ (b : Bool). fold (before_line s v i (suc (frame_start s f))) (if b && (l.node == v) then told_by i l.act w else w) ls) (same_test f l)
@@ -142,10 +142,10 @@ module _ (s : ScenarioParts) (sound : IsSoundScenario s) (v i : ℕ) (clock : �
   pub wish_told : (f : ℕ) → wish_of i (at_frame s v clock hs f).power ≡ (told f v i s.script).1
   wish_told f =
       by_power (so_far (suc (frame_start s f))) (at_frame s v clock hs f).power (told_in_frame f).is
-      ∙ ap (λ (w : Wish). w.1) (same_lines f s.script (false, 0))
+      ∙ ap (λ (w : Bool × ℕ). w.1) (same_lines f s.script (false, 0))
 
 -- no requested interval is longer than an interval may be
-few_by : (p : Numbers) (i : ℕ) (a : Act) (w : Wish) → IsAct p a → w.1 ≤ 120 → (told_by i a w).1 ≤ 120
+few_by : (p : Numbers) (i : ℕ) (a : Act) (w : Bool × ℕ) → IsAct p a → w.1 ≤ 120 → (told_by i a w).1 ≤ 120
 few_by p i On w range few = few
 few_by p i Off w range few = omega arith
 few_by p i (Declare j interval) w range few =
@@ -153,12 +153,13 @@ few_by p i (Declare j interval) w range few =
 few_by p i (Leave j) w range few = cond_both (j == i) 0 w.1 (λ (k : ℕ). k ≤ 120) (λ is. omega arith) (λ is. few)
 few_by p i (Put j payload) w range few = few
 
-few_told : (s : ScenarioParts) (f v i : ℕ) (ls : List ScriptLine) (w : Wish) → AllByRecursion (IsScriptLine s) ls → w.1 ≤ 120
+few_told : (s : ScenarioParts) (f v i : ℕ) (ls : List ScriptLine) (w : Bool × ℕ) → AllByRecursion (IsScriptLine s) ls → w.1 ≤ 120
     → (fold (told_line f v i) w ls).1 ≤ 120
 few_told s f v i [] w all few = few
 few_told s f v i (l ∷ ls) w all few =
     few_told s f v i ls (told_line f v i w l) all.1
-    (cond_both (nat_le l.frame f && (l.node == v)) (told_by i l.act w) w (λ (u : Wish). u.1 ≤ 120) (λ is. few_by s.profile i l.act w all.0.act few) (λ is. few))
+    (cond_both (nat_le l.frame f && (l.node == v)) (told_by i l.act w) w (λ (u : Bool × ℕ). u.1 ≤ 120)
+    (λ is. few_by s.profile i l.act w all.0.act few) (λ is. few))
 
 pub few_wished : (s : ScenarioParts) (f v i : ℕ) → IsSoundScenario s → (told f v i s.script).1 ≤ 120
 few_wished s f v i sound = few_told s f v i s.script (false, 0) (recursion_from_All (IsScriptLine s) s.script sound.script) (omega arith)

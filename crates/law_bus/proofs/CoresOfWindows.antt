@@ -23,7 +23,8 @@ use Rattle.bus_terms.specs.ScriptedStates.{setup_in}
 use Rattle.bus_terms.specs.Rounds.{opened_at, round_plan}
 use Rattle.bus_terms.specs.Bus.{state_at}
 use Rattle.law_terms.specs.LawfulRuns.{IsLawfulRun}
-use Rattle.law_terms.specs.SlotLaws.{CoresLaw, IsAligned, IsRound, IsWindowOf, WindowsLaw, bus_before}
+use Rattle.bus_terms.specs.HostedRounds.{node_before}
+use Rattle.law_terms.specs.SlotLaws.{CoresLaw, IsAligned, IsRound, IsWindowOf, WindowsLaw}
 use Rattle.law_terms.specs.SlotSteps.{IsFrameStart, IsSlotStart, IsSlotHeard, SlotHeardLaw}
 use Rattle.law_terms.specs.RunLaws.{RunLaw}
 use Rattle.law_bus.specs.AllSlots.{AllSlotsLaw}
@@ -60,7 +61,7 @@ module _ (heards : SlotHeardLaw) where
   pub windows_law : WindowsLaw
   windows_law s clocks air lawful rank f j v p round within known =
       let start = (all_slots s clocks air lawful rank f j p round within).0 in (
-        (λ is. let on = opens_at s rank f j v p (bus_before s rank f p j v) is in start.window v on.0 known on.1 on.2),
+        (λ is. let on = opens_at s rank f j v p (node_before s rank f p j v) is in start.window v on.0 known on.1 on.2),
         (λ has.
             let w = has.window in
             ap (λ (x : State). is_some (opened_at s rank f (part_of p j) v x)) (start.core v w has.here has.by_alarm)
@@ -119,11 +120,11 @@ module _ (heards : SlotHeardLaw) where
     heard : IsSlotHeard s clocks air w.rank f p w.slot
     heard = (all_slots s clocks air lawful w.rank f w.slot p round_of within).1
 
-    before_by : (b : Bool) → w.by_alarm ≡ b → bus_before s w.rank f p w.slot v ≡ StateOn w.before.core
+    before_by : (b : Bool) → w.by_alarm ≡ b → node_before s w.rank f p w.slot v ≡ StateOn w.before.core
     before_by true alarm = start.core v w here alarm
     before_by false joined = up s clocks air lawful w.rank f frame_in_run w.slot p start heard v w here joined
 
-    after_by : (o : Option Closing) → w.closed ≡ o → IfSome o (λ c. StateOn c.after.core ≡ bus_before s w.rank f p (suc w.slot) v)
+    after_by : (o : Option Closing) → w.closed ≡ o → IfSome o (λ c. StateOn c.after.core ≡ node_before s w.rank f p (suc w.slot) v)
     after_by None is = tt
     after_by (Some c) is = sym (left_by_window s clocks air lawful w.rank f frame_in_run w.slot p start heard v w here c is)
 

@@ -24,7 +24,8 @@ use Rattle.law_safety.proofs.SentPlans.{one_planned}
 use Rattle.law_windows.specs.WindowTimes.{ClosesInTime, closing_of}
 use Rattle.law_windows.proofs.WindowFacts.{close_in_time, slots_apart}
 use Rattle.law_terms.specs.LawfulRuns.{IsLawfulRun}
-use Rattle.law_terms.specs.SlotLaws.{IsRound, HasWindow, bus_before, bus_slot}
+use Rattle.bus_terms.specs.HostedRounds.{node_before, slot_in}
+use Rattle.law_terms.specs.SlotLaws.{IsRound, HasWindow}
 use Rattle.law_terms.specs.SlotSteps.{IsSlotStart}
 use Rattle.bus_terms.specs.Flooding.{has}
 use Rattle.law_bus.proofs.RoundsInTurn.{round_planned}
@@ -36,13 +37,13 @@ use Rattle.law_bus.proofs.SlotSendings.{IsOf}
 
 module _ (s : ScenarioParts) (clocks : ℕ → ℕ → ℕ) (air : List Entry) (lawful : IsLawfulRun s clocks air)
     (rank f j : ℕ) (p : Plan) (round : IsRound s rank f p) (start : IsSlotStart s clocks air rank f p j)
-    (v : ℕ) (here : has (bus_slot s rank f p j).flood.everyone v ≡ true) (no_alarm : HasWindow s clocks air rank f j v → ⊥)
+    (v : ℕ) (here : has (slot_in s rank f p j).flood.everyone v ≡ true) (no_alarm : HasWindow s clocks air rank f j v → ⊥)
     (x : Sending) (there : HasHeardEntry air v x) (is : IsOf s.profile rank f j x) where
   -- it is a slot in which a schedule is said
   schedule_slot : is_schedule_part (part_of p j) ≡ true
   schedule_slot = by (takes_so s clocks air lawful rank f j p round.in_run start v here)
     where
-      by : Takes rank f (part_of p j) (bus_before s rank f p j v) → is_schedule_part (part_of p j) ≡ true
+      by : Takes rank f (part_of p j) (node_before s rank f p j v) → is_schedule_part (part_of p j) ≡ true
       by (Member c at member) =
           absurd (no_alarm (start.window v c (known_party s clocks air lawful rank f j p round.in_run start v here) at member))
       by (Scanner c at other schedule of_rank) = schedule

@@ -18,7 +18,8 @@ use Rattle.bus_terms.specs.Rounds.{accepted_at, before_slot, closed_slot_of, del
 use Rattle.bus_terms.specs.Bus.{state_at}
 use Rattle.bus_terms.proofs.DeliveredSteps.{closed_data, said_data}
 use Rattle.law_terms.specs.LawfulRuns.{IsLawfulRun}
-use Rattle.law_terms.specs.SlotLaws.{IsWindowOf, bus_slot}
+use Rattle.bus_terms.specs.HostedRounds.{slot_in}
+use Rattle.law_terms.specs.SlotLaws.{IsWindowOf}
 use Rattle.law_terms.specs.SlotSteps.{IsSlotStart, IsSlotHeard}
 use Rattle.law_bus.proofs.SlotsAtNodes.{window_is, no_window, not_member, up}
 
@@ -45,7 +46,7 @@ module _ (s : ScenarioParts) (clocks : ℕ → ℕ → ℕ) (air : List Entry) (
   brings d = option_map (delivery_of v f rank j) d
 
   abbrev m : Option Message
-  m = accepted_at (bus_slot s rank f p j) v
+  m = accepted_at (slot_in s rank f p j) v
 
   module _ (w : WindowLog) (here : IsWindowOf s clocks air rank f j v w) (c : Closing) (is : w.closed ≡ Some c) where
     by_kind : (b : Bool) → w.by_alarm ≡ b → delivery_in_slot s rank f p (state_at s f) j v ≡ brings (said_data m)

@@ -22,7 +22,8 @@ use Rattle.bus_terms.specs.Rounds.{opened_at, takes_part}
 use Rattle.bus_terms.proofs.ReceivedByPaths.{of_filtered}
 use Rattle.law_terms.specs.FrameCourses.{power_at}
 use Rattle.law_terms.specs.LawfulRuns.{IsLawfulRun}
-use Rattle.law_terms.specs.SlotLaws.{HasWindow, bus_before, bus_slot}
+use Rattle.bus_terms.specs.HostedRounds.{node_before, slot_in}
+use Rattle.law_terms.specs.SlotLaws.{HasWindow}
 use Rattle.law_terms.specs.SlotSteps.{IsSlotStart}
 use Rattle.law_windows.proofs.FramePlaces.{places}
 use Rattle.law_bus.proofs.SlotParties.{known_party, scans_rank}
@@ -34,7 +35,7 @@ stage_of_scan rank f (Host r d) is = absurd (true≢false (sym is))
 
 module _ (s : ScenarioParts) (clocks : ℕ → ℕ → ℕ) (air : List Entry) (lawful : IsLawfulRun s clocks air)
     (rank f j : ℕ) (p : Plan) (in_run : f < s.frames) (start : IsSlotStart s clocks air rank f p j)
-    (v : ℕ) (here : has (bus_slot s rank f p j).flood.everyone v ≡ true) (no_alarm : HasWindow s clocks air rank f j v → ⊥) where
+    (v : ℕ) (here : has (slot_in s rank f p j).flood.everyone v ≡ true) (no_alarm : HasWindow s clocks air rank f j v → ⊥) where
   -- it is on after the script lines of the frame, and scans
   pub record IsFound : Type 0 where
     pub node : Node
@@ -48,13 +49,13 @@ module _ (s : ScenarioParts) (clocks : ℕ → ℕ → ℕ) (air : List Entry) (
   abbrev takes : State → Bool
   takes x = takes_part rank (part_of p j) x (opened_at s rank f (part_of p j) v x)
 
-  same : bus_before s rank f p j v ≡ state_of_power (power_at s clocks air v f)
+  same : node_before s rank f p j v ≡ state_of_power (power_at s clocks air v f)
   same = start.others v known no_alarm ∙ sym (start.found v known)
 
   test : takes (state_of_power (power_at s clocks air v f)) ≡ true
   test =
       ap takes (sym same)
-      ∙ of_filtered (λ u. takes_part rank (part_of p j) (bus_before s rank f p j u) (opened_at s rank f (part_of p j) u (bus_before s rank f p j u)))
+      ∙ of_filtered (λ u. takes_part rank (part_of p j) (node_before s rank f p j u) (opened_at s rank f (part_of p j) u (node_before s rank f p j u)))
       (ids s.nodes) v here
 
   module _ (n : Node) (on : power_at s clocks air v f ≡ PowerOn n) where

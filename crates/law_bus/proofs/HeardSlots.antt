@@ -36,7 +36,8 @@ use Rattle.lwb_flood.specs.FloodRun.{Run, initiates, packet, IsParticipant}
 use Rattle.lwb_flood.specs.FloodBySteps.{IsFloodBySteps, flood_at_end}
 use Rattle.lwb_flood.proofs.LogEntries.{ids_known}
 use Rattle.law_terms.specs.LawfulRuns.{IsLawfulRun}
-use Rattle.law_terms.specs.SlotLaws.{HasWindow, IsWindowOf, Says, bus_slot}
+use Rattle.bus_terms.specs.HostedRounds.{slot_in}
+use Rattle.law_terms.specs.SlotLaws.{HasWindow, IsWindowOf, Says}
 use Rattle.law_terms.specs.SlotRuns.{IsRunOf, RunsLaw}
 use Rattle.law_terms.specs.SlotSteps.{IsSlotHeard, IsSlotStart, SlotHeardLaw}
 use Rattle.law_terms.proofs.SlotSends.{accepts_same, listener, sends_same}
@@ -68,7 +69,7 @@ module _ (s : ScenarioParts) (clocks : ℕ → ℕ → ℕ) (air : List Entry) (
   run = record { driven = record { sound = lawful.sound; drift = lawful.drift }; heedful = lawful_is_heedful s clocks air lawful.lawful }
 
   abbrev x : Slot
-  x = bus_slot s rank f p j
+  x = slot_in s rank f p j
 
   abbrev states : ℕ → State
   states = before_slot s rank f p (state_at s f) j

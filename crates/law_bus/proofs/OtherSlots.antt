@@ -32,7 +32,8 @@ use Rattle.law_windows.proofs.WindowFacts.{open_in_time}
 use Rattle.bus_terms.specs.Flooding.{has}
 use Rattle.law_terms.specs.FrameCourses.{IsWindowIn}
 use Rattle.law_terms.specs.LawfulRuns.{IsLawfulRun}
-use Rattle.law_terms.specs.SlotLaws.{IsRound, IsWindowOf, HasWindow, bus_slot}
+use Rattle.bus_terms.specs.HostedRounds.{slot_in}
+use Rattle.law_terms.specs.SlotLaws.{IsRound, IsWindowOf, HasWindow}
 use Rattle.law_terms.specs.SlotSteps.{IsSlotStart}
 use Rattle.law_bus.proofs.PlannedRounds.{placed}
 use Rattle.law_bus.proofs.RoundsInTurn.{round_planned}
@@ -147,7 +148,7 @@ module _ (s : ScenarioParts) (clocks : ℕ → ℕ → ℕ) (air : List Entry) (
       let more = next v i w here (omega (arith, is, within)) in
       leads_on v d (suc i) more.window more.here (omega (arith, is))
 
-  module _ (v : ℕ) (here : has (bus_slot s rank f p j).flood.everyone v ≡ true) (no_alarm : HasWindow s clocks air rank f j v → ⊥) where
+  module _ (v : ℕ) (here : has (slot_in s rank f p j).flood.everyone v ≡ true) (no_alarm : HasWindow s clocks air rank f j v → ⊥) where
     abbrev In : WindowLog → Type 0
     In w = IsWindowIn s clocks air v f w
 

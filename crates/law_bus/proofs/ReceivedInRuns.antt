@@ -24,7 +24,8 @@ use Rattle.bus_terms.proofs.DeliveredSteps.{DeliversAt, IsDelivered, delivered_s
 use Rattle.bus_terms.proofs.FirstHearings.{heard_in_time}
 use Rattle.bus_terms.proofs.OrderedDeliveries.{data_in_round}
 use Rattle.law_terms.specs.LawfulRuns.{IsLawfulRun}
-use Rattle.law_terms.specs.SlotLaws.{IsRound, IsSlot, bus_slot}
+use Rattle.bus_terms.specs.HostedRounds.{slot_in}
+use Rattle.law_terms.specs.SlotLaws.{IsRound, IsSlot}
 use Rattle.law_bus.specs.ReceivedInRuns.{DeliversIn, IsMemberIn, IsReceivedInSlot}
 use Rattle.law_bus.proofs.BusDeliveries.{from_bus, in_bus, line_known, made_at, made_so}
 use Rattle.law_bus.proofs.BusLaws.{delivered, slots_are_floods}
@@ -56,7 +57,7 @@ module _ (s : ScenarioParts) (clocks : ℕ → ℕ → ℕ) (air : List Entry) (
   -- what is delivered on the bus in a step is delivered in the run in this step
   to_run : (v k : ℕ) → knows s.nodes v ≡ true → OnBus v k → InRun v k
   to_run v k known on =
-      let in_time = heard_in_time (bus_slot s rank f p j).flood k v (node_of owner) on.accepts.hears in
+      let in_time = heard_in_time (slot_in s rank f p j).flood k v (node_of owner) on.accepts.hears in
       record {
         packet = on.packet;
         delivered = subst (λ (ds : List Delivery). Contains ds (delivery_of v f rank j on.packet)) (sym same)
@@ -93,7 +94,7 @@ module _ (s : ScenarioParts) (clocks : ℕ → ℕ → ℕ) (air : List Entry) (
       let step = one_step v k on.step known delivers (to_run v on.step known on.delivers) in
       subst (OnBus v) (sym step) on.delivers
 
-  by_paths : (v k : ℕ) → IsMemberIn s rank f p j v → v ≢ node_of owner → (InRun v k ↔ IsLeast (bus_slot s rank f p j).flood (node_of owner) (suc k) v)
+  by_paths : (v k : ℕ) → IsMemberIn s rank f p j v → v ≢ node_of owner → (InRun v k ↔ IsLeast (slot_in s rank f p j).flood (node_of owner) (suc k) v)
   by_paths v k member other =
       let there : has (ids s.nodes) v ≡ true = ids_known s.nodes v ∙ member.known in
       let least = delivers_least s lawful.sound rank f p (state_at s f) j owner is v k there member.opens other in

@@ -26,7 +26,8 @@ use Rattle.law_windows.specs.WindowParts.{SendsAt}
 use Rattle.bus_terms.specs.Flooding.{has}
 use Rattle.lwb_flood.specs.FloodRun.{Run, IsParticipant, counter, sending_of_run, flood_at_beginning, RelayedInRun, HasSendings}
 use Rattle.law_terms.specs.LawfulRuns.{IsLawfulRun}
-use Rattle.law_terms.specs.SlotLaws.{IsRound, IsWindowOf, bus_slot}
+use Rattle.bus_terms.specs.HostedRounds.{slot_in}
+use Rattle.law_terms.specs.SlotLaws.{IsRound, IsWindowOf}
 use Rattle.law_terms.specs.SlotSteps.{IsSlotStart}
 use Rattle.law_bus.proofs.RunsOfLogs.{known_by}
 use Rattle.law_bus.proofs.SlotsAtNodes.{look_up}
@@ -68,7 +69,7 @@ module _ (s : ScenarioParts) (clocks : ℕ → ℕ → ℕ) (air : List Entry) (
   }
 
   abbrev pub initiates_by : ℕ → Bool
-  initiates_by v = has (bus_slot s rank f p j).flood.initiators v
+  initiates_by v = has (slot_in s rank f p j).flood.initiators v
 
   pub begins_by : (v : ℕ) (b : Bool) → initiates_by v ≡ b → flood_at_beginning r v ≡ starting_by v b
   begins_by v b is = ap (starting_by v) is

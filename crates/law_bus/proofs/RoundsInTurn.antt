@@ -21,7 +21,8 @@ use Rattle.bus_terms.specs.Bus.{state_at}
 use Rattle.bus_terms.proofs.KeptRanks.{member_of}
 use Rattle.law_terms.specs.LawfulRuns.{IsLawfulRun}
 use Rattle.law_terms.specs.FrameCourses.{power_at}
-use Rattle.law_terms.specs.SlotLaws.{IsRound, IsWindowOf, HasWindow, bus_before}
+use Rattle.bus_terms.specs.HostedRounds.{node_before}
+use Rattle.law_terms.specs.SlotLaws.{IsRound, IsWindowOf, HasWindow}
 use Rattle.law_terms.specs.SlotSteps.{IsFrameStart, IsSlotStart, IsSlotHeard, FirstSlotLaw, SlotStepLaw, RoundEndLaw}
 use Rattle.law_bus.proofs.BusLeaders.{leader_of}
 use Rattle.law_bus.proofs.MembersByTune.{leads_member}
@@ -130,7 +131,7 @@ module _ (s : ScenarioParts) (clocks : ℕ → ℕ → ℕ) (air : List Entry) (
       planned : IsPlanned s air rank f p
       planned = round_planned start.found p is_round
 
-      left : (v : ℕ) (w : WindowLog) (here : Of j v w) (c : Closing) → w.closed ≡ Some c → bus_before s rank f p (suc j) v ≡ StateOn c.after.core
+      left : (v : ℕ) (w : WindowLog) (here : Of j v w) (c : Closing) → w.closed ≡ Some c → node_before s rank f p (suc j) v ≡ StateOn c.after.core
       left v w here c is = left_by_window s clocks air lawful rank f in_run j p start heard v w here c is
 
       abbrev Finds : ℕ → Type 0
@@ -152,14 +153,14 @@ module _ (s : ScenarioParts) (clocks : ℕ → ℕ → ℕ) (air : List Entry) (
             let next = next_of s clocks air lawful rank f in_run j v w here more in
             record { window = next.window; here = next.here; by_alarm = next.by_alarm }
 
-        core_next : (v : ℕ) (w : WindowLog) → Of (suc j) v w → w.by_alarm ≡ true → bus_before s rank f p (suc j) v ≡ StateOn w.before.core
+        core_next : (v : ℕ) (w : WindowLog) → Of (suc j) v w → w.by_alarm ≡ true → node_before s rank f p (suc j) v ≡ StateOn w.before.core
         core_next v w here alarm =
             let go = goes s clocks air lawful rank f in_run (suc j) v w here in
             let x = go.course.follows w j (in_frame s clocks air lawful rank f in_run (suc j) v w here) alarm here.slot in
             left v x.window (record { there = x.here.there; frame = x.here.frame; channel = x.channel ∙ here.channel; slot = x.slot }) x.closing x.closed
             ∙ ap (λ (n : Node). StateOn n.core) x.node
 
-        window_next : (v : ℕ) (c : Core) → knows s.nodes v ≡ true → bus_before s rank f p (suc j) v ≡ StateOn c → is_member rank f c ≡ true
+        window_next : (v : ℕ) (c : Core) → knows s.nodes v ≡ true → node_before s rank f p (suc j) v ≡ StateOn c → is_member rank f c ≡ true
             → HasWindow s clocks air rank f (suc j) v
         window_next v c known on member =
             elim (find_window v) [
@@ -170,7 +171,7 @@ module _ (s : ScenarioParts) (clocks : ℕ → ℕ → ℕ) (air : List Entry) (
                   absurd (none has.window has.here))
             ]
 
-        others_next : (v : ℕ) → knows s.nodes v ≡ true → (HasWindow s clocks air rank f (suc j) v → ⊥) → bus_before s rank f p (suc j) v ≡ state_at s f v
+        others_next : (v : ℕ) → knows s.nodes v ≡ true → (HasWindow s clocks air rank f (suc j) v → ⊥) → node_before s rank f p (suc j) v ≡ state_at s f v
         others_next v known without =
             elim (find_window v) [
               | inl w ↦ absurd (without (next_window v w.window (as_found v w)))
@@ -192,7 +193,7 @@ module _ (s : ScenarioParts) (clocks : ℕ → ℕ → ℕ) (air : List Entry) (
 
       -- after the last slot
       module _ (end : j ≡ last_slot p) where
-        over : (v : ℕ) → round_of_rank s rank f (state_at s f) v ≡ bus_before s rank f p (suc j) v
+        over : (v : ℕ) → round_of_rank s rank f (state_at s f) v ≡ node_before s rank f p (suc j) v
         over v =
             ap (λ (o : Option Plan). after_round s rank f (state_at s f) o v) is_round.plan
             ∙ ap (λ (k : ℕ). before_slot s rank f p (state_at s f) k v) (omega (arith, end))

@@ -22,7 +22,8 @@ use Rattle.bus_terms.proofs.ReceivedByPaths.{of_filtered}
 use Rattle.lwb_flood.specs.FloodRun.{Run, counter}
 use Rattle.lwb_flood.specs.FloodBySteps.{IsFloodBySteps}
 use Rattle.law_terms.specs.LawfulRuns.{IsLawfulRun}
-use Rattle.law_terms.specs.SlotLaws.{IsAligned, IsRound, IsSaidIn, SentLaw, Says, bus_slot}
+use Rattle.bus_terms.specs.HostedRounds.{slot_in}
+use Rattle.law_terms.specs.SlotLaws.{IsAligned, IsRound, IsSaidIn, SentLaw, Says}
 use Rattle.law_terms.specs.SlotRuns.{IsRunOf, RunsLaw}
 use Rattle.law_terms.specs.SlotSteps.{SlotHeardLaw}
 use Rattle.law_bus.proofs.CoresOfWindows.{all_slots, cores_law}
@@ -33,7 +34,7 @@ module _ (s : ScenarioParts) (clocks : ℕ → ℕ → ℕ) (air : List Entry) (
   f = frame_of_sending s.profile x
 
   abbrev slot : Slot
-  slot = bus_slot s x.rank f p (slot_byte x)
+  slot = slot_in s x.rank f p (slot_byte x)
 
   -- where its slot is a run of the flood theorem
   said_in_run : IsRound s x.rank f p → slot_byte x ≤ last_slot p → (r : Run) → IsRunOf s clocks air x.rank f p (slot_byte x) r → IsFloodBySteps r

@@ -30,7 +30,8 @@ use Rattle.lwb_flood.specs.FloodRun.{Run, InTime}
 use Rattle.lwb_flood.specs.Windows.{ListensInWindow as ListensIn, IsListeningWindow}
 use Rattle.bus_terms.specs.Flooding.{has}
 use Rattle.law_terms.specs.LawfulRuns.{IsLawfulRun}
-use Rattle.law_terms.specs.SlotLaws.{IsRound, IsWindowOf, HasWindow, bus_slot}
+use Rattle.bus_terms.specs.HostedRounds.{slot_in}
+use Rattle.law_terms.specs.SlotLaws.{IsRound, IsWindowOf, HasWindow}
 use Rattle.law_terms.specs.SlotSteps.{IsSlotStart}
 use Rattle.law_bus.proofs.RunsOfLogs.{run, whole, known_by}
 use Rattle.law_bus.proofs.SlotsAtNodes.{look_up}
@@ -52,7 +53,7 @@ ends_from k (suc n) far (Ended x ∷ es) later within = ends_from k n far es (λ
 module _ (s : ScenarioParts) (clocks : ℕ → ℕ → ℕ) (air : List Entry) (lawful : IsLawfulRun s clocks air)
     (rank f j : ℕ) (p : Plan) (round : IsRound s rank f p) (within : j ≤ last_slot p) (start : IsSlotStart s clocks air rank f p j)
     (events : ℕ → List Event) (are : AreEvents s clocks air rank f j events)
-    (v : ℕ) (here : has (bus_slot s rank f p j).flood.everyone v ≡ true) (no_alarm : HasWindow s clocks air rank f j v → ⊥) where
+    (v : ℕ) (here : has (slot_in s rank f p j).flood.everyone v ≡ true) (no_alarm : HasWindow s clocks air rank f j v → ⊥) where
   abbrev r : Run
   r = run_of_slot s clocks air rank f p j events
 

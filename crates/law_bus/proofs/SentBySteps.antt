@@ -23,7 +23,8 @@ use Rattle.law_safety.proofs.RunSendings.{of_flood}
 use Rattle.lwb_flood.specs.FloodRun.{Run, initiates, packet}
 use Rattle.lwb_flood.specs.FloodBySteps.{IsFloodBySteps}
 use Rattle.law_terms.specs.LawfulRuns.{IsLawfulRun}
-use Rattle.law_terms.specs.SlotLaws.{Says, bus_slot}
+use Rattle.bus_terms.specs.HostedRounds.{slot_in}
+use Rattle.law_terms.specs.SlotLaws.{Says}
 use Rattle.law_terms.specs.SlotRuns.{IsRunOf}
 use Rattle.law_bus.proofs.RunsOfLogs.{whole}
 use Rattle.bus_terms.proofs.HeardOrigins.{sent_origin}
@@ -44,7 +45,7 @@ some_pair k n = Some (k, n)
 
 module _ (s : ScenarioParts) (clocks : ℕ → ℕ → ℕ) (air : List Entry) (lawful : IsLawfulRun s clocks air) (rank f : ℕ) (p : Plan) (j : ℕ) where
   abbrev pub x : Slot
-  x = bus_slot s rank f p j
+  x = slot_in s rank f p j
 
   -- the step and the length of what v sends on the bus with counter k, as `sent_by` lists them
   abbrev pub on_bus : ℕ → ℕ → Option (ℕ × ℕ)

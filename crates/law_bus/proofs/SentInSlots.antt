@@ -20,7 +20,8 @@ use Rattle.law_windows.proofs.WindowFacts.{sends_as_called}
 use Rattle.bus_terms.specs.Flooding.{has}
 use Rattle.lwb_flood.specs.FloodRun.{Run, initiates, counter, sending_of_run}
 use Rattle.law_terms.specs.LawfulRuns.{IsLawfulRun}
-use Rattle.law_terms.specs.SlotLaws.{IsWindowOf, bus_slot}
+use Rattle.bus_terms.specs.HostedRounds.{slot_in}
+use Rattle.law_terms.specs.SlotLaws.{IsWindowOf}
 use Rattle.law_terms.specs.SlotSteps.{IsSlotStart}
 use Rattle.law_bus.proofs.RunsOfLogs.{run, whole}
 use Rattle.law_bus.specs.SlotRun.{AreEvents, run_of_slot, size_by}
@@ -108,14 +109,14 @@ module _ (s : ScenarioParts) (clocks : ℕ → ℕ → ℕ) (air : List Entry) (
       (first.there, is_of_window s clocks air lawful rank f j p in_run start events are q who.window who.here first.sending first.of_slot) is
 
   size_is : (x : Sending) → InSlot s clocks air lawful rank f j p in_run start events are x → (l : List ℕ)
-      → (bus_slot s rank f p j).flood.initiators ≡ l → (o : ℕ) → has l o ≡ true → size_by long l ≡ length x.packet
+      → (slot_in s rank f p j).flood.initiators ≡ l → (o : ℕ) → has l o ≡ true → size_by long l ≡ length x.packet
   size_is x is [] at o there = absurd (true≢false (sym there))
   size_is x is (q ∷ qs) at o there = said_long x is q (ap (λ (l : List ℕ). has l q) at ∙ ap (λ (b : Bool). b || has qs q) (eq-eqb q q refl))
 
   pub lasts_so : (x : Sending) → InSlot s clocks air lawful rank f j p in_run start events are x → x.end ≡ x.start + r.air
   lasts_so x is =
       let origin = origin_in x is in
-      let size = size_is x is (bus_slot s rank f p j).flood.initiators refl origin.0 origin.1 in
+      let size = size_is x is (slot_in s rank f p j).flood.initiators refl origin.0 origin.1 in
       let ends = (sent_lasts s clocks air (run s clocks air lawful).heedful.trails x is.0).1 in
       ends ∙ ap (λ (n : ℕ). x.start + airtime s.profile n) (sym size)
 

@@ -26,7 +26,8 @@ use Rattle.bus_terms.proofs.ListsInTurn.{given_in_turn, pairs_in_turn, range_in_
 use Rattle.lwb_flood.specs.FloodRun.{Run}
 use Rattle.lwb_flood.specs.FloodBySteps.{IsFloodBySteps}
 use Rattle.law_terms.specs.LawfulRuns.{IsLawfulRun}
-use Rattle.law_terms.specs.SlotLaws.{IsWindowOf, bus_slot}
+use Rattle.bus_terms.specs.HostedRounds.{slot_in}
+use Rattle.law_terms.specs.SlotLaws.{IsWindowOf}
 use Rattle.law_terms.specs.SlotRuns.{IsRunOf}
 use Rattle.law_bus.proofs.RunsOfLogs.{whole}
 use Rattle.law_bus.proofs.AscendingLists.{same_ascending}
@@ -63,7 +64,7 @@ is_given a b is = cc
 module _ (s : ScenarioParts) (clocks : ℕ → ℕ → ℕ) (air : List Entry) (lawful : IsLawfulRun s clocks air) (rank f : ℕ) (p : Plan) (j : ℕ)
     (r : Run) (is : IsRunOf s clocks air rank f p j r) (by_steps : IsFloodBySteps r) (v : ℕ) where
   abbrev x : Slot
-  x = bus_slot s rank f p j
+  x = slot_in s rank f p j
 
   abbrev given : ℕ → Option (ℕ × ℕ)
   given = on_bus s clocks air lawful rank f p j v

@@ -27,7 +27,8 @@ use Rattle.bus_terms.specs.Rounds.{Slot}
 use Rattle.lwb_flood.specs.FloodRun.{Run}
 use Rattle.lwb_flood.specs.FloodBySteps.{IsFloodBySteps}
 use Rattle.law_terms.specs.LawfulRuns.{IsLawfulRun}
-use Rattle.law_terms.specs.SlotLaws.{IsRound, bus_slot}
+use Rattle.bus_terms.specs.HostedRounds.{slot_in}
+use Rattle.law_terms.specs.SlotLaws.{IsRound}
 use Rattle.law_terms.specs.SlotRuns.{IsRunOf, RunsLaw}
 use Rattle.law_terms.specs.SlotSteps.{SlotHeardLaw}
 use Rattle.law_bus.proofs.CoresOfWindows.{all_slots}
@@ -36,7 +37,7 @@ use Rattle.law_bus.proofs.HeardSlots.{slots_heard}
 use Rattle.law_bus.proofs.KeyedSums.{by_key, no_sum, one_counts, same_sums, sum_given, under, under_its, under_none}
 use Rattle.law_bus.proofs.PlacedWindows.{round_here, sending_placed, sending_rank, sent_of}
 use Rattle.law_bus.proofs.SentBySteps.{IsSent, IsSentHere, on_bus, sent_as, sent_once, step_of, all_steps, not_given}
-use Rattle.law_bus.proofs.SumsOverRounds.{over_rounds, plan_at, rank_at, slot_in}
+use Rattle.law_bus.proofs.SumsOverRounds.{over_rounds, plan_at, rank_at, slot_of_own_rank}
 use Rattle.law_bus.proofs.NumbersOfRanges.{from_range}
 
 abbrev lasts : Sending → ℕ
@@ -73,7 +74,7 @@ module _ (runs : RunsLaw) (s : ScenarioParts) (clocks : ℕ → ℕ → ℕ) (ai
     rank = rank_at s v f
 
     abbrev x : Slot
-    x = bus_slot s rank f p j
+    x = slot_in s rank f p j
 
     round : IsRound s rank f p
     round = round_here heards s clocks air lawful v known f p in_run plan
@@ -156,7 +157,7 @@ module _ (runs : RunsLaw) (s : ScenarioParts) (clocks : ℕ → ℕ → ℕ) (ai
     by_step k below (Some a) is =
         with_step k a is (sent_as s clocks air lawful rank f p j found.0 found.1 found.2 v k a (omega (arith, below)) is)
 
-    of_slot : sum_by here_counts sent ≡ slot_sent s.profile (slot_in s v f p j) v
+    of_slot : sum_by here_counts sent ≡ slot_sent s.profile (slot_of_own_rank s v f p j) v
     of_slot =
         by_key steps_sent here_counts 12 sent few
         ∙ same_sums (λ (k : ℕ). sum_by (under steps_sent here_counts k) sent) (λ (k : ℕ). option_map_or takes (given k) 0) (range_with_len 0 12)

@@ -19,7 +19,8 @@ use Rattle.bus_terms.specs.Flooding.{has}
 use Rattle.bus_terms.specs.Rounds.{opened_at, takes_part}
 use Rattle.bus_terms.proofs.ReceivedByPaths.{in_whole, of_filtered}
 use Rattle.law_terms.specs.LawfulRuns.{IsLawfulRun}
-use Rattle.law_terms.specs.SlotLaws.{IsWindowOf, HasWindow, bus_slot, bus_before}
+use Rattle.bus_terms.specs.HostedRounds.{slot_in, node_before}
+use Rattle.law_terms.specs.SlotLaws.{IsWindowOf, HasWindow}
 use Rattle.law_terms.specs.SlotSteps.{IsSlotStart}
 use Rattle.law_bus.proofs.RunsOfLogs.{HasCourse, course_of}
 use Rattle.lwb_flood.proofs.LogEntries.{ids_known}
@@ -57,16 +58,16 @@ same_core c d same = cc
 module _ (s : ScenarioParts) (clocks : ℕ → ℕ → ℕ) (air : List Entry) (lawful : IsLawfulRun s clocks air)
     (rank f j : ℕ) (p : Plan) (in_run : f < s.frames) (start : IsSlotStart s clocks air rank f p j) where
   abbrev pub Takes_part : ℕ → Type 0
-  Takes_part v = has (bus_slot s rank f p j).flood.everyone v ≡ true
+  Takes_part v = has (slot_in s rank f p j).flood.everyone v ≡ true
 
   abbrev test : ℕ → Bool
-  test v = takes_part rank (part_of p j) (bus_before s rank f p j v) (opened_at s rank f (part_of p j) v (bus_before s rank f p j v))
+  test v = takes_part rank (part_of p j) (node_before s rank f p j v) (opened_at s rank f (part_of p j) v (node_before s rank f p j v))
 
   pub known_party : (v : ℕ) → Takes_part v → knows s.nodes v ≡ true
   known_party v here = sym (ids_known s.nodes v) ∙ in_whole test (ids s.nodes) v here
 
-  pub takes_so : (v : ℕ) → Takes_part v → Takes rank f (part_of p j) (bus_before s rank f p j v)
-  takes_so v here = takes_by s rank f (part_of p j) v (bus_before s rank f p j v) (of_filtered test (ids s.nodes) v here)
+  pub takes_so : (v : ℕ) → Takes_part v → Takes rank f (part_of p j) (node_before s rank f p j v)
+  takes_so v here = takes_by s rank f (part_of p j) v (node_before s rank f p j v) (of_filtered test (ids s.nodes) v here)
 
   -- the windows of a frame are of one rank
   same_rank : (v i k l m : ℕ) (w x : WindowLog) → IsWindowOf s clocks air i f k v w → IsWindowOf s clocks air l f m v x → i ≡ l
@@ -78,7 +79,7 @@ module _ (s : ScenarioParts) (clocks : ℕ → ℕ → ℕ) (air : List Entry) (
   pub party_rank : (v i k : ℕ) (w : WindowLog) → Takes_part v → IsWindowOf s clocks air i f k v w → i ≡ rank
   party_rank v i k w here window = by (takes_so v here)
     where
-      by : Takes rank f (part_of p j) (bus_before s rank f p j v) → i ≡ rank
+      by : Takes rank f (part_of p j) (node_before s rank f p j v) → i ≡ rank
       by (Member c at member) =
           let own = start.window v c (known_party v here) at member in
           same_rank v i k rank j w own.window window own.here

@@ -29,7 +29,8 @@ use Rattle.bus_terms.proofs.ReceivedByPaths.{in_filtered, in_whole, of_filtered}
 use Rattle.lwb_flood.specs.FloodRun.{Run, initiates}
 use Rattle.lwb_flood.proofs.LogEntries.{ids_known}
 use Rattle.law_terms.specs.LawfulRuns.{IsLawfulRun}
-use Rattle.law_terms.specs.SlotLaws.{IsWindowOf, bus_before, bus_slot}
+use Rattle.bus_terms.specs.HostedRounds.{node_before, slot_in}
+use Rattle.law_terms.specs.SlotLaws.{IsWindowOf}
 use Rattle.law_terms.specs.SlotSteps.{IsSlotStart}
 use Rattle.law_bus.proofs.WindowsInTurn.{opened_by}
 use Rattle.law_bus.specs.SlotRun.{AreEvents, run_of_slot, bytes_said, is_window_of_slot, start_in}
@@ -80,7 +81,7 @@ module _ (s : ScenarioParts) (clocks : ℕ → ℕ → ℕ) (air : List Entry) (
   Of v w = IsWindowOf s clocks air rank f j v w
 
   abbrev window_of : ℕ → Option Opened
-  window_of v = (bus_slot s rank f p j).window v
+  window_of v = (slot_in s rank f p j).window v
 
   -- a window by alarm opens as on the bus, and its node says the same
   module _ (v : ℕ) (w : WindowLog) (here : Of v w) (alarm : w.by_alarm ≡ true) where
@@ -125,11 +126,11 @@ module _ (s : ScenarioParts) (clocks : ℕ → ℕ → ℕ) (air : List Entry) (
   abbrev says : ℕ → Bool
   says o = is_some (rounds.message_said (window_of o))
 
-  pub speaker : (o : ℕ) → has (bus_slot s rank f p j).flood.initiators o ≡ true → IsSpeaker o
+  pub speaker : (o : ℕ) → has (slot_in s rank f p j).flood.initiators o ≡ true → IsSpeaker o
   speaker o initiates =
       let some = of_filtered says (ids s.nodes) o initiates in
       let known : knows s.nodes o ≡ true = sym (ids_known s.nodes o) ∙ in_whole says (ids s.nodes) o initiates in
-      let member = member_says s rank f (part_of p j) o (bus_before s rank f p j o) some in
+      let member = member_says s rank f (part_of p j) o (node_before s rank f p j o) some in
       let own = start.window o member.0 known member.1 member.2 in
       let m = some_is (rounds.message_said (window_of o)) some in
       record {
@@ -142,15 +143,15 @@ module _ (s : ScenarioParts) (clocks : ℕ → ℕ → ℕ) (air : List Entry) (
       }
 
   -- it takes part
-  pub speaker_there : (o : ℕ) → has (bus_slot s rank f p j).flood.initiators o ≡ true → has (bus_slot s rank f p j).flood.everyone o ≡ true
+  pub speaker_there : (o : ℕ) → has (slot_in s rank f p j).flood.initiators o ≡ true → has (slot_in s rank f p j).flood.everyone o ≡ true
   speaker_there o initiates =
-      in_filtered (λ v. rounds.takes_part rank (part_of p j) (bus_before s rank f p j v) (window_of v)) (ids s.nodes) o
+      in_filtered (λ v. rounds.takes_part rank (part_of p j) (node_before s rank f p j v) (window_of v)) (ids s.nodes) o
       (in_whole says (ids s.nodes) o initiates)
-      (speaker_takes rank (part_of p j) (bus_before s rank f p j o) (window_of o) (of_filtered says (ids s.nodes) o initiates))
+      (speaker_takes rank (part_of p j) (node_before s rank f p j o) (window_of o) (of_filtered says (ids s.nodes) o initiates))
 
   -- who says something in its window initiates
   pub speaks : (v : ℕ) (w : WindowLog) (m : Message) → knows s.nodes v ≡ true → Of v w → w.by_alarm ≡ true → initial_message (setup_of s v) w ≡ Some m
-      → has (bus_slot s rank f p j).flood.initiators v ≡ true
+      → has (slot_in s rank f p j).flood.initiators v ≡ true
   speaks v w m known here alarm said =
       in_filtered says (ids s.nodes) v (ids_known s.nodes v ∙ known) (ap (λ (o : Option Message). is_some o) (said_same v w here alarm ∙ said))
 

@@ -30,7 +30,8 @@ use Rattle.bus_terms.specs.Rounds.{opened_at, takes_part}
 use Rattle.bus_terms.specs.ScriptedStates.{is_on_and, setup_in}
 use Rattle.bus_terms.proofs.ReceivedByPaths.{in_filtered}
 use Rattle.law_terms.specs.LawfulRuns.{IsLawfulRun}
-use Rattle.law_terms.specs.SlotLaws.{IsRound, IsWindowOf, HasWindow, bus_before, bus_slot}
+use Rattle.bus_terms.specs.HostedRounds.{node_before, slot_in}
+use Rattle.law_terms.specs.SlotLaws.{IsRound, IsWindowOf, HasWindow}
 use Rattle.law_terms.specs.SlotSteps.{IsSlotStart}
 use Rattle.law_bus.proofs.MembersByTune.{scanner_takes}
 use Rattle.law_bus.proofs.PlannedRounds.{origin_here}
@@ -113,35 +114,35 @@ module _ (s : ScenarioParts) (clocks : ℕ → ℕ → ℕ) (air : List Entry) (
         true≢false (sym own.by_alarm ∙ ap (λ (x : WindowLog). x.by_alarm) same ∙ hears)
 
     -- it is as the frame found it
-    pub scans_on : bus_before s rank f p j v ≡ StateOn w.before.core
+    pub scans_on : node_before s rank f p j v ≡ StateOn w.before.core
     scans_on =
         let known = known_by s clocks air lawful v w here.there in
         let go = goes s clocks air lawful rank f round.in_run j v w here in
         let node : w.before ≡ go.node = go.course.joins w (in_frame s clocks air lawful rank f round.in_run j v w here) hears in
         start.others v known no_alarm ∙ sym (start.found v known) ∙ ap state_of_power go.on ∙ ap (λ (n : Node). StateOn n.core) (sym node)
 
-    pub no_window : (bus_slot s rank f p j).window v ≡ None
+    pub no_window : (slot_in s rank f p j).window v ≡ None
     no_window =
         ap (opened_at s rank f (part_of p j) v) scans_on
         ∙ cond-false (is_member rank f w.before.core) (Some (opened_slot (setup_in s v) f (part_of p j) w.before.core)) None
         (scanner_takes s clocks v w.before rank f w.before.core.tune scanner.scans)
 
-    scanner_test : takes_part rank (part_of p j) (bus_before s rank f p j v) ((bus_slot s rank f p j).window v) ≡ true
+    scanner_test : takes_part rank (part_of p j) (node_before s rank f p j v) ((slot_in s rank f p j).window v) ≡ true
     scanner_test =
-        ap (takes_part rank (part_of p j) (bus_before s rank f p j v)) no_window
-        ∙ ap (λ (b : Bool). b && is_on_and (λ c. scans rank c.tune) (bus_before s rank f p j v)) schedule_slot
+        ap (takes_part rank (part_of p j) (node_before s rank f p j v)) no_window
+        ∙ ap (λ (b : Bool). b && is_on_and (λ c. scans rank c.tune) (node_before s rank f p j v)) schedule_slot
         ∙ ap (λ (x : State). is_on_and (λ c. scans rank c.tune) x) scans_on
         ∙ scans_so s clocks v rank w.before w.before.core.tune scanner.scans
         ((opened_by s clocks air lawful v w here.there).rank_before ∙ here.channel)
 
   takes_test : (v : ℕ) (w : WindowLog) → Of v w → (b : Bool) → w.by_alarm ≡ b
-      → takes_part rank (part_of p j) (bus_before s rank f p j v) ((bus_slot s rank f p j).window v) ≡ true
+      → takes_part rank (part_of p j) (node_before s rank f p j v) ((slot_in s rank f p j).window v) ≡ true
   takes_test v w here true is =
-      ap (takes_part rank (part_of p j) (bus_before s rank f p j v)) (window_is s clocks air lawful rank f j p round.in_run start v w here is)
+      ap (takes_part rank (part_of p j) (node_before s rank f p j v)) (window_is s clocks air lawful rank f j p round.in_run start v w here is)
   takes_test v w here false is = scanner_test v w here is
 
   -- who has a window takes part
-  pub window_takes : (v : ℕ) (w : WindowLog) → Of v w → has (bus_slot s rank f p j).flood.everyone v ≡ true
+  pub window_takes : (v : ℕ) (w : WindowLog) → Of v w → has (slot_in s rank f p j).flood.everyone v ≡ true
   window_takes v w here =
-      in_filtered (λ u. takes_part rank (part_of p j) (bus_before s rank f p j u) ((bus_slot s rank f p j).window u)) (ids s.nodes) v
+      in_filtered (λ u. takes_part rank (part_of p j) (node_before s rank f p j u) ((slot_in s rank f p j).window u)) (ids s.nodes) v
       (ids_known s.nodes v ∙ known_by s clocks air lawful v w here.there) (takes_test v w here w.by_alarm refl)

@@ -20,7 +20,8 @@ use Rattle.lwb_flood.specs.Windows.{IsSlotFlood}
 use Rattle.lwb_flood.proofs.Slots.{slot_run}
 use Rattle.lwb_flood.proofs.WholeFlood.{flood_by_steps}
 use Rattle.law_terms.specs.LawfulRuns.{IsLawfulRun}
-use Rattle.law_terms.specs.SlotLaws.{IsRound, bus_slot}
+use Rattle.bus_terms.specs.HostedRounds.{slot_in}
+use Rattle.law_terms.specs.SlotLaws.{IsRound}
 use Rattle.law_terms.specs.SlotRuns.{RunsLaw}
 use Rattle.law_terms.specs.SlotSteps.{IsSlotStart}
 use Rattle.law_bus.proofs.RunsOfLogs.{whole}
@@ -53,7 +54,7 @@ module _ (s : ScenarioParts) (clocks : ℕ → ℕ → ℕ) (air : List Entry) (
   long o = length (r.message o)
 
   abbrev size : ℕ
-  size = size_by long (bus_slot s rank f p j).flood.initiators
+  size = size_by long (slot_in s rank f p j).flood.initiators
 
   record HasSize (n : ℕ) : Type 0 where
     least : 7 ≤ n
@@ -73,12 +74,12 @@ module _ (s : ScenarioParts) (clocks : ℕ → ℕ → ℕ) (air : List Entry) (
   least_packet : 7 ≤ (budget_of s.profile).packet
   least_packet = least_of (s.profile.seconds == 4)
 
-  size_in : (l : List ℕ) → (bus_slot s rank f p j).flood.initiators ≡ l → HasSize (size_by long l)
+  size_in : (l : List ℕ) → (slot_in s rank f p j).flood.initiators ≡ l → HasSize (size_by long l)
   size_in [] is = record { least = omega arith; most = least_packet }
   size_in (o ∷ os) is = said_size o (ap (λ (l : List ℕ). has l o) is ∙ ap (λ (b : Bool). b || has os o) (eq-eqb o o refl))
 
   has_size : HasSize size
-  has_size = size_in (bus_slot s rank f p j).flood.initiators refl
+  has_size = size_in (slot_in s rank f p j).flood.initiators refl
 
   in_range : (o : ℕ) → initiates r o → r.starts o + 12 * step s.profile size ≤ 2 ^ 45
   in_range o here =

@@ -24,7 +24,8 @@ use Rattle.bus_terms.specs.ScriptedStates.{setup_in}
 use Rattle.bus_terms.specs.Rounds.{opened_at, closed_slot_of, left_by, message_said, accepted_at, before_slot}
 use Rattle.bus_terms.specs.Bus.{state_at}
 use Rattle.law_terms.specs.LawfulRuns.{IsLawfulRun}
-use Rattle.law_terms.specs.SlotLaws.{IsWindowOf, HasWindow, bus_before, bus_slot}
+use Rattle.bus_terms.specs.HostedRounds.{node_before, slot_in}
+use Rattle.law_terms.specs.SlotLaws.{IsWindowOf, HasWindow}
 use Rattle.law_terms.specs.SlotSteps.{IsSlotStart, IsSlotHeard}
 use Rattle.law_terms.proofs.AlignedSlots.{slot_aligned}
 use Rattle.law_bus.proofs.MembersByTune.{scanner_takes, scanner_hosts}
@@ -102,7 +103,7 @@ module _ (s : ScenarioParts) (clocks : ℕ → ℕ → ℕ) (air : List Entry) (
 
   -- what is left of v, by what its window is, and what it accepted
   abbrev left_of : ℕ → Option Opened → State → State
-  left_of v w x = left_by x (closed_slot_of s f (part_of p j) v w (accepted_at (bus_slot s rank f p j) v) x)
+  left_of v w x = left_by x (closed_slot_of s f (part_of p j) v w (accepted_at (slot_in s rank f p j) v) x)
 
   module _ (v : ℕ) (w : WindowLog) (here : Of v w) where
     frame_after : w.after.frame ≡ f
@@ -172,7 +173,7 @@ module _ (s : ScenarioParts) (clocks : ℕ → ℕ → ℕ) (air : List Entry) (
       closes = ap (λ (o : Option Closing). is_some o) is
 
       -- a member
-      member_left : w.by_alarm ≡ true → bus_before s rank f p (suc j) v ≡ StateOn c.after.core
+      member_left : w.by_alarm ≡ true → node_before s rank f p (suc j) v ≡ StateOn c.after.core
       unfolding before_slot
       member_left alarm =
           slot_aligned s rank f p j v states w.before.core (node_in_window w) w.last
@@ -190,10 +191,10 @@ module _ (s : ScenarioParts) (clocks : ℕ → ℕ → ℕ) (air : List Entry) (
           ∙ ap (λ (g : ℕ). (closed_slot (setup_of s v) g w.last.part w.last.flood.initiated w.before.core (accepted_in w.last)).core) frame_after
 
       -- a scanning node
-      scanner_left : w.by_alarm ≡ false → bus_before s rank f p (suc j) v ≡ StateOn c.after.core
+      scanner_left : w.by_alarm ≡ false → node_before s rank f p (suc j) v ≡ StateOn c.after.core
       unfolding before_slot
       scanner_left hears =
-          let m = accepted_at (bus_slot s rank f p j) v in
+          let m = accepted_at (slot_in s rank f p j) v in
           ap (λ (o : Option Opened). left_of v o (states v)) (no_window hears)
           ∙ ap (left_of v None) (up hears)
           ∙ guest_slot s f v (part_of p j) w.last.part w.last.flood.initiated w.before.core (guest hears) m
@@ -201,12 +202,12 @@ module _ (s : ScenarioParts) (clocks : ℕ → ℕ → ℕ) (air : List Entry) (
           (sym (heard.accepted v w here closes))
           ∙ ap StateOn (sym (row_left hears))
 
-      left_as : (b : Bool) → w.by_alarm ≡ b → bus_before s rank f p (suc j) v ≡ StateOn c.after.core
+      left_as : (b : Bool) → w.by_alarm ≡ b → node_before s rank f p (suc j) v ≡ StateOn c.after.core
       left_as true alarm = member_left alarm
       left_as false hears = scanner_left hears
 
       -- who has a window is left as that closes
-      pub left_by_window : bus_before s rank f p (suc j) v ≡ StateOn c.after.core
+      pub left_by_window : node_before s rank f p (suc j) v ≡ StateOn c.after.core
       left_by_window = left_as w.by_alarm refl
 
   module _ (v : ℕ) (known : knows s.nodes v ≡ true) (none : (w : WindowLog) → Of v w → ⊥) where
@@ -222,7 +223,7 @@ module _ (s : ScenarioParts) (clocks : ℕ → ℕ → ℕ) (air : List Entry) (
         ]
 
     -- who has none stays as it is
-    pub stays_without : bus_before s rank f p (suc j) v ≡ bus_before s rank f p j v
+    pub stays_without : node_before s rank f p (suc j) v ≡ node_before s rank f p j v
     unfolding before_slot
     stays_without =
         ap (λ (o : Option Opened). left_of v o (states v)) (not_member (states v) refl)
@@ -230,5 +231,5 @@ module _ (s : ScenarioParts) (clocks : ℕ → ℕ → ℕ) (air : List Entry) (
         ∙ none_left s f v (part_of p j) (states v)
 
     -- that is as the frame found it
-    pub found_without : bus_before s rank f p j v ≡ state_at s f v
+    pub found_without : node_before s rank f p j v ≡ state_at s f v
     found_without = start.others v known not_there

@@ -27,8 +27,8 @@ module _ (s : ScenarioParts) (v : ℕ) where
   plan_at f = round_plan s (rank_at f) f (state_at s f)
 
   -- slot j of it
-  abbrev pub slot_in : ℕ → Plan → ℕ → Slot
-  slot_in f p j = slot_at s (rank_at f) f p (state_at s f) j
+  abbrev pub slot_of_own_rank : ℕ → Plan → ℕ → Slot
+  slot_of_own_rank f p j = slot_at s (rank_at f) f p (state_at s f) j
 
   -- there is such a round, and it has a slot j
   pub record IsPlaced (f j : ℕ) : Type 0 where
@@ -40,7 +40,7 @@ module _ (s : ScenarioParts) (v : ℕ) where
   module _ {X : Type 0} (frame slot count : X → ℕ) (xs : List X) (cost : Slot → ℕ)
       (placed : (x : X) → Contains xs x → IsPlaced (frame x) (slot x))
       (same : (f j : ℕ) (p : Plan) → f < s.frames → plan_at f ≡ Some p → j ≤ last_slot p
-      → sum_by (under slot (under frame count f) j) xs ≡ cost (slot_in f p j)) where
+      → sum_by (under slot (under frame count f) j) xs ≡ cost (slot_of_own_rank f p j)) where
     module _ (f : ℕ) (in_run : f < s.frames) where
       placed_here : (x : X) → Contains xs x → frame x ≡ f → IsPlaced f (slot x)
       placed_here x there is = subst (λ (g : ℕ). IsPlaced g (slot x)) is (placed x there)
@@ -56,14 +56,14 @@ module _ (s : ScenarioParts) (v : ℕ) where
           ]
 
       by_plan : (o : Option Plan) → plan_at f ≡ o
-          → sum_by (under frame count f) xs ≡ option_map_or (λ p. sum_by (λ j. cost (slot_in f p j)) (slots_of p)) o 0
+          → sum_by (under frame count f) xs ≡ option_map_or (λ p. sum_by (λ j. cost (slot_of_own_rank f p j)) (slots_of p)) o 0
       by_plan None is =
           no_sum (under frame count f) xs (λ x there. under_none frame count f x (λ here.
           let at = placed_here x there here in
           absurd (not_both at.plan (sym is ∙ at.is))))
       by_plan (Some p) is =
           by_key slot (under frame count f) (last_slot p + 1) xs (within p is)
-          ∙ same_sums (λ (j : ℕ). sum_by (under slot (under frame count f) j) xs) (λ (j : ℕ). cost (slot_in f p j)) (slots_of p)
+          ∙ same_sums (λ (j : ℕ). sum_by (under slot (under frame count f) j) xs) (λ (j : ℕ). cost (slot_of_own_rank f p j)) (slots_of p)
           (λ j there. let range = from_range 0 (last_slot p + 1) j there in same f j p in_run is (omega (arith, range)))
 
       of_frame : sum_by (under frame count f) xs ≡ over_round cost s (rank_at f) f (state_at s f)

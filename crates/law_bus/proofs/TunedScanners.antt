@@ -49,7 +49,8 @@ use Rattle.law_windows.proofs.WindowWalk.{windows_behind}
 use Rattle.bus_terms.specs.Flooding.{has}
 use Rattle.law_terms.specs.FrameCourses.{IsWindowIn}
 use Rattle.law_terms.specs.LawfulRuns.{IsLawfulRun}
-use Rattle.law_terms.specs.SlotLaws.{IsRound, IsWindowOf, HasWindow, bus_slot}
+use Rattle.bus_terms.specs.HostedRounds.{slot_in}
+use Rattle.law_terms.specs.SlotLaws.{IsRound, IsWindowOf, HasWindow}
 use Rattle.law_terms.specs.SlotSteps.{IsSlotStart}
 use Rattle.law_windows.proofs.CourseWalk.{under_way_over}
 use Rattle.law_windows.proofs.LinkedWindows.{HasEnded, IsLeft, IsUnderWay, IsUntouched, Stands, StandsIn}
@@ -71,7 +72,7 @@ on_not_off n boots same = cc
 module _ (s : ScenarioParts) (clocks : ℕ → ℕ → ℕ) (air : List Entry) (lawful : IsLawfulRun s clocks air)
     (rank f j : ℕ) (p : Plan) (round : IsRound s rank f p) (within : j ≤ last_slot p) (start : IsSlotStart s clocks air rank f p j)
     (events : ℕ → List Event) (are : AreEvents s clocks air rank f j events)
-    (v : ℕ) (here : has (bus_slot s rank f p j).flood.everyone v ≡ true) (no_alarm : HasWindow s clocks air rank f j v → ⊥)
+    (v : ℕ) (here : has (slot_in s rank f p j).flood.everyone v ≡ true) (no_alarm : HasWindow s clocks air rank f j v → ⊥)
     (x : Sending) (there : Contains (run_of_slot s clocks air rank f p j events).sendings x) (far : ℕ)
     (off : x.end ≤ get_or (own_ends (events v)) (s.sends - 1) far) (t : ℕ) (from : x.start ≤ t) (until : t < x.end) where
   abbrev a : Scene

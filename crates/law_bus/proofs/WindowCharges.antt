@@ -17,7 +17,8 @@ use Rattle.bus_terms.specs.Costs.{steps_sent_by, slot_window}
 use Rattle.bus_terms.specs.Rounds.{Slot, before_slot}
 use Rattle.bus_terms.specs.ScriptedStates.{setup_in}
 use Rattle.law_terms.specs.LawfulRuns.{IsLawfulRun}
-use Rattle.law_terms.specs.SlotLaws.{IsRound, IsWindowOf, bus_slot}
+use Rattle.bus_terms.specs.HostedRounds.{slot_in}
+use Rattle.law_terms.specs.SlotLaws.{IsRound, IsWindowOf}
 use Rattle.law_terms.specs.SlotRuns.{RunsLaw}
 use Rattle.law_terms.specs.SlotSteps.{IsSlotHeard, IsSlotStart, SlotHeardLaw}
 use Rattle.law_bus.proofs.CoresOfWindows.{all_slots}
@@ -27,7 +28,7 @@ use Rattle.law_bus.proofs.HeardSlots.{slots_heard}
 use Rattle.law_bus.proofs.KeyedSums.{no_sum, one_counts, under, under_its, under_none}
 use Rattle.law_bus.proofs.PlacedWindows.{rank_same, round_here, window_placed, windows_distinct, windows_of}
 use Rattle.law_bus.proofs.SentPackets.{charge_same}
-use Rattle.law_bus.proofs.SumsOverRounds.{over_rounds, plan_at, rank_at, slot_in}
+use Rattle.law_bus.proofs.SumsOverRounds.{over_rounds, plan_at, rank_at, slot_of_own_rank}
 
 abbrev frame_in : WindowLog → ℕ
 frame_in w = w.frame
@@ -48,7 +49,7 @@ module _ (runs : RunsLaw) (s : ScenarioParts) (clocks : ℕ → ℕ → ℕ) (ai
     rank = rank_at s v f
 
     abbrev x : Slot
-    x = bus_slot s rank f p j
+    x = slot_in s rank f p j
 
     round : IsRound s rank f p
     round = round_here heards s clocks air lawful v known f p in_run plan
@@ -111,7 +112,7 @@ module _ (runs : RunsLaw) (s : ScenarioParts) (clocks : ℕ → ℕ → ℕ) (ai
         })))
         ∙ sym (none_counted (not_member s clocks air lawful rank f in_run j p start heard v known none (before_slot s rank f p (state_at s f) j v) refl))
 
-    of_slot : sum_by counts ws ≡ slot_window s.profile (slot_in s v f p j) v
+    of_slot : sum_by counts ws ≡ slot_window s.profile (slot_of_own_rank s v f p j) v
     of_slot =
         elim (look_up rank f j ws) [
           | inl w ↦ with_window w.window (record { there = w.there; frame = w.frame; channel = w.channel; slot = w.slot })

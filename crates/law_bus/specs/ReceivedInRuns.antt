@@ -8,7 +8,8 @@ use Rattle.bus_rules.specs.Slots.{Data, DataOf, delivery_of}
 use Rattle.bus_terms.specs.RelayPaths.{IsLeast}
 use Rattle.air_log.specs.declared.entry.Entry.{Entry}
 use Rattle.air_log.specs.Deliveries.{deliveries_of}
-use Rattle.law_terms.specs.SlotLaws.{IsAcceptance, bus_slot}
+use Rattle.bus_terms.specs.HostedRounds.{slot_in}
+use Rattle.law_terms.specs.SlotLaws.{IsAcceptance}
 
 -- v delivers a packet in this slot, and its window there had accepted that first with this counter
 pub record DeliversIn (s : ScenarioParts) (clocks : ℕ → ℕ → ℕ) (air : List Entry) (rank f j v step : ℕ) : Type 0 where
@@ -19,12 +20,12 @@ pub record DeliversIn (s : ScenarioParts) (clocks : ℕ → ℕ → ℕ) (air : 
 -- v is a member of the round in slot j: a node with a window there
 pub record IsMemberIn (s : ScenarioParts) (rank f : ℕ) (p : Plan) (j v : ℕ) : Type 0 where
   pub known : knows s.nodes v ≡ true
-  pub opens : is_some ((bus_slot s rank f p j).window v) ≡ true
+  pub opens : is_some ((slot_in s rank f p j).window v) ≡ true
 
 -- in slot j of a round, which this owner's stream has: a member other than the owner's node delivers, in the step before the least
 -- length of a relay path that leads to it from there, if and only if there is one; and nobody else delivers
 pub record IsReceivedInSlot (s : ScenarioParts) (clocks : ℕ → ℕ → ℕ) (air : List Entry) (rank f : ℕ) (p : Plan) (j owner : ℕ) : Type 0 where
   pub by_paths : (v step : ℕ) → IsMemberIn s rank f p j v → v ≢ node_of owner
-      → (DeliversIn s clocks air rank f j v step ↔ IsLeast (bus_slot s rank f p j).flood (node_of owner) (suc step) v)
+      → (DeliversIn s clocks air rank f j v step ↔ IsLeast (slot_in s rank f p j).flood (node_of owner) (suc step) v)
   pub nobody_else : (d : Delivery) → Contains (deliveries_of s clocks air) d → d.frame ≡ f → d.rank ≡ rank → d.slot ≡ j
       → IsMemberIn s rank f p j d.node × (d.node ≢ node_of owner) × ((step : ℕ) × DeliversIn s clocks air rank f j d.node step)

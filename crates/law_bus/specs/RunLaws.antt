@@ -17,7 +17,8 @@ use Rattle.air_log.specs.WindowLogs.{WindowLog}
 use Rattle.lwb_flood.specs.FloodRun.{Run, WasHeard, IsParticipant, HasInitiators, HasSendings, HasEvents, HearsByRule}
 use Rattle.lwb_flood.specs.RunOnAir.{IsPart}
 use Rattle.law_terms.specs.LawfulRuns.{IsLawfulRun}
-use Rattle.law_terms.specs.SlotLaws.{IsRound, IsWindowOf, Says, bus_slot}
+use Rattle.bus_terms.specs.HostedRounds.{slot_in}
+use Rattle.law_terms.specs.SlotLaws.{IsRound, IsWindowOf, Says}
 use Rattle.law_terms.specs.SlotRuns.{IsRunOf}
 use Rattle.law_terms.specs.SlotSteps.{IsSlotStart}
 use Rattle.law_bus.specs.SlotRun.{AreEvents, run_of_slot}
@@ -48,10 +49,10 @@ RuleLaw = OfSlots (λ s clocks air rank f p j events.
 
 -- it is the bus's flood, with all transmissions of its slot and what was received of them
 pub record IsOfBus (s : ScenarioParts) (air : List Entry) (rank f : ℕ) (p : Plan) (j : ℕ) (r : Run) : Type 0 where
-  pub setting : r.setting ≡ (bus_slot s rank f p j).flood
+  pub setting : r.setting ≡ (slot_in s rank f p j).flood
   pub slot : r.slot ≡ j
   pub channel : r.rank ≡ rank
-  pub kind : r.kind ≡ kind_for (bus_slot s rank f p j).part
+  pub kind : r.kind ≡ kind_for (slot_in s rank f p j).part
   pub message : (o : ℕ) (m : Message) → Says s rank f p j o m → r.message o ≡ bytes_of m j
   pub sendings : (x : Sending) → Contains r.sendings x
       ↔ (Contains (sendings_of air) x × (x.rank ≡ rank) × (frame_of_sending s.profile x ≡ f) × (slot_of_sending x ≡ j))

@@ -21,7 +21,8 @@ use Rattle.air_log.specs.WindowLogs.{WindowLog}
 use Rattle.law_windows.specs.WindowParts.{TakesPart}
 use Rattle.lwb_flood.specs.FloodRun.{Run}
 use Rattle.bus_terms.specs.Rounds.{Slot, message_said}
-use Rattle.law_terms.specs.SlotLaws.{IsWindowOf, bus_slot}
+use Rattle.bus_terms.specs.HostedRounds.{slot_in}
+use Rattle.law_terms.specs.SlotLaws.{IsWindowOf}
 
 -- a transmission is of this frame, channel and slot
 abbrev pub is_sending_of_slot : Numbers → ℕ → ℕ → ℕ → Sending → Bool
@@ -49,7 +50,7 @@ start_in p clock (Some w) = tick_at_offset clock w.after.zero (starting_offset p
 -- slot j of the round by this plan, where the nodes have these events
 abbrev pub run_of_slot : ScenarioParts → (ℕ → ℕ → ℕ) → List Entry → ℕ → ℕ → Plan → ℕ → (ℕ → List Event) → Run
 run_of_slot s clocks air rank f p j events =
-    let slot : Slot = bus_slot s rank f p j in
+    let slot : Slot = slot_in s rank f p j in
     let says = λ (o : ℕ). bytes_said j (message_said (slot.window o)) in
     record {
       setting = slot.flood;

@@ -13,7 +13,8 @@ use Rattle.lwb_member.specs.Said.{bytes_of}
 use Rattle.air_log.specs.declared.entry.Entry.{Entry}
 use Rattle.lwb_flood.specs.FloodRun.{Run, initiates, packet, flood_at_beginning}
 use Rattle.lwb_flood.specs.FloodBySteps.{IsFloodBySteps, SendsOnAir, flood_at_end}
-use Rattle.law_terms.specs.SlotLaws.{Says, IsSending, IsAcceptance, bus_slot}
+use Rattle.bus_terms.specs.HostedRounds.{slot_in}
+use Rattle.law_terms.specs.SlotLaws.{Says, IsSending, IsAcceptance}
 use Rattle.law_terms.specs.SlotRuns.{IsRunOf}
 
 -- the slot byte of a message's packet
@@ -68,7 +69,7 @@ module _ (s : ScenarioParts) (clocks : ℕ → ℕ → ℕ) (air : List Entry) (
     packet = x.packet ∙ ap (λ q. slice_set q 2 k) (sym (run.message o m says));
   }
 
-  pub sends_same : Sends (bus_slot s rank f p j).flood v k o ↔ IsSending s air rank f j v k m
+  pub sends_same : Sends (slot_in s rank f p j).flood v k o ↔ IsSending s air rank f j v k m
   sends_same =
       subst
       (λ (x : Setting). Sends x v k o ↔ IsSending s air rank f j v k m)
@@ -95,6 +96,6 @@ module _ (s : ScenarioParts) (clocks : ℕ → ℕ → ℕ) (air : List Entry) (
       ∙ ap with_counter (sym (run.message o m says)) in
       (steps.accepts v k o (run.part v a.window a.here) (listener r v (packet r o k, k) is) starts).0 is
 
-  pub accepts_same : Accepts (bus_slot s rank f p j).flood v o k ↔ IsAcceptance s clocks air rank f j v k m
+  pub accepts_same : Accepts (slot_in s rank f p j).flood v o k ↔ IsAcceptance s clocks air rank f j v k m
   accepts_same =
       subst (λ (x : Setting). Accepts x v o k ↔ IsAcceptance s clocks air rank f j v k m) run.setting (accepted_on_air, accepted_in_run)

@@ -16,8 +16,9 @@ use Rattle.air_log.specs.declared.entry.Entry.{Entry}
 use Rattle.air_log.specs.Entries.{sendings_of}
 use Rattle.air_log.specs.WindowLogs.{WindowLog}
 use Rattle.air_log.specs.Lawful.{trail_in}
-use Rattle.bus_rules.specs.States.{State, StateOn}
-use Rattle.bus_terms.specs.Rounds.{Slot, round_plan, before_slot, slot_at, message_said}
+use Rattle.bus_rules.specs.States.{StateOn}
+use Rattle.bus_terms.specs.HostedRounds.{slot_in, node_before}
+use Rattle.bus_terms.specs.Rounds.{round_plan, message_said}
 use Rattle.bus_terms.specs.Bus.{state_at}
 use Rattle.law_terms.specs.LawfulRuns.{IsLawfulRun}
 
@@ -27,17 +28,9 @@ pub record IsRound (s : ScenarioParts) (rank f : ℕ) (p : Plan) : Type 0 where
   pub hosted : rank < length s.hosts
   pub plan : round_plan s rank f (state_at s f) ≡ Some p
 
--- slot j of it
-abbrev pub bus_slot : ScenarioParts → ℕ → ℕ → Plan → ℕ → Slot
-bus_slot s rank f p j = slot_at s rank f p (state_at s f) j
-
--- the state of v before slot j of it
-abbrev pub bus_before : ScenarioParts → ℕ → ℕ → Plan → ℕ → ℕ → State
-bus_before s rank f p j v = before_slot s rank f p (state_at s f) j v
-
--- o initiates in slot j of it, and says m
+-- o initiates in slot j of that round, and says m
 abbrev pub Says : ScenarioParts → ℕ → ℕ → Plan → ℕ → ℕ → Message → Type 0
-Says s rank f p j o m = (has (bus_slot s rank f p j).flood.initiators o ≡ true) × (message_said ((bus_slot s rank f p j).window o) ≡ Some m)
+Says s rank f p j o m = (has (slot_in s rank f p j).flood.initiators o ≡ true) × (message_said ((slot_in s rank f p j).window o) ≡ Some m)
 
 -- a transmission of v in this slot, with this counter, of this message
 pub record IsSending (s : ScenarioParts) (air : List Entry) (rank f j v k : ℕ) (m : Message) : Type 0 where
@@ -64,9 +57,9 @@ pub record IsAcceptance (s : ScenarioParts) (clocks : ℕ → ℕ → ℕ) (air 
 -- Slot: who sends in a step, and who accepts, is the flood's
 pub record IsSlot (s : ScenarioParts) (clocks : ℕ → ℕ → ℕ) (air : List Entry) (rank f : ℕ) (p : Plan) (j : ℕ) : Type 0 where
   pub sends : (v k o : ℕ) (m : Message) → Says s rank f p j o m → k ≤ LAST_STEP
-      → Sends (bus_slot s rank f p j).flood v k o ↔ IsSending s air rank f j v k m
+      → Sends (slot_in s rank f p j).flood v k o ↔ IsSending s air rank f j v k m
   pub accepts : (v k o : ℕ) (m : Message) → Says s rank f p j o m → k ≤ LAST_STEP
-      → Accepts (bus_slot s rank f p j).flood v o k ↔ IsAcceptance s clocks air rank f j v k m
+      → Accepts (slot_in s rank f p j).flood v o k ↔ IsAcceptance s clocks air rank f j v k m
 
 abbrev pub SlotLaw : Type 0
 SlotLaw = (s : ScenarioParts) (clocks : ℕ → ℕ → ℕ) (air : List Entry) → IsLawfulRun s clocks air
@@ -84,7 +77,7 @@ pub record IsSaidIn (s : ScenarioParts) (x : Sending) : Type 0 where
   pub counter : ℕ
   pub few : counter ≤ LAST_STEP
   pub packet : x.packet ≡ slice_set (bytes_of message (slot_byte x)) 2 counter
-  pub sends : Sends (bus_slot s x.rank (frame_of_sending s.profile x) plan (slot_byte x)).flood x.node counter origin
+  pub sends : Sends (slot_in s x.rank (frame_of_sending s.profile x) plan (slot_byte x)).flood x.node counter origin
 
 abbrev pub SentLaw : Type 0
 SentLaw = (s : ScenarioParts) (clocks : ℕ → ℕ → ℕ) (air : List Entry) → IsLawfulRun s clocks air
@@ -95,8 +88,8 @@ pub record IsAligned (s : ScenarioParts) (v : ℕ) (w : WindowLog) : Type 0 wher
   pub plan : Plan
   pub round : IsRound s w.rank w.frame plan
   pub slot : w.slot ≤ last_slot plan
-  pub before : StateOn w.before.core ≡ bus_before s w.rank w.frame plan w.slot v
-  pub after : IfSome w.closed (λ c. StateOn c.after.core ≡ bus_before s w.rank w.frame plan (suc w.slot) v)
+  pub before : StateOn w.before.core ≡ node_before s w.rank w.frame plan w.slot v
+  pub after : IfSome w.closed (λ c. StateOn c.after.core ≡ node_before s w.rank w.frame plan (suc w.slot) v)
 
 abbrev pub CoresLaw : Type 0
 CoresLaw = (s : ScenarioParts) (clocks : ℕ → ℕ → ℕ) (air : List Entry) → IsLawfulRun s clocks air
@@ -111,4 +104,4 @@ pub record HasWindow (s : ScenarioParts) (clocks : ℕ → ℕ → ℕ) (air : L
 abbrev pub WindowsLaw : Type 0
 WindowsLaw = (s : ScenarioParts) (clocks : ℕ → ℕ → ℕ) (air : List Entry) → IsLawfulRun s clocks air
     → (rank f j v : ℕ) (p : Plan) → IsRound s rank f p → j ≤ last_slot p → knows s.nodes v ≡ true
-    → (is_some ((bus_slot s rank f p j).window v) ≡ true) ↔ HasWindow s clocks air rank f j v
+    → (is_some ((slot_in s rank f p j).window v) ≡ true) ↔ HasWindow s clocks air rank f j v

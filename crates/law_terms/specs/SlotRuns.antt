@@ -15,7 +15,8 @@ use Rattle.air_log.specs.WindowLogs.{WindowLog}
 use Rattle.lwb_flood.specs.FloodRun.{Run, WasHeard, IsParticipant}
 use Rattle.lwb_flood.specs.FloodBySteps.{IsFloodBySteps, flood_at_end}
 use Rattle.law_terms.specs.LawfulRuns.{IsLawfulRun}
-use Rattle.law_terms.specs.SlotLaws.{IsRound, IsWindowOf, Says, bus_slot}
+use Rattle.bus_terms.specs.HostedRounds.{slot_in}
+use Rattle.law_terms.specs.SlotLaws.{IsRound, IsWindowOf, Says}
 use Rattle.law_terms.specs.SlotSteps.{IsSlotStart}
 
 -- v has a window of the slot that has closed
@@ -26,10 +27,10 @@ pub record HasClosed (s : ScenarioParts) (clocks : ℕ → ℕ → ℕ) (air : L
 
 -- its setting is the bus's, its transmissions are all of this frame, channel and slot, and each window's flood at the end is the fold of its events
 pub record IsRunOf (s : ScenarioParts) (clocks : ℕ → ℕ → ℕ) (air : List Entry) (rank f : ℕ) (p : Plan) (j : ℕ) (r : Run) : Type 0 where
-  pub setting : r.setting ≡ (bus_slot s rank f p j).flood
+  pub setting : r.setting ≡ (slot_in s rank f p j).flood
   pub slot : r.slot ≡ j
   pub channel : r.rank ≡ rank
-  pub kind : r.kind ≡ kind_for (bus_slot s rank f p j).part
+  pub kind : r.kind ≡ kind_for (slot_in s rank f p j).part
   pub message : (o : ℕ) (m : Message) → Says s rank f p j o m → r.message o ≡ bytes_of m j
   pub sendings : (x : Sending) → Contains r.sendings x
       ↔ (Contains (sendings_of air) x × (x.rank ≡ rank) × (frame_of_sending s.profile x ≡ f) × (slot_byte x ≡ j))

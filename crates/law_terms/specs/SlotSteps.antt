@@ -15,7 +15,8 @@ use Rattle.bus_terms.specs.Rounds.{accepted_at, round_of_rank, message_said}
 use Rattle.bus_terms.specs.Bus.{state_at}
 use Rattle.air_log.specs.Devices.{state_of_power}
 use Rattle.law_terms.specs.LawfulRuns.{IsLawfulRun}
-use Rattle.law_terms.specs.SlotLaws.{IsRound, IsWindowOf, HasWindow, bus_slot, bus_before}
+use Rattle.bus_terms.specs.HostedRounds.{slot_in, node_before}
+use Rattle.law_terms.specs.SlotLaws.{IsRound, IsWindowOf, HasWindow}
 
 -- after the script lines of frame f the nodes are the bus's
 abbrev pub IsFrameStart : ScenarioParts → (ℕ → ℕ → ℕ) → List Entry → ℕ → Type 0
@@ -24,21 +25,21 @@ IsFrameStart s clocks air f = (v : ℕ) → knows s.nodes v ≡ true → state_o
 -- before slot j: a member is the bus's as it comes to its window, and goes by the round's plan; every other node is the bus's as the frame found it
 pub record IsSlotStart (s : ScenarioParts) (clocks : ℕ → ℕ → ℕ) (air : List Entry) (rank f : ℕ) (p : Plan) (j : ℕ) : Type 0 where
   pub found : IsFrameStart s clocks air f
-  pub core : (v : ℕ) (w : WindowLog) → IsWindowOf s clocks air rank f j v w → w.by_alarm ≡ true → bus_before s rank f p j v ≡ StateOn w.before.core
+  pub core : (v : ℕ) (w : WindowLog) → IsWindowOf s clocks air rank f j v w → w.by_alarm ≡ true → node_before s rank f p j v ≡ StateOn w.before.core
   pub member : (v : ℕ) (w : WindowLog) → IsWindowOf s clocks air rank f j v w → w.by_alarm ≡ true → is_member rank f w.before.core ≡ true
   pub plan : (v : ℕ) (w : WindowLog) → IsWindowOf s clocks air rank f j v w → w.by_alarm ≡ true → w.before.core.plan ≡ p
-  pub window : (v : ℕ) (c : Core) → knows s.nodes v ≡ true → bus_before s rank f p j v ≡ StateOn c → is_member rank f c ≡ true
+  pub window : (v : ℕ) (c : Core) → knows s.nodes v ≡ true → node_before s rank f p j v ≡ StateOn c → is_member rank f c ≡ true
       → HasWindow s clocks air rank f j v
-  pub others : (v : ℕ) → knows s.nodes v ≡ true → (HasWindow s clocks air rank f j v → ⊥) → bus_before s rank f p j v ≡ state_at s f v
+  pub others : (v : ℕ) → knows s.nodes v ≡ true → (HasWindow s clocks air rank f j v → ⊥) → node_before s rank f p j v ≡ state_at s f v
 
 -- what the flood of slot j gives for the windows of it: all that the step asks of the theorem on floods
 pub record IsSlotHeard (s : ScenarioParts) (clocks : ℕ → ℕ → ℕ) (air : List Entry) (rank f : ℕ) (p : Plan) (j : ℕ) : Type 0 where
   pub accepted : (v : ℕ) (w : WindowLog) → IsWindowOf s clocks air rank f j v w → is_some w.closed ≡ true
-      → accepted_in w.last ≡ accepted_at (bus_slot s rank f p j) v
+      → accepted_in w.last ≡ accepted_at (slot_in s rank f p j) v
   pub initiated : (v : ℕ) (w : WindowLog) → IsWindowOf s clocks air rank f j v w
-      → w.last.flood.initiated ≡ is_some (message_said ((bus_slot s rank f p j).window v))
+      → w.last.flood.initiated ≡ is_some (message_said ((slot_in s rank f p j).window v))
   -- a scanning node with no window accepted nothing
-  pub deaf : (v : ℕ) → knows s.nodes v ≡ true → ((w : WindowLog) → IsWindowOf s clocks air rank f j v w → ⊥) → accepted_at (bus_slot s rank f p j) v ≡ None
+  pub deaf : (v : ℕ) → knows s.nodes v ≡ true → ((w : WindowLog) → IsWindowOf s clocks air rank f j v w → ⊥) → accepted_at (slot_in s rank f p j) v ≡ None
 
 abbrev pub SlotHeardLaw : Type 0
 SlotHeardLaw = (s : ScenarioParts) (clocks : ℕ → ℕ → ℕ) (air : List Entry) → IsLawfulRun s clocks air
