@@ -4,7 +4,8 @@
     tools/calls.py > docs/internals/CALLS.md
     tools/calls.py --open        the calls whose contract leaves an answer without its cause, or what they change unsaid
 
-A call is public where its crate exports it. Crates that only tests stand in are left out.
+A call is public where its crate exports it. Crates of nothing but tests are left out, and calls that only a test can use, since
+their error is that a test fails.
 """
 import pathlib
 import re
@@ -14,7 +15,7 @@ HEAD = """# Every public call
 
 Each function that a crate exports, with its contract word for word, as `tools/calls.py` reads it off the sources: `needs` is the condition under which a caller may call it, and all else is what it promises to return, when it rejects, and what it leaves of what it was given to change. A clause has a name where the contract gives it one. Each call returns under its condition, with no undefined behaviour, no overflow and no index out of bounds, which the check proves of every function.
 
-What a call answers beside its value: None or an error, whose cause is among its promises, or `memory`, out of memory, the only one without a cause, which may come from any call that allocates. `by the trait` is there if the contract is that of the trait's method. Promises on what is left of a value that the call may change speak of `.new`, and of what it was before as `.old`; those on it alone are in the last column, with what the answer says of it.
+What a call answers in addition to its value: None or an error, whose cause is among its promises, or `memory`, out of memory, the only one without a cause, which may come from any call that allocates. `by the trait` is there if the contract is that of the trait's method. Promises on what is left of a value that the call may change speak of `.new`, and of what it was before as `.old`; those on it alone are in the last column, with what the answer says of it.
 
 """
 
@@ -169,7 +170,7 @@ def crates(root):
         for path in sorted(source.glob("**/*.rt")):
             if "tests" in path.stem or "tests" in [part.name for part in path.relative_to(source).parents]:
                 continue
-            found += list(calls(path, names, modules))
+            found += [call for call in calls(path, names, modules) if not call[2].endswith(", Fail>")]
         if found:
             yield name, found
 
