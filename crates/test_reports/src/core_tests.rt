@@ -227,6 +227,15 @@ fn orders_what_the_log_has(
     Ok(has_sent && driven.tuned.as_slice() == by_log.as_slice())
 }
 
+// Its stream 0 requests a slot each 4 seconds, and gets a packet.
+fn give_packet(driven: &mut Driven) -> Result<(), Fail>
+    requires { driven.old.core.setup.profile ≡ one }
+{
+    driven.core.declare(0, 4);
+    driven.core.put(0, &Payload::new(&[0xaa]).ok_or("length")?);
+    Ok(())
+}
+
 #[test]
 fn host_orders_what_the_log_has(rt: HostRuntime) -> Result<(), Fail> {
     let alloc = rt.alloc();
@@ -245,8 +254,7 @@ fn sender_orders_what_the_log_has(rt: HostRuntime) -> Result<(), Fail> {
     let mut world = stated_world(alloc, &s)?;
     world.run(alloc)?;
     let mut sender = booted(alloc, 2)?;
-    sender.core.declare(0, 4);
-    sender.core.put(0, &Payload::new(&[0xaa]).ok_or("length")?);
+    give_packet(&mut sender)?;
     assert!(rt; orders_what_the_log_has(alloc, &mut sender, world.air(), 2)?);
     Ok(())
 }
