@@ -8,6 +8,7 @@ mod lines;
 mod links;
 mod masks;
 mod ranges;
+mod sealed_trace;
 mod starts;
 mod trace;
 
