@@ -3,13 +3,13 @@
 ghost use Rattle.std.specs.Prelude.{◌≡◌, IfOk, OnOk};
 ghost use Rattle.lwb_base.specs.Profile.{one};
 
-use crate::worlds::stated_world;
+use crate::calls::log_of;
 use air_log::{Air, Entry, HeardEntry, SentEntry};
 use lwb_base::{Event, NodeId, Order, Packet, Payload, Profile, Rank, RecordingRadio};
 use node_core::Node;
 use std::alloc::Global;
 use std::test::Fail;
-use test_texts::{ONE_PACKET, scenario};
+use test_texts::ONE_PACKET;
 use tick_clock::{At, DriftClock, SegmentClock};
 
 // No tick or reading of the run comes to this.
@@ -239,22 +239,18 @@ fn give_packet(driven: &mut Driven) -> Result<(), Fail>
 #[test]
 fn host_orders_what_the_log_has(rt: HostRuntime) -> Result<(), Fail> {
     let alloc = rt.alloc();
-    let s = scenario(alloc, ONE_PACKET)?;
-    let mut world = stated_world(alloc, &s)?;
-    world.run(alloc)?;
+    let air = log_of(alloc, &["run"], ONE_PACKET.concat(alloc)?.as_str())?;
     let mut host = booted(alloc, 1)?;
-    assert!(rt; orders_what_the_log_has(alloc, &mut host, world.air(), 1)?);
+    assert!(rt; orders_what_the_log_has(alloc, &mut host, &air, 1)?);
     Ok(())
 }
 
 #[test]
 fn sender_orders_what_the_log_has(rt: HostRuntime) -> Result<(), Fail> {
     let alloc = rt.alloc();
-    let s = scenario(alloc, ONE_PACKET)?;
-    let mut world = stated_world(alloc, &s)?;
-    world.run(alloc)?;
+    let air = log_of(alloc, &["run"], ONE_PACKET.concat(alloc)?.as_str())?;
     let mut sender = booted(alloc, 2)?;
     give_packet(&mut sender)?;
-    assert!(rt; orders_what_the_log_has(alloc, &mut sender, world.air(), 2)?);
+    assert!(rt; orders_what_the_log_has(alloc, &mut sender, &air, 2)?);
     Ok(())
 }

@@ -113,21 +113,32 @@ fn sink_that_fails_at_each_call(rt: HostRuntime) -> Result<(), Fail> {
     Ok(())
 }
 
-// The flood along a line of three nodes.
-#[test]
-fn flood_from_a_source_and_into_a_sink_that_fail(rt: HostRuntime) -> Result<(), Fail> {
-    let alloc = rt.alloc();
+// The status, the number of entries of the log and what was written of the flood along a line of three nodes, where this call
+// of the source and this one of the sink fail. Calls are counted from 1.
+fn flood_over(alloc: Global, of_source: u32, of_sink: u32) -> Result<(u8, usize, Vec<u8>), Fail> {
     let words = owned(alloc, &["flood"])?;
     let text = THREE_IN_A_LINE.as_bytes();
-    let mut failing = MemorySource::new(alloc, text, 4096, &[1])?;
-    let mut sink = MemorySink::new(alloc, 10, 4096, &[2])?;
-    let outcome = top(alloc, &words, &mut failing, &mut sink);
-    assert_eq!(rt; (outcome.status, outcome.air.len()), (3, 0));
-    assert_eq!(rt; sink.bytes().len(), 0);
-
-    let mut source = MemorySource::new(alloc, text, 4096, &[])?;
+    let mut source = MemorySource::new(alloc, text, 4096, &[u64::from(of_source)])?;
+    let mut sink = MemorySink::new(alloc, 10, 4096, &[u64::from(of_sink)])?;
     let outcome = top(alloc, &words, &mut source, &mut sink);
-    assert_eq!(rt; (outcome.status, outcome.air.len()), (4, 14));
-    assert_eq!(rt; sink.bytes(), b"accept 2 0".as_slice());
+    Ok((
+        outcome.status,
+        outcome.air.len(),
+        Vec::from_slice(alloc, sink.bytes())?,
+    ))
+}
+
+#[test]
+fn flood_from_a_source_that_fails(rt: HostRuntime) -> Result<(), Fail> {
+    let (status, entries, written) = flood_over(rt.alloc(), 1, 0)?;
+    assert!(rt; status == 3 && entries == 0 && written.is_empty());
+    Ok(())
+}
+
+#[test]
+fn flood_into_a_sink_that_fails(rt: HostRuntime) -> Result<(), Fail> {
+    let (status, entries, written) = flood_over(rt.alloc(), 0, 2)?;
+    assert!(rt; status == 4 && entries == 14);
+    assert!(rt; written.as_slice() == b"accept 2 0".as_slice());
     Ok(())
 }

@@ -2,12 +2,11 @@
 
 ghost use Rattle.std.specs.Prelude.{◌≡◌, IfOk, length};
 
-use crate::calls::owned;
+use crate::calls::log_of;
 use air_log::{Air, Entry};
 use bus_rules::FloodResult;
-use lwb_base::{INPUT_LIMIT, MemorySink, MemorySource};
+use lwb_base::INPUT_LIMIT;
 use lwb_flood::flood;
-use replay_tool::top;
 use scenario_text::{FloodText, parse_flood};
 use std::alloc::{AllocError, Global};
 use std::fmt::Write;
@@ -91,10 +90,7 @@ fn floods_over_every_choice_of_clocks(rt: HostRuntime) -> Result<(), Fail> {
 fn log_with(alloc: Global, rate: &str) -> Result<Air, Fail> {
     let mut text = String::from_str(alloc, THREE_IN_A_LINE)?;
     text.push_str(rate)?;
-    let words = owned(alloc, &["flood"])?;
-    let mut source = MemorySource::new(alloc, text.as_bytes(), 4096, &[])?;
-    let mut sink = MemorySink::new(alloc, 4096, 4096, &[])?;
-    Ok(top(alloc, &words, &mut source, &mut sink).air)
+    log_of(alloc, &["flood"], text.as_str())
 }
 
 // The node, the start and the end of each transmission of a log.

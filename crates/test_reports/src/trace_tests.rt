@@ -1,5 +1,6 @@
 //! What each node does in a worked run, by its log: the trace and the account.
 
+use crate::calls::log_of;
 use crate::texts::FIRST_ROUND;
 use crate::worlds::{clocks_of, world_after};
 use air_log::{Air, Trail, trail_of};
@@ -95,9 +96,9 @@ fn is_traced(
 fn traces_of_a_first_round(rt: HostRuntime) -> Result<(), Fail> {
     let alloc = rt.alloc();
     let s = scenario(alloc, FIRST_ROUND)?;
-    let world = world_after(alloc, &s)?;
-    assert!(rt; is_traced(alloc, &s, world.air(), 0, &HOST)?);
-    assert!(rt; is_traced(alloc, &s, world.air(), 1, &RELAY)?);
+    let air = log_of(alloc, &["run"], FIRST_ROUND.concat(alloc)?.as_str())?;
+    assert!(rt; is_traced(alloc, &s, &air, 0, &HOST)?);
+    assert!(rt; is_traced(alloc, &s, &air, 1, &RELAY)?);
     Ok(())
 }
 
