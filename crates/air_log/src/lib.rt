@@ -5,6 +5,7 @@ mod air;
 mod charge;
 mod course;
 mod device;
+mod device_orders;
 mod device_script;
 mod device_steps;
 mod entry;
