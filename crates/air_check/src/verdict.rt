@@ -1,3 +1,5 @@
+//! What is wrong with a log.
+
 use lwb_base::NodeId;
 
 /// What is wrong first with a log, if anything is. The four exclude each other: `laws::a_log_has_one_verdict`.

@@ -1,6 +1,6 @@
 -- The alarms of a tick come to an end.
 use Rattle.std.proofs.Common.{◌≡◌, ℕ, zero, suc, ◌+◌, ◌*◌, ◌/◌, ◌^◌, ◌≤◌, List, [], ◌∷◌, Bool, true, false, ◌==◌, fold, Option, Some, None, refl, sym, ◌∙◌}
-use Rattle.std.proofs.Common.{ap, arith, mul-le-mul_left, mul-le-mul_right, suc-mul, div-mul-le_self, eqb-true, true≢false, inl, inr, ◌⊎◌}
+use Rattle.std.proofs.Common.{ap, subst, arith, mul-le-mul_left, mul-le-mul_right, suc-mul, div-mul-le_self, eqb-true, true≢false, inl, inr, ◌⊎◌}
 use Rattle.std.proofs.lemmas.Bool.{cond_both}
 use Rattle.lwb_base.specs.declared.event.Event.{Event}
 use Rattle.lwb_base.specs.declared.event.Event.TheVariants.{Boot, Alarm, Heard, Sent}
@@ -12,12 +12,10 @@ use Rattle.scenario_text.specs.ScenarioFacts.{IsSoundScenario}
 use Rattle.radio_model.specs.OnAir.{Tuning}
 use Rattle.radio_model.specs.declared.sending.Sending.{Sending}
 use Rattle.scenario_text.specs.ScenarioParts.{ScenarioParts}
-use Rattle.scenario_text.specs.declared.script.Act.{Act}
-use Rattle.scenario_text.specs.declared.script.Act.TheVariants.{On, Off as SwitchOff, Declare, Leave, Put}
+use Rattle.bus_rules.specs.declared.act.Act.{Act}
 use Rattle.scenario_text.specs.declared.script.ScriptLine.{ScriptLine}
-use Rattle.bus_rules.specs.Streams.{Streams, declared, streams_after_leaving, put}
-use Rattle.bus_rules.specs.States.{refuses, queues}
-use Rattle.bus_rules.specs.Cores.{Core, Setup}
+use Rattle.bus_rules.specs.Streams.{Streams, streams_after_act}
+use Rattle.bus_rules.specs.Cores.{Setup}
 use Rattle.node_core.specs.Nodes.{Node, rebooted}
 use Rattle.node_core.specs.Rows.{row, at_alarm}
 use Rattle.node_core.specs.Nodes.{with_streams}
@@ -26,9 +24,10 @@ use Rattle.node_core.specs.declared.stage.Stage.{Stage}
 use Rattle.node_core.specs.declared.stage.Stage.TheVariants.{Idle, Scanning, AwaitFrame, AwaitSlot, InWindow}
 use Rattle.air_log.specs.Devices.{Device, Power, PowerOff, PowerOn, Listening, OrderedPacket, obeyed, moved, stepped, event, event_by, silenced, tunes}
 use Rattle.air_log.specs.Devices.{listens_to}
-use Rattle.air_log.specs.ScriptedDevices.{device_after_act, device_after_line, with_new_core}
+use Rattle.air_log.specs.ScriptedDevices.{device_after_act, device_after_line}
 use Rattle.air_log.specs.Trails.{Reception, run_end, setup_of, lines_at, device_after_script, ending_at, device_after_reception, device_after_receptions}
 use Rattle.air_log.specs.Trails.{device_ended_by, device_after_end, alarm_is_due, alarms, alarm_limit, alarmed, before_start, begun_by, starts, before_tick}
+use Rattle.air_log.proofs.DeviceActs.{each_act}
 use Rattle.air_log.proofs.AlarmRows.{IsRoomy, roomy, Waits, Goes, GoesBy, alarm_by, alarm_after, progress, most}
 use Rattle.air_log.proofs.AlarmRows.{in_reach, boot_goes, heard_goes, sent_goes, alarm_goes, Rises}
 
@@ -85,27 +84,14 @@ module _ (s : Setup) (L : ℕ → ℕ) (t : ℕ) where
     with_streams_goes : (n : Node) (a : Option ℕ) (streams : Streams) → Goes s L t n a → Goes s L t (with_streams n streams) a
     with_streams_goes n a streams goes = (record { small = goes.0.small; frame = goes.0.frame; stage = goes.0.stage }, goes.1)
 
-    pub act_sound : (d : Device) (a : Act) (power : Power) → d.power ≡ power → SoundBy power d.alarm
-        → Sound (device_after_act L s t d a power)
-    act_sound d On (PowerOff boots) at sound =
-        let n = rebooted (boots + 1) in
-        let x : Device = record d { power = PowerOn n } in
-        step_sound Boot None x n (boot_goes s L t room n d.alarm)
-    act_sound d On (PowerOn n) at sound = rw at sound
-    act_sound d SwitchOff (PowerOff boots) at sound = rw at sound
-    act_sound d SwitchOff (PowerOn n) at sound = refl
-    act_sound d (Declare i interval) (PowerOff boots) at sound = rw at sound
-    act_sound d (Declare i interval) (PowerOn n) at sound = with_streams_goes n d.alarm (declared i interval n.core.streams) sound
-    act_sound d (Leave i) (PowerOff boots) at sound = rw at sound
-    act_sound d (Leave i) (PowerOn n) at sound = with_streams_goes n d.alarm (streams_after_leaving i n.core.streams) sound
-    act_sound d (Put i payload) (PowerOff boots) at sound = rw at sound
-    act_sound d (Put i payload) (PowerOn n) at sound =
-        cond_both (refuses i n.core) n.core (queues i payload n.core) (λ (c : Core). Sound (with_new_core d n c)) (λ is. sound)
-        (λ is. with_streams_goes n d.alarm (put i payload n.core.streams) sound)
+    pub act_sound : (d : Device) (a : Act) → Sound d → Sound (device_after_act L s t d a d.power)
+    act_sound d a sound = each_act L s t d Sound a d.power sound
+        (λ boots at. let n = rebooted (boots + 1) in step_sound Boot None (record d { power = PowerOn n }) n (boot_goes s L t room n d.alarm))
+        (λ n at. refl) (λ n at. with_streams_goes n d.alarm (streams_after_act a n.core.streams) (subst (λ (p : Power). SoundBy p d.alarm) at sound))
 
     lines_sound : (ls : List ScriptLine) (d : Device) → Sound d → Sound (fold (device_after_line L s t) d ls)
     lines_sound [] d sound = sound
-    lines_sound (l ∷ ls) d sound = lines_sound ls (device_after_line L s t d l) (act_sound d l.act d.power refl sound)
+    lines_sound (l ∷ ls) d sound = lines_sound ls (device_after_line L s t d l) (act_sound d l.act sound)
 
     hearings_sound : (hs : List Reception) (d : Device) → Sound d → Sound (fold (device_after_reception L s t) d hs)
     hearings_sound [] d sound = sound

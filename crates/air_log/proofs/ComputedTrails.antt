@@ -13,10 +13,10 @@ use Rattle.lwb_base.specs.declared.order.Order.TheVariants.{Listen, Off, SendAt,
 use Rattle.tick_clock.specs.Clocks.{due}
 use Rattle.radio_model.specs.declared.sending.Sending.{Sending}
 use Rattle.scenario_text.specs.ScenarioParts.{ScenarioParts}
-use Rattle.scenario_text.specs.declared.script.Act.{Act}
-use Rattle.scenario_text.specs.declared.script.Act.TheVariants.{On, Off as SwitchOff, Declare, Leave, Put}
+use Rattle.bus_rules.specs.declared.act.Act.{Act}
+use Rattle.bus_rules.specs.declared.act.Act.TheVariants.{On, Off as SwitchOff}
 use Rattle.scenario_text.specs.declared.script.ScriptLine.{ScriptLine}
-use Rattle.bus_rules.specs.States.{declares, leaves, puts}
+use Rattle.bus_rules.specs.States.{core_after_act}
 use Rattle.bus_rules.specs.Cores.{Setup}
 use Rattle.node_core.specs.Nodes.{Node, rebooted}
 use Rattle.node_core.specs.Rows.{row}
@@ -53,12 +53,8 @@ module _ (D : ℕ → ℕ) (clock : ℕ → ℕ) where
   after_act s t d On (PowerOn n) = d
   after_act s t d SwitchOff (PowerOff boots) = d
   after_act s t d SwitchOff (PowerOn n) = device_after_off s.id t n d
-  after_act s t d (Declare i interval) (PowerOff boots) = d
-  after_act s t d (Declare i interval) (PowerOn n) = with_new_core d n (declares i interval n.core)
-  after_act s t d (Leave i) (PowerOff boots) = d
-  after_act s t d (Leave i) (PowerOn n) = with_new_core d n (leaves i n.core)
-  after_act s t d (Put i payload) (PowerOff boots) = d
-  after_act s t d (Put i payload) (PowerOn n) = with_new_core d n (puts i payload n.core)
+  after_act s t d other (PowerOff boots) = d
+  after_act s t d other (PowerOn n) = with_new_core d n (core_after_act other n.core)
 
   abbrev after_line : Setup → ℕ → Device → ScriptLine → Device
   after_line s t d l = after_act s t d l.act d.power

@@ -1,6 +1,6 @@
 -- How many windows open by their alarm: few for each frame number that a node counts, and for each of its boots.
 use Rattle.std.proofs.Common.{◌≡◌, true≢false, ℕ, zero, suc, ◌+◌, ◌*◌, ◌^◌, ◌<◌, ◌≤◌, List, [], ◌∷◌, Bool, true, false, ◌==◌}
-use Rattle.std.proofs.Common.{nat_lt, fold, Option, Some, None, refl, sym, ◌∙◌, ap, arith, ltb-true, mul-le-mul_right}
+use Rattle.std.proofs.Common.{nat_lt, fold, Option, Some, None, refl, sym, ◌∙◌, ap, subst, arith, ltb-true, mul-le-mul_right}
 use Rattle.std.proofs.lemmas.Bool.{cond_both}
 use Rattle.lwb_base.specs.declared.event.Event.TheVariants.{Boot, Alarm, Heard, Sent}
 use Rattle.tick_clock.specs.Clocks.{IsClock}
@@ -8,20 +8,19 @@ use Rattle.tick_clock.proofs.Readings.{rounded, never_back}
 use Rattle.radio_model.specs.declared.sending.Sending.{Sending}
 use Rattle.scenario_text.specs.ScenarioParts.{ScenarioParts}
 use Rattle.scenario_text.specs.ScenarioFacts.{IsSoundScenario}
-use Rattle.scenario_text.specs.declared.script.Act.{Act}
-use Rattle.scenario_text.specs.declared.script.Act.TheVariants.{On, Off, Declare, Leave, Put}
+use Rattle.bus_rules.specs.declared.act.Act.{Act}
 use Rattle.scenario_text.specs.declared.script.ScriptLine.{ScriptLine}
-use Rattle.bus_rules.specs.States.{refuses, queues}
-use Rattle.bus_rules.specs.Cores.{Core, Setup}
+use Rattle.bus_rules.specs.Cores.{Setup}
 use Rattle.node_core.specs.Nodes.{Node, rebooted}
 use Rattle.node_core.specs.Rows.{row, boots}
 use Rattle.node_core.specs.Rows.{node_after}
 use Rattle.node_core.specs.declared.stage.Stage.{Stage}
 use Rattle.node_core.specs.declared.stage.Stage.TheVariants.{Idle, Scanning, AwaitFrame, AwaitSlot, InWindow}
 use Rattle.air_log.specs.Devices.{Device, Power, PowerOff, PowerOn, Listening, OrderedPacket, stepped, event_by}
-use Rattle.air_log.specs.ScriptedDevices.{device_after_act, device_after_line, with_new_core}
+use Rattle.air_log.specs.ScriptedDevices.{device_after_act, device_after_line}
 use Rattle.air_log.specs.Trails.{Reception, run_end, setup_of, lines_at, device_after_script, ending_at, device_after_reception, device_after_receptions}
 use Rattle.air_log.specs.Trails.{device_ended_by, device_after_end, alarm_is_due, alarms, alarm_limit, alarmed, begun_by, starts, before_tick, trail}
+use Rattle.air_log.proofs.DeviceActs.{each_act}
 use Rattle.air_log.proofs.AlarmRows.{IsRoomy, roomy, InRange, IsGoing, alarm_goes}
 use Rattle.air_log.proofs.AlarmLoop.{Sound, SoundBy, step_sound, heard_sound, sent_sound, act_sound, fires, begun_sound, later, early_in_run}
 use Rattle.air_log.proofs.OpenedByAlarm.{by_alarm, place_spent, FewBy, Few, one_at_most, row_few, heard_few, sent_few, alarm_few}
@@ -100,25 +99,20 @@ module _ (s : Setup) (L : ℕ → ℕ) (t : ℕ) where
       pub off_few : (n : Node) (k : ℕ) → IsGoing s L t n → FewBy (PowerOn n) k → k ≤ n.core.boot * 2 ^ 20
       off_few n k going few = omega (arith, few, in_run n going, in_frame n.stage going.stage)
 
-      act_few : (d : Device) (a : Act) (power : Power) → d.power ≡ power → SoundBy s L t power d.alarm → FewBy power (by_alarm d.made.windows)
-          → Few (device_after_act L s t d a power)
-      act_few d On (PowerOff b) at sound few = booted b d few
-      act_few d On (PowerOn n) at sound few = rw at few
-      act_few d Off (PowerOff b) at sound few = rw at few
-      act_few d Off (PowerOn n) at sound few = off_few n (by_alarm d.made.windows) sound.0 few
-      act_few d (Declare i interval) (PowerOff b) at sound few = rw at few
-      act_few d (Declare i interval) (PowerOn n) at sound few = few
-      act_few d (Leave i) (PowerOff b) at sound few = rw at few
-      act_few d (Leave i) (PowerOn n) at sound few = few
-      act_few d (Put i payload) (PowerOff b) at sound few = rw at few
-      act_few d (Put i payload) (PowerOn n) at sound few =
-          cond_both (refuses i n.core) n.core (queues i payload n.core) (λ (c : Core). Few (with_new_core d n c)) (λ is. few) (λ is. few)
+      act_few : (d : Device) (a : Act) → Goes_few d → Few (device_after_act L s t d a d.power)
+      act_few d a both = each_act L s t d Few a d.power both.few
+          (λ b at. booted b d (few_by at))
+          (λ n at. off_few n (by_alarm d.made.windows) (subst (λ (p : Power). SoundBy s L t p d.alarm) at both.sound).0 (few_by at))
+          (λ n at. few_by at)
+        where
+          few_by : {p : Power} → d.power ≡ p → FewBy p (by_alarm d.made.windows)
+          few_by at = subst (λ (p : Power). FewBy p (by_alarm d.made.windows)) at both.few
 
       lines_both : (ls : List ScriptLine) (d : Device) → Goes_few d → Goes_few (fold (device_after_line L s t) d ls)
       lines_both [] d both = both
       lines_both (l ∷ ls) d both =
           lines_both ls (device_after_line L s t d l)
-          (record { sound = act_sound s L t room d l.act d.power refl both.sound; few = act_few d l.act d.power refl both.sound both.few })
+          (record { sound = act_sound s L t room d l.act both.sound; few = act_few d l.act both })
 
 -- a whole run
 module _ (s : ScenarioParts) (v : ℕ) (L : ℕ → ℕ) (hs : List Reception) (sound : IsSoundScenario s) (clock : IsClock L) where

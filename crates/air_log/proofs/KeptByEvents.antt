@@ -6,8 +6,7 @@ use Rattle.lwb_base.specs.declared.event.Event.TheVariants.{Boot, Alarm, Heard, 
 use Rattle.lwb_base.specs.declared.order.Order.{Order}
 use Rattle.radio_model.specs.declared.sending.Sending.{Sending}
 use Rattle.scenario_text.specs.ScenarioParts.{ScenarioParts}
-use Rattle.scenario_text.specs.declared.script.Act.{Act}
-use Rattle.scenario_text.specs.declared.script.Act.TheVariants.{On, Off, Declare, Leave, Put}
+use Rattle.bus_rules.specs.declared.act.Act.{Act}
 use Rattle.scenario_text.specs.declared.script.ScriptLine.{ScriptLine}
 use Rattle.bus_rules.specs.Cores.{Setup}
 use Rattle.node_core.specs.Nodes.{Node, rebooted}
@@ -17,6 +16,7 @@ use Rattle.air_log.specs.Devices.{Device, Power, PowerOff, PowerOn, obeyed, move
 use Rattle.air_log.specs.ScriptedDevices.{device_after_act, device_after_line}
 use Rattle.air_log.specs.Trails.{Reception, setup_of, lines_at, device_after_script, ending_at, device_after_reception, device_after_receptions}
 use Rattle.air_log.specs.Trails.{device_ended_by, device_after_end, alarm_is_due, alarms, alarm_limit, alarmed, before_start}
+use Rattle.air_log.proofs.DeviceActs.{each_act}
 
 -- at tick t. Neither the power nor what is set or runs matters
 pub record IsKept (P : Device → Type 0) (clock : ℕ → ℕ) (s : Setup) (t : ℕ) : Type 0 where
@@ -38,23 +38,14 @@ module _ (P : Device → Type 0) (clock : ℕ → ℕ) (s : Setup) (t : ℕ) (ke
       let r = row s n (clock t) e in
       all_obeyed (orders_by r) (moved t e x d n r) (kept.moving e x d n r holds)
 
-  by_act : (d : Device) (a : Act) (p : Power) → P d → P (device_after_act clock s t d a p)
-  by_act d On (PowerOff boots) holds =
-      by_event Boot None (record d { power = PowerOn (rebooted (boots + 1)) }) (PowerOn (rebooted (boots + 1)))
-      (kept.powered d (PowerOn (rebooted (boots + 1))) holds)
-  by_act d On (PowerOn n) holds = holds
-  by_act d Off (PowerOff boots) holds = holds
-  by_act d Off (PowerOn n) holds = kept.off d n.core.boot holds
-  by_act d (Declare i interval) (PowerOff boots) holds = holds
-  by_act d (Declare i interval) (PowerOn n) holds = kept.powered d _ holds
-  by_act d (Leave i) (PowerOff boots) holds = holds
-  by_act d (Leave i) (PowerOn n) holds = kept.powered d _ holds
-  by_act d (Put i payload) (PowerOff boots) holds = holds
-  by_act d (Put i payload) (PowerOn n) holds = kept.powered d _ holds
+  pub by_act : (a : Act) (d : Device) → P d → P (device_after_act clock s t d a d.power)
+  by_act a d holds = each_act clock s t d P a d.power holds
+      (λ boots at. let on = PowerOn (rebooted (boots + 1)) in by_event Boot None (record d { power = on }) on (kept.powered d on holds))
+      (λ n at. kept.off d n.core.boot holds) (λ n at. kept.powered d _ holds)
 
   by_lines : (ls : List ScriptLine) (d : Device) → P d → P (fold (device_after_line clock s t) d ls)
   by_lines [] d holds = holds
-  by_lines (l ∷ ls) d holds = by_lines ls (device_after_line clock s t d l) (by_act d l.act d.power holds)
+  by_lines (l ∷ ls) d holds = by_lines ls (device_after_line clock s t d l) (by_act l.act d holds)
 
   by_hearings : (hs : List Reception) (d : Device) → P d → P (fold (device_after_reception clock s t) d hs)
   by_hearings [] d holds = holds

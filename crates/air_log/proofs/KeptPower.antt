@@ -10,13 +10,12 @@ use Rattle.radio_model.specs.OnAir.{Tuning}
 use Rattle.radio_model.specs.declared.sending.Sending.{Sending}
 use Rattle.scenario_text.specs.ScenarioParts.{ScenarioParts}
 use Rattle.scenario_text.specs.ScenarioFacts.{IsSoundScenario, turned, turned_by}
-use Rattle.scenario_text.specs.declared.script.Act.{Act}
-use Rattle.scenario_text.specs.declared.script.Act.TheVariants.{On, Off, Declare, Leave, Put}
+use Rattle.bus_rules.specs.declared.act.Act.{Act}
+use Rattle.bus_rules.specs.declared.act.Act.TheVariants.{On}
 use Rattle.scenario_text.specs.declared.script.ScriptLine.{ScriptLine}
 use Rattle.scenario_text.proofs.BootsTold.{turned_over, Boots}
 use Rattle.scenario_text.proofs.BootsCounted.{never_less}
-use Rattle.bus_rules.specs.States.{refuses, queues}
-use Rattle.bus_rules.specs.Cores.{Core, Setup}
+use Rattle.bus_rules.specs.Cores.{Setup}
 use Rattle.node_core.specs.Nodes.{Node, rebooted}
 use Rattle.node_core.specs.Rows.{Stepped, row}
 use Rattle.node_core.specs.Rows.{node_after, orders_by}
@@ -25,6 +24,7 @@ use Rattle.air_log.specs.Devices.{seen_power}
 use Rattle.air_log.specs.ScriptedDevices.{device_after_act, device_after_line}
 use Rattle.air_log.specs.Trails.{alarm_is_due, alarms, alarm_limit, alarmed, device_after_start, begun_by, starts, one_alarm}
 use Rattle.node_core.proofs.KeptBoots.{KeepsBoot, boot_kept}
+use Rattle.air_log.proofs.DeviceActs.{told, by_act, not_turned}
 
 -- orders change no power
 abbrev HasPower : Power → Device → Type 0
@@ -71,22 +71,18 @@ module _ (clock : ℕ → ℕ) (s : Setup) (t : ℕ) where
   pub alarmed_power : (d : Device) → seen_power (alarmed clock s t d).power ≡ seen_power d.power
   alarmed_power d = by_alarms (alarm_is_due t d.alarm) (alarm_limit clock t) d
 
-  by_act : (d : Device) (a : Act) (p : Power) → d.power ≡ p → seen_power (device_after_act clock s t d a p).power ≡ turned_by a (seen_power p)
-  by_act d On (PowerOff boots) is = event_power Boot None (record d { power = PowerOn (rebooted (boots + 1)) })
-  by_act d On (PowerOn n) is = ap seen_power is
-  by_act d Off (PowerOff boots) is = ap seen_power is
-  by_act d Off (PowerOn n) is = refl
-  by_act d (Declare i interval) (PowerOff boots) is = ap seen_power is
-  by_act d (Declare i interval) (PowerOn n) is = refl
-  by_act d (Leave i) (PowerOff boots) is = ap seen_power is
-  by_act d (Leave i) (PowerOn n) is = refl
-  by_act d (Put i payload) (PowerOff boots) is = ap seen_power is
-  by_act d (Put i payload) (PowerOn n) is =
-      cond_both (refuses i n.core) n.core (queues i payload n.core) (λ (c : Core). seen_power (PowerOn (record n { core = c })) ≡ seen_power (PowerOn n))
-      (λ lost. refl) (λ kept. refl)
+  told_power : (d : Device) (a : Act) (p : Power) → d.power ≡ p → seen_power (told d a p).power ≡ seen_power p
+  told_power d a (PowerOff boots) is = ap seen_power is
+  told_power d a (PowerOn n) is = refl
+
+  act_power : (d : Device) (a : Act) (p : Power) → d.power ≡ p → seen_power (device_after_act clock s t d a p).power ≡ turned_by a (seen_power p)
+  act_power d = by_act clock s t d (λ a p e. d.power ≡ p → seen_power e.power ≡ turned_by a (seen_power p))
+      (λ boots is. event_power Boot None (record d { power = PowerOn (rebooted (boots + 1)) }))
+      (λ n is. ap seen_power is) (λ boots is. ap seen_power is) (λ n is. refl)
+      (λ a p none is. told_power d a p is ∙ sym (not_turned a none (seen_power p)))
 
   pub line_power : (d : Device) (l : ScriptLine) → seen_power (device_after_line clock s t d l).power ≡ turned_by l.act (seen_power d.power)
-  line_power d l = by_act d l.act d.power refl
+  line_power d l = act_power d l.act d.power refl
 
   starts_power : (packet : List ℕ) (d : Device) (l : Option Listening) (x : Option Sending) → (starts s t packet d l x).power ≡ d.power
   starts_power packet d None x = refl

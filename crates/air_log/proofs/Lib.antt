@@ -3,6 +3,7 @@ pub mod StrictOrders
 pub mod DeliveryOrder
 pub mod SameSendings
 pub mod LoggedEntries
+pub mod DeviceActs
 pub mod KeptByEvents
 pub mod InTurn
 pub mod HearingMore
@@ -30,6 +31,7 @@ pub mod CourseEvents
 pub mod FramesOfCourses
 pub mod FirstRoundLog
 pub mod ShortRuns
+pub mod DropsBelow
 -- for this crate alone
 pub mod SmallCores
 mod DeviceEvents

@@ -9,8 +9,9 @@ use Rattle.std.proofs.lemmas.List.Sums.{fold-append}
 use Rattle.lwb_base.proofs.Orders.{same_factor}
 use Rattle.bus_rules.specs.Cores.{Setup}
 use Rattle.scenario_text.specs.ScenarioParts.{ScenarioParts}
-use Rattle.scenario_text.specs.ScenarioFacts.{IsSoundScenario, IsScriptLine, IsAct, turned, turned_by}
-use Rattle.scenario_text.specs.declared.script.Act.TheVariants.{On}
+use Rattle.scenario_text.specs.ScenarioFacts.{IsSoundScenario, IsScriptLine, turned, turned_by}
+use Rattle.bus_rules.specs.States.{IsAct}
+use Rattle.bus_rules.specs.declared.act.Act.TheVariants.{On}
 use Rattle.scenario_text.specs.declared.script.ScriptLine.{ScriptLine}
 use Rattle.scenario_text.proofs.BootsTold.{turned_more, Boots}
 use Rattle.air_log.specs.Devices.{Device, Power, PowerOff, PowerOn, seen_power}

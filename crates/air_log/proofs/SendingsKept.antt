@@ -9,16 +9,15 @@ use Rattle.lwb_base.specs.declared.order.Order.{Order}
 use Rattle.lwb_base.specs.declared.order.Order.TheVariants.{Listen, Off, SendAt, Alarm}
 use Rattle.radio_model.specs.declared.sending.Sending.{Sending}
 use Rattle.radio_model.specs.OnAir.{Tuning}
-use Rattle.scenario_text.specs.declared.script.Act.{Act}
-use Rattle.scenario_text.specs.declared.script.Act.TheVariants.{On, Off as OffOf, Declare, Leave, Put}
 use Rattle.scenario_text.specs.declared.script.ScriptLine.{ScriptLine}
 use Rattle.bus_rules.specs.Cores.{Setup}
 use Rattle.node_core.specs.Nodes.{rebooted}
 use Rattle.node_core.specs.Rows.{orders_by}
 use Rattle.node_core.specs.Rows.{row}
 use Rattle.air_log.specs.Devices.{Device, Power, PowerOff, PowerOn, Listening, OrderedPacket, obeyed, silenced, tunes, listens_to, moved, event, event_by}
-use Rattle.air_log.specs.ScriptedDevices.{device_after_act, device_after_line}
+use Rattle.air_log.specs.ScriptedDevices.{device_after_line}
 use Rattle.air_log.specs.Trails.{device_after_start, begun_by, starts, sending_from, alarm_is_due, alarms, alarm_limit, alarmed, sendings_starting, starting_by}
+use Rattle.air_log.proofs.DeviceActs.{each_act}
 
 tuned_sending : (rank t : ℕ) (d : Device) (es : List Tuning) → (tunes rank t d es).sending ≡ d.sending
 tuned_sending rank t d [] = refl
@@ -45,20 +44,9 @@ module _ (clock : ℕ → ℕ) (s : Setup) (t : ℕ) where
   pub event_sending : (e : Event) (x : Option Sending) (d : Device) → (event clock s t e x d).sending ≡ d.sending
   event_sending e x d = by_power e x d d.power
 
-  act_sending : (d : Device) (a : Act) (p : Power) → (device_after_act clock s t d a p).sending ≡ d.sending
-  act_sending d On (PowerOff boots) = event_sending Boot None (record d { power = PowerOn (rebooted (boots + 1)) })
-  act_sending d On (PowerOn n) = refl
-  act_sending d OffOf (PowerOff boots) = refl
-  act_sending d OffOf (PowerOn n) = refl
-  act_sending d (Declare i interval) (PowerOff boots) = refl
-  act_sending d (Declare i interval) (PowerOn n) = refl
-  act_sending d (Leave i) (PowerOff boots) = refl
-  act_sending d (Leave i) (PowerOn n) = refl
-  act_sending d (Put i payload) (PowerOff boots) = refl
-  act_sending d (Put i payload) (PowerOn n) = refl
-
   pub line_sending : (d : Device) (line : ScriptLine) → (device_after_line clock s t d line).sending ≡ d.sending
-  line_sending d line = act_sending d line.act d.power
+  line_sending d line = each_act clock s t d (λ (e : Device). e.sending ≡ d.sending) line.act d.power refl
+      (λ boots at. event_sending Boot None (record d { power = PowerOn (rebooted (boots + 1)) })) (λ n at. refl) (λ n at. refl)
 
   alarms_sending : (b : Bool) (more : ℕ) (d : Device) → (alarms clock s t b more d).sending ≡ d.sending
   unfolding alarms

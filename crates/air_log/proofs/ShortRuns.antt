@@ -1,5 +1,5 @@
 -- A run ends within 2 ^ 46 ticks.
-use Rattle.std.proofs.Common.{◌≡◌, ◌≤◌, ◌^◌, ap, arith, inl, inr}
+use Rattle.std.proofs.Common.{◌≤◌, ◌^◌, ap, arith, inl, inr}
 use Rattle.std.proofs.Math.Nat.{mul-le-mul_right, mul-le-mul_left}
 use Rattle.lwb_base.specs.Profile.{Numbers}
 use Rattle.scenario_text.specs.ScenarioFacts.{IsSoundScenario}

@@ -1,24 +1,20 @@
 -- What a device was tuned to before a tick, and that what happens to it at the tick does not change it.
-use Rattle.std.proofs.Common.{◌≡◌, ℕ, zero, suc, ◌+◌, ◌<◌, ◌≤◌, ◌↔◌, ◌⊎◌, inl, inr, List, [], ◌∷◌, ◌==◌, ◌&&◌, nat_lt, fold}
+use Rattle.std.proofs.Common.{◌≡◌, ℕ, zero, suc, ◌<◌, ◌≤◌, ◌↔◌, ◌⊎◌, inl, inr, List, [], ◌∷◌, ◌==◌, ◌&&◌, nat_lt, fold}
 use Rattle.std.proofs.Common.{Some, None, Option, refl, sym, ◌∙◌, ap, subst, arith, Contains, IfSome, ltb-true}
 use Rattle.std.proofs.lemmas.Bool.{cond_both, and_parts, eqb-true, ltb-false}
 use Rattle.lwb_base.specs.declared.event.Event.{Event}
-use Rattle.lwb_base.specs.declared.event.Event.TheVariants.{Boot}
 use Rattle.lwb_base.specs.declared.order.Order.{Order}
 use Rattle.lwb_base.specs.declared.order.Order.TheVariants.{Listen, Off, SendAt, Alarm}
 use Rattle.radio_model.specs.declared.sending.Sending.{Sending}
 use Rattle.radio_model.specs.OnAir.{Tuning}
 use Rattle.lwb_base.proofs.Elements.{not_in_none, contains_head, contains_tail, contains_cases}
 use Rattle.scenario_text.specs.ScenarioParts.{ScenarioParts}
-use Rattle.scenario_text.specs.declared.script.Act.{Act}
-use Rattle.scenario_text.specs.declared.script.Act.TheVariants.{On, Off as OffOf, Declare, Leave, Put}
 use Rattle.scenario_text.specs.declared.script.ScriptLine.{ScriptLine}
 use Rattle.bus_rules.specs.Cores.{Setup}
-use Rattle.node_core.specs.Nodes.{rebooted}
-use Rattle.air_log.specs.Devices.{Device, Power, PowerOff, PowerOn, Listening, OrderedPacket, obeyed, silenced, tunes, with_tuning, listens_to, event}
-use Rattle.air_log.specs.ScriptedDevices.{device_after_act, device_after_line}
+use Rattle.air_log.specs.Devices.{Device, Listening, OrderedPacket, obeyed, silenced, tunes, with_tuning, listens_to, event}
+use Rattle.air_log.specs.ScriptedDevices.{device_after_line}
 use Rattle.air_log.specs.Trails.{Reception, setup_of, device_after_start, begun_by, starts, alarmed, before_tick, before_start}
-use Rattle.air_log.proofs.KeptByEvents.{IsKept, in_event, in_alarms, in_tick}
+use Rattle.air_log.proofs.KeptByEvents.{IsKept, by_act, in_event, in_alarms, in_tick}
 use Rattle.air_log.specs.TunedTimes.{CoversTick, listened}
 
 -- by these tunings that ended and the present one
@@ -176,20 +172,8 @@ module _ (clock : ℕ → ℕ) (s : Setup) (t : ℕ) (es : List Tuning) (l : Opt
   pub event_as : (e : Event) (x : Option Sending) (d : Device) → As d → As (event clock s t e x d)
   event_as e x d is = in_event As clock s t e x d kept is
 
-  act_as : (d : Device) (a : Act) (p : Power) → As d → As (device_after_act clock s t d a p)
-  act_as d On (PowerOff boots) is = event_as Boot None (record d { power = PowerOn (rebooted (boots + 1)) }) is
-  act_as d On (PowerOn n) is = is
-  act_as d OffOf (PowerOff boots) is = is
-  act_as d OffOf (PowerOn n) is = kept.off d n.core.boot is
-  act_as d (Declare i interval) (PowerOff boots) is = is
-  act_as d (Declare i interval) (PowerOn n) is = is
-  act_as d (Leave i) (PowerOff boots) is = is
-  act_as d (Leave i) (PowerOn n) is = is
-  act_as d (Put i payload) (PowerOff boots) is = is
-  act_as d (Put i payload) (PowerOn n) is = is
-
   pub line_as : (d : Device) (line : ScriptLine) → As d → As (device_after_line clock s t d line)
-  line_as d line is = act_as d line.act d.power is
+  line_as d line is = by_act As clock s t kept line.act d is
 
   pub lines_as : (d : Device) (lines : List ScriptLine) → As d → As (fold (device_after_line clock s t) d lines)
   lines_as d [] is = is

@@ -1,9 +1,10 @@
 -- The packets of a run that were lost before they were queued, by its log.
-use Rattle.std.specs.Prelude.{ℕ, List, [], ◌∷◌, ◌++◌, ◌&&◌, ◌==◌, if◌then◌else◌, Some, None, option_to_list, filter, fold}
+use Rattle.std.specs.Prelude.{ℕ, List, ◌&&◌, ◌==◌, if◌then◌else◌, Some, None, take, filter, filter_map, fold}
+use Rattle.std.specs.List.{enumerate_from}
 use Rattle.std.specs.declared.option.Option.{Option}
 use Rattle.scenario_text.specs.ScenarioParts.{ScenarioParts}
-use Rattle.scenario_text.specs.declared.script.Act.{Act}
-use Rattle.scenario_text.specs.declared.script.Act.TheVariants.{Put}
+use Rattle.bus_rules.specs.declared.act.Act.{Act}
+use Rattle.bus_rules.specs.declared.act.Act.TheVariants.{Put}
 use Rattle.scenario_text.specs.declared.script.ScriptLine.{ScriptLine}
 use Rattle.bus_rules.specs.declared.delivery.DropLine.{DropLine}
 use Rattle.bus_rules.specs.States.{loses}
@@ -32,12 +33,10 @@ drop_by l other power = None
 abbrev pub drop_of_line : ScriptLine → Power → Option DropLine
 drop_of_line l power = drop_by l l.act power
 
--- what these lines lose, where the others are above them
-abbrev pub trail_drops_below : ScenarioParts → (ℕ → ℕ → ℕ) → List Entry → List ScriptLine → List ScriptLine → List DropLine
-trail_drops_below s clocks air above [] = []
-trail_drops_below s clocks air above (l ∷ ls) =
-    option_to_list (drop_of_line l (device_before_line s clocks air above l).power) ++ trail_drops_below s clocks air (above ++ l ∷ []) ls
+-- what line l at place i of the script loses: its packet, if its node rejects that as the lines above leave it
+abbrev pub trail_drop_at : ScenarioParts → (ℕ → ℕ → ℕ) → List Entry → ℕ × ScriptLine → Option DropLine
+trail_drop_at s clocks air (i, l) = drop_of_line l (device_before_line s clocks air (take i s.script) l).power
 
--- in the order of the text
+-- what all lines lose, in the order of the text
 abbrev pub drops_of : ScenarioParts → (ℕ → ℕ → ℕ) → List Entry → List DropLine
-drops_of s clocks air = trail_drops_below s clocks air [] s.script
+drops_of s clocks air = filter_map (trail_drop_at s clocks air) (enumerate_from 0 s.script)

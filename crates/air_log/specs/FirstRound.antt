@@ -3,7 +3,7 @@
 use Rattle.std.specs.Prelude.{◌≡◌, ℕ, List, [], ◌∷◌, ◌++◌, Some, map}
 use Rattle.lwb_base.specs.Profile.{one}
 use Rattle.scenario_text.specs.ScenarioParts.{ScenarioParts}
-use Rattle.scenario_text.specs.declared.script.Act.TheVariants.{On}
+use Rattle.bus_rules.specs.declared.act.Act.TheVariants.{On}
 use Rattle.radio_model.specs.declared.sending.Sending.{Sending}
 use Rattle.radio_model.specs.OnAir.{Hearing, Tuning}
 use Rattle.air_log.specs.declared.entry.Entry.{Entry}

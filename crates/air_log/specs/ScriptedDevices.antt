@@ -1,11 +1,11 @@
 -- What script lines do to a node with its radio.
-use Rattle.std.specs.Prelude.{ℕ, ◌+◌, None, ⊤}
+use Rattle.std.specs.Prelude.{ℕ, ◌+◌, None}
 use Rattle.lwb_base.specs.declared.event.Event.TheVariants.{Boot}
-use Rattle.scenario_text.specs.declared.script.Act.{Act}
-use Rattle.scenario_text.specs.declared.script.Act.TheVariants.{On, Off, Declare, Leave, Put}
+use Rattle.bus_rules.specs.declared.act.Act.{Act}
+use Rattle.bus_rules.specs.declared.act.Act.TheVariants.{On, Off}
 use Rattle.scenario_text.specs.declared.script.ScriptLine.{ScriptLine}
 use Rattle.bus_rules.specs.Cores.{Core, Setup}
-use Rattle.bus_rules.specs.States.{declares, leaves, puts}
+use Rattle.bus_rules.specs.States.{core_after_act}
 use Rattle.node_core.specs.Nodes.{Node, rebooted}
 use Rattle.air_log.specs.Devices.{Device, Power, PowerOff, PowerOn, event, silenced}
 
@@ -20,24 +20,14 @@ device_after_off node t n d = record (silenced node t d) { power = PowerOff n.co
 abbrev pub with_new_core : Device → Node → Core → Device
 with_new_core d n core = record d { power = PowerOn (record n { core = core }) }
 
--- all but those on power
-abbrev pub IsForStream : Act → Type 0
-IsForStream On = ⊥
-IsForStream Off = ⊥
-IsForStream other = ⊤
-
 -- what is done at tick t. An act for a stream changes the core of a node that is on, and nothing else
 abbrev pub device_after_act : (ℕ → ℕ) → Setup → ℕ → Device → Act → Power → Device
 device_after_act clock s t d On (PowerOff boots) = device_after_on clock s t boots d
 device_after_act clock s t d On (PowerOn n) = d
 device_after_act clock s t d Off (PowerOff boots) = d
 device_after_act clock s t d Off (PowerOn n) = device_after_off s.id t n d
-device_after_act clock s t d (Declare i interval) (PowerOff boots) = d
-device_after_act clock s t d (Declare i interval) (PowerOn n) = with_new_core d n (declares i interval n.core)
-device_after_act clock s t d (Leave i) (PowerOff boots) = d
-device_after_act clock s t d (Leave i) (PowerOn n) = with_new_core d n (leaves i n.core)
-device_after_act clock s t d (Put i payload) (PowerOff boots) = d
-device_after_act clock s t d (Put i payload) (PowerOn n) = with_new_core d n (puts i payload n.core)
+device_after_act clock s t d other (PowerOff boots) = d
+device_after_act clock s t d other (PowerOn n) = with_new_core d n (core_after_act other n.core)
 
 -- what a line of the node says, at tick t
 abbrev pub device_after_line : (ℕ → ℕ) → Setup → ℕ → Device → ScriptLine → Device

@@ -4,8 +4,8 @@ ghost use Rattle.std.specs.Prelude.{◌≡◌, ◌≤◌, ◌<◌, ◌^◌, ℕ,
 ghost use Rattle.lwb_base.specs.declared.event.Event.TheVariants.{Heard as HeardOf};
 ghost use Rattle.bus_rules.specs.Cores.{Setup, setup_for};
 ghost use Rattle.radio_model.specs.declared.sending.Sending.{Sending as SendingOf};
-ghost use Rattle.scenario_text.specs.ScenarioFacts.{IsAct};
-ghost use Rattle.scenario_text.specs.declared.script.Act.TheVariants.{On as OnOf};
+ghost use Rattle.bus_rules.specs.States.{IsAct};
+ghost use Rattle.bus_rules.specs.declared.act.Act.TheVariants.{On as OnOf};
 ghost use Rattle.air_log.specs.AlarmRuns.{IsAlarmRun};
 ghost use Rattle.air_log.specs.Devices.{Device as DeviceOf, at_rest, obeyed, event as event_at, silenced};
 ghost use Rattle.air_log.specs.ScriptedDevices.{device_after_act, device_after_line};
@@ -18,10 +18,10 @@ ghost use Rattle.air_log.specs.Courses.{CourseShows, HasListsOf, CourseIsShown, 
 use crate::TunedEntry;
 use crate::device::Device;
 use crate::window_sum::WindowSum;
-use bus_rules::Delivery;
+use bus_rules::{Delivery, Switch};
 use lwb_base::{Event, Memory, NodeId, Order, Packet, RecordingRadio};
 use radio_model::sending::Sending;
-use scenario_text::{Act, Scenario, ScriptLine};
+use scenario_text::{Scenario, ScriptLine};
 use std::alloc::Global;
 use std::marker::Model;
 use tick_clock::DriftClock;
@@ -187,18 +187,18 @@ impl Course {
         requires boots { line.now.act ≡ OnOf → CanBoot self.old.device.power }
         ensures { OnOk result (Goes t (λ q d. device_after_line (C.readings clock.now) q t d line.now) self.old self.new) }
     {
-        match &line.act {
-            Act::On => {
+        match line.act.switch() {
+            Some(Switch::On) => {
                 if self.device.switch_on() {
                     self.tell(clock, t, Event::Boot, None)?;
                 }
                 Ok(())
             }
-            Act::Off => {
+            Some(Switch::Off) => {
                 let closed = self.device.switch_off(t);
                 self.log_tuning(closed)
             }
-            Act::Declare(..) | Act::Leave(_) | Act::Put(..) => {
+            None => {
                 let _ = self.device.tell(line.frame, &line.act);
                 Ok(())
             }

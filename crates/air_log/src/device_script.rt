@@ -2,18 +2,16 @@
 
 ghost use Rattle.std.specs.Prelude.{◌≡◌, ◌<◌, ℕ, None, IfSome, false, if◌then◌else◌};
 ghost use Rattle.lwb_base.specs.declared.event.Event.TheVariants.{Boot};
-ghost use Rattle.scenario_text.specs.ScenarioFacts.{IsAct};
-ghost use Rattle.scenario_text.specs.declared.script.Act.TheVariants.{On, Off};
+ghost use Rattle.bus_rules.specs.States.{IsAct, switch_of};
+ghost use Rattle.bus_rules.specs.declared.act.Act.TheVariants.{On, Off};
 ghost use Rattle.air_log.specs.Devices.{Made, event, power_is_on};
-ghost use Rattle.air_log.specs.ScriptedDevices.{IsForStream, device_after_act};
+ghost use Rattle.air_log.specs.ScriptedDevices.{device_after_act};
 ghost use Rattle.air_log.specs.DeviceStates.{whole, with_tuned, HappenedBy, IsSameNode, CanBoot};
 ghost use Rattle.air_log.specs.Drops.{drop_of_line};
 
 use crate::TunedEntry;
 use crate::device::Device;
-use bus_rules::DropLine;
-use scenario_text::Act;
-use stream_source::Put;
+use bus_rules::{Act, DropLine};
 
 impl Device {
     /// Power comes on. Returns `true` if and only if it was off; then the node has to be notified of its boot.
@@ -54,10 +52,10 @@ impl Device {
         self.silence(t)
     }
 
-    /// A line for one of its streams, 0 to 3: the stream requests an interval, requests nothing more, or gets a packet. Returns
-    /// the packet if it is lost: the node is off, or the stream drops it.
+    /// An act for one of its streams. Returns the packet that is lost by it: the act puts one, and the node is off or the stream
+    /// drops it.
     pub fn tell(&mut self, frame: u32, act: &Act) -> Option<DropLine>
-        requires stream { IsForStream act.now }
+        requires stream { switch_of act.now ≡ None }
         requires range { IsAct self.old.setup.profile act.now }
         ensures whole { (clock : ℕ → ℕ) (t : ℕ) (made : Made)
             → device_after_act clock self.old.setup t (whole self.old made) act.now self.old.power ≡ whole self.new made }
@@ -66,30 +64,13 @@ impl Device {
         ensures node { IsSameNode self.old self.new }
         ensures off { power_is_on self.old.power ≡ false → self.new ≡ self.old }
     {
-        match act {
-            Act::On | Act::Off => unreachable!(),
-            Act::Declare(stream, interval) => {
-                if self.on {
-                    self.core.declare(*stream, *interval);
-                }
-                None
-            }
-            Act::Leave(stream) => {
-                if self.on {
-                    self.core.leave(*stream);
-                }
-                None
-            }
-            Act::Put(stream, payload) => {
-                if self.on && matches!(self.core.put(*stream, payload), Put::Queued(_)) {
-                    return None;
-                }
-                Some(DropLine {
-                    frame,
-                    node: self.node,
-                    stream: *stream,
-                })
-            }
+        if self.on && !self.core.tell(act) {
+            return None;
         }
+        Some(DropLine {
+            frame,
+            node: self.node,
+            stream: act.put_stream()?,
+        })
     }
 }

@@ -3,8 +3,9 @@
 ghost use Rattle.std.specs.Prelude.{◌≡◌, ◌≤◌, ◌<◌, ◌+◌, ◌%◌, ◌^◌, ℕ, true, false, Some, None, OnOk, IfOk, List, map, take};
 ghost use Rattle.std.specs.Prelude.{fold, slice_get, min, ◌==◌, if◌then◌else◌, [], ◌∷◌, ◌++◌};
 ghost use Rattle.bus_rules.specs.Cores.{Setup};
-ghost use Rattle.scenario_text.specs.ScenarioFacts.{IsSoundScenario, IsAct, turned};
-ghost use Rattle.scenario_text.specs.declared.script.Act.TheVariants.{On as OnOf};
+ghost use Rattle.scenario_text.specs.ScenarioFacts.{IsSoundScenario, turned};
+ghost use Rattle.bus_rules.specs.States.{IsAct};
+ghost use Rattle.bus_rules.specs.declared.act.Act.TheVariants.{On as OnOf};
 ghost use Rattle.air_log.specs.DeviceStates.{CanBoot};
 ghost use Rattle.air_log.specs.Charges.{scans_with};
 ghost use Rattle.air_log.specs.Devices.{Device as DeviceOf, seen_power};

@@ -8,7 +8,7 @@ use Rattle.std.proofs.lemmas.List.FromFn.{length-range_with_len, length-enumerat
 use Rattle.std.proofs.lemmas.List.Sums.{count_by-le-length}
 use Rattle.scenario_text.specs.ScenarioParts.{ScenarioParts}
 use Rattle.scenario_text.specs.ScenarioFacts.{IsSoundScenario}
-use Rattle.scenario_text.specs.declared.script.Act.TheVariants.{Off}
+use Rattle.bus_rules.specs.declared.act.Act.TheVariants.{Off}
 use Rattle.scenario_text.specs.declared.script.ScriptLine.{ScriptLine}
 use Rattle.bus_rules.specs.States.{State, StateOff}
 use Rattle.bus_rules.specs.Tuning.{is_scan}

@@ -5,18 +5,18 @@ use Rattle.std.proofs.lemmas.Bool.{eq-eqb, cases_eq, cases_lt}
 use Rattle.std.proofs.lemmas.List.{take_more, get_or_default}
 use Rattle.scenario_text.specs.FloodParts.{knows}
 use Rattle.scenario_text.specs.ScenarioParts.{ScenarioParts}
-use Rattle.scenario_text.specs.ScenarioFacts.{IsSoundScenario, IsAct, turned, turned_by}
-use Rattle.scenario_text.specs.declared.script.Act.{Act}
-use Rattle.scenario_text.specs.declared.script.Act.TheVariants.{On, Off, Declare, Leave, Put}
+use Rattle.scenario_text.specs.ScenarioFacts.{IsSoundScenario, turned, turned_by}
+use Rattle.bus_rules.specs.States.{IsAct, State, StateOff, StateOn, at_core, state_after_act}
+use Rattle.bus_rules.specs.declared.act.Act.{Act}
+use Rattle.bus_rules.specs.declared.act.Act.TheVariants.{On, Off, Declare, Leave, Put}
 use Rattle.scenario_text.specs.declared.script.ScriptLine.{ScriptLine}
 use Rattle.scenario_text.proofs.BootsTold.{Boots, turned_over}
 use Rattle.scenario_text.proofs.BootsCounted.{never_less}
+use Rattle.bus_rules.proofs.Switches.{acts_keep}
 use Rattle.bus_rules.specs.Cores.{Setup, as_host, begins_host, frame_ended}
-use Rattle.bus_rules.specs.States.{State, StateOff, StateOn, at_core, refuses, queues}
 use Rattle.bus_rules.specs.declared.tune.Tune.{Tune}
 use Rattle.bus_terms.specs.FloodOfText.{ids}
 use Rattle.bus_terms.specs.Flooding.{has}
-use Rattle.bus_terms.specs.ScriptedStates.{state_after_act}
 use Rattle.plain_bus.specs.BusNodes.{MayDo, IsEarlyState}
 use Rattle.plain_bus.proofs.TextFloods.{has_known}
 use Rattle.bus_model.specs.FrameNodes.{power}
@@ -70,20 +70,7 @@ module _ (s : ScenarioParts) (sound : IsSoundScenario s) (n : ℕ) (l : ScriptLi
 
 -- a table without entries, or the same one, is as early
 pub act_early : (f : ℕ) (a : Act) (x : State) → IsEarlyState f x → IsEarlyState f (state_after_act a x)
-act_early f On (StateOff boots) is = λ i d below. absurd (omega (arith, below))
-act_early f On (StateOn c) is = is
-act_early f Off (StateOff boots) is = is
-act_early f Off (StateOn c) is = tt
-act_early f (Declare i interval) (StateOff boots) is = is
-act_early f (Declare i interval) (StateOn c) is = is
-act_early f (Leave i) (StateOff boots) is = is
-act_early f (Leave i) (StateOn c) is = is
-act_early f (Put i payload) (StateOff boots) is = is
-act_early f (Put i payload) (StateOn c) is = by_test (refuses i c)
-  where
-    by_test : (b : Bool) → IsEarlyState f (StateOn (if b then c else queues i payload c))
-    by_test true = is
-    by_test false = is
+act_early f = acts_keep (IsEarlyState f) (λ boots is i d below. absurd (omega (arith, below))) (λ c is. tt) (λ a c is. is)
 
 pub ended_early : (q : Setup) (f : ℕ) (x : State) → IsEarlyState f x → IsEarlyState (f + 1) (at_core (frame_ended q f) x)
 ended_early q f (StateOff boots) is = is

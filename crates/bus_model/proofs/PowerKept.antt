@@ -1,14 +1,14 @@
 -- Whether a node is on, and how often it booted, through the rounds and the end of a frame.
-use Rattle.std.proofs.Common.{◌≡◌, ℕ, Bool, true, false, Option, Some, None, if◌then◌else◌, refl, ◌∙◌, ap}
+use Rattle.std.proofs.Common.{◌≡◌, ℕ, true, Option, Some, None, refl, ◌∙◌, ap}
 use Rattle.scenario_text.specs.ScenarioParts.{ScenarioParts}
 use Rattle.scenario_text.specs.ScenarioFacts.{turned_by}
-use Rattle.scenario_text.specs.declared.script.Act.{Act}
-use Rattle.scenario_text.specs.declared.script.Act.TheVariants.{On, Off, Declare, Leave, Put}
+use Rattle.bus_rules.specs.declared.act.Act.{Act}
+use Rattle.bus_rules.specs.declared.act.Act.TheVariants.{On, Off, Declare, Leave, Put}
 use Rattle.bus_rules.specs.Cores.{Core, Setup, as_host, begins_host, frame_ended}
-use Rattle.bus_rules.specs.States.{State, StateOff, StateOn, at_core, refuses, queues}
+use Rattle.bus_rules.specs.States.{State, StateOff, StateOn, at_core, state_after_act}
 use Rattle.bus_rules.specs.declared.tune.Tune.{Tune}
 use Rattle.bus_terms.specs.Rounds.{rounds}
-use Rattle.bus_terms.specs.ScriptedStates.{state_after_act, states_after_end, setup_in}
+use Rattle.bus_terms.specs.ScriptedStates.{states_after_end, setup_in}
 use Rattle.bus_terms.proofs.NumbersKept.{opened_core, closed_core}
 use Rattle.bus_model.specs.FrameNodes.{power}
 use Rattle.bus_terms.proofs.KeptInRounds.{rounds_keep}
@@ -23,11 +23,7 @@ act_power (Declare i interval) (StateOn c) = refl
 act_power (Leave i) (StateOff boots) = refl
 act_power (Leave i) (StateOn c) = refl
 act_power (Put i payload) (StateOff boots) = refl
-act_power (Put i payload) (StateOn c) = by_test (refuses i c)
-  where
-    by_test : (b : Bool) → power (StateOn (if b then c else queues i payload c)) ≡ (true, c.boot)
-    by_test true = refl
-    by_test false = refl
+act_power (Put i payload) (StateOn c) = refl
 
 ended_boot : (q : Setup) (f : ℕ) (c : Core) → (frame_ended q f c).boot ≡ c.boot
 ended_boot q f c = by_host _ (begins_host c.tune _)

@@ -8,11 +8,11 @@ use Rattle.scenario_text.specs.declared.script.ScriptLine.{ScriptLine}
 use Rattle.bus_rules.specs.declared.delivery.Delivery.{Delivery}
 use Rattle.bus_rules.specs.declared.delivery.DropLine.{DropLine}
 use Rattle.bus_rules.specs.Cores.{frame_ended}
-use Rattle.bus_rules.specs.States.{State, StateOff, StateOn, at_core}
+use Rattle.bus_rules.specs.States.{State, StateOff, StateOn, at_core, state_after_act}
 use Rattle.bus_terms.specs.Bus.{before_frame, drop_at, state_at, ranks_of}
 use Rattle.bus_terms.specs.FloodOfText.{ids}
 use Rattle.bus_terms.specs.Rounds.{rank_in, rounds, round_deliveries}
-use Rattle.bus_terms.specs.ScriptedStates.{state_after_act, state_after_line}
+use Rattle.bus_terms.specs.ScriptedStates.{state_after_line}
 use Rattle.plain_bus.specs.BusNodes.{BusNode, bus_node, ranks_in}
 use Rattle.plain_bus.specs.Networks.{Network, IsReady}
 use Rattle.bus_model.specs.RoundCosts.{cost_after}

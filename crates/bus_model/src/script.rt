@@ -3,8 +3,7 @@
 ghost use Rattle.std.specs.Prelude.{◌≡◌, ◌≤◌, ◌<◌, ◌+◌, ◌++◌, ℕ, Some, IfOk, OnOk, length};
 ghost use Rattle.std.specs.Prelude.{option_to_list, slice_index, slice_index_or, slice_set, true};
 ghost use Rattle.std.specs.List.{AllPairs};
-ghost use Rattle.bus_rules.specs.States.{State};
-ghost use Rattle.scenario_text.specs.ScenarioFacts.{IsAct};
+ghost use Rattle.bus_rules.specs.States.{State, IsAct};
 ghost use Rattle.scenario_text.specs.ScenarioGrammar.{IsScenario};
 ghost use Rattle.bus_terms.specs.Bus.{before_frame, state_at};
 ghost use Rattle.bus_terms.specs.Flooding.{has};

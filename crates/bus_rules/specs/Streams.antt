@@ -4,6 +4,8 @@ use Rattle.std.specs.Prelude.{if◌then◌else◌, is_none, Some, None, map, len
 use Rattle.std.specs.declared.option.Option.{Option}
 use Rattle.std.specs.List.{slice_index_or}
 use Rattle.lwb_base.specs.Messages.{Ask, Schedule, node_of, stream_of}
+use Rattle.bus_rules.specs.declared.act.Act.{Act}
+use Rattle.bus_rules.specs.declared.act.Act.TheVariants.{Declare, Leave, Put}
 
 -- a packet that waits
 pub record WaitingPacket : Type 0 where
@@ -67,6 +69,18 @@ put_to payload x = if refuses x then x else queued payload x
 
 abbrev pub put : ℕ → List ℕ → Streams → Streams
 put i payload s = with_stream i (put_to payload (stream_at s i)) s
+
+-- what a script has the streams do. Power is not for them
+abbrev pub streams_after_act : Act → Streams → Streams
+streams_after_act (Declare i interval) s = declared i interval s
+streams_after_act (Leave i) s = streams_after_leaving i s
+streams_after_act (Put i payload) s = put i payload s
+streams_after_act other s = s
+
+-- a packet is put that its stream drops
+abbrev pub drops_by : Act → Streams → Bool
+drops_by (Put i payload) s = drops s i
+drops_by other s = false
 
 abbrev pub first_waiting : Streams → ℕ → Option WaitingPacket
 first_waiting s i = slice_get (stream_at s i).queue 0

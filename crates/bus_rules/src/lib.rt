@@ -1,6 +1,7 @@
 //! What the bus and its nodes have in common: rules and results, over numbers and lists.
 #![tactic(auto)]
 
+mod act;
 mod charges;
 mod delivery;
 mod flood_result;
@@ -9,6 +10,7 @@ mod rounds;
 mod slots_owed;
 mod tune;
 
+pub use act::{Act, Switch};
 pub use charges::until_last_sending;
 pub use delivery::{Delivery, DropLine};
 pub use flood_result::FloodResult;

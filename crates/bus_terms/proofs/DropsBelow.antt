@@ -5,7 +5,7 @@ use Rattle.scenario_text.specs.declared.script.ScriptLine.{ScriptLine}
 use Rattle.bus_rules.specs.declared.delivery.DropLine.{DropLine}
 use Rattle.bus_terms.specs.Bus.{bus_drops, state_before_line}
 use Rattle.bus_terms.specs.ScriptedStates.{lost_by}
-use Rattle.bus_terms.proofs.LinesAbove.{given_below, by_place}
+use Rattle.lwb_base.proofs.LinesAbove.{given_below, by_place}
 
 -- what a line loses, where these lines are above it
 abbrev lost_below : ScenarioParts → List ScriptLine → ScriptLine → Option DropLine

@@ -3,11 +3,9 @@ use Rattle.std.proofs.Common.{◌≡◌, ◌+◌, ◌%◌, ◌&&◌, ◌==◌, �
 use Rattle.std.proofs.Common.{get_or, fold, option_map, refl, sym, ◌∙◌, ap, subst}
 use Rattle.std.proofs.lemmas.Bool.{false≢true, eqb-true, and_parts}
 use Rattle.std.proofs.lemmas.List.Quantifiers.{position-Some}
-use Rattle.lwb_base.specs.Profile.{Numbers}
-use Rattle.lwb_base.specs.Messages.{Ask, Plan, Schedule, node_of, stream_of}
+use Rattle.lwb_base.specs.Messages.{Plan, Schedule, node_of, stream_of}
 use Rattle.scenario_text.specs.ScenarioParts.{ScenarioParts}
-use Rattle.scenario_text.specs.declared.script.Act.{Act}
-use Rattle.scenario_text.specs.declared.script.Act.TheVariants.{On, Off, Declare, Leave, Put}
+use Rattle.bus_rules.specs.declared.act.Act.{Act}
 use Rattle.scenario_text.specs.declared.script.ScriptLine.{ScriptLine}
 use Rattle.bus_rules.specs.declared.part.Part.{Part}
 use Rattle.bus_rules.specs.declared.part.Part.TheVariants.{Opening, Data as DataSlot, Contention, Closing}
@@ -18,14 +16,14 @@ use Rattle.bus_rules.specs.HostPlans.{host_plan}
 use Rattle.bus_rules.specs.Plans.{opening}
 use Rattle.bus_rules.specs.Slots.{Message, ScheduleOf, DataOf, RequestOf, opened_slot, closed_slot, slot_heard, hosts_now, host_closes, silent, is_own, data_of}
 use Rattle.bus_rules.specs.Slots.{request_of}
-use Rattle.bus_rules.specs.States.{State, StateOff, StateOn, at_core, refuses, queues}
-use Rattle.bus_rules.specs.Streams.{Streams, WaitingPacket, first_waiting, requested}
-use Rattle.bus_rules.specs.Tables.{Table}
+use Rattle.bus_rules.specs.States.{State, StateOff, StateOn, at_core, state_after_act}
+use Rattle.bus_rules.specs.Streams.{WaitingPacket, first_waiting, requested}
 use Rattle.bus_rules.specs.Tuning.{rank_of, hosts, hosts_in, is_rank, next_tune}
-use Rattle.bus_rules.proofs.Ranks.{same_schedule, rank_is}
+use Rattle.bus_rules.proofs.Ranks.{same_schedule, rank_is, plan_contends}
+use Rattle.bus_rules.proofs.Switches.{acts_keep}
 use Rattle.bus_terms.specs.Bus.{before_frame, state_at}
 use Rattle.bus_terms.specs.Rounds.{rounds, before_slot}
-use Rattle.bus_terms.specs.ScriptedStates.{state_after_act, state_after_line, lines_of, states_after_script, setup_in}
+use Rattle.bus_terms.specs.ScriptedStates.{state_after_line, lines_of, states_after_script, setup_in}
 use Rattle.bus_terms.proofs.KeptInRounds.{slots_keep, rounds_keep}
 
 pub record IsRightful (q : Setup) (c : Core) : Type 0 where
@@ -41,11 +39,6 @@ abbrev pub IsContended : ℕ → Message → Type 0
 IsContended n (ScheduleOf x) = x.plan.contend ≡ n
 IsContended n (DataOf d) = Unit {0}
 IsContended n (RequestOf a) = Unit {0}
-
-plan_contends : (p : Numbers) (node boot rank f : ℕ) (kept : List Ask) (t : Table) (x : Streams)
-    → (host_plan p node boot rank f kept t x).plan.contend ≡ p.contend
-unfolding host_plan
-plan_contends p node boot rank f kept t x = refl
 
 pub due_hosts : (rank f : ℕ) (t : Tune) → hosts_in rank f t ≡ true → hosts t ≡ true
 due_hosts rank f (Host r due) now = refl
@@ -131,20 +124,9 @@ closes q f part b c (Some (RequestOf a)) told is = record { own = is.own; conten
 
 -- the script
 acts : (q : Setup) (a : Act) (x : State) → IsRightfulState q x → IsRightfulState q (state_after_act a x)
-acts q On (StateOff boots) is = record { own = λ host. absurd (false≢true host); contend = λ host. absurd (false≢true host) }
-acts q On (StateOn c) is = is
-acts q Off (StateOff boots) is = is
-acts q Off (StateOn c) is = tt
-acts q (Declare i interval) (StateOff boots) is = is
-acts q (Declare i interval) (StateOn c) is = record { own = is.own; contend = is.contend }
-acts q (Leave i) (StateOff boots) is = is
-acts q (Leave i) (StateOn c) is = record { own = is.own; contend = is.contend }
-acts q (Put i payload) (StateOff boots) is = is
-acts q (Put i payload) (StateOn c) is = by_test (refuses i c)
-  where
-    by_test : (b : Bool) → IsRightful q (if b then c else queues i payload c)
-    by_test true = is
-    by_test false = record { own = is.own; contend = is.contend }
+acts q =
+    acts_keep (IsRightfulState q) (λ boots is. record { own = λ host. absurd (false≢true host); contend = λ host. absurd (false≢true host) })
+    (λ c is. tt) (λ a c is. record { own = is.own; contend = is.contend })
 
 lines : (q : Setup) (ls : List ScriptLine) (x : State) → IsRightfulState q x → IsRightfulState q (fold state_after_line x ls)
 lines q [] x is = is

@@ -1,24 +1,24 @@
 -- When a frame starts no node of the scenario keeps a request: a host that kept some has planned since.
 use Rattle.std.proofs.Common.{◌≡◌, ◌+◌, ◌==◌, ℕ, zero, suc, List, [], ◌∷◌, ◌++◌, Bool, true, false, Option, Some, None, if◌then◌else◌}
 use Rattle.std.proofs.Common.{fold, refl, sym, ◌∙◌, ap, subst, arith}
-use Rattle.std.proofs.lemmas.Bool.{cond_both, cond-false}
+use Rattle.std.proofs.lemmas.Bool.{cond-false}
 use Rattle.lwb_base.specs.Messages.{Ask, Plan}
 use Rattle.scenario_text.specs.ScenarioParts.{ScenarioParts}
-use Rattle.scenario_text.specs.declared.script.Act.{Act}
-use Rattle.scenario_text.specs.declared.script.Act.TheVariants.{On, Off, Declare, Leave, Put}
+use Rattle.bus_rules.specs.declared.act.Act.{Act}
 use Rattle.scenario_text.specs.declared.script.ScriptLine.{ScriptLine}
 use Rattle.bus_rules.specs.declared.part.Part.{Part}
 use Rattle.bus_rules.specs.declared.part.Part.TheVariants.{Opening, Data as DataSlot, Contention, Closing}
 use Rattle.bus_rules.specs.Cores.{Core, Setup, as_host, begins_host, frame_ended, is_fresh, opening_accepted, closing_accepted}
 use Rattle.bus_rules.specs.Plans.{last_slot}
 use Rattle.bus_rules.specs.Slots.{Message, Opened, ScheduleOf, DataOf, RequestOf, opened_slot, closed_slot, slot_heard, hosts_now, host_closes, silent}
-use Rattle.bus_rules.specs.States.{State, StateOff, StateOn, at_core, refuses, queues}
+use Rattle.bus_rules.specs.States.{State, StateOff, StateOn, at_core, state_after_act}
 use Rattle.bus_rules.specs.Tuning.{next_tune, hosts_in}
+use Rattle.bus_rules.proofs.Switches.{acts_keep}
 use Rattle.bus_terms.specs.Bus.{before_frame, state_at}
 use Rattle.bus_terms.specs.FloodOfText.{ids}
 use Rattle.bus_terms.specs.Flooding.{has}
 use Rattle.bus_terms.specs.Rounds.{rounds, round_plan, rank_in, after_round}
-use Rattle.bus_terms.specs.ScriptedStates.{state_after_act, state_after_line, is_on_and, lines_of, states_after_script, setup_in}
+use Rattle.bus_terms.specs.ScriptedStates.{state_after_line, is_on_and, lines_of, states_after_script, setup_in}
 use Rattle.bus_terms.specs.HostedRounds.{IsHosted, state_after_round}
 use Rattle.bus_terms.proofs.KeptInRounds.{slots_keep}
 use Rattle.bus_terms.proofs.HostedRounds.{leads, has_planned}
@@ -57,16 +57,7 @@ closes q f part b c (Some (RequestOf a)) is = (is.0, cond-false (hosts_now f c) 
 
 -- the script and the ends of frames
 acts : (a : Act) (x : State) → kept_of x ≡ [] → kept_of (state_after_act a x) ≡ []
-acts On (StateOff boots) is = refl
-acts On (StateOn c) is = is
-acts Off (StateOff boots) is = is
-acts Off (StateOn c) is = refl
-acts (Declare i interval) (StateOff boots) is = is
-acts (Declare i interval) (StateOn c) is = is
-acts (Leave i) (StateOff boots) is = is
-acts (Leave i) (StateOn c) is = is
-acts (Put i payload) (StateOff boots) is = is
-acts (Put i payload) (StateOn c) is = cond_both (refuses i c) c (queues i payload c) (λ (d : Core). d.kept ≡ []) (λ _. is) (λ _. is)
+acts = acts_keep (λ x. kept_of x ≡ []) (λ boots is. refl) (λ c is. refl) (λ a c is. is)
 
 lines : (ls : List ScriptLine) (x : State) → kept_of x ≡ [] → kept_of (fold state_after_line x ls) ≡ []
 lines [] x is = is

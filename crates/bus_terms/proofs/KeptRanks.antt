@@ -6,8 +6,7 @@ use Rattle.std.proofs.lemmas.Bool.{cases_Bool, cases_eq, eqb-true, ne_eqb, true�
 use Rattle.lwb_base.specs.Messages.{Plan, Schedule, node_of, stream_of}
 use Rattle.scenario_text.specs.ScenarioFacts.{IsSoundScenario}
 use Rattle.scenario_text.specs.ScenarioParts.{ScenarioParts}
-use Rattle.scenario_text.specs.declared.script.Act.{Act}
-use Rattle.scenario_text.specs.declared.script.Act.TheVariants.{On, Off, Declare, Leave, Put}
+use Rattle.bus_rules.specs.declared.act.Act.{Act}
 use Rattle.scenario_text.specs.declared.script.ScriptLine.{ScriptLine}
 use Rattle.lwb_base.specs.Profile.{Numbers}
 use Rattle.bus_rules.specs.declared.part.Part.{Part}
@@ -19,15 +18,16 @@ use Rattle.bus_rules.specs.HostPlans.{host_plan}
 use Rattle.bus_rules.specs.Plans.{last_slot, opening}
 use Rattle.bus_rules.specs.Slots.{Message, ScheduleOf, DataOf, RequestOf, opened_slot, closed_slot, hosts_now, host_closes, silent, is_own, data_of}
 use Rattle.bus_rules.specs.Slots.{part_of, request_of}
-use Rattle.bus_rules.specs.States.{State, StateOff, StateOn, at_core, refuses, queues}
+use Rattle.bus_rules.specs.States.{State, StateOff, StateOn, at_core, state_after_act}
 use Rattle.bus_rules.specs.Streams.{WaitingPacket, first_waiting, requested}
 use Rattle.bus_rules.specs.Tuning.{rank_of, is_rank, next_tune}
 use Rattle.bus_rules.proofs.Ranks.{same_schedule, heard_rank}
+use Rattle.bus_rules.proofs.Switches.{acts_keep}
 use Rattle.bus_terms.specs.Bus.{before_frame, state_at}
 use Rattle.bus_terms.specs.Flooding.{accepted}
 use Rattle.bus_terms.specs.Rounds.{accepted_at, after_round, after_slot, before_slot, closed_slot_of, left_by, opened_at, rank_in, round_of_rank, round_plan}
 use Rattle.bus_terms.specs.Rounds.{rounds, message_said, slot_of_round}
-use Rattle.bus_terms.specs.ScriptedStates.{state_after_act, state_after_line, lines_of, states_after_script, setup_in}
+use Rattle.bus_terms.specs.ScriptedStates.{state_after_line, lines_of, states_after_script, setup_in}
 use Rattle.bus_terms.proofs.OtherRanks.{IsElsewhere, not_member, slot_elsewhere}
 
 -- a schedule by which no tune changes, or one of this rank
@@ -158,20 +158,7 @@ module _ (s : ScenarioParts) (rank f : ℕ) where
 
 -- the script
 acts : (r : ℕ) → 1 ≤ r → (a : Act) (x : State) → rank_in x < r → rank_in (state_after_act a x) < r
-acts r some On (StateOff boots) below = omega (arith, some)
-acts r some On (StateOn c) below = below
-acts r some Off (StateOff boots) below = below
-acts r some Off (StateOn c) below = omega (arith, some)
-acts r some (Declare i interval) (StateOff boots) below = below
-acts r some (Declare i interval) (StateOn c) below = below
-acts r some (Leave i) (StateOff boots) below = below
-acts r some (Leave i) (StateOn c) below = below
-acts r some (Put i payload) (StateOff boots) below = below
-acts r some (Put i payload) (StateOn c) below = by_test (refuses i c)
-  where
-    by_test : (b : Bool) → rank_of (if b then c else queues i payload c).tune < r
-    by_test true = below
-    by_test false = below
+acts r some = acts_keep (λ x. rank_in x < r) (λ boots below. omega (arith, some)) (λ c below. omega (arith, some)) (λ a c below. below)
 
 lines : (r : ℕ) → 1 ≤ r → (ls : List ScriptLine) (x : State) → rank_in x < r → rank_in (fold state_after_line x ls) < r
 lines r some [] x below = below

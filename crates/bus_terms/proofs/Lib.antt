@@ -28,6 +28,5 @@ pub mod RoomInSlots
 mod WorkedFloods
 mod SameRounds
 mod AnyRankOrder
-pub mod LinesAbove
 pub mod NumberedStreams
 pub mod NumbersSaid

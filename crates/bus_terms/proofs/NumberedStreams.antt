@@ -6,12 +6,14 @@ use Rattle.std.specs.Prelude.{slice_set}
 use Rattle.std.proofs.lemmas.Bool.{cond_both}
 use Rattle.lwb_base.specs.Messages.{Ask, Schedule, node_of, stream_of}
 use Rattle.lwb_base.specs.Profile.{Numbers}
+use Rattle.bus_rules.specs.declared.act.Act.{Act}
+use Rattle.bus_rules.specs.declared.act.Act.TheVariants.{On, Off, Declare, Leave, Put}
 use Rattle.bus_rules.specs.Tables.{Table}
 use Rattle.bus_rules.specs.HostPlans.{Served, serve, answers_to, host_plan}
 use Rattle.bus_rules.specs.Streams.{WaitingPacket, Stream, Streams, no_stream, stream_at, with_stream, queued, refuses, put_to, put, declared}
 use Rattle.bus_rules.specs.Streams.{streams_after_leaving, taken, without_first, unbound, heard_host, is_host, names, acknowledged, owns, forgets, forgotten}
 use Rattle.bus_rules.specs.Streams.{with_granted_interval, with_agreed, after_contention, tries_after, due_stream, schedule_heard, first_waiting, cleared}
-use Rattle.bus_rules.specs.Streams.{granted_stream, named_in, wishes, emptied}
+use Rattle.bus_rules.specs.Streams.{granted_stream, named_in, wishes, emptied, streams_after_act}
 
 -- from a number on, ascending, and below the next
 abbrev pub Rises : ℕ → List WaitingPacket → ℕ → Type 0
@@ -70,17 +72,24 @@ map_keeps g keeps [] i low is = is
 map_keeps g keeps (x ∷ xs) zero low is = keeps x low is
 map_keeps g keeps (x ∷ xs) (suc i) low is = map_keeps g keeps xs i low is
 
-pub declared_keeps : (i interval : ℕ) (s : Streams) → KeepsAll s (declared i interval s)
+declared_keeps : (i interval : ℕ) (s : Streams) → KeepsAll s (declared i interval s)
 declared_keeps i interval s = with_stream_keeps s i (wishes interval (stream_at s i)) (λ low is. is)
 
-pub left_keeps : (i : ℕ) (s : Streams) → KeepsAll s (streams_after_leaving i s)
+left_keeps : (i : ℕ) (s : Streams) → KeepsAll s (streams_after_leaving i s)
 left_keeps i s = with_stream_keeps s i (emptied (stream_at s i)) (λ low is. up_to_next low (stream_at s i).queue (stream_at s i).next is)
 
-pub put_keeps : (i : ℕ) (payload : List ℕ) (s : Streams) → KeepsAll s (put i payload s)
+put_keeps : (i : ℕ) (payload : List ℕ) (s : Streams) → KeepsAll s (put i payload s)
 put_keeps i payload s = with_stream_keeps s i (put_to payload (stream_at s i)) (put_one (stream_at s i))
   where
     put_one : (x : Stream) → KeepsNumbers x (put_to payload x)
     put_one x low is = cond_both (refuses x) x (queued payload x) (λ (y : Stream). IsNumbered low y) (λ _. is) (λ _. one_more low x.queue x.next payload is)
+
+pub told_keeps : (a : Act) (s : Streams) → KeepsAll s (streams_after_act a s)
+told_keeps On s = same_keeps s
+told_keeps Off s = same_keeps s
+told_keeps (Declare i interval) s = declared_keeps i interval s
+told_keeps (Leave i) s = left_keeps i s
+told_keeps (Put i payload) s = put_keeps i payload s
 
 pub first_keeps : (x : Stream) → KeepsNumbers x (without_first x)
 first_keeps x low is = by_queue x.queue x.next is

@@ -1,19 +1,19 @@
 -- Numbers of streams through slots, rounds and frames: what a boot has said is below all that it says later.
-use Rattle.std.proofs.Common.{◌≡◌, ℕ, ◌≤◌, List, [], ◌∷◌, Bool, true, false, ◌==◌, if◌then◌else◌, Option, Some, None, fold, refl, sym, ◌∙◌, arith}
+use Rattle.std.proofs.Common.{◌≡◌, ℕ, ◌+◌, ◌≤◌, List, [], ◌∷◌, Bool, true, false, ◌==◌, if◌then◌else◌, Option, Some, None, fold, refl, sym, ◌∙◌, arith}
 use Rattle.lwb_base.specs.Messages.{Schedule, node_of, stream_of}
 use Rattle.scenario_text.specs.ScenarioParts.{ScenarioParts}
-use Rattle.scenario_text.specs.declared.script.Act.{Act}
-use Rattle.scenario_text.specs.declared.script.Act.TheVariants.{On, Off, Declare, Leave, Put}
+use Rattle.bus_rules.specs.declared.act.Act.{Act}
 use Rattle.scenario_text.specs.declared.script.ScriptLine.{ScriptLine}
 use Rattle.bus_rules.specs.declared.part.Part.{Part}
 use Rattle.bus_rules.specs.declared.part.Part.TheVariants.{Opening, Data as DataSlot, Contention, Closing}
 use Rattle.bus_rules.specs.declared.tune.Tune.{Tune}
-use Rattle.bus_rules.specs.Cores.{Core, Setup, as_host, begins_host, frame_ended, schedule_accepted, opening_accepted, closing_accepted}
+use Rattle.bus_rules.specs.Cores.{Core, Setup, booted, as_host, begins_host, frame_ended, schedule_accepted, opening_accepted, closing_accepted}
 use Rattle.bus_rules.specs.Slots.{Message, ScheduleOf, DataOf, RequestOf, opened_slot, closed_slot, slot_heard, hosts_now, host_closes, silent, is_own}
-use Rattle.bus_rules.specs.States.{State, StateOff, StateOn, at_core, refuses, queues, puts, state_after_on, state_after_off}
+use Rattle.bus_rules.specs.States.{State, StateOff, StateOn, at_core, core_after_act, state_after_act}
 use Rattle.bus_rules.specs.Streams.{stream_at, taken, after_contention}
-use Rattle.bus_terms.specs.ScriptedStates.{state_after_act, state_after_line, states_after_script, lines_of, states_after_end, setup_in}
-use Rattle.bus_terms.proofs.NumberedStreams.{IsNumbered, KeepsAll, declared_keeps, left_keeps, put_keeps, taken_keeps}
+use Rattle.bus_rules.proofs.Switches.{acts_keep}
+use Rattle.bus_terms.specs.ScriptedStates.{state_after_line, states_after_script, lines_of, states_after_end, setup_in}
+use Rattle.bus_terms.proofs.NumberedStreams.{IsNumbered, KeepsAll, told_keeps, taken_keeps}
 use Rattle.bus_terms.proofs.NumberedStreams.{unbound_keeps, contention_keeps, heard_keeps, plan_keeps, cleared_is_numbered}
 
 -- of boot b, the numbers of stream i are from low on; a later boot has others
@@ -58,27 +58,20 @@ at_core_keeps change keeps (StateOff boots) = keeps_same (StateOff boots)
 at_core_keeps change keeps (StateOn c) = on_keeps c (change c) (keeps c)
 
 -- script lines
-on_line : (x : State) → Keeps x (state_after_on x)
-on_line (StateOff boots) = record { past = λ b i low is. (omega arith, λ at. absurd (omega arith)); well = λ is i. cleared_is_numbered i }
-on_line (StateOn c) = keeps_same (StateOn c)
+boots_keep : (boots : ℕ) → Keeps (StateOff boots) (StateOn (booted (boots + 1)))
+boots_keep boots = record { past = λ b i low is. (omega arith, λ at. absurd (omega arith)); well = λ is i. cleared_is_numbered i }
 
-off_line : (x : State) → Keeps x (state_after_off x)
-off_line (StateOff boots) = keeps_same (StateOff boots)
-off_line (StateOn c) = record { past = λ b i low is. is.0; well = λ is. tt }
+ends_keep : (c : Core) → Keeps (StateOn c) (StateOff c.boot)
+ends_keep c = record { past = λ b i low is. is.0; well = λ is. tt }
 
-puts_keep : (i : ℕ) (payload : List ℕ) (c : Core) → KeepsCore c (puts i payload c)
-puts_keep i payload c = by_test (refuses i c)
-  where
-    by_test : (b : Bool) → KeepsCore c (if b then c else queues i payload c)
-    by_test true = core_same c
-    by_test false = record { boot = refl; numbers = put_keeps i payload c.streams }
+streams_keep : (a : Act) (c : Core) → Keeps (StateOn c) (StateOn (core_after_act a c))
+streams_keep a c = on_keeps c (core_after_act a c) (record { boot = refl; numbers = told_keeps a c.streams })
 
 act_keeps : (a : Act) (x : State) → Keeps x (state_after_act a x)
-act_keeps On x = on_line x
-act_keeps Off x = off_line x
-act_keeps (Declare i interval) x = at_core_keeps _ (λ c. record { boot = refl; numbers = declared_keeps i interval c.streams }) x
-act_keeps (Leave i) x = at_core_keeps _ (λ c. record { boot = refl; numbers = left_keeps i c.streams }) x
-act_keeps (Put i payload) x = at_core_keeps _ (puts_keep i payload) x
+act_keeps a x =
+    acts_keep (Keeps x) (λ boots is. keeps_both x (StateOff boots) (StateOn (booted (boots + 1))) is (boots_keep boots))
+    (λ c is. keeps_both x (StateOn c) (StateOff c.boot) is (ends_keep c))
+    (λ a c is. keeps_both x (StateOn c) (StateOn (core_after_act a c)) is (streams_keep a c)) a x (keeps_same x)
 
 lines_keep : (ls : List ScriptLine) (x : State) → Keeps x (fold state_after_line x ls)
 lines_keep [] x = keeps_same x

@@ -2,12 +2,12 @@
 use Rattle.std.specs.Prelude.{ℕ, List, Bool, false, ◌&&◌, ◌==◌, if◌then◌else◌, Some, None, fold, filter}
 use Rattle.std.specs.declared.option.Option.{Option}
 use Rattle.scenario_text.specs.ScenarioParts.{ScenarioParts}
-use Rattle.scenario_text.specs.declared.script.Act.{Act}
-use Rattle.scenario_text.specs.declared.script.Act.TheVariants.{On, Off, Declare, Leave, Put}
+use Rattle.bus_rules.specs.declared.act.Act.{Act}
+use Rattle.bus_rules.specs.declared.act.Act.TheVariants.{Put}
 use Rattle.scenario_text.specs.declared.script.ScriptLine.{ScriptLine}
 use Rattle.bus_rules.specs.declared.delivery.DropLine.{DropLine}
 use Rattle.bus_rules.specs.Cores.{Core, Setup, setup_for, frame_ended}
-use Rattle.bus_rules.specs.States.{State, StateOff, StateOn, state_after_on, state_after_off, at_core, declares, leaves, puts, loses}
+use Rattle.bus_rules.specs.States.{State, StateOff, StateOn, state_after_act, at_core, loses}
 
 -- what is fixed for this node of a scenario
 abbrev pub setup_in : ScenarioParts → ℕ → Setup
@@ -17,13 +17,6 @@ setup_in s v = setup_for s.profile s.hosts s.sends v
 abbrev pub is_on_and : (Core → Bool) → State → Bool
 is_on_and test (StateOff boots) = false
 is_on_and test (StateOn c) = test c
-
-abbrev pub state_after_act : Act → State → State
-state_after_act On x = state_after_on x
-state_after_act Off x = state_after_off x
-state_after_act (Declare i interval) x = at_core (declares i interval) x
-state_after_act (Leave i) x = at_core (leaves i) x
-state_after_act (Put i payload) x = at_core (puts i payload) x
 
 abbrev pub state_after_line : State → ScriptLine → State
 state_after_line x l = state_after_act l.act x

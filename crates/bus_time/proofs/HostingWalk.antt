@@ -12,7 +12,7 @@ use Rattle.bus_rules.specs.declared.tune.Tune.{Tune}
 use Rattle.bus_rules.specs.declared.tune.Tune.TheVariants.{Scan, Hold, Host}
 use Rattle.bus_rules.specs.Tuning.{hosts, rank_of}
 use Rattle.bus_rules.specs.Cores.{Setup}
-use Rattle.bus_rules.specs.States.{declares, leaves, queues}
+use Rattle.bus_rules.specs.States.{core_after_act}
 use Rattle.bus_rules.specs.Slots.{ScheduleOf, part_of}
 use Rattle.lwb_member.specs.Said.{message_of}
 use Rattle.node_core.specs.declared.stage.Stage.TheVariants.{Scanning, InWindow}
@@ -20,7 +20,7 @@ use Rattle.node_core.specs.Windows.{Window}
 use Rattle.node_core.specs.Nodes.{Node}
 use Rattle.node_core.specs.Rows.{Stepped, frame_alarms, window_opens, window_closes, window_hears, joins, sends, accepted_in}
 use Rattle.scenario_text.specs.ScenarioParts.{ScenarioParts}
-use Rattle.scenario_text.specs.declared.script.Act.TheVariants.{Off}
+use Rattle.bus_rules.specs.declared.act.Act.TheVariants.{Off}
 use Rattle.scenario_text.specs.declared.script.ScriptLine.{ScriptLine}
 use Rattle.air_log.specs.declared.entry.Entry.{Entry}
 use Rattle.air_log.specs.Devices.{Device, Power, PowerOff, PowerOn, Listening, OrderedPacket, listens_to, moved}
@@ -222,17 +222,9 @@ module _ (s : ScenarioParts) (clocks : ℕ → ℕ → ℕ) (air : List Entry) (
         );
         off = λ d l n here next act on.
             (rows.off s clocks air v t at d l n (fine t Lines d here) next act on, goes_off t at d l n here.holds.0 next act here.holds.1);
-        declaring = λ d l n i interval here next act on. (
-          rows.declaring s clocks air v t at d l n i interval (fine t Lines d here) next act on,
-          still t d (with_new_core d n (declares i interval n.core)) refl (told t d n on) here.holds.1,
-        );
-        leaving = λ d l n i here next act on. (
-          rows.leaving s clocks air v t at d l n i (fine t Lines d here) next act on,
-          still t d (with_new_core d n (leaves i n.core)) refl (told t d n on) here.holds.1,
-        );
-        putting = λ d l n i payload here next act on taken. (
-          rows.putting s clocks air v t at d l n i payload (fine t Lines d here) next act on taken,
-          still t d (with_new_core d n (queues i payload n.core)) refl (told t d n on) here.holds.1,
+        streaming = λ d l n here next act on. (
+          rows.streaming s clocks air v t at d l n (fine t Lines d here) next act on,
+          still t d (with_new_core d n (core_after_act l.act n.core)) refl (told t d n on) here.holds.1,
         );
         joining = λ d h n y here next on stage says rank. (
           rows.joining s clocks air v t at d h n y (fine t Hearings d here) next on stage says rank,

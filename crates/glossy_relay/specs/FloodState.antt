@@ -5,7 +5,8 @@ use Rattle.lwb_packets.specs.declared.kind.Kind.{Kind}
 use Rattle.lwb_packets.specs.declared.kind.Kind.TheVariants.{Payload}
 use Rattle.lwb_packets.specs.Kinds.{kind_in}
 
--- the kind and slot of its packets, the most transmissions, the transmissions that ended, whether one is ordered, whether the flood began here, and the first packet
+-- the kind and slot of its packets, the most transmissions, the transmissions that ended, whether one is ordered, whether the
+-- flood began here, and the first packet
 pub record FloodState : Type 0 where
   pub kind : Kind
   pub slot : ℕ

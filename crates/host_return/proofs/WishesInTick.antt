@@ -1,5 +1,5 @@
 -- Through a tick the requested interval of a stream is what the script lines of the tick make of it.
-use Rattle.std.proofs.Common.{◌≡◌, ℕ, zero, suc, ◌<◌, List, [], ◌∷◌, Bool, true, false, ◌&&◌, ◌==◌, if◌then◌else◌}
+use Rattle.std.proofs.Common.{◌≡◌, ℕ, zero, suc, ◌<◌, List, [], ◌∷◌, Bool, true, false, ◌==◌, if◌then◌else◌}
 use Rattle.std.proofs.Common.{Some, None, Option, fold, length, refl, sym, ◌∙◌, ap, subst, arith, inl, inr, Contains}
 use Rattle.std.specs.List.{slice_index_or}
 use Rattle.std.specs.Prelude.{slice_set}
@@ -9,15 +9,14 @@ use Rattle.lwb_base.specs.Profile.{Numbers}
 use Rattle.lwb_base.specs.declared.event.Event.{Event}
 use Rattle.lwb_base.specs.declared.event.Event.TheVariants.{Alarm, Heard, Sent}
 use Rattle.bus_rules.specs.Streams.{Stream, no_stream, cleared, stream_at, wishes, emptied, refuses as drops, queued, put_to}
-use Rattle.bus_rules.specs.States.{refuses, queues}
-use Rattle.bus_rules.specs.Cores.{Core, Setup}
+use Rattle.bus_rules.specs.States.{IsAct, core_after_act, wish_after}
+use Rattle.bus_rules.specs.Cores.{Setup}
 use Rattle.node_core.specs.Nodes.{Node}
 use Rattle.node_core.specs.Rows.{Stepped, row, node_after}
 use Rattle.radio_model.specs.declared.sending.Sending.{Sending}
 use Rattle.radio_model.proofs.Members.{in_head, in_tail}
-use Rattle.scenario_text.specs.ScenarioFacts.{IsAct}
-use Rattle.scenario_text.specs.declared.script.Act.{Act}
-use Rattle.scenario_text.specs.declared.script.Act.TheVariants.{On, Off, Declare, Leave, Put}
+use Rattle.bus_rules.specs.declared.act.Act.{Act}
+use Rattle.bus_rules.specs.declared.act.Act.TheVariants.{On, Off, Declare, Leave, Put}
 use Rattle.scenario_text.specs.declared.script.ScriptLine.{ScriptLine}
 use Rattle.air_log.specs.Devices.{Device, Power, PowerOff, PowerOn, Listening, OrderedPacket, event, event_by}
 use Rattle.air_log.specs.ScriptedDevices.{device_after_act, device_after_line}
@@ -127,6 +126,13 @@ module _ (i : ℕ) where
         cond_both (o.tick == t) (starts s t o.packet d d.listening d.sending) d (λ (e : Device). IsTold w e.power)
         (λ now. moved_to w _ d.power (start_power o.packet d d.listening d.sending) was) (λ other. was)
 
+    -- what an act for a stream leaves
+    abbrev after : Act → Bool × ℕ → Bool × ℕ
+    after a u = (u.0, if u.0 then wish_after i a u.1 else u.1)
+
+    still_off : (w : Bool × ℕ) (d : Device) (a : Act) (boots : ℕ) → d.power ≡ PowerOff boots → IsTold w (PowerOff boots) → IsTold (after a w) d.power
+    still_off w d a boots at was = moved_to _ _ _ at (record { four = tt; is = ap (after a) was.is })
+
     by_act : (w : Bool × ℕ) (p : Numbers) (d : Device) (a : Act) (q : Power) → IsAct p a → d.power ≡ q → IsTold w q
         → IsTold (told_by i a w) (device_after_act clock s t d a q).power
     by_act w p d On (PowerOff boots) range at was =
@@ -135,36 +141,26 @@ module _ (i : ℕ) where
     by_act w p d On (PowerOn n) range at was = moved_to _ _ _ at (record { four = was.four; is = ap (λ (u : Bool × ℕ). (true, u.1)) was.is })
     by_act w p d Off (PowerOff boots) range at was = moved_to _ _ _ at (record { four = tt; is = refl })
     by_act w p d Off (PowerOn n) range at was = record { four = tt; is = refl }
-    by_act w p d (Declare j interval) (PowerOff boots) range at was =
-        moved_to _ _ _ at (record { four = tt; is = ap (λ (u : Bool × ℕ). (u.0, if u.0 && (j == i) then interval else u.1)) was.is })
+    by_act w p d (Declare j interval) (PowerOff boots) range at was = still_off w d (Declare j interval) boots at was
     by_act w p d (Declare j interval) (PowerOn n) range at was =
-        let all = n.core.streams.all in
         let x = wishes interval (stream_at n.core.streams j) in
         record {
-          four = length-set all j x ∙ was.four;
-          is = ap (λ (k : ℕ). (true, k)) (set_new all j i x (omega (arith, range.0, was.four)))
-              ∙ ap (λ (u : Bool × ℕ). (u.0, if u.0 && (j == i) then interval else u.1)) was.is;
+          four = length-set n.core.streams.all j x ∙ was.four;
+          is = ap (λ (k : ℕ). (true, k)) (set_new n.core.streams.all j i x (omega (arith, range.0, was.four))) ∙ ap (after (Declare j interval)) was.is;
         }
-    by_act w p d (Leave j) (PowerOff boots) range at was =
-        moved_to _ _ _ at (record {
-          four = tt;
-          is = cond_both (j == i) 0 0 (λ (k : ℕ). ◌≡◌ {A = (Bool × ℕ)} (false, 0) (false, k)) (λ is. refl) (λ is. refl)
-              ∙ ap (λ (u : Bool × ℕ). (u.0, if j == i then 0 else u.1)) was.is;
-        })
+    by_act w p d (Leave j) (PowerOff boots) range at was = still_off w d (Leave j) boots at was
     by_act w p d (Leave j) (PowerOn n) range at was =
-        let all = n.core.streams.all in
         let x = emptied (stream_at n.core.streams j) in
         record {
-          four = length-set all j x ∙ was.four;
-          is = ap (λ (k : ℕ). (true, k)) (set_new all j i x (omega (arith, range, was.four)))
-              ∙ ap (λ (u : Bool × ℕ). (u.0, if j == i then 0 else u.1)) was.is;
+          four = length-set n.core.streams.all j x ∙ was.four;
+          is = ap (λ (k : ℕ). (true, k)) (set_new n.core.streams.all j i x (omega (arith, range, was.four))) ∙ ap (after (Leave j)) was.is;
         }
-    by_act w p d (Put j payload) (PowerOff boots) range at was = moved_to _ _ _ at was
+    by_act w p d (Put j payload) (PowerOff boots) range at was = still_off w d (Put j payload) boots at was
     by_act w p d (Put j payload) (PowerOn n) range at was =
         let x = put_to payload (stream_at n.core.streams j) in
-        cond_both (refuses j n.core) n.core (queues j payload n.core) (λ (c : Core). IsTold w (PowerOn (record n { core = c }))) (λ lost. was)
-        (λ kept. after_same w n (record n { core = queues j payload n.core })
-        (with_same n.core.streams j x (put_wish payload (stream_at n.core.streams j))) was)
+        let is = after_same w n (record n { core = core_after_act (Put j payload) n.core })
+        (with_same n.core.streams j x (put_wish payload (stream_at n.core.streams j))) was in
+        record { four = is.four; is = ap (after (Put j payload)) is.is }
 
     pub lines_told : (w : Bool × ℕ) (p : Numbers) (ls : List ScriptLine) (d : Device) → ((l : ScriptLine) → Contains ls l → IsAct p l.act) → IsTold w d.power
         → IsTold (fold (λ (u : Bool × ℕ) (l : ScriptLine). told_by i l.act u) w ls) (fold (device_after_line clock s t) d ls).power

@@ -6,11 +6,12 @@ use Rattle.std.proofs.lemmas.Bool.{cond_both, cases_lt, cases_order, le-ltb, le-
 use Rattle.std.proofs.lemmas.List.Elements.{All-contains, recursion_from_All}
 use Rattle.std.proofs.Math.Nat.{mul-le-mul_right}
 use Rattle.lwb_base.specs.Profile.{Numbers}
-use Rattle.scenario_text.specs.ScenarioFacts.{IsSoundScenario, IsScriptLine, IsAct}
+use Rattle.scenario_text.specs.ScenarioFacts.{IsSoundScenario, IsScriptLine}
+use Rattle.bus_rules.specs.States.{IsAct}
 use Rattle.scenario_text.specs.ScenarioParts.{ScenarioParts}
 use Rattle.scenario_text.specs.FloodDrafts.{Climbs}
-use Rattle.scenario_text.specs.declared.script.Act.{Act}
-use Rattle.scenario_text.specs.declared.script.Act.TheVariants.{On, Off, Declare, Leave, Put}
+use Rattle.bus_rules.specs.declared.act.Act.{Act}
+use Rattle.bus_rules.specs.declared.act.Act.TheVariants.{On, Off, Declare, Leave, Put}
 use Rattle.scenario_text.specs.declared.script.ScriptLine.{ScriptLine}
 use Rattle.scenario_text.proofs.EachPair.{pairs_climb}
 use Rattle.air_log.specs.Devices.{Device, Power, PowerOff, PowerOn}
@@ -149,9 +150,12 @@ few_by : (p : Numbers) (i : ℕ) (a : Act) (w : Bool × ℕ) → IsAct p a → w
 few_by p i On w range few = few
 few_by p i Off w range few = omega arith
 few_by p i (Declare j interval) w range few =
-    cond_both (w.0 && (j == i)) interval w.1 (λ (k : ℕ). k ≤ 120) (λ is. range.2) (λ is. few)
-few_by p i (Leave j) w range few = cond_both (j == i) 0 w.1 (λ (k : ℕ). k ≤ 120) (λ is. omega arith) (λ is. few)
-few_by p i (Put j payload) w range few = few
+    cond_both w.0 (if j == i then interval else w.1) w.1 (λ (k : ℕ). k ≤ 120)
+    (λ on. cond_both (j == i) interval w.1 (λ (k : ℕ). k ≤ 120) (λ is. range.2) (λ is. few)) (λ off. few)
+few_by p i (Leave j) w range few =
+    cond_both w.0 (if j == i then 0 else w.1) w.1 (λ (k : ℕ). k ≤ 120)
+    (λ on. cond_both (j == i) 0 w.1 (λ (k : ℕ). k ≤ 120) (λ is. omega arith) (λ is. few)) (λ off. few)
+few_by p i (Put j payload) w range few = cond_both w.0 w.1 w.1 (λ (k : ℕ). k ≤ 120) (λ on. few) (λ off. few)
 
 few_told : (s : ScenarioParts) (f v i : ℕ) (ls : List ScriptLine) (w : Bool × ℕ) → AllByRecursion (IsScriptLine s) ls → w.1 ≤ 120
     → (fold (told_line f v i) w ls).1 ≤ 120

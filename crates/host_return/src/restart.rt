@@ -8,11 +8,12 @@ ghost use Rattle.host_return.specs.Restarts.{declared_again, restart, lines_of_g
 ghost use Rattle.host_return.specs.Wishes.{told, told_by};
 
 use crate::Return;
+use bus_rules::Switch;
 use lwb_base::{Memory, NodeId};
 use scenario_text::{Act, Scenario, ScriptLine};
 use std::alloc::Global;
 
-/// The script lines of a return: in the next frame the node goes off and on, and declares what its streams wish.
+/// The script lines of a return: in the next frame the node goes off and on, and declares the intervals that its streams requested.
 pub(crate) fn lines_of(alloc: Global, s: &Scenario, r: &Return) -> Result<Vec<ScriptLine>, Memory>
     requires in_run { r.now.frame + 1 < s.now.frames }
     requires known { knows s.now.nodes r.now.node ≡ true }
@@ -99,23 +100,14 @@ impl Wish {
     fn tell(&mut self, act: &Act, stream: u8)
         ensures { (self.new.on, self.new.interval) ≡ told_by stream act.now (self.old.on, self.old.interval) }
     {
-        match act {
-            Act::On => self.on = true,
-            Act::Off => {
+        match act.switch() {
+            Some(Switch::On) => self.on = true,
+            Some(Switch::Off) => {
                 self.on = false;
                 self.interval = 0;
             }
-            Act::Declare(declared, interval) => {
-                if self.on && *declared == stream {
-                    self.interval = *interval;
-                }
-            }
-            Act::Leave(left) => {
-                if *left == stream {
-                    self.interval = 0;
-                }
-            }
-            Act::Put(_, _) => {}
+            None if self.on => self.interval = act.wish_after(stream, self.interval),
+            None => {}
         }
     }
 }

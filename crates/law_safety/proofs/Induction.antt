@@ -56,9 +56,7 @@ module _ (s : ScenarioParts) (clocks : ℕ → ℕ → ℕ) (air : List Entry) (
   keeps rows v t at = record {
     boot = rows.boot s clocks air v t at;
     off = rows.off s clocks air v t at;
-    declaring = rows.declaring s clocks air v t at;
-    leaving = rows.leaving s clocks air v t at;
-    putting = rows.putting s clocks air v t at;
+    streaming = rows.streaming s clocks air v t at;
     joining = rows.joining s clocks air v t at;
     hearing = rows.hearing s clocks air v t at;
     sent = rows.sent s clocks air v t at;

@@ -9,7 +9,7 @@ use Rattle.law_safety.specs.Endings.{EndsInOrder}
 use Rattle.law_safety.specs.Invariant.{HoldsThroughout, IsDrivenWell, IsObedientRun}
 use Rattle.law_safety.specs.Rows.{AllRows}
 use Rattle.law_safety.proofs.RowBoot.{boot_row}
-use Rattle.law_safety.proofs.RowsOfScript.{declare_row, leave_row, off_row, put_row}
+use Rattle.law_safety.proofs.RowsOfScript.{off_row, stream_row}
 use Rattle.law_safety.proofs.RowJoining.{joining_row}
 use Rattle.law_safety.proofs.RowHearing.{hearing_row}
 use Rattle.law_safety.proofs.RowsOfSent.{late_sent_row, sent_elsewhere_row, sent_row}
@@ -24,9 +24,7 @@ pub all_rows : AllRows
 all_rows = record {
   boot = boot_row;
   off = off_row;
-  declaring = declare_row;
-  leaving = leave_row;
-  putting = put_row;
+  streaming = stream_row;
   joining = joining_row;
   hearing = hearing_row;
   sent = sent_row;

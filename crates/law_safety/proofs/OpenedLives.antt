@@ -26,10 +26,11 @@ use Rattle.air_log.specs.Trails.{setup_of, frame_start}
 use Rattle.law_trails.specs.Lives.{Life, OpeningMade, ClosingMade, Opens, Closes, after_step, Quiet}
 use Rattle.law_trails.specs.NodeRanges.{IsNodeInRange}
 use Rattle.law_trails.proofs.CoresInRange.{host_plan_of}
+use Rattle.bus_rules.proofs.Ranks.{host_now}
 use Rattle.law_trails.proofs.HostRanks.{host_is_of_rank}
 use Rattle.law_trails.proofs.LifeSteps.{step_quiet}
 use Rattle.law_trails.specs.RowEffects.{said}
-use Rattle.law_trails.proofs.CoresInRange.{host_now}
+use Rattle.bus_rules.proofs.Ranks.{host_now}
 use Rattle.law_trails.proofs.SaidInRange.{IsSayable}
 use Rattle.law_safety.specs.SentPlans.{IsHostOf}
 use Rattle.law_safety.specs.SetAlarms.{rank_at}

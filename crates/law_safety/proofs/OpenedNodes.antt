@@ -24,7 +24,8 @@ use Rattle.law_trails.specs.CoreRanges.{IsSetup}
 use Rattle.law_trails.specs.NodeRanges.{IsNodeInRange}
 use Rattle.law_trails.specs.RowEffects.{Leaves, when, said}
 use Rattle.law_trails.proofs.CoresInRange.{host_plan_of}
-use Rattle.law_trails.proofs.CoresInRange.{host_now}
+use Rattle.bus_rules.proofs.Ranks.{host_now}
+use Rattle.bus_rules.proofs.Ranks.{host_now}
 use Rattle.law_trails.proofs.TrailsInRange.{set}
 use Rattle.law_safety.specs.SentPlans.{IsHostOf}
 use Rattle.law_safety.specs.CountedFrames.{InFrame}

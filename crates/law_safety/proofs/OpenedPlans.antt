@@ -24,7 +24,7 @@ use Rattle.air_log.specs.Devices.{Device}
 use Rattle.air_log.specs.Trails.{setup_of}
 use Rattle.law_trails.specs.NodeRanges.{IsNodeInRange}
 use Rattle.law_trails.proofs.ProfilePackets.{last_covered}
-use Rattle.law_trails.proofs.CoresInRange.{host_now}
+use Rattle.bus_rules.proofs.Ranks.{host_now}
 use Rattle.law_trails.proofs.SaidInRange.{IsSayable, placed, says}
 use Rattle.law_safety.specs.SentPlans.{FitsRound, IsPlanned, HasHeardPlan, HasHeardOpening}
 use Rattle.law_safety.specs.RoundZeros.{RefFor}

@@ -19,8 +19,9 @@ use Rattle.air_log.specs.Devices.{Device}
 use Rattle.air_log.specs.Trails.{setup_of, frame_start}
 use Rattle.law_trails.specs.NodeRanges.{IsNodeInRange}
 use Rattle.law_trails.proofs.CoresInRange.{host_plan_of}
+use Rattle.bus_rules.proofs.Ranks.{host_now}
 use Rattle.law_trails.proofs.OtherCounters.{first_place}
-use Rattle.law_trails.proofs.CoresInRange.{host_now}
+use Rattle.bus_rules.proofs.Ranks.{host_now}
 use Rattle.law_trails.proofs.SaidInRange.{IsSayable, placed, says}
 use Rattle.law_safety.specs.SentPlans.{HasHeardPlan}
 use Rattle.law_safety.specs.SetAlarms.{rank_at}

@@ -11,7 +11,7 @@ use Rattle.bus_rules.specs.Plans.{last_slot}
 use Rattle.bus_rules.specs.Tuning.{rank_of, hosts}
 use Rattle.bus_rules.specs.Cores.{Core, Setup, is_fresh}
 use Rattle.bus_rules.specs.Slots.{Opened, hosts_now, part_of, opened_slot, host_closes, silent}
-use Rattle.law_trails.proofs.CoresInRange.{host_now}
+use Rattle.bus_rules.proofs.Ranks.{host_now}
 
 -- where a slot of this part is in its round
 abbrev pub StandsAt : Plan → ℕ → Part → Type 0

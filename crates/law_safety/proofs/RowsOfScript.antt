@@ -1,6 +1,6 @@
 -- The rows of the script: a node that is given something of its streams, or goes off.
 use Rattle.std.proofs.Common.{◌≡◌, ℕ, ◌/◌, ◌≤◌, List, length, refl, subst, arith}
-use Rattle.bus_rules.specs.Streams.{Streams, declared, streams_after_leaving, put}
+use Rattle.bus_rules.specs.Streams.{Streams, streams_after_act}
 use Rattle.node_core.specs.Nodes.{Node}
 use Rattle.node_core.specs.Nodes.{with_streams}
 use Rattle.scenario_text.specs.ScenarioParts.{ScenarioParts}
@@ -14,7 +14,7 @@ use Rattle.law_trails.specs.Phases.{Lines, IsNextLineOf}
 use Rattle.law_trails.proofs.LifeSteps.{step_quiet}
 use Rattle.law_safety.specs.BegunFloods.{BeganOnce}
 use Rattle.law_safety.specs.QuietHosts.{LivesAs, LivesBy}
-use Rattle.law_safety.specs.Rows.{IsFine, AtTick, OffRow, DeclareRow, LeaveRow, PutRow}
+use Rattle.law_safety.specs.Rows.{IsFine, AtTick, OffRow, StreamRow}
 use Rattle.law_safety.proofs.RunFacts.{frame_in_run}
 use Rattle.law_safety.proofs.KeptPlans.{nothing_told, on_kept}
 use Rattle.law_safety.proofs.KeptDevices.{on_of, lives_kept, host_kept}
@@ -84,14 +84,8 @@ module _ (s : ScenarioParts) (clocks : ℕ → ℕ → ℕ) (air : List Entry) (
           before = fine.before;
         }
 
-pub declare_row : DeclareRow
-declare_row s clocks air v t at d l n i interval here next act on = streams_told s clocks air v t d n (declared i interval n.core.streams) here.holds on
-
-pub leave_row : LeaveRow
-leave_row s clocks air v t at d l n i here next act on = streams_told s clocks air v t d n (streams_after_leaving i n.core.streams) here.holds on
-
-pub put_row : PutRow
-put_row s clocks air v t at d l n i payload here next act on taken = streams_told s clocks air v t d n (put i payload n.core.streams) here.holds on
+pub stream_row : StreamRow
+stream_row s clocks air v t at d l n here next act on = streams_told s clocks air v t d n (streams_after_act l.act n.core.streams) here.holds on
 
 pub off_row : OffRow
 off_row s clocks air v t at d l n here next act on = goes_off s clocks air v t at d l n here.holds next on

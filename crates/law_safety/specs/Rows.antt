@@ -8,7 +8,7 @@ use Rattle.air_log.specs.Lawful.{heard_by}
 use Rattle.air_log.specs.Trails.{Reception, run_end}
 use Rattle.air_log.specs.Devices.{Device}
 use Rattle.law_trails.specs.Phases.{Phase, Lines, Hearings, End, Alarms, Start, Over, starts_from}
-use Rattle.law_trails.specs.Walks.{BootKept, OffKept, DeclareKept, LeaveKept, PutKept, JoiningKept, HearingKept, SentKept, LateSentKept}
+use Rattle.law_trails.specs.Walks.{BootKept, OffKept, StreamKept, JoiningKept, HearingKept, SentKept, LateSentKept}
 use Rattle.law_trails.specs.Walks.{SentElsewhereKept, FrameAlarmKept, OpeningKept, ClosingKept, AlarmElsewhereKept, BeginningKept, MissedStartKept, OnwardsKept}
 use Rattle.law_trails.specs.Walks.{PassingKept}
 use Rattle.law_safety.specs.SentPlans.{IsHostOf}
@@ -54,14 +54,8 @@ BootRow = Row BootKept
 abbrev pub OffRow : Type 0
 OffRow = Row OffKept
 
-abbrev pub DeclareRow : Type 0
-DeclareRow = Row DeclareKept
-
-abbrev pub LeaveRow : Type 0
-LeaveRow = Row LeaveKept
-
-abbrev pub PutRow : Type 0
-PutRow = Row PutKept
+abbrev pub StreamRow : Type 0
+StreamRow = Row StreamKept
 
 -- receptions
 abbrev pub JoiningRow : Type 0
@@ -110,9 +104,7 @@ PassingRow = Row PassingKept
 pub record AllRows : Type 0 where
   pub boot : BootRow
   pub off : OffRow
-  pub declaring : DeclareRow
-  pub leaving : LeaveRow
-  pub putting : PutRow
+  pub streaming : StreamRow
   pub joining : JoiningRow
   pub hearing : HearingRow
   pub sent : SentRow

@@ -1,5 +1,5 @@
 -- In a slot of schedules without losses who listens within reach of the host accepts, and goes by what it accepted.
-use Rattle.std.proofs.Common.{◌≡◌, ◌<◌, ◌+◌, ◌==◌, ℕ, suc, List, Bool, true, false, Option, Some, None, if◌then◌else◌, ◌||◌, ◌&&◌}
+use Rattle.std.proofs.Common.{◌≡◌, ◌<◌, ◌+◌, ◌==◌, ℕ, suc, List, Bool, true, false, Option, Some, None, if◌then◌else◌}
 use Rattle.std.proofs.Common.{is_some, refl, sym, ◌∙◌, ap, arith, AllPairs, add-one}
 use Rattle.std.proofs.lemmas.Bool.{false≢true, and_parts, cond-false, ne_eqb}
 use Rattle.lwb_base.specs.Profile.{Numbers}
@@ -9,17 +9,16 @@ use Rattle.scenario_text.specs.ScenarioFacts.{IsSoundScenario}
 use Rattle.scenario_text.proofs.SoundScenarios.{sound}
 use Rattle.bus_rules.specs.declared.part.Part.{Part}
 use Rattle.bus_rules.specs.declared.part.Part.TheVariants.{Opening, Closing}
-use Rattle.bus_rules.specs.declared.tune.Tune.{Tune}
-use Rattle.bus_rules.specs.declared.tune.Tune.TheVariants.{Scan, Hold, Host}
-use Rattle.bus_rules.specs.Cores.{Core, is_member, is_fresh, schedule_accepted, opening_accepted, closing_accepted}
+use Rattle.bus_rules.specs.declared.tune.Tune.TheVariants.{Hold, Host}
+use Rattle.bus_rules.specs.Cores.{Core, is_member, schedule_accepted, opening_accepted, closing_accepted}
 use Rattle.bus_rules.specs.HostPlans.{host_plan, HostPlan}
 use Rattle.bus_rules.specs.Plans.{last_slot, opening}
 use Rattle.bus_rules.specs.Slots.{Message, ScheduleOf, Opened, opened_slot, part_of, hosts_now, host_closes, silent, is_schedule_part}
 use Rattle.bus_rules.specs.States.{State, StateOff, StateOn}
 use Rattle.bus_rules.specs.Streams.{Streams}
 use Rattle.bus_rules.specs.Tables.{Table}
-use Rattle.bus_rules.specs.Tuning.{hosts_in, holds_in, scans, rank_of}
-use Rattle.bus_rules.proofs.Ranks.{planned_rank}
+use Rattle.bus_rules.specs.Tuning.{hosts_in, rank_of}
+use Rattle.bus_rules.proofs.Ranks.{planned_rank, member_hosts}
 use Rattle.bus_terms.specs.Bus.{state_at}
 use Rattle.bus_terms.specs.FloodOfText.{ids}
 use Rattle.bus_terms.specs.Flooding.{Accepts}
@@ -127,20 +126,6 @@ closing_hosts s f v c m said = by_test (hosts_now f c) refl said
     by_test : (b : Bool) → hosts_now f c ≡ b → (if b then host_closes (setup_in s v) f c else silent c).message ≡ Some m → hosts_now f c ≡ true
     by_test true at said = at
     by_test false at said = absurd (cc)
-
-or_none : (a : Bool) → (a || false) ≡ true → a ≡ true
-or_none true is = refl
-or_none false is = is
-
--- a member that hosts its own round hosts this one
-member_hosts : (rank f : ℕ) (c : Core) → is_member rank f c ≡ true → hosts_now f c ≡ true → hosts_in rank f c.tune ≡ true
-member_hosts rank f c member now = by_tune c.tune member now
-  where
-    by_tune : (t : Tune) → (hosts_in rank f t || holds_in rank f t || (scans rank t && is_fresh c)) ≡ true → hosts_in (rank_of t) f t ≡ true
-        → hosts_in rank f t ≡ true
-    by_tune (Host r due) member now = or_none (hosts_in rank f (Host r due)) (or_none (hosts_in rank f (Host r due) || false) member)
-    by_tune (Hold r due) member now = absurd (false≢true now)
-    by_tune (Scan r w) member now = absurd (false≢true now)
 
 pub openings : OpeningsAreAccepted
 unfolding before_slot

@@ -3,7 +3,7 @@ use Rattle.std.proofs.Common.{◌≡◌, ◌==◌, ◌||◌, ◌&&◌, ℕ, [], 
 use Rattle.lwb_base.specs.Profile.{contended}
 use Rattle.lwb_base.specs.Messages.{least_passing}
 use Rattle.scenario_text.specs.ScenarioParts.{ScenarioParts}
-use Rattle.scenario_text.specs.declared.script.Act.TheVariants.{On, Declare, Put}
+use Rattle.bus_rules.specs.declared.act.Act.TheVariants.{On, Declare, Put}
 use Rattle.bus_rules.specs.declared.delivery.Delivery.{Delivery}
 use Rattle.bus_rules.specs.Granting.{plan_round}
 use Rattle.bus_rules.specs.HostPlans.{host_plan}

@@ -5,7 +5,7 @@ use Rattle.lwb_base.specs.Messages.{least_passing}
 use Rattle.link_trace.specs.declared.lines.LinkLine.{LinkLine}
 use Rattle.link_trace.specs.declared.lines.LoseLine.{LoseLine}
 use Rattle.scenario_text.specs.ScenarioParts.{ScenarioParts}
-use Rattle.scenario_text.specs.declared.script.Act.TheVariants.{On, Declare, Put}
+use Rattle.bus_rules.specs.declared.act.Act.TheVariants.{On, Declare, Put}
 use Rattle.scenario_text.specs.declared.script.ScriptLine.{ScriptLine}
 use Rattle.bus_rules.specs.declared.delivery.Delivery.{Delivery}
 use Rattle.bus_rules.specs.Streams.{schedule_heard}

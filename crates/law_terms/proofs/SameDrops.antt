@@ -14,6 +14,7 @@ use Rattle.air_log.specs.Drops as AirDrops
 use Rattle.bus_rules.specs.States.{State}
 use Rattle.bus_terms.specs.ScriptedStates as Bus
 use Rattle.bus_terms.specs.Bus as Frames
+use Rattle.air_log.proofs.DropsBelow.{trail_drops_below, drops_by_place as trail_drops_by_place}
 use Rattle.bus_terms.proofs.DropsBelow.{drops_below, drops_by_place}
 use Rattle.air_log.specs.Devices.{state_of_power}
 use Rattle.law_terms.proofs.ScriptedCores.{lines_same, drop_same}
@@ -56,14 +57,14 @@ module _ (s : ScenarioParts) (clocks : ℕ → ℕ → ℕ) (air : List Entry) (
       rw (same_told s above l some)
       (lines_same (clocks l.node) (setup_of s l.node) (frame_start s l.frame) _ _ (Bus.told_above above l) start)
 
-  drops_same : (above ls : List ScriptLine) → All IsStart ls → AirDrops.trail_drops_below s clocks air above ls ≡ drops_below s above ls
+  drops_same : (above ls : List ScriptLine) → All IsStart ls → trail_drops_below s clocks air above ls ≡ drops_below s above ls
   drops_same above [] starts = refl
   drops_same above (l ∷ ls) starts =
       let start : IsStart l = starts 0 l (omega arith) in
       let later : All IsStart ls = λ k d below. starts (suc k) d (omega arith) in
       let one = drop_same l l.act (AirDrops.device_before_line s clocks air above l).power ∙ ap (Bus.lost_by l l.act) (before_same above l start) in
-      ap (λ (x : Option DropLine). option_to_list x ++ AirDrops.trail_drops_below s clocks air (above ++ l ∷ []) ls) one
+      ap (λ (x : Option DropLine). option_to_list x ++ trail_drops_below s clocks air (above ++ l ∷ []) ls) one
       ∙ ap (λ xs. option_to_list (Bus.lost_by l l.act (Frames.state_before_line s above l)) ++ xs) (drops_same (above ++ l ∷ []) ls later)
 
   pub all_drops_same : All IsStart s.script → AirDrops.drops_of s clocks air ≡ Frames.bus_drops s
-  all_drops_same starts = drops_same [] s.script starts ∙ sym (drops_by_place s)
+  all_drops_same starts = trail_drops_by_place s clocks air ∙ drops_same [] s.script starts ∙ sym (drops_by_place s)

@@ -1,7 +1,7 @@
 -- What happens to a node's core is the same on the bus and in the node table.
 use Rattle.std.specs.Prelude.{◌≡◌, ℕ, ◌<◌}
 use Rattle.scenario_text.specs.ScenarioParts.{ScenarioParts}
-use Rattle.scenario_text.specs.declared.script.Act.{Act}
+use Rattle.bus_rules.specs.declared.act.Act.{Act}
 use Rattle.scenario_text.specs.declared.script.ScriptLine.{ScriptLine}
 use Rattle.bus_rules.specs.Cores.{Setup, frame_ended}
 use Rattle.bus_rules.specs.Slots.{opened_slot, closed_slot, part_of}

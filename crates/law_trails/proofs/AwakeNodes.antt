@@ -48,9 +48,7 @@ module _ (s : ScenarioParts) (v : ℕ) (clock : ℕ → ℕ) (hs : List Receptio
   awake_keeps = record {
     boot = λ d l count here next act on. left_awake (boot_leaves clock node t d count) tt refl;
     off = λ d l n here next act on. tt;
-    declaring = λ d l n i interval here next act on. same_place d n here.holds on;
-    leaving = λ d l n i here next act on. same_place d n here.holds on;
-    putting = λ d l n i payload here next act on kept. same_place d n here.holds on;
+    streaming = λ d l n here next act on. same_place d n here.holds on;
     joining = λ d h n y here next on stage says rank. left_awake (joining_leaves clock node t d n h.packet y) tt refl;
     hearing = λ d h n j w here next on stage. left_awake (hearing_leaves clock node t d n j w h.packet) tt (same_place d n here.holds on).1;
     sent = λ d x n j w here is own ends on stage waits. left_awake (sent_leaves clock node t (record d { sending = None }) x n j w) tt

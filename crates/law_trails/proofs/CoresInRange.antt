@@ -13,13 +13,13 @@ use Rattle.bus_rules.specs.declared.tune.Tune.{Tune}
 use Rattle.bus_rules.specs.declared.tune.Tune.TheVariants.{Scan, Hold, Host}
 use Rattle.bus_rules.specs.Streams.{Streams, taken, after_contention}
 use Rattle.bus_rules.specs.Tables.{Table}
-use Rattle.bus_rules.specs.Tuning.{rank_of, hosts, hosts_in, is_scan, is_rank, HasWaited, next_tune}
+use Rattle.bus_rules.specs.Tuning.{rank_of, hosts, is_scan, is_rank, HasWaited, next_tune}
 use Rattle.bus_rules.specs.HostPlans.{host_plan}
 use Rattle.bus_rules.specs.Cores.{Core, Setup, booted, is_fresh, begins_host, new_host, as_host, frame_ended, opening_accepted, closing_accepted}
 use Rattle.bus_rules.specs.Cores.{schedule_accepted}
 use Rattle.bus_rules.specs.Slots.{Opened, Message, ScheduleOf, DataOf, RequestOf, hosts_now, opened_slot, host_closes, silent, is_own, owner_heard, slot_heard}
 use Rattle.bus_rules.specs.Slots.{closed_slot}
-use Rattle.bus_rules.proofs.Ranks.{rank_is}
+use Rattle.bus_rules.proofs.Ranks.{rank_is, host_now}
 use Rattle.lwb_member.specs.Members.{IsBoot, MayAccept}
 use Rattle.lwb_member.proofs.HostPlanned.{contend_few}
 use Rattle.law_trails.specs.StreamRanges.{AreStreams}
@@ -48,15 +48,6 @@ pub no_scan : (t : Tune) → hosts t ≡ true → is_scan t ≡ false
 no_scan (Scan r w) host = absurd (cc)
 no_scan (Hold r due) host = refl
 no_scan (Host r due) host = refl
-
--- who hosts now hosts
-by_tune : (t : Tune) (f : ℕ) → hosts_in (rank_of t) f t ≡ true → hosts t ≡ true
-by_tune (Scan r w) f now = absurd (cc)
-by_tune (Hold r due) f now = absurd (cc)
-by_tune (Host r due) f now = refl
-
-pub host_now : (f : ℕ) (c : Core) → hosts_now f c ≡ true → hosts c.tune ≡ true
-host_now f c now = by_tune c.tune f now
 
 -- what a node may take from the message that it accepted
 abbrev pub MayTake : Core → Message → Type 0

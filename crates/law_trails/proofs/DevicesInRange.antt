@@ -1,6 +1,6 @@
 -- What is done to a device in a tick keeps it in its ranges.
 use Rattle.std.proofs.Common.{◌≡◌, ℕ, zero, suc, ◌+◌, ◌≤◌, List, [], ◌∷◌, filter, fold, Bool, true, false, ◌&&◌, ◌==◌}
-use Rattle.std.proofs.Common.{if◌then◌else◌, Some, None, Option, IfSome, refl, sym, subst, arith}
+use Rattle.std.proofs.Common.{if◌then◌else◌, Some, None, Option, IfSome, refl, sym, ◌∙◌, subst, arith}
 use Rattle.std.specs.Prelude.{All}
 use Rattle.std.specs.List.{AllByRecursion}
 use Rattle.std.proofs.lemmas.Bool.{cond_both, eqb-true}
@@ -11,13 +11,13 @@ use Rattle.lwb_base.specs.declared.order.Order.{Order}
 use Rattle.lwb_base.specs.declared.order.Order.TheVariants.{Listen, Off as Silent, SendAt, Alarm}
 use Rattle.radio_model.specs.OnAir.{Tuning}
 use Rattle.radio_model.specs.declared.sending.Sending.{Sending}
-use Rattle.scenario_text.specs.ScenarioFacts.{IsAct, turned, turned_by}
-use Rattle.scenario_text.specs.declared.script.Act.{Act}
-use Rattle.scenario_text.specs.declared.script.Act.TheVariants.{On, Off, Declare, Leave, Put}
+use Rattle.scenario_text.specs.ScenarioFacts.{turned, turned_by}
+use Rattle.bus_rules.specs.States.{IsAct, switch_of}
+use Rattle.bus_rules.specs.declared.act.Act.{Act}
+use Rattle.bus_rules.specs.declared.act.Act.TheVariants.{On, Off}
 use Rattle.scenario_text.specs.declared.script.ScriptLine.{ScriptLine}
 use Rattle.scenario_text.proofs.BootsCounted.{never_less}
-use Rattle.bus_rules.specs.Streams.{Streams, declared, streams_after_leaving, put}
-use Rattle.bus_rules.specs.States.{refuses, queues}
+use Rattle.bus_rules.specs.Streams.{Streams, streams_after_act}
 use Rattle.bus_rules.specs.Cores.{Core, Setup}
 use Rattle.node_core.specs.declared.stage.Stage.{Stage}
 use Rattle.node_core.specs.declared.stage.Stage.TheVariants.{Idle, Scanning, AwaitFrame, AwaitSlot, InWindow}
@@ -29,13 +29,14 @@ use Rattle.air_log.specs.Devices.{stepped, event, event_by, silenced, tunes, lis
 use Rattle.air_log.specs.ScriptedDevices.{device_after_act, device_after_line, with_new_core}
 use Rattle.air_log.specs.Trails.{Reception, ending_at, device_after_reception, device_after_receptions, device_ended_by, device_after_end, alarm_is_due}
 use Rattle.air_log.specs.Trails.{alarms, alarm_limit, alarmed, one_alarm, device_after_start, begun_by, starts, sending_from}
+use Rattle.air_log.proofs.DeviceActs.{told, by_act}
 use Rattle.air_log.proofs.KeptPower.{line_power}
 use Rattle.law_trails.specs.StreamRanges.{AreStreams}
 use Rattle.law_trails.specs.CoreRanges.{IsSetup}
 use Rattle.law_trails.specs.NodeRanges.{IsInStage, IsNodeInRange}
 use Rattle.law_trails.specs.RowRanges.{HoldsOfOrdered, AreOrders, IsStepped, HoldsOfHeard}
 use Rattle.law_trails.specs.DeviceRanges.{IsPower, IsRanged}
-use Rattle.law_trails.proofs.StreamsInRange.{declared_are, left_are, put_are}
+use Rattle.law_trails.proofs.StreamsInRange.{act_are}
 use Rattle.law_trails.proofs.CoresInRange.{with_streams}
 use Rattle.law_trails.proofs.RowsInRange.{AreRules, boots_is, row_is}
 
@@ -140,27 +141,28 @@ module _ (s : Setup) (set : IsSetup s) (Q H : List ℕ → Type 0) (rules : AreR
 
   act_is : (d : Device) (a : Act) (p : Power) → d.power ≡ p → IsAct s.profile a → (turned_by a (seen_power p)).1 ≤ 200 → IsRanged Q s d
       → IsRanged Q s (device_after_act clock s t d a p)
-  act_is d On (PowerOff boots) at act few is =
+  act_is d a p at act few is =
+      by_act clock s t d (λ b q e. a ≡ b → p ≡ q → IsRanged Q s e)
+      (λ boots same off.
       let n = rebooted (boots + 1) in
-      let after = boots_is s set Q H rules n (clock t) (omega arith, few) in
-      step_is Boot None (record d { power = PowerOn n }) n (record { ordered = is.ordered; sending = is.sending; sent = is.sent }) after.0 after.1
-  act_is d On (PowerOn n) at act few is = is
-  act_is d Off (PowerOff boots) at act few is = is
-  act_is d Off (PowerOn n) at act few is = record { power = few; ordered = tt; sending = is.sending; sent = is.sent }
-  act_is d (Declare i interval) (PowerOff boots) at act few is = is
-  act_is d (Declare i interval) (PowerOn n) at act few is =
-      let node : IsNodeInRange s n = subst (IsPower s) at is.power in
-      new_streams d n (declared i interval n.core.streams) node (declared_are s.profile n.core.streams i interval act.2 node.core.streams) is
-  act_is d (Leave i) (PowerOff boots) at act few is = is
-  act_is d (Leave i) (PowerOn n) at act few is =
-      let node : IsNodeInRange s n = subst (IsPower s) at is.power in
-      new_streams d n (streams_after_leaving i n.core.streams) node (left_are s.profile n.core.streams i node.core.streams) is
-  act_is d (Put i payload) (PowerOff boots) at act few is = is
-  act_is d (Put i payload) (PowerOn n) at act few is =
-      let node : IsNodeInRange s n = subst (IsPower s) at is.power in
-      cond_both (refuses i n.core) n.core (queues i payload n.core) (λ (c : Core). IsRanged Q s (with_new_core d n c))
-      (λ lost. new_streams d n n.core.streams node node.core.streams is)
-      (λ kept. new_streams d n (put i payload n.core.streams) node (put_are s.profile n.core.streams i payload act.1 node.core.streams) is)
+      let counted : boots + 1 ≤ 200 = subst (λ (q : Power). (turned_by On (seen_power q)).1 ≤ 200) off (subst (λ (b : Act). (turned_by b (seen_power p)).1 ≤ 200) same few) in
+      let after = boots_is s set Q H rules n (clock t) (omega arith, counted) in
+      step_is Boot None (record d { power = PowerOn n }) n (record { ordered = is.ordered; sending = is.sending; sent = is.sent }) after.0 after.1)
+      (λ n same on. is) (λ boots same off. is)
+      (λ n same on. record {
+        power = subst (λ (q : Power). (turned_by Off (seen_power q)).1 ≤ 200) on (subst (λ (b : Act). (turned_by b (seen_power p)).1 ≤ 200) same few);
+        ordered = tt;
+        sending = is.sending;
+        sent = is.sent;
+      })
+      told_is a p refl refl
+    where
+      told_is : (b : Act) (q : Power) → switch_of b ≡ None → a ≡ b → p ≡ q → IsRanged Q s (told d b q)
+      told_is b (PowerOff boots) none same off = is
+      told_is b (PowerOn n) none same on =
+          let node : IsNodeInRange s n = subst (IsPower s) (at ∙ on) is.power in
+          new_streams d n (streams_after_act b n.core.streams) node
+          (act_are s.profile n.core.streams b (subst (IsAct s.profile) same act) node.core.streams) is
 
   -- the lines of this node
   abbrev pub IsLine : ScriptLine → Type 0

@@ -4,8 +4,7 @@ use Rattle.std.proofs.lemmas.Bool.{cond_both}
 use Rattle.lwb_base.specs.declared.event.Event.{Event}
 use Rattle.lwb_base.specs.declared.event.Event.TheVariants.{Boot, Alarm, Sent, Heard}
 use Rattle.radio_model.specs.declared.sending.Sending.{Sending}
-use Rattle.scenario_text.specs.declared.script.Act.{Act}
-use Rattle.scenario_text.specs.declared.script.Act.TheVariants.{On, Off, Declare, Leave, Put}
+use Rattle.bus_rules.specs.declared.act.Act.{Act}
 use Rattle.scenario_text.specs.declared.script.ScriptLine.{ScriptLine}
 use Rattle.bus_rules.specs.Cores.{Setup}
 use Rattle.node_core.specs.Nodes.{rebooted}
@@ -13,6 +12,7 @@ use Rattle.air_log.specs.Devices.{Device, Power, PowerOff, PowerOn, Listening, O
 use Rattle.air_log.specs.ScriptedDevices.{device_after_act, device_after_line, device_after_on}
 use Rattle.air_log.specs.Trails.{Reception, device_after_reception, device_after_end, device_ended_by, alarm_is_due, one_alarm, device_after_start, begun_by}
 use Rattle.air_log.specs.Trails.{starts}
+use Rattle.air_log.proofs.DeviceActs.{each_act}
 use Rattle.air_log.proofs.KeptByEvents.{IsKept, in_event, in_end}
 use Rattle.air_log.proofs.NextDue.{Ahead, Sends, kept_ahead, kept_sends, end_over, alarm_over, begin_over}
 use Rattle.air_log.proofs.EventPower.{stepped_power}
@@ -22,17 +22,12 @@ use Rattle.law_trails.proofs.RowsOfDevices.{switched_on_is}
 module _ (clock : ℕ → ℕ) (s : Setup) (t : ℕ) where
   -- what each event keeps, a script line keeps
   pub act_keeps : (P : Device → Type 0) → IsKept P clock s t → (d : Device) (a : Act) (p : Power) → P d → P (device_after_act clock s t d a p)
-  act_keeps P kept d On (PowerOff boots) is =
-      let n = PowerOn (rebooted (boots + 1)) in in_event P clock s t Boot None (record d { power = n }) kept (kept.powered d n is)
-  act_keeps P kept d On (PowerOn n) is = is
-  act_keeps P kept d Off (PowerOff boots) is = is
-  act_keeps P kept d Off (PowerOn n) is = kept.off d n.core.boot is
-  act_keeps P kept d (Declare i interval) (PowerOff boots) is = is
-  act_keeps P kept d (Declare i interval) (PowerOn n) is = kept.powered d _ is
-  act_keeps P kept d (Leave i) (PowerOff boots) is = is
-  act_keeps P kept d (Leave i) (PowerOn n) is = kept.powered d _ is
-  act_keeps P kept d (Put i payload) (PowerOff boots) is = is
-  act_keeps P kept d (Put i payload) (PowerOn n) is = kept.powered d _ is
+  act_keeps P kept d a p is =
+      each_act clock s t d P a p is
+      (λ boots at.
+      let n = PowerOn (rebooted (boots + 1)) in
+      in_event P clock s t Boot None (record d { power = n }) kept (kept.powered d n is))
+      (λ n at. kept.off d n.core.boot is) (λ n at. kept.powered d _ is)
 
   -- a node that is off is silent
   abbrev pub Silent : Device → Type 0
@@ -46,16 +41,10 @@ module _ (clock : ℕ → ℕ) (s : Setup) (t : ℕ) where
   event_silent e x d is = silent_by e x d d.power refl is
 
   act_silent : (d : Device) (a : Act) (p : Power) → d.power ≡ p → SilentBy d p → Silent (device_after_act clock s t d a p)
-  act_silent d On (PowerOff boots) on is = subst (SilentBy (device_after_on clock s t boots d)) (sym (switched_on_is clock s t boots d).power) tt
-  act_silent d On (PowerOn n) on is = subst (SilentBy d) (sym on) tt
-  act_silent d Off (PowerOff boots) on is = subst (SilentBy d) (sym on) is
-  act_silent d Off (PowerOn n) on is = record { radio = refl; alarm = refl; ordered = refl }
-  act_silent d (Declare i interval) (PowerOff boots) on is = subst (SilentBy d) (sym on) is
-  act_silent d (Declare i interval) (PowerOn n) on is = tt
-  act_silent d (Leave i) (PowerOff boots) on is = subst (SilentBy d) (sym on) is
-  act_silent d (Leave i) (PowerOn n) on is = tt
-  act_silent d (Put i payload) (PowerOff boots) on is = subst (SilentBy d) (sym on) is
-  act_silent d (Put i payload) (PowerOn n) on is = tt
+  act_silent d a p on is =
+      each_act clock s t d Silent a p (subst (SilentBy d) (sym on) is)
+      (λ boots at. subst (SilentBy (device_after_on clock s t boots d)) (sym (switched_on_is clock s t boots d).power) tt)
+      (λ n at. record { radio = refl; alarm = refl; ordered = refl }) (λ n at. tt)
 
   pub line_known : (d : Device) (l : ScriptLine) → NothingDue t Lines d → NothingDue t Lines (device_after_line clock s t d l)
   line_known d l is =

@@ -1,18 +1,22 @@
 -- What the script lines of a tick leave of a node.
-use Rattle.std.proofs.Common.{◌≡◌, ◌≢◌, ℕ, ◌+◌, ◌≤◌, ◌↔◌, ◌⊎◌, inl, inr, List, [], ◌∷◌, Bool, ◌==◌, ◌&&◌, fold, Contains, refl, sym, ◌∙◌, ap, subst, arith}
-use Rattle.std.proofs.lemmas.Bool.{cond_both, and_parts, and_from, eqb-true, eq-eqb}
+use Rattle.std.proofs.Common.{◌≡◌, ◌≢◌, ℕ, ◌+◌, ◌≤◌, ◌↔◌, ◌⊎◌, inl, inr, List, [], ◌∷◌, Bool, ◌==◌, ◌&&◌, fold, Contains, Some, None, Option, refl, sym, ◌∙◌, ap, subst, arith}
+use Rattle.std.proofs.lemmas.Bool.{and_parts, and_from, eqb-true, eq-eqb}
 use Rattle.scenario_text.specs.ScenarioParts.{ScenarioParts}
-use Rattle.scenario_text.specs.declared.script.Act.{Act}
-use Rattle.scenario_text.specs.declared.script.Act.TheVariants.{On, Off, Declare, Leave, Put}
+use Rattle.bus_rules.specs.declared.act.Act.{Act}
+use Rattle.bus_rules.specs.declared.act.Act.TheVariants.{Off}
+use Rattle.bus_rules.specs.declared.act.Switch.{Switch}
+use Rattle.bus_rules.specs.declared.act.Switch.TheVariants as switch
+use Rattle.bus_rules.specs.States.{switch_of}
+use Rattle.bus_rules.proofs.Switches.{switches_off}
 use Rattle.scenario_text.specs.declared.script.ScriptLine.{ScriptLine}
-use Rattle.bus_rules.specs.States.{refuses, queues}
-use Rattle.bus_rules.specs.Streams.{Streams, cleared, declared, streams_after_leaving, put}
+use Rattle.bus_rules.specs.Streams.{Streams, cleared, streams_after_act}
 use Rattle.bus_rules.specs.Cores.{Core, Setup}
 use Rattle.node_core.specs.Nodes.{Node, rebooted}
 use Rattle.node_core.specs.Rows.{boots}
 use Rattle.node_core.specs.Nodes.{with_streams}
 use Rattle.air_log.specs.Devices.{Device, Power, PowerOff, PowerOn}
-use Rattle.air_log.specs.ScriptedDevices.{device_after_act, device_after_line, device_after_on, with_new_core}
+use Rattle.air_log.specs.ScriptedDevices.{device_after_act, device_after_line, device_after_on}
+use Rattle.air_log.proofs.DeviceActs.{told, by_act}
 use Rattle.air_log.specs.Trails.{setup_of, frame_start, lines_at, device_after_script}
 use Rattle.lwb_base.proofs.Elements.{not_in_none, contains_head, contains_tail, contains_cases, in_filtered, filtered}
 use Rattle.law_trails.specs.Phases.{IsSilent, SilentBy}
@@ -51,17 +55,13 @@ module _ (clock : ℕ → ℕ) (s : Setup) (t before : ℕ) where
   counted count d fewer = subst (CountsBy (device_after_on clock s t count d)) (sym (switched_on_is clock s t count d).power) (tt, omega (arith, fewer))
 
   counts_on : (d : Device) (a : Act) (p : Power) → d.power ≡ p → CountsBy d p → Counts (device_after_act clock s t d a p)
-  counts_on d On (PowerOff count) at is = counted count d is.1
-  counts_on d On (PowerOn n) at is = subst (CountsBy d) (sym at) is
-  counts_on d Off (PowerOff count) at is = subst (CountsBy d) (sym at) is
-  counts_on d Off (PowerOn n) at is = (record { radio = refl; alarm = refl; ordered = refl }, is.1)
-  counts_on d (Declare i interval) (PowerOff count) at is = subst (CountsBy d) (sym at) is
-  counts_on d (Declare i interval) (PowerOn n) at is = is
-  counts_on d (Leave i) (PowerOff count) at is = subst (CountsBy d) (sym at) is
-  counts_on d (Leave i) (PowerOn n) at is = is
-  counts_on d (Put i payload) (PowerOff count) at is = subst (CountsBy d) (sym at) is
-  counts_on d (Put i payload) (PowerOn n) at is =
-      cond_both (refuses i n.core) n.core (queues i payload n.core) (λ (c : Core). Counts (with_new_core d n c)) (λ lost. is) (λ kept. is)
+  counts_on d a p at is =
+      by_act clock s t d (λ b q e. d.power ≡ q → CountsBy d q → Counts e) (λ count at is. counted count d is.1) (λ n at is. subst (CountsBy d) (sym at) is)
+      (λ count at is. subst (CountsBy d) (sym at) is) (λ n at is. (record { radio = refl; alarm = refl; ordered = refl }, is.1)) streams a p at is
+    where
+      streams : (b : Act) (q : Power) → switch_of b ≡ None → d.power ≡ q → CountsBy d q → Counts (told d b q)
+      streams b (PowerOff count) none at is = subst (CountsBy d) (sym at) is
+      streams b (PowerOn n) none at is = is
 
   goes_off : (d : Device) (p : Power) → d.power ≡ p → CountsBy d p → Gone (device_after_act clock s t d Off p)
   goes_off d (PowerOff count) at is = subst (GoneBy d) (sym at) is
@@ -91,19 +91,14 @@ module _ (clock : ℕ → ℕ) (s : Setup) (t before : ℕ) where
       )
 
   gone_on : (d : Device) (a : Act) (p : Power) → d.power ≡ p → GoneBy d p → Gone (device_after_act clock s t d a p)
-  gone_on d On (PowerOff count) at is = on_again count d is.0 is.1
-  gone_on d On (PowerOn n) at is = subst (GoneBy d) (sym at) is
-  gone_on d Off (PowerOff count) at is = subst (GoneBy d) (sym at) is
-  gone_on d Off (PowerOn n) at is = (record { radio = refl; alarm = refl; ordered = refl }, (let later = is.1.0 in omega (arith, later)))
-  gone_on d (Declare i interval) (PowerOff count) at is = subst (GoneBy d) (sym at) is
-  gone_on d (Declare i interval) (PowerOn n) at is = other_streams d n (declared i interval n.core.streams) is.1
-  gone_on d (Leave i) (PowerOff count) at is = subst (GoneBy d) (sym at) is
-  gone_on d (Leave i) (PowerOn n) at is = other_streams d n (streams_after_leaving i n.core.streams) is.1
-  gone_on d (Put i payload) (PowerOff count) at is = subst (GoneBy d) (sym at) is
-  gone_on d (Put i payload) (PowerOn n) at is =
-      cond_both (refuses i n.core) n.core (queues i payload n.core) (λ (c : Core). Gone (with_new_core d n c))
-      (λ lost. other_streams d n n.core.streams is.1)
-      (λ kept. other_streams d n (put i payload n.core.streams) is.1)
+  gone_on d a p at is =
+      by_act clock s t d (λ b q e. d.power ≡ q → GoneBy d q → Gone e) (λ count at is. on_again count d is.0 is.1) (λ n at is. subst (GoneBy d) (sym at) is)
+      (λ count at is. subst (GoneBy d) (sym at) is)
+      (λ n at is. (record { radio = refl; alarm = refl; ordered = refl }, (let later = is.1.0 in omega (arith, later)))) streams a p at is
+    where
+      streams : (b : Act) (q : Power) → switch_of b ≡ None → d.power ≡ q → GoneBy d q → Gone (told d b q)
+      streams b (PowerOff count) none at is = subst (GoneBy d) (sym at) is
+      streams b (PowerOn n) none at is = other_streams d n (streams_after_act b n.core.streams) is.1
 
   gone_lines : (ls : List ScriptLine) (d : Device) → Gone d → Gone (fold (device_after_line clock s t) d ls)
   gone_lines [] d is = is
@@ -135,20 +130,16 @@ module _ (clock : ℕ → ℕ) (s : Setup) (t : ℕ) (n : Node) (d : Device) whe
 
   -- the node of e, with what is given
   stays : (e : Device) (a : Act) → a ≢ Off → DeviceStaysOn n d e → DeviceStaysOn n d (device_after_act clock s t e a e.power)
-  stays e a other is = subst (λ (p : Power). DeviceStaysOn n d (device_after_act clock s t e a p)) (sym is.power) (by_act a other)
+  stays e a other is =
+      by_act clock s t e (λ b q f. b ≢ Off → q ≡ PowerOn m → DeviceStaysOn n d f) (λ boots differs on. cc) (λ k differs on. is) (λ boots differs on. cc)
+      (λ k differs on. absurd (differs refl)) streams a e.power other is.power
     where
       m : Node
       m = with_streams n is.streams
 
-      by_act : (a : Act) → a ≢ Off → DeviceStaysOn n d (device_after_act clock s t e a (PowerOn m))
-      by_act On other = is
-      by_act Off other = absurd (other refl)
-      by_act (Declare i interval) other = new_streams e is m (declared i interval is.streams)
-      by_act (Leave i) other = new_streams e is m (streams_after_leaving i is.streams)
-      by_act (Put i payload) other =
-          cond_both (refuses i m.core) m.core (queues i payload m.core) (λ (c : Core). DeviceStaysOn n d (with_new_core e m c))
-          (λ lost. new_streams e is m is.streams)
-          (λ kept. new_streams e is m (put i payload is.streams))
+      streams : (b : Act) (q : Power) → switch_of b ≡ None → b ≢ Off → q ≡ PowerOn m → DeviceStaysOn n d (told e b q)
+      streams b q none differs on =
+          subst (λ (r : Power). DeviceStaysOn n d (told e b r)) (sym on) (new_streams e is m (streams_after_act b is.streams))
 
   stays_lines : (ls : List ScriptLine) (e : Device) → DeviceStaysOn n d e → ((l : ScriptLine) → Contains ls l → l.act ≢ Off)
       → DeviceStaysOn n d (fold (device_after_line clock s t) e ls)
@@ -159,26 +150,24 @@ module _ (clock : ℕ → ℕ) (s : Setup) (t : ℕ) (n : Node) (d : Device) whe
 
 pub off_or_none : (ls : List ScriptLine) → ((l : ScriptLine) × Contains ls l × (l.act ≡ Off)) ⊎ ((l : ScriptLine) → Contains ls l → l.act ≢ Off)
 off_or_none [] = inr (λ l there. absurd (not_in_none l there))
-off_or_none (x ∷ ls) = by_act x.act refl (off_or_none ls)
+off_or_none (x ∷ ls) = by_switch (switch_of x.act) refl (off_or_none ls)
   where
-    other : (a : Act) → x.act ≡ a → a ≢ Off → ((l : ScriptLine) × Contains ls l × (l.act ≡ Off)) ⊎ ((l : ScriptLine) → Contains ls l → l.act ≢ Off)
+    other : x.act ≢ Off → ((l : ScriptLine) × Contains ls l × (l.act ≡ Off)) ⊎ ((l : ScriptLine) → Contains ls l → l.act ≢ Off)
         → ((l : ScriptLine) × Contains (x ∷ ls) l × (l.act ≡ Off)) ⊎ ((l : ScriptLine) → Contains (x ∷ ls) l → l.act ≢ Off)
-    other a is differs rest =
+    other differs rest =
         elim rest [
           | inl one ↦ inl (one.0, contains_tail x ls one.0 one.1, one.2)
           | inr none ↦ inr (λ l there off. elim (contains_cases x ls l there) [
-            | inl same ↦ differs (sym is ∙ ap (λ (k : ScriptLine). k.act) same ∙ off)
+            | inl same ↦ differs (ap (λ (k : ScriptLine). k.act) same ∙ off)
             | inr later ↦ none l later off
           ])
         ]
 
-    by_act : (a : Act) → x.act ≡ a → ((l : ScriptLine) × Contains ls l × (l.act ≡ Off)) ⊎ ((l : ScriptLine) → Contains ls l → l.act ≢ Off)
+    by_switch : (w : Option Switch) → switch_of x.act ≡ w → ((l : ScriptLine) × Contains ls l × (l.act ≡ Off)) ⊎ ((l : ScriptLine) → Contains ls l → l.act ≢ Off)
         → ((l : ScriptLine) × Contains (x ∷ ls) l × (l.act ≡ Off)) ⊎ ((l : ScriptLine) → Contains (x ∷ ls) l → l.act ≢ Off)
-    by_act Off is rest = inl (x, contains_head x ls, is)
-    by_act On is rest = other On is (λ e. cc) rest
-    by_act (Declare i interval) is rest = other (Declare i interval) is (λ e. cc) rest
-    by_act (Leave i) is rest = other (Leave i) is (λ e. cc) rest
-    by_act (Put i payload) is rest = other (Put i payload) is (λ e. cc) rest
+    by_switch (Some switch.Off) is rest = inl (x, contains_head x ls, switches_off x.act is)
+    by_switch (Some switch.On) is rest = other (λ off. let also = ap switch_of off in cc) rest
+    by_switch None is rest = other (λ off. let also = ap switch_of off in cc) rest
 
 pub went_off : (s : ScenarioParts) (v : ℕ) (clock : ℕ → ℕ) (t : ℕ) (d : Device) → SilentBy d d.power
     → (l : ScriptLine) → Contains (lines_at s v t) l → l.act ≡ Off → WentOff clock (setup_of s v) t (boots_of_power d.power) (device_after_script s v clock t d)

@@ -26,7 +26,8 @@ use Rattle.law_trails.specs.PacketKinds.{IsOfProfile}
 use Rattle.law_trails.specs.CoreRanges.{IsSetup, IsCore}
 use Rattle.law_trails.proofs.StreamsInRange.{stream_is}
 use Rattle.law_trails.proofs.SpokenInRange.{kind_of, schedule_short, room}
-use Rattle.law_trails.proofs.CoresInRange.{no_scan, host_now, host_plan_of}
+use Rattle.law_trails.proofs.CoresInRange.{no_scan, host_plan_of}
+use Rattle.bus_rules.proofs.Ranks.{host_now}
 
 pub record IsSayable (s : Setup) (k : Kind) (j : ℕ) (m : Message) : Type 0 where
   pub may : MaySay j m

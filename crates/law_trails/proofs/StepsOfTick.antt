@@ -11,13 +11,12 @@ use Rattle.tick_clock.specs.Clocks.{IsClock}
 use Rattle.radio_model.specs.declared.sending.Sending.{Sending}
 use Rattle.scenario_text.specs.ScenarioParts.{ScenarioParts}
 use Rattle.scenario_text.specs.ScenarioFacts.{IsSoundScenario, IsScriptLine}
-use Rattle.scenario_text.specs.declared.script.Act.{Act}
-use Rattle.scenario_text.specs.declared.script.Act.TheVariants.{On, Off, Declare, Leave, Put}
+use Rattle.bus_rules.specs.declared.act.Act.{Act}
 use Rattle.scenario_text.specs.declared.script.ScriptLine.{ScriptLine}
 use Rattle.bus_rules.specs.Tuning.{rank_of}
-use Rattle.bus_rules.specs.Cores.{Core, Setup}
+use Rattle.bus_rules.specs.Cores.{Setup}
 use Rattle.bus_rules.specs.Slots.{Message, ScheduleOf, DataOf, RequestOf}
-use Rattle.bus_rules.specs.States.{refuses, queues}
+use Rattle.bus_rules.specs.States.{switch_of, core_after_act}
 use Rattle.lwb_member.specs.Said.{message_of}
 use Rattle.node_core.specs.declared.stage.Stage.{Stage}
 use Rattle.node_core.specs.declared.stage.Stage.TheVariants.{Idle, Scanning, AwaitFrame, AwaitSlot, InWindow}
@@ -29,6 +28,7 @@ use Rattle.air_log.specs.AlarmRuns.{IsAlarmRun, after_alarms}
 use Rattle.air_log.specs.Trails.{Reception, setup_of, run_end, lines_at, ending_at, device_after_reception, device_after_end, device_ended_by, alarm_is_due}
 use Rattle.air_log.specs.Trails.{device_after_start, begun_by, starts, before_tick}
 use Rattle.air_log.proofs.AlarmRuns.{alarms_are_run}
+use Rattle.air_log.proofs.DeviceActs.{told, by_act}
 use Rattle.air_log.proofs.NextDue.{some_byte}
 use Rattle.lwb_base.proofs.Elements.{contains_head, filtered}
 use Rattle.law_trails.specs.Phases.{Phase, Lines, Hearings, End, Alarms, Start, Over, device_at, NothingDue, SilentBy, IsNextLineOf, IsNextHearing, IsNextAlarm}
@@ -78,19 +78,14 @@ module _ (P : ℕ → Phase → Device → Type 0) (s : ScenarioParts) (v : ℕ)
   -- script lines
   by_line : (d : Device) (l : ScriptLine) → In Lines d → ToldNext l d → (a : Act) (p : Power) → l.act ≡ a → d.power ≡ p
       → P t Lines (device_after_act clock node t d a p)
-  by_line d l here next On (PowerOff count) act on = keeps.boot d l count here next act on
-  by_line d l here next On (PowerOn n) act on = here.holds
-  by_line d l here next Off (PowerOff count) act on = here.holds
-  by_line d l here next Off (PowerOn n) act on = keeps.off d l n here next act on
-  by_line d l here next (Declare i interval) (PowerOff count) act on = here.holds
-  by_line d l here next (Declare i interval) (PowerOn n) act on = keeps.declaring d l n i interval here next act on
-  by_line d l here next (Leave i) (PowerOff count) act on = here.holds
-  by_line d l here next (Leave i) (PowerOn n) act on = keeps.leaving d l n i here next act on
-  by_line d l here next (Put i payload) (PowerOff count) act on = here.holds
-  by_line d l here next (Put i payload) (PowerOn n) act on =
-      cond_both (refuses i n.core) n.core (queues i payload n.core) (λ (c : Core). P t Lines (with_new_core d n c))
-      (λ lost. subst (λ (p : Power). P t Lines (record d { power = p })) on here.holds)
-      (λ kept. keeps.putting d l n i payload here next act on kept)
+  by_line d l here next =
+      by_act clock node t d (λ a p e. l.act ≡ a → d.power ≡ p → P t Lines e) (λ count act on. keeps.boot d l count here next act on) (λ n act on. here.holds)
+      (λ count act on. here.holds) (λ n act on. keeps.off d l n here next act on) streamed
+    where
+      streamed : (a : Act) (p : Power) → switch_of a ≡ None → l.act ≡ a → d.power ≡ p → P t Lines (told d a p)
+      streamed a (PowerOff count) other act on = here.holds
+      streamed a (PowerOn n) other act on =
+          subst (λ (b : Act). P t Lines (with_new_core d n (core_after_act b n.core))) act (keeps.streaming d l n here next (ap switch_of act ∙ other) on)
 
   lines_from : (told rest : List ScriptLine) (d : Device) → lines_at s v t ≡ told ++ rest
       → d ≡ fold (device_after_line clock node t) (before_tick s v clock hs t) told → Holds Lines d → Holds Lines (fold (device_after_line clock node t) d rest)

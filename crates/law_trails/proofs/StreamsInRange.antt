@@ -8,10 +8,13 @@ use Rattle.std.proofs.lemmas.List.Elements.{All-nil, All-set, All-map, All-push,
 use Rattle.lwb_base.specs.Profile.{Numbers}
 use Rattle.lwb_base.specs.Messages.{Ask, Schedule, node_of, stream_of}
 use Rattle.schedule_codec.specs.AckLists.{ask_in_range}
+use Rattle.bus_rules.specs.declared.act.Act.{Act}
+use Rattle.bus_rules.specs.declared.act.Act.TheVariants.{On, Off, Declare, Leave, Put}
+use Rattle.bus_rules.specs.States.{IsAct}
 use Rattle.bus_rules.specs.Streams.{WaitingPacket, Stream, Streams, no_stream, cleared, stream_at, with_stream, queued, put_to, put, declared}
 use Rattle.bus_rules.specs.Streams.{streams_after_leaving, taken, without_first, unbound, heard_host, is_host, names, acknowledged, owns, forgets, forgotten}
 use Rattle.bus_rules.specs.Streams.{with_granted_interval, with_agreed, after_contention, tries_after, due_stream, schedule_heard, granted_stream, named_in}
-use Rattle.bus_rules.specs.Streams.{wishes, emptied}
+use Rattle.bus_rules.specs.Streams.{wishes, emptied, streams_after_act}
 use Rattle.law_trails.specs.StreamRanges.{IsWaiting, IsStream, AreStreams}
 
 -- the element at a place, or another
@@ -40,12 +43,12 @@ module _ (p : Numbers) where
   with_are : (s : Streams) (i : ℕ) (x : Stream) → AreStreams p s → IsStream p x → AreStreams p (with_stream i x s)
   with_are s i x are is = record { four = length-set s.all i x ∙ are.four; each = All-set (IsStream p) s.all i x is are.each; tries = are.tries }
 
-  pub declared_are : (s : Streams) (i interval : ℕ) → interval ≤ 120 → AreStreams p s → AreStreams p (declared i interval s)
+  declared_are : (s : Streams) (i interval : ℕ) → interval ≤ 120 → AreStreams p s → AreStreams p (declared i interval s)
   declared_are s i interval few are =
       let x = stream_is s i are in
       with_are s i (wishes interval (stream_at s i)) are (record { wish = few; agreed = x.agreed; few = x.few; next = x.next; queue = x.queue })
 
-  pub left_are : (s : Streams) (i : ℕ) → AreStreams p s → AreStreams p (streams_after_leaving i s)
+  left_are : (s : Streams) (i : ℕ) → AreStreams p s → AreStreams p (streams_after_leaving i s)
   left_are s i are =
       let x = stream_is s i are in
       with_are s i (emptied (stream_at s i)) are (record {
@@ -84,8 +87,16 @@ module _ (p : Numbers) where
       by_tests false true false few more = is
       by_tests false true true few more = queued_is x payload short (ltb-true (length x.queue) 16 few) (ltb-true x.next 65535 more) is
 
-  pub put_are : (s : Streams) (i : ℕ) (payload : List ℕ) → length payload ≤ p.payload_max → AreStreams p s → AreStreams p (put i payload s)
+  put_are : (s : Streams) (i : ℕ) (payload : List ℕ) → length payload ≤ p.payload_max → AreStreams p s → AreStreams p (put i payload s)
   put_are s i payload short are = with_are s i (put_to payload (stream_at s i)) are (put_to_is (stream_at s i) payload short (stream_is s i are))
+
+  -- what a script has the node do
+  pub act_are : (s : Streams) (a : Act) → IsAct p a → AreStreams p s → AreStreams p (streams_after_act a s)
+  act_are s On is are = are
+  act_are s Off is are = are
+  act_are s (Declare i interval) is are = declared_are s i interval is.2 are
+  act_are s (Leave i) is are = left_are s i are
+  act_are s (Put i payload) is are = put_are s i payload is.1 are
 
   pub taken_are : (s : Streams) (i : ℕ) → AreStreams p s → AreStreams p (taken i s)
   taken_are s i are =

@@ -7,7 +7,7 @@ use Rattle.lwb_member.specs.Said.{message_of}
 use Rattle.bus_rules.specs.Slots.{ScheduleOf, part_of}
 use Rattle.bus_rules.specs.declared.part.Part.TheVariants.{Data, Contention}
 use Rattle.scenario_text.specs.ScenarioParts.{ScenarioParts}
-use Rattle.scenario_text.specs.declared.script.Act.TheVariants.{Off}
+use Rattle.bus_rules.specs.declared.act.Act.TheVariants.{Off}
 use Rattle.radio_model.specs.declared.sending.Sending.{Sending}
 use Rattle.radio_model.specs.OnAir.{Hearing}
 use Rattle.air_log.specs.declared.entry.Entry.{Entry}

@@ -18,9 +18,7 @@ keeps_nothing : (s : ScenarioParts) (v : ℕ) (clock : ℕ → ℕ) (hs : List R
 keeps_nothing s v clock hs t = record {
   boot = λ d l count here next act on. tt;
   off = λ d l n here next act on. tt;
-  declaring = λ d l n i interval here next act on. tt;
-  leaving = λ d l n i here next act on. tt;
-  putting = λ d l n i payload here next act on kept. tt;
+  streaming = λ d l n here next act on. tt;
   joining = λ d h n y here next on stage says rank. tt;
   hearing = λ d h n j w here next on stage. tt;
   sent = λ d x n j w here is own ends on stage waits. tt;

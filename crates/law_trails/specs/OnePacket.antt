@@ -6,7 +6,7 @@ use Rattle.std.specs.Prelude.{ℕ, List, [], ◌∷◌, ◌++◌, ◌==◌, if�
 use Rattle.lwb_base.specs.Profile.{one}
 use Rattle.tick_clock.specs.Rates.{segment_reading}
 use Rattle.scenario_text.specs.ScenarioParts.{ScenarioParts}
-use Rattle.scenario_text.specs.declared.script.Act.TheVariants.{On, Declare, Put}
+use Rattle.bus_rules.specs.declared.act.Act.TheVariants.{On, Declare, Put}
 use Rattle.radio_model.specs.declared.sending.Sending.{Sending}
 use Rattle.radio_model.specs.OnAir.{Hearing, Tuning}
 use Rattle.air_log.specs.declared.entry.Entry.{Entry}

@@ -9,12 +9,12 @@ use Rattle.radio_model.specs.declared.sending.Sending.{Sending}
 use Rattle.scenario_text.specs.ScenarioParts.{ScenarioParts}
 use Rattle.scenario_text.specs.ScenarioFacts.{IsSoundScenario}
 use Rattle.scenario_text.specs.FloodParts.{knows}
-use Rattle.scenario_text.specs.declared.script.Act.TheVariants.{On, Off, Declare, Leave, Put}
+use Rattle.bus_rules.specs.declared.act.Act.TheVariants.{On, Off}
 use Rattle.scenario_text.specs.declared.script.ScriptLine.{ScriptLine}
 use Rattle.bus_rules.specs.Tuning.{rank_of}
 use Rattle.bus_rules.specs.Cores.{Setup}
 use Rattle.bus_rules.specs.Slots.{ScheduleOf}
-use Rattle.bus_rules.specs.States.{declares, leaves, refuses, queues}
+use Rattle.bus_rules.specs.States.{switch_of, core_after_act}
 use Rattle.lwb_member.specs.Said.{message_of}
 use Rattle.node_core.specs.declared.stage.Stage.{Stage}
 use Rattle.node_core.specs.declared.stage.Stage.TheVariants.{Idle, Scanning, AwaitFrame, AwaitSlot, InWindow}
@@ -66,7 +66,7 @@ pub record Now (P : ℕ → Phase → Device → Type 0) (s : ScenarioParts) (t 
   pub holds : P t phase d
 
 -- what each step of tick t at v keeps, a name each. Left out is what changes nothing: a line that switches on a node that
--- is on, all other lines where the power is off, a put that is rejected, and packets for which the table has no row
+-- is on, all other lines where the power is off, and packets for which the table has no row
 module _ (P : ℕ → Phase → Device → Type 0) (s : ScenarioParts) (v : ℕ) (clock : ℕ → ℕ) (hs : List Reception) (t : ℕ) where
   abbrev pub Here : Phase → Device → Type 0
   Here phase d = Now P s t phase d
@@ -96,18 +96,10 @@ module _ (P : ℕ → Phase → Device → Type 0) (s : ScenarioParts) (v : ℕ)
   OffKept = (d : Device) (l : ScriptLine) (n : Node) → Here Lines d → ToldNext l d → l.act ≡ Off → d.power ≡ PowerOn n
       → P t Lines (device_after_off v t n d)
 
-  abbrev pub DeclareKept : Type 0
-  DeclareKept = (d : Device) (l : ScriptLine) (n : Node) (i interval : ℕ) → Here Lines d → ToldNext l d
-      → l.act ≡ Declare i interval → d.power ≡ PowerOn n → P t Lines (with_new_core d n (declares i interval n.core))
-
-  abbrev pub LeaveKept : Type 0
-  LeaveKept = (d : Device) (l : ScriptLine) (n : Node) (i : ℕ) → Here Lines d → ToldNext l d
-      → l.act ≡ Leave i → d.power ≡ PowerOn n → P t Lines (with_new_core d n (leaves i n.core))
-
-  abbrev pub PutKept : Type 0
-  PutKept = (d : Device) (l : ScriptLine) (n : Node) (i : ℕ) (payload : List ℕ) → Here Lines d → ToldNext l d
-      → l.act ≡ Put i payload → d.power ≡ PowerOn n → refuses i n.core ≡ false
-      → P t Lines (with_new_core d n (queues i payload n.core))
+  -- an act for a stream at a node that is on
+  abbrev pub StreamKept : Type 0
+  StreamKept = (d : Device) (l : ScriptLine) (n : Node) → Here Lines d → ToldNext l d
+      → switch_of l.act ≡ None → d.power ≡ PowerOn n → P t Lines (with_new_core d n (core_after_act l.act n.core))
 
   -- receptions: while scanning, of a schedule of the rank, and in a window
   abbrev pub JoiningKept : Type 0
@@ -176,9 +168,7 @@ module _ (P : ℕ → Phase → Device → Type 0) (s : ScenarioParts) (v : ℕ)
   pub record Keeps : Type 0 where
     pub boot : BootKept
     pub off : OffKept
-    pub declaring : DeclareKept
-    pub leaving : LeaveKept
-    pub putting : PutKept
+    pub streaming : StreamKept
     pub joining : JoiningKept
     pub hearing : HearingKept
     pub sent : SentKept

@@ -5,7 +5,7 @@ ghost use Rattle.lwb_base.specs.Profile.{airtime};
 ghost use Rattle.scenario_text.specs.ScenarioParts.{ScenarioParts};
 ghost use Rattle.scenario_text.specs.ScenarioFacts.{IsSoundScenario};
 ghost use Rattle.scenario_text.specs.FloodParts.{knows};
-ghost use Rattle.scenario_text.specs.declared.script.Act.TheVariants.{Off};
+ghost use Rattle.bus_rules.specs.declared.act.Act.TheVariants.{Off};
 ghost use Rattle.scenario_text.specs.declared.script.ScriptLine.{ScriptLine};
 ghost use Rattle.radio_model.specs.declared.sending.Sending.{Sending};
 ghost use Rattle.radio_model.specs.OnAir.{Tuning};

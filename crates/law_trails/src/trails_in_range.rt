@@ -11,7 +11,9 @@ ghost use Rattle.glossy_relay.specs.FloodState.{FloodState};
 ghost use Rattle.glossy_relay.specs.Relaying.{is_packet, reply_to};
 ghost use Rattle.glossy_relay.specs.declared.flood.Reply.TheVariants.{Relay};
 ghost use Rattle.bus_rules.specs.Plans.{slots_named};
-ghost use Rattle.bus_rules.specs.Streams.{Streams, after_contention, cleared, declared, streams_after_leaving, put, schedule_heard, taken, unbound};
+ghost use Rattle.bus_rules.specs.declared.act.Act.{Act};
+ghost use Rattle.bus_rules.specs.States.{IsAct};
+ghost use Rattle.bus_rules.specs.Streams.{Streams, after_contention, cleared, streams_after_act, schedule_heard, taken, unbound};
 ghost use Rattle.bus_rules.specs.Tables.{Table};
 ghost use Rattle.bus_rules.specs.HostPlans.{host_plan};
 ghost use Rattle.bus_rules.specs.Cores.{Setup};
@@ -37,16 +39,13 @@ ghost use Rattle.law_trails.specs.RowRanges.{HoldsOfHeard, IsStepped};
 ghost use Rattle.law_trails.specs.DeviceRanges.{AreShort, HeardBefore, HoldsThrough, IsWellAndProper, IsWell};
 ghost use Rattle.law_trails.specs.LogRanges.{HearsWhatIsSent};
 
-/// The streams of a node are in their ranges as a boot leaves them (`boot`), and stay so where an interval is declared, a
-/// stream is left and a packet queued or taken (`declare`, `leave`, `queue`, `take`), in the node's contention slot
-/// (`contend`), where it becomes a host (`host`), and by an accepted schedule whose acknowledgements are in range (`hear`).
+/// The streams of a node are in their ranges as a boot leaves them (`boot`), and stay so by what a script has the
+/// node do (`act`), where a packet is taken (`take`), in the node's contention slot (`contend`), where it becomes a host
+/// (`host`), and by an accepted schedule whose acknowledgements are in range (`hear`).
 pub fn streams_stay_in_range()
     ensures boot { (p : Numbers) → AreStreams p cleared }
-    ensures declare { (p : Numbers) (s : Streams) (i interval : ℕ) → interval ≤ 120
-        → AreStreams p s → AreStreams p (declared i interval s) }
-    ensures leave { (p : Numbers) (s : Streams) (i : ℕ) → AreStreams p s → AreStreams p (streams_after_leaving i s) }
-    ensures queue { (p : Numbers) (s : Streams) (i : ℕ) (payload : List ℕ) → length payload ≤ p.payload_max
-        → AreStreams p s → AreStreams p (put i payload s) }
+    ensures act { (p : Numbers) (s : Streams) (a : Act) → IsAct p a
+        → AreStreams p s → AreStreams p (streams_after_act a s) }
     ensures take { (p : Numbers) (s : Streams) (i : ℕ) → AreStreams p s → AreStreams p (taken i s) }
     ensures contend { (p : Numbers) (s : Streams) (node : ℕ)
         → AreStreams p s → AreStreams p (after_contention node s) }

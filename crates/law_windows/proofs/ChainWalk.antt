@@ -6,7 +6,7 @@ use Rattle.lwb_base.specs.declared.event.Event.TheVariants.{Boot, Alarm, Heard, 
 use Rattle.glossy_relay.specs.Relaying.{after_sent}
 use Rattle.bus_rules.specs.Tuning.{rank_of}
 use Rattle.bus_rules.specs.Cores.{Core, Setup, frame_ended}
-use Rattle.bus_rules.specs.States.{declares, leaves, queues}
+use Rattle.bus_rules.specs.States.{core_after_act}
 use Rattle.node_core.specs.declared.stage.Stage.{Stage}
 use Rattle.node_core.specs.declared.stage.Stage.TheVariants.{Scanning, AwaitFrame, AwaitSlot, InWindow}
 use Rattle.node_core.specs.Windows.{Window}
@@ -227,11 +227,8 @@ module _ (s : ScenarioParts) (clocks : ℕ → ℕ → ℕ) (air : List Entry) (
           chained_still d.made.windows d.power (PowerOff n.core.boot) here.holds.1
               (followed_on d.made.windows d.power n here.holds.1 on (rests t at d l n here next on)) tt,
         );
-        declaring = λ d l n i interval here next act on.
-            (k.declaring d l n i interval (base t Lines d here) next act on, told t at d l n (declares i interval n.core) here next on);
-        leaving = λ d l n i here next act on. (k.leaving d l n i (base t Lines d here) next act on, told t at d l n (leaves i n.core) here next on);
-        putting = λ d l n i payload here next act on taken.
-            (k.putting d l n i payload (base t Lines d here) next act on taken, told t at d l n (queues i payload n.core) here next on);
+        streaming = λ d l n here next act on.
+            (k.streaming d l n (base t Lines d here) next act on, told t at d l n (core_after_act l.act n.core) here next on);
         joining = λ d h n y here next on stage says rank.
             (k.joining d h n y (base t Hearings d here) next on stage says rank, joins_so t d h.packet n y on stage here.holds.1);
         hearing = λ d h n j w here next on stage. (

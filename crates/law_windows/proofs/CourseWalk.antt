@@ -143,11 +143,8 @@ module _ (s : ScenarioParts) (clocks : ℕ → ℕ → ℕ) (air : List Entry) (
           boot = λ d l count here next act off.
               (k.boot d l count (base t Lines d here) next act off, at_line s clocks air v t at l d _ next (comes_on s clocks air v t at count d) here.holds.1);
           off = λ d l n here next act on. (k.off d l n (base t Lines d here) next act on, at_line s clocks air v t at l d _ next refl here.holds.1);
-          declaring = λ d l n i interval here next act on.
-              (k.declaring d l n i interval (base t Lines d here) next act on, at_line s clocks air v t at l d _ next refl here.holds.1);
-          leaving = λ d l n i here next act on. (k.leaving d l n i (base t Lines d here) next act on, at_line s clocks air v t at l d _ next refl here.holds.1);
-          putting = λ d l n i payload here next act on taken.
-              (k.putting d l n i payload (base t Lines d here) next act on taken, at_line s clocks air v t at l d _ next refl here.holds.1);
+          streaming = λ d l n here next act on.
+              (k.streaming d l n (base t Lines d here) next act on, at_line s clocks air v t at l d _ next refl here.holds.1);
           joining = λ d h n y here next on stage says rank. (
             k.joining d h n y (base t Hearings d here) next on stage says rank,
             joins_in s clocks air v t at d h n y here.holds.0.0 (heard_in_floods s clocks air v t at h d next) on stage here.holds.1,

@@ -8,7 +8,7 @@ use Rattle.glossy_relay.specs.Relaying.{after_sent}
 use Rattle.radio_model.specs.declared.sending.Sending.{Sending}
 use Rattle.bus_rules.specs.Tuning.{rank_of}
 use Rattle.bus_rules.specs.Cores.{Setup, frame_ended}
-use Rattle.bus_rules.specs.States.{declares, leaves, queues}
+use Rattle.bus_rules.specs.States.{core_after_act}
 use Rattle.node_core.specs.declared.stage.Stage.TheVariants.{Scanning, AwaitSlot}
 use Rattle.node_core.specs.Windows.{Window}
 use Rattle.node_core.specs.Nodes.{Node, rebooted, stopped_frame}
@@ -126,16 +126,9 @@ module _ (s : ScenarioParts) (clocks : ℕ → ℕ → ℕ) (air : List Entry) (
               same_firsts d.made.windows _ (row_obeyed c S t Boot None (record d { power = PowerOn n }) n (boots S n (c t))).windows here.holds.2),
         );
         off = λ d l n here next act on. (k.off d l n (base t Lines d here) next act on, at_lines t at d l next (PowerOff n.core.boot), here.holds.2);
-        declaring = λ d l n i interval here next act on. (
-          k.declaring d l n i interval (base t Lines d here) next act on,
-          at_lines t at d l next (PowerOn (record n { core = declares i interval n.core })),
-          here.holds.2,
-        );
-        leaving = λ d l n i here next act on.
-            (k.leaving d l n i (base t Lines d here) next act on, at_lines t at d l next (PowerOn (record n { core = leaves i n.core })), here.holds.2);
-        putting = λ d l n i payload here next act on taken. (
-          k.putting d l n i payload (base t Lines d here) next act on taken,
-          at_lines t at d l next (PowerOn (record n { core = queues i payload n.core })),
+        streaming = λ d l n here next act on. (
+          k.streaming d l n (base t Lines d here) next act on,
+          at_lines t at d l next (PowerOn (record n { core = core_after_act l.act n.core })),
           here.holds.2,
         );
         joining = λ d h n y here next on stage says rank. (

@@ -1,18 +1,16 @@
 -- A node that is on is by its tune after the script lines of each frame.
 use Rattle.std.proofs.Common.{◌≡◌, ℕ, zero, suc, ◌<◌, List, [], ◌∷◌, true, refl, sym, subst, arith, fold}
 use Rattle.std.specs.Bool.{⊤}
-use Rattle.std.proofs.lemmas.Bool.{cond_both}
 use Rattle.bus_rules.specs.Cores.{Core, Setup}
-use Rattle.bus_rules.specs.States.{queues, refuses}
 use Rattle.scenario_text.specs.ScenarioParts.{ScenarioParts}
 use Rattle.scenario_text.specs.FloodParts.{knows}
-use Rattle.scenario_text.specs.declared.script.Act.{Act}
-use Rattle.scenario_text.specs.declared.script.Act.TheVariants.{On, Off, Declare, Leave, Put}
+use Rattle.bus_rules.specs.declared.act.Act.{Act}
 use Rattle.scenario_text.specs.declared.script.ScriptLine.{ScriptLine}
 use Rattle.air_log.specs.declared.entry.Entry.{Entry}
 use Rattle.air_log.specs.Devices.{Device, Power, PowerOff, PowerOn}
 use Rattle.air_log.specs.Lawful.{heard_by}
 use Rattle.air_log.specs.ScriptedDevices.{device_after_act, device_after_line}
+use Rattle.air_log.proofs.DeviceActs.{each_act}
 use Rattle.air_log.specs.Trails.{before_tick, frame_start, lines_at, setup_of}
 use Rattle.law_trails.specs.TrailLinks.{device_in}
 use Rattle.law_trails.proofs.RowsOfDevices.{switched_on_is}
@@ -30,18 +28,10 @@ PlacedBy (PowerOn n) = StandsByTune n
 module _ (clock : ℕ → ℕ) (s : Setup) (t : ℕ) where
   -- a line that is given
   act_place : (d : Device) (a : Act) (p : Power) → d.power ≡ p → PlacedBy p → PlacedBy (device_after_act clock s t d a p).power
-  act_place d On (PowerOff boots) is placed = subst PlacedBy (sym (switched_on_is clock s t boots d).power) (record { place = refl; fresh = refl })
-  act_place d On (PowerOn n) is placed = subst PlacedBy (sym is) placed
-  act_place d Off (PowerOff boots) is placed = subst PlacedBy (sym is) tt
-  act_place d Off (PowerOn n) is placed = tt
-  act_place d (Declare i interval) (PowerOff boots) is placed = subst PlacedBy (sym is) tt
-  act_place d (Declare i interval) (PowerOn n) is placed = record { place = placed.place; fresh = placed.fresh }
-  act_place d (Leave i) (PowerOff boots) is placed = subst PlacedBy (sym is) tt
-  act_place d (Leave i) (PowerOn n) is placed = record { place = placed.place; fresh = placed.fresh }
-  act_place d (Put i payload) (PowerOff boots) is placed = subst PlacedBy (sym is) tt
-  act_place d (Put i payload) (PowerOn n) is placed =
-      cond_both (refuses i n.core) n.core (queues i payload n.core) (λ (c : Core). StandsByTune (record n { core = c })) (λ refused. placed)
-      (λ taken. record { place = placed.place; fresh = placed.fresh })
+  act_place d a p is placed =
+      each_act clock s t d (λ e. PlacedBy e.power) a p (subst PlacedBy (sym is) placed)
+      (λ boots off. subst PlacedBy (sym (switched_on_is clock s t boots d).power) (record { place = refl; fresh = refl })) (λ n on. tt)
+      (λ n on. let stands : StandsByTune n = subst PlacedBy on placed in record { place = stands.place; fresh = stands.fresh })
 
   lines_place : (ls : List ScriptLine) (d : Device) → PlacedBy d.power → PlacedBy (fold (device_after_line clock s t) d ls).power
   lines_place [] d placed = placed

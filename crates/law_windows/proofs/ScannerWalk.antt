@@ -10,7 +10,7 @@ use Rattle.radio_model.specs.Hearing.{frame_of_sending}
 use Rattle.radio_model.specs.declared.sending.Sending.{Sending}
 use Rattle.bus_rules.specs.Tuning.{rank_of}
 use Rattle.bus_rules.specs.Cores.{Core, Setup, frame_ended}
-use Rattle.bus_rules.specs.States.{declares, leaves, queues}
+use Rattle.bus_rules.specs.States.{core_after_act}
 use Rattle.node_core.specs.declared.stage.Stage.{Stage}
 use Rattle.node_core.specs.declared.stage.Stage.TheVariants.{Idle, Scanning, AwaitFrame, AwaitSlot, InWindow}
 use Rattle.node_core.specs.Windows.{Window}
@@ -198,12 +198,8 @@ module _ (s : ScenarioParts) (clocks : ℕ → ℕ → ℕ) (air : List Entry) (
               same_firsts d.made.windows _ (row_obeyed c S t Boot None (record d { power = PowerOn n }) n (boots S n (c t))).windows here.holds.2),
         );
         off = λ d l n here next act on. (k.off d l n (base t Lines d here) next act on, tt, here.holds.2);
-        declaring = λ d l n i interval here next act on.
-            (k.declaring d l n i interval (base t Lines d here) next act on, told t at d l n (declares i interval n.core) here next on, here.holds.2);
-        leaving = λ d l n i here next act on.
-            (k.leaving d l n i (base t Lines d here) next act on, told t at d l n (leaves i n.core) here next on, here.holds.2);
-        putting = λ d l n i payload here next act on taken.
-            (k.putting d l n i payload (base t Lines d here) next act on taken, told t at d l n (queues i payload n.core) here next on, here.holds.2);
+        streaming = λ d l n here next act on.
+            (k.streaming d l n (base t Lines d here) next act on, told t at d l n (core_after_act l.act n.core) here next on, here.holds.2);
         joining = λ d h n y here next on stage says rank. (
           k.joining d h n y (base t Hearings d here) next on stage says rank,
           row_leaves t t (Heard h.packet) None d n (joins S n (c t) h.packet y) tt,

@@ -140,9 +140,7 @@ module _ (s : ScenarioParts) (clocks : ℕ → ℕ → ℕ) (air : List Entry) (
       record {
         boot = λ d l count here next act off. (k.boot d l count (base t Lines d here) next act off, comes_on t count d here.holds.1);
         off = λ d l n here next act on. (k.off d l n (base t Lines d here) next act on, goes_off t at d l n here next on);
-        declaring = λ d l n i interval here next act on. (k.declaring d l n i interval (base t Lines d here) next act on, here.holds.1);
-        leaving = λ d l n i here next act on. (k.leaving d l n i (base t Lines d here) next act on, here.holds.1);
-        putting = λ d l n i payload here next act on taken. (k.putting d l n i payload (base t Lines d here) next act on taken, here.holds.1);
+        streaming = λ d l n here next act on. (k.streaming d l n (base t Lines d here) next act on, here.holds.1);
         joining = λ d h n y here next on stage says rank. (
           k.joining d h n y (base t Hearings d here) next on stage says rank,
           (let is = joining_leaves c S t d n h.packet y in

@@ -6,7 +6,7 @@ use Rattle.std.proofs.lemmas.Bool.{or_right, cases_lt}
 use Rattle.lwb_base.specs.declared.event.Event.TheVariants.{Boot, Alarm}
 use Rattle.radio_model.specs.declared.sending.Sending.{Sending}
 use Rattle.bus_rules.specs.Cores.{Core, frame_ended}
-use Rattle.bus_rules.specs.States.{declares, leaves, queues}
+use Rattle.bus_rules.specs.States.{core_after_act}
 use Rattle.node_core.specs.declared.stage.Stage.{Stage}
 use Rattle.node_core.specs.declared.stage.Stage.TheVariants.{InWindow}
 use Rattle.node_core.specs.Windows.{Window}
@@ -158,17 +158,9 @@ module _ (s : ScenarioParts) (clocks : ℕ → ℕ → ℕ) (air : List Entry) (
           delivered = here.holds.1.delivered;
         },
       );
-      declaring = λ d l n i interval here next act on. (
-        rows.declaring s clocks air v t at d l n i interval (fine t Lines d here) next act on,
-        told_on t d n (declares i interval n.core) (told_rests t at d l n here.holds.0 next on) on here.holds.1,
-      );
-      leaving = λ d l n i here next act on. (
-        rows.leaving s clocks air v t at d l n i (fine t Lines d here) next act on,
-        told_on t d n (leaves i n.core) (told_rests t at d l n here.holds.0 next on) on here.holds.1,
-      );
-      putting = λ d l n i payload here next act on taken. (
-        rows.putting s clocks air v t at d l n i payload (fine t Lines d here) next act on taken,
-        told_on t d n (queues i payload n.core) (told_rests t at d l n here.holds.0 next on) on here.holds.1,
+      streaming = λ d l n here next act on. (
+        rows.streaming s clocks air v t at d l n (fine t Lines d here) next act on,
+        told_on t d n (core_after_act l.act n.core) (told_rests t at d l n here.holds.0 next on) on here.holds.1,
       );
       joining = λ d h n y here next on stage says rank. (
         rows.joining s clocks air v t at d h n y (fine t Hearings d here) next on stage says rank,

@@ -41,7 +41,7 @@ pub fn windows_are_open_for_their_slot()
     ensures covered { WindowsCoverTheirSlot }
 {}
 
-/// The flood of each window is what its opening and all that happened in it have made of it (`flood`). What happened is in the
+/// The flood of each window is what was done when it opened, and all that happened in it, have made of it (`flood`). What happened is in the
 /// log: receptions of its frame and channel, and its own transmissions in its slot, one after another since it opened
 /// (`history`). Nothing that its node received meanwhile is left out (`all`).
 pub fn windows_have_their_history()

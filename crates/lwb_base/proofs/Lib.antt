@@ -5,5 +5,6 @@ pub mod Orders
 pub mod Lists
 pub mod Elements
 pub mod StableSorts
+pub mod LinesAbove
 -- for this crate alone
 mod KnownPieces

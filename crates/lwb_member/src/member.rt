@@ -6,6 +6,7 @@ ghost use Rattle.bus_rules.specs.Plans.{last_slot as last_slot_of, slots_named};
 ghost use Rattle.bus_rules.specs.Tuning.{rank_of};
 ghost use Rattle.bus_rules.specs.Cores.{booted, frame_ended, is_fresh, begins_host as begins};
 ghost use Rattle.bus_rules.specs.Slots.{part_of, hosts_now};
+ghost use Rattle.bus_rules.specs.States.{IsStreamAct, core_after_act};
 ghost use Rattle.bus_rules.specs.Streams as rule;
 ghost use Rattle.stream_source.specs.declared.stream.Put.TheVariants.{Queued, Dropped};
 ghost use Rattle.lwb_member.specs.Members.{IsBoot};
@@ -14,7 +15,7 @@ ghost use Rattle.lwb_member.specs.Places.{IsPartOfSlot};
 use crate::kept::Kept;
 use crate::round_end::last_slot;
 use arrayvec::ArrayVec;
-use bus_rules::{Part, Tune, contention_slots};
+use bus_rules::{Act, Part, Tune, contention_slots};
 use host_failover::Tuner;
 use lwb_base::{Memory, NodeId, Payload, Profile, Rank};
 use schedule_codec::{Acks, Owners, Schedule};
@@ -159,21 +160,14 @@ impl Member {
         }
     }
 
-    /// Sets the interval that a stream requests, 1 to 120 seconds. Streams are 0 to 3.
-    pub fn declare(&mut self, stream: u8, interval: u8)
-        requires stream { stream ≤ 3 }
-        requires interval { (1 ≤ interval) × (interval ≤ 120) }
-        ensures { self.new ≡ record self.old { core = record self.old.core { streams = rule.declared stream interval self.old.core.streams } } }
+    /// Does what an act asks of one of its streams, if it is for one. Returns `true` if and only if it puts a packet that its
+    /// stream drops.
+    pub fn tell(&mut self, act: &Act) -> bool
+        requires { IsStreamAct act.now }
+        ensures after { self.new ≡ record self.old { core = core_after_act act.now self.old.core } }
+        ensures dropped { result ≡ rule.drops_by act.now self.old.core.streams }
     {
-        self.streams.declare(stream, interval);
-    }
-
-    /// The stream requests nothing more, and what waits in it is gone.
-    pub fn leave(&mut self, stream: u8)
-        requires { stream ≤ 3 }
-        ensures { self.new ≡ record self.old { core = record self.old.core { streams = rule.streams_after_leaving stream self.old.core.streams } } }
-    {
-        self.streams.leave(stream);
+        self.streams.tell(act)
     }
 
     /// Puts a packet at the end of a stream's queue. Returns `Dropped`, and nothing changes, if and only if the stream requests

@@ -11,17 +11,14 @@ use Rattle.glossy_relay.specs.Relaying.{is_spelling, accepted_of}
 use Rattle.bus_rules.specs.declared.part.Part.{Part}
 use Rattle.bus_rules.specs.declared.part.Part.TheVariants.{Opening, Data as DataSlot, Contention, Closing}
 use Rattle.bus_rules.specs.declared.tune.Tune.{Tune}
-use Rattle.bus_rules.specs.declared.tune.Tune.TheVariants.{Scan, Hold, Host}
 use Rattle.bus_rules.specs.Plans.{last_slot, slots_named}
-use Rattle.bus_rules.specs.Streams.{Streams}
-use Rattle.bus_rules.specs.Tables.{Table}
-use Rattle.bus_rules.specs.Tuning.{hosts, hosts_in, rank_of, next_tune}
-use Rattle.bus_rules.specs.HostPlans.{host_plan}
+use Rattle.bus_rules.specs.Tuning.{hosts, rank_of, next_tune}
 use Rattle.bus_rules.specs.Cores.{Core, Setup, booted, is_fresh, begins_host, as_host, frame_ended, opening_accepted, closing_accepted}
 use Rattle.bus_rules.specs.Slots.{Message, Opened, ScheduleOf, DataOf, RequestOf, part_of, hosts_now, opened_slot, closed_slot, slot_heard, host_closes, silent}
 use Rattle.bus_rules.specs.Slots.{is_schedule_part}
 use Rattle.lwb_member.proofs.Beginning.{hosted_before}
 use Rattle.lwb_member.specs.Members.{MayAccept}
+use Rattle.bus_rules.proofs.Ranks.{hosts_by_rank, plan_contends}
 use Rattle.lwb_member.specs.Places.{kind_for}
 use Rattle.node_core.specs.Windows.{Window}
 use Rattle.node_core.specs.WindowClosing.{waits_after}
@@ -32,18 +29,12 @@ use Rattle.node_core.proofs.AcceptedKinds.{IsData, IsUnscheduled, accepted_by, s
 use Rattle.node_core.proofs.PassedWindows.{said_none}
 use Rattle.node_core.specs.Standing.{IsInside, IsInOwnRound, IsStage, HostsIn, KeepsFew, contended}
 
--- who hosts now hosts
-by_tune : (t : Tune) (f : ℕ) → hosts_in (rank_of t) f t ≡ true → hosts t ≡ true
-by_tune (Scan r w) f now = absurd (false≢true now)
-by_tune (Hold r due) f now = absurd (false≢true now)
-by_tune (Host r due) f now = refl
-
 guest_now : (f : ℕ) (c : Core) → hosts c.tune ≡ false → hosts_now f c ≡ false
 guest_now f c guest = by_test (hosts_now f c) refl
   where
     by_test : (b : Bool) → hosts_now f c ≡ b → b ≡ false
     by_test false now = refl
-    by_test true now = absurd (false≢true (sym guest ∙ by_tune c.tune f now))
+    by_test true now = absurd (false≢true (sym guest ∙ hosts_by_rank c.tune f now))
 
 none_kept : (l : List Ask) → length l ≤ 0 → l ≡ []
 none_kept [] few = refl
@@ -95,11 +86,6 @@ part_at p j =
     (λ _. cond_both (nat_le j (length p.owners)) (DataSlot _) _ (IsAt p j) (λ within. (let few = leb-true j (length p.owners) within in omega (arith, few)))
     (λ past. cond_both (nat_lt j (last_slot p)) (Contention _) Closing (IsAt p j)
     (λ early. (leb-false j (length p.owners) past, ltb-true j (last_slot p) early)) (λ end. tt)))
-
-plan_contends : (p : Numbers) (node boot rank f : ℕ) (kept : List Ask) (t : Table) (x : Streams)
-    → (host_plan p node boot rank f kept t x).plan.contend ≡ p.contend
-unfolding host_plan
-plan_contends p node boot rank f kept t x = refl
 
 -- a window opens
 module _ (s : Setup) (f j : ℕ) (c : Core) where
@@ -221,7 +207,7 @@ module _ (s : Setup) (f j : ℕ) (c : Core) (w : Window)
       by_test false host = refl
       by_test true host = absurd (false≢true (no_schedule x (sym is) host))
   may_take (Some (RequestOf a)) is = λ now.
-      (let host = by_tune c.tune f now in
+      (let host = hosts_by_rank c.tune f now in
       let at = asked a (sym is) host in
       let end = last_is at.0 at.1 in
       let named : slots_named c.plan.contend ≡ slots_named s.profile.contend = ap slots_named (kept.named host) in
@@ -271,7 +257,7 @@ module _ (s : Setup) (f j : ℕ) (c : Core) (w : Window)
       (λ closes. keeps_none s.profile (closing_accepted s.id f x c) stage (kept.none guest) (λ host. absurd (false≢true host)))
   closes_keeps stage b (Some (RequestOf a)) at is =
       cond_both (hosts_now f c) (c.kept ++ a ∷ []) c.kept (λ (l : List Ask). KeepsFew s.profile (record c { kept = l }) stage)
-      (λ now. more (by_tune c.tune f now))
+      (λ now. more (hosts_by_rank c.tune f now))
       (λ other. same_keeps stage at)
     where
       more : hosts c.tune ≡ true → KeepsFew s.profile (record c { kept = c.kept ++ a ∷ [] }) stage

@@ -3,6 +3,7 @@
 ghost use Rattle.std.specs.Prelude.{◌≡◌, ◌≤◌, ◌<◌, Some, None, IfOk, IfSome, if◌then◌else◌, is_some, length};
 ghost use Rattle.bus_rules.specs.Cores.{own_rank};
 ghost use Rattle.bus_rules.specs.declared.tune.Tune.TheVariants.{Scan};
+ghost use Rattle.bus_rules.specs.States.{IsAct};
 ghost use Rattle.bus_rules.specs.Streams as rule;
 ghost use Rattle.stream_source.specs.declared.stream.Put.TheVariants.{Queued, Dropped};
 ghost use Rattle.lwb_member.specs.Members.{IsBoot};
@@ -11,7 +12,7 @@ ghost use Rattle.node_core.specs.Nodes.{rebooted, with_streams};
 ghost use Rattle.node_core.specs.Standing.{place_of};
 
 use crate::stage::Stage;
-use bus_rules::{Delivery, Tune};
+use bus_rules::{Act, Delivery, Tune};
 use lwb_base::{Memory, NodeId, Payload, Profile, Rank};
 use lwb_member::Member;
 use std::alloc::Global;
@@ -105,7 +106,7 @@ impl Node {
         requires interval { (1 ≤ interval) × (interval ≤ 120) }
         ensures { self.new ≡ record self.old { node = with_streams self.old.node (rule.declared stream interval self.old.node.core.streams) } }
     {
-        self.member.declare(stream, interval);
+        self.member.tell(&Act::Declare(stream, interval));
     }
 
     /// The stream requests nothing more, and what waits in it is gone.
@@ -113,7 +114,7 @@ impl Node {
         requires { stream ≤ 3 }
         ensures { self.new ≡ record self.old { node = with_streams self.old.node (rule.streams_after_leaving stream self.old.node.core.streams) } }
     {
-        self.member.leave(stream);
+        self.member.tell(&Act::Leave(stream));
     }
 
     /// Puts a packet at the end of a stream's queue; its payload is at most as long as the profile allows. Returns `Dropped`,
@@ -126,6 +127,16 @@ impl Node {
         ensures after { self.new ≡ record self.old { node = with_streams self.old.node (rule.put stream payload.now self.old.node.core.streams) } }
     {
         self.member.put(stream, payload)
+    }
+
+    /// Does what an act asks of one of its streams, if it is for one. Returns `true` if and only if it puts a packet that its
+    /// stream drops.
+    pub fn tell(&mut self, act: &Act) -> bool
+        requires { IsAct self.old.setup.profile act.now }
+        ensures after { self.new ≡ record self.old { node = with_streams self.old.node (rule.streams_after_act act.now self.old.node.core.streams) } }
+        ensures dropped { result ≡ rule.drops_by act.now self.old.node.core.streams }
+    {
+        self.member.tell(act)
     }
 
     /// What it scans, holds or hosts. At the place `Off` it is to scan rank 0.

@@ -14,7 +14,7 @@ use Rattle.bus_rules.specs.declared.tune.Tune.TheVariants.{Scan, Hold, Host}
 use Rattle.bus_rules.specs.declared.part.Part.{Part}
 use Rattle.bus_rules.specs.declared.part.Part.TheVariants.{Opening, Data as DataSlot, Contention, Closing}
 use Rattle.bus_rules.specs.States.{State, StateOff, StateOn}
-use Rattle.bus_rules.proofs.Ranks.{not_scanner, hosts_own}
+use Rattle.bus_rules.proofs.Ranks.{not_scanner, hosts_own, member_hosts}
 use Rattle.bus_terms.specs.Rounds.{opened_at, message_said, takes_part, closed_slot_of, left_by}
 use Rattle.bus_terms.specs.ScriptedStates.{setup_in}
 use Rattle.bus_terms.proofs.OtherRanks.{IsElsewhere, no_window}
@@ -100,21 +100,13 @@ host_scans_not rank (Host r d) host = refl
 never : (m : Message) → ◌≡◌ {A = Option Message} (Some m) None → ⊥
 never m is = cc
 
--- who hosts now hosts the round of which it is a member
-host_now : (rank f : ℕ) (c : Core) → is_member rank f c ≡ true → hosts_now f c ≡ true → hosts_in rank f c.tune ≡ true
-host_now rank f c is now = by_test (hosts c.tune) refl
-  where
-    by_test : (b : Bool) → hosts c.tune ≡ b → hosts_in rank f c.tune ≡ true
-    by_test true host = member_host rank f c.tune (is_fresh c) host is
-    by_test false guest = absurd (false≢true (sym (hosts_none (rank_of c.tune) f c.tune guest) ∙ now))
-
 -- the opening of a data slot or a contention slot leaves the room
 room_opened : (s : ScenarioParts) (rank f : ℕ) (part : Part) (v : ℕ) (c : Core) → is_schedule_part part ≡ false → is_member rank f c ≡ true
     → HasRoom (setup_in s v) rank f part (StateOn c) → (a : Ask) → MayAccept (setup_in s v) f (opened_slot (setup_in s v) f part c).core (Some (RequestOf a))
 room_opened s rank f Opening v c plain is room a = absurd (false≢true (sym plain))
 room_opened s rank f Closing v c plain is room a = absurd (false≢true (sym plain))
-room_opened s rank f (DataSlot owner) v c plain is room a = λ now. room plain (host_now rank f c is now)
-room_opened s rank f (Contention i) v c plain is room a = λ now. room plain (host_now rank f c is now)
+room_opened s rank f (DataSlot owner) v c plain is room a = λ now. room plain (member_hosts rank f c is now)
+room_opened s rank f (Contention i) v c plain is room a = λ now. room plain (member_hosts rank f c is now)
 
 -- a host accepts no schedule: in its own round it says one itself, and otherwise it takes no part. Where it accepts a request,
 -- it has room

@@ -3,20 +3,17 @@
 ghost use Rattle.std.specs.Prelude.{◌≡◌, ◌≤◌, ◌<◌, IfOk, IfSome};
 ghost use Rattle.lwb_base.specs.declared.limits.TheConstants.{LAST_FRAME};
 ghost use Rattle.bus_rules.specs.Cores.{frame_ended as core_ended};
-ghost use Rattle.bus_rules.specs.States.{StateOff, at_core, state_after_on, state_after_off, declares, leaves, puts, loses};
-ghost use Rattle.scenario_text.specs.ScenarioFacts.{IsAct};
+ghost use Rattle.bus_rules.specs.States.{StateOff, at_core, state_after_on, state_after_off, IsAct, state_after_act};
 ghost use Rattle.bus_terms.specs.Rounds.{rank_in};
 ghost use Rattle.bus_rules.specs.Tuning.{is_scan};
-ghost use Rattle.bus_terms.specs.ScriptedStates.{state_after_act, is_on_and};
+ghost use Rattle.bus_terms.specs.ScriptedStates.{is_on_and};
 ghost use Rattle.plain_bus.specs.BusNodes.{MayBoot, MayDo, loses_by};
 
-use bus_rules::Tune;
-use lwb_base::{Memory, NodeId, Payload, Profile, Rank};
+use bus_rules::{Act, Switch, Tune};
+use lwb_base::{Memory, NodeId, Profile, Rank};
 use lwb_member::Member;
-use scenario_text::Act;
 use std::alloc::Global;
 use std::marker::Model;
-use stream_source::Put;
 
 /// A node of the bus: off after a number of boots, or on as a member of its rounds.
 #[derive(Drop)]
@@ -68,12 +65,11 @@ impl BusNode {
         ensures state { self.new ≡ record self.old { state = state_after_act act.now self.old.state } }
         ensures lost { result ≡ loses_by act.now self.old.state }
     {
-        match act {
-            Act::On => self.switch_on(),
-            Act::Off => self.switch_off(),
-            Act::Declare(stream, interval) => self.declare(*stream, *interval),
-            Act::Leave(stream) => self.leave(*stream),
-            Act::Put(stream, payload) => return self.put(*stream, payload),
+        match act.switch() {
+            Some(Switch::On) => self.switch_on(),
+            Some(Switch::Off) => self.switch_off(),
+            None if self.is_on => return self.member.tell(act),
+            None => return act.put_stream().is_some(),
         }
         false
     }
@@ -96,40 +92,6 @@ impl BusNode {
         if self.is_on {
             self.boots = self.member.boot();
             self.is_on = false;
-        }
-    }
-
-    fn declare(&mut self, stream: u8, interval: u8)
-        requires stream { stream ≤ 3 }
-        requires interval { (1 ≤ interval) × (interval ≤ 120) }
-        ensures { self.new ≡ record self.old { state = at_core (declares stream interval) self.old.state } }
-    {
-        if self.is_on {
-            self.member.declare(stream, interval);
-        }
-    }
-
-    fn leave(&mut self, stream: u8)
-        requires { stream ≤ 3 }
-        ensures { self.new ≡ record self.old { state = at_core (leaves stream) self.old.state } }
-    {
-        if self.is_on {
-            self.member.leave(stream);
-        }
-    }
-
-    // A packet is queued, unless it is lost.
-    fn put(&mut self, stream: u8, payload: &Payload) -> bool
-        requires { stream ≤ 3 }
-        ensures state { self.new ≡ record self.old { state = at_core (puts stream payload.now) self.old.state } }
-        ensures lost { result ≡ loses stream self.old.state }
-    {
-        if !self.is_on {
-            return true;
-        }
-        match self.member.put(stream, payload) {
-            Put::Dropped => true,
-            Put::Queued(_) => false,
         }
     }
 

@@ -7,7 +7,7 @@ use crate::station::Flood;
 use link_trace::Trace;
 use link_trace::bits::{lowest, without_bit};
 
-/// The nodes that a node of the senders' mask reaches in that step, among so many nodes.
+/// The nodes that a node of the senders' mask reaches in that step, among the first `count` nodes.
 pub fn reached_by(trace: &Trace, flood: &Flood, step: u8, senders: u64, count: usize) -> u64
     requires sealed { count ≡ length trace.now.nodes }
     requires few { length trace.now.nodes ≤ 64 }

@@ -17,8 +17,8 @@ pub struct Window {
 }
 
 impl Window {
-    /// The window of a slot of the round that begins by this reference. Its initiator starts `listen` after the opening of the
-    /// window, and it closes `close` after it, both below 2^32.
+    /// The window of a slot of the round that begins by this reference. Its initiator starts `listen` after the window
+    /// opens, and the window closes `close` after it opens, both below 2^32.
     pub fn of_slot(reference: &Reference, slot: u8, listen: u64, close: u64) -> Window
         requires listen { listen < 2 ^ 32 }
         requires close { close < 2 ^ 32 }

@@ -5,7 +5,7 @@ use Rattle.std.specs.Prelude.{pos, negsuc}
 use Rattle.rand_core.specs.Pcg32Seed.{pcg32_seed}
 use Rattle.rand_core.specs.Steps.{u32_at, word_bytes}
 use Rattle.rand_pcg.specs.Lcg.{state_after}
-use Rattle.scenario_text.specs.declared.script.Act.TheVariants.{Off, Declare}
+use Rattle.bus_rules.specs.declared.act.Act.TheVariants.{Off, Declare}
 use Rattle.scenario_text.specs.declared.script.ScriptLine.{ScriptLine}
 use Rattle.scenario_maker.specs.Drawn.{seeded, later, drawn_word}
 use Rattle.scenario_maker.specs.Made.{node_line, rate_line, tree_pair, random_pair, stream_line, off_lines, put_lines, drawn_loss}

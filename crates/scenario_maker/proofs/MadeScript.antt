@@ -8,10 +8,10 @@ use Rattle.std.proofs.lemmas.List.FromFn.{length-map-range_with_len}
 use Rattle.std.specs.List.{AllPairs, flat_map, range_with_len}
 use Rattle.rand_pcg.specs.Lcg.{Lcg}
 use Rattle.scenario_text.specs.FloodParts.{knows}
-use Rattle.scenario_text.specs.PartsInOrder.{carried}
+use Rattle.bus_rules.specs.States.{payload_of}
 use Rattle.scenario_text.specs.ScenarioFacts.{IsScriptLine, turned, turned_by}
 use Rattle.scenario_text.specs.ScenarioParts.{ScenarioParts}
-use Rattle.scenario_text.specs.declared.script.Act.TheVariants.{Off}
+use Rattle.bus_rules.specs.declared.act.Act.TheVariants.{Off}
 use Rattle.scenario_text.specs.declared.script.ScriptLine.{ScriptLine}
 use Rattle.scenario_text.proofs.OrderedExample.{no_more_boots_than_lines}
 use Rattle.scenario_text.proofs.BootsTold.{turned_over}
@@ -61,10 +61,10 @@ lines_in_range s g n frames two some is room known =
           (omega arith, omega (arith, room));
     })
 
-pub bytes_in_range : (g : Lcg) (n frames : ℕ) → frames ≤ 4096 → All (λ l. All (λ b. b < 256) (carried l.act)) (script g n frames)
+pub bytes_in_range : (g : Lcg) (n frames : ℕ) → frames ≤ 4096 → All (λ l. All (λ b. b < 256) (payload_of l.act)) (script g n frames)
 bytes_in_range g n frames few =
     let none : All (λ b. b < 256) [] = All-nil (λ b. b < 256) in
-    of_script (λ l. All (λ b. b < 256) (carried l.act)) g n frames (λ i low high. none) (λ i low high. none) (λ f inside. none)
+    of_script (λ l. All (λ b. b < 256) (payload_of l.act)) g n frames (λ i low high. none) (λ i low high. none) (λ f inside. none)
     (λ f i inside low high.
     All-cons (λ b. b < 256) (f / 256) (f % 256 ∷ []) (omega (arith, few, inside)) (All-cons (λ b. b < 256) (f % 256) [] (omega arith) none))
 

@@ -13,7 +13,7 @@ use Rattle.scenario_maker.specs.Drawn.{seeded, later, drawn_word}
 use Rattle.scenario_text.specs.ScenarioParts.{ScenarioParts}
 use Rattle.scenario_text.specs.declared.lines.NodeLine.{NodeLine}
 use Rattle.scenario_text.specs.declared.lines.RateLine.{RateLine}
-use Rattle.scenario_text.specs.declared.script.Act.TheVariants.{On, Off, Declare, Put}
+use Rattle.bus_rules.specs.declared.act.Act.TheVariants.{On, Off, Declare, Put}
 use Rattle.scenario_text.specs.declared.script.ScriptLine.{ScriptLine}
 
 -- a made scenario has 2 to 64 nodes and 1 to 4,096 frames, and nodes times frames is at most 16,384

@@ -6,8 +6,8 @@ use Rattle.std.proofs.lemmas.List.{get_or-set_same, get_or-set_other, length-set
 use Rattle.std.specs.Prelude.{replicate}
 use Rattle.std.specs.List.{AllByRecursion, slice_index, slice_index_or}
 use Rattle.scenario_text.specs.ScenarioFacts.{turned_by, turned}
-use Rattle.scenario_text.specs.declared.script.Act.{Act}
-use Rattle.scenario_text.specs.declared.script.Act.TheVariants.{On, Off, Declare, Leave, Put}
+use Rattle.bus_rules.specs.declared.act.Act.{Act}
+use Rattle.bus_rules.specs.declared.act.Act.TheVariants.{On, Off, Declare, Leave, Put}
 use Rattle.scenario_text.specs.declared.script.ScriptLine.{ScriptLine}
 use Rattle.scenario_text.proofs.CanonicalFacts.{Power, no_power, after_act, can_boot, Boots}
 

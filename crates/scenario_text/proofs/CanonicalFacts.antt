@@ -26,8 +26,8 @@ use Rattle.scenario_text.specs.declared.scenario_line.ScenarioLine.TheVariants a
 use Rattle.scenario_text.specs.declared.written_act.WrittenAct.{WrittenAct}
 use Rattle.scenario_text.specs.declared.written_act.WrittenAct.TheVariants as act
 use Rattle.scenario_text.specs.declared.script.ScriptLine.{ScriptLine}
-use Rattle.scenario_text.specs.declared.script.Act.{Act}
-use Rattle.scenario_text.specs.declared.script.Act.TheVariants.{On, Off, Declare, Leave, Put}
+use Rattle.bus_rules.specs.declared.act.Act.{Act}
+use Rattle.bus_rules.specs.declared.act.Act.TheVariants.{On, Off, Declare, Leave, Put}
 
 -- for each id whether the node is on, and how often it booted
 pub record Power : Type 0 where

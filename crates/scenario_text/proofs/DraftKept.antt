@@ -14,8 +14,8 @@ use Rattle.scenario_text.specs.ScenarioGrammar.{Scenario, line_fault, with_scena
 use Rattle.scenario_text.specs.declared.scenario_line.ScenarioLine.{ScenarioLine}
 use Rattle.scenario_text.specs.declared.scenario_line.ScenarioLine.TheVariants as line
 use Rattle.scenario_text.specs.declared.written_act.WrittenAct.TheVariants as written
-use Rattle.scenario_text.specs.declared.script.Act.{Act}
-use Rattle.scenario_text.specs.declared.script.Act.TheVariants.{On, Off, Declare, Leave, Put}
+use Rattle.bus_rules.specs.declared.act.Act.{Act}
+use Rattle.bus_rules.specs.declared.act.Act.TheVariants.{On, Off, Declare, Leave, Put}
 use Rattle.scenario_text.proofs.RatesKept.{map_all, climbs_more}
 use Rattle.scenario_text.proofs.LineRuns.{Allowed}
 use Rattle.scenario_text.proofs.CanonicalFacts.{can_boot, said_act, said_link, said_loss, said_cut, said_capture, Fits, FitsAct, HasBytes, judged}

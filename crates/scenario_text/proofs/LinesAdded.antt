@@ -15,12 +15,13 @@ use Rattle.link_trace.specs.Passes.{Lines}
 use Rattle.lwb_base.specs.Profile.{Numbers}
 use Rattle.scenario_text.specs.AddedLines.{in_frame, IsMerged, IsWithScript, HasRoom, frame_of_line}
 use Rattle.scenario_text.specs.FloodDrafts.{Climbs}
-use Rattle.scenario_text.specs.PartsInOrder.{carried, IsInOrder}
+use Rattle.scenario_text.specs.PartsInOrder.{IsInOrder}
+use Rattle.bus_rules.specs.States.{payload_of}
 use Rattle.scenario_text.specs.ScenarioFacts.{IsScriptLine}
 use Rattle.scenario_text.specs.ScenarioParts.{ScenarioParts}
 use Rattle.scenario_text.specs.declared.lines.NodeLine.{NodeLine}
 use Rattle.scenario_text.specs.declared.lines.RateLine.{RateLine}
-use Rattle.scenario_text.specs.declared.script.Act.TheVariants.{On}
+use Rattle.bus_rules.specs.declared.act.Act.TheVariants.{On}
 use Rattle.scenario_text.specs.declared.script.ScriptLine.{ScriptLine}
 use Rattle.scenario_text.proofs.EachPair.{pairs_climb}
 
@@ -135,7 +136,7 @@ pub with_lines : ScenarioParts → List ScriptLine → ScenarioParts
 with_lines s script = record s { script = script }
 
 pub still_in_order : (s : ScenarioParts) (added script : List ScriptLine) → IsInOrder s → IsPermutation (s.script ++ added) script
-    → All (IsScriptLine s) added → AllPairs (λ a b. a.frame ≤ b.frame) script → All (λ l. All (λ b. b < 256) (carried l.act)) script
+    → All (IsScriptLine s) added → AllPairs (λ a b. a.frame ≤ b.frame) script → All (λ l. All (λ b. b < 256) (payload_of l.act)) script
     → HasRoom (record s { script = script }) → IsInOrder (record s { script = script })
 still_in_order s added script is shuffled lines ascends bytes room =
     let all : All (IsScriptLine s) script =

@@ -5,11 +5,12 @@ use Rattle.std.proofs.lemmas.List.Elements.{All-from_recursion}
 use Rattle.std.specs.declared.cmp.Ordering.TheVariants.{Less}
 use Rattle.link_trace.specs.Order.{by_link, by_loss, by_cut, by_capture}
 use Rattle.scenario_text.specs.FloodParts.{knows}
-use Rattle.scenario_text.specs.PartsInOrder.{IsNodeLine, IsRateLine, carried, IsInOrder}
+use Rattle.scenario_text.specs.PartsInOrder.{IsNodeLine, IsRateLine, IsInOrder}
+use Rattle.bus_rules.specs.States.{payload_of}
 use Rattle.scenario_text.specs.ScenarioFacts.{AreEnds, IsStepOf, IsScriptLine, turned, turned_by}
 use Rattle.scenario_text.specs.ScenarioParts.{ScenarioParts}
-use Rattle.scenario_text.specs.declared.script.Act.{Act}
-use Rattle.scenario_text.specs.declared.script.Act.TheVariants.{On, Off, Declare, Leave, Put}
+use Rattle.bus_rules.specs.declared.act.Act.{Act}
+use Rattle.bus_rules.specs.declared.act.Act.TheVariants.{On, Off, Declare, Leave, Put}
 use Rattle.scenario_text.specs.declared.script.ScriptLine.{ScriptLine}
 use Rattle.scenario_text.proofs.EachPair.{climbs_pairs}
 use Rattle.scenario_text.proofs.RatesInOrder.{IsBelow}
@@ -85,7 +86,7 @@ every_line_in_order = record {
       ((omega arith, (omega arith, (omega arith, tt))), ((omega arith, (omega arith, tt)), ((omega arith, tt), (tt, tt)))),
     ),
   );
-  payload_bytes = All-from_recursion (λ l. All (λ b. b < 256) (carried l.act)) s.script (none, (none, (none, (one_byte, (none, (none, tt))))));
+  payload_bytes = All-from_recursion (λ l. All (λ b. b < 256) (payload_of l.act)) s.script (none, (none, (none, (one_byte, (none, (none, tt))))));
   few_lines = omega arith;
   few_boots = λ v. let few = no_more_boots_than_lines v (false, 0) s.script in omega (arith, few);
 }

@@ -14,13 +14,14 @@ use Rattle.scenario_text.specs.FloodParts.{knows}
 use Rattle.scenario_text.specs.FloodDrafts.{Climbs}
 use Rattle.scenario_text.specs.Network.{is_id, are_ends}
 use Rattle.scenario_text.specs.Canonical.{IsSaid}
-use Rattle.scenario_text.specs.PartsInOrder.{IsNodeLine, IsRateLine, carried, IsInOrder}
-use Rattle.scenario_text.specs.ScenarioFacts.{AreEnds, IsStepOf, IsAct, IsScriptLine, IsSoundScenario}
+use Rattle.scenario_text.specs.PartsInOrder.{IsNodeLine, IsRateLine, IsInOrder}
+use Rattle.bus_rules.specs.States.{payload_of, IsAct}
+use Rattle.scenario_text.specs.ScenarioFacts.{AreEnds, IsStepOf, IsScriptLine, IsSoundScenario}
 use Rattle.scenario_text.specs.ScriptGrammar.{act_in_range, is_short}
 use Rattle.scenario_text.specs.ScenarioGrammar.{greatest_slot_of, is_step, IsScenario}
 use Rattle.scenario_text.specs.ScenarioParts.{ScenarioParts}
-use Rattle.scenario_text.specs.declared.script.Act.{Act}
-use Rattle.scenario_text.specs.declared.script.Act.TheVariants.{On, Off, Declare, Leave, Put}
+use Rattle.bus_rules.specs.declared.act.Act.{Act}
+use Rattle.bus_rules.specs.declared.act.Act.TheVariants.{On, Off, Declare, Leave, Put}
 use Rattle.scenario_text.specs.declared.script.ScriptLine.{ScriptLine}
 use Rattle.scenario_text.proofs.BootsCounted.{boots_from}
 use Rattle.scenario_text.proofs.CanonicalFacts.{HasBytes, IsNode, IsRateOf, IsHost, Fits, FitsAct, written, said_act, said_link}
@@ -98,7 +99,7 @@ act_fits s f i a below id known act = record {
   known = known;
 }
 
-bytes_from : (a : Act) → All (λ b. b < 256) (carried a) → HasBytes a
+bytes_from : (a : Act) → All (λ b. b < 256) (payload_of a) → HasBytes a
 bytes_from On bytes = tt
 bytes_from Off bytes = tt
 bytes_from (Declare x y) bytes = tt
@@ -106,7 +107,7 @@ bytes_from (Leave x) bytes = tt
 bytes_from (Put x b) bytes = recursion_from_All (λ b. b < 256) b bytes
 
 script_fits : (s : ScenarioParts) (ls : List ScriptLine) → HaveIds s → AllByRecursion (IsScriptLine s) ls
-    → AllByRecursion (λ l. All (λ b. b < 256) (carried l.act)) ls
+    → AllByRecursion (λ l. All (λ b. b < 256) (payload_of l.act)) ls
     → AllByRecursion (FitsAct (judge s)) ls
 script_fits s [] ids lines bytes = tt
 script_fits s (l ∷ ls) ids lines bytes =
@@ -145,7 +146,7 @@ keeps_rules s is =
       distinct = pairs_climb (λ g h. (g == h) ≡ false) s.hosts (λ i j d before within. ne_eqb _ _ (is.hosts_differ i j d before within));
       links = all_are (λ l. AreEnds s.nodes l.from l.to) (λ l. Fits (judge s) (said_link l)) s.trace.links (λ l ends. link_fits s l ids ends) is.links;
       links_climb = pairs_climb (λ a b. by_link a b ≡ Less) s.trace.links is.links_ascend;
-      script = script_fits s s.script ids script (recursion_from_All (λ l. All (λ b. b < 256) (carried l.act)) s.script is.payload_bytes);
+      script = script_fits s s.script ids script (recursion_from_All (λ l. All (λ b. b < 256) (payload_of l.act)) s.script is.payload_bytes);
       script_climbs = pairs_climb (λ a b. a.frame ≤ b.frame) s.script is.script_ascends;
       boots = boots_from s.script (map_all (IsScriptLine s) (λ l. l.node ≤ 200) s.script (λ l line. small_id s l.node ids line.known) script) is.few_boots;
       losses = all_are (λ l. IsStepOf s l.frame l.slot l.step × AreEnds s.nodes l.from l.to) (λ l. Fits (judge s) (said_loss l)) s.trace.losses
@@ -165,7 +166,7 @@ pub said_in_order : (s : ScenarioParts) → IsInOrder s → IsSaid s
 said_in_order s is = canonical_says s (keeps_rules s is)
 
 -- the other direction
-few_bytes : (a : Act) → HasBytes a → All (λ b. b < 256) (carried a)
+few_bytes : (a : Act) → HasBytes a → All (λ b. b < 256) (payload_of a)
 few_bytes On has = All-from_recursion (λ b. b < 256) [] tt
 few_bytes Off has = All-from_recursion (λ b. b < 256) [] tt
 few_bytes (Declare x y) has = All-from_recursion (λ b. b < 256) [] tt
@@ -199,7 +200,7 @@ rules_in_order s is =
       captures_ascend = sound.captures_ascend;
       script = sound.script;
       script_ascends = sound.script_ascends;
-      payload_bytes = all_of (FitsAct (judge s)) (λ l. All (λ b. b < 256) (carried l.act)) s.script (λ l at. few_bytes l.act at.bytes) is.script;
+      payload_bytes = all_of (FitsAct (judge s)) (λ l. All (λ b. b < 256) (payload_of l.act)) s.script (λ l at. few_bytes l.act at.bytes) is.script;
       few_lines = is.scripted;
       few_boots = sound.few_boots;
     }

@@ -12,7 +12,7 @@ use Rattle.scenario_text.specs.ScenarioGrammar.{scenario_of, scenario_after_word
 use Rattle.text_readers.specs.Reading.{draft_after_line}
 use Rattle.text_readers.specs.declared.fault.FaultKind.{FaultKind}
 use Rattle.text_readers.specs.declared.fault.FaultKind.TheVariants.{NotUtf8, BadWord, BadNumber, Range, UnknownNode, Order, Twice, Missing}
-use Rattle.scenario_text.specs.declared.script.Act.TheVariants as act
+use Rattle.bus_rules.specs.declared.act.Act.TheVariants as act
 
 payloads : map payload (codes "-" ∷ codes "aA0f" ∷ []) ≡ Some [] ∷ Some (170 ∷ 15 ∷ []) ∷ []
 payloads = refl

@@ -22,8 +22,8 @@ use Rattle.scenario_text.specs.ScenarioGrammar.{Scenario, greatest_slot_of, is_s
 use Rattle.scenario_text.specs.ScenarioParts.{ScenarioParts}
 use Rattle.scenario_text.specs.declared.lines.RateLine.{RateLine}
 use Rattle.scenario_text.specs.declared.script.ScriptLine.{ScriptLine}
-use Rattle.scenario_text.specs.declared.script.Act.{Act}
-use Rattle.scenario_text.specs.declared.script.Act.TheVariants.{On, Off, Declare, Leave, Put}
+use Rattle.bus_rules.specs.declared.act.Act.{Act}
+use Rattle.bus_rules.specs.declared.act.Act.TheVariants.{On, Off, Declare, Leave, Put}
 use Rattle.scenario_text.proofs.NumbersBack.{payload_back}
 use Rattle.scenario_text.proofs.LinesSaid.{Says, Small, says_on, says_off, says_stream, says_leave, says_put, says_lose, says_cut, says_capture}
 use Rattle.scenario_text.proofs.LineRuns.{Step, step, Allowed, Goes, goes_list, middle, climbs_before, with_line_last, none_among}

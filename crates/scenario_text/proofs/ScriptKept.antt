@@ -10,7 +10,7 @@ use Rattle.scenario_text.specs.Network.{has_script_room}
 use Rattle.scenario_text.specs.ScenarioGrammar.{Scenario, last_script_line, in_script_order}
 use Rattle.scenario_text.specs.declared.lines.NodeLine.{NodeLine}
 use Rattle.scenario_text.specs.declared.script.ScriptLine.{ScriptLine}
-use Rattle.scenario_text.specs.declared.script.Act.{Act}
+use Rattle.bus_rules.specs.declared.act.Act.{Act}
 use Rattle.scenario_text.proofs.RatesKept.{climbs_more}
 use Rattle.scenario_text.proofs.ScriptGoes.{power_more}
 use Rattle.scenario_text.proofs.CanonicalFacts.{Power, no_power, after_act, can_boot, power_after, said_act, Fits, HasBytes, FitsAct, judged}

@@ -12,12 +12,13 @@ use Rattle.link_trace.specs.declared.lines.CutLine.{CutLine}
 use Rattle.link_trace.specs.declared.lines.CaptureLine.{CaptureLine}
 use Rattle.scenario_text.specs.FloodParts.{knows}
 use Rattle.scenario_text.specs.Network.{is_id, are_ends}
-use Rattle.scenario_text.specs.ScenarioFacts.{AreEnds, IsStepOf, IsAct, IsScriptLine, IsSoundScenario}
+use Rattle.scenario_text.specs.ScenarioFacts.{AreEnds, IsStepOf, IsScriptLine, IsSoundScenario}
+use Rattle.bus_rules.specs.States.{IsAct}
 use Rattle.scenario_text.specs.ScriptGrammar.{act_in_range}
 use Rattle.scenario_text.specs.ScenarioGrammar.{last_tick, greatest_slot_of, is_step, IsScenario}
 use Rattle.scenario_text.specs.ScenarioParts.{ScenarioParts}
-use Rattle.scenario_text.specs.declared.script.Act.{Act}
-use Rattle.scenario_text.specs.declared.script.Act.TheVariants.{On, Off, Declare, Leave, Put}
+use Rattle.bus_rules.specs.declared.act.Act.{Act}
+use Rattle.bus_rules.specs.declared.act.Act.TheVariants.{On, Off, Declare, Leave, Put}
 use Rattle.scenario_text.proofs.CanonicalFacts.{IsNode, IsRateOf, IsHost, Fits, FitsAct, written, said_act, said_link}
 use Rattle.scenario_text.proofs.CanonicalFacts.{said_loss, said_cut, said_capture, judge, KeepsRules}
 use Rattle.scenario_text.proofs.CanonicalGoes.{frame_bound}

@@ -1,11 +1,12 @@
 -- The parts of a scenario in range, and each of its lists in order. Just such parts are those of a scenario.
-use Rattle.std.specs.Prelude.{◌≡◌, ◌≢◌, ◌+◌, ◌*◌, ◌<◌, ◌≤◌, ℕ, List, [], true, false, length, All}
+use Rattle.std.specs.Prelude.{◌≡◌, ◌≢◌, ◌+◌, ◌*◌, ◌<◌, ◌≤◌, ℕ, true, false, length, All}
 use Rattle.std.specs.Int.RustNames.{unsigned_abs}
 use Rattle.std.specs.List.{AllPairs}
 use Rattle.std.specs.Ordering.{nat_cmp, ordering_then}
 use Rattle.std.specs.declared.cmp.Ordering.{Ordering}
 use Rattle.lwb_base.specs.Profile.{IsProfile}
 use Rattle.lwb_base.specs.declared.limits.TheConstants.{DRIFT_BOUND, GREATEST_ID, MOST_BOOTS}
+use Rattle.bus_rules.specs.States.{payload_of}
 use Rattle.link_trace.specs.Order.{Ascends, by_link, by_loss, by_cut, by_capture}
 use Rattle.scenario_text.specs.FloodParts.{knows}
 use Rattle.scenario_text.specs.ScenarioFacts.{AreEnds, IsStepOf, IsScriptLine, turned}
@@ -13,8 +14,6 @@ use Rattle.scenario_text.specs.ScenarioGrammar.{last_tick}
 use Rattle.scenario_text.specs.ScenarioParts.{ScenarioParts}
 use Rattle.scenario_text.specs.declared.lines.NodeLine.{NodeLine}
 use Rattle.scenario_text.specs.declared.lines.RateLine.{RateLine}
-use Rattle.scenario_text.specs.declared.script.Act.{Act}
-use Rattle.scenario_text.specs.declared.script.Act.TheVariants.{Put}
 
 pub record IsNodeLine (n : NodeLine) : Type 0 where
   pub id : (1 ≤ n.node) × (n.node ≤ GREATEST_ID)
@@ -28,11 +27,6 @@ pub record IsRateLine (s : ScenarioParts) (r : RateLine) : Type 0 where
 -- by node, and those of one node by tick
 abbrev pub by_rate : RateLine → RateLine → Ordering
 by_rate a b = ordering_then (nat_cmp a.node b.node) (nat_cmp a.from b.from)
-
--- the payload of a put
-abbrev pub carried : Act → List ℕ
-carried (Put stream payload) = payload
-carried other = []
 
 -- the script lines of all kinds
 abbrev pub script_lines : ScenarioParts → ℕ
@@ -61,6 +55,6 @@ pub record IsInOrder (s : ScenarioParts) : Type 0 where
   pub captures_ascend : Ascends by_capture s.trace.captures
   pub script : All (IsScriptLine s) s.script
   pub script_ascends : AllPairs (λ a b. a.frame ≤ b.frame) s.script
-  pub payload_bytes : All (λ l. All (λ b. b < 256) (carried l.act)) s.script
+  pub payload_bytes : All (λ l. All (λ b. b < 256) (payload_of l.act)) s.script
   pub few_lines : script_lines s ≤ 20000
   pub few_boots : (v : ℕ) → (turned v (false, 0) s.script).1 ≤ MOST_BOOTS

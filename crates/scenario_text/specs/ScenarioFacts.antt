@@ -2,15 +2,16 @@
 use Rattle.std.specs.Prelude.{◌≡◌, ◌≢◌, ◌+◌, ◌*◌, ◌^◌, ◌<◌, ◌≤◌, ℕ, List, [], ◌∷◌, filter, Bool, true, false, if◌then◌else◌, length, ◌==◌, All}
 use Rattle.std.specs.Int.RustNames.{unsigned_abs}
 use Rattle.std.specs.List.{AllPairs}
-use Rattle.lwb_base.specs.Profile.{Numbers, IsProfile}
+use Rattle.lwb_base.specs.Profile.{IsProfile}
 use Rattle.lwb_base.specs.declared.limits.TheConstants.{DRIFT_BOUND, GREATEST_ID, LAST_STEP, MOST_BOOTS}
+use Rattle.bus_rules.specs.States.{IsAct}
 use Rattle.link_trace.specs.Order.{Ascends, by_link, by_loss, by_cut, by_capture}
 use Rattle.scenario_text.specs.FloodParts.{knows}
 use Rattle.scenario_text.specs.ScenarioGrammar.{last_tick, greatest_slot_of}
 use Rattle.scenario_text.specs.ScenarioParts.{ScenarioParts}
 use Rattle.scenario_text.specs.declared.lines.NodeLine.{NodeLine}
-use Rattle.scenario_text.specs.declared.script.Act.{Act}
-use Rattle.scenario_text.specs.declared.script.Act.TheVariants.{On, Off, Declare, Leave, Put}
+use Rattle.bus_rules.specs.declared.act.Act.{Act}
+use Rattle.bus_rules.specs.declared.act.Act.TheVariants.{On, Off}
 use Rattle.scenario_text.specs.declared.script.ScriptLine.{ScriptLine}
 
 -- two of these nodes, which differ
@@ -24,14 +25,6 @@ pub record IsStepOf (s : ScenarioParts) (frame slot step : ℕ) : Type 0 where
   pub in_run : frame < s.frames
   pub in_frame : slot ≤ greatest_slot_of s.profile
   pub in_slot : step ≤ LAST_STEP
-
--- the numbers of what a node is given are in range
-abbrev pub IsAct : Numbers → Act → Type 0
-IsAct p On = Unit {0}
-IsAct p Off = Unit {0}
-IsAct p (Declare stream interval) = (stream ≤ 3) × (1 ≤ interval) × (interval ≤ 120)
-IsAct p (Leave stream) = stream ≤ 3
-IsAct p (Put stream payload) = (stream ≤ 3) × (length payload ≤ p.payload_max)
 
 pub record IsScriptLine (s : ScenarioParts) (l : ScriptLine) : Type 0 where
   pub in_run : l.frame < s.frames

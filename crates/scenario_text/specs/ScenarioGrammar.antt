@@ -1,10 +1,9 @@
 -- The text of a scenario: what its lines say, and the first line that is rejected.
 use Rattle.std.specs.Prelude.{◌≡◌, ℕ, ◌+◌, ◌-◌, ◌*◌, List, [], ◌∷◌, ◌++◌, Bool, true, false, not, ◌&&◌, ◌||◌, ◌==◌, nat_lt}
 use Rattle.std.specs.Prelude.{nat_le, if◌then◌else◌, Some, None, Option, is_none, is_some, Ok, Err, Result, length, drop, codes}
-use Rattle.std.specs.Prelude.{option_map, replicate, slice_get, slice_set, slice_index, slice_index_or}
+use Rattle.std.specs.Prelude.{replicate, slice_get, slice_set, slice_index, slice_index_or}
 use Rattle.std.specs.List.{list_all, list_any}
 use Rattle.std.specs.Option.{option_map_or}
-use Rattle.std.specs.Str.{bytes_eq}
 use Rattle.std.specs.Str.Lines.{lines}
 use Rattle.lwb_base.specs.Profile.{Numbers, one, contended}
 use Rattle.lwb_base.specs.Messages.{greatest_slot}
@@ -15,8 +14,8 @@ use Rattle.scenario_text.specs.ScenarioParts.{ScenarioParts}
 use Rattle.text_readers.specs.Faults.{first_fault, unless_fault, spelled, in_line, ◌>>=◌, draft_after_lines}
 use Rattle.text_readers.specs.Reading.{draft_after_line}
 use Rattle.scenario_text.specs.ScriptGrammar.{first_word_is, script_line, act_numbers, act_in_range, act_of}
-use Rattle.text_readers.specs.Words.{word, is_number, number_at, line_of_words}
-use Rattle.scenario_text.specs.Network.{DraftedNetwork, Parts, network_parts, network_line, network_numbers, no_network, is_id, are_ends}
+use Rattle.text_readers.specs.Words.{is_number, number_at, line_of_words}
+use Rattle.scenario_text.specs.Network.{DraftedNetwork, Parts, network_parts, network_numbers, no_network, is_id, are_ends}
 use Rattle.scenario_text.specs.Network.{has_loss, has_cut, has_capture, has_script_room, with_network_line, with_loss_at, with_cut_at}
 use Rattle.scenario_text.specs.Network.{with_capture_at, with_script_line, numbers_in_range, knows_ids, rates_in_order, is_new, has_room}
 use Rattle.text_readers.specs.declared.fault.FaultKind.{FaultKind}
@@ -25,8 +24,8 @@ use Rattle.scenario_text.specs.declared.scenario_line.ScenarioLine.{ScenarioLine
 use Rattle.scenario_text.specs.declared.scenario_line.ScenarioLine.TheVariants.{InNetwork, Profile, Contend, Frames, Host, Script}
 use Rattle.scenario_text.specs.declared.scenario_line.ScenarioLine.TheVariants.{Lose, Cut, Capture}
 use Rattle.scenario_text.specs.declared.script.ScriptLine.{ScriptLine}
-use Rattle.scenario_text.specs.declared.script.Act.{Act}
-use Rattle.scenario_text.specs.declared.script.Act.TheVariants as act
+use Rattle.bus_rules.specs.declared.act.Act.{Act}
+use Rattle.bus_rules.specs.declared.act.Act.TheVariants as act
 
 -- what the words say, if they are those of a line
 unfoldable pub scenario_line : List (List ℕ) → Option ScenarioLine

@@ -11,8 +11,8 @@ use Rattle.scenario_text.specs.declared.scenario_line.ScenarioLine.{ScenarioLine
 use Rattle.scenario_text.specs.declared.scenario_line.ScenarioLine.TheVariants.{InNetwork, Script, Lose, Cut, Capture}
 use Rattle.scenario_text.specs.declared.written_act.WrittenAct.{WrittenAct}
 use Rattle.scenario_text.specs.declared.written_act.WrittenAct.TheVariants.{On, Off, Stream, Leave, Put}
-use Rattle.scenario_text.specs.declared.script.Act.{Act}
-use Rattle.scenario_text.specs.declared.script.Act.TheVariants as act
+use Rattle.bus_rules.specs.declared.act.Act.{Act}
+use Rattle.bus_rules.specs.declared.act.Act.TheVariants as act
 
 abbrev pub first_word_is : List (List ℕ) → List ℕ → Bool
 first_word_is ws letters = bytes_eq (word ws 0) letters

@@ -2,20 +2,21 @@
 
 ghost use Rattle.std.specs.Prelude.{◌≡◌, ◌≤◌, ◌<◌, ◌+◌, ◌++◌, true, false, length, All, AllPairs, IfOk, OnOk, IfSome, IfNone, IsPermutation};
 ghost use Rattle.scenario_text.specs.AddedLines.{IsMerged, IsWithScript, HasRoom};
-ghost use Rattle.scenario_text.specs.PartsInOrder.{carried, script_lines};
+ghost use Rattle.scenario_text.specs.PartsInOrder.{script_lines};
+ghost use Rattle.bus_rules.specs.States.{payload_of};
 ghost use Rattle.scenario_text.specs.ScenarioFacts.{IsScriptLine};
 ghost use Rattle.scenario_text.specs.ScenarioGrammar.{IsScenario};
 ghost use Rattle.scenario_text.specs.ScenarioParts.{ScenarioParts};
 
 use crate::boots::has_few_boots;
 use crate::known_nodes::ids;
-use crate::{Act, Scenario, ScriptLine};
-use lwb_base::{Memory, Payload};
+use crate::{Scenario, ScriptLine};
+use lwb_base::Memory;
 use std::alloc::Global;
 
-/// The scenario with these lines added to its script, each after all lines of its frame that stand there, and in the
+/// The scenario with these lines added to its script, each after all lines of its frame that are there already, and in the
 /// order given. They are known nodes' lines in ascending frames below the number of frames. Returns `None` if and only
-/// if a text would be refused for the result's number of lines: a node would boot more than `MOST_BOOTS` times, or there would be
+/// if a text would be rejected for the result's number of lines: a node would boot more than `MOST_BOOTS` times, or there would be
 /// more than 20,000 script lines of all kinds.
 pub fn with_script(
     alloc: Global,
@@ -71,7 +72,7 @@ fn merged(
 ) -> Result<Vec<ScriptLine>, Memory>
     ensures merged { IfOk result (λ all. IsMerged old.now added.now all.items) }
     ensures permutation { IfOk result (λ all. IsPermutation (old.now ++ added.now) all.items) }
-    ensures bytes { IfOk result (λ all. All (λ l. All (λ b. b < 256) (carried l.act)) all.items) }
+    ensures bytes { IfOk result (λ all. All (λ l. All (λ b. b < 256) (payload_of l.act)) all.items) }
 {
     let mut all = Vec::new(alloc);
     copy_lines(&mut all, old)?;
@@ -82,7 +83,7 @@ fn merged(
 
 fn copy_lines(all: &mut Vec<ScriptLine>, lines: &[ScriptLine]) -> Result<(), Memory>
     ensures lines { OnOk result (all.new.items ≡ all.old.items ++ lines.now) }
-    ensures bytes { OnOk result (All (λ l. All (λ b. b < 256) (carried l.act)) lines.now) }
+    ensures bytes { OnOk result (All (λ l. All (λ b. b < 256) (payload_of l.act)) lines.now) }
 {
     for line in lines {
         all.push(copied(line))?;
@@ -92,39 +93,11 @@ fn copy_lines(all: &mut Vec<ScriptLine>, lines: &[ScriptLine]) -> Result<(), Mem
 
 fn copied(line: &ScriptLine) -> ScriptLine
     ensures same { result ≡ line.now }
-    ensures bytes { All (λ b. b < 256) (carried line.now.act) }
+    ensures bytes { All (λ b. b < 256) (payload_of line.now.act) }
 {
     ScriptLine {
         frame: line.frame,
         node: line.node,
-        act: copied_act(&line.act),
+        act: line.act.copy(),
     }
-}
-
-fn copied_act(act: &Act) -> Act
-    ensures same { result ≡ act.now }
-    ensures bytes { All (λ b. b < 256) (carried act.now) }
-{
-    match act {
-        Act::On => Act::On,
-        Act::Off => Act::Off,
-        Act::Declare(stream, interval) => Act::Declare(*stream, *interval),
-        Act::Leave(stream) => Act::Leave(*stream),
-        Act::Put(stream, payload) => Act::Put(*stream, copied_payload(payload)),
-    }
-}
-
-fn copied_payload(payload: &Payload) -> Payload
-    ensures same { result ≡ payload.now }
-    ensures bytes { All (λ b. b < 256) payload.now }
-{
-    of_bytes(payload.bytes())
-}
-
-fn of_bytes(bytes: &[u8]) -> Payload
-    requires { length bytes.now ≤ 96 }
-    ensures same { result ≡ bytes.now }
-    ensures bytes { All (λ b. b < 256) bytes.now }
-{
-    Payload::new(bytes).unwrap()
 }

@@ -27,11 +27,12 @@ mod script_writers;
 mod written_act;
 
 pub use added_lines::with_script;
+pub use bus_rules::Act;
 pub use flood::parse_flood;
 pub use flood_text::FloodText;
 pub use lines::{NodeLine, RateLine};
 pub use parsing::parse;
 pub use printing::print;
 pub use scenario::Scenario;
-pub use script::{Act, ScriptLine};
+pub use script::ScriptLine;
 pub use text_readers::{FaultKind, ParseFault};

@@ -3,7 +3,7 @@
 ghost use Rattle.std.specs.Prelude.{◌≡◌, ◌++◌, OnOk, string_bytes, codes, [], ◌∷◌};
 ghost use Rattle.text_writers.specs.Lines.{line_text};
 ghost use Rattle.scenario_text.specs.Canonical.{script_words, act_words};
-ghost use Rattle.scenario_text.specs.declared.script.Act.TheVariants as act;
+ghost use Rattle.bus_rules.specs.declared.act.Act.TheVariants as act;
 
 use crate::{Act, ScriptLine};
 use lwb_base::{NodeId, Payload};

@@ -111,7 +111,8 @@ below_in p h b below byte =
 pub below_left : (p k : ℕ) → k < 64 → p % (1 * 2 ^ k % 18446744073709551616) < 2 ^ k
 below_left p k few = rw (one_shl k 64 few) (mod_below p (2 ^ k) (pow_pos k))
 
-pub value_taken : (p k bytes n : ℕ) → k < 64 → p / 2 ^ k * 2 ^ (8 * bytes + k) + (p % (1 * 2 ^ k % 18446744073709551616) * 2 ^ (bytes * 8) + n) ≡ p * 2 ^ (bytes * 8) + n
+pub value_taken : (p k bytes n : ℕ) → k < 64
+    → p / 2 ^ k * 2 ^ (8 * bytes + k) + (p % (1 * 2 ^ k % 18446744073709551616) * 2 ^ (bytes * 8) + n) ≡ p * 2 ^ (bytes * 8) + n
 value_taken p k bytes n few =
     let order : 8 * bytes + k ≡ k + bytes * 8 = omega arith in
     let power = ap (λ m. p / 2 ^ k * m) (ap (λ i. 2 ^ i) order ∙ pow-add 2 k (bytes * 8)) in

@@ -3,10 +3,12 @@
 ghost use Rattle.std.specs.Prelude.{◌≡◌, ◌≤◌, ◌==◌, true, IfOk, IfSome, if◌then◌else◌, fold, map, length, replicate, option_map};
 ghost use Rattle.std.specs.List.{list_all};
 ghost use Rattle.bus_rules.specs.Streams as rule;
+ghost use Rattle.bus_rules.specs.States.{IsStreamAct};
 ghost use Rattle.schedule_codec.specs.AckLists.{ask_in_range};
 ghost use Rattle.stream_source.specs.declared.stream.Put.TheVariants.{Queued, Dropped};
 
 use crate::stream::{Put, Stream, Waiting};
+use bus_rules::Act;
 use lwb_base::{Memory, NodeId, Owner, Payload, Rank};
 use schedule_codec::{Ack, Acks, Owners, Schedule};
 use std::alloc::Global;
@@ -88,6 +90,21 @@ impl Streams {
         ensures after { self.new ≡ rule.put stream payload.now self.old }
     {
         self.streams[usize::from(stream)].put(payload)
+    }
+
+    /// Does what an act asks of a stream, if it is for one. Returns `true` if and only if it puts a packet that its stream drops.
+    pub fn tell(&mut self, act: &Act) -> bool
+        requires { IsStreamAct act.now }
+        ensures after { self.new ≡ rule.streams_after_act act.now self.old }
+        ensures dropped { result ≡ rule.drops_by act.now self.old }
+    {
+        match act {
+            Act::On | Act::Off => {}
+            Act::Declare(stream, interval) => self.declare(*stream, *interval),
+            Act::Leave(stream) => self.leave(*stream),
+            Act::Put(stream, payload) => return self.put(*stream, payload) == Put::Dropped,
+        }
+        false
     }
 
     /// Takes the packet that waits longest in a stream, 0 to 3. Returns `None` if and only if none waits.

@@ -8,7 +8,8 @@ use Rattle.air_log.specs.declared.entry.Entry.{Entry}
 use Rattle.air_log.specs.ScriptedDevices.{device_after_line}
 use Rattle.air_log.specs.Trails.{Reception, setup_of, frame_start, run_end, before_tick}
 use Rattle.air_log.specs.Lawful.{heard_by}
-use Rattle.air_log.specs.Drops.{told_at_tick, drop_by, trail_drops_below, drops_of}
+use Rattle.air_log.specs.Drops.{told_at_tick, drop_by, drops_of}
+use Rattle.air_log.proofs.DropsBelow.{trail_drops_below, drops_by_place}
 use Rattle.world_engine.specs.Fields.{FieldState}
 use Rattle.world_engine.specs.FieldSteps.{IsClosed}
 use Rattle.world_engine.specs.Moments.{Before}
@@ -32,4 +33,9 @@ module _ (s : ScenarioParts) (clocks : ℕ → ℕ → ℕ) (a b : List Entry) (
 module _ (s : ScenarioParts) (clocks : ℕ → ℕ → ℕ) (w : FieldState) (due : List Due) (closed : FieldState)
     (running : IsRunning s clocks s.script (run_end s) Before w due) (over : IsClosed (run_end s) w due closed) where
   pub drops_over : closed.drops ≡ drops_of s clocks closed.air
-  drops_over = over.drops ∙ running.script.drops ∙ sym (same_drops s clocks closed.air w.air (same_heard s clocks w due closed running over) [] s.script)
+  drops_over =
+      over.drops
+      ∙ running.script.drops
+      ∙ drops_by_place s clocks w.air
+      ∙ sym (same_drops s clocks closed.air w.air (same_heard s clocks w due closed running over) [] s.script)
+      ∙ sym (drops_by_place s clocks closed.air)

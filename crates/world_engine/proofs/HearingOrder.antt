@@ -5,7 +5,6 @@ use Rattle.std.proofs.lemmas.Bool.{cases_order, or_left, or_right, or_cases, and
 use Rattle.std.proofs.lemmas.Option.{slice_get_within, get_or_from_slice_get}
 use Rattle.radio_model.specs.declared.sending.Sending.{Sending}
 use Rattle.radio_model.specs.OnAir.{Hearing}
-use Rattle.lwb_base.proofs.Elements.{contains_head, contains_tail}
 use Rattle.air_log.specs.Lawful.{reception_comes_before}
 
 -- by end, and then by sender

@@ -9,9 +9,10 @@ use Rattle.air_log.specs.Devices.{Device}
 use Rattle.air_log.specs.ScriptedDevices.{device_after_line}
 use Rattle.air_log.specs.Trails.{Reception, setup_of, frame_start, before_tick}
 use Rattle.air_log.specs.Lawful.{heard_by}
-use Rattle.air_log.specs.Drops.{told_at_tick, device_before_line, drop_by, trail_drops_below}
+use Rattle.air_log.specs.Drops.{told_at_tick, device_before_line, drop_by}
 use Rattle.lwb_base.proofs.Elements.{contains_head, contains_tail}
 use Rattle.air_log.proofs.HearingMore.{earlier_stays}
+use Rattle.air_log.proofs.DropsBelow.{trail_drops_below}
 use Rattle.world_engine.specs.Moments.{trail_after_lines}
 
 -- what a line loses at a node that it finds so

@@ -11,9 +11,10 @@ use Rattle.radio_model.specs.Hearing.{Scene}
 use Rattle.radio_model.specs.Holding.{Holds}
 use Rattle.radio_model.specs.Stations.{Ends, is_station_of, station_of, sending_of_station}
 use Rattle.scenario_text.specs.ScenarioParts.{ScenarioParts}
-use Rattle.scenario_text.specs.ScenarioFacts.{IsSoundScenario, IsScriptLine, IsAct, turned}
+use Rattle.scenario_text.specs.ScenarioFacts.{IsSoundScenario, IsScriptLine, turned}
+use Rattle.bus_rules.specs.States.{IsAct}
 use Rattle.scenario_text.specs.declared.lines.NodeLine.{NodeLine}
-use Rattle.scenario_text.specs.declared.script.Act.TheVariants.{On}
+use Rattle.bus_rules.specs.declared.act.Act.TheVariants.{On}
 use Rattle.scenario_text.specs.declared.script.ScriptLine.{ScriptLine}
 use Rattle.bus_rules.specs.Cores.{Setup}
 use Rattle.air_log.specs.Devices.{Device, Power, PowerOff, PowerOn, seen_power}

@@ -1,11 +1,13 @@
 -- What a line of the script changes of a trace's device.
-use Rattle.std.proofs.Common.{◌≡◌, ℕ, true, false, None, refl}
+use Rattle.std.proofs.Common.{◌≡◌, ℕ, true, false, None, refl, sym, subst}
 use Rattle.std.proofs.lemmas.Bool.{false≢true, true≢false}
-use Rattle.scenario_text.specs.declared.script.Act.{Act}
-use Rattle.scenario_text.specs.declared.script.Act.TheVariants.{On, Off, Declare, Leave, Put}
+use Rattle.bus_rules.specs.declared.act.Act.{Act}
+use Rattle.bus_rules.specs.declared.act.Act.TheVariants.{Off}
+use Rattle.bus_rules.specs.States.{switch_of}
 use Rattle.bus_rules.specs.Cores.{Setup}
 use Rattle.air_log.specs.Devices.{Device, Power, PowerOff, PowerOn, power_is_on}
-use Rattle.air_log.specs.ScriptedDevices.{IsForStream, device_after_act}
+use Rattle.air_log.specs.ScriptedDevices.{device_after_act}
+use Rattle.air_log.proofs.DeviceActs.{told, stream_act}
 
 -- the radio and what is set stay
 pub record StaysSet (d e : Device) : Type 0 where
@@ -14,19 +16,13 @@ pub record StaysSet (d e : Device) : Type 0 where
   pub ordered : e.ordered ≡ d.ordered
   pub sending : e.sending ≡ d.sending
 
-stays : (d : Device) → StaysSet d d
-stays d = record { listening = refl; alarm = refl; ordered = refl; sending = refl }
-
 module _ (clock : ℕ → ℕ) (s : Setup) (t : ℕ) (d : Device) where
-  pub told_stays : (act : Act) → IsForStream act → (power : Power) → StaysSet d (device_after_act clock s t d act power)
-  told_stays On is power = absurd is
-  told_stays Off is power = absurd is
-  told_stays (Declare i interval) is (PowerOff boots) = stays d
-  told_stays (Declare i interval) is (PowerOn n) = record { listening = refl; alarm = refl; ordered = refl; sending = refl }
-  told_stays (Leave i) is (PowerOff boots) = stays d
-  told_stays (Leave i) is (PowerOn n) = record { listening = refl; alarm = refl; ordered = refl; sending = refl }
-  told_stays (Put i payload) is (PowerOff boots) = stays d
-  told_stays (Put i payload) is (PowerOn n) = record { listening = refl; alarm = refl; ordered = refl; sending = refl }
+  pub told_stays : (act : Act) → switch_of act ≡ None → (power : Power) → StaysSet d (device_after_act clock s t d act power)
+  told_stays act none power = subst (StaysSet d) (sym (stream_act clock s t d act power none)) (set_so power)
+    where
+      set_so : (p : Power) → StaysSet d (told d act p)
+      set_so (PowerOff boots) = record { listening = refl; alarm = refl; ordered = refl; sending = refl }
+      set_so (PowerOn n) = record { listening = refl; alarm = refl; ordered = refl; sending = refl }
 
 -- the radio is off, and nothing is set
 pub record IsOffAfter (d e : Device) : Type 0 where

@@ -8,9 +8,10 @@ use Rattle.event_calendar.specs.Orders.{Due, changed, with_tick}
 use Rattle.event_calendar.specs.declared.class.Class.TheVariants.{Alarm as AlarmOf, SendingStart}
 use Rattle.event_calendar.proofs.QueuesOfMaps.{size_stays}
 use Rattle.lwb_base.specs.declared.event.Event.TheVariants.{Boot}
-use Rattle.scenario_text.specs.declared.script.Act.{Act}
-use Rattle.scenario_text.specs.declared.script.Act.TheVariants.{On}
+use Rattle.bus_rules.specs.declared.act.Act.{Act}
+use Rattle.bus_rules.specs.declared.act.Act.TheVariants.{On}
 use Rattle.scenario_text.specs.declared.script.ScriptLine.{ScriptLine}
+use Rattle.bus_rules.specs.States.{switch_of}
 use Rattle.bus_rules.specs.Cores.{Setup}
 use Rattle.bus_rules.specs.declared.delivery.DropLine.{DropLine}
 use Rattle.radio_model.specs.Hearing.{Scene}
@@ -18,7 +19,7 @@ use Rattle.radio_model.specs.Holding.{Holds, after_tuning}
 use Rattle.radio_model.specs.Stations.{MediumState, IsTime, station_of, medium_after_change as medium_after, station_after_tuning}
 use Rattle.air_log.specs.declared.entry.TunedEntry.{TunedEntry}
 use Rattle.air_log.specs.Devices.{Device, Power, Listening, Made, nothing_made, event}
-use Rattle.air_log.specs.ScriptedDevices.{IsForStream, device_after_act}
+use Rattle.air_log.specs.ScriptedDevices.{device_after_act}
 use Rattle.air_log.specs.Drops.{drop_of_line}
 use Rattle.air_log.specs.DeviceStates.{DeviceState, whole, with_tuned, HappenedBy, IsSameNode}
 use Rattle.air_log.specs.WindowLogs.{WindowLog}
@@ -177,7 +178,7 @@ module _ (t p : ℕ) (old : FieldState) (old_due : List Due) (shown : FieldIsSho
       (acts_then t p (turned after.power) (λ s d. event clock s t Boot None d) [] [] [] [] old mid new old_due old_due new_due on told)
 
   -- a line for a stream
-  module _ (clock : ℕ → ℕ) (line : ScriptLine) (drop : Option DropLine) (after : DeviceState) (for_stream : IsForStream line.act)
+  module _ (clock : ℕ → ℕ) (line : ScriptLine) (drop : Option DropLine) (after : DeviceState) (for_stream : switch_of line.act ≡ None)
       (comes : (made : Made) → device_after_act clock state.setup t (whole state made) line.act state.power ≡ whole after made)
       (lost : drop ≡ drop_of_line (record line { node = state.setup.id }) state.power) where
     loses : line.node ≡ state.setup.id → (s : Setup) (d : Device) → FieldShows s t old old_due p d

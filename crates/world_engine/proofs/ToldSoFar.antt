@@ -20,12 +20,13 @@ use Rattle.air_log.specs.Devices.{Device, seen_power}
 use Rattle.air_log.specs.ScriptedDevices.{device_after_line}
 use Rattle.air_log.specs.Trails.{setup_of, frame_start}
 use Rattle.air_log.specs.Lawful.{heard_by}
-use Rattle.air_log.specs.Drops.{device_before_line, trail_drops_below}
+use Rattle.air_log.specs.Drops.{device_before_line}
 use Rattle.world_engine.specs.Fields.{FieldState, FieldShows}
 use Rattle.world_engine.specs.FieldSteps.{Acts, EndsSending, told_of_end, told_of_hearing}
 use Rattle.world_engine.specs.Moments.{TickMoment, InLines, trail_after_lines}
 use Rattle.world_engine.specs.Running.{HasPlaces, HasTakenLines}
 use Rattle.air_log.proofs.KeptPower.{event_power, line_power}
+use Rattle.air_log.proofs.DropsBelow.{trail_drops_below, told_by_place}
 use Rattle.world_engine.proofs.KeptDrops.{HeardOn, lost_by, drops_more, drops_stay, line_finds}
 use Rattle.world_engine.proofs.ShownDevices.{node_there, same_power, shows_later}
 use Rattle.world_engine.proofs.TrailsGoOn.{OnTrails, IsClockAt, heard_same, ids_apart}
@@ -69,8 +70,9 @@ module _ (s : ScenarioParts) (clocks : ℕ → ℕ → ℕ) (told : List ScriptL
     pub acts_told : (p : ℕ) (change : Setup → Device → Device) (starting : List Sending) → Acts t p change starting [] old old_due new new_due
         → ((x : Setup) (d : Device) → seen_power (change x d).power ≡ seen_power d.power) → HasTakenLines s clocks told t new new_due
     acts_told p change starting acts kept = record {
-      drops = acts.drops ∙ append-nil old.drops ∙ is.drops
-          ∙ sym (drops_stay s clocks t old.air new.air [] told is.lines (λ v. inl (heard_same s clocks t p change starting [] old old_due new new_due acts v)));
+      drops = acts.drops ∙ append-nil old.drops ∙ is.drops ∙ told_by_place s clocks old.air told
+          ∙ sym (drops_stay s clocks t old.air new.air [] told is.lines (λ v. inl (heard_same s clocks t p change starting [] old old_due new new_due acts v)))
+          ∙ sym (told_by_place s clocks new.air told);
       power = power_told s told t new new_due places each;
       lines = is.lines;
     }
@@ -98,7 +100,9 @@ module _ (s : ScenarioParts) (clocks : ℕ → ℕ → ℕ) (told : List ScriptL
         → EndsSending lines at_places t p x hearers old old_due new new_due
         → (Contains hearers p → ⊥) → ((v : ℕ) → HeardOn t old.air new.air v) → HasTakenLines s clocks told t new new_due
     end_told_of lines at_places p x hearers ends not_own heard = record {
-      drops = ends.drops ∙ is.drops ∙ sym (drops_stay s clocks t old.air new.air [] told is.lines heard);
+      drops = ends.drops ∙ is.drops ∙ told_by_place s clocks old.air told
+          ∙ sym (drops_stay s clocks t old.air new.air [] told is.lines heard)
+          ∙ sym (told_by_place s clocks new.air told);
       power = power_told s told t new new_due places each;
       lines = is.lines;
     }
@@ -152,7 +156,7 @@ module _ (s : ScenarioParts) (clocks : ℕ → ℕ → ℕ) (told : List ScriptL
       (λ v. inl (heard_same s clocks t p (λ x d. device_after_line clock x t d l) starting lost old old_due new new_due acts v)) in
       acts.drops
       ∙ ap (λ (ds : List DropLine). old.drops ++ ds) (loses (setup_of s n.node) trail.device trail.shows ∙ ap (lost_by l) found)
-      ∙ ap (λ (ds : List DropLine). ds ++ lost_by l (device_before_line s clocks old.air told l)) is.drops
+      ∙ ap (λ (ds : List DropLine). ds ++ lost_by l (device_before_line s clocks old.air told l)) (is.drops ∙ told_by_place s clocks old.air told)
       ∙ sym (drops_more s clocks old.air [] told l)
       ∙ sym stay
     where
@@ -195,7 +199,7 @@ module _ (s : ScenarioParts) (clocks : ℕ → ℕ → ℕ) (told : List ScriptL
   pub line_told_of : HasPlaces s new new_due → ((x : Setup) (d : Device) → FieldShows x t old old_due p d → lost ≡ lost_by l d)
       → HasTakenLines s clocks (told ++ l ∷ []) t new new_due
   line_told_of places loses = record {
-    drops = drops_told loses;
+    drops = drops_told loses ∙ sym (told_by_place s clocks new.air (told ++ l ∷ []));
     power = power_told s (told ++ l ∷ []) t new new_due places each_power;
     lines = λ k there. elim (Contains-push_cases told l k there) [
       | inl before ↦ is.lines k before

@@ -23,7 +23,7 @@ use Rattle.air_log.specs.Drops.{drop_by}
 use Rattle.air_log.specs.Trails.{setup_of}
 use Rattle.scenario_text.specs.ScenarioParts.{ScenarioParts}
 use Rattle.scenario_text.specs.declared.lines.NodeLine.{NodeLine}
-use Rattle.scenario_text.specs.declared.script.Act.{Act}
+use Rattle.bus_rules.specs.declared.act.Act.{Act}
 use Rattle.scenario_text.specs.declared.script.ScriptLine.{ScriptLine}
 use Rattle.scenario_text.specs.FloodParts.{node_id}
 use Rattle.node_core.specs.Nodes.{rebooted}

@@ -1,5 +1,6 @@
 -- What holds of a run at each moment.
-use Rattle.std.specs.Prelude.{◌≡◌, ◌≢◌, ◌↔◌, ℕ, ◌<◌, ◌≤◌, List, [], true, false, map, length, slice_get, AllPairs, Contains, Some}
+use Rattle.std.specs.Prelude.{◌≡◌, ◌≢◌, ◌↔◌, ℕ, ◌<◌, ◌≤◌, List, true, false, map, take, filter_map, length, slice_get, AllPairs, Contains, Some}
+use Rattle.std.specs.List.{enumerate_from}
 use Rattle.scenario_text.specs.ScenarioParts.{ScenarioParts}
 use Rattle.scenario_text.specs.ScenarioFacts.{turned}
 use Rattle.scenario_text.specs.declared.lines.NodeLine.{NodeLine}
@@ -18,7 +19,7 @@ use Rattle.air_log.specs.Devices.{Device, seen_power}
 use Rattle.air_log.specs.TunedTimes.{WasTuned}
 use Rattle.air_log.specs.Trails.{setup_of, frame_start}
 use Rattle.air_log.specs.Lawful.{reception_comes_before, AreInTurn, heard_by}
-use Rattle.air_log.specs.Drops.{trail_drops_below}
+use Rattle.air_log.specs.Drops.{device_before_line, drop_of_line}
 use Rattle.world_engine.specs.Fields.{FieldState, IsField, FieldShows, setups_of, ids_of}
 use Rattle.world_engine.specs.Moments.{TickMoment, IsAtMoment, over_by}
 
@@ -72,7 +73,9 @@ pub record IsOnAir (s : ScenarioParts) (over t : ℕ) (w : FieldState) (due : Li
 
 -- these lines of the script have been given
 pub record HasTakenLines (s : ScenarioParts) (clocks : ℕ → ℕ → ℕ) (told : List ScriptLine) (t : ℕ) (w : FieldState) (due : List Due) : Type 0 where
-  pub drops : w.drops ≡ trail_drops_below s clocks w.air [] told
+  -- the loss of each, as those above it leave its node
+  pub drops : w.drops
+      ≡ filter_map (λ (x : ℕ × ScriptLine). drop_of_line x.1 (device_before_line s clocks w.air (take x.0 told) x.1).power) (enumerate_from 0 told)
   pub power : (q : Setup) (p : ℕ) (d : Device) → FieldShows q t w due p d → seen_power d.power ≡ turned q.id (false, 0) told
   pub lines : (l : ScriptLine) → Contains told l → frame_start s l.frame ≤ t
 

@@ -1,13 +1,13 @@
 //! What script lines do in a run.
 
-ghost use Rattle.std.specs.Prelude.{◌≡◌, ◌≤◌, ◌<◌, ◌^◌, ℕ, List, [], OnOk, length, slice_get, Some};
+ghost use Rattle.std.specs.Prelude.{◌≡◌, ◌≤◌, ◌<◌, ◌^◌, ℕ, List, [], OnOk, length, slice_get, Some, None};
 ghost use Rattle.event_calendar.specs.Orders.{Due as DueOf};
 ghost use Rattle.bus_rules.specs.Cores.{Setup};
-ghost use Rattle.scenario_text.specs.ScenarioFacts.{IsAct};
-ghost use Rattle.scenario_text.specs.declared.script.Act.TheVariants.{On as OnOf, Off as OffOf};
+ghost use Rattle.bus_rules.specs.States.{IsAct, switch_of};
+ghost use Rattle.bus_rules.specs.declared.act.Act.TheVariants.{On as OnOf, Off as OffOf};
 ghost use Rattle.radio_model.specs.Stations.{IsTime};
 ghost use Rattle.air_log.specs.Devices.{Device as DeviceOf};
-ghost use Rattle.air_log.specs.ScriptedDevices.{IsForStream, device_after_act};
+ghost use Rattle.air_log.specs.ScriptedDevices.{device_after_act};
 ghost use Rattle.air_log.specs.DeviceStates.{DeviceState as DeviceStateOf, CanBoot};
 ghost use Rattle.world_engine.specs.Fields.{FieldShows, FieldIsShown};
 ghost use Rattle.world_engine.specs.FieldSteps.{Acts, TakesLine};
@@ -15,9 +15,10 @@ ghost use Rattle.world_engine.specs.FieldSteps.{Acts, TakesLine};
 use crate::event_radio::EventRadio;
 use crate::field::Field;
 use crate::notice::Notice;
+use bus_rules::Switch;
 use event_calendar::{Class, Orders};
 use lwb_base::{Event, Memory};
-use scenario_text::{Act, ScriptLine};
+use scenario_text::ScriptLine;
 use tick_clock::DriftClock;
 
 impl Field {
@@ -39,10 +40,10 @@ impl Field {
         requires boots { (s : Setup) (d : DeviceOf) → FieldShows s t self.old (Q.map orders.old) place d → line.now.act ≡ OnOf → CanBoot d.power }
         ensures { OnOk result (TakesLine (C.readings clock.now) line.now t place line.now.act self.old (Q.map orders.old) self.new (Q.map orders.new)) }
     {
-        match &line.act {
-            Act::On => self.switch_on(orders, clock, place, t, radio),
-            Act::Off => self.switch_off(orders, place, t),
-            Act::Declare(..) | Act::Leave(_) | Act::Put(..) => self.tell_stream(place, line),
+        match line.act.switch() {
+            Some(Switch::On) => self.switch_on(orders, clock, place, t, radio),
+            Some(Switch::Off) => self.switch_off(orders, place, t),
+            None => self.tell_stream(place, line),
         }
     }
 
@@ -97,7 +98,7 @@ impl Field {
     // A line for a stream of the device at the place. A packet that is lost by it is one of the drops.
     fn tell_stream(&mut self, place: u8, line: &ScriptLine) -> Result<(), Memory>
         requires within { place < length self.old.devices }
-        requires stream { IsForStream line.now.act }
+        requires stream { switch_of line.now.act ≡ None }
         requires range { (d : DeviceStateOf) → slice_get self.old.devices place ≡ Some d → IsAct d.setup.profile line.now.act }
         ensures { (clock : ℕ → ℕ) (t : ℕ) (due : List DueOf) → IsTime self.old.medium t → FieldIsShown t self.old due place
             → ((s : Setup) (d : DeviceOf) → FieldShows s t self.old due place d → line.now.node ≡ s.id)

@@ -3,7 +3,8 @@ use Rattle.std.proofs.Common.{arith}
 use Rattle.std.proofs.lemmas.Bool.{cases_lt}
 use Rattle.std.proofs.lemmas.List.{get_or-map, get_or_default, length-set}
 use Rattle.std.proofs.lemmas.List.Elements.{All-set}
-use Rattle.scenario_text.specs.ScenarioFacts.{IsAct, turned}
+use Rattle.scenario_text.specs.ScenarioFacts.{turned}
+use Rattle.bus_rules.specs.States.{IsAct}
 use Rattle.scenario_text.specs.declared.script.ScriptLine.{ScriptLine}
 use Rattle.scenario_text.proofs.SoundScenarios.{sound}
 use Rattle.bus_rules.specs.declared.delivery.DropLine.{DropLine}

@@ -1,6 +1,6 @@
 use Rattle.std.proofs.Common.{◌≡◌, ℕ, ◌+◌, ◌-◌, ◌%◌, ap, arith, refl, sym, ◌∙◌}
 use Rattle.std.proofs.lemmas.List.{append-nil}
-use Rattle.scenario_text.specs.declared.script.Act.TheVariants.{Declare}
+use Rattle.bus_rules.specs.declared.act.Act.TheVariants.{Declare}
 use Rattle.scenario_text.specs.declared.script.ScriptLine.{ScriptLine}
 use Rattle.scenario_maker.specs.Drawn.{drawn_word}
 use Rattle.scenario_maker.specs.Made.{stream_line}

@@ -1,5 +1,5 @@
 use Rattle.std.proofs.Common.{◌≡◌, ◌<◌, ◌++◌, [], ◌∷◌, All, rules, ◌∙◌}
-use Rattle.scenario_text.specs.PartsInOrder.{carried}
+use Rattle.bus_rules.specs.States.{payload_of}
 use Rattle.scenario_text.proofs.LinesAdded.{lines_more, all_more}
 use Rattle.scenario_text.proofs.added_lines.copy_lines.Goals as goal
 
@@ -11,6 +11,6 @@ loop-line-preserved c =
     record {
       lines = pushed ∙ lines_more c.args.all.now.items c.loop-line.all.items c.args.lines.now i x c.copied.result c.loop-line-test.true c.line-item.is
           c.copied.ensures.same c.loop-line.invariant.lines;
-      bytes = all_more (λ l. All (λ b. b < 256) (carried l.act)) c.args.lines.now i x c.loop-line-test.true c.line-item.is c.copied.ensures.bytes
+      bytes = all_more (λ l. All (λ b. b < 256) (payload_of l.act)) c.args.lines.now i x c.loop-line-test.true c.line-item.is c.copied.ensures.bytes
           c.loop-line.invariant.bytes;
     }

@@ -3,7 +3,7 @@ use Rattle.std.proofs.lemmas.List.Elements.{All-append}
 use Rattle.std.proofs.lemmas.List.Sorted.{answers_always, All-permutation, IsNonDecreasingBy-from_sort}
 use Rattle.std.specs.List.Sorted.{IsPermutation, IsStableByKey}
 use Rattle.std.specs.Ordering.{nat_cmp}
-use Rattle.scenario_text.specs.PartsInOrder.{carried}
+use Rattle.bus_rules.specs.States.{payload_of}
 use Rattle.scenario_text.specs.declared.script.ScriptLine.{ScriptLine}
 use Rattle.scenario_text.proofs.LinesAdded.{sorted_merged}
 use Rattle.scenario_text.proofs.added_lines.merged.Goals as goal
@@ -22,7 +22,7 @@ returns-clause-merged c =
 
 pub returns-clause-bytes : goal.returns-clause-bytes
 returns-clause-bytes c =
-    let P : ScriptLine → Type 0 = λ l. All (λ b. b < 256) (carried l.act) in
+    let P : ScriptLine → Type 0 = λ l. All (λ b. b < 256) (payload_of l.act) in
     let both : c.copy_lines-2.new.all.items ≡ c.args.old.now ++ c.args.added.now =
     c.in_ok-copy_lines-2.ensures.lines ∙ ap (λ (ls : List ScriptLine). ls ++ c.args.added.now)
     (c.in_ok-copy_lines.ensures.lines ∙ ap (λ (ls : List ScriptLine). ls ++ c.args.old.now) c.new-all.ensures.items) in

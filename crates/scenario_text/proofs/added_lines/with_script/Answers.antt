@@ -58,7 +58,8 @@ of_parts-requires-clause-said c =
     subst (λ (old : List ScriptLine). IsPermutation (old ++ c.args.added.now) sc) c.script.ensures.value c.in_ok-script.ensures.permutation in
     let few = c.if-len-script_room.false in
     let room = c.script_room.ensures in
-    let lines : script_lines (record s { script = sc }) ≤ 20000 = omega (arith, few, room, c.len.ensures, c.deref.ensures.len, ap length c.deref.ensures.value) in
+    let lines : script_lines (record s { script = sc }) ≤ 20000 =
+    omega (arith, few, room, c.len.ensures, c.deref.ensures.len, ap length c.deref.ensures.value) in
     let boots : (v : ℕ) → (turned v (false, 0) sc).1 ≤ 200 =
     subst (λ (ls : List ScriptLine). (v : ℕ) → (turned v (false, 0) ls).1 ≤ 200) c.deref.ensures.value (c.if-not-has_few_boots.ensures.few refl) in
     subst IsSaid (sym (

@@ -2,7 +2,7 @@ use Rattle.std.proofs.Common.{◌≡◌, ℕ, [], length, None, true, false, ref
 use Rattle.std.specs.Prelude.{Contains}
 use Rattle.std.proofs.lemmas.List.{append-nil}
 use Rattle.std.proofs.lemmas.Result.{on_ok_weaker}
-use Rattle.scenario_text.specs.declared.script.Act.TheVariants.{Off}
+use Rattle.bus_rules.specs.declared.act.Act.TheVariants.{Off}
 use Rattle.event_calendar.specs.declared.class.Class.TheVariants.{Alarm}
 use Rattle.event_calendar.proofs.QueuesOfMaps.{size_stays}
 use Rattle.radio_model.specs.Stations.{IsTime, nodes_of}

@@ -1,6 +1,6 @@
 use Rattle.std.proofs.Common.{[], refl, sym, ◌∙◌, ap, subst}
 use Rattle.std.proofs.lemmas.List.{append-nil}
-use Rattle.scenario_text.specs.declared.script.Act.TheVariants.{On}
+use Rattle.bus_rules.specs.declared.act.Act.TheVariants.{On}
 use Rattle.radio_model.specs.Stations.{IsTime}
 use Rattle.air_log.specs.Devices.{nothing_made}
 use Rattle.air_log.specs.ScriptedDevices.{device_after_act}
