@@ -3,7 +3,7 @@
 PROGRAM = bin/foldcairn-x86_64-linux
 IN_CRATE = cd crates/$(or $(CRATE),$(error name a crate: make $@ CRATE=link_trace)) &&
 
-.PHONY: help check only try tests format edits crate gate store program python pages words pictures crates calls costs bench
+.PHONY: help check only try tests format edits crate gate store program python pages words pictures crates lemmas calls costs bench
 
 help: # lists the targets
 	@grep -E '^[a-z]+:' Makefile
@@ -54,6 +54,9 @@ pictures: # draws the pictures of docs/ again, and writes what the code of PLANN
 
 crates: # lists the crates in docs/internals/ARCHITECTURE.md again
 	tools/crates.py > docs/internals/page && mv docs/internals/page docs/internals/ARCHITECTURE.md
+
+lemmas: # lists the lemmas that crates keep for those above them in docs/internals/PROOFS.md again
+	tools/lemmas.py > docs/internals/page && mv docs/internals/page docs/internals/PROOFS.md
 
 calls: # lists all public calls with their contracts again
 	tools/calls.py > docs/internals/CALLS.md

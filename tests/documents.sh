@@ -182,7 +182,7 @@ pictures() {
     done
 }
 
-# The list of crates is to be what crates.txt and the sources have.
+# The lists of crates, and of lemmas that are kept for the crates above, are to be what crates.txt and the sources have.
 listed() {
     if ! command -v python3 > "$folder/written"; then
         return
@@ -190,7 +190,12 @@ listed() {
     if python3 "$top/tools/crates.py" | cmp -s - "$top/docs/internals/ARCHITECTURE.md"; then
         counts_pass
     else
-        counts_failure "docs/internals/ARCHITECTURE.md is not what tools/crates.py writes"
+        counts_failure "docs/internals/ARCHITECTURE.md is not what tools/crates.py writes: make crates"
+    fi
+    if python3 "$top/tools/lemmas.py" | cmp -s - "$top/docs/internals/PROOFS.md"; then
+        counts_pass
+    else
+        counts_failure "docs/internals/PROOFS.md is not what tools/lemmas.py writes: make lemmas"
     fi
 }
 
@@ -202,7 +207,7 @@ calls() {
     if python3 "$top/tools/calls.py" | cmp -s - "$top/docs/internals/CALLS.md"; then
         counts_pass
     else
-        counts_failure "docs/internals/CALLS.md is not what tools/calls.py writes"
+        counts_failure "docs/internals/CALLS.md is not what tools/calls.py writes: make calls"
     fi
     if python3 "$top/tools/calls.py" --open > "$folder/written" 2> "$folder/counted" && ! grep -q . "$folder/written"; then
         counts_pass
