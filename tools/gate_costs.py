@@ -1,8 +1,8 @@
 #!/usr/bin/env python3
 """Runs the gate, and writes what it cost: processor minutes of each crate's proof, of its tests and of its edits.
 
-The processor times are read from /proc, twice a second, for each process of the prover. What a process uses after its last
-look is not seen, so the sums are low by some seconds in a hundred minutes. Linux only.
+The processor times are read from /proc, twice a second, for each process of the prover with those that it started. What a
+process uses after its last look is not seen, so the sums are low by some seconds in a hundred minutes. Linux only.
 
 Usage: tools/gate_costs.py [--table FILE] COMMAND ..
 With --table the rows of the table of costs in that page (docs/internals/PROOFS.md) are written anew; else they are printed.
@@ -40,10 +40,24 @@ def below(ancestor):
     return {name: of for name, of in found.items() if stems(name)}
 
 
+def is_prover(words):
+    return words[0].endswith("/rattle") and "--crate-name" in words
+
+
 def provers(ancestor):
-    """The processes of the prover: their identity, crate, kind of work, and processor seconds so far."""
-    for name, (words, fields) in below(ancestor).items():
-        if not words[0].endswith("/rattle") or "--crate-name" not in words:
+    """The processes of the prover that no other one started: their identity, crate, kind of work, and processor seconds so far."""
+    found = below(ancestor)
+    # The fields from the state on: 1 is the parent, 11 to 14 are the times of the process and of its ended children, 19 its start.
+    spent, first = {}, {}
+    for name, (words, fields) in found.items():
+        spent[name] = sum(int(field) for field in fields[11:15]) / TICKS
+        top, at = None, name
+        while at in found:
+            top = at if is_prover(found[at][0]) else top
+            at = found[at][1][1]
+        first[name] = top
+    for name, (words, fields) in found.items():
+        if first[name] != name:
             continue
         try:
             folder = os.readlink(f"/proc/{name}/cwd")
@@ -51,8 +65,7 @@ def provers(ancestor):
             continue
         # The edits of a crate are tried on copies of it.
         kind = "edits" if "rt-edit-" in folder else "tests" if "--test" in words else "proof"
-        # The fields from the state on: 11 to 14 are the times of the process and of its ended children, 19 its start.
-        seconds = sum(int(field) for field in fields[11:15]) / TICKS
+        seconds = sum(spent[other] for other, top in first.items() if top == name)
         yield (name, fields[19]), words[words.index("--crate-name") + 1], kind, seconds
 
 
