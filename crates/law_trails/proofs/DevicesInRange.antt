@@ -145,7 +145,8 @@ module _ (s : Setup) (set : IsSetup s) (Q H : List ℕ → Type 0) (rules : AreR
       by_act clock s t d (λ b q e. a ≡ b → p ≡ q → IsRanged Q s e)
       (λ boots same off.
       let n = rebooted (boots + 1) in
-      let counted : boots + 1 ≤ 200 = subst (λ (q : Power). (turned_by On (seen_power q)).1 ≤ 200) off (subst (λ (b : Act). (turned_by b (seen_power p)).1 ≤ 200) same few) in
+      let counted : boots + 1 ≤ 200 =
+      subst (λ (q : Power). (turned_by On (seen_power q)).1 ≤ 200) off (subst (λ (b : Act). (turned_by b (seen_power p)).1 ≤ 200) same few) in
       let after = boots_is s set Q H rules n (clock t) (omega arith, counted) in
       step_is Boot None (record d { power = PowerOn n }) n (record { ordered = is.ordered; sending = is.sending; sent = is.sent }) after.0 after.1)
       (λ n same on. is) (λ boots same off. is)

@@ -163,7 +163,8 @@ off_or_none (x ∷ ls) = by_switch (switch_of x.act) refl (off_or_none ls)
           ])
         ]
 
-    by_switch : (w : Option Switch) → switch_of x.act ≡ w → ((l : ScriptLine) × Contains ls l × (l.act ≡ Off)) ⊎ ((l : ScriptLine) → Contains ls l → l.act ≢ Off)
+    by_switch : (w : Option Switch) → switch_of x.act ≡ w
+        → ((l : ScriptLine) × Contains ls l × (l.act ≡ Off)) ⊎ ((l : ScriptLine) → Contains ls l → l.act ≢ Off)
         → ((l : ScriptLine) × Contains (x ∷ ls) l × (l.act ≡ Off)) ⊎ ((l : ScriptLine) → Contains (x ∷ ls) l → l.act ≢ Off)
     by_switch (Some switch.Off) is rest = inl (x, contains_head x ls, switches_off x.act is)
     by_switch (Some switch.On) is rest = other (λ off. let also = ap switch_of off in cc) rest
