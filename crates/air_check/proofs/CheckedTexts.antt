@@ -1,16 +1,17 @@
 -- What a text that is divided says, by its parts.
-use Rattle.std.proofs.Common.{◌≡◌, ℕ, ◌+◌, List, [], Some, None, Option, Ok, Err, Result, drop, sym, ap, ◌∙◌, subst, arith}
+use Rattle.std.proofs.Common.{◌≡◌, ℕ, ◌+◌, List, [], Some, None, Option, Ok, Err, Result, codes, drop, sym, ap, ◌∙◌, subst, arith}
 use Rattle.std.specs.Str.Lines.{lines}
-use Rattle.scenario_text.specs.ScenarioGrammar.{scenario_of}
+use Rattle.scenario_text.specs.ScenarioGrammar.{scenario_of, scenario_of_lines}
 use Rattle.scenario_text.specs.ScenarioParts.{ScenarioParts}
+use Rattle.scenario_text.specs.declared.limits.TheConstants.{RUN_NODE_FRAMES}
+use Rattle.text_readers.specs.Divisions.{count_above, HasBelow, IsDivided}
 use Rattle.text_readers.specs.Faults.{IsAsDefined, draft_after_lines, ◌>>=◌}
 use Rattle.text_readers.specs.declared.fault.FaultKind.{FaultKind}
 use Rattle.text_readers.specs.declared.fault.FaultKind.TheVariants.{Missing}
 use Rattle.text_readers.specs.declared.fault.ParseFault.{ParseFault}
 use Rattle.text_readers.specs.declared.fault.ParseFault.TheVariants.{Line, Memory}
 use Rattle.air_log.specs.declared.entry.Entry.{Entry}
-use Rattle.air_check.specs.CheckedText.{checked_text, count_above, scenario_in, log_in}
-use Rattle.air_check.specs.Divisions.{HasBelow, IsDivided}
+use Rattle.air_check.specs.CheckedText.{checked_text, log_in}
 use Rattle.air_check.specs.LogGrammar.{after_log_line, log_of}
 
 -- a fault of the first part is one of the whole
@@ -25,15 +26,19 @@ Checked = ScenarioParts × List Entry
 abbrev with_log : ScenarioParts → List Entry → Result Checked (ℕ × FaultKind)
 with_log s air = Ok (s, air)
 
-module _ (bytes above : List ℕ) (count : ℕ) (below : Option (List ℕ)) (divided : IsDivided bytes above count below) where
+module _ (bytes above : List ℕ) (count : ℕ) (below : Option (List ℕ)) (divided : IsDivided (codes "log") bytes above count below) where
+  -- how many lines are above the line `log`
+  abbrev lines_above : ℕ
+  lines_above = count_above (codes "log") (lines bytes)
+
   abbrev rest : List (List ℕ)
-  rest = drop (count_above (lines bytes)) (lines bytes)
+  rest = drop lines_above (lines bytes)
 
   abbrev by_log : ScenarioParts → Result Checked (ℕ × FaultKind)
-  by_log s = log_in s (count_above (lines bytes)) rest >>= with_log s
+  by_log s = log_in s lines_above rest >>= with_log s
 
   whole : checked_text bytes ≡ (scenario_of above >>= by_log)
-  whole = ap (λ (ls : List (List ℕ)). scenario_in ls >>= by_log) (sym divided.lines_above)
+  whole = ap (λ (ls : List (List ℕ)). scenario_of_lines RUN_NODE_FRAMES ls >>= by_log) (sym divided.lines_above)
 
   pub scenario_fault : (e : ParseFault) → IsAsDefined {A = ScenarioParts} (Err e) (scenario_of above) → IsAsDefined {A = Checked} (Err e) (checked_text bytes)
   scenario_fault e is =
@@ -46,15 +51,15 @@ module _ (bytes above : List ℕ) (count : ℕ) (below : Option (List ℕ)) (div
     pub missing : below ≡ None → checked_text bytes ≡ Err (count + 1, Missing)
     missing none =
         let no_lines : rest ≡ [] = subst (λ (o : Option (List ℕ)). HasBelow o rest) none divided.lines_below in
-        of_scenario ∙ ap (λ (ls : List (List ℕ)). log_in s (count_above (lines bytes)) ls >>= with_log s) no_lines
+        of_scenario ∙ ap (λ (ls : List (List ℕ)). log_in s lines_above ls >>= with_log s) no_lines
         ∙ ap (λ (n : ℕ). Err (n + 1, Missing)) (sym divided.counted)
 
     module _ (b : List ℕ) (some : below ≡ Some b) where
-      log_is : log_in s (count_above (lines bytes)) rest ≡ log_of s (count + 1) b
+      log_is : log_in s lines_above rest ≡ log_of s (count + 1) b
       log_is =
           let has = subst (λ (o : Option (List ℕ)). HasBelow o rest) some divided.lines_below in
-          let number : count_above (lines bytes) + 2 ≡ count + 1 + 1 = omega (arith, divided.counted) in
-          ap (log_in s (count_above (lines bytes))) has.1
+          let number : lines_above + 2 ≡ count + 1 + 1 = omega (arith, divided.counted) in
+          ap (log_in s lines_above) has.1
           ∙ ap (λ (n : ℕ). draft_after_lines (after_log_line s.nodes) n [] (lines b)) number
 
       of_log : checked_text bytes ≡ (log_of s (count + 1) b >>= with_log s)

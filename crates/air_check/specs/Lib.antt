@@ -1,6 +1,5 @@
 pub mod LogGrammar
 pub mod CheckedText
-pub mod Divisions
 pub mod Verdicts
 pub mod NodeLogs
 pub mod NodeClocks

@@ -7,3 +7,4 @@ pub mod NumbersRead
 pub mod Digits
 pub mod BlanksFound
 pub mod WordsCut
+pub mod DividedTexts

@@ -3,3 +3,4 @@ pub mod FaultNames
 pub mod Faults
 pub mod Words
 pub mod Reading
+pub mod Divisions

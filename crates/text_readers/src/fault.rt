@@ -35,7 +35,7 @@ pub enum FaultKind {
     /// At the end of the text: sends or a second node is missing, or frames or a host of a scenario, or the start of
     /// a flood.
     Missing,
-    /// At the end of a scenario: its nodes times its frames exceed 16,384.
+    /// At the end of a scenario: its nodes times its frames exceed what its reader takes.
     TooBig,
 }
 

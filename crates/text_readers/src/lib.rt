@@ -1,12 +1,14 @@
 //! Texts that are read line by line: their words and numbers, and the first line that is rejected.
 #![tactic(auto)]
 
+mod division;
 mod draft;
 mod fault;
 mod numbers;
 mod reading;
 mod words;
 
+pub use division::{Division, divided};
 pub use draft::Draft;
 pub use fault::{FaultKind, ParseFault, Refusal, refuse_unless};
 pub use numbers::{
