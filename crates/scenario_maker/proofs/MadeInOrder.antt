@@ -1,5 +1,6 @@
 -- A made scenario is in range and in order, so that it is accepted.
-use Rattle.std.proofs.Common.{◌≡◌, ◌≢◌, ℕ, ◌+◌, ◌-◌, ◌*◌, ◌/◌, ◌%◌, ◌<◌, ◌≤◌, List, [], ◌∷◌, true, length, refl, arith, inl, mod-lt, mul-le-mul_right}
+use Rattle.std.proofs.Common.{◌≡◌, ◌≢◌, ℕ, ◌+◌, ◌-◌, ◌*◌, ◌/◌, ◌%◌, ◌<◌, ◌≤◌, List, [], ◌∷◌, true, Ok, length, map, refl, arith, inl, mod-lt, mul-le-mul_right}
+use Rattle.std.proofs.Math.Nat.{le_trans}
 use Rattle.std.proofs.lemmas.List.Elements.{All-nil, All-cons, All-map, All-from_recursion, recursion_from_All}
 use Rattle.std.proofs.lemmas.List.FromFn.{length-map-range_with_len}
 use Rattle.std.specs.List.{AllByRecursion, flat_map, range_with_len}
@@ -8,15 +9,18 @@ use Rattle.lwb_base.specs.Profile.{one}
 use Rattle.link_trace.specs.Order.{by_link, by_loss, by_cut, by_capture}
 use Rattle.rand_pcg.specs.Lcg.{Lcg}
 use Rattle.scenario_text.specs.FloodParts.{knows}
-use Rattle.scenario_text.specs.Canonical.{IsSaid}
+use Rattle.scenario_text.specs.Canonical.{canonical, IsSaid}
 use Rattle.scenario_text.specs.PartsInOrder.{IsInOrder}
 use Rattle.scenario_text.specs.ScenarioFacts.{AreEnds, IsStepOf}
+use Rattle.scenario_text.specs.ScenarioGrammar.{scenario_of}
 use Rattle.scenario_text.specs.ScenarioParts.{ScenarioParts}
+use Rattle.scenario_text.specs.declared.limits.TheConstants.{RUN_NODE_FRAMES}
 use Rattle.scenario_text.specs.declared.lines.NodeLine.{NodeLine}
 use Rattle.scenario_text.proofs.EachPair.{climbs_pairs}
+use Rattle.scenario_text.proofs.Horizons.{said_to_run}
 use Rattle.scenario_text.proofs.OrderedParts.{said_in_order}
 use Rattle.scenario_maker.specs.Drawn.{seeded, later, drawn_word}
-use Rattle.scenario_maker.specs.Made.{IsSize, later_nodes, node_line, rate_line, tree_pair, tree_pairs, random_pair}
+use Rattle.scenario_maker.specs.Made.{IsSize, all_nodes, later_nodes, node_line, rate_line, tree_pair, tree_pairs, random_pair}
 use Rattle.scenario_maker.specs.Made.{random_pairs, with_pairs, drawn_loss, frame_losses, losses, script, made}
 use Rattle.scenario_maker.proofs.MadeNodes.{known, node_lines, nodes_ascend, rate_lines, rates_ascend}
 use Rattle.scenario_maker.proofs.MadeScript.{lines_in_range, bytes_in_range, script_ascends, few_in_script, few_boots}
@@ -87,6 +91,9 @@ lines_few n frames rates script losses size is few_script few_losses =
     let c : (n + 6) * frames ≡ n * frames + 6 * frames = omega arith in
     omega (arith, first, second, a, b, c, size.product, size.nodes.1, size.some_frames.1, is, few_script, few_losses)
 
+few_node_frames : (g : Lcg) (n frames : ℕ) → IsSize n frames → length (map (node_line g) (all_nodes n)) * frames ≤ RUN_NODE_FRAMES
+few_node_frames g n frames size = let count = length-map-range_with_len (node_line g) 1 n in rw count size.product
+
 pub in_order : (seed n frames : ℕ) → IsSize n frames → IsInOrder (made seed n frames)
 unfolding made
 in_order seed n frames size =
@@ -105,7 +112,7 @@ in_order seed n frames size =
       frames = size.some_frames;
       sends = (omega arith, omega arith);
       node_count = (omega (arith, count, size.nodes.0), omega (arith, count, size.nodes.1));
-      node_frames = rw count size.product;
+      node_frames = le_trans (few_node_frames g n frames size) (omega arith);
       nodes = node_lines g n size.nodes.1;
       nodes_ascend = nodes_ascend g n;
       rates = rate_lines g n s refl;
@@ -132,3 +139,9 @@ in_order seed n frames size =
 
 pub is_said : (seed n frames : ℕ) → IsSize n frames → IsSaid (made seed n frames)
 is_said seed n frames size = said_in_order (made seed n frames) (in_order seed n frames size)
+
+pub is_said_to_run : (seed n frames : ℕ) → IsSize n frames → scenario_of (canonical (made seed n frames)) ≡ Ok (made seed n frames)
+unfolding made
+is_said_to_run seed n frames size =
+    (said_to_run (canonical (made seed n frames)) (made seed n frames)).1
+    (is_said seed n frames size, few_node_frames (seeded seed) n frames size)

@@ -11,16 +11,17 @@ use Rattle.link_trace.specs.declared.lines.LoseLine.{LoseLine}
 use Rattle.rand_pcg.specs.Lcg.{Lcg}
 use Rattle.scenario_maker.specs.Drawn.{seeded, later, drawn_word}
 use Rattle.scenario_text.specs.ScenarioParts.{ScenarioParts}
+use Rattle.scenario_text.specs.declared.limits.TheConstants.{RUN_NODE_FRAMES}
 use Rattle.scenario_text.specs.declared.lines.NodeLine.{NodeLine}
 use Rattle.scenario_text.specs.declared.lines.RateLine.{RateLine}
 use Rattle.bus_rules.specs.declared.act.Act.TheVariants.{On, Off, Declare, Put}
 use Rattle.scenario_text.specs.declared.script.ScriptLine.{ScriptLine}
 
--- a made scenario has 2 to 64 nodes and 1 to 4,096 frames, and nodes times frames is at most 16,384
+-- a made scenario has 2 to 64 nodes and 1 to 4,096 frames, and can be run with a log
 pub record IsSize (n frames : ℕ) : Type 0 where
   pub nodes : (2 ≤ n) × (n ≤ 64)
   pub some_frames : (1 ≤ frames) × (frames ≤ 4096)
-  pub product : n * frames ≤ 16384
+  pub product : n * frames ≤ RUN_NODE_FRAMES
 
 -- the nodes, and those from 2 on
 abbrev pub all_nodes : ℕ → List ℕ

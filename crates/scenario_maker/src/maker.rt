@@ -14,7 +14,7 @@ use scenario_text::Scenario;
 use std::alloc::Global;
 
 /// The scenario that the seed makes: the same numbers always make the same one. It has profile 1, 2 transmissions of a node in
-/// a flood, the given number of nodes, 2 to 64, and of frames, 1 to 4,096; nodes times frames is at most 16,384. The first node
+/// a flood, the given number of nodes, 2 to 64, and of frames, 1 to 4,096; nodes times frames is at most `RUN_NODE_FRAMES`. The first node
 /// and the last are hosts, and from 40 frames on the first goes off in the middle. The only error is out of memory.
 pub fn made(alloc: Global, seed: u64, nodes: u8, frames: u32) -> Result<Scenario, Memory>
     requires { IsSize nodes frames }

@@ -9,7 +9,7 @@ use Rattle.link_trace.specs.Passes.{Lines}
 use Rattle.scenario_text.specs.Network.{network_line}
 use Rattle.text_writers.specs.HexWords.{payload_word}
 use Rattle.scenario_text.specs.ScriptGrammar.{script_line, step_line, put_line}
-use Rattle.scenario_text.specs.ScenarioGrammar.{scenario_of, scenario_after_words, scenario_line}
+use Rattle.scenario_text.specs.ScenarioGrammar.{long_scenario_of, scenario_after_words, scenario_line}
 use Rattle.text_readers.specs.Reading.{draft_after_line}
 use Rattle.scenario_text.specs.declared.lines.NodeLine.{NodeLine}
 use Rattle.scenario_text.specs.declared.lines.RateLine.{RateLine}
@@ -26,12 +26,12 @@ first_round : canonical first_round_parts ≡ first_round_text
 unfolding canonical_lines digits
 first_round = refl
 
-first_round_again : scenario_of first_round_text ≡ Ok first_round_parts
+first_round_again : long_scenario_of first_round_text ≡ Ok first_round_parts
 unfolding draft_after_line scenario_after_words scenario_line script_line step_line put_line network_line is_utf8 chars encode
 first_round_again = refl
 
 first_round_is_said : IsSaid first_round_parts
-first_round_is_said = ap scenario_of first_round ∙ first_round_again
+first_round_is_said = ap long_scenario_of first_round ∙ first_round_again
 
 pub of_first_round : (profile : Numbers) (nodes : List NodeLine) (rates : List RateLine) (hosts : List ℕ) (trace : Lines) (script : List ScriptLine)
     → profile ≡ one → nodes ≡ first_round_parts.nodes → rates ≡ [] → hosts ≡ first_round_parts.hosts → trace ≡ first_round_parts.trace
@@ -48,6 +48,6 @@ every_line : canonical every_line_parts ≡ every_line_text
 unfolding canonical_lines digits
 every_line = refl
 
-every_line_again : scenario_of every_line_text ≡ Ok every_line_parts
+every_line_again : long_scenario_of every_line_text ≡ Ok every_line_parts
 unfolding draft_after_line scenario_after_words scenario_line script_line step_line put_line network_line is_utf8 chars encode
 every_line_again = refl

@@ -18,6 +18,7 @@ use Rattle.scenario_text.specs.FloodDrafts.{Climbs, Rises, RatesBeginLater}
 use Rattle.scenario_text.specs.Network.{is_id, rates_by_node}
 use Rattle.scenario_text.specs.ScenarioGrammar.{Scenario, last_tick, line_in_range, line_knows_ids}
 use Rattle.scenario_text.specs.ScenarioParts.{ScenarioParts}
+use Rattle.scenario_text.specs.declared.limits.TheConstants.{BUS_NODE_FRAMES}
 use Rattle.scenario_text.specs.declared.lines.NodeLine.{NodeLine}
 use Rattle.scenario_text.specs.declared.lines.RateLine.{RateLine}
 use Rattle.scenario_text.specs.declared.network_line.NetworkLine.TheVariants.{Link}
@@ -167,4 +168,4 @@ pub record KeepsRules (s : ScenarioParts) : Type 0 where
   pub captures : AllByRecursion (λ l. Fits (judge s) (said_capture l)) s.trace.captures
   pub captures_climb : Climbs (λ a b. by_capture a b ≡ Less) s.trace.captures
   pub scripted : length s.rates + length s.script + length s.trace.losses + length s.trace.cuts + length s.trace.captures ≤ 20000
-  pub small : length s.nodes * s.frames ≤ 16384
+  pub small : length s.nodes * s.frames ≤ BUS_NODE_FRAMES

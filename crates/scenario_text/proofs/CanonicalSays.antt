@@ -7,9 +7,10 @@ use Rattle.link_trace.specs.Passes.{Lines}
 use Rattle.text_writers.specs.Lines.{numbered}
 use Rattle.scenario_text.specs.Canonical.{canonical, canonical_lines, profile_number, contend_lines, node_words, rate_words}
 use Rattle.scenario_text.specs.Canonical.{host_lines, link_words, script_words, loss_words, cut_words, capture_words}
-use Rattle.scenario_text.specs.ScenarioGrammar.{Scenario, no_scenario, scenario_after_words, whole_scenario, finished_parts, if_small, scenario_of}
+use Rattle.scenario_text.specs.ScenarioGrammar.{Scenario, no_scenario, scenario_after_words, whole_within, finished_parts, if_small, long_scenario_of}
 use Rattle.text_readers.specs.Reading.{draft_after_line}
 use Rattle.scenario_text.specs.ScenarioParts.{ScenarioParts}
+use Rattle.scenario_text.specs.declared.limits.TheConstants.{BUS_NODE_FRAMES}
 use Rattle.scenario_text.specs.declared.lines.RateLine.{RateLine}
 use Rattle.scenario_text.specs.declared.network_line.NetworkLine.TheVariants.{Sends}
 use Rattle.scenario_text.specs.declared.scenario_line.ScenarioLine.TheVariants as line
@@ -140,7 +141,7 @@ goes_all s is =
     (counted_as s (record { links = s.trace.links; losses = s.trace.losses; cuts = s.trace.cuts; captures = [] }) s.script w (r + c + l + u)
     (r + c + l + u + 0) (omega arith)) (goes_captures s is))
 
-ends : (s : ScenarioParts) → KeepsRules s → whole_scenario (with_captures s s.trace.captures) ≡ Ok s
+ends : (s : ScenarioParts) → KeepsRules s → whole_within BUS_NODE_FRAMES (with_captures s s.trace.captures) ≡ Ok s
 ends s is =
     let d : Scenario = with_captures s s.trace.captures in
     let p : Parts = record { sends = s.sends; nodes = s.nodes; rates = rates_by_node s.nodes s.rates; trace = s.trace } in
@@ -148,12 +149,12 @@ ends s is =
     let parts : network_parts d.network (Some s.sends) ≡ Some p = cond-true (nat_le 2 (length s.nodes)) (Some p) None
     (le-leb 2 (length s.nodes) is.some_nodes) in
     let whole : ScenarioParts = record s { rates = rates_by_node s.nodes s.rates } in
-    ap (λ (o : Option Parts). finished_parts d o (Some s.frames)) parts
-    ∙ cond-false (length s.hosts == 0) (Err Missing) (if_small whole) (ne_eqb (length s.hosts) 0 (λ none. omega (arith, none, some)))
-    ∙ cond-true (nat_le (length s.nodes * s.frames) 16384) (Ok whole) (Err TooBig) (le-leb (length s.nodes * s.frames) 16384 is.small)
+    ap (λ (o : Option Parts). finished_parts BUS_NODE_FRAMES d o (Some s.frames)) parts
+    ∙ cond-false (length s.hosts == 0) (Err Missing) (if_small BUS_NODE_FRAMES whole) (ne_eqb (length s.hosts) 0 (λ none. omega (arith, none, some)))
+    ∙ cond-true (nat_le (length s.nodes * s.frames) BUS_NODE_FRAMES) (Ok whole) (Err TooBig) (le-leb (length s.nodes * s.frames) BUS_NODE_FRAMES is.small)
     ∙ ap (λ (rs : List RateLine). Ok (record s { rates = rs })) is.in_turn
 
-pub canonical_says : (s : ScenarioParts) → KeepsRules s → scenario_of (canonical s) ≡ Ok s
+pub canonical_says : (s : ScenarioParts) → KeepsRules s → long_scenario_of (canonical s) ≡ Ok s
 canonical_says s is =
     let goes = goes_all s is in
     let text : List ℕ = canonical s in
@@ -161,5 +162,5 @@ canonical_says s is =
     let cut = lines_back (canonical_lines s) (goes_words no_scenario d (canonical_lines s) goes) in
     let read : draft_after_lines (draft_after_line scenario_after_words) 1 no_scenario (lines text) ≡ Ok d =
     ap (draft_after_lines (draft_after_line scenario_after_words) 1 no_scenario) cut ∙ goes_after 1 no_scenario d (canonical_lines s) goes in
-    ap (λ (r : Result Scenario (ℕ × FaultKind)). r >>= (λ e. in_line (length (lines text) + 1) (whole_scenario e))) read
+    ap (λ (r : Result Scenario (ℕ × FaultKind)). r >>= (λ e. in_line (length (lines text) + 1) (whole_within BUS_NODE_FRAMES e))) read
     ∙ ap (λ (r : Result ScenarioParts FaultKind). in_line (length (lines text) + 1) r) (ends s is)

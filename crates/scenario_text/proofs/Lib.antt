@@ -11,6 +11,7 @@ pub mod BootsCounted
 pub mod NodeSearches
 pub mod FloodKeeps
 pub mod LinesAdded
+pub mod Horizons
 -- for this crate alone
 pub mod WordsRead
 pub mod Known

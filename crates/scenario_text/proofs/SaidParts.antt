@@ -18,11 +18,12 @@ use Rattle.scenario_text.specs.Payloads.{is_payload, payload, payload_bytes, hex
 use Rattle.scenario_text.specs.ScenarioGrammar.{Scenario, no_scenario, last_tick, line_fault, with_scenario_line, after_spelled}
 use Rattle.scenario_text.specs.ScriptGrammar.{first_word_is, script_line, step_line, put_line, script_of}
 use Rattle.scenario_text.specs.ScenarioGrammar.{scenario_after_words, scenario_line, scenario_numbers}
-use Rattle.scenario_text.specs.ScenarioGrammar.{whole_scenario, finished_parts, if_small, scenario_of, IsScenario}
+use Rattle.scenario_text.specs.ScenarioGrammar.{whole_within, finished_parts, if_small, scenario_of, long_scenario_of, IsScenario}
 use Rattle.scenario_text.specs.ScenarioParts.{ScenarioParts}
 use Rattle.scenario_text.specs.Canonical.{canonical}
 use Rattle.text_readers.specs.declared.fault.FaultKind.{FaultKind}
 use Rattle.text_readers.specs.declared.fault.FaultKind.TheVariants.{Missing, TooBig}
+use Rattle.scenario_text.specs.declared.limits.TheConstants.{RUN_NODE_FRAMES, BUS_NODE_FRAMES}
 use Rattle.scenario_text.specs.declared.lines.NodeLine.{NodeLine}
 use Rattle.scenario_text.specs.declared.lines.RateLine.{RateLine}
 use Rattle.scenario_text.specs.declared.scenario_line.ScenarioLine.{ScenarioLine}
@@ -31,6 +32,7 @@ use Rattle.scenario_text.specs.declared.scenario_line.ScenarioLine.TheVariants.{
 use Rattle.scenario_text.specs.declared.written_act.WrittenAct.TheVariants.{On, Off, Stream, Leave, Put}
 use Rattle.text_readers.proofs.AllowedLines.{unless_keeps, spelled_keeps}
 use Rattle.text_readers.proofs.LinesRead.{line_keeps, lines_keep}
+use Rattle.scenario_text.proofs.Horizons.{said_to_run}
 use Rattle.scenario_text.proofs.RatesKept.{map_all, all_by_node}
 use Rattle.scenario_text.proofs.RatesInTurn.{in_turn_again, no_more, turns_follow}
 use Rattle.scenario_text.proofs.CanonicalFacts.{IsNode, IsRateOf, IsHost, KeepsRules}
@@ -135,7 +137,7 @@ whole d n f = record {
 }
 
 whole_said : (d : Scenario) (n f : ℕ) → IsFine d → d.network.sends ≡ Some n → d.frames ≡ Some f → 2 ≤ length d.network.nodes → 1 ≤ length d.hosts
-    → length d.network.nodes * f ≤ 16384 → KeepsRules (whole d n f)
+    → length d.network.nodes * f ≤ BUS_NODE_FRAMES → KeepsRules (whole d n f)
 whole_said d n f fine sends frames two host small =
     let ns = d.network.nodes in
     let rs = d.network.rates in
@@ -183,15 +185,15 @@ ok_where : (b : Bool) (x : ScenarioParts) (k : FaultKind) (s : ScenarioParts) �
 ok_where true x k s is = (refl, subst (λ (r : Result ScenarioParts FaultKind). IfOk r (λ y. x ≡ y)) is refl)
 ok_where false x k s is = cc
 
-finished_said : (d : Scenario) (s : ScenarioParts) → IsFine d → whole_scenario d ≡ Ok s → KeepsRules s
+finished_said : (d : Scenario) (s : ScenarioParts) → IsFine d → whole_within BUS_NODE_FRAMES d ≡ Ok s → KeepsRules s
 finished_said d s fine is = by_parts d.network.sends d.frames refl refl is
   where
-    by_parts : (o g : Option ℕ) → d.network.sends ≡ o → d.frames ≡ g → finished_parts d (network_parts d.network o) g ≡ Ok s → KeepsRules s
+    by_parts : (o g : Option ℕ) → d.network.sends ≡ o → d.frames ≡ g → finished_parts BUS_NODE_FRAMES d (network_parts d.network o) g ≡ Ok s → KeepsRules s
     by_parts None g sends frames is = cc
     by_parts (Some n) None sends frames is = by_two (nat_le 2 (length d.network.nodes)) is
       where
         by_two : (b : Bool)
-            → finished_parts d (if b then Some (record
+            → finished_parts BUS_NODE_FRAMES d (if b then Some (record
             { sends = n; nodes = d.network.nodes; rates = rates_by_node d.network.nodes d.network.rates; trace = d.network.trace }) else None) None ≡ Ok s
             → KeepsRules s
         by_two true is = cc
@@ -199,32 +201,36 @@ finished_said d s fine is = by_parts d.network.sends d.frames refl refl is
     by_parts (Some n) (Some f) sends frames is = by_two (nat_le 2 (length d.network.nodes)) refl is
       where
         by_two : (b : Bool) → nat_le 2 (length d.network.nodes) ≡ b
-            → finished_parts d (if b then Some (record
+            → finished_parts BUS_NODE_FRAMES d (if b then Some (record
             { sends = n; nodes = d.network.nodes; rates = rates_by_node d.network.nodes d.network.rates; trace = d.network.trace }) else None) (Some f) ≡ Ok s
             → KeepsRules s
         by_two false two is = cc
         by_two true two is =
-            let hosts = ok_unless (length d.hosts == 0) (if_small (whole d n f)) Missing s is in
-            let small = ok_where (nat_le (length d.network.nodes * f) 16384) (whole d n f) TooBig s hosts.1 in
+            let hosts = ok_unless (length d.hosts == 0) (if_small BUS_NODE_FRAMES (whole d n f)) Missing s is in
+            let small = ok_where (nat_le (length d.network.nodes * f) BUS_NODE_FRAMES) (whole d n f) TooBig s hosts.1 in
             let some = eqb-false (length d.hosts) 0 hosts.0 in
             subst KeepsRules small.1
             (whole_said d n f fine sends frames (leb-true 2 (length d.network.nodes) two) (omega (arith, some))
-            (leb-true (length d.network.nodes * f) 16384 small.0))
+            (leb-true (length d.network.nodes * f) BUS_NODE_FRAMES small.0))
 
 pub said_is : (s : ScenarioParts) → IsScenario s → KeepsRules s
 said_is s said = by_lines (draft_after_lines (draft_after_line scenario_after_words) 1 no_scenario (lines said.0)) refl said.1
   where
     by_lines : (r : Result Scenario (ℕ × FaultKind)) → draft_after_lines (draft_after_line scenario_after_words) 1 no_scenario (lines said.0) ≡ r
-        → (r >>= (λ e. in_line (length (lines said.0) + 1) (whole_scenario e))) ≡ Ok s → KeepsRules s
+        → (r >>= (λ e. in_line (length (lines said.0) + 1) (whole_within BUS_NODE_FRAMES e))) ≡ Ok s → KeepsRules s
     by_lines (Err k) read is = cc
-    by_lines (Ok d) read is = by_end (whole_scenario d) refl is
+    by_lines (Ok d) read is = by_end (whole_within BUS_NODE_FRAMES d) refl is
       where
-        by_end : (q : Result ScenarioParts FaultKind) → whole_scenario d ≡ q → in_line (length (lines said.0) + 1) q ≡ Ok s → KeepsRules s
+        by_end : (q : Result ScenarioParts FaultKind) → whole_within BUS_NODE_FRAMES d ≡ q → in_line (length (lines said.0) + 1) q ≡ Ok s → KeepsRules s
         by_end (Err k) done is = cc
         by_end (Ok x) done is =
             finished_said d s (fine_lines d (lines said.0) read)
             (done ∙ ap Ok (subst (λ (q : Result ScenarioParts (ℕ × FaultKind)). IfOk q (λ y. x ≡ y)) is refl))
 
 -- a text that is the canonical one
-pub says_again : (s : ScenarioParts) (text : List ℕ) → text ≡ canonical s → IsScenario s → scenario_of text ≡ Ok s
-says_again s text is said = ap scenario_of is ∙ canonical_says s (said_is s said)
+pub says_again : (s : ScenarioParts) (text : List ℕ) → text ≡ canonical s → IsScenario s → long_scenario_of text ≡ Ok s
+says_again s text is said = ap long_scenario_of is ∙ canonical_says s (said_is s said)
+
+pub says_again_to_run : (s : ScenarioParts) (text : List ℕ) → text ≡ canonical s → IsScenario s → length s.nodes * s.frames ≤ RUN_NODE_FRAMES
+    → scenario_of text ≡ Ok s
+says_again_to_run s text is said small = (said_to_run text s).1 (says_again s text is said, small)

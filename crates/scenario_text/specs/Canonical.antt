@@ -9,7 +9,7 @@ use Rattle.link_trace.specs.declared.lines.LinkLine.{LinkLine}
 use Rattle.link_trace.specs.declared.lines.LoseLine.{LoseLine}
 use Rattle.link_trace.specs.declared.lines.CutLine.{CutLine}
 use Rattle.link_trace.specs.declared.lines.CaptureLine.{CaptureLine}
-use Rattle.scenario_text.specs.ScenarioGrammar.{scenario_of}
+use Rattle.scenario_text.specs.ScenarioGrammar.{long_scenario_of}
 use Rattle.scenario_text.specs.ScenarioParts.{ScenarioParts}
 use Rattle.scenario_text.specs.declared.lines.NodeLine.{NodeLine}
 use Rattle.scenario_text.specs.declared.lines.RateLine.{RateLine}
@@ -68,6 +68,6 @@ canonical_lines s =
 abbrev pub canonical : ScenarioParts → List ℕ
 canonical s = render (canonical_lines s)
 
--- the canonical text has no fault, and says these parts: then they are in their orders
+-- the canonical text has no fault over the long horizon, and says these parts: then they are in their orders
 abbrev pub IsSaid : ScenarioParts → Type 0
-IsSaid s = scenario_of (canonical s) ≡ Ok s
+IsSaid s = long_scenario_of (canonical s) ≡ Ok s

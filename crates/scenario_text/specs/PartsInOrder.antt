@@ -12,6 +12,7 @@ use Rattle.scenario_text.specs.FloodParts.{knows}
 use Rattle.scenario_text.specs.ScenarioFacts.{AreEnds, IsStepOf, IsScriptLine, turned}
 use Rattle.scenario_text.specs.ScenarioGrammar.{last_tick}
 use Rattle.scenario_text.specs.ScenarioParts.{ScenarioParts}
+use Rattle.scenario_text.specs.declared.limits.TheConstants.{BUS_NODE_FRAMES}
 use Rattle.scenario_text.specs.declared.lines.NodeLine.{NodeLine}
 use Rattle.scenario_text.specs.declared.lines.RateLine.{RateLine}
 
@@ -37,7 +38,7 @@ pub record IsInOrder (s : ScenarioParts) : Type 0 where
   pub frames : (1 ≤ s.frames) × (s.frames ≤ 4096)
   pub sends : (1 ≤ s.sends) × (s.sends ≤ 4)
   pub node_count : (2 ≤ length s.nodes) × (length s.nodes ≤ 64)
-  pub node_frames : length s.nodes * s.frames ≤ 16384
+  pub node_frames : length s.nodes * s.frames ≤ BUS_NODE_FRAMES
   pub nodes : All IsNodeLine s.nodes
   pub nodes_ascend : AllPairs (λ a b. a.node < b.node) s.nodes
   pub rates : All (IsRateLine s) s.rates

@@ -9,6 +9,7 @@ use Rattle.link_trace.specs.Order.{Ascends, by_link, by_loss, by_cut, by_capture
 use Rattle.scenario_text.specs.FloodParts.{knows}
 use Rattle.scenario_text.specs.ScenarioGrammar.{last_tick, greatest_slot_of}
 use Rattle.scenario_text.specs.ScenarioParts.{ScenarioParts}
+use Rattle.scenario_text.specs.declared.limits.TheConstants.{BUS_NODE_FRAMES}
 use Rattle.scenario_text.specs.declared.lines.NodeLine.{NodeLine}
 use Rattle.bus_rules.specs.declared.act.Act.{Act}
 use Rattle.bus_rules.specs.declared.act.Act.TheVariants.{On, Off}
@@ -50,7 +51,7 @@ pub record IsSoundScenario (s : ScenarioParts) : Type 0 where
   pub few_sends : s.sends ≤ 4
   pub two_nodes : 2 ≤ length s.nodes
   pub few_nodes : length s.nodes ≤ 64
-  pub node_frames : length s.nodes * s.frames ≤ 16384
+  pub node_frames : length s.nodes * s.frames ≤ BUS_NODE_FRAMES
   pub ids : All (λ n. (1 ≤ n.node) × (n.node ≤ GREATEST_ID)) s.nodes
   pub ascending : AllPairs (λ a b. a.node < b.node) s.nodes
   pub offsets : All (λ n. n.offset ≤ 256000) s.nodes

@@ -23,6 +23,7 @@ use Rattle.text_readers.specs.declared.fault.FaultKind.TheVariants.{Range, Unkno
 use Rattle.scenario_text.specs.declared.scenario_line.ScenarioLine.{ScenarioLine}
 use Rattle.scenario_text.specs.declared.scenario_line.ScenarioLine.TheVariants.{InNetwork, Profile, Contend, Frames, Host, Script}
 use Rattle.scenario_text.specs.declared.scenario_line.ScenarioLine.TheVariants.{Lose, Cut, Capture}
+use Rattle.scenario_text.specs.declared.limits.TheConstants.{RUN_NODE_FRAMES, BUS_NODE_FRAMES}
 use Rattle.scenario_text.specs.declared.script.ScriptLine.{ScriptLine}
 use Rattle.bus_rules.specs.declared.act.Act.{Act}
 use Rattle.bus_rules.specs.declared.act.Act.TheVariants as act
@@ -222,15 +223,15 @@ scenario_after_words d ws = do
   l ← spelled (scenario_line ws) (λ l. scenario_numbers l ws)
   after_spelled d l
 
--- there are not too many nodes for the frames
-abbrev pub if_small : ScenarioParts → Result ScenarioParts FaultKind
-if_small s = if nat_le (length s.nodes * s.frames) 16384 then Ok s else Err TooBig
+-- there are not too many nodes for the frames: nodes times frames is at most that
+abbrev pub if_small : ℕ → ScenarioParts → Result ScenarioParts FaultKind
+if_small most s = if nat_le (length s.nodes * s.frames) most then Ok s else Err TooBig
 
 -- what a whole text says, which has frames, transmissions, two nodes at least, and a host
-abbrev pub finished_parts : Scenario → Option Parts → Option ℕ → Result ScenarioParts FaultKind
-finished_parts d (Some p) (Some f) =
+abbrev pub finished_parts : ℕ → Scenario → Option Parts → Option ℕ → Result ScenarioParts FaultKind
+finished_parts most d (Some p) (Some f) =
     if length d.hosts == 0 then Err Missing
-    else if_small (record {
+    else if_small most (record {
       profile = d.profile;
       frames = f;
       sends = p.sends;
@@ -240,18 +241,28 @@ finished_parts d (Some p) (Some f) =
       trace = p.trace;
       script = d.script;
     })
-finished_parts d None f = Err Missing
-finished_parts d (Some p) None = Err Missing
+finished_parts most d None f = Err Missing
+finished_parts most d (Some p) None = Err Missing
 
-abbrev pub whole_scenario : Scenario → Result ScenarioParts FaultKind
-whole_scenario d = finished_parts d (network_parts d.network d.network.sends) d.frames
+abbrev pub whole_within : ℕ → Scenario → Result ScenarioParts FaultKind
+whole_within most d = finished_parts most d (network_parts d.network d.network.sends) d.frames
 
--- what the bytes say, or their first fault and its line. What is missing is missing after the last line
+-- what the lines say, or their first fault and its line. What is missing is missing after the last line
+abbrev pub scenario_of_lines : ℕ → List (List ℕ) → Result ScenarioParts (ℕ × FaultKind)
+scenario_of_lines most ls = do
+  d ← draft_after_lines (draft_after_line scenario_after_words) 1 no_scenario ls
+  in_line (length ls + 1) (whole_within most d)
+
+abbrev pub scenario_within : ℕ → List ℕ → Result ScenarioParts (ℕ × FaultKind)
+scenario_within most bytes = scenario_of_lines most (lines bytes)
+
+-- what the bytes say that are to be run, and what they say over the long horizon, that of the bus alone
 abbrev pub scenario_of : List ℕ → Result ScenarioParts (ℕ × FaultKind)
-scenario_of bytes = do
-  d ← draft_after_lines (draft_after_line scenario_after_words) 1 no_scenario (lines bytes)
-  in_line (length (lines bytes) + 1) (whole_scenario d)
+scenario_of bytes = scenario_within RUN_NODE_FRAMES bytes
 
--- some text says it
+abbrev pub long_scenario_of : List ℕ → Result ScenarioParts (ℕ × FaultKind)
+long_scenario_of bytes = scenario_within BUS_NODE_FRAMES bytes
+
+-- some text says it over the long horizon
 abbrev pub IsScenario : ScenarioParts → Type 0
-IsScenario s = (bytes : List ℕ) × (scenario_of bytes ≡ Ok s)
+IsScenario s = (bytes : List ℕ) × (long_scenario_of bytes ≡ Ok s)

@@ -1,15 +1,26 @@
 //! What is true of all scenarios and their texts.
 
-ghost use Rattle.std.specs.Prelude.{◌≡◌, Ok};
+ghost use Rattle.std.specs.Prelude.{◌≡◌, ◌↔◌, ◌≤◌, ◌*◌, ℕ, List, Ok, length};
 ghost use Rattle.scenario_text.specs.Canonical.{canonical, IsSaid};
 ghost use Rattle.scenario_text.specs.PartsInOrder.{IsInOrder};
 ghost use Rattle.scenario_text.specs.ScenarioFacts.{IsSoundScenario};
-ghost use Rattle.scenario_text.specs.ScenarioGrammar.{scenario_of, IsScenario};
+ghost use Rattle.scenario_text.specs.ScenarioGrammar.{scenario_of, long_scenario_of, IsScenario};
 ghost use Rattle.scenario_text.specs.ScenarioParts.{ScenarioParts};
+ghost use Rattle.scenario_text.specs.declared.limits.TheConstants.{RUN_NODE_FRAMES};
 
-/// What some text says, its canonical text says too.
+/// A text says a scenario that can be run with a log just where it says it over the long horizon, and nodes times frames is at
+/// most `RUN_NODE_FRAMES`. So what is read for a run is a scenario.
+pub fn texts_of_runs_say_the_same()
+    ensures said { (bytes : List ℕ) (s : ScenarioParts) → (scenario_of bytes ≡ Ok s)
+        ↔ ((long_scenario_of bytes ≡ Ok s) × (length s.nodes * s.frames ≤ RUN_NODE_FRAMES)) }
+    ensures scenario { (bytes : List ℕ) (s : ScenarioParts) → scenario_of bytes ≡ Ok s → IsScenario s }
+{}
+
+/// What some text says, its canonical text says too, and says it to be run, where nodes times frames is at most
+/// `RUN_NODE_FRAMES`.
 pub fn canonical_texts_say_the_same()
-    ensures { (s : ScenarioParts) → IsScenario s → scenario_of (canonical s) ≡ Ok s }
+    ensures long { (s : ScenarioParts) → IsScenario s → long_scenario_of (canonical s) ≡ Ok s }
+    ensures run { (s : ScenarioParts) → IsScenario s → length s.nodes * s.frames ≤ RUN_NODE_FRAMES → scenario_of (canonical s) ≡ Ok s }
 {}
 
 /// What is true of each scenario: the numbers of each part are in range, its ids are those of nodes, and its lists are

@@ -12,7 +12,7 @@ use link_trace::Trace;
 use lwb_base::{NodeId, Profile};
 use std::marker::Model;
 
-/// A scenario: the network and what happens to it, frame by frame. Contracts see its parts.
+/// A scenario: the network and what happens to it, frame by frame, over the long horizon at most. Contracts see its parts.
 #[derive(Drop)]
 pub struct Scenario {
     profile: Profile,

@@ -5,7 +5,7 @@ ghost use Rattle.std.specs.List.{list_any};
 ghost use Rattle.text_readers.specs.Faults.{Refuses, RefusesBy, Finishes};
 ghost use Rattle.scenario_text.specs.ScenarioDrafts.{IsScenarioDraft};
 ghost use Rattle.scenario_text.specs.ScenarioGrammar.{IsScenario, no_scenario, line_fault, line_added, with_scenario_line};
-ghost use Rattle.scenario_text.specs.ScenarioGrammar.{scenario_after_words, last_tick as last_tick_of, is_frame, whole_scenario};
+ghost use Rattle.scenario_text.specs.ScenarioGrammar.{scenario_after_words, last_tick as last_tick_of, is_frame, whole_within};
 ghost use Rattle.scenario_text.specs.ScenarioParts.{ScenarioParts};
 ghost use Rattle.scenario_text.specs.declared.scenario_line.ScenarioLine.TheVariants.{Profile as ProfileLine, Contend, Frames, Host};
 
@@ -129,11 +129,12 @@ impl ScenarioDraft {
         }
     }
 
-    /// What the text says, or what it misses at its end. The text is one whose lines say this.
-    pub fn finish(self, alloc: Global) -> Result<Scenario, Refusal>
-        requires said { (s : ScenarioParts) → whole_scenario self ≡ Ok s → IsScenario s }
+    /// What the text says, or what it misses at its end, or that nodes times frames is above `most`. The text is one whose
+    /// lines say this.
+    pub fn finish(self, alloc: Global, most: u32) -> Result<Scenario, Refusal>
+        requires said { (s : ScenarioParts) → whole_within most self ≡ Ok s → IsScenario s }
         requires sound { IsScenarioDraft self }
-        ensures { Finishes result (whole_scenario self) }
+        ensures { Finishes result (whole_within most self) }
     {
         let ScenarioDraft {
             network,
@@ -152,7 +153,7 @@ impl ScenarioDraft {
         if hosts.is_empty() {
             return Err(Refusal::Fault(FaultKind::Missing));
         }
-        if network.nodes.len().saturating_mul(frames as usize) > 16_384 {
+        if network.nodes.len().saturating_mul(frames as usize) > most as usize {
             return Err(Refusal::Fault(FaultKind::TooBig));
         }
         Ok(Scenario::of_network(profile, frames, network, hosts, script))

@@ -5,4 +5,6 @@
 #[cfg(test)]
 mod limit_tests;
 #[cfg(test)]
+mod network_tests;
+#[cfg(test)]
 mod tests;

@@ -1,7 +1,9 @@
 //! Texts at the limits, with ample memory: no contract says that memory suffices.
 
 use lwb_base::{INPUT_LIMIT, Memory};
-use scenario_text::{FaultKind, ParseFault, Scenario, parse, parse_flood, print, with_script};
+use scenario_text::{
+    FaultKind, ParseFault, Scenario, parse, parse_flood, parse_long, print, with_script,
+};
 use std::alloc::{AllocError, Global};
 use std::fmt::Write;
 use std::test::Fail;
@@ -80,6 +82,27 @@ fn full_scenarios_come_back(rt: HostRuntime) -> Result<(), Fail> {
         };
         assert!(rt; printed.as_str() == text.as_str());
     }
+    Ok(())
+}
+
+#[test]
+fn all_frames_over_the_long_horizon(rt: HostRuntime) -> Result<(), Fail> {
+    let alloc = rt.alloc();
+    let mut text = String::from_str(alloc, "profile 1\nframes 4096\nsends 4\n")?;
+    push_nodes(&mut text)?;
+    text.push_str("host 0 64\n")?;
+    push_links(&mut text)?;
+    let bytes = text.as_bytes();
+    assert!(rt; bytes.len() <= INPUT_LIMIT);
+    let fault = ParseFault::Line(3 + 64 + 1 + 63 + 1, FaultKind::TooBig);
+    assert_eq!(rt; parse(alloc, bytes).err(), Some(fault));
+    let Ok(scenario) = parse_long(alloc, bytes) else {
+        panic!(rt; "a text is not read");
+    };
+    let Ok(printed) = print(alloc, &scenario) else {
+        panic!(rt; "a text is not printed");
+    };
+    assert!(rt; printed.as_str() == text.as_str());
     Ok(())
 }
 

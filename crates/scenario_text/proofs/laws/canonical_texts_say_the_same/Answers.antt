@@ -1,6 +1,10 @@
-use Rattle.scenario_text.proofs.CanonicalSays.{canonical_says}
-use Rattle.scenario_text.proofs.SaidParts.{said_is}
+use Rattle.std.proofs.Common.{refl}
+use Rattle.scenario_text.specs.Canonical.{canonical}
+use Rattle.scenario_text.proofs.SaidParts.{says_again, says_again_to_run}
 use Rattle.scenario_text.proofs.laws.canonical_texts_say_the_same.Goals as goal
 
-pub returns : goal.returns
-returns c = λ s said. canonical_says s (said_is s said)
+pub returns-clause-long : goal.returns-clause-long
+returns-clause-long c = λ s. says_again s (canonical s) refl
+
+pub returns-clause-run : goal.returns-clause-run
+returns-clause-run c = λ s. says_again_to_run s (canonical s) refl
