@@ -2,8 +2,8 @@
 pub mod Orders
 pub mod MaskBits
 pub mod SmallSeals
--- for this crate alone
 pub mod Inserted
+-- for this crate alone
 pub mod Together
 pub mod SlotParts
 pub mod SlotNumbers

@@ -1,0 +1,5 @@
+-- Lemmas of the crate.
+mod NetworkTextExamples
+mod NetworkNodes
+mod LinksAsked
+mod NetworkTexts
