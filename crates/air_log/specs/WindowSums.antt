@@ -59,7 +59,7 @@ abbrev pub power_has_window : Power → Bool
 power_has_window (PowerOff boots) = false
 power_has_window (PowerOn n) = stage_has_window n.stage
 
--- the packet of the transmission that an event tells the end of
+-- the packet of the transmission whose end an event reports
 abbrev pub sent_with : Event → Option Sending → Option (List ℕ)
 sent_with Boot ended = None
 sent_with Alarm ended = None

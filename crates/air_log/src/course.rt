@@ -142,7 +142,7 @@ impl Course {
             → IsAlarmRun (C.readings clock.now) q t d (alarmed (C.readings clock.now) q t d)
             → CourseShows q t self.new (alarmed (C.readings clock.now) q t d)) }
     {
-        // There are fewer of them than this.
+        // The proof bounds the loop; the language needs a limit.
         for _ in 0..u64::MAX {
             if !self.device.take_alarm(t) {
                 return Ok(());
@@ -255,7 +255,7 @@ fn is_alarm(event: &Event) -> bool
     }
 }
 
-// The packet of the transmission that an event tells the end of.
+// The packet of the transmission whose end an event reports.
 fn sent_with(event: &Event, ended: Option<Sending>) -> Option<Packet>
     ensures { result ≡ sent_with event.now ended }
 {

@@ -7,7 +7,6 @@ use Rattle.std.proofs.lemmas.List.{get_or-map, length-map, take_all}
 use Rattle.std.proofs.lemmas.List.FromFn.{length-range_with_len, length-enumerate_from}
 use Rattle.std.proofs.lemmas.List.Sums.{count_by-le-length}
 use Rattle.scenario_text.specs.ScenarioParts.{ScenarioParts}
-use Rattle.scenario_text.specs.ScenarioFacts.{IsSoundScenario}
 use Rattle.bus_rules.specs.declared.act.Act.TheVariants.{Off}
 use Rattle.scenario_text.specs.declared.script.ScriptLine.{ScriptLine}
 use Rattle.bus_rules.specs.States.{State, StateOff}
@@ -15,6 +14,7 @@ use Rattle.bus_rules.specs.Tuning.{is_scan}
 use Rattle.bus_terms.specs.Bus.{Cost, before_frame, bus_drops, drop_at, state_at}
 use Rattle.bus_terms.specs.Costs.{over_round, slot_sent, slot_window}
 use Rattle.bus_terms.specs.FloodOfText.{ids}
+use Rattle.bus_terms.specs.OverLines.{IsOverScenario}
 use Rattle.bus_terms.specs.Rounds.{rank_in, rounds}
 use Rattle.bus_terms.specs.ScriptedStates.{states_after_end, is_on_and}
 use Rattle.plain_bus.specs.BusNodes.{BusNode, bus_node, IsEarlyState, ranks_in}
@@ -22,6 +22,7 @@ use Rattle.plain_bus.specs.Networks.{Network, IsReady, no_cost, node_at_first}
 use Rattle.plain_bus.specs.SlotCosts.{IsBelow}
 use Rattle.plain_bus.proofs.MembersOfSlots.{map_of_map, map_same}
 use Rattle.plain_bus.proofs.SlotsMet.{ids_each}
+use Rattle.plain_bus.proofs.SoundOver.{sound_over}
 use Rattle.bus_model.specs.FrameNodes.{HavePower, CountsLinesBefore, deliveries_to, drops_to, ended_at, frame_deliveries, nodes_with, power}
 use Rattle.bus_model.specs.FrameNodes.{prior_ranks, with_round_rank}
 use Rattle.bus_model.specs.RoundCosts.{cost_after, with_round, with_scan}
@@ -137,7 +138,7 @@ module _ (s : ScenarioParts) where
   power_off v = ap (λ (g : ℕ → State). power (g v)) (first_frame s)
 
   pub ready_off : IsReady s 0 (0 * 184)
-      (record { ids = ids s.nodes; nodes = map (node_at_first s) (ids s.nodes); costs = map (λ (v : ℕ). no_cost) (ids s.nodes); deliveries = [] })
+      (record { ids = ids s.nodes; nodes = map (node_at_first s) (ids s.nodes); costs = map (λ (v : ℕ). no_cost) (ids s.nodes); deliveries = []; floods = [] })
   ready_off = record {
     ids_are = refl;
     nodes_each = length-map (ids s.nodes) (node_at_first s) ∙ ids_each s;
@@ -152,12 +153,12 @@ module _ (s : ScenarioParts) where
   cut_off = record { within = omega arith; before = λ i d low. absurd (omega (arith, low)); from = λ i d high near. omega arith }
 
   -- after the last frame the script is over
-  pub script_over : (sound : IsSoundScenario s) (n : ℕ) → CountsLinesBefore s.script s.frames n → drops_to s n ≡ bus_drops s
-  script_over sound n cut = elim (cases_lt n (length s.script)) [
+  pub script_over : (said : IsOverScenario s) (n : ℕ) → CountsLinesBefore s.script s.frames n → drops_to s n ≡ bus_drops s
+  script_over said n cut = elim (cases_lt n (length s.script)) [
     | inl less ↦ absurd (
         let d : ScriptLine = record { frame = 0; node = 0; act = Off } in
         let late = cut.from n d (omega arith) less in
-        let line = sound.script n d less in
+        let line = (sound_over s said).script n d less in
         let early = line.in_run in
         omega (arith, late, early))
     | inr over ↦ ap (filter_map (drop_at s)) (take_all n (enumerate_from 0 s.script) (omega (arith, over, length-enumerate_from 0 s.script)))

@@ -5,7 +5,7 @@ use Rattle.std.proofs.lemmas.Bool.{eq-eqb, cases_eq, cases_lt}
 use Rattle.std.proofs.lemmas.List.{take_more, get_or_default}
 use Rattle.scenario_text.specs.FloodParts.{knows}
 use Rattle.scenario_text.specs.ScenarioParts.{ScenarioParts}
-use Rattle.scenario_text.specs.ScenarioFacts.{IsSoundScenario, turned, turned_by}
+use Rattle.scenario_text.specs.ScenarioFacts.{turned, turned_by}
 use Rattle.bus_rules.specs.States.{IsAct, State, StateOff, StateOn, at_core, state_after_act}
 use Rattle.bus_rules.specs.declared.act.Act.{Act}
 use Rattle.bus_rules.specs.declared.act.Act.TheVariants.{On, Off, Declare, Leave, Put}
@@ -17,16 +17,18 @@ use Rattle.bus_rules.specs.Cores.{Setup, as_host, begins_host, frame_ended}
 use Rattle.bus_rules.specs.declared.tune.Tune.{Tune}
 use Rattle.bus_terms.specs.FloodOfText.{ids}
 use Rattle.bus_terms.specs.Flooding.{has}
+use Rattle.bus_terms.specs.OverLines.{IsOverScenario}
 use Rattle.plain_bus.specs.BusNodes.{MayDo, IsEarlyState}
+use Rattle.plain_bus.proofs.SoundOver.{sound_over}
 use Rattle.plain_bus.proofs.TextFloods.{has_known}
 use Rattle.bus_model.specs.FrameNodes.{power}
 
-module _ (s : ScenarioParts) (sound : IsSoundScenario s) (n : ℕ) (l : ScriptLine) (below : n < length s.script) (at : l ≡ get_or s.script n l) where
+module _ (s : ScenarioParts) (said : IsOverScenario s) (n : ℕ) (l : ScriptLine) (below : n < length s.script) (at : l ≡ get_or s.script n l) where
   pub line_act : IsAct s.profile l.act
-  line_act = subst (λ (m : ScriptLine). IsAct s.profile m.act) (sym at) (sound.script n l below).act
+  line_act = subst (λ (m : ScriptLine). IsAct s.profile m.act) (sym at) ((sound_over s said).script n l below).act
 
   pub line_known : has (ids s.nodes) l.node ≡ true
-  line_known = sym (has_known s.nodes l.node) ∙ ap (λ (m : ScriptLine). knows s.nodes m.node) at ∙ (sound.script n l below).known
+  line_known = sym (has_known s.nodes l.node) ∙ ap (λ (m : ScriptLine). knows s.nodes m.node) at ∙ ((sound_over s said).script n l below).known
 
   few : (boots : ℕ) → l.act ≡ On → (false, boots) ≡ turned l.node (false, 0) (take n s.script) → boots < 200
   few boots on before =
@@ -40,7 +42,7 @@ module _ (s : ScenarioParts) (sound : IsSoundScenario s) (n : ℕ) (l : ScriptLi
       let whole : turned v (false, 0) s.script ≡ turned v (true, boots + 1) (drop (n + 1) s.script) =
       ap (turned v (false, 0)) (sym (take-append-drop (n + 1) s.script)) ∙ turned_over v (false, 0) (take (n + 1) s.script) (drop (n + 1) s.script)
       ∙ ap (λ (b : Boots). turned v b (drop (n + 1) s.script)) front in
-      let most : (turned v (true, boots + 1) (drop (n + 1) s.script)).1 ≤ 200 = subst (λ (b : Boots). b.1 ≤ 200) whole (sound.few_boots v) in
+      let most : (turned v (true, boots + 1) (drop (n + 1) s.script)).1 ≤ 200 = subst (λ (b : Boots). b.1 ≤ 200) whole ((sound_over s said).few_boots v) in
       omega (arith, most, never_less v (true, boots + 1) (drop (n + 1) s.script))
 
   pub may_do : (x : State) → power x ≡ turned l.node (false, 0) (take n s.script) → MayDo l.act x
@@ -57,7 +59,7 @@ module _ (s : ScenarioParts) (sound : IsSoundScenario s) (n : ℕ) (l : ScriptLi
   -- where the line is one of a later frame, so are all that follow
   pub later_lines : (f : ℕ) → f ≤ l.frame → (l.frame ≡ f → ⊥) → (i : ℕ) (d : ScriptLine) → n ≤ i → i < length s.script → f < (get_or s.script i d).frame
   later_lines f up other i d high near = elim (cases_lt n i) [
-    | inl after ↦ (let rises = sound.script_ascends n i d after near in
+    | inl after ↦ (let rises = (sound_over s said).script_ascends n i d after near in
         omega (arith, rises, above, ap (λ (m : ScriptLine). m.frame) (at ∙ get_or_default s.script n l d below)))
     | inr not_after ↦ (let same : n ≡ i = omega (arith, high, not_after) in
         let here : l ≡ get_or s.script i d = at ∙ get_or_default s.script n l d below ∙ ap (λ (k : ℕ). get_or s.script k d) same in

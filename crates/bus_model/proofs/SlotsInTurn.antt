@@ -1,6 +1,6 @@
 -- The slots of a round, one after another.
 use Rattle.std.proofs.Common.{◌≡◌, ◌≤◌, ◌<◌, ◌+◌, ◌++◌, ◌∷◌, ◌==◌, [], ℕ, List, Bool, true, false, if◌then◌else◌, length, map, flat_map}
-use Rattle.std.proofs.Common.{get_or, sum_by, refl, sym, ◌∙◌, ap, arith, add-zero, append-nil, mul-le-mul_right}
+use Rattle.std.proofs.Common.{get_or, sum_by, refl, sym, ◌∙◌, ap, arith, add-zero, append-nil, append_assoc, mul-le-mul_right}
 use Rattle.std.specs.List.{range_with_len}
 use Rattle.std.proofs.lemmas.List.Concat.{flat_map-append}
 use Rattle.std.proofs.lemmas.List.FromFn.{get_or-map-range_with_len, length-map-range_with_len}
@@ -20,6 +20,8 @@ use Rattle.plain_bus.specs.BusNodes.{nodes_in, nodes_before, ranks_in}
 use Rattle.plain_bus.specs.Leaders.{slot_parts}
 use Rattle.plain_bus.specs.Networks.{Network, IsReady, with_slot_at}
 use Rattle.plain_bus.specs.SlotCosts.{IsBelow}
+use Rattle.plain_bus.specs.RunFloods.{SlotFlood}
+use Rattle.plain_bus.proofs.ListsInPlace.{map_more}
 use Rattle.plain_bus.proofs.MembersOfSlots.{map_same}
 use Rattle.bus_model.specs.RoundCosts.{with_slots}
 
@@ -104,3 +106,10 @@ module _ (s : ScenarioParts) (rank f : ℕ) (p : Plan) (start : ℕ → State) w
       both : (b : Bool) (g : Cost → Cost) (x y z : Cost) → g x ≡ y → (if b then g (if b then x else z) else (if b then x else z)) ≡ (if b then y else z)
       both true g x y z is = is
       both false g x y z is = refl
+
+-- the floods of one slot more
+pub slots_more : (g : ℕ → SlotFlood) (n : ℕ) (before : List SlotFlood)
+    → (before ++ map g (range_with_len 0 n)) ++ g n ∷ [] ≡ before ++ map g (range_with_len 0 (n + 1))
+slots_more g n before =
+    append_assoc before (map g (range_with_len 0 n)) (g n ∷ [])
+    ∙ ap (λ (l : List SlotFlood). before ++ l) (sym (ap (map g) (range_next n) ∙ map_more g (range_with_len 0 n) n))

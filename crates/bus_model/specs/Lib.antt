@@ -1,3 +1,5 @@
 pub mod RoundCosts
 pub mod FrameNodes
+pub mod FrameFloods
+pub mod RunningBuses
 pub mod BusRuns

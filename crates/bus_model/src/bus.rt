@@ -2,14 +2,17 @@
 
 ghost use Rattle.std.specs.Prelude.{◌≡◌, IfOk, Some, None, if◌then◌else◌};
 ghost use Rattle.bus_terms.specs.Bus.{bus_cost};
-ghost use Rattle.scenario_text.specs.FloodParts.{knows};
+ghost use Rattle.bus_terms.specs.OverLines.{over};
+ghost use Rattle.plain_bus.specs.FloodMasks.{traced};
+ghost use Rattle.scenario_text.specs.FloodParts.{knows, IsSealed};
 ghost use Rattle.scenario_text.specs.ScenarioParts.{ScenarioParts};
 ghost use Rattle.bus_model.specs.BusRuns.{IsBusRun};
 
-use crate::frames::run_frame;
+use crate::RunningBus;
 use bus_rules::{Delivery, DropLine};
+use link_trace::Links;
 use lwb_base::{Memory, NodeId};
-use plain_bus::{Cost, Network, place_of};
+use plain_bus::{Cost, Network, ScenarioOver, place_of};
 use scenario_text::Scenario;
 use std::alloc::Global;
 use std::marker::Model;
@@ -40,13 +43,24 @@ impl Bus {
     pub fn run(alloc: Global, s: &Scenario) -> Result<Bus, Memory>
         ensures { IfOk result (IsBusRun s.now) }
     {
-        let mut net = Network::new(alloc, s)?;
-        let mut drops = Vec::new(alloc);
-        let mut told = 0;
-        for frame in 0..s.frames() {
-            told = run_frame(alloc, &mut net, s, frame, told, &mut drops)?;
+        Bus::run_over(alloc, s, s.trace())
+    }
+
+    /// The run of the scenario over links that stand in place of its own trace, and are sealed with its nodes. `Err` means out
+    /// of memory.
+    pub fn run_over<M: Links>(alloc: Global, s: &Scenario, links: &M) -> Result<Bus, Memory>
+        requires { IsSealed (traced (M.lines links.now) (M.nodes links.now)) s.now.nodes }
+        ensures { IfOk result (IsBusRun (over s.now (M.lines links.now))) }
+    {
+        let mut run = RunningBus::new(alloc, s)?;
+        let scenario = ScenarioOver::new(s, links);
+        for frame in 0..scenario.frames() {
+            run.run_frame(alloc, &scenario, frame)?;
         }
-        Ok(Bus { net, drops })
+        Ok(Bus {
+            net: run.net,
+            drops: run.drops,
+        })
     }
 
     /// What a node costs; returns `None` if and only if it is not in the scenario.

@@ -1,12 +1,13 @@
 //! A frame of a scenario at all nodes.
 
-ghost use Rattle.std.specs.Prelude.{◌≡◌, ◌≤◌, ◌<◌, ◌+◌, ℕ, All, IfOk, OnOk, length, map};
+ghost use Rattle.std.specs.Prelude.{◌≡◌, ◌≤◌, ◌<◌, ◌+◌, ℕ, All, IfOk, OnOk, [], length, map};
 ghost use Rattle.lwb_base.specs.declared.limits.TheConstants.{LAST_FRAME};
 ghost use Rattle.bus_rules.specs.States.{State};
-ghost use Rattle.bus_terms.specs.Bus.{Cost as CostOf, before_frame};
+ghost use Rattle.bus_terms.specs.Bus.{Cost as CostOf, before_frame, state_at};
 ghost use Rattle.bus_terms.specs.FloodOfText.{ids};
 ghost use Rattle.scenario_text.specs.ScenarioParts.{ScenarioParts};
-ghost use Rattle.plain_bus.specs.Networks.{IsReady};
+ghost use Rattle.plain_bus.specs.RunFloods.{HasRun};
+ghost use Rattle.bus_model.specs.FrameFloods.{frame_floods};
 ghost use Rattle.bus_model.specs.FrameNodes.{HavePower, IsAtFrame, CountsLinesBefore, drops_to, with_round_rank, ended_at, nodes_with};
 ghost use Rattle.bus_model.specs.RoundCosts.{with_scan};
 
@@ -14,18 +15,18 @@ use crate::all_nodes::{begin_all, count_scans, end_all};
 use crate::rounds::run_rounds;
 use crate::script::tell_lines;
 use bus_rules::DropLine;
+use link_trace::Links;
 use lwb_base::Memory;
-use plain_bus::Network;
-use scenario_text::Scenario;
+use plain_bus::{Network, ScenarioOver};
 use std::alloc::Global;
 
 /// This frame at all nodes, which is below the number of frames: the script from its line `told` on, the rounds, and the end.
-/// What is lost before it is queued is added at the end of `drops`. Returns the place of the first line of a later frame. `Err`
-/// means out of memory.
-pub fn run_frame(
+/// What is lost before it is queued is added at the end of `drops`, and `net.floods` has the floods of the frame. Returns the
+/// place of the first line of a later frame. `Err` means out of memory.
+pub fn run_frame<M: Links>(
     alloc: Global,
     net: &mut Network,
-    s: &Scenario,
+    s: &ScenarioOver<'_, M>,
     frame: u32,
     told: usize,
     drops: &mut Vec<DropLine>,
@@ -40,6 +41,7 @@ pub fn run_frame(
     ensures cut { IfOk result (CountsLinesBefore s.now.script (frame + 1)) }
     ensures power { IfOk result (HavePower s.now (before_frame s.now (frame + 1))) }
     ensures drops { IfOk result (λ next. drops.new.items ≡ drops_to s.now next) }
+    ensures floods { OnOk result (HasRun s.now frame (frame_floods s.now frame (state_at s.now frame)) net.new.floods) }
 {
     let next = tell_lines(net, s, frame, told, drops)?;
     begin_rounds(net);
@@ -48,7 +50,7 @@ pub fn run_frame(
     Ok(next)
 }
 
-// The rounds of a frame begin.
+// The rounds of a frame begin. No flood of the frame before is left.
 fn begin_rounds(net: &mut Network)
     requires each { length net.old.nodes ≡ length net.old.costs }
     requires few { All (λ c. c.scanned ≤ 4096) net.old.costs }
@@ -57,8 +59,10 @@ fn begin_rounds(net: &mut Network)
         → net.old.costs ≡ map cost (ids s.nodes)
         → net.new.costs ≡ map (λ v. with_scan (states v) (cost v)) (ids s.nodes) }
     ensures same { length net.new.costs ≡ length net.old.costs }
+    ensures floods { net.new.floods ≡ [] }
     ensures rest { (net.new.ids ≡ net.old.ids) × (net.new.deliveries ≡ net.old.deliveries) }
 {
+    net.floods.clear();
     count_scans(&mut net.costs, &net.nodes);
     begin_all(&mut net.nodes);
 }
@@ -67,7 +71,8 @@ fn begin_rounds(net: &mut Network)
 fn end_frame(net: &mut Network, frame: u32)
     requires { frame ≤ LAST_FRAME }
     ensures nodes { net.new.nodes ≡ map (ended_at frame) net.old.nodes }
-    ensures rest { (net.new.ids ≡ net.old.ids) × (net.new.costs ≡ net.old.costs) × (net.new.deliveries ≡ net.old.deliveries) }
+    ensures rest { (net.new.ids ≡ net.old.ids) × (net.new.costs ≡ net.old.costs) × (net.new.deliveries ≡ net.old.deliveries)
+        × (net.new.floods ≡ net.old.floods) }
 {
     end_all(&mut net.nodes, frame);
 }

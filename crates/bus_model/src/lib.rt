@@ -5,7 +5,9 @@ mod all_nodes;
 mod bus;
 mod frames;
 mod rounds;
+mod running_bus;
 mod script;
 
 pub use bus::Bus;
 pub use plain_bus::{Cost, accepts};
+pub use running_bus::RunningBus;

@@ -1,6 +1,6 @@
 //! The rounds of a frame.
 
-ghost use Rattle.std.specs.Prelude.{◌≡◌, ◌≤◌, ◌+◌, ◌*◌, ◌++◌, ◌==◌, ℕ, OnOk, flat_map, map, length, if◌then◌else◌};
+ghost use Rattle.std.specs.Prelude.{◌≡◌, ◌≤◌, ◌+◌, ◌*◌, ◌++◌, ◌==◌, ℕ, List, OnOk, flat_map, map, length, if◌then◌else◌};
 ghost use Rattle.lwb_base.specs.Messages.{Plan};
 ghost use Rattle.lwb_base.specs.declared.limits.TheConstants.{LAST_FRAME};
 ghost use Rattle.bus_rules.specs.Plans.{last_slot};
@@ -11,17 +11,24 @@ ghost use Rattle.bus_terms.specs.Rounds.{before_slot, round_of_rank, rounds, rou
 ghost use Rattle.plain_bus.specs.BusNodes.{nodes_in, ranks_in, HaveRoom, HaveRoomInRound};
 ghost use Rattle.plain_bus.specs.Leaders.{slot_parts};
 ghost use Rattle.plain_bus.specs.Networks.{IsReady};
+ghost use Rattle.plain_bus.specs.RunFloods.{HasRun, SlotFlood, slot_flood};
+ghost use Rattle.bus_model.specs.FrameFloods.{frame_floods, round_floods};
 ghost use Rattle.bus_model.specs.FrameNodes.{AreRanked, frame_deliveries, nodes_with};
 ghost use Rattle.bus_model.specs.RoundCosts.{with_round, with_slots};
 
 use bus_rules::Part;
+use link_trace::Links;
 use lwb_base::{Memory, Rank};
-use plain_bus::{Network, parts_of_round};
-use scenario_text::Scenario;
+use plain_bus::{Network, ScenarioOver, parts_of_round};
 use std::alloc::Global;
 
 /// The rounds of all ranks in this frame, one after another. `Err` means out of memory.
-pub fn run_rounds(alloc: Global, net: &mut Network, s: &Scenario, frame: u32) -> Result<(), Memory>
+pub fn run_rounds<M: Links>(
+    alloc: Global,
+    net: &mut Network,
+    s: &ScenarioOver<'_, M>,
+    frame: u32,
+) -> Result<(), Memory>
     requires frame { frame ≤ LAST_FRAME }
     requires ready { IsReady s.now frame 1000000 net.old }
     ensures ready { OnOk result ((m : ℕ) → IsReady s.now frame m net.old → IsReady s.now frame (m + 184) net.new) }
@@ -29,6 +36,9 @@ pub fn run_rounds(alloc: Global, net: &mut Network, s: &Scenario, frame: u32) ->
         → ((rank : ℕ) → HaveRoomInRound s.now rank frame start) → net.new.nodes ≡ nodes_with s.now (ranks_in start) (rounds s.now frame start)) }
     ensures deliveries { OnOk result ((start : ℕ → State) → AreRanked s.now start → net.old.nodes ≡ nodes_with s.now (ranks_in start) start
         → ((rank : ℕ) → HaveRoomInRound s.now rank frame start) → net.new.deliveries ≡ net.old.deliveries ++ frame_deliveries s.now frame start) }
+    ensures floods { OnOk result ((start : ℕ → State) (before : List SlotFlood) → AreRanked s.now start
+        → net.old.nodes ≡ nodes_with s.now (ranks_in start) start → ((rank : ℕ) → HaveRoomInRound s.now rank frame start)
+        → HasRun s.now frame before net.old.floods → HasRun s.now frame (before ++ frame_floods s.now frame start) net.new.floods) }
     ensures costs { OnOk result ((start : ℕ → State) (cost : ℕ → CostOf) → AreRanked s.now start → net.old.nodes ≡ nodes_with s.now (ranks_in start) start
         → ((rank : ℕ) → HaveRoomInRound s.now rank frame start) → net.old.costs ≡ map cost (ids s.now.nodes)
         → net.new.costs ≡ map (λ v. with_round s.now (ranks_in start v) frame start v (cost v)) (ids s.now.nodes)) }
@@ -41,7 +51,7 @@ pub fn run_rounds(alloc: Global, net: &mut Network, s: &Scenario, frame: u32) ->
 }
 
 // The number of ranks, 1 to 4.
-fn hosts_of(s: &Scenario) -> u8
+fn hosts_of<M: Links>(s: &ScenarioOver<'_, M>) -> u8
     ensures value { result ≡ length s.now.hosts }
     ensures few { result ≤ 4 }
 {
@@ -56,10 +66,10 @@ fn rank_at(rank: u8) -> Rank
 }
 
 // The round of this rank in this frame, if there is one.
-fn run_round(
+fn run_round<M: Links>(
     alloc: Global,
     net: &mut Network,
-    s: &Scenario,
+    s: &ScenarioOver<'_, M>,
     rank: Rank,
     frame: u32,
 ) -> Result<(), Memory>
@@ -70,6 +80,9 @@ fn run_round(
         → HaveRoomInRound s.now rank frame start → net.new.nodes ≡ nodes_in s.now rank start (round_of_rank s.now rank frame start) others) }
     ensures deliveries { OnOk result ((start others : ℕ → State) → net.old.nodes ≡ nodes_in s.now rank start start others
         → HaveRoomInRound s.now rank frame start → net.new.deliveries ≡ net.old.deliveries ++ round_deliveries s.now rank frame start) }
+    ensures floods { OnOk result ((start others : ℕ → State) (before : List SlotFlood) → net.old.nodes ≡ nodes_in s.now rank start start others
+        → HaveRoomInRound s.now rank frame start
+        → HasRun s.now frame before net.old.floods → HasRun s.now frame (before ++ round_floods s.now rank frame start) net.new.floods) }
     ensures costs { OnOk result
         ((start others : ℕ → State) (cost : ℕ → CostOf) → net.old.nodes ≡ nodes_in s.now rank start start others
         → HaveRoomInRound s.now rank frame start → net.old.costs ≡ map cost (ids s.now.nodes)
@@ -83,9 +96,9 @@ fn run_round(
 }
 
 // The slots of a round, one after another.
-fn run_slots(
+fn run_slots<M: Links>(
     net: &mut Network,
-    s: &Scenario,
+    s: &ScenarioOver<'_, M>,
     rank: Rank,
     frame: u32,
     parts: &[Part],
@@ -100,6 +113,10 @@ fn run_slots(
     ensures deliveries { OnOk result ((p : Plan) (start others : ℕ → State) → parts.now ≡ slot_parts p → net.old.nodes ≡ nodes_in s.now rank start start others
         → ((j : ℕ) → HaveRoom s.now rank frame p start j)
         → net.new.deliveries ≡ net.old.deliveries ++ flat_map (slot_deliveries s.now rank frame p start) (slots_of p)) }
+    ensures floods { OnOk result ((p : Plan) (start others : ℕ → State) (before : List SlotFlood) → parts.now ≡ slot_parts p
+        → net.old.nodes ≡ nodes_in s.now rank start start others → ((j : ℕ) → HaveRoom s.now rank frame p start j)
+        → HasRun s.now frame before net.old.floods
+        → HasRun s.now frame (before ++ map (slot_flood s.now rank frame p start) (slots_of p)) net.new.floods) }
     ensures costs { OnOk result
         ((p : Plan) (start others : ℕ → State) (cost : ℕ → CostOf) → parts.now ≡ slot_parts p → net.old.nodes ≡ nodes_in s.now rank start start others
         → ((j : ℕ) → HaveRoom s.now rank frame p start j) → net.old.costs ≡ map cost (ids s.now.nodes)

@@ -4,24 +4,25 @@ ghost use Rattle.std.specs.Prelude.{◌≡◌, ◌≤◌, ◌<◌, ◌+◌, ◌+
 ghost use Rattle.std.specs.Prelude.{option_to_list, slice_index, slice_index_or, slice_set, true};
 ghost use Rattle.std.specs.List.{AllPairs};
 ghost use Rattle.bus_rules.specs.States.{State, IsAct};
-ghost use Rattle.scenario_text.specs.ScenarioGrammar.{IsScenario};
 ghost use Rattle.bus_terms.specs.Bus.{before_frame, state_at};
 ghost use Rattle.bus_terms.specs.Flooding.{has};
+ghost use Rattle.bus_terms.specs.OverLines.{IsOverScenario};
 ghost use Rattle.bus_terms.specs.ScriptedStates.{lost_by};
 ghost use Rattle.plain_bus.specs.BusNodes.{BusNode as NodeOf, MayDo, loses_by};
 ghost use Rattle.plain_bus.specs.Networks.{IsReady};
 ghost use Rattle.bus_model.specs.FrameNodes.{HavePower, CountsLinesBefore, drops_to, nodes_with, prior_ranks, node_after_line};
 
 use bus_rules::DropLine;
+use link_trace::Links;
 use lwb_base::Memory;
-use plain_bus::{Network, place_of};
-use scenario_text::{Act, Scenario, ScriptLine};
+use plain_bus::{Network, ScenarioOver, place_of};
+use scenario_text::{Act, ScriptLine};
 
 /// The nodes carry out the script lines of this frame, from its line `from` on. What is lost by that is added at the end of
 /// `drops`. Returns the place of the first line of a later frame. `Err` means out of memory.
-pub fn tell_lines(
+pub fn tell_lines<M: Links>(
     net: &mut Network,
-    s: &Scenario,
+    s: &ScenarioOver<'_, M>,
     frame: u32,
     from: usize,
     drops: &mut Vec<DropLine>,
@@ -37,7 +38,7 @@ pub fn tell_lines(
     ensures drops { IfOk result (λ next. drops.new.items ≡ drops_to s.now next) }
     ensures ready { OnOk result ((m : ℕ) → IsReady s.now frame m net.old → IsReady s.now frame m net.new) }
     ensures rest { OnOk result ((net.new.costs ≡ net.old.costs) × (net.new.deliveries ≡ net.old.deliveries)) }
-    ensures said { IsScenario s.now }
+    ensures said { IsOverScenario s.now }
 {
     let script = s.script();
     for next in from..script.len() {

@@ -117,7 +117,7 @@ any_order s sound f v order is =
     let differ = IsDistinct-IsPermutation eqb eqb_flips (ranks_of s) order is (rising_differ (ranks_of s) (range_in_turn 0 (length s.hosts))) in
     let there : has order (rank_in (start v)) ≡ true =
     sym (list_any-IsPermutation (λ x. x == rank_in (start v)) (ranks_of s) order is)
-    ∙ in_range (length s.hosts) 0 (rank_in (start v)) (omega arith) (let below = hosted s sound f v in omega (arith, below)) in
+    ∙ in_range (length s.hosts) 0 (rank_in (start v)) (omega arith) (let below = hosted s sound.some_hosts f v in omega (arith, below)) in
     in_turn s f start order differ start (λ u. refl) (λ u waits. refl) v there
   where
     eqb_flips : (x y : ℕ) → eqb x y ≡ eqb y x

@@ -1,7 +1,7 @@
 -- On the bus a node hosts its own rank alone, and by a plan with the contention slots of the profile.
 use Rattle.std.proofs.Common.{◌≡◌, ◌+◌, ◌%◌, ◌&&◌, ◌==◌, ℕ, zero, suc, List, [], ◌∷◌, Bool, true, false, Option, Some, None, nat_lt, if◌then◌else◌}
 use Rattle.std.proofs.Common.{get_or, fold, option_map, refl, sym, ◌∙◌, ap, subst}
-use Rattle.std.proofs.lemmas.Bool.{false≢true, eqb-true, and_parts}
+use Rattle.std.proofs.lemmas.Bool.{false≢true, true≢false, eqb-true, and_parts}
 use Rattle.std.proofs.lemmas.List.Quantifiers.{position-Some}
 use Rattle.lwb_base.specs.Messages.{Plan, Schedule, node_of, stream_of}
 use Rattle.scenario_text.specs.ScenarioParts.{ScenarioParts}
@@ -18,7 +18,7 @@ use Rattle.bus_rules.specs.Slots.{Message, ScheduleOf, DataOf, RequestOf, opened
 use Rattle.bus_rules.specs.Slots.{request_of}
 use Rattle.bus_rules.specs.States.{State, StateOff, StateOn, at_core, state_after_act}
 use Rattle.bus_rules.specs.Streams.{WaitingPacket, first_waiting, requested}
-use Rattle.bus_rules.specs.Tuning.{rank_of, hosts, hosts_in, is_rank, next_tune}
+use Rattle.bus_rules.specs.Tuning.{rank_of, hosts, hosts_in, is_rank, is_scan, next_tune}
 use Rattle.bus_rules.proofs.Ranks.{same_schedule, rank_is, plan_contends}
 use Rattle.bus_rules.proofs.Switches.{acts_keep}
 use Rattle.bus_terms.specs.Bus.{before_frame, state_at}
@@ -28,7 +28,7 @@ use Rattle.bus_terms.proofs.KeptInRounds.{slots_keep, rounds_keep}
 
 pub record IsRightful (q : Setup) (c : Core) : Type 0 where
   pub own : hosts c.tune ≡ true → q.own ≡ Some (rank_of c.tune)
-  pub contend : hosts c.tune ≡ true → c.plan.contend ≡ q.profile.contend
+  pub contend : is_scan c.tune ≡ false → c.plan.contend ≡ q.profile.contend
 
 abbrev pub IsRightfulState : Setup → State → Type 0
 IsRightfulState q (StateOff boots) = Unit {0}
@@ -45,6 +45,11 @@ due_hosts rank f (Host r due) now = refl
 due_hosts rank f (Hold r due) now = absurd (false≢true now)
 due_hosts rank f (Scan r w) now = absurd (false≢true now)
 
+pub due_plans : (rank f : ℕ) (t : Tune) → hosts_in rank f t ≡ true → is_scan t ≡ false
+due_plans rank f (Host r due) now = refl
+due_plans rank f (Hold r due) now = refl
+due_plans rank f (Scan r w) now = absurd (false≢true now)
+
 pub due_rank : (rank f : ℕ) (t : Tune) → hosts_in rank f t ≡ true → rank_of t ≡ rank
 due_rank rank f (Host r due) now = eqb-true r rank (and_parts (r == rank) _ now).0
 due_rank rank f (Hold r due) now = absurd (false≢true now)
@@ -59,7 +64,7 @@ opens q f Closing c is = by_test (hosts_now f c) refl
     by_test : (b : Bool) → hosts_now f c ≡ b → IsRightful q (if b then host_closes q f c else silent c).core
     by_test true now = record {
       own = λ h. is.own (due_hosts (rank_of c.tune) f c.tune now);
-      contend = λ h. plan_contends q.profile q.id c.boot (rank_of c.tune) f c.kept c.table c.streams;
+      contend = λ plans. plan_contends q.profile q.id c.boot (rank_of c.tune) f c.kept c.table c.streams;
     }
     by_test false now = is
 
@@ -89,7 +94,7 @@ says q f Opening c (ScheduleOf x) is said = by_test (hosts_now f c) refl said
         → x.plan.contend ≡ q.profile.contend
     by_test true now said =
         subst (λ (y : Schedule). y.plan.contend ≡ q.profile.contend) (same_schedule (opening c.plan) x said)
-        (is.contend (due_hosts (rank_of c.tune) f c.tune now))
+        (is.contend (due_plans (rank_of c.tune) f c.tune now))
     by_test false now said = absurd (cc)
 says q f (DataSlot owner) c (ScheduleOf x) is said = absurd (data_no_schedule q f owner c x said)
 says q f (Contention i) c (ScheduleOf x) is said = absurd (contention_no_schedule q f i c x said)
@@ -112,8 +117,8 @@ takes : (q : Setup) (f : ℕ) (x : Schedule) (c : Core) → x.plan.contend ≡ q
 takes q f x c same is = by_test (x.gap == 0)
   where
     by_test : (b : Bool) → IsRightful q (if b then opening_accepted q.id f x c else closing_accepted q.id f x c)
-    by_test true = record { own = is.own; contend = λ host. same }
-    by_test false = record { own = λ host. absurd (false≢true host); contend = λ host. same }
+    by_test true = record { own = is.own; contend = λ plans. same }
+    by_test false = record { own = λ host. absurd (false≢true host); contend = λ plans. same }
 
 closes : (q : Setup) (f : ℕ) (part : Part) (b : Bool) (c : Core) (o : Option Message) → ((m : Message) → o ≡ Some m → IsContended q.profile.contend m)
     → IsRightful q c → IsRightful q (closed_slot q f part b c o).core
@@ -125,7 +130,7 @@ closes q f part b c (Some (RequestOf a)) told is = record { own = is.own; conten
 -- the script
 acts : (q : Setup) (a : Act) (x : State) → IsRightfulState q x → IsRightfulState q (state_after_act a x)
 acts q =
-    acts_keep (IsRightfulState q) (λ boots is. record { own = λ host. absurd (false≢true host); contend = λ host. absurd (false≢true host) })
+    acts_keep (IsRightfulState q) (λ boots is. record { own = λ host. absurd (false≢true host); contend = λ plans. absurd (true≢false plans) })
     (λ c is. tt) (λ a c is. record { own = is.own; contend = is.contend })
 
 lines : (q : Setup) (ls : List ScriptLine) (x : State) → IsRightfulState q x → IsRightfulState q (fold state_after_line x ls)
@@ -145,15 +150,15 @@ ends q f c is = by_tune c.tune refl
     by_scan : (r w : ℕ) (joined serves turns : Bool) → (serves ≡ true → q.own ≡ Some r)
         → (let t : Tune = if joined then Scan r 0 else if serves then Host r (f + 1) else if turns then Scan ((r + 1) % q.ranks) 0 else Scan r (w + 1) in
         IsRightful q (as_host q.profile (begins_host (Scan r w) t) (turned t)))
-    by_scan r w true serves turns own = record { own = λ host. absurd (false≢true host); contend = λ host. absurd (false≢true host) }
-    by_scan r w false true turns own = record { own = λ host. own refl; contend = λ host. refl }
-    by_scan r w false false true own = record { own = λ host. absurd (false≢true host); contend = λ host. absurd (false≢true host) }
-    by_scan r w false false false own = record { own = λ host. absurd (false≢true host); contend = λ host. absurd (false≢true host) }
+    by_scan r w true serves turns own = record { own = λ host. absurd (false≢true host); contend = λ plans. absurd (true≢false plans) }
+    by_scan r w false true turns own = record { own = λ host. own refl; contend = λ plans. refl }
+    by_scan r w false false true own = record { own = λ host. absurd (false≢true host); contend = λ plans. absurd (true≢false plans) }
+    by_scan r w false false false own = record { own = λ host. absurd (false≢true host); contend = λ plans. absurd (true≢false plans) }
 
-    by_hold : (r due : ℕ) (b : Bool)
+    by_hold : (r due : ℕ) → c.plan.contend ≡ q.profile.contend → (b : Bool)
         → (let t : Tune = if b then Hold r due else Scan r 0 in IsRightful q (as_host q.profile (begins_host (Hold r due) t) (turned t)))
-    by_hold r due true = record { own = λ host. absurd (false≢true host); contend = λ host. absurd (false≢true host) }
-    by_hold r due false = record { own = λ host. absurd (false≢true host); contend = λ host. absurd (false≢true host) }
+    by_hold r due plan true = record { own = λ host. absurd (false≢true host); contend = λ plans. plan }
+    by_hold r due plan false = record { own = λ host. absurd (false≢true host); contend = λ plans. absurd (true≢false plans) }
 
     by_tune : (t : Tune) → c.tune ≡ t → IsRightful q
         (as_host q.profile (begins_host c.tune (next_tune c.tune f (is_fresh c) q.own q.ranks)) (turned (next_tune c.tune f (is_fresh c) q.own q.ranks)))
@@ -161,12 +166,12 @@ ends q f c is = by_tune c.tune refl
         (as_host q.profile (begins_host u (next_tune u f (is_fresh c) q.own q.ranks)) (turned (next_tune u f (is_fresh c) q.own q.ranks)))) (sym at)
         (of_tune t
         (λ host. subst (λ (u : Tune). q.own ≡ Some (rank_of u)) at (is.own (ap hosts at ∙ host)))
-        (λ host. is.contend (ap hosts at ∙ host)))
+        (λ plans. is.contend (ap is_scan at ∙ plans)))
       where
-        of_tune : (u : Tune) → (hosts u ≡ true → q.own ≡ Some (rank_of u)) → (hosts u ≡ true → c.plan.contend ≡ q.profile.contend)
+        of_tune : (u : Tune) → (hosts u ≡ true → q.own ≡ Some (rank_of u)) → (is_scan u ≡ false → c.plan.contend ≡ q.profile.contend)
             → IsRightful q (as_host q.profile (begins_host u (next_tune u f (is_fresh c) q.own q.ranks)) (turned (next_tune u f (is_fresh c) q.own q.ranks)))
         of_tune (Host r due) own plan = record { own = own; contend = plan }
-        of_tune (Hold r due) own plan = by_hold r due (nat_lt f due)
+        of_tune (Hold r due) own plan = by_hold r due (plan refl) (nat_lt f due)
         of_tune (Scan r w) own plan =
             by_scan r w (is_fresh c) (is_rank q.own r && (w + 1 == 5)) (w + 1 == 12) (λ serves. rank_is q.own r (and_parts (is_rank q.own r) _ serves).0)
 

@@ -18,7 +18,7 @@ use Rattle.bus_terms.specs.HostedRounds.{IsHosted, slot_in}
 use Rattle.bus_terms.proofs.ContentionSlots.{contention_at, IsRequest, requests, only_requests, only_data}
 use Rattle.bus_terms.proofs.ContentionSlots.{few_more, kept_by, keeps_by, keeps_none, own_of, own_stays}
 use Rattle.bus_terms.proofs.HostedRounds.{Hosting, leads, heard_from, host_member, left_windowed, accepts_none}
-use Rattle.bus_terms.proofs.HostsOfRanks.{rightful_before, due_hosts, IsRightfulState}
+use Rattle.bus_terms.proofs.HostsOfRanks.{rightful_before, due_plans, IsRightfulState}
 use Rattle.bus_terms.proofs.KeptNone.{kept_of, keeps_nothing}
 
 -- each round has a contention slot
@@ -150,6 +150,6 @@ module _ (s : ScenarioParts) (rank f : ℕ) (p : Plan) where
         let was = ap (λ (x : State). length (kept_of x)) is.on in
         let rightful : IsRightfulState (setup_in s host) (StateOn is.core) =
         subst (λ (x : State). IsRightfulState (setup_in s host) x) is.on (rightful_before s rank f p j host) in
-        let contend : p.contend ≡ s.profile.contend = ap (λ (q : Plan). q.contend) (sym is.plan) ∙ rightful.contend (due_hosts rank f is.core.tune is.due) in
+        let contend : p.contend ≡ s.profile.contend = ap (λ (q : Plan). q.contend) (sym is.plan) ∙ rightful.contend (due_plans rank f is.core.tune is.due) in
         let named : slots_named p.contend ≡ slots_named s.profile.contend = ap slots_named contend in
         omega (arith, few, was, named, early, some_named s.profile.contend)

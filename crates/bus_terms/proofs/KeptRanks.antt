@@ -4,7 +4,6 @@ use Rattle.std.proofs.Common.{length, fold, is_some, option_map, option_and_then
 use Rattle.std.specs.Prelude.{◌⊎◌}
 use Rattle.std.proofs.lemmas.Bool.{cases_Bool, cases_eq, eqb-true, ne_eqb, true≢false}
 use Rattle.lwb_base.specs.Messages.{Plan, Schedule, node_of, stream_of}
-use Rattle.scenario_text.specs.ScenarioFacts.{IsSoundScenario}
 use Rattle.scenario_text.specs.ScenarioParts.{ScenarioParts}
 use Rattle.bus_rules.specs.declared.act.Act.{Act}
 use Rattle.scenario_text.specs.declared.script.ScriptLine.{ScriptLine}
@@ -192,16 +191,16 @@ ends q f some (StateOn c) below =
     subst (λ (r : ℕ). r < q.ranks) (sym (as_host_rank q.profile (begins_host c.tune tune) (record c { tune = tune; own_slot = None })))
     (next_rank c.tune f (is_fresh c) q.own q.ranks some below)
 
-module _ (s : ScenarioParts) (sound : IsSoundScenario s) where
+module _ (s : ScenarioParts) (some_hosts : 1 ≤ length s.hosts) where
   told_rank : (f v : ℕ) (g : ℕ → State) → rank_in (g v) < length s.hosts → rank_in (states_after_script s f g v) < length s.hosts
-  told_rank f v g below = lines (length s.hosts) sound.some_hosts (lines_of s f v) (g v) below
+  told_rank f v g below = lines (length s.hosts) some_hosts (lines_of s f v) (g v) below
 
   frame_rank : (f v : ℕ) → rank_in (before_frame s f v) < length s.hosts
   unfolding before_frame
-  frame_rank zero v = sound.some_hosts
+  frame_rank zero v = some_hosts
   frame_rank (suc f) v =
       let g = states_after_script s f (before_frame s f) in
-      ends (setup_in s v) f sound.some_hosts (rounds s f g v)
+      ends (setup_in s v) f some_hosts (rounds s f g v)
       (subst (λ (r : ℕ). r < length s.hosts) (sym (round_rank s (rank_in (g v)) f g v)) (told_rank f v (before_frame s f) (frame_rank f v)))
 
   -- at the start of each frame

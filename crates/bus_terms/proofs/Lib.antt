@@ -24,6 +24,7 @@ pub mod ContentionSlots
 pub mod KeptNone
 pub mod KeptByHosts
 pub mod RoomInSlots
+pub mod PlansOfRounds
 -- for this crate alone
 mod WorkedFloods
 mod SameRounds

@@ -14,7 +14,7 @@ use Rattle.bus_rules.specs.States.{State, StateOff, StateOn}
 use Rattle.bus_rules.proofs.Ranks.{not_scanner}
 use Rattle.bus_terms.specs.FloodOfText.{ids}
 use Rattle.bus_terms.specs.Flooding.{has}
-use Rattle.bus_terms.specs.Rounds.{Slot, opened_at, takes_part, message_said, slot_of_round, accepted_at, closed_at, closed_slot_of, left_by, after_round}
+use Rattle.bus_terms.specs.Rounds.{opened_at, takes_part, message_said, slot_of_round, accepted_at, closed_at, closed_slot_of, left_by, after_round}
 use Rattle.bus_terms.specs.Rounds.{after_slot, before_slot, round_of_rank, round_plan}
 use Rattle.bus_terms.proofs.ReceivedByPaths.{of_filtered}
 use Rattle.bus_terms.proofs.ReceivedInRounds.{accepted_none}
@@ -46,23 +46,22 @@ no_part rank part (StateOn c) other is = by_part (is_schedule_part part) (scans 
     by_part true t at is = false≢true (sym at ∙ is)
     by_part false t at is = false≢true is
 
--- such a node accepts nothing
+-- such a node takes no part in a slot, and accepts nothing in it
+pub takes_no_part : (s : ScenarioParts) (rank f : ℕ) (p : Plan) (j v : ℕ) (states : ℕ → State) → IsElsewhere rank (states v)
+    → has (slot_of_round s rank f p j states).flood.everyone v ≡ true → ⊥
+takes_no_part s rank f p j v states other there =
+    let part = part_of p j in
+    let x = slot_of_round s rank f p j states in
+    let passes = of_filtered (λ u. takes_part rank part (states u) (x.window u)) (ids s.nodes) v there in
+    no_part rank part (states v) other
+    (ap (λ (w : Option Opened). takes_part rank part (states v) w) (sym (no_window s rank f part v (states v) other)) ∙ passes)
+
 pub accepts_nothing : (s : ScenarioParts) (rank f : ℕ) (p : Plan) (j v : ℕ) (states : ℕ → State) → IsElsewhere rank (states v)
     → accepted_at (slot_of_round s rank f p j states) v ≡ None
 accepts_nothing s rank f p j v states other =
-    ap (λ (a : Option (ℕ × ℕ)). option_and_then (λ b. message_said (x.window b.0)) a) (accepted_none x.flood v (λ o k a. outside a.here))
-  where
-    part : Part
-    part = part_of p j
-
-    x : Slot
-    x = slot_of_round s rank f p j states
-
-    outside : has x.flood.everyone v ≡ true → ⊥
-    outside there =
-        let passes = of_filtered (λ u. takes_part rank part (states u) (x.window u)) (ids s.nodes) v there in
-        no_part rank part (states v) other
-        (ap (λ (w : Option Opened). takes_part rank part (states v) w) (sym (no_window s rank f part v (states v) other)) ∙ passes)
+    let x = slot_of_round s rank f p j states in
+    ap (λ (a : Option (ℕ × ℕ)). option_and_then (λ b. message_said (x.window b.0)) a)
+    (accepted_none x.flood v (λ o k a. takes_no_part s rank f p j v states other a.here))
 
 -- and no window of it closes
 pub closes_nothing : (s : ScenarioParts) (rank f : ℕ) (p : Plan) (j v : ℕ) (states : ℕ → State) → IsElsewhere rank (states v)

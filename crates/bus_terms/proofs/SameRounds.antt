@@ -25,7 +25,7 @@ use Rattle.bus_terms.specs.Rounds.{takes_part}
 use Rattle.bus_terms.specs.ScriptedStates.{is_on_and}
 use Rattle.bus_terms.proofs.OtherRanks.{IsElsewhere, closes_nothing, no_part, no_window, slot_elsewhere}
 
-found_passes : (p : ℕ → Bool) (xs : List ℕ) (x : ℕ) → find p xs ≡ Some x → p x ≡ true
+pub found_passes : (p : ℕ → Bool) (xs : List ℕ) (x : ℕ) → find p xs ≡ Some x → p x ≡ true
 found_passes p [] x is = absurd (cc)
 found_passes p (y ∷ xs) x is = elim (cases_Bool (p y)) [
   | inl passes ↦ (let same : y ≡ x = one y x (sym (ap (λ (b : Bool). if b then Some y else find p xs) passes) ∙ is) in ap p (sym same) ∙ passes)

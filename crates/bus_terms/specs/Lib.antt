@@ -9,3 +9,4 @@ pub mod RankOrders
 pub mod Received
 pub mod Distances
 pub mod HostedRounds
+pub mod OverLines

@@ -28,7 +28,7 @@ pub(crate) struct Word {
     pub(crate) length: u8,
 }
 
-// Of each round the word of the latest frame, and of these the first to end.
+// For each round the schedule of its latest frame, and of several the one that ends first.
 #[derive(Drop)]
 pub(crate) struct Words {
     first: HashMap<Round, Word>,

@@ -8,8 +8,8 @@ pub fn rounds_begin_as_the_bus()
     ensures { FirstSlotLaw }
 {}
 
-/// Where they are so before a slot, and its flood gives by radio what it gives on the bus, they are so before the next: who has
-/// a window is as that has left it, and every other node as it was.
+/// If the nodes match the bus before a slot, and its flood gives by radio what it gives on the bus, they match it after the slot:
+/// a node with a window is as the window has left it, and every other node as it was.
 pub fn slots_follow_as_on_the_bus()
     ensures { SlotStepLaw }
 {}

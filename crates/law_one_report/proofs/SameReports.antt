@@ -9,6 +9,7 @@ use Rattle.scenario_text.specs.ScenarioGrammar.{IsScenario}
 use Rattle.scenario_text.specs.ScenarioParts.{ScenarioParts}
 use Rattle.scenario_text.specs.declared.lines.NodeLine.{NodeLine}
 use Rattle.scenario_text.specs.Canonical.{canonical, IsSaid}
+use Rattle.scenario_text.proofs.Horizons.{run_is_scenario}
 use Rattle.scenario_clocks.specs.StatedClocks.{scenario_clock, stated_clock}
 use Rattle.tick_clock.specs.Clocks.{IsClock}
 use Rattle.scenario_maker.specs.Made.{made, IsSize}
@@ -20,9 +21,10 @@ use Rattle.air_log.specs.declared.entry.Entry.{Entry}
 use Rattle.air_log.specs.Lawful.{Lawful}
 use Rattle.air_log.specs.LogText.{log_text}
 use Rattle.replay_tool.specs.Reports.{IsOfRun, IsFloodReport, IsReturnReport, IsTimesReport, Telling, OfScenario, log_report}
-use Rattle.replay_tool.specs.RunReport.{report_lines, run_report, node_energy, energy_line}
+use Rattle.bus_report.specs.ReportLines.{report_lines}
+use Rattle.replay_tool.specs.RunReport.{run_report, node_energy, energy_line}
 use Rattle.replay_tool.specs.Summary.{summary, number_line, sent_ticks, on_ticks}
-use Rattle.replay_tool.specs.BusReport.{bus_report}
+use Rattle.bus_report.specs.BusReport.{bus_report}
 use Rattle.replay_tool.specs.CheckReport.{IsCheckReport, verdict_line}
 use Rattle.replay_tool.specs.DeadlineReport.{IsDeadlineReport}
 use Rattle.replay_tool.specs.ReturnReport.{node_probes, return_line, return_report}
@@ -139,7 +141,7 @@ module _ (laws : Laws) (bytes : List ℕ) (a b : List Entry) (text other : List 
       → OfScenario bytes (λ s. P s a text) → OfScenario bytes (λ s. P s b other) → (text ≡ other) × IsPermutation a b
   of_scenario P alike is also =
       let here : P is.0 b other = subst (λ (s : ScenarioParts). P s b other) (one_said _ also.0 is.0 also.1 is.1) also.2 in
-      alike is.0 (bytes, is.1) is.2 here
+      alike is.0 (run_is_scenario bytes is.0 is.1) is.2 here
 
   of_run : (told : Telling) → ((s : ScenarioParts) (said : IsScenario s) → ToldAlike laws s said told)
       → OfScenario bytes (λ s. IsOfRun told s a text) → OfScenario bytes (λ s. IsOfRun told s b other) → (text ≡ other) × IsPermutation a b

@@ -49,7 +49,7 @@ module _ (s : ScenarioParts) (rank f : ℕ) (p : Plan) (host : ℕ) (hosted : Is
   lead : Hosting rank f p (before_slot s rank f p (state_at s f) (last_slot p) host)
   lead = leads s rank f p host hosted (last_slot p) (omega arith)
 
-  due_is : due ≡ f + (plan_round s.profile.seconds f (table_at f host c)).gap
+  pub due_is : due ≡ f + (plan_round s.profile.seconds f (table_at f host c)).gap
   due_is =
       let tune : Host rank due ≡ (host_closes (setup_in s host) f c).core.tune = sym plans.tune ∙ ap (λ (d : Core). d.tune) (next_is lead) in
       same_due rank due (rank_of c.tune) _ tune ∙ ap (λ (g : ℕ). f + g) (planned_gap s.profile host (rank_of c.tune) f c)

@@ -1,11 +1,12 @@
+-- kept for the crates above
+pub mod LosslessSlots
+pub mod AcceptedSchedules
+pub mod GrantedSlots
+pub mod LoneRequests
+pub mod FirstRounds
 -- for this crate alone
-mod LosslessSlots
 mod SoleVoices
-mod AcceptedSchedules
 mod AcknowledgedRequests
-mod LoneRequests
-mod GrantedSlots
-mod FirstRounds
 mod DeliveredData
 mod TiedNodes
 mod Collisions

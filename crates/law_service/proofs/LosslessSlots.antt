@@ -8,7 +8,7 @@ use Rattle.link_trace.specs.declared.lines.LoseLine.{LoseLine}
 use Rattle.law_service.specs.Reach.{SlotsWithoutLinesLoseNothing}
 
 -- where a test fails of all, so does one that is harder to pass
-none_harder : {X : Type 0} (p q : X → Bool) → ((x : X) → q x ≡ true → p x ≡ true) → (xs : List X) → list_any p xs ≡ false → list_any q xs ≡ false
+pub none_harder : {X : Type 0} (p q : X → Bool) → ((x : X) → q x ≡ true → p x ≡ true) → (xs : List X) → list_any p xs ≡ false → list_any q xs ≡ false
 none_harder p q harder [] none = refl
 none_harder p q harder (x ∷ xs) none =
     let both = neither (p x) (list_any p xs) none in

@@ -21,7 +21,7 @@ impl Model for Rank {
 }
 
 impl Rank {
-    /// None exactly above 3.
+    /// Returns `None` if and only if the number is above 3.
     pub fn new(rank: u8) -> Option<Rank>
         ensures { SomeIff result (rank ≤ 3) rank }
     {

@@ -122,7 +122,7 @@ impl Member {
         }
     }
 
-    // A contention slot, counted from 1: a fresh node whose own it is may request.
+    // In a contention slot, counted from 1, a node that has this round's schedule and owns the slot may request.
     #[tactic(auto, using(crate::proofs::Spoken::request_spoken))]
     fn request(&mut self, own: u8, slot: u8) -> Option<Packet>
         requires { (1 ≤ slot) × (slot ≤ DATA_SLOTS + 4) }

@@ -93,8 +93,8 @@ impl Node {
     }
 }
 
-// The window of a slot opens, whose flood begins here with this packet or listens. A flood is long: where each of the two
-// makes its own stage, it is made in its place, and not moved there.
+// The window of a slot opens, whose flood begins here with this packet or listens. Each of the two branches
+// builds the stage in its place, since a flood is long to move.
 fn open(stage: &mut Stage, slot: u8, part: Part, last: u8, sends: u8, packet: &Option<Packet>)
     requires said { IfSome packet.now (IsInitialPacket (kind_for part)) }
     requires sends { (1 ≤ sends) × (sends ≤ 4) }

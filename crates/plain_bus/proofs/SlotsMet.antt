@@ -4,12 +4,12 @@ use Rattle.std.proofs.Common.{◌∙◌, ap, subst, arith, append-nil}
 use Rattle.std.specs.List.{AllPairs}
 use Rattle.std.proofs.lemmas.List.{take_all, take_more, drop_all, length-map}
 use Rattle.lwb_base.specs.Messages.{Plan}
-use Rattle.scenario_text.specs.ScenarioFacts.{IsSoundScenario}
 use Rattle.scenario_text.specs.ScenarioParts.{ScenarioParts}
 use Rattle.scenario_text.specs.declared.lines.NodeLine.{NodeLine}
 use Rattle.bus_rules.specs.Slots.{part_of}
 use Rattle.bus_rules.specs.States.{State}
 use Rattle.bus_terms.specs.FloodOfText.{ids}
+use Rattle.bus_terms.specs.OverLines.{IsOverScenario}
 use Rattle.bus_terms.specs.Flooding.{Setting, moment, has, STEPS}
 use Rattle.bus_terms.specs.Rounds.{message_said, slot_at, opened_at, before_slot}
 use Rattle.bus_terms.proofs.ReceivedByPaths.{in_whole}
@@ -23,6 +23,7 @@ use Rattle.bus_terms.proofs.HeardOrigins.{first_origin}
 use Rattle.plain_bus.proofs.ListsInPlace.{map_more}
 use Rattle.plain_bus.proofs.MembersOfSlots.{map_of_map}
 use Rattle.plain_bus.proofs.SlotsRun.{behind, window_seen}
+use Rattle.plain_bus.proofs.SoundOver.{sound_over}
 
 -- a slice of a vector that was changed and put back
 pub put_back : {X : Type 0} (n : ℕ) (new old : List X) → length old ≡ n → length new ≡ length old → take n (new ++ drop (length new) old) ≡ new
@@ -30,9 +31,9 @@ put_back n new old size same =
     ap (λ (l : List _). take n (new ++ l)) (drop_all (length new) old (omega (arith, same)))
     ∙ ap (take n) (append-nil new) ∙ take_all n new (omega (arith, same, size))
 
--- the ids of a sound scenario ascend
-pub ids_ascend : (s : ScenarioParts) → IsSoundScenario s → (is : List ℕ) → is ≡ ids s.nodes → AllPairs (λ a b. a < b) is
-ids_ascend s sound is same = subst (λ (l : List ℕ). AllPairs (λ a b. a < b) l) (sym same) (ids_rise s.nodes sound.ascending)
+-- the ids of a scenario ascend, over any lines
+pub ids_ascend : (s : ScenarioParts) → IsOverScenario s → (is : List ℕ) → is ≡ ids s.nodes → AllPairs (λ a b. a < b) is
+ids_ascend s said is same = subst (λ (l : List ℕ). AllPairs (λ a b. a < b) l) (sym same) (ids_rise s.nodes (sound_over s said).ascending)
 
 pub ids_each : (s : ScenarioParts) → length (ids s.nodes) ≡ length s.nodes
 ids_each s = length-map s.nodes (λ (n : NodeLine). n.node)

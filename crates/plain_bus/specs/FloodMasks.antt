@@ -4,12 +4,16 @@ use Rattle.std.specs.Prelude.{if◌then◌else◌, length, map, slice_index, sli
 use Rattle.std.specs.declared.option.Option.{Option}
 use Rattle.std.specs.Int.{bit_at}
 use Rattle.link_trace.specs.Masks.{IsMask}
-use Rattle.link_trace.specs.Passes.{passes, captured}
+use Rattle.link_trace.specs.Passes.{Lines, passes, captured}
 use Rattle.link_trace.specs.Sealed.{Traced}
 use Rattle.bus_terms.specs.Flooding.{Setting, Moment, moment, STEPS, has, agrees, first_heard}
 use Rattle.plain_bus.specs.declared.station.Flood.{Flood}
 use Rattle.plain_bus.specs.declared.station.Station.{Station}
 use Rattle.plain_bus.specs.declared.station.Stations.{Stations}
+
+-- the trace that links stand for: these lines, sealed with these nodes
+abbrev pub traced : Lines → List ℕ → Traced
+traced lines nodes = record { lines = lines; nodes = nodes }
 
 -- the flood is this one, among the nodes of the seal
 pub record IsMaskedFlood (s : Setting) (t : Traced) (f : Flood) : Type 0 where

@@ -4,5 +4,6 @@ pub mod SlotFloods
 pub mod Closings
 pub mod SlotCosts
 pub mod SentSteps
+pub mod RunFloods
 pub mod Networks
 pub mod Leaders

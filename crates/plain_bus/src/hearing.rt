@@ -2,29 +2,36 @@
 
 ghost use Rattle.std.specs.Prelude.{◌≡◌, ◌<◌, ◌≤◌, length, slice_index};
 ghost use Rattle.bus_terms.specs.Flooding.{Setting, Moment, hears as hears_in, agrees as agrees_with};
-ghost use Rattle.plain_bus.specs.FloodMasks.{AreAt, IsMaskedFlood, SendsForInitiators, heard_alone, may_hear_at, takes_at};
+ghost use Rattle.plain_bus.specs.FloodMasks.{AreAt, IsMaskedFlood, SendsForInitiators, heard_alone, may_hear_at, takes_at, traced};
 
 use crate::offers::picked;
 use crate::station::{Flood, Station, Stations};
-use link_trace::Trace;
+use link_trace::Links;
 use link_trace::bits::has_bit;
 use lwb_base::NodeId;
 
 /// The initiator whose message the node at this place receives in the step, if it receives one.
-pub fn hears(trace: &Trace, flood: &Flood, now: &Stations, step: u8, place: u8) -> Option<NodeId>
+pub fn hears<M: Links>(
+    links: &M,
+    flood: &Flood,
+    now: &Stations,
+    step: u8,
+    place: u8,
+) -> Option<NodeId>
     requires place { place < length now.now.each.items }
-    requires sealed { length now.now.each.items ≡ length trace.now.nodes }
-    requires few { length trace.now.nodes ≤ 64 }
-    ensures { (s : Setting) (m : Moment) → IsMaskedFlood s trace.now flood.now → SendsForInitiators s m → AreAt m trace.now.nodes now.now
-        → result ≡ hears_in s m step (slice_index trace.now.nodes place) }
+    requires sealed { length now.now.each.items ≡ length (M.nodes links.now) }
+    requires few { length (M.nodes links.now) ≤ 64 }
+    ensures { (s : Setting) (m : Moment) → IsMaskedFlood s (traced (M.lines links.now) (M.nodes links.now)) flood.now → SendsForInitiators s m
+        → AreAt m (M.nodes links.now) now.now
+        → result ≡ hears_in s m step (slice_index (M.nodes links.now) place) }
 {
     let station = now.each[usize::from(place)];
     if !may_hear(flood, &station, place) {
         return None;
     }
-    let reaching = trace.from_mask(flood.frame, flood.slot, step, place);
+    let reaching = links.from_mask(flood.frame, flood.slot, step, place);
     let from = reaching & now.senders;
-    let Some(origin) = picked(trace, flood, now.each.as_slice(), step, station.node, from) else {
+    let Some(origin) = picked(links, flood, now.each.as_slice(), step, station.node, from) else {
         return None;
     };
     if takes(flood, &station, place, origin) {

@@ -1,6 +1,6 @@
 //! All nodes of a bus, and a slot of a round at them.
 
-ghost use Rattle.std.specs.Prelude.{◌≡◌, ◌≤◌, ◌<◌, ◌+◌, ◌++◌, ◌==◌, ℕ, OnOk, IfOk, IfSome, map, length, [], if◌then◌else◌};
+ghost use Rattle.std.specs.Prelude.{◌≡◌, ◌≤◌, ◌<◌, ◌+◌, ◌++◌, ◌∷◌, ◌==◌, ℕ, List, OnOk, IfOk, IfSome, map, length, [], if◌then◌else◌};
 ghost use Rattle.lwb_base.specs.Messages.{Plan};
 ghost use Rattle.lwb_base.specs.declared.limits.TheConstants.{LAST_FRAME};
 ghost use Rattle.bus_rules.specs.Cores.{own_rank};
@@ -11,28 +11,33 @@ ghost use Rattle.bus_terms.specs.FloodOfText.{ids};
 ghost use Rattle.bus_terms.specs.Rounds.{slot_deliveries};
 ghost use Rattle.plain_bus.specs.BusNodes.{nodes_before, ranks_in, HaveRoom};
 ghost use Rattle.plain_bus.specs.Networks.{IsReady, no_cost, node_at_first, with_slot_at};
+ghost use Rattle.plain_bus.specs.RunFloods.{HasRun, SlotFlood, slot_flood};
 
 use crate::charging::charge_all;
 use crate::closing::close_all;
 use crate::cost::Cost;
 use crate::node::BusNode;
 use crate::round_slot::{RoundSlot, Setting};
+use crate::scenario_over::ScenarioOver;
 use crate::slot_flood::open_slot;
+use crate::station::Flood;
 use crate::stepping::flooded;
 use crate::window::Window;
 use bus_rules::{Delivery, Part};
+use link_trace::Links;
 use lwb_base::{Memory, NodeId, Rank};
 use scenario_text::Scenario;
 use std::alloc::Global;
 use std::marker::Model;
 
-/// All nodes of a bus, by ascending ids, with what each cost and what was delivered so far.
+/// All nodes of a bus, by ascending ids, with what each cost, what was delivered so far, and the floods since `floods` was cleared.
 #[derive(Drop)]
 pub struct Network {
     pub ids: Vec<NodeId>,
     pub nodes: Vec<BusNode>,
     pub costs: Vec<Cost>,
     pub deliveries: Vec<Delivery>,
+    pub floods: Vec<Flood>,
     // Those of the last slot.
     pub(crate) windows: Vec<Window>,
 }
@@ -42,7 +47,7 @@ impl Model for Network {
 
     ghost Value = { NetworkOf };
 
-    ghost view = { λ n. record { ids = n.ids.items; nodes = n.nodes.items; costs = n.costs.items; deliveries = n.deliveries.items } };
+    ghost view = { λ n. record { ids = n.ids.items; nodes = n.nodes.items; costs = n.costs.items; deliveries = n.deliveries.items; floods = n.floods.items } };
 }
 
 impl Network {
@@ -53,6 +58,7 @@ impl Network {
           nodes = map (node_at_first s.now) (ids s.now.nodes);
           costs = map (λ v. no_cost) (ids s.now.nodes);
           deliveries = [];
+          floods = [];
         }) }
     {
         let lines = s.nodes();
@@ -74,15 +80,16 @@ impl Network {
             nodes,
             costs,
             deliveries: Vec::new(alloc),
+            floods: Vec::new(alloc),
             windows: Vec::new(alloc),
         })
     }
 
     /// A slot of this part and number in the round of this rank and frame, which is at most `LAST_FRAME`: it opens, its flood
-    /// runs, and it closes. `Err` means out of memory.
-    pub fn run_slot(
+    /// runs, which is added at the end of `floods`, and it closes. `Err` means out of memory.
+    pub fn run_slot<M: Links>(
         &mut self,
-        s: &Scenario,
+        s: &ScenarioOver<'_, M>,
         rank: Rank,
         frame: u32,
         slot: u8,
@@ -97,6 +104,9 @@ impl Network {
         ensures deliveries { OnOk result
             ((p : Plan) (start others : ℕ → State) → self.old.nodes ≡ nodes_before s.now rank frame p start others slot → part.now ≡ part_of p slot
             → HaveRoom s.now rank frame p start slot → self.new.deliveries ≡ self.old.deliveries ++ slot_deliveries s.now rank frame p start slot) }
+        ensures floods { OnOk result ((p : Plan) (start others : ℕ → State) (before : List SlotFlood)
+            → self.old.nodes ≡ nodes_before s.now rank frame p start others slot → part.now ≡ part_of p slot
+            → HasRun s.now frame before self.old.floods → HasRun s.now frame (before ++ slot_flood s.now rank frame p start slot ∷ []) self.new.floods) }
         ensures costs { OnOk result ((p : Plan) (start others : ℕ → State) (cost : ℕ → CostOf)
             → self.old.nodes ≡ nodes_before s.now rank frame p start others slot → part.now ≡ part_of p slot
             → HaveRoom s.now rank frame p start slot → self.old.costs ≡ map cost (ids s.now.nodes)
@@ -114,7 +124,8 @@ impl Network {
             part,
             limit,
         )?;
-        let end = flooded(s.trace(), &flood, s.nodes());
+        self.floods.push(flood)?;
+        let end = flooded(s.links(), &flood, s.nodes());
         let setting = Setting {
             ids: &self.ids,
             profile,

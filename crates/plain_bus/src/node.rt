@@ -19,7 +19,7 @@ use std::marker::Model;
 #[derive(Drop)]
 pub struct BusNode {
     pub(crate) member: Member,
-    // That in whose round of this frame it takes part.
+    // The rank of the round that it joins in this frame.
     pub(crate) rank: Rank,
     pub(crate) is_on: bool,
     pub(crate) boots: u8,

@@ -4,10 +4,10 @@ ghost use Rattle.std.specs.Prelude.{◌≡◌, ◌≤◌, ◌<◌, ℕ, Option, 
 ghost use Rattle.std.specs.Int.{bit_at};
 ghost use Rattle.std.specs.Option.{option_map_or};
 ghost use Rattle.bus_terms.specs.Flooding.{Setting, Moment, offer, pick};
-ghost use Rattle.plain_bus.specs.FloodMasks.{AreOffers, IsOffer, AllOffer, IsMaskedFlood, SendsForInitiators};
+ghost use Rattle.plain_bus.specs.FloodMasks.{AreOffers, IsOffer, AllOffer, IsMaskedFlood, SendsForInitiators, traced};
 
 use crate::station::{Flood, Station};
-use link_trace::Trace;
+use link_trace::Links;
 use link_trace::bits::{lowest, without_bit};
 use lwb_base::NodeId;
 
@@ -79,9 +79,9 @@ fn sent_by(stations: &[Station], from: u64, node: NodeId) -> Option<NodeId>
 }
 
 /// The origin that reaches the node where the nodes of the mask send to it in that step: the only one, or else the one
-/// of the node that the trace names.
-pub(crate) fn picked(
-    trace: &Trace,
+/// of the node that the links name.
+pub(crate) fn picked<M: Links>(
+    links: &M,
     flood: &Flood,
     stations: &[Station],
     step: u8,
@@ -89,7 +89,7 @@ pub(crate) fn picked(
     from: u64,
 ) -> Option<NodeId>
     requires few { length stations.now ≤ 64 }
-    ensures { (s : Setting) (m : Moment) → IsMaskedFlood s trace.now flood.now → SendsForInitiators s m
+    ensures { (s : Setting) (m : Moment) → IsMaskedFlood s (traced (M.lines links.now) (M.nodes links.now)) flood.now → SendsForInitiators s m
         → AreOffers (offer s m step at) stations.now from → result ≡ pick s m step at }
 {
     let Some(first) = first_sent(stations, from) else {
@@ -98,7 +98,7 @@ pub(crate) fn picked(
     if flood.lone.is_some() || all_send(stations, from, first) {
         return Some(first);
     }
-    let Some(named) = trace.captured(flood.frame, flood.slot, step, at) else {
+    let Some(named) = links.captured(flood.frame, flood.slot, step, at) else {
         return None;
     };
     sent_by(stations, from, named)

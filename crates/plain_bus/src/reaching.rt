@@ -1,17 +1,17 @@
 //! Whom the senders of a step reach.
 
 ghost use Rattle.std.specs.Prelude.{◌≡◌, ◌≤◌, length};
-ghost use Rattle.plain_bus.specs.FloodMasks.{AreReached};
+ghost use Rattle.plain_bus.specs.FloodMasks.{AreReached, traced};
 
 use crate::station::Flood;
-use link_trace::Trace;
+use link_trace::Links;
 use link_trace::bits::{lowest, without_bit};
 
 /// The nodes that a node of the senders' mask reaches in that step, among the first `count` nodes.
-pub fn reached_by(trace: &Trace, flood: &Flood, step: u8, senders: u64, count: usize) -> u64
-    requires sealed { count ≡ length trace.now.nodes }
-    requires few { length trace.now.nodes ≤ 64 }
-    ensures { AreReached trace.now flood.now step senders result }
+pub fn reached_by<M: Links>(links: &M, flood: &Flood, step: u8, senders: u64, count: usize) -> u64
+    requires sealed { count ≡ length (M.nodes links.now) }
+    requires few { length (M.nodes links.now) ≤ 64 }
+    ensures { AreReached (traced (M.lines links.now) (M.nodes links.now)) flood.now step senders result }
 {
     let mut reached = 0;
     let mut rest = senders;
@@ -20,7 +20,7 @@ pub fn reached_by(trace: &Trace, flood: &Flood, step: u8, senders: u64, count: u
         if usize::from(place) >= count {
             return reached;
         }
-        reached |= trace.to_mask(flood.frame, flood.slot, step, place);
+        reached |= links.to_mask(flood.frame, flood.slot, step, place);
         rest = without_bit(rest, place);
     }
     reached

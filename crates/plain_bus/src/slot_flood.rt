@@ -41,6 +41,7 @@ pub fn open_slot(
     ensures early { OnOk result (All (λ n. IsEarlyState frame n.state) nodes.new) }
     ensures nodes { OnOk result (nodes.new ≡ map (node_opened rank frame part.now) nodes.old) }
     ensures windows { OnOk result (map seen_window windows.new.items ≡ map (seen_of rank frame part.now) nodes.old) }
+    ensures place { IfOk result (λ x. (x.frame ≡ frame) × (x.slot ≡ slot)) }
     ensures flood { IfOk result
         (λ x. (s : ScenarioParts) (t : Traced) (p : Plan) (start others : ℕ → State) → nodes.old ≡ nodes_before s rank frame p start others slot
         → part.now ≡ part_of p slot → t.lines ≡ s.trace → IsSealed t s.nodes → limit ≡ s.sends → IsMaskedFlood (slot_at s rank frame p start slot).flood t x) }
@@ -52,7 +53,8 @@ pub fn open_slot(
 /// The flood of that slot in which these windows opened: who says something initiates.
 pub fn flood_in(windows: &[Window], frame: u32, slot: u8, limit: u8) -> Flood
     requires { length windows.now ≤ 64 }
-    ensures { (s : ScenarioParts) (t : Traced) (rank : ℕ) (part : PartOf) (states : ℕ → State) → AreWindows s rank frame part states windows.now
+    ensures place { (result.frame ≡ frame) × (result.slot ≡ slot) }
+    ensures flood { (s : ScenarioParts) (t : Traced) (rank : ℕ) (part : PartOf) (states : ℕ → State) → AreWindows s rank frame part states windows.now
         → t.lines ≡ s.trace → IsSealed t s.nodes → limit ≡ s.sends
         → IsMaskedFlood (flood_in_slot s rank frame slot part states (λ v. opened_at s rank frame part v (states v))) t result }
 {

@@ -5,7 +5,7 @@ ghost use Rattle.std.specs.Prelude.{◌≡◌, ◌<◌, ◌==◌, ◌∷◌, [],
 use arrayvec::ArrayVec;
 use lwb_base::NodeId;
 
-/// A flood: its slot of a frame, how often a node sends at most, and masks of the nodes, which the trace is sealed with:
+/// A flood: its slot of a frame, how often a node sends at most, and masks of the nodes, which the links are sealed with:
 /// of those that initiate, and of all that take part.
 #[derive(Clone, Copy)]
 pub struct Flood {

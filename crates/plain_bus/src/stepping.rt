@@ -5,13 +5,13 @@ ghost use Rattle.bus_terms.specs.Flooding.{Setting, Moment, moment, beginning, n
 ghost use Rattle.link_trace.specs.Sealed.{Traced};
 ghost use Rattle.scenario_text.specs.FloodParts.{IsSealed};
 ghost use Rattle.plain_bus.specs.FloodMasks.{AreAt, AreSenders, IsMaskedFlood, SendsForInitiators, IsLone, heard_alone, station_at, station_after};
-ghost use Rattle.plain_bus.specs.FloodMasks.{station_first, with_sender};
+ghost use Rattle.plain_bus.specs.FloodMasks.{station_first, traced, with_sender};
 
 use crate::hearing::{hears, hears_alone};
 use crate::reaching::reached_by;
 use crate::station::{Flood, Station, Stations};
 use arrayvec::ArrayVec;
-use link_trace::Trace;
+use link_trace::Links;
 use link_trace::bits::{has_bit, lowest, without_bit};
 use lwb_base::NodeId;
 use scenario_text::NodeLine;
@@ -61,19 +61,20 @@ impl Stations {
     }
 
     // All nodes after a step.
-    fn next(&self, trace: &Trace, flood: &Flood, step: u8) -> Stations
+    fn next<M: Links>(&self, links: &M, flood: &Flood, step: u8) -> Stations
         requires step { step ≤ 11 }
-        requires sealed { length self.now.each.items ≡ length trace.now.nodes }
-        requires few { length trace.now.nodes ≤ 64 }
+        requires sealed { length self.now.each.items ≡ length (M.nodes links.now) }
+        requires few { length (M.nodes links.now) ≤ 64 }
         requires times { All (λ x. x.times ≤ step) self.now.each.items }
-        ensures at { (s : Setting) (m : Moment) → IsMaskedFlood s trace.now flood.now → SendsForInitiators s m → AreAt m trace.now.nodes self.now
-            → AreAt (next_moment s step m) trace.now.nodes result }
-        ensures length { length result.each.items ≡ length trace.now.nodes }
+        ensures at { (s : Setting) (m : Moment) → IsMaskedFlood s (traced (M.lines links.now) (M.nodes links.now)) flood.now → SendsForInitiators s m
+            → AreAt m (M.nodes links.now) self.now
+            → AreAt (next_moment s step m) (M.nodes links.now) result }
+        ensures length { length result.each.items ≡ length (M.nodes links.now) }
         ensures times { All (λ x. x.times ≤ step + 1) result.each.items }
     {
         let mut next = Stations::none();
         for place in 0..self.each.len() as u8 {
-            let heard = hears(trace, flood, self, step, place);
+            let heard = hears(links, flood, self, step, place);
             let station = self.each[usize::from(place)];
             next.push(after(&station, step, heard));
         }
@@ -113,17 +114,18 @@ fn pass(station: &mut Station, flood: &Flood, step: u8, place: u8, reached: u64,
 
 impl Stations {
     // All nodes go after a step in which this origin alone is sent.
-    fn pass_all(&mut self, trace: &Trace, flood: &Flood, step: u8, origin: NodeId)
+    fn pass_all<M: Links>(&mut self, links: &M, flood: &Flood, step: u8, origin: NodeId)
         requires step { step ≤ 11 }
-        requires sealed { length self.old.each.items ≡ length trace.now.nodes }
-        requires few { length trace.now.nodes ≤ 64 }
+        requires sealed { length self.old.each.items ≡ length (M.nodes links.now) }
+        requires few { length (M.nodes links.now) ≤ 64 }
         requires times { All (λ x. x.times ≤ step) self.old.each.items }
-        ensures at { (s : Setting) (m : Moment) → IsMaskedFlood s trace.now flood.now → IsLone s origin → SendsForInitiators s m
-            → AreAt m trace.now.nodes self.old → AreAt (next_moment s step m) trace.now.nodes self.new }
-        ensures length { length self.new.each.items ≡ length trace.now.nodes }
+        ensures at { (s : Setting) (m : Moment) → IsMaskedFlood s (traced (M.lines links.now) (M.nodes links.now)) flood.now → IsLone s origin
+            → SendsForInitiators s m
+            → AreAt m (M.nodes links.now) self.old → AreAt (next_moment s step m) (M.nodes links.now) self.new }
+        ensures length { length self.new.each.items ≡ length (M.nodes links.now) }
         ensures times { All (λ x. x.times ≤ step + 1) self.new.each.items }
     {
-        let reached = reached_by(trace, flood, step, self.senders, self.each.len());
+        let reached = reached_by(links, flood, step, self.senders, self.each.len());
         let mut senders = 0;
         let mut place = 0;
         for station in self.each.iter_mut() {
@@ -136,30 +138,31 @@ impl Stations {
         self.senders = senders;
     }
 
-    // All nodes go after a step: they stay as they are where nobody sends in it. One initiator alone has its origin sent
-    // and no other.
-    fn go_on(&mut self, trace: &Trace, flood: &Flood, step: u8)
+    /// All nodes go after a step: they stay as they are where nobody sends in it. One initiator alone has its origin sent
+    /// and no other.
+    pub fn go_on<M: Links>(&mut self, links: &M, flood: &Flood, step: u8)
         requires step { step ≤ 11 }
-        requires sealed { length self.old.each.items ≡ length trace.now.nodes }
-        requires few { length trace.now.nodes ≤ 64 }
+        requires sealed { length self.old.each.items ≡ length (M.nodes links.now) }
+        requires few { length (M.nodes links.now) ≤ 64 }
         requires times { All (λ x. x.times ≤ step) self.old.each.items }
-        ensures at { (s : Setting) (m : Moment) → IsMaskedFlood s trace.now flood.now → SendsForInitiators s m → AreAt m trace.now.nodes self.old
-            → AreAt (next_moment s step m) trace.now.nodes self.new }
-        ensures length { length self.new.each.items ≡ length trace.now.nodes }
+        ensures at { (s : Setting) (m : Moment) → IsMaskedFlood s (traced (M.lines links.now) (M.nodes links.now)) flood.now → SendsForInitiators s m
+            → AreAt m (M.nodes links.now) self.old
+            → AreAt (next_moment s step m) (M.nodes links.now) self.new }
+        ensures length { length self.new.each.items ≡ length (M.nodes links.now) }
         ensures times { All (λ x. x.times ≤ step + 1) self.new.each.items }
     {
         if self.senders == 0 {
             return;
         }
         match flood.lone {
-            Some(origin) => self.pass_all(trace, flood, step, origin),
-            None => *self = self.next(trace, flood, step),
+            Some(origin) => self.pass_all(links, flood, step, origin),
+            None => *self = self.next(links, flood, step),
         }
     }
 }
 
-// The flood with its initiator, if there is one alone.
-fn with_lone(flood: &Flood, nodes: &[NodeLine]) -> Flood
+/// The flood with its initiator, if there is one alone.
+pub fn with_lone(flood: &Flood, nodes: &[NodeLine]) -> Flood
     requires { length nodes.now ≤ 64 }
     ensures { (s : Setting) (t : Traced) → t.nodes ≡ map (λ n. n.node) nodes.now → IsMaskedFlood s t flood.now → IsMaskedFlood s t result }
 {
@@ -174,8 +177,8 @@ fn with_lone(flood: &Flood, nodes: &[NodeLine]) -> Flood
     flood
 }
 
-// All nodes at the beginning of the flood: the initiators send.
-fn first(flood: &Flood, nodes: &[NodeLine]) -> Stations
+/// All nodes at the beginning of the flood: the initiators send.
+pub fn first(flood: &Flood, nodes: &[NodeLine]) -> Stations
     requires few { length nodes.now ≤ 64 }
     ensures at { (s : Setting) (t : Traced) → t.nodes ≡ map (λ n. n.node) nodes.now → IsMaskedFlood s t flood.now → AreAt (beginning s) t.nodes result }
     ensures length { length result.each.items ≡ length nodes.now }
@@ -214,12 +217,14 @@ pub struct FloodEnd {
     pub senders: ArrayVec<u64, 12>,
 }
 
-/// The flood among all nodes, which are those that the trace is sealed with.
-pub fn flooded(trace: &Trace, flood: &Flood, nodes: &[NodeLine]) -> FloodEnd
-    requires sealed { IsSealed trace.now nodes.now }
+/// The flood among all nodes, which are those that the links are sealed with.
+pub fn flooded<M: Links>(links: &M, flood: &Flood, nodes: &[NodeLine]) -> FloodEnd
+    requires sealed { IsSealed (traced (M.lines links.now) (M.nodes links.now)) nodes.now }
     requires few { length nodes.now ≤ 64 }
-    ensures each { (s : Setting) → IsMaskedFlood s trace.now flood.now → result.stations.each.items ≡ map (station_at (moment s STEPS)) trace.now.nodes }
-    ensures senders { (s : Setting) → IsMaskedFlood s trace.now flood.now → AreSenders s trace.now.nodes result.senders.items }
+    ensures each { (s : Setting) → IsMaskedFlood s (traced (M.lines links.now) (M.nodes links.now)) flood.now
+        → result.stations.each.items ≡ map (station_at (moment s STEPS)) (M.nodes links.now) }
+    ensures senders { (s : Setting) → IsMaskedFlood s (traced (M.lines links.now) (M.nodes links.now)) flood.now
+        → AreSenders s (M.nodes links.now) result.senders.items }
     ensures length { length result.stations.each.items ≡ length nodes.now }
     ensures steps { length result.senders.items ≡ STEPS }
     ensures times { All (λ x. x.times ≤ STEPS) result.stations.each.items }
@@ -229,7 +234,7 @@ pub fn flooded(trace: &Trace, flood: &Flood, nodes: &[NodeLine]) -> FloodEnd
     let mut senders = ArrayVec::new();
     for step in 0..12 {
         senders.push(now.senders);
-        now.go_on(trace, &flood, step);
+        now.go_on(links, &flood, step);
     }
     FloodEnd {
         stations: now,

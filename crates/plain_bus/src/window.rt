@@ -61,7 +61,7 @@ impl Window {
         }
     }
 
-    // Of a member that says nothing.
+    // The window of a silent member.
     fn silent() -> Window
         ensures { seen_window result ≡ record { is_open = true; takes_part = true; initiates = false; message = None } }
     {

@@ -77,7 +77,7 @@ fn brought_with<M: Links>(
     }
 }
 
-/// What this station brings while x comes.
+/// What this station sends while x is on the air.
 pub fn brought_from<M: Links>(
     links: &M,
     profile: &Profile,

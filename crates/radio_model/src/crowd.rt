@@ -177,8 +177,8 @@ pub fn crowd_of<M: Links>(links: &M, ending: &Ending, ready: u64) -> Option<Crow
     crowd_with(links, ending, strange, ready, crowd)
 }
 
-/// To which nodes the packet of x comes out of time from the node that began it, as far as the mark of this one shows. Where
-/// many receive each other, these are nearly all.
+/// The nodes at which an earlier copy from the node that began the packet of x spoils x, as far as the mark of that node shows.
+/// Where many receive each other, these are nearly all.
 pub fn lost_early<M: Links>(links: &M, ending: &Ending) -> u64
     requires ending { IsEnding (M.nodes links.now) ending.now }
     ensures { AreSpoiled (M.lines links.now) (M.nodes links.now) (rivals_of ending.now) result }

@@ -39,7 +39,7 @@ pub struct Medium {
     places: Vec<u8>,
     // By places, the transmissions of the nodes in short.
     marks: Vec<Mark>,
-    // Whose transmissions can matter to one that still runs.
+    // The nodes that may overlap a transmission that still runs.
     recent: Recent,
 }
 

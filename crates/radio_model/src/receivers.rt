@@ -210,7 +210,7 @@ fn is_other(x: &Sending, y: &Sending, same: bool) -> bool
     !same && meets_on(x, y)
 }
 
-// Those of the nodes of the mask for which the trace names no sender from which the packet of x comes.
+// The nodes of the mask that capture no sender of the packet of x.
 fn lost(
     profile: &Profile,
     trace: &Trace,

@@ -5,7 +5,7 @@ ghost use Rattle.radio_model.specs.Recent.{no_recent, IsRecentAfter};
 
 use link_trace::bits::with_bit;
 
-/// Whose transmissions can matter to one that still runs: the nodes by the bits of their places, and when all that was sent is
+/// The nodes whose transmissions may overlap one that still runs, by the bits of their places, and when all that was sent is
 /// over. What a node without its bit sent was over before any that runs began.
 #[derive(Clone, Copy)]
 pub struct Recent {

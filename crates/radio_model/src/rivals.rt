@@ -48,7 +48,7 @@ pub fn frame_start(profile: &Profile, t: u64) -> u64
     t - t % profile.frame()
 }
 
-/// What y of this station is to x. None comes where it does not overlap x on its channel.
+/// How y, of this station, interferes with x. Returns `None` if and only if it does not overlap x on its channel.
 pub fn rival_to(profile: &Profile, station: &Station, x: &Sending, y: &Sending) -> Option<Rival>
     requires start { x.now.start ≤ 2 ^ 46 }
     requires end { x.now.end ≤ 2 ^ 46 }

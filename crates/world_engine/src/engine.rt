@@ -138,7 +138,7 @@ impl<'a, C: DriftClock> Engine<'a, C> {
         &self.charges
     }
 
-    /// The core that the engine drives for a node. None comes exactly for a node that is not in the scenario.
+    /// The core that the engine drives for a node. Returns `None` if and only if the scenario lacks the node.
     pub fn node(&self, node: NodeId) -> Option<&Node>
         ensures { option_copied result ≡ core_of self.now.0.cores node }
     {

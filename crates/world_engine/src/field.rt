@@ -53,8 +53,8 @@ impl Model for Field {
 }
 
 impl Field {
-    // The device at the place is notified of an event at tick t, and what it orders is done. What the radio kept before goes: it
-    // is handed down for its room alone, which takes long to make.
+    // The device at the place is notified of an event at tick t, and what it orders is done. What the radio kept before is
+    // cleared first; it is passed on to reuse its buffer, which takes long to make.
     pub(crate) fn tell<C: DriftClock, Q: Orders>(
         &mut self,
         orders: &mut Q,
@@ -170,7 +170,7 @@ impl Field {
             event: &event,
             ended: None,
         };
-        // There are fewer of them than this.
+        // The proof bounds the loop; the language needs a limit.
         for _ in 0..u64::MAX {
             if !self.take_alarm(orders, place, t) {
                 return Ok(());

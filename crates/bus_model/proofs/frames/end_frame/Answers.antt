@@ -17,4 +17,5 @@ returns-clause-rest c = (
   ap (λ (n : Network). n.ids) c.net.view_is,
   ap (λ (n : Network). n.costs) c.net.view_is,
   ap (λ (n : Network). n.deliveries) c.net.view_is,
+  ap (λ (n : Network). n.floods) c.net.view_is,
 )

@@ -1,10 +1,13 @@
-use Rattle.std.proofs.Common.{◌≡◌, ◌+◌, ◌*◌, ◌++◌, ℕ, List, map, sym, ◌∙◌, ap, arith}
+use Rattle.std.proofs.Common.{◌≡◌, ◌+◌, ◌*◌, ◌++◌, [], ℕ, List, map, subst, sym, ◌∙◌, ap, arith}
 use Rattle.bus_rules.specs.declared.delivery.Delivery.{Delivery}
 use Rattle.bus_rules.specs.States.{State}
 use Rattle.bus_terms.specs.Bus.{state_at}
 use Rattle.bus_terms.specs.FloodOfText.{ids}
 use Rattle.plain_bus.specs.BusNodes.{ranks_in}
-use Rattle.scenario_text.proofs.SoundScenarios.{sound}
+use Rattle.plain_bus.specs.RunFloods.{HasRun, SlotFlood}
+use Rattle.plain_bus.specs.declared.station.Flood.{Flood}
+use Rattle.plain_bus.proofs.SoundOver.{sound_over}
+use Rattle.bus_model.specs.FrameFloods.{frame_floods}
 use Rattle.bus_model.specs.FrameNodes.{with_round_rank, ended_at, frame_deliveries, nodes_with, prior_ranks}
 use Rattle.bus_model.specs.RoundCosts.{cost_after, with_scan}
 use Rattle.bus_model.proofs.FramesInTurn.{nodes_begun, nodes_ended, costs_more, delivered_more, power_next, all_few, ready_begun, ready_ended}
@@ -14,21 +17,21 @@ use Rattle.bus_model.proofs.SlotsInTurn.{ready_more}
 use Rattle.bus_model.proofs.frames.run_frame.Goals as goal
 
 pub tell_lines-requires-clause-ready : goal.tell_lines-requires-clause-ready
-tell_lines-requires-clause-ready c =
+tell_lines-requires-clause-ready g c =
     let few = c.requires.few in
     ready_more c.args.s.now c.args.frame (c.args.frame * 184) 1000000 c.args.net.now (omega (arith, few, c.requires.frame)) c.requires.at.ready
 
 pub begin_rounds-requires-clause-each : goal.begin_rounds-requires-clause-each
-begin_rounds-requires-clause-each c =
+begin_rounds-requires-clause-each g c =
     (let ready = c.in_ok-next.ensures.ready (c.args.frame * 184) c.requires.at.ready in ready.nodes_each ∙ sym ready.costs_each)
 
 pub begin_rounds-requires-clause-few : goal.begin_rounds-requires-clause-few
-begin_rounds-requires-clause-few c i d below =
+begin_rounds-requires-clause-few g c i d below =
     let few = all_few c.args.s.now c.args.frame c.tell_lines.new.net.costs (c.in_ok-next.ensures.rest.0 ∙ c.requires.at.costs_are) i d below in
     omega (arith, few, c.requires.few, c.requires.frame)
 
 pub run_rounds-requires-clause-ready : goal.run_rounds-requires-clause-ready
-run_rounds-requires-clause-ready c =
+run_rounds-requires-clause-ready g c =
     let s = c.args.s.now in
     let f = c.args.frame in
     let told = c.in_ok-next.ensures in
@@ -40,10 +43,24 @@ run_rounds-requires-clause-ready c =
     first (c.begin_rounds.ensures.costs s (prior_ranks s f) (state_at s f) (cost_after s f) told.nodes first) (told.ready (f * 184) c.requires.at.ready))
 
 pub returns-clause-power : goal.returns-clause-power
-returns-clause-power c = power_next c.args.s.now c.args.frame c.in_ok-next.next c.in_ok-next.ensures.power
+returns-clause-power g c = power_next c.args.s.now c.args.frame c.in_ok-next.next c.in_ok-next.ensures.power
+
+pub returns-clause-floods : goal.returns-clause-floods
+returns-clause-floods g c =
+    let s = c.args.s.now in
+    let f = c.args.frame in
+    let st : ℕ → State = state_at s f in
+    let told = c.in_ok-next.ensures in
+    let begins = c.begin_rounds.ensures in
+    let none : List SlotFlood = [] in
+    let begun_nodes : c.begin_rounds.new.net.nodes ≡ nodes_with s (ranks_in st) st = begins.nodes ∙ ap (map with_round_rank) told.nodes
+    ∙ nodes_begun s f (prior_ranks s f) st in
+    subst (λ (xs : List Flood). HasRun s f (frame_floods s f st) xs) (sym c.end_frame.ensures.rest.3)
+    (c.in_ok-run_rounds.ensures.floods st none (hosted s (sound_over s told.said).some_hosts f) begun_nodes (rooms_in s f)
+    (subst (λ (xs : List Flood). HasRun s f none xs) (sym begins.floods) tt))
 
 pub returns-clause-at : goal.returns-clause-at
-returns-clause-at c =
+returns-clause-at g c =
     let s = c.args.s.now in
     let f = c.args.frame in
     let st : ℕ → State = state_at s f in
@@ -51,7 +68,7 @@ returns-clause-at c =
     let begins = c.begin_rounds.ensures in
     let ran = c.in_ok-run_rounds.ensures in
     let ends = c.end_frame.ensures in
-    let in_rank = hosted s (sound s told.said) f in
+    let in_rank = hosted s (sound_over s told.said).some_hosts f in
     let rooms = rooms_in s f in
     let first : c.tell_lines.new.net.costs ≡ map (cost_after s f) (ids s.nodes) = told.rest.0 ∙ c.requires.at.costs_are in
     let begun_nodes : c.begin_rounds.new.net.nodes ≡ nodes_with s (ranks_in st) st = begins.nodes ∙ ap (map with_round_rank) told.nodes

@@ -1,4 +1,4 @@
-use Rattle.std.proofs.Common.{◌≡◌, ◌+◌, ◌*◌, ◌++◌, ◌==◌, ℕ, List, if◌then◌else◌, length, map, flat_map, sym, ◌∙◌, ap, arith, append_assoc}
+use Rattle.std.proofs.Common.{◌≡◌, ◌+◌, ◌*◌, ◌++◌, ◌==◌, ℕ, List, if◌then◌else◌, length, map, flat_map, subst, sym, ◌∙◌, ap, arith, append_assoc}
 use Rattle.std.proofs.Common.{append-nil}
 use Rattle.std.specs.List.{range_with_len}
 use Rattle.bus_rules.specs.declared.delivery.Delivery.{Delivery}
@@ -6,6 +6,8 @@ use Rattle.bus_rules.specs.States.{State}
 use Rattle.bus_terms.specs.FloodOfText.{ids}
 use Rattle.bus_terms.specs.Rounds.{round_of_rank, round_deliveries}
 use Rattle.plain_bus.specs.BusNodes.{nodes_in, ranks_in, HaveRoomInRound}
+use Rattle.plain_bus.specs.RunFloods.{HasRun, SlotFlood}
+use Rattle.bus_model.specs.FrameFloods.{round_floods}
 use Rattle.bus_model.specs.FrameNodes.{nodes_with, run_below}
 use Rattle.bus_model.specs.RoundCosts.{cost_below, with_round}
 use Rattle.bus_model.proofs.RanksInTurn.{enters, leaves, costs_left, none_run, none_charged, all_run, all_charged}
@@ -13,21 +15,23 @@ use Rattle.bus_model.proofs.SlotsInTurn.{ready_more, flat_more}
 use Rattle.bus_model.proofs.rounds.run_rounds.Goals as goal
 
 pub run_round-requires-clause-ready : goal.run_round-requires-clause-ready
-run_round-requires-clause-ready c =
+run_round-requires-clause-ready g c =
     let few = c.hosts_of-ranks.ensures.few in
     ready_more c.args.s.now c.args.frame (1000000 + c.loop-rank.rank * 46) 1040000 c.loop-rank.net (omega (arith, few, c.loop-rank-test.true))
     (c.loop-rank.invariant.ready 1000000 c.requires.ready)
 
 pub loop-rank-init : goal.loop-rank-init
-loop-rank-init c = record {
+loop-rank-init g c = record {
   ready = λ m is. ready_more c.args.s.now c.args.frame m (m + 0 * 46) c.args.net.now (omega arith) is;
   nodes_are = λ start olds rooms. olds ∙ none_run c.args.s.now c.args.frame start;
   delivered = λ start olds rooms. sym (append-nil c.args.net.now.deliveries);
+  ran = λ start before olds rooms had.
+      subst (λ (ys : List SlotFlood). HasRun c.args.s.now c.args.frame ys c.args.net.now.floods) (sym (append-nil before)) had;
   costs_are = λ start cost olds rooms costs. costs ∙ none_charged c.args.s.now c.args.frame start cost;
 }
 
 pub loop-rank-preserved : goal.loop-rank-preserved
-loop-rank-preserved c =
+loop-rank-preserved g c =
     let s = c.args.s.now in
     let f = c.args.frame in
     let r = c.loop-rank.rank in
@@ -50,6 +54,13 @@ loop-rank-preserved c =
           ∙ ap (λ (l : List Delivery). l ++ said r) (inv.delivered start olds rooms)
           ∙ append_assoc first (flat_map said (range_with_len 0 r)) (said r)
           ∙ ap (λ (l : List Delivery). first ++ l) (sym (flat_more said r)));
+      ran = λ start before olds rooms had.
+          (let said : ℕ → List SlotFlood = λ rank. round_floods s rank f start in
+          let prior = before ++ flat_map said (range_with_len 0 r) in
+          subst (λ (ys : List SlotFlood). HasRun s f ys c.run_round.new.net.floods)
+          (ap (λ (k : ℕ). prior ++ said k) own ∙ append_assoc before (flat_map said (range_with_len 0 r)) (said r)
+          ∙ ap (λ (l : List SlotFlood). before ++ l) (sym (flat_more said r)))
+          (ran.floods start (run_below s f start r) prior (enter start olds rooms) (rooms c.rank_at.result) (inv.ran start before olds rooms had)));
       costs_are = λ start cost olds rooms costs.
           ran.costs start (run_below s f start r) (cost_below s f start r cost) (enter start olds rooms) (rooms c.rank_at.result)
           (inv.costs_are start cost olds rooms costs)
@@ -59,26 +70,32 @@ loop-rank-preserved c =
     }
 
 pub returns-clause-ready : goal.returns-clause-ready
-returns-clause-ready c m is =
+returns-clause-ready g c m is =
     let few = c.hosts_of-ranks.ensures.few in
     let all : c.loop-rank.rank ≡ c.hosts_of-ranks.result = omega (arith, c.loop-rank-test.false, c.loop-rank.auto.rank-end) in
     ready_more c.args.s.now c.args.frame (m + c.loop-rank.rank * 46) (m + 184) c.loop-rank.net (omega (arith, few, all)) (c.loop-rank.invariant.ready m is)
 
 pub returns-clause-nodes : goal.returns-clause-nodes
-returns-clause-nodes c start ranked olds rooms =
+returns-clause-nodes g c start ranked olds rooms =
     let all : c.loop-rank.rank ≡ length c.args.s.now.hosts = omega (arith, c.loop-rank-test.false, c.loop-rank.auto.rank-end, c.hosts_of-ranks.ensures.value) in
     c.loop-rank.invariant.nodes_are start olds rooms
     ∙ ap (λ (n : ℕ). nodes_with c.args.s.now (ranks_in start) (run_below c.args.s.now c.args.frame start n)) all
     ∙ all_run c.args.s.now c.args.frame start (length c.args.s.now.hosts) ranked
 
 pub returns-clause-deliveries : goal.returns-clause-deliveries
-returns-clause-deliveries c start ranked olds rooms =
+returns-clause-deliveries g c start ranked olds rooms =
     let all : c.loop-rank.rank ≡ length c.args.s.now.hosts = omega (arith, c.loop-rank-test.false, c.loop-rank.auto.rank-end, c.hosts_of-ranks.ensures.value) in
     c.loop-rank.invariant.delivered start olds rooms
     ∙ ap (λ (n : ℕ). c.args.net.now.deliveries ++ flat_map (λ (rank : ℕ). round_deliveries c.args.s.now rank c.args.frame start) (range_with_len 0 n)) all
 
+pub returns-clause-floods : goal.returns-clause-floods
+returns-clause-floods g c start before ranked olds rooms had =
+    let all : c.loop-rank.rank ≡ length c.args.s.now.hosts = omega (arith, c.loop-rank-test.false, c.loop-rank.auto.rank-end, c.hosts_of-ranks.ensures.value) in
+    subst (λ (n : ℕ). HasRun c.args.s.now c.args.frame (before ++ flat_map (λ (rank : ℕ). round_floods c.args.s.now rank c.args.frame start)
+    (range_with_len 0 n)) c.loop-rank.net.floods) all (c.loop-rank.invariant.ran start before olds rooms had)
+
 pub returns-clause-costs : goal.returns-clause-costs
-returns-clause-costs c start cost ranked olds rooms costs =
+returns-clause-costs g c start cost ranked olds rooms costs =
     let all : c.loop-rank.rank ≡ length c.args.s.now.hosts = omega (arith, c.loop-rank-test.false, c.loop-rank.auto.rank-end, c.hosts_of-ranks.ensures.value) in
     c.loop-rank.invariant.costs_are start cost olds rooms costs
     ∙ ap (λ (n : ℕ). map (cost_below c.args.s.now c.args.frame start n cost) (ids c.args.s.now.nodes)) all

@@ -6,7 +6,6 @@ use Rattle.std.proofs.lemmas.List.Elements.{All-set}
 use Rattle.scenario_text.specs.ScenarioFacts.{turned}
 use Rattle.bus_rules.specs.States.{IsAct}
 use Rattle.scenario_text.specs.declared.script.ScriptLine.{ScriptLine}
-use Rattle.scenario_text.proofs.SoundScenarios.{sound}
 use Rattle.bus_rules.specs.declared.delivery.DropLine.{DropLine}
 use Rattle.bus_terms.specs.Bus.{Cost}
 use Rattle.bus_terms.specs.FloodOfText.{ids}
@@ -18,10 +17,11 @@ use Rattle.plain_bus.proofs.SlotsMet.{ids_ascend, ids_each}
 use Rattle.bus_model.specs.FrameNodes.{CountsLinesBefore, drops_to, nodes_with, power, prior_ranks, node_after_line, told_at}
 use Rattle.bus_model.proofs.LinesTold.{none_told, all_told, node_told, power_told, lost_more}
 use Rattle.bus_model.proofs.LinesAllowed.{line_act, line_known, may_do, act_early, later_lines}
+use Rattle.bus_model.proofs.script.tell_lines.Given.{Over}
 use Rattle.bus_model.proofs.script.tell_lines.Goals as goal
 
 pub loop-next-init : goal.loop-next-init
-loop-next-init c =
+loop-next-init g c =
     let s = c.args.s.now in
     let f = c.args.frame in
     let n = c.args.from in
@@ -38,7 +38,7 @@ loop-next-init c =
     }
 
 -- the lines from here on are those of later frames
-module _ (c : goal.Then-line-frame) where
+module _ (g : Over) (c : goal.Then-line-frame g) where
   later : (i : ℕ) (d : ScriptLine) → c.loop-next.next ≤ i → i < length c.args.s.now.script → c.args.frame < (get_or c.args.s.now.script i d).frame
   later =
       let s = c.args.s.now in
@@ -47,49 +47,49 @@ module _ (c : goal.Then-line-frame) where
       let below : n < length s.script = omega (arith, c.loop-next-test.true, ap length c.script-script.ensures.value) in
       let at : l ≡ get_or s.script n l = c.index-script-next.is ∙ ap (λ (ls : List ScriptLine). get_or ls n l) c.script-script.ensures.value in
       let up = c.requires.cut.from n l c.loop-next.invariant.within below in
-      later_lines s (sound s c.script-script.ensures.said) n l below at c.args.frame (omega (arith, up, ap (λ (m : ScriptLine). m.frame) at))
+      later_lines s c.script-script.ensures.said n l below at c.args.frame (omega (arith, up, ap (λ (m : ScriptLine). m.frame) at))
       c.if-line-frame.true
 
 pub returns-then-line-frame-clause-cut : goal.returns-then-line-frame-clause-cut
-returns-then-line-frame-clause-cut c = record {
+returns-then-line-frame-clause-cut g c = record {
   within = c.loop-next.invariant.upto;
   before = λ i d low. elim (cases_lt i c.args.from) [
     | inl early ↦ (let before = c.requires.cut.before i d early in omega (arith, before))
     | inr late ↦ (let now = c.loop-next.invariant.now_told i d late low in omega (arith, now))
   ];
-  from = λ i d high near. (let after = later c i d high near in omega (arith, after));
+  from = λ i d high near. (let after = later g c i d high near in omega (arith, after));
 }
 
 pub returns-then-line-frame-clause-power : goal.returns-then-line-frame-clause-power
-returns-then-line-frame-clause-power c v = ap power (sym (all_told c.args.s.now c.args.frame c.loop-next.next (later c) v)) ∙ c.loop-next.invariant.have v
+returns-then-line-frame-clause-power g c v = ap power (sym (all_told c.args.s.now c.args.frame c.loop-next.next (later g c) v)) ∙ c.loop-next.invariant.have v
 
 pub returns-then-line-frame-clause-nodes : goal.returns-then-line-frame-clause-nodes
-returns-then-line-frame-clause-nodes c =
+returns-then-line-frame-clause-nodes g c =
     c.loop-next.invariant.nodes_are ∙ ap (nodes_with c.args.s.now (prior_ranks c.args.s.now c.args.frame))
-    (λ i v. all_told c.args.s.now c.args.frame c.loop-next.next (later c) v i)
+    (λ i v. all_told c.args.s.now c.args.frame c.loop-next.next (later g c) v i)
 
 -- a line that is given
 pub tell_line-requires-clause-ascending : goal.tell_line-requires-clause-ascending
-tell_line-requires-clause-ascending c =
-    ids_ascend c.args.s.now (sound c.args.s.now c.script-script.ensures.said) c.loop-next.net.ids (c.loop-next.invariant.ready 1000000 c.requires.ready).ids_are
+tell_line-requires-clause-ascending g c =
+    ids_ascend c.args.s.now c.script-script.ensures.said c.loop-next.net.ids (c.loop-next.invariant.ready 1000000 c.requires.ready).ids_are
 
 pub tell_line-requires-clause-each : goal.tell_line-requires-clause-each
-tell_line-requires-clause-each c =
+tell_line-requires-clause-each g c =
     let ready = c.loop-next.invariant.ready 1000000 c.requires.ready in
     ready.nodes_each ∙ sym (ap length ready.ids_are ∙ ids_each c.args.s.now)
 
 pub tell_line-requires-clause-known : goal.tell_line-requires-clause-known
-tell_line-requires-clause-known c =
+tell_line-requires-clause-known g c =
     let s = c.args.s.now in
     let n = c.loop-next.next in
     let l = c.index-script-next.result in
     let below : n < length s.script = omega (arith, c.loop-next-test.true, ap length c.script-script.ensures.value) in
     let at : l ≡ get_or s.script n l = c.index-script-next.is ∙ ap (λ (ls : List ScriptLine). get_or ls n l) c.script-script.ensures.value in
     ap (λ (is : List ℕ). has is l.node) (c.loop-next.invariant.ready 1000000 c.requires.ready).ids_are
-    ∙ line_known s (sound s c.script-script.ensures.said) n l below at
+    ∙ line_known s c.script-script.ensures.said n l below at
 
 pub tell_line-requires-clause-may : goal.tell_line-requires-clause-may
-tell_line-requires-clause-may c i d near here =
+tell_line-requires-clause-may g c i d near here =
     let s = c.args.s.now in
     let f = c.args.frame in
     let n = c.loop-next.next in
@@ -103,13 +103,13 @@ tell_line-requires-clause-may c i d near here =
     let node : get_or c.loop-next.net.nodes i d ≡ g l.node =
     ap (λ (ns : List BusNode). get_or ns i d) inv.nodes_are ∙ get_or-map g (ids s.nodes) i 0 d (omega (arith, near, ready.nodes_each, ids_each s))
     ∙ ap g own in (
-      subst (λ (x : BusNode). IsAct x.setup.profile l.act) (sym node) (line_act s (sound s c.script-script.ensures.said) n l below at),
+      subst (λ (x : BusNode). IsAct x.setup.profile l.act) (sym node) (line_act s c.script-script.ensures.said n l below at),
       subst (λ (x : BusNode). MayDo l.act x.state) (sym node)
-          (may_do s (sound s c.script-script.ensures.said) n l below at (told_at s f n l.node) (inv.have l.node)),
+          (may_do s c.script-script.ensures.said n l below at (told_at s f n l.node) (inv.have l.node)),
     )
 
 pub loop-next-preserved : goal.loop-next-preserved
-loop-next-preserved c =
+loop-next-preserved g c =
     let s = c.args.s.now in
     let f = c.args.frame in
     let n = c.loop-next.next in
@@ -138,7 +138,7 @@ loop-next-preserved c =
       ];
       have = power_told s f n l below at is inv.have;
       nodes_are = here.0 ∙ ap (λ (ns : List BusNode). set ns i (node_after_line l (get_or ns i d))) inv.nodes_are
-          ∙ node_told s f (prior_ranks s f) n l below at is (ids_ascend s (sound s c.script-script.ensures.said) (ids s.nodes) refl) i near own d;
+          ∙ node_told s f (prior_ranks s f) n l below at is (ids_ascend s c.script-script.ensures.said (ids s.nodes) refl) i near own d;
       lost = here.1 ∙ ap (λ (ds : List DropLine). ds ++ option_to_list (lost_by l l.act (get_or c.loop-next.net.nodes i d).state)) inv.lost
           ∙ ap (λ (x : BusNode). drops_to s n ++ option_to_list (lost_by l l.act x.state)) node
           ∙ sym (lost_more s f n l below at is);
@@ -158,7 +158,7 @@ loop-next-preserved c =
     }
 
 -- the script is over
-module _ (c : goal.After-loop-next) where
+module _ (g : Over) (c : goal.After-loop-next g) where
   over : c.loop-next.next ≡ length c.args.s.now.script
   over = (let upto = c.loop-next.invariant.upto in omega (arith, c.loop-next-test.false, upto, ap length c.script-script.ensures.value))
 
@@ -169,24 +169,24 @@ module _ (c : goal.After-loop-next) where
   counted = ap length c.script-script.ensures.value ∙ sym over
 
 pub returns-clause-cut : goal.returns-clause-cut
-returns-clause-cut c = subst (CountsLinesBefore c.args.s.now.script (c.args.frame + 1)) (sym (counted c)) (record {
+returns-clause-cut g c = subst (CountsLinesBefore c.args.s.now.script (c.args.frame + 1)) (sym (counted g c)) (record {
   within = c.loop-next.invariant.upto;
   before = λ i d low. elim (cases_lt i c.args.from) [
     | inl early ↦ (let before = c.requires.cut.before i d early in omega (arith, before))
     | inr late ↦ (let now = c.loop-next.invariant.now_told i d late low in omega (arith, now))
   ];
-  from = λ i d high near. absurd (omega (arith, high, near, over c));
+  from = λ i d high near. absurd (omega (arith, high, near, over g c));
 })
 
 pub returns-clause-power : goal.returns-clause-power
-returns-clause-power c v =
-    ap power (sym (all_told c.args.s.now c.args.frame c.loop-next.next (none_later c) v)) ∙ c.loop-next.invariant.have v
-    ∙ ap (λ (n : ℕ). turned v (false, 0) (take n c.args.s.now.script)) (sym (counted c))
+returns-clause-power g c v =
+    ap power (sym (all_told c.args.s.now c.args.frame c.loop-next.next (none_later g c) v)) ∙ c.loop-next.invariant.have v
+    ∙ ap (λ (n : ℕ). turned v (false, 0) (take n c.args.s.now.script)) (sym (counted g c))
 
 pub returns-clause-nodes : goal.returns-clause-nodes
-returns-clause-nodes c =
+returns-clause-nodes g c =
     c.loop-next.invariant.nodes_are ∙ ap (nodes_with c.args.s.now (prior_ranks c.args.s.now c.args.frame))
-    (λ i v. all_told c.args.s.now c.args.frame c.loop-next.next (none_later c) v i)
+    (λ i v. all_told c.args.s.now c.args.frame c.loop-next.next (none_later g c) v i)
 
 pub returns-clause-drops : goal.returns-clause-drops
-returns-clause-drops c = c.loop-next.invariant.lost ∙ ap (drops_to c.args.s.now) (sym (counted c))
+returns-clause-drops g c = c.loop-next.invariant.lost ∙ ap (drops_to c.args.s.now) (sym (counted g c))

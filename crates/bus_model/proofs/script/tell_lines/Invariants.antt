@@ -5,7 +5,7 @@ use Rattle.bus_model.specs.FrameNodes.{HavePower, drops_to, nodes_with, prior_ra
 use Rattle.bus_model.proofs.script.tell_lines.Given as goal
 
 abbrev pub invariant-loop-next : goal.invariant-loop-next
-invariant-loop-next l = record {
+invariant-loop-next g l = record {
   within : l.from ≤ l.next;
   upto : l.next ≤ length l.s.script;
   now_told : (i : ℕ) (d : ScriptLine) → l.from ≤ i → i < l.next → (get_or l.s.script i d).frame ≡ l.frame;

@@ -1,13 +1,13 @@
 use Rattle.std.proofs.Common.{◌≡◌, ◌<◌, ℕ, List, map, length, get_or, ◌∙◌, sym, ap, subst, bit_and}
 use Rattle.bus_terms.specs.Flooding.{offer, pick}
-use Rattle.plain_bus.specs.FloodMasks.{AreOffers, station_at}
+use Rattle.plain_bus.specs.FloodMasks.{AreOffers, station_at, traced}
 use Rattle.plain_bus.specs.declared.station.Station.{Station}
 use Rattle.plain_bus.proofs.HeardByMasks.{offers_read, station_read, deaf, unreached, refused, heard}
 use Rattle.plain_bus.proofs.hearing.hears.Goals as goal
 
 pub returns-then-not-may_hear : goal.returns-then-not-may_hear
-returns-then-not-may_hear c s m flood known at =
-    let t = c.args.trace.now in
+returns-then-not-may_hear g c s m flood known at =
+    let t = traced (g.M.Links.lines c.args.links.now) (g.M.Links.nodes c.args.links.now) in
     let f = c.args.flood.now in
     let k = c.args.step in
     let place = c.args.place in
@@ -21,8 +21,8 @@ returns-then-not-may_hear c s m flood known at =
     sym (deaf s m t f k flood known place below x is (sym c.may_hear.ensures ∙ c.if-not-may_hear.true))
 
 pub returns-in_default : goal.returns-in_default
-returns-in_default c s m flood known at =
-    let t = c.args.trace.now in
+returns-in_default g c s m flood known at =
+    let t = traced (g.M.Links.lines c.args.links.now) (g.M.Links.nodes c.args.links.now) in
     let f = c.args.flood.now in
     let k = c.args.step in
     let place = c.args.place in
@@ -44,8 +44,8 @@ returns-in_default c s m flood known at =
     sym (unreached s m t f k flood known place below (picked ∙ c.in_default.is))
 
 pub returns-then-takes : goal.returns-then-takes
-returns-then-takes c s m flood known at =
-    let t = c.args.trace.now in
+returns-then-takes g c s m flood known at =
+    let t = traced (g.M.Links.lines c.args.links.now) (g.M.Links.nodes c.args.links.now) in
     let f = c.args.flood.now in
     let k = c.args.step in
     let place = c.args.place in
@@ -68,8 +68,8 @@ returns-then-takes c s m flood known at =
     (sym c.takes.ensures ∙ c.if-takes.true))
 
 pub returns-else-takes : goal.returns-else-takes
-returns-else-takes c s m flood known at =
-    let t = c.args.trace.now in
+returns-else-takes g c s m flood known at =
+    let t = traced (g.M.Links.lines c.args.links.now) (g.M.Links.nodes c.args.links.now) in
     let f = c.args.flood.now in
     let k = c.args.step in
     let place = c.args.place in

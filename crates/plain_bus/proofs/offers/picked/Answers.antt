@@ -9,12 +9,12 @@ use Rattle.plain_bus.proofs.offers.picked.Goals as goal
 use Rattle.plain_bus.proofs.offers.picked.Goals.{then-is_some-via-then-is_some, then-is_some-via-else-is_some+then-all_send}
 
 pub returns-in_default : goal.returns-in_default
-returns-in_default c s m flood known are =
+returns-in_default g c s m flood known are =
     sym (nothing_picked s m c.args.step c.args.at known
     (subst (IsOffer (offer s m c.args.step c.args.at)) c.in_default.is (c.first_sent.ensures (offer s m c.args.step c.args.at) are)))
 
 pub returns-then-is_some : goal.returns-then-is_some
-returns-then-is_some c s m flood known are =
+returns-then-is_some g c s m flood known are =
     let k = c.args.step in
     let v = c.args.at in
     let give : ℕ → Option ℕ = offer s m k v in
@@ -30,7 +30,7 @@ returns-then-is_some c s m flood known are =
     ]))
 
 pub returns-in_default-captured : goal.returns-in_default-captured
-returns-in_default-captured c s m flood known are =
+returns-in_default-captured g c s m flood known are =
     let k = c.args.step in
     let v = c.args.at in
     let give : ℕ → Option ℕ = offer s m k v in
@@ -40,7 +40,7 @@ returns-in_default-captured c s m flood known are =
     sym (named_picked s m k v known first.0 c.in-Some.first other.0 other.1 first.1 other.2 other.3 ∙ ap (λ (u : Option ℕ). option_and_then give u) named)
 
 pub returns : goal.returns
-returns c s m flood known are =
+returns g c s m flood known are =
     let k = c.args.step in
     let v = c.args.at in
     let give : ℕ → Option ℕ = offer s m k v in

@@ -1,18 +1,19 @@
 use Rattle.std.proofs.Common.{◌≡◌, ◌≤◌, ◌<◌, length, arith}
 use Rattle.std.specs.Int.{bit_at}
+use Rattle.plain_bus.specs.FloodMasks.{traced}
 use Rattle.plain_bus.proofs.PlacesSeen.{all_seen, none_seen, seen_below}
 use Rattle.plain_bus.proofs.ReachedNodes.{IsWithin, more_from, more_within, nobody_reached}
 use Rattle.plain_bus.proofs.reaching.reached_by.Goals as goal
 
 pub loop-rest-init : goal.loop-rest-init
-loop-rest-init c = record {
-  within = none_seen (IsWithin c.args.trace.now c.args.flood.now c.args.step 0) c.args.senders;
-  from = nobody_reached c.args.trace.now c.args.flood.now c.args.step c.args.senders;
+loop-rest-init g c = record {
+  within = none_seen (IsWithin (traced (g.M.Links.lines c.args.links.now) (g.M.Links.nodes c.args.links.now)) c.args.flood.now c.args.step 0) c.args.senders;
+  from = nobody_reached (traced (g.M.Links.lines c.args.links.now) (g.M.Links.nodes c.args.links.now)) c.args.flood.now c.args.step c.args.senders;
 }
 
 pub loop-rest-preserved : goal.loop-rest-preserved
-loop-rest-preserved c =
-    let t = c.args.trace.now in
+loop-rest-preserved g c =
+    let t = traced (g.M.Links.lines c.args.links.now) (g.M.Links.nodes c.args.links.now) in
     let f = c.args.flood.now in
     let place = c.lowest-place.result in
     let below : place < length t.nodes = omega (arith, c.if-from-count.false, c.from.ensures, c.requires.sealed) in
@@ -25,8 +26,8 @@ loop-rest-preserved c =
     }
 
 pub returns-then-from-count : goal.returns-then-from-count
-returns-then-from-count c =
-    let t = c.args.trace.now in
+returns-then-from-count g c =
+    let t = traced (g.M.Links.lines c.args.links.now) (g.M.Links.nodes c.args.links.now) in
     let within = IsWithin t c.args.flood.now c.args.step c.loop-rest.reached in
     let out : length t.nodes ≤ c.lowest-place.result = omega (arith, c.if-from-count.true, c.from.ensures, c.requires.sealed) in
     record {
@@ -36,8 +37,9 @@ returns-then-from-count c =
     }
 
 pub returns : goal.returns
-returns c = record {
+returns g c = record {
   some = c.loop-rest.invariant.from;
-  none = λ i j near none inside sends. all_seen (IsWithin c.args.trace.now c.args.flood.now c.args.step c.loop-rest.reached) c.args.senders c.loop-rest.rest
+  none = λ i j near none inside sends. all_seen (IsWithin (traced (g.M.Links.lines c.args.links.now)
+      (g.M.Links.nodes c.args.links.now)) c.args.flood.now c.args.step c.loop-rest.reached) c.args.senders c.loop-rest.rest
       c.loop-rest.invariant.within c.loop-rest-test.false j sends i near none inside;
 }

@@ -1,14 +1,15 @@
 use Rattle.std.proofs.Common.{◌≡◌, ℕ}
 use Rattle.std.specs.Int.{bit_at}
+use Rattle.plain_bus.specs.FloodMasks.{traced}
 use Rattle.plain_bus.proofs.PlacesSeen.{AreSeen}
 use Rattle.plain_bus.proofs.ReachedNodes.{ComesFrom, IsWithin}
 use Rattle.plain_bus.proofs.reaching.reached_by.Given as goal
 
 abbrev pub invariant-loop-rest : goal.invariant-loop-rest
-invariant-loop-rest l = record {
-  within : AreSeen (IsWithin l.trace l.flood l.step l.reached) l.senders l.rest;
-  from : (i : ℕ) → bit_at l.reached i ≡ 1 → ComesFrom l.trace l.flood l.step l.senders i;
+invariant-loop-rest g l = record {
+  within : AreSeen (IsWithin (traced (g.M.Links.lines l.links) (g.M.Links.nodes l.links)) l.flood l.step l.reached) l.senders l.rest;
+  from : (i : ℕ) → bit_at l.reached i ≡ 1 → ComesFrom (traced (g.M.Links.lines l.links) (g.M.Links.nodes l.links)) l.flood l.step l.senders i;
 }
 
 abbrev pub decreases-loop-rest : goal.decreases-loop-rest
-decreases-loop-rest l = l.rest
+decreases-loop-rest g l = l.rest

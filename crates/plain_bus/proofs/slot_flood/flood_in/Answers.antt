@@ -5,8 +5,8 @@ use Rattle.plain_bus.specs.declared.station.Flood.{Flood}
 use Rattle.plain_bus.proofs.MembersOfSlots.{flood_of_slot}
 use Rattle.plain_bus.proofs.slot_flood.flood_in.Goals as goal
 
-pub returns : goal.returns
-returns c s t rank part states are lines sealed limit =
+pub returns-clause-flood : goal.returns-clause-flood
+returns-clause-flood c s t rank part states are lines sealed limit =
     let f = c.args.frame in
     let made : ℕ → Flood = λ n. record {
       frame = f;

@@ -16,8 +16,9 @@ returns c =
       early = c.in_ok-open_all.ensures.early;
       nodes = c.in_ok-open_all.ensures.nodes;
       windows = c.in_ok-open_all.ensures.windows;
+      place = c.flood_in.ensures.place;
       flood = λ s t p start others are part lines sealed limit.
-          c.flood_in.ensures s t rank (part_of p j) (before_slot s rank f p start j)
+          c.flood_in.ensures.flood s t rank (part_of p j) (before_slot s rank f p start j)
           (subst (λ (ws : List Window). AreWindows s rank f (part_of p j) (before_slot s rank f p start j) ws) (sym c.deref.ensures.value)
           (windows_seen s rank f (part_of p j) (before_slot s rank f p start j) c.open_all.new.windows.items
           (c.in_ok-open_all.ensures.windows ∙ seen_all s rank f p start others j c.args.nodes.now c.args.part.now are part)))

@@ -6,6 +6,7 @@ use Rattle.bus_terms.specs.Bus.{Cost}
 use Rattle.bus_terms.specs.FloodOfText.{ids}
 use Rattle.plain_bus.specs.BusNodes.{BusNode}
 use Rattle.plain_bus.specs.Networks.{Network, no_cost, node_at_first}
+use Rattle.plain_bus.specs.declared.station.Flood.{Flood}
 use Rattle.plain_bus.proofs.ListsInPlace.{map_more}
 use Rattle.plain_bus.proofs.SlotsMet.{ids_more}
 use Rattle.plain_bus.proofs.network.Network.new.Goals as goal
@@ -34,8 +35,16 @@ returns c =
     let all : take c.loop-line.line-index c.nodes-lines.result.now ≡ c.args.s.now.nodes =
     take_all c.loop-line.line-index c.nodes-lines.result.now (omega (arith, c.loop-line-test.false, c.loop-line.auto.line-index-end))
     ∙ c.nodes-lines.ensures.value in
-    let of_parts : List ℕ → List BusNode → List Cost → List Delivery → Network = λ a b cs ds. record { ids = a; nodes = b; costs = cs; deliveries = ds } in
-    let of_lines : List NodeLine → Network = λ ls. of_parts (ids ls) (map (node_at_first c.args.s.now) (ids ls)) (map (λ (v : ℕ). no_cost) (ids ls)) [] in
+    let of_parts : List ℕ → List BusNode → List Cost → List Delivery → Network =
+    λ a b cs ds. record { ids = a; nodes = b; costs = cs; deliveries = ds; floods = c.new-2.result.items } in
+    let of_floods : List NodeLine → List Flood → Network =
+    λ ls xs. record {
+      ids = ids ls;
+      nodes = map (node_at_first c.args.s.now) (ids ls);
+      costs = map (λ (v : ℕ). no_cost) (ids ls);
+      deliveries = [];
+      floods = xs;
+    } in
     ap (λ (l : List ℕ). of_parts l c.loop-line.nodes.items c.loop-line.costs.items c.new.result.items) c.loop-line.invariant.ids_are
     ∙ ap (λ (l : List BusNode). of_parts (ids (take c.loop-line.line-index c.nodes-lines.result.now)) l c.loop-line.costs.items c.new.result.items)
     c.loop-line.invariant.nodes_are
@@ -44,4 +53,4 @@ returns c =
     ∙ ap (λ (l : List Delivery). of_parts (ids (take c.loop-line.line-index c.nodes-lines.result.now))
     (map (node_at_first c.args.s.now) (ids (take c.loop-line.line-index c.nodes-lines.result.now)))
     (map (λ (v : ℕ). no_cost) (ids (take c.loop-line.line-index c.nodes-lines.result.now))) l) c.new.ensures.items
-    ∙ ap of_lines all
+    ∙ ap (λ (l : List NodeLine). of_floods l c.new-2.result.items) all ∙ ap (of_floods c.args.s.now.nodes) c.new-2.ensures.items

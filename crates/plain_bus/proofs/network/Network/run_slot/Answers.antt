@@ -1,10 +1,9 @@
-use Rattle.std.proofs.Common.{◌≡◌, ◌+◌, ◌++◌, ℕ, List, All, length, map, take, drop, filter_map, refl, subst, sym, ◌∙◌, ap}
+use Rattle.std.proofs.Common.{◌≡◌, ◌+◌, ◌++◌, ◌∷◌, [], ℕ, List, All, rules, length, map, take, drop, filter_map, refl, subst, sym, ◌∙◌, ap}
 use Rattle.std.proofs.Common.{arith}
 use Rattle.std.proofs.lemmas.List.{length-map}
 use Rattle.std.proofs.lemmas.Result.{on_ok_weaker}
 use Rattle.lwb_base.specs.Messages.{Plan}
 use Rattle.lwb_base.specs.Profile.{Numbers}
-use Rattle.scenario_text.proofs.SoundScenarios.{sound}
 use Rattle.bus_rules.specs.declared.delivery.Delivery.{Delivery}
 use Rattle.bus_rules.specs.declared.part.Part.{Part}
 use Rattle.bus_rules.specs.Slots.{part_of}
@@ -15,91 +14,99 @@ use Rattle.bus_terms.specs.Flooding.{STEPS, moment}
 use Rattle.bus_terms.specs.Rounds.{slot_at, slot_deliveries}
 use Rattle.plain_bus.specs.BusNodes.{BusNode, IsEarlyState, HaveRoom, node_opened, nodes_before}
 use Rattle.plain_bus.specs.Closings.{IsBehind, AllMay, closed_node, delivers_node}
-use Rattle.plain_bus.specs.FloodMasks.{AreSendersOf, IsMaskedFlood, sends_in, station_at}
+use Rattle.plain_bus.specs.FloodMasks.{AreSendersOf, IsMaskedFlood, sends_in, station_at, traced}
 use Rattle.plain_bus.specs.Networks.{Network}
+use Rattle.plain_bus.specs.RunFloods.{AreRunFloods, slot_flood}
 use Rattle.plain_bus.specs.SlotCosts.{IsBelow, slot_charged}
 use Rattle.plain_bus.specs.SlotFloods.{seen_window}
+use Rattle.plain_bus.specs.declared.station.Flood.{Flood}
 use Rattle.plain_bus.specs.declared.station.Station.{Station}
 use Rattle.plain_bus.specs.declared.window.Window.{Window}
+use Rattle.plain_bus.proofs.FloodsRun.{one_more_flood}
 use Rattle.plain_bus.proofs.SlotsCharged.{slot_costs}
+use Rattle.plain_bus.proofs.SoundOver.{sound_over}
 use Rattle.plain_bus.proofs.SlotsMet.{put_back, ids_ascend, behind_slot}
 use Rattle.plain_bus.proofs.SlotsRun.{behind, node_at, window_seen, seen_all, opened_all, all_may, nodes_closed, nodes_delivered}
+use Rattle.plain_bus.proofs.network.Network.run_slot.Given.{Over}
 use Rattle.plain_bus.proofs.network.Network.run_slot.Goals as goal
 
 pub open_slot-requires-clause-few : goal.open_slot-requires-clause-few
-open_slot-requires-clause-few c =
-    let scenario = sound c.args.s.now c.profile-profile.ensures.said in
+open_slot-requires-clause-few g c =
+    let scenario = sound_over c.args.s.now c.profile-profile.ensures.said in
     let few = scenario.few_nodes in
     omega (arith, few, c.requires.ready.nodes_each, ap (λ (n : Network). length n.nodes) c.self.view_is, ap length c.deref_mut.ensures.value)
 
 pub flooded-end-requires-clause-few : goal.flooded-end-requires-clause-few
-flooded-end-requires-clause-few c =
-    let few = (sound c.args.s.now c.profile-profile.ensures.said).few_nodes in
-    omega (arith, few, ap length c.nodes.ensures.value)
+flooded-end-requires-clause-few g c =
+    let few = (sound_over c.args.s.now c.profile-profile.ensures.said).few_nodes in
+    omega (arith, few, ap length c.nodes.ensures)
 
 pub charge_all-requires-clause-ascending : goal.charge_all-requires-clause-ascending
-charge_all-requires-clause-ascending c =
-    ids_ascend c.args.s.now (sound c.args.s.now c.profile-profile.ensures.said) c.deref.result.now
+charge_all-requires-clause-ascending g c =
+    ids_ascend c.args.s.now c.profile-profile.ensures.said c.deref.result.now
     (c.deref.ensures.value ∙ ap (λ (n : Network). n.ids) c.self.view_is ∙ c.requires.ready.ids_are)
 
 pub close_all-requires-clause-ascending : goal.close_all-requires-clause-ascending
-close_all-requires-clause-ascending c =
-    ids_ascend c.args.s.now (sound c.args.s.now c.profile-profile.ensures.said) c.deref-5.result.now
+close_all-requires-clause-ascending g c =
+    ids_ascend c.args.s.now c.profile-profile.ensures.said c.deref-5.result.now
     (c.deref-5.ensures.value ∙ ap (λ (n : Network). n.ids) c.self.view_is ∙ c.requires.ready.ids_are)
 
 -- the nodes before the slot, where it opened, and after it
-olds : (c : goal.After-self-3-1) → c.deref_mut.result.now ≡ c.args.self.now.nodes
-olds c = c.deref_mut.ensures.value ∙ ap (λ (n : Network). n.nodes) c.self.view_is
+olds : (g : Over) (c : goal.After-self-3-1 g) → c.deref_mut.result.now ≡ c.args.self.now.nodes
+olds g c = c.deref_mut.ensures.value ∙ ap (λ (n : Network). n.nodes) c.self.view_is
 
-size : (c : goal.After-self-3-1) → length c.self.inside.nodes.items ≡ c.self.inside.nodes.len
-size c = ap length (sym c.deref_mut.ensures.value) ∙ c.deref_mut.ensures.len
+size : (g : Over) (c : goal.After-self-3-1 g) → length c.self.inside.nodes.items ≡ c.self.inside.nodes.len
+size g c = ap length (sym c.deref_mut.ensures.value) ∙ c.deref_mut.ensures.len
 
-opened_size : (c : goal.After-self-3-1) → length c.open_slot.new.nodes ≡ length c.self.inside.nodes.items
-opened_size c =
+opened_size : (g : Over) (c : goal.After-self-3-1 g) → length c.open_slot.new.nodes ≡ length c.self.inside.nodes.items
+opened_size g c =
     ap length c.in_ok-flood.ensures.nodes ∙ length-map c.deref_mut.result.now (node_opened c.args.rank c.args.frame c.args.part.now)
     ∙ ap length c.deref_mut.ensures.value
 
-stored : (c : goal.After-self-3-1) → c.deref_mut-3.result.now ≡ c.open_slot.new.nodes
-stored c = c.deref_mut-3.ensures.value ∙ put_back c.self.inside.nodes.len c.open_slot.new.nodes c.self.inside.nodes.items (size c) (opened_size c)
+stored : (g : Over) (c : goal.After-self-3-1 g) → c.deref_mut-3.result.now ≡ c.open_slot.new.nodes
+stored g c = c.deref_mut-3.ensures.value ∙ put_back c.self.inside.nodes.len c.open_slot.new.nodes c.self.inside.nodes.items (size g c) (opened_size g c)
 
-stored_first : (c : goal.After-self-3-1) → c.deref-2.result.now ≡ c.open_slot.new.nodes
-stored_first c = c.deref-2.ensures.value ∙ put_back c.self.inside.nodes.len c.open_slot.new.nodes c.self.inside.nodes.items (size c) (opened_size c)
+stored_first : (g : Over) (c : goal.After-self-3-1 g) → c.deref-2.result.now ≡ c.open_slot.new.nodes
+stored_first g c = c.deref-2.ensures.value ∙ put_back c.self.inside.nodes.len c.open_slot.new.nodes c.self.inside.nodes.items (size g c) (opened_size g c)
 
-ended : (c : goal.After-self-3-1) → (let n = c.self.inside.nodes.len in
+ended : (g : Over) (c : goal.After-self-3-1 g) → (let n = c.self.inside.nodes.len in
     take n (c.close_all.new.nodes ++ drop (length c.close_all.new.nodes)
     (take n (c.open_slot.new.nodes ++ drop (length c.open_slot.new.nodes) c.self.inside.nodes.items)))) ≡ c.close_all.new.nodes
-ended c =
+ended g c =
     let n = c.self.inside.nodes.len in
     ap (λ (l : List BusNode). take n (c.close_all.new.nodes ++ drop (length c.close_all.new.nodes) l))
-    (put_back n c.open_slot.new.nodes c.self.inside.nodes.items (size c) (opened_size c))
-    ∙ put_back n c.close_all.new.nodes c.open_slot.new.nodes (opened_size c ∙ size c) (omega (arith, c.close_all.auto.nodes, ap length (stored c)))
+    (put_back n c.open_slot.new.nodes c.self.inside.nodes.items (size g c) (opened_size g c))
+    ∙ put_back n c.close_all.new.nodes c.open_slot.new.nodes (opened_size g c ∙ size g c) (omega (arith, c.close_all.auto.nodes, ap length (stored g c)))
 
 -- and the costs
-costs_size : (c : goal.After-self-3-1) → length c.self.inside.costs.items ≡ c.self.inside.costs.len
-costs_size c = ap length (sym c.deref_mut-2.ensures.value) ∙ c.deref_mut-2.ensures.len
+costs_size : (g : Over) (c : goal.After-self-3-1 g) → length c.self.inside.costs.items ≡ c.self.inside.costs.len
+costs_size g c = ap length (sym c.deref_mut-2.ensures.value) ∙ c.deref_mut-2.ensures.len
 
-charged : (c : goal.After-self-3-1) → take c.self.inside.costs.len (c.charge_all.new.costs ++ drop (length c.charge_all.new.costs) c.self.inside.costs.items)
+charged : (g : Over) (c : goal.After-self-3-1 g) → take c.self.inside.costs.len (c.charge_all.new.costs ++ drop
+    (length c.charge_all.new.costs) c.self.inside.costs.items)
     ≡ c.charge_all.new.costs
-charged c = put_back c.self.inside.costs.len c.charge_all.new.costs c.self.inside.costs.items (costs_size c)
+charged g c = put_back c.self.inside.costs.len c.charge_all.new.costs c.self.inside.costs.items (costs_size g c)
     (omega (arith, c.charge_all.auto.costs, ap length c.deref_mut-2.ensures.value))
 
-old_costs : (c : goal.After-self-3-1) → c.deref_mut-2.result.now ≡ c.args.self.now.costs
-old_costs c = c.deref_mut-2.ensures.value ∙ ap (λ (n : Network). n.costs) c.self.view_is
+old_costs : (g : Over) (c : goal.After-self-3-1 g) → c.deref_mut-2.result.now ≡ c.args.self.now.costs
+old_costs g c = c.deref_mut-2.ensures.value ∙ ap (λ (n : Network). n.costs) c.self.view_is
 
-ids_are : (c : goal.After-self-3-1) → c.deref-5.result.now ≡ ids c.args.s.now.nodes
-ids_are c = c.deref-5.ensures.value ∙ ap (λ (n : Network). n.ids) c.self.view_is ∙ c.requires.ready.ids_are
+ids_are : (g : Over) (c : goal.After-self-3-1 g) → c.deref-5.result.now ≡ ids c.args.s.now.nodes
+ids_are g c = c.deref-5.ensures.value ∙ ap (λ (n : Network). n.ids) c.self.view_is ∙ c.requires.ready.ids_are
 
-first_ids_are : (c : goal.After-self-3-1) → c.deref.result.now ≡ ids c.args.s.now.nodes
-first_ids_are c = c.deref.ensures.value ∙ ap (λ (n : Network). n.ids) c.self.view_is ∙ c.requires.ready.ids_are
+first_ids_are : (g : Over) (c : goal.After-self-3-1 g) → c.deref.result.now ≡ ids c.args.s.now.nodes
+first_ids_are g c = c.deref.ensures.value ∙ ap (λ (n : Network). n.ids) c.self.view_is ∙ c.requires.ready.ids_are
 
-module _ (c : goal.After-self-3-1) (p : Plan) (start others : ℕ → State)
+module _ (g : Over) (c : goal.After-self-3-1 g) (p : Plan) (start others : ℕ → State)
     (are : c.args.self.now.nodes ≡ nodes_before c.args.s.now c.args.rank c.args.frame p start others c.args.slot)
     (is : c.args.part.now ≡ part_of p c.args.slot) where
   before : c.deref_mut.result.now ≡ nodes_before c.args.s.now c.args.rank c.args.frame p start others c.args.slot
-  before = olds c ∙ are
+  before = olds g c ∙ are
 
-  flood_is : IsMaskedFlood (slot_at c.args.s.now c.args.rank c.args.frame p start c.args.slot).flood c.trace.result.now c.in_ok-flood.flood
-  flood_is = c.in_ok-flood.ensures.flood c.args.s.now c.trace.result.now p start others before is c.trace.ensures.value c.trace.ensures.sealed
+  flood_is : IsMaskedFlood (slot_at c.args.s.now c.args.rank c.args.frame p start c.args.slot).flood (traced (g.M.Links.lines c.links.result.now)
+      (g.M.Links.nodes c.links.result.now)) c.in_ok-flood.flood
+  flood_is = c.in_ok-flood.ensures.flood c.args.s.now (traced (g.M.Links.lines c.links.result.now)
+      (g.M.Links.nodes c.links.result.now)) p start others before is c.links.ensures.value c.links.ensures.sealed
       c.sends-limit.ensures
 
   windows_are : map seen_window c.open_slot.new.windows.items ≡ map (window_seen c.args.s.now c.args.rank c.args.frame p start others c.args.slot)
@@ -115,7 +122,7 @@ module _ (c : goal.After-self-3-1) (p : Plan) (start others : ℕ → State)
       ≡ map (station_at (moment (slot_at c.args.s.now c.args.rank c.args.frame p start c.args.slot).flood STEPS)) (ids c.args.s.now.nodes)
   stations_are =
       c.flooded-end.ensures.each (slot_at c.args.s.now c.args.rank c.args.frame p start c.args.slot).flood flood_is
-      ∙ ap (map (station_at (moment (slot_at c.args.s.now c.args.rank c.args.frame p start c.args.slot).flood STEPS))) c.trace.ensures.sealed
+      ∙ ap (map (station_at (moment (slot_at c.args.s.now c.args.rank c.args.frame p start c.args.slot).flood STEPS))) c.links.ensures.sealed
 
   met : (ws : List Window) (xs : List Station) (is : List ℕ) → ws ≡ c.open_slot.new.windows.items → xs ≡ c.flooded-end.result.stations.each.items
       → is ≡ ids c.args.s.now.nodes
@@ -133,7 +140,7 @@ module _ (c : goal.After-self-3-1) (p : Plan) (start others : ℕ → State)
   closes made =
       let b = behind c.args.s.now c.args.rank c.args.frame p start others c.args.slot in
       let n = node_at c.args.s.now c.args.rank c.args.frame p start others c.args.slot in
-      made ∙ ap (map (closed_node b c.args.frame c.args.part.now n)) (ids_are c)
+      made ∙ ap (map (closed_node b c.args.frame c.args.part.now n)) (ids_are g c)
       ∙ ap (λ (q : Part). map (closed_node b c.args.frame q n) (ids c.args.s.now.nodes)) is
       ∙ nodes_closed c.args.s.now c.args.rank c.args.frame p start others c.args.slot
 
@@ -145,39 +152,56 @@ module _ (c : goal.After-self-3-1) (p : Plan) (start others : ℕ → State)
       let b = behind c.args.s.now c.args.rank c.args.frame p start others c.args.slot in
       let n = node_at c.args.s.now c.args.rank c.args.frame p start others c.args.slot in
       let said : Part → List ℕ → List Delivery = λ q l. filter_map (delivers_node b c.args.rank c.args.frame c.args.slot q n) l in
-      made ∙ ap (λ (l : List ℕ). c.self.inside.deliveries.items ++ said c.args.part.now l) (ids_are c)
+      made ∙ ap (λ (l : List ℕ). c.self.inside.deliveries.items ++ said c.args.part.now l) (ids_are g c)
       ∙ ap (λ (q : Part). c.self.inside.deliveries.items ++ said q (ids c.args.s.now.nodes)) is
       ∙ ap (λ (l : List Delivery). c.self.inside.deliveries.items ++ l) (nodes_delivered c.args.s.now c.args.rank c.args.frame p start others c.args.slot)
       ∙ ap (λ (m : Network). m.deliveries ++ slot_deliveries c.args.s.now c.args.rank c.args.frame p start c.args.slot) c.self.view_is
 
   nodes_now : c.deref_mut-3.result.now ≡ map (node_at c.args.s.now c.args.rank c.args.frame p start others c.args.slot) c.deref-5.result.now
-  nodes_now = stored c ∙ opened ∙ ap (map (node_at c.args.s.now c.args.rank c.args.frame p start others c.args.slot)) (sym (ids_are c))
+  nodes_now = stored g c ∙ opened ∙ ap (map (node_at c.args.s.now c.args.rank c.args.frame p start others c.args.slot)) (sym (ids_are g c))
 
   none_refuses : HaveRoom c.args.s.now c.args.rank c.args.frame p start c.args.slot
       → AllMay c.args.frame (behind c.args.s.now c.args.rank c.args.frame p start others c.args.slot) c.deref-5.result.now
       (node_at c.args.s.now c.args.rank c.args.frame p start others c.args.slot)
   none_refuses room = subst (λ (l : List ℕ). AllMay c.args.frame (behind c.args.s.now c.args.rank c.args.frame p start others c.args.slot) l
       (node_at c.args.s.now c.args.rank c.args.frame p start others c.args.slot))
-      (sym (ids_are c)) (all_may c.args.s.now c.args.rank c.args.frame p start others c.args.slot room)
+      (sym (ids_are g c)) (all_may c.args.s.now c.args.rank c.args.frame p start others c.args.slot room)
 
 pub returns-clause-nodes : goal.returns-clause-nodes
-returns-clause-nodes c = on_ok_weaker c.close_all.result (λ made p start others are is room.
-    ended c ∙ closes c p start others are is
+returns-clause-nodes g c = on_ok_weaker c.close_all.result (λ made p start others are is room.
+    ended g c ∙ closes g c p start others are is
     (made (behind c.args.s.now c.args.rank c.args.frame p start others c.args.slot) (node_at c.args.s.now c.args.rank c.args.frame p start others c.args.slot)
-    (met c p start others are is c.deref-4.result.now c.as_slice.result.now c.deref-5.result.now c.deref-4.ensures.value c.as_slice.ensures.value (ids_are c))
-    (nodes_now c p start others are is) (none_refuses c p start others are is room)))
+    (met g c p start others are is c.deref-4.result.now c.as_slice.result.now c.deref-5.result.now c.deref-4.ensures.value c.as_slice.ensures.value
+    (ids_are g c))
+    (nodes_now g c p start others are is) (none_refuses g c p start others are is room)))
     c.close_all.ensures.nodes
 
 pub returns-clause-deliveries : goal.returns-clause-deliveries
-returns-clause-deliveries c = on_ok_weaker c.close_all.result (λ made p start others are is room.
-    delivers c p start others are is
+returns-clause-deliveries g c = on_ok_weaker c.close_all.result (λ made p start others are is room.
+    delivers g c p start others are is
     (made (behind c.args.s.now c.args.rank c.args.frame p start others c.args.slot) (node_at c.args.s.now c.args.rank c.args.frame p start others c.args.slot)
-    (met c p start others are is c.deref-4.result.now c.as_slice.result.now c.deref-5.result.now c.deref-4.ensures.value c.as_slice.ensures.value (ids_are c))
-    (nodes_now c p start others are is) (none_refuses c p start others are is room)))
+    (met g c p start others are is c.deref-4.result.now c.as_slice.result.now c.deref-5.result.now c.deref-4.ensures.value c.as_slice.ensures.value
+    (ids_are g c))
+    (nodes_now g c p start others are is) (none_refuses g c p start others are is room)))
     c.close_all.ensures.log
 
+pub returns-clause-floods : goal.returns-clause-floods
+returns-clause-floods g c = on_ok_weaker c.close_all.result (λ early p start others before are is ran.
+    (let t = traced c.args.s.now.trace (ids c.args.s.now.nodes) in
+    let y = slot_flood c.args.s.now c.args.rank c.args.frame p start c.args.slot in
+    let x = c.in_ok-flood.flood in
+    let pushed : c.push.new.self.items ≡ c.self.inside.floods.items ++ x ∷ [] = search rules in
+    subst (λ (l : List Flood). AreRunFloods t c.args.frame (before ++ y ∷ []) l)
+    (sym (pushed ∙ ap (λ (m : Network). m.floods ++ x ∷ []) c.self.view_is))
+    (one_more_flood t c.args.frame before c.args.self.now.floods y x ran (record {
+      frame = c.in_ok-flood.ensures.place.0;
+      slot = c.in_ok-flood.ensures.place.1;
+      masked = c.in_ok-flood.ensures.flood c.args.s.now t p start others (olds g c ∙ are) is refl refl c.sends-limit.ensures;
+    }))))
+    c.close_all.ensures.early
+
 pub returns-clause-costs : goal.returns-clause-costs
-returns-clause-costs c = on_ok_weaker c.close_all.result (λ early p start others cost are is room costs.
+returns-clause-costs g c = on_ok_weaker c.close_all.result (λ early p start others cost are is room costs.
     (let s = c.args.s.now in
     let rank = c.args.rank in
     let f = c.args.frame in
@@ -185,40 +209,40 @@ returns-clause-costs c = on_ok_weaker c.close_all.result (λ early p start other
     let flood = (slot_at s rank f p start j).flood in
     let b = behind s rank f p start others j in
     let n = node_at s rank f p start others j in
-    let some = (sound s c.profile-profile.ensures.said).some_sends in
+    let some = (sound_over s c.profile-profile.ensures.said).some_sends in
     let sending : AreSendersOf (sends_in flood) c.deref.result.now c.flooded-end.result.senders.items =
-    subst (λ (l : List ℕ). AreSendersOf (sends_in flood) l c.flooded-end.result.senders.items) (c.trace.ensures.sealed ∙ sym (first_ids_are c))
-    (c.flooded-end.ensures.senders flood (flood_is c p start others are is)) in
+    subst (λ (l : List ℕ). AreSendersOf (sends_in flood) l c.flooded-end.result.senders.items) (c.links.ensures.sealed ∙ sym (first_ids_are g c))
+    (c.flooded-end.ensures.senders flood (flood_is g c p start others are is)) in
     let of_list : List ℕ → List Cost = λ l. map (slot_charged s.profile rank s.sends b (sends_in flood) n cost) l in
-    charged c
+    charged g c
     ∙ c.charge_all.ensures.costs b n cost (sends_in flood)
-    (met c p start others are is c.deref-3.result.now c.flooded-end.result.stations.each.items c.deref.result.now c.deref-3.ensures.value refl
-    (first_ids_are c))
+    (met g c p start others are is c.deref-3.result.now c.flooded-end.result.stations.each.items c.deref.result.now c.deref-3.ensures.value refl
+    (first_ids_are g c))
     sending
-    (stored_first c ∙ opened c p start others are is ∙ ap (map n) (sym (first_ids_are c)))
-    (old_costs c ∙ costs ∙ ap (map cost) (sym (first_ids_are c)))
+    (stored_first g c ∙ opened g c p start others are is ∙ ap (map n) (sym (first_ids_are g c)))
+    (old_costs g c ∙ costs ∙ ap (map cost) (sym (first_ids_are g c)))
     (omega (arith, some, c.sends-limit.ensures))
     ∙ ap (λ (m : ℕ). map (slot_charged c.profile-profile.result rank m b (sends_in flood) n cost) c.deref.result.now) c.sends-limit.ensures
     ∙ ap (λ (q : Numbers). map (slot_charged q rank s.sends b (sends_in flood) n cost) c.deref.result.now) c.profile-profile.ensures.value
-    ∙ ap of_list (first_ids_are c) ∙ slot_costs s rank f p start others j cost))
+    ∙ ap of_list (first_ids_are g c) ∙ slot_costs s rank f p start others j cost))
     c.close_all.ensures.early
 
 pub returns-clause-ready : goal.returns-clause-ready
-returns-clause-ready c = on_ok_weaker c.close_all.result (λ early m ready.
+returns-clause-ready g c = on_ok_weaker c.close_all.result (λ early m ready.
     record {
       ids_are = ap (λ (n : Network). n.ids) c.self.view_is ∙ c.requires.ready.ids_are;
-      nodes_each = ap length (ended c)
+      nodes_each = ap length (ended g c)
           ∙ omega (
             arith,
             c.close_all.auto.nodes,
-            ap length (stored c),
-            opened_size c,
+            ap length (stored g c),
+            opened_size g c,
             ap (λ (n : Network). length n.nodes) c.self.view_is,
             c.requires.ready.nodes_each,
           );
-      costs_each = ap length (charged c) ∙ omega (arith, c.charge_all.auto.costs, ap length (old_costs c), c.requires.ready.costs_each);
-      early = subst (λ (l : List BusNode). All (λ (x : BusNode). IsEarlyState c.args.frame x.state) l) (sym (ended c)) early;
-      room = subst (λ (l : List Cost). All (IsBelow (m + 1)) l) (sym (charged c))
-          (c.charge_all.ensures.room m (subst (λ (l : List Cost). All (IsBelow m) l) (sym (old_costs c)) ready.room));
+      costs_each = ap length (charged g c) ∙ omega (arith, c.charge_all.auto.costs, ap length (old_costs g c), c.requires.ready.costs_each);
+      early = subst (λ (l : List BusNode). All (λ (x : BusNode). IsEarlyState c.args.frame x.state) l) (sym (ended g c)) early;
+      room = subst (λ (l : List Cost). All (IsBelow (m + 1)) l) (sym (charged g c))
+          (c.charge_all.ensures.room m (subst (λ (l : List Cost). All (IsBelow m) l) (sym (old_costs g c)) ready.room));
     })
     c.close_all.ensures.early

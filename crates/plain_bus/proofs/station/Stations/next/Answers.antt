@@ -3,25 +3,25 @@ use Rattle.std.proofs.lemmas.List.{take_all, length-map}
 use Rattle.std.proofs.lemmas.List.Elements.{All-push}
 use Rattle.link_trace.specs.Masks.{IsMaskUpto}
 use Rattle.bus_terms.specs.Flooding.{next}
-use Rattle.plain_bus.specs.FloodMasks.{station_at, with_sender}
+use Rattle.plain_bus.specs.FloodMasks.{station_at, with_sender, traced}
 use Rattle.plain_bus.specs.declared.station.Station.{Station}
 use Rattle.plain_bus.proofs.HeardByMasks.{station_read}
 use Rattle.plain_bus.proofs.SteppedByMasks.{stepped, one_more_station, one_more_sender, no_station, times_stepped, nobody}
 use Rattle.plain_bus.proofs.station.Stations.next.Goals as goal
 
 pub loop-place-init : goal.loop-place-init
-loop-place-init c = record {
+loop-place-init g c = record {
   each = λ s m flood known at. c.none-next.ensures.each;
   senders = λ s m flood known at.
-      subst (λ (n : ℕ). IsMaskUpto (λ v. is_some ((next s c.args.step m).sends v)) c.args.trace.now.nodes 0 n) (sym c.none-next.ensures.senders)
-      (no_station (λ v. is_some ((next s c.args.step m).sends v)) c.args.trace.now.nodes);
+      subst (λ (n : ℕ). IsMaskUpto (λ v. is_some ((next s c.args.step m).sends v)) (g.M.Links.nodes c.args.links.now) 0 n) (sym c.none-next.ensures.senders)
+      (no_station (λ v. is_some ((next s c.args.step m).sends v)) (g.M.Links.nodes c.args.links.now));
   length = ap length c.none-next.ensures.each;
   times = nobody c.none-next.result.each.items (c.args.step + 1) c.none-next.ensures.each;
 }
 
 pub loop-place-preserved : goal.loop-place-preserved
-loop-place-preserved c =
-    let t = c.args.trace.now in
+loop-place-preserved g c =
+    let t = traced (g.M.Links.lines c.args.links.now) (g.M.Links.nodes c.args.links.now) in
     let f = c.args.flood.now in
     let nodes = t.nodes in
     let k = c.args.step in
@@ -56,8 +56,8 @@ loop-place-preserved c =
     }
 
 pub returns : goal.returns
-returns c =
-    let nodes = c.args.trace.now.nodes in
+returns g c =
+    let nodes = (g.M.Links.nodes c.args.links.now) in
     let k = c.args.step in
     let all : c.loop-place.place ≡ length nodes =
     omega (arith, c.loop-place-test.false, c.loop-place.auto.place-end, c.len-place-end.ensures.value, c.requires.sealed) in

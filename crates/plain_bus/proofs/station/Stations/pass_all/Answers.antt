@@ -5,7 +5,7 @@ use Rattle.std.proofs.lemmas.List.{take_all, take_at, length-map, get_or_default
 use Rattle.std.proofs.lemmas.List.Elements.{All-push}
 use Rattle.link_trace.specs.Masks.{IsMaskUpto}
 use Rattle.bus_terms.specs.Flooding.{Setting, Moment, next}
-use Rattle.plain_bus.specs.FloodMasks.{AreAt, IsMaskedFlood, SendsForInitiators, IsLone, heard_alone, station_after, station_at, with_sender}
+use Rattle.plain_bus.specs.FloodMasks.{AreAt, IsMaskedFlood, SendsForInitiators, IsLone, heard_alone, station_after, station_at, with_sender, traced}
 use Rattle.plain_bus.specs.declared.station.Station.{Station}
 use Rattle.plain_bus.proofs.HeardAlone.{heard_alone_is}
 use Rattle.plain_bus.proofs.HeardByMasks.{station_read}
@@ -15,21 +15,21 @@ use Rattle.plain_bus.proofs.station.Stations.pass_all.Goals as goal
 use Rattle.plain_bus.proofs.station.Stations.pass_all.Goals.{then-is_some, else-is_some}
 
 pub loop-station-init : goal.loop-station-init
-loop-station-init c = record {
+loop-station-init g c = record {
   place = omega arith;
   done = λ s m flood lone known at. refl;
-  senders = λ s m flood lone known at. no_station (λ v. is_some ((next s c.args.step m).sends v)) c.args.trace.now.nodes;
+  senders = λ s m flood lone known at. no_station (λ v. is_some ((next s c.args.step m).sends v)) (g.M.Links.nodes c.args.links.now);
   todo = c.deref_mut-station-items.ensures.value;
   times = λ k d below. absurd (omega (arith, below));
 }
 
 pub pass-requires-clause-place : goal.pass-requires-clause-place
-pass-requires-clause-place c =
+pass-requires-clause-place g c =
     let size = ap length c.deref_mut-station-items.ensures.value in
     omega (arith, c.loop-station-test.true, c.loop-station.invariant.place, size, c.requires.sealed, c.requires.few)
 
 pub pass-requires-clause-times : goal.pass-requires-clause-times
-pass-requires-clause-times c =
+pass-requires-clause-times g c =
     let i = c.loop-station.station-index in
     let xs = c.args.self.now.each.items in
     let d : Station = get_or c.loop-station.station-items i c.station-item.result in
@@ -39,18 +39,18 @@ pass-requires-clause-times c =
     subst (λ (z : Station). z.times ≤ c.args.step) (sym old) (c.requires.times i d inside)
 
 pub overflow_shl-senders : goal.overflow_shl-senders
-overflow_shl-senders c =
+overflow_shl-senders g c =
     let size = ap length c.deref_mut-station-items.ensures.value in
     omega (arith, c.loop-station-test.true, c.loop-station.invariant.place, size, c.requires.sealed, c.requires.few)
 
 pub overflow_add-place : goal.overflow_add-place
-overflow_add-place c =
+overflow_add-place g c =
     let size = ap length c.deref_mut-station-items.ensures.value in
     omega (arith, c.loop-station-test.true, c.loop-station.invariant.place, size, c.requires.sealed, c.requires.few)
 
 pub loop-station-preserved : goal.loop-station-preserved
-loop-station-preserved c =
-    let t = c.args.trace.now in
+loop-station-preserved g c =
+    let t = traced (g.M.Links.lines c.args.links.now) (g.M.Links.nodes c.args.links.now) in
     let f = c.args.flood.now in
     let k = c.args.step in
     let o = c.args.origin in
@@ -104,8 +104,8 @@ loop-station-preserved c =
     }
 
 pub returns-clause-at : goal.returns-clause-at
-returns-clause-at c s m flood lone known at =
-    let nodes = c.args.trace.now.nodes in
+returns-clause-at g c s m flood lone known at =
+    let nodes = (g.M.Links.nodes c.args.links.now) in
     let k = c.args.step in
     let i = c.loop-station.station-index in
     let items = c.loop-station.station-items in
@@ -128,7 +128,7 @@ returns-clause-at c s m flood lone known at =
     }
 
 pub returns-clause-times : goal.returns-clause-times
-returns-clause-times c =
+returns-clause-times g c =
     let i = c.loop-station.station-index in
     let items = c.loop-station.station-items in
     let xs = c.args.self.now.each.items in

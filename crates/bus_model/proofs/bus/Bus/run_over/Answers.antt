@@ -1,0 +1,34 @@
+use Rattle.std.proofs.Common.{◌≡◌, ℕ, length, subst, sym, ◌∙◌, ap, arith}
+use Rattle.scenario_text.specs.ScenarioParts.{ScenarioParts}
+use Rattle.plain_bus.proofs.SlotsMet.{ids_ascend, ids_each}
+use Rattle.plain_bus.proofs.SoundOver.{sound_over}
+use Rattle.bus_model.specs.BusRuns.{BusRun, IsBusRun}
+use Rattle.bus_model.specs.RunningBuses.{IsBeforeFrame}
+use Rattle.bus_model.proofs.FramesInTurn.{script_over}
+use Rattle.bus_model.proofs.bus.Bus.run_over.Goals as goal
+
+pub loop-frame-init : goal.loop-frame-init
+loop-frame-init g c = rw c.new-scenario.ensures (c.in_ok-run.ensures (g.M.Links.lines c.args.links.now))
+
+pub run_frame-requires-clause-few : goal.run_frame-requires-clause-few
+run_frame-requires-clause-few g c = (sound_over c.new-scenario.result c.frames-frame-end.ensures.said).few_frames
+
+pub returns : goal.returns
+returns g c =
+    let s = c.new-scenario.result in
+    let all : c.loop-frame.frame ≡ s.frames = omega (arith, c.loop-frame-test.false, c.loop-frame.auto.frame-end, c.frames-frame-end.ensures.value) in
+    let ended : IsBeforeFrame s s.frames c.loop-frame.run = subst (λ (f : ℕ). IsBeforeFrame s f c.loop-frame.run) all c.loop-frame.invariant in
+    let net = c.loop-frame.run.net in
+    let run : BusRun = record { ids = net.ids; costs = net.costs; deliveries = net.deliveries; drops = c.loop-frame.run.drops.items } in
+    subst (λ (x : ScenarioParts). IsBusRun x run) c.new-scenario.ensures (record {
+      nodes = ended.at.ready.ids_are;
+      each_cost = ended.at.costs_are;
+      delivered = ended.at.delivered;
+      lost = ended.lost ∙ script_over s c.frames-frame-end.ensures.said c.loop-frame.run.told ended.cut;
+    })
+
+pub invariant_of-result : goal.invariant_of-result
+invariant_of-result g c =
+    let s = c.new-scenario.result in
+    let ready = c.loop-frame.invariant.at.ready in
+    (ids_ascend s c.frames-frame-end.ensures.said c.loop-frame.run.net.ids ready.ids_are, ready.costs_each ∙ sym (ap length ready.ids_are ∙ ids_each s))
