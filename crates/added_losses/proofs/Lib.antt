@@ -1,0 +1,3 @@
+-- for this crate alone
+pub mod LossLines
+pub mod StillInOrder

@@ -1,0 +1,12 @@
+use Rattle.std.proofs.Common.{◌∙◌, ap, arith, length}
+use Rattle.link_trace.specs.Passes.{Lines}
+use Rattle.added_losses.proofs.losses.line_count.Goals as goal
+
+pub returns-clause-count : goal.returns-clause-count
+returns-clause-count c =
+    let rates = ap length c.rates.ensures in
+    let script = ap length c.script.ensures.value in
+    let losses = ap length (c.losses.ensures.value ∙ ap (λ (t : Lines). t.losses) c.trace-trace.ensures.value) in
+    let cuts = ap length (c.cuts.ensures.value ∙ ap (λ (t : Lines). t.cuts) c.trace-trace.ensures.value) in
+    let captures = ap length (c.captures-2.ensures.value ∙ ap (λ (t : Lines). t.captures) c.trace-trace.ensures.value) in
+    omega (arith, rates, script, losses, cuts, captures)

@@ -1,0 +1,3 @@
+pub mod DrawnScenarios
+pub mod KeptLosses
+pub mod FloodLosses

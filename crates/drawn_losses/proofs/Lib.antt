@@ -1,0 +1,4 @@
+-- for this crate alone
+pub mod LossesFound
+pub mod FloodsOverBase
+pub mod FloodsInTurn
