@@ -1,0 +1,166 @@
+-- Members of a rank stay members as long as nothing is lost: their next round comes by the host's closing schedule, and until it comes
+-- nobody hosts the rank.
+use Rattle.std.proofs.Common.{◌≡◌, ◌≢◌, ◌<◌, ◌≤◌, ◌+◌, ◌-◌, ◌==◌, ◌&&◌, ℕ, zero, suc, List, Bool, true, false, Some, inl, inr}
+use Rattle.std.proofs.Common.{length, refl, ◌∙◌, ap, subst, arith}
+use Rattle.std.proofs.lemmas.Bool.{cases_eq, eq-eqb, ne_eqb}
+use Rattle.lwb_base.specs.Messages.{Plan}
+use Rattle.scenario_text.specs.ScenarioGrammar.{IsScenario}
+use Rattle.scenario_text.specs.ScenarioParts.{ScenarioParts}
+use Rattle.scenario_text.specs.ScenarioFacts.{IsSoundScenario}
+use Rattle.scenario_text.proofs.SoundScenarios.{sound}
+use Rattle.bus_rules.specs.declared.tune.Tune.{Tune}
+use Rattle.bus_rules.specs.declared.tune.Tune.TheVariants.{Hold, Host}
+use Rattle.bus_rules.specs.Cores.{own_rank}
+use Rattle.bus_rules.specs.States.{State, StateOff, StateOn}
+use Rattle.bus_rules.specs.Tuning.{hosts as is_hosting, hosts_in, rank_of}
+use Rattle.bus_terms.specs.Bus.{state_at}
+use Rattle.bus_terms.specs.Flooding.{has}
+use Rattle.bus_terms.specs.Rounds.{rounds}
+use Rattle.bus_terms.specs.ScriptedStates.{setup_in}
+use Rattle.bus_terms.proofs.HostsOfRanks.{IsRightfulState, rightful}
+use Rattle.law_times.specs.Reaches.{IsLossless, IsGroup}
+use Rattle.law_times.specs.Tunes.{AreMembers}
+use Rattle.law_times.specs.FirstRounds.{MembersStay}
+use Rattle.law_times.proofs.Settings.{setting, idle, tune_of, setting_tune, core_tune}
+use Rattle.law_times.proofs.QuietRounds.{hosts_round, set_to_host, by_setting, NobodyHosts, nobody_else}
+use Rattle.law_times.proofs.QuietFrames.{Goes, quiet_frame, script_same}
+use Rattle.law_times.proofs.HostedFrames.{Planned}
+use Rattle.law_times.proofs.ReachedNodes.{IsThere, in_round}
+use Rattle.law_times.proofs.JoinedNodes.{next, host_next, joins}
+use Rattle.law_times.proofs.TuneSteps.{holds_on, goes_idle, goes_tuned, tuned_goes}
+
+pub due_host : (rank f : ℕ) → hosts_in rank f (Host rank f) ≡ true
+due_host rank f = rw (eq-eqb rank rank refl, eq-eqb f f refl) refl
+
+pub not_due : (rank f due : ℕ) → f < due → hosts_in rank f (Host rank due) ≡ false
+not_due rank f due later = by_rank (rank == rank) (due == f) (ne_eqb due f (λ same. absurd (omega (arith, later, same))))
+  where
+    by_rank : (a b : Bool) → b ≡ false → (a && b) ≡ false
+    by_rank true b is = is
+    by_rank false b is = refl
+
+-- a host at the start of a frame hosts the rank that the scenario gives it
+pub host_own : (s : ScenarioParts) (rank f v due : ℕ) (p : Plan) → Goes s f v (Host rank due) p → own_rank v s.hosts ≡ Some rank
+host_own s rank f v due p goes = by_state (state_at s f v) (rightful s f v) goes
+  where
+    by_state : (x : State) → IsRightfulState (setup_in s v) x → setting x ≡ Some (idle (Host rank due) p) → own_rank v s.hosts ≡ Some rank
+    by_state (StateOff boots) is goes = absurd (cc)
+    by_state (StateOn c) is goes =
+        let same : c.tune ≡ Host rank due = core_tune c (Host rank due) p goes in
+        subst (λ (t : Tune). is_hosting t ≡ true → own_rank v s.hosts ≡ Some (rank_of t)) same is.own refl
+
+-- members by their settings
+pub record Members (s : ScenarioParts) (rank f host : ℕ) (among : List ℕ) : Type 0 where
+  pub due : ℕ
+  pub range : (f ≤ due) × (due < f + 4)
+  pub plan : Plan
+  pub hosts : Goes s f host (Host rank due) plan
+  pub hold : (v : ℕ) → has among v ≡ true → v ≢ host → Goes s f v (Hold rank due) plan
+
+module _ (s : ScenarioParts) (accepted : IsScenario s) (rank host b e : ℕ) (among : List ℕ) (group : IsGroup s host b e among) where
+  abbrev scenario : IsSoundScenario s
+  scenario = sound s accepted
+
+  -- after a round in which nothing is lost, of nodes that all take part in it
+  pub round_joins : (f : ℕ) → b ≤ f → suc f ≤ e → IsLossless s f → hosts_round rank f (state_at s f host) ≡ true
+      → ((v : ℕ) → has among v ≡ true → (t : Tune) × (tune_of (state_at s f v) ≡ Some t) × (in_round rank f t ≡ true)) → Members s rank (suc f) host among
+  round_joins f after within lossless due tunes = record {
+    due = plan.due;
+    range = (let later = plan.later in let soon = plan.soon in (omega (arith, later), omega (arith, soon)));
+    plan = plan.plan;
+    hosts = script_same s b e (suc f) host (idle (Host rank plan.due) plan.plan) (group.stay host group.led) (omega (arith, after)) within
+        (host_next s accepted rank f host due);
+    hold = λ v there other. script_same s b e (suc f) v (idle (Hold rank plan.due) plan.plan) (group.stay v there) (omega (arith, after)) within
+        (joins s accepted rank f host due lossless among all v there other (group.reached v there other));
+  }
+    where
+      plan : Planned (rounds s f (state_at s f) host) rank f
+      plan = next s accepted rank f host due
+
+      all : (v : ℕ) → has among v ≡ true → IsThere s rank f v
+      all v there = (let t = tunes v there in record { known = group.known v there; tune = t.0; on = t.1; takes = t.2 })
+
+  -- a frame of theirs
+  step : (f : ℕ) → b ≤ f → suc f ≤ e → IsLossless s f → Members s rank f host among → Members s rank (suc f) host among
+  step f after within lossless members = elim (cases_eq members.due f) [ inl now ↦ in_due now | inr other ↦ in_quiet other ]
+    where
+      own : own_rank host s.hosts ≡ Some rank
+      own = host_own s rank f host members.due members.plan members.hosts
+
+      in_quiet : (members.due ≡ f → ⊥) → Members s rank (suc f) host among
+      in_quiet other = record {
+        due = members.due;
+        range = (omega (arith, later), (let range = members.range in omega (arith, range)));
+        plan = members.plan;
+        hosts = (quiet_frame s b e f host (Host rank members.due) members.plan (group.stay host group.led)
+            (omega (arith, after)) within members.hosts nobody).1;
+        hold = λ v there apart.
+            (quiet_frame s b e f v (Hold rank members.due) members.plan (group.stay v there) (omega (arith, after)) within
+            (members.hold v there apart) nobody).1
+            ∙ ap (λ (t : Tune). Some (idle t members.plan)) (holds_on (own_rank v s.hosts) rank members.due f (length s.hosts) later);
+      }
+        where
+          later : f < members.due
+          later = (let range = members.range in omega (arith, range, other))
+
+          nobody : NobodyHosts s rank f
+          nobody = nobody_else s rank f host own (goes_idle s rank f host (Host rank members.due) members.plan members.hosts (not_due rank f members.due later))
+
+      in_due : members.due ≡ f → Members s rank (suc f) host among
+      in_due now = round_joins f after within lossless due tunes
+        where
+          due : hosts_round rank f (state_at s f host) ≡ true
+          due = by_setting rank f (state_at s f host) ∙ ap (set_to_host rank f) members.hosts ∙ ap (λ (d : ℕ). hosts_in rank f (Host rank d)) now
+              ∙ due_host rank f
+
+          holding : in_round rank f (Hold rank members.due) ≡ true
+          holding = rw (eq-eqb rank rank refl, eq-eqb members.due f now) refl
+
+          hosting : in_round rank f (Host rank members.due) ≡ true
+          hosting = rw (eq-eqb rank rank refl, eq-eqb members.due f now) refl
+
+          tunes : (v : ℕ) → has among v ≡ true → (t : Tune) × (tune_of (state_at s f v) ≡ Some t) × (in_round rank f t ≡ true)
+          tunes v there = elim (cases_eq v host) [
+            | inl same ↦ (
+              Host rank members.due,
+              ap (λ (u : ℕ). tune_of (state_at s f u)) same ∙ setting_tune (state_at s f host) (Host rank members.due) members.plan members.hosts,
+              hosting,
+            )
+            | inr other ↦
+                (Hold rank members.due, setting_tune (state_at s f v) (Hold rank members.due) members.plan (members.hold v there other), holding)
+          ]
+
+  pub members_stay : (f : ℕ) → b ≤ f → Members s rank f host among → (n : ℕ) → n + f ≤ e → ((m : ℕ) → f ≤ m → m < n + f → IsLossless s m)
+      → Members s rank (n + f) host among
+  members_stay f after members zero within lossless = subst (λ (g : ℕ). Members s rank g host among) (omega arith) members
+  members_stay f after members (suc n) within lossless =
+      subst (λ (g : ℕ). Members s rank g host among) (omega arith)
+      (step (n + f) (omega (arith, after)) (omega (arith, within)) (lossless (n + f) (omega arith) (omega arith))
+      (members_stay f after members n (omega (arith, within)) (λ m low high. lossless m low (omega (arith, high)))))
+
+  pub of_members : (f : ℕ) → Members s rank f host among → AreMembers s rank f host among
+  of_members f members = record {
+    due = members.due;
+    range = members.range;
+    plan = members.plan;
+    hosts = goes_tuned s f host (Host rank members.due) members.plan members.hosts;
+    hold = λ v there other. goes_tuned s f v (Hold rank members.due) members.plan (members.hold v there other);
+  }
+
+  pub to_members : (f : ℕ) → AreMembers s rank f host among → Members s rank f host among
+  to_members f members = record {
+    due = members.due;
+    range = members.range;
+    plan = members.plan;
+    hosts = tuned_goes s scenario f host (Host rank members.due) members.plan members.hosts;
+    hold = λ v there other. tuned_goes s scenario f v (Hold rank members.due) members.plan (members.hold v there other);
+  }
+
+pub members : MembersStay
+members s accepted rank host f e among group are g after within lossless =
+    let n : ℕ = g - f in
+    let at : n + f ≡ g = omega (arith, after) in
+    subst (λ (g : ℕ). AreMembers s rank g host among) at
+    (of_members s accepted rank host f e among group (n + f)
+    (members_stay s accepted rank host f e among group f (omega arith) (to_members s accepted rank host f e among group f are) n (omega (arith, within, at))
+    (λ m low high. lossless m low (omega (arith, high, at)))))

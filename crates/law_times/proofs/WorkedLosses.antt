@@ -1,0 +1,71 @@
+-- Three rounds in a row that a member misses, and the one after which it is a member again; it has scanned for twelve frames by then.
+use Rattle.std.proofs.Common.{◌≡◌, ◌≢◌, ℕ, List, [], ◌∷◌, true, nat_le, refl, arith, subst}
+use Rattle.std.proofs.lemmas.Bool.{leb-true}
+use Rattle.lwb_base.specs.Messages.{least_passing}
+use Rattle.bus_rules.specs.Granting.{plan_round}
+use Rattle.bus_rules.specs.HostPlans.{host_plan}
+use Rattle.bus_rules.specs.Streams.{schedule_heard}
+use Rattle.bus_terms.specs.Bus.{before_frame}
+use Rattle.bus_terms.specs.Distances.{walks}
+use Rattle.bus_terms.specs.Flooding.{has, moment}
+use Rattle.bus_terms.specs.FloodOfText.{ids}
+use Rattle.bus_terms.specs.Rounds.{before_slot}
+use Rattle.law_times.specs.FirstRounds.{Begins, IsUpBy}
+use Rattle.law_times.specs.Losses.{CostsFew, lossy_rounds, lossy_row, scanned}
+use Rattle.law_times.specs.Reaches.{IsGroup, IsLossless, IsReached}
+use Rattle.law_times.specs.ScriptedPower.{StaysOn, power_before}
+use Rattle.law_times.specs.Tunes.{AreMembers}
+use Rattle.law_times.proofs.ComputedTests.{all_up_to, each_up_to}
+use Rattle.law_times.proofs.CountedLosses.{losses_cost_few}
+use Rattle.law_times.proofs.FirstRoundsOfHosts.{nodes_join}
+use Rattle.law_times.proofs.WorkedNetworks.{three_lost, three_is_scenario}
+use Rattle.law_times.proofs.WorkedTimes.{each_of_two}
+
+abbrev both : List ℕ
+both = 1 ∷ 2 ∷ []
+
+begins : (e : ℕ) → Begins three_lost 1 0 e
+unfolding power_before
+begins e = record { first = refl; boots = record { boots = omega arith; on = refl }; stays = refl }
+
+group : (b e : ℕ) → IsGroup three_lost 1 b e both
+unfolding walks
+group b e = record {
+  led = refl;
+  known = each_of_two (λ v. has (ids three_lost.nodes) v ≡ true) 1 2 refl refl;
+  stay = each_of_two (λ v. StaysOn three_lost b e v) 1 2 refl refl;
+  reached = each_of_two (λ v. v ≢ 1 → IsReached three_lost both 1 v) 1 2 (λ other. absurd (other refl))
+      (λ other. record { links = 1; few = omega arith; walk = refl });
+}
+
+up : (v : ℕ) → has both v ≡ true → v ≢ 1 → IsUpBy three_lost 0 5 v
+unfolding power_before
+up = each_of_two (λ v. v ≢ 1 → IsUpBy three_lost 0 5 v) 1 2 (λ other. absurd (other refl))
+    (λ other. record { frame = 0; range = (omega arith, omega arith); boots = record { boots = omega arith; on = refl }; stays = refl })
+
+in_frame_5 : IsLossless three_lost 5
+in_frame_5 = record { losses = refl; cuts = refl }
+
+members : AreMembers three_lost 0 6 1 both
+members =
+    nodes_join three_lost three_is_scenario 1 0 6 (begins 6) both (group 5 6) up 6 (omega arith) (omega arith)
+    (λ f low high. (let same : 5 ≡ f = omega (arith, low, high) in subst (IsLossless three_lost) same in_frame_5))
+
+rows : all_up_to (λ m. nat_le (lossy_row three_lost 0 1 6 m) 3) 16 ≡ true
+unfolding all_up_to lossy_row before_frame before_slot moment schedule_heard host_plan plan_round least_passing
+rows = refl
+
+-- the sixteen frames from 6 on have three rounds with losses, and in twelve of them node 2 scans
+costs : CostsFew three_lost 0 6 1 both 16
+costs =
+    losses_cost_few three_lost three_is_scenario 0 1 6 22 both (group 6 22) members 16 (omega arith)
+    (λ m below. leb-true (lossy_row three_lost 0 1 6 m) 3 (each_up_to (λ m. nat_le (lossy_row three_lost 0 1 6 m) 3) 16 rows m below))
+
+counted : (lossy_rounds three_lost 0 1 6 16 ≡ 3) × (scanned three_lost 2 6 16 ≡ 12)
+unfolding lossy_rounds scanned before_frame before_slot moment schedule_heard host_plan plan_round least_passing
+counted = (refl, refl)
+
+-- and then it is a member again
+back : AreMembers three_lost 0 22 1 both
+unfolding lossy_row before_frame before_slot moment schedule_heard host_plan plan_round least_passing
+back = costs.back refl

@@ -1,0 +1,5 @@
+use Rattle.law_times.proofs.ContentionTurnsOfSix.{six_never_part}
+use Rattle.law_times.proofs.contention_turns.six_never_part.Goals as goal
+
+pub returns : goal.returns
+returns c = six_never_part

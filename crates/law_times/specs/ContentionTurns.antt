@@ -1,0 +1,46 @@
+-- Nodes that have a request due in each contention slot of their own, round after round: who of them requests.
+use Rattle.std.specs.Prelude.{◌≡◌, ◌≢◌, ◌<◌, ◌≤◌, ◌-◌, ◌^◌, ◌%◌, ◌&&◌, ℕ, zero, suc, List, [], ◌∷◌, Bool, true, is_some, nat_le, count_by}
+use Rattle.bus_rules.specs.Streams.{Streams, after_contention, cleared, due_stream, requested, declared, put}
+
+-- the streams of a node after n such slots
+unfoldable pub after_turns : ℕ → Streams → ℕ → Streams
+after_turns node x zero = x
+after_turns node x (suc n) = after_contention node (after_turns node x n)
+
+-- whether it requests in the next one
+abbrev pub requests_after : ℕ → Streams → ℕ → Bool
+requests_after node x n = is_some (requested (after_turns node x n))
+
+-- a request is due, and tries and skips are as the rule leaves them, after however many tries
+pub record IsBackingOff (node : ℕ) (x : Streams) : Type 0 where
+  pub due : is_some (due_stream x) ≡ true
+  pub tries : x.tries ≤ 4
+  pub skips : x.skips ≤ node % 2 ^ x.tries
+
+-- within so many rounds one of two such nodes alone requests, if their ids differ modulo 16
+abbrev pub PartWithin : ℕ → Type 0
+PartWithin rounds =
+    (u v : ℕ) (x y : Streams) → u % 16 ≢ v % 16 → IsBackingOff u x → IsBackingOff v y
+    → (n : ℕ) × (n < rounds) × (requests_after u x n ≢ requests_after v y n)
+
+-- a stream that waits to be requested, first tried now
+abbrev pub asks_anew : Streams
+asks_anew = put 0 (0xaa ∷ []) (declared 0 4 cleared)
+
+-- a node that begins to ask in a round, and whether it requests in another
+pub record Asker : Type 0 where
+  pub node : ℕ
+  pub first : ℕ
+
+abbrev pub asks_in : ℕ → Asker → Bool
+asks_in n a = nat_le a.first n && requests_after a.node asks_anew (n - a.first)
+
+-- of six nodes that begin in these rounds
+abbrev pub six_askers : List Asker
+six_askers =
+    record { node = 16; first = 0 } ∷ record { node = 17; first = 0 } ∷ record { node = 18; first = 0 } ∷ record { node = 19; first = 1 }
+    ∷ record { node = 21; first = 5 } ∷ record { node = 27; first = 7 } ∷ []
+
+-- there is no round in which one alone requests
+abbrev pub SixNeverPart : Type 0
+SixNeverPart = (n : ℕ) → count_by (asks_in n) six_askers ≢ 1

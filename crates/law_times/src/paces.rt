@@ -1,0 +1,22 @@
+//! How the slots of a stream keep pace with its interval.
+
+ghost use Rattle.std.specs.Prelude.{◌≡◌, ◌≤◌};
+ghost use Rattle.law_times.specs.Paces.{OwedAlwaysFits, SlotsComeWithin, StreamsKeepPace, latency_bound};
+
+/// If no stream of a scenario asks for an interval below a frame, all that is owed by the next round of a host fits into it
+/// (`fits`), and each stream in its table has been granted just the slots that have come due by that round (`pace`).
+pub fn owed_always_fits()
+    ensures fits { OwedAlwaysFits }
+    ensures pace { StreamsKeepPace }
+{}
+
+/// The frames within which a stream with this interval in seconds, and this number of seconds a frame, has been granted `queue`
+/// slots: counted from any frame after a round of its host, if its entry stays in the host's table. For intervals of at least a
+/// frame.
+pub fn latency_frames(queue: u8, interval: u8, seconds: u8) -> u32
+    requires { (1 ≤ interval) × (1 ≤ seconds) }
+    ensures value { result ≡ latency_bound queue interval seconds }
+    ensures enough { SlotsComeWithin queue interval seconds result }
+{
+    (u32::from(queue) * u32::from(interval) + u32::from(seconds) - 1) / u32::from(seconds) + 2
+}
