@@ -1,2 +1,1 @@
-pub mod ProcessWords
-pub mod ProcessRuns
+pub mod TopCalls

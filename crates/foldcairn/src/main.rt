@@ -2,7 +2,6 @@
 #![tactic(auto)]
 
 mod process_run;
-mod process_words;
 
 use lwb_base::{ReaderSource, WriterSink};
 use process_run::run_process;

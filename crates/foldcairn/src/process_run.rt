@@ -2,9 +2,10 @@
 
 ghost use Rattle.std.specs.Prelude.{◌≡◌};
 ghost use Rattle.std.specs.Process.{exit_status};
-ghost use Rattle.foldcairn.specs.ProcessRuns.{IsProcessRun};
+ghost use Rattle.command_line.specs.ProcessRuns.{IsProcessRun};
+ghost use Rattle.foldcairn.specs.TopCalls.{CallsTop};
 
-use crate::process_words::words_of;
+use command_line::words_of;
 use lwb_base::{Sink, Source};
 use replay_tool::{Outcome, top};
 use std::alloc::Global;
@@ -20,8 +21,9 @@ pub fn run_process<S: Source, K: Sink>(
     source: &mut S,
     sink: &mut K,
 ) -> ExitCode
-    ensures { IsProcessRun (record { left = S.left; read_faults = S.faults; held = K.held; write_faults = K.faults }) answer
-        source.old source.new sink.old sink.new (exit_status result) }
+    ensures { IsProcessRun
+        (CallsTop (record { left = S.left; read_faults = S.faults; held = K.held; write_faults = K.faults }) source.old source.new sink.old sink.new)
+        answer source.old source.new sink.old sink.new (exit_status result) }
 {
     match words_of(alloc, answer) {
         Ok(words) => exit_code(&top(alloc, &words, source, sink)),

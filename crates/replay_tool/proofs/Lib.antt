@@ -1,10 +1,8 @@
-pub mod DecimalWords
 pub mod Words
 pub mod Due
 pub mod CheckedLogs
 pub mod StatedRuns
 pub mod ReportLines
-pub mod NodeLines
 pub mod ProbeLines
 pub mod ReturnedRuns
 pub mod ReturnTexts

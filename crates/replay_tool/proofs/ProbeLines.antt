@@ -6,7 +6,7 @@ use Rattle.scenario_text.specs.declared.lines.NodeLine.{NodeLine}
 use Rattle.lwb_base.proofs.Elements.{contains_head, contains_tail}
 use Rattle.host_return.specs.Returned.{count_of_node}
 use Rattle.replay_tool.specs.ReturnReport.{node_probes, probe_line}
-use Rattle.replay_tool.proofs.NodeLines.{known_in}
+use Rattle.bus_report.proofs.NodeLines.{known_in}
 
 module _ (g : ℕ → ℕ) where
   abbrev node_count : NodeLine → ℕ × ℕ

@@ -1,12 +1,8 @@
--- Lines of a report, one word more.
+-- A line of owners, one more.
 use Rattle.std.proofs.Common.{◌≡◌, ℕ, ◌+◌, ◌<◌, List, [], ◌∷◌, ◌++◌, length, take, map, get_or, decimal, refl, sym, ◌∙◌, ap}
 use Rattle.std.specs.List.{join_with_byte}
-use Rattle.std.proofs.lemmas.List.{take_more, append_assoc, map-append}
-
--- a word more
-pub word_more : (w : List ℕ) (ws : List (List ℕ)) (v : List ℕ) → join_with_byte 32 (w ∷ ws ++ v ∷ []) ≡ join_with_byte 32 (w ∷ ws) ++ 32 ∷ v
-word_more w [] v = refl
-word_more w (x ∷ ws) v = ap (λ (l : List ℕ). w ++ 32 ∷ l) (word_more x ws v) ∙ sym (append_assoc w (32 ∷ join_with_byte 32 (x ∷ ws)) (32 ∷ v))
+use Rattle.std.proofs.lemmas.List.{take_more, map-append}
+use Rattle.bus_report.proofs.JoinedWords.{word_more}
 
 -- a number more
 pub owner_more : (w : List ℕ) (frame i : ℕ) (owners : List ℕ) (o : ℕ) → i < length owners → o ≡ get_or owners i 0

@@ -1,6 +1,5 @@
 pub mod FloodReport
 pub mod RunReport
-pub mod BusReport
 pub mod Summary
 pub mod DeadlineReport
 pub mod CheckReport

@@ -25,7 +25,7 @@ use Rattle.host_return.specs.Returned.{IsReturned, ReturnedParts}
 use Rattle.law_bus.specs.BusRuns.{AgreesWithBus}
 use Rattle.replay_tool.specs.FloodReport.{flood_report}
 use Rattle.replay_tool.specs.RunReport.{run_report}
-use Rattle.replay_tool.specs.BusReport.{bus_report}
+use Rattle.bus_report.specs.BusReport.{bus_report}
 use Rattle.replay_tool.specs.Summary.{summary}
 use Rattle.air_check.specs.CheckedText.{checked_text}
 use Rattle.replay_tool.specs.CheckReport.{IsCheckReport}

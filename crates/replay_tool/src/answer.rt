@@ -1,17 +1,15 @@
 //! What a command answers.
 
-ghost use Rattle.std.specs.Prelude.{◌≡◌, ℕ, List, IfOk, string_bytes};
+ghost use Rattle.std.specs.Prelude.{ℕ, List, IfOk};
 ghost use Rattle.replay_tool.specs.Answers.{Answers};
-ghost use Rattle.replay_tool.specs.CommandLine.{fault_line as fault_line_of};
 ghost use Rattle.replay_tool.specs.Commands.{HasFault};
 ghost use Rattle.replay_tool.specs.declared.command.Command.{Command as CommandOf};
 
 use air_log::Air;
+use command_line::fault_line;
 use lwb_base::Memory;
 use scenario_text::FaultKind;
-use std::alloc::{AllocError, Global};
-use std::fmt::Write;
-use text_writers::write_words;
+use std::alloc::Global;
 
 /// What a command writes, and the log of what it ran.
 #[derive(Drop)]
@@ -25,13 +23,4 @@ pub fn fault_answer(alloc: Global, line: u32, kind: FaultKind) -> Result<Answer,
     ensures { (c : CommandOf) (b : List ℕ) → HasFault c b line kind → IfOk result (λ a. Answers c b a) }
 {
     Ok(Answer::Fault(fault_line(alloc, line, kind)?))
-}
-
-fn fault_line(alloc: Global, line: u32, kind: FaultKind) -> Result<String, AllocError>
-    ensures { IfOk result (λ text. string_bytes text ≡ fault_line_of line kind) }
-{
-    let mut text = String::new(alloc);
-    write_words(&mut text, "fault line", &[line])?;
-    write!(text, ": {kind}\n")?;
-    Ok(text)
 }

@@ -1,14 +1,13 @@
 //! The answer to the command `bus`.
 
-ghost use Rattle.std.specs.Prelude.{◌≡◌, ◌<◌, ◌^◌, IfOk, length};
+ghost use Rattle.std.specs.Prelude.{◌<◌, ◌^◌, IfOk, length};
 ghost use Rattle.replay_tool.specs.Answers.{Answers};
 ghost use Rattle.replay_tool.specs.declared.command.Command.TheVariants as asked;
 
 use crate::answer::{Answer, fault_answer};
-use crate::cost_lines::write_costs;
-use crate::run_report::run_report;
 use air_log::Air;
 use bus_model::Bus;
+use bus_report::{report_lines, write_costs};
 use lwb_base::Memory;
 use scenario_text::{ParseFault, parse};
 use std::alloc::Global;
@@ -24,7 +23,7 @@ pub fn bus_answer(alloc: Global, bytes: &[u8]) -> Result<Answer, Memory>
         Err(ParseFault::Memory) => return Err(Memory),
     };
     let bus = Bus::run(alloc, &scenario)?;
-    let mut report = run_report(alloc, bus.deliveries(), bus.drops())?;
-    write_costs(&mut report, &scenario, &bus)?;
+    let mut report = report_lines(alloc, bus.deliveries(), bus.drops())?;
+    write_costs(&mut report, scenario.nodes(), &bus)?;
     Ok(Answer::Report(report, Air::new(alloc)))
 }

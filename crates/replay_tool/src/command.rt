@@ -1,12 +1,13 @@
 //! The commands, by the words that ask for them.
 
-ghost use Rattle.std.specs.Prelude.{◌≡◌, ◌<◌, ◌^◌, ◌↔◌, IsTrue, List, ℕ, Some, SomeIff, false, codes, decimal, map, string_bytes, ◌∷◌, []};
+ghost use Rattle.std.specs.Prelude.{◌≡◌, ◌↔◌, Some, SomeIff, false};
 ghost use Rattle.scenario_maker.specs.Made.{IsSize};
 ghost use Rattle.replay_tool.specs.Commands.{Asks, reads as reads_of};
 ghost use Rattle.replay_tool.specs.declared.command.Command.{Command as CommandOf};
 ghost use Rattle.replay_tool.specs.declared.command.Command.TheVariants as asked;
 
-use crate::numbers::number;
+use command_line::{is_word, number};
+use scenario_text::RUN_NODE_FRAMES;
 
 /// What the words of the command line can ask for.
 #[derive(Clone, Copy)]
@@ -20,7 +21,7 @@ pub enum Command {
     /// What the scenario gives on the ideal single-hop bus, without clocks.
     Bus,
     /// The summary of the run of the scenario that a seed makes, of 2 to 64 nodes and 1 to 4,096 frames; nodes times frames
-    /// is at most 16,384.
+    /// is at most `RUN_NODE_FRAMES`.
     Demo { seed: u64, nodes: u8, frames: u32 },
     /// Whether a recorded log of a scenario is valid (`Lawful`), or what is wrong with it.
     Check,
@@ -76,13 +77,6 @@ pub fn command_of(words: &[String]) -> Option<Command>
     }
 }
 
-// Whether the words are this one alone.
-fn is_word(words: &[String], word: &[u8]) -> bool
-    ensures { IsTrue result ↔ (map string_bytes words.now ≡ word.now ∷ []) }
-{
-    words.len() == 1 && words[0].as_bytes() == word
-}
-
 // The command that reads nothing.
 fn demo_of(words: &[String]) -> Option<Command>
     ensures { (c : CommandOf) → (result ≡ Some c) ↔ ((reads_of c ≡ false) × Asks words.now c) }
@@ -103,7 +97,10 @@ fn demo_of(words: &[String]) -> Option<Command>
 fn sized(seed: u64, nodes: u64, frames: u64) -> Option<Command>
     ensures { SomeIff result (IsSize nodes frames) (asked.Demo seed nodes frames) }
 {
-    if !(2..=64).contains(&nodes) || !(1..=4096).contains(&frames) || nodes * frames > 16_384 {
+    if !(2..=64).contains(&nodes) || !(1..=4096).contains(&frames) {
+        return None;
+    }
+    if nodes * frames > u64::from(RUN_NODE_FRAMES) {
         return None;
     }
     Some(Command::Demo {

@@ -15,8 +15,8 @@ use crate::answer::{Answer, fault_answer};
 use crate::energy_lines::write_energies;
 use crate::return_lines::{write_probes, write_returns};
 use crate::run_answer::world_after;
-use crate::run_report::write_report;
 use air_log::{Air, NodeCharge};
+use bus_report::write_report_lines;
 use bus_rules::{Delivery, DropLine};
 use host_return::{Returned, Runner, follow_returns};
 use lwb_base::Memory;
@@ -99,7 +99,7 @@ fn return_report(alloc: Global, returned: &Returned, worlds: &Worlds) -> Result<
     let mut text = String::new(alloc);
     write_returns(&mut text, returned.returns())?;
     write_probes(&mut text, scenario.nodes(), returned)?;
-    write_report(&mut text, &worlds.deliveries, &worlds.drops)?;
+    write_report_lines(&mut text, &worlds.deliveries, &worlds.drops)?;
     write_energies(alloc, &mut text, scenario, returned.air(), &worlds.charges)?;
     Ok(text)
 }

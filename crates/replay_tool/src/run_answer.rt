@@ -13,8 +13,8 @@ ghost use Rattle.replay_tool.specs.declared.command.Command.TheVariants as asked
 
 use crate::answer::{Answer, fault_answer};
 use crate::energy_lines::write_energies;
-use crate::run_report::run_report;
 use air_log::write_text;
+use bus_report::report_lines;
 use lwb_base::Memory;
 use lwb_world::World;
 use scenario_clocks::stated_clocks;
@@ -33,7 +33,7 @@ pub fn run_answer(alloc: Global, bytes: &[u8]) -> Result<Answer, Memory>
         Err(ParseFault::Memory) => return Err(Memory),
     };
     let world = world_after(alloc, &scenario)?;
-    let mut report = run_report(alloc, world.deliveries(), world.drops())?;
+    let mut report = report_lines(alloc, world.deliveries(), world.drops())?;
     let charges = world.charges();
     write_energies(alloc, &mut report, &scenario, world.air(), charges)?;
     Ok(Answer::Report(report, world.into_air()))

@@ -1,12 +1,12 @@
 //! The call `top`: from words and input to the text that is written.
 
-ghost use Rattle.std.specs.Prelude.{◌≡◌, ◌≢◌, ◌⊎◌, ◌≤◌, ◌<◌, ◌^◌, ℕ, List, [], Option, Some, length, take, IfOk, IsErrOf, false};
-ghost use Rattle.std.specs.Io.KnownBytes.{Appends};
+ghost use Rattle.std.specs.Prelude.{◌≡◌, ◌≢◌, ◌≤◌, ◌<◌, ◌^◌, ℕ, List, [], length, IfOk, IsErrOf, false};
 ghost use Rattle.lwb_base.specs.Causes.{Rose};
-ghost use Rattle.lwb_base.specs.declared.read.ReadStop.TheVariants as stop;
 ghost use Rattle.replay_tool.specs.Commands.{Asks, IsCommand, IsReading, reads};
-ghost use Rattle.replay_tool.specs.CommandLine.{ReportDue, FaultDue, UsageDue, SomeDue, IsInput, IsComplete, PartRead, Written, PartWritten};
-ghost use Rattle.replay_tool.specs.Answers.{Answers, IsAsked, HasRead};
+ghost use Rattle.command_line.specs.Streams.{IsInput, HasRead, PartRead, Written, PartWritten};
+ghost use Rattle.lwb_base.specs.declared.read.ReadStop.TheVariants as stop;
+ghost use Rattle.replay_tool.specs.CommandLine.{ReportDue, FaultDue, UsageDue, SomeDue, IsComplete};
+ghost use Rattle.replay_tool.specs.Answers.{Answers, IsAsked};
 ghost use Rattle.replay_tool.specs.declared.command.Command.{Command as CommandOf};
 
 use crate::answer::Answer;
@@ -20,7 +20,8 @@ use crate::return_answer::return_answer;
 use crate::run_answer::{log_answer, run_answer};
 use crate::times_answer::times_answer;
 use air_log::Air;
-use lwb_base::{INPUT_LIMIT, Memory, ReadStop, Sink, Source, read_all, write_all};
+use command_line::{TOO_LONG, say};
+use lwb_base::{Memory, ReadStop, Sink, Source};
 use std::alloc::Global;
 
 /// How a call of `top` ended.
@@ -36,8 +37,6 @@ pub struct Outcome {
 
 const USAGE: &[u8; 93] =
     b"usage: flood | run | log | bus | demo SEED NODES FRAMES | check | deadlines | times | return\n";
-
-const TOO_LONG: &[u8; 15] = b"fault too long\n";
 
 /// Does what the words of the command line ask for: it reads the source to its end, or nothing for `demo`, and writes the
 /// text that is due. The words do not contain the program's name.
@@ -104,10 +103,7 @@ fn input<S: Source>(alloc: Global, command: Command, source: &mut S) -> Result<V
     ensures later { S.faults source.old ≤ S.faults source.new }
     ensures untouched { reads command ≡ false → source.new ≡ source.old }
 {
-    if !command.reads() {
-        return Ok(Vec::new(alloc));
-    }
-    read_all(alloc, source)
+    command_line::input(alloc, command.reads(), source)
 }
 
 // What the command has to write of these bytes.
@@ -140,19 +136,5 @@ fn without_log(alloc: Global, status: u8) -> Outcome
     Outcome {
         status,
         air: Air::new(alloc),
-    }
-}
-
-// Writes a text whole, and gives that status, or a part of it, and gives 4.
-fn say<K: Sink>(sink: &mut K, text: &[u8], status: u8) -> u8
-    requires { status < 3 }
-    ensures known { (result ≡ status) ⊎ (result ≡ 4) }
-    ensures whole { result ≡ status → Appends (K.held sink.old) (K.held sink.new) text.now }
-    ensures part { result ≢ status → PartWritten (K.held sink.old) (K.held sink.new) (λ t. t ≡ text.now) × Rose (K.faults sink.old) (K.faults sink.new) }
-    ensures later { K.faults sink.old ≤ K.faults sink.new }
-{
-    match write_all(sink, text) {
-        Ok(()) => status,
-        Err(_) => 4,
     }
 }

@@ -6,7 +6,7 @@ use Rattle.scenario_clocks.specs.StatedClocks.{scenario_clock}
 use Rattle.energy_account.specs.Energies.{energy_of}
 use Rattle.energy_account.specs.declared.energy.Energy.{Energy}
 use Rattle.replay_tool.specs.RunReport.{node_energy}
-use Rattle.replay_tool.proofs.NodeLines.{known_in}
+use Rattle.bus_report.proofs.NodeLines.{known_in}
 use Rattle.replay_tool.proofs.energy_lines.write_account.Goals as goal
 
 pub returns : goal.returns

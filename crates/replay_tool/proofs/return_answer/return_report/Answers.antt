@@ -18,7 +18,7 @@ returns c =
       said = subst IsScenario c.scenario-scenario.ensures c.nodes.ensures.said;
       bytes = written c.args.returned.now c.scenario-scenario.result.now c.returns.result.now c.deref.result.now c.deref-2.result.now c.air.result.now
           (string_bytes c.new-text.result) (string_bytes c.write_returns.new.text) (string_bytes c.write_probes.new.text)
-          (string_bytes c.write_report.new.text) (string_bytes c.write_energies.new.text) c.scenario-scenario.ensures c.returns.ensures
+          (string_bytes c.write_report_lines.new.text) (string_bytes c.write_energies.new.text) c.scenario-scenario.ensures c.returns.ensures
           (c.deref.ensures.value ∙ kept.deliveries ∙ ap bus_deliveries back) (c.deref-2.ensures.value ∙ kept.drops ∙ ap bus_drops back) c.air.ensures
-          c.new-text.ensures.bytes c.in_ok-write_returns.ensures c.in_ok-write_probes.ensures c.in_ok-write_report.ensures c.in_ok-write_energies.ensures;
+          c.new-text.ensures.bytes c.in_ok-write_returns.ensures c.in_ok-write_probes.ensures c.in_ok-write_report_lines.ensures c.in_ok-write_energies.ensures;
     }

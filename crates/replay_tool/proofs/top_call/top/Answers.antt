@@ -1,8 +1,10 @@
 use Rattle.std.proofs.Common.{◌≡◌, inl, inr, refl, sym, ◌∙◌, subst, arith, map, string_bytes, List, ℕ, Bool, true}
 use Rattle.replay_tool.specs.Commands.{reads}
-use Rattle.replay_tool.specs.CommandLine.{too_long, WasRead, IsFaultLine, ReportDue, FaultDue, SomeDue}
+use Rattle.command_line.specs.Streams.{too_long}
+use Rattle.command_line.proofs.WholeInputs.{part_due}
+use Rattle.replay_tool.specs.CommandLine.{WasRead, IsFaultLine, ReportDue, FaultDue, SomeDue}
 use Rattle.replay_tool.specs.Reports.{IsReport}
-use Rattle.replay_tool.proofs.Due.{part_due, faulty_reads, not_reading, one_command, complete_report, complete_fault}
+use Rattle.replay_tool.proofs.Due.{faulty_reads, not_reading, one_command, complete_report, complete_fault}
 use Rattle.replay_tool.proofs.top_call.top.Given.{Over}
 use Rattle.replay_tool.proofs.top_call.top.Goals as goal
 

@@ -1,0 +1,3 @@
+-- kept for the crates above
+pub mod JoinedWords
+pub mod NodeLines

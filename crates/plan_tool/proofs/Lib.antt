@@ -1,0 +1,2 @@
+mod PlanWords
+mod Due

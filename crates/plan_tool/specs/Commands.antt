@@ -1,0 +1,32 @@
+-- The commands of a planner: the words that ask for each, and which bytes its grammar rejects.
+use Rattle.std.specs.Prelude.{◌≡◌, ◌<◌, ◌^◌, ℕ, List, [], ◌∷◌, Option, Some, None, String, codes, decimal, map, string_bytes}
+use Rattle.std.specs.declared.alloc.Global.{Global}
+use Rattle.std.specs.Result.{result_err}
+use Rattle.text_readers.specs.declared.fault.FaultKind.{FaultKind}
+use Rattle.network_text.specs.NetworkGrammar.{network_of}
+use Rattle.plan_tool.specs.declared.command.Command.{Command}
+use Rattle.plan_tool.specs.declared.command.Command.TheVariants.{Outcome}
+
+-- words of these bytes ask for this command. A seed has at most 13 digits
+abbrev pub Spell : List (List ℕ) → Command → Type 0
+Spell words (Outcome seed) = (words ≡ codes "outcome" ∷ decimal seed ∷ []) × (seed < 10 ^ 13)
+
+abbrev pub Asks : List (String Global) → Command → Type 0
+Asks words c = Spell (map string_bytes words) c
+
+-- the words ask for some command
+abbrev pub IsCommand : List (String Global) → Type 0
+IsCommand words = (c : Command) × Asks words c
+
+-- the first fault of the bytes that it reads, by its grammar
+abbrev pub fault_of : Command → List ℕ → Option (ℕ × FaultKind)
+fault_of (Outcome seed) b = result_err (network_of b)
+
+abbrev pub IsTextOf : Command → List ℕ → Type 0
+IsTextOf c b = fault_of c b ≡ None
+
+abbrev pub HasFault : Command → List ℕ → ℕ → FaultKind → Type 0
+HasFault c b n k = fault_of c b ≡ Some (n, k)
+
+abbrev pub usage : List ℕ
+usage = codes "usage: outcome SEED\n"
