@@ -117,6 +117,7 @@ class Browser:
         self.call("Page.navigate", url="about:blank")
         self.call("Page.navigate", url=address)
         self.wait("document.body?.dataset.ready === 'yes'")
+        self.evaluate("document.getElementById('timeline').scrollIntoView()")
 
     def drag(self, start: tuple[float, float], end: tuple[float, float]) -> None:
         """Draws the mouse with its button down from one point of the window to another."""

@@ -1,8 +1,8 @@
 """Pages whose Python is run, with what it prints below it.
 
 `python3 python/tests/pages.py docs/PLANNING.md` writes what the blocks of a page print into the page, after a change of either;
-look at the difference before you keep it. Files that they write, the pictures, go to docs/pictures/planning. The tests compare. A block of Python is fenced as `python`; what it prints is in a
-block fenced as `text` right below it. The blocks of a page run in order and share their names.
+look at the difference before you keep it. Files that they write, the pictures, go to docs/pictures/planning. The tests compare.
+A block of Python is fenced as `python`; what it prints is in a block fenced as `text` right below it. The blocks of a page run in order and share their names.
 """
 
 from __future__ import annotations

@@ -58,7 +58,9 @@ def test_the_bytes_of_a_capture(tmp_path: Path) -> None:
     seconds, nanoseconds, kept, length = struct.unpack_from("<IIII", data, 24)
     assert (seconds, nanoseconds) == (37, 34_000_000) and kept == length
     _, _, header = struct.unpack_from("<BBH", data, 40)
-    assert header % 4 == 0 and data[40 + header : 40 + length] == bytes.fromhex("0201000301000000aa")
+    assert header % 4 == 0 and data[40 + header : 42 + header] == b"\x05\x00"
+    assert data[42 + header : 58 + header] == b"FOLD" + struct.pack("<BBHQ", 3, 0, 9, 37_034 * 64_000)
+    assert data[58 + header : 40 + length] == bytes.fromhex("0201000301000000aa")
     metadata, at = {}, 44
     while at < 40 + header:
         kind, size = struct.unpack_from("<HH", data, at)
@@ -67,7 +69,7 @@ def test_the_bytes_of_a_capture(tmp_path: Path) -> None:
     assert metadata[0] == b"\0" and metadata[3] == struct.pack("<HB", 11, 0)
     assert [int.from_bytes(metadata[kind], "little") for kind in (5, 6, 8)] == [37_034_000_000, 37_034_544_000, 37_033_000_000]
     assert int.from_bytes(metadata[9], "little") == 33_000
-    assert metadata[0xFC01] == b"FOLD" + struct.pack("<BBHQ", 3, 0, 9, 37_034 * 64_000)
+    assert set(metadata) == {0, 3, 5, 6, 8, 9}
 
 
 @given(st.integers(0, 2**41))
@@ -86,6 +88,23 @@ def test_tshark_reads_channels_slots_and_true_times_without_the_dissector(crowde
         start, end = sent.start_ticks * 125 // 8, sent.end_ticks * 125 // 8
         assert row[0] == f"{start // 10**9}.{start % 10**9:09}"
         assert row[1:] == ["11", str(start), str(end), "56000"]
+
+
+@needs_tshark
+def test_nothing_is_malformed_without_the_dissector(crowded: results.Log, tmp_path: Path) -> None:
+    """Packets of the bus are no frames of IEEE 802.15.4, and were taken for those of other protocols."""
+    path = tmp_path / "run.pcap"
+    export.pcap(crowded, path)
+    rows = tshark(path, "frame.protocols", "_ws.malformed", "_ws.expert", "_ws.col.Info", "data.data")
+    assert {tuple(row[:4]) for row in rows} == {("wpan-tap:data", "", "", "Multipurpose")}
+    assert rows[0][4] == (b"FOLD" + data_of(crowded, 0)).hex()
+
+
+def data_of(log: results.Log, place: int) -> bytes:
+    """What a capture has of a transmission after the mark."""
+    sent = log.transmissions.iloc[place]
+    frame = sent["start_ticks"] // (log.scenario.frame_seconds * 64_000_000)
+    return struct.pack("<BBHQ", sent["node"], sent["rank"], frame, sent["start_ticks"]) + bytes.fromhex(sent["packet"])
 
 
 @needs_tshark
@@ -134,7 +153,7 @@ def test_tshark_reads_any_schedule(tmp_path: Path) -> None:
     export.pcap(results.log(LINE), path)
     data = path.read_bytes()
     (length,) = struct.unpack_from("<H", data, 42)
-    records = [data[40 : 40 + length] + packets.encode(one) for one in many]
+    records = [data[40 : 40 + length + 18] + packets.encode(one) for one in many]
     path.write_bytes(data[:24] + b"".join(struct.pack("<IIII", 1, 0, len(one), len(one)) + one for one in records))
     rows = tshark(path, SCRIPT, "foldcairn.kind", "foldcairn.owner", "foldcairn.malformed")
     assert rows == [["opening", fields_of(one)[-1], ""] for one in many]

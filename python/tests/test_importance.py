@@ -34,6 +34,7 @@ def test_a_line_needs_all_its_links(pool: ThreadPoolExecutor) -> None:
     assert table["ratio_cut"].tolist() == [0, 0]
     assert table["change"].tolist() == [-1, -1]
     assert table[["spread", "error"]].values.tolist() == [[0, 0], [0, 0]]
+    assert table[["low", "high", "p"]].values.tolist() == [[-1, -1, 0], [-1, -1, 0]]
 
 
 def test_a_ring_needs_none_of_them(pool: ThreadPoolExecutor) -> None:
@@ -41,7 +42,7 @@ def test_a_ring_needs_none_of_them(pool: ThreadPoolExecutor) -> None:
     table = planning.importance(ring, seeds=[1], executor=pool)
     assert len(table) == 3
     assert table["change"].tolist() == [0, 0, 0]
-    assert table["spread"].isna().all()
+    assert table[["spread", "low", "high", "p"]].isna().all(axis=None)
 
 
 def test_nodes_are_left_out_of_both_sides(pool: ThreadPoolExecutor) -> None:

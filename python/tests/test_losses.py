@@ -266,7 +266,7 @@ def test_recorded_losses_of_a_node():
         ("seconds,slot,node\n1,1,1\n56,1,1\n", "the table of losses, row 2: `lose 14 1 0 2 1`: 14, the frame, is from 0 to 13"),
         ("slot,node\n1,1\n", "row 1: 'seconds' is not given"),
         ("seconds,slot,counter,from,to\n1,1,12,1,2\n", "12, the step, is from 0 to 11"),
-        ("seconds,slot,counter,from,to\n1,1.5,1,1,2\n", "the slot, 1.5, is no whole number"),
+        ("seconds,slot,counter,from,to\n1,1.5,1,1,2\n", "`slot` is 1.5, and has to be a whole number"),
     ],
 )
 def test_recorded_tables_that_are_wrong(table, says):
@@ -279,3 +279,19 @@ def test_a_broken_program_is_an_exception(fake):
     scenario = Scenario.read((EXAMPLES / "packets-along-a-line.scenario").read_text())
     with pytest.raises(program.OutOfMemory):
         losses.draw(scenario, 1, program=fake("exit 5"))
+
+
+def test_a_drawn_text_keeps_its_seed_and_ratios():
+    made = Scenario.from_graph(line(3), 20, hosts=[1]).link(1, 2, 0.8).link(3, 2, 1 / 3).stream(3, 4).put(3)
+    drawn = losses.draw(made, -7)
+    text = drawn.text(warn=False)
+    head = ["#: seed -7", "#: prr 1 2 0.8", "#: prr 3 2 0.3333333333333333", "profile 1"]
+    assert text.splitlines()[:4] == head
+    again = Scenario.read(text)
+    assert (again.seed, again.prr, again.losses) == (-7, made.prr, drawn.losses) and again.text(warn=False) == text
+    # To the program they are comments; and what was not drawn says nothing.
+    assert program.execute(["run"], text) == program.execute(["run"], "".join(text.splitlines(keepends=True)[3:]))
+    assert made.text(warn=False).startswith("profile 1\n")
+    # What is no such comment is passed over.
+    other = Scenario.read("#: seed x\n#: prr 1 2 x\n#: prr 9 9 0.5\n#: prr 1 2 nan\n#:\n#\n" + made.text(warn=False))
+    assert other.seed is None and other.prr == {}

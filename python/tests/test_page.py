@@ -13,8 +13,10 @@ import numpy as np
 import pytest
 from browser import CHROMIUM, Browser
 from networks import FAILOVER
+from PIL import Image
 
-from foldcairn import page, results
+from foldcairn import page, results, style
+from foldcairn.settings import Settings
 from foldcairn.__main__ import main
 from foldcairn.scenario import Scenario
 
@@ -29,8 +31,20 @@ def log() -> results.Log:
 
 
 @pytest.fixture(scope="module")
-def text(log: results.Log) -> str:
-    return page.text(log, title="failover")
+def given(tmp_path_factory: pytest.TempPathFactory) -> dict[str, object]:
+    """All that a page can be given."""
+    path = tmp_path_factory.mktemp("site") / "site.png"
+    Image.new("RGB", (16, 10), "#e8e4d8").save(path)
+    return {
+        "title": "failover", "site": "a room", "plan": "one backup", "notes": "For <us>.\n\nIn two parts.", "receivers": {(3, 0): "hosts"},
+        "positions": {1: (0, 0), 2: (1, 0), 3: (0, 1)}, "battery": {"capacity_mah": 2500, "receive_ma": 20}, "background": path,
+        "extent": (-1, 2, -1, 2),
+    }  # fmt: skip
+
+
+@pytest.fixture(scope="module")
+def text(log: results.Log, given: dict[str, object]) -> str:
+    return page.text(log, **given)
 
 
 def unpacked(text: str, name: str) -> str:
@@ -69,7 +83,8 @@ def near(picture: np.ndarray, colour: str) -> int:
 
 
 def test_a_page_stands_alone(log: results.Log, text: str) -> None:
-    assert "<h1>failover</h1>" in text
+    assert "<h1>failover</h1>" in text and "Site: a room · Plan: one backup" in text
+    assert '<div class="notes"><p>For &lt;us&gt;.</p><p>In two parts.</p></div>' in text
     # Nothing is loaded: no address is in it.
     visible = re.sub(r'<script type="application/gzip".*?</script>|src="data:[^"]*"', "", text, flags=re.DOTALL)
     assert not re.findall(r"""(?:src|href)=["'](?!#)|url\(|@import|fetch\(|XMLHttpRequest|https?://""", visible)
@@ -98,12 +113,39 @@ def test_a_run_with_nothing_to_show() -> None:
     assert "the table has no rows" in told and "<h1>&lt;b&gt;</h1>" in told
 
 
-def test_the_command_writes_the_same_page_each_time(text: str, tmp_path: Path, capsys: pytest.CaptureFixture[str]) -> None:
-    path, written = tmp_path / "failover.scenario", tmp_path / "report.html"
-    path.write_text(FAILOVER)
-    assert main(["report", str(path), "--html", str(written), "--csv", str(tmp_path / "tables")]) == 0
-    assert capsys.readouterr().out == "" and written.read_text() == text
+def test_the_same_page_is_made_again(text: str, tmp_path: Path, capsys: pytest.CaptureFixture[str]) -> None:
+    """From what the page itself has: its scenario and its settings, by the command that it names."""
+    scenario, settings, again = tmp_path / "run.scenario", tmp_path / "run.page.json", tmp_path / "report.html"
+    scenario.write_text(unpacked(text, "scenario"))
+    settings.write_text(unpacked(text, "settings"))
+    assert "python3 -m foldcairn report run.scenario --page run.page.json --html report.html" in text
+    command = ["report", str(scenario), "--page", str(settings), "--html", str(again), "--csv", str(tmp_path / "tables")]
+    assert main(command) == 0
+    assert capsys.readouterr().out == "" and again.read_text() == text
     assert (tmp_path / "tables" / "packets.csv").is_file()
+
+
+def test_settings_of_a_command(log: results.Log, given: dict[str, object], tmp_path: Path, monkeypatch: pytest.MonkeyPatch) -> None:
+    notes, places = tmp_path / "notes.txt", tmp_path / "places.csv"
+    notes.write_text(str(given["notes"]))
+    places.write_text("id,x,y\n1,0,0\n2,1,0\n3,0,1\n")
+    (tmp_path / "failover.scenario").write_text(FAILOVER)
+    found = []
+    monkeypatch.setattr(page, "of_settings", lambda log, settings: found.append(settings) or "")
+    command = ["report", str(tmp_path / "failover.scenario"), "--html", str(tmp_path / "x.html"), "--site", "a room", "--plan", "one backup",
+               "--notes", str(notes), "--places", str(places), "--receivers", "hosts", "--capacity-mah", "2500", "--receive-ma", "20",
+               "--background", str(given["background"]), "--extent=-1,2,-1,2"]  # fmt: skip
+    assert main(command) == 0
+    assert found == [Settings.of(log.scenario, **{**given, "receivers": "hosts"})]
+    assert main([*command, "--receivers", "9"]) == 0 and found[1].receivers == [9]
+    assert main(["report", str(tmp_path / "failover.scenario"), "--receivers", "9"]) == 1
+
+
+def test_words_that_no_page_has(log: results.Log) -> None:
+    with pytest.raises(ValueError, match="`battery` has 'mah', and not one of capacity_mah, transmit_ma"):
+        page.text(log, battery={"mah": 3})
+    with pytest.raises(ValueError, match="these are no settings of a page"):
+        Settings.read("[]")
 
 
 STEPS = "4 transmissions, 3 receptions, 7 steps shown"
@@ -114,7 +156,7 @@ def test_a_browser_shows_the_whole_run(browser: Browser, address: str) -> None:
     browser.open(address)
     assert message(browser) == "From 0.0000 s to 128.0000 s, 3 nodes"
     picture = browser.picture()
-    assert min(near(picture, colour) for colour in ("#e3b341", "#3d9a6d")) > 500 and near(picture, "#c9374c") > 20
+    assert min(near(picture, colour) for colour in style.RANKS[:2]) > 500 and near(picture, style.TRANSMITS) > 20
     # All pictures are there, and the scenario can be saved.
     assert browser.evaluate("[...document.images].every((image) => image.complete && image.naturalWidth > 200)")
     assert browser.evaluate("fetch(document.getElementById('save').href).then((answer) => answer.text())") == Scenario.read(
@@ -131,13 +173,14 @@ def test_zooming_to_one_slot_shows_the_steps(browser: Browser, address: str) -> 
     assert sorted(words(browser, ".textpoint")) == ["0", "0", "1", "1", "2", "2", "3"]
     assert "slot 1: data 3.0" in words(browser, ".annotation")
     picture = browser.picture()
-    assert min(near(picture, colour) for colour in ("#e3b341", "#2478b5", "#c9374c")) > 500
+    assert min(near(picture, colour) for colour in (style.LISTENS, style.RECEIVES, style.TRANSMITS)) > 500
     assert browser.console == []
 
 
 @needs_chromium
 def test_zooming_with_the_mouse(browser: Browser, address: str) -> None:
     browser.open(address)
+    browser.evaluate("document.getElementById('timeline').scrollIntoView()")
     area = "document.querySelector('#timeline .nsewdrag').getBoundingClientRect()"
     left, top, width, height = browser.evaluate(f"(({{x, y, width, height}}) => [x, y, width, height])({area})")
 
@@ -158,5 +201,11 @@ def test_zooming_with_the_mouse(browser: Browser, address: str) -> None:
     browser.wait("document.getElementById('message').textContent.startsWith('From 36.9990')")
     browser.evaluate("document.getElementById('whole').click()")
     browser.wait("document.getElementById('message').textContent.startsWith('From 0.0000 s to 128.0000 s')")
+    # From the whole run to its first round, and back to its last.
+    browser.evaluate("document.getElementById('on').click()")
+    browser.wait("document.getElementById('message').textContent.startsWith('From 20.9990')")
+    browser.evaluate("document.getElementById('whole').click()")
+    browser.wait("document.getElementById('message').textContent.startsWith('From 0.0000 s to 128.0000 s')")
+    browser.evaluate("document.getElementById('back').click()")
+    browser.wait("document.getElementById('message').textContent.startsWith('From 124.9990')")
     assert browser.console == []
-

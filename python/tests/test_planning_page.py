@@ -11,7 +11,7 @@ import pages
 import pytest
 from conftest import REPOSITORY
 
-from foldcairn import page as pages_of_runs, planning
+from foldcairn import planning
 
 PAGE = REPOSITORY / "docs" / "PLANNING.md"
 
@@ -56,7 +56,3 @@ def test_all_tables_of_the_network_take_at_most_5_seconds(page: tuple[str, dict[
     begun = time.process_time()
     planning.tables(page[1]["log"])
     assert time.process_time() - begun < 5
-
-
-def test_the_page_of_the_network_takes_at_most_10_megabytes(page: tuple[str, dict[str, object]]) -> None:
-    assert len(pages_of_runs.text(page[1]["log"])) < 10_000_000

@@ -69,7 +69,7 @@ def test_packets_that_were_sent_are_those_that_were_put(log: results.Log) -> Non
     assert table["fate"].astype(str).str.startswith("dropped").sum() == len(log.drops)
     assert (table.loc[table["fate"] == "queued"].groupby(["source", "stream"]).size() <= power.QUEUE_LENGTH).all()
     assert table["deliveries"].sum() == len(log.deliveries)
-    assert planning.fates(log).loc["all", "puts"].tolist() == [len(table)]
+    assert planning.fates(log, "all")["puts"].tolist() == [len(table)]
 
 
 def windows(log: results.Log) -> None:
@@ -90,7 +90,7 @@ def windows(log: results.Log) -> None:
 
 def test_windows_are_those_of_rounds(log: results.Log) -> None:
     windows(log)
-    on = planning.radio_time(log)["on"].drop("all")
+    on = planning.radio_time(log)["on"]
     assert np.allclose(on, log.energy.set_index("node")["on_seconds"])
     transmitted = planning.duty_cycle(log).set_index("node")["transmit_seconds"]
     assert np.allclose(transmitted, log.energy.set_index("node")["transmit_seconds"])
@@ -118,5 +118,6 @@ def test_the_longest_run_with_the_worst_clocks() -> None:
     assert planning.packets(log)["fate"].tolist() == ["delivered"]
     # Slot 1 of frame 4085 by plan, but the host's clock is fast by 20 ppm of 16,341 s and 4 ms: it comes 331 ms sooner.
     packet = planning.packets(log).iloc[0]
-    assert packet["first_seconds"] == pytest.approx(4085 * 4 + 1.033)
+    assert log.deliveries["planned_seconds"].tolist() == pytest.approx([4085 * 4 + 1.033])
+    assert packet["first_seconds"] == packet["sent_seconds"] + 17 * 2_048 / 64_000_000
     assert packet["sent_seconds"] == pytest.approx(4085 * 4 + 1.034 - 0.331, abs=0.001)

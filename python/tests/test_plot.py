@@ -16,14 +16,14 @@ import pytest
 from matplotlib.backends.backend_agg import FigureCanvasAgg
 from matplotlib.collections import LineCollection
 from matplotlib.figure import Figure
-from matplotlib.text import Text
+from matplotlib.text import Annotation, Text
 from networks import CONTENDERS, FAILOVER, LINE
 from PIL import Image
 
 from conftest import EXAMPLES
 from foldcairn import planning, plot, results, timing
 from foldcairn.__main__ import main
-from foldcairn.scenario import Scenario, grid, random_geometric, star
+from foldcairn.scenario import Scenario, grid, line, random_geometric, star
 
 LEGEND = {"no power", "radio on, channel of rank 0", "radio on, channel of rank 1", "opens a round", "delivers packets", "radio off"}
 
@@ -218,7 +218,7 @@ def test_a_map_of_a_network_with_a_failure() -> None:
     made.link(2, 3, 0.9).link(8, 9, 0.4).link(4, 7, 0.0)
     figure = plot.topology(made, at_seconds=90.0, failed=[(5, 6)])
     shown = set(words(figure))
-    assert {"link of 85 to 95 %", "link below 50 %", "failed link", "no power", "host of rank 0, no power"} <= shown
+    assert {"link of 85 to 95 %", "link below 50 %", "failed link", "no power", "host 0, no power"} <= shown
     assert {"the host: 0 hops", "1 hop", "2 hops", "3 hops"} <= shown and covered(figure) == []
     with pytest.raises(ValueError, match="no link from 1 to 3"):
         plot.topology(made, failed=[(1, 3)])
@@ -252,11 +252,11 @@ def test_charts_of_tables(failover: results.Log) -> None:
     pairs = planning.delivery_ratio(failover, "pair")
     delivery = plot.delivery(pairs)
     # Node 1 is off when the two packets of node 3 are sent, node 2 has both.
-    assert {"0", "100", "3.0"} <= set(words(delivery))
+    assert {"0 (0 of 2)", "100 (2 of 2)", "3"} <= set(words(delivery))
     cells = delivery.axes[0].images[0].get_array()
     assert cells.tolist() == [[0.0, 1.0]]
     latency = plot.latency(planning.latencies(failover))
-    assert "3.0" in words(latency)
+    assert "3" in words(latency)
     energy = plot.energy(planning.radio_time(failover))
     assert set(planning.radio_time(failover).columns[:-1]) <= set(words(energy))
     # Node 1 is on for 19.2 s of its search, and for 0.01 s of its one round.
@@ -279,7 +279,83 @@ def test_tables_that_cannot_be_drawn(failover: results.Log) -> None:
 
 def test_a_stream_that_is_never_delivered_again() -> None:
     table = planning.outages(results.log(FAILOVER.replace("put 20 3 0 bb", "off 20 3")), "stream")
-    assert "never again" in words(plot.outages(table))
+    # Its own power is apart from that of the host.
+    assert {"no power", "the source had no power itself"} <= set(words(plot.outages(table)))
+    assert "by the host" not in words(plot.outages(table))
+
+
+def bar_ends(figure: Figure) -> list[float]:
+    """Where the bars of a chart end."""
+    return [patch.get_x() + patch.get_width() for patch in figure.axes[0].patches]
+
+
+def arrows(figure: Figure) -> list[float]:
+    """Where a chart has arrows for what goes on."""
+    return [float(line.get_xdata()[0]) for line in figure.axes[0].lines if line.get_marker() == ">"]
+
+
+def test_an_outage_that_nobody_ends_goes_to_the_end_of_the_run() -> None:
+    # Node 3 has no link to the new host, and gets another packet that waits.
+    log = results.log(FAILOVER.replace("on 0 1\n", "on 0 1\n" + "".join(f"cut {frame} 0 0 3\n" for frame in range(27, 32))))
+    table = planning.outages(log, "stream")
+    assert table["first_delivery_seconds"].isna().tolist() == [True] and table["cause"].tolist() == ["host"]
+    figure = plot.outages(table)
+    assert bar_ends(figure) == arrows(figure) == pytest.approx([128.0])
+    assert "not back" in words(figure)
+    # Another stream's times change nothing.
+    more = pd.concat([table, table.assign(source=2, last_delivery_seconds=20.0, first_delivery_seconds=90.0, outage_seconds=70.0)])
+    assert sorted(bar_ends(plot.outages(more))) == pytest.approx([90.0, 128.0])
+
+
+def test_streams_have_the_names_of_their_nodes() -> None:
+    pairs = pd.DataFrame({"source": [1, 1, 2], "stream": [0, 0, 0], "node": [2, 3, 3], "ratio_of_put": [0.5, 1.0, 0.0]})
+    assert {"1", "2", "source"} <= set(words(plot.delivery(pairs))) and "1.0" not in words(plot.delivery(pairs))
+    several = pairs.assign(stream=[0, 0, 3])
+    assert {"1, stream 0", "2, stream 3", "source and stream"} <= set(words(plot.delivery(several)))
+
+
+def test_a_heat_map_of_many_nodes_has_its_numbers() -> None:
+    pairs = pd.DataFrame({"source": 1, "stream": 0, "node": range(2, 60), "ratio_of_put": 0.37})
+    figure = plot.delivery(pairs)
+    assert words(figure).count("37") >= 58 and covered(figure) == []
+
+
+def test_every_picture_as_a_part_of_another_figure(failover: results.Log) -> None:
+    figure = Figure(figsize=(18, 12), layout="constrained")
+    places = figure.subplots(3, 3).ravel()
+    energy = plot.energy(planning.radio_time(failover), axes=(places[0], places[1]))
+    drawn = [
+        energy, plot.topology(failover.scenario, axes=places[2]), plot.timeline(failover, axes=places[3]),
+        plot.delivery(planning.delivery_ratio(failover, "pair"), axes=places[4]),
+        plot.latency(planning.latencies(failover), axes=places[5]),
+        plot.outages(planning.outages(failover, "stream"), axes=places[6]),
+    ]  # fmt: skip
+    assert all(one is figure for one in drawn) and len(figure.axes) == 9 + 0
+    assert [axes.get_legend() for axes in places] == [None] * 9
+    assert all(axes.has_data() for axes in places[:7])
+    assert words(figure).count("seconds with the radio on") == 2
+
+
+def test_no_node_hides_another(tmp_path: Path) -> None:
+    made = Scenario(10).node(1).node(2).node(3).node(4).host(0, 1).pair(1, 2)
+    for places in (
+        {1: (0.0, 0.0), 2: (0.001, 0.0), 3: (100.0, 60.0), 4: (100.0, 60.0)},
+        {1: (5.0, 5.0), 2: (5.0, 5.0), 3: (5.0, 5.0), 4: (5.0, 5.0)},
+        {1: (0.0, 0.0), 2: (0.0, 1e-9), 3: (0.0, 7.0), 4: (0.0, 7.0)},
+    ):
+        figure = plot.topology(made, positions=places)
+        FigureCanvasAgg(figure).draw()
+        drawn = figure.axes[0]
+        nodes = [line for line in drawn.lines if line.get_marker() in ("o", "s") and len(line.get_xdata()) == 1]
+        spots = np.array([drawn.transData.transform((line.get_xdata()[0], line.get_ydata()[0])) for line in nodes])
+        size = nodes[0].get_markersize() * figure.dpi / 72
+        assert len(spots) == 4
+        for one, other in combinations(spots, 2):
+            assert math.dist(one, other) > 0.9 * size, places
+    # What is far enough apart stays where it is.
+    far = {1: (0.0, 0.0), 2: (1.0, 0.0), 3: (2.0, 0.0), 4: (3.0, 1.0)}
+    lines = plot.topology(made, positions=far).axes[0].lines
+    assert {(float(line.get_xdata()[0]), float(line.get_ydata()[0])) for line in lines if len(line.get_xdata()) == 1} == set(far.values())
 
 
 # Files.
@@ -304,8 +380,50 @@ def test_the_commands(tmp_path: Path, capsys: pytest.CaptureFixture[str]) -> Non
     assert main(["topology", str(path), "--ratios", str(ratios), "--places", str(places), "--at", "8", "-o", str(output)]) == 0
     width, height = Image.open(output).size
     assert width > height > 100
+    behind = ["--background", str(output), "--extent=-1,4,-1,1", "-o", str(tmp_path / "plan.png")]
+    assert main(["topology", str(path), "--places", str(places), *behind]) == 0 and (tmp_path / "plan.png").is_file()
+    assert main(["topology", str(path), "--places", str(places), *behind, "--extent=1,2"]) == 1
+    assert "`--extent` has 2 numbers, and has to have 4" in capsys.readouterr().err
     picture = tmp_path / "run.svg"
     assert main(["timeline", str(path), "--from", "37.03", "--to", "37.05", "--nodes", "3,4", "-o", str(picture)]) == 0
     assert "slot 1" in picture.read_text()
     assert main(["timeline", str(path), "--from", "9999", "-o", str(picture)]) == 1
-    assert "the window from 9999.0" in capsys.readouterr().err
+    assert "the window from 9999" in capsys.readouterr().err
+
+
+def test_labels_of_hosts_cover_nothing() -> None:
+    """Neither a node nor a line, in the middle of a grid with lines to all sides."""
+    made = Scenario.from_graph(grid(5, 5, diagonals=True), 4, hosts=[3, 13])
+    places = {node: (float((node - 1) % 5), -float((node - 1) // 5)) for node in made.nodes}
+    figure = plot.topology(made, positions=places)
+    figure.draw_without_rendering()
+    (drawn,) = figure.axes
+    at = {node: drawn.transData.transform(place) for node, place in places.items()}
+    labels = [text.get_window_extent() for text in figure.findobj(Annotation) if text.get_text().startswith("host ")]
+    assert len(labels) == 2
+    for box in labels:
+        for one, other in made.links:
+            for part in np.linspace(0, 1, 50):
+                assert not box.contains(*(at[one] + part * (at[other] - at[one])))
+
+
+def test_a_map_on_a_floor_plan(tmp_path: Path) -> None:
+    made, places = Scenario.from_graph(grid(2, 2), 4, hosts=[1]), {1: (0, 0), 2: (9, 0), 3: (0, 9), 4: (9, 9)}
+    Image.new("RGB", (40, 20), "#ff0000").save(tmp_path / "site.png")
+    plain, behind = plot.topology(made, positions=places), plot.topology(made, positions=places, background=tmp_path / "site.png", extent=(-5, 35, -5, 15))
+    (shown,) = behind.axes[0].get_images()
+    assert list(shown.get_extent()) == [-5, 35, -5, 15] and not plain.axes[0].get_images()
+    assert plot.topology(made, positions=places, background=(tmp_path / "site.png").read_bytes()).axes[0].get_images()[0].get_extent() == (0, 40, 0, 20)
+    with pytest.raises(ValueError, match="a background needs the positions of the nodes on it"):
+        plot.topology(made, background=tmp_path / "site.png")
+
+
+def test_hops_are_told_up_to_twelve() -> None:
+    shown = words(plot.topology(Scenario.from_graph(line(15), 4, hosts=[1])))
+    assert {"the host: 0 hops", "1 hop", "12 hops", "more than 12 hops"} <= set(shown) and "13 hops" not in shown
+
+
+def test_the_timeline_of_a_round_by_its_frame(failover: results.Log) -> None:
+    assert plot.timeline(failover, frame=9).axes[0].get_xlim() == pytest.approx((36.998, 37.233))
+    with pytest.raises(ValueError, match="frame 10 has no round; `planning.rounds` has the frames that have one"):
+        plot.timeline(failover, frame=10)

@@ -5,13 +5,15 @@ from __future__ import annotations
 import os
 import pickle
 import signal
+import subprocess
+import sys
 import time
 from pathlib import Path
 
 import pytest
 
 from conftest import EXAMPLES, REPOSITORY
-from foldcairn import program
+from foldcairn import front_end, program
 
 SCENARIO = EXAMPLES / "packets-along-a-line.scenario"
 REPORT = EXAMPLES / "expected" / "packets-along-a-line.report"
@@ -59,13 +61,30 @@ def test_find_prefers_the_variable(monkeypatch, fake):
 
 def test_find_looks_at_the_path_last(monkeypatch, tmp_path):
     monkeypatch.delenv("FOLDCAIRN")
-    monkeypatch.setattr(program, "__file__", str(tmp_path / "site" / "foldcairn" / "program.py"))
+    monkeypatch.setattr(front_end, "__file__", str(tmp_path / "site" / "foldcairn" / "front_end.py"))
     monkeypatch.setenv("PATH", str(tmp_path))
     with pytest.raises(program.NotFound, match="set the environment variable FOLDCAIRN"):
         program.find()
     (tmp_path / "foldcairn").write_text("#!/bin/sh\n")
     (tmp_path / "foldcairn").chmod(0o755)
     assert program.find() == tmp_path / "foldcairn"
+
+
+def test_find_takes_what_was_installed_with_the_package(monkeypatch, tmp_path):
+    monkeypatch.delenv("FOLDCAIRN")
+    package = tmp_path / "site" / "foldcairn"
+    monkeypatch.setattr(front_end, "__file__", str(package / "front_end.py"))
+    monkeypatch.setenv("PATH", "/nowhere")
+    (package / "installed").mkdir(parents=True)
+    (package / "installed" / "foldcairn").write_text("#!/bin/sh\n")
+    assert front_end.path() is None
+    (package / "installed" / "foldcairn").chmod(0o755)
+    assert program.find() == package / "installed" / "foldcairn"
+
+
+def test_the_front_end_starts_without_the_libraries():
+    code = "import sys, foldcairn.front_end; sys.exit(any(name in sys.modules for name in ('numpy', 'pandas', 'networkx')))"
+    subprocess.run([sys.executable, "-c", code], check=True, env={"PYTHONPATH": str(REPOSITORY / "python" / "src")})
 
 
 @pytest.mark.parametrize("status", sorted(STATUSES))

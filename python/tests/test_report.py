@@ -3,6 +3,7 @@
 from __future__ import annotations
 
 import io
+import json
 import sys
 from pathlib import Path
 
@@ -10,7 +11,7 @@ import pandas as pd
 import pytest
 from networks import FAILOVER, LINE
 
-from foldcairn import __main__, planning, results
+from foldcairn import __main__, planning, program, results
 
 
 def test_all_tables_as_text(tmp_path: Path, capsys: pytest.CaptureFixture[str]) -> None:
@@ -23,9 +24,9 @@ def test_all_tables_as_text(tmp_path: Path, capsys: pytest.CaptureFixture[str]) 
     assert "Outages at changes of hosts, by stream\n\n from_host  to_host  source  stream  off_seconds" in told.out
     rows = [line.split() for line in told.out.splitlines()]
     # The rows of the two hosts, and the one of the outage.
-    assert ["0", "1", "1", "21.000", "21.000", "1", "3", "21.068", "1", "1", "21.067"] in rows
-    assert ["1", "2", "1", "109.000", "125.000", "2", "2", "109.068", "1", "1", "109.067"] in rows
-    assert ["1", "2", "24.000", "21.000", "109.000", "37.033", "125.033", "88.000", "101.033"] in rows
+    assert ["0", "1", "1", "21.000", "21.000", "1", "3", "21.068", "1", "1", "21.067", "0.000"] in rows
+    assert ["1", "2", "1", "109.000", "125.000", "2", "2", "109.068", "1", "1", "109.067", "0.000"] in rows
+    assert ["1", "2", "24.000", "21.000", "109.000", "37.035", "125.035", "True", "88.000", "101.035"] in rows
 
 
 def test_from_standard_input_with_tables_that_have_no_rows(capsys: pytest.CaptureFixture[str], monkeypatch: pytest.MonkeyPatch) -> None:
@@ -47,6 +48,17 @@ def test_all_tables_as_files(tmp_path: Path, capsys: pytest.CaptureFixture[str])
     packets = pd.read_csv(folder / "packets.csv")
     assert packets["fate"].tolist() == ["delivered", "delivered"]
     assert packets["sent_seconds"].tolist() == pytest.approx([37.034, 125.034])
+
+
+def test_all_tables_as_json(tmp_path: Path, capsys: pytest.CaptureFixture[str]) -> None:
+    path = tmp_path / "failover.scenario"
+    path.write_text(FAILOVER)
+    assert __main__.main(["report", str(path), "--json"]) == 0
+    read = json.loads(capsys.readouterr().out)
+    assert read.pop("versions") == program.versions()
+    expected = planning.tables(results.log(FAILOVER))
+    assert {name: len(rows) for name, rows in read.items()} == {name: len(table) for name, table in expected.items()}
+    assert read["packets"][1]["sent_seconds"] == pytest.approx(125.034, abs=1e-12)
 
 
 def test_a_text_that_is_rejected(tmp_path: Path, capsys: pytest.CaptureFixture[str]) -> None:

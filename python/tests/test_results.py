@@ -12,7 +12,7 @@ from pathlib import Path
 
 import pytest
 from conftest import EXAMPLES, REPOSITORY
-from networks import CONTENDERS, FAILOVER, LINE
+from networks import CONTENDERS, FAILOVER, LINE, SECOND
 
 from foldcairn import columns, program, results
 from foldcairn.scenario import Scenario, ScenarioWarning
@@ -24,12 +24,12 @@ def test_the_report_of_two_contenders() -> None:
     report = results.run(CONTENDERS)
     assert report.scenario.frames == 18
     table = report.deliveries
-    assert list(table.columns) == ["frame", "rank", "slot", "node", "source", "boot", "stream", "number", "payload", "seconds"]
-    assert table.drop(columns="seconds").astype(str).agg(" ".join, axis=1).tolist() == [
+    assert list(table.columns) == ["frame", "rank", "slot", "node", "source", "boot", "stream", "number", "payload", "planned_seconds"]
+    assert table.drop(columns="planned_seconds").astype(str).agg(" ".join, axis=1).tolist() == [
         "13 0 1 1 2 1 0 0 aa", "13 0 1 3 2 1 0 0 aa", "17 0 5 1 3 1 0 0 bb", "17 0 5 2 3 1 0 0 bb",
     ]  # fmt: skip
     # Frame 13 starts at 52 s, and its round a second later; slot 1 is 33 ms after that.
-    assert table["seconds"].tolist() == pytest.approx([53.033, 53.033, 69.165, 69.165])
+    assert table["planned_seconds"].tolist() == pytest.approx([53.033, 53.033, 69.165, 69.165])
     assert report.drops.empty and list(report.drops.columns) == ["frame", "node", "stream"]
     first = report.energy.iloc[0]
     assert (first["node"], first["transmit_ticks"], first["window_ticks"]) == (1, 929_792, 27_789_824)
@@ -40,15 +40,15 @@ def test_the_report_of_two_contenders() -> None:
 
 def test_the_times_of_profile_2() -> None:
     report = results.run((EXAMPLES / "two-contention-slots.scenario").read_text())
-    assert report.deliveries["seconds"].tolist() == pytest.approx([46.056, 46.056, 46.28, 46.28])
+    assert report.deliveries["planned_seconds"].tolist() == pytest.approx([46.056, 46.056, 46.28, 46.28])
 
 
 def test_drops_and_columns_without_rows() -> None:
     report = results.run(FULL_QUEUE)
     assert report.drops.values.tolist() == [[0, 2, 0]]
     assert report.deliveries.empty
-    assert report.deliveries.dtypes["frame"] == "uint16" and report.deliveries.dtypes["payload"] == "category"
-    assert report.deliveries.dtypes["seconds"] == "float64"
+    assert report.deliveries.dtypes["frame"] == "int64" and report.deliveries.dtypes["payload"] == "category"
+    assert report.deliveries.dtypes["planned_seconds"] == "float64"
 
 
 def test_bus_has_the_deliveries_of_run_and_no_times_of_radios() -> None:
@@ -97,7 +97,9 @@ def test_the_log_of_three_in_a_line() -> None:
     # Each node transmits twice in each of the six floods.
     assert len(log.transmissions) == 36
     assert log.packets.loc["02010003010000" + "00aa", "number"] == 0
-    assert log.deliveries.equals(results.run(LINE).deliveries)
+    assert log.deliveries.drop(columns="delivered_seconds").equals(results.run(LINE).deliveries)
+    # Node 2 receives the packet of 9 bytes in step 0, a millisecond into slot 1 of frame 9, and node 1 a step later.
+    assert log.deliveries["delivered_seconds"].tolist() == pytest.approx([37.034 + (47_104 + 34_816) / SECOND, 37.034 + 34_816 / SECOND])
 
 
 def test_a_run_of_two_idle_nodes_has_tables_without_rows() -> None:
@@ -280,17 +282,22 @@ print(len(log.deliveries), len(log.transmissions), len(log.receptions), len(log.
 """
 
 
-def test_a_log_of_280_megabytes(tmp_path: Path) -> None:
+def test_a_log_of_140_megabytes(tmp_path: Path) -> None:
     """20 MB/s of processor time, in less than three times its size. The counts are those that grep counts."""
     text, kept = tmp_path / "dense.scenario", tmp_path / "dense.log"
     text.write_bytes(subprocess.run([REPOSITORY / "bench/run.sh", "--text", "dense"], capture_output=True, check=True).stdout)
     program.execute_to_file(["log"], text.read_bytes(), kept)
+    # Half of it: the report and the transmissions before the middle.
+    with kept.open("r+b") as log:
+        log.seek(140_000_000)
+        log.readline()
+        log.truncate(log.tell())
     size = kept.stat().st_size
     told = subprocess.run([sys.executable, "-c", _READ, text, kept], env={**os.environ, "PYTHONPATH": str(REPOSITORY / "python/src")},
                           capture_output=True, check=True, text=True).stdout.split()  # fmt: skip
     words = ("deliver", "sent", "heard", "tuned")
     counted = subprocess.run(["cut", "-d", " ", "-f", "1", kept], capture_output=True, check=True).stdout
     assert [int(number) for number in told[:4]] == [counted.count(f"{word}\n".encode()) for word in words]
-    assert size > 270_000_000
+    assert 140_000_000 <= size < 140_001_000
     assert size / float(told[4]) > 20_000_000
     assert int(told[5]) < 3 * size

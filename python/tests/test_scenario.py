@@ -120,7 +120,7 @@ def test_lengths_in_seconds():
         (lambda: two().node(3, ppm=21), "the drift, is from -20 to 20 ppm"),
         (lambda: two().link(1, 9), "node 9 is not given"),
         (lambda: two().link(1, 1), "the two ids must differ"),
-        (lambda: two().link(1, 2, prr=1.1), "the reception ratio, is from 0 to 1"),
+        (lambda: two().link(1, 2, prr=1.1), "`link 1 2`: `prr` is 1.1, and has to be a number from 0 to 1"),
         (lambda: two().host(0, 2), "rank 0 or node 2 hosts already"),
         (lambda: two().on(1, frame=20), "20, the frame, is from 0 to 19"),
         (lambda: two().on(1, seconds=80), "20, the frame, is from 0 to 19"),
@@ -129,7 +129,7 @@ def test_lengths_in_seconds():
         (lambda: two().stream(2, 0), "the interval, is from 1 to 120 seconds"),
         (lambda: two().stream(2, 4.5), "4.5, the interval"),
         (lambda: two().put(2, bytes(33)), "the payload, is at most 32 bytes in profile 1"),
-        (lambda: two().every(0, 2), "that must be above 0"),
+        (lambda: two().every(0, 2), "`seconds` is 0, and has to be a number above 0"),
         (lambda: two().lose(0, 43, 0, 1, 2), "43, the slot, is from 0 to 42"),
     ],
 )  # fmt: skip
@@ -197,9 +197,9 @@ def test_from_tables(tmp_path):
 @pytest.mark.parametrize(
     ("nodes", "links", "says"),
     [
-        ({"name": [1]}, {}, "the table of nodes lacks the column id; it has name"),
+        ({"name": [1]}, {}, "the table of nodes lacks the column id (or node); it has name"),
         ({"id": [1, 1]}, {}, "the table of nodes, row 2: node 1 is given already"),
-        ({"id": [1, 2.5]}, {}, "the table of nodes, row 2: the id, 2.5, is no whole number"),
+        ({"id": [1, 2.5]}, {}, "the table of nodes, row 2: `id` is 2.5, and has to be a whole number"),
         ({"id": [1, None]}, {}, "the table of nodes, row 2: 'id' is not given"),
         ({"id": [1, 2]}, {"from": [1], "to": [3]}, "the table of links, row 1: `link 1 3`: node 3 is not given"),
     ],
@@ -219,7 +219,8 @@ def warned(scenario: Scenario) -> list[str]:
 
 
 def test_the_warnings_of_a_planned_network():
-    contend, slack = warned(planned_grid())
+    contend, at_once, slack = warned(planned_grid())
+    assert "nodes ask for their streams in one contention slot" in at_once
     assert contend.startswith("the ids of nodes 1 and 17, 2 and 18, 4 and 20, 8 and 24 are equal modulo 16")
     assert "and 12 more" in slack
 
@@ -236,8 +237,8 @@ def test_nothing_to_warn_of():
         (lambda: two().on().put(2).stream(2, 4, frame=1).put(2, frame=2), "are dropped: 1 of stream 0 of node 2"),
         (lambda: two().on().stream(2, 4).off(2, frame=3).put(2, frame=3), "are dropped: 1 of stream 0 of node 2"),
         (lambda: two().on().stream(2, 4).leave(2, frame=3).put(2, frame=3), "are dropped: 1 of stream 0 of node 2"),
-        (lambda: two().node(3).on().lose(0, 0, 0, 3, 1), "losses are given on links that the scenario doesn't have: 3 to 1"),
-        (lambda: two().node(3).on().capture(0, 0, 0, 1, 3), "captures are given on links that the scenario doesn't have: 3 to 1"),
+        (lambda: two().node(3).pair(3, 2).on().lose(0, 0, 0, 3, 1), "losses are given on links that the scenario doesn't have: 3 to 1"),
+        (lambda: two().node(3).pair(3, 2).on().capture(0, 0, 0, 1, 3), "captures are given on links that the scenario doesn't have: 3 to 1"),
         (lambda: two().on().every(10, 2, interval=10), "interval about 15 % shorter: stream 0 of node 2 (every 9.7 s, interval 10: 8)"),
     ],
 )  # fmt: skip
@@ -283,7 +284,7 @@ def test_ids_that_contend_for_ever(contend):
     assert deliveries(made) == 0
     (message,) = warned(made)
     assert "the ids of nodes 7 and 23 are equal modulo 16" in message
-    assert "use `contend 3` or" in message
+    assert "start in rounds of their own (`contend 3` or another id parts two nodes, but not always more)" in message
 
 
 def test_ids_that_part():

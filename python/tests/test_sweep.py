@@ -3,8 +3,10 @@
 from __future__ import annotations
 
 import io
+import json
 import os
 from concurrent.futures import ProcessPoolExecutor, ThreadPoolExecutor
+from functools import partial
 from pathlib import Path
 
 import numpy
@@ -12,17 +14,14 @@ import pandas
 import pytest
 
 from conftest import EXAMPLES
-from foldcairn import losses, program, sweep
-from foldcairn.scenario import Scenario, line
+from foldcairn import kept, lines, losses, program, sweep
+from foldcairn.scenario import Scenario, grid, line
 
 LINE = EXAMPLES / "packets-along-a-line.scenario"
 
 
-def network(interval: int, seed: int = 0, log: str = "") -> Scenario:
-    """A line of three whose last node has packets; with a seed its links lose a fifth. Notes its call in a file."""
-    if log:
-        with open(log, "a") as sink:
-            sink.write(f"{interval}\n")
+def network(interval: int, seed: int = 0) -> Scenario:
+    """A line of three whose last node has packets; with a seed its links lose a fifth."""
     made = Scenario.from_graph(line(3), 20, hosts=[1]).stream(3, interval).put(3, b"a").put(3, b"b", frame=1)
     if seed:
         for link in sorted(made.links):
@@ -74,21 +73,135 @@ def test_several_rows_a_case_and_the_sums_of_an_example():
     }  # fmt: skip
 
 
+class Counted:
+    """A measure that notes its calls in a file."""
+
+    def __init__(self, log: Path) -> None:
+        self.log = str(log)
+
+    def __call__(self, scenario: Scenario | str) -> dict[str, int]:
+        with open(self.log, "a") as sink:
+            sink.write("measured\n")
+        return sweep.summary(scenario)
+
+    def count(self) -> int:
+        return len(Path(self.log).read_text().split()) if Path(self.log).exists() else 0
+
+
 def test_going_on_where_it_was_stopped(tmp_path):
-    log, results = str(tmp_path / "log"), tmp_path / "results"
-    few = sweep.grid(interval=[4, 8], log=[log])
-    first = sweep.sweep(network, few, results=results, progress=False)
-    more = sweep.grid(interval=[16, 8, 4], log=[log])
-    second = sweep.sweep(network, more, results=results, progress=False)
-    assert sorted(Path(log).read_text().split()) == ["16", "4", "8"]
+    measure, results = Counted(tmp_path / "log"), tmp_path / "results"
+    first = sweep.sweep(network, sweep.grid(interval=[4, 8]), measure, results=results, progress=False)
+    more = sweep.grid(interval=[16, 8, 4])
+    second = sweep.sweep(network, more, measure, results=results, progress=False)
+    assert measure.count() == 3
     assert second[1:].values.tolist() == first[::-1].values.tolist()
-    pandas.testing.assert_frame_equal(second, sweep.sweep(network, more, results=results, progress=False))
-    # A result that is no result, as a full disk may leave one, is made again.
-    kept = sorted(results.iterdir())
-    assert len(kept) == 3
-    kept[0].write_text("{")
-    pandas.testing.assert_frame_equal(second, sweep.sweep(network, more, results=results, progress=False))
-    assert len(Path(log).read_text().split()) == 4
+    pandas.testing.assert_frame_equal(second, sweep.sweep(network, more, measure, results=results, progress=False))
+    assert measure.count() == 3 and len(list(results.iterdir())) == 3
+
+
+@pytest.mark.parametrize(
+    "damage",
+    [
+        lambda text: "{",
+        lambda text: "[]",
+        lambda text: text.replace('"rows": [{', '"rows": [], "more": [{'),
+        lambda text: json.dumps({**json.loads(text), "result": {"status": "ok", "rows": "abc", "message": ""}}),
+        lambda text: json.dumps({**json.loads(text), "result": {"status": "ok", "rows": [], "message": ""}}),
+        # A file of another writer, with a checksum that fits.
+        lambda text: json.dumps({**json.loads(text), "result": [1], "checksum": kept.digest([1])}),
+        lambda text: json.dumps({**json.loads(text), "result": shaped("abc"), "checksum": kept.digest(shaped("abc"))}),
+    ],
+)  # fmt: skip
+def test_a_result_of_the_wrong_shape_is_made_again(tmp_path, damage):
+    cases = sweep.grid(interval=[4, 8])
+    measure = Counted(tmp_path / "log")
+    whole = sweep.sweep(network, cases, measure, results=tmp_path / "kept", progress=False)
+    broken = sorted((tmp_path / "kept").iterdir())[0]
+    broken.write_text(damage(broken.read_text()))
+    pandas.testing.assert_frame_equal(whole, sweep.sweep(network, cases, measure, results=tmp_path / "kept", progress=False))
+    assert measure.count() == 3
+    pandas.testing.assert_frame_equal(whole, sweep.sweep(network, cases, measure, results=tmp_path / "kept", progress=False))
+    assert measure.count() == 3
+
+
+def shaped(rows: object) -> dict[str, object]:
+    return {"status": "ok", "rows": rows, "message": ""}
+
+
+def test_results_can_be_read_by_others(tmp_path):
+    before = os.umask(0o022)
+    try:
+        sweep.sweep(network, [{"interval": 4}], results=tmp_path, progress=False)
+    finally:
+        os.umask(before)
+    (path,) = tmp_path.iterdir()
+    assert path.stat().st_mode & 0o777 == 0o644
+    assert json.loads(path.read_text())["about"] == program.versions()
+
+
+def deliveries_alone(scenario):
+    return {"count": sweep.summary(scenario)["deliveries"]}
+
+
+def test_what_is_kept_is_never_the_answer_to_another_question(tmp_path, monkeypatch):
+    results, folders = tmp_path / "results", [tmp_path / "a", tmp_path / "b"]
+    texts = [LINE.read_text(), LINE.read_text().replace("pair 3 4\n", "")]
+    for folder, text in zip(folders, texts):
+        folder.mkdir()
+        (folder / "x.scenario").write_text(text)
+    counts = []
+    # The same name from two folders, and the first again.
+    for folder in (*folders, folders[0]):
+        monkeypatch.chdir(folder)
+        counts += sweep.sweep(sweep.from_file, sweep.files("."), results=results, progress=False).deliveries.tolist()
+    assert counts == [6, 0, 6]
+    assert len(list(results.iterdir())) == 2
+    # A file that changed.
+    (folders[0] / "x.scenario").write_text(texts[1])
+    assert sweep.sweep(sweep.from_file, sweep.files("."), results=results, progress=False).deliveries.tolist() == [0]
+    # Another measure.
+    other = sweep.sweep(sweep.from_file, sweep.files("."), deliveries_alone, results=results, progress=False)
+    assert list(other.columns) == ["file", "status", "count"]
+    # Another program.
+    before = len(list(results.iterdir()))
+    copied = tmp_path / "program"
+    copied.write_bytes(Path(os.environ["FOLDCAIRN"]).read_bytes() + b" ")
+    copied.chmod(0o755)
+    monkeypatch.setenv("FOLDCAIRN", str(copied))
+    sweep.sweep(sweep.from_file, sweep.files("."), results=results, progress=False)
+    assert len(list(results.iterdir())) == before + 1
+
+
+def test_ratios_and_seeds_are_part_of_the_question(tmp_path):
+    def drawing(prr: float, seed: int = 1) -> losses.Drawing:
+        return losses.Drawing(Scenario.read(LINE).link(3, 2, prr).link(4, 3, prr), seed)
+
+    keys = {sweep.kept.digest(sweep._content(one)) for one in (drawing(0.5), drawing(0.6), drawing(0.5, 2), drawing(0.5).scenario)}
+    assert len(keys) == 4
+    assert sweep._content(drawing(0.5)) == sweep._content(drawing(0.5))
+
+
+def test_plain_parameters_have_one_name():
+    assert kept.digest(Path("a/b"), b"x", numpy.int64(3), [1.5]) == kept.digest("a/b", "78", 3, [1.5])
+    with pytest.raises(TypeError, match="can't be kept"):
+        kept.digest(object())
+
+
+def test_a_measure_by_its_source_what_it_holds_or_a_name(tmp_path):
+    def made(factor: int):
+        return lambda scenario: {"count": factor * sweep.summary(scenario)["deliveries"]}
+
+    assert kept.spelled(made(1)) != kept.spelled(made(2))
+    assert kept.spelled(partial(deliveries_alone)) != kept.spelled(deliveries_alone)
+    assert kept.spelled(Counted(tmp_path / "a")) != kept.spelled(Counted(tmp_path / "b"))
+    assert kept.spelled(Counted(tmp_path / "a")) == kept.spelled(Counted(tmp_path / "a"))
+    # Without a source there is the code.
+    typed = [eval(f"lambda scenario: {{'count': {count}}}") for count in (1, 2, 2)]
+    assert kept.spelled(typed[0]) != kept.spelled(typed[1]) == kept.spelled(typed[2])
+    with ThreadPoolExecutor(1) as threads:
+        for measure, name, count in ((made(1), "by name", 4), (made(5), "by name", 4), (made(5), None, 20)):
+            table = sweep.sweep(network, [{"interval": 4}], measure, executor=threads, results=tmp_path / "r", progress=False, name=name)
+            assert table["count"].tolist() == [count]
 
 
 def test_single_cases_that_fail(tmp_path):
@@ -97,15 +210,43 @@ def test_single_cases_that_fail(tmp_path):
     assert table.status.tolist() == ["ok", "OutOfMemory", "Refused"]
     assert table.message[1] == "out of memory"
     assert table.message[2].startswith("line 2: the text ends above this line, and lacks a `sends` line")
-    # The rejected text is kept as such; the one without memory is made again.
+    # A rejected text is kept as such; what was never built is made again.
     assert len(list(tmp_path.iterdir())) == 2
+    # A count that the failed rows lack stays whole.
+    assert str(table.deliveries.dtype) == "Int64" and table.deliveries[0] == 4 and table.deliveries[1] is pandas.NA
+    assert table.to_csv(index=False).splitlines()[1].startswith("4,ok,4,0,")
+
+
+def too_lossy(seed: int) -> losses.Drawing:
+    """Far more losses than a text has room for."""
+    made = Scenario.from_graph(grid(3, 3), 200, hosts=[1], profile=2)
+    for link in sorted(made.links):
+        made.link(*link, prr=0.3)
+    for node in range(2, 10):
+        made.stream(node, 4).every(4, node)
+    return losses.Drawing(made, seed)
+
+
+def test_losses_that_do_not_fit_are_kept_as_such(tmp_path, monkeypatch):
+    monkeypatch.setattr(lines, "SCRIPT_LINES_MOST", 2_000)
+    drawn = []
+    draw = losses.draw
+    monkeypatch.setattr(losses, "draw", lambda *rest, **named: (drawn.append(rest), draw(*rest, **named))[1])
+    for _ in range(2):
+        with ThreadPoolExecutor(1) as threads:
+            table = sweep.sweep(too_lossy, [{"seed": 1}], executor=threads, results=tmp_path, progress=False)
+        assert table.status.tolist() == ["TooManyLosses"]
+        assert "shorten the run to" in table.message[0] and "draw parts" not in table.message[0]
+    assert len(drawn) == 1
 
 
 def test_a_worker_that_dies_loses_nothing_of_what_is_kept(tmp_path):
-    with ProcessPoolExecutor(1) as pool, pytest.raises(sweep.SweepStopped, match="the executor broke down"):
+    with ProcessPoolExecutor(1) as pool, pytest.raises(sweep.SweepStopped, match="the executor broke down") as stopped:
         sweep.sweep(dying, sweep.grid(interval=[4, 8, 5, 16]), executor=pool, results=tmp_path, progress=False)
-    kept = len(list(tmp_path.iterdir()))
-    assert kept >= 1
+    there = len(list(tmp_path.iterdir()))
+    assert there >= 1
+    # What is left is what is not there.
+    assert f"with {4 - there} cases still to make" in str(stopped.value)
     table = sweep.sweep(dying, sweep.grid(interval=[4, 8, 16]), results=tmp_path, progress=False)
     assert table.status.tolist() == ["ok"] * 3
 
@@ -121,7 +262,13 @@ def test_cases_that_are_none():
 def test_the_progress():
     told = io.StringIO()
     sweep.sweep(network, sweep.grid(interval=[4, 8]), executor=ThreadPoolExecutor(2), progress=told)
-    assert told.getvalue().startswith("2 of 2 cases, ")
+    assert "2/2" in told.getvalue() and "cases" in told.getvalue()
+    sweep.sweep(network, sweep.grid(interval=[4, 8]), executor=ThreadPoolExecutor(2), progress=False)
+
+
+def test_the_table_has_versions():
+    assert sweep.sweep(network, [{"interval": 4}], executor=ThreadPoolExecutor(1), progress=False).attrs == program.versions()
+    assert set(program.versions()) == {"package", "program"} and len(program.versions()["program"]) == 64
 
 
 def test_all_executors_give_the_same_table():

@@ -1,22 +1,30 @@
-"""The commands of `python3 -m foldcairn`, for whoever writes no Python. Tested, not proved."""
+"""The commands of `python3 -m foldcairn`, for whoever writes no Python. Tested, not proved.
+
+The front end `foldcairn` hands their words on to here, and names itself in the variable FOLDCAIRN_CALLED.
+"""
 
 from __future__ import annotations
 
 import argparse
+import os
 import sys
 import warnings
-from collections.abc import Callable, Sequence
+from collections.abc import Sequence
 from pathlib import Path
-from typing import TypeAlias
+from typing import TYPE_CHECKING
+
+from . import front_end
 
 try:
-    from . import outputs, program, report
-    from .scenario import Scenario, ScenarioError, ScenarioWarning
+    from . import commands, outputs, program, report
+    from .arguments import ArgumentError
+    from .commands import Commands
+    from .scenario import Scenario, ScenarioWarning
 except ModuleNotFoundError as error:
-    sys.exit(f"foldcairn: {sys.executable} lacks the module {error.name}; tools/setup-python.sh installs what is needed")
+    sys.exit(f"foldcairn: {front_end.missing(error)}")
 
-# The type has no public name.
-Commands: TypeAlias = "argparse._SubParsersAction[argparse.ArgumentParser]"
+if TYPE_CHECKING:
+    from . import losses, sweep
 
 # Exit statuses: 0 done; 1 the text is rejected, or what was asked for can't be had; 2 the words are no command.
 _FAILED = 1
@@ -25,13 +33,14 @@ _FAILED = 1
 def main(arguments: Sequence[str] | None = None) -> int:
     """Runs one command, and gives its exit status."""
     parser = argparse.ArgumentParser(
-        "python3 -m foldcairn",
+        os.environ.get("FOLDCAIRN_CALLED", "python3 -m foldcairn"),
         description="Helps to plan with the program foldcairn, which it runs: set the environment variable FOLDCAIRN to its path "
         "where it is not in the repository or on the PATH. `COMMAND --help` says more.",
     )
-    commands = parser.add_subparsers(title="commands", required=True, metavar="COMMAND")
+    parser.add_argument("--version", action=_Version, nargs=0, help="the versions of the package and of the program, and exit")
+    listed = parser.add_subparsers(title="commands", required=True, metavar="COMMAND")
     for add in _COMMANDS:
-        add(commands)
+        add(listed)
     chosen = parser.parse_args(arguments)
     warnings.showwarning = _show_warning
     warnings.simplefilter("always", ScenarioWarning)
@@ -39,8 +48,8 @@ def main(arguments: Sequence[str] | None = None) -> int:
         status: int = chosen.run(chosen)
         return status
     except ModuleNotFoundError as error:
-        print(f"foldcairn: the Python module {error.name} is missing; tools/setup-python.sh installs what is needed", file=sys.stderr)
-    except (program.ProgramError, ScenarioError, OSError, ValueError) as error:
+        print(f"foldcairn: {front_end.missing(error)}", file=sys.stderr)
+    except (program.ProgramError, commands.Failed, OSError, ValueError) as error:
         print(f"foldcairn: {error}", file=sys.stderr)
     except KeyboardInterrupt:
         print("foldcairn: stopped", file=sys.stderr)
@@ -52,26 +61,21 @@ def _show_warning(message: Warning | str, *_: object, **__: object) -> None:
     print(f"foldcairn: warning: {message}", file=sys.stderr)
 
 
-def _command(commands: Commands, name: str, run: Callable[[argparse.Namespace], int], about: str) -> argparse.ArgumentParser:
-    parser = commands.add_parser(name, help=about.split(".")[0], description=about)
-    parser.set_defaults(run=run)
-    return parser
+class _Version(argparse.Action):
+    """Says the versions, also that of the program, and ends."""
+
+    def __call__(self, parser: argparse.ArgumentParser, *_: object, **__: object) -> None:
+        try:
+            versions = program.versions()
+        except program.ProgramError as error:
+            parser.exit(_FAILED, f"foldcairn: {error}\n")
+        print(f"foldcairn {versions['package']}\nprogram {program.find()}, SHA-256 {versions['program']}")
+        parser.exit()
 
 
-def _read(path: str) -> bytes:
-    return sys.stdin.buffer.read() if path == "-" else Path(path).read_bytes()
-
-
-def _with_ratios(path: str, table: str) -> Scenario:
-    """The scenario of a file with the reception ratios of a table."""
-    from . import tables
-
-    return tables.set_ratios(Scenario.read(_read(path)), table)
-
-
-def _add_draw(commands: Commands) -> None:
-    parser = _command(
-        commands, "draw", _draw,
+def _add_draw(listed: Commands) -> None:
+    parser = commands.add(
+        listed, "draw", _draw,
         "Writes the scenario with losses that are drawn from reception ratios. Only losses that change who receives are "
         "written; the same seed gives the same losses.",
     )  # fmt: skip
@@ -81,64 +85,94 @@ def _add_draw(commands: Commands) -> None:
 
 
 def _draw(chosen: argparse.Namespace) -> int:
-    from . import losses
+    from . import losses, tables
 
+    scenario = tables.set_ratios(Scenario.read(commands.read(chosen.file)), chosen.ratios)
     try:
-        drawn = losses.draw(_with_ratios(chosen.file, chosen.ratios), chosen.seed)
+        drawn = losses.draw(scenario, chosen.seed)
     except losses.TooManyLosses as error:
-        raise ScenarioError(str(error)) from error
+        raise commands.Failed(str(error)) from error
     sys.stdout.write(drawn.text())
     return 0
 
 
-def _add_sweep(commands: Commands) -> None:
-    parser = _command(
-        commands, "sweep", _sweep,
-        "Runs many scenarios and writes one table as CSV: of each file of a folder, or of one file with losses drawn by each "
-        "seed. A sweep that was stopped goes on where it was if it is given the same folder of results; files that changed need "
-        "another one.",
+def _add_sweep(listed: Commands) -> None:
+    parser = commands.add(
+        listed, "sweep", _sweep,
+        "Runs many scenarios and writes one table: of each file of a folder, or of one file with losses drawn by each seed. A sweep "
+        "that was stopped goes on where it was if it is given the same folder of results; what has changed since is made anew.",
     )  # fmt: skip
-    parser.add_argument("path", metavar="PATH", help="a folder with files *.scenario, or a scenario with --ratios")
+    parser.add_argument("path", metavar="PATH", help="a folder with files *.scenario, or with --ratios a scenario")
     parser.add_argument("--results", metavar="FOLDER", help="where results are kept as they come")
     parser.add_argument("--jobs", type=int, metavar="N", help="how many run at a time; a process for each processor without it")
     parser.add_argument("--ratios", metavar="CSV", help="a table of links: from, to, prr (0 to 1)")
     parser.add_argument("--seeds", default="1-10", metavar="A-B", help="the seeds to draw losses by (1-10 without it)")
+    parser.add_argument(
+        "--measure", choices=("sums", "planning"), default="sums",
+        help="what is measured: sums of deliveries, drops and ticks (without it), or the main numbers of planning.summary",
+    )  # fmt: skip
+    parser.add_argument("--json", action="store_true", help="write JSON with the versions of package and program, in place of CSV")
 
 
-def _drawn(file: str, ratios: str, seed: int) -> Scenario:
-    """The scenario of a file with the losses of a seed; in the process of a worker."""
-    from . import losses
+def _drawing(file: str, ratios: str, seed: int) -> losses.Drawing:
+    """The scenario of a file with ratios, whose losses are drawn by a seed; in the process of a worker."""
+    from . import losses, tables
 
-    return losses.draw(_with_ratios(file, ratios), seed)
+    return losses.Drawing(tables.set_ratios(Scenario.read(Path(file)), ratios), seed)
+
+
+def _seeds(words: str) -> range:
+    """The seeds of `A-B` or `A`."""
+    first, _, last = words.partition("-")
+    if not first.isdecimal() or not (last or first).isdecimal():
+        raise ArgumentError(f"`--seeds` is {words!r}, and has to be a number or two with a dash between them, as in 1-10")
+    return range(int(first), int(last or first) + 1)
+
+
+def _cases(chosen: argparse.Namespace) -> tuple[sweep.Build, list[dict[str, object]]]:
+    """What builds the scenarios of a sweep, and the cases."""
+    from . import sweep
+
+    path = Path(chosen.path)
+    if chosen.ratios:
+        if not path.is_file():
+            raise ArgumentError(f"{path} is no file; with --ratios a scenario is named, whose losses are drawn")
+        seeds = _seeds(chosen.seeds)
+        if not seeds:
+            raise ArgumentError(f"`--seeds` is {chosen.seeds!r}, and has no seed")
+        return _drawing, sweep.grid(file=[chosen.path], ratios=[chosen.ratios], seed=seeds)
+    if path.is_file():
+        raise ArgumentError(f"{path} is a single scenario: give --ratios CSV to draw its losses by seeds, or name a folder")
+    if not path.is_dir():
+        raise ArgumentError(f"{path} is no folder")
+    cases: list[dict[str, object]] = [dict(case) for case in sweep.files(path)]
+    if not cases:
+        raise ArgumentError(f"there is no file *.scenario in {path}")
+    return sweep.from_file, cases
 
 
 def _sweep(chosen: argparse.Namespace) -> int:
     from concurrent.futures import ProcessPoolExecutor
 
-    from . import sweep
+    from . import planning, sweep
 
-    build: sweep.Build
-    if chosen.ratios:
-        first, _, last = chosen.seeds.partition("-")
-        seeds = range(int(first), int(last or first) + 1)
-        build, cases = _drawn, sweep.grid(file=[chosen.path], ratios=[chosen.ratios], seed=seeds)
-    else:
-        build, cases = sweep.from_file, sweep.files(chosen.path)
-    if not cases:
-        raise ScenarioError(f"there is no file *.scenario in {chosen.path}, and no seed to draw by")
+    build, cases = _cases(chosen)
+    measures: dict[str, sweep.Measure] = {"planning": planning.summary, "sums": sweep.summary}
     with ProcessPoolExecutor(chosen.jobs) as pool:
         try:
-            table = sweep.sweep(build, cases, executor=pool, results=chosen.results)
+            table = sweep.sweep(build, cases, measures[chosen.measure], executor=pool, results=chosen.results)
+        except sweep.SweepStopped as error:
+            raise commands.Failed(str(error)) from error
         except BaseException:
             pool.shutdown(wait=False, cancel_futures=True)
             raise
-    table.to_csv(sys.stdout, index=False)
+    sys.stdout.write(report.as_json({"cases": table}, table.attrs) if chosen.json else table.to_csv(index=False))
     return 0 if (table.status == "ok").all() else _FAILED
 
 
-def _add_explain(commands: Commands) -> None:
-    parser = _command(
-        commands, "explain", _explain,
+def _add_explain(listed: Commands) -> None:
+    parser = commands.add(
+        listed, "explain", _explain,
         "Says why a text is rejected, by line, word and range; of a scenario that is accepted, what it hardly means.",
     )  # fmt: skip
     parser.add_argument("file", metavar="FILE", help="a text, or - for standard input")
@@ -148,7 +182,7 @@ def _add_explain(commands: Commands) -> None:
 
 
 def _explain(chosen: argparse.Namespace) -> int:
-    text = _read(chosen.file)
+    text = commands.read(chosen.file)
     # `bus` reads what `run` reads, and is faster.
     program.execute(["bus" if chosen.command == "run" else chosen.command], text)
     cautions = Scenario.read(text).cautions() if chosen.command == "run" else []

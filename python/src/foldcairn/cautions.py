@@ -8,7 +8,7 @@ from __future__ import annotations
 
 import math
 from collections import Counter, defaultdict
-from collections.abc import Iterable, Iterator
+from collections.abc import Iterable, Iterator, Sized
 from itertools import combinations
 from operator import attrgetter
 from typing import TYPE_CHECKING
@@ -22,11 +22,16 @@ if TYPE_CHECKING:
 # The first round of a host that is on from frame 0 on is in this frame, and rounds are at most 4 frames apart.
 _FIRST_ROUND = 5
 _GAP_MOST = 4
+# A host takes a stream away whose slots stayed empty so many times in a row.
+_EMPTY_SLOTS = 16
+# A node has searched for a host for so many frames before the next rank serves: 12 for the first host, and 5 for its own rank.
+_TAKEOVER_FRAMES = 17
 # A stream whose packets come every so many seconds asks for a slot that much more often, so that its queue drains.
 _SLACK = 1.15
 _SLACK_LEAST = 1.10
 _PUTS_LEAST = 4
 _SHOWN_MOST = 8
+_AT_ONCE_LEAST = 3
 
 
 def of(scenario: Scenario) -> list[str]:
@@ -34,14 +39,118 @@ def of(scenario: Scenario) -> list[str]:
     script = sorted(scenario.script, key=attrgetter("frame"))
     found = _Streams(scenario, script)
     return [
+        *scenario.remarks,
+        *_too_large(scenario),
+        *_no_host(scenario),
         *_never_on(scenario),
+        *_out_of_reach(scenario),
+        *_two_hosts(scenario, script),
         *found.puts_without_stream(),
         *_losses_without_link(scenario),
         *found.too_many_streams(),
         *found.too_many_owners(),
         *found.contend_for_ever(),
+        *found.contend_at_once(),
+        *found.taken_away(),
         *found.no_slack(),
     ]
+
+
+def most_asked(scenario: Scenario) -> tuple[int, float]:
+    """How many streams are requested at a time at most, and how many data slots a frame they come to at most."""
+    found = _Streams(scenario, sorted(scenario.script, key=attrgetter("frame")))
+    return int(found.most_streams), found.most_slots
+
+
+def _nodes(scenario: Scenario, nodes: Iterable[int]) -> str:
+    """Nodes by their names: "node 7", or "nodes 7, 8"."""
+    named = [scenario.name(node) for node in nodes]
+    return f"{'node' if len(named) == 1 else 'nodes'} {_several(named)}"
+
+
+def _too_large(scenario: Scenario) -> Iterator[str]:
+    """What the program rejects, so that it is known before the run."""
+    nodes, frames = len(scenario.nodes), scenario.frames
+    if nodes > lines.NODES_MOST:
+        yield f"`run` rejects this: it has {nodes} nodes, and at most {lines.NODES_MOST} are run; take some out, or plan in parts"
+    elif nodes * frames > lines.NODE_FRAMES_MOST:
+        most = lines.NODE_FRAMES_MOST // nodes
+        yield (
+            f"`run` rejects this: {nodes} nodes times {frames:,} frames are {nodes * frames:,}, and at most {lines.NODE_FRAMES_MOST:,} are "
+            f"run; with these nodes at most {most:,} frames, which are {most * scenario.frame_seconds:,} s"
+        )
+    written: tuple[Sized, ...] = (scenario.rates, scenario.script, scenario.losses, scenario.cuts, scenario.captures)
+    if (count := sum(map(len, written))) > lines.SCRIPT_LINES_MOST:
+        yield (
+            f"`run` rejects this: it has {count:,} lines of its script, and at most {lines.SCRIPT_LINES_MOST:,} are read; put fewer packets, "
+            "or shorten the run"
+        )
+    if nodes == 1:
+        yield "`run` rejects this: a scenario has at least 2 nodes"
+
+
+def _no_host(scenario: Scenario) -> Iterator[str]:
+    if not scenario.hosts and scenario.nodes:
+        yield "`run` rejects this: no node hosts; say which one by `host(0, id)`, or by a column `host` with the rank in the table of nodes"
+
+
+def _out_of_reach(scenario: Scenario) -> Iterator[str]:
+    """Nodes that no host reaches, for want of links or steps."""
+    import networkx
+
+    if not scenario.hosts or len(scenario.nodes) < 2:
+        return
+    graph = scenario.graph()
+    graph.remove_edges_from([link for link, ratio in scenario.prr.items() if ratio == 0])
+    alone = [node for node in sorted(graph) if not graph.in_degree(node) or not graph.out_degree(node)]
+    if alone:
+        yield f"{_nodes(scenario, alone)} {_has(alone)} no link to or from any other node, so {_it(alone)} can't take part"
+    for _, _, data in graph.edges(data=True):
+        # A lost packet comes again two steps later.
+        data["steps"] = 1 + 2 * (1 / data["prr"] - 1)
+    hosts = sorted(set(scenario.hosts.values()))
+    near = networkx.multi_source_dijkstra_path_length(graph, hosts, weight=None)
+    steps = networkx.multi_source_dijkstra_path_length(graph, hosts, weight="steps")
+    far = [node for node in sorted(graph) if node not in alone and near.get(node, lines.STEPS + 1) > lines.STEPS]
+    if far:
+        yield f"{_nodes(scenario, far)} {_is(far)} reached by no host within {lines.STEPS} hops, so {_it(far)} can't join"
+    tight = [node for node in sorted(graph) if node not in alone and node not in far and steps[node] > lines.STEPS]
+    if tight:
+        worst = max(tight, key=lambda node: float(steps[node]))
+        yield (
+            f"the links to {_nodes(scenario, tight)} lose so much that a flood needs more than its {lines.STEPS} steps to get there: with "
+            f"these ratios it takes some {steps[worst]:.0f} steps to node {scenario.name(worst)}, {near[worst]} hops away"
+        )
+
+
+def _has(nodes: list[int]) -> str:
+    return "has" if len(nodes) == 1 else "have"
+
+
+def _is(nodes: list[int]) -> str:
+    return "is" if len(nodes) == 1 else "are"
+
+
+def _it(nodes: list[int]) -> str:
+    return "it" if len(nodes) == 1 else "they"
+
+
+def _two_hosts(scenario: Scenario, script: list[ScriptLine]) -> Iterator[str]:
+    """A host that gets power back after another one has taken over: nothing brings the two networks together again."""
+    ranks = {node: rank for rank, node in scenario.hosts.items()}
+    off: dict[int, int] = {}
+    for event in script:
+        if isinstance(event, Off) and event.node in ranks:
+            off.setdefault(event.node, event.frame)
+        elif isinstance(event, On) and event.node in off:
+            away, backups = event.frame - off.pop(event.node), [node for node, rank in ranks.items() if rank > ranks[event.node]]
+            if away > _TAKEOVER_FRAMES and backups and event.node not in off:
+                yield (
+                    f"node {scenario.name(event.node)} hosts again some {5 * scenario.frame_seconds} s after "
+                    f"{event.frame * scenario.frame_seconds:,} s, when its power comes back; by then {_nodes(scenario, backups[:1])} may "
+                    "have taken over, and two hosts serve at once, each for nodes that receive nothing of the other: `return` of the "
+                    "program (`results.returns`) runs the rule by which a backup host goes back (docs/RETURN.md)"
+                )
 
 
 def _several(names: Iterable[object]) -> str:
@@ -75,6 +184,7 @@ class _Streams:
         self.intervals: dict[tuple[int, int], int] = {}
         self.due: dict[int, int] = {}
         self.without: Counter[tuple[int, int]] = Counter()
+        self.first: dict[tuple[int, int], int] = {}
         self.most_streams = self.most_slots = 0.0
         self.restarts = self._walk(script)
 
@@ -93,10 +203,13 @@ class _Streams:
                     requested = {key: interval for key, interval in requested.items() if key[0] != node}
                 case Stream(node=node, stream=stream, interval=interval) if node in on:
                     requested[node, stream] = self.intervals[node, stream] = interval
+                    self.first.setdefault((node, stream), max(event.frame, _FIRST_ROUND))
                     self._measure(requested)
                 case Leave(node=node, stream=stream):
                     requested.pop((node, stream), None)
-                case Put(frame=frame, node=node, stream=stream):
+                case Put(frame=frame, node=node, stream=stream, payload=payload):
+                    if not payload and (node, stream) in self.scenario.keep_alive and (node, stream) not in requested:
+                        continue
                     if (node, stream) in requested:
                         self.puts[node, stream].append(frame)
                         self.due.setdefault(node, max(frame, _FIRST_ROUND))
@@ -132,7 +245,8 @@ class _Streams:
 
     def contend_for_ever(self) -> Iterator[str]:
         # That two such nodes tie again after each collision is proved of the rules, for slots without losses and captures and
-        # nodes with the same neighbours (docs/GUARANTEES.md, "Where nothing is lost").
+        # nodes with the same neighbours (docs/GUARANTEES.md, "Where nothing is lost"). Other ids part two nodes, and not always more
+        # (docs/BOUNDS.md, "Contention").
         slots = self.scenario.contention_slots
         period = math.lcm(16, slots)
         together = [
@@ -143,11 +257,43 @@ class _Streams:
             and not {one, other} & {self.scenario.hosts.get(0)}
         ]
         if together:
-            remedy = "use `contend 3` or " if slots != 3 else ""
+            parting = "`contend 3` or another id" if slots != 3 else "another id"
             yield (
                 f"the ids of nodes {_several(f'{one} and {other}' for one, other in together)} are equal modulo {period}: where they "
                 f"ask for streams at the same time, with {slots} contention slot{'s' * (slots > 1)}, their requests collide each "
-                f"time until a loss parts them; {remedy}let their streams start in rounds of their own, or change an id"
+                f"time until a loss parts them; let their streams start in rounds of their own ({parting} parts two nodes, but not always more)"
+            )
+
+    def contend_at_once(self) -> Iterator[str]:
+        # A request is due with the first packet. Nodes ask in slot `(id + tries) mod slots`, so those of one rest share a slot.
+        slots = self.scenario.contention_slots
+        groups: dict[tuple[int, int], list[int]] = defaultdict(list)
+        for node, frame in sorted(self.due.items()):
+            if node != self.scenario.hosts.get(0):
+                groups[frame // _GAP_MOST if frame > _FIRST_ROUND else 0, node % slots].append(node)
+        largest: list[int] = max(groups.values(), key=len, default=[])
+        if len(largest) >= _AT_ONCE_LEAST:
+            most = max(groups, key=lambda key: len(groups[key]))
+            frame = min(self.due[node] for node in groups[most])
+            yield (
+                f"{len(largest)} nodes ask for their streams in one contention slot, in the round at some "
+                f"{frame * self.scenario.frame_seconds} s ({_nodes(self.scenario, largest)}): their requests collide, and some may wait for "
+                "minutes or for ever; let their streams start in rounds of their own, or fewer wait at once, and look at a run"
+            )
+
+    def taken_away(self) -> Iterator[str]:
+        """Sporadic streams, which their host takes away between two packets."""
+        found = []
+        for (node, stream), frames in sorted(self.puts.items()):
+            limit = _EMPTY_SLOTS * max(self.intervals[node, stream], 1)
+            pauses = [(later - one) * self.scenario.frame_seconds for one, later in zip(frames, frames[1:])]
+            if max(pauses, default=0) > limit:
+                found.append(f"stream {stream} of node {self.scenario.name(node)} after {limit} s (its pauses are up to {max(pauses):,.0f} s)")
+        if found:
+            yield (
+                f"a host takes a stream away whose slots stay empty {_EMPTY_SLOTS} times in a row, and the next packet has to ask for it anew, "
+                "which can take minutes where requests collide: "
+                f"{_several(found)}; `stream(.., keep_alive=seconds)` keeps it by packets of no bytes"
             )
 
     def no_slack(self) -> Iterator[str]:

@@ -5,44 +5,59 @@ Tested, not proved.
 
 from __future__ import annotations
 
+from collections.abc import Iterable
+from typing import Any
+
 import numpy as np
 import pandas as pd
 from matplotlib.axes import Axes
 from matplotlib.figure import Figure
+from matplotlib.patches import Patch
 from matplotlib.ticker import PercentFormatter
 
 from . import radio, style
 
-# Cells of a map are labelled up to so many columns.
-_LABELS_MOST = 30
+# The colours of ratios, from dark to light.
+SCALE = "cividis"
+# Up to so many columns there is room for counts in the cells.
+_COUNTS_MOST = 6
 
 
-def delivery(pairs: pd.DataFrame, *, column: str = "ratio_of_put", title: str | None = None) -> Figure:
+def delivery(
+    pairs: pd.DataFrame, *, column: str = "ratio_of_put", title: str | None = None, axes: Axes | None = None
+) -> Figure:
     """Which stream arrives where: a row for each stream and a column for each node, by the ratios (0 to 1) of a table of
-    `planning.delivery_ratio(log, "pair")`. Cells of a stream at its own node, and of what there is none of, are empty.
+    `planning.delivery_ratio(log, "pair")`. Cells of a stream at its own node, and of what there is none of, are empty. Next to a
+    stream is how many packets it put: the ratio of four packets says little.
 
     `column` is one of its ratios: "ratio_of_put", "ratio_of_sent" or "ratio_of_sent_while_on". The numbers are percents.
-    Raises `ValueError` where the table has not these columns, or no rows.
+    With `axes` it is drawn there, without the scale of its colours, as a part of their figure. Raises `ValueError` where the table
+    has not these columns, or no rows.
     """
     _require(pairs, "source", "stream", "node", column)
     table = pairs.pivot(index=["source", "stream"], columns="node", values=column)
     with style.settings():
-        figure, drawn = style.axes(max(5.0, 1.8 + 0.36 * table.shape[1]), max(2.4, 1.5 + 0.28 * len(table)))
+        figure, drawn = style.axes(max(5.0, 1.8 + 0.36 * table.shape[1]), max(2.4, 1.2 + 0.22 * len(table)), axes)
         drawn.set_facecolor(style.OFF)
         ratios = table.to_numpy(dtype="float64")
-        image = drawn.imshow(ratios, cmap="RdYlGn", vmin=0, vmax=1, aspect="auto")
+        image = drawn.imshow(ratios, cmap=SCALE, vmin=0, vmax=1, aspect="auto")
         drawn.set_xticks(range(table.shape[1]), [str(node) for node in table.columns])
-        drawn.set_yticks(range(len(table)), [f"{source}.{stream}" for source, stream in table.index])
+        # Where a cell has its own count, no count of the stream is needed.
+        counts = pairs.groupby(["source", "stream"])["put"].max() if "put" in pairs and table.shape[1] > _COUNTS_MOST else None
+        packets = {} if counts is None else counts.to_dict()
+        names = [name + (f" ({packets[key]:g})" if key in packets else "") for key, name in zip(table.index, _names(table.index))]
+        drawn.set_yticks(range(len(table)), names)
         drawn.set_xlabel("receiving node")
-        drawn.set_ylabel("stream (node.stream)")
-        if table.shape[1] <= _LABELS_MOST:
-            for (row, place), ratio in np.ndenumerate(ratios):
-                if not np.isnan(ratio):
-                    ink = style.ON_LIGHT if 0.1 < ratio < 0.9 else style.ON_DARK
-                    drawn.text(place, row, _percent(ratio), ha="center", va="center", fontsize=7, color=ink)
-        bar = figure.colorbar(image, ax=drawn, fraction=0.03, pad=0.01)
-        bar.ax.yaxis.set_major_formatter(PercentFormatter(1))
-        bar.outline.set_visible(False)
+        drawn.set_ylabel(_of_streams(table.index) + (", and how many packets it put" if packets else ""))
+        words = _cells(pairs, table)
+        for (row, place), ratio in np.ndenumerate(ratios):
+            if not np.isnan(ratio):
+                ink = style.ink_on(image.cmap(ratio))
+                drawn.text(place, row, words[row][place], ha="center", va="center", fontsize=7, color=ink)
+        if axes is None:
+            bar = figure.colorbar(image, ax=drawn, fraction=0.03, pad=0.01)
+            bar.ax.yaxis.set_major_formatter(PercentFormatter(1))
+            bar.outline.set_visible(False)
         drawn.set_title(title or f"Delivery ratio in percent of {_OF[column]}")
     return figure
 
@@ -53,30 +68,57 @@ _OF = {
 }  # fmt: skip
 
 
+def _names(streams: Iterable[tuple[Any, int]]) -> list[str]:
+    """The names of streams: of their nodes alone where all are stream 0 of theirs."""
+    streams = list(streams)
+    if all(stream == 0 for _, stream in streams):
+        return [str(source) for source, _ in streams]
+    return [f"{source}, stream {stream}" for source, stream in streams]
+
+
+def _of_streams(streams: Iterable[tuple[Any, int]]) -> str:
+    """What an axis with these names has."""
+    return "source" if all(stream == 0 for _, stream in streams) else "source and stream"
+
+
+def _cells(pairs: pd.DataFrame, table: pd.DataFrame) -> list[list[str]]:
+    """The words of the cells: percents, and in a map of few columns the counts too."""
+    ratios = table.to_numpy(dtype="float64")
+    told = [["" if np.isnan(ratio) else _percent(ratio) for ratio in row] for row in ratios]
+    if table.shape[1] > _COUNTS_MOST or not {"put", "delivered"} <= set(pairs.columns):
+        return told
+    got, put = (pairs.pivot(index=["source", "stream"], columns="node", values=name).to_numpy() for name in ("delivered", "put"))
+    for (row, place), words in np.ndenumerate(np.array(told, dtype=object)):
+        if words:
+            told[row][place] = f"{words} ({got[row, place]:g} of {put[row, place]:g})"
+    return told
+
+
 def _percent(ratio: float) -> str:
     """A ratio in percent, rounded down, so that 100 is all."""
     return str(int(100 * ratio + 1e-9))
 
 
-def latency(deliveries: pd.DataFrame, *, title: str | None = None) -> Figure:
+def latency(deliveries: pd.DataFrame, *, title: str | None = None, axes: Axes | None = None) -> Figure:
     """How the latencies of each stream are distributed, in seconds, of a table of `planning.latencies(log)`: a box from the
     first quartile to the third with a line at the median, and whiskers from the least to the greatest.
 
-    Raises `ValueError` where the table has not its columns, or no rows.
+    With `axes` it is drawn there, as a part of their figure. Raises `ValueError` where the table has not its columns, or no rows.
     """
     _require(deliveries, "source", "stream", "latency_seconds")
     groups = deliveries.groupby(["source", "stream"])["latency_seconds"]
-    names = [f"{source}.{stream}" for source, stream in groups.groups]
+    names = _names(groups.groups)
     with style.settings():
-        figure, drawn = style.axes(max(5.0, 1.4 + 0.36 * len(names)), 4.0)
+        figure, drawn = style.axes(max(5.0, 1.4 + 0.36 * len(names)), 4.0, axes)
         drawn.boxplot(
-            [one.to_numpy() for _, one in groups], labels=names, whis=(0, 100), widths=0.6, patch_artist=True,
+            [one.to_numpy() for _, one in groups], whis=(0, 100), widths=0.6, patch_artist=True,
             boxprops={"facecolor": "#9ec5e8", "edgecolor": style.RECEIVES}, medianprops={"color": style.TRANSMITS, "linewidth": 1.8},
             whiskerprops={"color": style.RECEIVES}, capprops={"color": style.RECEIVES},
         )  # fmt: skip
+        drawn.set_xticks(range(1, len(names) + 1), names)
         drawn.set_ylim(bottom=0)
         drawn.grid(axis="y", color=style.FAINT, linewidth=0.5)
-        drawn.set_xlabel("stream (node.stream)")
+        drawn.set_xlabel(_of_streams(groups.groups))
         drawn.set_ylabel("seconds from put to delivery")
         if len(names) > 12:
             drawn.tick_params(axis="x", rotation=90)
@@ -84,26 +126,30 @@ def latency(deliveries: pd.DataFrame, *, title: str | None = None) -> Figure:
     return figure
 
 
-def energy(times: pd.DataFrame, *, title: str | None = None) -> Figure:
+def energy(times: pd.DataFrame, *, title: str | None = None, axes: tuple[Axes, Axes] | None = None) -> Figure:
     """What the radio time of each node goes to, in seconds, of a table of `planning.radio_time(log)`: on the left all of it, on
     the right that in rounds, without searching for a host, which otherwise hides the rest.
 
-    Raises `ValueError` where the table has not its columns, or no rows.
+    With two `axes` it is drawn there, without the key, as a part of their figure. Raises `ValueError` where the table has not its columns, or no rows.
     """
     _require(times.reset_index(), "node", *radio.PURPOSES)
-    table = times.drop(index="all", errors="ignore")
+    table = times
     with style.settings():
-        figure = Figure(figsize=(11.0, 1.7 + 0.2 * max(4, len(table))), layout="constrained")
-        left, right = (style.plain(drawn) for drawn in figure.subplots(1, 2, sharey=True))
+        figure = axes[0].get_figure() if axes else Figure(figsize=(11.0, 1.9 + 0.2 * max(4, len(table))), layout="constrained")
+        left, right = (style.plain(drawn) for drawn in axes or figure.subplots(1, 2, sharey=True))
         _stack(left, table, list(radio.PURPOSES))
         _stack(right, table, [purpose for purpose in radio.PURPOSES if purpose != "searching"])
-        left.set_yticks(range(len(table)), [f"node {node}" for node in table.index])
-        left.set_ylim(len(table) - 0.4, -0.6)
-        left.set_title(title or "Time with the radio on, in seconds")
+        for drawn in (left, right):
+            drawn.set_yticks(range(len(table)), [node if isinstance(node, str) else f"node {node}" for node in table.index])
+            drawn.set_ylim(len(table) - 0.4, -0.6)
+            drawn.set_xlabel("seconds with the radio on")
+        left.set_title(title or "Time with the radio on")
         left.set_xlim(right=1.12 * left.get_xlim()[1])
         right.set_xlim(right=1.12 * right.get_xlim()[1])
         right.set_title("The same in rounds, without searching")
-        style.key(left, len(radio.PURPOSES), below=0.35)
+        if axes is None:
+            right.tick_params(labelleft=False)
+            style.key(left, len(radio.PURPOSES), below=0.55)
     return figure
 
 
@@ -118,48 +164,81 @@ def _stack(drawn: Axes, table: pd.DataFrame, purposes: list[str]) -> None:
     drawn.spines["left"].set_visible(False)
 
 
-def outages(streams: pd.DataFrame, *, title: str | None = None) -> Figure:
+def outages(streams: pd.DataFrame, *, title: str | None = None, axes: Axes | None = None) -> Figure:
     """How long each stream was without deliveries where a host failed or another took over, in seconds from the start of the
     run, of a table of `planning.outages(log, "stream")`: a bar for each change of hosts, from the last delivery before it to
-    the first after it, to its end as an arrow where there is none. Lines show when the old host lost power and when the new
-    one opened its first round.
+    the first after it, to the end of the run with an arrow where there is none. Lines show when the old host lost power and when the new one opened its
+    first round. Streams whose source had no power itself, or no packet, are apart, below the others.
 
-    Raises `ValueError` where the table has not its columns, or no rows: then the host never changed.
+    With `axes` it is drawn there, without the key, as a part of their figure. Raises `ValueError` where the table has not its
+    columns, or no rows: then the host never changed.
     """
-    _require(streams, "source", "stream", "off_seconds", "first_round_seconds", "last_delivery_seconds", "first_delivery_seconds")
-    names = sorted({(row.source, row.stream) for row in streams.itertuples()})
+    _require(streams, "source", "stream", "off_seconds", "first_round_seconds", "last_delivery_seconds", "first_delivery_seconds",
+             "outage_seconds")  # fmt: skip
+    streams = streams if "cause" in streams else streams.assign(cause="host")
+    names = _by_cause(streams)
     with style.settings():
-        figure, drawn = style.axes(11.0, 1.9 + 0.22 * len(names))
+        figure, drawn = style.axes(11.0, 1.9 + 0.22 * len(names), axes)
         times = streams[["off_seconds", "first_round_seconds", "last_delivery_seconds", "first_delivery_seconds"]]
-        low, high = float(times.min().min()), float(times.max().max())
+        low = float(times.min().min())
+        high = float(max(times.max().max(), (streams["last_delivery_seconds"] + streams["outage_seconds"]).max()))
         for row in streams.itertuples():
             _outage(drawn, row, names.index((row.source, row.stream)), low, high)
-        for name, colour, words in (
-            ("off_seconds", style.TRANSMITS, "the host loses power"),
-            ("first_round_seconds", style.RANKS[1], "first round of the new host"),
+        for name, colour, line, words in (
+            ("off_seconds", style.TRANSMITS, "--", "the host loses power"),
+            ("first_round_seconds", style.RECEIVES, "-", "first round of the new host"),
         ):
             for number, seconds in enumerate(sorted(streams[name].dropna().unique())):
-                drawn.axvline(seconds, color=colour, linewidth=1.4, zorder=1, label=None if number else words)
-        drawn.set_yticks(range(len(names)), [f"{source}.{stream}" for source, stream in names])
+                drawn.axvline(seconds, color=colour, linestyle=line, linewidth=1.4, zorder=1, label=None if number else words)
+        drawn.set_yticks(range(len(names)), _names(names))
         drawn.set_ylim(len(names) - 0.4, -0.6)
-        drawn.set_xlim(low - 0.03 * (high - low), high + 0.08 * (high - low))
+        drawn.set_xlim(low - 0.03 * (high - low), high + 0.12 * (high - low))
         drawn.set_xlabel("seconds from the start of the run")
-        drawn.set_ylabel("stream (node.stream)")
+        drawn.set_ylabel(_of_streams(names))
         drawn.set_title(title or "Without deliveries at a change of hosts")
-        style.key(drawn, 3)
+        causes = [cause for cause in _CAUSES if (streams["cause"] == cause).any()]
+        if axes is None:
+            style.key(drawn, 5, more=[_bar_of(cause) for cause in causes])
     return figure
 
 
-def _outage(drawn: Axes, row: object, place: int, low: float, high: float) -> None:
-    start, end = getattr(row, "last_delivery_seconds"), getattr(row, "first_delivery_seconds")
+# The colour of an outage by its cause, and the words for it.
+_CAUSES = {
+    "host": ("#9ec5e8", "by the host"), "own power": (style.OFF, "the source had no power itself"),
+    "no packet": (style.GROUND, "the source had no packet"),
+}  # fmt: skip
+
+
+def _bar_of(cause: str) -> Patch:
+    colour, words = _CAUSES[cause]
+    return Patch(facecolor=colour, edgecolor=style.PALE, label=words, hatch=None if cause == "host" else "////")
+
+
+def _by_cause(streams: pd.DataFrame) -> list[tuple[Any, int]]:
+    """The streams, those with an outage by the host first."""
+    order = {cause: place for place, cause in enumerate(_CAUSES)}
+    worst: dict[tuple[Any, int], int] = {}
+    for row in streams.itertuples():
+        key = (row.source, row.stream)
+        worst[key] = min(worst.get(key, len(order)), order[str(row.cause)])
+    return sorted(worst, key=lambda key: (worst[key], key))
+
+
+def _outage(drawn: Axes, row: Any, place: int, low: float, high: float) -> None:
+    start, end = row.last_delivery_seconds, row.first_delivery_seconds
     known = start if not np.isnan(start) else low
-    until = end if not np.isnan(end) else high
-    drawn.barh(place, until - known, 0.6, known, color="#9ec5e8", edgecolor=style.RECEIVES, linewidth=0.6, zorder=2)
-    if np.isnan(start) or np.isnan(end):
-        words = "never again" if np.isnan(end) else "never before"
+    # An outage that no delivery ends lasts to the end of the run.
+    until = end if not np.isnan(end) else known + row.outage_seconds if row.outage_seconds > 0 else high
+    hatch = None if row.cause == "host" else "////"
+    drawn.barh(place, until - known, 0.6, known, color=_CAUSES[str(row.cause)][0], edgecolor=style.RECEIVES if row.cause == "host" else
+               style.PALE, linewidth=0.6, zorder=2, hatch=hatch)  # fmt: skip
+    if np.isnan(end):
+        words = {"host": "not back", "own power": "no power", "no packet": "no packet"}[str(row.cause)]
     else:
-        words = f"{end - start:.0f} s"
-    drawn.annotate(words, (until, place), (4, 0), textcoords="offset points", fontsize=8, va="center", zorder=3)
+        words = "never before" if np.isnan(start) else f"{end - start:.0f} s"
+    if np.isnan(end):
+        drawn.plot(until, place, ">", color=style.INK, markersize=6, markeredgewidth=0, zorder=3)
+    drawn.annotate(words, (until, place), (7, 0), textcoords="offset points", fontsize=8, va="center", zorder=3)
 
 
 def _require(table: pd.DataFrame, *names: str) -> None:
@@ -169,4 +248,3 @@ def _require(table: pd.DataFrame, *names: str) -> None:
         raise ValueError(f"the table has no column {', '.join(missing)}")
     if table.empty:
         raise ValueError("the table has no rows, so there is nothing to draw")
-

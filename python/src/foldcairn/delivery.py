@@ -1,16 +1,16 @@
 """What became of packets: delivery ratios, where each packet went, and latencies. `planning` has all answers in one place.
 
-Tested, not proved.
+All times are seconds of true time from the start of the run, or spans of it. Tested, not proved.
 """
 
 from __future__ import annotations
 
-from collections.abc import Iterable
-
 import numpy as np
 import pandas as pd
 
-from . import power
+from . import arguments, power
+from .answers import answer
+from .receivers import Receivers, meant, of_streams, stream_index
 from .results import Log
 
 PACKET = ["source", "boot", "stream", "number"]
@@ -20,6 +20,7 @@ FATES = (
 )  # fmt: skip
 
 
+@answer
 def packets(log: Log) -> pd.DataFrame:
     """Where each packet went: a row for each put, in the order in which they happen.
 
@@ -27,19 +28,23 @@ def packets(log: Log) -> pd.DataFrame:
     source, stream        the node and stream that it was put to
     boot, number          the boot of the node (0 without power) and the packet's number in it, -1 if it was dropped
     payload               in hexadecimal digits, `-` for none
+    keep_alive            whether it is one of `Scenario.stream(.., keep_alive=..)`, which no answer counts
     sent_seconds          when its node transmitted it first, in seconds of true time; missing if it never did
+    rank                  the channel on which it did, by the rank of its host; -1 if it never did
     deliveries            how many nodes delivered it
-    first_seconds, last_seconds   when the first and the last of them did, in seconds, as `latencies` has it
+    first_seconds, last_seconds   when the first and the last of them had received it, as `results.Log` has it
     fate                  "delivered" (by at least one node); "delivered by none" (it was sent); "queued" (it waits at the end
                           of the run); "lost with its node" (power went off while it waited); "withdrawn" (its stream was
                           left while it waited); or "dropped: " and why: "node off", "no stream" or "full queue"
     """
     table = power.puts(log)
     data = log.initiations[log.initiations["kind"] == "data"]
-    sent = data.rename(columns={"origin": "source", "start_seconds": "sent_seconds"})[[*PACKET, "sent_seconds"]]
-    delivered = log.deliveries.groupby(PACKET)["seconds"].agg(deliveries="size", first_seconds="min", last_seconds="max")
+    sent = data.rename(columns={"origin": "source", "start_seconds": "sent_seconds"})[[*PACKET, "sent_seconds", "rank"]]
+    table["keep_alive"] = of_streams(table, log.scenario.keep_alive) & (table["payload"] == "-")
+    delivered = log.deliveries.groupby(PACKET)["delivered_seconds"].agg(deliveries="size", first_seconds="min", last_seconds="max")
     table = _joined(_joined(table, sent), delivered.reset_index())
-    table["deliveries"] = table["deliveries"].fillna(0).astype("uint8")
+    table["deliveries"] = table["deliveries"].fillna(0).astype("int64")
+    table["rank"] = table["rank"].fillna(-1).astype("int64")
     was_sent = table["sent_seconds"].notna()
     fate = np.select(
         [table["dropped"] != "", table["deliveries"] > 0, was_sent, table["cleared"] != ""],
@@ -55,30 +60,46 @@ def _joined(table: pd.DataFrame, other: pd.DataFrame) -> pd.DataFrame:
     return table.merge(other.astype({name: "int64" for name in PACKET}), how="left", on=PACKET)
 
 
-def fates(log: Log) -> pd.DataFrame:
-    """How many packets went where: a row for each source and stream and one for all together, a column for each fate that
-    occurs (see `packets`), and their sum `puts`."""
+@answer
+def fates(log: Log, by: str = "stream") -> pd.DataFrame:
+    """How many packets went where: their sum `puts`, and a column for each fate that occurs (see `packets`).
+
+    `by` is "stream" (a row for each source and stream, which are the index) or "all" (one row). Raises `ArgumentError` where
+    it is another word.
+    """
+    arguments.one_of("by", by, ("stream", "all"))
     table = packets(log)
+    table = table[~table["keep_alive"]]
     counts = pd.crosstab([table["source"], table["stream"]], table["fate"].astype(str))
-    counts = counts.reindex(columns=[fate for fate in FATES if fate in counts])
+    counts = counts.reindex(columns=[fate for fate in FATES if fate in counts]).astype("int64")
     counts.insert(0, "puts", counts.sum(axis=1))
-    counts.loc[("all", ""), :] = counts.sum()
-    return counts.astype("int64").rename_axis(columns=None)
+    counts = counts.rename_axis(columns=None)
+    return counts if by == "stream" else counts.sum().to_frame().T
 
 
+# The columns by which rows are told, for each word that `by` may be.
+_KEYS: dict[str, list[str]] = {"stream": ["source", "stream"], "node": ["node"], "pair": ["source", "stream", "node"], "all": []}
+
+
+def _keys(by: str, *words: str) -> list[str]:
+    return _KEYS[arguments.one_of("by", by, words)]
+
+
+@answer
 def delivery_ratio(
     log: Log,
     by: str = "stream",
     *,
-    receivers: Iterable[int] | None = None,
+    receivers: Receivers = None,
     start_seconds: float = 0.0,
     end_seconds: float | None = None,
 ) -> pd.DataFrame:
     """How much of what was put, and of what was sent, was delivered.
 
-    `by` is "stream" (a row for each source and stream), "node" (a row for each receiving node), "pair" (a row for each source,
-    stream and receiving node) or "all" (one row). Receivers are all nodes but the source, or those of `receivers` but the
-    source. Only packets that were put from `start_seconds` on and before `end_seconds` (the end of the run) count.
+    `by` is "stream" (a row for each source and stream that is requested or gets packets), "node" (a row for each receiving node),
+    "pair" (a row for each source, stream and receiving node) or "all" (one row). `receivers` says for whom packets are meant, in
+    the forms of `foldcairn.receivers`: "hosts" is whichever host serves. Only packets that were put from `start_seconds` on and
+    before `end_seconds` (the end of the run) count.
 
     All counts are of pairs of a packet and a receiver of it.
     put, sent          the packets that were put, and those of them that their node transmitted
@@ -86,33 +107,43 @@ def delivery_ratio(
     delivered          those that the receiver delivered
     ratio_of_put, ratio_of_sent, ratio_of_sent_while_on   `delivered` as a part of each, 0 to 1; missing where there is none
 
-    Raises `ValueError` where `by` is another word.
+    Raises `ArgumentError` where `by` is another word, the time is no part of the run, or `receivers` names what the scenario does
+    not have.
     """
-    keys = {"stream": ["source", "stream"], "node": ["node"], "pair": ["source", "stream", "node"], "all": []}
-    if by not in keys:
-        raise ValueError(f"`by` is {by!r}, and not one of {', '.join(keys)}")
-    pairs = _pairs(log, receivers, start_seconds, log.scenario.seconds if end_seconds is None else end_seconds)
+    keys = _keys(by, *_KEYS)
+    pairs = _within(log, _pairs(log, receivers), start_seconds, end_seconds)
     counts = ["put", "sent", "sent_while_on", "delivered"]
-    if keys[by]:
-        table = pairs.groupby(keys[by], observed=True)[counts].sum().reset_index()
-    else:
-        table = pairs[counts].sum().to_frame().T
+    table = _summed(log, pairs, by, keys, counts)
     for count in counts[:3]:
         table[f"ratio_of_{count}"] = table["delivered"] / table[count].where(table[count] > 0)
     return table
 
 
-def _pairs(log: Log, receivers: Iterable[int] | None, start_seconds: float, end_seconds: float) -> pd.DataFrame:
-    """A row for each packet that was put in this time and each of its receivers."""
+def _summed(log: Log, pairs: pd.DataFrame, by: str, keys: list[str], counts: list[str]) -> pd.DataFrame:
+    """The sums of these columns, which are truths, over pairs that are `inside`: a row for each group, also where it is 0."""
+    values = pairs[counts].mul(pairs["inside"], axis=0)
+    if not keys:
+        return values.sum().astype("int64").to_frame().T
+    table = values.astype("int64").groupby([pairs[key] for key in keys]).sum()
+    if by == "stream":
+        table = table.reindex(stream_index(log.scenario), fill_value=0)
+    return table.reset_index()
+
+
+def _within(log: Log, table: pd.DataFrame, start_seconds: float, end_seconds: float | None) -> pd.DataFrame:
+    """The table with a column that tells whether a packet was put in this time."""
+    start, end = arguments.window(start_seconds, end_seconds, log.scenario.seconds)
+    return table.assign(inside=(table["put_seconds"] >= start) & (table["put_seconds"] < end))
+
+
+def _pairs(log: Log, receivers: Receivers) -> pd.DataFrame:
+    """A row for each packet that was put and each node that it is meant for, with what became of it there."""
     table = packets(log)
-    table = table[(table["put_seconds"] >= start_seconds) & (table["put_seconds"] < end_seconds)].reset_index(drop=True)
-    chosen = sorted(log.scenario.nodes if receivers is None else set(receivers) & set(log.scenario.nodes))
-    pairs = table.loc[table.index.repeat(len(chosen)), [*PACKET, "sent_seconds"]]
-    pairs["node"] = np.tile(np.array(chosen, dtype="int64"), len(table))
-    pairs = pairs[pairs["node"] != pairs["source"]].reset_index(drop=True)
-    got = log.deliveries[[*PACKET, "node"]].astype("int64").assign(delivered=1)
-    pairs = pairs.merge(got, how="left", on=[*PACKET, "node"])
-    pairs["delivered"] = pairs["delivered"].notna()
+    table = table.loc[~table["keep_alive"], [*PACKET, "put_seconds", "sent_seconds", "rank"]]
+    pairs = meant(log.scenario, receivers).pairs(log, table.reset_index(drop=True))
+    got = log.deliveries[[*PACKET, "node", "delivered_seconds"]]
+    pairs = pairs.merge(got.astype({name: "int64" for name in (*PACKET, "node")}), how="left", on=[*PACKET, "node"])
+    pairs["delivered"] = pairs["delivered_seconds"].notna()
     pairs["put"] = True
     pairs["sent"] = pairs["sent_seconds"].notna()
     frame = (pairs["sent_seconds"].fillna(0) // log.scenario.frame_seconds).astype("int64").to_numpy()
@@ -121,35 +152,77 @@ def _pairs(log: Log, receivers: Iterable[int] | None, start_seconds: float, end_
     return pairs
 
 
-def latencies(log: Log, *, receivers: Iterable[int] | None = None) -> pd.DataFrame:
-    """A row for each delivery, or each at one of `receivers`: the packet, the `node`, `put_seconds` (the start of the frame
-    of the put), `delivered_seconds` (the start of the data slot by plan, see `results.Report`), and `latency_seconds`, the
-    second less the first. A packet that came up within the frame of its put waited less, by up to a frame."""
-    got = log.deliveries[[*PACKET, "node", "seconds"]].rename(columns={"seconds": "delivered_seconds"})
-    if receivers is not None:
-        got = got[got["node"].isin(set(receivers))]
-    put = power.puts(log)[[*PACKET, "put_seconds"]]
+@answer
+def deadline(
+    log: Log,
+    seconds: float,
+    by: str = "stream",
+    *,
+    receivers: Receivers = None,
+    start_seconds: float = 0.0,
+    end_seconds: float | None = None,
+) -> pd.DataFrame:
+    """Which part of the packets is delivered within a deadline of so many seconds after its put.
+
+    `by`, `receivers`, `start_seconds` and `end_seconds` are as in `delivery_ratio`, and counts are of pairs of a packet and a
+    receiver. Packets whose deadline lies after the end of the run are left out: nobody knows.
+    due       the packets whose deadline lies within the run
+    in_time   those that were delivered within it
+    late      those that were delivered after it
+    never     those that were not delivered by the end of the run
+    share     `in_time` as a part of `due`, 0 to 1; missing where none is due
+
+    Latencies are from the start of the frame of the put (see `latencies`), so a real packet has up to a frame more time. Raises
+    `ArgumentError` where the deadline is not above 0, and what `delivery_ratio` raises.
+    """
+    keys = _keys(by, *_KEYS)
+    seconds = arguments.real("seconds", seconds, above=0)
+    pairs = _within(log, _pairs(log, receivers), start_seconds, end_seconds)
+    pairs["due"] = pairs["put_seconds"] + seconds <= log.scenario.seconds
+    pairs["in_time"] = pairs["due"] & (pairs["delivered_seconds"] - pairs["put_seconds"] <= seconds)
+    pairs["late"] = pairs["due"] & pairs["delivered"] & ~pairs["in_time"]
+    pairs["never"] = pairs["due"] & ~pairs["delivered"]
+    table = _summed(log, pairs, by, keys, ["due", "in_time", "late", "never"])
+    table["share"] = table["in_time"] / table["due"].where(table["due"] > 0)
+    return table
+
+
+@answer
+def latencies(log: Log, *, receivers: Receivers = None) -> pd.DataFrame:
+    """A row for each delivery at a node that the packet is meant for (`receivers`): the packet, the `node`, `put_seconds` (the
+    start of the frame of the put), `delivered_seconds` (when the node had received it, see `results.Log`), and `latency_seconds`,
+    the second less the first. A packet that came up within the frame of its put waited less, by up to a frame."""
+    got = log.deliveries[meant(log.scenario, receivers).kept(log.deliveries)]
+    got = got[[*PACKET, "node", "delivered_seconds"]]
+    put = packets(log)
+    put = put.loc[~put["keep_alive"], [*PACKET, "put_seconds"]]
     table = got.astype({name: "int64" for name in PACKET}).merge(put, on=PACKET)
     table["latency_seconds"] = table["delivered_seconds"] - table["put_seconds"]
     return table
 
 
-def latency(log: Log, by: str = "stream", *, receivers: Iterable[int] | None = None, start_seconds: float = 0.0,
+@answer
+def latency(log: Log, by: str = "stream", *, receivers: Receivers = None, start_seconds: float = 0.0,
             end_seconds: float | None = None) -> pd.DataFrame:  # fmt: skip
     """The time from put to delivery in seconds, by "stream", by receiving "node", or over "all": `deliveries` (their count),
     `min`, `median`, `p90`, `p99` and `max`. Only packets that were put from `start_seconds` on and before `end_seconds` count.
+    A stream, or a receiver, that has no delivery is a row with 0 of them, and its times are missing.
 
-    It is the latency of what was delivered: `fates` says how many packets never came, and `latencies` has each delivery.
-    Raises `ValueError` where `by` is another word.
+    It is the latency of what was delivered: `fates` says how many packets never came, `deadline` which part came in time, and
+    `latencies` has each delivery. Raises what `delivery_ratio` raises.
     """
-    keys = {"stream": ["source", "stream"], "node": ["node"], "all": []}
-    if by not in keys:
-        raise ValueError(f"`by` is {by!r}, and not one of {', '.join(keys)}")
-    table = latencies(log, receivers=receivers)
-    end = log.scenario.seconds if end_seconds is None else end_seconds
-    table = table[(table["put_seconds"] >= start_seconds) & (table["put_seconds"] < end)]
-    grouped = table.groupby(keys[by] or (lambda _: "all"))["latency_seconds"]
+    keys = _keys(by, "stream", "node", "all")
+    table = _within(log, latencies(log, receivers=receivers), start_seconds, end_seconds)
+    grouped = table[table["inside"]].groupby(keys or (lambda _: "all"))["latency_seconds"]
     summary = grouped.agg(
         deliveries="size", min="min", median="median", p90=lambda s: s.quantile(0.9), p99=lambda s: s.quantile(0.99), max="max"
     )
-    return summary.reset_index(drop=not keys[by])
+    whom = meant(log.scenario, receivers)
+    rows = {
+        "stream": stream_index(log.scenario),
+        "node": pd.Index(sorted(whom.nodes()), name="node"),
+        "all": pd.Index(["all"]),
+    }[by]
+    summary = summary.reindex(rows)
+    summary["deliveries"] = summary["deliveries"].fillna(0).astype("int64")
+    return summary.reset_index(drop=not keys)

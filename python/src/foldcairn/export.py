@@ -12,17 +12,18 @@ tshark decode the packets. Tested, not proved.
 
 from __future__ import annotations
 
+import contextlib
 import gzip
 import json
 import os
 import struct
 from collections.abc import Iterator
 from pathlib import Path
-from typing import Any
+from typing import Any, BinaryIO
 
 import pandas as pd
 
-from . import lines, radio, timing
+from . import arguments, files, lines, radio, timing
 from .packets import Data, Packet, Request
 from .results import TICKS_A_SECOND, Log
 
@@ -31,8 +32,9 @@ _MAGIC, _LINK_TYPE = 0xA1B23C4D, 283
 _NANOSECONDS = 1_000_000_000
 # Metadata, each by its type: checksum, channel, start and end of the packet, start and length of its slot.
 _FCS, _CHANNEL, _START, _END, _SLOT_START, _SLOT_LENGTH = 0, 3, 5, 6, 8, 9
-# Metadata of our own, of a type that the format leaves free: a mark, the node, rank and frame, and the start in ticks.
-_OURS, _MARK = 0xFC01, b"FOLD"
+# A frame of the type that IEEE 802.15.4 leaves to applications, without addresses, and in it what is ours: a mark, the node, rank
+# and frame, the start in ticks, and the packet. So Wireshark's own dissector takes the packet for no other protocol.
+_MULTIPURPOSE, _MARK = b"\x05\x00", b"FOLD"
 # Channels of the 2.4 GHz band, from this one on by rank.
 FIRST_CHANNEL = 11
 
@@ -48,23 +50,25 @@ def nanoseconds(ticks: int) -> int:
     return ticks * 125 // 8
 
 
+@arguments.of_log
 def pcap(log: Log, path: str | os.PathLike[str], *, start_seconds: float = 0.0, end_seconds: float | None = None) -> int:
     """Writes each transmission that begins in this time (the whole run by default) as a packet of a capture file with times in
     nanoseconds, and gives how many there are.
 
     The link type is IEEE 802.15.4 TAP (283). A packet has these metadata: channel (11 for rank 0, 12 for rank 1 and so on: a
     scenario names none), the times at which it and its slot start, the end of it and the length of the slot, that there is no
-    checksum, and, as metadata of our own, the node that transmitted, the rank, the frame, and the start in ticks of 1/64 µs.
-    The packet follows, without checksum. Slots start by the host's clock.
+    checksum. A frame of IEEE 802.15.4's type Multipurpose follows, without addresses and checksum: what it carries is the
+    mark `FOLD`, the node that transmitted, the rank, the frame, the start in ticks of 1/64 µs, and the packet. So without the
+    dissector the metadata are read, and the rest is shown as data. Slots start by the host's clock.
 
     Raises `OSError` where the file can't be written.
     """
+    start, end = arguments.window(start_seconds, end_seconds, log.scenario.seconds)
     slots = timing.slots(log).set_index(["frame", "rank", "slot"])["start_ticks"].to_dict()
     frame_ticks, slot_ticks = lines.frame_ticks(log.scenario.profile), lines.slot_ticks(log.scenario.profile)
-    end = log.scenario.seconds if end_seconds is None else end_seconds
     chosen = log.transmissions
-    chosen = chosen[(chosen["start_seconds"] >= start_seconds) & (chosen["start_seconds"] < end)]
-    with Path(path).open("wb") as sink:
+    chosen = chosen[(chosen["start_seconds"] >= start) & (chosen["start_seconds"] < end)]
+    with files.replacing(path) as sink:
         sink.write(struct.pack("<IHHiIII", _MAGIC, 2, 4, 0, 0, 65_535, _LINK_TYPE))
         for row in chosen.itertuples():
             frame = row.start_ticks // frame_ticks
@@ -81,16 +85,17 @@ def _record(row: Any, frame: int, slot: int | None, slot_ticks: int) -> bytes:
         (_START, struct.pack("<Q", nanoseconds(row.start_ticks))),
         (_END, struct.pack("<Q", nanoseconds(row.end_ticks))),
         (_SLOT_LENGTH, struct.pack("<I", slot_ticks // 64)),
-        (_OURS, _MARK + struct.pack("<BBHQ", row.node, row.rank, frame, row.start_ticks)),
     ]
     if slot is not None:
         metadata.insert(4, (_SLOT_START, struct.pack("<Q", nanoseconds(slot))))
     fields = b"".join(struct.pack("<HH", kind, len(value)) + value + bytes(-len(value) % 4) for kind, value in metadata)
-    data = struct.pack("<BBH", 0, 0, 4 + len(fields)) + fields + bytes.fromhex(row.packet)
+    ours = _MARK + struct.pack("<BBHQ", row.node, row.rank, frame, row.start_ticks)
+    data = struct.pack("<BBH", 0, 0, 4 + len(fields)) + fields + _MULTIPURPOSE + ours + bytes.fromhex(row.packet)
     seconds, rest = divmod(nanoseconds(row.start_ticks), _NANOSECONDS)
     return struct.pack("<IIII", seconds, rest, len(data), len(data)) + data
 
 
+@arguments.of_log
 def trace(log: Log, path: str | os.PathLike[str], *, start_seconds: float = 0.0, end_seconds: float | None = None) -> int:
     """Writes what lies in this time at least in part (the whole run by default) as Chrome trace events, and gives how many
     there are; a file that ends with `.gz` is compressed. Perfetto (ui.perfetto.dev) and chrome://tracing read both.
@@ -101,17 +106,24 @@ def trace(log: Log, path: str | os.PathLike[str], *, start_seconds: float = 0.0,
 
     Raises `OSError` where the file can't be written.
     """
-    end = float(log.scenario.seconds) if end_seconds is None else end_seconds
+    start, end = arguments.window(start_seconds, end_seconds, log.scenario.seconds)
     target = Path(path)
     count = 0
     # Without a time of its own, so that the same run gives the same bytes.
-    with target.open("wb") as sink, gzip.GzipFile("", "wb", 6, sink, mtime=0) if target.suffix == ".gz" else sink as written:
+    with files.replacing(target) as sink, _compressed(target, sink) as written:
         written.write(b'{"displayTimeUnit":"ns","traceEvents":[')
-        for event in _events(log, start_seconds, end):
+        for event in _events(log, start, end):
             written.write((b",\n" if count else b"\n") + json.dumps(event, separators=(",", ":")).encode())
             count += 1
         written.write(b"\n]}\n")
     return count
+
+
+def _compressed(target: Path, sink: BinaryIO) -> contextlib.AbstractContextManager[gzip.GzipFile | BinaryIO]:
+    """What is written into a file that ends with `.gz`, or into another."""
+    if target.suffix == ".gz":
+        return contextlib.closing(gzip.GzipFile("", "wb", 6, sink, mtime=0))
+    return contextlib.nullcontext(sink)
 
 
 # The tracks of nodes, and those of ranks.

@@ -173,7 +173,8 @@ class _Fault:
                 of_run = f", since the run has {self.context.frames:,} frames" if self._is_bounded_frame(field) else ""
                 if field.kind == "payload":
                     return f"{field.range_in_words()} in profile {self.context.profile}, and here are {_payload_size(word):,}"
-                return f"the {_ORDINALS[place]} number, {field.range_in_words()}{of_run}"
+                advice = field.advice if int(word) > field.high else ""
+                return f"the {_ORDINALS[place]} number, {field.range_in_words()}{of_run}{advice}"
         ids = [word for word, field in self.values if field.kind == "id"]
         if len(ids) == 2 and ids[0] == ids[1]:
             return f"the two ids must differ, and both are {ids[0]}"

@@ -36,26 +36,19 @@ f.malformed = ProtoField.none("foldcairn.malformed", "Not a packet of Foldcairn"
 
 -- The metadata that IEEE 802.15.4 TAP names, by type.
 local metadata = { [3] = { f.channel, 2 }, [5] = { f.start, 8 }, [6] = { f.finish, 8 }, [8] = { f.slot_start, 8 }, [9] = { f.slot_length, 4 } }
--- Our own.
-local OURS, MARK, OURS_LENGTH = 0xFC01, "FOLD", 16
+-- What is ours in a frame without addresses: its first bytes, and how many there are before the packet.
+local OURS, OURS_LENGTH = "\5\0FOLD", 18
 
--- The length of the metadata, and where our own begins in it; nil where it has none.
+-- The length of the metadata of a capture of ours, or nil.
 local function find_ours(tvb)
     if tvb:len() < 4 then
         return nil
     end
-    local length, at = tvb(2, 2):le_uint(), 4
-    if length > tvb:len() then
+    local length = tvb(2, 2):le_uint()
+    if length < 4 or length + OURS_LENGTH > tvb:len() or tvb(length, #OURS):raw() ~= OURS then
         return nil
     end
-    while at + 4 <= length do
-        local kind, size = tvb(at, 2):le_uint(), tvb(at + 2, 2):le_uint()
-        if kind == OURS and size == OURS_LENGTH and at + 4 + size <= length and tvb(at + 4, 4):raw() == MARK then
-            return length, at + 4
-        end
-        at = at + 4 + size + (-size) % 4
-    end
-    return nil
+    return length
 end
 
 local function add_metadata(tvb, length, tree)
@@ -156,19 +149,20 @@ local function add_packet(tvb, tree)
 end
 
 function foldcairn.dissector(tvb, pinfo, tree)
-    local length, ours = find_ours(tvb)
-    if not length then
+    local ours = find_ours(tvb)
+    if not ours then
         return wireshark:call(tvb, pinfo, tree)
     end
+    local length = ours + OURS_LENGTH
     local whole = tree:add(foldcairn, tvb())
     local about = whole:add(foldcairn, tvb(0, length), "Metadata")
-    about:add(f.node, tvb(ours + 4, 1))
-    about:add(f.rank, tvb(ours + 5, 1))
-    about:add_le(f.frame, tvb(ours + 6, 2))
-    about:add_le(f.ticks, tvb(ours + 8, 8))
-    add_metadata(tvb, length, about)
+    about:add(f.node, tvb(ours + 6, 1))
+    about:add(f.rank, tvb(ours + 7, 1))
+    about:add_le(f.frame, tvb(ours + 8, 2))
+    about:add_le(f.ticks, tvb(ours + 10, 8))
+    add_metadata(tvb, ours, about)
     pinfo.cols.protocol = "Foldcairn"
-    pinfo.cols.src = string.format("node %d", tvb(ours + 4, 1):uint())
+    pinfo.cols.src = string.format("node %d", tvb(ours + 6, 1):uint())
     pinfo.cols.dst = "all"
     local packet = tvb(length):tvb()
     local read, words = pcall(add_packet, packet, whole:add(foldcairn, tvb(length), "Packet"))

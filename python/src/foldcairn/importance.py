@@ -5,19 +5,20 @@ Tested, not proved.
 
 from __future__ import annotations
 
+import functools
 import os
 from collections import Counter
 from collections.abc import Iterable, Sequence
-from concurrent.futures import Executor, ProcessPoolExecutor
-from contextlib import ExitStack
-from itertools import repeat
+from concurrent.futures import Executor
+from typing import TextIO
 
 import numpy as np
 import pandas as pd
 from numpy.typing import NDArray
 
-from . import losses, results
+from . import intervals, losses, results as runs, sweep
 from .events import Put
+from .receivers import Receivers, meant
 from .scenario import Scenario
 
 Cut = tuple[int, int] | int
@@ -29,15 +30,19 @@ def importance(
     *,
     candidates: Iterable[Cut] | None = None,
     seeds: Sequence[int] = (1, 2, 3, 4),
+    receivers: Receivers = None,
     executor: Executor | None = None,
+    results: str | os.PathLike[str] | None = None,
+    progress: bool | TextIO = True,
 ) -> pd.DataFrame:
     """How much is delivered without each of the "links" (both directions of a pair) or of the "nodes".
 
     Each candidate is cut for the whole run, once for each seed: a pair of ids, or an id, and all pairs of linked nodes or all
     nodes if `candidates` is not given. The losses are drawn anew for each cut, by `losses.draw` with the reception ratios
     (`prr`) of the scenario: losses that were drawn for one network and kept for another rank links wrongly. The measure is the
-    part, 0 to 1, of what was put that was delivered, over all pairs of a source and another node. A node is cut by cutting all
-    its links, and is then no source and no receiver, neither with the cut nor without it.
+    part, 0 to 1, of what was put that was delivered, over all pairs of a packet and a node that it is meant for (`receivers`, in
+    the forms of `foldcairn.receivers`). A node is cut by cutting all its links, and is then no source and no receiver, neither
+    with the cut nor without it.
 
     one, other, or node    what is cut
     ratio                  the measure without the cut, the mean over the seeds
@@ -45,65 +50,95 @@ def importance(
     change                 `ratio_cut` less `ratio`; below 0 the cut does harm
     spread                 the sample standard deviation over the seeds of the change; missing for one seed
     least, greatest        the least and the greatest change of any seed
-    error                  the standard error of `change`: `spread` over the square root of the number of seeds. A change of less
-                           than two errors tells nothing
+    error                  the standard error of `change`: `spread` over the square root of the number of seeds
+    low, high              the interval that has the change of all seeds with a confidence of 95 %, by Student's distribution,
+                           which for few seeds is much wider than two errors; for this cut alone
+    p                      how likely a change so far from 0 would be of one of all these cuts if none changed anything (Holm's
+                           method, for each change by Student's distribution): a cut of p below 0.05 matters
     The rows begin with the most harmful cut. It takes a drawing for each candidate and seed; `executor` runs them, a process
-    for each processor if it is not given. Raises `ValueError` where `what` is another word, there is no seed, or nothing is put, and
-    what `losses.draw` raises.
+    for each processor if it is not given. `progress` says how far it is, and a folder of `results` keeps each of them, so that a
+    call that was stopped goes on where it was: both are those of `sweep.sweep`. Raises `ValueError` where `what` is another word,
+    there is no seed, nothing is put, or a run fails, as where losses do not fit (`losses.TooManyLosses`).
     """
     if what not in ("links", "nodes"):
         raise ValueError(f"`what` is {what!r}, and not one of links, nodes")
     if not seeds:
         raise ValueError("at least one seed is needed")
-    put = Counter(line.node for line in scenario.script if isinstance(line, Put))
-    if not put:
+    if not any(isinstance(line, Put) for line in scenario.script):
         raise ValueError("nothing is put in this scenario, so nothing can be delivered")
+    meant(scenario, receivers)
     cuts = _candidates(scenario, what, candidates)
-    jobs = [(cut, seed) for cut in (None, *cuts) for seed in seeds]
-    with ExitStack() as stack:
-        runner = executor or stack.enter_context(ProcessPoolExecutor(min(len(jobs), os.cpu_count() or 1)))
-        delivered = dict(zip(jobs, runner.map(_deliveries, repeat(scenario), *zip(*jobs))))
+    nodes = [cut for cut in cuts if isinstance(cut, int)]
+    cases = [{"cut": _word(cut), "seed": seed} for cut in (None, *cuts) for seed in seeds]
+    table = sweep.sweep(
+        functools.partial(_cut_and_drawn, scenario), cases, functools.partial(_delivered, scenario, receivers, nodes),
+        executor=executor, results=results, progress=progress, name=f"importance {receivers!r} {nodes} {scenario.receivers!r}",
+    )  # fmt: skip
+    if (table["status"] != "ok").any():
+        first = table[table["status"] != "ok"].iloc[0]
+        raise ValueError(f"the run without {first['cut'] or 'a cut'} with seed {first['seed']} failed: {first['status']}: {first['message']}")
+    ratio = table.set_index(["cut", "without", "seed"])["ratio"]
     rows = []
     for cut in cuts:
-        without = cut if isinstance(cut, int) else None
-        before, after = (
-            np.array([_ratio(scenario, put, delivered[which, seed], without) for seed in seeds]) for which in (None, cut)
-        )
+        without = cut if isinstance(cut, int) else 0
+        before, after = (np.array([ratio[word, without, seed] for seed in seeds]) for word in ("", _word(cut)))
         rows.append((*(cut if isinstance(cut, tuple) else (cut,)), before.mean(), after.mean(), *_summary(after - before)))
     names = ["one", "other"] if what == "links" else ["node"]
-    columns = [*names, "ratio", "ratio_cut", "change", "spread", "least", "greatest", "error"]
-    return pd.DataFrame(rows, columns=columns).sort_values("change", ignore_index=True)
+    columns = [*names, "ratio", "ratio_cut", "change", "spread", "least", "greatest", "error", "low", "high", "p"]
+    table = pd.DataFrame(rows, columns=columns)
+    table["p"] = intervals.adjusted(table["p"])
+    return table.sort_values("change", ignore_index=True)
 
 
-def _summary(changes: NDArray[np.float64]) -> tuple[float, float, float, float, float]:
+def _summary(changes: NDArray[np.float64]) -> tuple[float, ...]:
     spread = float(changes.std(ddof=1)) if len(changes) > 1 else float("nan")
-    return float(changes.mean()), spread, float(changes.min()), float(changes.max()), spread / len(changes) ** 0.5
+    mean, low, high = intervals.of_mean(changes)
+    error = spread / len(changes) ** 0.5
+    return mean, spread, float(changes.min()), float(changes.max()), error, low, high, intervals.chance(changes)
 
 
 def _candidates(scenario: Scenario, what: str, candidates: Iterable[Cut] | None) -> list[Cut]:
     if candidates is not None:
-        return list(candidates)
+        return [scenario.id(cut) if not isinstance(cut, tuple) else (scenario.id(cut[0]), scenario.id(cut[1])) for cut in candidates]
     if what == "nodes":
         return sorted(scenario.nodes)
     return sorted({(min(link), max(link)) for link in scenario.links})
 
 
-def _deliveries(scenario: Scenario, cut: Cut | None, seed: int) -> Counter[tuple[int, int]]:
-    """How many packets of each source each node delivers with this cut; in the process of a worker."""
+def _word(cut: Cut | None) -> str:
+    """A cut as a word, by which a result is kept."""
+    return "" if cut is None else "-".join(map(str, cut)) if isinstance(cut, tuple) else str(cut)
+
+
+def _cut_and_drawn(scenario: Scenario, cut: str, seed: int) -> losses.Drawing:
+    """The scenario with this cut, whose losses are to be drawn; in the process of a worker."""
     changed = scenario.copy()
-    if isinstance(cut, tuple):
-        changed.unlink(*cut)
-    elif cut is not None:
-        for link in sorted(scenario.links):
-            if cut in link:
-                changed.unlink(*link)
+    ends = [int(node) for node in cut.split("-")] if cut else []
+    if len(ends) == 2:
+        changed.unlink(*ends)
+    for link in sorted(scenario.links) if len(ends) == 1 else []:
+        if ends[0] in link:
+            changed.unlink(*link)
+    return losses.Drawing(changed, seed)
+
+
+def _delivered(scenario: Scenario, receivers: Receivers, nodes: Sequence[int], drawn: Scenario | str) -> pd.DataFrame:
+    """The measure of a run, with all nodes (`without` 0) and without each of some."""
     # `bus` has the deliveries of `run`, sooner.
-    deliveries = results.bus(losses.draw(changed, seed).text(warn=False)).deliveries
-    return Counter(zip(deliveries["source"].tolist(), deliveries["node"].tolist()))
+    report = runs.bus(drawn.text(warn=False) if isinstance(drawn, Scenario) else drawn)
+    whom = meant(scenario, receivers)
+    put = Counter((line.node, line.stream) for line in scenario.script if isinstance(line, Put) and not _kept_alive(scenario, line))
+    table = report.deliveries[whom.kept(report.deliveries)]
+    if scenario.keep_alive:
+        alive = {4 * node + stream for node, stream in scenario.keep_alive}
+        table = table[~((4 * table["source"].astype("int64") + table["stream"]).isin(alive) & (table["payload"] == "-"))]
+    rows = []
+    for without in (0, *nodes):
+        due = whom.due(report, put, without or None)
+        got = int(((table["source"] != without) & (table["node"] != without)).sum())
+        rows.append({"without": without, "ratio": got / due if due else float("nan")})
+    return pd.DataFrame(rows)
 
 
-def _ratio(scenario: Scenario, put: Counter[int], delivered: Counter[tuple[int, int]], without: int | None) -> float:
-    nodes = [node for node in scenario.nodes if node != without]
-    due = sum(put[node] * (len(nodes) - 1) for node in nodes)
-    got = sum(count for (source, node), count in delivered.items() if without not in (source, node))
-    return got / due if due else float("nan")
+def _kept_alive(scenario: Scenario, line: Put) -> bool:
+    return (line.node, line.stream) in scenario.keep_alive and not line.payload

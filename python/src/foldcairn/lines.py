@@ -37,6 +37,8 @@ class Field:
     high: int
     unit: str = ""
     kind: str = "number"
+    # What to do where a value is above the range, as the end of a sentence.
+    advice: str = ""
 
     def range_in_words(self) -> str:
         """Its name and range: "the drift, is from -20 to 20 ppm"."""
@@ -70,9 +72,18 @@ def slot_ticks(profile: int) -> int:
     return 2_112_000 if profile == 1 else 3_584_000
 
 
+def window_ticks(profile: int) -> int:
+    """For how long a radio is on in a slot at most, in ticks of 1/64 µs: 32.75 ms in profile 1, 55.75 ms in profile 2."""
+    return slot_ticks(profile) - 16_000
+
+
 def payload_most(profile: int) -> int:
     """The longest payload in bytes: 32 in profile 1, 96 in profile 2."""
     return 32 if profile == 1 else 96
+
+
+# Packets may come less often than the slots of their stream.
+_INTERVAL = "; ask for 120, and put the packets as seldom as they come, as `every` does"
 
 
 def _id(name: str) -> Field:
@@ -102,7 +113,7 @@ def _scenario_fields(context: Context) -> dict[str, tuple[Field, ...]]:
         "pair": (_id("id of one node"), _id("id of the other node")),
         "on": (frame, node),
         "off": (frame, node),
-        "stream": (frame, node, stream, Field("interval", 1, 120, "seconds")),
+        "stream": (frame, node, stream, Field("interval", 1, 120, "seconds", advice=_INTERVAL)),
         "leave": (frame, node, stream),
         "put": (frame, node, stream, Field("payload", 0, payload_most(context.profile), "bytes", kind="payload")),
         "lose": (frame, slot, step, sender, receiver),

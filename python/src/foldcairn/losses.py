@@ -9,17 +9,19 @@ changes. What is delivered is then the same as with all losses written. Nothing 
 from __future__ import annotations
 
 import itertools
-from collections.abc import Iterable
+import os
+from collections.abc import Iterable, Iterator, Mapping
 from dataclasses import dataclass, replace
 from io import BytesIO
 from pathlib import Path
-from typing import Any, TypeVar
+from typing import Any, TextIO, TypeVar
 
 import numpy
 import pandas
 from numpy.typing import NDArray
 
-from . import columns, lines, program as programs, tables
+from . import arguments, kept, lines, program as programs, progress as bars, results as runs, tables
+from .arguments import ArgumentError
 from .events import Capture, Cut, Loss, ScriptLine
 from .scenario import Scenario, ScenarioError
 
@@ -47,7 +49,7 @@ class TooManyLosses(Exception):
     def __str__(self) -> str:
         return (
             f"a scenario has at most {lines.SCRIPT_LINES_MOST:,} script lines, {self.fitting:,} of them are free for losses, and they "
-            f"are used up in frame {self.frame}: shorten the run to {self.frame} frames, or draw parts of it"
+            f"are used up in frame {self.frame}: shorten the run to {self.frame} frames, or take links out that hardly receive"
         )
 
 
@@ -96,45 +98,33 @@ def coin(seed: int, keys: Array) -> Array:
 
 @dataclass(frozen=True)
 class _Log:
-    """The transmissions and the times of radios of one log, a column each; times in ticks of 1/64 µs."""
+    """The transmissions of one log (`results.on_air`), by their starts, and when each radio was on, by `_tuned_key`."""
 
-    frame: Array
-    rank: Array
-    slot: Array
-    step: Array
-    sender: Array
-    start: Array
-    end: Array
-    packet: Array
+    sent: pandas.DataFrame
     tuned_key: Array
     tuned_end: Array
 
     def part(self, first: int, end: int) -> _Log:
         """The log with the transmissions from `first` on, before `end`."""
-        sent = ("frame", "rank", "slot", "step", "sender", "start", "end", "packet")
-        return replace(self, **{name: getattr(self, name)[first:end] for name in sent})
+        return replace(self, sent=self.sent.iloc[first:end])
 
-
-_TUNED = {"rank": "int64", "node": "int64", "start": "int64", "end": "int64"}
-_SENT = {**_TUNED, "packet": "category"}
+    def column(self, name: str) -> Array:
+        """A column of the transmissions; of their packets the numbers by which equal ones are known."""
+        values = self.sent[name]
+        column: Array = (values.cat.codes if name == "packet" else values).to_numpy(numpy.int64)
+        return column
 
 
 def _tuned_key(rank: Array, node: Array, start: Array) -> Array:
     return ((rank * 256 + node) << 42) + start
 
 
-def _read_log(output: bytes, ticks: int) -> _Log:
-    """The transmissions and radio times of the output of `log`, where a frame has that many ticks."""
-    read = columns.read(BytesIO(output), {"sent": _SENT, "tuned": _TUNED}, ("deliver", "drop", "energy", "heard"))
-    sent, tuned = read["sent"], read["tuned"]
-    packets = sent["packet"].cat
-    heads = numpy.array([[int(packet[at : at + 2], 16) for at in (2, 4)] for packet in packets.categories], numpy.int64)
-    packet = packets.codes.to_numpy(numpy.int64)
-    slot, step = heads.reshape(-1, 2)[packet].T
-    rank, sender, start, end = (sent[name].to_numpy() for name in list(_SENT)[:4])
-    keys = _tuned_key(*(tuned[name].to_numpy() for name in list(_TUNED)[:3]))
+def _read_log(output: bytes, profile: int) -> _Log:
+    """The output of `log`, as far as losses depend on it."""
+    sent, tuned = runs.on_air(BytesIO(output), profile)
+    keys = _tuned_key(*(tuned[name].to_numpy() for name in ("rank", "node", "start_ticks")))
     order = numpy.argsort(keys)
-    return _Log(start // ticks, rank, slot, step, sender, start, end, packet, keys[order], tuned["end"].to_numpy()[order])
+    return _Log(sent, keys[order], tuned["end_ticks"].to_numpy()[order])
 
 
 class _Links:
@@ -199,10 +189,11 @@ def _keys_of(losses: Iterable[Loss]) -> Array:
 
 def _needed(log: _Log, links: _Links, seed: int) -> Array:
     """The losses that change who receives in this log, as ordered keys; worked out by batches of whole frames."""
-    pairs = numpy.cumsum(links.first[log.sender + 1] - links.first[log.sender])
-    frames = numpy.flatnonzero(numpy.diff(log.frame, prepend=-1))
+    sender = log.column("node")
+    pairs = numpy.cumsum(links.first[sender + 1] - links.first[sender])
+    frames = numpy.flatnonzero(numpy.diff(log.column("frame"), prepend=-1))
     batches = frames[numpy.flatnonzero(numpy.diff(pairs[frames] // _PAIRS_AT_ONCE, prepend=-1))].tolist()
-    bounds = itertools.pairwise([*batches, len(log.frame)])
+    bounds = itertools.pairwise([*batches, len(sender)])
     return numpy.concatenate([numpy.empty(0, numpy.int64), *(_needed_in(log.part(*bound), links, seed) for bound in bounds)])
 
 
@@ -213,20 +204,21 @@ def _needed_in(log: _Log, links: _Links, seed: int) -> Array:
     packets that reach it in a step are equal, it receives as long as one link passes: so losses count where all links fail.
     Where they differ, as in contention slots, those count too whose packets differ from the one that is left.
     """
-    which, link = links.reach(log.sender)
+    sender, rank_of, frame, slot, step = (log.column(name) for name in ("node", "rank", "frame", "slot", "step"))
+    which, link = links.reach(sender)
     receiver = links.receivers[link]
-    rank, start = log.rank[which], log.start[which]
+    rank, start = rank_of[which], log.column("start_ticks")[which]
     at = numpy.searchsorted(log.tuned_key, _tuned_key(rank, receiver, start), "right") - 1
-    on = (at >= 0) & (log.tuned_key[at] >> 42 == rank * 256 + receiver) & (log.tuned_end[at] >= log.end[which])
+    on = (at >= 0) & (log.tuned_key[at] >> 42 == rank * 256 + receiver) & (log.tuned_end[at] >= log.column("end_ticks")[which])
     which, link, receiver = which[on], link[on], receiver[on]
-    step_of = ((log.rank * 4_096 + log.frame) * 64 + log.slot) * 16 + log.step
+    step_of = ((rank_of * 4_096 + frame) * 64 + slot) * 16 + step
     place = step_of[which] * 256 + receiver
-    keys = pack(log.frame[which], log.slot[which], log.step[which], log.sender[which], receiver)
-    listens = ~_among(place, numpy.sort(step_of * 256 + log.sender)) & links.passes(keys)
+    keys = pack(frame[which], slot[which], step[which], sender[which], receiver)
+    listens = ~_among(place, numpy.sort(step_of * 256 + sender)) & links.passes(keys)
     which, link, keys, place = which[listens], link[listens], keys[listens], place[listens]
     lost = coin(seed, keys) >= links.ratios[link]
     captured = _among(_place_of(keys), links.captured)
-    return numpy.sort(keys[_changing(place, lost, log.packet[which], captured)])
+    return numpy.sort(keys[_changing(place, lost, log.column("packet")[which], captured)])
 
 
 def _changing(place: Array, lost: Array, packet: Array, captured: Array) -> Array:
@@ -253,22 +245,56 @@ def _changing(place: Array, lost: Array, packet: Array, captured: Array) -> Arra
 # Drawing.
 
 
-def draw(scenario: AnyScenario, seed: int, *, program: Path | None = None) -> AnyScenario:
+def draw(
+    scenario: AnyScenario,
+    seed: int,
+    *,
+    program: Path | None = None,
+    results: str | os.PathLike[str] | None = None,
+    progress: bool | TextIO = False,
+) -> AnyScenario:
     """The scenario with the losses that its reception ratios (`prr`) have by the coins of the seed.
 
     Only losses that change who receives are written; what the scenario loses by itself stays. The same scenario and seed give
     the same losses, and links that are taken out change no coin of the others. The deliveries, the drops and what radios are
     charged are those of all losses written. Starts of transmissions may differ by a few ticks, since of equal packets the
-    earliest is received that is not lost. Raises `TooManyLosses`, with the frame, where 20,000 script lines don't suffice,
-    and what `program.execute` raises.
+    earliest is received that is not lost. `progress` says how many frames are drawn, and a folder of `results` keeps what is
+    there so far, so that a call that was stopped goes on where it was: both are those of `sweep.sweep`. Raises `TooManyLosses`,
+    with the frame, where 20,000 script lines don't suffice, `ArgumentError` where the seed is no whole number, and what
+    `program.execute` raises.
     """
+    if not isinstance(scenario, Scenario):
+        raise ArgumentError(f"`scenario` is a {type(scenario).__name__}, and has to be a Scenario; write Scenario.read(..) of a text")
+    seed = arguments.whole("seed", seed)
+    scenario.check_ratios()
+    store = kept.Store(results)
+    ratios = sorted([*link, ratio] for link, ratio in scenario.prr.items())
+    key = kept.digest("losses", scenario.text(warn=False), ratios, seed, programs.checksum(program)) if results is not None else ""
+    begun = store.take(key) or {"losses": [], "whole": False}
+    drawn = numpy.array(begun["losses"], numpy.int64)
+    if not begun["whole"]:
+        with bars.bar(scenario.frames, "frames", progress) as bar:
+            for drawn, settled, whole in _draws(scenario, seed, program, drawn):
+                bar.update(max(0, settled - bar.n))
+                store.keep(key, {"losses": drawn.tolist(), "whole": whole})
+    made = scenario.copy()
+    made.losses.extend(_losses_of(drawn))
+    made.seed = seed
+    return made
+
+
+def _draws(scenario: Scenario, seed: int, program: Path | None, drawn: Array) -> Iterator[tuple[Array, int, bool]]:
+    """The losses as keys after each run, with how many frames are final and whether all are. They begin with losses that were
+    there before: whatever these are, the last are the same."""
     links = _Links(scenario)
     used_up = len(scenario.rates) + len(scenario.script) + len(scenario.losses) + len(scenario.cuts) + len(scenario.captures)
     free = max(0, lines.SCRIPT_LINES_MOST - used_up)
-    frames, drawn = scenario.frames, numpy.empty(0, numpy.int64)
+    frames = scenario.frames
     while True:
+        drawn = drawn[drawn >> 26 < frames]
         needed = _needed(_log(_beginning(scenario, frames), drawn, program), links, seed)
         over = _frame_of(needed[free]) if len(needed) > free else None
+        settled = _settled(needed[:free], drawn, frames)
         # Up to the first difference all is final, and each run settles at least one step more: so this ends.
         if not numpy.array_equal(needed[:free], drawn):
             drawn = needed[:free]
@@ -277,18 +303,40 @@ def draw(scenario: AnyScenario, seed: int, *, program: Path | None = None) -> An
         elif over is not None:
             raise TooManyLosses(over, free)
         elif frames == scenario.frames:
-            break
+            yield drawn, frames, True
+            return
         else:
             frames = min(scenario.frames, 2 * frames)
-    made = scenario.copy()
-    made.losses.extend(_losses_of(drawn))
-    return made
+        yield drawn, settled, False
+
+
+def _settled(needed: Array, drawn: Array, frames: int) -> int:
+    """How many frames are final: those before the first difference."""
+    length = min(len(needed), len(drawn))
+    differ = numpy.flatnonzero(needed[:length] != drawn[:length])
+    if len(differ):
+        return min(_frame_of(needed[differ[0]]), _frame_of(drawn[differ[0]]))
+    rest = (needed if len(needed) > length else drawn)[length:]
+    return _frame_of(rest[0]) if len(rest) else frames
+
+
+@dataclass(frozen=True)
+class Drawing:
+    """A scenario whose losses are still to be drawn by a seed: its text, its ratios and the seed say what comes of it, so a
+    sweep can tell whether it has the result before it draws."""
+
+    scenario: Scenario
+    seed: int
+
+    def drawn(self, *, program: Path | None = None) -> Scenario:
+        """The scenario with its losses; raises what `draw` raises."""
+        return draw(self.scenario, self.seed, program=program)
 
 
 def _log(scenario: Scenario, drawn: Array, program: Path | None) -> _Log:
     """The log of a run with these further losses."""
     text = scenario.text(warn=False) + "".join(loss.text() + "\n" for loss in _losses_of(drawn))
-    return _read_log(programs.execute(["log"], text, program=program), lines.frame_ticks(scenario.profile))
+    return _read_log(programs.execute(["log"], text, program=program), scenario.profile)
 
 
 def _beginning(scenario: AnyScenario, frames: int) -> AnyScenario:
@@ -343,17 +391,15 @@ def read_table(scenario: AnyScenario, source: Any) -> AnyScenario:
         raise ScenarioError("the table of losses has neither the columns counter, from and to, nor the column node")
     made = scenario.copy()
     known = set(made.losses)
-    for where, row in tables.rows(frame, "losses"):
-        try:
-            when = tables.whole(row, "frame") if "frame" in row else scenario.frame_at(float(row["seconds"]))
-            for loss in _recorded(scenario, when, [tables.whole(row, column) for column in ("slot", *columns)]):
-                if loss not in known:
-                    known.add(loss)
-                    made.lose(loss.frame, loss.slot, loss.step, loss.sender, loss.receiver)
-        except KeyError as error:
-            raise ScenarioError(f"{where}: {error} is not given") from error
-        except ValueError as error:
-            raise ScenarioError(f"{where}: {error}") from error
+
+    def add(row: Mapping[str, Any]) -> None:
+        when = tables.whole(row, "frame") if "frame" in row else scenario.frame_at(row["seconds"])
+        for loss in _recorded(scenario, when, [tables.whole(row, column) for column in ("slot", *columns)]):
+            if loss not in known:
+                known.add(loss)
+                made.lose(loss.frame, loss.slot, loss.step, loss.sender, loss.receiver)
+
+    tables.each(frame, "losses", ("slot",), add)
     return made
 
 

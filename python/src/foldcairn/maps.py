@@ -5,8 +5,10 @@ Tested, not proved.
 
 from __future__ import annotations
 
+import io
 import math
-from collections.abc import Iterable, Mapping
+import os
+from collections.abc import Iterable, Mapping, Sequence
 
 import networkx
 import numpy as np
@@ -15,17 +17,20 @@ from matplotlib.collections import LineCollection
 from matplotlib.figure import Figure
 from matplotlib.lines import Line2D
 from numpy.typing import NDArray
+from PIL import Image
 
 from . import power, style
 from .scenario import Link, Scenario
 
 Place = tuple[float, float]
 
-# Links by reception ratio: from the least ratio of a class on.
-_RATIOS = ((0.95, "#2478b5"), (0.85, "#3d9a6d"), (0.7, "#d9a514"), (0.5, "#e0762e"), (0.0, "#c9374c"))
-# Nodes by hops from the host, and the last colour for all that are further.
-_HOPS = ("#0b3c6f", "#2f74b5", "#6fa8d6", "#a9cbe8", "#d3e4f3", "#e9f1f9")
+# The hops that a flood has steps for.
+_HOPS_MOST = 12
 _UNREACHED = "#f0c9cf"
+# Where a label may be, by steps to the right and up from its node.
+_SIDES = ((1, 0), (-1, 0), (0, 1), (0, -1), (1, 1), (-1, 1), (1, -1), (-1, -1), (1, 0.5), (-1, 0.5), (1, -0.5), (-1, -0.5))
+# Names of so many letters are inside of their nodes.
+_NAME_INSIDE = 4
 _HALVES, _ARROWS = "The half of a line next to a node shows the link to that node.", "An arrow is a link in one direction."
 # How near two nodes of a map may be, as a part of the length of a link.
 _NEAREST = 0.5
@@ -80,31 +85,42 @@ def _places_of_part(part: networkx.Graph) -> dict[int, Place]:
     return {node: (float(x), float(y)) for node, (x, y) in zip(nodes, _apart(spots))}
 
 
-def _apart(spots: NDArray[np.float64]) -> NDArray[np.float64]:
+def _apart(spots: NDArray[np.float64], nearest: float = _NEAREST) -> NDArray[np.float64]:
     """Pushes nodes apart that are too near to each other to be told."""
+    if len(spots) > 1 and len(np.unique(spots, axis=0)) < len(spots):
+        # Two nodes at one place have no direction in which they could be pushed.
+        turn = 2.4 * np.arange(len(spots))
+        spots = spots + 0.01 * nearest * np.stack([np.cos(turn), np.sin(turn)], axis=1)
     for _ in range(200):
         between = spots[:, None] - spots[None]
         distance = np.linalg.norm(between, axis=2) + np.eye(len(spots)) * 1e9
-        if distance.min() >= 0.99 * _NEAREST:
+        if distance.min(initial=1e9) >= 0.99 * nearest:
             break
-        push = np.maximum(_NEAREST - distance, 0) / np.maximum(distance, 1e-6)
+        push = np.maximum(nearest - distance, 0) / np.maximum(distance, 1e-6 * nearest)
         spots = spots + 0.3 * (push[:, :, None] * between).sum(axis=1)
     return spots
 
 
 def topology(
     scenario: Scenario, *, positions: Mapping[int, Place] | None = None, failed: Iterable[Link] = (),
-    at_seconds: float | None = None, title: str | None = None,
+    at_seconds: float | None = None, title: str | None = None, background: str | os.PathLike[str] | bytes | None = None,
+    extent: tuple[float, float, float, float] | None = None, axes: Axes | None = None,
 ) -> Figure:  # fmt: skip
     """The nodes and links of a network: hosts are squares, a node's colour says how many hops it is from the host (`hops`), and
     the colour of a link its reception ratio. The half of a line next to a node is the link to it; a link that is in one
     direction alone is an arrow.
 
-    `positions` are places of the nodes in any unit, upwards; without them the map is laid out by the links. `failed` are links
+    `positions` are places of the nodes in any unit, upwards; without them the map is laid out by the links. Nodes so near to each
+    other that one would hide the other are moved apart, by no more than that takes. `failed` are links
     that are drawn as failed, besides those with a ratio of 0; with `at_seconds` (from the start of the run) also those of nodes
     without power then, and hops are counted from the host that has power.
 
-    Raises `ValueError` where the scenario has no nodes, a node has no place, or a failed link is none of the scenario.
+    `background` is the file of a picture, or its bytes, as of a floor plan, that is drawn below the map, and `extent` says where it lies, as
+    (left, right, bottom, top) in the units of the positions; without it a picture element is one unit, and its lower left corner is
+    at (0, 0). With `axes` the map is drawn there, without the key, as a part of their figure.
+
+    Raises `ValueError` where the scenario has no nodes, a node has no place, a failed link is none of the scenario, or a
+    background is given without positions, and `OSError` where its file can't be read.
     """
     if not scenario.nodes:
         raise ValueError("the scenario has no nodes")
@@ -113,19 +129,35 @@ def topology(
         raise ValueError(f"node {min(missing)} has no place")
     if strange := set(failed) - scenario.links:
         raise ValueError("the scenario has no link from {} to {}".format(*min(strange)))
+    if background is not None and positions is None:
+        raise ValueError("a background needs the positions of the nodes on it")
     down = _without_power(scenario, at_seconds)
     broken = _failed(scenario, failed, down)
+    width, height = _size(laid, extent if background is not None else None)
+    laid = _seen(laid, width, height)
     with style.settings():
-        figure, drawn = style.axes(*_size(laid))
+        figure, drawn = style.axes(width, height, axes)
         drawn.set_aspect("equal")
         drawn.set_axis_off()
+        if background is not None:
+            _draw_background(drawn, background, extent)
         _draw_links(drawn, scenario, laid, broken)
         _draw_nodes(drawn, scenario, laid, hops(scenario, failed=failed, at_seconds=at_seconds), down)
         drawn.margins(0.08)
-        # The names of hosts at the top need room.
         style.heading(drawn, title or f"{len(scenario.nodes)} nodes, {len(scenario.links)} links", _reading(scenario), above=16)
-        style.key(drawn, 4, below=0.1)
+        if axes is None:
+            style.key(drawn, 4, below=0.1)
+        _draw_names(drawn, scenario, laid, down)
     return figure
+
+
+def _draw_background(
+    drawn: Axes, source: str | os.PathLike[str] | bytes, extent: tuple[float, float, float, float] | None
+) -> None:  # fmt: skip
+    with Image.open(io.BytesIO(source) if isinstance(source, bytes) else source) as opened:
+        picture = np.asarray(opened.convert("RGBA"))
+    tall, wide = picture.shape[:2]
+    drawn.imshow(picture, extent=extent or (0, wide, 0, tall), zorder=0, alpha=0.55, interpolation="antialiased")
 
 
 def _reading(scenario: Scenario) -> str:
@@ -146,19 +178,30 @@ def _failed(scenario: Scenario, failed: Iterable[Link], down: set[int]) -> set[L
     return gone | set(failed)
 
 
-def _size(laid: Mapping[int, Place]) -> tuple[float, float]:
-    """Width and height of the picture in inches, in which the nearest nodes are apart."""
+def _size(laid: Mapping[int, Place], extent: tuple[float, float, float, float] | None) -> tuple[float, float]:
+    """Width and height of the picture in inches, in which the nearest nodes are apart; a background may be larger than the network."""
     spots = np.array(list(laid.values()), dtype=np.float64)
     distance = np.linalg.norm(spots[:, None] - spots[None], axis=2)
     nearest = distance[distance > 0].min(initial=np.inf)
-    wide, tall = np.ptp(spots, axis=0) / nearest * 0.36 if len(laid) > 1 else (0.0, 0.0)
+    corners = [] if extent is None else [(extent[0], extent[2]), (extent[1], extent[3])]
+    wide, tall = np.ptp([*spots, *corners], axis=0) / nearest * 0.36 if len(laid) > 1 else (0.0, 0.0)
     larger = float(np.clip(6.0 / max(wide, 1e-9), 1.0, 3.0))
     return float(np.clip(larger * wide + 1.0, 7.5, 16)), float(np.clip(larger * tall, 0.8, 14)) + 1.6
 
 
+def _seen(laid: Mapping[int, Place], width: float, height: float) -> dict[int, Place]:
+    """The places on a picture of this size in inches, with those apart that would hide each other."""
+    spots = np.array(list(laid.values()), dtype=np.float64)
+    wide, tall = np.maximum(np.ptp(spots, axis=0), 1e-9)
+    # The margins, the title and the key take their part.
+    inches = min((width - 1.0) / wide, (height - 1.6) / tall)
+    moved = _apart(spots, 1.05 * _marker(laid) / 72 / inches) if np.isfinite(inches) and max(wide, tall) > 1e-9 else _apart(spots, 1.0)
+    return {node: (float(x), float(y)) for node, (x, y) in zip(laid, moved)}
+
+
 def _draw_links(drawn: Axes, scenario: Scenario, laid: Mapping[int, Place], broken: set[Link]) -> None:
     paints = {link: _paint(scenario, link, broken) for link in scenario.links}
-    shown: dict[str, list[list[Place]]] = {colour: [] for colour in (style.PALE, *(colour for _, colour in _RATIOS))}
+    shown: dict[str, list[list[Place]]] = {colour: [] for colour in (style.PALE, *(colour for _, colour, _ in style.RATIOS))}
     for (sender, receiver), paint in sorted(paints.items()):
         start, end = laid[sender], laid[receiver]
         back = paints.get((receiver, sender))
@@ -171,25 +214,25 @@ def _draw_links(drawn: Axes, scenario: Scenario, laid: Mapping[int, Place], brok
             shown[paint].append([((start[0] + end[0]) / 2, (start[1] + end[1]) / 2), end])
     lost = shown.pop(style.PALE)
     drawn.add_collection(LineCollection(lost, colors=style.PALE, linewidths=1.0, linestyles=(0, (2, 3)), zorder=1))
-    for _, colour in _RATIOS:
-        drawn.add_collection(LineCollection(shown[colour], colors=colour, linewidths=1.8, zorder=1))
+    for _, colour, width in style.RATIOS:
+        drawn.add_collection(LineCollection(shown[colour], colors=colour, linewidths=width, zorder=1))
     _ratio_key(drawn, shown, bool(scenario.prr), bool(lost))
 
 
 def _paint(scenario: Scenario, link: Link, broken: set[Link]) -> str:
     """The colour of a link."""
     ratio = scenario.prr.get(link, 1.0)
-    return style.PALE if link in broken else next(colour for least, colour in _RATIOS if ratio >= least)
+    return style.PALE if link in broken else next(colour for least, colour, _ in style.RATIOS if ratio >= least)
 
 
 def _ratio_key(drawn: Axes, shown: Mapping[str, list[list[Place]]], ratios: bool, lost: bool) -> None:
     over = 1.0
-    for least, colour in _RATIOS:
+    for least, colour, width in style.RATIOS:
         words = f"link of {100 * least:.0f} to {100 * over:.0f} %" if least else f"link below {100 * over:.0f} %"
         if not ratios:
             words = "link"
         if shown[colour]:
-            drawn.plot([], [], color=colour, linewidth=2.5, label=words)
+            drawn.plot([], [], color=colour, linewidth=1.3 * width, label=words)
         over = least
     if lost:
         drawn.plot([], [], color=style.PALE, linewidth=1.0, linestyle=(0, (2, 3)), label="failed link")
@@ -199,21 +242,90 @@ def _draw_nodes(
     drawn: Axes, scenario: Scenario, laid: Mapping[int, Place], away: Mapping[int, int], down: set[int]
 ) -> None:  # fmt: skip
     ranks = {node: rank for rank, node in scenario.hosts.items()}
-    size = 19.0 if len(laid) <= 36 else 15.0
+    size = _marker(laid)
+    colours = _hop_colours(away)
     for node, (x, y) in sorted(laid.items()):
-        distance = away.get(node)
-        colour = style.GROUND if node in down else _UNREACHED if distance is None else _HOPS[min(distance, len(_HOPS) - 1)]
+        colour = style.GROUND if node in down else colours.get(away.get(node, -1), _UNREACHED)
         drawn.plot(
             x, y, "s" if node in ranks else "o", color=colour, markersize=size, markeredgewidth=2.2 if node in ranks else 0.8,
-            markeredgecolor=style.PALE if node in down else style.TRANSMITS if node in ranks else _HOPS[0], zorder=3,
+            markeredgecolor=style.PALE if node in down else style.TRANSMITS if node in ranks else style.INK, zorder=3,
         )  # fmt: skip
-        ink = style.PALE if node in down else style.ON_DARK if distance is not None and distance < 2 else style.ON_LIGHT
-        drawn.text(x, y, str(node), color=ink, ha="center", va="center", fontsize=0.45 * size, zorder=4)
-    for rank, node in sorted(scenario.hosts.items()):
-        words = f"host of rank {rank}" + (", no power" if node in down else "")
-        drawn.annotate(words, laid[node], (0, 0.5 * size + 4), textcoords="offset points", fontsize=8, ha="center", va="bottom",
-                       zorder=5, bbox={"facecolor": style.GROUND, "edgecolor": "none", "pad": 0.8})  # fmt: skip
+        ink = style.PALE if node in down else style.ink_on(colour)
+        if len(scenario.name(node)) <= _NAME_INSIDE:
+            drawn.text(x, y, scenario.name(node), color=ink, ha="center", va="center", fontsize=0.45 * size, zorder=4)
     _node_key(drawn, ranks, away, down, set(laid))
+
+
+def _hop_colours(away: Mapping[int, int]) -> dict[int, str]:
+    """The colours of the hops that occur, up to those that a flood has steps for."""
+    most = max((hops for hops in away.values() if hops <= _HOPS_MOST), default=0)
+    return dict(enumerate(style.hops(most)))
+
+
+def _marker(laid: Mapping[int, Place]) -> float:
+    """The size of a node in points."""
+    return 19.0 if len(laid) <= 36 else 15.0
+
+
+def _draw_names(drawn: Axes, scenario: Scenario, laid: Mapping[int, Place], down: set[int]) -> None:
+    """Says beside the nodes which of them host, and what is too long to be inside of a node: where it covers least."""
+    words = {node: f"host {rank}" + (", no power" if node in down else "") for rank, node in sorted(scenario.hosts.items())}
+    for node in sorted(laid):
+        if len(scenario.name(node)) > _NAME_INSIDE:
+            words[node] = scenario.name(node) + (f" ({words[node]})" if node in words else "")
+    if not words:
+        return
+    drawn.get_figure().draw_without_rendering()
+    points = 72.0 / drawn.get_figure().dpi
+    at = {node: np.array(drawn.transData.transform(place)) * points for node, place in laid.items()}
+    half = _marker(laid) / 2
+    taken = [(x - half, y - half, x + half, y + half) for x, y in at.values()]
+    lines = [(at[one], at[other]) for one, other in scenario.links]
+    for node, text in words.items():
+        wide, tall = 4.4 * len(text) + 4, 10.0
+        left, low = _beside(at[node], half + 2.5, wide, tall, taken, lines)
+        taken.append((left, low, left + wide, low + tall))
+        offset = (left + wide / 2 - at[node][0], low + tall / 2 - at[node][1])
+        drawn.annotate(text, laid[node], offset, textcoords="offset points", fontsize=8, ha="center", va="center", zorder=5,
+                       bbox={"facecolor": style.GROUND, "edgecolor": "none", "pad": 0.6, "alpha": 0.8})  # fmt: skip
+
+
+def _beside(
+    at: NDArray[np.float64], away: float, wide: float, tall: float, taken: Sequence[tuple[float, float, float, float]],
+    lines: Sequence[tuple[NDArray[np.float64], NDArray[np.float64]]],
+) -> tuple[float, float]:  # fmt: skip
+    """The lower left corner of a box of this size next to a node that covers least of what is taken, and then of the lines."""
+    best, least = (float(at[0]), float(at[1])), np.inf
+    for ring in (0.0, 8.0, 16.0):
+        for across, up in _SIDES:
+            gap = away + ring
+            left = at[0] + across * gap + (0 if across > 0 else -wide if across < 0 else -wide / 2)
+            # Half a step up is just above a line that goes to the side.
+            rise = up * gap if abs(up) != 0.5 else 5 * up
+            low = at[1] + rise + (0 if up > 0 else -tall if up < 0 else -tall / 2)
+            box = (left, low, left + wide, low + tall)
+            cost = 1e3 * sum(_common(box, other) for other in taken) + 8.0 * _crossed(box, lines) + ring
+            if cost < least - 1e-9:
+                best, least = (float(left), float(low)), cost
+    return best
+
+
+def _common(one: tuple[float, ...], other: tuple[float, ...]) -> float:
+    """The area that two boxes have in common."""
+    wide = min(one[2], other[2]) - max(one[0], other[0])
+    tall = min(one[3], other[3]) - max(one[1], other[1])
+    return max(0.0, wide) * max(0.0, tall)
+
+
+def _crossed(box: tuple[float, ...], lines: Sequence[tuple[NDArray[np.float64], NDArray[np.float64]]]) -> int:
+    """How many of the lines go through a box, by points along them."""
+    parts = np.linspace(0, 1, 60)[:, None]
+    count = 0
+    for start, end in lines:
+        spots = start + parts * (end - start)
+        inside = (spots[:, 0] > box[0]) & (spots[:, 0] < box[2]) & (spots[:, 1] > box[1]) & (spots[:, 1] < box[3])
+        count += bool(inside.any())
+    return count
 
 
 def _node_key(
@@ -222,11 +334,13 @@ def _node_key(
     def entry(marker: str, face: str, edge: str, words: str) -> None:
         drawn.add_line(Line2D([], [], linestyle="", marker=marker, markersize=9, color=face, markeredgecolor=edge, label=words))
 
-    far = len(_HOPS) - 1
-    for distance in sorted({min(one, far) for one in away.values()}):
-        words = "the host: 0 hops" if distance == 0 else f"{distance} hop{'s' * (distance > 1)}{' and more' * (distance == far)}"
-        entry("s" if distance == 0 else "o", _HOPS[distance], style.TRANSMITS if distance == 0 else _HOPS[0], words)
+    for distance, colour in _hop_colours(away).items():
+        if distance in away.values():
+            words = "the host: 0 hops" if distance == 0 else f"{distance} hop{'s' * (distance > 1)}"
+            entry("s" if distance == 0 else "o", colour, style.TRANSMITS if distance == 0 else style.INK, words)
+    if any(distance > _HOPS_MOST for distance in away.values()):
+        entry("o", _UNREACHED, style.INK, f"more than {_HOPS_MOST} hops")
     if nodes - set(away) - down:
-        entry("o", _UNREACHED, _HOPS[0], "out of the host's reach")
+        entry("o", _UNREACHED, style.INK, "out of the host's reach")
     if down:
         entry("o", style.GROUND, style.PALE, "no power")

@@ -9,7 +9,9 @@ from __future__ import annotations
 from collections.abc import Iterable, Sequence
 from dataclasses import dataclass
 
+import numpy as np
 import pandas as pd
+from numpy.typing import NDArray
 
 # Byte 0 of a packet.
 _SCHEDULE_1, _DATA, _REQUEST, _SCHEDULE_2 = 1, 2, 3, 4
@@ -154,25 +156,31 @@ def table(packets: Iterable[str]) -> pd.DataFrame:
     texts = list(packets)
     decoded = [decode(text) for text in texts]
 
-    def column(name: str, dtype: str) -> pd.Series:
-        return pd.Series([getattr(packet, name, -1) for packet in decoded], dtype=dtype)
+    def column(name: str) -> pd.Series:
+        return pd.Series([getattr(packet, name, -1) for packet in decoded], dtype="int64")
 
     return pd.DataFrame(
         {
             "kind": pd.Categorical([packet.kind for packet in decoded], categories=KINDS),
-            "slot": column("slot", "uint8"),
-            "step": column("counter", "uint8"),
-            "origin": column("node", "int16"),
-            "boot": column("boot", "int16"),
-            "host_boot": column("host_boot", "int16"),
-            "stream": column("stream", "int8"),
-            "number": column("number", "int32"),
-            "interval": column("interval", "int16"),
-            "gap": column("gap", "int8"),
-            "contention_slots": column("contention_slots", "int8"),
+            "slot": column("slot"),
+            "step": column("counter"),
+            "origin": column("node"),
+            "boot": column("boot"),
+            "host_boot": column("host_boot"),
+            "stream": column("stream"),
+            "number": column("number"),
+            "interval": column("interval"),
+            "gap": column("gap"),
+            "contention_slots": column("contention_slots"),
             "decoded": pd.Series(decoded, dtype=object),
         }
     ).set_axis(pd.Index(texts, name="packet", dtype=object), axis=0)
+
+
+def places(packets: Iterable[str]) -> tuple[NDArray[np.int64], NDArray[np.int64]]:
+    """The slots and the steps (relay counters) of packets that a run has sent, by the second and third of their bytes alone."""
+    heads = np.array([bytes.fromhex(text[2:6]) for text in packets], dtype="S2").view(np.uint8).reshape(-1, 2).astype(np.int64)
+    return heads[:, 0], heads[:, 1]
 
 
 def _check(packet: object, **ranges: tuple[int, int]) -> None:

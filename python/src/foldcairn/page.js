@@ -11,6 +11,7 @@
 
   const scenario = await unpacked("scenario");
   document.getElementById("save").href = URL.createObjectURL(new Blob([scenario], { type: "text/plain" }));
+  document.getElementById("save-settings").href = URL.createObjectURL(new Blob([await unpacked("settings")], { type: "application/json" }));
   const script = document.createElement("script");
   script.textContent = await unpacked("plotly-script");
   document.head.append(script);
@@ -48,7 +49,7 @@
   }
 
   const seconds = (ticks) => (ticks / TICKS).toFixed(6) + " s";
-  const node = (bars, at) => "node " + run.nodes[bars.node[at]];
+  const node = (bars, at) => run.names[bars.node[at]];
 
   // What was on the air in a window, and the relay counters of packets whose bars have room for them.
   function details(from, to, width) {
@@ -116,9 +117,11 @@
     return Plotly.react(place, traces, layout, { responsive: true, displaylogo: false, modeBarButtonsToRemove: ["select2d", "lasso2d"] });
   }
 
-  // The window of the next round or slot, counted from the middle of what is shown.
+  // The window of the next round or slot, counted from the middle of what is shown; where many rounds are shown from its begin, or
+  // back from its end.
   function step(direction, whole) {
-    const { slots } = run, middle = (shown[0] + shown[1]) / 2 * TICKS, rounds = [];
+    const { slots } = run, rounds = [], near = shown[1] - shown[0] <= run.detail;
+    const middle = (near ? (shown[0] + shown[1]) / 2 : direction > 0 ? shown[0] : shown[1]) * TICKS;
     for (let at = 0; at < slots.name.length; at++) {
       const last = rounds[rounds.length - 1];
       const same = whole && last && slots.frame[at] === last.frame && slots.rank[at] === last.rank;

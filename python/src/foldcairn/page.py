@@ -17,7 +17,6 @@ import hashlib
 import html
 import json
 import os
-import tempfile
 from collections.abc import Callable
 from functools import cache
 from pathlib import Path
@@ -29,51 +28,66 @@ import plotly.graph_objects as graph
 import plotly.offline
 from matplotlib.figure import Figure
 
-from . import planning, plot, radio, report, style, timing
+from . import files, findings, meanings, notebook, planning, plot, radio, report, style, timing
 from .packets import Data, Packet, Request
 from .results import Log
 from .rounds import rounds
+from .settings import Settings
 from .timeline import DETAIL_SECONDS
+from .version import version
 
 _FOLDER = Path(__file__).parent
 _HALF = 0.32
+_EVENTS_MOST = 20
 # Seen on light and on dark ground.
 _OFF = "rgba(127, 140, 160, 0.2)"
 
 
-def write(
-    log: Log, path: str | os.PathLike[str], *, title: str = "A run", positions: dict[int, tuple[float, float]] | None = None
-) -> Path:
-    """Writes the page of a run into a file, and gives its path. `positions` are places of the nodes for the map.
+def write(log: Log, path: str | os.PathLike[str], **given: Any) -> Path:
+    """Writes the page of a run into a file, and gives its path.
 
-    The same run gives the same bytes. A link to the page may end with `#from=S&to=S`, two times in seconds, and the page then
-    begins there. Raises `OSError` where the file can't be written, and `ValueError` where a node has no place.
+    title, site, plan   the title, and the names of the site and of the plan, which stand below it
+    notes               text of your own, for instance for whom the page is; an empty line begins a paragraph
+    positions           places of the nodes for the map, as {id: (x, y)}
+    background, extent  a picture below the map, as in `plot.topology`
+    receivers           for whom packets are meant, in the forms of `foldcairn.receivers`; as the scenario says without it
+    battery             the words of `planning.battery_life`, as {"capacity_mah": 2500, "receive_ma": 20}
+
+    The same run and words give the same bytes. A link to the page may end with `#from=S&to=S`, two times in seconds, and the page
+    then begins there. Raises `OSError` where a file can't be read or written, and `ValueError` where a node has no place, or a
+    word is none of these.
     """
-    target = Path(path)
-    target.write_text(text(log, title=title, positions=positions), encoding="utf-8")
-    return target
+    return files.write(path, text(log, **given).encode())
 
 
-def text(log: Log, *, title: str = "A run", positions: dict[int, tuple[float, float]] | None = None) -> str:
+def text(log: Log, **given: Any) -> str:
     """The text of the page (see `write`)."""
+    return of_settings(log, Settings.of(log.scenario, **given))
+
+
+def of_settings(log: Log, settings: Settings) -> str:
+    """The text of the page of these settings."""
     scenario = log.scenario.text(warn=False)
     parts = [
-        f"<h1>{html.escape(title)}</h1>",
-        _about(log),
-        _numbers(log),
+        _head(log, settings),
+        _findings(log, settings),
+        _numbers(log, settings),
+        _workload(log),
         _timeline(log),
-        _pictures(log, positions),
-        _tables(log),
-        _again(scenario),
+        _pictures(log, settings),
+        _tables(log, settings),
+        _again(log, scenario),
     ]
     packed = {
         "plotly-script": _script(),
         "figure": _packed(overview(log).to_json()),
         "run": _packed(json.dumps(data(log), separators=(",", ":"))),
         "scenario": _packed(scenario),
+        "settings": _packed(settings.text()),
     }
     scripts = [f'<script type="application/gzip" id="{name}">{value}</script>' for name, value in packed.items()]
-    head = f'<meta charset="utf-8"><meta name="viewport" content="width=device-width"><title>{html.escape(title)}</title>'
+    title = html.escape(settings.title)
+    head = f'<meta charset="utf-8"><meta name="viewport" content="width=device-width"><title>{title}</title>'
     css, code = ((_FOLDER / name).read_text(encoding="utf-8") for name in ("page.css", "page.js"))
     body = "\n".join([*parts, *scripts, f"<script>\n{code}</script>"])
     return f'<!DOCTYPE html>\n<html lang="en"><head>{head}<style>\n{css}</style></head>\n<body>\n{body}\n</body></html>\n'
@@ -89,35 +103,63 @@ def _script() -> str:
     return _packed(plotly.offline.get_plotlyjs())
 
 
-def _about(log: Log) -> str:
+def about(log: Log) -> str:
+    """What was run, in some sentences."""
     scenario = log.scenario
-    hosts = ", ".join(f"node {node} (rank {rank})" for rank, node in sorted(scenario.hosts.items())) or "none"
-    words = (
+    hosts = ", ".join(f"{findings.node(scenario, node)} (rank {rank})" for rank, node in sorted(scenario.hosts.items())) or "none"
+    return (
         f"{len(scenario.nodes)} nodes, {len(scenario.links)} links, hosts: {hosts}. {scenario.frames} frames of "
-        f"{scenario.frame_seconds} s in profile {scenario.profile}: {scenario.seconds} s. "
+        f"{scenario.frame_seconds} s in profile {scenario.profile}: {scenario.seconds:,} s. "
         f"{len(log.transmissions):,} transmissions, {len(log.receptions):,} receptions, {len(log.deliveries):,} deliveries."
     )
-    return f"<p>{html.escape(words)}</p>"
+
+
+def _head(log: Log, settings: Settings) -> str:
+    where = " · ".join(f"{word}: {html.escape(name)}" for word, name in (("Site", settings.site), ("Plan", settings.plan)) if name)
+    notes = "".join(f"<p>{html.escape(part.strip())}</p>" for part in settings.notes.split("\n\n") if part.strip())
+    return (
+        f"<h1>{html.escape(settings.title)}</h1>" + (f'<p class="where">{where}</p>' if where else "") + f"<p>{html.escape(about(log))}</p>"
+        + (f'<div class="notes">{notes}</div>' if notes else "")
+    )  # fmt: skip
+
+
+def _findings(log: Log, settings: Settings) -> str:
+    lines = "".join(f"<li>{html.escape(line)}</li>" for line in findings.of(log, receivers=settings.whom(), battery=settings.battery))
+    return f'<h2>Summary</h2><ol class="findings">{lines}</ol>'
+
+
+def _workload(log: Log) -> str:
+    """What is put, and what happens to nodes."""
+    table = report.workload(log.scenario).to_html(index=False, border=0, na_rep="–", float_format=lambda number: f"{number:.1f}")
+    events = report.events(log.scenario)
+    shown = "".join(f"<li>{html.escape(line)}</li>" for line in events[:_EVENTS_MOST])
+    more = f"<li>and {len(events) - _EVENTS_MOST} more</li>" if len(events) > _EVENTS_MOST else ""
+    return (
+        f"<h2>The workload</h2><p>{html.escape(notebook.workload(log.scenario))}.</p>{table}"
+        + (f"<h3>What happens</h3><ul>{shown}{more}</ul>" if events else "")
+    )  # fmt: skip
 
 
 # The main numbers, with their unit and how they are shown.
 _NUMBERS: dict[str, tuple[str, Callable[[float], str]]] = {
-    "ratio_of_put": ("of what was put was delivered", lambda ratio: f"{100 * ratio:.1f} %"),
-    "ratio_of_sent_while_on": ("of what was sent to nodes with power was delivered", lambda ratio: f"{100 * ratio:.2f} %"),
+    "ratio_of_put": ("of what was put was delivered at {whom}", lambda ratio: f"{100 * ratio:.1f} %"),
+    "ratio_of_sent_while_on": ("of what was sent while the receiver had power", lambda ratio: f"{100 * ratio:.2f} %"),
     "latency_median": ("median latency", lambda seconds: f"{seconds:.1f} s"),
     "latency_p90": ("90 % are delivered within", lambda seconds: f"{seconds:.1f} s"),
-    "all_joined_seconds": ("all nodes had joined after", lambda seconds: f"{seconds:.1f} s"),
-    "all_accepted_seconds": ("all streams were accepted after", lambda seconds: f"{seconds:.1f} s"),
-    "outage_seconds": ("longest outage at a change of hosts", lambda seconds: f"{seconds:.1f} s"),
+    "all_joined_seconds": ("all nodes had joined after the first start", lambda seconds: f"{seconds:.1f} s"),
+    "all_accepted_seconds": ("all streams were accepted after the first start", lambda seconds: f"{seconds:.1f} s"),
+    "never_accepted": ("times that a stream was never accepted by a host, over all hosts", lambda count: f"{count:.0f}"),
+    "outage_seconds": ("longest outage at a change of hosts, or to the end", lambda seconds: f"{seconds:.1f} s"),
     "duty_cycle": ("mean duty cycle", lambda ratio: f"{100 * ratio:.2f} %"),
     "duty_cycle_in_rounds": ("mean duty cycle in rounds", lambda ratio: f"{100 * ratio:.2f} %"),
 }
 
 
-def _numbers(log: Log) -> str:
-    summary = planning.summary(log)
+def _numbers(log: Log, settings: Settings) -> str:
+    summary = planning.summary(log, receivers=settings.whom())
+    whom = html.escape(findings.whom(log.scenario, settings.whom()))
     cells = [
-        f"<div><b>{'none' if np.isnan(summary[name]) else shown(summary[name])}</b>{words}</div>"
+        f"<div><b>{'none' if np.isnan(summary[name]) else shown(summary[name])}</b>{words.format(whom=whom)}</div>"
         for name, (words, shown) in _NUMBERS.items()
     ]
     return f'<div class="numbers">{"".join(cells)}</div>'
@@ -127,53 +169,71 @@ def _timeline(log: Log) -> str:
     buttons = [("whole", "whole run"), ("back", "◀ round"), ("on", "round ▶"), ("slot-back", "◀ slot"), ("slot-on", "slot ▶")]
     height = 130 + max(6, len(log.scenario.nodes)) * (26 if len(log.scenario.nodes) <= 30 else 16)
     return (
-        "<h2>The radios</h2><p>Drag over a part of the timeline to zoom into it; a double click shows the whole run. Below "
+        "<h2>The radios</h2><p class='screen'>Drag over a part of the timeline to zoom into it; a double click shows the whole run. Below "
         f"{DETAIL_SECONDS:g} s slots and what was transmitted and received in them are shown, and the steps of a flood where there "
         "is room. The address of the page keeps the window.</p>"
         '<p class="buttons">' + "".join(f'<button id="{name}">{words}</button>' for name, words in buttons) + "</p>"
         f'<div id="timeline" style="height:{height}px"></div><p id="message"></p>'
+        # A printer gets the whole run as a picture.
+        f'<div class="printed">{picture("The radios in the whole run", lambda: plot.timeline(log))}</div>'
     )
 
 
-def _pictures(log: Log, positions: dict[int, tuple[float, float]] | None) -> str:
+def _pictures(log: Log, settings: Settings) -> str:
+    pairs = planning.delivery_ratio(log, "pair", receivers=settings.whom())
     drawn = [
-        ("The network", lambda: plot.topology(log.scenario, positions=positions)),
-        ("Delivery ratio of each stream at each node", lambda: plot.delivery(planning.delivery_ratio(log, "pair"))),
-        ("Latencies", lambda: plot.latency(planning.latencies(log))),
+        ("The network", lambda: plot.topology(log.scenario, positions=settings.places(), background=settings.picture(), extent=settings.extent)),
+        ("Delivery ratio of each stream at each node", lambda: plot.delivery(pairs)),
+        ("Latencies", lambda: plot.latency(planning.latencies(log, receivers=settings.whom()))),
         ("Radio time by purpose", lambda: plot.energy(planning.radio_time(log))),
         ("Outages", lambda: plot.outages(planning.outages(log, "stream"))),
     ]
-    return "".join(f"<h2>{name}</h2>{_picture(name, draw)}" for name, draw in drawn)
+    return "".join(f'<section class="figure"><h2>{name}</h2>{picture(name, draw)}</section>' for name, draw in drawn)
 
 
-def _picture(name: str, draw: Callable[[], Figure]) -> str:
+def picture(name: str, draw: Callable[[], Figure]) -> str:
+    """A picture as a part of a page, or why there is none."""
     try:
         figure = draw()
     except ValueError as error:
         # A run may have no deliveries, or no change of hosts.
         return f"<p>{html.escape(str(error))}</p>"
-    with tempfile.TemporaryDirectory(prefix="foldcairn-") as folder:
-        svg = plot.save(figure, Path(folder) / "picture.svg").read_bytes()
+    svg = style.rendered(figure, "svg")
     return f'<img alt="{name}" src="data:image/svg+xml;base64,{base64.b64encode(svg).decode()}">'
 
 
-def _tables(log: Log) -> str:
-    tables = planning.tables(log)
-    pieces = []
-    for name, title in report.SHOWN.items():
-        shown = tables[name].to_html(index=False, border=0, na_rep="–", float_format=lambda number: f"{number:.3f}")
-        pieces.append(f"<details><summary>{html.escape(title)}</summary>{shown if len(tables[name]) else '<p>none</p>'}</details>")
-    return "<h2>Tables</h2><p>docs/PLANNING.md says what the columns mean.</p>" + "".join(pieces)
+def _tables(log: Log, settings: Settings) -> str:
+    tables = planning.tables(log, receivers=settings.whom(), battery=settings.battery)
+    titles = report.titles(log.scenario, settings.whom(), settings.battery)
+    pieces = [_table(name, title, tables[name]) for name, title in titles.items()]
+    return '<h2 class="screen">Tables</h2><p class="screen">A click on a title shows its table.</p>' + "".join(pieces)
 
 
-def _again(scenario: str) -> str:
+def _table(name: str, title: str, table: pd.DataFrame) -> str:
+    """A table that is shown by a click on its title, and always in print, with what its columns mean."""
+    told: dict[str, list[str]] = {}
+    for column, meaning in meanings.of_table(name, table).items():
+        told.setdefault(meaning, []).append(column)
+    rows = "".join(f"<dt>{html.escape(', '.join(columns))}</dt><dd>{html.escape(meaning)}</dd>" for meaning, columns in told.items())
+    shown = table.to_html(index=False, border=0, na_rep="–", float_format=lambda number: f"{number:.3f}") if len(table) else "<p>none</p>"
+    return (
+        f'<section class="table"><input type="checkbox" id="show-{name}"><label for="show-{name}">{html.escape(title)}</label>'
+        f'<div class="shown">{shown}<dl>{rows}</dl></div></section>'
+    )
+
+
+def _again(log: Log, scenario: str) -> str:
     digest = hashlib.sha256(scenario.encode()).hexdigest()
+    seed = f" drawn by the seed {log.scenario.seed}" if log.scenario.seed is not None else ""
+    made = f", the program's <code>{log.origin.program}</code>" if log.origin.program else ""
     return (
         '<h2>How to make this page again</h2><p><a id="save" download="run.scenario" href="#">Save the scenario</a>, with all its '
-        f"losses, whose SHA-256 is <code>{digest}</code>. A run depends on nothing but its text, so it comes out the same on any "
-        "machine:</p><pre>python3 -m foldcairn report --html report.html run.scenario</pre>"
+        f'losses{seed}, and <a id="save-settings" download="run.page.json" href="#">the settings of this page</a>, with the ratios, the places '
+        f"and the notes. The SHA-256 of the scenario is <code>{digest}</code>{made}. A run depends on nothing but its text, so it comes "
+        "out the same on any machine, and so does this page with the same versions of the package and of the libraries that it "
+        "uses:</p><pre>python3 -m foldcairn report run.scenario --page run.page.json --html report.html</pre>"
         "<p>The run is by the program foldcairn, which is proved to follow its rules; this page and its numbers are by the Python "
-        "package, which is tested, not proved.</p>"
+        f"package {html.escape(version())}, which is tested, not proved.</p>"
     )
 
 
@@ -197,7 +257,7 @@ def overview(log: Log) -> graph.Figure:
     _add(figure, opened, row, "opens a round", style.TRANSMITS, 0.46, told, 2.0)
     names = {rank: f"host {rank}, " for rank in log.scenario.hosts}
     ranks = {node: rank for rank, node in log.scenario.hosts.items()}
-    labels = [f"{names.get(ranks.get(node, -1), '')}node {node}" for node in row]
+    labels = [f"{names.get(ranks.get(node, -1), '')}{findings.node(log.scenario, node)}" for node in row]
     figure.update_layout(
         margin={"l": 110, "r": 20, "t": 40, "b": 90}, hovermode="closest", dragmode="zoom", plot_bgcolor="rgba(0,0,0,0)",
         paper_bgcolor="rgba(0,0,0,0)", legend={"orientation": "h", "yanchor": "top", "x": 0}, showlegend=True,
@@ -263,6 +323,7 @@ def data(log: Log) -> dict[str, Any]:
         "seconds": log.scenario.seconds,
         "detail": DETAIL_SECONDS,
         "nodes": nodes,
+        "names": [findings.node(log.scenario, node) for node in nodes],
         "colours": {"listens": style.LISTENS, "receives": style.RECEIVES, "transmits": style.TRANSMITS},
         "slots": {name: slots[name].tolist() for name in ("start_ticks", "end_ticks", "frame", "rank", "slot", "name")},
         "purposes": list(radio.PURPOSES),

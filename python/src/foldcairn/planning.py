@@ -1,62 +1,95 @@
 """The answers that a planner of a network looks for, each by one call that gives a table (a pandas DataFrame).
 
-    from foldcairn import planning, results
+    import foldcairn
+    from foldcairn import planning
 
-    log = results.log(scenario)
-    planning.delivery_ratio(log)
+    log = foldcairn.run(network)
+    planning.delivery_ratio(log, receivers="hosts")
 
 | question | call |
 |---|---|
 | delivery ratio of each stream, of what was put and of what was sent | `delivery_ratio(log)` |
 | delivery ratio at each node, or of each stream at each node | `delivery_ratio(log, "node")`, `delivery_ratio(log, "pair")` |
-| where all packets went; each single packet | `fates(log)`; `packets(log)` |
+| where all packets went; each single packet | `fates(log, "all")`, `fates(log)`; `packets(log)` |
 | latency from put to delivery; each delivery | `latency(log)`; `latencies(log)` |
+| the share of packets within a deadline | `deadline(log, seconds=30)` |
 | duty cycle of each node | `duty_cycle(log)` |
 | battery life | `battery_life(log)` |
-| what the energy goes to | `radio_time(log, shares=True)` |
-| when each node joined | `joins(log)` |
+| what the energy goes to | `radio_time(log, shares=True)`, `radio_time(log, "all", shares=True)` |
+| when each node joined, and how soon it was back after its power was off | `joins(log)`; `power_cycles(log)` |
 | when each stream was accepted and got its slots | `streams(log)`; `data_slots(log)` has each slot |
 | which host serves when, and when all had joined and been accepted | `hosts(log)`; `rounds(log)` has each round |
+| when two hosts served at once | `hosts(log, "at once")` |
 | outages | `outages(log)`, `outages(log, "stream")`, `outages(log, "node")` |
 | requests, collisions, acknowledgements | `contention(log)`, `contention(log, "node")`, `contention(log, "slot")` |
 | which links and nodes matter most | `importance(scenario)`, `importance(scenario, "nodes")` |
+| how many more streams the network takes | `capacity(scenario, every=60)` |
+| what of the run is hardly as it was meant | `cautions(log)` |
 | the main numbers of a run in one row, to compare many | `summary(log)`, or `sweep.sweep(build, cases, planning.summary)` |
 
-`log` is a `results.Log`. Columns that end in `_seconds` are in seconds of true time from the start of the run, or spans of it;
-ratios and shares are from 0 to 1. Each function says what its columns mean. The program that runs the scenarios is proved;
+`log` is a `results.Log`, as `foldcairn.run` and `results.log` give it. `receivers` says for whom packets are meant, where that is
+not all nodes: the forms are in `foldcairn.receivers`. Where nodes have names, tables have these in place of ids. Columns
+that end in `_seconds` are in seconds of true time from the start of the run, or spans of it; ratios and shares are from 0 to 1.
+Ids and counts are int64, also in tables without rows. Each function says what its columns mean. The program that runs the
+scenarios is proved;
 these functions are plain Python that reads its log: they are tested, and nothing of them is proved.
 """
 
 from __future__ import annotations
 
+import math
+
 import pandas as pd
 
-from .delivery import delivery_ratio, fates, latencies, latency, packets
-from .importance import importance
-from .radio import battery_life, duty_cycle, radio_time
+from . import capacity as _capacity, delivery, importance as _importance, radio, rounds as _rounds, service
+from .answers import answer
+from .labels import answers
+from .receivers import Receivers
 from .results import Log, log as _run
-from .rounds import data_slots, joins, rounds, streams
 from .scenario import Scenario
-from .service import contention, hosts, outages
 
 __all__ = [
-    "battery_life", "contention", "data_slots", "delivery_ratio", "duty_cycle", "fates", "hosts", "importance", "joins",
-    "latencies", "latency", "outages", "packets", "radio_time", "rounds", "streams", "summary", "tables",
+    "battery_life", "capacity", "cautions", "contention", "data_slots", "deadline", "delivery_ratio", "duty_cycle", "fates",
+    "hosts", "importance", "joins", "latencies", "latency", "outages", "packets", "power_cycles", "radio_time", "rounds", "streams",
+    "summary", "tables",
 ]  # fmt: skip
 
+delivery_ratio = answers(delivery.delivery_ratio)
+deadline = answers(delivery.deadline)
+latency = answers(delivery.latency)
+latencies = answers(delivery.latencies)
+packets, fates = answers(delivery.packets), answers(delivery.fates)
+battery_life = answers(radio.battery_life)
+duty_cycle = answers(radio.duty_cycle)
+radio_time = answers(radio.radio_time)
+data_slots = answers(_rounds.data_slots)
+joins = answers(_rounds.joins)
+rounds = answers(_rounds.rounds)
+streams = answers(_rounds.streams)
+contention = answers(service.contention)
+hosts = answers(service.hosts)
+outages = answers(service.outages)
+power_cycles = answers(service.power_cycles)
+importance, capacity = answers(_importance.importance), answers(_capacity.capacity)
 
-def tables(log: Log) -> dict[str, pd.DataFrame]:
-    """All answers but `importance`, by the names that the files of `python3 -m foldcairn report --csv` have."""
+
+@answer
+def tables(log: Log, *, receivers: Receivers = None, battery: dict[str, float] | None = None) -> dict[str, pd.DataFrame]:
+    """All answers of a run, by the names that the files of `python3 -m foldcairn report --csv` have. `receivers` is as in
+    `delivery_ratio`, and `battery` has the words of `battery_life`, as `{"capacity_mah": 2500, "receive_ma": 20}`."""
     return {
-        "delivery-by-stream": delivery_ratio(log),
-        "delivery-by-node": delivery_ratio(log, "node"),
-        "delivery-by-pair": delivery_ratio(log, "pair"),
+        "delivery-by-stream": delivery_ratio(log, receivers=receivers),
+        "delivery-by-node": delivery_ratio(log, "node", receivers=receivers),
+        "delivery-by-pair": delivery_ratio(log, "pair", receivers=receivers),
         "fates": fates(log).reset_index(),
+        "fates-total": fates(log, "all"),
         "packets": packets(log),
-        "latency-by-stream": latency(log),
-        "latency-by-node": latency(log, "node"),
+        "latency-by-stream": latency(log, receivers=receivers),
+        "latency-by-node": latency(log, "node", receivers=receivers),
         "hosts": hosts(log),
+        "hosts-at-once": hosts(log, "at once"),
         "joins": joins(log),
+        "power-cycles": power_cycles(log),
         "streams": streams(log),
         "contention": contention(log),
         "contention-by-node": contention(log, "node"),
@@ -65,28 +98,57 @@ def tables(log: Log) -> dict[str, pd.DataFrame]:
         "outages-by-stream": outages(log, "stream"),
         "outages-by-node": outages(log, "node"),
         "radio-time": radio_time(log).reset_index(),
+        "radio-time-total": radio_time(log, "all"),
         "duty-cycle": duty_cycle(log),
-        "battery-life": battery_life(log),
+        "battery-life": battery_life(log, **(battery or {})),
     }
 
 
-def summary(run: Log | Scenario | str) -> dict[str, float]:
+@answer
+def cautions(log: Log) -> list[str]:
+    """What of a run is hardly as it was meant, in sentences: the cautions of its scenario, two hosts that served at once, a network
+    without a host at the end, nodes that never joined, and streams that were never accepted."""
+    scenario, found = log.scenario, list(log.scenario.cautions())
+    for row in service.hosts(log, "at once").itertuples():
+        found.append(
+            f"from {row.start_seconds:,.0f} s to {row.end_seconds:,.0f} s two hosts serve at once, node {scenario.name(row.host)} and node "
+            f"{scenario.name(row.other_host)}, and the nodes of one receive nothing of the other; `return` of the program "
+            "(`results.returns`) runs the rule by which a backup host goes back (docs/RETURN.md)"
+        )
+    silent = service.no_host_from(log)
+    if not math.isnan(silent):
+        found.append(f"no host serves from {silent:,.0f} s to the end of the run, at {scenario.seconds:,} s")
+    if log.deliveries.empty and _rounds.rounds(log).empty:
+        found.append("no host ever serves")
+    joined = _rounds.joins(log)
+    never = sorted(set(joined["node"]) - set(joined.loc[joined["rank"] >= 0, "node"]))
+    if never:
+        found.append(f"never joined a host: {', '.join(f'node {scenario.name(node)}' for node in never)}")
+    asked = _rounds.streams(log).groupby(["node", "stream"])["accepted_seconds"].count()
+    if lost := [key for key, count in asked.items() if not count]:
+        found.append(f"never accepted: {', '.join(f'stream {stream} of node {scenario.name(node)}' for node, stream in lost)}")
+    return found
+
+
+def summary(run: Log | Scenario | str, *, receivers: Receivers = None) -> dict[str, float]:
     """The main numbers of a run in one row, for `sweep.sweep`; a scenario or its text is run first.
 
-    ratio_of_put, ratio_of_sent_while_on   as `delivery_ratio` has them, over all streams and nodes
+    ratio_of_put, ratio_of_sent_while_on   as `delivery_ratio` has them, over all streams and the `receivers` that are meant
     latency_median, latency_p90    seconds from put to delivery
     hosts                          how many terms of hosts there were
-    all_joined_seconds, all_accepted_seconds   of the first term, as `hosts` has them
+    all_joined_seconds, all_accepted_seconds   of the first term, as `hosts` has them: of the first start, without power cycles
+    never_accepted                 streams that were requested in a term and never accepted in it, over all terms
     requests, request_success      requests of all terms, and the part of them that was acknowledged
-    outage_seconds                 the longest outage at a change of hosts
+    outage_seconds                 the longest outage at a change of hosts, or to the end of the run
+    no_host_from_seconds           from when on no host serves to the end of the run
     duty_cycle, duty_cycle_in_rounds   the means over the nodes that had power
-    What there is not is not a number (NaN). Raises what `results.log` raises.
+    What there is not is not a number (NaN). Raises what `results.log` and `delivery_ratio` raise.
     """
     # Without warnings: in a sweep they would come once a case.
-    log = run if isinstance(run, Log) else _run(run if isinstance(run, str) else run.text(warn=False))
-    ratio = delivery_ratio(log, "all").iloc[0]
-    terms, asked, duty = hosts(log), contention(log), duty_cycle(log)
-    waited = latencies(log)["latency_seconds"]
+    log = run if isinstance(run, Log) else _run(run, warn=False)
+    ratio = delivery.delivery_ratio(log, "all", receivers=receivers).iloc[0]
+    terms, asked, duty = service.hosts(log), service.contention(log), radio.duty_cycle(log)
+    waited = delivery.latencies(log, receivers=receivers)["latency_seconds"]
     requests = int(asked["requests"].sum())
     return {
         "ratio_of_put": float(ratio["ratio_of_put"]),
@@ -96,9 +158,11 @@ def summary(run: Log | Scenario | str) -> dict[str, float]:
         "hosts": len(terms),
         "all_joined_seconds": float(terms["all_joined_seconds"].iloc[0]) if len(terms) else float("nan"),
         "all_accepted_seconds": float(terms["all_accepted_seconds"].iloc[0]) if len(terms) else float("nan"),
+        "never_accepted": int((terms["streams"] - terms["accepted"]).sum()),
         "requests": requests,
         "request_success": float(asked["acknowledgements"].sum() / requests) if requests else float("nan"),
-        "outage_seconds": float(outages(log)["outage_seconds"].max()),
+        "outage_seconds": float(service.outages(log)["outage_seconds"].max()),
+        "no_host_from_seconds": service.no_host_from(log),
         "duty_cycle": float(duty["duty_cycle"].mean()),
         "duty_cycle_in_rounds": float(duty["duty_cycle_in_rounds"].mean()),
     }

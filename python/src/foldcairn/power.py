@@ -10,8 +10,9 @@ from operator import attrgetter
 import numpy as np
 import pandas as pd
 
+from .answers import answer
 from .events import Leave, Off, On, Put, ScriptLine, Stream
-from .results import Report
+from .results import Log, Report
 from .scenario import Scenario
 
 # A stream has room for so many packets that wait.
@@ -41,8 +42,14 @@ def boots(scenario: Scenario) -> pd.DataFrame:
         elif isinstance(line, Off) and line.node in running:
             running.pop(line.node)[3] = seconds
     table = pd.DataFrame(rows, columns=["node", "boot", "on_seconds", "off_seconds"])
-    types = {"node": "uint8", "boot": "uint8", "on_seconds": "float64", "off_seconds": "float64"}
+    types = {"node": "int64", "boot": "int64", "on_seconds": "float64", "off_seconds": "float64"}
     return table.astype(types).sort_values(["node", "boot"], ignore_index=True)
+
+
+@answer
+def boots_of(log: Log) -> pd.DataFrame:
+    """The `boots` of the scenario of a log."""
+    return boots(log.scenario)
 
 
 def powered(scenario: Scenario) -> pd.DataFrame:

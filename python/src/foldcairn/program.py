@@ -7,18 +7,18 @@ output is passed on byte by byte. Tested, not proved.
 from __future__ import annotations
 
 import functools
+import hashlib
 import os
 import re
 import shutil
 import signal as signals
 import subprocess
-import tempfile
 import warnings
 from collections.abc import Sequence
 from pathlib import Path
 from typing import IO
 
-from . import faults
+from . import arguments, faults, files, front_end, version
 
 # How many bytes of standard error an exception keeps.
 _STDERR_MOST = 4_000
@@ -68,6 +68,10 @@ class Refused(ProgramError):
         self.kind = kind
         self.text_of_line = text_of_line
         self.explanation = explanation
+
+    def __str__(self) -> str:
+        # The script of a repository explains the fault too, on standard error.
+        return self.message
 
 
 class BadUsage(ProgramError):
@@ -125,8 +129,8 @@ _STATUSES: dict[int, tuple[type[ProgramError], str]] = {
 
 
 def find() -> Path:
-    """The program to run: what the environment variable FOLDCAIRN names, else the script `foldcairn` of the repository that
-    this package is in, else `foldcairn` of the PATH.
+    """The program to run: what the environment variable FOLDCAIRN names, else the front end of the repository that this package
+    is in, or that was installed with it, else `foldcairn` of the PATH.
 
     Raises `NotFound` where there is none, or where FOLDCAIRN names no program.
     """
@@ -136,10 +140,9 @@ def find() -> Path:
         if found is None:
             raise NotFound(f"the environment variable FOLDCAIRN names no program that can be run: {named}")
         return Path(found)
-    for folder in Path(__file__).resolve().parents:
-        script = folder / "foldcairn"
-        if (folder / "crates.txt").is_file() and os.access(script, os.X_OK) and script.is_file():
-            return script
+    script = front_end.path()
+    if script is not None:
+        return script
     found = shutil.which("foldcairn")
     if found is None:
         raise NotFound(
@@ -148,20 +151,56 @@ def find() -> Path:
     return Path(found)
 
 
+def versions() -> dict[str, str]:
+    """What results depend on beside their scenario: the `package`'s version, and the `program`'s SHA-256 (`checksum`).
+
+    Raises `NotFound` where there is no program.
+    """
+    return {"package": version.version(), "program": checksum()}
+
+
+def checksum(program: Path | None = None) -> str:
+    """The SHA-256 of a program's file, or of that of `find`; of the front end it is that of the program that it starts. Empty
+    where it can't be read."""
+    path = _started_by(program if program is not None else find())
+    try:
+        about = path.stat()
+        return _checksum(path, about.st_mtime_ns, about.st_size)
+    except OSError:
+        return ""
+
+
+def _started_by(path: Path) -> Path:
+    """The program that the front end of a repository or of an installed copy starts, where it is one."""
+    path = path.resolve()
+    if (path.parent / "crates.txt").is_file() or (path.parent / "tools" / "commands.txt").is_file():
+        for program in (path.parent / "bin" / "foldcairn-x86_64-linux", path.parent / "crates" / "foldcairn" / "out" / "foldcairn"):
+            if program.is_file() and not _is_to_be_built(path):
+                return program
+    return path
+
+
+@functools.lru_cache
+def _checksum(path: Path, changed: int, size: int) -> str:
+    """The SHA-256 of a file that was changed then and has this size."""
+    return hashlib.sha256(path.read_bytes()).hexdigest()
+
+
 def execute(
     words: Sequence[str],
-    text: str | bytes = b"",
+    text: str | bytes | os.PathLike[str] = b"",
     *,
     program: Path | None = None,
     timeout: float | None = None,
 ) -> bytes:
-    """The standard output of the program for these words, with `text` as its standard input.
+    """The standard output of the program for these words, with `text`, or that of a file (a `pathlib.Path`), as its standard
+    input.
 
     `timeout` is in seconds; None sets no limit. Raises `Refused` where the text is rejected, `Killed` where a signal ends the
     program or the time is over, `CutOutput` where the output is not whole, `NotFound` where there is no program, and for each
     other status its own subclass of `ProgramError`.
     """
-    data = _bytes_of(text)
+    data = arguments.text("text", text)
     with _started(words, program, subprocess.PIPE) as process:
         output, stderr = _talk(process, data, words, timeout)
     _raise_unless_done(words, process.returncode, data, output, stderr)
@@ -171,7 +210,7 @@ def execute(
 
 def execute_to_file(
     words: Sequence[str],
-    text: str | bytes,
+    text: str | bytes | os.PathLike[str],
     path: str | os.PathLike[str],
     *,
     program: Path | None = None,
@@ -182,40 +221,21 @@ def execute_to_file(
     The file appears whole or not at all: the output is written next to it, and renamed at the end; what was at `path` is kept
     on every error. Returns `path`. Raises what `execute` raises, and `OSError` where the file can't be made.
     """
-    target = Path(path)
-    data = _bytes_of(text)
-    handle, name = tempfile.mkstemp(prefix=f".{target.name}.", dir=target.parent)
-    partial = Path(name)
-    try:
-        with os.fdopen(handle, "w+b") as sink:
-            with _started(words, program, sink) as process:
-                _, stderr = _talk(process, data, words, timeout)
-            size = sink.seek(0, os.SEEK_END)
-            sink.seek(0)
-            head = sink.read(4_096) if process.returncode else b""
-            _raise_unless_done(words, process.returncode, data, head, stderr)
-            end = b""
-            if size:
-                sink.seek(size - 1)
-                end = sink.read(1)
-            sink.seek(0)
-            _check_whole(words, data, end, _closing_lines_of_file(words, sink), size)
-        partial.chmod(0o666 & ~_umask())
-        partial.replace(target)
-    except BaseException:
-        partial.unlink(missing_ok=True)
-        raise
-    return target
-
-
-def _umask() -> int:
-    mask = os.umask(0)
-    os.umask(mask)
-    return mask
-
-
-def _bytes_of(text: str | bytes) -> bytes:
-    return text.encode() if isinstance(text, str) else bytes(text)
+    data = arguments.text("text", text)
+    with files.replacing(path) as sink:
+        with _started(words, program, sink) as process:
+            _, stderr = _talk(process, data, words, timeout)
+        size = sink.seek(0, os.SEEK_END)
+        sink.seek(0)
+        head = sink.read(4_096) if process.returncode else b""
+        _raise_unless_done(words, process.returncode, data, head, stderr)
+        end = b""
+        if size:
+            sink.seek(size - 1)
+            end = sink.read(1)
+        sink.seek(0)
+        _check_whole(words, data, end, _closing_lines_of_file(words, sink), size)
+    return Path(path)
 
 
 def _started(words: Sequence[str], program: Path | None, stdout: int | IO[bytes]) -> subprocess.Popen[bytes]:

@@ -6,19 +6,20 @@ from __future__ import annotations
 import numpy as np
 import pandas as pd
 
-from . import lines, power
+from . import arguments, lines, power
+from .answers import answer
 from .results import TICKS_A_SECOND, Log
 from .rounds import GUARD_TICKS
 
 PURPOSES = ("opening", "data", "empty data", "contention", "closing", "searching")
-# A search begins when power comes, at the start of a frame, or at a frame alarm. Whatever the clocks, that alarm comes after
-# this time in its frame and the last window of a round opens before it: in profile 1 the round ends by 2.76 s and the alarm
-# comes after 2.86 s, in profile 2 by 4.0 s and after 4.08 s.
-_ALARM_TICKS = {1: 182_000_000, 2: 258_000_000}
+# By how much a node's clock may be off within a window, as a part of its length.
+_DRIFT = 20e-6
 
 
+@answer
 def tunings(log: Log) -> pd.DataFrame:
-    """The times in which radios were on (`results.Log`), with the `purpose` of each, one of `PURPOSES`.
+    """The times in which radios were on (`results.Log`), with the `purpose` of each, one of `PURPOSES`, and its `slot`, which is
+    -1 for a search.
 
     opening, closing   the window of slot 0, and that of the last slot
     data               the window of a data slot in which a packet was sent
@@ -26,48 +27,81 @@ def tunings(log: Log) -> pd.DataFrame:
     contention         the window of a contention slot
     searching          any other time: the node looked for a host, or made sure, before it served, that there was none. It goes
                        on to the end of the first schedule that the node received and relayed
+
+    A window is one that begins in a round, by the schedules of its rank (`plans`): all nodes of a round agree on its slots to
+    less than a millisecond. Where a node's clock was set back by a schedule its next window opens when that of the schedule
+    closes, and the log has one time for both; here they are two, parted to about a microsecond.
     """
-    table = log.tunings
-    frame_ticks, slot_ticks = lines.frame_ticks(log.scenario.profile), lines.slot_ticks(log.scenario.profile)
-    frame, within = np.divmod(table["start_ticks"].to_numpy(), frame_ticks)
-    searching = (within == 0) | (within >= _ALARM_TICKS[log.scenario.profile])
-    planned = plans(log).reindex(pd.MultiIndex.from_arrays([frame, table["rank"]]))
-    # Without a host the round starts with the node's own first window.
-    first = table["start_ticks"].where(~searching).groupby([frame, table["node"]]).transform("min").to_numpy()
-    start = planned["start_ticks"].to_numpy()
-    slot = np.rint((table["start_ticks"].to_numpy() - np.where(np.isnan(start), first, start)) / slot_ticks)
+    table = _parted(_placed(log), log)
+    planned = plans(log).reindex(pd.MultiIndex.from_arrays([table["frame"], table["rank"]]))
     owners, contending = planned["data_slots"].to_numpy(), planned["contention_slots"].to_numpy()
-    used = _used(log, frame_ticks)
-    place = pd.MultiIndex.from_arrays([frame, table["rank"], slot])
+    slot = table["slot"].to_numpy()
+    sent = pd.MultiIndex.from_arrays([table["frame"], table["rank"], slot]).isin(_used(log))
     purpose = np.select(
-        [searching, slot == 0, slot <= owners, slot <= owners + contending],
-        [5, 0, np.where(place.isin(used), 1, 2), 3],
+        [slot < 0, slot == 0, slot <= owners, slot <= owners + contending],
+        [5, 0, np.where(sent, 1, 2), 3],
         4,
     )
-    return table.assign(purpose=pd.Categorical.from_codes(purpose, categories=PURPOSES))
+    return table.drop(columns="frame").assign(purpose=pd.Categorical.from_codes(purpose, categories=PURPOSES))
 
 
+def _placed(log: Log) -> pd.DataFrame:
+    """The times with the radio on, with the frame and slot in which each begins; slot -1 is outside of all rounds."""
+    table = log.tunings.copy()
+    slot_ticks = lines.slot_ticks(log.scenario.profile)
+    table["frame"] = table["start_ticks"] // lines.frame_ticks(log.scenario.profile)
+    planned = plans(log).reindex(pd.MultiIndex.from_arrays([table["frame"], table["rank"]]))
+    slot = np.rint((table["start_ticks"].to_numpy() - planned["start_ticks"].to_numpy()) / slot_ticks)
+    last = (planned["data_slots"] + planned["contention_slots"] + 1).to_numpy()
+    table["slot"] = np.where((slot >= 0) & (slot <= last), slot, -1).astype("int64")
+    return table
+
+
+def _parted(table: pd.DataFrame, log: Log) -> pd.DataFrame:
+    """The same with a row for each window: where one is longer than a window, the rest is the window of the next slot."""
+    window = lines.window_ticks(log.scenario.profile)
+    # By a slow clock a window is some ticks longer, one more of them for each of its ends.
+    long = (table["slot"] >= 0) & (table["end_ticks"] - table["start_ticks"] > window * (1 + _DRIFT) + 2)
+    rest = table[long].copy()
+    rest["start_ticks"] += window
+    rest["slot"] += 1
+    table = table.copy()
+    table.loc[long, "end_ticks"] = rest["start_ticks"]
+    table = pd.concat([table, rest]).sort_index(kind="stable").reset_index(drop=True)
+    for name in ("start", "end"):
+        table[f"{name}_seconds"] = table[f"{name}_ticks"] / TICKS_A_SECOND
+    return table
+
+
+@answer
 def plans(log: Log) -> pd.DataFrame:
-    """The plan of each round by frame and rank, with its start in ticks by the host's clock: that of its opening, or, where
-    its host is gone, that of the closing that announced it, without a start: `start_ticks`, `data_slots`, `owners` (of the data
-    slots, as `packets.Schedule` has them) and `contention_slots`."""
+    """The plan of each round by frame and rank: that of its opening, or, where its host is gone, that of the closing that
+    announced it.
+
+    start_ticks                  when slot 0 starts by the host's clock, in true time; without the host as many frames after the
+                                 round before it as that announced, which is where its members look for it
+    data_slots, owners           how many data slots it has, and the streams that own them (`packets.Owner`)
+    contention_slots             how many contention slots it has
+    """
     schedules = log.initiations[log.initiations["kind"].isin(["opening", "closing"])]
+    frame_ticks, slot_ticks = lines.frame_ticks(log.scenario.profile), lines.slot_ticks(log.scenario.profile)
     table = pd.DataFrame(
         {
-            "frame": schedules["frame"].astype("int64") + schedules["gap"],
+            "frame": schedules["frame"] + schedules["gap"],
             "rank": schedules["rank"],
-            "start_ticks": (schedules["start_ticks"] - GUARD_TICKS).where(schedules["kind"] == "opening"),
+            "start_ticks": schedules["start_ticks"] - GUARD_TICKS - schedules["slot"] * slot_ticks + schedules["gap"] * frame_ticks,
             "data_slots": [len(one.owners) for one in schedules["decoded"]],
             "owners": [one.owners for one in schedules["decoded"]],
-            "contention_slots": schedules["contention_slots"].astype("int64"),
+            "contention_slots": schedules["contention_slots"],
         }
     )
     return table.groupby(["frame", "rank"]).last()
 
 
-def _used(log: Log, frame_ticks: int) -> pd.MultiIndex:
+def _used(log: Log) -> pd.MultiIndex:
+    """The data slots in which a packet was sent, by frame, rank and slot."""
     data = log.initiations[log.initiations["kind"] == "data"]
-    return pd.MultiIndex.from_arrays([data["start_ticks"] // frame_ticks, data["rank"], data["slot"]])
+    return pd.MultiIndex.from_frame(data[["frame", "rank", "slot"]])
 
 
 def _clipped(table: pd.DataFrame, start_seconds: float, end_seconds: float) -> pd.Series:
@@ -77,27 +111,32 @@ def _clipped(table: pd.DataFrame, start_seconds: float, end_seconds: float) -> p
     return ticks / TICKS_A_SECOND
 
 
+@answer
 def radio_time(
-    log: Log, *, start_seconds: float = 0.0, end_seconds: float | None = None, shares: bool = False
+    log: Log, by: str = "node", *, start_seconds: float = 0.0, end_seconds: float | None = None, shares: bool = False
 ) -> pd.DataFrame:
-    """How long each radio was on in this time (the whole run by default): a row for each node and one for all, a column in
-    seconds for each of `PURPOSES` (see `tunings`) and their sum `on`. With `shares` the purposes are parts of `on`, 0 to 1.
+    """How long each radio was on in this time (the whole run by default): a column in seconds for each of `PURPOSES` (see
+    `tunings`) and their sum `on`. With `shares` the purposes are parts of `on`, 0 to 1.
 
-    The node's own transmissions are part of these times. Over the whole run `on` is the ON of the node's `energy` line.
+    `by` is "node" (a row for each node, which is the index) or "all" (one row). The node's own transmissions are part of these
+    times. Over the whole run `on` is the ON of the node's `energy` line.
+    Raises `ArgumentError` where `by` is another word, or the time is no part of the run.
     """
-    end = log.scenario.seconds if end_seconds is None else end_seconds
+    arguments.one_of("by", by, ("node", "all"))
     table = tunings(log)
-    table["seconds"] = _clipped(table, start_seconds, end)
+    table["seconds"] = _clipped(table, *arguments.window(start_seconds, end_seconds, log.scenario.seconds))
     table = table.pivot_table(values="seconds", index="node", columns="purpose", aggfunc="sum", observed=False, fill_value=0.0)
-    table = table.reindex(index=sorted(log.scenario.nodes), columns=PURPOSES, fill_value=0.0)
+    table = table.reindex(index=sorted(log.scenario.nodes), columns=PURPOSES, fill_value=0.0).astype("float64")
     table.columns = list(PURPOSES)
     table["on"] = table.sum(axis=1)
-    table.loc["all"] = table.sum()
+    if by == "all":
+        table = table.sum().to_frame().T
     if shares:
         table[list(PURPOSES)] = table[list(PURPOSES)].div(table["on"].where(table["on"] > 0), axis=0)
     return table
 
 
+@answer
 def duty_cycle(log: Log, *, start_seconds: float = 0.0, end_seconds: float | None = None) -> pd.DataFrame:
     """The part of the time in which each radio was on, in this time (the whole run by default): a row for each node.
 
@@ -107,15 +146,16 @@ def duty_cycle(log: Log, *, start_seconds: float = 0.0, end_seconds: float | Non
     searching_seconds    how long it searched (see `tunings`)
     duty_cycle           `on_seconds` as a part of `powered_seconds`, 0 to 1; missing without power
     duty_cycle_in_rounds   the same without searching: what a node needs that never loses its host
+    Raises `ArgumentError` where the time is no part of the run.
     """
-    end = log.scenario.seconds if end_seconds is None else end_seconds
+    start, end = arguments.window(start_seconds, end_seconds, log.scenario.seconds)
     table = pd.DataFrame(index=pd.Index(sorted(log.scenario.nodes), name="node"))
-    boots = power.boots(log.scenario)
-    boots["seconds"] = boots["off_seconds"].clip(start_seconds, end) - boots["on_seconds"].clip(start_seconds, end)
+    boots = power.boots_of(log)
+    boots["seconds"] = boots["off_seconds"].clip(start, end) - boots["on_seconds"].clip(start, end)
     table["powered_seconds"] = boots.groupby("node")["seconds"].sum()
-    on = radio_time(log, start_seconds=start_seconds, end_seconds=end)
+    on = radio_time(log, start_seconds=start, end_seconds=end)
     table["on_seconds"] = on["on"]
-    transmissions = log.transmissions[["node"]].assign(seconds=_clipped(log.transmissions, start_seconds, end))
+    transmissions = log.transmissions[["node"]].assign(seconds=_clipped(log.transmissions, start, end))
     table["transmit_seconds"] = transmissions.groupby("node")["seconds"].sum()
     table["searching_seconds"] = on["searching"]
     table = table.fillna(0.0)
@@ -125,6 +165,7 @@ def duty_cycle(log: Log, *, start_seconds: float = 0.0, end_seconds: float | Non
     return table.reset_index()
 
 
+@answer
 def battery_life(
     log: Log,
     *,
@@ -145,10 +186,11 @@ def battery_life(
     days                 the battery's life at this current
     days_in_rounds       its life if the node never searched: its searching is taken as time with the radio off. Transmissions
                          of a searching node (relays of the first schedule) count as made in rounds
-    Raises `ValueError` where a current or the capacity is below 0.
+    Raises `ArgumentError` where a current or the capacity is below 0, or the time is no part of the run.
     """
-    if min(capacity_mah, transmit_ma, receive_ma, sleep_ma) < 0:
-        raise ValueError("currents and the capacity are at least 0")
+    capacity_mah = arguments.real("capacity_mah", capacity_mah, 0)
+    transmit_ma, receive_ma = arguments.real("transmit_ma", transmit_ma, 0), arguments.real("receive_ma", receive_ma, 0)
+    sleep_ma = arguments.real("sleep_ma", sleep_ma, 0)
     table = duty_cycle(log, start_seconds=start_seconds, end_seconds=end_seconds)
     powered = table["powered_seconds"].where(table["powered_seconds"] > 0)
 

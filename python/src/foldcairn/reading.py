@@ -2,10 +2,12 @@
 
 from __future__ import annotations
 
+import contextlib
+import os
 from collections.abc import Callable, Sequence
 from typing import TYPE_CHECKING, Any, TypeVar
 
-from . import faults, lines
+from . import arguments, faults, lines
 from .events import Capture, Cut, Leave, Loss, Off, On, Put, Rate, Stream
 from .lines import Context, Field
 
@@ -15,11 +17,11 @@ if TYPE_CHECKING:
     AnyScenario = TypeVar("AnyScenario", bound=Scenario)
 
 
-def scenario_of(kind: Callable[..., AnyScenario], text: str | bytes) -> AnyScenario:
+def scenario_of(kind: Callable[..., AnyScenario], text: str | bytes | os.PathLike[str]) -> AnyScenario:
     """The scenario of a text; raises `ScenarioError`, which names the first line that is wrong."""
     from .scenario import ScenarioError
 
-    data = text.encode() if isinstance(text, str) else text
+    data = arguments.text("text", text)
     rows = faults.split(data)
     reader = _Reader()
     for number, (words, row) in enumerate(zip(rows, data.split(b"\n")), 1):
@@ -28,7 +30,27 @@ def scenario_of(kind: Callable[..., AnyScenario], text: str | bytes) -> AnyScena
             raise ScenarioError(faults.explain(data, number, fault))
     if reader.lacks():
         raise ScenarioError(faults.explain(data, len(rows) + 1, "Missing"))
-    return reader.made(kind)
+    made = reader.made(kind)
+    for row in data.split(b"\n"):
+        _take_drawn(made, row)
+    return made
+
+
+def _take_drawn(made: Scenario, row: bytes) -> None:
+    """Takes from a comment by which seed, or by which ratio of a link, the losses were drawn."""
+    from .scenario import DRAWN
+
+    mark, *words = row.decode("utf-8", "replace").split() or [""]
+    if mark != DRAWN:
+        return
+    match words:
+        case ["seed", seed] if seed.removeprefix("-").isdecimal():
+            made.seed = int(seed)
+        case ["prr", sender, receiver, ratio] if sender.isdecimal() and receiver.isdecimal():
+            link = int(sender), int(receiver)
+            with contextlib.suppress(ValueError):
+                if link in made.links and 0 <= float(ratio) < 1:
+                    made.prr[link] = float(ratio)
 
 
 def _is_utf8(row: bytes) -> bool:

@@ -1,4 +1,5 @@
-"""The command `python3 -m foldcairn report`: all planning tables of one scenario, as text, as CSV files or as a page.
+"""Reports: the command `python3 -m foldcairn report`, with all planning tables of one scenario as text, as CSV files or as a page,
+and `compare`, which puts plans side by side.
 
 Tested, not proved.
 """
@@ -6,80 +7,187 @@ Tested, not proved.
 from __future__ import annotations
 
 import argparse
+import json
+import os
 import sys
+from collections.abc import Mapping
 from pathlib import Path
+from typing import TYPE_CHECKING, Any
 
 import pandas as pd
 
-from . import planning, results
+from . import commands, files, findings, planning, program, results, tables
+from .commands import Commands
+from .events import Off, On, Put, Stream
+from .receivers import Receivers
+from .scenario import Scenario
+from .settings import Settings
+
+if TYPE_CHECKING:
+    from .compare import Comparison
 
 # The tables that are shown as text and on pages: the others have a row for each packet, pair or slot.
 SHOWN = {
     "hosts": "Which host serves when",
+    "hosts-at-once": "When two hosts served at once",
     "delivery-by-stream": "Delivery ratio by stream",
     "delivery-by-node": "Delivery ratio by receiving node",
-    "fates": "Where the packets went",
+    "fates": "Where the packets went, by stream",
+    "fates-total": "Where the packets went",
     "latency-by-stream": "Latency from put to delivery by stream, in seconds",
     "joins": "When nodes joined",
+    "power-cycles": "How soon nodes were back after their power was off",
     "streams": "When streams got their slots",
     "contention": "Contention",
     "outages": "Outages at changes of hosts",
     "outages-by-stream": "Outages at changes of hosts, by stream",
     "outages-by-node": "Times in which nodes had lost their host",
     "radio-time": "Time with the radio on by purpose, in seconds",
+    "radio-time-total": "Time with the radio on by purpose over all nodes, in seconds",
     "duty-cycle": "Duty cycle",
-    "battery-life": "Battery life, at the currents of a CC2420 radio alone and 2600 mAh",
+    "battery-life": "Battery life in days",
 }
 
 
-def add_command(commands: argparse._SubParsersAction[argparse.ArgumentParser]) -> None:
+def compare(plans: Mapping[str, Scenario], path: str | os.PathLike[str] | None = None, **given: Any) -> Comparison:
+    """Plans side by side on one page, over several seeds: `compare.compare` says what may be given.
+
+        report.compare({"A": a, "B": b}, "plans.html", seeds=range(1, 9))
+    """
+    from . import compare as comparing
+
+    return comparing.compare(plans, path, **given)
+
+
+def titles(scenario: Scenario, receivers: Receivers, battery: dict[str, float]) -> dict[str, str]:
+    """The titles of the tables that are shown, with the receivers and the battery that are meant."""
+    whom = findings.whom(scenario, receivers)
+    more = {
+        "delivery-by-stream": f"{SHOWN['delivery-by-stream']}, at {whom}",
+        "latency-by-stream": f"{SHOWN['latency-by-stream']}, at {whom}",
+        "battery-life": f"{SHOWN['battery-life']} ({findings.battery_words(battery)})",
+    }
+    return {**SHOWN, **more}
+
+
+def workload(scenario: Scenario) -> pd.DataFrame:
+    """What is asked for and put: a row for all streams that are alike, with how many these are, the interval that they ask for in
+    seconds, how many packets each gets, how many seconds lie between two of them (the mean), their bytes, and the nodes."""
+    frames: dict[tuple[int, int], list[int]] = {}
+    sizes: dict[tuple[int, int], set[int]] = {}
+    intervals = {(event.node, event.stream): event.interval for event in scenario.script if isinstance(event, Stream)}
+    for event in scenario.script:
+        if isinstance(event, Put) and (event.payload or (event.node, event.stream) not in scenario.keep_alive):
+            frames.setdefault((event.node, event.stream), []).append(event.frame)
+            sizes.setdefault((event.node, event.stream), set()).add(len(event.payload))
+    alike: dict[tuple[Any, ...], list[int]] = {}
+    for key in sorted(intervals.keys() | frames.keys()):
+        size = sorted(sizes.get(key, ()))
+        shown = "–" if not size else str(size[0]) if len(size) == 1 else f"{size[0]} to {size[-1]}"
+        alike.setdefault((intervals.get(key, 0), len(frames.get(key, ())), shown, key in scenario.keep_alive), []).append(key[0])
+    rows = [
+        (len(nodes), interval, count, scenario.seconds / count if count else float("nan"), size, "yes" if kept else "no",
+         findings.nodes(scenario, nodes))
+        for (interval, count, size, kept), nodes in sorted(alike.items(), key=lambda item: -len(item[1]))
+    ]  # fmt: skip
+    names = ["streams", "interval asked (s)", "packets each", "seconds a packet", "bytes", "kept alive", "nodes"]
+    return pd.DataFrame(rows, columns=names)
+
+
+def events(scenario: Scenario) -> list[str]:
+    """What happens to the power of nodes after the start, a sentence for each time."""
+    happens: dict[tuple[int, str], list[int]] = {}
+    for event in sorted(scenario.script, key=lambda event: event.frame):
+        if isinstance(event, (On, Off)) and event.frame > 0:
+            happens.setdefault((event.frame, "off" if isinstance(event, Off) else "on"), []).append(event.node)
+    return [
+        f"At {frame * scenario.frame_seconds:,} s {findings.nodes(scenario, nodes)} {'is' if len(nodes) == 1 else 'are'} switched {word}."
+        for (frame, word), nodes in happens.items()
+    ]
+
+
+def add_command(listed: Commands) -> None:
     """Adds the command to those of `python3 -m foldcairn`."""
-    parser = commands.add_parser(
-        "report",
-        help="Runs a scenario and writes what a planner asks for",
-        description="Runs a scenario and writes what a planner asks for: delivery ratios, where packets went, latencies, "
-        "joining, contention, outages, radio time, and battery lives. What the columns mean is said by docs/PLANNING.md and "
-        "by the functions of foldcairn.planning.",
-    )
-    parser.add_argument("file", metavar="FILE", help="a scenario, or - for standard input")
+    parser = commands.add(
+        listed, "report", main,
+        "Runs a scenario and writes what a planner asks for: delivery ratios, where packets went, latencies, joining, contention, "
+        "outages, radio time, and battery lives. What the columns mean stands next to the tables of the page, and is said by the "
+        "functions of foldcairn.planning.",
+    )  # fmt: skip
+    commands.add_file(parser)
     parser.add_argument(
         "--csv", metavar="FOLDER", help="write all tables as CSV files into this folder instead, also those with a row a packet"
     )
     parser.add_argument(
         "--html", metavar="FILE", help="write one HTML file instead, with a timeline to zoom, pictures and the tables; it stands alone"
     )
-    parser.add_argument("--title", default="", help="the title of the page; the name of the scenario without it")
-    parser.add_argument("--ratios", metavar="CSV", help="a table of links: from, to, prr (0 to 1), for the map of the page alone")
-    parser.add_argument("--places", metavar="CSV", help="a table of nodes: id, x, y (upwards), for the map of the page")
-    parser.set_defaults(run=main)
+    parser.add_argument("--json", action="store_true", help="write all tables as JSON, with the versions of package and program")
+    parser.add_argument("--receivers", metavar="WHO", help="for whom packets are meant: all (without it), hosts, or ids with commas")
+    parser.add_argument("--capacity-mah", type=float, metavar="MAH", help="the capacity of a battery (2600 without it)")
+    for name, words in (("transmit", "while the radio transmits (17.4)"), ("receive", "while it is on otherwise (18.8)"),
+                        ("sleep", "while it is off (0)")):  # fmt: skip
+        parser.add_argument(f"--{name}-ma", type=float, metavar="MA", help=f"the current {words}")
+    page = parser.add_argument_group("the page of --html")
+    page.add_argument("--title", default="", help="the title of the page; the name of the scenario without it")
+    page.add_argument("--site", default="", help="the name of the site, below the title")
+    page.add_argument("--plan", default="", help="the name of the plan, below the title")
+    page.add_argument("--notes", metavar="FILE", help="a text of your own, which stands at the top")
+    page.add_argument("--ratios", metavar="CSV", help="a table of links: from, to, prr (0 to 1), for the map alone")
+    page.add_argument("--places", metavar="CSV", help="a table of nodes: id, x, y (upwards), for the map")
+    page.add_argument("--background", metavar="PNG", help="a picture below the map; it needs --places")
+    page.add_argument("--extent", metavar="L,R,B,T", help="where its left, right, lower and upper edges are, in the units of --places")
+    page.add_argument("--page", metavar="JSON", help="the settings that another page saved, in place of all these")
 
 
 def main(chosen: argparse.Namespace) -> int:
     """Writes the report; gives the exit status 0. Raises what `results.log` raises, and `OSError`."""
-    text = sys.stdin.buffer.read() if chosen.file == "-" else Path(chosen.file).read_bytes()
-    log = results.log(text)
+    log = results.log(commands.read(chosen.file))
+    settings = _settings(log, chosen)
     if chosen.html:
-        _write_page(log, chosen)
+        from . import page
+
+        files.write(chosen.html, page.of_settings(log, settings).encode())
+    if chosen.html and not chosen.csv and not chosen.json:
+        return 0
+    answers = planning.tables(log, receivers=settings.whom(), battery=settings.battery)
     if chosen.csv:
-        write(planning.tables(log), Path(chosen.csv))
-    if not chosen.csv and not chosen.html:
-        sys.stdout.write(shown(planning.tables(log)))
+        write(answers, Path(chosen.csv))
+    if chosen.json:
+        sys.stdout.write(as_json(answers, program.versions()))
+    elif not chosen.csv:
+        sys.stdout.write(shown(answers, titles(log.scenario, settings.whom(), settings.battery)))
     return 0
 
 
-def _write_page(log: results.Log, chosen: argparse.Namespace) -> None:
-    from . import page, tables
-
+def _settings(log: results.Log, chosen: argparse.Namespace) -> Settings:
+    """The settings that the words of the command give."""
+    if chosen.page:
+        settings = Settings.read(Path(chosen.page).read_text(encoding="utf-8"))
+        settings.give(log.scenario)
+        return settings
     if chosen.ratios:
         tables.set_ratios(log.scenario, chosen.ratios)
-    positions = tables.positions(chosen.places) if chosen.places else None
-    page.write(log, chosen.html, title=chosen.title or Path(chosen.file).stem, positions=positions)
+    battery = {name: getattr(chosen, name) for name in ("capacity_mah", "transmit_ma", "receive_ma", "sleep_ma")}
+    return Settings.of(
+        log.scenario, title=chosen.title or Path(chosen.file).stem, site=chosen.site, plan=chosen.plan,
+        notes=Path(chosen.notes).read_text(encoding="utf-8") if chosen.notes else "",
+        positions=tables.positions(chosen.places) if chosen.places else None, receivers=of_words(chosen.receivers),
+        battery={name: value for name, value in battery.items() if value is not None}, background=chosen.background,
+        extent=commands.extent(chosen.extent),
+    )  # fmt: skip
 
 
-def shown(tables: dict[str, pd.DataFrame]) -> str:
+def of_words(words: str | None) -> Receivers:
+    """The receivers of a word of a command line: "all", "hosts", or ids with commas between them."""
+    if words is None or words in ("all", "hosts"):
+        return words
+    return [int(word) if word.strip().isdigit() else word.strip() for word in words.split(",")]
+
+
+def shown(tables: dict[str, pd.DataFrame], titles: Mapping[str, str] = SHOWN) -> str:
     """The tables as text, each below its title."""
     pieces = []
-    for name, title in SHOWN.items():
+    for name, title in titles.items():
         table = tables[name]
         lines = table.to_string(index=False, float_format=lambda number: f"{number:.3f}", na_rep="-") if len(table) else "none"
         pieces.append(f"{title}\n\n{lines}\n")
@@ -90,4 +198,10 @@ def write(tables: dict[str, pd.DataFrame], folder: Path) -> None:
     """A file NAME.csv for each table in this folder, which is made if it is not there; files of these names are replaced."""
     folder.mkdir(parents=True, exist_ok=True)
     for name, table in tables.items():
-        table.to_csv(folder / f"{name}.csv", index=False)
+        files.write(folder / f"{name}.csv", table.to_csv(index=False).encode())
+
+
+def as_json(tables: dict[str, pd.DataFrame], versions: dict[str, str]) -> str:
+    """The tables as one JSON object: `versions`, and for each table a list with an object a row. What is missing is null."""
+    rows = {name: json.loads(table.to_json(orient="records", double_precision=15)) for name, table in tables.items()}
+    return json.dumps({"versions": versions, **rows}, indent=1) + "\n"

@@ -3,89 +3,129 @@ in `verdicts`.
 
 Each function runs the program on a scenario and reads its lines, which docs/OUTPUT.md has. Nothing is simulated here.
 Columns are named in full: those that end in `_ticks` are true time in ticks of 1/64 µs, those that end in `_seconds` true
-time in seconds from the start of the run. All functions raise what `program.execute` raises: `Refused` where the text is
+time in seconds from the start of the run, or spans of it. Two are of another clock, and say so: `planned_seconds` is by plan,
+`host_seconds` (with `host_ticks`) by the clock of a host. Ids and counts are int64 in all tables. All functions raise what
+`program.execute` raises: `Refused` where the text is
 rejected, `BadUsage` where the program lacks the command, and so on. Tested, not proved.
 """
 
 from __future__ import annotations
 
+import hashlib
+import os
 import re
 import tempfile
 import warnings
 from collections.abc import Sequence
-from dataclasses import dataclass
+from dataclasses import dataclass, field, replace
 from functools import cached_property
 from io import BytesIO
 from pathlib import Path
-from typing import BinaryIO
+from typing import BinaryIO, TypeAlias
 
+import numpy as np
 import pandas as pd
+from numpy.typing import NDArray
 
-from . import columns, lines, packets, program as programs
+from . import arguments, columns, lines, packets, program as programs
 from .scenario import Scenario, ScenarioWarning
 from .verdicts import Verdict, verdict
+
+# What is run: a scenario, a text, or the path of a file that has one (a `pathlib.Path`).
+Given: TypeAlias = "Scenario | str | bytes | os.PathLike[str]"
+
+Numbers: TypeAlias = NDArray[np.int64]
 
 TICKS_A_SECOND = 64_000_000
 # A round starts this long after the start of its frame.
 ROUND_SECONDS = 1.0
 
 _DELIVER = {
-    "frame": "uint16",
-    "rank": "uint8",
-    "slot": "uint8",
-    "node": "uint8",
-    "source": "uint8",
-    "boot": "uint8",
-    "stream": "uint8",
-    "number": "uint16",
+    "frame": "int64",
+    "rank": "int64",
+    "slot": "int64",
+    "node": "int64",
+    "source": "int64",
+    "boot": "int64",
+    "stream": "int64",
+    "number": "int64",
     "payload": "category",
 }
-_DROP = {"frame": "uint16", "node": "uint8", "stream": "uint8"}
-_COST = {"node": "uint8", "transmit_ticks": "int64", "window_ticks": "int64", "scanned_frames": "uint16"}
+_DROP = {"frame": "int64", "node": "int64", "stream": "int64"}
+_COST = {"node": "int64", "transmit_ticks": "int64", "window_ticks": "int64", "scanned_frames": "int64"}
 _ENERGY = {**_COST, "on_ticks": "int64"}
 _INTERVAL = {"start_ticks": "int64", "end_ticks": "int64"}
 _REPORT_LINES = {"deliver": _DELIVER, "drop": _DROP, "energy": _ENERGY}
 _LOG_LINES = {
-    "sent": {"rank": "uint8", "node": "uint8", **_INTERVAL, "packet": "category"},
-    "heard": {"rank": "uint8", "node": "uint8", "sender": "uint8", **_INTERVAL, "packet": "category"},
-    "tuned": {"rank": "uint8", "node": "uint8", **_INTERVAL},
+    "sent": {"rank": "int64", "node": "int64", **_INTERVAL, "packet": "category"},
+    "heard": {"rank": "int64", "node": "int64", "sender": "int64", **_INTERVAL, "packet": "category"},
+    "tuned": {"rank": "int64", "node": "int64", **_INTERVAL},
 }
 _STAMP = {
-    "frame": "uint16",
-    "rank": "uint8",
-    "slot": "uint8",
-    "node": "uint8",
-    "stream": "uint8",
-    "number": "uint16",
+    "frame": "int64",
+    "rank": "int64",
+    "slot": "int64",
+    "node": "int64",
+    "stream": "int64",
+    "number": "int64",
     "host_ticks": "int64",
 }
 
 
 @dataclass(frozen=True)
+class Origin:
+    """Where a result comes from, so that it can be made again.
+
+    text       the SHA-256 of the scenario's text, which a run depends on alone
+    program    the SHA-256 of the program's file; empty where it was not run here
+    seed       by which `losses.draw` had drawn the losses; None: by none, or not known
+    """
+
+    text: str
+    program: str
+    seed: int | None
+
+
+@dataclass(frozen=True, repr=False)
 class Report:
     """The report of a run of `scenario`.
 
     deliveries  A row for each node that delivered a packet: `frame` and `slot` of its round, `rank` of the round's host, the
                 `node`, and the packet by its `source`, `boot` of the source, `stream`, `number` and `payload` (hexadecimal, `-`
-                for none). `seconds` is when the slot starts by plan: its frame, one second, and the slots before it; clocks
-                that drift make it up to 0.42 s earlier or later in the longest runs. By frame, rank, slot and node.
+                for none). `planned_seconds` is when the slot starts by plan: its frame, one second, and the slots before it;
+                clocks that drift make it up to 0.42 s earlier or later in the longest runs. By frame, rank, slot and node.
     drops       A row for each put that was lost before it was queued: `frame`, `node`, `stream`, in the order of the puts.
     energy      A row for each node: `transmit_ticks`, `window_ticks` (planned for the windows of its rounds), `on_ticks`
                 (its radio was on), each also in `_seconds`, `scanned_frames` (at whose start it searched for a host), and
                 `duty_cycle`, `on_ticks` as a part (0 to 1) of the run. Of `bus` it has neither `on_ticks` nor `duty_cycle`,
                 which depend on clocks.
+    origin      The hash of the text, the checksum of the program, and the seed.
     """
 
     scenario: Scenario
     deliveries: pd.DataFrame
     drops: pd.DataFrame
     energy: pd.DataFrame
+    origin: Origin = field(default=Origin("", "", None), kw_only=True)
+
+    def __repr__(self) -> str:
+        scenario = self.scenario
+        seed = "" if self.origin.seed is None else f", seed {self.origin.seed}"
+        counts = f"{len(scenario.nodes)} nodes, {scenario.seconds} s{seed}, {len(self.deliveries):,} deliveries"
+        return f"<{type(self).__name__}: {counts}, text {self.origin.text[:12] or 'unknown'}>"
+
+    def _repr_html_(self) -> str:
+        from . import notebook
+
+        return notebook.of_report(self)
 
 
-@dataclass(frozen=True)
+@dataclass(frozen=True, repr=False)
 class Log(Report):
     """The report and the log of a run.
 
+    deliveries     As a report has them, and `delivered_seconds`, when the node had received the packet: the end of its first
+                   reception, in true time. It hands the packet on when the window of the slot closes, at most 56 ms later.
     transmissions  A row for each transmission: `start_ticks`, `end_ticks`, `start_seconds`, `end_seconds`, `rank` of the
                    channel, `node`, `packet` (hexadecimal digits), and of the packet its `kind` (one of `packets.KINDS`),
                    `slot`, and `step`, its relay counter, which is 0 at the initiator.
@@ -103,7 +143,7 @@ class Log(Report):
     def initiations(self) -> pd.DataFrame:
         """The transmissions that begin a flood (step 0), with `frame` and the other fields of their packets."""
         begun = self.transmissions[self.transmissions["step"] == 0].reset_index(drop=True)
-        begun["frame"] = (begun["start_ticks"] // lines.frame_ticks(self.scenario.profile)).astype("uint16")
+        begun["frame"] = (begun["start_ticks"] // lines.frame_ticks(self.scenario.profile)).astype("int64")
         return begun.join(self.packets.drop(columns=["kind", "slot", "step"]), on="packet")
 
 
@@ -130,7 +170,7 @@ class DeadlineReport:
     rounds: pd.DataFrame
 
 
-@dataclass(frozen=True)
+@dataclass(frozen=True, repr=False)
 class ReturnReport(Report):
     """The report of a run in which backup hosts go back, and when they do (docs/RETURN.md). `scenario` is the one that was
     asked for, without the lines of the returns.
@@ -153,30 +193,37 @@ def commands(*, program: Path | None = None) -> frozenset[str]:
     return frozenset()
 
 
-def run(scenario: Scenario | str | bytes, *, program: Path | None = None, timeout: float | None = None) -> Report:
+def run(scenario: Given, *, program: Path | None = None, timeout: float | None = None) -> Report:
     """The report of a run. `timeout` is in seconds of real time."""
-    output = programs.execute(["run"], _text(scenario), program=program, timeout=timeout)
+    text = _text(scenario)
+    output = programs.execute(["run"], text, program=program, timeout=timeout)
     whole = _scenario(scenario)
-    return Report(whole, *_report(columns.read(BytesIO(output), _REPORT_LINES), whole))
+    return Report(whole, *_report(columns.read(BytesIO(output), _REPORT_LINES), whole), origin=_origin(text, whole, program))
 
 
-def bus(scenario: Scenario | str | bytes, *, program: Path | None = None, timeout: float | None = None) -> Report:
+def bus(scenario: Given, *, program: Path | None = None, timeout: float | None = None) -> Report:
     """The report by the rules of the ideal single-hop bus: the same deliveries and drops as `run`, sooner, without clocks."""
-    output = programs.execute(["bus"], _text(scenario), program=program, timeout=timeout)
+    text = _text(scenario)
+    output = programs.execute(["bus"], text, program=program, timeout=timeout)
     read = columns.read(BytesIO(output), {"deliver": _DELIVER, "drop": _DROP, "cost": _COST})
     whole = _scenario(scenario)
-    return Report(whole, *_report({**read, "energy": read["cost"]}, whole))
+    return Report(whole, *_report({**read, "energy": read["cost"]}, whole), origin=_origin(text, whole, program))
 
 
-def log(scenario: Scenario | str | bytes, *, program: Path | None = None, timeout: float | None = None) -> Log:
-    """The report and the log of a run. The output goes through a temporary file, so that it is never in memory as a whole."""
+def log(
+    scenario: Given, *, program: Path | None = None, timeout: float | None = None, warn: bool = True
+) -> Log:
+    """The report and the log of a run. The output goes through a temporary file, so that it is never in memory as a whole.
+    Unless `warn` is False it gives `ScenarioWarning`s of what `Scenario.cautions` names."""
+    text = _text(scenario, warn)
     with tempfile.TemporaryDirectory(prefix="foldcairn-") as folder:
-        path = programs.execute_to_file(["log"], _text(scenario), Path(folder) / "log", program=program, timeout=timeout)
+        path = programs.execute_to_file(["log"], text, Path(folder) / "log", program=program, timeout=timeout)
         with path.open("rb") as source:
-            return read_log(source, scenario)
+            read = read_log(source, scenario)
+    return replace(read, origin=_origin(text, read.scenario, program))
 
 
-def read_log(source: BinaryIO, scenario: Scenario | str | bytes) -> Log:
+def read_log(source: BinaryIO, scenario: Given) -> Log:
     """The output of `log` for this scenario, which was kept in a file.
 
     Raises `program.CutOutput` where its last line has no end, and `columns.UnknownLine` where a line is none of a log.
@@ -192,13 +239,15 @@ def read_log(source: BinaryIO, scenario: Scenario | str | bytes) -> Log:
         for name in ("kind", "slot", "step"):
             read[word][name] = decoded[name].array.take(codes)
     deliveries, drops, energy = _report(read, whole)
-    return Log(whole, deliveries, drops, energy, read["sent"], read["heard"], read["tuned"], decoded)
+    deliveries["delivered_seconds"] = _delivered_seconds(deliveries, read["heard"], decoded)
+    origin = Origin(_hash(_text(scenario, False)), "", whole.seed)
+    return Log(whole, deliveries, drops, energy, read["sent"], read["heard"], read["tuned"], decoded, origin=origin)
 
 
 def flood(text: str, *, program: Path | None = None) -> FloodReport:
     """One flood of a flood text (docs/SCENARIO.md)."""
     output = programs.execute(["flood"], text, program=program)
-    read = columns.read(BytesIO(output), {"accept": {"node": "uint8", "step": "uint8"}, "sent": {"count": "int64"}})
+    read = columns.read(BytesIO(output), {"accept": {"node": "int64", "step": "int64"}, "sent": {"count": "int64"}})
     return FloodReport(read["accept"], int(read["sent"]["count"].iloc[0]))
 
 
@@ -207,27 +256,26 @@ def deadlines(text: str, *, program: Path | None = None) -> DeadlineReport:
     rows = [line.split() for line in programs.execute(["deadlines"], text, program=program).decode().splitlines()]
     owners = [(int(row[1]), *divmod(int(code), 4)) for row in rows if row[0] == "round" for code in row[2:]]
     return DeadlineReport(
-        _numbers([row[1:] for row in rows if row[0] == "admit"], node="uint8", stream="uint8"),
+        _numbers([row[1:] for row in rows if row[0] == "admit"], node="int64", stream="int64"),
         _numbers(
             [row[1:] for row in rows if row[0] == "refuse"],
-            node="uint8", stream="uint8", from_frame="uint16", until_frame="uint16", demand="int64",
+            node="int64", stream="int64", from_frame="int64", until_frame="int64", demand="int64",
         ),
-        _numbers(owners, frame="uint16", node="uint8", stream="uint8"),
+        _numbers(owners, frame="int64", node="int64", stream="int64"),
     )  # fmt: skip
 
 
-def check(scenario: Scenario | str | bytes, log_text: str, *, program: Path | None = None) -> Verdict:
+def check(scenario: Given, log_text: str, *, program: Path | None = None) -> Verdict:
     """Whether a recorded log, in the lines that `log` writes, is a valid one of this scenario (docs/CHECK.md).
 
     Raises `columns.UnknownLine` where the program writes no verdict that this package knows.
     """
-    text = _text(scenario)
-    head = (text.encode() if isinstance(text, str) else text).removesuffix(b"\n")
+    head = _text(scenario).removesuffix(b"\n")
     answer = programs.execute(["check"], head + b"\nlog\n" + log_text.encode(), program=program)
     return verdict(answer.decode().strip(), log_text)
 
 
-def times(scenario: Scenario | str | bytes, *, program: Path | None = None) -> pd.DataFrame:
+def times(scenario: Given, *, program: Path | None = None) -> pd.DataFrame:
     """When each data packet was initiated, in the time of the host that planned the round, by what its node received: a row
     for each with `frame`, `rank`, `slot`, `node`, `stream`, `number`, `host_ticks` and `host_seconds`, by frame, rank and slot
     (docs/TIMES.md)."""
@@ -236,27 +284,36 @@ def times(scenario: Scenario | str | bytes, *, program: Path | None = None) -> p
     return stamps.assign(host_seconds=stamps["host_ticks"] / TICKS_A_SECOND)
 
 
-def returns(scenario: Scenario | str | bytes, *, program: Path | None = None) -> ReturnReport:
+def returns(scenario: Given, *, program: Path | None = None) -> ReturnReport:
     """A run in which backup hosts go back once a host of a lower rank is there again."""
-    output = programs.execute(["return"], _text(scenario), program=program)
-    extra = {"return": {"frame": "uint16", "node": "uint8", "rank": "uint8"}, "probe": {"node": "uint8", "frames": "uint16"}}
+    text = _text(scenario)
+    output = programs.execute(["return"], text, program=program)
+    extra = {"return": {"frame": "int64", "node": "int64", "rank": "int64"}, "probe": {"node": "int64", "frames": "int64"}}
     read = columns.read(BytesIO(output), {**_REPORT_LINES, **extra})
     whole = _scenario(scenario)
     deliveries, drops, energy = _report(read, whole)
     returns = read["return"].assign(restart_seconds=(read["return"]["frame"] + 1.0) * whole.frame_seconds)
-    return ReturnReport(whole, deliveries, drops, energy, returns, read["probe"])
+    return ReturnReport(whole, deliveries, drops, energy, returns, read["probe"], origin=_origin(text, whole, program))
 
 
-def _text(scenario: Scenario | str | bytes) -> str | bytes:
+def _hash(text: bytes) -> str:
+    return hashlib.sha256(text).hexdigest()
+
+
+def _origin(text: bytes, scenario: Scenario, program: Path | None) -> Origin:
+    return Origin(_hash(text), programs.checksum(program), scenario.seed)
+
+
+def _text(scenario: Given, warn: bool = True) -> bytes:
     if not isinstance(scenario, Scenario):
-        return scenario
-    for caution in scenario.cautions():
+        return arguments.text("scenario", scenario)
+    for caution in scenario.cautions() if warn else ():
         # The line that is named calls `run`, `log` and so on.
         warnings.warn(caution, ScenarioWarning, stacklevel=3)
-    return scenario.text(warn=False)
+    return scenario.text(warn=False).encode()
 
 
-def _scenario(scenario: Scenario | str | bytes) -> Scenario:
+def _scenario(scenario: Given) -> Scenario:
     return scenario.copy() if isinstance(scenario, Scenario) else Scenario.read(scenario)
 
 
@@ -266,13 +323,45 @@ def _numbers(rows: Sequence[Sequence[object]], **types: str) -> pd.DataFrame:
 
 def _report(read: dict[str, pd.DataFrame], scenario: Scenario) -> tuple[pd.DataFrame, pd.DataFrame, pd.DataFrame]:
     deliveries, energy = read["deliver"], read["energy"]
-    deliveries["seconds"] = slot_seconds(scenario.profile, deliveries["frame"], deliveries["slot"])
+    deliveries["planned_seconds"] = slot_seconds(scenario.profile, deliveries["frame"], deliveries["slot"])
     for name in ("transmit", "window", "on"):
         if f"{name}_ticks" in energy:
             energy[f"{name}_seconds"] = energy[f"{name}_ticks"] / TICKS_A_SECOND
     if "on_ticks" in energy:
         energy["duty_cycle"] = energy["on_seconds"] / scenario.seconds
     return deliveries, read["drop"], energy
+
+
+def on_air(source: BinaryIO, profile: int) -> tuple[pd.DataFrame, pd.DataFrame]:
+    """The transmissions and the times of radios in the output of `log`, as `Log` has them but without decoded packets and times
+    in seconds, for whoever reads many logs: `transmissions` with `frame`, `slot` and `step`, and `tunings`.
+
+    Raises what `read_log` raises.
+    """
+    read = columns.read(source, {"sent": _LOG_LINES["sent"], "tuned": _LOG_LINES["tuned"]}, (*_REPORT_LINES, "heard"))
+    sent = read["sent"]
+    codes = sent["packet"].cat.codes.to_numpy()
+    slot, step = (places[codes] for places in packets.places(sent["packet"].cat.categories))
+    frame = sent["start_ticks"] // lines.frame_ticks(profile)
+    return sent.assign(frame=frame, slot=slot, step=step), read["tuned"]
+
+
+def _delivered_seconds(deliveries: pd.DataFrame, receptions: pd.DataFrame, decoded: pd.DataFrame) -> pd.Series:
+    """When each delivered packet was received first by its node, in seconds."""
+    data = (receptions["kind"] == "data").to_numpy()
+    packet = receptions["packet"].cat
+    places = decoded.index.get_indexer(packet.categories)[packet.codes.to_numpy()[data]]
+    node = receptions["node"].to_numpy()[data]
+    got = _place_of(node, *(decoded[name].to_numpy()[places] for name in ("origin", "boot", "stream", "number")))
+    first = pd.Series(receptions["end_seconds"].to_numpy()[data], got).groupby(level=0, sort=False).min()
+    asked = _place_of(*(deliveries[name].to_numpy() for name in ("node", "source", "boot", "stream", "number")))
+    return pd.Series(first.reindex(asked).to_numpy(), deliveries.index)
+
+
+def _place_of(node: Numbers, source: Numbers, boot: Numbers, stream: Numbers, number: Numbers) -> Numbers:
+    """One number for each packet at a node; all of them fit their parts."""
+    place: Numbers = (((node * 256 + source) * 256 + boot) * 4 + stream) * 65_536 + number
+    return place
 
 
 def slot_seconds(profile: int, frame: pd.Series, slot: pd.Series) -> pd.Series:

@@ -7,9 +7,11 @@ schedules carry. All times are seconds of true time from the start of the run.
 
 from __future__ import annotations
 
+import numpy as np
 import pandas as pd
 
 from . import lines, power
+from .answers import answer
 from .events import Stream
 from .results import TICKS_A_SECOND, Log
 
@@ -19,6 +21,7 @@ TERM = ["rank", "host_boot"]
 STREAM = ["node", "boot", "stream"]
 
 
+@answer
 def rounds(log: Log) -> pd.DataFrame:
     """A row for each round that a host opened, by frame and rank.
 
@@ -35,19 +38,20 @@ def rounds(log: Log) -> pd.DataFrame:
     table = pd.DataFrame(
         {
             "host": opening["node"],
-            "host_boot": opening["host_boot"].astype("uint8"),
+            "host_boot": opening["host_boot"],
             "start_ticks": opening["start_ticks"] - GUARD_TICKS,
             "start_seconds": (opening["start_ticks"] - GUARD_TICKS) / TICKS_A_SECOND,
-            "data_slots": pd.Series([len(one.owners) for one in opening["decoded"]], opening.index, dtype="uint8"),
-            "contention_slots": opening["contention_slots"].astype("uint8"),
+            "data_slots": pd.Series([len(one.owners) for one in opening["decoded"]], opening.index, dtype="int64"),
+            "contention_slots": opening["contention_slots"],
         }
     )
     taken = [len(one.acknowledgements) for one in closing["decoded"]]
-    table["acknowledgements"] = pd.Series(taken, closing.index, dtype="uint8")
+    table["acknowledgements"] = pd.Series(taken, closing.index, dtype="int64")
     table["gap"] = closing["gap"]
     return table.reset_index().sort_values(keys, ignore_index=True)
 
 
+@answer
 def joins(log: Log) -> pd.DataFrame:
     """When each node joined each term of a host: a row for each node, boot and term, and one with no term for a boot that
     never joined. Where a closing slot loses nothing, every node within 12 hops that takes part receives it: that is proved of
@@ -59,6 +63,8 @@ def joins(log: Log) -> pd.DataFrame:
     joined_seconds       when the node received the first closing schedule of the term: from then on it knows the next round,
                          and its radio is on in rounds alone. For the host itself, when it opened its first round
     waited_seconds       from `on_seconds` to `joined_seconds`
+    start                "first start" (the first term of the node's first boot), "power cycle" (the first term of a later boot),
+                         or "another host" (the boot had joined a term before)
     """
     hosts = log.scenario.hosts
     opened = rounds(log)
@@ -69,7 +75,7 @@ def joins(log: Log) -> pd.DataFrame:
     heard = heard.join(log.packets["host_boot"], on="packet").rename(columns={"end_seconds": "joined_seconds"})
     columns = ["node", *TERM, "joined_seconds"]
     table = pd.concat([own[columns], heard[columns]], ignore_index=True).astype({name: "int64" for name in columns[:3]})
-    boots = power.boots(log.scenario).astype({"node": "int64", "boot": "int64"})
+    boots = power.boots_of(log)
     table = boots.merge(table, how="left", on="node")
     inside = (table["joined_seconds"] > table["on_seconds"]) & (table["joined_seconds"] <= table["off_seconds"])
     first = table[inside].groupby(["node", "boot", *TERM], as_index=False)["joined_seconds"].min()
@@ -78,10 +84,14 @@ def joins(log: Log) -> pd.DataFrame:
     for name in ("rank", "host", "host_boot"):
         table[name] = table[name].fillna(-1).astype("int64")
     table["waited_seconds"] = table["joined_seconds"] - table["on_seconds"]
-    table = table[["node", "boot", "on_seconds", "rank", "host", "host_boot", "joined_seconds", "waited_seconds"]]
-    return table.sort_values(["joined_seconds", "node"], ignore_index=True)
+    table = table.sort_values(["joined_seconds", "node"], ignore_index=True)
+    later = table.groupby(["node", "boot"]).cumcount() > 0
+    start = np.select([later, table["boot"] > 1], ["another host", "power cycle"], "first start")
+    table["start"] = pd.Categorical(start, categories=["first start", "power cycle", "another host"])
+    return table[["node", "boot", "on_seconds", "rank", "host", "host_boot", "joined_seconds", "waited_seconds", "start"]]
 
 
+@answer
 def streams(log: Log) -> pd.DataFrame:
     """When each stream got its slots: a row for each term of a host and each stream that was requested by a `stream` line
     while its node had power and before the term's last round.
@@ -119,7 +129,7 @@ def streams(log: Log) -> pd.DataFrame:
 
 def _configured(log: Log) -> pd.DataFrame:
     """The streams that a `stream` line of a node with power gives, by boot."""
-    boots = power.boots(log.scenario)
+    boots = power.boots_of(log)
     rows = [
         (line.node, line.stream, line.frame * float(log.scenario.frame_seconds))
         for line in power.script(log.scenario)
@@ -165,6 +175,7 @@ def _planned_by_hosts(log: Log) -> pd.DataFrame:
     return table.groupby([*TERM, *STREAM], as_index=False)["planned_seconds"].min()
 
 
+@answer
 def data_slots(log: Log) -> pd.DataFrame:
     """A row for each data slot of each round that a host opened: `frame`, `rank`, `host_boot`, `slot`, the stream that owns
     it by `node`, `boot` (the boot that had power then, or the last before) and `stream`, `slot_seconds`, when it starts by the
@@ -179,7 +190,7 @@ def data_slots(log: Log) -> pd.DataFrame:
     ]  # fmt: skip
     table = pd.DataFrame(rows, columns=["frame", *TERM, "slot", "node", "stream", "slot_seconds"])
     table = table.astype({"node": "int64", "slot_seconds": "float64"}).sort_values("slot_seconds")
-    boots = power.boots(log.scenario).astype({"node": "int64"}).sort_values("on_seconds")
+    boots = power.boots_of(log).sort_values("on_seconds")
     table = pd.merge_asof(
         table, boots[["node", "boot", "on_seconds"]], left_on="slot_seconds", right_on="on_seconds", by="node"
     ).drop(columns="on_seconds")

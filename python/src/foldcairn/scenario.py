@@ -6,22 +6,23 @@ though hardly anyone means it. Whether a text is a scenario is said by the progr
 
 from __future__ import annotations
 
+import math
 import warnings
 from collections.abc import Callable, Iterable, Iterator, Sequence
 from dataclasses import dataclass, field, replace
 from operator import attrgetter
 from typing import TYPE_CHECKING, Any, Self
 
-from . import faults, lines
+from . import arguments, lines
+from .arguments import ArgumentError
 from .events import Capture, Cut, Leave, Loss, Off, On, Put, Rate, ScriptLine, Stream
-from .lines import Context
+from .lines import Context, Field
 from .topology import grid, line, random_geometric, star
 
 if TYPE_CHECKING:
     import os
 
     import networkx
-    import pandas
 
 __all__ = [
     "Capture", "Cut", "Leave", "Loss", "Off", "On", "Put", "Rate", "Scenario", "ScenarioError", "ScenarioWarning",
@@ -30,13 +31,29 @@ __all__ = [
 
 Link = tuple[int, int]
 
+# How a comment begins that says by what the losses of a text were drawn.
+DRAWN = "#:"
 
-class ScenarioError(ValueError):
+
+class ScenarioError(ArgumentError):
     """A value that no scenario has, or a text that is none; the message names the word and its range."""
 
 
 class ScenarioWarning(UserWarning):
     """What the program accepts, though it is hardly what was meant."""
+
+
+def _shown(value: Any) -> str:
+    """A value as a text has it."""
+    return (value.hex() or "-") if isinstance(value, bytes) else str(value)
+
+
+def _real(name: str, value: Any, low: float | None = None, *, above: float | None = None) -> float:
+    """As `arguments.real`, with a `ScenarioError`."""
+    try:
+        return arguments.real(name, value, low, above=above)
+    except ArgumentError as error:
+        raise ScenarioError(str(error)) from None
 
 
 @dataclass
@@ -55,6 +72,13 @@ class Scenario:
     losses, cuts, captures   single losses of links, of nodes, and receptions in spite of a collision
     script    what happens by frame; `text` sorts it by frames and keeps the order within a frame
 
+    What follows is for the answers about a run. No text has it, so the program does not know it.
+    receivers   for whom packets are meant, in the forms of `foldcairn.receivers` (`sinks` sets it); None: for all nodes
+    keep_alive  the streams that are kept alive by packets of no bytes (`stream(.., keep_alive=..)`), which no answer counts
+    labels      id -> name, where nodes have names: tables and pictures show them in place of the ids
+    remarks     what reading tables left in doubt, in sentences; `cautions` has them too
+    seed        by which `losses.draw` has drawn the losses; None: by none
+
     The methods that build return the scenario, so calls can be chained. Each takes its time as a frame or in seconds, which
     become the frame that they lie in. They raise `ScenarioError` where a value is out of its range or a node is not given.
     """
@@ -72,15 +96,34 @@ class Scenario:
     cuts: list[Cut] = field(default_factory=list)
     captures: list[Capture] = field(default_factory=list)
     script: list[ScriptLine] = field(default_factory=list)
+    receivers: Any = None
+    keep_alive: set[tuple[int, int]] = field(default_factory=set)
+    labels: dict[int, str] = field(default_factory=dict)
+    remarks: list[str] = field(default_factory=list)
+    seed: int | None = None
 
     def __post_init__(self) -> None:
-        self._require("profile", self.profile)
-        self._require("frames", self.frames)
-        self._require("sends", self.sends)
-        if self.contend:
-            self._require("contend", self.contend)
-            if self.profile == 1:
-                raise ScenarioError("`contend` needs profile 2: profile 1 has one contention slot")
+        for word in ("profile", "frames", "sends", "contend"):
+            value: Any = getattr(self, word)
+            (what,) = lines.fields("run")[word]
+            # Without a `contend` line there are 0.
+            if word != "contend" or value != 0:
+                setattr(self, word, self._taken(f"{word} {_shown(value)}", value, what))
+        if self.contend and self.profile == 1:
+            raise ScenarioError("`contend` needs profile 2: profile 1 has one contention slot")
+        self.check_ratios()
+
+    def check_ratios(self) -> None:
+        """Raises `ScenarioError` where a ratio of `prr` is not from 0 to 1, as one that is not a number (NaN)."""
+        for (sender, receiver), ratio in self.prr.items():
+            self._ratio(sender, receiver, ratio)
+
+    @staticmethod
+    def _ratio(sender: int, receiver: int, ratio: Any) -> float:
+        try:
+            return arguments.real("prr", ratio, 0, 1)
+        except ArgumentError as error:
+            raise ScenarioError(f"`link {sender} {receiver}`: {error}") from None
 
     # Times.
 
@@ -100,61 +143,75 @@ class Scenario:
         return max(1, self.contend)
 
     def frame_at(self, seconds: float) -> int:
-        """The frame that this time, in seconds from the start of the run, lies in."""
-        return int(seconds // self.frame_seconds)
+        """The frame that this time, in seconds from the start of the run, lies in. Raises `ScenarioError` where it is no number."""
+        return int(_real("seconds", seconds) // self.frame_seconds)
 
     def _frame(self, frame: int | None, seconds: float | None) -> int:
         if frame is not None and seconds is not None:
             raise ScenarioError("a time is given as a frame or in seconds, not as both")
-        return self.frame_at(seconds) if seconds is not None else frame or 0
+        if seconds is not None:
+            return self.frame_at(seconds)
+        return 0 if frame is None else frame
 
     # What is checked.
 
     def _context(self) -> Context:
         return Context(self.profile, self.contend > 0, self.frames)
 
-    def _require(self, word: str, *values: int | bytes) -> None:
-        """Raises `ScenarioError` where a line of this word may not have these values."""
-        shown = " ".join([word, *(value.hex() or "-" if isinstance(value, bytes) else str(value) for value in values)])
-        ids = []
-        for value, what in zip(values, lines.fields("run", self._context())[word], strict=True):
-            if isinstance(value, bytes):
-                if len(value) > what.high:
-                    raise ScenarioError(f"`{shown}`: {what.range_in_words()} in profile {self.profile}")
-                continue
-            if not hasattr(value, "__index__") or not what.low <= value <= what.high:
-                whole = "" if hasattr(value, "__index__") else "a whole number "
-                raise ScenarioError(f"`{shown}`: {value}, {what.range_in_words().replace(', is from', f', is {whole}from')}")
-            if what.kind == "id":
-                ids.append(value)
+    def _require(self, word: str, *values: Any) -> tuple[Any, ...]:
+        """The values of a line of this word, as whole numbers and bytes; raises `ScenarioError` where it may not have them."""
+        fields = lines.fields("run", self._context())[word]
+        shown = " ".join([word, *map(_shown, values)])
+        taken: tuple[Any, ...] = tuple(self._taken(shown, value, what) for value, what in zip(values, fields, strict=True))
+        ids = [value for value, what in zip(taken, fields) if what.kind == "id"]
         for node in ids:
             if node not in self.nodes:
                 raise ScenarioError(f"`{shown}`: node {node} is not given; nodes come before all that names them")
         if len(ids) == 2 and ids[0] == ids[1]:
             raise ScenarioError(f"`{shown}`: the two ids must differ")
+        return taken
+
+    def _numbers(self, word: str, *values: Any) -> tuple[int, ...]:
+        """The values of a line without a payload."""
+        return self._require(word, *values)
+
+    def _taken(self, shown: str, value: Any, what: Field) -> int | bytes:
+        """The value of a field; raises `ScenarioError` where it is out of its range."""
+        if isinstance(value, bytes):
+            if len(value) > what.high:
+                raise ScenarioError(f"`{shown}`: {what.range_in_words()} in profile {self.profile}")
+            return value
+        number = arguments.index(value)
+        if number is None:
+            in_words = what.range_in_words().replace(", is from", ", is a whole number from")
+            raise ScenarioError(f"`{shown}`: {value!r}, {in_words}{arguments.instead(value)}")
+        if not what.low <= number <= what.high:
+            advice = what.advice if number > what.high else ""
+            raise ScenarioError(f"`{shown}`: {number}, {what.range_in_words()}{advice}")
+        return number
 
     # Building.
 
     def node(self, node: int, offset: int = 0, ppm: int = 0) -> Self:
         """A node whose clock reads `offset` ticks of 1/64 µs at the start and gains `ppm` parts per million (-20 to 20)."""
-        self._require("node", node, offset)
+        node, offset = self._numbers("node", node, offset)
         if node in self.nodes:
             raise ScenarioError(f"node {node} is given already")
         self.nodes[node] = offset
-        return self.rate(node, ppm) if ppm else self
+        return self.rate(node, ppm) if ppm != 0 else self
 
     def rate(self, node: int, ppm: int, *, tick: int | None = None, seconds: float | None = None) -> Self:
         """From that tick (1/64 µs of true time, 0 without one) or second on the node's clock gains `ppm` parts per million."""
         if tick is not None and seconds is not None:
             raise ScenarioError("a time is given as a tick or in seconds, not as both")
-        at = round(seconds * 64_000_000) if seconds is not None else tick or 0
-        self._require("rate", node, at, ppm)
+        at = round(_real("seconds", seconds) * 64_000_000) if seconds is not None else 0 if tick is None else tick
+        node, at, ppm = self._numbers("rate", node, at, ppm)
         self.rates.append(Rate(node, at, ppm))
         return self
 
     def host(self, rank: int, node: int) -> Self:
         """The node is the host of that rank: 0 is the first choice, 1 to 3 are backups."""
-        self._require("host", rank, node)
+        rank, node = self._numbers("host", rank, node)
         if rank in self.hosts or node in self.hosts.values():
             raise ScenarioError(f"`host {rank} {node}`: rank {rank} or node {node} hosts already")
         self.hosts[rank] = node
@@ -162,12 +219,11 @@ class Scenario:
 
     def link(self, sender: int, receiver: int, prr: float = 1.0) -> Self:
         """What the sender transmits reaches the receiver, at the ratio `prr` of 0 to 1."""
-        self._require("link", sender, receiver)
-        if not 0 <= prr <= 1:
-            raise ScenarioError(f"`link {sender} {receiver}`: {prr}, the reception ratio, is from 0 to 1")
+        sender, receiver = self._numbers("link", sender, receiver)
+        ratio = self._ratio(sender, receiver, prr)
         self.links.add((sender, receiver))
-        if prr < 1:
-            self.prr[sender, receiver] = float(prr)
+        if ratio < 1:
+            self.prr[sender, receiver] = ratio
         else:
             self.prr.pop((sender, receiver), None)
         return self
@@ -195,33 +251,70 @@ class Scenario:
 
     def _power(self, line: type[On] | type[Off], word: str, nodes: Sequence[int], frame: int) -> Self:
         for node in nodes or sorted(self.nodes):
-            self._require(word, frame, node)
-            self.script.append(line(frame, node))
+            self.script.append(line(*self._numbers(word, frame, node)))
         return self
 
     def stream(
-        self, node: int, interval: int, *, stream: int = 0, frame: int | None = None, seconds: float | None = None
-    ) -> Self:
-        """Stream 0 to 3 of the node requests a slot every `interval` seconds (1 to 120) from that frame on."""
-        at = self._frame(frame, seconds)
-        self._require("stream", at, node, stream, interval)
-        self.script.append(Stream(at, node, stream, interval))
+        self, node: int, interval: int, *, stream: int = 0, frame: int | None = None, seconds: float | None = None,
+        keep_alive: float | None = None,
+    ) -> Self:  # fmt: skip
+        """Stream 0 to 3 of the node requests a slot every `interval` seconds (1 to 120) from that frame on.
+
+        A host takes a stream away whose slots stayed empty 16 times in a row, some 16 intervals, and the next packet has to ask
+        for it anew. With `keep_alive` the stream gets a packet of no bytes that often, in seconds, to the end of the run; take
+        less than 16 intervals. Planning answers leave these packets out.
+        """
+        asked = Stream(*self._numbers("stream", self._frame(frame, seconds), node, stream, interval))
+        self.script.append(asked)
+        if keep_alive is not None:
+            self.keep_alive.add((asked.node, asked.stream))
+            self.every(keep_alive, asked.node, b"", stream=asked.stream, start=float(asked.frame * self.frame_seconds))
         return self
+
+    def sinks(self, *receivers: Any) -> Self:
+        """For whom packets are meant where an answer is not told otherwise: some nodes, by id or name; "hosts", whichever host
+        serves; "all"; or a dictionary with one of these for each source (`foldcairn.receivers` has the forms).
+
+        Raises `ScenarioError` where a node is not given; nodes come before.
+        """
+        from .receivers import meant
+
+        given = receivers[0] if len(receivers) == 1 else list(receivers)
+        try:
+            if not isinstance(given, dict):
+                meant(self, given)
+        except ValueError as error:
+            raise ScenarioError(str(error)) from error
+        self.receivers = given
+        return self
+
+    def id(self, node: int | str) -> int:
+        """The id of a node, which is given by its id or its name. Raises `ScenarioError` where there is no such node."""
+        named = {name: one for one, name in self.labels.items()}
+        found = named.get(node, node) if isinstance(node, str) else node
+        if isinstance(found, str) or found not in self.nodes:
+            known = ", ".join(str(named) for named in list(self.labels.values() or sorted(self.nodes))[:8])
+            raise ScenarioError(f"the scenario has no node {node}; it has {len(self.nodes)} nodes: {known}{', ..' * (len(self.nodes) > 8)}")
+        return int(found)
+
+    def name(self, node: int) -> str:
+        """The name of a node, which is its id where it has none."""
+        return self.labels.get(node, str(node))
 
     def leave(self, node: int, *, stream: int = 0, frame: int | None = None, seconds: float | None = None) -> Self:
         """Stream 0 to 3 of the node ends in that frame, and its queue is emptied."""
-        at = self._frame(frame, seconds)
-        self._require("leave", at, node, stream)
-        self.script.append(Leave(at, node, stream))
+        self.script.append(Leave(*self._numbers("leave", self._frame(frame, seconds), node, stream)))
         return self
 
     def put(
         self, node: int, payload: bytes = b"", *, stream: int = 0, frame: int | None = None, seconds: float | None = None
     ) -> Self:
         """The node's stream gets a packet to send at the start of that frame."""
-        at = self._frame(frame, seconds)
-        self._require("put", at, node, stream, bytes(payload))
-        self.script.append(Put(at, node, stream, bytes(payload)))
+        try:
+            content = arguments.payload("payload", payload)
+        except ArgumentError as error:
+            raise ScenarioError(str(error)) from None
+        self.script.append(Put(*self._require("put", self._frame(frame, seconds), node, stream, content)))
         return self
 
     def every(
@@ -240,15 +333,19 @@ class Scenario:
         `payload` is the same for all, or a function of the packet's number from 0 on; without one it is the id (1 byte) and
         that number (2 bytes). With an `interval` the stream is requested too, in the frame of `start`.
         """
-        if seconds <= 0:
-            raise ScenarioError(f"packets come every {seconds} seconds; that must be above 0")
-        end = self.seconds if until is None else min(until, self.seconds)
+        seconds, start = _real("seconds", seconds, above=0), _real("start", start, 0)
+        end = float(self.seconds) if until is None else min(_real("until", until), self.seconds)
+        if (end - start) / seconds > lines.SCRIPT_LINES_MOST:
+            raise ScenarioError(
+                f"packets every {seconds:g} s from {start:g} to {end:g} s are {math.ceil((end - start) / seconds):,}, and a scenario has at "
+                f"most {lines.SCRIPT_LINES_MOST:,} script lines; write at least {(end - start) / lines.SCRIPT_LINES_MOST:g} s"
+            )
         if interval is not None:
             self.stream(node, interval, stream=stream, seconds=start)
         count = 0
         while (time := start + count * seconds) < end:
             if payload is None:
-                content = bytes([node]) + (count & 0xFFFF).to_bytes(2, "big")
+                content = bytes([arguments.whole("node", node, 1, 200)]) + (count & 0xFFFF).to_bytes(2, "big")
             else:
                 content = payload(count) if callable(payload) else payload
             self.put(node, content, stream=stream, seconds=time)
@@ -257,21 +354,28 @@ class Scenario:
 
     def lose(self, frame: int, slot: int, step: int, sender: int, receiver: int) -> Self:
         """The link is lost in that step (0 to 11) of that slot of the frame."""
-        self._require("lose", frame, slot, step, sender, receiver)
-        self.losses.append(Loss(frame, slot, step, sender, receiver))
+        self.losses.append(Loss(*self._numbers("lose", frame, slot, step, sender, receiver)))
         return self
 
     def cut(self, frame: int, slot: int, step: int, node: int) -> Self:
         """All links to and from the node are lost from that step of that slot on until the frame ends."""
-        self._require("cut", frame, slot, step, node)
-        self.cuts.append(Cut(frame, slot, step, node))
+        self.cuts.append(Cut(*self._numbers("cut", frame, slot, step, node)))
         return self
 
     def capture(self, frame: int, slot: int, step: int, at: int, sender: int) -> Self:
         """Where unlike packets reach `at` at once in that step of that slot, it receives that of `sender`."""
-        self._require("capture", frame, slot, step, at, sender)
-        self.captures.append(Capture(frame, slot, step, at, sender))
+        self.captures.append(Capture(*self._numbers("capture", frame, slot, step, at, sender)))
         return self
+
+    def __repr__(self) -> str:
+        parts = [f"{len(self.nodes)} nodes", f"{len(self.links)} links", f"{len(self.hosts)} hosts", f"{self.seconds} s"]
+        drawn = [f"{len(self.losses)} losses" + (f" of seed {self.seed}" if self.seed is not None else "")] if self.losses else []
+        return f"<Scenario: {', '.join(parts + drawn)}>"
+
+    def _repr_html_(self) -> str:
+        from . import notebook
+
+        return notebook.of_scenario(self)
 
     def copy(self) -> Self:
         """A scenario with the same content that can be changed without changing this one."""
@@ -279,7 +383,7 @@ class Scenario:
             self,
             nodes=dict(self.nodes), rates=list(self.rates), hosts=dict(self.hosts), links=set(self.links),
             prr=dict(self.prr), losses=list(self.losses), cuts=list(self.cuts), captures=list(self.captures),
-            script=list(self.script),
+            script=list(self.script), keep_alive=set(self.keep_alive), labels=dict(self.labels), remarks=list(self.remarks),
         )  # fmt: skip
 
     # From and to other forms.
@@ -296,13 +400,16 @@ class Scenario:
         Raises `ScenarioError` where a node is no id or a value is out of range.
         """
         made = cls(frames, sends, profile, contend)
+        strange = [node for node in graph if arguments.index(node) is None]
+        if strange:
+            raise ScenarioError(f"the node {strange[0]!r} of the graph is no id, which is a whole number from 1 to 200")
         for node, data in sorted(graph.nodes(data=True)):
-            made.node(node, int(data.get("offset", 0)), int(data.get("ppm", 0)))
+            made.node(node, data.get("offset", 0), data.get("ppm", 0))
         ranks = {data["host"]: node for node, data in graph.nodes(data=True) if data.get("host") is not None}
         for rank, node in enumerate(hosts) if hosts else sorted(ranks.items()):
             made.host(rank, node)
         for sender, receiver, data in graph.edges(data=True):
-            (made.link if graph.is_directed() else made.pair)(sender, receiver, float(data.get("prr", 1.0)))
+            (made.link if graph.is_directed() else made.pair)(sender, receiver, data.get("prr", 1.0))
         return made.on() if on and made.nodes else made
 
     @classmethod
@@ -311,12 +418,18 @@ class Scenario:
     ) -> Self:
         """A scenario of tables, each a DataFrame or the path of a CSV file.
 
-        nodes     `id`; may have `offset` (ticks of 1/64 µs), `ppm`, `host` (the rank), `on` (seconds; 0 without it)
-        links     `from`, `to`; may have `prr`, and `both` (true for both directions)
-        streams   `node`, `interval` (seconds); may have `stream`, `start` (seconds), and `every` with `until` (seconds), by
-                  which packets are put as `every` does
+        nodes     `id`; may have `name`, `offset` (ticks of 1/64 µs), `ppm`, `host` (the rank), `on` (seconds; 0 without it), and the
+                  place, `x` and `y`
+        links     `from`, `to` (or `u` and `v`, or `source` and `target`); may have `prr`, and `both` (true for both directions)
+        streams   `node`, `interval` (seconds); may have `stream`, `start` (seconds), `keep_alive` (seconds), and `every` with
+                  `until` (seconds), by which packets are put as `every` does
 
-        Empty cells are values that are not given. Raises `ScenarioError` where a column is missing or a value out of range.
+        Ids may be names, as `pump` or `B-12`: then nodes get the ids 1, 2, .. by their rows, tables and pictures show the names, and
+        `id` gives the id of a name. Empty cells are values that are not given. A column that is none of these is not read, and
+        `cautions` names it.
+
+        Raises `ScenarioError`, which names the table and the row, where a column is missing or a value out of range, a column has
+        nearly the name of one that is read, or a link is there twice with different ratios.
         """
         from . import tables
 
@@ -335,17 +448,20 @@ class Scenario:
         return graph
 
     @classmethod
-    def read(cls, text: str | bytes) -> Self:
-        """The scenario of a text, as the program reads it, but that lines of the script may be out of order.
+    def read(cls, text: str | bytes | os.PathLike[str]) -> Self:
+        """The scenario of a text, or of the text in a file (a `pathlib.Path`), as the program reads it, but that lines of the
+        script may be out of order.
 
-        Comments are not kept. Raises `ScenarioError`, which names the first line that is wrong, the word and its range.
+        Of comments those are kept that say by which seed and ratios losses were drawn (`text`). Raises `ScenarioError`, which
+        names the first line that is wrong, the word and its range.
         """
         from . import reading
 
         return reading.scenario_of(cls, text)
 
     def text(self, *, warn: bool = True) -> str:
-        """The canonical text of the scenario; lines of the script are sorted by frames, and keep their order within one.
+        """The canonical text of the scenario; lines of the script are sorted by frames, and keep their order within one. Above it
+        are the seed and the ratios by which its losses were drawn, if they were, as comments.
 
         Gives `ScenarioWarning`s of what `cautions` names, unless `warn` is False.
         """
@@ -355,6 +471,10 @@ class Scenario:
         return "\n".join(self._lines()) + "\n"
 
     def _lines(self) -> Iterator[str]:
+        if self.seed is not None:
+            # Comments to the program: what the losses were drawn by, which `read` takes back.
+            yield f"{DRAWN} seed {self.seed}"
+            yield from (f"{DRAWN} prr {sender} {receiver} {ratio!r}" for (sender, receiver), ratio in sorted(self.prr.items()))
         yield f"profile {self.profile}"
         if self.contend:
             yield f"contend {self.contend}"

@@ -9,23 +9,31 @@ import io
 import os
 from collections.abc import Sequence
 from pathlib import Path
+from xml.etree import ElementTree
 
 import matplotlib
 from matplotlib.artist import Artist
 from matplotlib.axes import Axes
+from matplotlib.colors import to_hex, to_rgb
 from matplotlib.figure import Figure
 from matplotlib.transforms import ScaledTranslation
 
+from . import files
+
+# The colours that are told apart in one picture also differ for readers with deuteranopia, and in lightness where they are
+# printed in grey.
 # What a radio does.
-TRANSMITS, RECEIVES, LISTENS = "#c9374c", "#2478b5", "#e3b341"
+TRANSMITS, RECEIVES, LISTENS = "#c9374c", "#1d4f91", "#ffcf4a"
 # A radio that is on, by the rank of its channel.
-RANKS = (LISTENS, "#3d9a6d", "#b0713c", "#7f8fa6")
+RANKS = (LISTENS, "#088165", "#8c391b", "#8ca5c8")
+# Links by reception ratio: from the least ratio of a class on, with the width of their lines.
+RATIOS = ((0.95, "#1f51a7", 2.4), (0.85, "#07799d", 2.1), (0.7, "#c87597", 1.8), (0.5, "#fe8e68", 1.5), (0.0, "#fec33e", 1.2))
 DELIVERY = "#7d4fc4"
 INK, PALE, GROUND, FAINT, OFF = "#1f2328", "#57606a", "#ffffff", "#c8ced6", "#eceff3"
 # Letters on a shape, which are the same on dark pages.
 ON_DARK, ON_LIGHT = "#fefefe", "#1f2329"
 # Purposes of radio time (`radio.PURPOSES`), in their order.
-PURPOSES = ("#c9374c", "#2478b5", "#9ec5e8", "#e08a2e", "#7d4fc4", LISTENS)
+PURPOSES = ("#ac413c", "#2a4686", "#97c9ee", "#dc9232", "#a372a3", "#ffe47b")
 
 # The same in a dark page.
 _DARK = {INK: "#e6edf3", PALE: "#9198a1", GROUND: "#0d1117", FAINT: "#3d444d", OFF: "#21262d"}
@@ -44,10 +52,25 @@ def settings() -> matplotlib.RcParams:
     return matplotlib.rc_context(_SETTINGS)
 
 
-def axes(width: float, height: float) -> tuple[Figure, Axes]:
-    """A figure of this size in inches with one pair of axes, whose lines do not compete with what is drawn."""
+def axes(width: float, height: float, given: Axes | None = None) -> tuple[Figure, Axes]:
+    """A figure of this size in inches with one pair of axes, whose lines do not compete with what is drawn; or the axes that
+    are given, with their figure."""
+    if given is not None:
+        return given.get_figure(), plain(given)
     figure = Figure(figsize=(width, height), layout="constrained")
     return figure, plain(figure.subplots())
+
+
+def hops(most: int) -> list[str]:
+    """The colours of nodes by their hops from the host, from 0 to so many, from dark to light."""
+    scale = matplotlib.colormaps["viridis"]
+    return [to_hex(scale(hop / max(most, 4))) for hop in range(most + 1)]
+
+
+def ink_on(colour: str | tuple[float, float, float, float]) -> str:
+    """The colour of letters on this ground."""
+    red, green, blue = to_rgb(colour)
+    return ON_DARK if 0.2126 * red**2.2 + 0.7152 * green**2.2 + 0.0722 * blue**2.2 < 0.3 else ON_LIGHT
 
 
 def plain(drawn: Axes) -> Axes:
@@ -88,18 +111,22 @@ def save(figure: Figure, path: str | os.PathLike[str]) -> Path:
     kind = target.suffix.lstrip(".").lower()
     if kind not in figure.canvas.get_supported_filetypes():
         raise ValueError(f"{target}: the ending of a picture's file is svg, png or pdf, not {kind or 'none'}")
+    return files.write(target, rendered(figure, kind))
+
+
+def rendered(figure: Figure, kind: str) -> bytes:
+    """A figure as the bytes of a file of this kind (see `save`)."""
     written = io.BytesIO()
     with settings():
         figure.savefig(written, format=kind, dpi=130, metadata=_METADATA.get(kind), bbox_inches="tight", pad_inches=0.12)
     data = written.getvalue()
-    target.write_bytes(_light_and_dark(data.decode()).encode() if kind == "svg" else data)
-    return target
+    return _light_and_dark(data) if kind == "svg" else data
 
 
 _METADATA = {"svg": {"Date": None, "Creator": None}, "pdf": {"CreationDate": None}, "png": {"Software": None}}
 
 
-def _light_and_dark(svg: str) -> str:
+def _light_and_dark(svg: bytes) -> bytes:
     """An SVG text of matplotlib with rules for dark pages: it writes each colour into the shape, where rules can find it."""
     rules = [
         f'[style*="{what}: {light}"] {{ {what}: {dark} !important }}'
@@ -108,5 +135,15 @@ def _light_and_dark(svg: str) -> str:
     ]
     # Letters without a colour of their own are black.
     rules.append(f"text {{ fill: {_DARK[INK]} }}")
-    style = "<style>\n@media (prefers-color-scheme: dark) {\n" + "\n".join(rules) + "\n}\n</style>\n"
-    return svg.replace("<defs>", style + "<defs>", 1)
+    top = ElementTree.fromstring(svg)
+    dark = ElementTree.Element(f"{{{_SVG}}}style")
+    dark.text = "\n@media (prefers-color-scheme: dark) {\n" + "\n".join(rules) + "\n}\n"
+    dark.tail = "\n"
+    top.insert(0, dark)
+    text: bytes = ElementTree.tostring(top, "utf-8", xml_declaration=True)
+    return text + b"\n"
+
+
+_SVG = "http://www.w3.org/2000/svg"
+ElementTree.register_namespace("", _SVG)
+ElementTree.register_namespace("xlink", "http://www.w3.org/1999/xlink")

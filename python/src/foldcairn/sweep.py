@@ -7,33 +7,29 @@ many machines. A run depends on its text alone, so the table is the same whereve
 
 from __future__ import annotations
 
-import hashlib
 import itertools
-import json
 import os
-import sys
-import tempfile
-import time
 from collections.abc import Callable, Iterable, Iterator, Mapping, Sequence
 from concurrent.futures import FIRST_COMPLETED, Executor, Future, ProcessPoolExecutor, wait
 from dataclasses import dataclass
+from numbers import Integral
 from pathlib import Path
 from typing import Any, TextIO
 
 import pandas
 
-from . import program
+from . import kept, program, progress as bars
+from .losses import Drawing, TooManyLosses
 from .scenario import Scenario
 
 Case = Mapping[str, Any]
-Build = Callable[..., Scenario | str]
-Measure = Callable[[Scenario | str], Mapping[str, Any] | pandas.DataFrame]
+Build = Callable[..., "Scenario | str | Drawing"]
+Measure = Callable[["Scenario | str"], "Mapping[str, Any] | pandas.DataFrame"]
 
 # Ends that the same scenario has each time; a case with another one is run again by the next call.
-_LASTING = (program.Refused, program.BadUsage, program.BadWords)
+_LASTING = (program.Refused, program.BadUsage, program.BadWords, TooManyLosses)
 # How many cases are handed to the executor and not done, at most; more would cost memory only.
 _WAITING_MOST = 1_000
-_TICK_SECONDS = 1.0
 
 
 class SweepStopped(Exception):
@@ -46,10 +42,7 @@ def grid(**values: Iterable[Any]) -> list[dict[str, Any]]:
 
 
 def files(folder: str | os.PathLike[str], pattern: str = "*.scenario") -> list[dict[str, str]]:
-    """A case `{"file": path}` for each file of the folder that fits the pattern, by name; `from_file` builds these.
-
-    A result is kept by the name of its file: where files change, give `sweep` another folder of results.
-    """
+    """A case `{"file": path}` for each file of the folder that fits the pattern, by name; `from_file` builds these."""
     return [{"file": str(path)} for path in sorted(Path(folder).glob(pattern))]
 
 
@@ -90,174 +83,193 @@ def sweep(
     executor: Executor | None = None,
     results: str | os.PathLike[str] | None = None,
     progress: bool | TextIO = True,
+    name: str | None = None,
 ) -> pandas.DataFrame:
     """Builds, runs and measures each case, and gives one table: the columns of the case, `status`, then what was measured.
 
-    build      called with a case's parameters by name, gives its scenario or text; parameters are numbers, words and such
+    build      called with a case's parameters by name, gives its scenario or text, or a `losses.Drawing`, whose losses are drawn
+               once it is known that its result is not there; parameters are numbers, words and such
     measure    gives a mapping for a row, or a DataFrame for several rows
     executor   runs the cases; without one a pool with a process for each processor. The functions must be importable there.
-    results    a folder that keeps each result as soon as it is there; a later call with the same cases and folder takes what is
-               there, and makes the rest. Use one folder for one pair of `build` and `measure`
+    results    a folder that keeps each result as soon as it is there; a later call takes what is there, and makes the rest
     progress   a bar on standard error or on the stream that is given, a line a minute where that is no terminal; False: none
+    name       a name for the measure, by which results are kept instead of by its name and source
 
-    `status` is `ok`, or the name of an exception, and then `message` says what it says. A case whose text is rejected keeps
-    that; one that ended otherwise, as for lack of memory, is made again by the next call. Raises `SweepStopped` where the executor
-    breaks down, and `ValueError` where a case comes twice or has no plain parameters. Stopped by Ctrl-C it loses nothing
-    of what is in `results`.
+    A result is kept by its parameters, the text of the scenario with its ratios, the measure by its name and source, the
+    program's checksum and the version of this package (`kept`). So each case is built again, and it is measured only where that
+    gives another key; what the measure calls or reads elsewhere is no part of it, so give it another `name` after a change there.
+
+    `status` is `ok`, or the name of an exception, and then `message` says what it says. A case whose text is rejected, or whose
+    losses don't fit a text, keeps that; one that ended otherwise, as for lack of memory, is made again by the next call. The
+    table has the versions of `program.versions` in its `attrs`. Raises `SweepStopped` where the executor breaks down, and
+    `ValueError` where a case comes twice or has no plain parameters. Stopped by Ctrl-C it loses nothing of what is in `results`.
     """
     listed = [dict(case) for case in cases]
-    keys = _keys(listed)
-    store = _Store(results)
-    done = {key: outcome for key in keys if (outcome := store.take(key)) is not None}
-    left = [(key, case) for key, case in zip(keys, listed) if key not in done]
-    bar = _Progress(len(listed), len(done), progress)
+    names = _names(listed)
+    store = kept.Store(results)
+    versions = program.versions()
+    job = _Job(build, measure, None if results is None else kept.digest(name or kept.spelled(measure), versions))
+    known: dict[str, list[str]] = {}
+    for key in store.keys():
+        known.setdefault(key.split("-")[0], []).append(key)
     runner = ProcessPoolExecutor() if executor is None else executor
+    done: dict[str, _Outcome] = {}
     try:
-        for key, outcome in _finished(runner, build, measure, left):
-            done[key] = outcome
-            store.keep(key, outcome)
-            bar.show(len(done))
+        with bars.bar(len(listed), "cases", progress) as bar:
+            for case_name, outcome in _finished(runner, job, dict(zip(names, listed)), known, store):
+                done[case_name] = outcome
+                bar.update()
     finally:
-        bar.close(len(done))
         if executor is None:
             runner.shutdown(cancel_futures=True)
-    return _table(listed, [done[key] for key in keys])
+    table = _table(listed, [done[case_name] for case_name in names])
+    table.attrs.update(versions)
+    return table
 
 
 @dataclass(frozen=True)
 class _Outcome:
-    """What came of one case: the rows that were measured, or the name of an exception and its message."""
+    """What came of one case: the rows that were measured, or the name of an exception and its message. `key` is that by which
+    it is kept, None where it is not."""
 
-    case: dict[str, Any]
     status: str
     rows: list[dict[str, Any]]
     message: str = ""
     lasting: bool = True
+    key: str | None = None
 
 
-def _keys(cases: Sequence[Case]) -> list[str]:
+@dataclass(frozen=True)
+class _Kept:
+    """That the result of one case is there already, by this key."""
+
+    key: str
+
+
+@dataclass(frozen=True)
+class _Job:
+    """What is done with each case; `question` names the measure, program and version, None where nothing is kept."""
+
+    build: Build
+    measure: Measure
+    question: str | None
+
+    def run(self, name: str, case: dict[str, Any], known: Sequence[str]) -> _Outcome | _Kept:
+        """One case, in the process of a worker. An exception is an outcome too, so it never stops the others."""
+        key = None
+        try:
+            built = self.build(**case)
+            if self.question is not None:
+                key = f"{name}-{kept.digest(self.question, _content(built))}"
+                if key in known:
+                    return _Kept(key)
+            measured = self.measure(built.drawn() if isinstance(built, Drawing) else built)
+        except Exception as error:
+            return _Outcome(type(error).__name__, [], str(error), isinstance(error, _LASTING), key)
+        rows = measured.to_dict("records") if isinstance(measured, pandas.DataFrame) else [dict(measured)]
+        return _Outcome("ok", [{str(column): value for column, value in row.items()} for row in rows], key=key)
+
+
+def _content(built: Scenario | str | Drawing) -> list[object]:
+    """All that a scenario's result depends on: its text, its ratios, and the seed of its losses."""
+    if isinstance(built, str):
+        return [built]
+    scenario = built.scenario if isinstance(built, Drawing) else built
+    ratios = sorted([*link, ratio] for link, ratio in scenario.prr.items())
+    return [scenario.text(warn=False), ratios, built.seed if isinstance(built, Drawing) else None]
+
+
+def _names(cases: Sequence[Case]) -> list[str]:
     """A name for each case, by its parameters."""
     names = []
     for case in cases:
         try:
-            spelled = json.dumps(case, sort_keys=True, default=_plain)
+            names.append(kept.digest(case))
         except TypeError as error:
             raise ValueError(f"a parameter of the case {case} is no number, word, or list of such: {error}") from error
-        names.append(hashlib.blake2b(spelled.encode(), digest_size=12).hexdigest())
     if len(set(names)) < len(names):
         twice = next(case for number, case in enumerate(cases) if names[number] in names[:number])
         raise ValueError(f"the case {twice} comes twice")
     return names
 
 
-def _plain(value: Any) -> Any:
-    """The plain number or list of what numpy and pandas have."""
-    if hasattr(value, "tolist"):
-        return value.tolist()
-    if isinstance(value, os.PathLike):
-        return os.fspath(value)
-    raise TypeError(f"{value!r} can't be kept")
-
-
-def _one(build: Build, measure: Measure, case: dict[str, Any]) -> _Outcome:
-    """One case, in the process of a worker. An exception is an outcome too, so it never stops the others."""
-    try:
-        measured = measure(build(**case))
-    except Exception as error:
-        return _Outcome(case, type(error).__name__, [], str(error), isinstance(error, _LASTING))
-    rows = measured.to_dict("records") if isinstance(measured, pandas.DataFrame) else [dict(measured)]
-    return _Outcome(case, "ok", [{str(name): value for name, value in row.items()} for row in rows])
-
-
 def _finished(
-    runner: Executor, build: Build, measure: Measure, left: Sequence[tuple[str, dict[str, Any]]]
+    runner: Executor, job: _Job, cases: Mapping[str, dict[str, Any]], known: Mapping[str, list[str]], store: kept.Store
 ) -> Iterator[tuple[str, _Outcome]]:
-    """The outcomes as they come, with at most so many cases waiting at a time."""
-    waiting: dict[Future[_Outcome], str] = {}
-    ahead = iter(left)
+    """The outcomes as they come, with at most so many cases waiting at a time; what is new is kept."""
+    waiting: dict[Future[_Outcome | _Kept], str] = {}
+    # A result that turns out to be damaged is made again, with its key not known.
+    ahead: list[tuple[str, Sequence[str]]] = [(name, known.get(name, ())) for name in reversed(list(cases))]
+    left = len(cases)
     try:
-        while True:
-            for key, case in itertools.islice(ahead, _WAITING_MOST - len(waiting)):
-                waiting[runner.submit(_one, build, measure, case)] = key
-            if not waiting:
-                return
+        while ahead or waiting:
+            while ahead and len(waiting) < _WAITING_MOST:
+                name, keys = ahead.pop()
+                waiting[_submitted(runner, job, left, name, cases[name], keys)] = name
             finished, _ = wait(waiting, return_when=FIRST_COMPLETED)
             for future in finished:
-                yield waiting.pop(future), future.result()
-    except (OSError, RuntimeError) as error:
-        # A worker that is killed breaks its pool: BrokenExecutor is a RuntimeError.
-        raise SweepStopped(f"the executor broke down, with {len(left)} cases to make: {error or type(error).__name__}") from error
+                name = waiting.pop(future)
+                outcome = _outcome(_result(future, left), store)
+                if outcome is None:
+                    ahead.append((name, ()))
+                else:
+                    left -= 1
+                    yield name, outcome
     finally:
         for future in waiting:
             future.cancel()
 
 
-class _Store:
-    """The folder of results, one file a case that appears whole or not at all; none where no folder is given."""
-
-    def __init__(self, folder: str | os.PathLike[str] | None) -> None:
-        self.folder = Path(folder) if folder is not None else None
-        if self.folder:
-            self.folder.mkdir(parents=True, exist_ok=True)
-
-    def take(self, key: str) -> _Outcome | None:
-        """The outcome that is kept, or None; a file that is no outcome is passed over, and written anew."""
-        if self.folder is None:
-            return None
-        try:
-            return _Outcome(**json.loads((self.folder / f"{key}.json").read_text(encoding="utf-8")))
-        except (FileNotFoundError, ValueError, TypeError):
-            return None
-
-    def keep(self, key: str, outcome: _Outcome) -> None:
-        if self.folder is None or not outcome.lasting:
-            return
-        with tempfile.NamedTemporaryFile("w", encoding="utf-8", dir=self.folder, prefix=".", delete=False) as sink:
-            json.dump(vars(outcome), sink, default=_plain)
-        os.replace(sink.name, self.folder / f"{key}.json")
+def _submitted(
+    runner: Executor, job: _Job, left: int, name: str, case: dict[str, Any], keys: Sequence[str]
+) -> Future[_Outcome | _Kept]:
+    try:
+        return runner.submit(job.run, name, case, keys)
+    except (OSError, RuntimeError) as error:
+        raise _stopped(left, error) from error
 
 
-class _Progress:
-    """How far a sweep is: on a terminal a bar, elsewhere a line a minute."""
+def _result(future: Future[_Outcome | _Kept], left: int) -> _Outcome | _Kept:
+    try:
+        return future.result()
+    except (OSError, RuntimeError) as error:
+        # A worker that is killed breaks its pool: BrokenExecutor is a RuntimeError.
+        raise _stopped(left, error) from error
 
-    def __init__(self, total: int, before: int, stream: bool | TextIO) -> None:
-        self.stream: TextIO | None = sys.stderr if stream is True else stream or None
-        self.total, self.before = total, before
-        self.begun = self.shown = time.monotonic()
-        if before:
-            self._say(f"{before} of {total} cases are there already\n")
 
-    def _say(self, text: str) -> None:
-        if self.stream is not None:
-            self.stream.write(text)
-            self.stream.flush()
+def _stopped(left: int, error: Exception) -> SweepStopped:
+    return SweepStopped(f"the executor broke down, with {left} cases still to make: {error or type(error).__name__}")
 
-    def show(self, done: int, *, end: bool = False) -> None:
-        """Says how far it is, if it is time to."""
-        now = time.monotonic()
-        terminal = self.stream is not None and self.stream.isatty()
-        if self.stream is None or (not end and now - self.shown < (_TICK_SECONDS if terminal else 60.0)):
-            return
-        self.shown = now
-        made, passed = done - self.before, now - self.begun
-        left = f", {passed / made * (self.total - done):.0f} s left" if made and done < self.total else ""
-        told = f"{done} of {self.total} cases, {passed:.0f} s{left}"
-        if terminal:
-            filled = 40 * done // max(1, self.total)
-            self._say(f"\r\033[K[{'#' * filled:<40}] {told}" + ("\n" if end else ""))
-        else:
-            self._say(f"{told}\n")
 
-    def close(self, done: int) -> None:
-        """The last word."""
-        if done > self.before:
-            self.show(done, end=True)
+def _outcome(found: _Outcome | _Kept, store: kept.Store) -> _Outcome | None:
+    """The outcome, which is kept if it is new and lasting; None where the one that is kept is damaged."""
+    if isinstance(found, _Kept):
+        return _read(store.take(found.key))
+    if found.key is not None and found.lasting:
+        store.keep(found.key, {"status": found.status, "rows": found.rows, "message": found.message})
+    return found
+
+
+def _read(result: Any) -> _Outcome | None:
+    """The outcome that was kept, or None where it is none."""
+    if not isinstance(result, dict) or set(result) != {"status", "rows", "message"}:
+        return None
+    rows = result["rows"]
+    if not isinstance(rows, list) or not all(isinstance(row, dict) for row in rows):
+        return None
+    return _Outcome(str(result["status"]), rows, str(result["message"]))
 
 
 def _table(cases: Sequence[Case], outcomes: Sequence[_Outcome]) -> pandas.DataFrame:
-    """One table of all outcomes, in the order of the cases."""
+    """One table of all outcomes, in the order of the cases. A count that some rows lack is of the type Int64, which has room for
+    what is missing and stays whole."""
     rows: list[dict[str, Any]] = []
     for case, outcome in zip(cases, outcomes):
         told = {"message": outcome.message} if outcome.status != "ok" else {}
         rows.extend({**case, "status": outcome.status, **row, **told} for row in outcome.rows or [{}])
-    return pandas.DataFrame(rows)
+    table = pandas.DataFrame(rows)
+    for name in table.columns[table.isna().any()]:
+        given = [row[name] for row in rows if name in row]
+        if given and all(isinstance(value, Integral) and not isinstance(value, bool) for value in given):
+            table[name] = pandas.array([row.get(name) for row in rows], dtype="Int64")
+    return table

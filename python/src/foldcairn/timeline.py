@@ -13,7 +13,7 @@ from matplotlib.path import Path
 from matplotlib.ticker import MaxNLocator
 from numpy.typing import NDArray
 
-from . import style, timing
+from . import arguments, style, timing
 from .results import Log
 from .rounds import rounds
 from .scenario import Scenario
@@ -28,11 +28,13 @@ _POINTS = (_WIDTH - 1.2) * 72
 _HALF = 0.32
 
 
+@arguments.of_log
 def timeline(
-    log: Log, *, start_seconds: float = 0.0, end_seconds: float | None = None, nodes: Iterable[int] | None = None,
-    title: str | None = None, note: str | None = None, axes: Axes | None = None,
+    log: Log, *, start_seconds: float = 0.0, end_seconds: float | None = None, frame: int | None = None,
+    nodes: Iterable[int] | None = None, title: str | None = None, note: str | None = None, axes: Axes | None = None,
 ) -> Figure:  # fmt: skip
-    """What each radio did in this time (the whole run by default), a row for each node or each of `nodes`.
+    """What each radio did in this time (the whole run by default), or in the round of a frame, a row for each node or each of
+    `nodes`.
 
     In a window of more than 12 s each round is a tick by the colour of its rank's channel; dots are rounds in which the node
     delivered packets, if there is room for them, and grey is time without power. In a shorter one there are the windows of
@@ -41,14 +43,13 @@ def timeline(
 
     `note` is a line below the title. With `axes` it is drawn there, without the key, as a part of their figure.
 
-    Raises `ValueError` where the window has no length or lies outside of the run, or a node is none of the scenario.
+    Raises `ValueError` where the window has no length or lies outside of the run, a frame has no round, or a node is none of the
+    scenario.
     """
-    end = float(log.scenario.seconds) if end_seconds is None else end_seconds
-    if not 0 <= start_seconds < end <= log.scenario.seconds:
-        raise ValueError(f"the window from {start_seconds} to {end} s is no part of the run, which goes from 0 to {log.scenario.seconds} s")
-    shown = sorted(log.scenario.nodes if nodes is None else set(nodes))
-    if strange := set(shown) - set(log.scenario.nodes):
-        raise ValueError(f"the scenario has no node {min(strange)}")
+    if frame is not None:
+        start_seconds, end_seconds = _of_round(log, frame)
+    start_seconds, end = arguments.window(start_seconds, end_seconds, log.scenario.seconds)
+    shown = sorted(log.scenario.nodes if nodes is None else {log.scenario.id(node) for node in nodes})
     with style.settings():
         drawn = style.axes(_WIDTH, 1.4 + (0.3 if len(shown) <= 30 else 0.2) * len(shown))[1] if axes is None else style.plain(axes)
         row = {node: place for place, node in enumerate(shown)}
@@ -67,9 +68,19 @@ def timeline(
     return drawn.get_figure()
 
 
+def _of_round(log: Log, frame: int) -> tuple[float, float]:
+    """The time of the round of a frame, from a little before its first slot to a little after its last."""
+    slots = timing.slots(log)
+    slots = slots[slots["frame"] == frame]
+    if slots.empty:
+        raise ValueError(f"frame {frame} has no round; `planning.rounds` has the frames that have one")
+    return max(0.0, slots["start_seconds"].min() - 0.002), min(float(log.scenario.seconds), slots["end_seconds"].max() + 0.002)
+
+
 def _rows(drawn: Axes, scenario: Scenario, shown: list[int]) -> None:
     ranks = {node: rank for rank, node in scenario.hosts.items()}
-    names = [f"host {ranks[node]}, node {node}" if node in ranks else f"node {node}" for node in shown]
+    named = {node: scenario.labels.get(node, f"node {node}") for node in shown}
+    names = [f"host {ranks[node]}, {named[node]}" if node in ranks else named[node] for node in shown]
     drawn.set_yticks(range(len(shown)), names)
     drawn.set_ylim(len(shown) - 0.4, -0.6)
     drawn.spines["left"].set_visible(False)

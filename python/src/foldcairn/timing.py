@@ -6,28 +6,28 @@ import numpy as np
 import pandas as pd
 
 from . import lines, power, radio
+from .answers import answer
 from .results import TICKS_A_SECOND, Log
 
 
+@answer
 def slots(log: Log) -> pd.DataFrame:
     """A row for each slot of each round that took place, also of those without their host.
 
     frame, rank, slot    the slot and its round
     start_ticks, end_ticks, start_seconds, end_seconds   when it is by the host's clock, in true time; without a host by the
-                         clock of the node that was first
+                         round before it (`radio.plans`)
     name                 "opening", "data 7.0" (of stream 0 of node 7), "contention" or "closing"
     """
     plans = radio.plans(log)
     windows = radio.tunings(log)
     windows = windows[windows["purpose"] != "searching"]
     frame = windows["start_ticks"] // lines.frame_ticks(log.scenario.profile)
-    first = windows.groupby([frame.rename("frame"), windows["rank"]])["start_ticks"].min()
-    plans = plans.loc[plans.index.isin(first.index)]
-    starts = plans["start_ticks"].fillna(first.reindex(plans.index))
+    plans = plans.loc[plans.index.isin(pd.MultiIndex.from_arrays([frame, windows["rank"]]))]
     length = lines.slot_ticks(log.scenario.profile)
     rows = [
-        (*place, slot, int(start) + slot * length, name)
-        for (place, plan), start in zip(plans.iterrows(), starts)
+        (*place, slot, plan["start_ticks"] + slot * length, name)
+        for place, plan in plans.iterrows()
         for slot, name in enumerate(_names(plan))
     ]
     table = pd.DataFrame(rows, columns=["frame", "rank", "slot", "start_ticks", "name"])
@@ -43,6 +43,7 @@ def _names(plan: pd.Series) -> list[str]:
     return ["opening", *owners, *["contention"] * plan["contention_slots"], "closing"]
 
 
+@answer
 def spells(log: Log) -> pd.DataFrame:
     """The times with the radio on, without the pauses within a round: a row for each node and round, and one for each search.
 
@@ -62,10 +63,11 @@ def spells(log: Log) -> pd.DataFrame:
     )[["node", "rank", "start_seconds", "end_seconds", "searching"]]  # fmt: skip
 
 
+@answer
 def pauses(log: Log) -> pd.DataFrame:
     """When nodes had no power: `node`, `start_seconds`, `end_seconds`."""
     rows = []
-    boots = power.boots(log.scenario)
+    boots = power.boots_of(log)
     for node in sorted(log.scenario.nodes):
         ours = boots[boots["node"] == node]
         starts = [0.0, *ours["off_seconds"]]

@@ -1,0 +1,77 @@
+"""What all answers about a log share: they take a `results.Log` alone, are worked out once for each log, and a column has the
+same type in each of their tables, also in empty ones. Tested, not proved."""
+
+from __future__ import annotations
+
+import functools
+from collections.abc import Callable, Hashable
+from typing import TYPE_CHECKING, Any, TypeVar, cast
+
+import pandas as pd
+
+from . import arguments
+
+if TYPE_CHECKING:
+    from .results import Log
+
+Call = TypeVar("Call", bound=Callable[..., Any])
+
+# Ids and counts, which are int64 in each table; of a column of yes and no with such a name the type stays.
+WHOLE = frozenset(
+    {
+        "accepted", "acknowledgements", "boot", "collided", "contention_slots", "data_slots", "deliveries", "delivered", "frame",
+        "from_host", "gap", "host", "host_boot", "hosts", "joined", "node", "number", "packets", "put", "puts", "rank", "requests",
+        "rounds", "sent", "sent_while_on", "slot", "slots", "source", "stream", "streams", "to_host", "used",
+    }
+)  # fmt: skip
+
+
+def answer(call: Call) -> Call:
+    """Makes a call that takes a log raise `arguments.ArgumentError` where it is given something else, keep what it gives for
+    the same log and arguments, and give tables with the types of `typed`. What it gives is the caller's own."""
+
+    @functools.wraps(call)
+    def answered(log: Log, *rest: Any, **named: Any) -> Any:
+        arguments.require_log(call.__name__, log)
+        kept: dict[Hashable, Any] = log.__dict__.setdefault("_answers", {})
+        key = (call.__module__, call.__name__, rest, tuple(sorted(named.items())))
+        found = kept[key] if _is_hashable(key) and key in kept else call(log, *rest, **named)
+        if not isinstance(found, pd.DataFrame):
+            return found
+        table = typed(found)
+        if _is_hashable(key):
+            kept[key] = table
+        return table.copy()
+
+    return cast(Call, answered)
+
+
+def _is_hashable(key: Hashable) -> bool:
+    """Whether a call can be kept by its arguments: a list among them has no hash."""
+    try:
+        hash(key)
+    except TypeError:
+        return False
+    return True
+
+
+def typed(table: pd.DataFrame) -> pd.DataFrame:
+    """The table with its ids and counts as int64, also in its index, and its times and ratios as float64.
+
+    pandas gives columns without rows, and those of joins, other types.
+    """
+    types = {}
+    for name, dtype in table.dtypes.items():
+        if name in WHOLE and dtype not in ("bool", "int64"):
+            types[name] = "int64"
+        elif dtype == "object" and str(name).endswith("_seconds"):
+            types[name] = "float64"
+    if types:
+        table = table.astype(types)
+    if isinstance(table.index, pd.MultiIndex):
+        table.index = table.index.set_levels(
+            [level.astype("int64") if level.name in WHOLE else level for level in table.index.levels]
+        )
+    elif table.index.name in WHOLE:
+        table.index = table.index.astype("int64")
+    return table

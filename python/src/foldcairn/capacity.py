@@ -1,0 +1,190 @@
+"""How many more streams a network takes. `planning` has all answers in one place. Tested, not proved."""
+
+from __future__ import annotations
+
+import functools
+import os
+from collections.abc import Iterable, Sequence
+from concurrent.futures import Executor
+from typing import TextIO
+
+import pandas as pd
+
+from . import lines, losses, progress as bars, results as runs, sweep
+from .arguments import ArgumentError
+from .events import Put, Stream
+from .receivers import Receivers, meant
+from .scenario import Scenario
+
+# A stream asks for its slots that much more often than its packets come, so that its queue drains.
+_SLACK = 1.15
+_STREAMS_OF_A_NODE = 4
+# By how much the streams of the network may deliver less, as a part of what they put.
+_NO_LESS = 0.02
+
+
+def capacity(
+    scenario: Scenario,
+    every: float = 60.0,
+    *,
+    interval: int | None = None,
+    sources: Iterable[int] | None = None,
+    ratio: float = 0.9,
+    start_seconds: float | None = None,
+    seeds: Sequence[int] = (1,),
+    receivers: Receivers = None,
+    executor: Executor | None = None,
+    results: str | os.PathLike[str] | None = None,
+    progress: bool | TextIO = True,
+) -> pd.DataFrame:
+    """What is left for further streams, and how many more streams of a kind a run still serves: one row.
+
+    A further stream has a packet `every` so many seconds and asks for a slot each `interval` seconds, without it some 15 %
+    sooner than its packets come. It is a new stream of one of the `sources` (all nodes but the first host without them), in turn;
+    a node has four streams. So many are served if in each run, one for each of the `seeds`, this holds from `start_seconds` on (half
+    of the run without it), when all should have been accepted: as many packets of each further stream are delivered as the part
+    `ratio` of those that it puts, but for one, and those of the network's own streams together are no fewer than without the
+    further ones, up to two hundredths. So queues that filled before may still drain. `receivers` are in the forms of
+    `foldcairn.receivers`.
+    Take a network without failures: what is lost for want of a host is not lost for want of room.
+
+    streams, streams_left    how many streams are requested at a time at most, and how many more a host has room for, of 32
+    slots, slots_left        how many data slots a frame they ask for, and how many more a round has, of 40
+    every_seconds, interval  the kind of further stream
+    further                  the largest number of them that is served, found by halving: that more are not served where some are
+                             not is taken for granted
+    limit                    what forbids one more: "streams of a host", "slots of a round", "streams of nodes", or "the run"
+
+    It takes some six runs a seed; `executor`, `results` and `progress` are those of `importance`. Raises `ScenarioError` where a
+    source is no node or an interval is out of its range, `ArgumentError` where the run is too short, and `ValueError` where a run
+    fails.
+    """
+    asked = _asked_at_most(scenario)
+    wanted = max(1, min(120, int(every / _SLACK))) if interval is None else interval
+    if every / _SLACK > 120 and interval is None:
+        wanted = 120
+    places = _places(scenario, sources)
+    slot = scenario.frame_seconds / wanted
+    left = {
+        "streams of a host": lines.STREAMS_OF_A_HOST - asked[0],
+        "slots of a round": int((lines.DATA_SLOTS - asked[1]) / slot + 1e-9),
+        "streams of nodes": len(places),
+    }
+    limit = min(left, key=lambda name: left[name])
+    most = max(0, left[limit])
+    search = _Search(scenario, places, every, wanted, ratio, start_seconds, seeds, receivers)
+    further = search.largest(most, executor, results, progress)
+    row = {
+        "streams": asked[0], "streams_left": max(0, lines.STREAMS_OF_A_HOST - asked[0]), "slots": asked[1],
+        "slots_left": max(0.0, lines.DATA_SLOTS - asked[1]), "every_seconds": float(every), "interval": wanted, "further": further,
+        "limit": limit if further == most else "the run",
+    }  # fmt: skip
+    return pd.DataFrame([row])
+
+
+def _asked_at_most(scenario: Scenario) -> tuple[int, float]:
+    """How many streams are requested at a time at most, and how many slots a frame they come to at most."""
+    from . import cautions
+
+    return cautions.most_asked(scenario)
+
+
+def _places(scenario: Scenario, sources: Iterable[int] | None) -> list[tuple[int, int]]:
+    """Where further streams may be, as nodes and streams, the nodes in turn."""
+    hosts = scenario.hosts.get(0)
+    nodes = sorted(scenario.nodes.keys() - {hosts}) if sources is None else [scenario.id(node) for node in sources]
+    taken = {(event.node, event.stream) for event in scenario.script if isinstance(event, (Put, Stream))}
+    free = {node: [stream for stream in range(_STREAMS_OF_A_NODE) if (node, stream) not in taken] for node in nodes}
+    # Nodes without a stream come first: they are what a planner has in mind.
+    order = sorted(nodes, key=lambda node: _STREAMS_OF_A_NODE - len(free[node]))
+    return [(node, free[node][turn]) for turn in range(_STREAMS_OF_A_NODE) for node in order if turn < len(free[node])]
+
+
+class _Search:
+    """The largest number of further streams, by halving."""
+
+    def __init__(self, scenario: Scenario, places: list[tuple[int, int]], every: float, interval: int, ratio: float,
+                 start_seconds: float | None, seeds: Sequence[int], receivers: Receivers) -> None:  # fmt: skip
+        meant(scenario, receivers)
+        self.scenario, self.seeds, self.ratio = scenario, tuple(seeds), ratio
+        start = scenario.seconds / 2 if start_seconds is None else start_seconds
+        if not 0 <= start <= scenario.seconds - 2 * every:
+            raise ArgumentError(
+                f"from {start:g} s to the end of a run of {scenario.seconds} s there are not two packets with {every:g} s between them; take a "
+                "longer run"
+            )
+        self.build = functools.partial(_with_further, scenario, places, every, interval)
+        self.measure = functools.partial(_counts, receivers, start)
+        self.before: dict[int, float] = {}
+
+    def largest(
+        self, most: int, executor: Executor | None, results: str | os.PathLike[str] | None, progress: bool | TextIO
+    ) -> int:
+        """The largest number up to `most` that is served."""
+        with bars.bar(1 + most.bit_length(), "numbers of streams", progress) as bar:
+
+            def served(count: int) -> bool:
+                cases = [{"further": count, "seed": seed} for seed in self.seeds]
+                table = sweep.sweep(
+                    self.build, cases, self.measure, executor=executor, results=results, progress=False,
+                    name=f"capacity {self.measure.args!r} {self.scenario.receivers!r}",
+                )  # fmt: skip
+                bar.update()
+                if (table["status"] != "ok").any():
+                    first = table[table["status"] != "ok"].iloc[0]
+                    raise ValueError(f"the run with {count} further streams failed: {first['status']}: {first['message']}")
+                return self._is_served(table, count)
+
+            served(0)
+            low, high = 0, most
+            while low < high:
+                middle = (low + high + 1) // 2
+                low, high = (middle, high) if served(middle) else (low, middle - 1)
+            return low
+
+    def _is_served(self, table: pd.DataFrame, count: int) -> bool:
+        new = [node * _STREAMS_OF_A_NODE + stream for node, stream in self.build.args[1][:count]]
+        is_new = (table["source"] * _STREAMS_OF_A_NODE + table["stream"]).isin(new)
+        old = table[~is_new].groupby("seed")[["put", "delivered"]].sum()
+        shares = (old["delivered"] / old["put"].where(old["put"] > 0)).fillna(1.0).to_dict()
+        if not count:
+            self.before = shares
+        kept = all(share >= self.before.get(seed, 1.0) - _NO_LESS for seed, share in shares.items())
+        further = table[is_new & (table["put"] > 0)]
+        return kept and bool((further["delivered"] >= self.ratio * further["put"] - further["one"]).all())
+
+
+def _with_further(
+    scenario: Scenario, places: list[tuple[int, int]], every: float, interval: int, further: int, seed: int
+) -> Scenario | losses.Drawing:
+    """The scenario with so many further streams, whose losses are to be drawn; in the process of a worker."""
+    made = scenario.copy()
+    for number, (node, stream) in enumerate(places[:further]):
+        start = every * number / max(1, further)
+        made.stream(node, interval, stream=stream, seconds=start).every(every, node, stream=stream, start=start)
+    return losses.Drawing(made, seed) if made.prr and made.seed is None else made
+
+
+def _counts(receivers: Receivers, start: float, scenario: Scenario | str) -> pd.DataFrame:
+    """How many packets of each stream are put from `start` on, and delivered from then on, and what one packet counts."""
+    from . import delivery
+
+    if isinstance(scenario, str):
+        raise ArgumentError("a scenario is needed, and not its text")
+    log = runs.log(scenario, warn=False)
+    whom = _for_all(receivers if receivers is not None else scenario.receivers)
+    table = delivery.delivery_ratio(log, receivers=whom, start_seconds=start)[["source", "stream", "put"]]
+    came = delivery.latencies(log, receivers=whom)
+    came = came[came["delivered_seconds"] >= start].groupby(["source", "stream"]).size().rename("delivered")
+    packets = delivery.packets(log)
+    packets = packets[packets["put_seconds"] >= start].groupby(["source", "stream"]).size().rename("packets")
+    table = table.join(came, on=["source", "stream"]).join(packets, on=["source", "stream"]).fillna(0)
+    table["one"] = (table["put"] / table["packets"].where(table["packets"] > 0)).fillna(0.0)
+    # A network without streams has a row too.
+    none = pd.DataFrame({"source": [0], "stream": [0], "put": [0], "delivered": [0], "one": [0.0]})
+    return pd.concat([none, table[list(none)]], ignore_index=True)
+
+
+def _for_all(receivers: Receivers) -> Receivers:
+    """The receivers, where streams that a mapping does not name are meant for the host that serves."""
+    return {"others": "hosts", **receivers} if isinstance(receivers, dict) else receivers

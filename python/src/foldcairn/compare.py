@@ -1,0 +1,231 @@
+"""Plans side by side: `report.compare` runs each over several seeds, and gives one page with the answers. Tested, not proved."""
+
+from __future__ import annotations
+
+import functools
+import html
+import math
+import os
+from collections.abc import Callable, Mapping, Sequence
+from concurrent.futures import Executor
+from dataclasses import dataclass
+from pathlib import Path
+from typing import Any, TextIO
+
+import numpy as np
+import pandas as pd
+from numpy.typing import NDArray
+
+from . import files, findings, intervals, losses, page, planning, plot, results as runs, service, sweep
+from .arguments import ArgumentError
+from .receivers import Receivers, meant
+from .results import Log
+from .scenario import Scenario
+
+# What is compared: the number of `planning.summary`, what it is, whether more is better, by what it is multiplied, and its unit.
+_ANSWERS: tuple[tuple[str, str, bool, float, str], ...] = (
+    ("ratio_of_put", "of what was put was delivered at {whom}", True, 100, "%"),
+    ("ratio_of_sent_while_on", "of what was sent while the receiver had power was delivered", True, 100, "%"),
+    ("latency_median", "median latency", False, 1, "s"),
+    ("latency_p90", "90 % are delivered within", False, 1, "s"),
+    ("all_joined_seconds", "all nodes had joined after the first start", False, 1, "s"),
+    ("all_accepted_seconds", "all streams were accepted after the first start", False, 1, "s"),
+    ("request_success", "of the requests were acknowledged", True, 100, "%"),
+    ("outage_seconds", "longest outage at a change of hosts, or to the end", False, 1, "s"),
+    ("seconds_without_host", "no host serves for so long before the end", False, 1, "s"),
+    ("duty_cycle", "mean duty cycle", False, 100, "%"),
+    ("duty_cycle_in_rounds", "mean duty cycle in rounds", False, 100, "%"),
+)
+
+
+@dataclass(frozen=True, repr=False)
+class Comparison:
+    """What came of a comparison.
+
+    table      a row for each answer, and for each plan its mean over the seeds, and `.. ±`, half of the interval in which the mean
+               lies with 95 % (missing for one seed); `better` is the plan whose interval is better than each other's, if one is
+    runs       a row for each plan and seed, with the numbers of `planning.summary`
+    """
+
+    table: pd.DataFrame
+    runs: pd.DataFrame
+    _page: Callable[[], str]
+
+    @functools.cached_property
+    def html(self) -> str:
+        """The page, which is made when it is asked for first."""
+        return self._page()
+
+    def write(self, path: str | os.PathLike[str]) -> Path:
+        """Writes the page into a file, and gives its path."""
+        return files.write(path, self.html.encode())
+
+    def __repr__(self) -> str:
+        return f"<Comparison of {', '.join(self.runs['plan'].unique())}: {self.runs['seed'].nunique()} seeds>"
+
+    def _repr_html_(self) -> str:
+        shown: str = self.table.to_html(index=False, border=0, na_rep="–", float_format=lambda number: f"{number:.2f}")
+        return shown
+
+
+def compare(
+    plans: Mapping[str, Scenario],
+    path: str | os.PathLike[str] | None = None,
+    *,
+    seeds: Sequence[int] = (1, 2, 3, 4),
+    title: str = "Plans side by side",
+    site: str = "",
+    notes: str = "",
+    positions: Mapping[int, tuple[float, float]] | None = None,
+    receivers: Receivers = None,
+    executor: Executor | None = None,
+    results: str | os.PathLike[str] | None = None,
+    progress: bool | TextIO = True,
+) -> Comparison:
+    """Runs each plan once for each seed, and compares the answers: on one page there are the maps, a table of the answers with
+    intervals of 95 %, in which what is better is marked, and the radios of each plan where its host fails, by the first seed.
+
+    `plans` are two or more networks by their names. With a `path` the page is written there. The losses are drawn by the seeds
+    anew, and a seed gives a link the same coins in each plan. `receivers` are in the forms of `foldcairn.receivers`, `positions`
+    are places of the nodes for the maps, and `executor`, `results` and `progress` are those of `sweep.sweep`. An interval is
+    Student's for the mean: it takes the seeds for a sample, and says nothing of what the model leaves out.
+
+    Raises `ArgumentError` where there are fewer than two plans, no seeds, or a receiver is no node of a plan, and `ValueError` where a
+    run fails.
+    """
+    if len(plans) < 2 or not seeds:
+        raise ArgumentError("a comparison takes two plans or more by their names, and at least one seed")
+    for network in plans.values():
+        meant(network, receivers)
+    told = _runs(plans, seeds, receivers, executor, results, progress)
+    table = _table(told, list(plans), findings.whom(next(iter(plans.values())), receivers))
+
+    def whole() -> str:
+        first = {name: runs.log(_drawn(network, seeds[0]), warn=False) for name, network in plans.items()}
+        return _page(first, table, seeds, title, site, notes, positions)
+
+    made = Comparison(table, told, whole)
+    if path is not None:
+        made.write(path)
+    return made
+
+
+def _drawn(network: Scenario, seed: int) -> Scenario:
+    """The network with the losses of a seed."""
+    return losses.draw(network, seed) if network.prr and network.seed is None else network
+
+
+def _runs(
+    plans: Mapping[str, Scenario], seeds: Sequence[int], receivers: Receivers, executor: Executor | None,
+    results: str | os.PathLike[str] | None, progress: bool | TextIO,
+) -> pd.DataFrame:  # fmt: skip
+    """The numbers of each plan and seed. This is the one place that knows how the losses of a seed come about."""
+    cases = [{"plan": name, "seed": seed} for name in plans for seed in seeds]
+    told = sweep.sweep(
+        functools.partial(_built, dict(plans)), cases, functools.partial(_numbers, receivers), executor=executor, results=results,
+        progress=progress, name=f"compare {receivers!r} {[network.receivers for network in plans.values()]!r}",
+    )  # fmt: skip
+    if (told["status"] != "ok").any():
+        wrong = told[told["status"] != "ok"].iloc[0]
+        raise ValueError(f"the run of plan {wrong['plan']} with seed {wrong['seed']} failed: {wrong['status']}: {wrong['message']}")
+    return told.drop(columns="status")
+
+
+def _built(plans: Mapping[str, Scenario], plan: str, seed: int) -> Scenario | losses.Drawing:
+    network = plans[plan]
+    return losses.Drawing(network, seed) if network.prr and network.seed is None else network
+
+
+def _numbers(receivers: Receivers, scenario: Scenario | str) -> dict[str, float]:
+    log = runs.log(scenario, warn=False)
+    told = planning.summary(log, receivers=receivers)
+    silent = told.pop("no_host_from_seconds")
+    return {**told, "seconds_without_host": 0.0 if math.isnan(silent) else log.scenario.seconds - silent}
+
+
+def _table(told: pd.DataFrame, plans: list[str], whom: str) -> pd.DataFrame:
+    rows = []
+    for name, words, more, times, unit in _ANSWERS:
+        values = {plan: times * told.loc[told["plan"] == plan, name].to_numpy(dtype="float64") for plan in plans}
+        spans = {plan: _interval(numbers) for plan, numbers in values.items()}
+        row: dict[str, Any] = {"answer": words.format(whom=whom), "unit": unit}
+        for plan in plans:
+            row[plan], row[f"{plan} ±"] = spans[plan]
+        rows.append({**row, "better": _better(spans, more)})
+    return pd.DataFrame(rows)
+
+
+def _interval(numbers: NDArray[np.float64]) -> tuple[float, float]:
+    """The mean, and half of the interval in which it lies with 95 %."""
+    mean, low, high = intervals.of_mean(numbers)
+    return mean, (high - low) / 2
+
+
+def _better(spans: Mapping[str, tuple[float, float]], more: bool) -> str:
+    """The plan whose interval is better than those of all others, if there is one."""
+    sign = 1 if more else -1
+    for plan, (mean, half) in spans.items():
+        others = [span for name, span in spans.items() if name != plan]
+        # One seed has no interval, and marks nothing.
+        if all(sign * mean - half > sign * other + wide for other, wide in others):
+            return plan
+    return ""
+
+
+def _page(
+    logs: Mapping[str, Log], table: pd.DataFrame, seeds: Sequence[int], title: str, site: str, notes: str,
+    positions: Mapping[int, tuple[float, float]] | None,
+) -> str:  # fmt: skip
+    listed = [f"{html.escape(name)}: {html.escape(page.about(log))}" for name, log in logs.items()]
+    own = "".join(f"<p>{html.escape(part.strip())}</p>" for part in notes.split("\n\n") if part.strip())
+    parts = [
+        f"<h1>{html.escape(title)}</h1>",
+        f'<p class="where">Site: {html.escape(site)}</p>' if site else "",
+        f'<div class="notes">{own}</div>' if own else "",
+        "<ul>" + "".join(f"<li>{line}</li>" for line in listed) + "</ul>",
+        _answers(table, list(logs), seeds),
+        *(f'<section class="figure"><h2>The network, plan {html.escape(name)}</h2>{_map(log, positions)}</section>' for name, log in logs.items()),
+        *(_failure(name, log) for name, log in logs.items()),
+    ]
+    css = (Path(__file__).parent / "page.css").read_text(encoding="utf-8")
+    head = f'<meta charset="utf-8"><meta name="viewport" content="width=device-width"><title>{html.escape(title)}</title>'
+    body = "\n".join(part for part in parts if part)
+    return f'<!DOCTYPE html>\n<html lang="en"><head>{head}<style>\n{css}</style></head>\n<body>\n{body}\n</body></html>\n'
+
+
+def _answers(table: pd.DataFrame, plans: list[str], seeds: Sequence[int]) -> str:
+    """The table, with the better plan marked."""
+    heads = "".join(f"<th>{html.escape(word)}</th>" for word in ("", *plans, "better"))
+    rows = []
+    for row in table.to_dict("records"):
+        cells = [_cell(row[plan], row[f"{plan} ±"], row["unit"], row["better"] == plan) for plan in plans]
+        rows.append(f"<tr><th>{html.escape(row['answer'])}</th>{''.join(cells)}<td>{html.escape(row['better'] or '–')}</td></tr>")
+    many = f"{len(seeds)} seeds" if len(seeds) > 1 else "one seed, which gives no interval"
+    return (
+        f'<h2>The answers</h2><p>Means over {many}, with the interval in which the mean lies with 95 %. A plan is marked where its '
+        "interval is better than each other's; where none is, more seeds may tell.</p>"
+        f'<table class="plans"><thead><tr>{heads}</tr></thead><tbody>{"".join(rows)}</tbody></table>'
+    )
+
+
+def _cell(mean: float, half: float, unit: str, best: bool) -> str:
+    told = "–" if math.isnan(mean) else f"{mean:.1f} {unit}" if math.isnan(half) else f"{mean:.1f} ± {half:.1f} {unit}"
+    return f'<td class="best">{told}</td>' if best else f"<td>{told}</td>"
+
+
+def _map(log: Log, positions: Mapping[int, tuple[float, float]] | None) -> str:
+    return page.picture("The network", lambda: plot.topology(log.scenario, positions=positions))
+
+
+def _failure(name: str, log: Log) -> str:
+    """The radios around the first change of hosts, or to the end where none takes over; the whole run if the host never fails."""
+    changes = service.outages(log)
+    start, end = 0.0, float(log.scenario.seconds)
+    if len(changes):
+        first = changes.iloc[0]
+        begun = first["last_round_seconds"] if pd.isna(first["off_seconds"]) else min(first["off_seconds"], first["last_round_seconds"])
+        last = first["first_delivery_seconds"] if first["ended"] else end
+        start, end = max(0.0, begun - 60.0), min(end, last + 60.0)
+    told = f"The radios of plan {name} where its host fails" if len(changes) else f"The radios of plan {name}, whose host never fails"
+    shown = page.picture(told, lambda: plot.timeline(log, start_seconds=start, end_seconds=end))
+    return f'<section class="figure"><h2>{html.escape(told)}</h2>{shown}</section>'

@@ -1,0 +1,50 @@
+"""Names of nodes in tables: where a scenario has names (`Scenario.labels`), answers show them in place of the ids.
+
+Tested, not proved.
+"""
+
+from __future__ import annotations
+
+import functools
+from collections.abc import Callable
+from typing import Any, TypeVar, cast
+
+import pandas as pd
+
+from .scenario import Scenario
+
+Call = TypeVar("Call", bound=Callable[..., Any])
+
+# The columns and indices that have ids of nodes.
+_IDS = frozenset({"node", "source", "host", "other_host", "from_host", "to_host", "one", "other"})
+
+
+def named(scenario: Scenario, table: pd.DataFrame) -> pd.DataFrame:
+    """The table with names in place of ids, or the table itself where the scenario has no names."""
+    if not scenario.labels:
+        return table
+    table = table.copy()
+    for column in _IDS & set(map(str, table.columns)):
+        table[column] = [scenario.labels.get(node, node) for node in table[column]]
+    if "nodes" in table:
+        table["nodes"] = [tuple(scenario.labels.get(node, node) for node in nodes) for nodes in table["nodes"]]
+    if _IDS & set(table.index.names):
+        table = table.rename(index=scenario.labels, level=None if table.index.nlevels == 1 else 0)
+    return table
+
+
+def answers(function: Call) -> Call:
+    """The function, of a log or a scenario, with names in its table."""
+
+    @functools.wraps(function)
+    def call(*given: Any, **more: Any) -> pd.DataFrame:
+        table = function(*given, **more)
+        return named(scenario_of(given[0] if given else next(iter(more.values()))), table)
+
+    return cast(Call, call)
+
+
+def scenario_of(given: Any) -> Scenario:
+    """The scenario that is given, or that of the log that is given."""
+    found: Scenario = given if isinstance(given, Scenario) else given.scenario
+    return found

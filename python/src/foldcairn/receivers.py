@@ -1,0 +1,169 @@
+"""For whom packets are meant: for all nodes, for some, for whichever host serves, or for other nodes stream by stream.
+
+`planning`, `importance`, the page and the command line take `receivers` in the same forms:
+
+| `receivers` | a packet is meant for |
+|---|---|
+| None | what the scenario says (`Scenario.sinks`), and all nodes if it says nothing |
+| "all" | each node |
+| "hosts" | the host that serves: that of the round in which the packet was sent (if it never was, of the last round before its put) |
+| 101, or [101, 131] | each of these nodes; names of nodes are read too |
+| {7: 101, (8, 1): "hosts", "others": "all"} | one of the above for each source, or each source and stream |
+
+A packet is never meant for its own source. Tested, not proved.
+"""
+
+from __future__ import annotations
+
+from collections.abc import Iterable, Mapping
+from dataclasses import dataclass
+from typing import TYPE_CHECKING, Any
+
+import numpy as np
+import pandas as pd
+from numpy.typing import NDArray
+
+from .events import Put, Stream
+
+if TYPE_CHECKING:
+    from .results import Log, Report
+    from .scenario import Scenario
+
+# What may be given for `receivers`: a word, a node, several nodes, or one of these for each source.
+Receivers = Any
+ALL, HOSTS, OTHERS = "all", "hosts", "others"
+_STREAM = ["source", "stream"]
+
+
+def streams_of(scenario: Scenario) -> list[tuple[int, int]]:
+    """The source and the number of each stream that is requested or gets packets, in order."""
+    return sorted({(event.node, event.stream) for event in scenario.script if isinstance(event, (Put, Stream))})
+
+
+def stream_index(scenario: Scenario) -> pd.MultiIndex:
+    """An index of these streams by `source` and `stream`."""
+    streams = streams_of(scenario)
+    return pd.MultiIndex.from_arrays([[one for one, _ in streams], [two for _, two in streams]], names=_STREAM)
+
+
+def of_streams(table: pd.DataFrame, streams: Iterable[tuple[int, int]]) -> pd.Series:
+    """Which rows of a table with `source` and `stream` are of these streams."""
+    return (table["source"].astype("int64") * 4 + table["stream"].astype("int64")).isin([4 * one + two for one, two in streams])
+
+
+@dataclass(frozen=True)
+class Meant:
+    """For whom the packets of each stream are meant: "hosts", or a set of nodes."""
+
+    scenario: Scenario
+    by_stream: Mapping[tuple[int, int], str | frozenset[int]]
+
+    def groups(self) -> Iterable[tuple[str | frozenset[int], list[tuple[int, int]]]]:
+        """The streams that are meant for the same nodes, together."""
+        found: dict[str | frozenset[int], list[tuple[int, int]]] = {}
+        for stream, nodes in self.by_stream.items():
+            found.setdefault(nodes, []).append(stream)
+        return found.items()
+
+    def nodes(self) -> set[int]:
+        """All nodes that some stream of another node is meant for."""
+        hosts = set(self.scenario.hosts.values())
+        return {
+            node for (source, _), nodes in self.by_stream.items() for node in (hosts if isinstance(nodes, str) else nodes) if node != source
+        }
+
+    def kept(self, deliveries: pd.DataFrame) -> pd.Series:
+        """Which rows of `results.Report.deliveries` are at a node that the packet is meant for."""
+        at_host = deliveries["node"] == deliveries["rank"].map(self.scenario.hosts)
+        kept = pd.Series(False, deliveries.index)
+        for nodes, streams in self.groups():
+            kept |= of_streams(deliveries, streams) & (at_host if nodes == HOSTS else deliveries["node"].isin(nodes))
+        return kept
+
+    def pairs(self, log: Log, packets: pd.DataFrame) -> pd.DataFrame:
+        """A row for each packet of `delivery.packets` and each node, `node`, that it is meant for."""
+        parts = []
+        for nodes, streams in self.groups():
+            part = packets[of_streams(packets, streams)]
+            chosen: list[int] = [] if isinstance(nodes, str) else sorted(nodes)
+            repeated = part.loc[part.index.repeat(len(chosen) if nodes != HOSTS else 1)]
+            serving = _serving(log, part) if nodes == HOSTS else np.tile(np.array(chosen, dtype="int64"), len(part))
+            parts.append(repeated.assign(node=serving))
+        table = pd.concat(parts) if parts else packets.assign(node=0).iloc[:0]
+        return table[table["node"] != table["source"]].sort_index(kind="stable").reset_index(drop=True)
+
+    def due(self, report: Report, put: Mapping[tuple[int, int], int], without: int | None = None) -> int:
+        """How many pairs of a packet and a receiver there are in a report that has no log, of so many packets of each stream;
+        `without` is neither a source nor a receiver. Where the host that serves is meant, packets of its own do not count
+        that others delivered."""
+        total = 0
+        for nodes, streams in self.groups():
+            for stream in streams:
+                if stream[0] != without:
+                    others = 1 if isinstance(nodes, str) else len(nodes - {stream[0]} - ({without} if without is not None else set()))
+                    total += put.get(stream, 0) * others
+        table = report.deliveries
+        own = table[table["source"] == table["rank"].map(self.scenario.hosts)]
+        own = own[["source", "boot", "stream", "number"]].drop_duplicates()
+        meant = {stream for nodes, streams in self.groups() if nodes == HOSTS for stream in streams}
+        streams_of_own = zip(own["source"].tolist(), own["stream"].tolist())
+        return total - len([stream for stream in streams_of_own if stream in meant and stream[0] != without])
+
+
+def _serving(log: Log, packets: pd.DataFrame) -> NDArray[np.int64]:
+    """The host that serves when each packet is sent, or is put if it never is."""
+    from .rounds import rounds
+
+    hosts = log.scenario.hosts
+    opened = rounds(log)[["start_seconds", "host"]].sort_values("start_seconds")
+    if opened.empty:
+        return np.full(len(packets), hosts[min(hosts)] if hosts else -1, dtype="int64")
+    place = np.searchsorted(opened["start_seconds"].to_numpy(), packets["put_seconds"].to_numpy(), side="right") - 1
+    before = opened["host"].to_numpy()[np.maximum(place, 0)].astype("int64")
+    sent = packets["rank"].map({-1: -1, **hosts}).to_numpy(dtype="int64")
+    return np.where(sent >= 0, sent, before)
+
+
+def meant(scenario: Scenario, receivers: Receivers = None) -> Meant:
+    """For whom the packets of each stream are meant. Raises `ValueError` for a word that is none of them, a node that the scenario
+    does not have, or a stream of a mapping that is not named."""
+    given = scenario.receivers if receivers is None else receivers
+    streams = streams_of(scenario)
+    if not isinstance(given, Mapping):
+        nodes = _nodes(scenario, ALL if given is None else given)
+        return Meant(scenario, dict.fromkeys(streams, nodes))
+    named = {_stream(scenario, key): _nodes(scenario, value) for key, value in given.items()}
+    found = {stream: named.get(stream, named.get(stream[0], named.get(OTHERS))) for stream in streams}
+    if lacking := [stream for stream, nodes in found.items() if nodes is None]:
+        told = ", ".join(f"stream {stream} of node {node}" for node, stream in lacking[:8])
+        raise ValueError(f'`receivers` names no receiver for {told}; name one, or all others at once by "{OTHERS}"')
+    return Meant(scenario, {stream: nodes for stream, nodes in found.items() if nodes is not None})
+
+
+def _stream(scenario: Scenario, key: Any) -> Any:
+    """The key of a mapping: a node, a node and its stream, or the word for all others."""
+    if key == OTHERS and OTHERS not in scenario.labels.values():
+        return key
+    if isinstance(key, tuple):
+        return _id(scenario, key[0]), int(key[1])
+    return _id(scenario, key)
+
+
+def _nodes(scenario: Scenario, given: Any) -> str | frozenset[int]:
+    if isinstance(given, str) and given not in scenario.labels.values():
+        if given == HOSTS:
+            return HOSTS
+        if given == ALL:
+            return frozenset(scenario.nodes)
+        raise ValueError(f'`receivers` is {given!r}, and neither "{ALL}" nor "{HOSTS}" nor the name of a node')
+    if isinstance(given, str) or not isinstance(given, Iterable):
+        return frozenset({_id(scenario, given)})
+    return frozenset(_id(scenario, node) for node in given)
+
+
+def _id(scenario: Scenario, node: Any) -> int:
+    """The id of a node that is given by its id or its name."""
+    try:
+        return scenario.id(node)
+    except ValueError as error:
+        raise ValueError(f"`receivers`: {error}") from error

@@ -1,0 +1,121 @@
+"""What shells and notebooks show of scenarios and runs, the calls at the top, and results of long work that are kept."""
+
+from __future__ import annotations
+
+import hashlib
+import io
+import os
+from pathlib import Path
+
+import pytest
+from networks import FAILOVER, LINE
+
+import foldcairn
+from foldcairn import capacity, importance, losses, program, results
+from foldcairn.results import Log
+from foldcairn.scenario import Scenario, ScenarioWarning
+
+
+def lossy() -> Scenario:
+    return Scenario(40).node(1).node(2).node(3).host(0, 1).pair(1, 2, 0.8).pair(2, 3, 0.7).on().stream(3, 4).every(6, 3)
+
+
+@pytest.fixture(scope="module")
+def failover() -> Log:
+    return results.log(FAILOVER)
+
+
+def test_what_a_shell_shows(failover: Log) -> None:
+    made = Scenario.read(FAILOVER)
+    assert repr(made) == "<Scenario: 3 nodes, 6 links, 2 hosts, 128 s>"
+    digest = hashlib.sha256(FAILOVER.encode()).hexdigest()
+    assert repr(failover) == f"<Log: 3 nodes, 128 s, 2 deliveries, text {digest[:12]}>"
+    drawn = losses.draw(lossy(), 3)
+    assert repr(drawn) == f"<Scenario: 3 nodes, 4 links, 1 hosts, 160 s, {len(drawn.losses)} losses of seed 3>"
+    assert repr(results.run(drawn)).startswith("<Report: 3 nodes, 160 s, seed 3, ")
+
+
+def test_what_a_notebook_shows(failover: Log) -> None:
+    for shown in (failover._repr_html_(), failover.scenario._repr_html_(), results.run(FAILOVER)._repr_html_()):
+        assert shown.startswith("<table>") and shown.count("<tr>") <= 5 and len(shown) < 2_000
+    assert "50.0 % of what was put" in failover._repr_html_() and "median 41.0 s" in failover._repr_html_()
+    told = Scenario(4).node(1).node(2)._repr_html_()
+    assert "no node hosts" in told and "<li>" in told
+
+
+def test_the_top_of_the_package() -> None:
+    assert foldcairn.Scenario is Scenario and foldcairn.Log is Log
+    assert foldcairn.__version__ == (Path(program.__file__).parents[3] / "VERSION").read_text().strip()
+    with pytest.raises(AttributeError, match="no attribute 'scenarios'"):
+        foldcairn.scenarios  # noqa: B018
+
+
+def test_a_run_in_one_call() -> None:
+    log = foldcairn.run(lossy(), seed=5, progress=False)
+    assert log.deliveries.equals(results.log(losses.draw(lossy(), 5)).deliveries) and log.origin.seed == 5
+    # Losses that are drawn already are kept, and a text is run as it is.
+    assert foldcairn.run(losses.draw(lossy(), 6), progress=False).origin.seed == 6
+    assert foldcairn.run(LINE).origin == results.log(LINE).origin
+    with pytest.warns(ScenarioWarning, match="node 9 is never switched on"):
+        foldcairn.run(lossy().node(9), progress=False)
+
+
+def test_where_results_come_from() -> None:
+    made = lossy()
+    for result in (results.run(made), results.log(made), results.bus(made), results.returns(made)):
+        assert result.origin.text == hashlib.sha256(made.text(warn=False).encode()).hexdigest()
+        assert result.origin.program == hashlib.sha256(Path(os.environ["FOLDCAIRN"]).read_bytes()).hexdigest()
+        assert result.origin.seed is None
+
+
+# Long work.
+
+
+def test_a_drawing_that_is_kept(tmp_path: Path, monkeypatch: pytest.MonkeyPatch) -> None:
+    made = lossy()
+    bar = io.StringIO()
+    drawn = losses.draw(made, 3, results=tmp_path, progress=bar)
+    assert "40/40" in bar.getvalue() and len(list(tmp_path.iterdir())) == 1
+    # Taken from the folder: the program isn't run.
+    monkeypatch.setattr(losses, "_log", lambda *_: pytest.fail("the losses are there"))
+    assert losses.draw(made, 3, results=tmp_path) == drawn
+    with pytest.raises(pytest.fail.Exception):
+        losses.draw(made, 4, results=tmp_path)
+
+
+def test_a_drawing_that_is_stopped_goes_on(tmp_path: Path, monkeypatch: pytest.MonkeyPatch) -> None:
+    made, runs = lossy(), []
+    run = losses._log
+
+    def stopped(*given):
+        runs.append(given)
+        if len(runs) == 3:
+            raise KeyboardInterrupt
+        return run(*given)
+
+    monkeypatch.setattr(losses, "_log", stopped)
+    with pytest.raises(KeyboardInterrupt):
+        losses.draw(made, 3, results=tmp_path)
+    # What was drawn by then is taken up, and the losses are those of one go.
+    assert losses.draw(made, 3, results=tmp_path) == losses.draw(made, 3)
+    assert len(runs[3][1]) > 0
+
+
+@pytest.mark.parametrize("call", [importance.importance, capacity.capacity])
+def test_answers_of_many_runs_are_kept(call, tmp_path: Path) -> None:
+    from concurrent.futures import ThreadPoolExecutor
+
+    given = {"candidates": [(1, 2)], "seeds": [1]} if call is importance.importance else {"every": 30, "sources": [2]}
+    bar = io.StringIO()
+    with ThreadPoolExecutor(2) as pool:
+        first = call(lossy(), **given, executor=pool, results=tmp_path, progress=bar)
+        kept = {path: path.stat().st_mtime_ns for path in tmp_path.iterdir()}
+        assert kept and "s/" in bar.getvalue()
+        assert call(lossy(), **given, executor=pool, results=tmp_path, progress=False).equals(first)
+    assert {path: path.stat().st_mtime_ns for path in tmp_path.iterdir()} == kept
+
+
+def test_a_fault_is_told_once() -> None:
+    """The script of a repository explains the fault on standard error too."""
+    fault = program.Refused(2, "Range", "sends 5", "line 2: `sends 5`: from 1 to 4", stderr="foldcairn: line 2, 'sends 5': out of its range")
+    assert str(fault) == "line 2: `sends 5`: from 1 to 4 (Range)" and "out of its range" in fault.stderr

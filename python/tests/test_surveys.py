@@ -1,0 +1,125 @@
+"""Tables as surveys give them: other names of columns, names of nodes, and mistakes, which are told by their row."""
+
+from __future__ import annotations
+
+from pathlib import Path
+
+import pandas
+import pytest
+
+from foldcairn import planning, plot, results
+from foldcairn.scenario import Scenario, ScenarioError
+
+NODES = "id,host\n1,0\n2,\n3,1\n"
+LINKS = "from,to,prr\n1,2,0.9\n2,1,0.8\n2,3,0.9\n3,2,0.9\n"
+STREAMS = "node,interval,every\n3,4,8\n"
+
+
+def tables(folder: Path, nodes: str = NODES, links: str = LINKS, streams: str = STREAMS) -> list[Path]:
+    paths = [folder / f"{name}.csv" for name in ("nodes", "links", "streams")]
+    for path, text in zip(paths, (nodes, links, streams)):
+        path.write_text(text)
+    return paths
+
+
+def read(folder: Path, **texts: str) -> Scenario:
+    return Scenario.from_tables(*tables(folder, **texts), frames=20)
+
+
+@pytest.mark.parametrize("head", ["from,to,prr", "u,v,prr", "source,target,prr"])
+def test_other_names_of_columns(tmp_path: Path, head: str) -> None:
+    made = read(tmp_path, links=LINKS.replace("from,to,prr", head))
+    assert made.links == {(1, 2), (2, 1), (2, 3), (3, 2)} and made.prr[2, 1] == 0.8 and made.remarks == []
+
+
+@pytest.mark.parametrize(
+    ("texts", "says"),
+    [
+        ({"nodes": "id,host\n1,0\n2,\n3,1\nA1,\n"}, "the table of nodes, row 4: `id` is 'A1', and has to be a whole number"),
+        ({"links": LINKS + "1,A1,0.9\n"}, "the table of links, row 5: `to` is 'A1', and has to be a whole number"),
+        ({"nodes": NODES + "2,\n"}, "the table of nodes, row 4: node 2 is given already, by row 2"),
+        ({"links": LINKS + "2,1,0.7\n"}, "row 5: the link from 2 to 1 has the ratio 0.7, and row 2 gives it 0.8: take one of the two"),
+        ({"links": LINKS.replace("prr", "PRR")}, "the table of links has the column 'PRR', which is not read: do you mean prr?"),
+        ({"links": LINKS.replace("from", "From")}, "the column 'From', which is not read: do you mean from?"),
+        ({"streams": STREAMS.replace("interval", "intervall")}, "'intervall', which is not read: do you mean interval?"),
+        ({"links": LINKS.replace("from", "a")}, "the table of links lacks the column from (or u or source); it has a, to, prr"),
+        ({"links": LINKS.replace("0.8", "80")}, "the table of links, row 2: `link 2 1`: `prr` is 80, and has to be a number from 0 to 1"),
+        ({"streams": "node,interval\n3,3600\n"}, "3600, the interval, is from 1 to 120 seconds; ask for 120, and put the packets as seldom"),
+    ],
+)  # fmt: skip
+def test_mistakes_are_told_by_their_row(tmp_path: Path, texts: dict[str, str], says: str) -> None:
+    with pytest.raises(ScenarioError) as raised:
+        read(tmp_path, **texts)
+    assert says in str(raised.value)
+
+
+def test_a_link_twice_with_the_same_ratio(tmp_path: Path) -> None:
+    assert read(tmp_path, links=LINKS + "2,1,0.8\n").prr[2, 1] == 0.8
+
+
+def test_columns_that_are_not_read(tmp_path: Path) -> None:
+    made = read(tmp_path, links="from,to,quality\n1,2,0.9\n2,1,0.55\n2,3,0.9\n3,2,0.9\n", nodes="id,host,floor\n1,0,1\n2,,1\n3,1,2\n")
+    floor, ratio = made.cautions()[:2]
+    assert floor == "the table of nodes has columns that are not read: 'floor'"
+    assert ratio.startswith("no link loses anything, since the table of links has no column prr; its column 'quality' has numbers from 0.55 to")
+    assert "name it prr" in ratio and read(tmp_path).remarks == []
+
+
+# Names of nodes.
+
+
+@pytest.fixture(scope="module")
+def named(tmp_path_factory: pytest.TempPathFactory) -> results.Log:
+    folder = tmp_path_factory.mktemp("named")
+    paths = tables(
+        folder, "id,host,x,y\ncellar,0,0,0\nstairs,,1,0\npump,1,2,0\n", "u,v\ncellar,stairs\nstairs,cellar\nstairs,pump\npump,stairs\n",
+        "node,interval,every\npump,4,8\n",
+    )  # fmt: skip
+    return results.log(Scenario.from_tables(*paths, frames=20).off(2, frame=15))
+
+
+def test_names_are_kept_as_labels(named: results.Log) -> None:
+    scenario = named.scenario
+    assert scenario.labels == {1: "cellar", 2: "stairs", 3: "pump"} and scenario.id("pump") == 3 and scenario.name(1) == "cellar"
+    with pytest.raises(ScenarioError, match="the scenario has no node well; it has 3 nodes: cellar, stairs, pump"):
+        scenario.id("well")
+
+
+def test_all_tables_have_the_names(named: results.Log) -> None:
+    for name, table in planning.tables(named).items():
+        for column in {"node", "source", "host", "from_host"} & set(table.columns):
+            assert set(table[column]) <= {"cellar", "stairs", "pump", -1}, (name, column)
+    assert planning.delivery_ratio(named, "pair", receivers=["cellar"])["node"].tolist() == ["cellar"]
+    assert planning.radio_time(named).index.tolist() == ["cellar", "stairs", "pump"]
+    assert planning.contention(named, "slot")["nodes"][0] == ("pump",)
+    # A name that some node has is no word for all.
+    assert planning.importance(named.scenario, candidates=[("stairs", "pump")], seeds=[1], progress=False)["other"].tolist() == ["pump"]
+
+
+def test_all_pictures_have_the_names(named: results.Log) -> None:
+    def words(figure) -> set[str]:
+        figure.draw_without_rendering()
+        return {text.get_text() for text in figure.findobj(lambda artist: hasattr(artist, "get_text"))}
+
+    assert {"cellar (host 0)", "stairs", "pump"} <= words(plot.topology(named.scenario))
+    assert {"host 0, cellar", "stairs"} <= words(plot.timeline(named))
+    assert "cellar" in words(plot.delivery(planning.delivery_ratio(named, "pair")))
+
+
+def test_places_and_ratios_by_names(tmp_path: Path) -> None:
+    from foldcairn import tables as reading
+
+    frame = pandas.DataFrame({"id": ["cellar", "pump"], "x": [0, 1], "y": [2, 3]})
+    assert reading.positions(frame) == {1: (0.0, 2.0), 2: (1.0, 3.0)}
+    made = Scenario.from_tables(frame.assign(host=[0, None]), pandas.DataFrame({"u": ["cellar"], "v": ["pump"]}), frames=4)
+    assert reading.set_ratios(made, pandas.DataFrame({"u": ["cellar"], "v": ["pump"], "prr": [0.5]})).prr == {(1, 2): 0.5}
+
+
+def test_payloads_that_are_no_bytes() -> None:
+    with pytest.raises(ValueError, match=r"has to be bytes; write b'on'"):
+        Scenario(4).node(1).put(1, "on")  # type: ignore[arg-type]
+
+
+def test_a_scenario_where_a_log_is_due_says_what_to_do() -> None:
+    with pytest.raises(ValueError, match=r"takes the log of a run, and was given a Scenario; write latency\("):
+        planning.latency(Scenario(4).node(1))  # type: ignore[arg-type]
