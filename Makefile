@@ -1,12 +1,14 @@
 # The recipes of CONTRIBUTING.md. CRATE names a crate and FUNCTION a function of it by its modules, as in
 # 'make only CRATE=event_calendar FUNCTION=queue::Queue::add'. PROGRAM is the program that is tried, the stored one if none is named.
 PROGRAM = bin/foldcairn-x86_64-linux
+PLAN = bin/foldcairn-plan-x86_64-linux
 IN_CRATE = cd crates/$(or $(CRATE),$(error name a crate: make $@ CRATE=link_trace)) &&
 
-.PHONY: help check only try tests format edits crate gate store program python pages words pictures crates lemmas calls costs bench
+.PHONY: help check only try tests format edits crate gate store program python lint pages words pictures crates lemmas calls costs bench
+.PHONY: wheel deb release install-tests notebook
 
 help: # lists the targets
-	@grep -E '^[a-z]+:' Makefile
+	@grep -E '^[a-z-]+:' Makefile
 
 check: # proves one crate over what is kept, and those below it that changed
 	$(IN_CRATE) rt check
@@ -36,17 +38,36 @@ gate: # all that must hold of a change, from nothing
 store: # proves and builds the program, and stores it in bin/: the last step of a change of crates/
 	tools/store.sh
 
-program: # runs the program on the examples, on invalid inputs and on streams that fail
+program: # runs both programs on the examples, on invalid inputs and on streams that fail
 	tests/program.sh $(PROGRAM)
+	tests/plan.sh $(PLAN) $(PROGRAM)
 
 python: # runs the tests of the Python package
 	tests/python.sh $(PROGRAM)
+
+lint: # checks types, names and forms of Python, and the shell scripts
+	tools/lint.sh
 
 pages: # runs the commands of all pages, follows their links, and compares what scripts write in docs/
 	tests/documents.sh $(PROGRAM)
 
 words: # counts the words of the pages that an engineer would not expect
 	tools/words.py
+
+wheel: # builds the wheel in dist/
+	tools/package.sh wheel
+
+deb: # builds the Debian package in dist/, and the wheel
+	tools/package.sh deb
+
+release: # builds the wheel, the Debian package and the tarball of the sources in dist/, with their checksums
+	tools/package.sh release
+
+install-tests: # tries what is built to be installed, and README.md's commands in a Debian made from nothing: as root, some 20 minutes
+	tests/install.sh all
+
+notebook: # writes examples/planning.ipynb from the code of PLANNING.md again
+	tools/notebook.py docs/PLANNING.md > examples/notebook && mv examples/notebook examples/planning.ipynb
 
 pictures: # draws the pictures of docs/ again, and writes what the code of PLANNING.md prints
 	$$(tools/setup-python.sh --print) tools/pictures.py $(PROGRAM) docs/pictures

@@ -14,9 +14,9 @@ limit=4194304
 
 # The processor time in milliseconds of a call of a command with its input: the least of three times ten calls.
 milliseconds() {
-    for round in 1 2 3; do
+    for _ in 1 2 3; do
         (
-            for call in 1 2 3 4 5 6 7 8 9 10; do "$program" "$1" < "$2" > "$folder/answer"; done
+            for _ in 1 2 3 4 5 6 7 8 9 10; do "$program" "$1" < "$2" > "$folder/answer"; done
             times
         ) | awk 'END { gsub(/[ms]/, " "); print 6000 * ($1 + $3) + 100 * ($2 + $4) }'
     done | sort -n | head -n 1

@@ -5,7 +5,7 @@
 #   its output compared to the byte. No command goes on in a second line, so that each can be copied.
 # - a block `text NAME`, NAME having a dot, is put into the file NAME for the commands below it.
 # - a block `sh` is not run, since it asks for a network, another machine or much time; only its grammar is tried.
-# Each page has a folder of its own, with the program as ./foldcairn and with examples, tools and bench next to it. Where
+# Each page has a folder of its own, with the program as ./foldcairn and with bin, examples, tools and bench next to it. Where
 # python3 is there, the crates and the public calls are listed once more, and compared too; and the words of the pages are
 # counted. Where it has matplotlib in the version of the stored pictures, these are drawn once more, and compared.
 # Usage: tests/documents.sh PROGRAM [PAGE ..]. The last line is 'N passed, M failed', and the status is 0 where M is 0.
@@ -31,9 +31,10 @@ counts_failure() {
 begin_page() {
     here=$folder/page-$1
     mkdir "$here"
-    printf '#!/bin/sh\nexec "%s" "$@"\n' "$program" > "$here/foldcairn"
+    printf '#!/bin/sh\ncase ${1-} in outcome) exec "%s" "$@" ;; *) exec "%s" "$@" ;; esac\n' \
+        "$top/bin/foldcairn-plan-x86_64-linux" "$program" > "$here/foldcairn"
     chmod +x "$here/foldcairn"
-    for name in examples tools bench tests docs; do
+    for name in bin examples tools bench tests docs; do
         ln -s "$top/$name" "$here/$name"
     done
     last=0
@@ -103,7 +104,7 @@ begin_block() {
             kind=other
             case $name in
                 *.*)
-                    kind=file
+                    kind='file'
                     target=$here/$name
                     ;;
             esac
@@ -182,7 +183,8 @@ pictures() {
     done
 }
 
-# The lists of crates, and of lemmas that are kept for the crates above, are to be what crates.txt and the sources have.
+# The lists of crates, and of lemmas that are kept for the crates above, are to be what crates.txt and the sources have, and the
+# notebook what its page has.
 listed() {
     if ! command -v python3 > "$folder/written"; then
         return
@@ -191,6 +193,11 @@ listed() {
         counts_pass
     else
         counts_failure "docs/internals/ARCHITECTURE.md is not what tools/crates.py writes: make crates"
+    fi
+    if python3 "$top/tools/notebook.py" "$top/docs/PLANNING.md" | cmp -s - "$top/examples/planning.ipynb"; then
+        counts_pass
+    else
+        counts_failure "examples/planning.ipynb is not what tools/notebook.py writes: make notebook"
     fi
     if python3 "$top/tools/lemmas.py" | cmp -s - "$top/docs/internals/PROOFS.md"; then
         counts_pass
@@ -230,6 +237,7 @@ words() {
     fi
     # A page with one such word, and the same in a code span; and one with twelve.
     mkdir -p "$folder/words"
+    # shellcheck disable=SC2016 # A page's text.
     printf 'A node hears it, as `heard` says.\n' > "$folder/words/README.md"
     if python3 "$top/tools/words.py" --list "$folder/words" > "$folder/written" &&
         grep -q '^pages: 1 words in 1 files$' "$folder/written" &&

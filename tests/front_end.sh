@@ -1,7 +1,9 @@
 #!/usr/bin/env bash
 # The front end ./foldcairn, in a copy of the repository without the toolchain on the PATH: that it runs the stored program
-# where this is the one of the copy's sources and no other, what it says where a call fails, and that what it writes on its
-# standard output is what the program writes. For tests/program.sh, which has says, ends, line and base.
+# where this is the one of the copy's sources and no other, what it says where a call fails, that what it writes on its
+# standard output is what the program writes, from which places it can be called, and that it writes into the user's cache
+# alone. For tests/program.sh, which has says, ends, line and base.
+# shellcheck disable=SC2154,SC2016 # tests/program.sh sets the names; the words of a script stay as they are.
 
 # A copy of what git tracks, with the program under test in its bin/.
 front_end_copy() {
@@ -17,10 +19,17 @@ front_end_copy() {
     "$copy/tools/store.sh" "$program"
 }
 
-# front WORD..: a call of the copy's front end, by an absolute path and without rt.
-front() {
-    (cd "$folder" && PATH=$bare "$copy/foldcairn" "$@" > "$folder/out" 2> "$folder/err")
+# starts PLACE WORD..: a call of the front end at a place, without rt, and with a cache of its own.
+starts() {
+    local place=$1
+    shift
+    (cd "$folder" && PATH=$bare XDG_CACHE_HOME=$folder/cache "$place" "$@" > "$folder/out" 2> "$folder/err")
     status=$?
+}
+
+# front WORD..: a call of the copy's front end, by an absolute path.
+front() {
+    starts "$copy/foldcairn" "$@"
 }
 
 # explains NAME STATUS TEXT SENTENCE: how the last call ended, what it wrote, and what its standard error has somewhere.
@@ -35,6 +44,10 @@ front_end_calls() {
     for word in run log bus flood check deadlines times return demo --prove --version; do
         says "--help does not have $word" grep -q -- "^  foldcairn $word" "$folder/out"
     done
+    front return --help
+    ends "the help of a command" 0 "$(grep '^  foldcairn return' "$folder/out")"$'\n'
+    front --completion
+    explains "a completion of no shell" 2 "" "takes bash, zsh or fish"
     front --version
     says "--version: status $status" [ "$status" -eq 0 ]
     says "--version has no version" grep -qx "foldcairn $(cat "$top/VERSION")" "$folder/out"
@@ -117,6 +130,110 @@ front_end_sources() {
     says "changed sources: the toolchain is not asked for" grep -q "toolchain is missing" "$folder/err"
 }
 
+# All files of a folder, with their sizes and times.
+listing() {
+    (cd "$1" && find . -printf '%p %y %s %T@ %C@\n' | LC_ALL=C sort)
+}
+
+# Another name on the PATH, a path with blanks, and a folder that is read only. Nothing is written into these.
+front_end_places() {
+    local flood=$'accept 2 0\naccept 3 1\nsent 6\n' spaced="$folder/a copy  with blanks"
+    mkdir "$folder/names"
+    ln -s "$copy/foldcairn" "$folder/names/foldcairn"
+    ln -s names/foldcairn "$folder/again"
+    starts "$folder/again" flood line.flood
+    ends "a symlink to a symlink" 0 "$flood"
+    says "a symlink: something is written next to it" [ "$(ls "$folder/names")" = foldcairn ]
+    (cd "$folder" && PATH=$folder/names:$bare XDG_CACHE_HOME=$folder/cache foldcairn flood line.flood > out 2> err)
+    status=$?
+    ends "by the PATH" 0 "$flood"
+    cp -a "$copy" "$spaced"
+    chmod -R a-w "$spaced"
+    cp "$folder/line.flood" "$folder/-a line.flood"
+    listing "$spaced" > "$folder/before"
+    starts "$spaced/foldcairn" flood "-a line.flood"
+    ends "blanks in paths, and a read-only folder" 0 "$flood"
+    starts "$spaced/foldcairn" flood < <(cat "$folder/line.flood")
+    ends "the same from a pipe" 0 "$flood"
+    says "the cache has no look at the folder" [ -f "$folder/cache/foldcairn$(realpath "$spaced")/looked" ]
+    (cd "$folder" && PATH=$bare XDG_CACHE_HOME=/dev/null "$spaced/foldcairn" flood line.flood > out 2> err)
+    status=$?
+    ends "without a cache" 0 "$flood"
+    says "without a cache something is said" [ ! -s "$folder/err" ]
+    says "something is written into a read-only folder" [ "$(listing "$spaced")" = "$(cat "$folder/before")" ]
+    says "something is written into bin/" [ ! -e "$copy/bin/out" ]
+    chmod -R u+w "$spaced"
+    # Another copy at the same path, whose files are no newer than the last look.
+    mv "$spaced" "$folder/first"
+    cp -a "$copy" "$folder/second"
+    echo '// A remark.' >> "$folder/second/crates/foldcairn/src/main.rt"
+    mv "$folder/first" "$spaced"
+    starts "$spaced/foldcairn" flood line.flood
+    ends "back at its path" 0 "$flood"
+    mv "$spaced" "$folder/first"
+    mv "$folder/second" "$spaced"
+    starts "$spaced/foldcairn" flood line.flood
+    says "other sources at the path of a copy: status $status, not 127" [ "$status" -eq 127 ]
+    rm -rf "$spaced" "$folder/first"
+}
+
+# The program of draws, for which a script is put in its place: it writes its words, and its input after them. A word that the
+# package has too is the package's where an option is given.
+front_end_draws() {
+    local script=$copy/bin/foldcairn-plan-x86_64-linux
+    if [ -e "$script" ]; then
+        front outcome 07 line.flood
+        explains "a seed with a leading zero" 2 "$(cat "$folder/out")"$'\n' "SEED first"
+        front outcome 7 line.flood
+        explains "a text that is no network" 1 $'fault line 7: BadWord\n' "line 7, 'start 1'"
+        return
+    fi
+    front outcome 7 line.flood
+    explains "no program of draws" 127 "" "a command of the program foldcairn-plan, which this copy does not have"
+    printf '#!/bin/sh\necho "$@"\n[ "$2" = 07 ] && exit 2\ncat\n' > "$script"
+    chmod +x "$script"
+    cp "$copy/bin/SOURCES" "$folder/SOURCES"
+    echo "program foldcairn-plan $(sha256sum < "$script" | cut -d ' ' -f 1)" >> "$copy/bin/SOURCES"
+    front outcome 7 line.flood
+    ends "outcome of a file" 0 "outcome 7"$'\n'"$line"
+    front outcome 7 < <(cat "$folder/line.flood")
+    ends "outcome of a pipe" 0 "outcome 7"$'\n'"$line"
+    front outcome 7 nowhere
+    ends "outcome of no file" 0 "outcome 7 nowhere"$'\n'
+    front outcome 07 nowhere
+    explains "a seed with a leading zero" 2 $'outcome 07 nowhere\n' "outcome takes SEED first, a number from 0 to 9999999999999 without leading zeros, and not '07'"
+    front --help
+    says "--help does not have outcome" grep -q '^  foldcairn outcome SEED \[FILE\]' "$folder/out"
+    front draw line.flood --ratios none.csv
+    says "draw with an option is not the package's" [ "$status" -ne 0 -a ! -s "$folder/out" ]
+    rm "$script"
+    cp "$folder/SOURCES" "$copy/bin/SOURCES"
+}
+
+# A copy that was installed has no sources, and runs what it has.
+front_end_installed() {
+    local installed=$folder/installed
+    if ! "$copy/tools/installed.sh" "$installed"; then
+        says "a copy can be installed" false
+        return
+    fi
+    listing "$installed" > "$folder/before"
+    starts "$installed/foldcairn" flood line.flood
+    ends "an installed copy" 0 $'accept 2 0\naccept 3 1\nsent 6\n'
+    starts "$installed/foldcairn" run rate.scenario
+    explains "an installed copy explains" 1 $'fault line 7: Range\n' "line 7, 'rate 1 0 21'"
+    says "an installed copy: no range" grep -q 'rate ID TICK PPM.* -20 to 20' "$folder/err"
+    starts "$installed/foldcairn" --prove
+    explains "an installed copy is not proved" 2 "" "installed without the sources"
+    starts "$installed/foldcairn" --version
+    says "an installed copy has a version of sources" [ "$status" -eq 0 -a "$(grep -c '^sources of this tree' "$folder/out")" -eq 0 ]
+    starts "$installed/foldcairn" --help
+    says "its help names an example" [ -f "$(sed -n 's/^  foldcairn run \(\/.*\)/\1/p' "$folder/out")" ]
+    (cd "$folder" && PATH=$folder/nothing FOLDCAIRN_PYTHON=/nowhere /bin/sh "$installed/foldcairn" flood line.flood > out 2> err)
+    says "without any tool on the PATH it starts" [ $? -ne 0 ]
+    says "something is written into an installed copy" [ "$(listing "$installed")" = "$(cat "$folder/before")" ]
+}
+
 fails() {
     ! "$@" > "$folder/written" 2>&1
 }
@@ -125,6 +242,9 @@ front_end() {
     if front_end_copy; then
         front_end_calls
         front_end_sentences
+        front_end_places
+        front_end_draws
+        front_end_installed
         front_end_sources
     else
         says "a copy of the repository can be made" false

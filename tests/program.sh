@@ -10,8 +10,6 @@ set -u
 top=$(cd "$(dirname "$0")/.." && pwd) || exit 1
 folder=$(mktemp -d) || exit 1
 trap 'rm -rf "$folder"' EXIT
-passed=0
-failed=0
 
 # Whether a file is there that runs, and no source is newer.
 is_built() {
@@ -44,34 +42,7 @@ else
     other=$folder/by-rattle
 fi
 
-# says NAME CONDITION..: counts whether the condition holds.
-says() {
-    local name=$1
-    shift
-    if "$@"; then
-        passed=$((passed + 1))
-    else
-        failed=$((failed + 1))
-        echo "FAILED: $name"
-    fi
-}
-
-# ends NAME STATUS TEXT: whether the last run ended with that status and wrote that text to $folder/out.
-ends() {
-    local name=$1 wanted=$2 text=$3
-    printf '%s' "$text" > "$folder/wanted"
-    says "$name: status $status, not $wanted" [ "$status" -eq "$wanted" ]
-    says "$name: other output" cmp -s "$folder/wanted" "$folder/out"
-}
-
-# A run of the program on a text: its words, with the text as standard input.
-run_on() {
-    local text=$1
-    shift
-    printf '%s' "$text" > "$folder/in"
-    "$program" "$@" < "$folder/in" > "$folder/out"
-    status=$?
-}
+. "$top/tests/counting.sh"
 
 # reports WORD FILE EXPECTED: whether the program writes that of the file, by that word.
 reports() {
@@ -140,6 +111,8 @@ drawn() {
     ends "$name" 0 "$text"
 }
 
+# tests/front_end.sh compares it.
+# shellcheck disable=SC2034
 usage=$'usage: flood | run | log | bus | demo SEED NODES FRAMES | check | deadlines | times | return\n'
 line=$'sends 2\nnode 1 0\nnode 2 0\nnode 3 0\npair 1 2\npair 2 3\nstart 1\n'
 base=$'sends 2\nnode 1 0\nnode 2 0\nhost 0 1\npair 1 2\n'

@@ -1,10 +1,14 @@
 #!/bin/sh
-# Proves and builds the program, crates/foldcairn/out/foldcairn, and says how far it is. Crates are proved side by side as far
-# as processors and memory go, without their tests. What was proved is kept if it is stopped.
+# Proves and builds a program, crates/CRATE/out/CRATE, and says how far it is. Crates are proved side by side as far as
+# processors and memory go, without their tests. What was proved is kept if it is stopped.
+# Usage: tools/build.sh [NAME], by the names and crates of tools/commands.txt; without NAME it is foldcairn.
 set -u
 top=$(cd "$(dirname "$0")/.." && pwd) || exit 1
-out=$top/crates/foldcairn/out
-program=$out/foldcairn
+name=${1:-foldcairn}
+crate=$(sed -n "s/^program|$name|\([^|]*\)|.*/\1/p" "$top/tools/commands.txt")
+words=$(sed -n "s/^program|$name|[^|]*|//p" "$top/tools/commands.txt")
+out=$top/crates/$crate/out
+program=$out/$crate
 log=$out/build.log
 builder=
 begun=$(date +%s)
@@ -25,10 +29,9 @@ at_once() {
 
 # The crates that the program stands on, itself included, as crates.txt lists them.
 needed() {
-    awk -F: '
+    awk -F: -v waiting="$crate" '
         /^[a-z]/ { uses[$1] = $2 }
         END {
-            waiting = "foldcairn"
             while (waiting != "") {
                 split(waiting, names, " "); waiting = ""
                 for (i in names) if (names[i] in uses && !(names[i] in seen)) {
@@ -38,11 +41,13 @@ needed() {
         }' "$top/crates.txt"
 }
 
-# Whether all is proved but the command and the program, which wait for all others and for one another.
+# Whether all is proved but the program and its command, the last crate that it uses. They wait for all others and for one
+# another.
 only_last_left() {
-    for crate in $needed; do
-        case $crate in replay_tool | foldcairn) continue ;; esac
-        [ -e "$top/crates/$crate/out/rlib/stamp" ] || return 1
+    command=$(sed -n "s/^$crate:.* //p" "$top/crates.txt")
+    for one in $needed; do
+        case $one in "$crate" | "$command") continue ;; esac
+        [ -e "$top/crates/$one/out/rlib/stamp" ] || return 1
     done
 }
 
@@ -52,13 +57,13 @@ progress() {
     crates=0
     all=0
     present=
-    for crate in $needed; do
+    for one in $needed; do
         all=$((all + 1))
-        if [ -e "$top/crates/$crate/out/rlib/stamp" ]; then
+        if [ -e "$top/crates/$one/out/rlib/stamp" ]; then
             crates=$((crates + 1))
-        elif [ -d "$top/crates/$crate/out/rlib" ]; then
-            functions=$(find "$top/crates/$crate/out/incremental" -name '*.Proof.oantt' 2>/dev/null | wc -l)
-            present="$present, $((functions)) functions of $crate"
+        elif [ -d "$top/crates/$one/out/rlib" ]; then
+            functions=$(find "$top/crates/$one/out/incremental" -name '*.Proof.oantt' 2>/dev/null | wc -l)
+            present="$present, $((functions)) functions of $one"
         fi
     done
     echo "$crates of $all crates proved$present; $((($(date +%s) - begun) / 60)) minutes"
@@ -94,7 +99,7 @@ stopped() {
 build() {
     enough=$1
     shift
-    (cd "$top/crates/foldcairn" && exec "$@") >>"$log" 2>&1 <"$top/crates/foldcairn/stdin" &
+    (cd "$top/crates/$crate" && exec "$@") >>"$log" 2>&1 <"$top/crates/$crate/stdin" &
     builder=$!
     watch "$enough"
     wait "$builder"
@@ -116,7 +121,8 @@ say "proving and building the program, $((jobs * 3 / 2)) crates at a time: from 
 # only the last two are left, which wait for one another, 'rt run' goes on with all jobs. The built program is run once on the
 # input that is stored beside it, so status 0 says that it is there.
 build only_last_left rt all check --jobs "$((jobs * 3 / 2))"
-if ! only_last_left || ! build false rt run --jobs "$jobs" -- flood; then
+# shellcheck disable=SC2086 # The words are words each.
+if ! only_last_left || ! build false rt run --jobs "$jobs" -- $words; then
     say "the program could not be built; the end of $log:"
     tail -n 20 "$log" >&2
     exit 126

@@ -1,38 +1,57 @@
 #!/bin/sh
 # Says in a sentence why a call of the program failed.
-# Usage: tools/explain.sh STATUS PROGRAM INPUT WORD.. where INPUT is a file with what the program read, or nothing.
+# Usage: tools/explain.sh STATUS PROGRAM INPUT FORM WORD.. where INPUT is a file with what the program read, or nothing, and
+# FORM what comes after the command's word by tools/commands.txt, or nothing.
+# shellcheck disable=SC2016 # In "${line:+'$line'}" the marks are text, and the name is expanded.
 set -u
 top=$(cd "$(dirname "$0")/.." && pwd) || exit 0
 status=$1
 program=$2
 input=$3
-shift 3
+form_of_command=$4
+shift 4
+if [ -f "$top/crates.txt" ]; then
+    called=./foldcairn
+    docs=docs
+else
+    called=foldcairn
+    docs=$top/docs
+fi
 
 say() {
     echo "foldcairn: $*"
 }
 
-# The page that has the lines of the input of a command. A text to be checked has a log from its first line 'log' on.
+# The page that has the lines of the input of a command. A text to be checked has a log from its first line 'log' on, and a network
+# its ratios from its first line 'ratios' on.
 page() {
     case $1 in
-        deadlines) echo docs/DEADLINES.md ;;
-        check)
-            if [ -n "${number-}" ] && head -n "$number" "$input" | grep -q "$log_line"; then
-                echo docs/CHECK.md
+        deadlines) echo DEADLINES.md ;;
+        outcome)
+            if [ -n "${number-}" ] && head -n "$number" "$input" | grep -q "$ratios_line"; then
+                echo RATIOS.md
             else
-                echo docs/SCENARIO.md
+                echo SCENARIO.md
             fi
             ;;
-        *) echo docs/SCENARIO.md ;;
+        check)
+            if [ -n "${number-}" ] && head -n "$number" "$input" | grep -q "$log_line"; then
+                echo CHECK.md
+            else
+                echo SCENARIO.md
+            fi
+            ;;
+        *) echo SCENARIO.md ;;
     esac
 }
 
 log_line='^[[:blank:]]*log[[:blank:]]*$'
+ratios_line='^[[:blank:]]*ratios[[:blank:]]*$'
 
 # The row of the page's table of lines that begins with the word: how the line is written, and its ranges. A flood has its
 # table at the end of the page.
 row() {
-    rows=$(sed -n "s/^| *\(\`$2[ \`].*\)/\1/p" "$top/$(page "$1")")
+    rows=$(sed -n "s/^| *\(\`$2[ \`].*\)/\1/p" "$top/docs/$(page "$1")")
     case $1 in
         flood) printf '%s\n' "$rows" | tail -n 1 ;;
         *) printf '%s\n' "$rows" | head -n 1 ;;
@@ -57,12 +76,13 @@ meaning() {
             case $word in
                 profile | contend) echo "'profile' is the first line, and 'contend' comes right after 'profile 2'" ;;
                 host) echo "hosts are given from rank 0 on, without a gap" ;;
+                ratio) echo "there is no such link, or its frame is not above that of the link's last ratio" ;;
                 rate) echo "its tick is not above that of the node's last rate, or it comes before the line 'frames'" ;;
                 *) echo "its frame is below that of a script line above it, or it comes before the line 'frames'" ;;
             esac
             ;;
         Twice) echo "a line above it gives this already" ;;
-        TooMany) echo "there are too many such lines: 64 nodes, 20,000 script lines, 200 power-ons of a node" ;;
+        TooMany) echo "there are too many such lines: 64 nodes, 20,000 script lines, 200 power-ons of a node, 100,000 ratios" ;;
         Missing) echo "at the end of the text a line is missing" ;;
         TooBig) echo "$(grep -c '^[[:blank:]]*node[[:blank:]]' "$input") nodes times the number of frames is above 16,384" ;;
     esac
@@ -77,7 +97,7 @@ lacking() {
     esac
     [ "$1" != check ] || grep -q "$log_line" "$input" || printf ' %s' "a line 'log';"
     for word in $words; do
-        grep -q "^[[:blank:]]*$word[[:blank:]]" "$input" || printf ' %s' "a '$word' line;"
+        grep -q "^[[:blank:]]*${word}[[:blank:]]" "$input" || printf ' %s' "a '$word' line;"
     done
     [ "$1" = deadlines ] || [ "$(grep -c '^[[:blank:]]*node[[:blank:]]' "$input")" -ge 2 ] || printf ' %s' "two 'node' lines;"
 }
@@ -85,7 +105,7 @@ lacking() {
 # The first rejected line, as the program says it once more.
 rejected() {
     if [ -z "$input" ]; then
-        say "the input was rejected; the line above names the line and the kind of fault ($(page "$1") has the ranges)"
+        say "the input was rejected; the line above names the line and the kind of fault ($docs/$(page "$1") has the ranges)"
         return
     fi
     fault=$("$program" "$@" < "$input" | head -n 1)
@@ -111,7 +131,7 @@ rejected() {
         *) form=$(row "$1" "$word") ;;
     esac
     say "line $number${line:+, '$line'}: $(meaning "$kind")"
-    say "${form:-$(page "$1") has all lines with their ranges}"
+    say "${form:-$docs/$(page "$1") has all lines with their ranges}"
 }
 
 # Whether the word is a number as the program reads it, from the second word to the third.
@@ -136,27 +156,58 @@ wrong_demo() {
     fi
 }
 
+# A file that was named, and is none that can be read.
+wrong_file() {
+    if [ -d "$1" ]; then
+        say "'$1' is a folder, not a file"
+    elif [ -e "$1" ]; then
+        say "the file '$1' cannot be read"
+    else
+        say "there is no file '$1'"
+    fi
+}
+
+# WORD and what came after it, where a command takes numbers before its file.
+wrong_numbers() {
+    command=$1
+    shift
+    for name in ${form_of_command%' [FILE]'}; do
+        if ! is_number "${1-}" 0 9999999999999; then
+            say "$command takes $name first, a number from 0 to 9999999999999 without leading zeros${1:+, and not '$1'}"
+            return
+        fi
+        shift
+    done
+    if [ $# -gt 1 ]; then
+        say "$command takes one file at most, and $# words come after its numbers"
+    elif [ $# -eq 1 ]; then
+        wrong_file "$1"
+    fi
+}
+
 wrong_words() {
-    case ${1-} in
-        '') say "no command was given" ;;
-        demo)
+    case $form_of_command in
+        '[FILE]')
+            if [ $# -gt 2 ]; then
+                say "$1 takes one file at most, and $(($# - 1)) words come after it"
+            else
+                wrong_file "$2"
+            fi
+            ;;
+        *' [FILE]') wrong_numbers "$@" ;;
+        'SEED NODES FRAMES')
             shift
             wrong_demo "$@"
             ;;
-        run | log | bus | flood | check | deadlines | times | return)
-            if [ $# -gt 2 ]; then
-                say "$1 takes one file at most, and $(($# - 1)) words come after it"
-            elif [ -d "$2" ]; then
-                say "'$2' is a folder, not a file"
-            elif [ -e "$2" ]; then
-                say "the file '$2' cannot be read"
+        *)
+            if [ $# -eq 0 ]; then
+                say "no command was given"
             else
-                say "there is no file '$2'"
+                say "'$1' is no command"
             fi
             ;;
-        *) say "'$1' is no command" ;;
     esac
-    say "see ./foldcairn --help"
+    say "see $called --help"
 }
 
 case $status in
@@ -164,7 +215,7 @@ case $status in
     2) wrong_words "$@" ;;
     3) say "the input could not be read, so nothing was written: is it a folder, or closed?" ;;
     4) say "the output could not be written whole: only a part of it, or nothing, is there" ;;
-    5) say "out of memory: nothing was written (docs/LIMITS.md has what a run takes)" ;;
+    5) say "out of memory: nothing was written ($docs/LIMITS.md has what a run takes)" ;;
     6) say "a word of the command line is not UTF-8; nothing was read or written" ;;
 esac
 exit 0

@@ -1,7 +1,8 @@
 #!/bin/sh
-# Installs what the Python package in python/ needs: Debian's packages of pandas, networkx, matplotlib, plotly, pytest and
-# hypothesis, for Debian's /usr/bin/python3. With --optional it also installs chromium and tshark, which open the pages and the
-# captures that the package writes; tests that need one of them are skipped where it is missing, and say so.
+# Installs what the Python package in python/ needs: Debian's packages of pandas, networkx, matplotlib, plotly, tqdm,
+# scipy, statsmodels, pytest and hypothesis, for Debian's /usr/bin/python3. With --optional it also installs what only some tests
+# and `make lint` need: chromium and tshark, which open the pages and the captures that the package writes, distributed (Dask),
+# pytest-cov, mypy, pyflakes, pycodestyle and shellcheck. Tests that need one of them are skipped where it is missing, and say so.
 #
 # Usage: tools/setup-python.sh [--check | --print | --optional]
 #
@@ -12,18 +13,19 @@
 # other words. Tested, not proved.
 set -u
 
-modules='pandas networkx matplotlib plotly pytest hypothesis'
-# Programs that only tests use, each the name of its Debian package too.
-programs='chromium tshark'
+modules='pandas networkx matplotlib plotly tqdm scipy statsmodels pytest hypothesis'
+# Programs and modules that only some tests and the checks of `make lint` use; a program has the name of its Debian package.
+programs='chromium tshark shellcheck'
+optional='distributed pytest_cov mypy pyflakes pycodestyle'
 debian=/usr/bin/python3
 
 say() {
     echo "setup-python.sh: $*" >&2
 }
 
-# The modules that a Python lacks, or all where it is none or older than 3.11.
+# Which of the modules that are named a Python lacks, or all where it is none or older than 3.11.
 missing_of() {
-    "$1" - $modules 2>/dev/null <<'PYTHON' || echo "$modules"
+    "$@" 2>/dev/null <<'PYTHON' || { shift 2 && echo "$*"; }
 import importlib.util
 import sys
 
@@ -33,10 +35,29 @@ print(*(name for name in sys.argv[1:] if importlib.util.find_spec(name) is None)
 PYTHON
 }
 
+# The modules that a Python lacks of those that the package needs, and of the optional ones.
+missing_modules() {
+    # The names have no spaces, and each is a word of its own.
+    # shellcheck disable=SC2086
+    missing_of "$1" - $modules
+}
+
+missing_optional() {
+    # shellcheck disable=SC2086
+    missing_of "$1" - $optional
+}
+
+# The Debian packages of modules.
+packages_of() {
+    for module in "$@"; do
+        printf 'python3-%s ' "$module" | tr _ -
+    done
+}
+
 # The path of the first Python that lacks nothing.
-complete() {
+whole_python() {
     for python in "$debian" "$(command -v python3 || true)"; do
-        if [ -n "$python" ] && [ -x "$python" ] && [ -z "$(missing_of "$python")" ]; then
+        if [ -n "$python" ] && [ -x "$python" ] && [ -z "$(missing_modules "$python")" ]; then
             echo "$python"
             return 0
         fi
@@ -84,17 +105,17 @@ case $mode in
         ;;
 esac
 
-if ! python=$(complete) && { [ -z "$mode" ] || [ "$mode" = --optional ]; }; then
-    packages=$(for module in $(missing_of "$debian"); do echo "python3-$module"; done)
+if ! python=$(whole_python) && { [ -z "$mode" ] || [ "$mode" = --optional ]; }; then
     # The names have no spaces, and each is a word of its own.
-    # shellcheck disable=SC2086
-    install_packages python3 python3-setuptools $packages
-    python=$(complete)
+    # shellcheck disable=SC2046
+    install_packages python3 python3-setuptools $(packages_of $(missing_modules "$debian"))
+    python=$(whole_python)
 fi
 
 if [ -z "$python" ]; then
-    say "missing in $debian: $(missing_of "$debian")"
-    say "install on Debian or Ubuntu: apt-get install python3$(for module in $modules; do printf ' python3-%s' "$module"; done)"
+    say "missing in $debian: $(missing_modules "$debian")"
+    # shellcheck disable=SC2086
+    say "install on Debian or Ubuntu: apt-get install python3 $(packages_of $modules)"
     say "elsewhere: pip install $modules"
     exit 1
 fi
@@ -103,14 +124,13 @@ if [ "$mode" = --print ]; then
     exit 0
 fi
 say "$python has what the package needs"
-missing=$(missing_programs)
-if [ -n "$missing" ] && [ "$mode" = --optional ]; then
-    # The names have no spaces, and each is a word of its own.
-    # shellcheck disable=SC2086
-    install_packages $missing
-    missing=$(missing_programs)
+if [ "$mode" = --optional ] && [ -n "$(missing_programs)$(missing_optional "$python")" ]; then
+    # shellcheck disable=SC2046
+    install_packages $(missing_programs) $(packages_of $(missing_optional "$python"))
 fi
+missing="$(missing_programs)$(missing_optional "$python")"
 if [ -n "$missing" ]; then
-    say "optional, and missing: ${missing% } (apt-get install ${missing% }); tests that need them are skipped"
+    # shellcheck disable=SC2046
+    say "optional, and missing: ${missing% } (apt-get install $(missing_programs)$(packages_of $(missing_optional "$python"))); tests that need them are skipped"
     [ "$mode" != --optional ] || exit 1
 fi

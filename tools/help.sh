@@ -1,0 +1,66 @@
+#!/bin/sh
+# Writes the help of the front end off tools/commands.txt: all of it, or the rows of a command of the programs. The package has
+# its own help of a command.
+# Usage: tools/help.sh [WORD]
+set -u
+top=$(cd "$(dirname "$0")/.." && pwd) || exit 1
+commands=$top/tools/commands.txt
+if [ -f "$top/crates.txt" ]; then
+    called=./foldcairn
+    place=
+else
+    called=foldcairn
+    place=$({ cat "$top/tools/place" || echo "$top"; } 2>/dev/null)/
+fi
+
+# OWNER WORD: whether a row is written, which it is where this copy has the program of the command, or its sources.
+has() {
+    case $1 in
+        package) [ -z "$2" ] ;;
+        itself) true ;;
+        *) [ -x "$top/bin/$1-x86_64-linux" ] || [ -d "$top/crates/$(sed -n "s/^program|$1|\([^|]*\)|.*/\1/p" "$commands")" ] ;;
+    esac
+}
+
+# A heading is written once a command below it is.
+rows() {
+    while IFS='|' read -r kind word form owner about; do
+        case $kind in
+            group) title=$word ;;
+            command)
+                if { [ -z "$1" ] || [ "$word" = "$1" ]; } && has "$owner" "$1"; then
+                    [ -n "$1" ] || [ -z "$title" ] || printf '\n%s:\n' "$title"
+                    title=
+                    printf '  %-36s %s\n' "foldcairn $word${form:+ $form}" "$about"
+                fi
+                ;;
+        esac
+    done < "$commands"
+}
+
+if [ -n "${1-}" ]; then
+    rows "$1"
+    exit
+fi
+cat <<'TEXT'
+Usage: foldcairn COMMAND [WORD]...
+Foldcairn simulates a low-power radio network: Glossy floods and rounds of slots after the Low-Power Wireless Bus.
+TEXT
+rows ''
+cat <<TEXT
+
+The input is FILE, or the standard input where no file is named. An example:
+
+  $called run ${place}examples/packets-along-a-line.scenario
+
+Status 0: the output was written. 1: the input was rejected. 2: wrong words. 3, 4: the input could not be read, the output
+could not be written. 5: out of memory. 127: what the command needs is missing, as Python and its modules for the commands under
+'Tables and pictures'.
+
+The pages are in the folder
+
+  ${place}docs
+
+TUTORIAL.md is the first, SCENARIO.md has the lines of a scenario, OUTPUT.md those of the output, TROUBLESHOOTING.md what to do
+where something fails.
+TEXT

@@ -1,0 +1,43 @@
+#!/bin/sh
+# Checks what no test runs: the types of the Python package by mypy --strict, unused and undefined names, forms and line lengths of
+# all Python by ruff, and the shell scripts by shellcheck. Debian 12 has no ruff: where it is missing, pyflakes and pycodestyle
+# check the same rules (those of [tool.ruff.lint] in python/pyproject.toml).
+#
+# Usage: tools/lint.sh
+#
+# Status 0 if nothing is wrong; 1 if something is, or a program is missing: Debian's packages are mypy, python3-pyflakes,
+# python3-pycodestyle and shellcheck, which `tools/setup-python.sh --optional` installs. Tested, not proved.
+set -u
+
+cd "$(dirname "$0")/.." || exit 1
+python=$(tools/setup-python.sh --print) || exit 1
+failed=0
+
+run() {
+    "$@" || failed=1
+}
+
+# Types, from the folder that has the settings.
+(cd python && "$python" -m mypy) || failed=1
+
+sources=$(git ls-files '*.py')
+if command -v ruff >/dev/null 2>&1; then
+    # The names have no spaces, and each is a word of its own.
+    # shellcheck disable=SC2086
+    run ruff check --config python/pyproject.toml $sources
+else
+    # shellcheck disable=SC2086
+    run "$python" -m pyflakes $sources
+    # W503 and W504 say the opposite of each other, and ruff has neither. The head of a page is one line a paragraph.
+    # shellcheck disable=SC2086
+    run "$python" -m pycodestyle --select=E4,E5,E7,E9,W1,W2,W3,W6 --max-line-length=160 --exclude=tools/calls.py,tools/words.py $sources
+fi
+
+# Those that other scripts read have the variables of these, and [ a -ot b ] is in all shells of Debian.
+fragments='tests/front_end.sh tests/install_debian.sh tests/verdicts.sh tests/worked.sh'
+# shellcheck disable=SC2046
+run shellcheck -S warning -e SC3013 $(git ls-files '*.sh' foldcairn .ci/run | grep -vxF "$(printf '%s\n' $fragments)")
+# shellcheck disable=SC2086
+run shellcheck -S warning -e SC2154 $fragments
+
+exit $failed
