@@ -27,6 +27,7 @@ pub mod RoomInSlots
 pub mod PlansOfRounds
 -- for this crate alone
 mod WorkedFloods
+mod WorkedFates
 mod SameRounds
 mod AnyRankOrder
 pub mod NumberedStreams

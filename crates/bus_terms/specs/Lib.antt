@@ -10,3 +10,5 @@ pub mod Received
 pub mod Distances
 pub mod HostedRounds
 pub mod OverLines
+pub mod Packets
+pub mod Fates
