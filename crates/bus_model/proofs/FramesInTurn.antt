@@ -11,10 +11,11 @@ use Rattle.bus_rules.specs.declared.act.Act.TheVariants.{Off}
 use Rattle.scenario_text.specs.declared.script.ScriptLine.{ScriptLine}
 use Rattle.bus_rules.specs.States.{State, StateOff}
 use Rattle.bus_rules.specs.Tuning.{is_scan}
-use Rattle.bus_terms.specs.Bus.{Cost, before_frame, bus_drops, drop_at, state_at}
+use Rattle.bus_terms.specs.Bus.{Cost, before_frame, state_at}
 use Rattle.bus_terms.specs.Costs.{over_round, slot_sent, slot_window}
 use Rattle.bus_terms.specs.FloodOfText.{ids}
 use Rattle.bus_terms.specs.OverLines.{IsOverScenario}
+use Rattle.bus_terms.specs.Packets.{bus_puts, put_at}
 use Rattle.bus_terms.specs.Rounds.{rank_in, rounds}
 use Rattle.bus_terms.specs.ScriptedStates.{states_after_end, is_on_and}
 use Rattle.plain_bus.specs.BusNodes.{BusNode, bus_node, IsEarlyState, ranks_in}
@@ -23,14 +24,14 @@ use Rattle.plain_bus.specs.SlotCosts.{IsBelow}
 use Rattle.plain_bus.proofs.MembersOfSlots.{map_of_map, map_same}
 use Rattle.plain_bus.proofs.SlotsMet.{ids_each}
 use Rattle.plain_bus.proofs.SoundOver.{sound_over}
-use Rattle.bus_model.specs.FrameNodes.{HavePower, CountsLinesBefore, deliveries_to, drops_to, ended_at, frame_deliveries, nodes_with, power}
-use Rattle.bus_model.specs.FrameNodes.{prior_ranks, with_round_rank}
+use Rattle.bus_model.specs.FrameNodes.{HavePower, CountsLinesBefore, deliveries_to, ended_at, frame_deliveries, frame_sent, nodes_with, power}
+use Rattle.bus_model.specs.FrameNodes.{prior_ranks, puts_to, sent_to, with_round_rank}
 use Rattle.bus_model.specs.RoundCosts.{cost_after, with_round, with_scan}
 use Rattle.bus_model.proofs.LinesAllowed.{ended_early}
 use Rattle.bus_model.proofs.PowerKept.{ended_power, rounds_power}
 use Rattle.bus_model.proofs.SlotsInTurn.{flat_more, sum_more}
 
-next_frame : (s : ScenarioParts) (f : ℕ) → before_frame s (suc f) ≡ states_after_end s f (rounds s f (state_at s f))
+pub next_frame : (s : ScenarioParts) (f : ℕ) → before_frame s (suc f) ≡ states_after_end s f (rounds s f (state_at s f))
 unfolding before_frame
 next_frame s f = refl
 
@@ -38,7 +39,7 @@ next_ranks : (s : ScenarioParts) (f : ℕ) → prior_ranks s (suc f) ≡ ranks_i
 unfolding prior_ranks
 next_ranks s f = refl
 
-first_frame : (s : ScenarioParts) → before_frame s 0 ≡ (λ (v : ℕ). StateOff 0)
+pub first_frame : (s : ScenarioParts) → before_frame s 0 ≡ (λ (v : ℕ). StateOff 0)
 unfolding before_frame
 first_frame s = refl
 
@@ -76,6 +77,9 @@ module _ (s : ScenarioParts) (f : ℕ) where
 
   pub delivered_more : deliveries_to s f ++ frame_deliveries s f (state_at s f) ≡ deliveries_to s (f + 1)
   delivered_more = sym (flat_more (λ g. frame_deliveries s g (state_at s g)) f)
+
+  pub sent_more : sent_to s f ++ frame_sent s f (state_at s f) ≡ sent_to s (f + 1)
+  sent_more = sym (flat_more (λ g. frame_sent s g (state_at s g)) f)
 
   pub power_next : (n : ℕ) → HavePower s (state_at s f) n → HavePower s (before_frame s (f + 1)) n
   power_next n have v =
@@ -138,7 +142,14 @@ module _ (s : ScenarioParts) where
   power_off v = ap (λ (g : ℕ → State). power (g v)) (first_frame s)
 
   pub ready_off : IsReady s 0 (0 * 184)
-      (record { ids = ids s.nodes; nodes = map (node_at_first s) (ids s.nodes); costs = map (λ (v : ℕ). no_cost) (ids s.nodes); deliveries = []; floods = [] })
+      (record {
+        ids = ids s.nodes;
+        nodes = map (node_at_first s) (ids s.nodes);
+        costs = map (λ (v : ℕ). no_cost) (ids s.nodes);
+        deliveries = [];
+        sent = [];
+        floods = [];
+      })
   ready_off = record {
     ids_are = refl;
     nodes_each = length-map (ids s.nodes) (node_at_first s) ∙ ids_each s;
@@ -153,7 +164,7 @@ module _ (s : ScenarioParts) where
   cut_off = record { within = omega arith; before = λ i d low. absurd (omega (arith, low)); from = λ i d high near. omega arith }
 
   -- after the last frame the script is over
-  pub script_over : (said : IsOverScenario s) (n : ℕ) → CountsLinesBefore s.script s.frames n → drops_to s n ≡ bus_drops s
+  pub script_over : (said : IsOverScenario s) (n : ℕ) → CountsLinesBefore s.script s.frames n → puts_to s n ≡ bus_puts s
   script_over said n cut = elim (cases_lt n (length s.script)) [
     | inl less ↦ absurd (
         let d : ScriptLine = record { frame = 0; node = 0; act = Off } in
@@ -161,5 +172,5 @@ module _ (s : ScenarioParts) where
         let line = (sound_over s said).script n d less in
         let early = line.in_run in
         omega (arith, late, early))
-    | inr over ↦ ap (filter_map (drop_at s)) (take_all n (enumerate_from 0 s.script) (omega (arith, over, length-enumerate_from 0 s.script)))
+    | inr over ↦ ap (filter_map (put_at s)) (take_all n (enumerate_from 0 s.script) (omega (arith, over, length-enumerate_from 0 s.script)))
   ]

@@ -5,3 +5,5 @@ pub mod PowerKept
 pub mod LinesTold
 pub mod LinesAllowed
 pub mod FramesInTurn
+pub mod OffOutside
+pub mod DroppedLines

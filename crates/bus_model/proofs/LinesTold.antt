@@ -1,27 +1,28 @@
 -- The lines of a frame, given one after another.
 use Rattle.std.proofs.Common.{◌≡◌, ◌<◌, ◌≤◌, ◌+◌, ◌++◌, ◌∷◌, ◌==◌, ◌&&◌, [], ℕ, zero, suc, List, Bool, true, false, inl, inr, if◌then◌else◌, length}
-use Rattle.std.proofs.Common.{map, take, drop, get_or, set, filter, filter_map, fold, Option, None, Some, option_to_list, refl, sym, ◌∙◌, ap, arith, append-nil}
+use Rattle.std.proofs.Common.{map, take, drop, get_or, set, filter, fold, option_to_list, refl, sym, ◌∙◌, ap, arith, append-nil}
 use Rattle.std.proofs.Common.{take-append-drop, length-drop}
-use Rattle.std.specs.List.{AllPairs, cons_option, enumerate_from}
+use Rattle.std.specs.List.{AllPairs, enumerate_from}
 use Rattle.std.proofs.lemmas.Bool.{cases_lt, eq-eqb, ne_eqb, and_right}
 use Rattle.std.proofs.lemmas.List.{take_more, length-take-le, get_or-take, get_or-drop, get_or-map}
-use Rattle.std.proofs.lemmas.List.Elements.{filter-append, filter_map-append}
+use Rattle.std.proofs.lemmas.List.Elements.{filter-append}
 use Rattle.std.proofs.lemmas.List.FromFn.{length-enumerate_from, get_or-enumerate_from}
 use Rattle.std.proofs.lemmas.List.Sums.{fold_push}
+use Rattle.lwb_base.proofs.Lists.{filter_map_more}
 use Rattle.scenario_text.specs.ScenarioParts.{ScenarioParts}
 use Rattle.scenario_text.specs.ScenarioFacts.{turned, turned_by}
 use Rattle.scenario_text.specs.declared.script.ScriptLine.{ScriptLine}
-use Rattle.bus_rules.specs.declared.delivery.DropLine.{DropLine}
 use Rattle.bus_rules.specs.States.{State}
-use Rattle.bus_terms.specs.Bus.{before_frame, drop_at, state_at}
+use Rattle.bus_terms.specs.Bus.{before_frame, state_at}
 use Rattle.bus_terms.specs.FloodOfText.{ids}
-use Rattle.bus_terms.specs.ScriptedStates.{state_after_line, lost_by}
+use Rattle.bus_terms.specs.Packets.{put_at, put_by}
+use Rattle.bus_terms.specs.ScriptedStates.{state_after_line}
 use Rattle.plain_bus.specs.BusNodes.{BusNode, bus_node}
-use Rattle.bus_model.specs.FrameNodes.{HavePower, CountsLinesBefore, drops_to, nodes_with, power, node_after_line, told_at}
+use Rattle.bus_model.specs.FrameNodes.{HavePower, CountsLinesBefore, puts_to, nodes_with, power, node_after_line, told_at}
 use Rattle.bus_model.proofs.PowerKept.{act_power}
 
 -- a filter that keeps nothing
-none_kept : {X : Type 0} (p : X → Bool) (xs : List X) → ((i : ℕ) (d : X) → i < length xs → p (get_or xs i d) ≡ false) → filter p xs ≡ []
+pub none_kept : {X : Type 0} (p : X → Bool) (xs : List X) → ((i : ℕ) (d : X) → i < length xs → p (get_or xs i d) ≡ false) → filter p xs ≡ []
 none_kept p [] none = refl
 none_kept p (x ∷ xs) none =
     ap (λ (b : Bool). if b then x ∷ filter p xs else filter p xs) (none 0 x (omega arith))
@@ -44,7 +45,7 @@ set_mapped g h (x ∷ xs) (suc i) below same =
     (set_mapped g h xs i (omega (arith, below)) (λ k near other. same (suc k) (omega (arith, near)) (λ is. other (omega (arith, is)))))
 
 -- one line more of all that was given
-abbrev own : ℕ → ℕ → ScriptLine → Bool
+abbrev pub own : ℕ → ℕ → ScriptLine → Bool
 own f v l = (l.node == v) && (l.frame == f)
 
 and_true : (b c : Bool) → c ≡ true → (b && c) ≡ b
@@ -138,22 +139,16 @@ module _ (s : ScenarioParts) (f : ℕ) where
       by_node true = act_power l.act (told_at s f n v) ∙ ap (turned_by l.act) (have v)
       by_node false = have v
 
-  -- and what is lost
-  last_lost : (o : Option DropLine) → cons_option o [] ≡ option_to_list o
-  last_lost None = refl
-  last_lost (Some d) = refl
-
-  pub lost_more : (n : ℕ) (l : ScriptLine) → n < length s.script → l ≡ get_or s.script n l → l.frame ≡ f
-      → drops_to s (n + 1) ≡ drops_to s n ++ option_to_list (lost_by l l.act (told_at s f n l.node))
-  lost_more n l below at is =
+  -- and what is put
+  pub put_more : (n : ℕ) (l : ScriptLine) → n < length s.script → l ≡ get_or s.script n l → l.frame ≡ f
+      → puts_to s (n + 1) ≡ puts_to s n ++ option_to_list (put_by l l.act (told_at s f n l.node))
+  put_more n l below at is =
       let lines : List (ℕ × ScriptLine) = enumerate_from 0 s.script in
       let near : n < length lines = omega (arith, below, length-enumerate_from 0 s.script) in
       let place : 0 + n ≡ n = omega arith in
       let line : get_or lines n (n, l) ≡ (n, l) =
       get_or-enumerate_from 0 s.script n (n, l) below ∙ ap {B = ℕ × ScriptLine} (λ k. (k, get_or s.script n l)) place
       ∙ ap {B = ℕ × ScriptLine} (λ y. (n, y)) (sym at) in
-      ap (filter_map (drop_at s)) (take_more lines n (n, l) near ∙ ap (λ (y : ℕ × ScriptLine). take n lines ++ y ∷ []) line)
-      ∙ filter_map-append (drop_at s) (take n lines) ((n, l) ∷ [])
-      ∙ ap (λ (ds : List DropLine). drops_to s n ++ ds) (last_lost (drop_at s (n, l)))
-      ∙ ap (λ (k : ℕ). drops_to s n ++ option_to_list (lost_by l l.act
+      filter_map_more {X = ℕ × ScriptLine} (put_at s) lines n (n, l) near (sym line)
+      ∙ ap (λ (k : ℕ). puts_to s n ++ option_to_list (put_by l l.act
       (fold state_after_line (before_frame s k l.node) (filter (λ m. (m.node == l.node) && (m.frame == k)) (take n s.script))))) is

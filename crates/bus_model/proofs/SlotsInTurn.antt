@@ -1,12 +1,13 @@
 -- The slots of a round, one after another.
-use Rattle.std.proofs.Common.{◌≡◌, ◌≤◌, ◌<◌, ◌+◌, ◌++◌, ◌∷◌, ◌==◌, [], ℕ, List, Bool, true, false, if◌then◌else◌, length, map, flat_map}
-use Rattle.std.proofs.Common.{get_or, sum_by, refl, sym, ◌∙◌, ap, arith, add-zero, append-nil, append_assoc, mul-le-mul_right}
+use Rattle.std.proofs.Common.{◌≡◌, ◌≤◌, ◌<◌, ◌+◌, ◌++◌, ◌∷◌, ◌==◌, [], ℕ, List, Bool, true, false, if◌then◌else◌, Option, length, map, filter_map, flat_map}
+use Rattle.std.proofs.Common.{get_or, option_to_list, sum_by, refl, sym, ◌∙◌, ap, arith, add-zero, append-nil, append_assoc, mul-le-mul_right}
 use Rattle.std.specs.List.{range_with_len}
 use Rattle.std.proofs.lemmas.List.Concat.{flat_map-append}
+use Rattle.std.proofs.lemmas.List.Elements.{filter_map-append}
 use Rattle.std.proofs.lemmas.List.FromFn.{get_or-map-range_with_len, length-map-range_with_len}
 use Rattle.std.proofs.lemmas.List.Sums.{sum_by_push}
 use Rattle.lwb_base.specs.Messages.{Plan}
-use Rattle.lwb_base.proofs.Lists.{range_next}
+use Rattle.lwb_base.proofs.Lists.{one_kept, range_next}
 use Rattle.scenario_text.specs.ScenarioParts.{ScenarioParts}
 use Rattle.bus_rules.specs.declared.part.Part.{Part}
 use Rattle.bus_rules.specs.Plans.{last_slot}
@@ -59,6 +60,11 @@ before_first s rank f p start others = ap (λ (g : ℕ → State). nodes_in s ra
 pub flat_more : {X : Type 0} (g : ℕ → List X) (n : ℕ) → flat_map g (range_with_len 0 (n + 1)) ≡ flat_map g (range_with_len 0 n) ++ g n
 flat_more g n = ap (flat_map g) (range_next n) ∙ flat_map-append g (range_with_len 0 n) (n ∷ []) ∙ ap (λ (l : List _). flat_map g (range_with_len 0 n) ++ l)
     (append-nil (g n))
+
+pub kept_more : {X : Type 0} (g : ℕ → Option X) (n : ℕ)
+    → filter_map g (range_with_len 0 (n + 1)) ≡ filter_map g (range_with_len 0 n) ++ option_to_list (g n)
+kept_more g n = ap (filter_map g) (range_next n) ∙ filter_map-append g (range_with_len 0 n) (n ∷ [])
+    ∙ ap (λ (l : List _). filter_map g (range_with_len 0 n) ++ l) (one_kept g n)
 
 pub sum_more : (g : ℕ → ℕ) (n : ℕ) → sum_by g (range_with_len 0 (n + 1)) ≡ sum_by g (range_with_len 0 n) + g n
 sum_more g n = ap (sum_by g) (range_next n) ∙ sum_by_push g (range_with_len 0 n) n

@@ -5,13 +5,18 @@ use Rattle.bus_rules.specs.declared.delivery.Delivery.{Delivery}
 use Rattle.bus_rules.specs.declared.delivery.DropLine.{DropLine}
 use Rattle.bus_terms.specs.Bus.{Cost, bus_cost, bus_deliveries, bus_drops}
 use Rattle.bus_terms.specs.FloodOfText.{ids as ids_of}
+use Rattle.bus_terms.specs.Packets.{bus_puts, bus_sent}
+use Rattle.bus_terms.specs.declared.packets.PutLine.{PutLine}
+use Rattle.bus_terms.specs.declared.packets.SentPacket.{SentPacket}
 
--- the nodes, what each cost, what was delivered, and what was lost
+-- the nodes, what each cost, what was delivered, what was lost, what was put, and what was sent
 pub record BusRun : Type 0 where
   pub ids : List ℕ
   pub costs : List Cost
   pub deliveries : List Delivery
   pub drops : List DropLine
+  pub puts : List PutLine
+  pub sent : List SentPacket
 
 -- all of it is the bus's
 pub record IsBusRun (s : ScenarioParts) (b : BusRun) : Type 0 where
@@ -19,3 +24,5 @@ pub record IsBusRun (s : ScenarioParts) (b : BusRun) : Type 0 where
   pub each_cost : b.costs ≡ map (bus_cost s) (ids_of s.nodes)
   pub delivered : b.deliveries ≡ bus_deliveries s
   pub lost : b.drops ≡ bus_drops s
+  pub put : b.puts ≡ bus_puts s
+  pub sent : b.sent ≡ bus_sent s

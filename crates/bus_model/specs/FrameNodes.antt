@@ -6,13 +6,15 @@ use Rattle.scenario_text.specs.ScenarioFacts.{turned}
 use Rattle.scenario_text.specs.ScenarioParts.{ScenarioParts}
 use Rattle.scenario_text.specs.declared.script.ScriptLine.{ScriptLine}
 use Rattle.bus_rules.specs.declared.delivery.Delivery.{Delivery}
-use Rattle.bus_rules.specs.declared.delivery.DropLine.{DropLine}
 use Rattle.bus_rules.specs.Cores.{frame_ended}
 use Rattle.bus_rules.specs.States.{State, StateOff, StateOn, at_core, state_after_act}
-use Rattle.bus_terms.specs.Bus.{before_frame, drop_at, state_at, ranks_of}
+use Rattle.bus_terms.specs.Bus.{before_frame, state_at, ranks_of}
 use Rattle.bus_terms.specs.FloodOfText.{ids}
+use Rattle.bus_terms.specs.Packets.{put_at, round_sent}
 use Rattle.bus_terms.specs.Rounds.{rank_in, rounds, round_deliveries}
 use Rattle.bus_terms.specs.ScriptedStates.{state_after_line}
+use Rattle.bus_terms.specs.declared.packets.PutLine.{PutLine}
+use Rattle.bus_terms.specs.declared.packets.SentPacket.{SentPacket}
 use Rattle.plain_bus.specs.BusNodes.{BusNode, bus_node, ranks_in}
 use Rattle.plain_bus.specs.Networks.{Network, IsReady}
 use Rattle.bus_model.specs.RoundCosts.{cost_after}
@@ -35,9 +37,16 @@ frame_deliveries s f states = flat_map (λ rank. round_deliveries s rank f state
 abbrev pub deliveries_to : ScenarioParts → ℕ → List Delivery
 deliveries_to s n = flat_map (λ f. frame_deliveries s f (state_at s f)) (range_with_len 0 n)
 
--- what the first n lines of the script lose
-abbrev pub drops_to : ScenarioParts → ℕ → List DropLine
-drops_to s n = filter_map (drop_at s) (take n (enumerate_from 0 s.script))
+-- what is sent in a frame, and in the first n frames
+abbrev pub frame_sent : ScenarioParts → ℕ → (ℕ → State) → List SentPacket
+frame_sent s f states = flat_map (λ rank. round_sent s rank f states) (ranks_of s)
+
+abbrev pub sent_to : ScenarioParts → ℕ → List SentPacket
+sent_to s n = flat_map (λ f. frame_sent s f (state_at s f)) (range_with_len 0 n)
+
+-- what the first n lines of the script put
+abbrev pub puts_to : ScenarioParts → ℕ → List PutLine
+puts_to s n = filter_map (put_at s) (take n (enumerate_from 0 s.script))
 
 -- the state of v in frame f after those of the first n lines that it is given then
 abbrev pub told_at : ScenarioParts → ℕ → ℕ → ℕ → State
@@ -79,4 +88,5 @@ pub record IsAtFrame (s : ScenarioParts) (f : ℕ) (n : Network) : Type 0 where
   pub nodes_are : n.nodes ≡ nodes_with s (prior_ranks s f) (before_frame s f)
   pub costs_are : n.costs ≡ map (cost_after s f) (ids s.nodes)
   pub delivered : n.deliveries ≡ deliveries_to s f
+  pub sent : n.sent ≡ sent_to s f
   pub ready : IsReady s f (f * 184) n

@@ -2,7 +2,7 @@
 use Rattle.std.specs.Prelude.{◌≡◌, ℕ}
 use Rattle.scenario_text.specs.ScenarioParts.{ScenarioParts}
 use Rattle.bus_terms.specs.Bus.{before_frame}
-use Rattle.bus_model.specs.FrameNodes.{CountsLinesBefore, HavePower, IsAtFrame, drops_to}
+use Rattle.bus_model.specs.FrameNodes.{CountsLinesBefore, HavePower, IsAtFrame, puts_to}
 use Rattle.bus_model.specs.declared.running_bus.RunningBus.{RunningBus}
 
 -- before frame f
@@ -10,4 +10,4 @@ pub record IsBeforeFrame (s : ScenarioParts) (f : ℕ) (b : RunningBus) : Type 0
   pub at : IsAtFrame s f b.net
   pub cut : CountsLinesBefore s.script f b.told
   pub have : HavePower s (before_frame s f) b.told
-  pub lost : b.drops.items ≡ drops_to s b.told
+  pub put : b.puts.items ≡ puts_to s b.told

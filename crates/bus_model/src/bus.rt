@@ -9,7 +9,9 @@ ghost use Rattle.scenario_text.specs.ScenarioParts.{ScenarioParts};
 ghost use Rattle.bus_model.specs.BusRuns.{IsBusRun};
 
 use crate::RunningBus;
+use crate::drops::drops_of;
 use bus_rules::{Delivery, DropLine};
+use bus_terms::{PutLine, SentPacket};
 use link_trace::Links;
 use lwb_base::{Memory, NodeId};
 use plain_bus::{Cost, Network, ScenarioOver, place_of};
@@ -17,11 +19,12 @@ use scenario_text::Scenario;
 use std::alloc::Global;
 use std::marker::Model;
 
-/// A scenario's run on the ideal single-hop bus, without clocks: what is delivered, what is lost before it is queued, and what
-/// it costs each node.
+/// A scenario's run on the ideal single-hop bus, without clocks: what is put, sent and delivered, what is lost before it is
+/// queued, and what it costs each node.
 #[derive(Drop)]
 pub struct Bus {
     net: Network,
+    puts: Vec<PutLine>,
     drops: Vec<DropLine>,
 }
 
@@ -33,7 +36,14 @@ impl Model for Bus {
     ghost use Rattle.std.specs.Prelude.{◌≡◌, ◌<◌, length};
     ghost use Rattle.std.specs.List.{AllPairs};
 
-    ghost view = { λ b. record { ids = b.net.ids; costs = b.net.costs; deliveries = b.net.deliveries; drops = b.drops.items } };
+    ghost view = { λ b. record {
+      ids = b.net.ids;
+      costs = b.net.costs;
+      deliveries = b.net.deliveries;
+      drops = b.drops.items;
+      puts = b.puts.items;
+      sent = b.net.sent;
+    } };
 
     ghost invariant = { λ b. AllPairs (λ u v. u < v) b.net.ids × (length b.net.costs ≡ length b.net.ids) };
 }
@@ -57,9 +67,11 @@ impl Bus {
         for frame in 0..scenario.frames() {
             run.run_frame(alloc, &scenario, frame)?;
         }
+        let drops = drops_of(alloc, &run.puts)?;
         Ok(Bus {
             net: run.net,
-            drops: run.drops,
+            puts: run.puts,
+            drops,
         })
     }
 
@@ -80,6 +92,21 @@ impl Bus {
     {
         let net = &self.net;
         &net.deliveries
+    }
+
+    /// What the script put, in its order.
+    pub fn puts(&self) -> &[PutLine]
+        ensures { result.now ≡ self.now.puts }
+    {
+        &self.puts
+    }
+
+    /// The packets that were sent, by frame, rank and slot.
+    pub fn sent(&self) -> &[SentPacket]
+        ensures { result.now ≡ self.now.sent }
+    {
+        let net = &self.net;
+        &net.sent
     }
 
     /// The packets that were lost before they were queued, in the order of the script.

@@ -3,6 +3,7 @@
 
 mod all_nodes;
 mod bus;
+mod drops;
 mod frames;
 mod rounds;
 mod running_bus;

@@ -1,19 +1,20 @@
 //! The rounds of a frame.
 
-ghost use Rattle.std.specs.Prelude.{◌≡◌, ◌≤◌, ◌+◌, ◌*◌, ◌++◌, ◌==◌, ℕ, List, OnOk, flat_map, map, length, if◌then◌else◌};
+ghost use Rattle.std.specs.Prelude.{◌≡◌, ◌≤◌, ◌+◌, ◌*◌, ◌++◌, ◌==◌, ℕ, List, OnOk, filter_map, flat_map, map, length, if◌then◌else◌};
 ghost use Rattle.lwb_base.specs.Messages.{Plan};
 ghost use Rattle.lwb_base.specs.declared.limits.TheConstants.{LAST_FRAME};
 ghost use Rattle.bus_rules.specs.Plans.{last_slot};
 ghost use Rattle.bus_rules.specs.States.{State};
 ghost use Rattle.bus_terms.specs.Bus.{Cost as CostOf};
 ghost use Rattle.bus_terms.specs.FloodOfText.{ids};
+ghost use Rattle.bus_terms.specs.Packets.{round_sent, sent_in_slot};
 ghost use Rattle.bus_terms.specs.Rounds.{before_slot, round_of_rank, rounds, round_deliveries, slot_deliveries, slots_of};
-ghost use Rattle.plain_bus.specs.BusNodes.{nodes_in, ranks_in, HaveRoom, HaveRoomInRound};
+ghost use Rattle.plain_bus.specs.BusNodes.{nodes_in, ranks_in, AreOffOutside, HaveRoom, HaveRoomInRound};
 ghost use Rattle.plain_bus.specs.Leaders.{slot_parts};
 ghost use Rattle.plain_bus.specs.Networks.{IsReady};
 ghost use Rattle.plain_bus.specs.RunFloods.{HasRun, SlotFlood, slot_flood};
 ghost use Rattle.bus_model.specs.FrameFloods.{frame_floods, round_floods};
-ghost use Rattle.bus_model.specs.FrameNodes.{AreRanked, frame_deliveries, nodes_with};
+ghost use Rattle.bus_model.specs.FrameNodes.{AreRanked, frame_deliveries, frame_sent, nodes_with};
 ghost use Rattle.bus_model.specs.RoundCosts.{with_round, with_slots};
 
 use bus_rules::Part;
@@ -36,6 +37,9 @@ pub fn run_rounds<M: Links>(
         → ((rank : ℕ) → HaveRoomInRound s.now rank frame start) → net.new.nodes ≡ nodes_with s.now (ranks_in start) (rounds s.now frame start)) }
     ensures deliveries { OnOk result ((start : ℕ → State) → AreRanked s.now start → net.old.nodes ≡ nodes_with s.now (ranks_in start) start
         → ((rank : ℕ) → HaveRoomInRound s.now rank frame start) → net.new.deliveries ≡ net.old.deliveries ++ frame_deliveries s.now frame start) }
+    ensures sent { OnOk result ((start : ℕ → State) → AreRanked s.now start → net.old.nodes ≡ nodes_with s.now (ranks_in start) start
+        → ((rank : ℕ) → HaveRoomInRound s.now rank frame start) → AreOffOutside s.now start
+        → net.new.sent ≡ net.old.sent ++ frame_sent s.now frame start) }
     ensures floods { OnOk result ((start : ℕ → State) (before : List SlotFlood) → AreRanked s.now start
         → net.old.nodes ≡ nodes_with s.now (ranks_in start) start → ((rank : ℕ) → HaveRoomInRound s.now rank frame start)
         → HasRun s.now frame before net.old.floods → HasRun s.now frame (before ++ frame_floods s.now frame start) net.new.floods) }
@@ -80,6 +84,8 @@ fn run_round<M: Links>(
         → HaveRoomInRound s.now rank frame start → net.new.nodes ≡ nodes_in s.now rank start (round_of_rank s.now rank frame start) others) }
     ensures deliveries { OnOk result ((start others : ℕ → State) → net.old.nodes ≡ nodes_in s.now rank start start others
         → HaveRoomInRound s.now rank frame start → net.new.deliveries ≡ net.old.deliveries ++ round_deliveries s.now rank frame start) }
+    ensures sent { OnOk result ((start others : ℕ → State) → net.old.nodes ≡ nodes_in s.now rank start start others
+        → HaveRoomInRound s.now rank frame start → AreOffOutside s.now start → net.new.sent ≡ net.old.sent ++ round_sent s.now rank frame start) }
     ensures floods { OnOk result ((start others : ℕ → State) (before : List SlotFlood) → net.old.nodes ≡ nodes_in s.now rank start start others
         → HaveRoomInRound s.now rank frame start
         → HasRun s.now frame before net.old.floods → HasRun s.now frame (before ++ round_floods s.now rank frame start) net.new.floods) }
@@ -113,6 +119,9 @@ fn run_slots<M: Links>(
     ensures deliveries { OnOk result ((p : Plan) (start others : ℕ → State) → parts.now ≡ slot_parts p → net.old.nodes ≡ nodes_in s.now rank start start others
         → ((j : ℕ) → HaveRoom s.now rank frame p start j)
         → net.new.deliveries ≡ net.old.deliveries ++ flat_map (slot_deliveries s.now rank frame p start) (slots_of p)) }
+    ensures sent { OnOk result ((p : Plan) (start others : ℕ → State) → parts.now ≡ slot_parts p → net.old.nodes ≡ nodes_in s.now rank start start others
+        → ((j : ℕ) → HaveRoom s.now rank frame p start j) → AreOffOutside s.now start
+        → net.new.sent ≡ net.old.sent ++ filter_map (sent_in_slot s.now rank frame p start) (slots_of p)) }
     ensures floods { OnOk result ((p : Plan) (start others : ℕ → State) (before : List SlotFlood) → parts.now ≡ slot_parts p
         → net.old.nodes ≡ nodes_in s.now rank start start others → ((j : ℕ) → HaveRoom s.now rank frame p start j)
         → HasRun s.now frame before net.old.floods

@@ -9,7 +9,7 @@ ghost use Rattle.bus_model.specs.FrameFloods.{frame_floods};
 ghost use Rattle.bus_model.specs.RunningBuses.{IsBeforeFrame};
 
 use crate::frames::run_frame;
-use bus_rules::DropLine;
+use bus_terms::PutLine;
 use link_trace::Links;
 use lwb_base::Memory;
 use plain_bus::{Network, ScenarioOver};
@@ -21,8 +21,8 @@ use std::alloc::Global;
 pub struct RunningBus {
     /// The nodes, with the floods of the last frame.
     pub net: Network,
-    /// The packets that were lost before they were queued, in the order of the script.
-    pub drops: Vec<DropLine>,
+    /// What the script put so far, in its order.
+    pub puts: Vec<PutLine>,
     /// The number of script lines that the nodes were given.
     pub told: usize,
 }
@@ -34,7 +34,7 @@ impl RunningBus {
     {
         Ok(RunningBus {
             net: Network::new(alloc, s)?,
-            drops: Vec::new(alloc),
+            puts: Vec::new(alloc),
             told: 0,
         })
     }
@@ -52,7 +52,7 @@ impl RunningBus {
         ensures after { OnOk result (IsBeforeFrame s.now (frame + 1) self.new) }
         ensures floods { OnOk result (HasRun s.now frame (frame_floods s.now frame (state_at s.now frame)) self.new.net.floods) }
     {
-        self.told = run_frame(alloc, &mut self.net, s, frame, self.told, &mut self.drops)?;
+        self.told = run_frame(alloc, &mut self.net, s, frame, self.told, &mut self.puts)?;
         Ok(())
     }
 }

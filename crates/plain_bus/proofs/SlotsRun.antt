@@ -18,7 +18,8 @@ use Rattle.bus_terms.specs.ScriptedStates.{setup_in}
 use Rattle.bus_terms.proofs.OtherRanks.{IsElsewhere, no_window, slots_elsewhere}
 use Rattle.bus_terms.proofs.ReceivedByPaths.{of_filtered}
 use Rattle.bus_terms.proofs.ReceivedInRounds.{accepted_none}
-use Rattle.plain_bus.specs.BusNodes.{BusNode, bus_node, mixed, ranks_in, nodes_before, node_opened, state_opened, closed_of, MayAcceptIn, HaveRoom}
+use Rattle.plain_bus.specs.BusNodes.{BusNode, bus_node, mixed, ranks_in, nodes_before, node_opened, state_opened, closed_of}
+use Rattle.plain_bus.specs.BusNodes.{AreOffOutside, MayAcceptIn, HaveRoom}
 use Rattle.plain_bus.specs.Closings.{Behind, heard_at, closed_node, delivers_node}
 use Rattle.plain_bus.specs.SlotFloods.{Seen, seen_of, seen_by}
 use Rattle.plain_bus.proofs.MembersOfSlots.{closing_at, has_filtered, map_of_map, map_same}
@@ -80,6 +81,12 @@ module _ (s : ScenarioParts) (rank f : ℕ) (p : Plan) (start others : ℕ → S
   other_rank v is =
       let there = elsewhere_by rank (start v) is in
       subst (IsElsewhere rank) (sym (slots_elsewhere s rank f p v start there j)) there
+
+  -- a node that is not in the scenario has none
+  pub shut_outside : AreOffOutside s start → (v : ℕ) → has (ids s.nodes) v ≡ false → window v ≡ None
+  shut_outside off v out =
+      let there : IsElsewhere rank (start v) = subst (IsElsewhere rank) (sym (off v out)) tt in
+      no_window s rank f part v (states v) (subst (IsElsewhere rank) (sym (slots_elsewhere s rank f p v start there j)) there)
 
   -- the windows of the nodes
   pub seen_all : (nodes : List BusNode) (q : Part) → nodes ≡ nodes_before s rank f p start others j → q ≡ part_of p j

@@ -7,10 +7,10 @@ use Rattle.bus_rules.specs.Plans.{slots_named}
 use Rattle.bus_rules.specs.Slots.{Message, Opened, Closed, opened_slot, closed_slot, delivery_of, part_of, is_schedule_part}
 use Rattle.bus_rules.specs.declared.delivery.Delivery.{Delivery}
 use Rattle.bus_rules.specs.declared.part.Part.{Part}
-use Rattle.bus_rules.specs.States.{State, StateOff, StateOn, loses}
+use Rattle.bus_rules.specs.States.{State, StateOff, StateOn}
 use Rattle.scenario_text.specs.ScenarioParts.{ScenarioParts}
 use Rattle.bus_rules.specs.declared.act.Act.{Act}
-use Rattle.bus_rules.specs.declared.act.Act.TheVariants.{On, Put}
+use Rattle.bus_rules.specs.declared.act.Act.TheVariants.{On}
 use Rattle.lwb_member.specs.Members.{MayAccept}
 use Rattle.lwb_member.specs.Planning.{IsEarly}
 use Rattle.bus_rules.specs.Tuning.{hosts_in}
@@ -45,11 +45,6 @@ MayBoot (StateOn c) = ⊤
 abbrev pub MayDo : Act → State → Type 0
 MayDo On x = MayBoot x
 MayDo other x = ⊤
-
--- whether a packet is lost by what it is given
-abbrev pub loses_by : Act → State → Bool
-loses_by (Put i payload) x = loses i x
-loses_by other x = false
 
 -- no stream of its table was accepted after this frame
 abbrev pub IsEarlyState : ℕ → State → Type 0
@@ -100,6 +95,10 @@ nodes_in s rank start inner others = map (bus_node s (ranks_in start) (mixed ran
 
 abbrev pub nodes_before : ScenarioParts → ℕ → ℕ → Plan → (start others : ℕ → State) → ℕ → List BusNode
 nodes_before s rank f p start others j = nodes_in s rank start (before_slot s rank f p start j) others
+
+-- no node is on that is not in the scenario
+abbrev pub AreOffOutside : ScenarioParts → (ℕ → State) → Type 0
+AreOffOutside s states = (v : ℕ) → has (ids s.nodes) v ≡ false → states v ≡ StateOff 0
 
 -- before a data slot and a contention slot, a host of the round keeps fewer requests than the round has contention slots
 abbrev pub HasRoom : Setup → ℕ → ℕ → Part → State → Type 0

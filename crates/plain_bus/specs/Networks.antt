@@ -8,16 +8,18 @@ use Rattle.bus_terms.specs.Bus.{Cost}
 use Rattle.bus_terms.specs.Costs.{slot_sent, slot_window}
 use Rattle.bus_terms.specs.FloodOfText.{ids as ids_of}
 use Rattle.bus_terms.specs.Rounds.{slot_at}
+use Rattle.bus_terms.specs.declared.packets.SentPacket.{SentPacket}
 use Rattle.plain_bus.specs.BusNodes.{BusNode, bus_node, IsEarlyState}
 use Rattle.plain_bus.specs.SlotCosts.{IsBelow}
 use Rattle.plain_bus.specs.declared.station.Flood.{Flood}
 
--- the nodes, what each cost, what was delivered so far, and the floods of the frame
+-- the nodes, what each cost, what was sent and delivered so far, and the floods of the frame
 pub record Network : Type 0 where
   pub ids : List ℕ
   pub nodes : List BusNode
   pub costs : List Cost
   pub deliveries : List Delivery
+  pub sent : List SentPacket
   pub floods : List Flood
 
 -- what a node cost before it did anything

@@ -1,6 +1,6 @@
 //! A slot closes at all nodes, by what each accepted of its flood.
 
-ghost use Rattle.std.specs.Prelude.{◌≡◌, ◌≤◌, ◌<◌, ◌++◌, ℕ, All, OnOk, true, Some, length, map, take, filter_map};
+ghost use Rattle.std.specs.Prelude.{◌≡◌, ◌≤◌, ◌<◌, ◌++◌, ℕ, All, OnOk, true, false, Some, is_some, length, map, take, filter_map};
 ghost use Rattle.std.specs.List.{AllPairs};
 ghost use Rattle.std.specs.Option.{option_and_then, option_copied};
 ghost use Rattle.lwb_base.specs.declared.limits.TheConstants.{LAST_FRAME};
@@ -73,12 +73,17 @@ fn heard_by<'a>(
     }
 }
 
-// What the node of this id says.
-fn said_by<'a>(windows: &'a [Window], ids: &[NodeId], origin: NodeId) -> Option<&'a Packet>
+/// The packet of what the node of this id says. `None` is returned where it says nothing, or is none of these.
+pub(crate) fn said_by<'a>(
+    windows: &'a [Window],
+    ids: &[NodeId],
+    origin: NodeId,
+) -> Option<&'a Packet>
     requires windows { length windows.now ≡ length ids.now }
     requires ascending { AllPairs (λ a b. a < b) ids.now }
-    ensures { (b : Behind) → map seen_window windows.now ≡ map b.window ids.now → has ids.now origin ≡ true
+    ensures known { (b : Behind) → map seen_window windows.now ≡ map b.window ids.now → has ids.now origin ≡ true
         → option_and_then message_of (option_copied result) ≡ (b.window origin).message }
+    ensures unknown { has ids.now origin ≡ false → is_some result ≡ false }
 {
     match place_of(ids, origin) {
         Some(place) => said_in(&windows[place]),

@@ -15,6 +15,7 @@ mod places;
 mod reaching;
 mod round_slot;
 mod scenario_over;
+mod sent;
 mod sent_steps;
 mod slot_flood;
 mod slot_windows;

@@ -1,6 +1,6 @@
 //! All nodes of a bus, and a slot of a round at them.
 
-ghost use Rattle.std.specs.Prelude.{◌≡◌, ◌≤◌, ◌<◌, ◌+◌, ◌++◌, ◌∷◌, ◌==◌, ℕ, List, OnOk, IfOk, IfSome, map, length, [], if◌then◌else◌};
+ghost use Rattle.std.specs.Prelude.{◌≡◌, ◌≤◌, ◌<◌, ◌+◌, ◌++◌, ◌∷◌, ◌==◌, ℕ, List, OnOk, IfOk, IfSome, map, length, option_to_list, [], if◌then◌else◌};
 ghost use Rattle.lwb_base.specs.Messages.{Plan};
 ghost use Rattle.lwb_base.specs.declared.limits.TheConstants.{LAST_FRAME};
 ghost use Rattle.bus_rules.specs.Cores.{own_rank};
@@ -8,8 +8,9 @@ ghost use Rattle.bus_rules.specs.States.{State};
 ghost use Rattle.bus_rules.specs.Slots.{part_of};
 ghost use Rattle.bus_terms.specs.Bus.{Cost as CostOf};
 ghost use Rattle.bus_terms.specs.FloodOfText.{ids};
+ghost use Rattle.bus_terms.specs.Packets.{sent_in_slot};
 ghost use Rattle.bus_terms.specs.Rounds.{slot_deliveries};
-ghost use Rattle.plain_bus.specs.BusNodes.{nodes_before, ranks_in, HaveRoom};
+ghost use Rattle.plain_bus.specs.BusNodes.{nodes_before, ranks_in, AreOffOutside, HaveRoom};
 ghost use Rattle.plain_bus.specs.Networks.{IsReady, no_cost, node_at_first, with_slot_at};
 ghost use Rattle.plain_bus.specs.RunFloods.{HasRun, SlotFlood, slot_flood};
 
@@ -19,24 +20,29 @@ use crate::cost::Cost;
 use crate::node::BusNode;
 use crate::round_slot::{RoundSlot, Setting};
 use crate::scenario_over::ScenarioOver;
+use crate::sent::add_sent;
 use crate::slot_flood::open_slot;
 use crate::station::Flood;
 use crate::stepping::flooded;
 use crate::window::Window;
 use bus_rules::{Delivery, Part};
+use bus_terms::SentPacket;
 use link_trace::Links;
 use lwb_base::{Memory, NodeId, Rank};
 use scenario_text::Scenario;
 use std::alloc::Global;
 use std::marker::Model;
 
-/// All nodes of a bus, by ascending ids, with what each cost, what was delivered so far, and the floods since `floods` was cleared.
+/// All nodes of a bus, by ascending ids, with what each cost, what was delivered and sent so far, and the floods since `floods`
+/// was cleared.
 #[derive(Drop)]
 pub struct Network {
     pub ids: Vec<NodeId>,
     pub nodes: Vec<BusNode>,
     pub costs: Vec<Cost>,
     pub deliveries: Vec<Delivery>,
+    /// The packets sent so far, by frame, rank and slot.
+    pub sent: Vec<SentPacket>,
     pub floods: Vec<Flood>,
     // Those of the last slot.
     pub(crate) windows: Vec<Window>,
@@ -47,17 +53,25 @@ impl Model for Network {
 
     ghost Value = { NetworkOf };
 
-    ghost view = { λ n. record { ids = n.ids.items; nodes = n.nodes.items; costs = n.costs.items; deliveries = n.deliveries.items; floods = n.floods.items } };
+    ghost view = { λ n. record {
+      ids = n.ids.items;
+      nodes = n.nodes.items;
+      costs = n.costs.items;
+      deliveries = n.deliveries.items;
+      sent = n.sent.items;
+      floods = n.floods.items;
+    } };
 }
 
 impl Network {
-    /// All nodes of the scenario, off and without a boot: they cost and delivered nothing so far. `Err` means out of memory.
+    /// All nodes of the scenario, off and without a boot: they cost, delivered and sent nothing so far. `Err` means out of memory.
     pub fn new(alloc: Global, s: &Scenario) -> Result<Network, Memory>
         ensures { IfOk result (λ n. n ≡ record {
           ids = ids s.now.nodes;
           nodes = map (node_at_first s.now) (ids s.now.nodes);
           costs = map (λ v. no_cost) (ids s.now.nodes);
           deliveries = [];
+          sent = [];
           floods = [];
         }) }
     {
@@ -80,6 +94,7 @@ impl Network {
             nodes,
             costs,
             deliveries: Vec::new(alloc),
+            sent: Vec::new(alloc),
             floods: Vec::new(alloc),
             windows: Vec::new(alloc),
         })
@@ -104,6 +119,9 @@ impl Network {
         ensures deliveries { OnOk result
             ((p : Plan) (start others : ℕ → State) → self.old.nodes ≡ nodes_before s.now rank frame p start others slot → part.now ≡ part_of p slot
             → HaveRoom s.now rank frame p start slot → self.new.deliveries ≡ self.old.deliveries ++ slot_deliveries s.now rank frame p start slot) }
+        ensures sent { OnOk result
+            ((p : Plan) (start others : ℕ → State) → self.old.nodes ≡ nodes_before s.now rank frame p start others slot → part.now ≡ part_of p slot
+            → AreOffOutside s.now start → self.new.sent ≡ self.old.sent ++ option_to_list (sent_in_slot s.now rank frame p start slot)) }
         ensures floods { OnOk result ((p : Plan) (start others : ℕ → State) (before : List SlotFlood)
             → self.old.nodes ≡ nodes_before s.now rank frame p start others slot → part.now ≡ part_of p slot
             → HasRun s.now frame before self.old.floods → HasRun s.now frame (before ++ slot_flood s.now rank frame p start slot ∷ []) self.new.floods) }
@@ -145,6 +163,7 @@ impl Network {
             number: slot,
             part: *part,
         };
+        add_sent(&mut self.sent, &self.windows, &self.ids, &closing)?;
         close_all(
             &mut self.nodes,
             &self.windows,

@@ -1,19 +1,24 @@
 //! A node of the bus: off, or on as a member of its rounds.
 
-ghost use Rattle.std.specs.Prelude.{◌≡◌, ◌≤◌, ◌<◌, IfOk, IfSome};
+ghost use Rattle.std.specs.Prelude.{◌≡◌, ◌≤◌, ◌<◌, ◌++◌, IfOk, OnOk, IfSome, option_to_list};
 ghost use Rattle.lwb_base.specs.declared.limits.TheConstants.{LAST_FRAME};
 ghost use Rattle.bus_rules.specs.Cores.{frame_ended as core_ended};
-ghost use Rattle.bus_rules.specs.States.{StateOff, at_core, state_after_on, state_after_off, IsAct, state_after_act};
+ghost use Rattle.bus_rules.specs.States.{StateOff, at_core, core_after_act, state_after_on, state_after_off, IsAct, IsStreamAct, state_after_act};
+ghost use Rattle.bus_rules.specs.declared.act.Act.TheVariants.{Put as PutAct};
+ghost use Rattle.bus_terms.specs.Packets.{put_by, queued_packet};
 ghost use Rattle.bus_terms.specs.Rounds.{rank_in};
 ghost use Rattle.bus_rules.specs.Tuning.{is_scan};
 ghost use Rattle.bus_terms.specs.ScriptedStates.{is_on_and};
-ghost use Rattle.plain_bus.specs.BusNodes.{MayBoot, MayDo, loses_by};
+ghost use Rattle.plain_bus.specs.BusNodes.{MayBoot, MayDo};
 
-use bus_rules::{Act, Switch, Tune};
-use lwb_base::{Memory, NodeId, Profile, Rank};
+use bus_rules::{Act, Tune};
+use bus_terms::{PacketId, PutLine};
+use lwb_base::{Memory, NodeId, Payload, Profile, Rank};
 use lwb_member::Member;
+use scenario_text::ScriptLine;
 use std::alloc::Global;
 use std::marker::Model;
+use stream_source::Put;
 
 /// A node of the bus: off after a number of boots, or on as a member of its rounds.
 #[derive(Drop)]
@@ -58,20 +63,60 @@ impl BusNode {
         })
     }
 
-    /// What the script tells it. Whether a packet is lost by that before it is queued.
-    pub fn tell(&mut self, act: &Act) -> bool
-        requires act { IsAct self.old.setup.profile act.now }
-        requires boot { MayDo act.now self.old.state }
-        ensures state { self.new ≡ record self.old { state = state_after_act act.now self.old.state } }
-        ensures lost { result ≡ loses_by act.now self.old.state }
+    /// Does what this script line asks. What it puts is added at the end of `puts`: with the packet that is queued, or with none
+    /// where it is dropped. `Err` means out of memory.
+    pub fn give(&mut self, line: &ScriptLine, puts: &mut Vec<PutLine>) -> Result<(), Memory>
+        requires act { IsAct self.old.setup.profile line.now.act }
+        requires boot { MayDo line.now.act self.old.state }
+        ensures state { OnOk result (self.new ≡ record self.old { state = state_after_act line.now.act self.old.state }) }
+        ensures puts { OnOk result
+            (puts.new.items ≡ puts.old.items ++ option_to_list (put_by line.now line.now.act self.old.state)) }
     {
-        match act.switch() {
-            Some(Switch::On) => self.switch_on(),
-            Some(Switch::Off) => self.switch_off(),
-            None if self.is_on => return self.member.tell(act),
-            None => return act.put_stream().is_some(),
+        match &line.act {
+            Act::On => self.switch_on(),
+            Act::Off => self.switch_off(),
+            Act::Declare(..) | Act::Leave(_) => self.change_streams(&line.act),
+            Act::Put(stream, payload) => {
+                let packet = self.queue(line.node, *stream, payload);
+                puts.push(PutLine {
+                    frame: line.frame,
+                    node: line.node,
+                    stream: *stream,
+                    packet,
+                })?;
+            }
         }
-        false
+        Ok(())
+    }
+
+    // An act for a stream, where it is on.
+    fn change_streams(&mut self, act: &Act)
+        requires { IsStreamAct act.now }
+        ensures { self.new ≡ record self.old { state = at_core (core_after_act act.now) self.old.state } }
+    {
+        if self.is_on {
+            self.member.tell(act);
+        }
+    }
+
+    // The packet of this node that it queues by a put to a stream, if it does.
+    fn queue(&mut self, node: NodeId, stream: u8, payload: &Payload) -> Option<PacketId>
+        requires { stream ≤ 3 }
+        ensures state { self.new ≡ record self.old { state = at_core (core_after_act (PutAct stream payload.now)) self.old.state } }
+        ensures packet { result ≡ queued_packet node stream self.old.state }
+    {
+        if !self.is_on {
+            return None;
+        }
+        match self.member.put(stream, payload) {
+            Put::Queued(seq) => Some(PacketId {
+                node,
+                boot: self.member.boot(),
+                stream,
+                seq,
+            }),
+            Put::Dropped => None,
+        }
     }
 
     // Power comes on, where it was off.

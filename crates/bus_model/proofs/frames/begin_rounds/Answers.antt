@@ -40,4 +40,8 @@ returns-clause-same c =
     ∙ omega (arith, c.count_scans.auto.costs, ap length c.deref_mut.ensures.value, ap (λ (n : Network). length n.costs) c.net.view_is)
 
 pub returns-clause-rest : goal.returns-clause-rest
-returns-clause-rest c = (ap (λ (n : Network). n.ids) c.net.view_is, ap (λ (n : Network). n.deliveries) c.net.view_is)
+returns-clause-rest c = (
+  ap (λ (n : Network). n.ids) c.net.view_is,
+  ap (λ (n : Network). n.deliveries) c.net.view_is,
+  ap (λ (n : Network). n.sent) c.net.view_is,
+)

@@ -18,4 +18,5 @@ returns-clause-rest c = (
   ap (λ (n : Network). n.costs) c.net.view_is,
   ap (λ (n : Network). n.deliveries) c.net.view_is,
   ap (λ (n : Network). n.floods) c.net.view_is,
+  ap (λ (n : Network). n.sent) c.net.view_is,
 )

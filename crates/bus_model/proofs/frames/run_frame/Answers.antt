@@ -3,15 +3,17 @@ use Rattle.bus_rules.specs.declared.delivery.Delivery.{Delivery}
 use Rattle.bus_rules.specs.States.{State}
 use Rattle.bus_terms.specs.Bus.{state_at}
 use Rattle.bus_terms.specs.FloodOfText.{ids}
+use Rattle.bus_terms.specs.declared.packets.SentPacket.{SentPacket}
 use Rattle.plain_bus.specs.BusNodes.{ranks_in}
 use Rattle.plain_bus.specs.RunFloods.{HasRun, SlotFlood}
 use Rattle.plain_bus.specs.declared.station.Flood.{Flood}
 use Rattle.plain_bus.proofs.SoundOver.{sound_over}
 use Rattle.bus_model.specs.FrameFloods.{frame_floods}
-use Rattle.bus_model.specs.FrameNodes.{with_round_rank, ended_at, frame_deliveries, nodes_with, prior_ranks}
+use Rattle.bus_model.specs.FrameNodes.{with_round_rank, ended_at, frame_deliveries, frame_sent, nodes_with, prior_ranks}
 use Rattle.bus_model.specs.RoundCosts.{cost_after, with_scan}
-use Rattle.bus_model.proofs.FramesInTurn.{nodes_begun, nodes_ended, costs_more, delivered_more, power_next, all_few, ready_begun, ready_ended}
+use Rattle.bus_model.proofs.FramesInTurn.{nodes_begun, nodes_ended, costs_more, delivered_more, sent_more, power_next, all_few, ready_begun, ready_ended}
 use Rattle.bus_terms.proofs.KeptRanks.{hosted}
+use Rattle.bus_model.proofs.OffOutside.{all_off_outside}
 use Rattle.bus_model.proofs.RoomInRounds.{rooms_in}
 use Rattle.bus_model.proofs.SlotsInTurn.{ready_more}
 use Rattle.bus_model.proofs.frames.run_frame.Goals as goal
@@ -82,6 +84,8 @@ returns-clause-at g c =
       costs_are = ends.rest.1 ∙ ran.costs st (λ (v : ℕ). with_scan (st v) (cost_after s f v)) in_rank begun_nodes rooms scanned ∙ costs_more s f;
       delivered = ends.rest.2 ∙ ran.deliveries st in_rank begun_nodes rooms
           ∙ ap (λ (l : List Delivery). l ++ frame_deliveries s f st) (begins.rest.1 ∙ told.rest.1 ∙ c.requires.at.delivered) ∙ delivered_more s f;
+      sent = ends.rest.4 ∙ ran.sent st in_rank begun_nodes rooms (all_off_outside s told.said f)
+          ∙ ap (λ (l : List SentPacket). l ++ frame_sent s f st) (begins.rest.2 ∙ told.rest.2 ∙ c.requires.at.sent) ∙ sent_more s f;
       ready = ready_more s (f + 1) (f * 184 + 184) ((f + 1) * 184) c.end_frame.new.net (omega arith)
           (ready_ended s f (f * 184 + 184) c.run_rounds.new.net c.end_frame.new.net ends.rest.0 ends.nodes ends.rest.1 (ran.ready (f * 184) begun_ready));
     }

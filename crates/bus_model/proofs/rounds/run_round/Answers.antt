@@ -1,5 +1,5 @@
 use Rattle.std.proofs.Common.{◌≡◌, ◌≤◌, ◌+◌, ◌++◌, ◌==◌, [], ℕ, List, Option, Some, None, Vec, Global, if◌then◌else◌, length, map, flat_map, sym, ◌∙◌, ap}
-use Rattle.std.proofs.Common.{subst, arith, append-nil, rules}
+use Rattle.std.proofs.Common.{filter_map, subst, arith, append-nil, rules}
 use Rattle.std.specs.Option.{option_map, option_map_or}
 use Rattle.std.proofs.lemmas.Result.{on_ok_weaker}
 use Rattle.lwb_base.specs.Messages.{Plan}
@@ -7,6 +7,8 @@ use Rattle.bus_rules.specs.declared.delivery.Delivery.{Delivery}
 use Rattle.bus_rules.specs.declared.part.Part.{Part}
 use Rattle.bus_rules.specs.States.{State}
 use Rattle.bus_terms.specs.FloodOfText.{ids}
+use Rattle.bus_terms.specs.Packets.{sent_in_slot}
+use Rattle.bus_terms.specs.declared.packets.SentPacket.{SentPacket}
 use Rattle.bus_terms.specs.Rounds.{after_round, round_plan, slot_deliveries, slots_of}
 use Rattle.plain_bus.specs.BusNodes.{nodes_in, ranks_in}
 use Rattle.plain_bus.specs.Leaders.{slot_parts}
@@ -51,6 +53,14 @@ returns-in-Some-clause-deliveries g c = on_ok_weaker c.run_slots.result (λ ran 
     (λ p. flat_map (slot_deliveries c.args.s.now c.args.rank c.args.frame p start) (slots_of p)) o []) (sym l.1)))
     c.run_slots.ensures.deliveries
 
+pub returns-in-Some-clause-sent : goal.returns-in-Some-clause-sent
+returns-in-Some-clause-sent g c = on_ok_weaker c.run_slots.result (λ ran start others olds room off.
+    (let l = led g c start others olds in
+    ran l.0 start others (parts_are g c start others olds) olds (room l.0 l.1) off
+    ∙ ap (λ (o : Option Plan). c.args.net.now.sent ++ option_map_or {T = Plan} {U = List SentPacket}
+    (λ p. filter_map (sent_in_slot c.args.s.now c.args.rank c.args.frame p start) (slots_of p)) o []) (sym l.1)))
+    c.run_slots.ensures.sent
+
 pub returns-in-Some-clause-floods : goal.returns-in-Some-clause-floods
 returns-in-Some-clause-floods g c = on_ok_weaker c.run_slots.result (λ ran start others before olds room had.
     (let l = led g c start others olds in
@@ -83,6 +93,12 @@ returns-in-None-clause-deliveries g c start others olds room =
     sym (append-nil c.args.net.now.deliveries)
     ∙ ap (λ (o : Option Plan). c.args.net.now.deliveries ++ option_map_or {T = Plan} {U = List Delivery}
     (λ p. flat_map (slot_deliveries c.args.s.now c.args.rank c.args.frame p start) (slots_of p)) o []) (sym (no_plan g c start others olds))
+
+pub returns-in-None-clause-sent : goal.returns-in-None-clause-sent
+returns-in-None-clause-sent g c start others olds room off =
+    sym (append-nil c.args.net.now.sent)
+    ∙ ap (λ (o : Option Plan). c.args.net.now.sent ++ option_map_or {T = Plan} {U = List SentPacket}
+    (λ p. filter_map (sent_in_slot c.args.s.now c.args.rank c.args.frame p start) (slots_of p)) o []) (sym (no_plan g c start others olds))
 
 pub returns-in-None-clause-floods : goal.returns-in-None-clause-floods
 returns-in-None-clause-floods g c start others before olds room had =

@@ -4,6 +4,8 @@ use Rattle.std.specs.List.{range_with_len}
 use Rattle.bus_rules.specs.declared.delivery.Delivery.{Delivery}
 use Rattle.bus_rules.specs.States.{State}
 use Rattle.bus_terms.specs.FloodOfText.{ids}
+use Rattle.bus_terms.specs.Packets.{round_sent}
+use Rattle.bus_terms.specs.declared.packets.SentPacket.{SentPacket}
 use Rattle.bus_terms.specs.Rounds.{round_of_rank, round_deliveries}
 use Rattle.plain_bus.specs.BusNodes.{nodes_in, ranks_in, HaveRoomInRound}
 use Rattle.plain_bus.specs.RunFloods.{HasRun, SlotFlood}
@@ -25,6 +27,7 @@ loop-rank-init g c = record {
   ready = λ m is. ready_more c.args.s.now c.args.frame m (m + 0 * 46) c.args.net.now (omega arith) is;
   nodes_are = λ start olds rooms. olds ∙ none_run c.args.s.now c.args.frame start;
   delivered = λ start olds rooms. sym (append-nil c.args.net.now.deliveries);
+  sent = λ start olds rooms off. sym (append-nil c.args.net.now.sent);
   ran = λ start before olds rooms had.
       subst (λ (ys : List SlotFlood). HasRun c.args.s.now c.args.frame ys c.args.net.now.floods) (sym (append-nil before)) had;
   costs_are = λ start cost olds rooms costs. costs ∙ none_charged c.args.s.now c.args.frame start cost;
@@ -54,6 +57,14 @@ loop-rank-preserved g c =
           ∙ ap (λ (l : List Delivery). l ++ said r) (inv.delivered start olds rooms)
           ∙ append_assoc first (flat_map said (range_with_len 0 r)) (said r)
           ∙ ap (λ (l : List Delivery). first ++ l) (sym (flat_more said r)));
+      sent = λ start olds rooms off.
+          (let first = c.args.net.now.sent in
+          let said : ℕ → List SentPacket = λ rank. round_sent s rank f start in
+          ran.sent start (run_below s f start r) (enter start olds rooms) (rooms c.rank_at.result) off
+          ∙ ap (λ (k : ℕ). c.loop-rank.net.sent ++ said k) own
+          ∙ ap (λ (l : List SentPacket). l ++ said r) (inv.sent start olds rooms off)
+          ∙ append_assoc first (flat_map said (range_with_len 0 r)) (said r)
+          ∙ ap (λ (l : List SentPacket). first ++ l) (sym (flat_more said r)));
       ran = λ start before olds rooms had.
           (let said : ℕ → List SlotFlood = λ rank. round_floods s rank f start in
           let prior = before ++ flat_map said (range_with_len 0 r) in
@@ -87,6 +98,12 @@ returns-clause-deliveries g c start ranked olds rooms =
     let all : c.loop-rank.rank ≡ length c.args.s.now.hosts = omega (arith, c.loop-rank-test.false, c.loop-rank.auto.rank-end, c.hosts_of-ranks.ensures.value) in
     c.loop-rank.invariant.delivered start olds rooms
     ∙ ap (λ (n : ℕ). c.args.net.now.deliveries ++ flat_map (λ (rank : ℕ). round_deliveries c.args.s.now rank c.args.frame start) (range_with_len 0 n)) all
+
+pub returns-clause-sent : goal.returns-clause-sent
+returns-clause-sent g c start ranked olds rooms off =
+    let all : c.loop-rank.rank ≡ length c.args.s.now.hosts = omega (arith, c.loop-rank-test.false, c.loop-rank.auto.rank-end, c.hosts_of-ranks.ensures.value) in
+    c.loop-rank.invariant.sent start olds rooms off
+    ∙ ap (λ (n : ℕ). c.args.net.now.sent ++ flat_map (λ (rank : ℕ). round_sent c.args.s.now rank c.args.frame start) (range_with_len 0 n)) all
 
 pub returns-clause-floods : goal.returns-clause-floods
 returns-clause-floods g c start before ranked olds rooms had =

@@ -3,8 +3,9 @@ use Rattle.std.specs.List.{range_with_len}
 use Rattle.bus_rules.specs.States.{State}
 use Rattle.bus_terms.specs.Bus.{Cost}
 use Rattle.bus_terms.specs.FloodOfText.{ids}
+use Rattle.bus_terms.specs.Packets.{round_sent}
 use Rattle.bus_terms.specs.Rounds.{round_deliveries}
-use Rattle.plain_bus.specs.BusNodes.{ranks_in, HaveRoomInRound}
+use Rattle.plain_bus.specs.BusNodes.{ranks_in, AreOffOutside, HaveRoomInRound}
 use Rattle.plain_bus.specs.Networks.{IsReady}
 use Rattle.plain_bus.specs.RunFloods.{HasRun, SlotFlood}
 use Rattle.bus_model.specs.FrameFloods.{round_floods}
@@ -20,6 +21,9 @@ invariant-loop-rank g l = record {
   delivered : (start : ℕ → State) → l.fn.net.nodes ≡ nodes_with l.s (ranks_in start) start
       → ((rank : ℕ) → HaveRoomInRound l.s rank l.frame start)
       → l.net.deliveries ≡ l.fn.net.deliveries ++ flat_map (λ rank. round_deliveries l.s rank l.frame start) (range_with_len 0 l.rank);
+  sent : (start : ℕ → State) → l.fn.net.nodes ≡ nodes_with l.s (ranks_in start) start
+      → ((rank : ℕ) → HaveRoomInRound l.s rank l.frame start) → AreOffOutside l.s start
+      → l.net.sent ≡ l.fn.net.sent ++ flat_map (λ rank. round_sent l.s rank l.frame start) (range_with_len 0 l.rank);
   ran : (start : ℕ → State) (before : List SlotFlood) → l.fn.net.nodes ≡ nodes_with l.s (ranks_in start) start
       → ((rank : ℕ) → HaveRoomInRound l.s rank l.frame start) → HasRun l.s l.frame before l.fn.net.floods
       → HasRun l.s l.frame (before ++ flat_map (λ rank. round_floods l.s rank l.frame start) (range_with_len 0 l.rank)) l.net.floods;

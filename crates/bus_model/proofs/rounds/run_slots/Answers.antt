@@ -1,14 +1,16 @@
-use Rattle.std.proofs.Common.{◌≡◌, ◌+◌, ◌++◌, ◌==◌, ℕ, List, if◌then◌else◌, length, map, flat_map, sym, ◌∙◌, ap, subst, arith, append_assoc}
-use Rattle.std.proofs.Common.{append-nil}
+use Rattle.std.proofs.Common.{◌≡◌, ◌+◌, ◌++◌, ◌==◌, ℕ, List, if◌then◌else◌, length, map, filter_map, flat_map, sym, ◌∙◌, ap, subst, arith, append_assoc}
+use Rattle.std.proofs.Common.{append-nil, option_to_list}
 use Rattle.std.specs.List.{range_with_len}
 use Rattle.bus_rules.specs.declared.delivery.Delivery.{Delivery}
 use Rattle.bus_terms.specs.FloodOfText.{ids}
+use Rattle.bus_terms.specs.Packets.{sent_in_slot}
+use Rattle.bus_terms.specs.declared.packets.SentPacket.{SentPacket}
 use Rattle.bus_terms.specs.Rounds.{slot_deliveries}
 use Rattle.plain_bus.specs.BusNodes.{nodes_before, ranks_in}
 use Rattle.plain_bus.specs.Networks.{IsReady}
 use Rattle.plain_bus.specs.RunFloods.{HasRun, SlotFlood, slot_flood}
 use Rattle.bus_model.specs.RoundCosts.{with_slots}
-use Rattle.bus_model.proofs.SlotsInTurn.{ready_more, part_at, parts_count, before_first, flat_more, slots_more, costs_first, costs_more}
+use Rattle.bus_model.proofs.SlotsInTurn.{ready_more, part_at, parts_count, before_first, flat_more, kept_more, slots_more, costs_first, costs_more}
 use Rattle.bus_model.proofs.rounds.run_slots.Goals as goal
 
 pub loop-slot-init : goal.loop-slot-init
@@ -16,6 +18,7 @@ loop-slot-init g c = record {
   ready = λ m is. ready_more c.args.s.now c.args.frame m (m + 0) c.args.net.now (omega arith) is;
   nodes_are = λ p start others are olds room. olds ∙ before_first c.args.s.now c.args.rank c.args.frame p start others;
   delivered = λ p start others are olds room. sym (append-nil c.args.net.now.deliveries);
+  sent = λ p start others are olds room off. sym (append-nil c.args.net.now.sent);
   ran = λ p start others before are olds room had.
       subst (λ (ys : List SlotFlood). HasRun c.args.s.now c.args.frame ys c.args.net.now.floods) (sym (append-nil before)) had;
   costs_are = λ p start others cost are olds room costs. costs ∙ costs_first c.args.s.now c.args.rank c.args.frame p start cost;
@@ -49,6 +52,14 @@ loop-slot-preserved g c =
           ∙ ap (λ (l : List Delivery). l ++ said i) (inv.delivered p start others are olds room)
           ∙ append_assoc first (flat_map said (range_with_len 0 i)) (said i)
           ∙ ap (λ (l : List Delivery). first ++ l) (sym (flat_more said i)));
+      sent = λ p start others are olds room off.
+          (let first = c.args.net.now.sent in
+          let said = sent_in_slot s rank f p start in
+          ran.sent p start others (inv.nodes_are p start others are olds room)
+          (part_at p c.args.parts.now i c.index-parts-slot.result are c.loop-slot-test.true c.index-parts-slot.is) off
+          ∙ ap (λ (l : List SentPacket). l ++ option_to_list (said i)) (inv.sent p start others are olds room off)
+          ∙ append_assoc first (filter_map said (range_with_len 0 i)) (option_to_list (said i))
+          ∙ ap (λ (l : List SentPacket). first ++ l) (sym (kept_more said i)));
       ran = λ p start others before are olds room had.
           subst (λ (ys : List SlotFlood). HasRun s f ys c.run_slot.new.self.floods) (slots_more (slot_flood s rank f p start) i before)
           (ran.floods p start others (before ++ map (slot_flood s rank f p start) (range_with_len 0 i)) (inv.nodes_are p start others are olds room)
@@ -78,6 +89,13 @@ returns-clause-deliveries g c p start others are olds room =
     let all : c.loop-slot.slot ≡ length c.args.parts.now = omega (arith, c.loop-slot-test.false, c.loop-slot.auto.slot-end) in
     c.loop-slot.invariant.delivered p start others are olds room
     ∙ ap (λ (n : ℕ). c.args.net.now.deliveries ++ flat_map (slot_deliveries c.args.s.now c.args.rank c.args.frame p start) (range_with_len 0 n))
+    (all ∙ parts_count p c.args.parts.now are)
+
+pub returns-clause-sent : goal.returns-clause-sent
+returns-clause-sent g c p start others are olds room off =
+    let all : c.loop-slot.slot ≡ length c.args.parts.now = omega (arith, c.loop-slot-test.false, c.loop-slot.auto.slot-end) in
+    c.loop-slot.invariant.sent p start others are olds room off
+    ∙ ap (λ (n : ℕ). c.args.net.now.sent ++ filter_map (sent_in_slot c.args.s.now c.args.rank c.args.frame p start) (range_with_len 0 n))
     (all ∙ parts_count p c.args.parts.now are)
 
 pub returns-clause-floods : goal.returns-clause-floods

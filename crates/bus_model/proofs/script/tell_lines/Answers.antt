@@ -6,16 +6,16 @@ use Rattle.std.proofs.lemmas.List.Elements.{All-set}
 use Rattle.scenario_text.specs.ScenarioFacts.{turned}
 use Rattle.bus_rules.specs.States.{IsAct}
 use Rattle.scenario_text.specs.declared.script.ScriptLine.{ScriptLine}
-use Rattle.bus_rules.specs.declared.delivery.DropLine.{DropLine}
 use Rattle.bus_terms.specs.Bus.{Cost}
 use Rattle.bus_terms.specs.FloodOfText.{ids}
 use Rattle.bus_terms.specs.Flooding.{has}
-use Rattle.bus_terms.specs.ScriptedStates.{lost_by}
+use Rattle.bus_terms.specs.Packets.{put_by}
+use Rattle.bus_terms.specs.declared.packets.PutLine.{PutLine}
 use Rattle.plain_bus.specs.BusNodes.{BusNode, bus_node, IsEarlyState, MayDo}
 use Rattle.plain_bus.specs.SlotCosts.{IsBelow}
 use Rattle.plain_bus.proofs.SlotsMet.{ids_ascend, ids_each}
-use Rattle.bus_model.specs.FrameNodes.{CountsLinesBefore, drops_to, nodes_with, power, prior_ranks, node_after_line, told_at}
-use Rattle.bus_model.proofs.LinesTold.{none_told, all_told, node_told, power_told, lost_more}
+use Rattle.bus_model.specs.FrameNodes.{CountsLinesBefore, nodes_with, power, prior_ranks, puts_to, node_after_line, told_at}
+use Rattle.bus_model.proofs.LinesTold.{none_told, all_told, node_told, power_told, put_more}
 use Rattle.bus_model.proofs.LinesAllowed.{line_act, line_known, may_do, act_early, later_lines}
 use Rattle.bus_model.proofs.script.tell_lines.Given.{Over}
 use Rattle.bus_model.proofs.script.tell_lines.Goals as goal
@@ -31,10 +31,11 @@ loop-next-init g c =
       now_told = λ i d low high. absurd (omega (arith, low, high));
       have = λ v. ap power (none_told s f n c.requires.cut v) ∙ c.requires.power v;
       nodes_are = c.requires.nodes ∙ ap (nodes_with s (prior_ranks s f)) (λ i v. sym (none_told s f n c.requires.cut v) i);
-      lost = c.requires.drops;
+      put = c.requires.puts;
       ready = λ m is. is;
       costs_are = refl;
       delivered = refl;
+      sent = refl;
     }
 
 -- the lines from here on are those of later frames
@@ -139,9 +140,9 @@ loop-next-preserved g c =
       have = power_told s f n l below at is inv.have;
       nodes_are = here.0 ∙ ap (λ (ns : List BusNode). set ns i (node_after_line l (get_or ns i d))) inv.nodes_are
           ∙ node_told s f (prior_ranks s f) n l below at is (ids_ascend s c.script-script.ensures.said (ids s.nodes) refl) i near own d;
-      lost = here.1 ∙ ap (λ (ds : List DropLine). ds ++ option_to_list (lost_by l l.act (get_or c.loop-next.net.nodes i d).state)) inv.lost
-          ∙ ap (λ (x : BusNode). drops_to s n ++ option_to_list (lost_by l l.act x.state)) node
-          ∙ sym (lost_more s f n l below at is);
+      put = here.1 ∙ ap (λ (ps : List PutLine). ps ++ option_to_list (put_by l l.act (get_or c.loop-next.net.nodes i d).state)) inv.put
+          ∙ ap (λ (x : BusNode). puts_to s n ++ option_to_list (put_by l l.act x.state)) node
+          ∙ sym (put_more s f n l below at is);
       ready = λ m first.
           (let old = inv.ready m first in
           record {
@@ -155,6 +156,7 @@ loop-next-preserved g c =
           });
       costs_are = ran.rest.1 ∙ inv.costs_are;
       delivered = ran.rest.2 ∙ inv.delivered;
+      sent = ran.rest.3 ∙ inv.sent;
     }
 
 -- the script is over
@@ -188,5 +190,5 @@ returns-clause-nodes g c =
     c.loop-next.invariant.nodes_are ∙ ap (nodes_with c.args.s.now (prior_ranks c.args.s.now c.args.frame))
     (λ i v. all_told c.args.s.now c.args.frame c.loop-next.next (none_later g c) v i)
 
-pub returns-clause-drops : goal.returns-clause-drops
-returns-clause-drops g c = c.loop-next.invariant.lost ∙ ap (drops_to c.args.s.now) (sym (counted g c))
+pub returns-clause-puts : goal.returns-clause-puts
+returns-clause-puts g c = c.loop-next.invariant.put ∙ ap (puts_to c.args.s.now) (sym (counted g c))

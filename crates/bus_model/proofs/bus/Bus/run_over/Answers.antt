@@ -1,9 +1,13 @@
-use Rattle.std.proofs.Common.{◌≡◌, ℕ, length, subst, sym, ◌∙◌, ap, arith}
+use Rattle.std.proofs.Common.{◌≡◌, ℕ, filter_map, length, subst, sym, ◌∙◌, ap, arith}
+use Rattle.std.specs.List.{enumerate_from}
 use Rattle.scenario_text.specs.ScenarioParts.{ScenarioParts}
+use Rattle.bus_terms.specs.Packets.{bus_puts}
 use Rattle.plain_bus.proofs.SlotsMet.{ids_ascend, ids_each}
 use Rattle.plain_bus.proofs.SoundOver.{sound_over}
 use Rattle.bus_model.specs.BusRuns.{BusRun, IsBusRun}
+use Rattle.bus_model.specs.DroppedPuts.{drop_of}
 use Rattle.bus_model.specs.RunningBuses.{IsBeforeFrame}
+use Rattle.bus_model.proofs.DroppedLines.{dropped_all}
 use Rattle.bus_model.proofs.FramesInTurn.{script_over}
 use Rattle.bus_model.proofs.bus.Bus.run_over.Goals as goal
 
@@ -19,12 +23,22 @@ returns g c =
     let all : c.loop-frame.frame ≡ s.frames = omega (arith, c.loop-frame-test.false, c.loop-frame.auto.frame-end, c.frames-frame-end.ensures.value) in
     let ended : IsBeforeFrame s s.frames c.loop-frame.run = subst (λ (f : ℕ). IsBeforeFrame s f c.loop-frame.run) all c.loop-frame.invariant in
     let net = c.loop-frame.run.net in
-    let run : BusRun = record { ids = net.ids; costs = net.costs; deliveries = net.deliveries; drops = c.loop-frame.run.drops.items } in
+    let run : BusRun = record {
+      ids = net.ids;
+      costs = net.costs;
+      deliveries = net.deliveries;
+      drops = c.in_ok-drops.drops.items;
+      puts = c.loop-frame.run.puts.items;
+      sent = net.sent;
+    } in
+    let put : c.loop-frame.run.puts.items ≡ bus_puts s = ended.put ∙ script_over s c.frames-frame-end.ensures.said c.loop-frame.run.told ended.cut in
     subst (λ (x : ScenarioParts). IsBusRun x run) c.new-scenario.ensures (record {
       nodes = ended.at.ready.ids_are;
       each_cost = ended.at.costs_are;
       delivered = ended.at.delivered;
-      lost = ended.lost ∙ script_over s c.frames-frame-end.ensures.said c.loop-frame.run.told ended.cut;
+      lost = c.in_ok-drops.ensures ∙ ap (filter_map drop_of) (c.deref.ensures.value ∙ put) ∙ dropped_all s (enumerate_from 0 s.script);
+      put = put;
+      sent = ended.at.sent;
     })
 
 pub invariant_of-result : goal.invariant_of-result

@@ -13,9 +13,10 @@ returns c t =
         nodes_are = ap (λ (n : Network). n.nodes) net ∙ nodes_off s;
         costs_are = ap (λ (n : Network). n.costs) net;
         delivered = ap (λ (n : Network). n.deliveries) net;
+        sent = ap (λ (n : Network). n.sent) net;
         ready = subst (IsReady s 0 (0 * 184)) (sym net) (ready_off s);
       };
       cut = cut_off s;
       have = power_off s;
-      lost = c.new-2.ensures.items;
+      put = c.new-2.ensures.items;
     }

@@ -4,6 +4,7 @@ use Rattle.scenario_text.specs.declared.lines.NodeLine.{NodeLine}
 use Rattle.bus_rules.specs.declared.delivery.Delivery.{Delivery}
 use Rattle.bus_terms.specs.Bus.{Cost}
 use Rattle.bus_terms.specs.FloodOfText.{ids}
+use Rattle.bus_terms.specs.declared.packets.SentPacket.{SentPacket}
 use Rattle.plain_bus.specs.BusNodes.{BusNode}
 use Rattle.plain_bus.specs.Networks.{Network, no_cost, node_at_first}
 use Rattle.plain_bus.specs.declared.station.Flood.{Flood}
@@ -36,13 +37,14 @@ returns c =
     take_all c.loop-line.line-index c.nodes-lines.result.now (omega (arith, c.loop-line-test.false, c.loop-line.auto.line-index-end))
     ∙ c.nodes-lines.ensures.value in
     let of_parts : List ℕ → List BusNode → List Cost → List Delivery → Network =
-    λ a b cs ds. record { ids = a; nodes = b; costs = cs; deliveries = ds; floods = c.new-2.result.items } in
-    let of_floods : List NodeLine → List Flood → Network =
-    λ ls xs. record {
+    λ a b cs ds. record { ids = a; nodes = b; costs = cs; deliveries = ds; sent = c.new-2.result.items; floods = c.new-3.result.items } in
+    let of_lists : List NodeLine → List SentPacket → List Flood → Network =
+    λ ls ps xs. record {
       ids = ids ls;
       nodes = map (node_at_first c.args.s.now) (ids ls);
       costs = map (λ (v : ℕ). no_cost) (ids ls);
       deliveries = [];
+      sent = ps;
       floods = xs;
     } in
     ap (λ (l : List ℕ). of_parts l c.loop-line.nodes.items c.loop-line.costs.items c.new.result.items) c.loop-line.invariant.ids_are
@@ -53,4 +55,6 @@ returns c =
     ∙ ap (λ (l : List Delivery). of_parts (ids (take c.loop-line.line-index c.nodes-lines.result.now))
     (map (node_at_first c.args.s.now) (ids (take c.loop-line.line-index c.nodes-lines.result.now)))
     (map (λ (v : ℕ). no_cost) (ids (take c.loop-line.line-index c.nodes-lines.result.now))) l) c.new.ensures.items
-    ∙ ap (λ (l : List NodeLine). of_floods l c.new-2.result.items) all ∙ ap (of_floods c.args.s.now.nodes) c.new-2.ensures.items
+    ∙ ap (λ (l : List NodeLine). of_lists l c.new-2.result.items c.new-3.result.items) all
+    ∙ ap (λ (ps : List SentPacket). of_lists c.args.s.now.nodes ps c.new-3.result.items) c.new-2.ensures.items
+    ∙ ap (of_lists c.args.s.now.nodes []) c.new-3.ensures.items

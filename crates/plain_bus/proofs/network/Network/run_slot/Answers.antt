@@ -1,24 +1,25 @@
-use Rattle.std.proofs.Common.{◌≡◌, ◌+◌, ◌++◌, ◌∷◌, [], ℕ, List, All, rules, length, map, take, drop, filter_map, refl, subst, sym, ◌∙◌, ap}
-use Rattle.std.proofs.Common.{arith}
+use Rattle.std.proofs.Common.{◌≡◌, ◌+◌, ◌++◌, ◌∷◌, [], ℕ, List, All, Option, rules, length, map, take, drop, filter_map, refl, subst, sym, ◌∙◌, ap}
+use Rattle.std.proofs.Common.{arith, option_to_list}
 use Rattle.std.proofs.lemmas.List.{length-map}
 use Rattle.std.proofs.lemmas.Result.{on_ok_weaker}
 use Rattle.lwb_base.specs.Messages.{Plan}
 use Rattle.lwb_base.specs.Profile.{Numbers}
 use Rattle.bus_rules.specs.declared.delivery.Delivery.{Delivery}
 use Rattle.bus_rules.specs.declared.part.Part.{Part}
-use Rattle.bus_rules.specs.Slots.{part_of}
+use Rattle.bus_rules.specs.Slots.{Opened, part_of}
 use Rattle.bus_rules.specs.States.{State}
 use Rattle.bus_terms.specs.Bus.{Cost}
 use Rattle.bus_terms.specs.FloodOfText.{ids}
-use Rattle.bus_terms.specs.Flooding.{STEPS, moment}
-use Rattle.bus_terms.specs.Rounds.{slot_at, slot_deliveries}
+use Rattle.bus_terms.specs.Flooding.{STEPS, has, moment}
+use Rattle.bus_terms.specs.Packets.{sent_by_owner, sent_in_slot}
+use Rattle.bus_terms.specs.Rounds.{before_slot, opened_at, slot_at, slot_deliveries}
 use Rattle.plain_bus.specs.BusNodes.{BusNode, IsEarlyState, HaveRoom, node_opened, nodes_before}
 use Rattle.plain_bus.specs.Closings.{IsBehind, AllMay, closed_node, delivers_node}
 use Rattle.plain_bus.specs.FloodMasks.{AreSendersOf, IsMaskedFlood, sends_in, station_at, traced}
 use Rattle.plain_bus.specs.Networks.{Network}
 use Rattle.plain_bus.specs.RunFloods.{AreRunFloods, slot_flood}
 use Rattle.plain_bus.specs.SlotCosts.{IsBelow, slot_charged}
-use Rattle.plain_bus.specs.SlotFloods.{seen_window}
+use Rattle.plain_bus.specs.SlotFloods.{Seen, seen_by, seen_window}
 use Rattle.plain_bus.specs.declared.station.Flood.{Flood}
 use Rattle.plain_bus.specs.declared.station.Station.{Station}
 use Rattle.plain_bus.specs.declared.window.Window.{Window}
@@ -26,7 +27,7 @@ use Rattle.plain_bus.proofs.FloodsRun.{one_more_flood}
 use Rattle.plain_bus.proofs.SlotsCharged.{slot_costs}
 use Rattle.plain_bus.proofs.SoundOver.{sound_over}
 use Rattle.plain_bus.proofs.SlotsMet.{put_back, ids_ascend, behind_slot}
-use Rattle.plain_bus.proofs.SlotsRun.{behind, node_at, window_seen, seen_all, opened_all, all_may, nodes_closed, nodes_delivered}
+use Rattle.plain_bus.proofs.SlotsRun.{behind, node_at, shut_outside, window_seen, seen_all, opened_all, all_may, nodes_closed, nodes_delivered}
 use Rattle.plain_bus.proofs.network.Network.run_slot.Given.{Over}
 use Rattle.plain_bus.proofs.network.Network.run_slot.Goals as goal
 
@@ -46,10 +47,15 @@ charge_all-requires-clause-ascending g c =
     ids_ascend c.args.s.now c.profile-profile.ensures.said c.deref.result.now
     (c.deref.ensures.value ∙ ap (λ (n : Network). n.ids) c.self.view_is ∙ c.requires.ready.ids_are)
 
-pub close_all-requires-clause-ascending : goal.close_all-requires-clause-ascending
-close_all-requires-clause-ascending g c =
+pub add_sent-requires-clause-ascending : goal.add_sent-requires-clause-ascending
+add_sent-requires-clause-ascending g c =
     ids_ascend c.args.s.now c.profile-profile.ensures.said c.deref-5.result.now
     (c.deref-5.ensures.value ∙ ap (λ (n : Network). n.ids) c.self.view_is ∙ c.requires.ready.ids_are)
+
+pub close_all-requires-clause-ascending : goal.close_all-requires-clause-ascending
+close_all-requires-clause-ascending g c =
+    ids_ascend c.args.s.now c.profile-profile.ensures.said c.deref-7.result.now
+    (c.deref-7.ensures.value ∙ ap (λ (n : Network). n.ids) c.self.view_is ∙ c.requires.ready.ids_are)
 
 -- the nodes before the slot, where it opened, and after it
 olds : (g : Over) (c : goal.After-self-3-1 g) → c.deref_mut.result.now ≡ c.args.self.now.nodes
@@ -91,8 +97,11 @@ charged g c = put_back c.self.inside.costs.len c.charge_all.new.costs c.self.ins
 old_costs : (g : Over) (c : goal.After-self-3-1 g) → c.deref_mut-2.result.now ≡ c.args.self.now.costs
 old_costs g c = c.deref_mut-2.ensures.value ∙ ap (λ (n : Network). n.costs) c.self.view_is
 
-ids_are : (g : Over) (c : goal.After-self-3-1 g) → c.deref-5.result.now ≡ ids c.args.s.now.nodes
-ids_are g c = c.deref-5.ensures.value ∙ ap (λ (n : Network). n.ids) c.self.view_is ∙ c.requires.ready.ids_are
+ids_are : (g : Over) (c : goal.After-self-3-1 g) → c.deref-7.result.now ≡ ids c.args.s.now.nodes
+ids_are g c = c.deref-7.ensures.value ∙ ap (λ (n : Network). n.ids) c.self.view_is ∙ c.requires.ready.ids_are
+
+sent_ids_are : (g : Over) (c : goal.After-self-3-1 g) → c.deref-5.result.now ≡ ids c.args.s.now.nodes
+sent_ids_are g c = c.deref-5.ensures.value ∙ ap (λ (n : Network). n.ids) c.self.view_is ∙ c.requires.ready.ids_are
 
 first_ids_are : (g : Over) (c : goal.After-self-3-1 g) → c.deref.result.now ≡ ids c.args.s.now.nodes
 first_ids_are g c = c.deref.ensures.value ∙ ap (λ (n : Network). n.ids) c.self.view_is ∙ c.requires.ready.ids_are
@@ -135,7 +144,7 @@ module _ (g : Over) (c : goal.After-self-3-1 g) (p : Plan) (start others : ℕ �
   -- the closing, with the part and the ids as the round has them
   closes : c.close_all.new.nodes
       ≡ map (closed_node (behind c.args.s.now c.args.rank c.args.frame p start others c.args.slot) c.args.frame c.args.part.now
-      (node_at c.args.s.now c.args.rank c.args.frame p start others c.args.slot)) c.deref-5.result.now
+      (node_at c.args.s.now c.args.rank c.args.frame p start others c.args.slot)) c.deref-7.result.now
       → c.close_all.new.nodes ≡ nodes_before c.args.s.now c.args.rank c.args.frame p start others (c.args.slot + 1)
   closes made =
       let b = behind c.args.s.now c.args.rank c.args.frame p start others c.args.slot in
@@ -146,7 +155,7 @@ module _ (g : Over) (c : goal.After-self-3-1 g) (p : Plan) (start others : ℕ �
 
   delivers : c.close_all.new.log.items ≡ c.self.inside.deliveries.items ++ filter_map
       (delivers_node (behind c.args.s.now c.args.rank c.args.frame p start others c.args.slot) c.args.rank c.args.frame c.args.slot c.args.part.now
-      (node_at c.args.s.now c.args.rank c.args.frame p start others c.args.slot)) c.deref-5.result.now
+      (node_at c.args.s.now c.args.rank c.args.frame p start others c.args.slot)) c.deref-7.result.now
       → c.close_all.new.log.items ≡ c.args.self.now.deliveries ++ slot_deliveries c.args.s.now c.args.rank c.args.frame p start c.args.slot
   delivers made =
       let b = behind c.args.s.now c.args.rank c.args.frame p start others c.args.slot in
@@ -157,11 +166,11 @@ module _ (g : Over) (c : goal.After-self-3-1 g) (p : Plan) (start others : ℕ �
       ∙ ap (λ (l : List Delivery). c.self.inside.deliveries.items ++ l) (nodes_delivered c.args.s.now c.args.rank c.args.frame p start others c.args.slot)
       ∙ ap (λ (m : Network). m.deliveries ++ slot_deliveries c.args.s.now c.args.rank c.args.frame p start c.args.slot) c.self.view_is
 
-  nodes_now : c.deref_mut-3.result.now ≡ map (node_at c.args.s.now c.args.rank c.args.frame p start others c.args.slot) c.deref-5.result.now
+  nodes_now : c.deref_mut-3.result.now ≡ map (node_at c.args.s.now c.args.rank c.args.frame p start others c.args.slot) c.deref-7.result.now
   nodes_now = stored g c ∙ opened ∙ ap (map (node_at c.args.s.now c.args.rank c.args.frame p start others c.args.slot)) (sym (ids_are g c))
 
   none_refuses : HaveRoom c.args.s.now c.args.rank c.args.frame p start c.args.slot
-      → AllMay c.args.frame (behind c.args.s.now c.args.rank c.args.frame p start others c.args.slot) c.deref-5.result.now
+      → AllMay c.args.frame (behind c.args.s.now c.args.rank c.args.frame p start others c.args.slot) c.deref-7.result.now
       (node_at c.args.s.now c.args.rank c.args.frame p start others c.args.slot)
   none_refuses room = subst (λ (l : List ℕ). AllMay c.args.frame (behind c.args.s.now c.args.rank c.args.frame p start others c.args.slot) l
       (node_at c.args.s.now c.args.rank c.args.frame p start others c.args.slot))
@@ -171,7 +180,7 @@ pub returns-clause-nodes : goal.returns-clause-nodes
 returns-clause-nodes g c = on_ok_weaker c.close_all.result (λ made p start others are is room.
     ended g c ∙ closes g c p start others are is
     (made (behind c.args.s.now c.args.rank c.args.frame p start others c.args.slot) (node_at c.args.s.now c.args.rank c.args.frame p start others c.args.slot)
-    (met g c p start others are is c.deref-4.result.now c.as_slice.result.now c.deref-5.result.now c.deref-4.ensures.value c.as_slice.ensures.value
+    (met g c p start others are is c.deref-6.result.now c.as_slice.result.now c.deref-7.result.now c.deref-6.ensures.value c.as_slice.ensures.value
     (ids_are g c))
     (nodes_now g c p start others are is) (none_refuses g c p start others are is room)))
     c.close_all.ensures.nodes
@@ -180,10 +189,27 @@ pub returns-clause-deliveries : goal.returns-clause-deliveries
 returns-clause-deliveries g c = on_ok_weaker c.close_all.result (λ made p start others are is room.
     delivers g c p start others are is
     (made (behind c.args.s.now c.args.rank c.args.frame p start others c.args.slot) (node_at c.args.s.now c.args.rank c.args.frame p start others c.args.slot)
-    (met g c p start others are is c.deref-4.result.now c.as_slice.result.now c.deref-5.result.now c.deref-4.ensures.value c.as_slice.ensures.value
+    (met g c p start others are is c.deref-6.result.now c.as_slice.result.now c.deref-7.result.now c.deref-6.ensures.value c.as_slice.ensures.value
     (ids_are g c))
     (nodes_now g c p start others are is) (none_refuses g c p start others are is room)))
     c.close_all.ensures.log
+
+pub returns-clause-sent : goal.returns-clause-sent
+returns-clause-sent g c = on_ok_weaker c.close_all.result (λ early p start others are is off.
+    (let s = c.args.s.now in
+    let rank = c.args.rank in
+    let f = c.args.frame in
+    let j = c.args.slot in
+    let states : ℕ → State = before_slot s rank f p start j in
+    let window : ℕ → Option Opened = λ v. opened_at s rank f (part_of p j) v (states v) in
+    let seen : Part → List ℕ → List Seen = λ q l. map (λ (v : ℕ). seen_by rank q (states v) (window v)) l in
+    c.in_ok-add_sent.ensures states window
+    (ap (map seen_window) c.deref-4.ensures.value ∙ windows_are g c p start others are is ∙ ap (λ (q : Part). seen q (ids s.nodes)) (sym is)
+    ∙ ap (seen c.args.part.now) (sym (sent_ids_are g c)))
+    (λ v out. shut_outside s rank f p start others j off v (ap (λ (l : List ℕ). has l v) (sym (sent_ids_are g c)) ∙ out))
+    ∙ ap (λ (q : Part). c.self.inside.sent.items ++ option_to_list (sent_by_owner rank f j q window)) is
+    ∙ ap (λ (m : Network). m.sent ++ option_to_list (sent_in_slot s rank f p start j)) c.self.view_is))
+    c.close_all.ensures.early
 
 pub returns-clause-floods : goal.returns-clause-floods
 returns-clause-floods g c = on_ok_weaker c.close_all.result (λ early p start others before are is ran.
