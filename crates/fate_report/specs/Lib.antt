@@ -1,0 +1,2 @@
+pub mod FateLines
+pub mod SampleLines

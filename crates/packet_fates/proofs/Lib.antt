@@ -1,0 +1,11 @@
+mod PacketOrders
+mod FirstOnes
+mod QueuesEmptied
+mod FatesOfRuns
+mod LatencyOrders
+mod TalliedLatencies
+mod OrderedLatencies
+mod SameEntries
+mod DeliveredLatencies
+mod LatenciesInOrder
+mod CountedStreams

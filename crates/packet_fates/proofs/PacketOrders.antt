@@ -1,0 +1,51 @@
+-- The order of packets is total, and tells all packets apart.
+use Rattle.std.proofs.Common.{◌≡◌, ◌==◌, ◌&&◌, true, refl, ◌∙◌, ap}
+use Rattle.std.proofs.lemmas.Bool.{and_from, and_parts, eqb-true, eq-eqb}
+use Rattle.std.specs.Cmp.{IsTotalOrder, both_tied, nat_cmp_total, on_total, then_total, unsigned_ties}
+use Rattle.std.specs.Ordering.{is_eq, nat_cmp, ordering_then}
+use Rattle.std.specs.declared.cmp.Ordering.{Ordering}
+use Rattle.std.specs.declared.cmp.Ordering.TheVariants.{Less, Equal, Greater}
+use Rattle.bus_terms.specs.Fates.{is_packet}
+use Rattle.bus_terms.specs.declared.packets.PacketId.{PacketId}
+use Rattle.packet_fates.specs.PacketOrder.{packet_cmp}
+
+pub packet_total : IsTotalOrder packet_cmp
+packet_total =
+    then_total (on_total (λ (x : PacketId). x.node) nat_cmp_total)
+    (then_total (on_total (λ (x : PacketId). x.boot) nat_cmp_total)
+    (then_total (on_total (λ (x : PacketId). x.stream) nat_cmp_total) (on_total (λ (x : PacketId). x.seq) nat_cmp_total)))
+
+-- `&&` nests to the left and the order to the right
+pub then_nested : (a b c : Ordering) → ordering_then (ordering_then a b) c ≡ ordering_then a (ordering_then b c)
+then_nested Less b c = refl
+then_nested Equal b c = refl
+then_nested Greater b c = refl
+
+pub packet_tied : (x y : PacketId) → is_packet x y ≡ is_eq (packet_cmp x y)
+packet_tied x y =
+    let node = nat_cmp x.node y.node in
+    let boot = nat_cmp x.boot y.boot in
+    let stream = nat_cmp x.stream y.stream in
+    let seq = nat_cmp x.seq y.seq in
+    both_tied _ (x.seq == y.seq) (ordering_then (ordering_then node boot) stream) seq
+    (both_tied _ (x.stream == y.stream) (ordering_then node boot) stream
+    (both_tied (x.node == y.node) (x.boot == y.boot) node boot (unsigned_ties x.node y.node) (unsigned_ties x.boot y.boot))
+    (unsigned_ties x.stream y.stream))
+    (unsigned_ties x.seq y.seq)
+    ∙ ap is_eq (then_nested (ordering_then node boot) stream seq ∙ then_nested node boot (ordering_then stream seq))
+
+pub same_packet : (x y : PacketId) → is_packet x y ≡ true → x ≡ y
+same_packet x y is =
+    let c = and_parts ((x.node == y.node) && (x.boot == y.boot) && (x.stream == y.stream)) (x.seq == y.seq) is in
+    let b = and_parts ((x.node == y.node) && (x.boot == y.boot)) (x.stream == y.stream) c.0 in
+    let a = and_parts (x.node == y.node) (x.boot == y.boot) b.0 in
+    let node = eqb-true x.node y.node a.0 in
+    let boot = eqb-true x.boot y.boot a.1 in
+    let stream = eqb-true x.stream y.stream b.1 in
+    let seq = eqb-true x.seq y.seq c.1 in
+    λ i. record { node = node i; boot = boot i; stream = stream i; seq = seq i }
+
+pub packet_itself : (x : PacketId) → is_packet x x ≡ true
+packet_itself x =
+    and_from _ _ (and_from _ _ (and_from _ _ (eq-eqb x.node x.node refl) (eq-eqb x.boot x.boot refl)) (eq-eqb x.stream x.stream refl))
+    (eq-eqb x.seq x.seq refl)
