@@ -1,0 +1,15 @@
+mod CountedFates
+mod SamePackets
+mod SaidDeliveries
+mod KeptFields
+mod SentPackets
+mod LaterPackets
+mod ReceivedPackets
+mod SendingsOfDeliveries
+mod FewerWaiting
+mod KeptByRounds
+mod ToldLines
+mod PutPackets
+mod UsedNumbers
+mod PutLines
+mod FatesOfPuts
