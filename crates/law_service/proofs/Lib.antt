@@ -4,14 +4,18 @@ pub mod AcceptedSchedules
 pub mod GrantedSlots
 pub mod LoneRequests
 pub mod FirstRounds
+pub mod DeliveredData
+pub mod OffNodes
+pub mod ComputedCores
 -- for this crate alone
 mod SoleVoices
 mod AcknowledgedRequests
-mod DeliveredData
 mod TiedNodes
 mod Collisions
 mod WorkedReach
 mod MetPremises
+mod MetServices
+mod MetContenders
 mod WorkedSchedules
 mod WorkedRequests
 mod WorkedGrants

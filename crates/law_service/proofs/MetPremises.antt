@@ -17,20 +17,20 @@ use Rattle.bus_terms.specs.HostedRounds.{IsHosted, slot_in}
 use Rattle.law_service.proofs.LosslessSlots.{lose_nothing}
 use Rattle.law_service.proofs.WorkedReach.{three}
 
-abbrev s : ScenarioParts
+abbrev pub s : ScenarioParts
 s = three []
 
-abbrev p : Plan
+abbrev pub p : Plan
 p = empty_plan one 0 1
 
-hosted : IsHosted s 0 5 p 1
+pub hosted : IsHosted s 0 5 p 1
 unfolding before_frame before_slot moment schedule_heard host_plan plan_round least_passing
 hosted = record { known = refl; due = refl; plan = refl }
 
 untouched : (j : ℕ) → HasNoLines s 5 j
 untouched j = record { losses = refl; cuts = refl }
 
-lossless : (j : ℕ) → LosesNothing s (slot_in s 0 5 p j)
+pub lossless : (j : ℕ) → LosesNothing s (slot_in s 0 5 p j)
 lossless j = lose_nothing s 0 5 p (state_at s 5) j (untouched j)
 
 -- node 3 is two hops from the host in the opening slot, and the host two hops from it in the contention slot
@@ -43,7 +43,7 @@ listens = record { there = refl; distance = record { reached = refl; nearest = n
     nearest (suc zero) less = refl
     nearest (suc (suc i)) less = absurd (omega (arith, less))
 
-asks : IsWithin s (slot_in s 0 5 p 1) 3 2 1
+pub asks : IsWithin s (slot_in s 0 5 p 1) 3 2 1
 unfolding before_frame before_slot moment schedule_heard host_plan plan_round least_passing walks
 asks = record { there = refl; distance = record { reached = refl; nearest = nearest }; few = omega arith }
   where
@@ -53,6 +53,6 @@ asks = record { there = refl; distance = record { reached = refl; nearest = near
     nearest (suc (suc i)) less = absurd (omega (arith, less))
 
 -- in which it says the request that the host acknowledges
-request : message_said ((slot_in s 0 5 p 1).window 3) ≡ Some (RequestOf (record { node = 3; boot = 1; stream = 0; interval = 4 }))
+pub request : message_said ((slot_in s 0 5 p 1).window 3) ≡ Some (RequestOf (record { node = 3; boot = 1; stream = 0; interval = 4 }))
 unfolding before_frame before_slot moment schedule_heard host_plan plan_round least_passing
 request = refl

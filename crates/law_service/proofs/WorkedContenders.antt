@@ -22,7 +22,7 @@ three_slots : (own_number 7 0 3 ≡ 2) × (own_number 23 0 3 ≡ 3) × (own_numb
 three_slots = (refl, refl, refl, refl)
 
 -- a host with two neighbours, which have a packet each
-abbrev star : ℕ → ℕ → ℕ → ℕ → ScenarioParts
+abbrev pub star : ℕ → ℕ → ℕ → ℕ → ScenarioParts
 star slots frames u v = record {
   profile = contended slots;
   frames = frames;

@@ -61,7 +61,7 @@ thirteen_hops_in_a_line_of_fourteen :
 unfolding walks
 thirteen_hops_in_a_line_of_fourteen = (refl, refl, refl, refl)
 
-abbrev received : ℕ → ℕ → Delivery
+abbrev pub received : ℕ → ℕ → Delivery
 received source v = record { frame = 9; rank = 0; slot = 1; node = v; from = source; boot = 1; stream = 0; seq = 0; payload = 0xaa ∷ [] }
 
 -- what the round of frame 9 delivers

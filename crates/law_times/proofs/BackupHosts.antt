@@ -1,5 +1,5 @@
 -- Of two hosts that of rank 0 is gone: the round that falls out, a search for rank 0, one for rank 1, and the first round of the other.
-use Rattle.std.proofs.Common.{◌≡◌, ◌≢◌, ◌<◌, ◌≤◌, ◌+◌, ◌-◌, ◌%◌, ℕ, zero, suc, List, Bool, true, false, Some, inl, inr}
+use Rattle.std.proofs.Common.{◌≡◌, ◌<◌, ◌≤◌, ◌+◌, ◌-◌, ◌%◌, ℕ, zero, suc, List, Bool, true, false, Some, inl, inr}
 use Rattle.std.proofs.Common.{length, refl, sym, ◌∙◌, ap, subst, arith}
 use Rattle.std.proofs.lemmas.Bool.{cases_eq, false≢true}
 use Rattle.lwb_base.specs.Messages.{Plan}
@@ -155,12 +155,12 @@ module _ (s : ScenarioParts) (accepted : IsScenario s) (first second b d e : ℕ
           hosting : in_round 1 (d + 18) (Host 1 (d + 18)) ≡ true
           hosting = rw (due_host 1 (d + 18)) refl
 
-pub backups : BackupsTakeOver
+pub backups : BackupsTakeOver 18
 backups s accepted first second b d e among loses within =
     let at = serves s accepted first second b d e among loses within in
     record { plan = at.0; tuned = goes_tuned s (d + 18) second (Host 1 (d + 18)) at.0 at.1 }
 
-pub nodes_follow : NodesFollow
+pub nodes_follow : NodesFollow 18
 nodes_follow s accepted first second b d e among loses within lossless =
     subst (λ (g : ℕ). AreMembers s 1 g second among) (omega arith)
     (of_members s accepted 1 second b e among loses.group (suc (d + 18)) (follow s accepted first second b d e among loses within lossless))

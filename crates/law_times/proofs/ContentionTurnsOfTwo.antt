@@ -22,7 +22,7 @@ abbrev pub backoff_of : Streams → Backoff
 backoff_of x = (x.tries, x.skips)
 
 -- they are all that matters, where a request is due
-one_turn : (node : ℕ) (x : Streams) → is_some (due_stream x) ≡ true
+pub one_turn : (node : ℕ) (x : Streams) → is_some (due_stream x) ≡ true
     → (backoff_of (after_contention node x) ≡ turn node (backoff_of x)) × ((after_contention node x).all ≡ x.all)
 one_turn node x due = by_test (is_none (due_stream x)) (x.skips == 0) (none (due_stream x) due)
   where

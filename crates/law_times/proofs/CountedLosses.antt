@@ -208,7 +208,7 @@ module _ (s : ScenarioParts) (accepted : IsScenario s) (rank host f e : ℕ) (am
   track members (suc n) within few =
       next n within (few n (omega arith)) (few (suc n) (omega arith)) (track members n (omega (arith, within)) (λ m below. few m (omega (arith, below))))
 
-  pub costs : Members s rank f host among → (n : ℕ) → n + f ≤ e → ((m : ℕ) → m ≤ n → row m ≤ 3) → CostsFew s rank f host among n
+  pub costs : Members s rank f host among → (n : ℕ) → n + f ≤ e → ((m : ℕ) → m ≤ n → row m ≤ 3) → CostsFew 4 s rank f host among n
   costs members n within few = record {
     few = λ v there apart. counts v there apart (cases_eq (row n) 0);
     back = λ empty. of_members s accepted rank host f e among group (n + f)
@@ -223,6 +223,6 @@ module _ (s : ScenarioParts) (accepted : IsScenario s) (rank host f e : ℕ) (am
       counts v there apart (inl empty) = tracked.none empty v there apart
       counts v there apart (inr more) = (let room = tracked.some (omega (arith, more)) v there apart in omega (arith, room))
 
-pub losses_cost_few : LossesCostFew
+pub losses_cost_few : LossesCostFew 4
 losses_cost_few s accepted rank host f e among group are n within few =
     costs s accepted rank host f e among group (to_members s accepted rank host f e among group f are) n within few

@@ -63,7 +63,7 @@ module _ (s : ScenarioParts) (host b e : ℕ) (first : own_rank host s.hosts ≡
       (λ m q below goes. nobody_before (m + up.frame) (omega (arith, range)) (omega (arith, at, below)) (omega (arith, at, below, within))) in
       (n + 0, last.0, subst (λ (g : ℕ). Goes s g v (Scan 0 (n + 0)) last.0) at last.1)
 
-pub first_rounds : FirstRoundsCome
+pub first_rounds : FirstRoundsCome 5
 first_rounds s accepted host b begins =
     let last = serves s host b (b + 5) begins.first begins.stays (boots_scanning s b host begins.boots) (omega arith) in
     record { plan = last.0; tuned = goes_tuned s (b + 5) host (Host 0 (b + 5)) last.0 last.1 }

@@ -1,5 +1,5 @@
 -- After a round in which nothing is lost each node that takes part within reach of the host holds its next round.
-use Rattle.std.proofs.Common.{◌≡◌, ◌≢◌, ◌==◌, ◌&&◌, ◌||◌, ℕ, suc, List, Bool, true, false, Option, Some, None}
+use Rattle.std.proofs.Common.{◌≡◌, ◌==◌, ◌&&◌, ◌||◌, ℕ, suc, List, Bool, true, false, Option, Some, None}
 use Rattle.std.proofs.Common.{nat_lt, refl, sym, ◌∙◌, ap}
 use Rattle.std.proofs.lemmas.Bool.{false≢true, eqb-true, and_parts, cond-true, lt-ltb}
 use Rattle.lwb_base.specs.Messages.{Plan}

@@ -80,32 +80,38 @@ module _ (s : ScenarioParts) (accepted : IsScenario s) (rank host b e : ℕ) (am
       all : (v : ℕ) → has among v ≡ true → IsThere s rank f v
       all v there = (let t = tunes v there in record { known = group.known v there; tune = t.0; on = t.1; takes = t.2 })
 
-  -- a frame of theirs
-  step : (f : ℕ) → b ≤ f → suc f ≤ e → IsLossless s f → Members s rank f host among → Members s rank (suc f) host among
-  step f after within lossless members = elim (cases_eq members.due f) [ inl now ↦ in_due now | inr other ↦ in_quiet other ]
+  -- a frame of theirs without a round
+  pub quiet : (f : ℕ) → b ≤ f → suc f ≤ e → (members : Members s rank f host among) → f < members.due
+      → (next : Members s rank (suc f) host among) × (next.due ≡ members.due) × (next.plan ≡ members.plan)
+  quiet f after within members later = (
+    record {
+      due = members.due;
+      range = (omega (arith, later), (let range = members.range in omega (arith, range)));
+      plan = members.plan;
+      hosts = (quiet_frame s b e f host (Host rank members.due) members.plan (group.stay host group.led)
+          (omega (arith, after)) within members.hosts nobody).1;
+      hold = λ v there apart.
+          (quiet_frame s b e f v (Hold rank members.due) members.plan (group.stay v there) (omega (arith, after)) within
+          (members.hold v there apart) nobody).1
+          ∙ ap (λ (t : Tune). Some (idle t members.plan)) (holds_on (own_rank v s.hosts) rank members.due f (length s.hosts) later);
+    },
+    refl,
+    refl,
+  )
     where
       own : own_rank host s.hosts ≡ Some rank
       own = host_own s rank f host members.due members.plan members.hosts
 
-      in_quiet : (members.due ≡ f → ⊥) → Members s rank (suc f) host among
-      in_quiet other = record {
-        due = members.due;
-        range = (omega (arith, later), (let range = members.range in omega (arith, range)));
-        plan = members.plan;
-        hosts = (quiet_frame s b e f host (Host rank members.due) members.plan (group.stay host group.led)
-            (omega (arith, after)) within members.hosts nobody).1;
-        hold = λ v there apart.
-            (quiet_frame s b e f v (Hold rank members.due) members.plan (group.stay v there) (omega (arith, after)) within
-            (members.hold v there apart) nobody).1
-            ∙ ap (λ (t : Tune). Some (idle t members.plan)) (holds_on (own_rank v s.hosts) rank members.due f (length s.hosts) later);
-      }
-        where
-          later : f < members.due
-          later = (let range = members.range in omega (arith, range, other))
+      nobody : NobodyHosts s rank f
+      nobody = nobody_else s rank f host own (goes_idle s rank f host (Host rank members.due) members.plan members.hosts (not_due rank f members.due later))
 
-          nobody : NobodyHosts s rank f
-          nobody = nobody_else s rank f host own (goes_idle s rank f host (Host rank members.due) members.plan members.hosts (not_due rank f members.due later))
-
+  -- and any frame
+  pub step : (f : ℕ) → b ≤ f → suc f ≤ e → IsLossless s f → Members s rank f host among → Members s rank (suc f) host among
+  step f after within lossless members = elim (cases_eq members.due f) [
+    | inl now ↦ in_due now
+    | inr other ↦ (quiet f after within members (let range = members.range in omega (arith, range, other))).0
+  ]
+    where
       in_due : members.due ≡ f → Members s rank (suc f) host among
       in_due now = round_joins f after within lossless due tunes
         where

@@ -8,7 +8,6 @@ use Rattle.scenario_text.proofs.SoundScenarios.{sound}
 use Rattle.bus_rules.specs.declared.tune.Tune.{Tune}
 use Rattle.bus_rules.specs.Cores.{Core}
 use Rattle.bus_rules.specs.Granting.{gap_of, total}
-use Rattle.bus_rules.specs.HostPlans.{answers_to}
 use Rattle.bus_rules.specs.Plans.{last_slot}
 use Rattle.bus_rules.specs.Tables.{Entry}
 use Rattle.bus_rules.specs.Tuning.{hosts_in}
@@ -19,18 +18,18 @@ use Rattle.law_service.proofs.FirstRounds.{due_is}
 use Rattle.law_service.proofs.GrantedSlots.{round_gap}
 use Rattle.law_service.proofs.LoneRequests.{same_core}
 use Rattle.law_times.specs.Paces.{IsOnPace, OwedAlwaysFits, SlotsComeWithin, StreamsKeepPace, latency_bound}
-use Rattle.law_times.proofs.PacedHosts.{Keeps, KeepsPace, PacedBy, answered, paced_now, serves}
+use Rattle.law_times.proofs.PacedHosts.{Keeps, KeepsPace, PacedBy, asked_paced, paced_now}
 use Rattle.law_times.proofs.PacedRuns.{at_frame, at_slot}
 use Rattle.law_times.proofs.PacedTables.{Each, Paced, fits, more_due}
 
-each_of : (P : Entry → Type 0) (es : List Entry) (e : Entry) → Each P es → Contains es e → P e
+pub each_of : (P : Entry → Type 0) (es : List Entry) (e : Entry) → Each P es → Contains es e → P e
 each_of P [] e all there = absurd (not_in_none e there)
 each_of P (x ∷ es) e all there = elim (contains_cases x es e there) [
   | inl same ↦ subst P same all.0
   | inr later ↦ each_of P es e all.1 later
 ]
 
-some_seconds : (p : Numbers) → IsProfile p → 0 < p.seconds
+pub some_seconds : (p : Numbers) → IsProfile p → 0 < p.seconds
 some_seconds p (inl one) = (let is = ap (λ (n : Numbers). n.seconds) one in omega (arith, is))
 some_seconds p (inr two) = (let is = ap (λ (n : Numbers). n.seconds) two.0 in omega (arith, is))
 
@@ -48,19 +47,17 @@ owed_fits s accepted slow rank f p host hosted c due plan plans =
     let core = same_core lead.core c (node_before s rank f p (last_slot p) host) lead.on plans.on in
     let due_now : hosts_in rank f c.tune ≡ true = ap (λ (d : Core). hosts_in rank f d.tune) (sym core) ∙ lead.due in
     let first : Paced s.profile.seconds f c.table.entries = paced_now s.profile.seconds rank f c.tune c.table.entries due_now keeps.table in
-    let asked = answered s.profile.seconds f c.kept (record { table = c.table; acks = [] }) keeps.kept first in
-    let own = serves s.profile.seconds f host c.boot (0 ∷ 1 ∷ 2 ∷ 3 ∷ []) (record { table = (answers_to f c.kept c.table).table; streams = c.streams })
-    keeps.wishes asked in
+    let own = asked_paced s.profile.seconds f host c.boot c.kept c.table c.streams keeps.kept keeps.wishes first in
     let entries = (table_at f host c).entries in
     let gap : due ≡ f + gap_of s.profile.seconds f entries =
     due_is s rank f p host hosted c due plan plans ∙ ap (λ (g : ℕ). f + g) (round_gap s.profile.seconds f (table_at f host c)) in
-    subst (λ (d : ℕ). total s.profile.seconds d entries ≤ 40) (sym gap) (fits s.profile.seconds f some (table_at f host c) own.1)
+    subst (λ (d : ℕ). total s.profile.seconds d entries ≤ 40) (sym gap) (fits s.profile.seconds f some (table_at f host c) own)
 
-spread : (s m k : ℕ) → s * (m + k) ≡ s * m + s * k
+pub spread : (s m k : ℕ) → s * (m + k) ≡ s * m + s * k
 spread s m k = grind arith
 
 -- so many slots come due in so many frames
-come_due : (queue interval seconds frames : ℕ) → 0 < seconds → 0 < interval → (queue * interval + seconds - 1) / seconds ≤ frames
+pub come_due : (queue interval seconds frames : ℕ) → 0 < seconds → 0 < interval → (queue * interval + seconds - 1) / seconds ≤ frames
     → (x : ℕ) → x / interval + queue ≤ (x + seconds * frames) / interval
 come_due queue interval seconds frames some slow enough x =
     let last = lt-mul-div-succ (queue * interval + seconds - 1) {b = seconds} some in

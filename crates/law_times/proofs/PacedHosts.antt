@@ -18,7 +18,7 @@ use Rattle.bus_rules.specs.Slots.{silent}
 use Rattle.bus_rules.specs.Slots.{slot_heard}
 use Rattle.bus_rules.specs.States.{State, StateOff, StateOn}
 use Rattle.bus_rules.specs.Streams.{Streams, request_is_due, requested, schedule_heard, stream_at, taken}
-use Rattle.bus_rules.specs.Streams.{wishes, with_agreed}
+use Rattle.bus_rules.specs.Streams.{with_agreed}
 use Rattle.bus_rules.specs.Tables.{Entry, Table, interval_of}
 use Rattle.bus_rules.specs.Tuning.{hosts_in, next_tune, rank_of}
 use Rattle.bus_terms.proofs.ContentionSlots.{only_data}
@@ -94,6 +94,14 @@ serves seconds f node boot (k ∷ ks) x slow paced = serves seconds f node boot 
         by_due true =
             after_asked seconds f x.table (record { node = node; boot = boot; stream = k; interval = (stream_at (serve f node boot x k).streams k).wish })
             (slow_now k) paced
+
+-- the table from which a host plans
+pub asked_paced : (seconds f node boot : ℕ) (kept : List Ask) (t : Table) (x : Streams) → AllSlow seconds kept
+    → ((i : ℕ) → IsSlow seconds (stream_at x i).wish) → Paced seconds f t.entries
+    → Paced seconds f (served f node boot (answers_to f kept t).table x).table.entries
+asked_paced seconds f node boot kept t x all slow paced =
+    (serves seconds f node boot (0 ∷ 1 ∷ 2 ∷ 3 ∷ []) (record { table = (answers_to f kept t).table; streams = x }) slow
+    (answered seconds f kept (record { table = t; acks = [] }) all paced)).1
 
 plan_paced : (n : Numbers) (node boot rank f : ℕ) (kept : List Ask) (t : Table) (x : Streams) → 0 < n.seconds → AllSlow n.seconds kept
     → ((i : ℕ) → IsSlow n.seconds (stream_at x i).wish) → Paced n.seconds f t.entries

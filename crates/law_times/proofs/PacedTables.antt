@@ -9,7 +9,7 @@ use Rattle.std.proofs.lemmas.List.{length-map}
 use Rattle.std.proofs.lemmas.Bool.{cases_eq, cases_lt, cond_both, eq-eqb, le-ltb, cond-true, cond-false, eqb-false, false≢true, le-leb, leb-true, ltb-true}
 use Rattle.std.proofs.lemmas.Bool.{ne_eqb}
 use Rattle.std.proofs.lemmas.List.Sums.{sum_by-cons}
-use Rattle.bus_rules.specs.Granting.{Grants, gap_of, given, grant, granted_by, grants_for, last_code, owed, owed_to, plan_round, share_in, total}
+use Rattle.bus_rules.specs.Granting.{Grants, gap_of, given, grant, granted_by, grants_for, last_code, owed_to, plan_round, share_in, total}
 use Rattle.bus_rules.specs.Tables.{AreEntries, EntriesAreAbove, EntriesAscend, Entry, Table, after_request, entry_after_data, entry_of, has_code, is_full}
 use Rattle.bus_rules.specs.Tables.{missed, new_entry}
 use Rattle.bus_rules.specs.Tables.{with_entry, without}

@@ -61,6 +61,27 @@ module _ (link : ℕ → ℕ → Bool) (start : ℕ) where
           let later = longer still (subst (λ (i : ℕ). walks link everyone start i v ≡ true) (omega arith) walk) in
           (later.0, (let few = later.1 in omega (arith, few)), later.2)
 
+-- a node that is reached along nodes that take part in a slot is within reach in it
+pub reached_in : (s : ScenarioParts) (x : Slot) (among : List ℕ) (u v : ℕ) → ((w : ℕ) → has among w ≡ true → TakesPart x w) → has among v ≡ true
+    → (v ≡ u → ⊥) → IsReached s among u v → (k : ℕ) × IsWithin s x u (suc k) v
+unfolding walks
+reached_in s x among u v all there other reached = by_hops least.0 least.1 least.2
+  where
+    everyone : List ℕ
+    everyone = x.flood.everyone
+
+    walk : walks (is_linked s) everyone u reached.links v ≡ true
+    walk = along_more (is_linked s) u among everyone all reached.links v reached.walk
+
+    least : (h : ℕ) × (h ≤ 0 + reached.links) × IsDistance (is_linked s) everyone u h v
+    least = shortest (is_linked s) u everyone v reached.links 0 (λ i none. absurd (omega (arith, none)))
+        (subst (λ (i : ℕ). walks (is_linked s) everyone u i v ≡ true) (omega arith) walk)
+
+    by_hops : (h : ℕ) → h ≤ 0 + reached.links → IsDistance (is_linked s) everyone u h v → (k : ℕ) × IsWithin s x u (suc k) v
+    by_hops zero few distance = absurd (other (eqb-true v u distance.reached))
+    by_hops (suc k) few distance =
+        (k, record { there = all v there; distance = distance; few = (let limit = reached.few in omega (arith, few, limit)) })
+
 -- a tune by which a node takes part in the closing slot of the round of this rank and frame
 abbrev pub in_round : ℕ → ℕ → Tune → Bool
 in_round rank f t = hosts_in rank f t || holds_in rank f t || scans rank t
@@ -106,20 +127,5 @@ module _ (s : ScenarioParts) (rank f : ℕ) (p : Plan) where
   -- a node that is reached along such nodes is within reach in the closing slot
   pub reached_within : (among : List ℕ) (u v : ℕ) → ((w : ℕ) → has among w ≡ true → IsThere s rank f w) → has among v ≡ true → (v ≡ u → ⊥)
       → IsReached s among u v → (k : ℕ) × IsWithin s (slot_in s rank f p (last_slot p)) u (suc k) v
-  unfolding walks
-  reached_within among u v all there other reached = by_hops least.0 least.1 least.2
-    where
-      everyone : List ℕ
-      everyone = (slot_in s rank f p (last_slot p)).flood.everyone
-
-      walk : walks (is_linked s) everyone u reached.links v ≡ true
-      walk = along_more (is_linked s) u among everyone (λ w is. takes_closing w (all w is)) reached.links v reached.walk
-
-      least : (h : ℕ) × (h ≤ 0 + reached.links) × IsDistance (is_linked s) everyone u h v
-      least = shortest (is_linked s) u everyone v reached.links 0 (λ i none. absurd (omega (arith, none)))
-          (subst (λ (i : ℕ). walks (is_linked s) everyone u i v ≡ true) (omega arith) walk)
-
-      by_hops : (h : ℕ) → h ≤ 0 + reached.links → IsDistance (is_linked s) everyone u h v → (k : ℕ) × IsWithin s (slot_in s rank f p (last_slot p)) u (suc k) v
-      by_hops zero few distance = absurd (other (eqb-true v u distance.reached))
-      by_hops (suc k) few distance =
-          (k, record { there = takes_closing v (all v there); distance = distance; few = (let limit = reached.few in omega (arith, few, limit)) })
+  reached_within among u v all there other reached =
+      reached_in s (slot_in s rank f p (last_slot p)) among u v (λ w is. takes_closing w (all w is)) there other reached

@@ -1,6 +1,6 @@
 -- At the start of each frame a node that is on is not fresh; the next due frame of who holds or hosts a rank is this one or one of the
 -- next three; and who scans its own rank has done so for fewer than five frames.
-use Rattle.std.proofs.Common.{◌≡◌, ◌<◌, ◌≤◌, ◌+◌, ◌%◌, ◌&&◌, ◌==◌, ℕ, zero, suc, List, [], ◌∷◌, Bool, true, false, inl, inr, Option, Some, None, if◌then◌else◌}
+use Rattle.std.proofs.Common.{◌≡◌, ◌<◌, ◌≤◌, ◌+◌, ◌%◌, ◌&&◌, ◌==◌, ℕ, zero, suc, List, [], ◌∷◌, Bool, true, false, inl, inr, Option, Some, None}
 use Rattle.std.proofs.Common.{is_some, nat_lt, fold, refl, sym, ◌∙◌, ap, subst, arith}
 use Rattle.std.proofs.lemmas.Bool.{false≢true, eq-eqb, ltb-true, cases_eq, cond_both, eqb-false}
 use Rattle.scenario_text.specs.ScenarioParts.{ScenarioParts}

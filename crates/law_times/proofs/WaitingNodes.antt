@@ -1,7 +1,7 @@
 -- Nodes that wait for the next round of their host, over frames with and without losses: each holds it, or scans the rank and has
 -- done so for few enough frames.
 use Rattle.std.proofs.Common.{◌≡◌, ◌≢◌, ◌<◌, ◌≤◌, ◌+◌, ◌-◌, ℕ, suc, List, true, false, Some, inl, inr}
-use Rattle.std.proofs.Common.{length, if◌then◌else◌, refl, ◌∙◌, ap, subst, arith}
+use Rattle.std.proofs.Common.{length, refl, ◌∙◌, ap, subst, arith}
 use Rattle.std.specs.Prelude.{◌⊎◌}
 use Rattle.std.proofs.lemmas.Bool.{cases_eq, eq-eqb}
 use Rattle.lwb_base.specs.Messages.{Plan}

@@ -1,25 +1,28 @@
 -- Three rounds in a row that a member misses, and the one after which it is a member again; it has scanned for twelve frames by then.
-use Rattle.std.proofs.Common.{◌≡◌, ◌≢◌, ℕ, List, [], ◌∷◌, true, nat_le, refl, arith, subst}
+use Rattle.std.proofs.Common.{◌≡◌, ◌≢◌, ℕ, List, [], ◌∷◌, true, nat_le, refl, arith, subst, inr, ◌≤◌}
+use Rattle.std.specs.Prelude.{◌⊎◌}
 use Rattle.std.proofs.lemmas.Bool.{leb-true}
-use Rattle.lwb_base.specs.Messages.{least_passing}
+use Rattle.lwb_base.specs.Messages.{least_passing, Plan}
+use Rattle.bus_rules.specs.declared.tune.Tune.TheVariants.{Scan, Hold, Host}
 use Rattle.bus_rules.specs.Granting.{plan_round}
 use Rattle.bus_rules.specs.HostPlans.{host_plan}
 use Rattle.bus_rules.specs.Streams.{schedule_heard}
-use Rattle.bus_terms.specs.Bus.{before_frame}
+use Rattle.bus_terms.specs.Bus.{before_frame, state_at}
 use Rattle.bus_terms.specs.Distances.{walks}
 use Rattle.bus_terms.specs.Flooding.{has, moment}
 use Rattle.bus_terms.specs.FloodOfText.{ids}
 use Rattle.bus_terms.specs.Rounds.{before_slot}
+use Rattle.law_times.specs.Tunes.{HasTune, IsTuned, AreMembers}
 use Rattle.law_times.specs.FirstRounds.{Begins, IsUpBy}
-use Rattle.law_times.specs.Losses.{CostsFew, lossy_rounds, lossy_row, scanned}
+use Rattle.law_times.specs.Losses.{AwaitRound, CostsFew, lossy_rounds, lossy_row, scanned}
 use Rattle.law_times.specs.Reaches.{IsGroup, IsLossless, IsReached}
 use Rattle.law_times.specs.ScriptedPower.{StaysOn, power_before}
-use Rattle.law_times.specs.Tunes.{AreMembers}
+use Rattle.law_times.proofs.ReturningNodes.{scanners_return}
+use Rattle.law_times.proofs.WorkedTimes.{has_tune, is_tuned, plan_of, each_of_two}
 use Rattle.law_times.proofs.ComputedTests.{all_up_to, each_up_to}
 use Rattle.law_times.proofs.CountedLosses.{losses_cost_few}
 use Rattle.law_times.proofs.FirstRoundsOfHosts.{nodes_join}
 use Rattle.law_times.proofs.WorkedNetworks.{three_lost, three_is_scenario}
-use Rattle.law_times.proofs.WorkedTimes.{each_of_two}
 
 abbrev both : List ℕ
 both = 1 ∷ 2 ∷ []
@@ -56,7 +59,7 @@ unfolding all_up_to lossy_row before_frame before_slot moment schedule_heard hos
 rows = refl
 
 -- the sixteen frames from 6 on have three rounds with losses, and in twelve of them node 2 scans
-costs : CostsFew three_lost 0 6 1 both 16
+costs : CostsFew 4 three_lost 0 6 1 both 16
 costs =
     losses_cost_few three_lost three_is_scenario 0 1 6 22 both (group 6 22) members 16 (omega arith)
     (λ m below. leb-true (lossy_row three_lost 0 1 6 m) 3 (each_up_to (λ m. nat_le (lossy_row three_lost 0 1 6 m) 3) 16 rows m below))
@@ -69,3 +72,26 @@ counted = (refl, refl)
 back : AreMembers three_lost 0 22 1 both
 unfolding lossy_row before_frame before_slot moment schedule_heard host_plan plan_round least_passing
 back = costs.back refl
+
+-- in frame 18 it has scanned for eight frames, the most from which a node is sure to be back after the host's next round, that of frame 21
+abbrev plan_in_18 : Plan
+plan_in_18 = plan_of (state_at three_lost 18 1)
+
+host_in_18 : IsTuned three_lost 18 1 (Host 0 21) plan_in_18
+unfolding before_frame before_slot moment schedule_heard host_plan plan_round least_passing
+host_in_18 = is_tuned three_lost 18 1 (Host 0 21) refl
+
+scans_in_18 : HasTune three_lost 18 2 (Scan 0 8)
+unfolding before_frame before_slot moment schedule_heard host_plan plan_round least_passing
+scans_in_18 = has_tune three_lost 18 2 (Scan 0 8) refl
+
+awaits : AwaitRound three_lost 0 18 21 1 both
+awaits = record {
+  plan = plan_in_18;
+  hosts = host_in_18;
+  wait = each_of_two (λ v. v ≢ 1 → IsTuned three_lost 18 v (Hold 0 21) plan_in_18 ⊎ ((w : ℕ) × (w ≤ 8) × HasTune three_lost 18 v (Scan 0 w))) 1 2
+      (λ other. absurd (other refl)) (λ other. inr (8, omega arith, scans_in_18));
+}
+
+returns : AreMembers three_lost 0 22 1 both
+returns = scanners_return three_lost three_is_scenario 0 1 18 21 22 both (group 18 22) awaits (omega arith) (record { losses = refl; cuts = refl })

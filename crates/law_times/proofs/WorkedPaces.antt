@@ -1,32 +1,35 @@
 -- A stream with a slot in six seconds: two have come due by frame 9, and eight by frame 17.
-use Rattle.std.proofs.Common.{◌≡◌, ◌+◌, ◌≤◌, ℕ, List, [], ◌∷◌, Some, refl, sym, subst, arith}
+use Rattle.std.proofs.Common.{◌≡◌, ◌+◌, ◌≤◌, ℕ, List, [], ◌∷◌, Some, refl, sym, subst, arith, map}
 use Rattle.std.specs.Prelude.{Contains}
+use Rattle.std.specs.List.{range_with_len}
 use Rattle.lwb_base.proofs.Elements.{contains_head}
-use Rattle.lwb_base.specs.Messages.{least_passing}
+use Rattle.lwb_base.specs.Messages.{least_passing, Plan}
+use Rattle.lwb_base.specs.Profile.{one}
 use Rattle.scenario_text.specs.ScenarioParts.{ScenarioParts}
 use Rattle.bus_rules.specs.declared.tune.Tune.TheVariants.{Host}
-use Rattle.bus_rules.specs.Granting.{plan_round}
+use Rattle.bus_rules.specs.Granting.{plan_round, gap_of, total}
 use Rattle.bus_rules.specs.HostPlans.{host_plan}
 use Rattle.bus_rules.specs.States.{State, StateOff, StateOn}
 use Rattle.bus_rules.specs.Streams.{schedule_heard}
 use Rattle.bus_rules.specs.Tables.{Entry}
+use Rattle.bus_rules.specs.Cores.{Core, empty_plan}
 use Rattle.bus_terms.specs.Bus.{before_frame, state_at}
 use Rattle.bus_terms.specs.Flooding.{moment}
 use Rattle.bus_terms.specs.Rounds.{before_slot}
-use Rattle.law_times.specs.Paces.{HasEntry, HasSlowStreams, latency_bound}
-use Rattle.law_times.proofs.LatentSlots.{slots_come}
+use Rattle.bus_terms.specs.HostedRounds.{IsHosted, node_before, state_after_round}
+use Rattle.law_service.specs.FirstSlots.{FitsNextRound, PlansRound}
+use Rattle.law_service.proofs.ComputedCores.{core_of, on_core}
+use Rattle.law_times.specs.Paces.{IsOnPace, HasEntry, HasSlowStreams, latency_bound}
+use Rattle.law_times.proofs.LatentSlots.{keep_pace, owed_fits, slots_come}
+use Rattle.law_times.proofs.GrownTables.{entries_at}
 use Rattle.law_times.proofs.Settings.{tune_of}
 use Rattle.law_times.proofs.WorkedNetworks.{slow_stream, slow_is_scenario}
 
-abbrev entries_of : State → List Entry
-entries_of (StateOff boots) = []
-entries_of (StateOn c) = c.table.entries
-
-has_entry : (s : ScenarioParts) (host frame rank due : ℕ) (e : Entry) → tune_of (state_at s frame host) ≡ Some (Host rank due)
-    → entries_of (state_at s frame host) ≡ e ∷ [] → HasEntry s host frame due e
+pub has_entry : (s : ScenarioParts) (host frame rank due : ℕ) (e : Entry) → tune_of (state_at s frame host) ≡ Some (Host rank due)
+    → entries_at (state_at s frame host) ≡ e ∷ [] → HasEntry s host frame due e
 has_entry s host frame rank due e tune only = by_state (state_at s frame host) refl tune only
   where
-    by_state : (x : State) → state_at s frame host ≡ x → tune_of x ≡ Some (Host rank due) → entries_of x ≡ e ∷ [] → HasEntry s host frame due e
+    by_state : (x : State) → state_at s frame host ≡ x → tune_of x ≡ Some (Host rank due) → entries_at x ≡ e ∷ [] → HasEntry s host frame due e
     by_state (StateOff boots) at tune only = absurd (cc)
     by_state (StateOn c) at tune only = record {
       core = c;
@@ -57,3 +60,43 @@ five_slots = (
   slots_come 5 6 4 slow_stream slow_is_scenario slow refl 1 6 14 9 17 10 (granted_by 2 0) (granted_by 8 4) in_frame_6 in_frame_14
       (record { code = refl; interval = refl; accepted = refl }) refl (omega arith) (omega arith),
 )
+
+-- by frame 17 it has been granted just what has come due: 4 seconds times 12 frames in sixes
+on_pace : IsOnPace 4 17 (granted_by 8 4)
+on_pace =
+    keep_pace slow_stream slow_is_scenario slow 14 1 in_frame_14.rank 17 in_frame_14.core in_frame_14.on in_frame_14.tune (granted_by 8 4) in_frame_14.there
+
+-- what is owed by the second round, that of frame 9, fits into it
+abbrev first_plan : Plan
+first_plan = empty_plan one 0 1
+
+hosted : IsHosted slow_stream 0 5 first_plan 1
+unfolding before_frame before_slot moment schedule_heard host_plan plan_round least_passing
+hosted = record { known = refl; due = refl; plan = refl }
+
+abbrev planning : Core
+planning = core_of (node_before slow_stream 0 5 first_plan 2 1)
+
+abbrev planned : Core
+planned = core_of (state_after_round slow_stream 0 5 first_plan 1)
+
+plans : PlansRound slow_stream 0 5 first_plan 1 planning 9 planned.plan
+unfolding before_frame before_slot moment schedule_heard host_plan plan_round least_passing
+plans = record {
+  on = on_core (node_before slow_stream 0 5 first_plan 2 1) refl;
+  next = planned;
+  next_on = on_core (state_after_round slow_stream 0 5 first_plan 1) refl;
+  tune = refl;
+  planned = refl;
+}
+
+fits : FitsNextRound slow_stream 5 1 planning 9
+fits = owed_fits slow_stream slow_is_scenario slow 0 5 first_plan 1 hosted planning 9 planned.plan plans
+
+-- of 32 streams with a slot in each frame all fits into the round of the next frame, and no more into one of two frames
+abbrev each_frame : ℕ → Entry
+each_frame c = record { code = c; boot = 1; interval = 4; accepted = 5; granted = 0; unheard = 0 }
+
+full_table : (total 4 6 (map each_frame (range_with_len 40 32)) ≡ 32) × (total 4 7 (map each_frame (range_with_len 40 32)) ≡ 64)
+    × (gap_of 4 5 (map each_frame (range_with_len 40 32)) ≡ 1)
+full_table = (refl, refl, refl)

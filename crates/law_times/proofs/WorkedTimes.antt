@@ -1,7 +1,7 @@
 -- The premises of the laws are met in worked networks, in which their bounds are reached.
-use Rattle.std.proofs.Common.{◌≡◌, ◌≢◌, ◌≤◌, ◌==◌, ◌||◌, ℕ, List, [], ◌∷◌, Bool, true, false, Some, inl, inr, refl, ap, arith, subst}
+use Rattle.std.proofs.Common.{◌≡◌, ◌≢◌, ◌≤◌, ◌==◌, ◌||◌, ℕ, List, [], ◌∷◌, Bool, true, false, Some, inl, inr, refl, ap, arith, subst, sym}
 use Rattle.std.proofs.lemmas.Bool.{false≢true, or_cases, eqb-true, ne_eqb}
-use Rattle.lwb_base.specs.Messages.{least_passing}
+use Rattle.lwb_base.specs.Messages.{least_passing, Plan}
 use Rattle.scenario_text.specs.ScenarioParts.{ScenarioParts}
 use Rattle.bus_rules.specs.declared.tune.Tune.{Tune}
 use Rattle.bus_rules.specs.declared.tune.Tune.TheVariants.{Scan, Hold, Host}
@@ -9,16 +9,18 @@ use Rattle.bus_rules.specs.Granting.{plan_round}
 use Rattle.bus_rules.specs.HostPlans.{host_plan}
 use Rattle.bus_rules.specs.States.{State, StateOff, StateOn}
 use Rattle.bus_rules.specs.Streams.{schedule_heard}
+use Rattle.bus_rules.specs.Cores.{no_plan}
 use Rattle.bus_terms.specs.Bus.{before_frame, state_at}
 use Rattle.bus_terms.specs.Distances.{walks}
 use Rattle.bus_terms.specs.Flooding.{has, moment}
 use Rattle.bus_terms.specs.FloodOfText.{ids}
 use Rattle.bus_terms.specs.Rounds.{before_slot}
+use Rattle.law_times.specs.Tunes.{IsTuned, AreMembers, HasTune, Hosts}
 use Rattle.law_times.specs.Failovers.{IsLastHost, LosesHost}
 use Rattle.law_times.specs.FirstRounds.{Begins, IsUpBy}
 use Rattle.law_times.specs.Reaches.{IsGroup, IsLossless, IsReached}
 use Rattle.law_times.specs.ScriptedPower.{StaysOff, StaysOn, power_before}
-use Rattle.law_times.specs.Tunes.{AreMembers, HasTune, Hosts}
+use Rattle.law_times.proofs.KeptMembers.{members}
 use Rattle.law_times.proofs.BackupHosts.{backups, nodes_follow}
 use Rattle.law_times.proofs.FirstRoundsOfHosts.{first_rounds, nodes_join}
 use Rattle.law_times.proofs.LastHosts.{last_hosts}
@@ -32,6 +34,17 @@ has_tune s f v t is = by_state (state_at s f v) refl is
     by_state : (x : State) → state_at s f v ≡ x → tune_of x ≡ Some t → HasTune s f v t
     by_state (StateOff boots) at is = absurd (cc)
     by_state (StateOn c) at is = record { plan = c.plan; tuned = record { core = c; on = at; tune = cc; plan = refl } }
+
+abbrev pub plan_of : State → Plan
+plan_of (StateOff boots) = no_plan
+plan_of (StateOn c) = c.plan
+
+pub is_tuned : (s : ScenarioParts) (f v : ℕ) (t : Tune) → tune_of (state_at s f v) ≡ Some t → IsTuned s f v t (plan_of (state_at s f v))
+is_tuned s f v t is = by_state (state_at s f v) refl is
+  where
+    by_state : (x : State) → state_at s f v ≡ x → tune_of x ≡ Some t → IsTuned s f v t (plan_of (state_at s f v))
+    by_state (StateOff boots) at is = absurd (cc)
+    by_state (StateOn c) at is = record { core = c; on = at; tune = cc; plan = sym (ap plan_of at) }
 
 -- what holds of two or three nodes holds of each of them
 pub each_of_two : (P : ℕ → Type 0) (u v : ℕ) → P u → P v → (w : ℕ) → has (u ∷ v ∷ []) w ≡ true → P w
@@ -88,6 +101,20 @@ line_members : (g : ℕ) → 6 ≤ g → AreMembers line_of_three 0 g 1 all_thre
 line_members g late =
     nodes_join line_of_three line_is_scenario 1 0 g (begins g) all_three (line_group g) line_up g (omega (arith, late)) (omega arith)
     (λ f low high. line_lossless f (omega (arith, low)))
+
+-- and members in frame 6 stay members
+line_stays : (g : ℕ) → 6 ≤ g → AreMembers line_of_three 0 g 1 all_three
+line_stays g late =
+    members line_of_three line_is_scenario 0 1 6 g all_three (group_from_6 g) (line_members 6 (omega arith)) g late (omega arith)
+    (λ f low high. line_lossless f (omega (arith, low)))
+  where
+    group_from_6 : (e : ℕ) → IsGroup line_of_three 1 6 e all_three
+    group_from_6 e = record {
+      led = refl;
+      known = each_of_three (λ v. has (ids line_of_three.nodes) v ≡ true) 1 2 3 refl refl refl;
+      stay = each_of_three (λ v. StaysOn line_of_three 6 e v) 1 2 3 refl refl refl;
+      reached = (line_group e).reached;
+    }
 
 -- a host that fails in frame 6: in frame 27 the other one hosts, and not in frame 26
 last_of_two : (e : ℕ) → IsLastHost backup 1 2 6 e

@@ -1,6 +1,8 @@
 -- Nodes that have a request due in each contention slot of their own, round after round: who of them requests.
-use Rattle.std.specs.Prelude.{◌≡◌, ◌≢◌, ◌<◌, ◌≤◌, ◌-◌, ◌^◌, ◌%◌, ◌&&◌, ℕ, zero, suc, List, [], ◌∷◌, Bool, true, is_some, nat_le, count_by}
+use Rattle.std.specs.Prelude.{◌≡◌, ◌≢◌, ◌<◌, ◌≤◌, ◌-◌, ◌^◌, ◌%◌, ◌==◌, ◌&&◌, ℕ, zero, suc, List, [], ◌∷◌, Bool, true, is_some, nat_le, count_by}
+use Rattle.std.specs.List.{list_all}
 use Rattle.bus_rules.specs.Streams.{Streams, after_contention, cleared, due_stream, requested, declared, put}
+use Rattle.law_service.specs.Contenders.{own_number}
 
 -- the streams of a node after n such slots
 unfoldable pub after_turns : ℕ → Streams → ℕ → Streams
@@ -44,3 +46,22 @@ six_askers =
 -- there is no round in which one alone requests
 abbrev pub SixNeverPart : Type 0
 SixNeverPart = (n : ℕ) → count_by (asks_in n) six_askers ≢ 1
+
+-- a node that has tried four times, with so many slots of its own to skip, and whether it requests in a round
+pub record Waiter : Type 0 where
+  pub node : ℕ
+  pub skips : ℕ
+
+abbrev pub asks_again : ℕ → Waiter → Bool
+asks_again n a = requests_after a.node (record asks_anew { tries = 4; skips = a.skips }) n
+
+-- six such nodes, whose ids differ modulo 48
+abbrev pub six_waiters : List Waiter
+six_waiters =
+    record { node = 48; skips = 0 } ∷ record { node = 33; skips = 0 } ∷ record { node = 18; skips = 0 } ∷ record { node = 3; skips = 1 }
+    ∷ record { node = 21; skips = 5 } ∷ record { node = 27; skips = 7 } ∷ []
+
+-- after four tries all have the second of three contention slots, and in no round one of them alone requests
+pub record SixOfThreeNeverPart : Type 0 where
+  pub shared : list_all (λ a. own_number a.node 4 3 == 2) six_waiters ≡ true
+  pub tied : (n : ℕ) → count_by (asks_again n) six_waiters ≢ 1

@@ -37,17 +37,17 @@ pub record LosesHost (s : ScenarioParts) (first second b d e : ℕ) (among : Lis
   pub hold : (v : ℕ) → has among v ≡ true → HasTune s b v (Hold 0 d)
 
 -- from the round that falls out to the first of the other host: the rest of its frame, a search for rank 0, and one for rank 1
-abbrev pub takeover_frames : ℕ
-takeover_frames = 1 + SEARCH_FRAMES + QUIET_FRAMES
+abbrev pub takeover_bound : ℕ
+takeover_bound = 1 + SEARCH_FRAMES + QUIET_FRAMES
 
 -- that host has its first round so many frames after the one that fell out, whatever is lost
-abbrev pub BackupsTakeOver : Type 0
-BackupsTakeOver =
-    (s : ScenarioParts) → IsScenario s → (first second b d e : ℕ) (among : List ℕ) → LosesHost s first second b d e among → d + takeover_frames ≤ e
-    → HasTune s (d + takeover_frames) second (Host 1 (d + takeover_frames))
+abbrev pub BackupsTakeOver : ℕ → Type 0
+BackupsTakeOver frames =
+    (s : ScenarioParts) → IsScenario s → (first second b d e : ℕ) (among : List ℕ) → LosesHost s first second b d e among → d + frames ≤ e
+    → HasTune s (d + frames) second (Host 1 (d + frames))
 
 -- and if nothing is lost in the frame of that round, the nodes are members after it
-abbrev pub NodesFollow : Type 0
-NodesFollow =
-    (s : ScenarioParts) → IsScenario s → (first second b d e : ℕ) (among : List ℕ) → LosesHost s first second b d e among → d + takeover_frames + 1 ≤ e
-    → IsLossless s (d + takeover_frames) → AreMembers s 1 (d + takeover_frames + 1) second among
+abbrev pub NodesFollow : ℕ → Type 0
+NodesFollow frames =
+    (s : ScenarioParts) → IsScenario s → (first second b d e : ℕ) (among : List ℕ) → LosesHost s first second b d e among → d + frames + 1 ≤ e
+    → IsLossless s (d + frames) → AreMembers s 1 (d + frames + 1) second among

@@ -16,11 +16,10 @@ pub record Begins (s : ScenarioParts) (host b e : ℕ) : Type 0 where
   pub boots : BootsIn s b host
   pub stays : StaysOn s b e host
 
--- it has its first round in frame b + QUIET_FRAMES, whatever is lost
-abbrev pub FirstRoundsCome : Type 0
-FirstRoundsCome =
-    (s : ScenarioParts) → IsScenario s → (host b : ℕ) → Begins s host b (b + QUIET_FRAMES)
-    → HasTune s (b + QUIET_FRAMES) host (Host 0 (b + QUIET_FRAMES))
+-- it has its first round so many frames later, whatever is lost
+abbrev pub FirstRoundsCome : ℕ → Type 0
+FirstRoundsCome frames =
+    (s : ScenarioParts) → IsScenario s → (host b : ℕ) → Begins s host b (b + frames) → HasTune s (b + frames) host (Host 0 (b + frames))
 
 -- v boots in one of these frames, and is not switched off after that, up to the last of them
 pub record IsUpBy (s : ScenarioParts) (b e v : ℕ) : Type 0 where

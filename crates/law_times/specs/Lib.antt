@@ -5,4 +5,6 @@ pub mod FirstRounds
 pub mod Failovers
 pub mod Losses
 pub mod ContentionTurns
+pub mod Contentions
 pub mod Paces
+pub mod Queues

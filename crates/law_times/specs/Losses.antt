@@ -50,13 +50,13 @@ unfoldable pub scanned : ScenarioParts → ℕ → ℕ → ℕ → ℕ
 scanned s v f zero = 0
 scanned s v f (suc n) = scanned s v f n + (if is_on_and (λ c. is_scan c.tune) (state_at s (n + f) v) then 1 else 0)
 
--- of members each scans for at most GREATEST_GAP frames for each round with losses, as long as no more than three of these follow one
+-- of members each scans for at most so many frames for each round with losses, as long as no more than three of these follow one
 -- another; and after a round without losses they are members
-pub record CostsFew (s : ScenarioParts) (rank f host : ℕ) (among : List ℕ) (n : ℕ) : Type 0 where
-  pub few : (v : ℕ) → has among v ≡ true → v ≢ host → scanned s v f n ≤ GREATEST_GAP * lossy_rounds s rank host f n
+pub record CostsFew (frames : ℕ) (s : ScenarioParts) (rank f host : ℕ) (among : List ℕ) (n : ℕ) : Type 0 where
+  pub few : (v : ℕ) → has among v ≡ true → v ≢ host → scanned s v f n ≤ frames * lossy_rounds s rank host f n
   pub back : lossy_row s rank host f n ≡ 0 → AreMembers s rank (n + f) host among
 
-abbrev pub LossesCostFew : Type 0
-LossesCostFew =
+abbrev pub LossesCostFew : ℕ → Type 0
+LossesCostFew frames =
     (s : ScenarioParts) → IsScenario s → (rank host f e : ℕ) (among : List ℕ) → IsGroup s host f e among → AreMembers s rank f host among
-    → (n : ℕ) → n + f ≤ e → ((m : ℕ) → m ≤ n → lossy_row s rank host f m ≤ 3) → CostsFew s rank f host among n
+    → (n : ℕ) → n + f ≤ e → ((m : ℕ) → m ≤ n → lossy_row s rank host f m ≤ 3) → CostsFew frames s rank f host among n

@@ -1,7 +1,7 @@
 //! How long it takes until another host leads the network.
 
 ghost use Rattle.std.specs.Prelude.{◌≡◌, ◌≤◌};
-ghost use Rattle.law_times.specs.Failovers.{BackupsTakeOver, HostsWithin, NodesFollow, failover_bound};
+ghost use Rattle.law_times.specs.Failovers.{BackupsTakeOver, HostsWithin, NodesFollow, failover_bound, takeover_bound};
 
 use lwb_base::{GREATEST_GAP, QUIET_FRAMES, SEARCH_FRAMES};
 
@@ -17,10 +17,13 @@ pub fn failover_frames(hosts: u8) -> u32
         + u32::from(QUIET_FRAMES)
 }
 
-/// If of two hosts that of rank 0 is gone, and all others hold its round of frame d, the other host has its first round 18
-/// frames (`takeover_frames`) after that one, whatever is lost (`host`). If nothing is lost in its frame, all others within reach
-/// of it are members after it (`nodes`).
-pub fn backups_take_over()
-    ensures host { BackupsTakeOver }
-    ensures nodes { NodesFollow }
-{}
+/// The frames from the round that falls out to the first of the other host, where of two hosts that of rank 0 is gone and all others hold
+/// its round: whatever is lost (`host`). If nothing is lost in the frame of that round, all others within reach of it are members after
+/// it (`nodes`).
+pub fn takeover_frames() -> u8
+    ensures value { result ≡ takeover_bound }
+    ensures host { BackupsTakeOver result }
+    ensures nodes { NodesFollow result }
+{
+    1 + SEARCH_FRAMES + QUIET_FRAMES
+}

@@ -11,7 +11,7 @@ mod losses;
 mod paces;
 
 pub use contention_turns::{parting_rounds, six_never_part};
-pub use failovers::{backups_take_over, failover_frames};
-pub use first_rounds::{first_rounds_come, members_stay};
-pub use losses::losses_cost_few_frames;
+pub use failovers::{failover_frames, takeover_frames};
+pub use first_rounds::{first_round_frames, members_stay};
+pub use losses::lossy_round_frames;
 pub use paces::{latency_frames, owed_always_fits};

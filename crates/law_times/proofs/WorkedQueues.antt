@@ -1,0 +1,125 @@
+-- A stream with a slot in seventeen seconds, accepted in frame 5: the packet that waits at first in frame 6 is delivered in frame 13, the last
+-- that its bound allows.
+use Rattle.std.proofs.Common.{◌≡◌, ◌≢◌, ◌≤◌, ℕ, List, [], ◌∷◌, true, codes, refl, arith}
+use Rattle.std.specs.Str.{is_utf8, chars}
+use lib.Utf8.{encode}
+use Rattle.lwb_base.specs.Messages.{least_passing}
+use Rattle.lwb_base.specs.Profile.{one}
+use Rattle.scenario_text.specs.Network.{network_line}
+use Rattle.scenario_text.specs.ScenarioGrammar.{IsScenario, scenario_after_words, scenario_line}
+use Rattle.scenario_text.specs.ScenarioParts.{ScenarioParts}
+use Rattle.scenario_text.specs.ScriptGrammar.{script_line, step_line, put_line}
+use Rattle.text_readers.specs.Reading.{draft_after_line}
+use Rattle.bus_rules.specs.declared.act.Act.TheVariants.{On, Declare, Put}
+use Rattle.bus_rules.specs.declared.delivery.Delivery.{Delivery}
+use Rattle.bus_rules.specs.Granting.{plan_round}
+use Rattle.bus_rules.specs.HostPlans.{host_plan}
+use Rattle.bus_rules.specs.Streams.{schedule_heard}
+use Rattle.bus_rules.specs.Tables.{Entry}
+use Rattle.bus_terms.specs.Bus.{before_frame, bus_deliveries, state_at}
+use Rattle.bus_terms.specs.Distances.{walks}
+use Rattle.bus_terms.specs.Flooding.{has, moment}
+use Rattle.bus_terms.specs.FloodOfText.{ids}
+use Rattle.bus_terms.specs.Rounds.{before_slot}
+use Rattle.bus_terms.proofs.WorkedBuses.{node, link, at}
+use Rattle.law_service.proofs.ComputedCores.{core_of}
+use Rattle.law_times.specs.FirstRounds.{Begins, IsUpBy}
+use Rattle.law_times.specs.Paces.{HasEntry, HasSlowStreams, latency_bound}
+use Rattle.law_times.specs.Queues.{AwaitsSlot, IsDelivered, IsQueued, StreamPacket}
+use Rattle.law_times.specs.Reaches.{IsGroup, IsReached}
+use Rattle.law_times.specs.ScriptedPower.{StaysOn, power_before}
+use Rattle.law_times.specs.Tunes.{AreMembers}
+use Rattle.law_times.proofs.FirstRoundsOfHosts.{nodes_join}
+use Rattle.law_times.proofs.LatentPackets.{packets_come}
+use Rattle.law_times.proofs.WorkedPaces.{has_entry}
+use Rattle.law_times.proofs.WorkedTimes.{each_of_two}
+
+abbrev s : ScenarioParts
+s = record {
+  profile = one;
+  frames = 20;
+  sends = 1;
+  nodes = node 1 ∷ node 2 ∷ [];
+  rates = [];
+  hosts = 1 ∷ [];
+  trace = record { links = link 1 2 ∷ link 2 1 ∷ []; losses = []; cuts = []; captures = [] };
+  script = at 0 1 On ∷ at 0 2 On ∷ at 0 2 (Declare 0 17) ∷ at 0 2 (Put 0 (0xaa ∷ [])) ∷ [];
+}
+
+accepted : IsScenario s
+unfolding draft_after_line scenario_after_words scenario_line script_line step_line put_line network_line is_utf8 chars encode
+accepted = (codes "sends 1\nnode 1 0\nnode 2 0\nhost 0 1\npair 1 2\nframes 20\non 0 1\non 0 2\nstream 0 2 0 17\nput 0 2 0 aa\n", refl)
+
+slow : HasSlowStreams s
+slow = refl
+
+abbrev both : List ℕ
+both = 1 ∷ 2 ∷ []
+
+begins : (e : ℕ) → Begins s 1 0 e
+unfolding power_before
+begins e = record { first = refl; boots = record { boots = omega arith; on = refl }; stays = refl }
+
+reached : (u v : ℕ) → has both u ≡ true → has both v ≡ true → v ≢ u → IsReached s both u v
+unfolding walks
+reached u v first second other =
+    each_of_two (λ u. v ≢ u → IsReached s both u v) 1 2
+    (each_of_two (λ v. v ≢ 1 → IsReached s both 1 v) 1 2 (λ same. absurd (same refl)) (λ same. record { links = 1; few = omega arith; walk = refl }) v second)
+    (each_of_two (λ v. v ≢ 2 → IsReached s both 2 v) 1 2 (λ same. record { links = 1; few = omega arith; walk = refl }) (λ same. absurd (same refl)) v second)
+    u first other
+
+group : (b e : ℕ) → IsGroup s 1 b e both
+group b e = record {
+  led = refl;
+  known = each_of_two (λ v. has (ids s.nodes) v ≡ true) 1 2 refl refl;
+  stay = each_of_two (λ v. StaysOn s b e v) 1 2 refl refl;
+  reached = λ v there other. reached 1 v refl there other;
+}
+
+up : (v : ℕ) → has both v ≡ true → v ≢ 1 → IsUpBy s 0 5 v
+unfolding power_before
+up = each_of_two (λ v. v ≢ 1 → IsUpBy s 0 5 v) 1 2 (λ other. absurd (other refl))
+    (λ other. record { frame = 0; range = (omega arith, omega arith); boots = record { boots = omega arith; on = refl }; stays = refl })
+
+members : AreMembers s 0 6 1 both
+members =
+    nodes_join s accepted 1 0 6 (begins 6) both (group 5 6) up 6 (omega arith) (omega arith) (λ f low high. record { losses = refl; cuts = refl })
+
+abbrev packet : StreamPacket
+packet = record { node = 2; boot = 1; stream = 0; packet = record { seq = 0; payload = 0xaa ∷ [] } }
+
+waits : IsQueued (state_at s 6 2) packet 0
+unfolding before_frame before_slot moment schedule_heard host_plan plan_round least_passing
+waits = record { core = core_of (state_at s 6 2); on = refl; boot = refl; place = refl }
+
+awaits : AwaitsSlot s 0 1 6 13 both packet 0
+awaits = record {
+  ends = omega arith;
+  group = group 6 13;
+  members = members;
+  lossless = λ g low high. record { losses = refl; cuts = refl };
+  there = refl;
+  stream = omega arith;
+  queued = waits;
+  stays = refl;
+}
+
+abbrev entry : Entry
+entry = record { code = 8; boot = 1; interval = 17; accepted = 5; granted = 1; unheard = 0 }
+
+in_frame_10 : HasEntry s 1 10 13 entry
+unfolding before_frame before_slot moment schedule_heard host_plan plan_round least_passing
+in_frame_10 = has_entry s 1 10 0 13 entry refl refl
+
+bound : latency_bound 1 17 4 ≡ 7
+bound = refl
+
+arrives : (g : ℕ) × (6 ≤ g) × (g ≤ 13) × IsDelivered s 0 g both packet
+arrives = packets_come 1 17 4 s accepted slow refl 0 1 6 both packet 0 awaits (omega arith) 13 entry in_frame_10 refl refl (omega arith)
+
+abbrev in_frame_13 : Delivery
+in_frame_13 = record { frame = 13; rank = 0; slot = 1; node = 1; from = 2; boot = 1; stream = 0; seq = 0; payload = 0xaa ∷ [] }
+
+and_no_sooner : bus_deliveries s ≡ in_frame_13 ∷ []
+unfolding before_frame before_slot moment schedule_heard host_plan plan_round least_passing
+and_no_sooner = refl
