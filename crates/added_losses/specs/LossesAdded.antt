@@ -30,11 +30,11 @@ pub record IsWithLosses (s : ScenarioParts) (more : List LoseLine) (t : Scenario
 abbrev pub SaysWithLosses : ScenarioParts → List LoseLine → List ℕ → Type 0
 SaysWithLosses s more bytes = (t : ScenarioParts) × IsWithLosses s more t × (bytes ≡ canonical t) × (scenario_of bytes ≡ Ok t)
 
--- why there is no such text
+-- why there is no such text. That it is too big is said first, since no other lines would mend it
 abbrev pub text_fault : ScenarioParts → List LoseLine → Option FaultKind
 text_fault s more =
     first_fault
-    ((nat_le (script_lines s + length more) MOST_SCRIPT_LINES, TooMany) ∷ (nat_le (length s.nodes * s.frames) RUN_NODE_FRAMES, TooBig) ∷ [])
+    ((nat_le (length s.nodes * s.frames) RUN_NODE_FRAMES, TooBig) ∷ (nat_le (script_lines s + length more) MOST_SCRIPT_LINES, TooMany) ∷ [])
 
 -- one of these lines is l
 abbrev pub has_line : List LoseLine → LoseLine → Bool

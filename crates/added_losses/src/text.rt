@@ -12,9 +12,9 @@ use scenario_text::{FaultKind, RUN_NODE_FRAMES, Scenario, print};
 use std::alloc::Global;
 
 /// The canonical text of the scenario with these lose lines more in its trace, for a run with a log. The lines are in its ranges, and
-/// may be in any order. `TooMany` comes if and only if these lines and its script lines of all kinds are more than
-/// `MOST_SCRIPT_LINES` together. `TooBig` comes if and only if they are not, and its nodes times its frames are more than
-/// `RUN_NODE_FRAMES`. The only other error is out of memory.
+/// may be in any order. `TooBig` comes if and only if its nodes times its frames are more than `RUN_NODE_FRAMES`. `TooMany` comes
+/// if and only if they are not, and these lines and its script lines of all kinds are more than `MOST_SCRIPT_LINES` together. The
+/// only other error is out of memory.
 pub fn drawn_text(
     alloc: Global,
     s: &Scenario,
@@ -24,12 +24,12 @@ pub fn drawn_text(
     ensures text { IfOk result (λ r. IfOk r (λ text. SaysWithLosses s.now lines.now (string_bytes text))) }
     ensures fault { IfOk result (λ r. RefusesBy r (text_fault s.now lines.now)) }
 {
+    if !is_short(s) {
+        return Ok(Err(FaultKind::TooBig));
+    }
     let Some(t) = with_losses(alloc, s, lines)? else {
         return Ok(Err(FaultKind::TooMany));
     };
-    if !is_short(&t) {
-        return Ok(Err(FaultKind::TooBig));
-    }
     Ok(Ok(print(alloc, &t)?))
 }
 

@@ -191,16 +191,20 @@ collected s ratios seed = same_tests (losses_of_bus s (drawn_scenario s ratios s
         let step = and_parts (nat_lt l.slot SLOTS) (nat_lt l.step STEPS) frame.1 in
         in_bus s lines l.frame l.slot l.step l.from l.to (ltb-true l.frame s.frames frame.0) (ltb-true l.step STEPS step.1) there
 
+-- so lines that have them have the kept ones
+pub with_collected : (s : ScenarioParts) (ratios : List RatioLine) (seed : ℕ) (t : Lines)
+    → AddsLosses s.trace t (losses_of_bus s (drawn_scenario s ratios seed)) → AddsLosses s.trace t (kept_losses s ratios seed)
+with_collected s ratios seed t adds = record {
+  links_stay = adds.links_stay;
+  cuts_stay = adds.cuts_stay;
+  captures_stay = adds.captures_stay;
+  same_losses = λ test. adds.same_losses test ∙ list_any-append test s.trace.losses (losses_of_bus s (drawn_scenario s ratios seed))
+      ∙ ap (λ (b : Bool). list_any test s.trace.losses || b) (collected s ratios seed test)
+      ∙ sym (list_any-append test s.trace.losses (kept_losses s ratios seed));
+}
+
 -- which are enough
 pub collected_enough : (s : ScenarioParts) (ratios : List RatioLine) (seed : ℕ) (t : Lines) → 1 ≤ length s.hosts
     → AddsLosses s.trace t (losses_of_bus s (drawn_scenario s ratios seed)) → AreSameOnBus (over s t) (drawn_scenario s ratios seed)
 collected_enough s ratios seed t some_hosts adds =
-    kept_same_bus s some_hosts (drawn_losses s.trace.links ratios seed s.frames) t
-    (record {
-      links_stay = adds.links_stay;
-      cuts_stay = adds.cuts_stay;
-      captures_stay = adds.captures_stay;
-      same_losses = λ test. adds.same_losses test ∙ list_any-append test s.trace.losses (losses_of_bus s (drawn_scenario s ratios seed))
-          ∙ ap (λ (b : Bool). list_any test s.trace.losses || b) (collected s ratios seed test)
-          ∙ sym (list_any-append test s.trace.losses (kept_losses s ratios seed));
-    })
+    kept_same_bus s some_hosts (drawn_losses s.trace.links ratios seed s.frames) t (with_collected s ratios seed t adds)

@@ -22,6 +22,7 @@ use Rattle.bus_terms.proofs.ListsInTurn.{each_of_pieces}
 use Rattle.bus_terms.proofs.PlansOfRounds.{round_contends}
 use Rattle.drawn_bus.specs.FloodLosses.{is_lost_in, line_at, losses_of_bus, losses_of_flood, losses_of_round}
 use Rattle.drawn_bus.specs.KeptLosses.{flood_in_round, flood_over, receives_otherwise}
+use Rattle.drawn_bus.proofs.FewOwners.{few_owners}
 use Rattle.drawn_bus.proofs.LinesAmong.{each_chosen, each_in_range}
 
 -- a link that passes is there
@@ -84,22 +85,20 @@ module _ (s : ScenarioParts) (t : Lines) (sound : IsSoundScenario s) where
       (λ u. each_chosen IsFit (line_at f j k u) (is_lost_in s.trace f j x k u) (ids s.nodes)
       (λ v lost. lost_fits f j k u v x in_run in_frame (omega (arith, in_flood)) lost)) (ids s.nodes))
 
-  -- where each plan has few owners
-  module _ (owners : (rank f : ℕ) (p : Plan) → round_plan d rank f (state_at d f) ≡ Some p → length p.owners ≤ 40) where
-    round_fits : (rank f : ℕ) → f < s.frames → AllByRecursion IsFit (losses_of_round s d rank f)
-    round_fits rank f in_run = by_plan (round_plan d rank f (state_at d f)) refl
-      where
-        by_plan : (o : Option Plan) → round_plan d rank f (state_at d f) ≡ o
-            → AllByRecursion IsFit
-            (option_map_or (λ p. flat_map (λ j. losses_of_flood s.trace f j (ids s.nodes) (flood_in_round d rank f p j)) (slots_of p)) o [])
-        by_plan None is = tt
-        by_plan (Some p) is =
-            let last = plan_fits p s.profile.contend (round_contends d rank f p is) (few_named s.profile sound.profile) (owners rank f p is) in
-            each_in_range IsFit (λ j. losses_of_flood s.trace f j (ids s.nodes) (flood_in_round d rank f p j)) (last_slot p + 1) 0
-            (λ j slot. flood_fits f j (flood_in_round d rank f p j) in_run (omega (arith, slot, last)))
+  round_fits : (rank f : ℕ) → f < s.frames → AllByRecursion IsFit (losses_of_round s d rank f)
+  round_fits rank f in_run = by_plan (round_plan d rank f (state_at d f)) refl
+    where
+      by_plan : (o : Option Plan) → round_plan d rank f (state_at d f) ≡ o
+          → AllByRecursion IsFit
+          (option_map_or (λ p. flat_map (λ j. losses_of_flood s.trace f j (ids s.nodes) (flood_in_round d rank f p j)) (slots_of p)) o [])
+      by_plan None is = tt
+      by_plan (Some p) is =
+          let last = plan_fits p s.profile.contend (round_contends d rank f p is) (few_named s.profile sound.profile) (few_owners d rank f p is) in
+          each_in_range IsFit (λ j. losses_of_flood s.trace f j (ids s.nodes) (flood_in_round d rank f p j)) (last_slot p + 1) 0
+          (λ j slot. flood_fits f j (flood_in_round d rank f p j) in_run (omega (arith, slot, last)))
 
-    pub bus_fits : All IsFit (losses_of_bus s d)
-    bus_fits =
-        All-from_recursion IsFit (losses_of_bus s d)
-        (each_in_range IsFit (λ f. flat_map (λ rank. losses_of_round s d rank f) (ranks_of s)) s.frames 0
-        (λ f in_run. each_of_pieces IsFit (λ rank. losses_of_round s d rank f) (λ rank. round_fits rank f (omega (arith, in_run))) (ranks_of s)))
+  pub bus_fits : All IsFit (losses_of_bus s d)
+  bus_fits =
+      All-from_recursion IsFit (losses_of_bus s d)
+      (each_in_range IsFit (λ f. flat_map (λ rank. losses_of_round s d rank f) (ranks_of s)) s.frames 0
+      (λ f in_run. each_of_pieces IsFit (λ rank. losses_of_round s d rank f) (λ rank. round_fits rank f (omega (arith, in_run))) (ranks_of s)))

@@ -1,17 +1,13 @@
 //! The bus over losses that are drawn, and over those of them that are kept: each law a function that does nothing and has the
 //! law as its contract.
 
-ghost use Rattle.std.specs.Prelude.{◌≡◌, ◌≢◌, ◌≤◌, ◌==◌, ℕ, List, Bool, true, false, length, filter, All, Some};
+ghost use Rattle.std.specs.Prelude.{◌≡◌, ◌≢◌, ◌≤◌, ◌==◌, ℕ, List, Bool, true, false, length, filter, All};
 ghost use Rattle.std.specs.List.{AllPairs, list_all, list_any};
-ghost use Rattle.lwb_base.specs.Messages.{Plan};
-ghost use Rattle.lwb_base.specs.declared.limits.TheConstants.{DATA_SLOTS};
 ghost use Rattle.link_trace.specs.declared.lines.LoseLine.{LoseLine};
 ghost use Rattle.link_trace.specs.Passes.{Lines, captured, is_link, is_loss, passes};
 ghost use Rattle.scenario_text.specs.ScenarioFacts.{AreEnds, IsSoundScenario, IsStepOf};
 ghost use Rattle.scenario_text.specs.ScenarioParts.{ScenarioParts};
-ghost use Rattle.bus_terms.specs.Bus.{state_at};
 ghost use Rattle.bus_terms.specs.OverLines.{over};
-ghost use Rattle.bus_terms.specs.Rounds.{round_plan};
 ghost use Rattle.drawn_links.specs.Ratios.{ratio_in};
 ghost use Rattle.drawn_links.specs.declared.ratio_line.RatioLine.{RatioLine};
 ghost use Rattle.drawn_bus.specs.DrawnScenarios.{AreSameOnBus, drawn_scenario};
@@ -41,10 +37,9 @@ pub fn floods_have_the_kept_losses()
 {}
 
 /// Each of them is a line that the scenario may have, over whatever lines its bus runs: its frame, slot and step are in range, and
-/// it is of a link. That a plan has at most `DATA_SLOTS` owners, as each plan of the code has, is asked of the rounds.
+/// it is of a link.
 pub fn losses_of_floods_are_in_range()
     ensures { (s : ScenarioParts) (t : Lines) → IsSoundScenario s
-        → ((rank f : ℕ) (p : Plan) → round_plan (over s t) rank f (state_at (over s t) f) ≡ Some p → length p.owners ≤ DATA_SLOTS)
         → All (λ l. IsStepOf s l.frame l.slot l.step × AreEnds s.nodes l.from l.to) (losses_of_bus s (over s t)) }
 {}
 
