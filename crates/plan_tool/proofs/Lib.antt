@@ -1,2 +1,5 @@
 mod PlanWords
+mod DrawnLosses
 mod Due
+mod FewDeliveries
+mod SeedsInTurn

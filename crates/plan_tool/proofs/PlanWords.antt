@@ -1,11 +1,12 @@
--- A command line of a word and a seed.
-use Rattle.std.proofs.Common.{◌≡◌, ℕ, ◌<◌, ◌^◌, List, [], ◌∷◌, Option, Some, length, map, get_or, ◌↔◌, String, string_bytes, codes}
-use Rattle.std.proofs.Common.{decimal, refl, sym, ◌∙◌, ap, subst, arith}
+-- A command line of a word and its numbers.
+use Rattle.std.proofs.Common.{◌≡◌, ℕ, ◌<◌, ◌^◌, List, [], ◌∷◌, Option, Some, None, length, map, get_or, ◌↔◌, String, string_bytes, codes}
+use Rattle.std.proofs.Common.{decimal, refl, sym, ◌∙◌, ap, arith}
 use Rattle.std.specs.declared.alloc.Global.{Global}
 use Rattle.std.proofs.lemmas.Fmt.{decimal_injective}
-use Rattle.plan_tool.specs.Commands.{Spell}
+use Rattle.std.proofs.lemmas.List.{length-map}
+use Rattle.plan_tool.specs.Commands.{Asks, IsSampled, IsSeeded, Spell}
 use Rattle.plan_tool.specs.declared.command.Command.{Command}
-use Rattle.plan_tool.specs.declared.command.Command.TheVariants.{Outcome}
+use Rattle.plan_tool.specs.declared.command.Command.TheVariants.{Draw, Fates, Outcome, Sample}
 
 -- a command line of two words
 pub two_words : (words : List (String Global)) (w a : String Global) → length words ≡ 2 → w ≡ get_or words 0 w → a ≡ get_or words 1 a
@@ -15,18 +16,107 @@ two_words (p ∷ []) w a two at_w at_a = absurd (omega arith)
 two_words (p ∷ q ∷ []) w a two at_w at_a = rw (at_w, at_a) refl
 two_words (p ∷ q ∷ x ∷ words) w a two at_w at_a = absurd (omega arith)
 
+-- and of three
+pub three_words : (words : List (String Global)) (w a b : String Global) → length words ≡ 3 → w ≡ get_or words 0 w → a ≡ get_or words 1 a → b ≡ get_or words 2 b
+    → map string_bytes words ≡ string_bytes w ∷ string_bytes a ∷ string_bytes b ∷ []
+three_words [] w a b three at_w at_a at_b = absurd (omega arith)
+three_words (p ∷ []) w a b three at_w at_a at_b = absurd (omega arith)
+three_words (p ∷ q ∷ []) w a b three at_w at_a at_b = absurd (omega arith)
+three_words (p ∷ q ∷ r ∷ []) w a b three at_w at_a at_b = rw (at_w, at_a, at_b) refl
+three_words (p ∷ q ∷ r ∷ x ∷ words) w a b three at_w at_a at_b = absurd (omega arith)
+
 pub two_same : {w x a y : List ℕ} → w ≡ x → a ≡ y → w ∷ a ∷ [] ≡ x ∷ y ∷ []
 two_same p q = rw (p, q) refl
 
-one_command : (x c : Command) → ◌≡◌ {A = Option Command} (Some x) (Some c) → x ≡ c
-one_command x c same = cc
+pub three_same : {w x a y b z : List ℕ} → w ≡ x → a ≡ y → b ≡ z → w ∷ a ∷ b ∷ [] ≡ x ∷ y ∷ z ∷ []
+three_same p q r = rw (p, q, r) refl
 
--- words of this form ask for the outcome of just this seed
-module _ (ws : List (List ℕ)) (seed : ℕ) (spells : ws ≡ codes "outcome" ∷ decimal seed ∷ []) (few : seed < 10 ^ 13) where
-  asked_for : (c : Command) → Spell ws c → ◌≡◌ {A = Option Command} (Some (Outcome seed)) (Some c)
-  asked_for (Outcome other) (words, few_too) =
-      let same : decimal seed ≡ decimal other = sym (ap (λ (l : List (List ℕ)). get_or l 1 []) spells) ∙ ap (λ (l : List (List ℕ)). get_or l 1 []) words in
-      ap (λ (n : ℕ). Some (Outcome n)) (decimal_injective seed other (omega arith) (omega arith) same)
+-- the number that a word spells, if it does
+abbrev pub IsNumberOf : List ℕ → Option ℕ → Type 0
+IsNumberOf word found = (n : ℕ) → (found ≡ Some n) ↔ ((word ≡ decimal n) × (n < 10 ^ 13))
 
-  pub outcome_asked : (c : Command) → ◌≡◌ {A = Option Command} (Some (Outcome seed)) (Some c) ↔ Spell ws c
-  outcome_asked c = (λ got. subst (λ (d : Command). Spell ws d) (one_command (Outcome seed) c got) (spells, few), λ asked. asked_for c asked)
+no_number : (word : List ℕ) (found : Option ℕ) → found ≡ None → IsNumberOf word found → (n : ℕ) → word ≡ decimal n → n < 10 ^ 13 → ⊥
+no_number word found none is n spells few = let some = sym none ∙ (is n).1 (spells, few) in absurd (cc)
+
+module _ (word seed : List ℕ) (found : Option ℕ) (none : found ≡ None) (is : IsNumberOf seed found) where
+  pub no_seed : (c : Command) → Spell (word ∷ seed ∷ []) c → ⊥
+  no_seed (Draw n) asks = no_number seed found none is n (ap (λ (l : List (List ℕ)). get_or l 1 []) asks.0) asks.1
+  no_seed (Outcome n) asks = no_number seed found none is n (ap (λ (l : List (List ℕ)). get_or l 1 []) asks.0) asks.1
+  no_seed (Fates n) asks = no_number seed found none is n (ap (λ (l : List (List ℕ)). get_or l 1 []) asks.0) asks.1
+  no_seed (Sample f n) asks = omega (arith, ap length asks.0)
+
+  pub no_first : (count : List ℕ) (c : Command) → Spell (word ∷ seed ∷ count ∷ []) c → ⊥
+  no_first count (Draw n) asks = omega (arith, ap length asks.0)
+  no_first count (Outcome n) asks = omega (arith, ap length asks.0)
+  no_first count (Fates n) asks = omega (arith, ap length asks.0)
+  no_first count (Sample f n) asks = no_number seed found none is f (ap (λ (l : List (List ℕ)). get_or l 1 []) asks.0) asks.1
+
+  pub no_second : (from : List ℕ) (c : Command) → Spell (word ∷ from ∷ seed ∷ []) c → ⊥
+  no_second from (Draw n) asks = omega (arith, ap length asks.0)
+  no_second from (Outcome n) asks = omega (arith, ap length asks.0)
+  no_second from (Fates n) asks = omega (arith, ap length asks.0)
+  no_second from (Sample f n) asks = no_number seed found none is n (ap (λ (l : List (List ℕ)). get_or l 2 []) asks.0) asks.2
+
+-- neither two words nor three
+pub no_command : (words : List (String Global)) → (length words ≡ 2 → ⊥) → (length words ≡ 3 → ⊥) → (c : Command) → Asks words c → ⊥
+no_command words two three (Draw n) asks = two (omega (arith, ap length asks.0, length-map words string_bytes))
+no_command words two three (Outcome n) asks = two (omega (arith, ap length asks.0, length-map words string_bytes))
+no_command words two three (Fates n) asks = two (omega (arith, ap length asks.0, length-map words string_bytes))
+no_command words two three (Sample f n) asks = three (omega (arith, ap length asks.0, length-map words string_bytes))
+
+-- a word and a seed ask for the command of the word with that seed
+module _ (ws : List (List ℕ)) (word : List ℕ) (seed : ℕ) (found : Option Command) (spells : ws ≡ word ∷ decimal seed ∷ []) (few : seed < 10 ^ 13)
+    (is : (c : Command) → (found ≡ Some c) ↔ IsSeeded word seed c) where
+  spelled : (first : List ℕ) (n : ℕ) → word ≡ first → n ≡ seed → (ws ≡ first ∷ decimal n ∷ []) × (n < 10 ^ 13)
+  spelled first n same number = (spells ∙ two_same same (ap decimal (sym number)), omega (arith, few, number))
+
+  seeded : (first : List ℕ) (n : ℕ) → ws ≡ first ∷ decimal n ∷ [] → n < 10 ^ 13 → (word ≡ first) × (n ≡ seed)
+  seeded first n words few_too =
+      let same : decimal seed ≡ decimal n = sym (ap (λ (l : List (List ℕ)). get_or l 1 []) spells) ∙ ap (λ (l : List (List ℕ)). get_or l 1 []) words in (
+        sym (ap (λ (l : List (List ℕ)). get_or l 0 []) spells) ∙ ap (λ (l : List (List ℕ)). get_or l 0 []) words,
+        sym (decimal_injective seed n (omega arith) (omega arith) same),
+      )
+
+  to_spell : (c : Command) → IsSeeded word seed c → Spell ws c
+  to_spell (Draw n) of = spelled (codes "draw") n of.0 of.1
+  to_spell (Outcome n) of = spelled (codes "outcome") n of.0 of.1
+  to_spell (Fates n) of = spelled (codes "fates") n of.0 of.1
+  to_spell (Sample f n) of = absurd of
+
+  from_spell : (c : Command) → Spell ws c → IsSeeded word seed c
+  from_spell (Draw n) asks = seeded (codes "draw") n asks.0 asks.1
+  from_spell (Outcome n) asks = seeded (codes "outcome") n asks.0 asks.1
+  from_spell (Fates n) asks = seeded (codes "fates") n asks.0 asks.1
+  from_spell (Sample f n) asks = absurd (omega (arith, ap length (sym spells ∙ asks.0)))
+
+  pub seeded_asked : (c : Command) → (found ≡ Some c) ↔ Spell ws c
+  seeded_asked c = (λ got. to_spell c ((is c).0 got), λ asks. (is c).1 (from_spell c asks))
+
+-- a word and two numbers ask for the command of the word with these
+module _ (ws : List (List ℕ)) (word : List ℕ) (from count : ℕ) (found : Option Command) (spells : ws ≡ word ∷ decimal from ∷ decimal count ∷ [])
+    (few : from < 10 ^ 13) (fewer : count < 10 ^ 13) (is : (c : Command) → (found ≡ Some c) ↔ IsSampled word from count c) where
+  sampled_spell : (c : Command) → IsSampled word from count c → Spell ws c
+  sampled_spell (Draw n) of = absurd of
+  sampled_spell (Outcome n) of = absurd of
+  sampled_spell (Fates n) of = absurd of
+  sampled_spell (Sample f n) of = (
+    spells ∙ three_same of.0 (ap decimal (sym of.1)) (ap decimal (sym of.2)),
+    omega (arith, few, of.1),
+    omega (arith, fewer, of.2),
+  )
+
+  spell_sampled : (c : Command) → Spell ws c → IsSampled word from count c
+  spell_sampled (Draw n) asks = absurd (omega (arith, ap length (sym spells ∙ asks.0)))
+  spell_sampled (Outcome n) asks = absurd (omega (arith, ap length (sym spells ∙ asks.0)))
+  spell_sampled (Fates n) asks = absurd (omega (arith, ap length (sym spells ∙ asks.0)))
+  spell_sampled (Sample f n) asks =
+      let same = sym spells ∙ asks.0 in
+      let fits = asks.1 in
+      let fits_too = asks.2 in (
+        ap (λ (l : List (List ℕ)). get_or l 0 []) same,
+        sym (decimal_injective from f (omega (arith, few)) (omega (arith, fits)) (ap (λ (l : List (List ℕ)). get_or l 1 []) same)),
+        sym (decimal_injective count n (omega (arith, fewer)) (omega (arith, fits_too)) (ap (λ (l : List (List ℕ)). get_or l 2 []) same)),
+      )
+
+  pub sampled_asked : (c : Command) → (found ≡ Some c) ↔ Spell ws c
+  sampled_asked c = (λ got. sampled_spell c ((is c).0 got), λ asks. (is c).1 (spell_sampled c asks))

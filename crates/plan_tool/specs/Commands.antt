@@ -4,12 +4,28 @@ use Rattle.std.specs.declared.alloc.Global.{Global}
 use Rattle.std.specs.Result.{result_err}
 use Rattle.text_readers.specs.declared.fault.FaultKind.{FaultKind}
 use Rattle.network_text.specs.NetworkGrammar.{network_of}
+use Rattle.plan_tool.specs.DrawnTexts.{draw_fault}
 use Rattle.plan_tool.specs.declared.command.Command.{Command}
-use Rattle.plan_tool.specs.declared.command.Command.TheVariants.{Outcome}
+use Rattle.plan_tool.specs.declared.command.Command.TheVariants.{Draw, Fates, Outcome, Sample}
 
--- words of these bytes ask for this command. A seed has at most 13 digits
+-- words of these bytes ask for this command. A number has at most 13 digits
 abbrev pub Spell : List (List ℕ) → Command → Type 0
+Spell words (Draw seed) = (words ≡ codes "draw" ∷ decimal seed ∷ []) × (seed < 10 ^ 13)
 Spell words (Outcome seed) = (words ≡ codes "outcome" ∷ decimal seed ∷ []) × (seed < 10 ^ 13)
+Spell words (Fates seed) = (words ≡ codes "fates" ∷ decimal seed ∷ []) × (seed < 10 ^ 13)
+Spell words (Sample from count) = (words ≡ codes "sample" ∷ decimal from ∷ decimal count ∷ []) × (from < 10 ^ 13) × (count < 10 ^ 13)
+
+-- Internal: it is that of this word, with this seed
+abbrev pub IsSeeded : List ℕ → ℕ → Command → Type 0
+IsSeeded word seed (Draw n) = (word ≡ codes "draw") × (n ≡ seed)
+IsSeeded word seed (Outcome n) = (word ≡ codes "outcome") × (n ≡ seed)
+IsSeeded word seed (Fates n) = (word ≡ codes "fates") × (n ≡ seed)
+IsSeeded word seed (Sample from count) = ⊥
+
+-- Internal: it is that of this word, with these seeds
+abbrev pub IsSampled : List ℕ → ℕ → ℕ → Command → Type 0
+IsSampled word from count (Sample f n) = (word ≡ codes "sample") × (f ≡ from) × (n ≡ count)
+IsSampled word from count other = ⊥
 
 abbrev pub Asks : List (String Global) → Command → Type 0
 Asks words c = Spell (map string_bytes words) c
@@ -20,7 +36,10 @@ IsCommand words = (c : Command) × Asks words c
 
 -- the first fault of the bytes that it reads, by its grammar
 abbrev pub fault_of : Command → List ℕ → Option (ℕ × FaultKind)
+fault_of (Draw seed) b = draw_fault seed b (network_of b)
 fault_of (Outcome seed) b = result_err (network_of b)
+fault_of (Fates seed) b = result_err (network_of b)
+fault_of (Sample from count) b = result_err (network_of b)
 
 abbrev pub IsTextOf : Command → List ℕ → Type 0
 IsTextOf c b = fault_of c b ≡ None
@@ -29,4 +48,4 @@ abbrev pub HasFault : Command → List ℕ → ℕ → FaultKind → Type 0
 HasFault c b n k = fault_of c b ≡ Some (n, k)
 
 abbrev pub usage : List ℕ
-usage = codes "usage: outcome SEED\n"
+usage = codes "usage: draw SEED | outcome SEED | fates SEED | sample FROM COUNT\n"

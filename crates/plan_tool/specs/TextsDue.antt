@@ -1,14 +1,17 @@
 -- The text that is due, by the words and by what was read.
-use Rattle.std.specs.Prelude.{◌≡◌, ◌<◌, ◌≤◌, ◌⊎◌, ℕ, List, true, length, Option, String, string_bytes}
+use Rattle.std.specs.Prelude.{◌≡◌, ◌<◌, ◌≤◌, ◌⊎◌, ℕ, List, true, length, map, Ok, Option, String, string_bytes}
 use Rattle.std.specs.declared.alloc.Global.{Global}
 use Rattle.lwb_base.specs.declared.read.TheConstants.{INPUT_LIMIT}
 use Rattle.text_readers.specs.declared.fault.FaultKind.{FaultKind}
+use Rattle.scenario_text.specs.FloodParts.{node_id}
+use Rattle.network_text.specs.NetworkGrammar.{network_of}
 use Rattle.command_line.specs.Streams.{IsRead, TooMuchRead, fault_line, too_long}
 use Rattle.plan_tool.specs.Commands.{Asks, IsCommand, IsTextOf, HasFault, usage}
 use Rattle.plan_tool.specs.Reports.{IsReport}
 use Rattle.plan_tool.specs.declared.answer.Answer.{Answer}
-use Rattle.plan_tool.specs.declared.answer.Answer.TheVariants.{Report, Fault}
+use Rattle.plan_tool.specs.declared.answer.Answer.TheVariants.{Report, Fault, Seeds}
 use Rattle.plan_tool.specs.declared.command.Command.{Command}
+use Rattle.plan_tool.specs.declared.command.Command.TheVariants.{Sample}
 
 -- the line that names the first fault of these bytes
 pub record IsFaultLine (c : Command) (b text : List ℕ) : Type 0 where
@@ -34,6 +37,10 @@ UsageDue words text = (IsCommand words → ⊥) × (text ≡ usage)
 abbrev pub SomeDue : List (String Global) → Option (List ℕ) → Option (List ℕ) → List ℕ → Type 0
 SomeDue words old new text = ReportDue words old new text ⊎ (FaultDue words old new text ⊎ UsageDue words text)
 
+-- the words ask for a sample
+abbrev pub IsSample : List (String Global) → Type 0
+IsSample words = (from : ℕ) × (count : ℕ) × Asks words (Sample from count)
+
 -- where b is the input and nothing failed, the status is the one that is due for this command, or out of memory
 pub record IsComplete (c : Command) (b : List ℕ) (status : ℕ) : Type 0 where
   pub accepted : IsTextOf c b → length b ≤ INPUT_LIMIT → (status ≡ 0) ⊎ (status ≡ 5)
@@ -44,3 +51,4 @@ pub record IsComplete (c : Command) (b : List ℕ) (status : ℕ) : Type 0 where
 abbrev pub Answers : Command → List ℕ → Answer → Type 0
 Answers c b (Report text) = IsReport c b (string_bytes text)
 Answers c b (Fault text) = IsFaultLine c b (string_bytes text)
+Answers c b (Seeds x) = (c ≡ Sample x.from x.count) × (network_of b ≡ Ok (x.scenario, x.ratios.lines)) × (x.ratios.nodes ≡ map node_id x.scenario.nodes)

@@ -5,6 +5,7 @@ ghost use Rattle.plan_tool.specs.Commands.{HasFault};
 ghost use Rattle.plan_tool.specs.TextsDue.{Answers};
 ghost use Rattle.plan_tool.specs.declared.command.Command.{Command as CommandOf};
 
+use crate::sampled_network::SampledNetwork;
 use command_line::fault_line;
 use lwb_base::Memory;
 use std::alloc::Global;
@@ -15,6 +16,8 @@ use text_readers::FaultKind;
 pub enum Answer {
     Report(String),
     Fault(String),
+    /// The texts of seeds, which are written one after another.
+    Seeds(SampledNetwork),
 }
 
 /// The answer to a text whose first fault is of this kind and in this line.

@@ -1,39 +1,72 @@
 //! The commands, by the words that ask for them.
 
-ghost use Rattle.std.specs.Prelude.{◌≡◌, ◌↔◌, Some};
-ghost use Rattle.plan_tool.specs.Commands.{Asks};
+ghost use Rattle.std.specs.Prelude.{◌≡◌, ◌↔◌, [], ◌∷◌, Some};
+ghost use Rattle.plan_tool.specs.Commands.{Asks, IsSampled, IsSeeded, Spell};
 ghost use Rattle.plan_tool.specs.declared.command.Command.{Command as CommandOf};
-ghost use Rattle.plan_tool.specs.declared.command.Command.TheVariants as asked;
 
 use command_line::number;
 
 /// What the words of the command line can ask for.
 #[derive(Clone, Copy)]
 pub enum Command {
+    /// The scenario with those losses of the seed that change what somebody receives, as a text for a run.
+    Draw { seed: u64 },
     /// What a network gives on the ideal single-hop bus, with the losses that the seed draws.
     Outcome { seed: u64 },
+    /// What became of each packet that the script puts, on that bus with those losses.
+    Fates { seed: u64 },
+    /// What became of the packets for each of so many seeds, from one on.
+    Sample { from: u64, count: u64 },
 }
 
-impl Command {
-    /// Its seed.
-    pub fn seed(self) -> u64
-        ensures { self ≡ asked.Outcome result }
-    {
-        let Command::Outcome { seed } = self;
-        seed
-    }
-}
-
-/// The command that the words ask for: its word and a seed, and nothing after it.
+/// The command that the words ask for: its word and its numbers, and nothing after them.
 pub fn command_of(words: &[String]) -> Option<Command>
     ensures { (c : CommandOf) → (result ≡ Some c) ↔ Asks words.now c }
 {
-    let [word, seed] = words else {
-        return None;
-    };
-    if word.as_str() != "outcome" {
-        return None;
+    match words {
+        [word, seed] => seeded_by(word.as_str(), seed.as_str()),
+        [word, from, count] => sampled_by(word.as_str(), from.as_str(), count.as_str()),
+        _ => None,
     }
-    let seed = number(seed.as_str())?;
-    Some(Command::Outcome { seed })
+}
+
+fn seeded_by(word: &str, seed: &str) -> Option<Command>
+    ensures { (c : CommandOf) → (result ≡ Some c) ↔ Spell (word.now ∷ seed.now ∷ []) c }
+{
+    let seed = number(seed)?;
+    seeded(word, seed)
+}
+
+fn sampled_by(word: &str, from: &str, count: &str) -> Option<Command>
+    ensures { (c : CommandOf) → (result ≡ Some c) ↔ Spell (word.now ∷ from.now ∷ count.now ∷ []) c }
+{
+    let from = number(from)?;
+    let count = number(count)?;
+    sampled(word, from, count)
+}
+
+// The command of this word, with this seed.
+fn seeded(word: &str, seed: u64) -> Option<Command>
+    ensures { (c : CommandOf) → (result ≡ Some c) ↔ IsSeeded word.now seed c }
+{
+    if word == "draw" {
+        Some(Command::Draw { seed })
+    } else if word == "outcome" {
+        Some(Command::Outcome { seed })
+    } else if word == "fates" {
+        Some(Command::Fates { seed })
+    } else {
+        None
+    }
+}
+
+// And with these seeds.
+fn sampled(word: &str, from: u64, count: u64) -> Option<Command>
+    ensures { (c : CommandOf) → (result ≡ Some c) ↔ IsSampled word.now from count c }
+{
+    if word == "sample" {
+        Some(Command::Sample { from, count })
+    } else {
+        None
+    }
 }

@@ -3,7 +3,18 @@
 
 mod answer;
 mod command;
+mod draw_answer;
+mod drawn_run;
+mod fates_answer;
+mod laws;
+mod line_count;
 mod outcome_answer;
 mod plan_top_call;
+mod run_fates;
+mod sample_answer;
+mod sampled_network;
+mod seed_text;
+mod seeds_call;
 
+pub use laws::seeds_can_be_dealt_out;
 pub use plan_top_call::plan_top;

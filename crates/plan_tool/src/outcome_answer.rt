@@ -8,9 +8,9 @@ ghost use Rattle.plan_tool.specs.TextsDue.{Answers};
 ghost use Rattle.plan_tool.specs.declared.command.Command.TheVariants as asked;
 
 use crate::answer::{Answer, fault_answer};
-use bus_model::Bus;
+use crate::drawn_run::drawn_run;
 use bus_report::{report_lines, write_costs};
-use drawn_links::{DrawnLinks, Ratios};
+use drawn_links::Ratios;
 use lwb_base::Memory;
 use network_text::parse_network;
 use scenario_text::Scenario;
@@ -43,8 +43,7 @@ fn outcome_report(
     requires { ratios.now.nodes ≡ map node_id scenario.now.nodes }
     ensures { IfOk result (λ text. string_bytes text ≡ bus_report (drawn_scenario scenario.now ratios.now.lines seed)) }
 {
-    let links = DrawnLinks::new(scenario.trace(), ratios, seed, scenario.frames());
-    let bus = Bus::run_over(alloc, scenario, &links)?;
+    let bus = drawn_run(alloc, scenario, ratios, seed)?;
     let mut report = report_lines(alloc, bus.deliveries(), bus.drops())?;
     write_costs(&mut report, scenario.nodes(), &bus)?;
     Ok(report)

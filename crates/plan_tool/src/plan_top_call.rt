@@ -1,26 +1,36 @@
 //! The call `plan_top`: from words and input to the text that is written.
 
-ghost use Rattle.std.specs.Prelude.{◌≡◌, ◌≤◌, ℕ, List, Some};
+ghost use Rattle.std.specs.Prelude.{◌≡◌, ◌⊎◌, ◌≤◌, ◌<◌, ◌^◌, ℕ, List, Some, IfOk, length};
 ghost use Rattle.lwb_base.specs.Causes.{Rose};
 ghost use Rattle.command_line.specs.Streams.{PartRead, Written, PartWritten};
 ghost use Rattle.plan_tool.specs.Commands.{Asks, IsCommand};
-ghost use Rattle.plan_tool.specs.TextsDue.{ReportDue, FaultDue, UsageDue, SomeDue, IsComplete};
+ghost use Rattle.plan_tool.specs.TextsDue.{Answers, ReportDue, FaultDue, UsageDue, SomeDue, IsComplete, IsSample};
 ghost use Rattle.plan_tool.specs.declared.command.Command.{Command as CommandOf};
 
 use crate::answer::Answer;
-use crate::command::command_of;
+use crate::command::{Command, command_of};
+use crate::draw_answer::draw_answer;
+use crate::fates_answer::fates_answer;
 use crate::outcome_answer::outcome_answer;
+use crate::sample_answer::sample_answer;
+use crate::seeds_call::write_seeds;
 use command_line::{TOO_LONG, input, say};
 use lwb_base::{Memory, ReadStop, Sink, Source};
 use std::alloc::Global;
 
-const USAGE: &[u8; 20] = b"usage: outcome SEED\n";
+const USAGE: &[u8; 65] = b"usage: draw SEED | outcome SEED | fates SEED | sample FROM COUNT\n";
 
 /// Does what the words of the command line ask for: it reads the source to its end, and writes the text that is due. The words
 /// do not contain the program's name. Returns the status. 0: the whole text was written. 1: the input was rejected. 2: the words
 /// are no command. 3: the source failed. 4: the sink failed. 5: out of memory.
 ///
-/// With status 0 the text of `outcome` is the bus report of the scenario with the losses that the seed draws (`IsReport`).
+/// With status 0 the text of `draw` is a scenario that a run accepts, whose deliveries, drops and costs on the bus are those of the
+/// scenario with all losses that the seed draws (`IsDrawnText`). So `run` of it delivers and drops these (`top` of `replay_tool`,
+/// clause `report`: `AgreesWithBus`). The text of `outcome` is the bus report of the scenario with all these losses, and that of
+/// `fates` says what became of each packet that it puts. `sample` writes the texts of its seeds one after another, and needs memory for one at a
+/// time (`IsReport`).
+/// With status 1 the line names the first fault by the grammar of networks, or, of `draw`, the line after the last where there is no
+/// such text: `TooBig` for more nodes times frames than a run takes, else `TooMany` for more lines than a scenario has.
 pub fn plan_top<S: Source, K: Sink>(
     alloc: Global,
     words: &[String],
@@ -34,12 +44,15 @@ pub fn plan_top<S: Source, K: Sink>(
         → Written (K.held sink.old) (K.held sink.new) (FaultDue words.now (S.left source.old) (S.left source.new)) }
     ensures usage { result ≡ 2 → Written (K.held sink.old) (K.held sink.new) (UsageDue words.now) }
 
-    // A source that failed, a sink that failed, and out of memory. What was taken before is gone from the source, and no more is.
+    // A source that failed, a sink that failed, and out of memory. What was taken before is gone from the source, and no more is. Only
+    // a sample may have written a part of its report before the memory ran out.
     ensures read_fault { result ≡ 3 → IsCommand words.now × Rose (S.faults source.old) (S.faults source.new)
         × PartRead (S.left source.old) (S.left source.new) × (sink.new ≡ sink.old) }
     ensures write_fault { result ≡ 4 → Rose (K.faults sink.old) (K.faults sink.new)
         × PartWritten (K.held sink.old) (K.held sink.new) (SomeDue words.now (S.left source.old) (S.left source.new)) }
-    ensures memory { result ≡ 5 → IsCommand words.now × PartRead (S.left source.old) (S.left source.new) × (sink.new ≡ sink.old) }
+    ensures memory { result ≡ 5 → IsCommand words.now × PartRead (S.left source.old) (S.left source.new)
+        × ((sink.new ≡ sink.old) ⊎ (IsSample words.now
+        × PartWritten (K.held sink.old) (K.held sink.new) (ReportDue words.now (S.left source.old) (S.left source.new)))) }
 
     // The counts of faults never fall, and for words that ask for no command the source stays as it was.
     ensures source_later { S.faults source.old ≤ S.faults source.new }
@@ -59,9 +72,23 @@ pub fn plan_top<S: Source, K: Sink>(
         Err(ReadStop::TooLong) => return say(sink, TOO_LONG, 1),
         Err(ReadStop::Memory) => return 5,
     };
-    match outcome_answer(alloc, command.seed(), &bytes) {
+    match answer(alloc, command, &bytes) {
         Ok(Answer::Report(text)) => say(sink, text.as_bytes(), 0),
         Ok(Answer::Fault(text)) => say(sink, text.as_bytes(), 1),
+        Ok(Answer::Seeds(network)) => write_seeds(alloc, &network, sink),
         Err(Memory) => 5,
+    }
+}
+
+// What the command has to write of these bytes.
+fn answer(alloc: Global, command: Command, bytes: &[u8]) -> Result<Answer, Memory>
+    requires { length bytes.now < 2 ^ 31 }
+    ensures { IfOk result (λ a. Answers command bytes.now a) }
+{
+    match command {
+        Command::Draw { seed } => draw_answer(alloc, seed, bytes),
+        Command::Outcome { seed } => outcome_answer(alloc, seed, bytes),
+        Command::Fates { seed } => fates_answer(alloc, seed, bytes),
+        Command::Sample { from, count } => sample_answer(alloc, from, count, bytes),
     }
 }

@@ -1,16 +1,21 @@
-use Rattle.std.proofs.Common.{◌≡◌, Bool, true, false, not, codes, map, string_bytes, refl, sym, ◌∙◌, arith}
-use Rattle.std.proofs.lemmas.Slice.Eq.{bytes_eq-Decides}
-use Rattle.plan_tool.proofs.PlanWords.{two_words, two_same, outcome_asked}
+use Rattle.std.proofs.Common.{◌≡◌, ◌∷◌, [], ◌↔◌, List, ℕ, Some, map, string_bytes, sym, ◌∙◌, arith, subst}
+use Rattle.plan_tool.specs.Commands.{Spell}
+use Rattle.plan_tool.specs.declared.command.Command.{Command}
+use Rattle.plan_tool.proofs.PlanWords.{no_command, two_words, two_same, three_words, three_same}
 use Rattle.plan_tool.proofs.command.command_of.Goals as goal
 
-but_not : (b : Bool) → not b ≡ false → b ≡ true
-but_not true is = refl
-but_not false is = sym is
-
-pub returns : goal.returns
-returns c =
-    let seed = (c.in_ok-seed.ensures c.in_ok-seed.seed).0 refl in
-    let word = (bytes_eq-Decides c.as_str.result.now (codes "outcome")).0 (but_not _ (sym c.ne.ensures ∙ c.if-ne.false)) in
+pub returns-in-len2 : goal.returns-in-len2
+returns-in-len2 c =
     let words = two_words c.args.words.now c.word-item.result c.seed-item.result (omega arith) c.word-item.is c.seed-item.is in
-    outcome_asked (map string_bytes c.args.words.now) c.in_ok-seed.seed
-    (words ∙ two_same (sym c.as_str.ensures.value ∙ word) (sym c.as_str-2.ensures.value ∙ seed.0)) seed.1
+    let spelled : map string_bytes c.args.words.now ≡ c.as_str.result.now ∷ c.as_str-in-len2.result.now ∷ [] =
+    words ∙ two_same (sym c.as_str.ensures.value) (sym c.as_str-in-len2.ensures.value) in
+    subst (λ (l : List (List ℕ)). (e : Command) → (c.seeded_by.result ≡ Some e) ↔ Spell l e) (sym spelled) c.seeded_by.ensures
+
+pub returns-in-len3 : goal.returns-in-len3
+returns-in-len3 c =
+    let words = three_words c.args.words.now c.word-item-then-words-lt4.result c.from-item.result c.count-item.result (omega arith)
+    c.word-item-then-words-lt4.is c.from-item.is c.count-item.is in
+    let spelled : map string_bytes c.args.words.now
+    ≡ c.as_str-in-len3.result.now ∷ c.as_str-in-len3-2.result.now ∷ c.as_str-in-len3-3.result.now ∷ [] =
+    words ∙ three_same (sym c.as_str-in-len3.ensures.value) (sym c.as_str-in-len3-2.ensures.value) (sym c.as_str-in-len3-3.ensures.value) in
+    subst (λ (l : List (List ℕ)). (e : Command) → (c.sampled_by.result ≡ Some e) ↔ Spell l e) (sym spelled) c.sampled_by.ensures
