@@ -12,10 +12,10 @@ from collections.abc import Callable
 from pathlib import Path
 
 import pytest
-from gate import pytest_sessionfinish, pytest_terminal_summary
+from gate import pytest_configure, pytest_runtest_protocol, pytest_sessionfinish, pytest_terminal_summary
 from hypothesis import HealthCheck, settings
 
-__all__ = ["EXAMPLES", "REPOSITORY", "pytest_sessionfinish", "pytest_terminal_summary"]
+__all__ = ["EXAMPLES", "REPOSITORY", "pytest_configure", "pytest_runtest_protocol", "pytest_sessionfinish", "pytest_terminal_summary"]
 
 REPOSITORY = Path(__file__).resolve().parents[2]
 EXAMPLES = REPOSITORY / "examples"

@@ -1,10 +1,35 @@
-"""What the gate asks of a run of the tests: with CI=true no test is skipped. At its end a run says how much processor time it took."""
+"""What the gate asks of a run of the tests: with CI=true no test is skipped. At its end a run says how much processor time it took.
+
+A test with the mark `no_cover` isn't measured for coverage, nor are the fixtures that it is the first to need: for tests of much
+work whose lines others have measured. To measure costs some two fifths more time.
+"""
 
 from __future__ import annotations
 
 import os
+from collections.abc import Iterator
 
 import pytest
+
+# Of this process, and of what it had started before the tests: a script that installs packages and then becomes this process.
+_BEFORE = os.times()
+
+
+def pytest_configure(config: pytest.Config) -> None:
+    """The mark is known also where pytest-cov isn't there."""
+    config.addinivalue_line("markers", "no_cover: not measured for coverage")
+
+
+@pytest.hookimpl(hookwrapper=True)
+def pytest_runtest_protocol(item: pytest.Item) -> Iterator[None]:
+    """Measures no coverage from the first fixture of a test with the mark to the last."""
+    plugin = item.config.pluginmanager.get_plugin("_cov")
+    measured = plugin is not None and plugin.cov_controller is not None and item.get_closest_marker("no_cover") is not None
+    if measured:
+        plugin.cov_controller.pause()
+    yield
+    if measured:
+        plugin.cov_controller.resume()
 
 
 def pytest_sessionfinish(session: pytest.Session) -> None:
@@ -16,7 +41,7 @@ def pytest_sessionfinish(session: pytest.Session) -> None:
 
 def pytest_terminal_summary(terminalreporter: pytest.TerminalReporter) -> None:
     """Says the processor time of all tests, with that of the programs and workers that they started."""
-    times = os.times()
-    terminalreporter.write_line(f"processor time: {sum(times[:4]):.0f} s")
+    spent = sum(os.times()[:4]) - sum(_BEFORE[:4])
+    terminalreporter.write_line(f"processor time: {spent:.0f} s")
     if os.environ.get("CI") == "true" and terminalreporter.stats.get("skipped"):
         terminalreporter.write_line("with CI=true no test may be skipped")

@@ -6,6 +6,10 @@ All clocks keep true time, so every time is exact. Profile 1: frames of 4 s, a r
 
 from __future__ import annotations
 
+from functools import cache
+
+from foldcairn import results
+
 SECOND = 64_000_000
 # The whole of a window; and of one in which the node transmits twice, the last time in step k, with a packet of n bytes.
 CLOSE = 2_096_000
@@ -19,6 +23,12 @@ def step(length: int) -> int:
 def window(last_step: int, length: int) -> int:
     """Ticks of a window in which the node transmits twice, the second time in `last_step`."""
     return 64_000 + (last_step + 1) * step(length) - 12_288
+
+
+@cache
+def log_of(text: str) -> results.Log:
+    """The log of one of the texts below: run once for all tests, and kept with what has been worked out of it."""
+    return results.log(text)
 
 
 # Node 3 is two hops from the host, node 1, and has one packet. It asks in frame 5 and sends in slot 1 of frame 9, which has

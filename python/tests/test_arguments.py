@@ -9,7 +9,7 @@ import networkx
 import numpy
 import pandas
 import pytest
-from networks import LINE
+from networks import LINE, log_of
 
 from foldcairn import arguments, export, losses, planning, plot, program, results, tables
 from foldcairn.arguments import ArgumentError
@@ -18,7 +18,7 @@ from foldcairn.scenario import Put, Scenario, ScenarioError
 
 @pytest.fixture(scope="module")
 def log() -> results.Log:
-    return results.log(LINE)
+    return log_of(LINE)
 
 
 def two(**more: object) -> Scenario:
@@ -131,9 +131,11 @@ def test_the_path_of_a_file_is_no_text(tmp_path: Path) -> None:
     assert program.execute(["run"], path) == program.execute(["run"], LINE)
 
 
-@pytest.mark.parametrize("call", [getattr(planning, name) for name in planning.__all__ if name not in ("importance", "capacity", "summary")])
+@pytest.mark.parametrize(
+    "call", [getattr(planning, name) for name in planning.__all__ if name not in ("bounds", "capacity", "importance", "summary")]
+)
 def test_a_scenario_where_a_log_is_due(call) -> None:
-    with pytest.raises(ArgumentError, match=rf"`{call.__name__}` takes the log of a run, and was given a Scenario; write {call.__name__}\("):
+    with pytest.raises(ArgumentError, match=rf"`{call.__name__}` takes the log of a run(, or its report)?, and was given a Scenario; write {call.__name__}\("):
         call(Scenario.read(LINE))
 
 

@@ -52,7 +52,7 @@ def test_a_python_without_the_packages():
 def test_the_front_end_lists_each_command(capsys):
     with pytest.raises(SystemExit):
         main(["--help"])
-    commands = re.findall(r"^    (\w+) ", capsys.readouterr().out, re.MULTILINE)
+    commands = re.findall(r"^    (\w+)", capsys.readouterr().out, re.MULTILINE)
     rows = [row.split("|") for row in (REPOSITORY / "tools" / "commands.txt").read_text().splitlines()]
     assert sorted(commands) == sorted(row[1] for row in rows if row[0] == "command" and row[3] == "package")
 
@@ -107,7 +107,7 @@ def test_sweep_of_nothing(capsys, tmp_path):
         (["sweep", str(EXAMPLES), "--ratios", "r.csv"], "is no file; with --ratios a scenario is named"),
         (["sweep", str(LINE), "--ratios", "r.csv", "--seeds", "a-b"], "`--seeds` is 'a-b', and has to be a number or two with a dash"),
         (["sweep", str(LINE), "--ratios", "r.csv", "--seeds", "5-1"], "`--seeds` is '5-1', and has no seed"),
-        (["timeline", str(LINE), "--nodes", "1,x"], "`--nodes` is '1,x', and has to be ids with commas between them"),
+        (["timeline", str(LINE), "--nodes", "1,x"], "the scenario has no node x; it has 4 nodes: 1, 2, 3, 4"),
         (["pcap", str(LINE), "--from", "nan"], "`start_seconds` is nan, and has to be a number"),
     ],
 )

@@ -126,6 +126,25 @@ def test_a_text_that_does_not_show_the_fault():
     assert faults.explain("", 1, "NotUtf8") == "line 1: fault of kind NotUtf8"
 
 
+@pytest.mark.parametrize("kind", ["NotUtf8", "BadWord", "BadNumber", "Range", "UnknownNode", "Order", "Twice", "TooMany", "Missing"])
+@pytest.mark.parametrize("line", ["pair 1 2", "rate 1 5 1", "on 3 1", "put 0 2 0 aa", ""])
+def test_nothing_is_made_up_about_a_line_without_a_fault(kind: str, line: str) -> None:
+    """A program of another version may refuse what this package knows no fault of."""
+    if (kind, line) != ("TooMany", "on 3 1"):
+        place = f"line 6: `{line}`" if line else "line 6"
+        assert faults.explain(f"{HEAD}{line}\n", 6, kind) == f"{place}: fault of kind {kind}"
+
+
+def test_a_number_that_is_none_is_in_no_range() -> None:
+    assert faults.explain(HEAD + "node x 0\n", 6, "Range").endswith(": fault of kind Range")
+
+
+def test_one_stream_too_many_for_deadlines() -> None:
+    streams = [f"stream {node} {stream} 0 64 64\n" for node in range(2, 11) for stream in range(4)][:33]
+    error = refused("slots 1\nframes 64\n" + "".join(streams), "deadlines")
+    assert (error.line, error.kind) == (35, "TooMany") and "at most 32 streams are planned, and this is one more" in error.explanation
+
+
 # Texts that are near to scenarios: a line of an example has one word replaced, is taken out, or comes twice.
 EXAMPLE_TEXTS = [path.read_text().splitlines() for path in sorted(EXAMPLES.glob("*.scenario"))]
 WORDS = ["0", "1", "2", "3", "4", "9", "42", "46", "200", "4097", "-1", "-20", "01", "x", "aa", "-", "profile", "pair", "put", ""]

@@ -11,14 +11,14 @@ from collections.abc import Iterator
 from pathlib import Path
 
 import pytest
-from networks import FAILOVER, LINE
+from networks import FAILOVER, LINE, log_of
 
 from foldcairn import export, files, page, planning, plot, program, report, results, style, sweep
 
 
 @pytest.fixture(scope="module")
 def log() -> results.Log:
-    return results.log(FAILOVER)
+    return log_of(FAILOVER)
 
 
 @contextlib.contextmanager

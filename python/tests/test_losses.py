@@ -64,6 +64,18 @@ def test_coins_are_fair():
 SLOTS = 14
 
 
+def by_fixed_point(scenario: Scenario, seed: int) -> Scenario:
+    """The scenario with its losses by `losses.fixed_point`."""
+    drawn = scenario.copy()
+    drawn.losses += losses.fixed_point(scenario, seed)
+    return drawn
+
+
+# By the planner's program, where it has the command, and by logs until nothing changes. What the bus does not go by, as a packet
+# that a node hears while it scans, the first leaves as it comes; with the second each node hears the same.
+ways = pytest.mark.parametrize("way", [losses.draw, by_fixed_point])
+
+
 def networks(seed: int) -> Scenario:
     """A random small network: every kind of line, links of all ratios, some runs with a failover.
 
@@ -110,30 +122,32 @@ def receptions(scenario: Scenario) -> set[tuple]:
     return {(int(row[4]) // ticks, row[1], row[2], row[6]) for row in rows if row[0] == b"heard"}
 
 
+@ways
 @pytest.mark.parametrize("seed", range(24))
-def test_drawn_losses_make_the_run_of_all_losses(seed):
+def test_drawn_losses_make_the_run_of_all_losses(seed, way):
     scenario = networks(seed)
     everything = scenario.copy()
     known = set(scenario.losses)
     everything.losses += [loss for loss in losses.every_loss(scenario, seed, slots=SLOTS) if loss not in known]
-    drawn = losses.draw(scenario, seed)
+    drawn = way(scenario, seed)
     assert set(drawn.losses) <= set(everything.losses)
     assert len(drawn.losses) <= len(everything.losses)
     received = receptions(everything)
-    assert receptions(drawn) == received
+    assert way is losses.draw or receptions(drawn) == received
     assert all(int(packet[2:4], 16) < SLOTS for *_, packet in received)
     # `bus` has the deliveries, the drops, and what radios are charged.
     assert program.execute(["bus"], drawn.text(warn=False)) == program.execute(["bus"], everything.text(warn=False))
-    assert losses.draw(drawn, seed).losses == drawn.losses
+    assert way(drawn, seed).losses == drawn.losses
     assert scenario.losses == networks(seed).losses
 
 
+@ways
 @pytest.mark.parametrize("seed", range(24, 36))
-def test_each_drawn_loss_is_needed(seed):
+def test_each_drawn_loss_is_needed(seed, way):
     """Without any one of them somebody else receives; but for captures, where all are kept."""
     scenario = networks(seed)
     scenario.captures.clear()
-    drawn = losses.draw(scenario, seed)
+    drawn = way(scenario, seed)
     received = receptions(drawn)
     for number in range(len(scenario.losses), len(drawn.losses)):
         fewer = drawn.copy()
@@ -141,7 +155,8 @@ def test_each_drawn_loss_is_needed(seed):
         assert receptions(fewer) != received
 
 
-def test_drawn_losses_make_the_run_of_all_losses_in_a_grid_of_25():
+@ways
+def test_drawn_losses_make_the_run_of_all_losses_in_a_grid_of_25(way):
     """Rounds are in frames 5 and 9, so the losses of these two are all that can matter; those of more don't fit a text."""
     scenario = Scenario.from_graph(grid(5, 5, diagonals=True), 10, hosts=[3], profile=2, contend=4)
     chance = random.Random(1)
@@ -151,15 +166,16 @@ def test_drawn_losses_make_the_run_of_all_losses_in_a_grid_of_25():
         scenario.stream(node, 12).put(node, bytes([node])).put(node, bytes([node, 2]))
     everything = scenario.copy()
     everything.losses = [loss for loss in losses.every_loss(scenario, 4, slots=SLOTS) if loss.frame in (5, 9)]
-    drawn = losses.draw(scenario, 4)
+    drawn = way(scenario, 4)
     received = receptions(everything)
     assert {frame for frame, *_ in received} == {5, 9}
     assert all(int(packet[2:4], 16) < SLOTS for *_, packet in received)
-    assert receptions(drawn) == received
+    assert way is losses.draw or receptions(drawn) == received
     assert 0 < len(drawn.losses) < len(everything.losses) / 50
     assert program.execute(["bus"], drawn.text(warn=False)) == program.execute(["bus"], everything.text(warn=False))
 
 
+@pytest.mark.no_cover
 def test_the_losses_of_half_an_hour_are_drawn_in_30_seconds():
     begun = os.times()
     drawn = losses.draw(planned_grid(), 7)
@@ -171,9 +187,10 @@ def test_the_losses_of_half_an_hour_are_drawn_in_30_seconds():
     assert 20_000 < report.count(b"deliver ") < 35_928
 
 
+@ways
 @pytest.mark.parametrize("of_host", [0.5, 0.9])
 @pytest.mark.parametrize("seed", range(12))
-def test_losses_at_captures_and_cuts(seed, of_host):
+def test_losses_at_captures_and_cuts(seed, of_host, way):
     """Three nodes ask at once and the host captures one of them, whose request may be lost; a node is cut off twice in a frame."""
     scenario = Scenario.from_graph(networkx.complete_graph([1, 2, 3, 4]), 14, hosts=[1])
     for node in (2, 3, 4):
@@ -183,7 +200,40 @@ def test_losses_at_captures_and_cuts(seed, of_host):
         scenario.link(*link, prr=of_host if link[0] == 1 else 0.5)
     everything = scenario.copy()
     everything.losses = losses.every_loss(scenario, seed, slots=SLOTS)
-    assert receptions(losses.draw(scenario, seed)) == receptions(everything)
+    drawn = way(scenario, seed)
+    assert set(drawn.losses) <= set(everything.losses)
+    assert way is losses.draw or receptions(drawn) == receptions(everything)
+    assert program.execute(["bus"], drawn.text(warn=False)) == program.execute(["bus"], everything.text(warn=False))
+
+
+@pytest.mark.parametrize("seed", range(50))
+def test_both_ways_of_drawing_deliver_the_same(seed):
+    """Each may write losses that the other leaves out, as where all packets of a collision are lost; both write losses of the coins
+    alone."""
+    scenario = networks(seed)
+    drawn, other = losses.draw(scenario, seed), by_fixed_point(scenario, seed)
+    everything = {*scenario.losses, *losses.every_loss(scenario, seed, slots=SLOTS)}
+    for made in (drawn, other):
+        assert set(scenario.losses) <= set(made.losses) <= everything and len(set(made.losses)) == len(made.losses)
+    assert program.execute(["bus"], drawn.text(warn=False)) == program.execute(["bus"], other.text(warn=False))
+    if not program.has_command("draw", program.find_planner()):
+        assert drawn.losses == other.losses
+
+
+def test_a_planner_that_draws(fake, monkeypatch):
+    """Its text is taken for what it is; where its lines don't fit, or the seed is none of its, the other way draws."""
+    scenario = Scenario.from_graph(line(3), 30, hosts=[1]).stream(3, 8).every(10, 3).lose(5, 0, 0, 1, 2).link(2, 3, 0.5)
+    usage = 'if [ "$1" = usage ]; then echo "usage: draw SEED | outcome SEED"; exit 2; fi; '
+    draws = fake(usage + 'cat > /dev/null; echo "lose 5 0 0 1 2"; echo "lose 9 1 2 3 2"; echo "lose 9 1 0 2 3"')
+    monkeypatch.setenv("FOLDCAIRN_PLAN", str(draws))
+    drawn = losses.draw(scenario, 3)
+    assert drawn.losses == [Loss(5, 0, 0, 1, 2), Loss(9, 1, 0, 2, 3), Loss(9, 1, 2, 3, 2)] and drawn.seed == 3
+    assert losses.draw(scenario, -3).losses == scenario.losses + losses.fixed_point(scenario, -3)
+    fake(usage + 'cat > /dev/null; echo "fault line 40: TooMany"; exit 1')
+    assert losses.draw(scenario, 3).losses == scenario.losses + losses.fixed_point(scenario, 3)
+    fake(usage + 'cat > /dev/null; echo "fault line 40: TooBig"; exit 1')
+    with pytest.raises(program.Refused, match="TooBig"):
+        losses.draw(scenario, 3)
 
 
 def test_losses_are_of_links_with_ratios_only():

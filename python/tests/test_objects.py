@@ -6,6 +6,7 @@ import hashlib
 import io
 import os
 from pathlib import Path
+from unittest.mock import Mock
 
 import pytest
 from networks import FAILOVER, LINE
@@ -71,19 +72,31 @@ def test_where_results_come_from() -> None:
 # Long work.
 
 
-def test_a_drawing_that_is_kept(tmp_path: Path, monkeypatch: pytest.MonkeyPatch) -> None:
+@pytest.mark.parametrize("seed", [3, -3])
+def test_a_drawing_that_is_kept(seed: int, tmp_path: Path, monkeypatch: pytest.MonkeyPatch) -> None:
+    """By the planner's program, and of a negative seed, which is none of its, by logs."""
     made = lossy()
     bar = io.StringIO()
-    drawn = losses.draw(made, 3, results=tmp_path, progress=bar)
+    drawn = losses.draw(made, seed, results=tmp_path, progress=bar)
     assert "40/40" in bar.getvalue() and len(list(tmp_path.iterdir())) == 1
-    # Taken from the folder: the program isn't run.
-    monkeypatch.setattr(losses, "_log", lambda *_: pytest.fail("the losses are there"))
-    assert losses.draw(made, 3, results=tmp_path) == drawn
+    # Taken from the folder: no program is run.
+    monkeypatch.setattr(program, "execute", lambda *_, **__: pytest.fail("the losses are there"))
+    assert losses.draw(made, seed, results=tmp_path) == drawn
     with pytest.raises(pytest.fail.Exception):
-        losses.draw(made, 4, results=tmp_path)
+        losses.draw(made, 2 * seed, results=tmp_path)
 
 
-def test_a_drawing_that_is_stopped_goes_on(tmp_path: Path, monkeypatch: pytest.MonkeyPatch) -> None:
+def test_a_drawing_of_the_planner_that_is_stopped(tmp_path: Path, monkeypatch: pytest.MonkeyPatch) -> None:
+    """Nothing is kept of it, and the next call draws in one go."""
+    made = lossy()
+    with monkeypatch.context() as patched, pytest.raises(KeyboardInterrupt):
+        patched.setattr(program, "execute", Mock(side_effect=KeyboardInterrupt))
+        losses.draw(made, 3, results=tmp_path)
+    assert not list(tmp_path.iterdir())
+    assert losses.draw(made, 3, results=tmp_path) == losses.draw(made, 3)
+
+
+def test_a_drawing_by_logs_that_is_stopped_goes_on(tmp_path: Path, monkeypatch: pytest.MonkeyPatch) -> None:
     made, runs = lossy(), []
     run = losses._log
 
@@ -95,9 +108,9 @@ def test_a_drawing_that_is_stopped_goes_on(tmp_path: Path, monkeypatch: pytest.M
 
     monkeypatch.setattr(losses, "_log", stopped)
     with pytest.raises(KeyboardInterrupt):
-        losses.draw(made, 3, results=tmp_path)
+        losses.draw(made, -3, results=tmp_path)
     # What was drawn by then is taken up, and the losses are those of one go.
-    assert losses.draw(made, 3, results=tmp_path) == losses.draw(made, 3)
+    assert losses.draw(made, -3, results=tmp_path) == losses.draw(made, -3)
     assert len(runs[3][1]) > 0
 
 

@@ -2,31 +2,17 @@
 
 from __future__ import annotations
 
-import os
 import random
-import subprocess
-from pathlib import Path
 
 import pytest
 
 from conftest import REPOSITORY
-from foldcairn import losses, program
+from foldcairn import arguments, importance, losses, program, results
 from foldcairn.scenario import Scenario
 
 
-def planner() -> Path:
-    """The program of the environment variable FOLDCAIRN_PLAN, else the stored one."""
-    return Path(os.environ.get("FOLDCAIRN_PLAN") or REPOSITORY / "bin" / "foldcairn-plan-x86_64-linux")
-
-
-def network_text(scenario: Scenario) -> str:
-    """The scenario and its ratios, in millionths."""
-    ratios = (f"ratio 0 {sender} {receiver} {round(1_000_000 * ratio)}" for (sender, receiver), ratio in sorted(scenario.prr.items()))
-    return "\n".join([scenario.text(warn=False).rstrip("\n"), "ratios", *ratios, ""])
-
-
-def outcome(text: str, seed: int) -> bytes:
-    return subprocess.run([planner(), "outcome", str(seed)], input=text.encode(), stdout=subprocess.PIPE, check=True).stdout
+def outcome(network: Scenario, seed: int) -> bytes:
+    return program.execute(["outcome", str(seed)], network.network_text(warn=False))
 
 
 def small_network(seed: int) -> Scenario:
@@ -60,11 +46,68 @@ def small_network(seed: int) -> Scenario:
 @pytest.mark.parametrize("seed", range(50))
 def test_both_ways_of_drawing_give_one_bus(seed):
     network = small_network(seed)
+    if seed % 2:
+        # Half of them have ratios that change.
+        network = losses.bursts(network, seed, good_seconds=20, bad_seconds=12)
     drawn = losses.draw(network, seed=seed)
-    assert outcome(network_text(network), seed) == program.execute(["bus"], drawn.text(warn=False).encode())
+    assert outcome(network, seed) == program.execute(["bus"], drawn.text(warn=False).encode())
 
 
 def test_a_network_without_ratios_is_its_scenario():
     network = small_network(0)
     network.prr.clear()
-    assert outcome(network_text(network), 3) == program.execute(["bus"], network.text(warn=False).encode())
+    assert outcome(network, 3) == program.execute(["bus"], network.text(warn=False).encode())
+
+
+def test_the_report_of_an_outcome():
+    network = small_network(1)
+    report, drawn = results.outcome(network, 4), losses.draw(network, 4)
+    other = results.bus(drawn)
+    assert report.deliveries.equals(other.deliveries) and report.drops.equals(other.drops) and report.energy.equals(other.energy)
+    assert report.origin.seed == other.origin.seed == 4 and report.origin.program == program.checksum(program.find_planner())
+    # Losses that are drawn are not drawn once more, and a text is run as it is.
+    again = results.outcome(drawn, 9)
+    assert again.deliveries.equals(other.deliveries) and again.origin.seed == 4
+    assert results.outcome(network.network_text(warn=False), 4).deliveries.equals(other.deliveries)
+    worked = (REPOSITORY / "tests" / "worked" / "three-in-a-line.network").read_text()
+    assert len(results.outcome(worked, 8).deliveries) == 4
+    with pytest.raises(arguments.ArgumentError, match="`seed` is -1"):
+        results.outcome(network, -1)
+
+
+def test_a_rejected_ratio_is_explained():
+    text = small_network(0).network_text(warn=False).replace("ratio 0 1 2 ", "ratio 0 1 2 9")
+    with pytest.raises(program.Refused, match="the fourth number, the ratio, is from 0 to 1,000,000 millionths"):
+        results.outcome(text)
+
+
+def test_where_the_program_of_a_planner_is(monkeypatch, tmp_path, fake):
+    assert program.has_command("outcome", program.find_planner()) and not program.has_command("run", program.find_planner())
+    stored = REPOSITORY / "bin" / "foldcairn-plan-x86_64-linux"
+    monkeypatch.delenv("FOLDCAIRN_PLAN", raising=False)
+    monkeypatch.setenv("FOLDCAIRN", str(REPOSITORY / "bin" / "foldcairn-x86_64-linux"))
+    assert program.find_planner() == stored
+    # By the front end, wherever it is linked from; a program alone is taken for itself.
+    (tmp_path / "foldcairn").symlink_to(REPOSITORY / "foldcairn")
+    monkeypatch.setenv("FOLDCAIRN", str(tmp_path / "foldcairn"))
+    monkeypatch.setattr(program, "_is_to_be_built", lambda _: False)
+    assert program.find_planner() == stored
+    alone = fake("exit 5")
+    monkeypatch.setenv("FOLDCAIRN", str(alone))
+    assert program.find_planner() == alone and not program.has_command("outcome", alone)
+    assert not program.has_command("outcome", tmp_path / "none")
+    monkeypatch.setenv("FOLDCAIRN_PLAN", str(alone))
+    with pytest.raises(program.OutOfMemory):
+        results.outcome(small_network(0))
+    monkeypatch.setenv("FOLDCAIRN_PLAN", str(tmp_path / "none"))
+    with pytest.raises(program.NotFound, match="FOLDCAIRN_PLAN names no program"):
+        program.find_planner()
+
+
+def test_importance_asks_the_bus_alone(monkeypatch):
+    """No lines of losses are drawn, so nothing is run again and again."""
+    monkeypatch.setattr(losses, "draw", None)
+    network = small_network(2)
+    drawn = losses.Outcome(network, 3).result()
+    table = importance._delivered(network, None, [], drawn)
+    assert table["ratio"][0] == len(drawn.deliveries) / (len(network.nodes) - 1) / sum(type(line).__name__ == "Put" for line in network.script)

@@ -12,7 +12,7 @@ from pathlib import Path
 import numpy as np
 import pytest
 from browser import CHROMIUM, Browser
-from networks import FAILOVER
+from networks import FAILOVER, log_of
 from PIL import Image
 
 from foldcairn import page, results, style
@@ -27,7 +27,7 @@ needs_chromium = pytest.mark.skipif(
 
 @pytest.fixture(scope="module")
 def log() -> results.Log:
-    return results.log(FAILOVER)
+    return log_of(FAILOVER)
 
 
 @pytest.fixture(scope="module")

@@ -5,7 +5,7 @@ from __future__ import annotations
 import numpy as np
 import pandas as pd
 import pytest
-from networks import CLOSE, CONTENDERS, FAILOVER, LINE, SECOND, step, window
+from networks import CLOSE, CONTENDERS, FAILOVER, LINE, SECOND, log_of, step, window
 
 from foldcairn import findings, page, planning, radio, results, settings
 from foldcairn.results import Log
@@ -19,17 +19,17 @@ STEP = step(9) / SECOND
 
 @pytest.fixture(scope="module")
 def line() -> Log:
-    return results.log(LINE)
+    return log_of(LINE)
 
 
 @pytest.fixture(scope="module")
 def contenders() -> Log:
-    return results.log(CONTENDERS)
+    return log_of(CONTENDERS)
 
 
 @pytest.fixture(scope="module")
 def failover() -> Log:
-    return results.log(FAILOVER)
+    return log_of(FAILOVER)
 
 
 def row(table: pd.DataFrame, **where: int) -> dict[str, object]:
@@ -300,7 +300,7 @@ def test_other_words_for_by(line: Log) -> None:
 
 def test_tables_has_every_answer(line: Log) -> None:
     tables = planning.tables(line)
-    assert len(tables) == 23
+    assert len(tables) == 25
     assert all(isinstance(table, pd.DataFrame) for table in tables.values())
 
 
@@ -383,7 +383,7 @@ def test_a_stream_that_the_next_host_never_accepts_is_in_the_main_numbers() -> N
     assert told["all_accepted_seconds"] == pytest.approx(21.067) and told["never_accepted"] == 1
     assert planning.summary(FAILOVER)["never_accepted"] == 0
     assert any("later hosts never accepted 1 of 1" in sentence for sentence in findings.of(log))
-    assert not any("never accepted" in sentence for sentence in findings.of(results.log(FAILOVER)))
+    assert not any("never accepted" in sentence for sentence in findings.of(log_of(FAILOVER)))
     assert "<b>1</b>times that a stream was never accepted by a host" in page._numbers(log, settings.Settings())
 
 

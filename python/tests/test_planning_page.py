@@ -13,6 +13,9 @@ from conftest import REPOSITORY
 
 from foldcairn import planning
 
+# Much work, on lines that the other tests measure.
+pytestmark = pytest.mark.no_cover
+
 PAGE = REPOSITORY / "docs" / "PLANNING.md"
 
 

@@ -17,7 +17,7 @@ from matplotlib.backends.backend_agg import FigureCanvasAgg
 from matplotlib.collections import LineCollection
 from matplotlib.figure import Figure
 from matplotlib.text import Annotation, Text
-from networks import CONTENDERS, FAILOVER, LINE
+from networks import CONTENDERS, FAILOVER, LINE, log_of
 from PIL import Image
 
 from conftest import EXAMPLES
@@ -30,7 +30,7 @@ LEGEND = {"no power", "radio on, channel of rank 0", "radio on, channel of rank 
 
 @pytest.fixture(scope="module")
 def failover() -> results.Log:
-    return results.log(FAILOVER)
+    return log_of(FAILOVER)
 
 
 @pytest.fixture(scope="module")
@@ -82,7 +82,7 @@ def bars(figure: Figure) -> dict[str, np.ndarray]:
 
 
 def test_slots_of_a_round_with_four_data_slots() -> None:
-    slots = timing.slots(results.log(LINE))
+    slots = timing.slots(log_of(LINE))
     ours = slots[slots["frame"] == 9]
     names = ["opening", "data 3.0", "data 3.0", "data 3.0", "data 3.0", "contention", "closing"]
     assert ours["name"].tolist() == names
@@ -158,7 +158,7 @@ def test_a_timeline_of_rounds(failover: results.Log) -> None:
 
 
 def test_a_timeline_of_one_slot_shows_the_steps() -> None:
-    log = results.log(LINE)
+    log = log_of(LINE)
     figure = plot.timeline(log, start_seconds=37.033, end_seconds=37.041, nodes=[1, 2, 3])
     drawn = bars(figure)
     # Node 3 transmits 1 ms into slot 1 of the round at 37 s, a packet of 9 bytes: 17 * 32 µs; node 2 receives that.
@@ -171,6 +171,7 @@ def test_a_timeline_of_one_slot_shows_the_steps() -> None:
     assert covered(figure) == []
 
 
+@pytest.mark.no_cover
 @pytest.mark.parametrize("window", ["run", "round", "slot"])
 def test_words_do_not_cover_each_other_at_64_nodes(large: results.Log, window: str) -> None:
     slots = timing.slots(large)
@@ -272,9 +273,9 @@ def test_tables_that_cannot_be_drawn(failover: results.Log) -> None:
         with pytest.raises(ValueError, match="no column"):
             draw(pd.DataFrame({"frame": [1]}))
     with pytest.raises(ValueError, match="no rows"):
-        plot.outages(planning.outages(results.log(LINE), "stream"))
+        plot.outages(planning.outages(log_of(LINE), "stream"))
     with pytest.raises(ValueError, match="no rows"):
-        plot.latency(planning.latencies(results.log(CONTENDERS)).iloc[:0])
+        plot.latency(planning.latencies(log_of(CONTENDERS)).iloc[:0])
 
 
 def test_a_stream_that_is_never_delivered_again() -> None:
@@ -362,8 +363,8 @@ def test_no_node_hides_another(tmp_path: Path) -> None:
 
 
 def test_the_same_picture_gives_the_same_bytes(failover: results.Log, tmp_path: Path) -> None:
-    for ending in ("svg", "png"):
-        files = [plot.save(plot.timeline(failover), tmp_path / f"{name}.{ending}").read_bytes() for name in ("one", "two")]
+    for ending, part in (("svg", {}), ("png", {"frame": 9})):
+        files = [plot.save(plot.timeline(failover, **part), tmp_path / f"{name}.{ending}").read_bytes() for name in ("one", "two")]
         assert files[0] == files[1]
     text = (tmp_path / "one.svg").read_text()
     assert "prefers-color-scheme: dark" in text and 'fill: #0d1117' in text and "<text" in text

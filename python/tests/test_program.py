@@ -13,7 +13,7 @@ from pathlib import Path
 import pytest
 
 from conftest import EXAMPLES, REPOSITORY
-from foldcairn import front_end, program
+from foldcairn import front_end, program, version
 
 SCENARIO = EXAMPLES / "packets-along-a-line.scenario"
 REPORT = EXAMPLES / "expected" / "packets-along-a-line.report"
@@ -80,6 +80,33 @@ def test_find_takes_what_was_installed_with_the_package(monkeypatch, tmp_path):
     assert front_end.path() is None
     (package / "installed" / "foldcairn").chmod(0o755)
     assert program.find() == package / "installed" / "foldcairn"
+
+
+def test_the_command_becomes_the_front_end(monkeypatch):
+    begun = []
+    monkeypatch.setattr(front_end.os, "execv", lambda script, words: begun.append((script, words)))
+    monkeypatch.setattr(sys, "argv", ["foldcairn", "report", "a file"])
+    monkeypatch.setenv("FOLDCAIRN_PYTHON", "")
+    front_end.main()
+    assert begun == [(REPOSITORY / "foldcairn", [str(REPOSITORY / "foldcairn"), "report", "a file"])]
+    # By it the front end finds back to this Python.
+    assert os.environ["FOLDCAIRN_PYTHON"] == sys.executable
+    monkeypatch.setattr(front_end, "path", lambda: None)
+    with pytest.raises(SystemExit, match="installed without its programs"):
+        front_end.main()
+
+
+def test_the_version_where_there_is_no_repository(monkeypatch, tmp_path):
+    assert version.version() == (REPOSITORY / "VERSION").read_text().strip()
+    monkeypatch.setattr(version, "__file__", str(tmp_path / "site" / "foldcairn" / "version.py"))
+    monkeypatch.setattr(version.metadata, "version", {"foldcairn": "7.8"}.__getitem__)
+    assert version.version.__wrapped__() == "7.8"
+
+    def missing(name):
+        raise version.metadata.PackageNotFoundError(name)
+
+    monkeypatch.setattr(version.metadata, "version", missing)
+    assert version.version.__wrapped__() == "unknown"
 
 
 def test_the_front_end_starts_without_the_libraries():

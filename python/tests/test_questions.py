@@ -9,8 +9,10 @@ import warnings
 from collections.abc import Callable, Iterator
 from concurrent.futures import ThreadPoolExecutor
 from dataclasses import replace
+from functools import partial
 from pathlib import Path
 from types import SimpleNamespace
+from typing import Any
 
 import pandas as pd
 import pytest
@@ -21,7 +23,9 @@ from networks import FAILOVER
 from PIL import Image
 
 import foldcairn
+from conftest import REPOSITORY
 from foldcairn import meanings, page, planning, plot, report
+from foldcairn.scenario import Scenario
 
 needs_chromium = pytest.mark.skipif(
     CHROMIUM is None, reason="chromium is missing; tools/setup-python.sh --optional installs it (apt-get install chromium)"
@@ -40,45 +44,65 @@ def given() -> Iterator[SimpleNamespace]:
         )  # fmt: skip
 
 
-# The question, how it is answered, and what the answer has.
-QUESTIONS: list[tuple[str, Callable[[SimpleNamespace], object], Callable[[object], bool]]] = [
-    ("what part of the packets arrives at whichever host serves",
-     lambda on: planning.delivery_ratio(on.log, receivers="hosts"),
-     lambda table: len(table) == 26 and table["ratio_of_put"].between(0, 1).all()),
-    ("how long packets take", lambda on: planning.latency(on.log), lambda table: len(table) == 26 and (table["deliveries"] == 0).any()),
-    ("which source is worst", lambda on: planning.delivery_ratio(on.log).nsmallest(3, "ratio_of_put"), lambda table: len(table) == 3),
-    ("when all nodes had joined", lambda on: planning.hosts(on.log)["all_joined_seconds"], lambda times: times[0] < 60),
-    ("how long the network is out of service when the host fails", lambda on: planning.outages(on.log),
-     lambda table: table["outage_seconds"][0] > 90 and bool(table["ended"][0])),
-    ("how long batteries last", lambda on: planning.battery_life(on.log, capacity_mah=2500, receive_ma=20),
-     lambda table: len(table) == 34 and (table["days"] > 1).all()),
-    ("which link matters most", lambda on: planning.importance(on.short, candidates=[(151, 152), (101, 102)], **on.many),
-     lambda table: table[["one", "other"]].values.tolist()[0] == [151, 152]),
-    ("which relay matters most", lambda on: planning.importance(on.short, "nodes", candidates=[124, 152], receivers="hosts", **on.many),
-     lambda table: set(table["node"]) == {124, 152}),
-    ("how many transmissions in a flood, over many seeds",
-     lambda on: report.compare({f"sends {count}": replace(on.short, sends=count) for count in (1, 2)}, **on.many).table,
-     lambda table: {"sends 1", "sends 1 ±", "sends 2"} <= set(table)),
-    ("how many more sensors fit", lambda on: planning.capacity(on.short, every=40, receivers="hosts", sources=[112], **on.many),
-     lambda table: table["streams_left"].tolist() == [6]),
-    ("which part of the alarms comes within 30 seconds", lambda on: planning.deadline(on.log, 30).query("source in @survey.ALARMS"),
-     lambda table: len(table) == 6 and set(table["due"]) <= {1, 2}),
-    ("which nodes collide in contention", lambda on: [one for one in on.network.cautions() if "equal modulo" in one],
-     lambda found: "109 and 125" in found[0]),
-    ("a map", lambda on: plot.topology(on.network, positions=survey.places()), lambda figure: isinstance(figure, Figure)),
-    ("what the radios do in one round", lambda on: plot.timeline(on.log, frame=41), lambda figure: isinstance(figure, Figure)),
-    ("plan A or plan B", lambda on: report.compare({"A": on.short, "B": on.other}, **on.many), lambda told: told.table[["A", "B"]].notna().any().all()),
-]  # fmt: skip
+# The questions of docs/PLANNING.md, in their order, and what the answer of the line that stands there has.
+QUESTIONS: dict[str, Callable[[Any], bool]] = {
+    "What part of the packets arrives at whichever host serves?":
+        lambda table: len(table) == 26 and table["ratio_of_put"].between(0, 1).all(),
+    "How long do packets take?": lambda table: len(table) == 26 and (table["deliveries"] == 0).any(),
+    "Which sources are worst?": lambda table: len(table) == 3,
+    "When had all nodes joined?": lambda times: times[0] < 60,
+    "How long is the outage when the host fails?": lambda table: table["outage_seconds"][0] > 90 and bool(table["ended"][0]),
+    "How long does a battery last?": lambda table: len(table) == 34 and (table["days"] > 1).all(),
+    "Which link matters most?": lambda table: table[["one", "other"]].values.tolist()[0] == [151, 152],
+    "Which relay matters most?": lambda table: set(table["node"]) == {124, 152},
+    "How often should a node transmit in a flood?": lambda told: {"sends 1", "sends 1 ±", "sends 2", "better"} <= set(told.table),
+    "How many more sensors fit?": lambda table: table["streams_left"].tolist() == [6],
+    "What part of the alarms comes within 30 seconds?":
+        lambda table: len(table) == 26 and set(table.query("source in @survey.ALARMS")["due"]) <= {1, 2},
+    "Which nodes collide in contention?": lambda found: any("equal modulo" in one and "109 and 125" in one for one in found),
+    "Where are the nodes, and what do their links lose?": lambda figure: isinstance(figure, Figure),
+    "What do the radios do in one round?": lambda figure: isinstance(figure, Figure),
+    "Plan A or plan B?": lambda told: told.table[["A", "B"]].notna().any().all(),
+}  # fmt: skip
 
 
-@pytest.mark.parametrize(("question", "answer", "holds"), QUESTIONS, ids=[question for question, _, _ in QUESTIONS])
-def test_a_question(question: str, answer, holds, given: SimpleNamespace) -> None:
-    told = answer(given)
-    assert holds(told), told
+def lines() -> dict[str, str]:
+    """The table of the page: its questions, and their lines."""
+    text = (REPOSITORY / "docs" / "PLANNING.md").read_text()
+    table = text[text.index("| question | line |") :].split("\n\n", 1)[0]
+    return dict(re.findall(r"^\| (.+?\?) \| `(.+)` \|$", table, re.MULTILINE))
+
+
+def quick(given: SimpleNamespace) -> dict[str, Any]:
+    """What the lines of the page name. What takes many runs has fewer of them: less to cut or to add, one seed, and two plans, whose page
+    is tried below."""
+
+    def importance(network: Scenario, what: str = "links", **more: Any) -> pd.DataFrame:
+        return planning.importance(network, what, candidates=[(151, 152), (101, 102)] if what == "links" else [124, 152], **more, **given.many)
+
+    def compare(plans: dict[str, Scenario], path: str = "", **more: Any) -> object:
+        return report.compare(dict(list(plans.items())[:2]), **{**more, **given.many})
+
+    answers = {name: getattr(planning, name) for name in planning.__all__}
+    answers |= {"importance": importance, "capacity": partial(planning.capacity, sources=[112], **given.many)}
+    return {
+        "planning": SimpleNamespace(**answers), "report": SimpleNamespace(compare=compare), "plot": plot, "replace": replace,
+        "log": given.log, "network": given.short, "other": given.other, "places": survey.places(),
+    }  # fmt: skip
+
+
+def test_the_page_has_the_questions() -> None:
+    assert list(lines()) == list(QUESTIONS) and len(QUESTIONS) == 15
+
+
+@pytest.mark.parametrize("question", QUESTIONS)
+def test_a_question(question: str, given: SimpleNamespace) -> None:
+    told = eval(lines()[question], quick(given))
+    assert QUESTIONS[question](told), told
 
 
 def test_the_survey_is_one_of_34_nodes_and_180_links(given: SimpleNamespace, tmp_path: Path) -> None:
-    assert len(QUESTIONS) == 15 and len(given.network.nodes) == 34 and len(given.network.links) == 180
+    assert len(given.network.nodes) == 34 and len(given.network.links) == 180
     # The same from files, as a planner has them.
     nodes, links, streams = survey.write(tmp_path)
     read = foldcairn.Scenario.from_tables(nodes, links, streams, frames=10, profile=2)

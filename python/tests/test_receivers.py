@@ -4,7 +4,7 @@ from __future__ import annotations
 
 import numpy as np
 import pytest
-from networks import FAILOVER, LINE
+from networks import FAILOVER, LINE, log_of
 
 from foldcairn import importance, planning, receivers, results
 from foldcairn.results import Log
@@ -14,7 +14,7 @@ from foldcairn.scenario import Scenario, ScenarioError
 @pytest.fixture(scope="module")
 def failover() -> Log:
     """The packet aa is sent in a round without its host, node 1; bb in one of node 2, and node 2 delivers both."""
-    return results.log(FAILOVER)
+    return log_of(FAILOVER)
 
 
 def ratios(log: Log, whom: object, by: str = "all") -> list[list[int]]:
@@ -77,7 +77,7 @@ def test_a_source_that_delivers_nothing_has_a_row() -> None:
     assert planning.latency(log)[["source", "deliveries"]].values.tolist() == [[3, 0]]
     assert planning.latency(log, "all")["deliveries"].tolist() == [0] and planning.latency(log, "all")["max"].isna().all()
     # Also outside of the time that counts, and without any packet.
-    assert planning.delivery_ratio(results.log(LINE), start_seconds=40)["put"].tolist() == [0]
+    assert planning.delivery_ratio(log_of(LINE), start_seconds=40)["put"].tolist() == [0]
     silent = results.log(LINE.replace("put 0 3 0 aa\n", ""))
     assert planning.delivery_ratio(silent)["put"].tolist() == [0] and np.isnan(planning.delivery_ratio(silent)["ratio_of_put"][0])
 

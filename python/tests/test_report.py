@@ -9,7 +9,7 @@ from pathlib import Path
 
 import pandas as pd
 import pytest
-from networks import FAILOVER, LINE
+from networks import FAILOVER, LINE, log_of
 
 from foldcairn import __main__, planning, program, results
 
@@ -38,25 +38,34 @@ def test_from_standard_input_with_tables_that_have_no_rows(capsys: pytest.Captur
     assert "Outages at changes of hosts\n\nnone\n" in capsys.readouterr().out
 
 
-def test_all_tables_as_files(tmp_path: Path, capsys: pytest.CaptureFixture[str]) -> None:
+@pytest.fixture(scope="module")
+def expected() -> dict[str, pd.DataFrame]:
+    return planning.tables(log_of(FAILOVER))
+
+
+@pytest.fixture
+def once(monkeypatch: pytest.MonkeyPatch) -> None:
+    """The command takes the run that other tests have made; that it runs the file by itself is seen above."""
+    monkeypatch.setattr(results, "log", lambda text: log_of(text.decode()))
+
+
+def test_all_tables_as_files(expected: dict[str, pd.DataFrame], once: None, tmp_path: Path, capsys: pytest.CaptureFixture[str]) -> None:
     path, folder = tmp_path / "failover.scenario", tmp_path / "a" / "tables"
     path.write_text(FAILOVER)
     assert __main__.main(["report", str(path), "--csv", str(folder)]) == 0
     assert capsys.readouterr().out == ""
-    expected = planning.tables(results.log(FAILOVER))
     assert sorted(file.stem for file in folder.iterdir()) == sorted(expected)
     packets = pd.read_csv(folder / "packets.csv")
     assert packets["fate"].tolist() == ["delivered", "delivered"]
     assert packets["sent_seconds"].tolist() == pytest.approx([37.034, 125.034])
 
 
-def test_all_tables_as_json(tmp_path: Path, capsys: pytest.CaptureFixture[str]) -> None:
+def test_all_tables_as_json(expected: dict[str, pd.DataFrame], once: None, tmp_path: Path, capsys: pytest.CaptureFixture[str]) -> None:
     path = tmp_path / "failover.scenario"
     path.write_text(FAILOVER)
     assert __main__.main(["report", str(path), "--json"]) == 0
     read = json.loads(capsys.readouterr().out)
     assert read.pop("versions") == program.versions()
-    expected = planning.tables(results.log(FAILOVER))
     assert {name: len(rows) for name, rows in read.items()} == {name: len(table) for name, table in expected.items()}
     assert read["packets"][1]["sent_seconds"] == pytest.approx(125.034, abs=1e-12)
 

@@ -158,6 +158,8 @@ def test_verdicts_that_name_what_is_wrong(fake: Callable[[str], Path]) -> None:
     missing = answered("no missing 3 2 2370176000")
     assert missing == results.Verdict("no missing 3 2 2370176000", node=3, sender=2, start_ticks=2_370_176_000)
     assert str(missing) == "node 3 should have received what node 2 transmitted from tick 2370176000 on" and not missing.valid
+    assert str(answered("no trail 2")) == "node 2 did not transmit or listen as the protocol says for what it received"
+    assert str(answered("no heard 2")) == "entry 2 of the log is no reception by the rules, or it is there twice:   heard 0 2 1 4 5 0100"
     for answer in ("no", "no trail", "no missing 3 2", "lawfully", ""):
         with pytest.raises(columns.UnknownLine, match="no verdict"):
             answered(answer)
@@ -267,23 +269,26 @@ def test_blocks_may_end_anywhere_in_a_line(monkeypatch: pytest.MonkeyPatch) -> N
             assert getattr(parts, name).astype(str).equals(getattr(whole, name).astype(str))
 
 
+# The peak is that of /proc/self/status: what `getrusage` tells begins at the peak of the process that started this one, here that
+# of all tests before it.
 _READ = """
-import resource, sys, time
+import re, sys, time
 from foldcairn import results
 from foldcairn.scenario import Scenario
 scenario = Scenario.read(open(sys.argv[1]).read())
-before = resource.getrusage(resource.RUSAGE_SELF).ru_maxrss
 begun = time.process_time()
 with open(sys.argv[2], "rb") as source:
     log = results.read_log(source, scenario)
 seconds = time.process_time() - begun
-print(len(log.deliveries), len(log.transmissions), len(log.receptions), len(log.tunings), seconds,
-      resource.getrusage(resource.RUSAGE_SELF).ru_maxrss * 1024)
+peak = int(re.search(r"VmHWM:\\s*(\\d+) kB", open("/proc/self/status").read())[1]) * 1024
+print(len(log.deliveries), len(log.transmissions), len(log.receptions), len(log.tunings), seconds, peak)
 """
 
 
+@pytest.mark.no_cover
 def test_a_log_of_140_megabytes(tmp_path: Path) -> None:
-    """20 MB/s of processor time, in less than three times its size. The counts are those that grep counts."""
+    """20 MB/s of processor time, and at most 2.7 times its size at the peak, with Python and its libraries. The counts are those
+    that grep counts."""
     text, kept = tmp_path / "dense.scenario", tmp_path / "dense.log"
     text.write_bytes(subprocess.run([REPOSITORY / "bench/run.sh", "--text", "dense"], capture_output=True, check=True).stdout)
     program.execute_to_file(["log"], text.read_bytes(), kept)
@@ -296,8 +301,8 @@ def test_a_log_of_140_megabytes(tmp_path: Path) -> None:
     told = subprocess.run([sys.executable, "-c", _READ, text, kept], env={**os.environ, "PYTHONPATH": str(REPOSITORY / "python/src")},
                           capture_output=True, check=True, text=True).stdout.split()  # fmt: skip
     words = ("deliver", "sent", "heard", "tuned")
-    counted = subprocess.run(["cut", "-d", " ", "-f", "1", kept], capture_output=True, check=True).stdout
-    assert [int(number) for number in told[:4]] == [counted.count(f"{word}\n".encode()) for word in words]
+    counted = [subprocess.run(["grep", "-c", f"^{word} ", kept], env={"LC_ALL": "C"}, capture_output=True, check=True).stdout for word in words]
+    assert [int(number) for number in told[:4]] == [int(count) for count in counted]
     assert 140_000_000 <= size < 140_001_000
     assert size / float(told[4]) > 20_000_000
-    assert int(told[5]) < 3 * size
+    assert int(told[5]) <= 2.7 * size

@@ -4,7 +4,7 @@ from __future__ import annotations
 
 import numpy as np
 import pytest
-from networks import FAILOVER, LINE
+from networks import FAILOVER, LINE, log_of
 
 from foldcairn import planning, results
 from foldcairn.scenario import Scenario
@@ -28,7 +28,7 @@ def test_an_outage_that_nobody_ends() -> None:
     assert told["no_host_from_seconds"] == 160 and told["outage_seconds"] == pytest.approx(last["outage_seconds"])
     assert "no host serves from 160 s to the end of the run, at 240 s" in planning.cautions(log)
     # A host that serves at the end has none.
-    assert np.isnan(planning.summary(FAILOVER)["no_host_from_seconds"]) and planning.outages(results.log(LINE)).empty
+    assert np.isnan(planning.summary(FAILOVER)["no_host_from_seconds"]) and planning.outages(log_of(LINE)).empty
 
 
 def test_a_host_that_goes_silent_with_power() -> None:
@@ -64,8 +64,8 @@ def test_power_cycles_are_apart_from_the_first_start() -> None:
     assert (cycle["node"], cycle["boot"], cycle["off_seconds"], cycle["on_seconds"], cycle["host"]) == (3, 2, 56, 72, 1)
     assert 72 < cycle["joined_seconds"] < 90 and cycle["waited_seconds"] == cycle["joined_seconds"] - 72
     assert planning.joins(log)["start"].tolist() == ["first start", "first start", "first start", "power cycle"]
-    assert planning.joins(results.log(FAILOVER))["start"].tolist()[3:] == ["another host", "another host"]
-    assert planning.power_cycles(results.log(LINE)).empty
+    assert planning.joins(log_of(FAILOVER))["start"].tolist()[3:] == ["another host", "another host"]
+    assert planning.power_cycles(log_of(LINE)).empty
     # A node that is off to the end of the run, and one that never joins again.
     lost = planning.power_cycles(results.log(LINE + "off 6 3\non 11 3\n")).iloc[0]
     assert lost["host"] == -1 and np.isnan(lost["joined_seconds"])
@@ -88,7 +88,7 @@ def test_two_hosts_at_once() -> None:
     (before,) = [caution for caution in Scenario.read(COMES_BACK).cautions() if "two hosts" in caution]
     assert before.startswith("node 1 hosts again some 20 s after 124 s") and "`return`" in before
     assert not [caution for caution in Scenario.read(FAILOVER).cautions() if "two hosts" in caution]
-    assert planning.hosts(results.log(FAILOVER), "at once").empty
+    assert planning.hosts(log_of(FAILOVER), "at once").empty
 
 
 # Sporadic streams.
@@ -141,8 +141,8 @@ def line(count: int, ratio: float = 1.0, frames: int = 20) -> Scenario:
         (lambda: line(8, 0.6), "the links to nodes 7, 8 lose so much that a flood needs more than its 12 steps"),
         (lambda: line(3).node(9).on(9), "node 9 has no link to or from any other node"),
         (lambda: line(3).link(1, 3, 0).node(9).link(9, 1, 0).link(1, 9, 0).on(9), "node 9 has no link"),
-        (lambda: line(34, frames=720), "`run` rejects this: 34 nodes times 720 frames are 24,480, and at most 16,384 are run; with these "
-                                       "nodes at most 481 frames, which are 1,924 s"),
+        (lambda: line(34, frames=720), "`run` and `log` take at most 16,384 nodes times frames, which with 34 nodes are 481 frames, or 32 "
+                                      "minutes, and this network has 720 (48 minutes); for all of it take `results.outcome`"),
         (lambda: line(65), "`run` rejects this: it has 65 nodes, and at most 64 are run"),
         (lambda: line(3, frames=4096).every(1, 2, interval=1).every(1, 3, interval=1), "lines of its script, and at most 20,000 are read"),
         (lambda: Scenario(4).node(1).node(2).pair(1, 2).on(), "`run` rejects this: no node hosts; say which one by `host(0, id)`"),

@@ -2,12 +2,15 @@
 
 from __future__ import annotations
 
+import json
+import re
 from pathlib import Path
 
 import pandas
 import pytest
 
-from foldcairn import planning, plot, results
+from foldcairn import export, labels, page, planning, plot, results
+from foldcairn.__main__ import main
 from foldcairn.scenario import Scenario, ScenarioError
 
 NODES = "id,host\n1,0\n2,\n3,1\n"
@@ -92,6 +95,9 @@ def test_all_tables_have_the_names(named: results.Log) -> None:
     assert planning.delivery_ratio(named, "pair", receivers=["cellar"])["node"].tolist() == ["cellar"]
     assert planning.radio_time(named).index.tolist() == ["cellar", "stairs", "pump"]
     assert planning.contention(named, "slot")["nodes"][0] == ("pump",)
+    # The tables of `results` are what the program wrote.
+    assert set(labels.named(named.scenario, named.receptions)["sender"]) == {"cellar", "stairs", "pump"}
+    assert set(named.receptions["sender"]) == {1, 2, 3}
     # A name that some node has is no word for all.
     assert planning.importance(named.scenario, candidates=[("stairs", "pump")], seeds=[1], progress=False)["other"].tolist() == ["pump"]
 
@@ -104,6 +110,74 @@ def test_all_pictures_have_the_names(named: results.Log) -> None:
     assert {"cellar (host 0)", "stairs", "pump"} <= words(plot.topology(named.scenario))
     assert {"host 0, cellar", "stairs"} <= words(plot.timeline(named))
     assert "cellar" in words(plot.delivery(planning.delivery_ratio(named, "pair")))
+
+
+    assert "slot 1: data pump.0" in words(plot.timeline(named, frame=named.deliveries["frame"][0]))
+
+
+def test_where_only_some_nodes_have_names(named: results.Log) -> None:
+    scenario = named.scenario.copy()
+    scenario.labels = {2: "stairs"}
+    scenario.put(2, b"x", frame=8).stream(2, 4, frame=5)
+    log = results.log(scenario, warn=False)
+    assert planning.delivery_ratio(log)["source"].tolist() == ["stairs", "3"]
+    assert planning.hosts(log)["host"].tolist()[0] == "1" and page.text(log, title="Some")
+    assert planning.outages(results.log(scenario.off(1, frame=12), warn=False))["to_host"].tolist()[-1] in (-1, "3")
+
+
+def test_all_that_is_written_has_the_names(named: results.Log, tmp_path: Path) -> None:
+    """The page with the words that the mouse shows, what a notebook shows, and traces: no node is told by its id."""
+    shown = page.overview(named).to_json()
+    assert "pump in the round of frame" in shown and "stairs has no power" in shown and "cellar opens the round" in shown
+    drawn = page.data(named)
+    assert drawn["names"] == ["cellar", "stairs", "pump"] and set(drawn["receptions"]["sender"]) <= {0, 1, 2}
+    assert any(packet.startswith("data pump.0 number 0") for packet in drawn["packets"])
+    assert any(packet.startswith("request pump.0 for 4 s") for packet in drawn["packets"])
+    text = page.text(named)
+    told = [text[: text.index("<script")], shown, named.scenario._repr_html_(), *planning.cautions(named), *drawn["packets"], *drawn["slots"]["name"]]
+    export.trace(named, tmp_path / "trace.json")
+    events = json.loads((tmp_path / "trace.json").read_text())["traceEvents"]
+    tracks = [event["args"]["name"] for event in events if event["name"] == "thread_name"]
+    assert tracks[:3] == ["cellar, host of rank 0", "stairs", "pump, host of rank 1"]
+    assert {event["args"]["sender"] for event in events if "sender" in event.get("args", {})} == {"cellar", "stairs", "pump"}
+    assert {event["args"]["stream"] for event in events if "stream" in event.get("args", {})} == {"pump.0"}
+    for words in (*told, *tracks):
+        assert not re.search(r"\bnodes? [0-9]|\b3\.0\b", words), words
+
+
+def test_a_text_keeps_the_names(named: results.Log) -> None:
+    text = named.scenario.text(warn=False)
+    assert text.startswith("#: name 1 cellar\n#: name 2 stairs\n#: name 3 pump\nprofile 1\n")
+    read = Scenario.read(text)
+    assert read.labels == named.scenario.labels and read.text(warn=False) == text
+    # The program takes them for what they are to it, comments; a name may have blanks.
+    assert results.log(text).deliveries.equals(named.deliveries)
+    read.labels[3] = " old   pump\n"
+    assert Scenario.read(read.text(warn=False)).labels[3] == "old pump"
+    assert Scenario.read("#: name 9 x\n#: name 3\n#: name x y\n" + text).labels == named.scenario.labels
+
+
+def test_names_on_the_command_line(named: results.Log, tmp_path: Path, monkeypatch: pytest.MonkeyPatch, capsys: pytest.CaptureFixture[str]) -> None:
+    """By the text that a scenario writes, or by the table of places."""
+    monkeypatch.chdir(tmp_path)
+    Path("named.scenario").write_text(named.scenario.text(warn=False))
+    Path("plain.scenario").write_text(named.scenario.text(warn=False).split("pump\n", 1)[1])
+    Path("places.csv").write_text("id,x,y\ncellar,0,0\nstairs,1,0\npump,2,0\n")
+    Path("links.csv").write_text("u,v,prr\nstairs,pump,0.5\n")
+    assert main(["report", "named.scenario", "--receivers", "cellar"]) == 0
+    told = capsys.readouterr().out
+    assert "Delivery ratio by stream, at cellar" in told and re.search(r"^ +pump +0 ", told, re.MULTILINE)
+    assert main(["report", "plain.scenario", "--receivers", "cellar", "--places", "places.csv", "--ratios", "links.csv"]) == 0
+    assert capsys.readouterr().out == told
+    for name in ("named", "plain"):
+        assert main(["topology", f"{name}.scenario", "--places", "places.csv", "--ratios", "links.csv", "-o", f"{name}.svg"]) == 0
+    drawn = Path("named.svg").read_text()
+    assert "stairs" in drawn and Path("plain.svg").read_text() == drawn
+    assert main(["draw", "named.scenario", "--ratios", "links.csv"]) == 0
+    assert "#: name 3 pump\n#: seed 1\n#: prr 2 3 0.5\n" in capsys.readouterr().out
+    Path("places.csv").write_text("id,x,y,name\n1,0,0,gate\n2,1,0,\n9,5,5,far\n3,2,0,well\n")
+    assert main(["topology", "plain.scenario", "--places", "places.csv", "-o", "other.svg"]) == 0
+    assert "gate" in Path("other.svg").read_text()
 
 
 def test_places_and_ratios_by_names(tmp_path: Path) -> None:
@@ -121,5 +195,5 @@ def test_payloads_that_are_no_bytes() -> None:
 
 
 def test_a_scenario_where_a_log_is_due_says_what_to_do() -> None:
-    with pytest.raises(ValueError, match=r"takes the log of a run, and was given a Scenario; write latency\("):
+    with pytest.raises(ValueError, match=r"takes the log of a run, or its report, and was given a Scenario; write latency\("):
         planning.latency(Scenario(4).node(1))  # type: ignore[arg-type]

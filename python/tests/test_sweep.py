@@ -14,7 +14,7 @@ import pandas
 import pytest
 
 from conftest import EXAMPLES
-from foldcairn import kept, lines, losses, program, sweep
+from foldcairn import kept, losses, program, sweep
 from foldcairn.scenario import Scenario, grid, line
 
 LINE = EXAMPLES / "packets-along-a-line.scenario"
@@ -218,17 +218,18 @@ def test_single_cases_that_fail(tmp_path):
 
 
 def too_lossy(seed: int) -> losses.Drawing:
-    """Far more losses than a text has room for."""
+    """Far more losses than a text has room for: lines that do nothing leave 500 for them."""
     made = Scenario.from_graph(grid(3, 3), 200, hosts=[1], profile=2)
     for link in sorted(made.links):
         made.link(*link, prr=0.3)
     for node in range(2, 10):
         made.stream(node, 4).every(4, node)
+    for _ in range(19_500 - len(made.script)):
+        made.on(1, frame=199)
     return losses.Drawing(made, seed)
 
 
 def test_losses_that_do_not_fit_are_kept_as_such(tmp_path, monkeypatch):
-    monkeypatch.setattr(lines, "SCRIPT_LINES_MOST", 2_000)
     drawn = []
     draw = losses.draw
     monkeypatch.setattr(losses, "draw", lambda *rest, **named: (drawn.append(rest), draw(*rest, **named))[1])
@@ -268,7 +269,7 @@ def test_the_progress():
 
 def test_the_table_has_versions():
     assert sweep.sweep(network, [{"interval": 4}], executor=ThreadPoolExecutor(1), progress=False).attrs == program.versions()
-    assert set(program.versions()) == {"package", "program"} and len(program.versions()["program"]) == 64
+    assert set(program.versions()) == {"package", "planner", "program"} and len(program.versions()["program"]) == 64
 
 
 def test_all_executors_give_the_same_table():
@@ -282,7 +283,8 @@ def test_all_executors_give_the_same_table():
 def test_dask():
     distributed = pytest.importorskip("distributed")
     cases = sweep.grid(interval=[4, 8], seed=[1, 2])
-    with distributed.LocalCluster(2, threads_per_worker=1, dashboard_address=None) as cluster, distributed.Client(cluster) as client:
+    # A process of its own, which has to be sent all that a case needs.
+    with distributed.LocalCluster(1, threads_per_worker=2, dashboard_address=None) as cluster, distributed.Client(cluster) as client:
         with client.get_executor() as executor:
             table = sweep.sweep(network, cases, executor=executor, progress=False)
     pandas.testing.assert_frame_equal(table, sweep.sweep(network, cases, progress=False))

@@ -10,13 +10,14 @@ import os
 import sys
 import warnings
 from collections.abc import Sequence
+from functools import partial
 from pathlib import Path
 from typing import TYPE_CHECKING
 
 from . import front_end
 
 try:
-    from . import commands, outputs, program, report
+    from . import commands, outputs, plans, program, report, sweep
     from .arguments import ArgumentError
     from .commands import Commands
     from .scenario import Scenario, ScenarioWarning
@@ -24,7 +25,7 @@ except ModuleNotFoundError as error:
     sys.exit(f"foldcairn: {front_end.missing(error)}")
 
 if TYPE_CHECKING:
-    from . import losses, sweep
+    from . import losses
 
 # Exit statuses: 0 done; 1 the text is rejected, or what was asked for can't be had; 2 the words are no command.
 _FAILED = 1
@@ -49,7 +50,7 @@ def main(arguments: Sequence[str] | None = None) -> int:
         return status
     except ModuleNotFoundError as error:
         print(f"foldcairn: {front_end.missing(error)}", file=sys.stderr)
-    except (program.ProgramError, commands.Failed, OSError, ValueError) as error:
+    except (program.ProgramError, commands.Failed, sweep.SweepStopped, OSError, ValueError) as error:
         print(f"foldcairn: {error}", file=sys.stderr)
     except KeyboardInterrupt:
         print("foldcairn: stopped", file=sys.stderr)
@@ -85,9 +86,9 @@ def _add_draw(listed: Commands) -> None:
 
 
 def _draw(chosen: argparse.Namespace) -> int:
-    from . import losses, tables
+    from . import losses
 
-    scenario = tables.set_ratios(Scenario.read(commands.read(chosen.file)), chosen.ratios)
+    scenario = commands.scenario(chosen.file, chosen.ratios)
     try:
         drawn = losses.draw(scenario, chosen.seed)
     except losses.TooManyLosses as error:
@@ -103,10 +104,9 @@ def _add_sweep(listed: Commands) -> None:
         "that was stopped goes on where it was if it is given the same folder of results; what has changed since is made anew.",
     )  # fmt: skip
     parser.add_argument("path", metavar="PATH", help="a folder with files *.scenario, or with --ratios a scenario")
-    parser.add_argument("--results", metavar="FOLDER", help="where results are kept as they come")
-    parser.add_argument("--jobs", type=int, metavar="N", help="how many run at a time; a process for each processor without it")
-    parser.add_argument("--ratios", metavar="CSV", help="a table of links: from, to, prr (0 to 1)")
-    parser.add_argument("--seeds", default="1-10", metavar="A-B", help="the seeds to draw losses by (1-10 without it)")
+    commands.add_ratios(parser, "with it PATH is one scenario")
+    commands.add_runs(parser, "1-10")
+    commands.add_receivers(parser)
     parser.add_argument(
         "--measure", choices=("sums", "planning"), default="sums",
         help="what is measured: sums of deliveries, drops and ticks (without it), or the main numbers of planning.summary",
@@ -121,26 +121,13 @@ def _drawing(file: str, ratios: str, seed: int) -> losses.Drawing:
     return losses.Drawing(tables.set_ratios(Scenario.read(Path(file)), ratios), seed)
 
 
-def _seeds(words: str) -> range:
-    """The seeds of `A-B` or `A`."""
-    first, _, last = words.partition("-")
-    if not first.isdecimal() or not (last or first).isdecimal():
-        raise ArgumentError(f"`--seeds` is {words!r}, and has to be a number or two with a dash between them, as in 1-10")
-    return range(int(first), int(last or first) + 1)
-
-
 def _cases(chosen: argparse.Namespace) -> tuple[sweep.Build, list[dict[str, object]]]:
     """What builds the scenarios of a sweep, and the cases."""
-    from . import sweep
-
     path = Path(chosen.path)
     if chosen.ratios:
         if not path.is_file():
             raise ArgumentError(f"{path} is no file; with --ratios a scenario is named, whose losses are drawn")
-        seeds = _seeds(chosen.seeds)
-        if not seeds:
-            raise ArgumentError(f"`--seeds` is {chosen.seeds!r}, and has no seed")
-        return _drawing, sweep.grid(file=[chosen.path], ratios=[chosen.ratios], seed=seeds)
+        return _drawing, sweep.grid(file=[chosen.path], ratios=[chosen.ratios], seed=commands.seeds(chosen.seeds))
     if path.is_file():
         raise ArgumentError(f"{path} is a single scenario: give --ratios CSV to draw its losses by seeds, or name a folder")
     if not path.is_dir():
@@ -152,20 +139,15 @@ def _cases(chosen: argparse.Namespace) -> tuple[sweep.Build, list[dict[str, obje
 
 
 def _sweep(chosen: argparse.Namespace) -> int:
-    from concurrent.futures import ProcessPoolExecutor
-
-    from . import planning, sweep
+    from . import planning
 
     build, cases = _cases(chosen)
-    measures: dict[str, sweep.Measure] = {"planning": planning.summary, "sums": sweep.summary}
-    with ProcessPoolExecutor(chosen.jobs) as pool:
-        try:
-            table = sweep.sweep(build, cases, measures[chosen.measure], executor=pool, results=chosen.results)
-        except sweep.SweepStopped as error:
-            raise commands.Failed(str(error)) from error
-        except BaseException:
-            pool.shutdown(wait=False, cancel_futures=True)
-            raise
+    whom = commands.receivers(chosen.receivers)
+    if whom is not None and chosen.measure != "planning":
+        raise ArgumentError("`--receivers` needs `--measure planning`: sums count all deliveries")
+    measures: dict[str, sweep.Measure] = {"planning": partial(planning.summary, receivers=whom), "sums": sweep.summary}
+    with plans.workers(chosen.jobs) as pool:
+        table = sweep.sweep(build, cases, measures[chosen.measure], executor=pool, results=chosen.results)
     sys.stdout.write(report.as_json({"cases": table}, table.attrs) if chosen.json else table.to_csv(index=False))
     return 0 if (table.status == "ok").all() else _FAILED
 
@@ -193,7 +175,7 @@ def _explain(chosen: argparse.Namespace) -> int:
     return 0
 
 
-_COMMANDS = (report.add_command, outputs.add_commands, _add_draw, _add_sweep, _add_explain)
+_COMMANDS = (report.add_command, outputs.add_commands, plans.add_commands, _add_draw, _add_sweep, _add_explain)
 
 if __name__ == "__main__":
     sys.exit(main())

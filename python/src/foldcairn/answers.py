@@ -1,5 +1,5 @@
-"""What all answers about a log share: they take a `results.Log` alone, are worked out once for each log, and a column has the
-same type in each of their tables, also in empty ones. Tested, not proved."""
+"""What all answers about a run share: they take a `results.Log`, some any `results.Report`, are worked out once for each, and a
+column has the same type in each of their tables, also in empty ones. Tested, not proved."""
 
 from __future__ import annotations
 
@@ -12,7 +12,7 @@ import pandas as pd
 from . import arguments
 
 if TYPE_CHECKING:
-    from .results import Log
+    from .results import Report
 
 Call = TypeVar("Call", bound=Callable[..., Any])
 
@@ -29,10 +29,18 @@ WHOLE = frozenset(
 def answer(call: Call) -> Call:
     """Makes a call that takes a log raise `arguments.ArgumentError` where it is given something else, keep what it gives for
     the same log and arguments, and give tables with the types of `typed`. What it gives is the caller's own."""
+    return _answering(call, arguments.require_log)
 
+
+def report_answer(call: Call) -> Call:
+    """The same for a call that takes any `results.Report`, also one without a log."""
+    return _answering(call, arguments.require_report)
+
+
+def _answering(call: Call, require: Callable[[str, Any], None]) -> Call:
     @functools.wraps(call)
-    def answered(log: Log, *rest: Any, **named: Any) -> Any:
-        arguments.require_log(call.__name__, log)
+    def answered(log: Report, *rest: Any, **named: Any) -> Any:
+        require(call.__name__, log)
         kept: dict[Hashable, Any] = log.__dict__.setdefault("_answers", {})
         key = (call.__module__, call.__name__, rest, tuple(sorted(named.items())))
         found = kept[key] if _is_hashable(key) and key in kept else call(log, *rest, **named)

@@ -153,6 +153,17 @@ def require_log(name: str, log: Any) -> None:
         raise ArgumentError(f"`{name}` takes the log of a run, and was given {_kind(log)}; write {name}(results.log(..))")
 
 
+def require_report(name: str, report: Any) -> None:
+    """Raises `ArgumentError` where what is given to the call `name` is no `results.Report`, which a `results.Log` is too."""
+    from .results import Report
+
+    if not isinstance(report, Report):
+        raise ArgumentError(
+            f"`{name}` takes the log of a run, or its report, and was given {_kind(report)}; write {name}(results.log(..)), or for runs of "
+            f"hours {name}(results.outcome(..))"
+        )
+
+
 def _kind(value: Any) -> str:
     """What a value is, in words."""
     name = type(value).__name__

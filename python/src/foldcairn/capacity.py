@@ -28,7 +28,7 @@ def capacity(
     every: float = 60.0,
     *,
     interval: int | None = None,
-    sources: Iterable[int] | None = None,
+    sources: Iterable[int | str] | None = None,
     ratio: float = 0.9,
     start_seconds: float | None = None,
     seeds: Sequence[int] = (1,),
@@ -55,9 +55,9 @@ def capacity(
                              not is taken for granted
     limit                    what forbids one more: "streams of a host", "slots of a round", "streams of nodes", or "the run"
 
-    It takes some six runs a seed; `executor`, `results` and `progress` are those of `importance`. Raises `ScenarioError` where a
-    source is no node or an interval is out of its range, `ArgumentError` where the run is too short, and `ValueError` where a run
-    fails.
+    It takes some six runs of the bus a seed, which may be as long as those of `results.outcome`; `executor`, `results`, `progress` and
+    the table's `attrs` are those of `importance`. Raises `ScenarioError` where a source is no node or an interval is out of its range,
+    `ArgumentError` where the run is too short, and `ValueError` where a run fails.
     """
     asked = _asked_at_most(scenario)
     wanted = max(1, min(120, int(every / _SLACK))) if interval is None else interval
@@ -79,7 +79,9 @@ def capacity(
         "slots_left": max(0.0, lines.DATA_SLOTS - asked[1]), "every_seconds": float(every), "interval": wanted, "further": further,
         "limit": limit if further == most else "the run",
     }  # fmt: skip
-    return pd.DataFrame([row])
+    table = pd.DataFrame([row])
+    table.attrs.update(sweep.origin(seeds, {"scenario": scenario}))
+    return table
 
 
 def _asked_at_most(scenario: Scenario) -> tuple[int, float]:
@@ -89,7 +91,7 @@ def _asked_at_most(scenario: Scenario) -> tuple[int, float]:
     return cautions.most_asked(scenario)
 
 
-def _places(scenario: Scenario, sources: Iterable[int] | None) -> list[tuple[int, int]]:
+def _places(scenario: Scenario, sources: Iterable[int | str] | None) -> list[tuple[int, int]]:
     """Where further streams may be, as nodes and streams, the nodes in turn."""
     hosts = scenario.hosts.get(0)
     nodes = sorted(scenario.nodes.keys() - {hosts}) if sources is None else [scenario.id(node) for node in sources]
@@ -156,27 +158,24 @@ class _Search:
 
 def _with_further(
     scenario: Scenario, places: list[tuple[int, int]], every: float, interval: int, further: int, seed: int
-) -> Scenario | losses.Drawing:
-    """The scenario with so many further streams, whose losses are to be drawn; in the process of a worker."""
+) -> losses.Outcome:
+    """The scenario with so many further streams, of which the report is asked; in the process of a worker."""
     made = scenario.copy()
     for number, (node, stream) in enumerate(places[:further]):
         start = every * number / max(1, further)
         made.stream(node, interval, stream=stream, seconds=start).every(every, node, stream=stream, start=start)
-    return losses.Drawing(made, seed) if made.prr and made.seed is None else made
+    return losses.Outcome(made, seed)
 
 
-def _counts(receivers: Receivers, start: float, scenario: Scenario | str) -> pd.DataFrame:
+def _counts(receivers: Receivers, start: float, report: runs.Report) -> pd.DataFrame:
     """How many packets of each stream are put from `start` on, and delivered from then on, and what one packet counts."""
     from . import delivery
 
-    if isinstance(scenario, str):
-        raise ArgumentError("a scenario is needed, and not its text")
-    log = runs.log(scenario, warn=False)
-    whom = _for_all(receivers if receivers is not None else scenario.receivers)
-    table = delivery.delivery_ratio(log, receivers=whom, start_seconds=start)[["source", "stream", "put"]]
-    came = delivery.latencies(log, receivers=whom)
+    whom = _for_all(receivers if receivers is not None else report.scenario.receivers)
+    table = delivery.delivery_ratio(report, receivers=whom, start_seconds=start)[["source", "stream", "put"]]
+    came = delivery.latencies(report, receivers=whom)
     came = came[came["delivered_seconds"] >= start].groupby(["source", "stream"]).size().rename("delivered")
-    packets = delivery.packets(log)
+    packets = delivery.packets(report)
     packets = packets[packets["put_seconds"] >= start].groupby(["source", "stream"]).size().rename("packets")
     table = table.join(came, on=["source", "stream"]).join(packets, on=["source", "stream"]).fillna(0)
     table["one"] = (table["put"] / table["packets"].where(table["packets"] > 0)).fillna(0.0)

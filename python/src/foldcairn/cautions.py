@@ -34,13 +34,13 @@ _SHOWN_MOST = 8
 _AT_ONCE_LEAST = 3
 
 
-def of(scenario: Scenario) -> list[str]:
-    """The cautions of a scenario, in sentences."""
+def of(scenario: Scenario, *, long: bool = False) -> list[str]:
+    """The cautions of a scenario, in sentences; with `long` for a command that keeps no log, and takes longer runs."""
     script = sorted(scenario.script, key=attrgetter("frame"))
     found = _Streams(scenario, script)
     return [
         *scenario.remarks,
-        *_too_large(scenario),
+        *_too_large(scenario, long),
         *_no_host(scenario),
         *_never_on(scenario),
         *_out_of_reach(scenario),
@@ -62,22 +62,47 @@ def most_asked(scenario: Scenario) -> tuple[int, float]:
     return int(found.most_streams), found.most_slots
 
 
+def may_contend_for_ever(scenario: Scenario) -> bool:
+    """Whether nodes ask for streams at once that need not part, by the cautions on contention."""
+    found = _Streams(scenario, sorted(scenario.script, key=attrgetter("frame")))
+    return bool([*found.contend_for_ever(), *found.contend_at_once()])
+
+
 def _nodes(scenario: Scenario, nodes: Iterable[int]) -> str:
     """Nodes by their names: "node 7", or "nodes 7, 8"."""
     named = [scenario.name(node) for node in nodes]
     return f"{'node' if len(named) == 1 else 'nodes'} {_several(named)}"
 
 
-def _too_large(scenario: Scenario) -> Iterator[str]:
+def _with_id(scenario: Scenario, node: int) -> str:
+    """A node where its id matters: "7", or "pump (7)"."""
+    return f"{scenario.labels[node]} ({node})" if node in scenario.labels else str(node)
+
+
+def horizon(scenario: Scenario) -> str | None:
+    """What to know of a run that is too long for a log, in a sentence; None of others."""
+    nodes, frames, seconds = len(scenario.nodes), scenario.frames, scenario.frame_seconds
+    if nodes > lines.NODES_MOST or nodes * frames <= lines.NODE_FRAMES_MOST:
+        return None
+    most = lines.NODE_FRAMES_MOST // nodes
+    return (
+        f"`run` and `log` take at most {lines.NODE_FRAMES_MOST:,} nodes times frames, which with {nodes} nodes are {most:,} frames, or "
+        f"{most * seconds / 60:.0f} minutes, and this network has {frames:,} ({frames * seconds / 60:.0f} minutes); for all of it take "
+        "`results.outcome`, which has the deliveries, drops and costs, and the answers of `planning` that need no more"
+    )
+
+
+def _too_large(scenario: Scenario, long: bool) -> Iterator[str]:
     """What the program rejects, so that it is known before the run."""
-    nodes, frames = len(scenario.nodes), scenario.frames
+    nodes = len(scenario.nodes)
     if nodes > lines.NODES_MOST:
         yield f"`run` rejects this: it has {nodes} nodes, and at most {lines.NODES_MOST} are run; take some out, or plan in parts"
-    elif nodes * frames > lines.NODE_FRAMES_MOST:
-        most = lines.NODE_FRAMES_MOST // nodes
+    elif not long and (words := horizon(scenario)):
+        yield words
+    if (count := len(scenario.ratio_lines())) > lines.RATIO_LINES_MOST:
         yield (
-            f"`run` rejects this: {nodes} nodes times {frames:,} frames are {nodes * frames:,}, and at most {lines.NODE_FRAMES_MOST:,} are "
-            f"run; with these nodes at most {most:,} frames, which are {most * scenario.frame_seconds:,} s"
+            f"`outcome` rejects this: it has {count:,} ratios, and at most {lines.RATIO_LINES_MOST:,} are read; let them change less often, "
+            "or shorten the run"
         )
     written: tuple[Sized, ...] = (scenario.rates, scenario.script, scenario.losses, scenario.cuts, scenario.captures)
     if (count := sum(map(len, written))) > lines.SCRIPT_LINES_MOST:
@@ -101,7 +126,11 @@ def _out_of_reach(scenario: Scenario) -> Iterator[str]:
     if not scenario.hosts or len(scenario.nodes) < 2:
         return
     graph = scenario.graph()
-    graph.remove_edges_from([link for link, ratio in scenario.prr.items() if ratio == 0])
+    # At its best time each link counts.
+    for one in scenario.ratio_lines():
+        data = graph.edges[one.sender, one.receiver]
+        data["prr"] = max(data["prr"], one.prr)
+    graph.remove_edges_from([(one, other) for one, other, ratio in graph.edges(data="prr") if ratio == 0])
     alone = [node for node in sorted(graph) if not graph.in_degree(node) or not graph.out_degree(node)]
     if alone:
         yield f"{_nodes(scenario, alone)} {_has(alone)} no link to or from any other node, so {_it(alone)} can't take part"
@@ -163,8 +192,7 @@ def _several(names: Iterable[object]) -> str:
 def _never_on(scenario: Scenario) -> Iterator[str]:
     never = sorted(scenario.nodes.keys() - {event.node for event in scenario.script if isinstance(event, On)})
     if never:
-        one = len(never) == 1
-        yield f"{'node' if one else 'nodes'} {_several(never)} {'is' if one else 'are'} never switched on"
+        yield f"{_nodes(scenario, never)} {_is(never)} never switched on"
 
 
 def _losses_without_link(scenario: Scenario) -> Iterator[str]:
@@ -172,7 +200,8 @@ def _losses_without_link(scenario: Scenario) -> Iterator[str]:
     captured = {(event.sender, event.at) for event in scenario.captures} - scenario.links
     for what, links in (("losses", lost), ("captures", captured)):
         if links:
-            yield f"{what} are given on links that the scenario doesn't have: {_several(f'{u} to {v}' for u, v in sorted(links))}"
+            named = _several(f"{scenario.name(u)} to {scenario.name(v)}" for u, v in sorted(links))
+            yield f"{what} are given on links that the scenario doesn't have: {named}"
 
 
 class _Streams:
@@ -222,9 +251,12 @@ class _Streams:
         slots = sum(self.scenario.frame_seconds / interval for interval in requested.values())
         self.most_slots = max(self.most_slots, slots)
 
+    def _name(self, node: int, stream: int) -> str:
+        return f"stream {stream} of node {self.scenario.name(node)}"
+
     def puts_without_stream(self) -> Iterator[str]:
         if self.without:
-            which = _several(f"{count} of stream {stream} of node {node}" for (node, stream), count in sorted(self.without.items()))
+            which = _several(f"{count} of {self._name(*key)}" for key, count in sorted(self.without.items()))
             yield (
                 f"packets are put at a node that is off, or into a stream that isn't requested by then, and are dropped: {which}"
             )
@@ -257,9 +289,10 @@ class _Streams:
             and not {one, other} & {self.scenario.hosts.get(0)}
         ]
         if together:
+            pairs = _several(f"{_with_id(self.scenario, one)} and {_with_id(self.scenario, other)}" for one, other in together)
             parting = "`contend 3` or another id" if slots != 3 else "another id"
             yield (
-                f"the ids of nodes {_several(f'{one} and {other}' for one, other in together)} are equal modulo {period}: where they "
+                f"the ids of nodes {pairs} are equal modulo {period}: where they "
                 f"ask for streams at the same time, with {slots} contention slot{'s' * (slots > 1)}, their requests collide each "
                 f"time until a loss parts them; let their streams start in rounds of their own ({parting} parts two nodes, but not always more)"
             )
@@ -288,7 +321,7 @@ class _Streams:
             limit = _EMPTY_SLOTS * max(self.intervals[node, stream], 1)
             pauses = [(later - one) * self.scenario.frame_seconds for one, later in zip(frames, frames[1:])]
             if max(pauses, default=0) > limit:
-                found.append(f"stream {stream} of node {self.scenario.name(node)} after {limit} s (its pauses are up to {max(pauses):,.0f} s)")
+                found.append(f"{self._name(node, stream)} after {limit} s (its pauses are up to {max(pauses):,.0f} s)")
         if found:
             yield (
                 f"a host takes a stream away whose slots stay empty {_EMPTY_SLOTS} times in a row, and the next packet has to ask for it anew, "
@@ -308,7 +341,7 @@ class _Streams:
             if interval > longest / _SLACK_LEAST:
                 better = max(1, int(spacing / _SLACK))
                 advice = f"{better}" if better < interval else "two streams"
-                tight.append(f"stream {stream} of node {node} (every {spacing:.1f} s, interval {interval}: {advice})")
+                tight.append(f"{self._name(node, stream)} (every {spacing:.1f} s, interval {interval}: {advice})")
         if tight:
             yield (
                 "streams get slots hardly faster than their packets come, so what queued while they waited for their host never "

@@ -23,6 +23,8 @@ _BLOCK_BYTES = 1 << 24
 _LINE_FEED, _SPACE = 10, 32
 # So many bytes of a line tell which word it begins with.
 _HEAD_BYTES = 3
+# The place of a word that is none of a table's.
+_OTHER = 255
 
 
 class UnknownLine(ValueError):
@@ -58,19 +60,30 @@ def _read_block(
     heads = np.zeros(len(starts), np.uint32)
     for place in range(_HEAD_BYTES):
         heads = heads << 8 | block[np.minimum(starts + place, len(block) - 1)]
-    known = np.isin(heads, [_head(word) for word in skipped])
-    for word, columns in lines.items():
-        ours = heads == _head(word)
-        if ours.any():
-            known |= ours
-            text = block[np.repeat(ours, ends - starts)]
+    # The place of each line's first word among `lines`, from 1 on; 0 where it is in `skipped`.
+    words = np.full(len(starts), _OTHER, np.uint8)
+    words[np.isin(heads, [_head(word) for word in skipped])] = 0
+    for place, word in enumerate(lines, 1):
+        words[heads == _head(word)] = place
+    if (words == _OTHER).any():
+        line = int(np.argmax(words == _OTHER))
+        raise UnknownLine(f"unknown line {block[starts[line] : ends[line] - 1].tobytes()!r}")
+    of_bytes = _of_bytes(words, starts, len(block))
+    for place, (word, columns) in enumerate(lines.items(), 1):
+        if count := np.count_nonzero(words == place):
+            text = block[of_bytes == place]
             # pandas takes further words for an index, and says nothing.
-            if np.count_nonzero(text == _SPACE) != len(columns) * np.count_nonzero(ours):
+            if np.count_nonzero(text == _SPACE) != len(columns) * count:
                 raise UnknownLine(f"a `{word}` line has other words than {', '.join(columns)}")
             parts[word].append(_read_lines(text.tobytes(), word, columns))
-    if not known.all():
-        line = int(np.argmin(known))
-        raise UnknownLine(f"unknown line {block[starts[line] : ends[line] - 1].tobytes()!r}")
+
+
+def _of_bytes(words: NDArray[np.uint8], starts: NDArray[np.int64], size: int) -> NDArray[np.uint8]:
+    """What `words` has of a line, for each of its bytes: the sums of the differences from line to line, which wrap around. To
+    repeat each by the length of its line takes six times as long."""
+    each = np.zeros(size, np.uint8)
+    each[starts] = np.diff(words, prepend=np.uint8(0))
+    return np.cumsum(each, dtype=np.uint8, out=each)
 
 
 def _head(word: str) -> int:

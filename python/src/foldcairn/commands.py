@@ -10,12 +10,17 @@ import re
 import sys
 from collections.abc import Callable
 from pathlib import Path
-from typing import TypeAlias
+from typing import Any, TypeAlias
 
+from . import tables
 from .arguments import ArgumentError
+from .receivers import ALL, HOSTS, Receivers
+from .scenario import Scenario
 
-# The type has no public name.
+# These types have no public names.
 Commands: TypeAlias = "argparse._SubParsersAction[argparse.ArgumentParser]"
+# A command, or a group of its options.
+Options: TypeAlias = "argparse.ArgumentParser | argparse._ArgumentGroup"
 
 
 class Failed(Exception):
@@ -46,6 +51,82 @@ def add_window(parser: argparse.ArgumentParser) -> None:
     words = "seconds from the start of the run"
     parser.add_argument("--from", dest="start", type=float, default=0.0, metavar="S", help=f"{words} (0 without it)")
     parser.add_argument("--to", dest="end", type=float, metavar="S", help=f"{words} (its end without it)")
+
+
+def add_ratios(parser: Options, words: str) -> None:
+    """The table of reception ratios."""
+    parser.add_argument("--ratios", metavar="CSV", help=f"a table of links: from, to, prr (0 to 1); {words}")
+
+
+def add_receivers(parser: argparse.ArgumentParser) -> None:
+    """For whom packets are meant."""
+    parser.add_argument(
+        "--receivers", metavar="WHO", help="for whom packets are meant: all (without it), hosts, nodes with commas, or one of these for each source "
+        "or stream, as in 7=101,8.1=hosts,others=all",
+    )  # fmt: skip
+
+
+def add_places(parser: Options) -> None:
+    """The table of nodes for a map."""
+    parser.add_argument(
+        "--places", metavar="CSV", help="a table of nodes for the map: id, x, y (upwards), and maybe their name; laid out by the links without it"
+    )
+
+
+def add_runs(parser: argparse.ArgumentParser, seeds: str | None) -> None:
+    """What each command of many runs takes; with seeds where it draws losses by them."""
+    if seeds is not None:
+        parser.add_argument("--seeds", default=seeds, metavar="A-B", help=f"the seeds to draw losses by ({seeds} without it)")
+    parser.add_argument("--results", metavar="FOLDER", help="where results are kept as they come: what was stopped goes on from there")
+    parser.add_argument("--jobs", type=int, metavar="N", help="how many run at a time; a process for each processor without it")
+
+
+def seeds(words: str) -> range:
+    """The seeds of `A-B` or `A`. Raises `ArgumentError` where there are none."""
+    first, _, last = words.partition("-")
+    if not first.isdecimal() or not (last or first).isdecimal():
+        raise ArgumentError(f"`--seeds` is {words!r}, and has to be a number or two with a dash between them, as in 1-10")
+    found = range(int(first), int(last or first) + 1)
+    if not found:
+        raise ArgumentError(f"`--seeds` is {words!r}, and has no seed")
+    return found
+
+
+def nodes(words: str) -> list[int | str]:
+    """The nodes of a list with commas, each by its id or its name."""
+    return [int(word) if word.strip().isdecimal() else word.strip() for word in words.split(",")]
+
+
+def receivers(words: str | None) -> Receivers:
+    """The receivers of `--receivers`: "all", "hosts", nodes with commas between them, or one of these for each source or stream."""
+    if words is None or words in (ALL, HOSTS):
+        return words
+    if "=" not in words:
+        return nodes(words)
+    return dict(_sink(word) for word in words.split(","))
+
+
+def _sink(word: str) -> tuple[Any, Receivers]:
+    """A source or a stream, and for whom its packets are meant: of "7=101" or "8.1=hosts"."""
+    source, _, whom = word.strip().partition("=")
+    node, _, stream = source.rpartition(".")
+    key = (nodes(node)[0], int(stream)) if node and stream.isdecimal() else nodes(source)[0]
+    return key, whom if whom in (ALL, HOSTS) else nodes(whom)
+
+
+def scenario(path: str, ratios: str | None = None) -> Scenario:
+    """The scenario of a file, with the ratios of a table."""
+    return set_ratios(Scenario.read(read(path)), ratios)
+
+
+def set_ratios(made: Scenario, path: str | None) -> Scenario:
+    """The scenario, with the ratios of `--ratios` where it is given."""
+    return made if path is None else tables.set_ratios(made, path)
+
+
+def places(made: Scenario, path: str | None) -> dict[int, tuple[float, float]] | None:
+    """The places of `--places`; where its nodes have names, the scenario gets these."""
+    return None if path is None else tables.positions(path, made)
 
 
 def read(path: str) -> bytes:

@@ -43,8 +43,11 @@ class Comparison:
     """What came of a comparison.
 
     table      a row for each answer, and for each plan its mean over the seeds, and `.. ±`, half of the interval in which the mean
-               lies with 95 % (missing for one seed); `better` is the plan whose interval is better than each other's, if one is
+               lies with 95 % (missing for one seed); `better` is the plan whose interval is better than each other's, if one is,
+               and `missing` says of which plans some seeds have no answer, as where not all nodes ever joined: the mean is that of
+               the others, and then no plan is called better
     runs       a row for each plan and seed, with the numbers of `planning.summary`
+    The `attrs` of the table say where it comes from (`sweep.origin`), and the page says it at its end.
     """
 
     table: pd.DataFrame
@@ -99,6 +102,7 @@ def compare(
         meant(network, receivers)
     told = _runs(plans, seeds, receivers, executor, results, progress)
     table = _table(told, list(plans), findings.whom(next(iter(plans.values())), receivers))
+    table.attrs.update(sweep.origin(seeds, plans))
 
     def whole() -> str:
         first = {name: runs.log(_drawn(network, seeds[0]), warn=False) for name, network in plans.items()}
@@ -112,7 +116,7 @@ def compare(
 
 def _drawn(network: Scenario, seed: int) -> Scenario:
     """The network with the losses of a seed."""
-    return losses.draw(network, seed) if network.prr and network.seed is None else network
+    return losses.draw(network, seed) if network.is_to_be_drawn else network
 
 
 def _runs(
@@ -133,7 +137,7 @@ def _runs(
 
 def _built(plans: Mapping[str, Scenario], plan: str, seed: int) -> Scenario | losses.Drawing:
     network = plans[plan]
-    return losses.Drawing(network, seed) if network.prr and network.seed is None else network
+    return losses.Drawing(network, seed) if network.is_to_be_drawn else network
 
 
 def _numbers(receivers: Receivers, scenario: Scenario | str) -> dict[str, float]:
@@ -148,11 +152,17 @@ def _table(told: pd.DataFrame, plans: list[str], whom: str) -> pd.DataFrame:
     for name, words, more, times, unit in _ANSWERS:
         values = {plan: times * told.loc[told["plan"] == plan, name].to_numpy(dtype="float64") for plan in plans}
         spans = {plan: _interval(numbers) for plan, numbers in values.items()}
+        missing = [_missing(plan, numbers) for plan, numbers in values.items() if 0 < np.isnan(numbers).sum() < len(numbers)]
         row: dict[str, Any] = {"answer": words.format(whom=whom), "unit": unit}
         for plan in plans:
             row[plan], row[f"{plan} ±"] = spans[plan]
-        rows.append({**row, "better": _better(spans, more)})
+        rows.append({**row, "better": "" if missing else _better(spans, more), "missing": ", ".join(missing)})
     return pd.DataFrame(rows)
+
+
+def _missing(plan: str, numbers: NDArray[np.float64]) -> str:
+    """In how many of a plan's runs a number is missing."""
+    return f"{plan} in {np.isnan(numbers).sum()} of {len(numbers)} seeds"
 
 
 def _interval(numbers: NDArray[np.float64]) -> tuple[float, float]:
@@ -186,6 +196,7 @@ def _page(
         _answers(table, list(logs), seeds),
         *(f'<section class="figure"><h2>The network, plan {html.escape(name)}</h2>{_map(log, positions)}</section>' for name, log in logs.items()),
         *(_failure(name, log) for name, log in logs.items()),
+        _origin(table.attrs),
     ]
     css = (Path(__file__).parent / "page.css").read_text(encoding="utf-8")
     head = f'<meta charset="utf-8"><meta name="viewport" content="width=device-width"><title>{html.escape(title)}</title>'
@@ -199,12 +210,24 @@ def _answers(table: pd.DataFrame, plans: list[str], seeds: Sequence[int]) -> str
     rows = []
     for row in table.to_dict("records"):
         cells = [_cell(row[plan], row[f"{plan} ±"], row["unit"], row["better"] == plan) for plan in plans]
-        rows.append(f"<tr><th>{html.escape(row['answer'])}</th>{''.join(cells)}<td>{html.escape(row['better'] or '–')}</td></tr>")
+        none = f"<br>none: {html.escape(row['missing'])}" if row["missing"] else ""
+        rows.append(f"<tr><th>{html.escape(row['answer'])}{none}</th>{''.join(cells)}<td>{html.escape(row['better'] or '–')}</td></tr>")
     many = f"{len(seeds)} seeds" if len(seeds) > 1 else "one seed, which gives no interval"
     return (
         f'<h2>The answers</h2><p>Means over {many}, with the interval in which the mean lies with 95 %. A plan is marked where its '
-        "interval is better than each other's; where none is, more seeds may tell.</p>"
+        "interval is better than each other's; where none is, more seeds may tell. Where some seeds have no answer, the mean is that of the "
+        "others, and no plan is marked.</p>"
         f'<table class="plans"><thead><tr>{heads}</tr></thead><tbody>{"".join(rows)}</tbody></table>'
+    )
+
+
+def _origin(attrs: Mapping[Any, Any]) -> str:
+    """What was run, by which anyone can make the same runs again."""
+    texts = "".join(f"<li>Plan {html.escape(name)}: the SHA-256 of its text with its ratios is <code>{one}</code>.</li>" for name, one in attrs["text"].items())
+    return (
+        f"<h2>What was run</h2><p>Seeds: {', '.join(map(str, attrs['seeds']))}. The SHA-256 of the program is <code>{attrs['program']}</code>. "
+        f"It is proved to follow its rules; this page and its numbers are by the Python package {html.escape(attrs['package'])}, which is "
+        f"tested, not proved.</p><ul>{texts}</ul>"
     )
 
 

@@ -1,6 +1,8 @@
 """What became of packets: delivery ratios, where each packet went, and latencies. `planning` has all answers in one place.
 
-All times are seconds of true time from the start of the run, or spans of it. Tested, not proved.
+All times are seconds of true time from the start of the run, or spans of it. Each answer takes a `results.Log`, or a report
+without a log, as `results.outcome` gives it for runs of hours; then times of deliveries are by plan, the start of the slot, and
+what only a log tells is left out. Tested, not proved.
 """
 
 from __future__ import annotations
@@ -9,19 +11,19 @@ import numpy as np
 import pandas as pd
 
 from . import arguments, power
-from .answers import answer
+from .answers import report_answer
 from .receivers import Receivers, meant, of_streams, stream_index
-from .results import Log
+from .results import Log, Report
 
 PACKET = ["source", "boot", "stream", "number"]
 FATES = (
-    "delivered", "delivered by none", "queued", "lost with its node", "withdrawn",
+    "delivered", "delivered by none", "queued", "lost with its node", "withdrawn", "not delivered",
     "dropped: node off", "dropped: no stream", "dropped: full queue",
 )  # fmt: skip
 
 
-@answer
-def packets(log: Log) -> pd.DataFrame:
+@report_answer
+def packets(log: Report) -> pd.DataFrame:
     """Where each packet went: a row for each put, in the order in which they happen.
 
     frame, put_seconds    the frame of the put, and its start in seconds
@@ -36,23 +38,39 @@ def packets(log: Log) -> pd.DataFrame:
     fate                  "delivered" (by at least one node); "delivered by none" (it was sent); "queued" (it waits at the end
                           of the run); "lost with its node" (power went off while it waited); "withdrawn" (its stream was
                           left while it waited); or "dropped: " and why: "node off", "no stream" or "full queue"
+
+    A report without a log has `sent_seconds` and `rank` of packets that were delivered alone, by plan, and all others that were
+    not dropped are "not delivered": it does not tell which of them were sent.
     """
     table = power.puts(log)
-    data = log.initiations[log.initiations["kind"] == "data"]
-    sent = data.rename(columns={"origin": "source", "start_seconds": "sent_seconds"})[[*PACKET, "sent_seconds", "rank"]]
+    sent = _sent(log)
     table["keep_alive"] = of_streams(table, log.scenario.keep_alive) & (table["payload"] == "-")
-    delivered = log.deliveries.groupby(PACKET)["delivered_seconds"].agg(deliveries="size", first_seconds="min", last_seconds="max")
+    delivered = _arrivals(log).groupby(PACKET)["delivered_seconds"].agg(deliveries="size", first_seconds="min", last_seconds="max")
     table = _joined(_joined(table, sent), delivered.reset_index())
     table["deliveries"] = table["deliveries"].fillna(0).astype("int64")
     table["rank"] = table["rank"].fillna(-1).astype("int64")
     was_sent = table["sent_seconds"].notna()
     fate = np.select(
-        [table["dropped"] != "", table["deliveries"] > 0, was_sent, table["cleared"] != ""],
+        [table["dropped"] != "", table["deliveries"] > 0, was_sent, (table["cleared"] != "") & isinstance(log, Log)],
         ["dropped: " + table["dropped"].astype(str), "delivered", "delivered by none", table["cleared"].astype(str)],
-        "queued",
+        "queued" if isinstance(log, Log) else "not delivered",
     )
     table["fate"] = pd.Categorical(fate, categories=FATES)
     return table.drop(columns=["dropped", "cleared"])
+
+
+def _sent(log: Report) -> pd.DataFrame:
+    """When each packet that was sent was sent first, and on which channel; without a log, of those that were delivered."""
+    if isinstance(log, Log):
+        data = log.initiations[log.initiations["kind"] == "data"]
+        return data.rename(columns={"origin": "source", "start_seconds": "sent_seconds"})[[*PACKET, "sent_seconds", "rank"]]
+    first = log.deliveries.drop_duplicates(PACKET)
+    return first.rename(columns={"planned_seconds": "sent_seconds"})[[*PACKET, "sent_seconds", "rank"]]
+
+
+def _arrivals(log: Report) -> pd.DataFrame:
+    """The deliveries with `delivered_seconds`, which is by plan where there is no log."""
+    return log.deliveries if isinstance(log, Log) else log.deliveries.rename(columns={"planned_seconds": "delivered_seconds"})
 
 
 def _joined(table: pd.DataFrame, other: pd.DataFrame) -> pd.DataFrame:
@@ -60,8 +78,8 @@ def _joined(table: pd.DataFrame, other: pd.DataFrame) -> pd.DataFrame:
     return table.merge(other.astype({name: "int64" for name in PACKET}), how="left", on=PACKET)
 
 
-@answer
-def fates(log: Log, by: str = "stream") -> pd.DataFrame:
+@report_answer
+def fates(log: Report, by: str = "stream") -> pd.DataFrame:
     """How many packets went where: their sum `puts`, and a column for each fate that occurs (see `packets`).
 
     `by` is "stream" (a row for each source and stream, which are the index) or "all" (one row). Raises `ArgumentError` where
@@ -85,9 +103,9 @@ def _keys(by: str, *words: str) -> list[str]:
     return _KEYS[arguments.one_of("by", by, words)]
 
 
-@answer
+@report_answer
 def delivery_ratio(
-    log: Log,
+    log: Report,
     by: str = "stream",
     *,
     receivers: Receivers = None,
@@ -106,20 +124,21 @@ def delivery_ratio(
     sent_while_on      those that it transmitted in a frame in which the receiver had power
     delivered          those that the receiver delivered
     ratio_of_put, ratio_of_sent, ratio_of_sent_while_on   `delivered` as a part of each, 0 to 1; missing where there is none
+    Of a report without a log there are `put`, `delivered` and `ratio_of_put`.
 
     Raises `ArgumentError` where `by` is another word, the time is no part of the run, or `receivers` names what the scenario does
     not have.
     """
     keys = _keys(by, *_KEYS)
     pairs = _within(log, _pairs(log, receivers), start_seconds, end_seconds)
-    counts = ["put", "sent", "sent_while_on", "delivered"]
+    counts = ["put", "sent", "sent_while_on", "delivered"] if isinstance(log, Log) else ["put", "delivered"]
     table = _summed(log, pairs, by, keys, counts)
-    for count in counts[:3]:
+    for count in counts[:-1]:
         table[f"ratio_of_{count}"] = table["delivered"] / table[count].where(table[count] > 0)
     return table
 
 
-def _summed(log: Log, pairs: pd.DataFrame, by: str, keys: list[str], counts: list[str]) -> pd.DataFrame:
+def _summed(log: Report, pairs: pd.DataFrame, by: str, keys: list[str], counts: list[str]) -> pd.DataFrame:
     """The sums of these columns, which are truths, over pairs that are `inside`: a row for each group, also where it is 0."""
     values = pairs[counts].mul(pairs["inside"], axis=0)
     if not keys:
@@ -130,21 +149,26 @@ def _summed(log: Log, pairs: pd.DataFrame, by: str, keys: list[str], counts: lis
     return table.reset_index()
 
 
-def _within(log: Log, table: pd.DataFrame, start_seconds: float, end_seconds: float | None) -> pd.DataFrame:
+def _within(log: Report, table: pd.DataFrame, start_seconds: float, end_seconds: float | None) -> pd.DataFrame:
     """The table with a column that tells whether a packet was put in this time."""
     start, end = arguments.window(start_seconds, end_seconds, log.scenario.seconds)
     return table.assign(inside=(table["put_seconds"] >= start) & (table["put_seconds"] < end))
 
 
-def _pairs(log: Log, receivers: Receivers) -> pd.DataFrame:
+def _pairs(log: Report, receivers: Receivers) -> pd.DataFrame:
     """A row for each packet that was put and each node that it is meant for, with what became of it there."""
     table = packets(log)
     table = table.loc[~table["keep_alive"], [*PACKET, "put_seconds", "sent_seconds", "rank"]]
     pairs = meant(log.scenario, receivers).pairs(log, table.reset_index(drop=True))
-    got = log.deliveries[[*PACKET, "node", "delivered_seconds"]]
+    got = _arrivals(log)[[*PACKET, "node", "delivered_seconds"]]
     pairs = pairs.merge(got.astype({name: "int64" for name in (*PACKET, "node")}), how="left", on=[*PACKET, "node"])
     pairs["delivered"] = pairs["delivered_seconds"].notna()
     pairs["put"] = True
+    return _with_sent(log, pairs) if isinstance(log, Log) else pairs
+
+
+def _with_sent(log: Log, pairs: pd.DataFrame) -> pd.DataFrame:
+    """The pairs with whether the packet was sent, and while the receiver had power."""
     pairs["sent"] = pairs["sent_seconds"].notna()
     frame = (pairs["sent_seconds"].fillna(0) // log.scenario.frame_seconds).astype("int64").to_numpy()
     power_of = power.powered(log.scenario)
@@ -152,9 +176,9 @@ def _pairs(log: Log, receivers: Receivers) -> pd.DataFrame:
     return pairs
 
 
-@answer
+@report_answer
 def deadline(
-    log: Log,
+    log: Report,
     seconds: float,
     by: str = "stream",
     *,
@@ -187,12 +211,13 @@ def deadline(
     return table
 
 
-@answer
-def latencies(log: Log, *, receivers: Receivers = None) -> pd.DataFrame:
+@report_answer
+def latencies(log: Report, *, receivers: Receivers = None) -> pd.DataFrame:
     """A row for each delivery at a node that the packet is meant for (`receivers`): the packet, the `node`, `put_seconds` (the
     start of the frame of the put), `delivered_seconds` (when the node had received it, see `results.Log`), and `latency_seconds`,
-    the second less the first. A packet that came up within the frame of its put waited less, by up to a frame."""
-    got = log.deliveries[meant(log.scenario, receivers).kept(log.deliveries)]
+    the second less the first. A packet that came up within the frame of its put waited less, by up to a frame. Without a log
+    `delivered_seconds` is the start of the slot by plan, at most 56 ms before the node has the packet by a clock without drift."""
+    got = _arrivals(log)[meant(log.scenario, receivers).kept(log.deliveries)]
     got = got[[*PACKET, "node", "delivered_seconds"]]
     put = packets(log)
     put = put.loc[~put["keep_alive"], [*PACKET, "put_seconds"]]
@@ -201,8 +226,8 @@ def latencies(log: Log, *, receivers: Receivers = None) -> pd.DataFrame:
     return table
 
 
-@answer
-def latency(log: Log, by: str = "stream", *, receivers: Receivers = None, start_seconds: float = 0.0,
+@report_answer
+def latency(log: Report, by: str = "stream", *, receivers: Receivers = None, start_seconds: float = 0.0,
             end_seconds: float | None = None) -> pd.DataFrame:  # fmt: skip
     """The time from put to delivery in seconds, by "stream", by receiving "node", or over "all": `deliveries` (their count),
     `min`, `median`, `p90`, `p99` and `max`. Only packets that were put from `start_seconds` on and before `end_seconds` count.

@@ -130,4 +130,23 @@ class Capture:
         return f"capture {self.frame} {self.slot} {self.step} {self.at} {self.sender}"
 
 
+@dataclass(frozen=True, order=True, slots=True)
+class Ratio:
+    """From the frame on the link passes what is sent at the reception ratio `prr`, 0 to 1, until a later ratio of it."""
+
+    frame: int
+    sender: int
+    receiver: int
+    prr: float
+
+    def text(self) -> str:
+        """The line of it, which has the ratio in millionths, rounded."""
+        return f"ratio {self.frame} {self.sender} {self.receiver} {millionths(self.prr)}"
+
+
+def millionths(ratio: float) -> int:
+    """A ratio as a network text and coins have it."""
+    return round(1_000_000 * ratio)
+
+
 ScriptLine = On | Off | Stream | Leave | Put

@@ -23,7 +23,7 @@ from typing import Any, BinaryIO
 
 import pandas as pd
 
-from . import arguments, files, lines, radio, timing
+from . import arguments, files, findings, lines, radio, timing
 from .packets import Data, Packet, Request
 from .results import TICKS_A_SECOND, Log
 
@@ -143,11 +143,13 @@ def _events(log: Log, start: float, end: float) -> Iterator[dict[str, Any]]:
     windows = radio.tunings(log)
     for row in inside(windows[windows["purpose"] != "searching"]):
         yield _slice(_NODES, row.node, row.purpose, row, {"rank": row.rank})
-    about = {digits: _about(packet) for digits, packet in log.packets["decoded"].items()}
+    labels = log.scenario.labels
+    about = {digits: _about(log, packet) for digits, packet in log.packets["decoded"].items()}
     for row in inside(log.transmissions):
         yield _slice(_NODES, row.node, f"transmits {row.kind}", row, {**about[row.packet], "rank": row.rank})
     for row in inside(log.receptions):
-        yield _slice(_NODES, row.node, f"receives {row.kind}", row, {**about[row.packet], "rank": row.rank, "sender": row.sender})
+        whose = {"rank": row.rank, "sender": labels.get(row.sender, row.sender)}
+        yield _slice(_NODES, row.node, f"receives {row.kind}", row, {**about[row.packet], **whose})
     slots = timing.slots(log)
     whole = slots.groupby(["frame", "rank"], as_index=False).agg({"start_seconds": "min", "end_seconds": "max"})
     for row in inside(whole):
@@ -166,7 +168,8 @@ def _tracks(log: Log) -> Iterator[dict[str, Any]]:
         yield named("process_name", group, 0, name)
         yield named("process_sort_index", group, 0, _RANKS - group)
     for node in sorted(log.scenario.nodes):
-        yield named("thread_name", _NODES, node, f"node {node}, host of rank {ranks[node]}" if node in ranks else f"node {node}")
+        name = findings.node(log.scenario, node)
+        yield named("thread_name", _NODES, node, f"{name}, host of rank {ranks[node]}" if node in ranks else name)
         yield named("thread_sort_index", _NODES, node, node)
     for rank in sorted(log.scenario.hosts):
         yield named("thread_name", _RANKS, rank, f"rank {rank}")
@@ -179,13 +182,14 @@ def _slice(group: int, track: int, name: str, row: Any, arguments: dict[str, Any
     return {**event, "args": arguments} if arguments else event
 
 
-def _about(packet: Packet) -> dict[str, Any]:
+def _about(log: Log, packet: Packet) -> dict[str, Any]:
     """The fields of a packet that are told in a trace."""
+    stream = log.scenario.stream_name
     told: dict[str, Any] = {"slot": packet.slot, "step": packet.counter}
     if isinstance(packet, Data):
-        return {**told, "stream": f"{packet.node}.{packet.stream}", "number": packet.number, "payload": packet.payload.hex()}
+        return {**told, "stream": stream(packet.node, packet.stream), "number": packet.number, "payload": packet.payload.hex()}
     if isinstance(packet, Request):
-        return {**told, "stream": f"{packet.node}.{packet.stream}", "interval": packet.interval}
-    owners = " ".join(f"{one.node}.{one.stream}" for one in packet.owners)
-    acknowledged = " ".join(f"{one.node}.{one.stream}" for one in packet.acknowledgements)
+        return {**told, "stream": stream(packet.node, packet.stream), "interval": packet.interval}
+    owners = " ".join(stream(one.node, one.stream) for one in packet.owners)
+    acknowledged = " ".join(stream(one.node, one.stream) for one in packet.acknowledgements)
     return {**told, "gap": packet.gap, "owners": owners, "acknowledged": acknowledged}

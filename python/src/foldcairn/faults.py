@@ -91,7 +91,10 @@ class _Fault:
         self.above = rows[: line - 1]
         self.words = rows[line - 1] if line <= len(rows) else []
         self.context = context_of(self.above)
+        self.node_frames_most = lines.LONG_NODE_FRAMES_MOST if command == "outcome" else lines.NODE_FRAMES_MOST
         self.table = lines.fields(self.grammar, self.context)
+        if command == "outcome" and ["ratios"] in self.above:
+            self.table = {"ratio": lines.fields(command, self.context)["ratio"]}
         self.fields = self.table.get(self.words[0], ()) if self.words else ()
         self.values = list(zip(self.words[1:], self.fields))
 
@@ -144,6 +147,10 @@ class _Fault:
     def _unknown_word(self, first: str) -> str:
         if first.startswith("\ufeff"):
             return "the text begins with a byte order mark; save it without one"
+        if list(self.table) == ["ratio"] and first in lines.fields("run"):
+            return f"below a line `ratios` all lines are ratios, and `{first}` comes above it"
+        if first == "ratio" and self.grammar == "scenario":
+            return "`ratio` is a line of a network, which is read by outcome, below a line `ratios`"
         for grammar, commands in (("scenario", "run, log and bus"), ("flood", "flood"), ("deadlines", "deadlines")):
             if grammar != self.grammar and first in lines.fields(grammar):
                 return f"`{first}` is a line of another text, which is read by {commands}"
@@ -200,6 +207,8 @@ class _Fault:
             return "`frames` comes above all lines that name a frame"
         if first == "rate":
             return self._rate_order()
+        if first == "ratio":
+            return self._ratio_order()
         if first == "host":
             given = {words[1] for words in self.above if words[:1] == ["host"]}
             lacking = next((rank for rank in range(int(self.words[1])) if str(rank) not in given), None)
@@ -213,6 +222,13 @@ class _Fault:
                     f"the ticks of a node's `rate` lines rise, and line {number} has tick {words[2]} for node {words[1]}"
                 )
         return None
+
+    def _ratio_order(self) -> str | None:
+        _, frame, *link = self.words[:4]
+        for number, words in self._above_backwards("ratio"):
+            if words[2:4] == link and int(words[1]) >= int(frame):
+                return f"the frames of a link's `ratio` lines rise, and line {number} has frame {words[1]} for this link"
+        return f"there is no link from {link[0]} to {link[1]}"
 
     def _frame_order(self) -> str | None:
         for number, words in self._above_backwards("on", "off", "stream", "leave", "put"):
@@ -238,6 +254,8 @@ class _Fault:
             return f"a scenario has at most {lines.NODES_MOST} nodes, and this is one more"
         if self.grammar == "deadlines":
             return f"at most {lines.STREAMS_OF_A_HOST} streams are planned, and this is one more"
+        if first == "ratio":
+            return f"a network has at most {lines.RATIO_LINES_MOST:,} ratios, and this is one more"
         script = sum(1 for words in self.above if words and words[0] in lines.SCRIPT_WORDS)
         if script >= lines.SCRIPT_LINES_MOST:
             return f"a scenario has at most {lines.SCRIPT_LINES_MOST:,} lines of its script, and this is one more"
@@ -259,7 +277,7 @@ class _Fault:
         frames = self.context.frames or 0
         return (
             f"the text ends above this line; {nodes} nodes times {frames:,} frames are {nodes * frames:,}, "
-            f"and at most {lines.NODE_FRAMES_MOST:,} are run"
+            f"and at most {self.node_frames_most:,} are run"
         )
 
 

@@ -38,11 +38,11 @@ def importance(
     """How much is delivered without each of the "links" (both directions of a pair) or of the "nodes".
 
     Each candidate is cut for the whole run, once for each seed: a pair of ids, or an id, and all pairs of linked nodes or all
-    nodes if `candidates` is not given. The losses are drawn anew for each cut, by `losses.draw` with the reception ratios
-    (`prr`) of the scenario: losses that were drawn for one network and kept for another rank links wrongly. The measure is the
-    part, 0 to 1, of what was put that was delivered, over all pairs of a packet and a node that it is meant for (`receivers`, in
-    the forms of `foldcairn.receivers`). A node is cut by cutting all its links, and is then no source and no receiver, neither
-    with the cut nor without it.
+    nodes if `candidates` is not given. The losses are drawn anew for each cut, as `results.outcome` does with the reception ratios
+    (`prr`, `ratios`) of the scenario, whose run may be as long as there: losses that were drawn for one network and kept for another
+    rank links wrongly. The measure is the part, 0 to 1, of what was put that was delivered, over all pairs of a packet and a node that
+    it is meant for (`receivers`, in the forms of `foldcairn.receivers`). A node is cut by cutting all its links, and is then no
+    source and no receiver, neither with the cut nor without it.
 
     one, other, or node    what is cut
     ratio                  the measure without the cut, the mean over the seeds
@@ -55,10 +55,11 @@ def importance(
                            which for few seeds is much wider than two errors; for this cut alone
     p                      how likely a change so far from 0 would be of one of all these cuts if none changed anything (Holm's
                            method, for each change by Student's distribution): a cut of p below 0.05 matters
-    The rows begin with the most harmful cut. It takes a drawing for each candidate and seed; `executor` runs them, a process
+    The rows begin with the most harmful cut. It takes a run of the bus for each candidate and seed; `executor` runs them, a process
     for each processor if it is not given. `progress` says how far it is, and a folder of `results` keeps each of them, so that a
-    call that was stopped goes on where it was: both are those of `sweep.sweep`. Raises `ValueError` where `what` is another word,
-    there is no seed, nothing is put, or a run fails, as where losses do not fit (`losses.TooManyLosses`).
+    call that was stopped goes on where it was: both are those of `sweep.sweep`. The table's `attrs` say where it comes from
+    (`sweep.origin`). Raises `ValueError` where `what` is another word,
+    there is no seed, nothing is put, or a run fails.
     """
     if what not in ("links", "nodes"):
         raise ValueError(f"`what` is {what!r}, and not one of links, nodes")
@@ -87,6 +88,7 @@ def importance(
     columns = [*names, "ratio", "ratio_cut", "change", "spread", "least", "greatest", "error", "low", "high", "p"]
     table = pd.DataFrame(rows, columns=columns)
     table["p"] = intervals.adjusted(table["p"])
+    table.attrs.update(sweep.origin(seeds, {"scenario": scenario}))
     return table.sort_values("change", ignore_index=True)
 
 
@@ -110,22 +112,21 @@ def _word(cut: Cut | None) -> str:
     return "" if cut is None else "-".join(map(str, cut)) if isinstance(cut, tuple) else str(cut)
 
 
-def _cut_and_drawn(scenario: Scenario, cut: str, seed: int) -> losses.Drawing:
+def _cut_and_drawn(scenario: Scenario, cut: str, seed: int) -> losses.Outcome:
     """The scenario with this cut, whose losses are to be drawn; in the process of a worker."""
     changed = scenario.copy()
+    changed.seed = None
     ends = [int(node) for node in cut.split("-")] if cut else []
     if len(ends) == 2:
         changed.unlink(*ends)
     for link in sorted(scenario.links) if len(ends) == 1 else []:
         if ends[0] in link:
             changed.unlink(*link)
-    return losses.Drawing(changed, seed)
+    return losses.Outcome(changed, seed)
 
 
-def _delivered(scenario: Scenario, receivers: Receivers, nodes: Sequence[int], drawn: Scenario | str) -> pd.DataFrame:
+def _delivered(scenario: Scenario, receivers: Receivers, nodes: Sequence[int], report: runs.Report) -> pd.DataFrame:
     """The measure of a run, with all nodes (`without` 0) and without each of some."""
-    # `bus` has the deliveries of `run`, sooner.
-    report = runs.bus(drawn.text(warn=False) if isinstance(drawn, Scenario) else drawn)
     whom = meant(scenario, receivers)
     put = Counter((line.node, line.stream) for line in scenario.script if isinstance(line, Put) and not _kept_alive(scenario, line))
     table = report.deliveries[whom.kept(report.deliveries)]

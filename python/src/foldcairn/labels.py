@@ -1,6 +1,7 @@
 """Names of nodes in tables: where a scenario has names (`Scenario.labels`), answers show them in place of the ids.
 
-Tested, not proved.
+The tables of `results` are what the program wrote, and have ids, by which they are joined and counted: `labels.named(log.scenario,
+log.deliveries)` gives one with the names. Tested, not proved.
 """
 
 from __future__ import annotations
@@ -16,20 +17,22 @@ from .scenario import Scenario
 Call = TypeVar("Call", bound=Callable[..., Any])
 
 # The columns and indices that have ids of nodes.
-_IDS = frozenset({"node", "source", "host", "other_host", "from_host", "to_host", "one", "other"})
+_IDS = frozenset({"node", "source", "sender", "origin", "host", "other_host", "from_host", "to_host", "one", "other"})
 
 
 def named(scenario: Scenario, table: pd.DataFrame) -> pd.DataFrame:
-    """The table with names in place of ids, or the table itself where the scenario has no names."""
+    """The table with names in place of ids, or the table itself where the scenario has no names. A node without one is then named by its
+    id, as a text, so that all can be sorted; what is no node, as -1 for no host, stays."""
     if not scenario.labels:
         return table
+    names = {node: scenario.name(node) for node in scenario.nodes}
     table = table.copy()
     for column in _IDS & set(map(str, table.columns)):
-        table[column] = [scenario.labels.get(node, node) for node in table[column]]
+        table[column] = [names.get(node, node) for node in table[column]]
     if "nodes" in table:
-        table["nodes"] = [tuple(scenario.labels.get(node, node) for node in nodes) for nodes in table["nodes"]]
+        table["nodes"] = [tuple(names.get(node, node) for node in nodes) for nodes in table["nodes"]]
     if _IDS & set(table.index.names):
-        table = table.rename(index=scenario.labels, level=None if table.index.nlevels == 1 else 0)
+        table = table.rename(index=names, level=None if table.index.nlevels == 1 else 0)
     return table
 
 

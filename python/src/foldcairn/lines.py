@@ -11,7 +11,12 @@ from functools import cache
 FRAMES_MOST = 4_096
 NODES_MOST = 64
 NODE_FRAMES_MOST = 16_384
+# The same for `outcome`, which keeps no log: 64 nodes over all frames.
+LONG_NODE_FRAMES_MOST = 262_144
 SCRIPT_LINES_MOST = 20_000
+RATIO_LINES_MOST = 100_000
+# The greatest seed that the programs take.
+SEED_MOST = 9_999_999_999_999
 BOOTS_MOST = 200
 TEXT_BYTES_MOST = 4_194_304
 DIGITS_MOST = 13
@@ -122,6 +127,13 @@ def _scenario_fields(context: Context) -> dict[str, tuple[Field, ...]]:
     }
 
 
+def _network_fields(context: Context) -> dict[str, tuple[Field, ...]]:
+    """The lines of a scenario, and those below a line `ratios`."""
+    scenario = _scenario_fields(context)
+    frame, (sender, receiver) = scenario["on"][0], scenario["link"]
+    return scenario | {"ratio": (frame, sender, receiver, Field("ratio", 0, 1_000_000, "millionths"))}
+
+
 def _flood_fields(_: Context) -> dict[str, tuple[Field, ...]]:
     scenario = _scenario_fields(Context())
     kept = {word: scenario[word] for word in ("sends", "node", "rate", "link", "pair")}
@@ -146,8 +158,10 @@ def _deadline_fields(_: Context) -> dict[str, tuple[Field, ...]]:
 def fields(command: str, context: Context = Context()) -> dict[str, tuple[Field, ...]]:
     """The fields of each line that `command` reads, by the first word of the line.
 
-    `command` is "run", "log", "bus" or another that reads a scenario, or "flood" or "deadlines".
+    `command` is "run", "log", "bus" or another that reads a scenario, or "outcome", "flood" or "deadlines".
     """
+    if command == "outcome":
+        return _network_fields(context)
     if command == "flood":
         return _flood_fields(context)
     if command == "deadlines":

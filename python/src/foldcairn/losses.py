@@ -1,16 +1,17 @@
 """Losses of links: drawn from reception ratios, or read from a recorded table.
 
 `draw` throws a coin for each frame, slot, step and link by a written hash of the seed, so a coin depends on nothing else: not
-on the run, on other links, or on the order of anything. To write all losses would take millions of lines. So `draw` runs
-the program, looks who transmitted to whom, writes those losses alone that change who receives, and runs again until nothing
-changes. What is delivered is then the same as with all losses written. Nothing is simulated here. Tested, not proved.
+on the run, on other links, or on the order of anything. To write all losses would take millions of lines. So those alone are
+written that change who receives: by the planner's program where it has the command `draw`, and else by `fixed_point`, which runs
+the first program, looks who transmitted to whom, writes the losses that count, and runs again until nothing changes. What is
+delivered is then the same as with all losses written. Nothing is simulated here. Tested, not proved.
 """
 
 from __future__ import annotations
 
 import itertools
 import os
-from collections.abc import Iterable, Iterator, Mapping
+from collections.abc import Iterable, Iterator, Mapping, Sequence
 from dataclasses import dataclass, replace
 from io import BytesIO
 from pathlib import Path
@@ -22,8 +23,8 @@ from numpy.typing import NDArray
 
 from . import arguments, kept, lines, program as programs, progress as bars, results as runs, tables
 from .arguments import ArgumentError
-from .events import Capture, Cut, Loss, ScriptLine
-from .scenario import Scenario, ScenarioError
+from .events import Capture, Cut, Loss, ScriptLine, millionths
+from .scenario import Link, Scenario, ScenarioError
 
 AnyScenario = TypeVar("AnyScenario", bound=Scenario)
 AnyEvent = TypeVar("AnyEvent", ScriptLine, Loss, Cut, Capture)
@@ -85,12 +86,35 @@ def coin(seed: int, keys: Array) -> Array:
 
     Let S be the output of SplitMix64 in the state `seed` modulo 2^64. The coin of a key is the output of SplitMix64 in the
     state S + key * 0x9E3779B97F4A7C15 modulo 2^64, its upper 53 bits divided by 2^53. The link passes where the coin is
-    below its reception ratio.
+    below its reception ratio, which counts in millionths, rounded.
     """
     first = splitmix64(numpy.array([seed & _MASK], numpy.uint64))[0]
     with numpy.errstate(over="ignore"):
         states = first + keys.astype(numpy.uint64) * numpy.uint64(_GOLDEN)
     return (splitmix64(states) >> numpy.uint64(11)).astype(numpy.float64) / (1 << 53)
+
+
+class _Ratios:
+    """The ratios in force of some links, by their places in the list."""
+
+    def __init__(self, scenario: Scenario, links: Sequence[Link]) -> None:
+        place = {link: number for number, link in enumerate(links)}
+        bounds = {number * lines.FRAMES_MOST: 1.0 for number in place.values()}
+        for one in scenario.ratio_lines():
+            bounds[place[one.sender, one.receiver] * lines.FRAMES_MOST + one.frame] = _bound(one.prr)
+        self.begins = numpy.array(sorted(bounds), numpy.int64)
+        self.bounds = numpy.array([bounds[key] for key in sorted(bounds)], numpy.float64)
+
+    def lost(self, seed: int, keys: Array, link: Array) -> Array:
+        """Whether the coins of these keys, each of the link with that place, lose the packet."""
+        at = numpy.searchsorted(self.begins, link * lines.FRAMES_MOST + (keys >> 26), "right") - 1
+        lost: Array = coin(seed, keys) >= self.bounds[at]
+        return lost
+
+
+def _bound(ratio: float) -> float:
+    """Below it coins pass: the least multiple of 2^-53 that is no less than the ratio in millionths."""
+    return -(-(millionths(ratio) << 53) // 1_000_000) / (1 << 53)
 
 
 # What a log says.
@@ -134,7 +158,7 @@ class _Links:
         links = sorted(scenario.links)
         senders = numpy.array([sender for sender, _ in links], numpy.int64)
         self.receivers = numpy.array([receiver for _, receiver in links], numpy.int64)
-        self.ratios = numpy.array([scenario.prr.get(link, 1.0) for link in links], numpy.float64)
+        self.ratios = _Ratios(scenario, links)
         self.first = numpy.searchsorted(senders, numpy.arange(257))
         self.lost = numpy.sort(_keys_of(scenario.losses))
         cuts: dict[int, int] = {}
@@ -216,7 +240,7 @@ def _needed_in(log: _Log, links: _Links, seed: int) -> Array:
     keys = pack(frame[which], slot[which], step[which], sender[which], receiver)
     listens = ~_among(place, numpy.sort(step_of * 256 + sender)) & links.passes(keys)
     which, link, keys, place = which[listens], link[listens], keys[listens], place[listens]
-    lost = coin(seed, keys) >= links.ratios[link]
+    lost = links.ratios.lost(seed, keys, link)
     captured = _among(_place_of(keys), links.captured)
     return numpy.sort(keys[_changing(place, lost, log.column("packet")[which], captured)])
 
@@ -253,7 +277,7 @@ def draw(
     results: str | os.PathLike[str] | None = None,
     progress: bool | TextIO = False,
 ) -> AnyScenario:
-    """The scenario with the losses that its reception ratios (`prr`) have by the coins of the seed.
+    """The scenario with the losses that its reception ratios (`prr`, `ratios`) have by the coins of the seed.
 
     Only losses that change who receives are written; what the scenario loses by itself stays. The same scenario and seed give
     the same losses, and links that are taken out change no coin of the others. The deliveries, the drops and what radios are
@@ -268,19 +292,54 @@ def draw(
     seed = arguments.whole("seed", seed)
     scenario.check_ratios()
     store = kept.Store(results)
-    ratios = sorted([*link, ratio] for link, ratio in scenario.prr.items())
-    key = kept.digest("losses", scenario.text(warn=False), ratios, seed, programs.checksum(program)) if results is not None else ""
+    undrawn = replace(scenario, seed=None).network_text(warn=False)
+    key = kept.digest("losses", undrawn, seed, programs.versions() if program is None else programs.checksum(program)) if results else ""
     begun = store.take(key) or {"losses": [], "whole": False}
     drawn = numpy.array(begun["losses"], numpy.int64)
     if not begun["whole"]:
         with bars.bar(scenario.frames, "frames", progress) as bar:
-            for drawn, settled, whole in _draws(scenario, seed, program, drawn):
+            for drawn, settled, whole in _drawings(scenario, seed, program, drawn):
                 bar.update(max(0, settled - bar.n))
                 store.keep(key, {"losses": drawn.tolist(), "whole": whole})
     made = scenario.copy()
     made.losses.extend(_losses_of(drawn))
     made.seed = seed
     return made
+
+
+def fixed_point(scenario: Scenario, seed: int, *, program: Path | None = None) -> list[Loss]:
+    """Losses that are drawn without the command `draw` of the planner's program: by logs of the first one, until none changes. What
+    the bus reports is what it reports with those of `draw`; lines may differ. Raises what `draw` raises."""
+    drawn = numpy.empty(0, numpy.int64)
+    for drawn, _, _ in _draws(scenario, seed, program, drawn):
+        pass
+    return _losses_of(drawn)
+
+
+def _drawings(scenario: Scenario, seed: int, program: Path | None, drawn: Array) -> Iterator[tuple[Array, int, bool]]:
+    """The losses as keys, with how many frames are final and whether all are, by either way. This is the one place that knows
+    which."""
+    planner = programs.find_planner() if program is None else program
+    if 0 <= seed <= lines.SEED_MOST and programs.has_command("draw", planner):
+        found = _by_program(scenario, seed, planner)
+        if found is not None:
+            yield found, scenario.frames, True
+            return
+    yield from _draws(scenario, seed, program, drawn)
+
+
+def _by_program(scenario: Scenario, seed: int, planner: Path) -> Array | None:
+    """The losses that the planner's program draws, as ordered keys; None where its lines don't fit a text: the other way says in
+    which frame they are used up, or finds fewer."""
+    try:
+        output = programs.execute(["draw", str(seed)], replace(scenario, seed=None).network_text(warn=False), program=planner)
+    except programs.Refused as error:
+        if error.kind != "TooMany":
+            raise
+        return None
+    known = set(scenario.losses)
+    written = (Loss(*map(int, row.split()[1:])) for row in output.splitlines() if row.startswith(b"lose "))
+    return numpy.sort(_keys_of(loss for loss in written if loss not in known))
 
 
 def _draws(scenario: Scenario, seed: int, program: Path | None, drawn: Array) -> Iterator[tuple[Array, int, bool]]:
@@ -332,6 +391,20 @@ class Drawing:
         """The scenario with its losses; raises what `draw` raises."""
         return draw(self.scenario, self.seed, program=program)
 
+    def result(self) -> Scenario | runs.Report:
+        """What is measured: the scenario with its losses."""
+        return self.drawn()
+
+
+@dataclass(frozen=True)
+class Outcome(Drawing):
+    """A drawing of which the report of the bus alone is asked: the planner's program draws as the bus runs, so there are no lines of
+    losses, and runs may be as long as those of `results.outcome`."""
+
+    def result(self) -> runs.Report:
+        """The report; raises what `results.outcome` raises."""
+        return runs.outcome(self.scenario, self.seed)
+
 
 def _log(scenario: Scenario, drawn: Array, program: Path | None) -> _Log:
     """The log of a run with these further losses."""
@@ -354,20 +427,91 @@ def _beginning(scenario: AnyScenario, frames: int) -> AnyScenario:
 def every_loss(scenario: Scenario, seed: int, *, slots: int = 46, steps: int = lines.STEPS) -> list[Loss]:
     """All losses that the coins of the seed have, in slots and steps below these bounds, needed or not: for small networks.
 
-    They are some `frames * slots * steps * links * (1 - prr)` losses.
+    They are some `frames * slots * steps * links * (1 - ratio)` losses.
     """
-    links = [link for link in sorted(scenario.links) if link in scenario.prr]
+    links = sorted({(one.sender, one.receiver) for one in scenario.ratio_lines()})
     if not links:
         return []
     senders, receivers = numpy.array(links, numpy.int64).T
     parts = numpy.indices((scenario.frames, slots, steps, len(links))).reshape(4, -1)
     keys = pack(parts[0], parts[1], parts[2], senders[parts[3]], receivers[parts[3]])
-    ratios = numpy.array([scenario.prr[link] for link in links])
-    return _losses_of(keys[coin(seed, keys) >= ratios[parts[3]]])
+    return _losses_of(keys[_Ratios(scenario, links).lost(seed, keys, parts[3])])
 
 
 def _losses_of(keys: Array) -> list[Loss]:
     return [Loss(*values) for values in zip(*(column.tolist() for column in unpack(keys)))]
+
+
+# Links that are good and bad by turns.
+
+
+def bursts(
+    scenario: AnyScenario,
+    seed: int,
+    *,
+    good_seconds: float,
+    bad_seconds: float,
+    ratio: float | None = None,
+    bad: float | None = None,
+    links: Iterable[Link] | None = None,
+) -> AnyScenario:
+    """The scenario with links that are good and bad by turns, after Gilbert and Elliott: their ratios become lines of `Scenario.ratio`.
+
+    good_seconds, bad_seconds   the mean lengths of good and of bad times, at least a frame each; lengths are geometric, in whole frames
+    ratio   the mean ratio of each link, 0 to 1; without it that of the link at the start, and links that lose nothing then stay so
+    bad     the ratio in bad times; without it the lowest that the mean allows, which is 0 where good times alone can make up for it
+    links   the directed links (u, v) that change; all without it
+
+    A link is good at the start as often as later on. Times are drawn link by link, from the seed and the two ids, by
+    numpy's generator PCG64: so a link that is taken out changes no other one. Raises `ArgumentError` where a value is out of its
+    range, a link is none of the scenario, or no ratio of good times, at most 1, gives the mean.
+    """
+    seed = arguments.whole("seed", seed) & _MASK
+    # With which chance a time ends with each of its frames.
+    leave_good = scenario.frame_seconds / arguments.real("good_seconds", good_seconds, scenario.frame_seconds)
+    leave_bad = scenario.frame_seconds / arguments.real("bad_seconds", bad_seconds, scenario.frame_seconds)
+    goods = leave_bad / (leave_good + leave_bad)
+    means = _means(scenario, ratio, links)
+    made = scenario.copy()
+    made.ratios = {place: one for place, one in made.ratios.items() if place[1:] not in means}
+    for link, mean in means.items():
+        low, high = _ratios_of(mean, goods, bad)
+        chance = numpy.random.default_rng((seed, *link)).random(scenario.frames)
+        for frame, is_good in _turns(chance, goods, leave_good, leave_bad):
+            made.ratio(*link, high if is_good else low, frame=frame)
+    return made
+
+
+def _means(scenario: Scenario, ratio: float | None, links: Iterable[Link] | None) -> dict[Link, float]:
+    """The mean ratio of each link that changes."""
+    chosen = sorted(scenario.links if links is None else set(links))
+    if strange := [link for link in chosen if link not in scenario.links]:
+        raise ArgumentError(f"`links` has {strange[0]}, and the scenario has no such link")
+    if ratio is None:
+        return {link: scenario.prr[link] for link in chosen if link in scenario.prr}
+    return dict.fromkeys(chosen, arguments.real("ratio", ratio, 0, 1))
+
+
+def _ratios_of(mean: float, goods: float, bad: float | None) -> tuple[float, float]:
+    """The ratios in bad and in good times, where this part of the time is good."""
+    low = max(0.0, (mean - goods) / (1 - goods)) if bad is None else arguments.real("bad", bad, 0, 1)
+    high = (mean - (1 - goods) * low) / goods
+    if not -1e-9 <= high <= 1 + 1e-9:
+        raise ArgumentError(
+            f"with the ratio {low:g} in bad times, which are {100 * (1 - goods):.0f} % of the time, good ones would need the ratio {high:.3f} "
+            f"for a mean of {mean:g}: take another `bad`, or other lengths"
+        )
+    return low, min(1.0, max(0.0, high))
+
+
+def _turns(chance: Array, goods: float, leave_good: float, leave_bad: float) -> Iterator[tuple[int, bool]]:
+    """Each frame in which a good or a bad time begins, and whether it is a good one, by a number from 0 to 1 a frame."""
+    is_good = bool(chance[0] < goods)
+    yield 0, is_good
+    for frame, drawn in enumerate(chance[1:].tolist(), 1):
+        if drawn < (leave_good if is_good else leave_bad):
+            is_good = not is_good
+            yield frame, is_good
 
 
 # Recorded losses.

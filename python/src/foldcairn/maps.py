@@ -45,7 +45,7 @@ def hops(scenario: Scenario, *, failed: Iterable[Link] = (), at_seconds: float |
     """
     graph = scenario.graph()
     down = _without_power(scenario, at_seconds)
-    graph.remove_edges_from(_failed(scenario, failed, down))
+    graph.remove_edges_from(_failed(scenario, scenario.prr_at(seconds=at_seconds or 0), failed, down))
     hosts = [node for _, node in sorted(scenario.hosts.items()) if node not in down]
     return dict(networkx.single_source_shortest_path_length(graph, hosts[0])) if hosts else {}
 
@@ -113,7 +113,7 @@ def topology(
     `positions` are places of the nodes in any unit, upwards; without them the map is laid out by the links. Nodes so near to each
     other that one would hide the other are moved apart, by no more than that takes. `failed` are links
     that are drawn as failed, besides those with a ratio of 0; with `at_seconds` (from the start of the run) also those of nodes
-    without power then, and hops are counted from the host that has power.
+    without power then, hops are counted from the host that has power, and ratios are those of that time.
 
     `background` is the file of a picture, or its bytes, as of a floor plan, that is drawn below the map, and `extent` says where it lies, as
     (left, right, bottom, top) in the units of the positions; without it a picture element is one unit, and its lower left corner is
@@ -126,13 +126,14 @@ def topology(
         raise ValueError("the scenario has no nodes")
     laid = places(scenario) if positions is None else {node: positions[node] for node in scenario.nodes if node in positions}
     if missing := set(scenario.nodes) - set(laid):
-        raise ValueError(f"node {min(missing)} has no place")
+        raise ValueError(f"node {scenario.name(min(missing))} has no place")
     if strange := set(failed) - scenario.links:
-        raise ValueError("the scenario has no link from {} to {}".format(*min(strange)))
+        raise ValueError("the scenario has no link from {} to {}".format(*map(scenario.name, min(strange))))
     if background is not None and positions is None:
         raise ValueError("a background needs the positions of the nodes on it")
     down = _without_power(scenario, at_seconds)
-    broken = _failed(scenario, failed, down)
+    ratios = scenario.prr_at(seconds=at_seconds or 0)
+    broken = _failed(scenario, ratios, failed, down)
     width, height = _size(laid, extent if background is not None else None)
     laid = _seen(laid, width, height)
     with style.settings():
@@ -141,7 +142,7 @@ def topology(
         drawn.set_axis_off()
         if background is not None:
             _draw_background(drawn, background, extent)
-        _draw_links(drawn, scenario, laid, broken)
+        _draw_links(drawn, scenario, ratios, laid, broken)
         _draw_nodes(drawn, scenario, laid, hops(scenario, failed=failed, at_seconds=at_seconds), down)
         drawn.margins(0.08)
         style.heading(drawn, title or f"{len(scenario.nodes)} nodes, {len(scenario.links)} links", _reading(scenario), above=16)
@@ -163,7 +164,7 @@ def _draw_background(
 def _reading(scenario: Scenario) -> str:
     """How its lines are read."""
     arrows = any((receiver, sender) not in scenario.links for sender, receiver in scenario.links)
-    return " ".join([_HALVES] * bool(scenario.prr) + [_ARROWS] * arrows)
+    return " ".join([_HALVES] * bool(scenario.ratio_lines()) + [_ARROWS] * arrows)
 
 
 def _without_power(scenario: Scenario, at_seconds: float | None) -> set[int]:
@@ -173,8 +174,8 @@ def _without_power(scenario: Scenario, at_seconds: float | None) -> set[int]:
     return set(scenario.nodes) - set(boots.loc[(boots["on_seconds"] <= at_seconds) & (boots["off_seconds"] > at_seconds), "node"])
 
 
-def _failed(scenario: Scenario, failed: Iterable[Link], down: set[int]) -> set[Link]:
-    gone = {link for link in scenario.links if scenario.prr.get(link, 1.0) == 0 or down & set(link)}
+def _failed(scenario: Scenario, ratios: Mapping[Link, float], failed: Iterable[Link], down: set[int]) -> set[Link]:
+    gone = {link for link in scenario.links if ratios.get(link, 1.0) == 0 or down & set(link)}
     return gone | set(failed)
 
 
@@ -199,8 +200,10 @@ def _seen(laid: Mapping[int, Place], width: float, height: float) -> dict[int, P
     return {node: (float(x), float(y)) for node, (x, y) in zip(laid, moved)}
 
 
-def _draw_links(drawn: Axes, scenario: Scenario, laid: Mapping[int, Place], broken: set[Link]) -> None:
-    paints = {link: _paint(scenario, link, broken) for link in scenario.links}
+def _draw_links(
+    drawn: Axes, scenario: Scenario, ratios: Mapping[Link, float], laid: Mapping[int, Place], broken: set[Link]
+) -> None:  # fmt: skip
+    paints = {link: style.PALE if link in broken else _paint(ratios.get(link, 1.0)) for link in scenario.links}
     shown: dict[str, list[list[Place]]] = {colour: [] for colour in (style.PALE, *(colour for _, colour, _ in style.RATIOS))}
     for (sender, receiver), paint in sorted(paints.items()):
         start, end = laid[sender], laid[receiver]
@@ -216,13 +219,12 @@ def _draw_links(drawn: Axes, scenario: Scenario, laid: Mapping[int, Place], brok
     drawn.add_collection(LineCollection(lost, colors=style.PALE, linewidths=1.0, linestyles=(0, (2, 3)), zorder=1))
     for _, colour, width in style.RATIOS:
         drawn.add_collection(LineCollection(shown[colour], colors=colour, linewidths=width, zorder=1))
-    _ratio_key(drawn, shown, bool(scenario.prr), bool(lost))
+    _ratio_key(drawn, shown, bool(scenario.ratio_lines()), bool(lost))
 
 
-def _paint(scenario: Scenario, link: Link, broken: set[Link]) -> str:
-    """The colour of a link."""
-    ratio = scenario.prr.get(link, 1.0)
-    return style.PALE if link in broken else next(colour for least, colour, _ in style.RATIOS if ratio >= least)
+def _paint(ratio: float) -> str:
+    """The colour of a link that has not failed."""
+    return next(colour for least, colour, _ in style.RATIOS if ratio >= least)
 
 
 def _ratio_key(drawn: Axes, shown: Mapping[str, list[list[Place]]], ratios: bool, lost: bool) -> None:

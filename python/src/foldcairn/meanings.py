@@ -13,7 +13,7 @@ from typing import Any
 
 import pandas as pd
 
-from . import delivery, radio, rounds, service
+from . import bounds, delivery, radio, rounds, service
 
 # A column or several, two spaces or more, and what it means.
 _ROW = re.compile(r"^ *((?:\w+(?:, | and |, and ))*\w+(?:,? \w+=[\w.]+)?) {2,}(\S.*)$")
@@ -37,6 +37,7 @@ _CALLS: dict[str, tuple[Callable[..., Any], ...]] = {
     "radio-time-total": (radio.radio_time, radio.tunings),
     "duty-cycle": (radio.duty_cycle,),
     "battery-life": (radio.battery_life,),
+    "bounds": (bounds.bounds,),
 }
 # Columns that tell rows apart, or that a sentence of a docstring has.
 _ALWAYS = {

@@ -23,7 +23,7 @@ def _table(rows: list[tuple[str, str]]) -> str:
 def of_scenario(scenario: Scenario) -> str:
     """A table of 5 rows, and the first cautions."""
     hosts = ", ".join(f"node {scenario.name(node)} (rank {rank})" for rank, node in sorted(scenario.hosts.items())) or "none"
-    ratios = list(scenario.prr.values())
+    ratios = [one.prr for one in scenario.ratio_lines()]
     told = f"{min(ratios):.2f} at the least" if ratios else "no ratio below 1"
     rows = [
         ("nodes", f"{len(scenario.nodes)}; hosts: {hosts}"),

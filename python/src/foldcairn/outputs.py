@@ -8,9 +8,7 @@ from __future__ import annotations
 import argparse
 
 from . import commands, results
-from .arguments import ArgumentError
 from .commands import Commands
-from .scenario import Scenario
 
 
 def add_commands(listed: Commands) -> None:
@@ -29,24 +27,16 @@ def _add_timeline(listed: Commands) -> None:
     )  # fmt: skip
     commands.add_file(parser, "timeline.svg")
     commands.add_window(parser)
-    parser.add_argument("--nodes", metavar="ID,ID,..", help="only these nodes")
+    parser.add_argument("--nodes", metavar="NODE,NODE,..", help="only these nodes, by their ids or names")
 
 
 def _timeline(chosen: argparse.Namespace) -> int:
     from . import plot
 
     log = results.log(commands.read(chosen.file))
-    nodes = _ids(chosen.nodes) if chosen.nodes else None
+    nodes = commands.nodes(chosen.nodes) if chosen.nodes else None
     plot.save(plot.timeline(log, start_seconds=chosen.start, end_seconds=chosen.end, nodes=nodes), chosen.output)
     return 0
-
-
-def _ids(words: str) -> list[int]:
-    """The ids of a list with commas."""
-    ids = words.split(",")
-    if not all(word.strip().isdecimal() for word in ids):
-        raise ArgumentError(f"`--nodes` is {words!r}, and has to be ids with commas between them, as in 1,2,7")
-    return [int(word) for word in ids]
 
 
 def _add_topology(listed: Commands) -> None:
@@ -56,20 +46,19 @@ def _add_topology(listed: Commands) -> None:
         "SVG, PNG or PDF.",
     )  # fmt: skip
     commands.add_file(parser, "topology.svg")
-    parser.add_argument("--ratios", metavar="CSV", help="a table of links: from, to, prr (0 to 1), for the colours of links")
-    parser.add_argument("--places", metavar="CSV", help="a table of nodes: id, x, y (upwards); laid out by the links without it")
+    commands.add_ratios(parser, "for the colours of links")
+    commands.add_places(parser)
     parser.add_argument("--background", metavar="PNG", help="a picture below the map; it needs --places")
     parser.add_argument("--extent", metavar="L,R,B,T", help="where its left, right, lower and upper edges are, in the units of --places")
     parser.add_argument("--at", type=float, metavar="S", help="show which nodes have no power then, in seconds from the start")
 
 
 def _topology(chosen: argparse.Namespace) -> int:
-    from . import plot, tables
+    from . import plot
 
-    scenario = Scenario.read(commands.read(chosen.file))
-    if chosen.ratios:
-        tables.set_ratios(scenario, chosen.ratios)
-    positions = tables.positions(chosen.places) if chosen.places else None
+    scenario = commands.scenario(chosen.file)
+    positions = commands.places(scenario, chosen.places)
+    commands.set_ratios(scenario, chosen.ratios)
     extent = commands.extent(chosen.extent)
     drawn = plot.topology(scenario, positions=positions, at_seconds=chosen.at, background=chosen.background, extent=extent)
     plot.save(drawn, chosen.output)

@@ -68,7 +68,7 @@
     }
     const listens = shapes(tunings, inside(tunings, from, to), (at) => `${node(tunings, at)}: ${run.purposes[tunings.purpose[at]]}, from `
       + `${seconds(tunings.start[at])} for ${(tunings.length[at] / 64000).toFixed(3)} ms`);
-    const receives = shapes(receptions, heard, (at) => `${node(receptions, at)} receives of node ${receptions.sender[at]}: `
+    const receives = shapes(receptions, heard, (at) => `${node(receptions, at)} receives of ${run.names[receptions.sender[at]]}: `
       + `${run.packets[receptions.packet[at]]}, from ${seconds(receptions.start[at])}`);
     const transmits = shapes(transmissions, sent, (at) => `${node(transmissions, at)} transmits: `
       + `${run.packets[transmissions.packet[at]]}, from ${seconds(transmissions.start[at])}`);

@@ -18,7 +18,7 @@ import html
 import json
 import os
 from collections.abc import Callable
-from functools import cache
+from functools import cache, partial
 from pathlib import Path
 from typing import Any
 
@@ -243,21 +243,22 @@ def _again(log: Log, scenario: str) -> str:
 def overview(log: Log) -> graph.Figure:
     """The whole run as a figure of plotly: rounds and searches by the ranks' channels, openings, and times without power."""
     row = {node: place for place, node in enumerate(sorted(log.scenario.nodes))}
+    name = partial(findings.node, log.scenario)
     figure = graph.Figure()
     pauses, spells = timing.pauses(log), timing.spells(log)
-    _add(figure, pauses, row, "no power", _OFF, 0.5, [f"node {one.node} has no power" for one in pauses.itertuples()])
+    _add(figure, pauses, row, "no power", _OFF, 0.5, [f"{name(one.node)} has no power" for one in pauses.itertuples()])
     delivered = _delivered(log)
     for rank in sorted(spells["rank"].unique()):
         ours = spells[spells["rank"] == rank]
-        told = [_told(one, delivered, log.scenario.frame_seconds) for one in ours.itertuples()]
+        told = [f"{name(one.node)} {_told(one, delivered, log.scenario.frame_seconds)}" for one in ours.itertuples()]
         _add(figure, ours, row, f"radio on, channel of rank {rank}", style.RANKS[rank], _HALF, told)
     opened = rounds(log).rename(columns={"host": "node"})
     opened["end_seconds"] = opened["start_seconds"]
-    told = [f"node {one.node} opens the round of frame {one.frame}: {one.data_slots} data slots" for one in opened.itertuples()]
+    told = [f"{name(one.node)} opens the round of frame {one.frame}: {one.data_slots} data slots" for one in opened.itertuples()]
     _add(figure, opened, row, "opens a round", style.TRANSMITS, 0.46, told, 2.0)
     names = {rank: f"host {rank}, " for rank in log.scenario.hosts}
     ranks = {node: rank for rank, node in log.scenario.hosts.items()}
-    labels = [f"{names.get(ranks.get(node, -1), '')}{findings.node(log.scenario, node)}" for node in row]
+    labels = [f"{names.get(ranks.get(node, -1), '')}{name(node)}" for node in row]
     figure.update_layout(
         margin={"l": 110, "r": 20, "t": 40, "b": 90}, hovermode="closest", dragmode="zoom", plot_bgcolor="rgba(0,0,0,0)",
         paper_bgcolor="rgba(0,0,0,0)", legend={"orientation": "h", "yanchor": "top", "x": 0}, showlegend=True,
@@ -295,10 +296,10 @@ def _delivered(log: Log) -> dict[tuple[int, int, int], int]:
 
 def _told(spell: Any, delivered: dict[tuple[int, int, int], int], frame_seconds: int) -> str:
     if spell.searching:
-        return f"node {spell.node} searches for a host of rank {spell.rank}"
+        return f"searches for a host of rank {spell.rank}"
     frame = int(spell.start_seconds // frame_seconds)
     count = delivered.get((spell.node, spell.rank, frame), 0)
-    return f"node {spell.node} in the round of frame {frame}: {count} packets delivered"
+    return f"in the round of frame {frame}: {count} packets delivered"
 
 
 def data(log: Log) -> dict[str, Any]:
@@ -329,16 +330,16 @@ def data(log: Log) -> dict[str, Any]:
         "purposes": list(radio.PURPOSES),
         "tunings": {**bars(windows), "purpose": windows["purpose"].cat.codes.tolist()},
         "transmissions": on_air(log.transmissions),
-        "receptions": {**on_air(log.receptions), "sender": log.receptions["sender"].tolist()},
-        "packets": [_named(packet) for packet in log.packets["decoded"]],
+        "receptions": {**on_air(log.receptions), "sender": log.receptions["sender"].map(row).tolist()},
+        "packets": [_named(log, packet) for packet in log.packets["decoded"]],
         "steps": log.packets["step"].tolist(),
     }
 
 
-def _named(packet: Packet) -> str:
+def _named(log: Log, packet: Packet) -> str:
     where = f"slot {packet.slot}, step {packet.counter}"
     if isinstance(packet, Data):
-        return f"data {packet.node}.{packet.stream} number {packet.number}, {where}"
+        return f"data {log.scenario.stream_name(packet.node, packet.stream)} number {packet.number}, {where}"
     if isinstance(packet, Request):
-        return f"request {packet.node}.{packet.stream} for {packet.interval} s, {where}"
+        return f"request {log.scenario.stream_name(packet.node, packet.stream)} for {packet.interval} s, {where}"
     return f"{packet.kind}, {len(packet.owners)} data slots, {len(packet.acknowledgements)} acknowledged, {where}"

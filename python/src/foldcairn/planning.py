@@ -24,15 +24,19 @@
 | requests, collisions, acknowledgements | `contention(log)`, `contention(log, "node")`, `contention(log, "slot")` |
 | which links and nodes matter most | `importance(scenario)`, `importance(scenario, "nodes")` |
 | how many more streams the network takes | `capacity(scenario, every=60)` |
+| how long things take at most, by proof | `bounds(scenario)`, `bounds(scenario, "stream")` |
 | what of the run is hardly as it was meant | `cautions(log)` |
 | the main numbers of a run in one row, to compare many | `summary(log)`, or `sweep.sweep(build, cases, planning.summary)` |
 
-`log` is a `results.Log`, as `foldcairn.run` and `results.log` give it. `receivers` says for whom packets are meant, where that is
-not all nodes: the forms are in `foldcairn.receivers`. Where nodes have names, tables have these in place of ids. Columns
-that end in `_seconds` are in seconds of true time from the start of the run, or spans of it; ratios and shares are from 0 to 1.
-Ids and counts are int64, also in tables without rows. Each function says what its columns mean. The program that runs the
-scenarios is proved;
-these functions are plain Python that reads its log: they are tested, and nothing of them is proved.
+`log` is a `results.Log`, as `foldcairn.run` and `results.log` give it. `delivery_ratio`, `fates`, `packets`, `latency`, `latencies`,
+`deadline`, `duty_cycle`, `battery_life` and `summary` also take a report without a log, as `results.outcome` gives it for runs
+of hours, up to 64 nodes over 4,096 frames; `importance`, `capacity` and `bounds` take the network itself, of that length.
+
+`receivers` says for whom packets are meant, where that is not all nodes: the forms are in `foldcairn.receivers`. Where nodes have
+names, tables have these in place of ids. Columns that end in `_seconds` are in seconds of true time from the start of the run, or
+spans of it; ratios and shares are from 0 to 1. Ids and counts are int64, also in tables without rows. Each function says what its
+columns mean. The programs that run the scenarios are proved; these functions are plain Python that reads what they write: they
+are tested, and nothing of them is proved.
 """
 
 from __future__ import annotations
@@ -41,15 +45,16 @@ import math
 
 import pandas as pd
 
-from . import capacity as _capacity, delivery, importance as _importance, radio, rounds as _rounds, service
+from . import bounds as _bounds, capacity as _capacity, delivery, importance as _importance, radio, rounds as _rounds, service
 from .answers import answer
 from .labels import answers
 from .receivers import Receivers
-from .results import Log, log as _run
+from .program import Refused
+from .results import Log, Report, bus as _bus, log as _log
 from .scenario import Scenario
 
 __all__ = [
-    "battery_life", "capacity", "cautions", "contention", "data_slots", "deadline", "delivery_ratio", "duty_cycle", "fates",
+    "battery_life", "bounds", "capacity", "cautions", "contention", "data_slots", "deadline", "delivery_ratio", "duty_cycle", "fates",
     "hosts", "importance", "joins", "latencies", "latency", "outages", "packets", "power_cycles", "radio_time", "rounds", "streams",
     "summary", "tables",
 ]  # fmt: skip
@@ -71,6 +76,7 @@ hosts = answers(service.hosts)
 outages = answers(service.outages)
 power_cycles = answers(service.power_cycles)
 importance, capacity = answers(_importance.importance), answers(_capacity.capacity)
+bounds = answers(_bounds.bounds)
 
 
 @answer
@@ -101,6 +107,8 @@ def tables(log: Log, *, receivers: Receivers = None, battery: dict[str, float] |
         "radio-time-total": radio_time(log, "all"),
         "duty-cycle": duty_cycle(log),
         "battery-life": battery_life(log, **(battery or {})),
+        "bounds": bounds(log),
+        "bounds-by-stream": bounds(log, "stream"),
     }
 
 
@@ -130,8 +138,10 @@ def cautions(log: Log) -> list[str]:
     return found
 
 
-def summary(run: Log | Scenario | str, *, receivers: Receivers = None) -> dict[str, float]:
-    """The main numbers of a run in one row, for `sweep.sweep`; a scenario or its text is run first.
+def summary(run: Report | Scenario | str, *, receivers: Receivers = None) -> dict[str, float]:
+    """The main numbers of a run in one row, for `sweep.sweep`; a scenario or its text is run first, by `results.log`, or by `results.bus`
+    where it is too long for a log. Of a report without a log there are `ratio_of_put`, the latencies, `duty_cycle` and
+    `duty_cycle_in_rounds`, by plan.
 
     ratio_of_put, ratio_of_sent_while_on   as `delivery_ratio` has them, over all streams and the `receivers` that are meant
     latency_median, latency_p90    seconds from put to delivery
@@ -145,7 +155,9 @@ def summary(run: Log | Scenario | str, *, receivers: Receivers = None) -> dict[s
     What there is not is not a number (NaN). Raises what `results.log` and `delivery_ratio` raise.
     """
     # Without warnings: in a sweep they would come once a case.
-    log = run if isinstance(run, Log) else _run(run, warn=False)
+    log = run if isinstance(run, Report) else _run_of(run)
+    if not isinstance(log, Log):
+        return _summary_without_log(log, receivers)
     ratio = delivery.delivery_ratio(log, "all", receivers=receivers).iloc[0]
     terms, asked, duty = service.hosts(log), service.contention(log), radio.duty_cycle(log)
     waited = delivery.latencies(log, receivers=receivers)["latency_seconds"]
@@ -163,6 +175,29 @@ def summary(run: Log | Scenario | str, *, receivers: Receivers = None) -> dict[s
         "request_success": float(asked["acknowledgements"].sum() / requests) if requests else float("nan"),
         "outage_seconds": float(service.outages(log)["outage_seconds"].max()),
         "no_host_from_seconds": service.no_host_from(log),
+        "duty_cycle": float(duty["duty_cycle"].mean()),
+        "duty_cycle_in_rounds": float(duty["duty_cycle_in_rounds"].mean()),
+    }
+
+
+def _run_of(scenario: Scenario | str) -> Report:
+    """The log of a run, or its report where it is too long for a log."""
+    try:
+        return _log(scenario, warn=False)
+    except Refused as error:
+        if error.kind != "TooBig":
+            raise
+        return _bus(scenario)
+
+
+def _summary_without_log(report: Report, receivers: Receivers) -> dict[str, float]:
+    """What of `summary` a report tells."""
+    waited = delivery.latencies(report, receivers=receivers)["latency_seconds"]
+    duty = radio.duty_cycle(report)
+    return {
+        "ratio_of_put": float(delivery.delivery_ratio(report, "all", receivers=receivers)["ratio_of_put"].iloc[0]),
+        "latency_median": float(waited.median()),
+        "latency_p90": float(waited.quantile(0.9)),
         "duty_cycle": float(duty["duty_cycle"].mean()),
         "duty_cycle_in_rounds": float(duty["duty_cycle_in_rounds"].mean()),
     }

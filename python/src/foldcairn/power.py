@@ -30,20 +30,26 @@ def script(scenario: Scenario) -> list[ScriptLine]:
 def boots(scenario: Scenario) -> pd.DataFrame:
     """When each node has power: a row for each boot with `node`, `boot` (from 1 on), `on_seconds` and `off_seconds`, in
     seconds from the start of the run; what has power to the end goes off with the run."""
-    running: dict[int, list[float]] = {}
+    table = pd.DataFrame(frames_with_power(scenario), columns=["node", "boot", "on_seconds", "off_seconds"])
+    for name in ("on_seconds", "off_seconds"):
+        table[name] = table[name].astype("float64") * scenario.frame_seconds
+    return table.astype({"node": "int64", "boot": "int64"}).sort_values(["node", "boot"], ignore_index=True)
+
+
+def frames_with_power(scenario: Scenario) -> list[list[int]]:
+    """When each node has power, in the order in which that begins: the node, which of its boots it is, from which frame on, and the
+    frame in which that ends, which is the number of frames where no line ends it."""
+    running: dict[int, list[int]] = {}
     counts: Counter[int] = Counter()
     rows = []
     for line in script(scenario):
-        seconds = float(line.frame * scenario.frame_seconds)
         if isinstance(line, On) and line.node not in running:
             counts[line.node] += 1
-            running[line.node] = [line.node, counts[line.node], seconds, float(scenario.seconds)]
+            running[line.node] = [line.node, counts[line.node], line.frame, scenario.frames]
             rows.append(running[line.node])
         elif isinstance(line, Off) and line.node in running:
-            running.pop(line.node)[3] = seconds
-    table = pd.DataFrame(rows, columns=["node", "boot", "on_seconds", "off_seconds"])
-    types = {"node": "int64", "boot": "int64", "on_seconds": "float64", "off_seconds": "float64"}
-    return table.astype(types).sort_values(["node", "boot"], ignore_index=True)
+            running.pop(line.node)[3] = line.frame
+    return rows
 
 
 @answer

@@ -20,6 +20,8 @@ from typing import IO
 
 from . import arguments, faults, files, front_end, version
 
+# The commands of the planner's program; all others are those of the first program.
+PLANNERS = frozenset({"draw", "outcome"})
 # How many bytes of standard error an exception keeps.
 _STDERR_MOST = 4_000
 # For how many seconds a program that took too long may end by itself, before it is killed.
@@ -134,12 +136,9 @@ def find() -> Path:
 
     Raises `NotFound` where there is none, or where FOLDCAIRN names no program.
     """
-    named = os.environ.get("FOLDCAIRN")
-    if named:
-        found = shutil.which(named)
-        if found is None:
-            raise NotFound(f"the environment variable FOLDCAIRN names no program that can be run: {named}")
-        return Path(found)
+    named = _named("FOLDCAIRN")
+    if named is not None:
+        return named
     script = front_end.path()
     if script is not None:
         return script
@@ -151,12 +150,72 @@ def find() -> Path:
     return Path(found)
 
 
+def _named(variable: str) -> Path | None:
+    """The program that an environment variable names, or None where it is not set. Raises `NotFound` where it can't be run."""
+    named = os.environ.get(variable)
+    if not named:
+        return None
+    found = shutil.which(named)
+    if found is None:
+        raise NotFound(f"the environment variable {variable} names no program that can be run: {named}")
+    return Path(found)
+
+
+def find_planner() -> Path:
+    """The program of the commands `PLANNERS`: what the environment variable FOLDCAIRN_PLAN names, else the one that belongs to the
+    program of `find`, next to it or of the same repository. Where there is none it is the program of `find` itself, which may be
+    a front end.
+
+    Raises `NotFound` where there is no program, or where FOLDCAIRN_PLAN names no program.
+    """
+    named = _named("FOLDCAIRN_PLAN")
+    if named is not None:
+        return named
+    first = find()
+    path = first.resolve()
+    folders = [folder for folder in path.parents if (folder / "crates.txt").is_file() or (folder / "tools" / "commands.txt").is_file()]
+    beside = [path.with_name(path.name.replace("foldcairn", "foldcairn-plan", 1))] if "foldcairn" in path.name else []
+    if not _is_to_be_built(path):
+        for folder in folders:
+            kept = [folder / "bin" / "foldcairn-plan-x86_64-linux", folder / "crates" / "foldcairn_plan" / "out" / "foldcairn_plan"]
+            # Next to a program that was built here stands the planner's that was.
+            beside += kept[::-1] if path.parent.name == "out" else kept
+    return next((planner for planner in beside if planner != path and planner.is_file()), first)
+
+
+def has_command(command: str, program: Path) -> bool:
+    """Whether a program has a command, by its usage line; of one that can't be run it is False."""
+    try:
+        about = program.stat()
+        return command in _commands(program, about.st_mtime_ns, about.st_size)
+    except OSError:
+        return False
+
+
+@functools.lru_cache
+def _commands(program: Path, changed: int, size: int) -> frozenset[str]:
+    """The commands of a program that was changed then and has this size."""
+    try:
+        execute(["usage"], program=program)
+    except BadUsage as error:
+        return commands_of(error)
+    except ProgramError:
+        return frozenset()
+    return frozenset()
+
+
+def commands_of(usage: BadUsage) -> frozenset[str]:
+    """The commands that a usage line names."""
+    return frozenset(re.findall(r"(?:usage:|\|) ([a-z]+)", usage.message))
+
+
 def versions() -> dict[str, str]:
-    """What results depend on beside their scenario: the `package`'s version, and the `program`'s SHA-256 (`checksum`).
+    """What results depend on beside their scenario: the `package`'s version, and the SHA-256 (`checksum`) of the `program` and of
+    the `planner`'s program.
 
     Raises `NotFound` where there is no program.
     """
-    return {"package": version.version(), "program": checksum()}
+    return {"package": version.version(), "program": checksum(), "planner": checksum(find_planner())}
 
 
 def checksum(program: Path | None = None) -> str:
@@ -239,7 +298,7 @@ def execute_to_file(
 
 
 def _started(words: Sequence[str], program: Path | None, stdout: int | IO[bytes]) -> subprocess.Popen[bytes]:
-    path = program if program is not None else find()
+    path = program if program is not None else find_planner() if words and words[0] in PLANNERS else find()
     stderr: int | None = subprocess.PIPE
     if _is_to_be_built(path):
         warnings.warn(
@@ -325,6 +384,7 @@ _CLOSING = {
     "run": (b"energy ", True),
     "log": (b"energy ", True),
     "bus": (b"cost ", True),
+    "outcome": (b"cost ", True),
     "flood": (b"sent ", False),
     "demo": (b"on ", False),
 }

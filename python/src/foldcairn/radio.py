@@ -7,8 +7,9 @@ import numpy as np
 import pandas as pd
 
 from . import arguments, lines, power
-from .answers import answer
-from .results import TICKS_A_SECOND, Log
+from .answers import answer, report_answer
+from .arguments import ArgumentError
+from .results import TICKS_A_SECOND, Log, Report
 from .rounds import GUARD_TICKS
 
 PURPOSES = ("opening", "data", "empty data", "contention", "closing", "searching")
@@ -136,8 +137,8 @@ def radio_time(
     return table
 
 
-@answer
-def duty_cycle(log: Log, *, start_seconds: float = 0.0, end_seconds: float | None = None) -> pd.DataFrame:
+@report_answer
+def duty_cycle(log: Report, *, start_seconds: float = 0.0, end_seconds: float | None = None) -> pd.DataFrame:
     """The part of the time in which each radio was on, in this time (the whole run by default): a row for each node.
 
     powered_seconds      how long the node had power
@@ -146,28 +147,45 @@ def duty_cycle(log: Log, *, start_seconds: float = 0.0, end_seconds: float | Non
     searching_seconds    how long it searched (see `tunings`)
     duty_cycle           `on_seconds` as a part of `powered_seconds`, 0 to 1; missing without power
     duty_cycle_in_rounds   the same without searching: what a node needs that never loses its host
-    Raises `ArgumentError` where the time is no part of the run.
+    Of a report without a log it is of the whole run alone. By `run` the radio's time is exact, and what is not planned for rounds counts
+    as searching. By `bus` or `outcome` it is at most what is given: each window as planned, and each frame in which the node
+    searches from its start to its end. Raises `ArgumentError` where the time is no part of the run, or a report has no log of it.
     """
     start, end = arguments.window(start_seconds, end_seconds, log.scenario.seconds)
     table = pd.DataFrame(index=pd.Index(sorted(log.scenario.nodes), name="node"))
-    boots = power.boots_of(log)
+    boots = power.boots(log.scenario)
     boots["seconds"] = boots["off_seconds"].clip(start, end) - boots["on_seconds"].clip(start, end)
     table["powered_seconds"] = boots.groupby("node")["seconds"].sum()
-    on = radio_time(log, start_seconds=start, end_seconds=end)
-    table["on_seconds"] = on["on"]
-    transmissions = log.transmissions[["node"]].assign(seconds=_clipped(log.transmissions, start, end))
-    table["transmit_seconds"] = transmissions.groupby("node")["seconds"].sum()
-    table["searching_seconds"] = on["searching"]
-    table = table.fillna(0.0)
+    table = table.join(_spent(log, start, end) if isinstance(log, Log) else _charged(log, start, end)).fillna(0.0)
     powered = table["powered_seconds"].where(table["powered_seconds"] > 0)
     table["duty_cycle"] = table["on_seconds"] / powered
     table["duty_cycle_in_rounds"] = (table["on_seconds"] - table["searching_seconds"]) / powered
     return table.reset_index()
 
 
-@answer
+def _spent(log: Log, start: float, end: float) -> pd.DataFrame:
+    """How long each radio was on in this time, transmitted and searched."""
+    on = radio_time(log, start_seconds=start, end_seconds=end)
+    transmissions = log.transmissions[["node"]].assign(seconds=_clipped(log.transmissions, start, end))
+    transmitted = transmissions.groupby("node")["seconds"].sum()
+    return pd.DataFrame({"on_seconds": on["on"], "transmit_seconds": transmitted, "searching_seconds": on["searching"]})
+
+
+def _charged(report: Report, start: float, end: float) -> pd.DataFrame:
+    """The same of a whole run by what a report charges."""
+    if (start, end) != (0.0, float(report.scenario.seconds)):
+        raise ArgumentError("a report without a log tells the cost of the whole run alone: leave `start_seconds` and `end_seconds` out, or take a log")
+    energy = report.energy.set_index("node")
+    searching = energy["scanned_frames"] * float(report.scenario.frame_seconds)
+    if "on_seconds" in energy:
+        searching = (energy["on_seconds"] - energy["window_seconds"]).clip(lower=0.0)
+    on = energy.get("on_seconds", energy["window_seconds"] + searching)
+    return pd.DataFrame({"on_seconds": on, "transmit_seconds": energy["transmit_seconds"], "searching_seconds": searching})
+
+
+@report_answer
 def battery_life(
-    log: Log,
+    log: Report,
     *,
     capacity_mah: float = 2600.0,
     transmit_ma: float = 17.4,
@@ -186,6 +204,7 @@ def battery_life(
     days                 the battery's life at this current
     days_in_rounds       its life if the node never searched: its searching is taken as time with the radio off. Transmissions
                          of a searching node (relays of the first schedule) count as made in rounds
+    Of a report without a log it is of the whole run, as `duty_cycle` has it.
     Raises `ArgumentError` where a current or the capacity is below 0, or the time is no part of the run.
     """
     capacity_mah = arguments.real("capacity_mah", capacity_mah, 0)

@@ -23,27 +23,35 @@ def scenario_of(kind: Callable[..., AnyScenario], text: str | bytes | os.PathLik
 
     data = arguments.text("text", text)
     rows = faults.split(data)
+    command = "outcome" if ["ratios"] in rows else "run"
+    end = rows.index(["ratios"]) if command == "outcome" else len(rows)
     reader = _Reader()
-    for number, (words, row) in enumerate(zip(rows, data.split(b"\n")), 1):
-        fault = (reader.take(words) if _is_utf8(row) else "NotUtf8") if words else None
-        if fault:
-            raise ScenarioError(faults.explain(data, number, fault))
+
+    def read(first: int, last: int, take: Callable[[Sequence[str]], str | None]) -> None:
+        for number, (words, row) in enumerate(zip(rows[first:last], data.split(b"\n")[first:]), first + 1):
+            if fault := (take(words) if _is_utf8(row) else "NotUtf8") if words else None:
+                raise ScenarioError(faults.explain(data, number, fault, command))
+
+    read(0, end, reader.take)
     if reader.lacks():
-        raise ScenarioError(faults.explain(data, len(rows) + 1, "Missing"))
+        raise ScenarioError(faults.explain(data, end + 1, "Missing", command))
+    read(end + 1, len(rows), reader.take_ratio)
     made = reader.made(kind)
     for row in data.split(b"\n"):
-        _take_drawn(made, row)
+        _take_kept(made, row)
     return made
 
 
-def _take_drawn(made: Scenario, row: bytes) -> None:
-    """Takes from a comment by which seed, or by which ratio of a link, the losses were drawn."""
-    from .scenario import DRAWN
+def _take_kept(made: Scenario, row: bytes) -> None:
+    """Takes from a comment the name of a node, or by which seed, or by which ratio of a link, the losses were drawn."""
+    from .scenario import KEPT
 
     mark, *words = row.decode("utf-8", "replace").split() or [""]
-    if mark != DRAWN:
+    if mark != KEPT:
         return
     match words:
+        case ["name", node, *name] if name and node.isdecimal() and int(node) in made.nodes:
+            made.labels[int(node)] = " ".join(name)
         case ["seed", seed] if seed.removeprefix("-").isdecimal():
             made.seed = int(seed)
         case ["prr", sender, receiver, ratio] if sender.isdecimal() and receiver.isdecimal():
@@ -51,6 +59,9 @@ def _take_drawn(made: Scenario, row: bytes) -> None:
             with contextlib.suppress(ValueError):
                 if link in made.links and 0 <= float(ratio) < 1:
                     made.prr[link] = float(ratio)
+        case ["ratio", frame, sender, receiver, ratio] if all(word.isdecimal() for word in words[1:4]):
+            with contextlib.suppress(ValueError):
+                made.ratio(int(sender), int(receiver), float(ratio), frame=int(frame))
 
 
 def _is_utf8(row: bytes) -> bool:
@@ -74,6 +85,8 @@ class _Reader:
         self.losses: dict[Loss, None] = {}
         self.cuts: dict[Cut, None] = {}
         self.captures: dict[tuple[int, int, int, int], Capture] = {}
+        self.ratios: dict[tuple[int, int, int], float] = {}
+        self.last_ratio: dict[tuple[int, int], int] = {}
         self.read_any = False
         self.last = ""
 
@@ -96,6 +109,25 @@ class _Reader:
             return fault
         self.read_any, self.last = True, first
         return self._keep(first, values)
+
+    def take_ratio(self, words: Sequence[str]) -> str | None:
+        """Takes one line below the line `ratios`; gives the kind of fault where it is none, as docs/RATIOS.md orders the kinds."""
+        first, rest = words[0], words[1:]
+        fields = lines.fields("outcome", self.context())["ratio"]
+        if first != "ratio" or len(fields) != len(rest):
+            return "BadWord"
+        if any(map(lines.number_fault, rest)):
+            return "BadNumber"
+        frame, sender, receiver, ratio = values = [int(word) for word in rest]
+        if fault := self._out_of_range(values, fields):
+            return fault
+        if (sender, receiver) not in self.links or frame <= self.last_ratio.get((sender, receiver), -1):
+            return "Order"
+        if len(self.ratios) >= lines.RATIO_LINES_MOST:
+            return "TooMany"
+        self.last_ratio[sender, receiver] = frame
+        self.ratios[frame, sender, receiver] = ratio / 1_000_000
+        return None
 
     def _out_of_range(self, values: Sequence[Any], fields: Sequence[Field]) -> str | None:
         ids = [value for value, what in zip(values, fields) if what.kind == "id"]
@@ -151,7 +183,9 @@ class _Reader:
 
     def made(self, kind: Callable[..., AnyScenario]) -> AnyScenario:
         """The scenario of the lines."""
+        first = {place[1:]: ratio for place, ratio in self.ratios.items() if place[0] == 0 and ratio < 1}
         return kind(
+            prr=first, ratios={place: ratio for place, ratio in self.ratios.items() if place[0]},
             **self.single, nodes=self.nodes, rates=self.rates, hosts=self.hosts, links=self.links, script=self.script,
             losses=list(self.losses), cuts=list(self.cuts), captures=list(self.captures.values()),
         )  # fmt: skip

@@ -10,7 +10,8 @@
 | 101, or [101, 131] | each of these nodes; names of nodes are read too |
 | {7: 101, (8, 1): "hosts", "others": "all"} | one of the above for each source, or each source and stream |
 
-A packet is never meant for its own source. Tested, not proved.
+A packet is never meant for its own source. A report without a log knows the rounds alone that delivered something. Tested, not
+proved.
 """
 
 from __future__ import annotations
@@ -26,7 +27,7 @@ from numpy.typing import NDArray
 from .events import Put, Stream
 
 if TYPE_CHECKING:
-    from .results import Log, Report
+    from .results import Report
     from .scenario import Scenario
 
 # What may be given for `receivers`: a word, a node, several nodes, or one of these for each source.
@@ -80,7 +81,7 @@ class Meant:
             kept |= of_streams(deliveries, streams) & (at_host if nodes == HOSTS else deliveries["node"].isin(nodes))
         return kept
 
-    def pairs(self, log: Log, packets: pd.DataFrame) -> pd.DataFrame:
+    def pairs(self, log: Report, packets: pd.DataFrame) -> pd.DataFrame:
         """A row for each packet of `delivery.packets` and each node, `node`, that it is meant for."""
         parts = []
         for nodes, streams in self.groups():
@@ -110,18 +111,27 @@ class Meant:
         return total - len([stream for stream in streams_of_own if stream in meant and stream[0] != without])
 
 
-def _serving(log: Log, packets: pd.DataFrame) -> NDArray[np.int64]:
+def _serving(log: Report, packets: pd.DataFrame) -> NDArray[np.int64]:
     """The host that serves when each packet is sent, or is put if it never is."""
-    from .rounds import rounds
-
     hosts = log.scenario.hosts
-    opened = rounds(log)[["start_seconds", "host"]].sort_values("start_seconds")
+    opened = _rounds(log).sort_values("start_seconds")
     if opened.empty:
         return np.full(len(packets), hosts[min(hosts)] if hosts else -1, dtype="int64")
     place = np.searchsorted(opened["start_seconds"].to_numpy(), packets["put_seconds"].to_numpy(), side="right") - 1
     before = opened["host"].to_numpy()[np.maximum(place, 0)].astype("int64")
     sent = packets["rank"].map({-1: -1, **hosts}).to_numpy(dtype="int64")
     return np.where(sent >= 0, sent, before)
+
+
+def _rounds(log: Report) -> pd.DataFrame:
+    """The start and the host of each round; without a log, of each that delivered something."""
+    from .results import Log
+    from .rounds import rounds
+
+    if isinstance(log, Log):
+        return rounds(log)[["start_seconds", "host"]]
+    known = log.deliveries.drop_duplicates(["frame", "rank"])
+    return pd.DataFrame({"start_seconds": known["planned_seconds"], "host": known["rank"].map(log.scenario.hosts)})
 
 
 def meant(scenario: Scenario, receivers: Receivers = None) -> Meant:
@@ -135,7 +145,7 @@ def meant(scenario: Scenario, receivers: Receivers = None) -> Meant:
     named = {_stream(scenario, key): _nodes(scenario, value) for key, value in given.items()}
     found = {stream: named.get(stream, named.get(stream[0], named.get(OTHERS))) for stream in streams}
     if lacking := [stream for stream, nodes in found.items() if nodes is None]:
-        told = ", ".join(f"stream {stream} of node {node}" for node, stream in lacking[:8])
+        told = ", ".join(f"stream {stream} of node {scenario.name(node)}" for node, stream in lacking[:8])
         raise ValueError(f'`receivers` names no receiver for {told}; name one, or all others at once by "{OTHERS}"')
     return Meant(scenario, {stream: nodes for stream, nodes in found.items() if nodes is not None})
 

@@ -16,7 +16,7 @@ from typing import TYPE_CHECKING, Any
 
 import pandas as pd
 
-from . import commands, files, findings, planning, program, results, tables
+from . import commands, files, findings, planning, program, results
 from .commands import Commands
 from .events import Off, On, Put, Stream
 from .receivers import Receivers
@@ -46,6 +46,7 @@ SHOWN = {
     "radio-time-total": "Time with the radio on by purpose over all nodes, in seconds",
     "duty-cycle": "Duty cycle",
     "battery-life": "Battery life in days",
+    "bounds": "How long things take at most, by proof, where what that needs holds",
 }
 
 
@@ -122,7 +123,7 @@ def add_command(listed: Commands) -> None:
         "--html", metavar="FILE", help="write one HTML file instead, with a timeline to zoom, pictures and the tables; it stands alone"
     )
     parser.add_argument("--json", action="store_true", help="write all tables as JSON, with the versions of package and program")
-    parser.add_argument("--receivers", metavar="WHO", help="for whom packets are meant: all (without it), hosts, or ids with commas")
+    commands.add_receivers(parser)
     parser.add_argument("--capacity-mah", type=float, metavar="MAH", help="the capacity of a battery (2600 without it)")
     for name, words in (("transmit", "while the radio transmits (17.4)"), ("receive", "while it is on otherwise (18.8)"),
                         ("sleep", "while it is off (0)")):  # fmt: skip
@@ -132,8 +133,8 @@ def add_command(listed: Commands) -> None:
     page.add_argument("--site", default="", help="the name of the site, below the title")
     page.add_argument("--plan", default="", help="the name of the plan, below the title")
     page.add_argument("--notes", metavar="FILE", help="a text of your own, which stands at the top")
-    page.add_argument("--ratios", metavar="CSV", help="a table of links: from, to, prr (0 to 1), for the map alone")
-    page.add_argument("--places", metavar="CSV", help="a table of nodes: id, x, y (upwards), for the map")
+    commands.add_ratios(page, "for the map alone")
+    commands.add_places(page)
     page.add_argument("--background", metavar="PNG", help="a picture below the map; it needs --places")
     page.add_argument("--extent", metavar="L,R,B,T", help="where its left, right, lower and upper edges are, in the units of --places")
     page.add_argument("--page", metavar="JSON", help="the settings that another page saved, in place of all these")
@@ -165,23 +166,17 @@ def _settings(log: results.Log, chosen: argparse.Namespace) -> Settings:
         settings = Settings.read(Path(chosen.page).read_text(encoding="utf-8"))
         settings.give(log.scenario)
         return settings
-    if chosen.ratios:
-        tables.set_ratios(log.scenario, chosen.ratios)
+    # First of all, since a table of ratios may have the names that this one gives.
+    positions = commands.places(log.scenario, chosen.places)
+    commands.set_ratios(log.scenario, chosen.ratios)
     battery = {name: getattr(chosen, name) for name in ("capacity_mah", "transmit_ma", "receive_ma", "sleep_ma")}
     return Settings.of(
         log.scenario, title=chosen.title or Path(chosen.file).stem, site=chosen.site, plan=chosen.plan,
         notes=Path(chosen.notes).read_text(encoding="utf-8") if chosen.notes else "",
-        positions=tables.positions(chosen.places) if chosen.places else None, receivers=of_words(chosen.receivers),
+        positions=positions, receivers=commands.receivers(chosen.receivers),
         battery={name: value for name, value in battery.items() if value is not None}, background=chosen.background,
         extent=commands.extent(chosen.extent),
     )  # fmt: skip
-
-
-def of_words(words: str | None) -> Receivers:
-    """The receivers of a word of a command line: "all", "hosts", or ids with commas between them."""
-    if words is None or words in ("all", "hosts"):
-        return words
-    return [int(word) if word.strip().isdigit() else word.strip() for word in words.split(",")]
 
 
 def shown(tables: dict[str, pd.DataFrame], titles: Mapping[str, str] = SHOWN) -> str:

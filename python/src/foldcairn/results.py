@@ -1,19 +1,18 @@
-"""What the program writes, as tables: of `run`, `log`, `bus`, `flood`, `deadlines`, `times` and `return`. What `check` answers is
-in `verdicts`.
+"""What the programs write, as tables: of `run`, `log`, `bus`, `outcome`, `flood`, `deadlines`, `times` and `return`. What `check`
+answers is in `verdicts`.
 
 Each function runs the program on a scenario and reads its lines, which docs/OUTPUT.md has. Nothing is simulated here.
 Columns are named in full: those that end in `_ticks` are true time in ticks of 1/64 µs, those that end in `_seconds` true
 time in seconds from the start of the run, or spans of it. Two are of another clock, and say so: `planned_seconds` is by plan,
-`host_seconds` (with `host_ticks`) by the clock of a host. Ids and counts are int64 in all tables. All functions raise what
-`program.execute` raises: `Refused` where the text is
-rejected, `BadUsage` where the program lacks the command, and so on. Tested, not proved.
+`host_seconds` (with `host_ticks`) by the clock of a host. Ids and counts are int64 in all tables; `labels.named` gives a table with
+the names of nodes. All functions raise what `program.execute` raises: `Refused` where the text is rejected, `BadUsage` where the
+program lacks the command, and so on. Tested, not proved.
 """
 
 from __future__ import annotations
 
 import hashlib
 import os
-import re
 import tempfile
 import warnings
 from collections.abc import Sequence
@@ -27,7 +26,7 @@ import numpy as np
 import pandas as pd
 from numpy.typing import NDArray
 
-from . import arguments, columns, lines, packets, program as programs
+from . import arguments, cautions, columns, lines, packets, program as programs
 from .scenario import Scenario, ScenarioWarning
 from .verdicts import Verdict, verdict
 
@@ -185,11 +184,11 @@ class ReturnReport(Report):
 
 
 def commands(*, program: Path | None = None) -> frozenset[str]:
-    """The commands that the program has, by its usage line."""
+    """The commands that the program has, by its usage line. Raises what `program.execute` raises."""
     try:
         programs.execute(["usage"], program=program)
     except programs.BadUsage as error:
-        return frozenset(re.findall(r"(?:usage:|\|) ([a-z]+)", error.message))
+        return programs.commands_of(error)
     return frozenset()
 
 
@@ -202,12 +201,37 @@ def run(scenario: Given, *, program: Path | None = None, timeout: float | None =
 
 
 def bus(scenario: Given, *, program: Path | None = None, timeout: float | None = None) -> Report:
-    """The report by the rules of the ideal single-hop bus: the same deliveries and drops as `run`, sooner, without clocks."""
-    text = _text(scenario)
-    output = programs.execute(["bus"], text, program=program, timeout=timeout)
-    read = columns.read(BytesIO(output), {"deliver": _DELIVER, "drop": _DROP, "cost": _COST})
+    """The report by the rules of the ideal single-hop bus: the same deliveries and drops as `run`, sooner, without clocks. Runs that
+    are too long for `run`, up to 262,144 nodes times frames, are run by `outcome`, as those of a network without ratios."""
+    text = _text(scenario, long=True)
+    try:
+        output = programs.execute(["bus"], text, program=program, timeout=timeout)
+    except programs.Refused as error:
+        if error.kind != "TooBig" or program is not None:
+            raise
+        program = programs.find_planner()
+        output = programs.execute(["outcome", "0"], text, program=program, timeout=timeout)
+    return _bus_report(output, text, _scenario(scenario), program)
+
+
+def outcome(scenario: Given, seed: int = 1, *, program: Path | None = None, timeout: float | None = None) -> Report:
+    """The report of `bus` with the losses of a seed, 0 to 9,999,999,999,999, drawn from the reception ratios as the bus runs
+    (docs/RATIOS.md): the same deliveries and drops as `losses.draw` and `run` have, without clocks and without lines of losses. Nodes
+    times frames may be up to 262,144, which is 64 nodes over 4,096 frames. A scenario without ratios, or whose losses are drawn, is
+    run as it is. `program` is that of `program.find_planner` without it. Raises `ArgumentError` where the seed is none."""
+    seed = arguments.whole("seed", seed, 0, lines.SEED_MOST)
+    text = _text(scenario, long=True, ratios=True)
+    planner = programs.find_planner() if program is None else program
+    output = programs.execute(["outcome", str(seed)], text, program=planner, timeout=timeout)
     whole = _scenario(scenario)
-    return Report(whole, *_report({**read, "energy": read["cost"]}, whole), origin=_origin(text, whole, program))
+    return _bus_report(output, text, whole, planner, seed if whole.is_to_be_drawn else whole.seed)
+
+
+def _bus_report(output: bytes, text: bytes, whole: Scenario, program: Path | None, seed: int | None = None) -> Report:
+    """The report of lines of `bus`."""
+    read = columns.read(BytesIO(output), {"deliver": _DELIVER, "drop": _DROP, "cost": _COST})
+    origin = replace(_origin(text, whole, program), seed=whole.seed if seed is None else seed)
+    return Report(whole, *_report({**read, "energy": read["cost"]}, whole), origin=origin)
 
 
 def log(
@@ -304,13 +328,14 @@ def _origin(text: bytes, scenario: Scenario, program: Path | None) -> Origin:
     return Origin(_hash(text), programs.checksum(program), scenario.seed)
 
 
-def _text(scenario: Given, warn: bool = True) -> bytes:
+def _text(scenario: Given, warn: bool = True, *, long: bool = False, ratios: bool = False) -> bytes:
+    """The text that is run; `long` is for commands that keep no log, and `ratios` for one that reads ratios."""
     if not isinstance(scenario, Scenario):
         return arguments.text("scenario", scenario)
-    for caution in scenario.cautions() if warn else ():
+    for caution in cautions.of(scenario, long=long) if warn else ():
         # The line that is named calls `run`, `log` and so on.
         warnings.warn(caution, ScenarioWarning, stacklevel=3)
-    return scenario.text(warn=False).encode()
+    return (scenario.network_text(warn=False) if ratios else scenario.text(warn=False)).encode()
 
 
 def _scenario(scenario: Given) -> Scenario:
@@ -350,17 +375,23 @@ def _delivered_seconds(deliveries: pd.DataFrame, receptions: pd.DataFrame, decod
     """When each delivered packet was received first by its node, in seconds."""
     data = (receptions["kind"] == "data").to_numpy()
     packet = receptions["packet"].cat
-    places = decoded.index.get_indexer(packet.categories)[packet.codes.to_numpy()[data]]
-    node = receptions["node"].to_numpy()[data]
-    got = _place_of(node, *(decoded[name].to_numpy()[places] for name in ("origin", "boot", "stream", "number")))
+    # One number for each category, not for each reception: there are far fewer, and a long log has little memory to spare.
+    fields = decoded[["origin", "boot", "stream", "number"]].iloc[decoded.index.get_indexer(packet.categories)]
+    got = _place_of(*(fields[name].to_numpy() for name in fields))[packet.codes.to_numpy()[data]]
+    got += receptions["node"].to_numpy()[data] << _NODE_BITS
     first = pd.Series(receptions["end_seconds"].to_numpy()[data], got).groupby(level=0, sort=False).min()
-    asked = _place_of(*(deliveries[name].to_numpy() for name in ("node", "source", "boot", "stream", "number")))
+    asked = _place_of(*(deliveries[name].to_numpy() for name in ("source", "boot", "stream", "number")))
+    asked += deliveries["node"].to_numpy() << _NODE_BITS
     return pd.Series(first.reindex(asked).to_numpy(), deliveries.index)
 
 
-def _place_of(node: Numbers, source: Numbers, boot: Numbers, stream: Numbers, number: Numbers) -> Numbers:
-    """One number for each packet at a node; all of them fit their parts."""
-    place: Numbers = (((node * 256 + source) * 256 + boot) * 4 + stream) * 65_536 + number
+# A source and its boot have 8 bits each, a stream 2 and a number 16; the node that received it comes before them.
+_NODE_BITS = 34
+
+
+def _place_of(source: Numbers, boot: Numbers, stream: Numbers, number: Numbers) -> Numbers:
+    """One number for each packet; all of them fit their parts."""
+    place: Numbers = ((source * 256 + boot) * 4 + stream) * 65_536 + number
     return place
 
 

@@ -13,7 +13,7 @@ from .scenario import Scenario, ScenarioWarning
 def run(
     network: Scenario | str | bytes, *, seed: int = 1, results: str | os.PathLike[str] | None = None, progress: bool | TextIO = True
 ) -> runs.Log:
-    """The log of a run of a scenario, or of its text. Where the scenario has reception ratios below 1 (`prr`) and no losses were
+    """The log of a run of a scenario, or of its text. Where the scenario has reception ratios (`prr`, `ratios`) and no losses were
     drawn yet, they are drawn by the seed first (`losses.draw`); the log keeps the seed in `log.origin`.
 
     `results` and `progress` are those of `losses.draw`. Warns of what `Scenario.cautions` names. Raises what `losses.draw` and
@@ -23,6 +23,6 @@ def run(
         return runs.log(network)
     for caution in network.cautions():
         warnings.warn(caution, ScenarioWarning, stacklevel=2)
-    if network.prr and network.seed is None:
+    if network.is_to_be_drawn:
         network = losses.draw(network, seed, results=results, progress=progress)
     return runs.log(network, warn=False)

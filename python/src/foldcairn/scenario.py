@@ -15,7 +15,7 @@ from typing import TYPE_CHECKING, Any, Self
 
 from . import arguments, lines
 from .arguments import ArgumentError
-from .events import Capture, Cut, Leave, Loss, Off, On, Put, Rate, ScriptLine, Stream
+from .events import Capture, Cut, Leave, Loss, Off, On, Put, Rate, Ratio, ScriptLine, Stream, millionths
 from .lines import Context, Field
 from .topology import grid, line, random_geometric, star
 
@@ -25,14 +25,14 @@ if TYPE_CHECKING:
     import networkx
 
 __all__ = [
-    "Capture", "Cut", "Leave", "Loss", "Off", "On", "Put", "Rate", "Scenario", "ScenarioError", "ScenarioWarning",
+    "Capture", "Cut", "Leave", "Loss", "Off", "On", "Put", "Rate", "Ratio", "Scenario", "ScenarioError", "ScenarioWarning",
     "ScriptLine", "Stream", "grid", "line", "random_geometric", "star",
 ]  # fmt: skip
 
 Link = tuple[int, int]
 
-# How a comment begins that says by what the losses of a text were drawn.
-DRAWN = "#:"
+# How a comment begins that is no remark: a name of a node, or by what the losses of a text were drawn.
+KEPT = "#:"
 
 
 class ScenarioError(ArgumentError):
@@ -60,7 +60,8 @@ def _real(name: str, value: Any, low: float | None = None, *, above: float | Non
 class Scenario:
     """One scenario.
 
-    frames    how many frames the run has, 1 to 4,096; nodes times frames is at most 16,384
+    frames    how many frames the run has, 1 to 4,096; nodes times frames is at most 16,384 for `run` and `log`, of which a
+              `ScenarioWarning` tells as soon as it is more, and 262,144 for `results.outcome`
     sends     how often a node transmits at most in one flood, 1 to 4
     profile   1 (frames of 4 s, slots of 33 ms, payloads of 32 bytes) or 2 (5 s, 56 ms, 96 bytes)
     contend   contention slots that schedules name, 1 to 4, in profile 2; 0 for no `contend` line, which is one slot
@@ -68,16 +69,20 @@ class Scenario:
     rates     clock drifts, in any order
     hosts     rank (0 to 3) -> id
     links     directed: (u, v) says that what u sends reaches v
-    prr       reception ratio, 0 to 1, of links that have less than 1; `losses.draw` makes losses of it, no text has it
+    prr       reception ratio, 0 to 1, of links that have less than 1 from the start of the run on; `losses.draw` and
+              `results.outcome` draw losses by it, and no scenario text has it (`network_text` has)
+    ratios    (frame, u, v) -> the reception ratio of that link from that frame on, where it changes (`ratio` sets it)
     losses, cuts, captures   single losses of links, of nodes, and receptions in spite of a collision
     script    what happens by frame; `text` sorts it by frames and keeps the order within a frame
 
-    What follows is for the answers about a run. No text has it, so the program does not know it.
+    What follows is for the answers about a run, and the program does not know it. A text has `labels` and `seed` as comments, and
+    nothing else of it.
     receivers   for whom packets are meant, in the forms of `foldcairn.receivers` (`sinks` sets it); None: for all nodes
     keep_alive  the streams that are kept alive by packets of no bytes (`stream(.., keep_alive=..)`), which no answer counts
     labels      id -> name, where nodes have names: tables and pictures show them in place of the ids
     remarks     what reading tables left in doubt, in sentences; `cautions` has them too
     seed        by which `losses.draw` has drawn the losses; None: by none
+    told        whether the length of the run was told already, where it is too long for a log
 
     The methods that build return the scenario, so calls can be chained. Each takes its time as a frame or in seconds, which
     become the frame that they lie in. They raise `ScenarioError` where a value is out of its range or a node is not given.
@@ -92,6 +97,7 @@ class Scenario:
     hosts: dict[int, int] = field(default_factory=dict)
     links: set[Link] = field(default_factory=set)
     prr: dict[Link, float] = field(default_factory=dict)
+    ratios: dict[tuple[int, int, int], float] = field(default_factory=dict)
     losses: list[Loss] = field(default_factory=list)
     cuts: list[Cut] = field(default_factory=list)
     captures: list[Capture] = field(default_factory=list)
@@ -101,6 +107,7 @@ class Scenario:
     labels: dict[int, str] = field(default_factory=dict)
     remarks: list[str] = field(default_factory=list)
     seed: int | None = None
+    told: bool = field(default=False, repr=False, compare=False)
 
     def __post_init__(self) -> None:
         for word in ("profile", "frames", "sends", "contend"):
@@ -112,10 +119,23 @@ class Scenario:
         if self.contend and self.profile == 1:
             raise ScenarioError("`contend` needs profile 2: profile 1 has one contention slot")
         self.check_ratios()
+        self._tell()
+
+    def _tell(self) -> Self:
+        """Warns once where the run is too long for a log."""
+        if not self.told and len(self.nodes) * self.frames > lines.NODE_FRAMES_MOST:
+            from . import cautions
+
+            self.told = True
+            if words := cautions.horizon(self):
+                warnings.warn(words, ScenarioWarning, stacklevel=4)
+        return self
 
     def check_ratios(self) -> None:
-        """Raises `ScenarioError` where a ratio of `prr` is not from 0 to 1, as one that is not a number (NaN)."""
+        """Raises `ScenarioError` where a ratio of `prr` or `ratios` is not from 0 to 1, as one that is not a number (NaN)."""
         for (sender, receiver), ratio in self.prr.items():
+            self._ratio(sender, receiver, ratio)
+        for (_, sender, receiver), ratio in self.ratios.items():
             self._ratio(sender, receiver, ratio)
 
     @staticmethod
@@ -160,7 +180,7 @@ class Scenario:
 
     def _require(self, word: str, *values: Any) -> tuple[Any, ...]:
         """The values of a line of this word, as whole numbers and bytes; raises `ScenarioError` where it may not have them."""
-        fields = lines.fields("run", self._context())[word]
+        fields = lines.fields("outcome", self._context())[word]
         shown = " ".join([word, *map(_shown, values)])
         taken: tuple[Any, ...] = tuple(self._taken(shown, value, what) for value, what in zip(values, fields, strict=True))
         ids = [value for value, what in zip(taken, fields) if what.kind == "id"]
@@ -198,6 +218,7 @@ class Scenario:
         if node in self.nodes:
             raise ScenarioError(f"node {node} is given already")
         self.nodes[node] = offset
+        self._tell()
         return self.rate(node, ppm) if ppm != 0 else self
 
     def rate(self, node: int, ppm: int, *, tick: int | None = None, seconds: float | None = None) -> Self:
@@ -232,11 +253,43 @@ class Scenario:
         """Both links between two nodes, each at the ratio `prr` of 0 to 1."""
         return self.link(one, other, prr).link(other, one, prr)
 
+    def ratio(
+        self, sender: int, receiver: int, prr: float, *, frame: int | None = None, seconds: float | None = None
+    ) -> Self:
+        """From that time on (from the start of the run without one), until a later ratio of it, this link passes what the sender
+        transmits at the ratio `prr` of 0 to 1, which counts in millionths, rounded. The other direction keeps its own."""
+        ratio = self._ratio(sender, receiver, prr)
+        at, sender, receiver, _ = self._numbers("ratio", self._frame(frame, seconds), sender, receiver, millionths(ratio))
+        if (sender, receiver) not in self.links:
+            raise ScenarioError(f"`ratio {at} {sender} {receiver} {millionths(ratio)}`: there is no link from {sender} to {receiver}")
+        if at == 0:
+            return self.link(sender, receiver, ratio)
+        self.ratios[at, sender, receiver] = ratio
+        return self
+
+    def ratio_lines(self) -> list[Ratio]:
+        """All reception ratios of its links, by the frames from which on they hold; a link that loses nothing at the start has none of
+        frame 0."""
+        first = [Ratio(0, *link, ratio) for link, ratio in self.prr.items() if link in self.links]
+        return sorted(first + [Ratio(*place, ratio) for place, ratio in self.ratios.items() if place[1:] in self.links])
+
+    def prr_at(self, *, frame: int | None = None, seconds: float | None = None) -> dict[Link, float]:
+        """The reception ratios in force at that time, of links that have less than 1 then."""
+        at, found = self._frame(frame, seconds), {link: 1.0 for link in self.links}
+        found.update({(one.sender, one.receiver): one.prr for one in self.ratio_lines() if one.frame <= at})
+        return {link: ratio for link, ratio in sorted(found.items()) if ratio < 1}
+
+    @property
+    def is_to_be_drawn(self) -> bool:
+        """Whether it has reception ratios, and no losses were drawn by them yet."""
+        return self.seed is None and bool(self.ratio_lines())
+
     def unlink(self, one: int, other: int) -> Self:
-        """Takes out the links between two nodes, in both directions, and their losses and captures."""
+        """Takes out the links between two nodes, in both directions, and their ratios, losses and captures."""
         gone = {(one, other), (other, one)}
         self.links -= gone
         self.prr = {link: ratio for link, ratio in self.prr.items() if link not in gone}
+        self.ratios = {place: ratio for place, ratio in self.ratios.items() if place[1:] not in gone}
         self.losses = [loss for loss in self.losses if (loss.sender, loss.receiver) not in gone]
         self.captures = [capture for capture in self.captures if (capture.sender, capture.at) not in gone]
         return self
@@ -300,6 +353,10 @@ class Scenario:
     def name(self, node: int) -> str:
         """The name of a node, which is its id where it has none."""
         return self.labels.get(node, str(node))
+
+    def stream_name(self, node: int, stream: int) -> str:
+        """A stream in few letters: its node's name and its number, as "7.0"."""
+        return f"{self.name(node)}.{stream}"
 
     def leave(self, node: int, *, stream: int = 0, frame: int | None = None, seconds: float | None = None) -> Self:
         """Stream 0 to 3 of the node ends in that frame, and its queue is emptied."""
@@ -382,7 +439,7 @@ class Scenario:
         return replace(
             self,
             nodes=dict(self.nodes), rates=list(self.rates), hosts=dict(self.hosts), links=set(self.links),
-            prr=dict(self.prr), losses=list(self.losses), cuts=list(self.cuts), captures=list(self.captures),
+            prr=dict(self.prr), ratios=dict(self.ratios), losses=list(self.losses), cuts=list(self.cuts), captures=list(self.captures),
             script=list(self.script), keep_alive=set(self.keep_alive), labels=dict(self.labels), remarks=list(self.remarks),
         )  # fmt: skip
 
@@ -399,7 +456,7 @@ class Scenario:
         `prr`. `hosts` gives the hosts by rank instead of the attribute. All nodes are switched on in frame 0 if `on`.
         Raises `ScenarioError` where a node is no id or a value is out of range.
         """
-        made = cls(frames, sends, profile, contend)
+        made = cls(frames, sends, profile, contend, told=True)
         strange = [node for node in graph if arguments.index(node) is None]
         if strange:
             raise ScenarioError(f"the node {strange[0]!r} of the graph is no id, which is a whole number from 1 to 200")
@@ -410,7 +467,8 @@ class Scenario:
             made.host(rank, node)
         for sender, receiver, data in graph.edges(data=True):
             (made.link if graph.is_directed() else made.pair)(sender, receiver, data.get("prr", 1.0))
-        return made.on() if on and made.nodes else made
+        made.told = False
+        return made.on()._tell() if on and made.nodes else made._tell()
 
     @classmethod
     def from_tables(
@@ -420,7 +478,8 @@ class Scenario:
 
         nodes     `id`; may have `name`, `offset` (ticks of 1/64 µs), `ppm`, `host` (the rank), `on` (seconds; 0 without it), and the
                   place, `x` and `y`
-        links     `from`, `to` (or `u` and `v`, or `source` and `target`); may have `prr`, and `both` (true for both directions)
+        links     `from`, `to` (or `u` and `v`, or `source` and `target`); may have `prr`, `both` (true for both directions), and the
+                  time from which on a ratio holds, `seconds` or `frame`, so that a link may have several rows
         streams   `node`, `interval` (seconds); may have `stream`, `start` (seconds), `keep_alive` (seconds), and `every` with
                   `until` (seconds), by which packets are put as `every` does
 
@@ -433,7 +492,9 @@ class Scenario:
         """
         from . import tables
 
-        return tables.scenario_of(cls(frames, sends, profile, contend), nodes, links, streams)
+        made = tables.scenario_of(cls(frames, sends, profile, contend, told=True), nodes, links, streams)
+        made.told = False
+        return made._tell()
 
     def graph(self) -> networkx.DiGraph:
         """The links as a graph: nodes have `offset` (ticks), `ppm` (of the first rate) and maybe `host`; edges have `prr`."""
@@ -452,16 +513,16 @@ class Scenario:
         """The scenario of a text, or of the text in a file (a `pathlib.Path`), as the program reads it, but that lines of the
         script may be out of order.
 
-        Of comments those are kept that say by which seed and ratios losses were drawn (`text`). Raises `ScenarioError`, which
-        names the first line that is wrong, the word and its range.
+        It may have ratios below it, as `network_text` writes them. Of comments those are kept that `text` writes: names of nodes, and the
+        seed and ratios of losses. Raises `ScenarioError`, which names the first line that is wrong, the word and its range.
         """
         from . import reading
 
         return reading.scenario_of(cls, text)
 
     def text(self, *, warn: bool = True) -> str:
-        """The canonical text of the scenario; lines of the script are sorted by frames, and keep their order within one. Above it
-        are the seed and the ratios by which its losses were drawn, if they were, as comments.
+        """The canonical text of the scenario; lines of the script are sorted by frames, and keep their order within one. Above it,
+        as comments, are the names of nodes, and the seed and the ratios by which its losses were drawn, if they were.
 
         Gives `ScenarioWarning`s of what `cautions` names, unless `warn` is False.
         """
@@ -470,11 +531,19 @@ class Scenario:
                 warnings.warn(caution, ScenarioWarning, stacklevel=2)
         return "\n".join(self._lines()) + "\n"
 
+    def network_text(self, *, warn: bool = True) -> str:
+        """The canonical text, and below a line `ratios` a line for each reception ratio, in millionths (docs/RATIOS.md). A scenario
+        without ratios, or whose losses are drawn, has none."""
+        below = ["ratios", *(one.text() for one in self.ratio_lines())] if self.is_to_be_drawn else []
+        return self.text(warn=warn) + "".join(f"{one}\n" for one in below)
+
     def _lines(self) -> Iterator[str]:
+        # Comments to the program, which `read` takes back: names of nodes, and what the losses were drawn by.
+        yield from (f"{KEPT} name {node} {' '.join(name.split())}" for node, name in sorted(self.labels.items()))
         if self.seed is not None:
-            # Comments to the program: what the losses were drawn by, which `read` takes back.
-            yield f"{DRAWN} seed {self.seed}"
-            yield from (f"{DRAWN} prr {sender} {receiver} {ratio!r}" for (sender, receiver), ratio in sorted(self.prr.items()))
+            yield f"{KEPT} seed {self.seed}"
+            yield from (f"{KEPT} prr {sender} {receiver} {ratio!r}" for (sender, receiver), ratio in sorted(self.prr.items()))
+            yield from (f"{KEPT} ratio {' '.join(map(str, place))} {ratio!r}" for place, ratio in sorted(self.ratios.items()))
         yield f"profile {self.profile}"
         if self.contend:
             yield f"contend {self.contend}"

@@ -35,6 +35,7 @@ class Settings:
     background: str = ""
     extent: tuple[float, float, float, float] | None = None
     ratios: list[tuple[int, int, float]] = field(default_factory=list)
+    later_ratios: list[tuple[int, int, int, float]] = field(default_factory=list)
     labels: list[tuple[int, str]] = field(default_factory=list)
     keep_alive: list[tuple[int, int]] = field(default_factory=list)
     seed: int | None = None
@@ -56,7 +57,8 @@ class Settings:
             None if positions is None else [(int(node), float(x), float(y)) for node, (x, y) in sorted(positions.items())],
             _plain(given), {name: float(value) for name, value in (battery or {}).items()}, base64.b64encode(picture).decode(),
             None if extent is None else (float(extent[0]), float(extent[1]), float(extent[2]), float(extent[3])),
-            [(*link, ratio) for link, ratio in sorted(scenario.prr.items())], sorted(scenario.labels.items()), sorted(scenario.keep_alive),
+            [(*link, ratio) for link, ratio in sorted(scenario.prr.items())],
+            [(*place, ratio) for place, ratio in sorted(scenario.ratios.items())], sorted(scenario.labels.items()), sorted(scenario.keep_alive),
             scenario.seed,
         )  # fmt: skip
 
@@ -75,6 +77,7 @@ class Settings:
     def give(self, scenario: Scenario) -> Scenario:
         """Gives a scenario, which was read from a text, what its text does not have, and gives it back."""
         scenario.prr.update({(int(one), int(other)): float(ratio) for one, other, ratio in self.ratios})
+        scenario.ratios.update({(int(at), int(one), int(other)): float(ratio) for at, one, other, ratio in self.later_ratios})
         scenario.labels.update({int(node): str(name) for node, name in self.labels})
         scenario.keep_alive.update((int(node), int(stream)) for node, stream in self.keep_alive)
         scenario.seed, scenario.receivers = self.seed, self.whom()

@@ -7,6 +7,7 @@ many machines. A run depends on its text alone, so the table is the same whereve
 
 from __future__ import annotations
 
+import hashlib
 import itertools
 import os
 from collections.abc import Callable, Iterable, Iterator, Mapping, Sequence
@@ -24,7 +25,7 @@ from .scenario import Scenario
 
 Case = Mapping[str, Any]
 Build = Callable[..., "Scenario | str | Drawing"]
-Measure = Callable[["Scenario | str"], "Mapping[str, Any] | pandas.DataFrame"]
+Measure = Callable[[Any], "Mapping[str, Any] | pandas.DataFrame"]
 
 # Ends that the same scenario has each time; a case with another one is run again by the next call.
 _LASTING = (program.Refused, program.BadUsage, program.BadWords, TooManyLosses)
@@ -75,6 +76,13 @@ def summary(scenario: Scenario | str) -> dict[str, int]:
     return counts
 
 
+def origin(seeds: Iterable[int], scenarios: Mapping[str, Scenario]) -> dict[str, Any]:
+    """Where an answer of many runs comes from, for the `attrs` of its table: `versions` of the package and the programs, the `seeds`, and
+    `text`, the SHA-256 of the text of each scenario with its ratios."""
+    hashes = {name: hashlib.sha256(one.network_text(warn=False).encode()).hexdigest() for name, one in scenarios.items()}
+    return {**program.versions(), "seeds": list(seeds), "text": hashes}
+
+
 def sweep(
     build: Build,
     cases: Iterable[Case],
@@ -89,7 +97,8 @@ def sweep(
 
     build      called with a case's parameters by name, gives its scenario or text, or a `losses.Drawing`, whose losses are drawn
                once it is known that its result is not there; parameters are numbers, words and such
-    measure    gives a mapping for a row, or a DataFrame for several rows
+    measure    takes what was built, a drawn scenario for a `Drawing` and a report for a `losses.Outcome`, and gives a mapping for
+               a row, or a DataFrame for several rows
     executor   runs the cases; without one a pool with a process for each processor. The functions must be importable there.
     results    a folder that keeps each result as soon as it is there; a later call takes what is there, and makes the rest
     progress   a bar on standard error or on the stream that is given, a line a minute where that is no terminal; False: none
@@ -163,7 +172,7 @@ class _Job:
                 key = f"{name}-{kept.digest(self.question, _content(built))}"
                 if key in known:
                     return _Kept(key)
-            measured = self.measure(built.drawn() if isinstance(built, Drawing) else built)
+            measured = self.measure(built.result() if isinstance(built, Drawing) else built)
         except Exception as error:
             return _Outcome(type(error).__name__, [], str(error), isinstance(error, _LASTING), key)
         rows = measured.to_dict("records") if isinstance(measured, pandas.DataFrame) else [dict(measured)]
@@ -171,12 +180,11 @@ class _Job:
 
 
 def _content(built: Scenario | str | Drawing) -> list[object]:
-    """All that a scenario's result depends on: its text, its ratios, and the seed of its losses."""
+    """All that a scenario's result depends on: its text with its ratios, and the seed of its losses."""
     if isinstance(built, str):
         return [built]
     scenario = built.scenario if isinstance(built, Drawing) else built
-    ratios = sorted([*link, ratio] for link, ratio in scenario.prr.items())
-    return [scenario.text(warn=False), ratios, built.seed if isinstance(built, Drawing) else None]
+    return [scenario.network_text(warn=False), built.seed if isinstance(built, Drawing) else None]
 
 
 def _names(cases: Sequence[Case]) -> list[str]:

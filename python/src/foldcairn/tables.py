@@ -26,7 +26,7 @@ _FALSE = frozenset({"no", "n", "false", "f", "0", "0.0", ""})
 # The columns of each table that are read; of several names for one the first is used.
 _COLUMNS: dict[str, tuple[tuple[str, ...], ...]] = {
     "nodes": (("id", "node"), ("name",), ("offset",), ("ppm",), ("host",), ("on",), ("x",), ("y",)),
-    "links": (("from", "u", "source"), ("to", "v", "target"), ("prr",), ("both",)),
+    "links": (("from", "u", "source"), ("to", "v", "target"), ("prr",), ("both",), ("seconds",), ("frame",)),
     "streams": (("node", "id"), ("interval",), ("stream",), ("start",), ("every",), ("until",), ("keep_alive",)),
 }
 # How much of a name two columns have in common that are taken for one that is misspelt.
@@ -126,7 +126,7 @@ def scenario_of(scenario: AnyScenario, nodes: Any, links: Any, streams: Any = No
     first: dict[int, int] = {}
     each(read, "nodes", ("id",), lambda row: _add_node(scenario, row, ids, first))
     between = table(links, "links", ("from", "to"))
-    given: dict[tuple[int, int], tuple[int, float]] = {}
+    given: dict[tuple[int, int, int], tuple[int, float]] = {}
     counted = itertools.count(1)
     each(between, "links", ("from", "to"), lambda row: _add_link(scenario, row, next(counted), given))
     asked = None
@@ -200,16 +200,23 @@ def _add_node(scenario: Scenario, row: Mapping[str, Any], ids: Mapping[str, int]
     scenario.on(node, seconds=real(row, "on", 0.0))
 
 
-def _add_link(scenario: Scenario, row: Mapping[str, Any], number: int, given: dict[tuple[int, int], tuple[int, float]]) -> None:
-    one, other, ratio = _node_of(scenario, row, "from"), _node_of(scenario, row, "to"), real(row, "prr", 1.0)
+def _add_link(scenario: Scenario, row: Mapping[str, Any], number: int, given: dict[tuple[int, int, int], tuple[int, float]]) -> None:
+    one, other, ratio, frame = _node_of(scenario, row, "from"), _node_of(scenario, row, "to"), real(row, "prr", 1.0), _frame(scenario, row)
     for link in [(one, other), (other, one)] if truth(row, "both") else [(one, other)]:
-        earlier, before = given.setdefault(link, (number, ratio))
+        earlier, before = given.setdefault((*link, frame), (number, ratio))
         if before != ratio:
             raise ArgumentError(
                 f"the link from {scenario.name(link[0])} to {scenario.name(link[1])} has the ratio {ratio:g}, and row {earlier} gives it "
                 f"{before:g}: take one of the two rows out"
             )
-        scenario.link(*link, ratio)
+        if link not in scenario.links:
+            scenario.link(*link)
+        scenario.ratio(*link, ratio, frame=frame)
+
+
+def _frame(scenario: Scenario, row: Mapping[str, Any]) -> int:
+    """The frame from which on the ratio of a row holds, given as such or in seconds; 0 where neither is given."""
+    return scenario.frame_at(real(row, "seconds")) if "seconds" in row else whole(row, "frame", 0)
 
 
 def _add_stream(scenario: Scenario, row: Mapping[str, Any]) -> None:
@@ -221,7 +228,8 @@ def _add_stream(scenario: Scenario, row: Mapping[str, Any]) -> None:
 
 
 def set_ratios(scenario: AnyScenario, links: Any) -> AnyScenario:
-    """Gives the links of a scenario the ratios of a table (`from`, `to`, `prr`), a DataFrame or the path of a CSV file.
+    """Gives the links of a scenario the ratios of a table (`from`, `to`, `prr`), a DataFrame or the path of a CSV file. Where it has
+    a column `seconds` or `frame` a ratio holds from that time on, so a link may have several rows.
 
     Raises `ScenarioError` where a column or value is missing, the scenario has no such link, or a ratio is not from 0 to 1.
     """
@@ -230,24 +238,28 @@ def set_ratios(scenario: AnyScenario, links: Any) -> AnyScenario:
         link = _node_of(scenario, row, "from"), _node_of(scenario, row, "to")
         if link not in scenario.links:
             raise ArgumentError(f"the scenario has no link from {link[0]} to {link[1]}")
-        scenario.link(*link, real(row, "prr"))
+        scenario.ratio(*link, real(row, "prr"), frame=_frame(scenario, row))
 
     each(links, "links", ("from", "to", "prr"), add)
     return scenario
 
 
-def positions(nodes: Any) -> dict[int, tuple[float, float]]:
-    """The places of nodes of a table (`id`, `x`, `y`), a DataFrame or the path of a CSV file; names are those of its rows, as in
-    `Scenario.from_tables`.
+def positions(nodes: Any, scenario: Scenario | None = None) -> dict[int, tuple[float, float]]:
+    """The places of nodes of a table (`id`, `x`, `y`), a DataFrame or the path of a CSV file. Names in place of ids are those that the
+    scenario has; where it has none, they count by rows, as in `Scenario.from_tables`, and the scenario gets them.
 
-    Raises `ScenarioError` where a column or value is missing, or a value is no number.
+    Raises `ScenarioError` where a column or value is missing, a value is no number, or the scenario has other names.
     """
     found: dict[int, tuple[float, float]] = {}
     read = table(nodes, "nodes", ("id", "x", "y"))
     ids = _ids(read)
+    named = bool(ids) and scenario is not None and bool(scenario.labels)
 
     def add(row: Mapping[str, Any]) -> None:
-        found[ids[str(row["id"]).strip()] if ids else whole(row, "id")] = real(row, "x"), real(row, "y")
+        node = _node_of(scenario, row, "id") if named and scenario is not None else ids[str(row["id"]).strip()] if ids else whole(row, "id")
+        found[node] = real(row, "x"), real(row, "y")
+        if scenario is not None and node in scenario.nodes and (ids or "name" in row):
+            scenario.labels[node] = str(row.get("name", row["id"])).strip()
 
     each(read, "nodes", ("id", "x", "y"), add)
     return found

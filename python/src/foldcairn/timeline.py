@@ -31,7 +31,7 @@ _HALF = 0.32
 @arguments.of_log
 def timeline(
     log: Log, *, start_seconds: float = 0.0, end_seconds: float | None = None, frame: int | None = None,
-    nodes: Iterable[int] | None = None, title: str | None = None, note: str | None = None, axes: Axes | None = None,
+    nodes: Iterable[int | str] | None = None, title: str | None = None, note: str | None = None, axes: Axes | None = None,
 ) -> Figure:  # fmt: skip
     """What each radio did in this time (the whole run by default), or in the round of a frame, a row for each node or each of
     `nodes`.

@@ -17,7 +17,7 @@ def slots(log: Log) -> pd.DataFrame:
     frame, rank, slot    the slot and its round
     start_ticks, end_ticks, start_seconds, end_seconds   when it is by the host's clock, in true time; without a host by the
                          round before it (`radio.plans`)
-    name                 "opening", "data 7.0" (of stream 0 of node 7), "contention" or "closing"
+    name                 "opening", "data 7.0" (of stream 0 of node 7, by its name if it has one), "contention" or "closing"
     """
     plans = radio.plans(log)
     windows = radio.tunings(log)
@@ -28,7 +28,7 @@ def slots(log: Log) -> pd.DataFrame:
     rows = [
         (*place, slot, plan["start_ticks"] + slot * length, name)
         for place, plan in plans.iterrows()
-        for slot, name in enumerate(_names(plan))
+        for slot, name in enumerate(_names(log, plan))
     ]
     table = pd.DataFrame(rows, columns=["frame", "rank", "slot", "start_ticks", "name"])
     table = table.astype({"frame": "int64", "rank": "int64", "slot": "int64", "start_ticks": "int64"})
@@ -38,8 +38,8 @@ def slots(log: Log) -> pd.DataFrame:
     return table.sort_values("start_ticks", ignore_index=True)
 
 
-def _names(plan: pd.Series) -> list[str]:
-    owners = [f"data {owner.node}.{owner.stream}" for owner in plan["owners"]]
+def _names(log: Log, plan: pd.Series) -> list[str]:
+    owners = [f"data {log.scenario.stream_name(owner.node, owner.stream)}" for owner in plan["owners"]]
     return ["opening", *owners, *["contention"] * plan["contention_slots"], "closing"]
 
 

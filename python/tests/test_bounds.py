@@ -1,0 +1,367 @@
+"""The bounds of docs/BOUNDS.md: their numbers on the page's own examples, what is in their way, and each of them held against runs of
+two hundred random scenarios; with `-s` the nearest misses are printed."""
+
+from __future__ import annotations
+
+import random
+import re
+from collections import defaultdict
+
+import pytest
+from conftest import EXAMPLES, REPOSITORY
+from scenarios import planned_grid
+
+from foldcairn import bounds, page, planning, program, report, results
+from foldcairn.arguments import ArgumentError
+from foldcairn.bounds import Bound, failover_frames, latency_frames
+from foldcairn.events import Put
+from foldcairn.scenario import Scenario, line
+
+PAGE = (REPOSITORY / "docs" / "BOUNDS.md").read_text(encoding="utf-8")
+WORKED = {name: Scenario.read(text) for name, text in re.findall(r"^```text (\w+)\.scenario\n(.*?)^```", PAGE, re.DOTALL | re.MULTILINE)}
+BACKUP = EXAMPLES / "backup-host-takes-over.scenario"
+
+
+def found(scenario: Scenario, bound: str) -> list[Bound]:
+    return [one for one in bounds.of(scenario) if one.bound == bound]
+
+
+def only(scenario: Scenario, bound: str) -> Bound:
+    (one,) = found(scenario, bound)
+    return one
+
+
+# The page's numbers and examples.
+
+
+def test_the_numbers_of_the_page() -> None:
+    assert "| from the boot of the host of rank 0 to its first round | 5 | 20 s | 25 s |" in PAGE
+    assert "| scanning after a round with losses, for each such round | 4 | 16 s | 20 s |" in PAGE
+    assert "| until the last of 2, 3 or 4 hosts that is on hosts | 21, 33, 45 | 84, 132, 180 s | 105, 165, 225 s |" in PAGE
+    assert "| from the round that falls out to the first of the other host, of two | 18 | 72 s | 90 s |" in PAGE
+    assert "| until one of two contenders requests alone, or is acknowledged, in rounds | 30 | | |" in PAGE
+    assert [failover_frames(hosts) for hosts in (2, 3, 4)] == [21, 33, 45]
+    assert (bounds.QUIET_FRAMES, bounds.GREATEST_GAP, bounds.TAKEOVER_FRAMES, bounds.PARTING_ROUNDS) == (5, 4, 18, 30)
+    # Five packets with an interval of 6 s: 30 s are 8 frames of 4 s, and 2 more.
+    assert "5 * 6 / 4 rounded up and 2" in PAGE and latency_frames(5, 6, 4) == 10
+    made = WORKED["slow"].copy()
+    for profile, seconds in ((1, [20, 24, 16, 84, 72, 16, 20, 32]), (2, [25, 30, 20, 105, 90, 20, 25, 35])):
+        made.profile = profile
+        made.hosts = {0: 1, 1: 2}
+        table = planning.bounds(made)
+        assert table["seconds"].tolist()[:-1] == seconds and table["seconds"].iloc[-1] == 120 * made.frame_seconds
+
+
+def test_the_examples_of_the_page() -> None:
+    first = WORKED["first"]
+    assert [(one.holds, one.begins) for one in (only(first, "first round"), only(first, "membership"))] == [(True, 0), (True, 0)]
+    assert "to the end of the run" in only(first, "membership").needs
+    missed = WORKED["missed"]
+    assert only(missed, "scanning").holds and "up to frame 9 (36 s)" in only(missed, "membership").needs
+    assert not only(missed.copy().lose(21, 0, 0, 1, 2), "scanning").holds
+    slow = found(WORKED["slow"], "latency")
+    assert [(one.packets, one.frames, one.holds) for one in slow] == [(1, 4, True), (2, 5, True), (4, 8, True)]
+    assert slow[2].needs.endswith("the last of so many packets that wait is delivered")
+    backup = Scenario.read(BACKUP)
+    failover, takeover = only(backup, "failover"), only(backup, "takeover")
+    # Node 1 goes off in frame 6 and its round of frame 9 falls out; node 2 hosts in frame 27.
+    assert failover.holds and failover.begins + failover.frames == 27
+    assert takeover.holds and takeover.begins + takeover.frames == 27 and 9 + takeover.frames == 27
+    six = only(WORKED["six"], "contention")
+    assert six.wrong == ("6 nodes ask for slots, and more than two that ask at once need not part",)
+    assert not any(one.holds for one in found(WORKED["six"], "latency"))
+
+
+def test_tables_of_a_network() -> None:
+    network = planned_grid()
+    table = planning.bounds(network)
+    assert len(table) == 9 and len(repr(table.drop(columns=["premise", "proof"])).splitlines()) <= 24
+    assert table.set_index("bound").loc[["first round", "failover"], "by_seconds"].tolist() == [25.0, 1005.0]
+    assert table.loc[table["holds"], "bound"].tolist() == ["first round", "failover"]
+    streams = planning.bounds(network, "stream")
+    assert len(streams) == 60 and streams["source"].nunique() == 20 and streams["source"].dtype == "int64"
+    assert (streams["frames"] == [latency_frames(row.packets, row.interval, 5) for row in streams.itertuples()]).all()
+    with pytest.raises(ArgumentError, match="not one of network, stream"):
+        planning.bounds(network, "node")
+    # Names of nodes are shown, and a report is taken too.
+    named = Scenario.read(BACKUP)
+    named.labels = {1: "roof", 2: "cellar", 3: "pump"}
+    assert "cellar" in planning.bounds(named)["of"][3] and planning.bounds(named, "stream")["source"][0] == "pump"
+    assert planning.bounds(results.bus(named)).equals(planning.bounds(named))
+    # Ratios by which nothing was drawn lose nothing in a run: so those of a map do not.
+    ratios = named.copy().link(1, 2, 0.5)
+    assert planning.bounds(results.log(ratios)).equals(planning.bounds(named))
+    assert planning.bounds(results.outcome(ratios, 1)).equals(planning.bounds(ratios)) and not planning.bounds(ratios).equals(planning.bounds(named))
+
+
+def test_they_are_in_reports_and_on_pages() -> None:
+    log = results.log(BACKUP)
+    assert planning.tables(log)["bounds"].equals(planning.bounds(log.scenario)) and "bounds" in report.SHOWN
+    text = page.text(log)
+    assert "How long things take at most, by proof" in text and "takeover_frames" in text
+    assert "1 of the one that is sent next" in text and "whether all that the bound needs holds" in text
+
+
+# What is in the way.
+
+
+def network(frames: int = 60, hosts: int = 2, **words) -> Scenario:
+    return Scenario.from_graph(line(4), frames, hosts=range(1, hosts + 1), **words).stream(3, 8).every(20, 3)
+
+
+@pytest.mark.parametrize(
+    ("bound", "build", "says"),
+    [
+        ("first round", lambda: Scenario(9).node(1).node(2), "no node hosts"),
+        ("first round", lambda: Scenario(9).node(1).node(2).host(0, 1), "node 1, the host of rank 0, is never switched on"),
+        ("first round", lambda: network().off(1, frame=5), "node 1 is switched off in frame 5 (20 s)"),
+        ("first round", lambda: network(5), "the run ends before frame 5"),
+        ("membership", lambda: network().off(4, frame=2), "node 4 has no power from then to frame 5 (20 s) on"),
+        ("membership", lambda: network().unlink(3, 4), "node 4 is out of reach of the host"),
+        ("membership", lambda: Scenario.from_graph(line(14), 60, hosts=[1]), "node 14 is out of reach of the host"),
+        ("membership", lambda: network().cut(5, 0, 0, 2), "packets may be lost in frame 5 (20 s)"),
+        ("membership", lambda: network().link(1, 2, 0.9), "packets may be lost in frame 5 (20 s)"),
+        ("scanning", lambda: network().ratio(1, 2, 0.9, frame=7), "more than three rounds in a row may lose packets, as up to frame 10 (40 s)"),
+        ("failover", network, "no line leaves one host alone"),
+        ("failover", lambda: network().off(1, frame=40), "the run ends before frame 61"),
+        ("failover", lambda: network().off(1, frame=20).on(1, frame=41), "another host is switched on in frame 41"),
+        ("failover", lambda: network().off(1, frame=20).off(2, frame=41), "node 2 is switched off in frame 41"),
+        ("takeover", network, "no line switches node 1 off"),
+        ("takeover", lambda: network().off(1, frame=10).on(1, frame=31), "node 1 is switched on again in frame 31"),
+        ("takeover", lambda: network().off(1, frame=10).off(4, frame=30), "node 4 is not on from the start of the host to frame 31"),
+        ("takeover", lambda: network().off(1, frame=39), "the run ends before frame 60"),
+        ("takeover", lambda: network().off(1, frame=10).lose(7, 0, 0, 1, 2), "packets may be lost before, as in frame 7"),
+        ("takeover", lambda: network().unlink(2, 3).off(1, frame=10), "nodes 3, 4 are out of reach of a host"),
+        ("latency", lambda: network().stream(4, 3), "a stream asks for an interval of 3 s, below a frame of 4 s"),
+        ("latency", lambda: network().off(1, frame=40), "the host, node 1, is switched off in frame 40"),
+        ("latency", lambda: network().lose(7, 0, 0, 1, 2), "packets may be lost, as in frame 7"),
+        ("latency", lambda: network().off(3, frame=40), "node 3 is not on from its start to the end of the run"),
+        ("latency", lambda: network().leave(3, frame=40), "the stream is asked for anew, or left"),
+        ("latency", lambda: Scenario.from_graph(line(3), 99, hosts=[1]).stream(3, 4).put(3).put(3, frame=17), "68 s lie between two packets"),
+        ("latency", lambda: network().unlink(3, 4), "node 4 is out of reach"),
+        ("latency", lambda: Scenario(99).node(1).node(2).host(0, 1).pair(1, 2).on(2).stream(2, 4), "the host of rank 0 is never switched on"),
+        ("contention", network, "fewer than two nodes ask for slots"),
+        ("contention", lambda: network(profile=2, contend=4).stream(4, 8), "there are 4 contention slots, and the bound is of one"),
+        ("contention", lambda: Scenario.from_graph(line(18), 9, hosts=[3]).stream(2, 9).stream(18, 9), "are equal modulo 16"),
+    ],
+)  # fmt: skip
+def test_what_is_in_the_way(bound, build, says) -> None:
+    row = found(build(), bound)[0]
+    assert not row.holds and says in "; ".join(row.wrong)
+
+
+def test_what_is_not_in_the_way() -> None:
+    """Restarts are no failures of other boots, and a lossless ratio loses nothing."""
+    assert [one.holds for one in found(network().off(1, frame=10).on(1, frame=10), "first round")] == [True, True]
+    made = network().ratio(1, 2, 1.0, frame=7)
+    assert only(made, "scanning").holds and only(made, "membership").holds
+    assert only(network(hosts=3).off(1, 3, frame=10), "failover").frames == 33
+    assert only(network(profile=2).stream(4, 8), "contention").holds
+    # Losses before a host serves cost no member anything.
+    early = network()
+    for frame in range(5):
+        early.cut(frame, 0, 0, 2)
+    assert only(early, "scanning").holds
+
+
+# Against runs. Each bound is tried on 200 random scenarios.
+
+SCENARIOS = 200
+
+
+def run(scenario: Scenario, ratios_seed: int | None = None) -> tuple[list[list[int]], dict[int, int]]:
+    """The frame, receiver, source, stream and number of each delivery, and in how many frames each node scans."""
+    words, text = (["bus"], scenario.text(warn=False)) if ratios_seed is None else (["outcome", str(ratios_seed)], scenario.network_text(warn=False))
+    delivered, scanned = [], {}
+    for row in program.execute(words, text).decode().splitlines():
+        word, *values = row.split()
+        if word == "deliver":
+            delivered.append([int(values[place]) for place in (0, 3, 4, 6, 7)])
+        elif word == "cost":
+            scanned[int(values[0])] = int(values[3])
+    return delivered, scanned
+
+
+def connected(chance: random.Random, frames: int, count: int, hosts: int = 1, **words) -> Scenario:
+    """A random connected network, all off, whose host and backups are its first nodes."""
+    made = Scenario(frames, chance.randint(1, 3), chance.choice([1, 2]), **words)
+    nodes = chance.sample(range(1, 201), count)
+    for place, node in enumerate(nodes):
+        made.node(node)
+        if place:
+            made.pair(node, chance.choice(nodes[:place]))
+    for _ in range(chance.randint(0, 2 * count)):
+        made.pair(*chance.sample(nodes, 2))
+    for rank, node in enumerate(nodes[:hosts]):
+        made.host(rank, node)
+    return made
+
+
+def boot(chance: random.Random, made: Scenario) -> dict[int, int]:
+    """Switches the first host on in some frame, and all others within the five frames after it; gives the frames."""
+    first = chance.randint(0, 6)
+    up = {node: first if node == made.hosts[0] else first + chance.randint(0, 5) for node in made.nodes}
+    for node, frame in up.items():
+        made.on(node, frame=frame)
+    return up
+
+
+def told(name: str, slack: list[int], unit: str = "frames") -> None:
+    """Prints how near runs came to a bound."""
+    print(f"{name}: {len(slack)} cases, nearest miss {min(slack)} {unit}, the middle one {sorted(slack)[len(slack) // 2]}")
+
+
+def test_first_rounds_members_and_latencies_against_runs() -> None:
+    joined, late = [], []
+    for seed in range(SCENARIOS):
+        chance = random.Random(seed)
+        made = connected(chance, 100, chance.randint(2, 8))
+        up, sources = boot(chance, made), [node for node in made.nodes if node != made.hosts[0]]
+        for turn, node in enumerate(chance.sample(sources, min(3, len(sources)))):
+            made.stream(node, chance.randint(made.frame_seconds, 20), frame=12 + 12 * turn)
+            frame = 12 + 12 * turn
+            while frame < made.frames:
+                for _ in range(chance.choice([1, 1, 1, 2, 5])):
+                    made.put(node, frame=frame)
+                frame += chance.randint(1, 14)
+        delivered, scanned = run(made)
+        by = {one.bound: one for one in bounds.of(made)}
+        assert by["first round"].holds and by["membership"].holds
+        first = by["first round"].begins + by["first round"].frames
+        assert scanned[made.hosts[0]] == 5
+        for node in sources:
+            joined.append(first + 1 - up[node] - scanned[node])
+        late += latencies(made, delivered)
+    assert min(joined) >= 0 and min(late) >= 0 and len(late) > 1_000
+    told("first round and membership", joined)
+    told("latency", late)
+
+
+def latencies(made: Scenario, delivered: list[list[int]]) -> list[int]:
+    """By how many frames each packet, put once its stream had slots, came sooner than its bound."""
+    slack, puts, interval = [], defaultdict(list), {}
+    for event in made.script:
+        if isinstance(event, Put):
+            puts[event.node].append(event.frame)
+        elif hasattr(event, "interval"):
+            interval[event.node] = event.interval
+    for source, frames in puts.items():
+        came = {number: frame for frame, _, one, _, number in delivered if one == source}
+        counts = {number: sum(row[2] == source and row[4] == number for row in delivered) for number in came}
+        assert set(counts.values()) <= {len(made.nodes) - 1}
+        for number, frame in enumerate(frames):
+            # What came in the frame of the put was sent after it.
+            waiting = sum(came.get(earlier, made.frames) >= frame for earlier in range(number)) + 1
+            most = frame + latency_frames(waiting, interval[source], made.frame_seconds)
+            if 0 in came and came[0] < frame and most < made.frames and waiting <= 16:
+                slack.append(most - came[number])
+    return slack
+
+
+def test_rounds_with_losses_against_runs() -> None:
+    slack = []
+    for seed in range(SCENARIOS):
+        chance = random.Random(seed)
+        made = connected(chance, 80, chance.randint(2, 6))
+        up = boot(chance, made)
+        first = up[made.hosts[0]] + 5
+        # Rounds are four frames apart while nobody asks for slots, so of each four rounds one loses nothing.
+        rounds = [frame for number, frame in enumerate(range(first + 4, 75, 4)) if number % 4 != 3 and chance.random() < 0.7]
+        links = sorted(made.links)
+        for frame in rounds:
+            for _ in range(chance.randint(1, 12)):
+                made.cut(frame, chance.randint(0, 3), chance.randint(0, 2), chance.choice(sorted(made.nodes)))
+                made.lose(frame, chance.randint(0, 2), chance.randint(0, 3), *chance.choice(links))
+        made.cuts, made.losses = sorted(set(made.cuts)), sorted(set(made.losses))
+        assert only(made, "scanning").holds
+        _, scanned = run(made)
+        assert scanned[made.hosts[0]] == 5
+        slack += [4 * len(rounds) - (scanned[node] - (first + 1 - up[node])) for node in made.nodes if node != made.hosts[0]]
+    assert min(slack) >= 0
+    told("scanning", slack)
+
+
+@pytest.mark.parametrize("hosts", [2, 3, 4])
+def test_failovers_against_runs(hosts: int) -> None:
+    """Whatever is lost: all links lose what the coins say, and hosts restart before."""
+    slack = []
+    for seed in range(SCENARIOS // 3 + 1):
+        chance = random.Random(f"{hosts} {seed}")
+        begun = chance.randint(8, 40)
+        made = connected(chance, begun + failover_frames(hosts) + 20, chance.randint(hosts, 6), hosts)
+        for link in sorted(made.links):
+            made.link(*link, chance.choice([0.0, 0.3, 0.6, 0.9, 1.0]))
+        last = made.hosts[chance.randrange(hosts)]
+        for node in made.nodes:
+            made.on(node, frame=chance.randint(0, 6))
+            if chance.random() < 0.5:
+                restart = chance.randint(7, begun - 1)
+                made.off(node, frame=restart).on(node, frame=restart)
+        made.off(*(set(made.hosts.values()) - {last}), frame=begun)
+        row = next(one for one in found(made, "failover") if one.begins == begun)
+        assert row.holds and row.frames == failover_frames(hosts)
+        # It scans in no frame from then on.
+        _, scanned = run(made, seed)
+        low, high = begun, begun + row.frames + 1
+        while low < high:
+            middle = (low + high) // 2
+            low, high = (low, middle) if run(until(made, middle), seed)[1][last] == scanned[last] else (middle + 1, high)
+        slack.append(begun + row.frames - low)
+    assert min(slack) >= 0
+    told(f"failover of {hosts} hosts", slack)
+
+
+def until(made: Scenario, frames: int) -> Scenario:
+    """The scenario without what comes after so many frames."""
+    cut = made.copy()
+    cut.frames, cut.script = frames, [event for event in made.script if event.frame < frames]
+    return cut
+
+
+def test_takeovers_against_runs() -> None:
+    slack = []
+    for seed in range(SCENARIOS):
+        chance = random.Random(seed)
+        made = connected(chance, 80, chance.randint(2, 7), 2)
+        # Without the first host the others are still connected.
+        _, *others = made.nodes
+        for place, node in enumerate(others[1:], 1):
+            made.pair(node, chance.choice(others[:place]))
+        up = boot(chance, made)
+        first = up[made.hosts[0]] + 5
+        for node in chance.sample(sorted(made.nodes), 1):
+            made.stream(node, chance.randint(5, 20), frame=first).every(chance.randint(5, 30), node, start=float(first * made.frame_seconds))
+        fails = chance.randint(first + 1, 40)
+        made.off(made.hosts[0], frame=fails)
+        assert only(made, "takeover").holds and only(made, "takeover").begins == fails + 3
+        _, scanned = run(made)
+        for node in set(made.nodes) - {made.hosts[0]}:
+            # From the frame after the round that fell out on: the other host up to its first round, the others in it too.
+            searched = scanned[node] - (first + 1 - up[node])
+            slack.append(bounds.TAKEOVER_FRAMES - searched - (node == made.hosts[1]))
+    assert min(slack) == max(slack) == 0
+    told("takeover", slack)
+
+
+def test_two_contenders_against_runs() -> None:
+    slack = []
+    for seed in range(SCENARIOS):
+        chance = random.Random(seed)
+        made = Scenario(150, 2, chance.choice([1, 2]))
+        two = chance.sample(range(1, 201), 2)
+        while two[0] % 16 == two[1] % 16:
+            two = chance.sample(range(1, 201), 2)
+        host = next(node for node in range(1, 201) if node not in two)
+        for node in (host, *two):
+            made.node(node)
+        made.host(0, host).pair(host, two[0]).pair(host, two[1]).pair(*two).on()
+        begun = chance.randint(0, 20)
+        for node in two:
+            made.stream(node, 20, frame=begun).put(node, frame=begun)
+        assert only(made, "contention").holds
+        delivered, _ = run(made)
+        # The first round from the put on; the slot comes in the round after the one in which a request was alone.
+        first = max(5, 5 + 4 * -(-(begun - 5) // 4))
+        slack.append(bounds.PARTING_ROUNDS - 1 - (delivered[0][0] - 4 - first) // 4)
+    assert min(slack) >= 0
+    told("contention", slack, "rounds")
