@@ -45,7 +45,7 @@ program: # runs both programs on the examples, on invalid inputs and on streams 
 python: # runs the tests of the Python package
 	tests/python.sh $(PROGRAM)
 
-lint: # checks types, names and forms of Python, and the shell scripts
+lint: # checks types, names and forms of Python, the shell scripts, columns of sources, and edges of crates.txt
 	tools/lint.sh
 
 pages: # runs the commands of all pages, follows their links, and compares what scripts write in docs/
@@ -73,8 +73,8 @@ pictures: # draws the pictures of docs/ again, and writes what the code of PLANN
 	$$(tools/setup-python.sh --print) tools/pictures.py $(PROGRAM) docs/pictures
 	FOLDCAIRN=$(abspath $(PROGRAM)) PYTHONPATH=python/src $$(tools/setup-python.sh --print) python/tests/pages.py docs/PLANNING.md
 
-crates: # lists the crates in docs/internals/ARCHITECTURE.md again
-	tools/crates.py > docs/internals/page && mv docs/internals/page docs/internals/ARCHITECTURE.md
+crates: # writes again what pages say of each crate: its README.md, ARCHITECTURE.md, FILES.md and GUARANTEES.md
+	tools/crates.py
 
 lemmas: # lists the lemmas that crates keep for those above them in docs/internals/PROOFS.md again
 	tools/lemmas.py > docs/internals/page && mv docs/internals/page docs/internals/PROOFS.md
@@ -85,7 +85,8 @@ calls: # lists all public calls with their contracts again
 costs: # runs the proofs, tests and edits of all crates from nothing, and writes what they cost in docs/internals/PROOFS.md
 	tools/gate_costs.py --table docs/internals/PROOFS.md rt ci
 
-bench: # times runs, the bus and floods
+bench: # times runs, the bus, floods and draws
 	bench/run.sh $(PROGRAM)
 	bench/bus.sh $(PROGRAM)
 	bench/flood.sh $(PROGRAM)
+	bench/plan.sh $(PLAN)

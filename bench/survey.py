@@ -1,14 +1,14 @@
 #!/usr/bin/env python3
 """Writes a network text as large as a survey of a site: 34 nodes, 180 directed links, 29 streams, one hour.
 
-Usage: survey.py [SEED]. The links, and their ratios of 0.55 to 0.99, are drawn by Python's generator from the seed, 5 if none is
-given. Each stream has a packet a minute. For bench/plan.sh. Tested, not proved.
+Usage: survey.py [SEED [FRAMES]]. The links, and their ratios of 0.55 to 0.99, are drawn by Python's generator from the seed, 5 if
+none is given. FRAMES is 900 if none is given: an hour. Each stream has a packet a minute. For bench/plan.sh. Tested, not proved.
 """
 
 import random
 import sys
 
-NODES, LINKS, STREAMS, FRAMES = 34, 180, 29, 900
+NODES, LINKS, STREAMS = 34, 180, 29
 
 
 def links(rng: random.Random) -> list[tuple[int, int]]:
@@ -27,7 +27,8 @@ def links(rng: random.Random) -> list[tuple[int, int]]:
 
 def main() -> None:
     rng = random.Random(int(sys.argv[1]) if len(sys.argv) > 1 else 5)
-    print(f"frames {FRAMES}\nsends 2")
+    frames = int(sys.argv[2]) if len(sys.argv) > 2 else 900
+    print(f"frames {frames}\nsends 2")
     for node in range(1, NODES + 1):
         print("node", node, 0)
     print("host 0 1")
@@ -37,7 +38,7 @@ def main() -> None:
     script = [(0, f"on 0 {node}") for node in range(1, NODES + 1)]
     sources = range(2, STREAMS + 2)
     script += [(4 * place, f"stream {4 * place} {node} 0 60") for place, node in enumerate(sources)]
-    script += [(frame, f"put {frame} {node} 0 aa") for frame in range(0, FRAMES, 15) for node in sources]
+    script += [(frame, f"put {frame} {node} 0 aa") for frame in range(0, frames, 15) for node in sources]
     for _, line in sorted(script, key=lambda timed: timed[0]):
         print(line)
     print("ratios")

@@ -1,6 +1,6 @@
 #!/usr/bin/env bash
-# Runs what the documents show and says where the program writes something else. It takes the fenced blocks of README.md and
-# of the pages below docs:
+# Runs what the documents show and says where the program writes something else. It takes the fenced blocks of README.md, of
+# the pages below docs and of the README.md of each crate:
 # - a block `console` has commands, each on a line after `$ `, with what they write on both streams. Every command is run, and
 #   its output compared to the byte. No command goes on in a second line, so that each can be copied.
 # - a block `text NAME`, NAME having a dot, is put into the file NAME for the commands below it.
@@ -31,7 +31,7 @@ counts_failure() {
 begin_page() {
     here=$folder/page-$1
     mkdir "$here"
-    printf '#!/bin/sh\ncase ${1-} in outcome) exec "%s" "$@" ;; *) exec "%s" "$@" ;; esac\n' \
+    printf '#!/bin/sh\ncase ${1-} in draw | fates | outcome | sample) exec "%s" "$@" ;; *) exec "%s" "$@" ;; esac\n' \
         "$top/bin/foldcairn-plan-x86_64-linux" "$program" > "$here/foldcairn"
     chmod +x "$here/foldcairn"
     for name in bin examples tools bench tests docs; do
@@ -183,16 +183,17 @@ pictures() {
     done
 }
 
-# The lists of crates, and of lemmas that are kept for the crates above, are to be what crates.txt and the sources have, and the
+# What pages say of crates, and the lists of lemmas that are kept for the crates above, are to be what crates.txt and the sources have, and the
 # notebook what its page has.
 listed() {
     if ! command -v python3 > "$folder/written"; then
         return
     fi
-    if python3 "$top/tools/crates.py" | cmp -s - "$top/docs/internals/ARCHITECTURE.md"; then
+    if python3 "$top/tools/crates.py" --check > "$folder/written" 2>&1; then
         counts_pass
     else
-        counts_failure "docs/internals/ARCHITECTURE.md is not what tools/crates.py writes: make crates"
+        counts_failure "the pages on crates are not what crates.txt, README.md of each crate and the sources have"
+        cat "$folder/written"
     fi
     if python3 "$top/tools/notebook.py" "$top/docs/PLANNING.md" | cmp -s - "$top/examples/planning.ipynb"; then
         counts_pass
@@ -203,6 +204,57 @@ listed() {
         counts_pass
     else
         counts_failure "docs/internals/PROOFS.md is not what tools/lemmas.py writes: make lemmas"
+    fi
+}
+
+# In a copy of what tools/crates.py reads: a README.md with another user, with another first sentence, and none at all.
+crate_pages() {
+    local copy=$folder/crates page
+    if ! command -v python3 > "$folder/written"; then
+        return
+    fi
+    mkdir "$copy"
+    cp --parents -r crates.txt tools/crates.py docs/GUARANTEES.md docs/internals crates/*/README.md crates/*/src "$copy"
+    page=$copy/crates/law_service/README.md
+    for change in 's/`law_times`/`law_bus`/' '3s/^/Once more: /' remove; do
+        cp crates/law_service/README.md "$page"
+        if [ "$change" = remove ]; then
+            rm "$page"
+        else
+            sed -i "$change" "$page"
+        fi
+        if python3 "$copy/tools/crates.py" --check > "$folder/written" 2>&1; then
+            counts_failure "tools/crates.py accepts a README.md after: $change"
+        elif grep -q '^crates/law_service/README.md ' "$folder/written"; then
+            counts_pass
+        else
+            counts_failure "tools/crates.py says something else after: $change"
+            cat "$folder/written"
+        fi
+    done
+}
+
+# What pages name is to be there. Three names that are not are found: of a file, of a function, and of a lemma in a crate.
+names() {
+    if ! command -v python3 > "$folder/written"; then
+        return
+    fi
+    if python3 "$top/tools/names.py" > "$folder/written"; then
+        counts_pass
+    else
+        counts_failure "a page names what is not there"
+        cat "$folder/written"
+    fi
+    mkdir -p "$folder/names"
+    # shellcheck disable=SC2016 # A page's text.
+    printf 'See `lwb_base/src/gone.rt` or `gone_for_ever`. There are `read_all` and `trails` in `lwb_base`.\n' > "$folder/names/README.md"
+    if python3 "$top/tools/names.py" "$folder/names/README.md" > "$folder/written"; then
+        counts_failure "tools/names.py finds nothing"
+    elif [ "$(wc -l < "$folder/written")" -eq 4 ]; then
+        counts_pass
+    else
+        counts_failure "tools/names.py finds something else"
+        cat "$folder/written"
     fi
 }
 
@@ -256,9 +308,11 @@ words() {
 
 cd "$top" || exit 1
 if [ $# -eq 0 ]; then
-    set -- README.md CONTRIBUTING.md docs/*.md docs/internals/*.md docs/internals/proofs/*.md
+    set -- README.md CONTRIBUTING.md docs/*.md docs/internals/*.md docs/internals/proofs/*.md crates/*/README.md
     pictures
     listed
+    crate_pages
+    names
     calls
     words
 fi

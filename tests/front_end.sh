@@ -74,6 +74,13 @@ front_end_sentences() {
     printf 'frames 6\n%spiar 1 2\n' "$base" > "$folder/word.scenario"
     front run < "$folder/word.scenario"
     explains "an unknown word" 1 $'fault line 7: BadWord\n' "the word 'piar' begins no line"
+    # What a kind means is read off the pages: of this word, and of all words.
+    printf 'frames 6\nprofile 1\n' > "$folder/late.scenario"
+    front run late.scenario
+    explains "a profile that comes late" 1 $'fault line 2: Order\n' "has this fault if it is not the first line"
+    printf 'frames 6\nframes 6\n' > "$folder/twice.scenario"
+    front run twice.scenario
+    explains "a line twice" 1 $'fault line 2: Twice\n' "Twice: the same is said again"
     printf 'frames 6\nnode 1 0\n' > "$folder/short.scenario"
     front bus short.scenario
     explains "what is missing" 1 $'fault line 3: Missing\n' "a 'sends' line; a 'host' line; two 'node' lines"
@@ -186,6 +193,14 @@ front_end_draws() {
         explains "a seed with a leading zero" 2 "$(cat "$folder/out")"$'\n' "SEED first"
         front outcome 7 line.flood
         explains "a text that is no network" 1 $'fault line 7: BadWord\n' "line 7, 'start 1'"
+        printf 'frames 4096\n%s' "$base" > "$folder/long.network"
+        for node in 3 4 5 6; do echo "node $node 0"; done >> "$folder/long.network"
+        front draw 7 long.network
+        explains "a draw that no run takes" 1 "fault line $(($(wc -l < "$folder/long.network") + 1)): TooBig"$'\n' "nodes times frames is above 16,384, and it has 6 nodes"
+        front fates 7 long.network
+        says "fates over a long horizon: status $status, not 0" [ "$status" -eq 0 ]
+        front outcome 7 long.network
+        says "a long horizon: status $status, not 0" [ "$status" -eq 0 ]
         return
     fi
     front outcome 7 line.flood
@@ -202,12 +217,35 @@ front_end_draws() {
     ends "outcome of no file" 0 "outcome 7 nowhere"$'\n'
     front outcome 07 nowhere
     explains "a seed with a leading zero" 2 $'outcome 07 nowhere\n' "outcome takes SEED first, a number from 0 to 9999999999999 without leading zeros, and not '07'"
+    front fates 7 line.flood
+    ends "fates of a file" 0 "fates 7"$'\n'"$line"
+    front draw 7 line.flood
+    ends "a draw of a file" 0 "draw 7"$'\n'"$line"
     front --help
     says "--help does not have outcome" grep -q '^  foldcairn outcome SEED \[FILE\]' "$folder/out"
+    says "--help does not have sample" grep -q '^  foldcairn sample FROM COUNT \[FILE\]' "$folder/out"
+    says "--help does not have fates" grep -q '^  foldcairn fates SEED \[FILE\]' "$folder/out"
+    says "--help does not have draw" grep -q '^  foldcairn draw SEED \[FILE\]' "$folder/out"
     front draw line.flood --ratios none.csv
     says "draw with an option is not the package's" [ "$status" -ne 0 -a ! -s "$folder/out" ]
     rm "$script"
     cp "$folder/SOURCES" "$copy/bin/SOURCES"
+}
+
+# The stored program alone, by a link on the PATH: it reads its standard input, and a file that is named is no word of its. The
+# help and README.md say so.
+front_end_alone() {
+    mkdir "$folder/alone"
+    ln -s "$copy/bin/foldcairn-x86_64-linux" "$folder/alone/foldcairn"
+    (cd "$folder" && PATH=$folder/alone:$bare foldcairn flood < line.flood > out 2> err)
+    status=$?
+    ends "the stored program alone" 0 $'accept 2 0\naccept 3 1\nsent 6\n'
+    (cd "$folder" && PATH=$folder/alone:$bare foldcairn flood line.flood > out 2> err)
+    status=$?
+    ends "the stored program alone with a file" 2 "$usage"
+    front --help
+    says "the help does not say how the stored program reads" grep -qx "  foldcairn-x86_64-linux run < FILE" "$folder/out"
+    says "README.md does not say how the stored program reads" grep -qF '`foldcairn-x86_64-linux run < FILE`' "$top/README.md"
 }
 
 # A copy that was installed has no sources, and runs what it has.
@@ -244,6 +282,7 @@ front_end() {
         front_end_sentences
         front_end_places
         front_end_draws
+        front_end_alone
         front_end_installed
         front_end_sources
     else

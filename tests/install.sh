@@ -112,7 +112,7 @@ explains() {
 helps() {
     local word
     "$1" --help > "$folder/help" || return 1
-    for word in $("$folder/full/bin/python" -m foldcairn --help | sed -n 's/^    \([a-z]\{3,\}\) .*/\1/p'); do
+    for word in $("$folder/full/bin/python" -m foldcairn --help | sed -n 's/^    \([a-z]\{3,\}\)\( .*\|$\)/\1/p'); do
         grep -q "^  foldcairn $word" "$folder/help" || { echo "no $word" && return 1; }
         "$1" "$word" --help > "$folder/out" && grep -q "^usage: foldcairn $word" "$folder/out" || return 1
     done
@@ -151,6 +151,8 @@ metadata() {
     # The list that the front end and the Debian package go by is that of the wheel.
     [ "$(sed -n 's/^Requires-Dist: \([a-z]*\)[<>=,.0-9]*$/\1/p' "$folder/out" | sort | xargs)" = "$(sed -n 's/^modules|\([^|]*\)|.*/\1/p' "$top/tools/commands.txt")" ] ||
         return 1
+    # The project has no address of its own, and so none here.
+    ! grep '^Project-URL:\|^Home-page:' "$folder/out" || return 1
     ! grep '^Requires-Dist: \(matplotlib\|plotly\|distributed\)' "$folder/out" | grep -v extra
 }
 
@@ -193,6 +195,7 @@ manual() {
     while read -r line; do
         grep -qF -- "$line" "$folder/shown" || { echo "not shown: $line" && return 1; }
     done < "$folder/commands"
+    grep -qF 'foldcairn-x86_64-linux run < FILE' "$folder/shown"
 }
 
 completes_bash() {

@@ -1,6 +1,6 @@
 #!/usr/bin/env bash
 # Runs the built program of a planner and says what it does other than it should: on a network that was worked out outside, on
-# networks whose losses are known, on words and texts that are rejected, and on streams that fail. What it writes of a scenario
+# networks whose losses are known, on words and texts that are rejected, and over streams that fail, with each status. What it writes of a scenario
 # without ratios is what `bus` of the first program writes.
 # The last line is 'N passed, M failed', and the status is 0 where M is 0.
 # Usage: tests/plan.sh PROGRAM FIRST [OTHER]. FIRST is the first program, and OTHER the planner's as the second compiler builds it.
@@ -12,8 +12,9 @@ other=${3:-}
 folder=$(mktemp -d) || exit 1
 trap 'rm -rf "$folder"' EXIT
 . "$top/tests/counting.sh"
+. "$top/tests/statuses.sh"
 
-usage=$'usage: outcome SEED\n'
+usage=$'usage: draw SEED | outcome SEED | fates SEED | sample FROM COUNT\n'
 base=$'sends 2\nnode 1 0\nnode 2 0\nhost 0 1\npair 1 2\n'
 two_on=$'on 0 1\non 0 2\n'
 
@@ -28,6 +29,183 @@ worked_network() {
     status=0
     ends "seed 8 of three in a line" 0 \
         $'1 0\n1 1\n2 0\n2 1\ncost 1 1134592 46748032 5\ncost 2 1093632 44741632 10\ncost 3 923648 47950592 18\n'
+}
+
+# The fates of seed 7, and the latencies of seed 8, were worked out outside, by a plain program of the rules and of the coins: in seed 8
+# two packets reach both other nodes, 3 and 9 frames after they were put, and the third reaches nobody. The rounds are in frames 1, 5, 9 and so
+# on, so the first packet is sent in frame 9, the second in frame 13 and the third in one of the last three rounds.
+worked_fates() {
+    local line="$top/tests/worked/three-in-a-line.network"
+    "$program" fates 7 < "$line" > "$folder/out"
+    status=$?
+    ends "the fates of seed 7 of three in a line" 0 $'put 0 3 0 1 0 waiting\nput 10 3 0 1 1 waiting\nput 20 3 0 1 2 waiting\n'
+    "$program" fates 8 < "$line" | sed 's/ sent 2[159] 1 0$/ sent late 1 0/' > "$folder/out"
+    status=0
+    ends "the fates of seed 8 of three in a line" 0 \
+        $'put 0 3 0 1 0 sent 9 1 2\nput 10 3 0 1 1 sent 13 1 2\nput 20 3 0 1 2 sent late 1 0\n'
+    # No round is before frame 1, and nobody has a slot before frame 5.
+    run_on "${base}frames 4"$'\nput 0 2 0 aa\n'"${two_on}"'put 0 2 0 aa
+stream 0 2 0 8
+stream 0 2 3 8
+put 0 2 0 aa
+put 0 2 3 aa
+leave 1 2 0
+put 1 2 0 aa
+stream 1 2 0 8
+put 1 2 0 aa
+off 2 2
+on 3 2
+stream 3 2 0 8
+put 3 2 0 aa
+' fates 0
+    ends "packets that are dropped, cleared and waiting" 0 'put 0 2 0 dropped
+put 0 2 0 dropped
+put 0 2 0 1 0 cleared 1
+put 0 2 3 1 0 cleared 2
+put 1 2 0 dropped
+put 1 2 0 1 1 cleared 2
+put 3 2 0 2 0 waiting
+'
+}
+
+# The counts, latencies and costs of two seeds were worked out outside, by a plain program of the rules and of the coins.
+worked_sample() {
+    local line="$top/tests/worked/three-in-a-line.network" seven eight
+    seven=$'seed 7\nputs 3 0 3 0 0 3 0\ncost 1 811008 28841344 5\ncost 2 552960 30585600 10\ncost 3 325632 27545472 14\n'
+    eight=$'seed 8\nputs 3 0 3 0 3 0 0\nlatency 3 0 1 3 1\nlatency 3 0 1 9 1\nlatency 3 0 2 3 1\nlatency 3 0 2 9 1\n'
+    eight+=$'cost 1 1134592 46748032 5\ncost 2 1093632 44741632 10\ncost 3 923648 47950592 18\n'
+    "$program" sample 7 2 < "$line" > "$folder/out"
+    status=$?
+    ends "seeds 7 and 8 of three in a line" 0 "$seven$eight"
+    "$program" sample 8 1 < "$line" > "$folder/out"
+    status=$?
+    ends "seed 8 of three in a line, alone" 0 "$eight"
+    "$program" sample 8 0 < "$line" > "$folder/out"
+    status=$?
+    ends "no seed" 0 ""
+}
+
+# The first seeds and the others are all seeds. Of each seed, the puts of a stream with each fate are the lines of fates, the packets
+# of its latencies the lines of deliveries, and the costs those of the outcome.
+samples_are_fates() {
+    local file
+    for file in "$top"/tests/worked/*.network "$top"/examples/*.scenario; do
+        "$program" sample 3 5 < "$file" > "$folder/wanted"
+        { "$program" sample 3 2 < "$file" && "$program" sample 5 3 < "$file"; } > "$folder/out"
+        says "sample of $(basename "$file"): not its parts" cmp -s "$folder/wanted" "$folder/out"
+        "$program" sample 3 1 < "$file" > "$folder/sample"
+        "$program" outcome 3 < "$file" > "$folder/report"
+        "$program" fates 3 < "$file" | awk '
+            { of = $3 " " $4; put[of]++ }
+            $NF == "dropped" { dropped[of]++ } $7 == "sent" { sent[of]++ } $7 == "waiting" { waiting[of]++ } $7 == "cleared" { cleared[of]++ }
+            END { for (of in put) print "puts", of, put[of], dropped[of] + 0, sent[of] + 0, waiting[of] + 0, cleared[of] + 0 }' | LC_ALL=C sort > "$folder/wanted"
+        grep '^puts ' "$folder/sample" | LC_ALL=C sort > "$folder/out"
+        says "sample of $(basename "$file"): puts are not the fates" cmp -s "$folder/wanted" "$folder/out"
+        grep '^cost ' "$folder/report" > "$folder/wanted"
+        grep '^cost ' "$folder/sample" > "$folder/out"
+        says "sample of $(basename "$file"): costs are not the outcome's" cmp -s "$folder/wanted" "$folder/out"
+        awk '$1 == "deliver" { count[$6 " " $8 " " $5]++ } END { for (of in count) print of, count[of] }' "$folder/report" | LC_ALL=C sort > "$folder/wanted"
+        awk '$1 == "latency" { count[$2 " " $3 " " $4] += $6 } END { for (of in count) print of, count[of] }' "$folder/sample" | LC_ALL=C sort > "$folder/out"
+        says "sample of $(basename "$file"): latencies are not the deliveries" cmp -s "$folder/wanted" "$folder/out"
+    done
+}
+
+# What is sent, with its receivers, is what the outcome delivers; what is dropped, what it drops.
+fates_are_outcomes() {
+    local file
+    for file in "$top"/tests/worked/*.network "$top"/examples/*.scenario "$top"/tests/worked/*.scenario; do
+        "$program" outcome 3 < "$file" > "$folder/report"
+        "$program" fates 3 < "$file" > "$folder/fates"
+        awk '$1 == "deliver" { count[$2 " " $6 " " $8 " " $7 " " $9 " " $4]++ } END { for (packet in count) print packet, count[packet] }' "$folder/report" \
+            | LC_ALL=C sort > "$folder/wanted"
+        awk '$7 == "sent" && $10 > 0 { print $8, $3, $4, $5, $6, $9, $10 }' "$folder/fates" | LC_ALL=C sort > "$folder/out"
+        says "fates of $(basename "$file"): what is sent is not what is delivered" cmp -s "$folder/wanted" "$folder/out"
+        sed -n 's/^drop //p' "$folder/report" > "$folder/wanted"
+        sed -n 's/^put \([0-9]* [0-9]* [0-9]*\) dropped$/\1/p' "$folder/fates" > "$folder/out"
+        says "fates of $(basename "$file"): what is dropped is not the drops" cmp -s "$folder/wanted" "$folder/out"
+        sed -n 's/^put \([0-9]* [0-9]* [0-9]*\) .*/\1/p' "$folder/fates" > "$folder/out"
+        awk '$1 == "ratios" { exit } $1 == "put" { print $2, $3, $4 }' "$file" > "$folder/wanted"
+        says "fates of $(basename "$file"): not one for each put" cmp -s "$folder/wanted" "$folder/out"
+    done
+}
+
+# The lose lines of a seed were worked out outside, by a plain program of the rules and of the coins. The other lines are those of the
+# scenario, in the order of a canonical text.
+worked_draw() {
+    "$program" draw 7 < "$top/tests/worked/three-in-a-line.network" > "$folder/out"
+    status=$?
+    ends "the draw of seed 7 of three in a line" 0 "profile 1
+frames 30
+sends 2
+node 1 0
+node 2 0
+node 3 0
+host 0 1
+link 1 2
+link 2 1
+link 2 3
+link 3 2
+on 0 1
+on 0 2
+on 0 3
+stream 0 3 0 8
+put 0 3 0 aa
+put 10 3 0 aa
+put 20 3 0 aa
+lose 5 0 1 2 1
+lose 5 0 1 2 3
+lose 5 2 2 1 2
+lose 5 2 2 3 2
+lose 9 0 1 2 3
+lose 9 0 3 2 3
+lose 9 2 3 2 3
+lose 13 0 1 2 1
+lose 13 0 2 3 2
+lose 13 1 0 3 2
+lose 13 2 1 2 3
+lose 13 2 2 1 2
+lose 21 0 0 1 2
+lose 21 2 1 2 3
+lose 25 0 0 1 2
+lose 25 2 0 1 2
+lose 29 0 1 2 3
+lose 29 0 2 1 2
+lose 29 2 0 1 2
+"
+    # The host transmits in the first step of the first slot and of the last one, each fourth frame from 5 on, and nobody answers.
+    run_on "${base}frames 12"$'\n'"${two_on}ratios"$'\nratio 0 1 2 0\n' draw 0
+    ends "the draw of a link that loses all" 0 "profile 1
+frames 12
+sends 2
+node 1 0
+node 2 0
+host 0 1
+link 1 2
+link 2 1
+on 0 1
+on 0 2
+lose 5 0 0 1 2
+lose 5 2 0 1 2
+lose 9 0 0 1 2
+lose 9 2 0 1 2
+"
+}
+
+# What is drawn is a scenario for the first program. Its bus is the outcome of the seed, and a run of it delivers and drops the same.
+# Drawn once more it stays as it is.
+draws_are_outcomes() {
+    local seed
+    for seed in 0 1 2 3 4 5 6 7 8 9; do
+        "$program" outcome "$seed" < "$top/tests/worked/three-in-a-line.network" > "$folder/wanted"
+        "$program" draw "$seed" < "$top/tests/worked/three-in-a-line.network" > "$folder/drawn"
+        "$first" bus < "$folder/drawn" > "$folder/out"
+        says "seed $seed: the bus of the draw is not the outcome" cmp -s "$folder/wanted" "$folder/out"
+        grep -v '^cost ' "$folder/wanted" > "$folder/events"
+        "$first" run < "$folder/drawn" | grep -v '^energy ' > "$folder/out"
+        says "seed $seed: a run of the draw delivers other than the outcome" cmp -s "$folder/events" "$folder/out"
+        "$program" draw "$seed" < "$folder/drawn" > "$folder/out"
+        says "seed $seed: the draw of a draw is another text" cmp -s "$folder/drawn" "$folder/out"
+    done
 }
 
 # Without ratios, and with ratios that lose nothing, the outcome is that of the bus. Nobody hears over links that lose all.
@@ -55,7 +233,9 @@ known_losses() {
 
 refused_words() {
     local words
-    for words in outcomes outcome "outcome 7 8" "outcome 07" "outcome -7" "outcome 7x" "outcome 10000000000000" run "fates 7" "7 outcome"; do
+    for words in outcomes outcome "outcome 7 8" "outcome 07" "outcome -7" "outcome 7x" "outcome 10000000000000" run "sample 7" "sample 7 8 9" "sample 07 1" "sample 7 x" "sample 7 10000000000000" "7 outcome" \
+        drawn draw "draw 7 8" "draw 07" "draw 10000000000000" "7 draw" "draw outcome" \
+        fates "fates 7 8" "fates 07" "fates 10000000000000"; do
         # Each word is one of the program's.
         run_on "$base" $words
         ends "the words '$words'" 2 "$usage"
@@ -68,10 +248,15 @@ refused_words() {
     ends "the greatest seed" 0 $'cost 1 0 0 0\ncost 2 0 0 0\n'
 }
 
-# rejects NAME LINE KIND TEXT: whether the text's first fault is that.
+# rejects NAME LINE KIND TEXT: whether the text's first fault is that, for each command.
 rejects() {
-    run_on "$4" outcome 7
-    ends "$1" 1 "fault line $2: $3"$'\n'
+    local word
+    for word in outcome fates draw; do
+        run_on "$4" "$word" 7
+        ends "$word of $1" 1 "fault line $2: $3"$'\n'
+    done
+    run_on "$4" sample 7 2
+    ends "sample of $1" 1 "fault line $2: $3"$'\n'
 }
 
 # A text of 7 lines, the last of which divides it, and ratio lines after it.
@@ -96,13 +281,16 @@ rejected_ratios() {
     says "ratios of two links: status $status, not 0" [ "$status" -eq 0 ]
 }
 
+# many_nodes FRAMES: a scenario of 64 nodes that are off, in 67 lines.
+many_nodes() {
+    printf 'sends 1\nframes %s\n' "$1"
+    seq -f 'node %.0f 0' 64
+    printf 'host 0 1\n'
+}
+
 # A horizon that the first program refuses, and one node more than may be.
 horizons() {
-    {
-        printf 'sends 1\nframes 4096\n'
-        seq -f 'node %.0f 0' 64
-        printf 'host 0 1\n'
-    } > "$folder/in"
+    many_nodes 4096 > "$folder/in"
     "$program" outcome 7 < "$folder/in" > "$folder/out"
     status=$?
     ends "64 nodes that are off in 4,096 frames" 0 "$(seq -f 'cost %.0f 0 0 0' 64)"$'\n'
@@ -112,42 +300,100 @@ horizons() {
     ends "the 65th node" 1 $'fault line 68: TooMany\n'
 }
 
-streams_that_fail() {
-    "$program" outcome 7 < "$folder" > "$folder/out" 2> "$folder/err"
+# The longest run of 64 nodes, and a frame more: the fault is in the line after the last, whether that line has an end or not.
+draw_horizons() {
+    many_nodes 256 > "$folder/in"
+    "$program" draw 7 < "$folder/in" > "$folder/out"
     status=$?
-    ends "a folder as input" 3 ""
-    printf '%sframes 12\n' "$base" > "$folder/in"
-    if [ -w /dev/full ]; then
-        "$program" outcome 7 < "$folder/in" > /dev/full
-        says "a full device: status $?, not 4" [ $? -eq 4 ]
-        "$program" outcome > /dev/full
-        says "a usage line to a full device: status $?, not 4" [ $? -eq 4 ]
-    fi
+    ends "the draw of 64 nodes in 256 frames" 0 "profile 1
+frames 256
+sends 1
+$(seq -f 'node %.0f 0' 64)
+host 0 1
+"
+    many_nodes 257 > "$folder/in"
+    "$program" draw 7 < "$folder/in" > "$folder/out"
+    status=$?
+    ends "the draw of 64 nodes in 257 frames" 1 $'fault line 68: TooBig\n'
+    printf 'ratios' >> "$folder/in"
+    "$program" draw 7 < "$folder/in" > "$folder/out"
+    status=$?
+    ends "the draw of 64 nodes in 257 frames, with a last line" 1 $'fault line 69: TooBig\n'
+}
+
+# lossy PUTS: a network of PUTS and two script lines, with a link that loses all: four transmissions in 12 frames.
+lossy() {
+    printf '%sframes 12\n%s' "$base" "$two_on"
+    yes 'put 0 1 0 aa' | head -n "$1"
+    printf 'ratios\nratio 0 1 2 0\n'
+}
+
+# As many lines as a scenario has, and one more. That it is too big is said first.
+draw_lines() {
+    lossy 19994 > "$folder/in"
+    "$program" draw 7 < "$folder/in" > "$folder/out"
+    says "a draw of 20,000 script lines: status $?, not 0" [ $? -eq 0 ]
+    says "a draw of 20,000 script lines has not 4 lose lines" [ "$(grep -c '^lose ' "$folder/out")" -eq 4 ]
+    "$first" bus < "$folder/out" > "$folder/report"
+    says "the bus of a draw of 20,000 script lines: status $?, not 0" [ $? -eq 0 ]
+    lossy 19995 > "$folder/in"
+    "$program" draw 7 < "$folder/in" > "$folder/out"
+    status=$?
+    ends "a draw of 20,001 script lines" 1 "fault line $(($(wc -l < "$folder/in") + 1)): TooMany"$'\n'
+    lossy 19995 | sed 's/^frames 12/frames 4096/; s/^node 2 0/&\nnode 3 0\nnode 4 0\nnode 5 0/' > "$folder/in"
+    "$program" draw 7 < "$folder/in" > "$folder/out"
+    status=$?
+    ends "a draw of too many lines in too many frames" 1 "fault line $(($(wc -l < "$folder/in") + 1)): TooBig"$'\n'
+}
+
+# Each status, and 3 and 4 with a stream that fails alone.
+statuses() {
+    printf '%sframes 12\nput 0 1 0 aa\n' "$base" > "$folder/in"
+    by_streams 0 outcome 7
+    by_streams 0 fates 7
+    by_streams 0 sample 7 2
+    by_streams 0 draw 7
+    printf '%sframes 0\n' "$base" > "$folder/in"
+    by_streams 1 outcome 7
+    by_streams 1 fates 7
+    by_streams 1 sample 7 2
+    by_streams 1 draw 7
+    reads_nothing 2 outcome
+    reads_nothing 2 run
+    gives "a word that is no UTF-8, from a folder" 6 "$folder" /dev/null $'\xff'
     head -c 4194305 /dev/zero | tr '\0' '#' > "$folder/long"
     "$program" outcome 7 < "$folder/long" > "$folder/out"
     status=$?
     ends "one byte more than may come" 1 $'fault too long\n'
-    (ulimit -v 6000; head -c 4194304 "$folder/long" | "$program" outcome 7 > "$folder/out"; exit "${PIPESTATUS[1]}")
-    status=$?
-    ends "little memory" 5 ""
+    with_little_memory outcome 7
 }
 
 # What the second compiler's program writes, to the byte.
 by_both() {
-    local file
+    local file word
     for file in "$top"/tests/worked/*.network "$top"/examples/*.scenario; do
-        "$program" outcome 7 < "$file" > "$folder/out"
-        "$other" outcome 7 < "$file" > "$folder/other"
-        says "outcome of $(basename "$file") by both compilers: other bytes" cmp -s "$folder/out" "$folder/other"
+        for word in outcome fates draw; do
+            "$program" "$word" 7 < "$file" > "$folder/out"
+            "$other" "$word" 7 < "$file" > "$folder/other"
+            says "$word of $(basename "$file") by both compilers: other bytes" cmp -s "$folder/out" "$folder/other"
+        done
     done
 }
 
 worked_network
+worked_fates
+fates_are_outcomes
+worked_sample
+samples_are_fates
+worked_draw
+draws_are_outcomes
 known_losses
 refused_words
 rejected_ratios
 horizons
-streams_that_fail
+draw_horizons
+draw_lines
+statuses
 [ -n "$other" ] && by_both
 echo "$passed passed, $failed failed"
 [ "$failed" -eq 0 ]

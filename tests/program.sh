@@ -1,8 +1,8 @@
 #!/usr/bin/env bash
 # Runs the built program and says what it does other than it should: on each example, whose report in examples/expected was
-# worked out from the rules; on texts that bench/made.py draws; on streams that fail, and the greatest sizes; built by the second
-# compiler, on each example again; on worked scenarios, words that are no command, texts that are rejected (tests/worked.sh) and
-# recorded logs (tests/verdicts.sh); and by the front end ./foldcairn (tests/front_end.sh).
+# worked out from the rules; on texts that bench/made.py draws; over streams that fail, with each status (tests/statuses.sh), and on
+# the greatest sizes; built by the second compiler, on each example again; on worked scenarios, words that are no command, texts
+# that are rejected (tests/worked.sh) and recorded logs (tests/verdicts.sh); and by the front end ./foldcairn (tests/front_end.sh).
 # The last line is 'N passed, M failed', and the status is 0 where M is 0.
 # Usage: tests/program.sh [PROGRAM [OTHER]]. OTHER is the same program as the second compiler builds it. By default they are
 # what the gate built, or they are built.
@@ -43,6 +43,7 @@ else
 fi
 
 . "$top/tests/counting.sh"
+. "$top/tests/statuses.sh"
 
 # reports WORD FILE EXPECTED: whether the program writes that of the file, by that word.
 reports() {
@@ -161,20 +162,30 @@ returns() {
     ends "no return" 0 $'deliver 9 0 1 1 2 1 0 0 aa\nenergy 1 450560 9681408 5 1238481408\nenergy 2 450560 9551872 6 1353800192\n'
 }
 
-ends_that_fail() {
-    "$program" flood < "$folder" > "$folder/out" 2> "$folder/err"
-    status=$?
-    ends "a folder as input" 3 ""
+# Each status, and 3 and 4 with a stream that fails alone. A fault line and a usage line are written too.
+statuses() {
+    local word
     printf '%s' "$line" > "$folder/in"
-    if [ -w /dev/full ]; then
-        "$program" flood < "$folder/in" > /dev/full
-        says "a full device: status $?, not 4" [ $? -eq 4 ]
-        "$program" flood < /dev/null > /dev/full
-        says "a fault line to a full device: status $?, not 4" [ $? -eq 4 ]
-        "$program" floods > /dev/full
-        says "a usage line to a full device: status $?, not 4" [ $? -eq 4 ]
-    fi
+    by_streams 0 flood
+    printf '%sframes 12\non 0 1\non 0 2\nstream 0 2 0 4\nput 0 2 0 aa\n' "$base" > "$folder/in"
+    for word in run log bus times return; do
+        by_streams 0 "$word"
+    done
+    printf '%sframes 12\nlog\n' "$base" > "$folder/in"
+    by_streams 0 check
+    cp "$top/examples/one-slot-three-streams.deadlines" "$folder/in"
+    by_streams 0 deadlines
+    printf '%s' "$line" > "$folder/in"
+    by_streams 1 run
+    reads_nothing 0 demo 7 2 1
+    reads_nothing 2 floods
+    reads_nothing 2 run run
+    gives "a word that is no UTF-8, from a folder" 6 "$folder" /dev/null $'\xff'
+    for word in flood run log bus check deadlines times return; do
+        with_little_memory "$word"
+    done
     # The reader of this pipe is gone before anything is written.
+    printf '%s' "$line" > "$folder/in"
     (sleep 0.3; "$program" flood < "$folder/in" 2> "$folder/err"; echo $? > "$folder/status") | true
     says "a closed pipe: status $(cat "$folder/status"), not 4" [ "$(cat "$folder/status")" = 4 ]
 }
@@ -204,13 +215,6 @@ greatest_sizes() {
     demos "a demo of 64 nodes in 256 frames" $'deliveries 63103\ndrops 2223\nsent 6072967168\non 435905812220\n' 7 64 256
 }
 
-# With so little memory that a text of 4 MiB has no room, and the program still starts.
-little_memory() {
-    (ulimit -v 6000; "$program" flood < "$folder/longest" > "$folder/out")
-    status=$?
-    ends "little memory" 5 ""
-}
-
 examples
 demos "a demo of two nodes" $'deliveries 0\ndrops 0\nsent 0\non 512000000\n' 7 2 1
 demos "a demo of the greatest seed" $'deliveries 0\ndrops 0\nsent 0\non 512000000\n' 9999999999999 2 1
@@ -225,9 +229,8 @@ fi
 words_and_texts
 stamps
 returns
-ends_that_fail
+statuses
 greatest_sizes
-little_memory
 [ -n "$other" ] && by_both
 . "$top/tests/worked.sh"
 worked_texts

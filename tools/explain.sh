@@ -27,7 +27,7 @@ say() {
 page() {
     case $1 in
         deadlines) echo DEADLINES.md ;;
-        outcome)
+        draw | fates | outcome | sample)
             if [ -n "${number-}" ] && head -n "$number" "$input" | grep -q "$ratios_line"; then
                 echo RATIOS.md
             else
@@ -48,44 +48,38 @@ page() {
 log_line='^[[:blank:]]*log[[:blank:]]*$'
 ratios_line='^[[:blank:]]*ratios[[:blank:]]*$'
 
-# The row of the page's table of lines that begins with the word: how the line is written, and its ranges. A flood has its
-# table at the end of the page.
-row() {
+# The rows of the page's table of lines that begin with the word, each cell after a bar: how the line is written, what it says, its
+# ranges and its faults. A flood has its table at the end of the page.
+cells() {
     rows=$(sed -n "s/^| *\(\`$2[ \`].*\)/\1/p" "$top/docs/$(page "$1")")
     case $1 in
         flood) printf '%s\n' "$rows" | tail -n 1 ;;
         *) printf '%s\n' "$rows" | head -n 1 ;;
-    esac | awk -F ' *[|] *' 'NF { print "it is written " $1 ": " $2 ($3 == "" ? "" : "; range: " $3) }'
+    esac
 }
 
-# What a kind of fault means.
+row() {
+    cells "$1" "$2" | awk -F ' *[|] *' 'NF { print "it is written " $1 ": " $2 ($3 == "" ? "" : "; range: " $3) }'
+}
+
+# What a kind of fault means, as the pages have it: what the word's row says of it, or else the table of kinds.
 meaning() {
-    case $1 in
-        NotUtf8) echo "the line has bytes that are not UTF-8" ;;
-        BadWord)
-            if [ -n "$form" ]; then
-                echo "it has too many or too few words, or a payload is not pairs of hexadecimal digits"
-            else
-                echo "the word '$word' begins no line of this input"
+    cause=$(cells "$1" "$word" | awk -F ' *[|] *' '{ print $4 }' | tr ';' '\n' | sed -n "s/^ *$2 if /such a line has this fault if /p")
+    [ -n "$cause" ] || cause=$(sed -n "s/^| $2 | \([^|]*\) |.*/\1/p" "$top/docs/SCENARIO.md")
+    case $2 in
+        BadWord) [ -n "$form" ] || cause="the word '$word' begins no line of this input" ;;
+        TooMany)
+            if [ "$1" = draw ] && [ "$number" -gt "$(awk 'END { print NR }' "$input")" ]; then
+                cause="with the losses of this seed the scenario has more than 20,000 script lines"
             fi
             ;;
-        BadNumber) echo "a number has a sign, a leading zero, another character or more than 13 digits" ;;
-        Range) echo "a number or a payload is out of its range, or two ids that must differ are equal" ;;
-        UnknownNode) echo "no line above it gives this node" ;;
-        Order)
-            case $word in
-                profile | contend) echo "'profile' is the first line, and 'contend' comes right after 'profile 2'" ;;
-                host) echo "hosts are given from rank 0 on, without a gap" ;;
-                ratio) echo "there is no such link, or its frame is not above that of the link's last ratio" ;;
-                rate) echo "its tick is not above that of the node's last rate, or it comes before the line 'frames'" ;;
-                *) echo "its frame is below that of a script line above it, or it comes before the line 'frames'" ;;
-            esac
+        TooBig)
+            # These of the planner's commands keep no log, so they take more.
+            [ "$1" != outcome ] && [ "$1" != fates ] && [ "$1" != sample ] || cause=$(printf '%s\n' "$cause" | sed 's/16,384/262,144/')
+            cause="$cause, and it has $(grep -c '^[[:blank:]]*node[[:blank:]]' "$input") nodes"
             ;;
-        Twice) echo "a line above it gives this already" ;;
-        TooMany) echo "there are too many such lines: 64 nodes, 20,000 script lines, 200 power-ons of a node, 100,000 ratios" ;;
-        Missing) echo "at the end of the text a line is missing" ;;
-        TooBig) echo "$(grep -c '^[[:blank:]]*node[[:blank:]]' "$input") nodes times the number of frames is above 16,384" ;;
     esac
+    echo "$2: $cause"
 }
 
 # What a text of a command needs and lacks.
@@ -130,7 +124,7 @@ rejected() {
         '' | *[!a-z]*) ;;
         *) form=$(row "$1" "$word") ;;
     esac
-    say "line $number${line:+, '$line'}: $(meaning "$kind")"
+    say "line $number${line:+, '$line'}: $(meaning "$1" "$kind")"
     say "${form:-$docs/$(page "$1") has all lines with their ranges}"
 }
 
@@ -215,7 +209,13 @@ case $status in
     2) wrong_words "$@" ;;
     3) say "the input could not be read, so nothing was written: is it a folder, or closed?" ;;
     4) say "the output could not be written whole: only a part of it, or nothing, is there" ;;
-    5) say "out of memory: nothing was written ($docs/LIMITS.md has what a run takes)" ;;
+    5)
+        if [ "$1" = sample ]; then
+            say "out of memory: of the seeds only the first, or none, are there ($docs/LIMITS.md has what a run takes)"
+        else
+            say "out of memory: nothing was written ($docs/LIMITS.md has what a run takes)"
+        fi
+        ;;
     6) say "a word of the command line is not UTF-8; nothing was read or written" ;;
 esac
 exit 0

@@ -53,6 +53,10 @@ The input is FILE, or the standard input where no file is named. An example:
 
   $called run ${place}examples/packets-along-a-line.scenario
 
+A stored program that is linked or copied alone, without this front end, reads its standard input and no FILE:
+
+  foldcairn-x86_64-linux run < FILE
+
 Status 0: the output was written. 1: the input was rejected. 2: wrong words. 3, 4: the input could not be read, the output
 could not be written. 5: out of memory. 127: what the command needs is missing, as Python and its modules for the commands under
 'Tables and pictures'.

@@ -1,7 +1,8 @@
 #!/bin/sh
 # Checks what no test runs: the types of the Python package by mypy --strict, unused and undefined names, forms and line lengths of
-# all Python by ruff, and the shell scripts by shellcheck. Debian 12 has no ruff: where it is missing, pyflakes and pycodestyle
-# check the same rules (those of [tool.ruff.lint] in python/pyproject.toml).
+# all Python by ruff, the shell scripts by shellcheck, and by tools/tidy.py the line lengths of .rt and .antt files and what crates.txt
+# lists without need. Debian 12 has no ruff: where it is missing, pyflakes and pycodestyle check the same rules (those of
+# [tool.ruff.lint] in python/pyproject.toml).
 #
 # Usage: tools/lint.sh
 #
@@ -34,10 +35,13 @@ else
 fi
 
 # Those that other scripts read have the variables of these, and [ a -ot b ] is in all shells of Debian.
-fragments='tests/front_end.sh tests/install_debian.sh tests/verdicts.sh tests/worked.sh'
+fragments='tests/front_end.sh tests/install_debian.sh tests/statuses.sh tests/verdicts.sh tests/worked.sh'
 # shellcheck disable=SC2046
 run shellcheck -S warning -e SC3013 $(git ls-files '*.sh' foldcairn .ci/run | grep -vxF "$(printf '%s\n' $fragments)")
 # shellcheck disable=SC2086
 run shellcheck -S warning -e SC2154 $fragments
+
+# Columns, and edges between crates.
+run "$python" tools/tidy.py
 
 exit $failed

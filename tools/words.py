@@ -39,7 +39,6 @@ WORDS = [
     (r"(?<!on )(?:the|an) air", "the radio log"),
     (r"lawful\w*", "valid (`Lawful`)"),
     (r"heedful", "protocol-obedient"),
-    (r"trails?", "trace of one node"),
     (r"plain bus|(?<!ideal )single-hop bus", "the ideal single-hop bus"),
     (r"(?:an|the|its|this|that|each|next|old|missed|and) (?:opening|closing)s?(?! schedule| slot| and closing|s? of (?:a|the|its|each) (?:window|slot)|s? of windows|\s*$)",
      "opening schedule, closing schedule"),

@@ -1,0 +1,78 @@
+#!/usr/bin/env python3
+"""Finds lines of .rt and .antt files that are longer than 160 columns, and libraries in crates.txt that their crate does not cite.
+
+Usage: tools/tidy.py. What is known and not yet mended is listed in KNOWN_LINES and KNOWN_EDGES, and does not count; who mends it
+takes it out there. The status is 1 if there is something else. Only Python's standard library is used.
+"""
+import collections
+import pathlib
+import re
+import sys
+
+TOP = pathlib.Path(__file__).resolve().parent.parent
+COLUMNS = 160
+# How many longer lines a file has.
+KNOWN_LINES = {
+    "crates/bus_terms/specs/Fates.antt": 1,
+    "crates/command_line/proofs/Runs.antt": 1,
+    "crates/drawn_bus/proofs/CollectedLosses.antt": 4,
+    "crates/law_trails/proofs/LinesOfTick.antt": 1,
+    "crates/lwb_base/proofs/StableSorts.antt": 1,
+    "crates/plan_tool/proofs/draw_answer/drawn/Answers.antt": 1,
+    "crates/scenario_text/proofs/Horizons.antt": 1,
+    "crates/schedule_codec/proofs/decode/spelled/Answers.antt": 1,
+    "crates/text_readers/proofs/LineFeeds.antt": 2,
+}
+# A crate, and what it lists without need.
+KNOWN_EDGES = {
+    ("plain_bus", "stream_source"),
+    ("air_log", "stream_source"),
+    ("drawn_losses", "arrayvec"),
+    ("fate_report", "lwb_base"),
+    ("law_timed_runs", "tick_clock"),
+    ("law_timed_runs", "bus_terms"),
+}
+
+
+def sources(crate):
+    return [path for part in ("src", "specs", "proofs") for path in sorted((TOP / "crates" / crate / part).rglob("*")) if path.suffix in (".rt", ".antt")]
+
+
+def long_lines(path):
+    return [number for number, line in enumerate(path.read_text().splitlines(), 1) if len(line) > COLUMNS]
+
+
+def uses():
+    """Each crate of crates.txt with what it uses."""
+    for line in (TOP / "crates.txt").read_text().splitlines():
+        if line and not line.startswith("#"):
+            name, libraries = line.split(":")
+            yield name.split()[0], libraries.split()
+
+
+def cited(paths):
+    """The words of sources without their comments."""
+    comments = {".rt": r"//[^\n]*", ".antt": r"--[^\n]*"}
+    return {word for path in paths for word in re.findall(r"\w+", re.sub(comments[path.suffix], "", path.read_text()))}
+
+
+def main():
+    found = collections.defaultdict(list)
+    for crate, libraries in uses():
+        paths = sources(crate)
+        for path in paths:
+            name = str(path.relative_to(TOP))
+            longer = long_lines(path)
+            if len(longer) > KNOWN_LINES.get(name, 0):
+                found[f"longer than {COLUMNS} columns"] += [f"{name}:{number}" for number in longer]
+        words = cited(paths)
+        found["listed in crates.txt, and not cited"] += [f"{crate}: {library}" for library in libraries
+                                                         if library not in words and (crate, library) not in KNOWN_EDGES]
+    for what, places in found.items():
+        for place in places:
+            print(f"{place}: {what}")
+    sys.exit(any(found.values()))
+
+
+if __name__ == "__main__":
+    main()
