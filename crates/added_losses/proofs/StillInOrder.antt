@@ -11,7 +11,7 @@ use Rattle.scenario_text.specs.ScenarioParts.{ScenarioParts}
 use Rattle.scenario_text.proofs.EachPair.{climbs_pairs, pairs_climb}
 use Rattle.bus_terms.specs.OverLines.{over}
 use Rattle.added_losses.specs.LossesAdded.{AreInRange, AreNewLosses, IsWithLosses, with_new_line}
-use Rattle.added_losses.specs.declared.limits.TheConstants.{MOST_SCRIPT_LINES}
+use Rattle.lwb_base.specs.declared.limits.TheConstants.{MOST_SCRIPT_LINES}
 use Rattle.added_losses.proofs.LossLines.{AreInOrder, all_more, count_more, few_more, still_ordered}
 
 -- the scenario with these losses more

@@ -15,7 +15,7 @@ use Rattle.scenario_text.specs.ScenarioParts.{ScenarioParts}
 use Rattle.scenario_text.specs.declared.limits.TheConstants.{RUN_NODE_FRAMES}
 use Rattle.bus_terms.specs.OverLines.{over}
 use Rattle.drawn_bus.specs.KeptLosses.{AddsLosses}
-use Rattle.added_losses.specs.declared.limits.TheConstants.{MOST_SCRIPT_LINES}
+use Rattle.lwb_base.specs.declared.limits.TheConstants.{MOST_SCRIPT_LINES}
 
 -- lines that s may have: of a link of two nodes in a step of a slot of one of its frames
 abbrev pub AreInRange : ScenarioParts → List LoseLine → Type 0

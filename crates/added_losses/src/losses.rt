@@ -8,12 +8,11 @@ ghost use Rattle.scenario_text.specs.PartsInOrder.{script_lines};
 ghost use Rattle.scenario_text.specs.ScenarioGrammar.{IsScenario};
 ghost use Rattle.bus_terms.specs.OverLines.{over};
 ghost use Rattle.added_losses.specs.LossesAdded.{AreInRange, AreNewLosses, IsWithLosses, with_new_line};
-ghost use Rattle.added_losses.specs.declared.limits.TheConstants.{MOST_SCRIPT_LINES};
+ghost use Rattle.lwb_base.specs.declared.limits.TheConstants.{MOST_SCRIPT_LINES};
 
-use crate::MOST_SCRIPT_LINES;
 use crate::script::copied_script;
 use link_trace::{LoseLine, Trace};
-use lwb_base::Memory;
+use lwb_base::{MOST_SCRIPT_LINES, Memory};
 use scenario_text::Scenario;
 use scenario_text::known_nodes::ids;
 use std::alloc::Global;

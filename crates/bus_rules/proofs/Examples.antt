@@ -1,10 +1,10 @@
 -- Worked examples of the rules.
 use Rattle.std.proofs.Common.{◌≡◌, ◌+◌, List, [], ◌∷◌, replicate, ◌++◌, refl, Some, None, true, false, map, fold, length}
 use Rattle.std.specs.List.{range_with_len}
-use Rattle.bus_rules.specs.Streams.{Streams, cleared, declared, put, taken, drops, first_waiting, stream_at}
+use Rattle.bus_rules.specs.Streams.{Streams, cleared, declared, after_put, after_taking, drops, first_waiting, stream_at}
 use Rattle.bus_rules.specs.Tuning.{next_tune}
 use Rattle.bus_rules.specs.declared.tune.Tune.TheVariants.{Scan, Host}
-use Rattle.bus_rules.specs.Tables.{Entry, Table, new_entry, is_full, after_request}
+use Rattle.bus_rules.specs.Tables.{TableEntry, Table, new_entry, is_full, after_request}
 use Rattle.bus_rules.specs.Granting.{owed, total, turns, plan_round}
 
 tunes : (next_tune (Scan 0 4) 4 false (Some 0) 1 ≡ Host 0 5) × (next_tune (Scan 0 4) 4 false None 1 ≡ Scan 0 5)
@@ -15,7 +15,7 @@ owed_four : owed 4 13 5 4 4 ≡ 4
 owed_four = refl
 
 -- owner 8 at interval 1 and owner 12 at interval 40, both accepted in frame 0
-entries : List Entry
+entries : List TableEntry
 entries =
     record { code = 8; boot = 1; interval = 1; accepted = 0; granted = 0; unheard = 0 }
     ∷ record { code = 12; boot = 1; interval = 40; accepted = 0; granted = 0; unheard = 0 } ∷ []
@@ -33,10 +33,10 @@ turned = (refl, refl, refl)
 
 -- sixteen packets wait
 sixteen : Streams
-sixteen = fold (λ s i. put 0 (i ∷ []) s) (declared 0 4 cleared) (range_with_len 0 16)
+sixteen = fold (λ s i. after_put 0 (i ∷ []) s) (declared 0 4 cleared) (range_with_len 0 16)
 
-full_queue : (drops sixteen 0 ≡ true) × (first_waiting sixteen 0 ≡ Some (record { seq = 0; payload = 0 ∷ [] })) × (drops (taken 0 sixteen) 0 ≡ false)
-    × ((stream_at (taken 0 sixteen) 0).next ≡ 16)
+full_queue : (drops sixteen 0 ≡ true) × (first_waiting sixteen 0 ≡ Some (record { seq = 0; payload = 0 ∷ [] })) × (drops (after_taking 0 sixteen) 0 ≡ false)
+    × ((stream_at (after_taking 0 sixteen) 0).next ≡ 16)
 unfolding sixteen
 full_queue = (refl, refl, refl, refl)
 

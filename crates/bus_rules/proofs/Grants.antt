@@ -6,7 +6,7 @@ use Rattle.std.proofs.lemmas.List.Sums.{sum_by-cons}
 use Rattle.lwb_base.specs.Messages.{Ask, code_of}
 use Rattle.bus_rules.specs.Granting.{Grants, count_of, given, granted_by, grants_for, last_code, share_in}
 use Rattle.bus_rules.specs.HostPlans.{with_ack}
-use Rattle.bus_rules.specs.Tables.{Entry, Table}
+use Rattle.bus_rules.specs.Tables.{TableEntry, Table}
 
 -- a list of acknowledgements has one more at most
 pub with_few : (a : Ask) (xs : List Ask) → length (with_ack a xs) ≤ length xs + 1
@@ -19,7 +19,7 @@ with_few a (x ∷ xs) =
     (λ other. cond_both (nat_lt (code_of a) (code_of x)) (a ∷ x ∷ xs) (x ∷ with_ack a xs) (λ (l : List Ask). length l ≤ length (x ∷ xs) + 1)
     (λ less. omega arith) (λ more. omega arith))
 
-pub gap_stays : (owes : Entry → ℕ) (gap : ℕ) (t : Table) → (grants_for owes gap t).gap ≡ gap
+pub gap_stays : (owes : TableEntry → ℕ) (gap : ℕ) (t : Table) → (grants_for owes gap t).gap ≡ gap
 gap_stays owes gap t =
     cond_both (nat_le (sum_by owes t.entries) 40) (granted_by owes gap t.place t.entries)
     (granted_by (share_in (given owes t)) gap (last_code (given owes t) + 1) t.entries) (λ (g : Grants). g.gap ≡ gap)

@@ -2,7 +2,7 @@
 use Rattle.std.proofs.Common.{◌≡◌, ℕ, [], ◌∷◌, refl, Some, None}
 use Rattle.lwb_base.specs.Profile.{one, contended}
 use Rattle.lwb_base.specs.Messages.{Ask, Plan}
-use Rattle.bus_rules.specs.Streams.{Streams, cleared, declared, put, requested, after_contention, schedule_heard, stream_at}
+use Rattle.bus_rules.specs.Streams.{Streams, cleared, declared, after_put, requested, after_contention, schedule_heard, stream_at}
 use Rattle.bus_rules.specs.Tables.{no_table}
 use Rattle.bus_rules.specs.Granting.{plan_round}
 use Rattle.bus_rules.specs.HostPlans.{host_plan}
@@ -31,7 +31,7 @@ other_way = refl
 
 -- streams of which this one is declared with interval 4, and has a packet
 waits_at : ℕ → Streams
-waits_at stream = put stream [] (declared stream 4 cleared)
+waits_at stream = after_put stream [] (declared stream 4 cleared)
 
 -- a host's own stream 1: put to the table now, and agreed at the next plan
 own_request : ((host_plan one 1 1 0 5 [] no_table (waits_at 1)).plan.owners ≡ 5 ∷ 5 ∷ 5 ∷ 5 ∷ [])

@@ -2,20 +2,20 @@
 use Rattle.std.specs.Prelude.{ℕ, zero, suc, ◌+◌, ◌-◌, ◌*◌, ◌/◌, List, [], ◌++◌, ◌==◌, nat_lt, nat_le, if◌then◌else◌, map}
 use Rattle.std.specs.Prelude.{length, take, filter, flat_map, replicate, sum_by, count_by, slice_index}
 use Rattle.lwb_base.specs.declared.limits.TheConstants.{DATA_SLOTS, GREATEST_GAP}
-use Rattle.bus_rules.specs.Tables.{Entry, Table, code_in}
+use Rattle.bus_rules.specs.Tables.{TableEntry, Table, code_in}
 
 -- the slots that have come due since the stream was accepted, less those granted. - stops at 0
 abbrev pub owed : ℕ → ℕ → ℕ → ℕ → ℕ → ℕ
 owed seconds frame accepted interval granted = seconds * (frame - accepted) / interval - granted
 
-abbrev pub owed_to : ℕ → ℕ → Entry → ℕ
+abbrev pub owed_to : ℕ → ℕ → TableEntry → ℕ
 owed_to seconds frame e = owed seconds frame e.accepted e.interval e.granted
 
-abbrev pub total : ℕ → ℕ → List Entry → ℕ
+abbrev pub total : ℕ → ℕ → List TableEntry → ℕ
 total seconds frame es = sum_by (owed_to seconds frame) es
 
 -- the greatest gap at which all that is owed fits one round, else 1
-abbrev pub gap_of : ℕ → ℕ → List Entry → ℕ
+abbrev pub gap_of : ℕ → ℕ → List TableEntry → ℕ
 gap_of seconds frame es =
     if nat_le (total seconds (frame + GREATEST_GAP) es) DATA_SLOTS then GREATEST_GAP
     else if nat_le (total seconds (frame + 3) es) DATA_SLOTS then 3
@@ -27,20 +27,20 @@ abbrev pub count_of : ℕ → List ℕ → ℕ
 count_of c cs = count_by (λ x. x == c) cs
 
 -- the entries in the order of the turns: from the place on, and then those before it
-abbrev pub in_turn : ℕ → List Entry → List Entry
+abbrev pub in_turn : ℕ → List TableEntry → List TableEntry
 in_turn place es = filter (λ e. nat_le place e.code) es ++ filter (λ e. nat_lt e.code place) es
 
 -- turn k, counted from 0: a slot for each that was owed more than the k slots that the turns before gave it
-abbrev pub turn : (Entry → ℕ) → List Entry → ℕ → List ℕ
+abbrev pub turn : (TableEntry → ℕ) → List TableEntry → ℕ → List ℕ
 turn owes line k = map code_in (filter (λ e. nat_lt k (owes e)) line)
 
 -- the slots of the first k turns, one after another
-unfoldable pub turns : (Entry → ℕ) → List Entry → ℕ → List ℕ
+unfoldable pub turns : (TableEntry → ℕ) → List TableEntry → ℕ → List ℕ
 turns owes line zero = []
 turns owes line (suc k) = turns owes line k ++ turn owes line k
 
 -- the data slots of a round that are given one at a time, in turns
-abbrev pub given : (Entry → ℕ) → Table → List ℕ
+abbrev pub given : (TableEntry → ℕ) → Table → List ℕ
 given owes t = take DATA_SLOTS (turns owes (in_turn t.place t.entries) DATA_SLOTS)
 
 abbrev pub last_code : List ℕ → ℕ
@@ -52,14 +52,14 @@ pub record Grants : Type 0 where
   pub owners : List ℕ
   pub table : Table
 
-abbrev pub grant : (Entry → ℕ) → Entry → Entry
+abbrev pub grant : (TableEntry → ℕ) → TableEntry → TableEntry
 grant share e = record e { granted = e.granted + share e }
 
 -- each code as often as it was granted, ascending
-abbrev pub owners_by : (Entry → ℕ) → List Entry → List ℕ
+abbrev pub owners_by : (TableEntry → ℕ) → List TableEntry → List ℕ
 owners_by share es = flat_map (λ e. replicate (share e) e.code) es
 
-abbrev pub granted_by : (Entry → ℕ) → ℕ → ℕ → List Entry → Grants
+abbrev pub granted_by : (TableEntry → ℕ) → ℕ → ℕ → List TableEntry → Grants
 granted_by share gap place es = record {
   gap = gap;
   owners = owners_by share es;
@@ -67,11 +67,11 @@ granted_by share gap place es = record {
 }
 
 -- how often the code of an entry was given
-abbrev pub share_in : List ℕ → Entry → ℕ
+abbrev pub share_in : List ℕ → TableEntry → ℕ
 share_in cs e = count_of e.code cs
 
 -- all that is owed where it fits, else all data slots in turns
-abbrev pub grants_for : (Entry → ℕ) → ℕ → Table → Grants
+abbrev pub grants_for : (TableEntry → ℕ) → ℕ → Table → Grants
 grants_for owes gap t =
     if nat_le (sum_by owes t.entries) DATA_SLOTS
     then granted_by owes gap t.place t.entries

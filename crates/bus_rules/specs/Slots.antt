@@ -8,7 +8,7 @@ use Rattle.bus_rules.specs.declared.part.Part.{Part}
 use Rattle.bus_rules.specs.declared.part.Part.TheVariants.{Opening, Data as DataSlot, Contention, Closing}
 use Rattle.bus_rules.specs.declared.tune.Tune.TheVariants.{Host}
 use Rattle.bus_rules.specs.Plans.{opening, last_slot}
-use Rattle.bus_rules.specs.Streams.{WaitingPacket, first_waiting, taken, requested, after_contention, stream_at}
+use Rattle.bus_rules.specs.Streams.{WaitingPacket, first_waiting, after_taking, requested, after_contention, stream_at}
 use Rattle.bus_rules.specs.Tables.{Table, heard_owner, unheard_owner}
 use Rattle.bus_rules.specs.Tuning.{hosts_in, rank_of}
 use Rattle.bus_rules.specs.HostPlans.{HostPlan, host_plan}
@@ -53,7 +53,7 @@ abbrev pub data_opened : ℕ → ℕ → Core → Opened
 data_opened node owner c =
     let i = stream_of owner in
     record {
-      core = record c { streams = if node_of owner == node then taken i c.streams else c.streams };
+      core = record c { streams = if node_of owner == node then after_taking i c.streams else c.streams };
       message = if node_of owner == node then option_map (data_of node c i) (first_waiting c.streams i) else None;
     }
 
@@ -92,6 +92,13 @@ opened_slot s f Opening c = record { core = c; message = if hosts_now f c then S
 opened_slot s f (DataSlot owner) c = data_opened s.id owner c
 opened_slot s f (Contention i) c = contention_opened s.id i c
 opened_slot s f Closing c = if hosts_now f c then host_closes s f c else silent c
+
+-- whether a slot is a node's turn: the opening or the closing of its own round, a data slot of its own, its contention slot
+abbrev pub is_turn : Setup → ℕ → Part → Core → Bool
+is_turn s f Opening c = hosts_now f c
+is_turn s f (DataSlot owner) c = node_of owner == s.id
+is_turn s f (Contention i) c = is_own c.own_slot i
+is_turn s f Closing c = hosts_now f c
 
 -- what the closing of a window leaves, and the data that is delivered, if some is
 pub record Closed : Type 0 where

@@ -67,14 +67,14 @@ queued payload x = record x { queue = x.queue ++ record { seq = x.next; payload 
 abbrev pub put_to : List ℕ → Stream → Stream
 put_to payload x = if refuses x then x else queued payload x
 
-abbrev pub put : ℕ → List ℕ → Streams → Streams
-put i payload s = with_stream i (put_to payload (stream_at s i)) s
+abbrev pub after_put : ℕ → List ℕ → Streams → Streams
+after_put i payload s = with_stream i (put_to payload (stream_at s i)) s
 
 -- what a script has the streams do. Power is not for them
 abbrev pub streams_after_act : Act → Streams → Streams
 streams_after_act (Declare i interval) s = declared i interval s
 streams_after_act (Leave i) s = streams_after_leaving i s
-streams_after_act (Put i payload) s = put i payload s
+streams_after_act (Put i payload) s = after_put i payload s
 streams_after_act other s = s
 
 -- a packet is put that its stream drops
@@ -88,15 +88,15 @@ first_waiting s i = slice_get (stream_at s i).queue 0
 abbrev pub without_first : Stream → Stream
 without_first x = record x { queue = drop 1 x.queue }
 
-abbrev pub taken : ℕ → Streams → Streams
-taken i s = with_stream i (without_first (stream_at s i)) s
+abbrev pub after_taking : ℕ → Streams → Streams
+after_taking i s = with_stream i (without_first (stream_at s i)) s
 
 -- a request of the stream is due: the requested interval is not what is agreed, and there is none or a packet waits
-abbrev pub wants : Stream → Bool
-wants x = not (x.wish == x.agreed) && ((x.wish == 0) || not (length x.queue == 0))
+abbrev pub has_due_request : Stream → Bool
+has_due_request x = not (x.wish == x.agreed) && ((x.wish == 0) || not (length x.queue == 0))
 
 abbrev pub request_is_due : Streams → ℕ → Bool
-request_is_due s i = wants (stream_at s i)
+request_is_due s i = has_due_request (stream_at s i)
 
 abbrev pub due_of : Streams → ℕ → Option ℕ
 due_of s i = if request_is_due s i then Some (stream_at s i).wish else None
@@ -157,20 +157,20 @@ abbrev pub named_in : ℕ → Stream → Stream
 named_in frame x = record x { last = frame }
 
 -- third: an owner that is one of its streams
-abbrev pub owns : ℕ → ℕ → Streams → ℕ → Streams
-owns node frame s c = if node_of c == node then with_stream (stream_of c) (named_in frame (stream_at s (stream_of c))) s else s
+abbrev pub owner_named : ℕ → ℕ → Streams → ℕ → Streams
+owner_named node frame s c = if node_of c == node then with_stream (stream_of c) (named_in frame (stream_at s (stream_of c))) s else s
 
 -- fourth, at a closing: a stream that no schedule has named for long
 abbrev pub forgotten : ℕ → Stream → Stream
 forgotten frame x = record x { agreed = if nat_lt 0 x.agreed && nat_lt (x.agreed + 8) (frame - x.last) then 0 else x.agreed }
 
-abbrev pub forgets : ℕ → Streams → Streams
-forgets frame s = record s { all = map (forgotten frame) s.all }
+abbrev pub after_forgetting : ℕ → Streams → Streams
+after_forgetting frame s = record s { all = map (forgotten frame) s.all }
 
 -- a schedule accepted in this frame, at a node that does not host. A closing is one with gap above 0
 unfoldable pub schedule_heard : ℕ → ℕ → ℕ → Schedule → Streams → Streams
 schedule_heard node boot frame s before =
     let known = heard_host s.plan.rank s.plan.boot before in
     let answered = fold (acknowledged node boot frame) known s.plan.acks in
-    let named = fold (owns node frame) answered s.plan.owners in
-    if s.gap == 0 then named else forgets frame named
+    let named = fold (owner_named node frame) answered s.plan.owners in
+    if s.gap == 0 then named else after_forgetting frame named

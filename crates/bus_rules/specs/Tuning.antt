@@ -2,7 +2,7 @@
 use Rattle.std.specs.Prelude.{ℕ, ◌+◌, ◌%◌, ◌<◌, ◌≤◌, Bool, true, false, ◌&&◌, ◌==◌, nat_lt, if◌then◌else◌, Some, None, ⊤}
 use Rattle.std.specs.declared.option.Option.{Option}
 use Rattle.std.specs.Option.{IfSome}
-use Rattle.lwb_base.specs.declared.limits.TheConstants.{QUIET_FRAMES, SEARCH_FRAMES}
+use Rattle.lwb_base.specs.declared.limits.TheConstants.{MOST_RANKS, QUIET_FRAMES, SEARCH_FRAMES}
 use Rattle.bus_rules.specs.declared.tune.Tune.{Tune}
 use Rattle.bus_rules.specs.declared.tune.Tune.TheVariants.{Scan, Hold, Host}
 
@@ -70,7 +70,7 @@ pub record TuneState : Type 0 where
   pub ranks : ℕ
 
 pub record IsTuning (t : TuneState) : Type 0 where
-  pub ranks : (1 ≤ t.ranks) × (t.ranks ≤ 4)
+  pub ranks : (1 ≤ t.ranks) × (t.ranks ≤ MOST_RANKS)
   pub own : IfSome t.own (λ r. r < t.ranks)
   pub waited : HasWaited t.tune
 

@@ -1,7 +1,7 @@
 //! What a node listens to, and how that changes at the end of a frame.
 
 ghost use Rattle.std.specs.Prelude.{◌≡◌, ◌≤◌, ◌+◌, ◌%◌};
-ghost use Rattle.lwb_base.specs.declared.limits.TheConstants.{LAST_FRAME};
+ghost use Rattle.lwb_base.specs.declared.limits.TheConstants.{LAST_FRAME, MOST_RANKS};
 ghost use Rattle.bus_rules.specs.Tuning.{next_tune, HasWaited};
 
 use lwb_base::{QUIET_FRAMES, Rank, SEARCH_FRAMES};
@@ -20,7 +20,7 @@ pub enum Tune {
 /// The tune after the end of a frame. `joined` says that a scanning node accepted the frame's opening schedule, `own` is the
 /// rank that the node hosts, if it does, and `hosts` the number of ranks, 1 to 4. The frame is at most `LAST_FRAME`.
 pub fn next_tune(t: Tune, frame: u32, joined: bool, own: Option<Rank>, hosts: u8) -> Tune
-    requires hosts { (1 ≤ hosts) × (hosts ≤ 4) }
+    requires hosts { (1 ≤ hosts) × (hosts ≤ MOST_RANKS) }
     requires frame { frame ≤ LAST_FRAME }
     requires waited { HasWaited t }
     ensures { result ≡ next_tune t frame joined own hosts }
@@ -50,7 +50,7 @@ pub fn next_tune(t: Tune, frame: u32, joined: bool, own: Option<Rank>, hosts: u8
 
 // The rank that is scanned after this one.
 fn rank_after(rank: Rank, hosts: u8) -> Rank
-    requires { (1 ≤ hosts) × (hosts ≤ 4) }
+    requires { (1 ≤ hosts) × (hosts ≤ MOST_RANKS) }
     ensures { result ≡ (rank + 1) % hosts }
 {
     Rank::new((rank.number() + 1) % hosts).unwrap()

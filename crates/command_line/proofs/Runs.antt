@@ -8,7 +8,8 @@ use Rattle.command_line.specs.ProcessRuns.{IsProcessRun}
 
 -- the call was given the words of the process, and its status is that of the process
 pub called : {S K : Type 0} (IsCall : List (String Global) → ℕ → Type 0) (started : Result (IntoIter (String Global) Global) Error) (source source_after : S)
-    (sink sink_after : K) (words : Vec (String Global) Global) (given : List (String Global)) (status exit : ℕ) → IsWords started (Ok words) → given ≡ words.items
+    (sink sink_after : K) (words : Vec (String Global) Global) (given : List (String Global)) (status exit : ℕ) → IsWords started (Ok words) → given
+    ≡ words.items
     → exit ≡ status → IsCall given status → IsProcessRun IsCall started source source_after sink sink_after exit
 called IsCall started source source_after sink sink_after words given status exit are same ends call =
     inr (record {

@@ -14,7 +14,8 @@ use Rattle.bus_terms.specs.Bus.{before_frame, bus_cost, bus_deliveries, bus_drop
 use Rattle.bus_terms.specs.Costs.{over_round, slot_sent, slot_window}
 use Rattle.bus_terms.specs.OverLines.{over}
 use Rattle.bus_terms.specs.Rounds.{Slot, rank_in, round_deliveries, rounds}
-use Rattle.bus_terms.specs.ScriptedStates.{is_on_and, lost_by, setup_in, state_after_line, states_after_script, told_above}
+use Rattle.scenario_text.specs.Setups.{setup_of}
+use Rattle.bus_terms.specs.ScriptedStates.{is_on_and, lost_by, state_after_line, states_after_script, told_above}
 use Rattle.drawn_bus.specs.DrawnScenarios.{AreSameOnBus}
 use Rattle.drawn_bus.proofs.RoundsAlike.{IsSameCost, IsSameRound, cost_of_round, delivered_in_round, joined_alike, same_round, same_sent, same_window}
 
@@ -32,7 +33,7 @@ module _ (s : ScenarioParts) (a b : Lines) (IsRank : ℕ → Type 0) (of_nodes :
   same_frames zero = refl
   same_frames (suc f) =
       ap (states_after_frame (over s a) f) (same_frames f)
-      ∙ fun_ext (λ v. ap (at_core (frame_ended (setup_in s v) f)) (same_rounds f v))
+      ∙ fun_ext (λ v. ap (at_core (frame_ended (setup_of s v) f)) (same_rounds f v))
 
   same_states : (f : ℕ) → state_at (over s a) f ≡ state_at (over s b) f
   same_states f = ap (states_after_script s f) (same_frames f)

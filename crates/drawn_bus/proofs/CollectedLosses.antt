@@ -88,7 +88,8 @@ module _ (s : ScenarioParts) (more : List LoseLine) where
         let there = lost_if (passes s.trace f j k u v) (x.passes k u v) (list_any (is_loss f j k u v) more) (link_in f j k u v) link.0 link.1 in
         let changes : changes_reception s d (line_at f j k u v) rank ≡ true =
         ap (λ (o : Option Plan). option_map_or (changes_in s d f j k u v rank) o false) is
-        ∙ and_from (nat_le j (last_slot p) && sends k u) (otherwise k v) (and_from (nat_le j (last_slot p)) (sends k u) (le-leb j (last_slot p) within) sent.0) parts.1 in
+        ∙ and_from (nat_le j (last_slot p) && sends k u) (otherwise k v)
+        (and_from (nat_le j (last_slot p)) (sends k u) (le-leb j (last_slot p) within) sent.0) parts.1 in
         left_by_test (is_kept s d) f j k u v more
         ∙ and_from (list_any (is_loss f j k u v) more) (is_kept s d (line_at f j k u v)) there
         (and_from (passes s.trace f j k u v) _ link.0
@@ -98,7 +99,8 @@ module _ (s : ScenarioParts) (more : List LoseLine) where
     flood_kept =
         each_of_pieces (HasLine kept) (λ k. flat_map (λ u. map (line_at f j k u) (filter (is_lost_in s.trace f j x k u) (ids s.nodes))) (ids s.nodes))
         (λ k. each_of_pieces (HasLine kept) (λ u. map (line_at f j k u) (filter (is_lost_in s.trace f j x k u) (ids s.nodes)))
-        (λ u. each_chosen (HasLine kept) (line_at f j k u) (is_lost_in s.trace f j x k u) (ids s.nodes) (lost_is_kept k u)) (ids s.nodes)) (range_with_len 0 STEPS)
+        (λ u. each_chosen (HasLine kept) (line_at f j k u) (is_lost_in s.trace f j x k u) (ids s.nodes) (lost_is_kept k u)) (ids s.nodes))
+        (range_with_len 0 STEPS)
 
     -- and what is kept by a change in the flood is lost in it
     everyone_known : (v : ℕ) → has x.everyone v ≡ true → has (ids s.nodes) v ≡ true
@@ -116,7 +118,8 @@ module _ (s : ScenarioParts) (more : List LoseLine) where
         by_part true there = everyone_known v there
         by_part false outside = absurd (false≢true (sym (nothing_outside s.trace f j x k v outside) ∙ changed))
 
-    kept_is_lost : (k u v : ℕ) → k < STEPS → passes s.trace f j k u v ≡ true → list_any (is_loss f j k u v) more ≡ true → sends k u ≡ true → otherwise k v ≡ true
+    kept_is_lost : (k u v : ℕ) → k < STEPS → passes s.trace f j k u v ≡ true → list_any (is_loss f j k u v) more ≡ true → sends k u ≡ true
+        → otherwise k v ≡ true
         → HasLine (losses_of_flood s.trace f j (ids s.nodes) x) (line_at f j k u v)
     kept_is_lost k u v in_flood link there sent changed =
         let named : LoseLine → Bool = is_loss f j k u v in
@@ -177,7 +180,8 @@ module _ (s : ScenarioParts) (more : List LoseLine) where
 -- and those that are drawn are of the frames and steps of the run
 pub collected : (s : ScenarioParts) (ratios : List RatioLine) (seed : ℕ) (test : LoseLine → Bool)
     → list_any test (losses_of_bus s (drawn_scenario s ratios seed)) ≡ list_any test (kept_losses s ratios seed)
-collected s ratios seed = same_tests (losses_of_bus s (drawn_scenario s ratios seed)) (kept_losses s ratios seed) (all_kept s (drawn_losses s.trace.links ratios seed s.frames)) from
+collected s ratios seed =
+    same_tests (losses_of_bus s (drawn_scenario s ratios seed)) (kept_losses s ratios seed) (all_kept s (drawn_losses s.trace.links ratios seed s.frames)) from
   where
     from : (l : LoseLine) → HasLine (kept_losses s ratios seed) l → HasLine (losses_of_bus s (drawn_scenario s ratios seed)) l
     from l there =

@@ -21,7 +21,8 @@ use Rattle.bus_rules.proofs.Ranks.{same_schedule}
 use Rattle.bus_rules.proofs.Switches.{acts_keep}
 use Rattle.bus_terms.specs.Bus.{before_frame, state_at}
 use Rattle.bus_terms.specs.Rounds.{leader, plan_in, round_plan, rounds}
-use Rattle.bus_terms.specs.ScriptedStates.{lines_of, setup_in, state_after_line, states_after_script}
+use Rattle.scenario_text.specs.Setups.{setup_of}
+use Rattle.bus_terms.specs.ScriptedStates.{lines_of, state_after_line, states_after_script}
 use Rattle.bus_terms.proofs.HostsOfRanks.{data_no_schedule, contention_no_schedule}
 use Rattle.bus_terms.proofs.KeptInRounds.{rounds_keep}
 use Rattle.air_log.proofs.SmallPlans.{host_plan_few, owner_keeps}
@@ -113,16 +114,16 @@ module _ (s : ScenarioParts) where
 
   run : (f : ℕ) (g : ℕ → State) → ((v : ℕ) → HasFewState (g v)) → (v : ℕ) → HasFewState (rounds s f g v)
   run f g all = rounds_keep s f (λ v x. HasFewState x) SaysFew
-      (λ v part c few. opens (setup_in s v) f part c few)
-      (λ v part c m few said. says (setup_in s v) f part c m few said)
-      (λ v part b c o told few. closes (setup_in s v) f part b c o told few) g all
+      (λ v part c few. opens (setup_of s v) f part c few)
+      (λ v part c m few said. says (setup_of s v) f part c m few said)
+      (λ v part b c o told few. closes (setup_of s v) f part b c o told few) g all
 
   before : (f v : ℕ) → HasFewState (before_frame s f v)
   unfolding before_frame
   before zero v = tt
   before (suc f) v =
       let g = before_frame s f in
-      ends (setup_in s v) f (rounds s f (states_after_script s f g) v) (run f (states_after_script s f g) (told f g (before f)) v)
+      ends (setup_of s v) f (rounds s f (states_after_script s f g) v) (run f (states_after_script s f g) (told f g (before f)) v)
 
   pub few_owners : (rank f : ℕ) (p : Plan) → round_plan s rank f (state_at s f) ≡ Some p → length p.owners ≤ 40
   few_owners rank f p is = by_leader (leader s rank f (state_at s f)) is

@@ -9,6 +9,7 @@ use Rattle.lwb_base.proofs.Truths.{same_truth}
 use Rattle.link_trace.specs.declared.lines.LoseLine.{LoseLine}
 use Rattle.link_trace.specs.Passes.{is_loss}
 use Rattle.bus_terms.specs.Flooding.{has}
+use Rattle.bus_terms.proofs.OneInitiator.{any_of}
 use Rattle.drawn_bus.proofs.LinesWithLosses.{named_so}
 
 -- a number below n is one of the first n
@@ -29,16 +30,8 @@ passes_among test (suc n) b is =
       | inr later ↦ (let w = passes_among test n (b + 1) later in (w.0, omega (arith, w.1), w.2))
     ]
 
-pub among_passes : (test : ℕ → Bool) (xs : List ℕ) (i : ℕ) → has xs i ≡ true → test i ≡ true → list_any test xs ≡ true
-among_passes test [] i there is = absurd (false≢true there)
-among_passes test (x ∷ xs) i there is =
-    elim (or_cases (x == i) _ there) [
-      | inl same ↦ or_left (test x) _ (ap test (eqb-true x i same) ∙ is)
-      | inr later ↦ or_right (test x) _ (among_passes test xs i later is)
-    ]
-
 pub in_range_passes : (test : ℕ → Bool) (n i : ℕ) → i < n → test i ≡ true → list_any test (range_with_len 0 n) ≡ true
-in_range_passes test n i below is = among_passes test (range_with_len 0 n) i (in_range n 0 i (omega arith) (omega (arith, below))) is
+in_range_passes test n i below is = any_of test (range_with_len 0 n) i (in_range n 0 i (omega arith) (omega (arith, below))) is
 
 module _ {Y : Type 0} where
   -- a list of which one part has such an element
@@ -47,7 +40,7 @@ module _ {Y : Type 0} where
   joined_any p g (x ∷ xs) = list_any-append p (g x) (flat_map g xs) ∙ ap (λ (b : Bool). list_any p (g x) || b) (joined_any p g xs)
 
   pub any_joined : (p : Y → Bool) (g : ℕ → List Y) (xs : List ℕ) (i : ℕ) → has xs i ≡ true → list_any p (g i) ≡ true → list_any p (flat_map g xs) ≡ true
-  any_joined p g xs i there is = joined_any p g xs ∙ among_passes (λ x. list_any p (g x)) xs i there is
+  any_joined p g xs i there is = joined_any p g xs ∙ any_of (λ x. list_any p (g x)) xs i there is
 
   pub any_in_range : (p : Y → Bool) (g : ℕ → List Y) (n i : ℕ) → i < n → list_any p (g i) ≡ true → list_any p (flat_map g (range_with_len 0 n)) ≡ true
   any_in_range p g n i below is = any_joined p g (range_with_len 0 n) i (in_range n 0 i (omega arith) (omega (arith, below))) is

@@ -7,6 +7,7 @@ use Rattle.std.proofs.lemmas.List.Concat.{flat_map-cons}
 use Rattle.std.proofs.lemmas.List.Folds.{list_any-append}
 use Rattle.std.specs.List.{flat_map, list_any, range_with_len}
 use Rattle.lwb_base.specs.declared.limits.TheConstants.{FLOOD_STEPS}
+use Rattle.lwb_base.proofs.Truths.{same_truth}
 use Rattle.link_trace.specs.Passes.{Lines, is_link, is_loss, cut_off, passes}
 use Rattle.link_trace.specs.declared.lines.LinkLine.{LinkLine}
 use Rattle.drawn_links.specs.DrawnLosses.{SLOTS, drawn, drawn_losses, is_drawn, loss_of, losses_in_step}
@@ -14,12 +15,6 @@ use Rattle.drawn_links.specs.Drawings.{has_coins}
 use Rattle.drawn_links.specs.declared.ratio_line.RatioLine.{RatioLine}
 
 -- two tests that pass together
-both_or_none : (x y : Bool) → (x ≡ true → y ≡ true) → (y ≡ true → x ≡ true) → x ≡ y
-both_or_none true true to from = refl
-both_or_none true false to from = sym (to refl)
-both_or_none false true to from = from refl
-both_or_none false false to from = refl
-
 swapped : (a b c : Bool) → (a && (b && c)) ≡ (b && (a && c))
 swapped true b c = refl
 swapped false true c = refl
@@ -84,7 +79,7 @@ module _ (ratios : List RatioLine) (seed f j k u v : ℕ) where
 
   of_link : (f' j' k' : ℕ) (l : LinkLine)
       → (is_drawn ratios seed f' j' k' l.from l.to && is_loss f j k u v (loss_of f' j' k' l)) ≡ (of_step f' j' k' && is_link u v l)
-  of_link f' j' k' l = both_or_none
+  of_link f' j' k' l = same_truth
       (is_drawn ratios seed f' j' k' l.from l.to && is_loss f j k u v (loss_of f' j' k' l)) (of_step f' j' k' && is_link u v l) to from
     where
       to : (is_drawn ratios seed f' j' k' l.from l.to && is_loss f j k u v (loss_of f' j' k' l)) ≡ true → (of_step f' j' k' && is_link u v l) ≡ true

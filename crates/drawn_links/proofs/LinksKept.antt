@@ -11,6 +11,7 @@ use Rattle.std.specs.List.{find, list_any, slice_get}
 use Rattle.std.specs.List.Sorted.{IsBinarySearchResult}
 use Rattle.std.specs.Ordering.{nat_cmp}
 use Rattle.std.specs.Result.{IsOk}
+use Rattle.lwb_base.specs.declared.limits.TheConstants.{MOST_NODES}
 use Rattle.lwb_base.proofs.Orders.{rising}
 use Rattle.drawn_links.specs.Ratios.{is_of_link, ratio_in}
 use Rattle.drawn_links.specs.RatioTables.{AreRatioParts, last_frame, link_place, ratio_by, step_of, steps_of}
@@ -36,7 +37,7 @@ is_found xs x (Err i) up known parted =
         ]
 
 -- no lines yet
-pub no_lines : (nodes : List ℕ) → length nodes ≤ 64 → AllPairs (λ a b. a < b) nodes → AreRatioParts nodes [] (replicate 4096 [])
+pub no_lines : (nodes : List ℕ) → length nodes ≤ MOST_NODES → AllPairs (λ a b. a < b) nodes → AreRatioParts nodes [] (replicate 4096 [])
 no_lines nodes few up =
     let none : List RatioStep = [] in
     record {

@@ -1,6 +1,7 @@
 -- The reception ratios of a network: in the order of their lines, and link by link.
 use Rattle.std.specs.Prelude.{◌≡◌, ℕ, ◌+◌, ◌*◌, ◌<◌, ◌≤◌, List, [], Option, option_map, nat_le, length, map, filter, find, reverse, slice_index, slice_index_or}
 use Rattle.std.specs.List.{AllPairs}
+use Rattle.lwb_base.specs.declared.limits.TheConstants.{MOST_NODES}
 use Rattle.drawn_links.specs.Ratios.{is_of_link}
 use Rattle.drawn_links.specs.declared.ratio_line.RatioLine.{RatioLine}
 use Rattle.drawn_links.specs.declared.ratio_step.RatioStep.{RatioStep}
@@ -36,7 +37,7 @@ link_place from to = 64 * to + from
 
 -- the links between the nodes have what the lines say of them
 pub record AreRatioParts (nodes : List ℕ) (lines : List RatioLine) (links : List (List RatioStep)) : Type 0 where
-  pub few : length nodes ≤ 64
+  pub few : length nodes ≤ MOST_NODES
   pub ascending : AllPairs (λ a b. a < b) nodes
   pub places : length links ≡ 4096
   pub each : (from to : ℕ) → from < length nodes → to < length nodes

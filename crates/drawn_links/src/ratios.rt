@@ -2,6 +2,7 @@
 
 ghost use Rattle.std.specs.Prelude.{◌≡◌, ◌==◌, ◌<◌, ◌∷◌, ◌++◌, [], true, false, length, slice_index, replicate, ◌≤◌, IfOk, IfSome, IfNone, OnOk, OnErr};
 ghost use Rattle.std.specs.List.{list_any, AllPairs};
+ghost use Rattle.lwb_base.specs.declared.limits.TheConstants.{MOST_NODES};
 ghost use Rattle.link_trace.specs.Masks.{AreNodes};
 ghost use Rattle.drawn_links.specs.Ratios.{ratio_in};
 ghost use Rattle.drawn_links.specs.RatioTables.{last_frame as last_frame_of, link_place as link_place_of, steps_of};
@@ -130,7 +131,7 @@ fn link_place(from: u8, to: u8) -> usize
 
 // The place of one of the nodes.
 fn place_of(nodes: &[NodeId], node: NodeId) -> u8
-    requires few { length nodes.now ≤ 64 }
+    requires few { length nodes.now ≤ MOST_NODES }
     requires ascending { AllPairs (λ a b. a < b) nodes.now }
     requires known { list_any (λ v. v == node) nodes.now ≡ true }
     ensures within { result < length nodes.now }

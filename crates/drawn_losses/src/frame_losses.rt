@@ -1,6 +1,7 @@
 //! The losses of a frame that change what somebody receives.
 
 ghost use Rattle.std.specs.Prelude.{◌≡◌, ◌≤◌, ◌++◌, ℕ, List, OnOk, length};
+ghost use Rattle.lwb_base.specs.declared.limits.TheConstants.{MOST_NODES};
 ghost use Rattle.scenario_text.specs.FloodParts.{IsSealed};
 ghost use Rattle.plain_bus.specs.FloodMasks.{traced};
 ghost use Rattle.plain_bus.specs.RunFloods.{AreRunFloods, SlotFlood};
@@ -21,7 +22,7 @@ pub fn losses_in_frame<M: Links, B: Links>(
     lines: &mut Vec<LoseLine>,
 ) -> Result<(), Memory>
     requires sealed { IsSealed (traced (M.lines links.now) (M.nodes links.now)) nodes.now }
-    requires few { length nodes.now ≤ 64 }
+    requires few { length nodes.now ≤ MOST_NODES }
     requires same { B.nodes base.now ≡ M.nodes links.now }
     requires captures { HaveSameCaptures (B.lines base.now) (M.lines links.now) }
     ensures { OnOk result ((f : ℕ) (ys : List SlotFlood) → AreRunFloods (traced (M.lines links.now) (M.nodes links.now)) f ys floods.now

@@ -1,6 +1,7 @@
 //! The losses in a step of a flood that change what somebody receives in it.
 
 ghost use Rattle.std.specs.Prelude.{◌≡◌, ◌<◌, ◌≤◌, ◌++◌, ◌&&◌, ℕ, Bool, List, OnOk, filter, length, map, not, slice_index};
+ghost use Rattle.lwb_base.specs.declared.limits.TheConstants.{MOST_NODES};
 ghost use Rattle.link_trace.specs.Masks.{IsMask};
 ghost use Rattle.link_trace.specs.Passes.{passes};
 ghost use Rattle.bus_terms.specs.Flooding.{Moment, Setting, moment};
@@ -26,7 +27,7 @@ pub fn losses_in_step<M: Links, B: Links>(
     lines: &mut Vec<LoseLine>,
 ) -> Result<(), Memory>
     requires sealed { length now.now.each.items ≡ length (M.nodes links.now) }
-    requires few { length (M.nodes links.now) ≤ 64 }
+    requires few { length (M.nodes links.now) ≤ MOST_NODES }
     requires same { B.nodes base.now ≡ M.nodes links.now }
     requires captures { HaveSameCaptures (B.lines base.now) (M.lines links.now) }
     ensures { OnOk result ((x : Setting) → IsMaskedFlood x (traced (M.lines links.now) (M.nodes links.now)) flood.now
@@ -55,7 +56,7 @@ fn losses_at<M: Links, B: Links>(
     lines: &mut Vec<LoseLine>,
 ) -> Result<(), Memory>
     requires sealed { length now.now.each.items ≡ length (M.nodes links.now) }
-    requires few { length (M.nodes links.now) ≤ 64 }
+    requires few { length (M.nodes links.now) ≤ MOST_NODES }
     requires same { B.nodes base.now ≡ M.nodes links.now }
     ensures { OnOk result ((x : Setting) → IsMaskedFlood x (traced (M.lines links.now) (M.nodes links.now)) flood.now
         → AreAt (moment x step) (M.nodes links.now) now.now
@@ -79,7 +80,7 @@ fn changed_nodes<M: Links, B: Links>(
     step: u8,
 ) -> u64
     requires sealed { length now.now.each.items ≡ length (M.nodes links.now) }
-    requires few { length (M.nodes links.now) ≤ 64 }
+    requires few { length (M.nodes links.now) ≤ MOST_NODES }
     requires same { B.nodes base.now ≡ M.nodes links.now }
     requires captures { HaveSameCaptures (B.lines base.now) (M.lines links.now) }
     ensures { (x : Setting) → IsMaskedFlood x (traced (M.lines links.now) (M.nodes links.now)) flood.now
@@ -106,7 +107,7 @@ fn receives_otherwise<M: Links, B: Links>(
 ) -> bool
     requires place { place < length now.now.each.items }
     requires sealed { length now.now.each.items ≡ length (M.nodes links.now) }
-    requires few { length (M.nodes links.now) ≤ 64 }
+    requires few { length (M.nodes links.now) ≤ MOST_NODES }
     requires same { B.nodes base.now ≡ M.nodes links.now }
     requires captures { HaveSameCaptures (B.lines base.now) (M.lines links.now) }
     ensures { (x : Setting) → IsMaskedFlood x (traced (M.lines links.now) (M.nodes links.now)) flood.now
@@ -126,7 +127,7 @@ fn lost_from<M: Links, B: Links>(
     from: u8,
 ) -> u64
     requires from { from < length (M.nodes links.now) }
-    requires few { length (M.nodes links.now) ≤ 64 }
+    requires few { length (M.nodes links.now) ≤ MOST_NODES }
     requires same { B.nodes base.now ≡ M.nodes links.now }
     ensures { (sends : ℕ → Bool) → IsMask sends (M.nodes links.now) senders
         → IsMask (λ v. sends (slice_index (M.nodes links.now) from)
@@ -150,7 +151,7 @@ fn add_losses(
     lines: &mut Vec<LoseLine>,
 ) -> Result<(), Memory>
     requires from { from < length now.now.each.items }
-    requires few { length now.now.each.items ≤ 64 }
+    requires few { length now.now.each.items ≤ MOST_NODES }
     ensures { OnOk result ((m : Moment) (nodes : List ℕ) (test : ℕ → Bool) → now.now.each.items ≡ map (station_at m) nodes → IsMask test nodes lost
         → lines.new.items ≡ lines.old.items ++ map (line_at flood.now.frame flood.now.slot step (slice_index nodes from)) (filter test nodes)) }
 {

@@ -7,7 +7,7 @@ use Rattle.std.specs.declared.option.Option.{Option}
 use Rattle.std.proofs.lemmas.Bool.{cases_eq, ltb-true, ltb-false}
 use Rattle.event_calendar.specs.declared.class.Class.{Class}
 use Rattle.event_calendar.specs.declared.class.Class.TheVariants.{SendingEnd, Alarm, SendingStart}
-use Rattle.event_calendar.specs.declared.entry.Entry.{Entry}
+use Rattle.event_calendar.specs.declared.placed_order.PlacedOrder.{PlacedOrder}
 use Rattle.event_calendar.specs.declared.queues.Queues.{Queues}
 use Rattle.event_calendar.specs.Orders.{Due, Order, Stands, IsNext, IsNotAfter, at, rank}
 use Rattle.event_calendar.specs.Waiting.{IsBefore, EntriesAreInOrder}
@@ -66,27 +66,27 @@ earlier_keeps P None b left right = right
 earlier_keeps P (Some x) None left right = left
 earlier_keeps P (Some x) (Some y) left right = chosen_keeps P x y (nat_lt y.0 x.0) left right
 
-ranks_of : (c d : Class) (a b : Option Entry) → rank c < rank d → HasRanks (order c a) (order d b)
+ranks_of : (c d : Class) (a b : Option PlacedOrder) → rank c < rank d → HasRanks (order c a) (order d b)
 ranks_of c d None b ranks = tt
 ranks_of c d (Some x) None ranks = tt
 ranks_of c d (Some x) (Some y) ranks = ranks
 
 -- the first that waits is, and those that wait follow it
-first_stands : (class : Class) (map : List Due) (xs : List Entry) → ((e : Entry) → Contains xs e → at map e.place class ≡ Some e.tick)
+first_stands : (class : Class) (map : List Due) (xs : List PlacedOrder) → ((e : PlacedOrder) → Contains xs e → at map e.place class ≡ Some e.tick)
     → Standing map (order class (slice_get xs 0))
 first_stands class map [] stands = tt
 first_stands class map (x ∷ xs) stands = stands x (0, omega arith, refl)
 
-follows_first : (class : Class) (xs : List Entry) (e : Entry) → EntriesAreInOrder xs → Contains xs e
+follows_first : (class : Class) (xs : List PlacedOrder) (e : PlacedOrder) → EntriesAreInOrder xs → Contains xs e
     → Follows (Some (e.tick, class, e.place)) (order class (slice_get xs 0))
 follows_first class [] e in_order c = absurd (omega (arith, c.1))
 follows_first class (x ∷ xs) e in_order c =
     elim (cases_eq c.0 0) [
       | inl first ↦
           let same : x ≡ e = subst (λ (k : ℕ). get_or (x ∷ xs) k e ≡ e) first c.2 in
-          subst (λ (y : Entry). IsNotAfter (x.tick, class, x.place) (y.tick, class, y.place)) same (omega arith)
+          subst (λ (y : PlacedOrder). IsNotAfter (x.tick, class, x.place) (y.tick, class, y.place)) same (omega arith)
       | inr later ↦
-          let before : IsBefore x e = subst (λ (y : Entry). IsBefore x y) c.2 (in_order 0 c.0 e (omega arith) c.1) in
+          let before : IsBefore x e = subst (λ (y : PlacedOrder). IsBefore x y) c.2 (in_order 0 c.0 e (omega arith) c.1) in
           omega (arith, before)
     ]
 
@@ -94,7 +94,7 @@ waiting_follows : (class : Class) (map : List Due) (q : Queues) (tick place : �
     → Follows (Some (tick, class, place)) (first_in class q)
 waiting_follows class map q tick place has is =
     let i = has class in
-    let e : Entry = record { tick = tick; place = place } in
+    let e : PlacedOrder = record { tick = tick; place = place } in
     follows_first class (queue_of class q).entries e i.order (i.waits e is)
 
 all_follow : (class : Class) (map : List Due) (q : Queues) (tick place : ℕ) → HasQueues map q → at map place class ≡ Some tick

@@ -9,7 +9,7 @@ use Rattle.std.proofs.lemmas.List.Sums.{sum_by-set, count_by-le-length}
 use Rattle.std.proofs.lemmas.List.Sorted.{Contains-permutation, length_permutation, IsPermutation-sym}
 use Rattle.lwb_base.proofs.Options.{not_both, one_value}
 use Rattle.event_calendar.specs.declared.class.Class.{Class}
-use Rattle.event_calendar.specs.declared.entry.Entry.{Entry}
+use Rattle.event_calendar.specs.declared.placed_order.PlacedOrder.{PlacedOrder}
 use Rattle.event_calendar.specs.declared.queues.Queues.{Queues}
 use Rattle.event_calendar.specs.Orders.{Due, at, changed, due_at, nothing_due, rank, tick_of, with_tick}
 use Rattle.event_calendar.specs.Waiting.{WaitingEntries, EntriesAreInOrder, IsAdded, IsRemoved}
@@ -63,7 +63,7 @@ queue_stays class other map place tick q within apart i = record {
   room = omega (arith, size_stays map place class tick, i.room);
 }
 
-queue_added : (class : Class) (map : List Due) (e : Entry) (q after : WaitingEntries) → e.place < length map → at map e.place class ≡ None
+queue_added : (class : Class) (map : List Due) (e : PlacedOrder) (q after : WaitingEntries) → e.place < length map → at map e.place class ≡ None
     → IsQueueOf class map q → IsAdded e q after → IsQueueOf class (changed map e.place class (Some e.tick)) after
 queue_added class map e q after within none i a = record {
   order = a.order;
@@ -79,27 +79,27 @@ queue_added class map e q after within none i a = record {
     now : later e.place ≡ Some e.tick
     now = there map e.place class (Some e.tick) within
 
-    back : (x : Entry) → Contains after.entries x → Contains (e ∷ q.entries) x
+    back : (x : PlacedOrder) → Contains after.entries x → Contains (e ∷ q.entries) x
     back x c = Contains-permutation after.entries (e ∷ q.entries) x (IsPermutation-sym (e ∷ q.entries) after.entries a.entries) c
 
-    stands : (x : Entry) → (e ≡ x) ⊎ Contains q.entries x → later x.place ≡ Some x.tick
-    stands x (inl same) = subst (λ (y : Entry). later y.place ≡ Some y.tick) same now
+    stands : (x : PlacedOrder) → (e ≡ x) ⊎ Contains q.entries x → later x.place ≡ Some x.tick
+    stands x (inl same) = subst (λ (y : PlacedOrder). later y.place ≡ Some y.tick) same now
     stands x (inr c) =
         let was = i.stands x c in
         let apart : x.place ≢ e.place = λ same. not_both (at map x.place class) x.tick (ap (λ (p : ℕ). at map p class) same ∙ none) was in
         elsewhere map e.place x.place class class (Some e.tick) (inl apart) ∙ was
 
-    waits : (x : Entry) → later x.place ≡ Some x.tick → Contains (e ∷ q.entries) x
+    waits : (x : PlacedOrder) → later x.place ≡ Some x.tick → Contains (e ∷ q.entries) x
     waits x is = elim (cases_eq x.place e.place) [
       | inl same ↦
           let ticks : e.tick ≡ x.tick = one_value (later x.place) e.tick x.tick (ap later same ∙ now) is in
-          subst (λ (y : Entry). Contains (e ∷ q.entries) y) (same_entry e x ticks (sym same)) (the_one e q.entries)
+          subst (λ (y : PlacedOrder). Contains (e ∷ q.entries) y) (same_entry e x ticks (sym same)) (the_one e q.entries)
       | inr apart ↦
           let was = sym (elsewhere map e.place x.place class class (Some e.tick) (inl apart)) ∙ is in
           the_other e x q.entries (i.waits x was)
     ]
 
-queue_removed : (class : Class) (map : List Due) (e : Entry) (q after : WaitingEntries) → e.place < length map → at map e.place class ≡ Some e.tick
+queue_removed : (class : Class) (map : List Due) (e : PlacedOrder) (q after : WaitingEntries) → e.place < length map → at map e.place class ≡ Some e.tick
     → IsQueueOf class map q → IsRemoved e q after → IsQueueOf class (changed map e.place class None) after
 queue_removed class map e q after within some i r = record {
   order = r.order;
@@ -115,25 +115,25 @@ queue_removed class map e q after within some i r = record {
     now : later e.place ≡ None
     now = there map e.place class None within
 
-    before : (x : Entry) → Contains after.entries x → Contains q.entries x
+    before : (x : PlacedOrder) → Contains after.entries x → Contains q.entries x
     before x c =
         let back = IsPermutation-sym q.entries (e ∷ after.entries) r.entries in
         Contains-permutation (e ∷ after.entries) q.entries x back (the_other e x after.entries c)
 
-    stands : (x : Entry) → Contains after.entries x → later x.place ≡ Some x.tick
+    stands : (x : PlacedOrder) → Contains after.entries x → later x.place ≡ Some x.tick
     stands x c =
         let was = i.stands x (before x c) in
         let ticks : x.place ≡ e.place → x.tick ≡ e.tick =
         λ same. one_value (at map x.place class) x.tick e.tick was (ap (λ (p : ℕ). at map p class) same ∙ some) in
-        let apart : x.place ≢ e.place = λ same. r.gone (subst (λ (y : Entry). Contains after.entries y) (same_entry x e (ticks same) same) c) in
+        let apart : x.place ≢ e.place = λ same. r.gone (subst (λ (y : PlacedOrder). Contains after.entries y) (same_entry x e (ticks same) same) c) in
         elsewhere map e.place x.place class class None (inl apart) ∙ was
 
-    waits : (x : Entry) → later x.place ≡ Some x.tick → Contains after.entries x
+    waits : (x : PlacedOrder) → later x.place ≡ Some x.tick → Contains after.entries x
     waits x is =
         let apart : x.place ≢ e.place = λ same. not_both (later x.place) x.tick (ap later same ∙ now) is in
         let was : at map x.place class ≡ Some x.tick = sym (elsewhere map e.place x.place class class None (inl apart)) ∙ is in
         elim (one_or_other e x after.entries (Contains-permutation q.entries (e ∷ after.entries) x r.entries (i.waits x was))) [
-          | inl same ↦ absurd (apart (sym (ap (λ (y : Entry). y.place) same)))
+          | inl same ↦ absurd (apart (sym (ap (λ (y : PlacedOrder). y.place) same)))
           | inr c ↦ c
         ]
 
@@ -144,7 +144,7 @@ same_or_other other class = elim (cases_eq (rank other) (rank class)) [
   | inr apart ↦ inr (λ is. apart (ap rank is))
 ]
 
-pub queues_added : (class : Class) (map : List Due) (e : Entry) (q after : Queues) → e.place < length map → at map e.place class ≡ None → HasQueues map q
+pub queues_added : (class : Class) (map : List Due) (e : PlacedOrder) (q after : Queues) → e.place < length map → at map e.place class ≡ None → HasQueues map q
     → AddsOne class e q after → HasQueues (changed map e.place class (Some e.tick)) after
 queues_added class map e q after within none has adds = λ other. elim (same_or_other other class) [
   | inl same ↦ subst (λ (c : Class). IsQueueOf c (changed map e.place class (Some e.tick)) (queue_of c after)) (sym same)
@@ -153,7 +153,7 @@ queues_added class map e q after within none has adds = λ other. elim (same_or_
       (queue_stays class other map e.place (Some e.tick) (queue_of other q) within apart (has other))
 ]
 
-pub queues_removed : (class : Class) (map : List Due) (e : Entry) (q after : Queues) → e.place < length map → at map e.place class ≡ Some e.tick
+pub queues_removed : (class : Class) (map : List Due) (e : PlacedOrder) (q after : Queues) → e.place < length map → at map e.place class ≡ Some e.tick
     → HasQueues map q → RemovesOne class e q after → HasQueues (changed map e.place class None) after
 queues_removed class map e q after within some has removes = λ other. elim (same_or_other other class) [
   | inl same ↦ subst (λ (c : Class). IsQueueOf c (changed map e.place class None) (queue_of c after)) (sym same)

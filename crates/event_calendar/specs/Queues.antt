@@ -4,7 +4,7 @@ use Rattle.std.specs.declared.option.Option.{Option}
 use Rattle.std.specs.Option.{option_map}
 use Rattle.event_calendar.specs.declared.class.Class.{Class}
 use Rattle.event_calendar.specs.declared.class.Class.TheVariants.{SendingEnd, Alarm, SendingStart}
-use Rattle.event_calendar.specs.declared.entry.Entry.{Entry}
+use Rattle.event_calendar.specs.declared.placed_order.PlacedOrder.{PlacedOrder}
 use Rattle.event_calendar.specs.declared.queues.Queues.{Queues}
 use Rattle.event_calendar.specs.Orders.{Due, Order, at, tick_of}
 use Rattle.event_calendar.specs.Waiting.{WaitingEntries, EntriesAreInOrder, IsAdded, IsRemoved}
@@ -21,11 +21,11 @@ pub record IsEmpty (places : ℕ) (q : Queues) : Type 0 where
 abbrev pub OthersStay : Class → Queues → Queues → Type 0
 OthersStay class before after = (other : Class) → other ≢ class → queue_of other after ≡ queue_of other before
 
-pub record AddsOne (class : Class) (e : Entry) (before after : Queues) : Type 0 where
+pub record AddsOne (class : Class) (e : PlacedOrder) (before after : Queues) : Type 0 where
   pub added : IsAdded e (queue_of class before) (queue_of class after)
   pub others : OthersStay class before after
 
-pub record RemovesOne (class : Class) (e : Entry) (before after : Queues) : Type 0 where
+pub record RemovesOne (class : Class) (e : PlacedOrder) (before after : Queues) : Type 0 where
   pub removed : IsRemoved e (queue_of class before) (queue_of class after)
   pub others : OthersStay class before after
 
@@ -36,15 +36,15 @@ has_order_of_class class d = is_some (tick_of class d)
 -- the queue of a class has exactly the orders of that class, in order
 pub record IsQueueOf (class : Class) (map : List Due) (q : WaitingEntries) : Type 0 where
   pub order : EntriesAreInOrder q.entries
-  pub stands : (e : Entry) → Contains q.entries e → at map e.place class ≡ Some e.tick
-  pub waits : (e : Entry) → at map e.place class ≡ Some e.tick → Contains q.entries e
+  pub stands : (e : PlacedOrder) → Contains q.entries e → at map e.place class ≡ Some e.tick
+  pub waits : (e : PlacedOrder) → at map e.place class ≡ Some e.tick → Contains q.entries e
   pub count : length q.entries ≡ count_by (has_order_of_class class) map
   pub room : length map ≤ q.room
 
 abbrev pub HasQueues : List Due → Queues → Type 0
 HasQueues map queues = (class : Class) → IsQueueOf class map (queue_of class queues)
 
-abbrev pub order : Class → Option Entry → Option Order
+abbrev pub order : Class → Option PlacedOrder → Option Order
 order class entry = option_map (λ e. (e.tick, class, e.place)) entry
 
 -- the earlier of two by tick, and the first at one tick

@@ -1,11 +1,12 @@
 //! The calendar: orders in a sorted queue for each class.
 
 ghost use Rattle.std.specs.Prelude.{◌≡◌, ◌<◌, ◌≤◌, IfOk, IfSome, length, replicate, Some, None};
+ghost use Rattle.lwb_base.specs.declared.limits.TheConstants.{MOST_NODES};
 ghost use Rattle.event_calendar.specs.Orders.{nothing_due, changed, IsNext};
 
 use crate::Class;
 use crate::due::Due;
-use crate::entry::Entry;
+use crate::placed_order::PlacedOrder;
 use crate::queues::Queues;
 use lwb_base::Memory;
 use std::alloc::Global;
@@ -34,7 +35,7 @@ impl Model for Calendar {
 impl Calendar {
     /// An empty calendar of that many places, 1 to 64. No later call takes memory.
     pub fn new(alloc: Global, places: u8) -> Result<Calendar, Memory>
-        requires { (1 ≤ places) × (places ≤ 64) }
+        requires { (1 ≤ places) × (places ≤ MOST_NODES) }
         ensures { IfOk result (λ c. c ≡ replicate places nothing_due) }
     {
         let due = vec![in alloc; Due::nothing(); usize::from(places)]?;
@@ -50,7 +51,7 @@ impl Calendar {
     {
         self.clear(place, class);
         self.due[usize::from(place)].set(class, Some(tick));
-        self.queues.add(class, Entry { tick, place });
+        self.queues.add(class, PlacedOrder { tick, place });
     }
 
     /// The map has nothing there, and all else stays. Places are counted from 0.
@@ -61,7 +62,7 @@ impl Calendar {
     {
         if let Some(tick) = self.due[usize::from(place)].get(class) {
             self.due[usize::from(place)].set(class, None);
-            self.queues.remove(class, Entry { tick, place });
+            self.queues.remove(class, PlacedOrder { tick, place });
         }
     }
 

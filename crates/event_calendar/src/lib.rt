@@ -4,9 +4,9 @@
 mod calendar;
 mod class;
 mod due;
-mod entry;
 pub mod laws;
 mod orders;
+mod placed_order;
 mod queue;
 mod queues;
 

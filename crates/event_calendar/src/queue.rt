@@ -1,10 +1,10 @@
 //! A sorted queue of the orders of one class.
 
 ghost use Rattle.std.specs.Prelude.{◌≡◌, ◌<◌, ◌≤◌, ℕ, List, [], Contains, length, slice_get, slice_index_or, IfOk, true};
-ghost use Rattle.event_calendar.specs.declared.entry.Entry.{Entry as EntryOf};
+ghost use Rattle.event_calendar.specs.declared.placed_order.PlacedOrder.{PlacedOrder as PlacedOrderOf};
 ghost use Rattle.event_calendar.specs.Waiting.{IsBefore, EntriesAreInOrder, IsAdded, IsRemoved};
 
-use crate::entry::Entry;
+use crate::placed_order::PlacedOrder;
 use lwb_base::Memory;
 use std::alloc::Global;
 use std::collections::VecDeque;
@@ -13,7 +13,7 @@ use std::marker::Model;
 /// The orders of one class, the earliest first, and at one tick by place.
 #[derive(Drop)]
 pub struct Queue {
-    entries: VecDeque<Entry>,
+    entries: VecDeque<PlacedOrder>,
 }
 
 impl Model for Queue {
@@ -36,7 +36,7 @@ impl Queue {
     }
 
     /// The earliest order, if there is one.
-    pub fn first(&self) -> Option<Entry>
+    pub fn first(&self) -> Option<PlacedOrder>
         ensures { result ≡ slice_get self.now.entries 0 }
     {
         self.entries.front().copied()
@@ -44,7 +44,7 @@ impl Queue {
 
     /// Adds an order at its place in time. No memory is taken.
     #[inline(always)]
-    pub fn add(&mut self, entry: Entry)
+    pub fn add(&mut self, entry: PlacedOrder)
         requires room { length self.old.entries < self.old.room }
         requires order { EntriesAreInOrder self.old.entries }
         requires apart { Contains self.old.entries entry → ⊥ }
@@ -59,7 +59,7 @@ impl Queue {
 
     /// Removes an order that is in it.
     #[inline(always)]
-    pub fn remove(&mut self, entry: Entry)
+    pub fn remove(&mut self, entry: PlacedOrder)
         requires order { EntriesAreInOrder self.old.entries }
         requires there { Contains self.old.entries entry }
         ensures { IsRemoved entry self.old self.new }
@@ -73,9 +73,9 @@ impl Queue {
 
     // Whether each order comes before that one, as a new order mostly comes last.
     #[inline(always)]
-    fn comes_last(&self, entry: &Entry) -> bool
+    fn comes_last(&self, entry: &PlacedOrder) -> bool
         requires { EntriesAreInOrder self.now.entries }
-        ensures { result ≡ true → (k : ℕ) (d : EntryOf) → k < length self.now.entries → IsBefore (slice_index_or self.now.entries k d) entry.now }
+        ensures { result ≡ true → (k : ℕ) (d : PlacedOrderOf) → k < length self.now.entries → IsBefore (slice_index_or self.now.entries k d) entry.now }
     {
         match self.entries.back() {
             Some(last) => last.is_before(entry),
@@ -85,8 +85,8 @@ impl Queue {
 
     // Whether that order is the first, as one that is removed mostly is.
     #[inline(always)]
-    fn comes_first(&self, entry: &Entry) -> bool
-        ensures { result ≡ true → (0 < length self.now.entries) × ((d : EntryOf) → slice_index_or self.now.entries 0 d ≡ entry.now) }
+    fn comes_first(&self, entry: &PlacedOrder) -> bool
+        ensures { result ≡ true → (0 < length self.now.entries) × ((d : PlacedOrderOf) → slice_index_or self.now.entries 0 d ≡ entry.now) }
     {
         match self.entries.front() {
             Some(first) => *first == *entry,
@@ -96,7 +96,7 @@ impl Queue {
 
     // Adds an order that comes before others. It stands alone, so that the usual order is added in a few instructions.
     #[inline(never)]
-    fn insert(&mut self, entry: Entry)
+    fn insert(&mut self, entry: PlacedOrder)
         requires room { length self.old.entries < self.old.room }
         requires order { EntriesAreInOrder self.old.entries }
         requires apart { Contains self.old.entries entry → ⊥ }
@@ -111,7 +111,7 @@ impl Queue {
 
     // Removes an order that is after others.
     #[inline(never)]
-    fn remove_later(&mut self, entry: Entry)
+    fn remove_later(&mut self, entry: PlacedOrder)
         requires order { EntriesAreInOrder self.old.entries }
         requires there { Contains self.old.entries entry }
         ensures { IsRemoved entry self.old self.new }
@@ -121,12 +121,12 @@ impl Queue {
     }
 
     // How many orders come before that one, which are most of them.
-    fn place_of(&self, entry: &Entry) -> usize
+    fn place_of(&self, entry: &PlacedOrder) -> usize
         requires order { EntriesAreInOrder self.now.entries }
         requires apart { Contains self.now.entries entry.now → ⊥ }
         ensures bound { result ≤ length self.now.entries }
-        ensures before { (k : ℕ) (d : EntryOf) → k < result → IsBefore (slice_index_or self.now.entries k d) entry.now }
-        ensures after { (k : ℕ) (d : EntryOf) → result ≤ k → k < length self.now.entries
+        ensures before { (k : ℕ) (d : PlacedOrderOf) → k < result → IsBefore (slice_index_or self.now.entries k d) entry.now }
+        ensures after { (k : ℕ) (d : PlacedOrderOf) → result ≤ k → k < length self.now.entries
             → IsBefore entry.now (slice_index_or self.now.entries k d) }
     {
         let mut at = self.entries.len();
@@ -140,10 +140,10 @@ impl Queue {
     }
 
     // Where that order is.
-    fn index_of(&self, entry: &Entry) -> usize
+    fn index_of(&self, entry: &PlacedOrder) -> usize
         requires there { Contains self.now.entries entry.now }
         ensures bound { result < length self.now.entries }
-        ensures there { (d : EntryOf) → slice_index_or self.now.entries result d ≡ entry.now }
+        ensures there { (d : PlacedOrderOf) → slice_index_or self.now.entries result d ≡ entry.now }
     {
         let mut at = 0;
         while self.entries[at] != *entry {

@@ -9,7 +9,7 @@ ghost use Rattle.event_calendar.specs.Queues as queues;
 ghost use Rattle.event_calendar.specs.Queues.{queue_of, IsEmpty, AddsOne, RemovesOne, first_order};
 
 use crate::Class;
-use crate::entry::Entry;
+use crate::placed_order::PlacedOrder;
 use crate::queue::Queue;
 use lwb_base::Memory;
 use std::alloc::Global;
@@ -39,7 +39,7 @@ impl Queues {
 
     /// Adds an order of that class.
     #[inline(always)]
-    pub fn add(&mut self, class: Class, entry: Entry)
+    pub fn add(&mut self, class: Class, entry: PlacedOrder)
         requires room { length (queue_of class self.old).entries < (queue_of class self.old).room }
         requires order { EntriesAreInOrder (queue_of class self.old).entries }
         requires apart { Contains (queue_of class self.old).entries entry → ⊥ }
@@ -54,7 +54,7 @@ impl Queues {
 
     /// Removes an order of that class that is there.
     #[inline(always)]
-    pub fn remove(&mut self, class: Class, entry: Entry)
+    pub fn remove(&mut self, class: Class, entry: PlacedOrder)
         requires order { EntriesAreInOrder (queue_of class self.old).entries }
         requires there { Contains (queue_of class self.old).entries entry }
         ensures { RemovesOne class entry self.old self.new }
@@ -77,7 +77,7 @@ impl Queues {
     }
 }
 
-fn order(class: Class, entry: Option<Entry>) -> Option<(u64, Class, u8)>
+fn order(class: Class, entry: Option<PlacedOrder>) -> Option<(u64, Class, u8)>
     ensures { result ≡ queues.order class entry }
 {
     let entry = entry?;

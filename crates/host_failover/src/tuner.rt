@@ -1,7 +1,7 @@
 //! The tune of one node, and what changes it.
 
 ghost use Rattle.std.specs.Prelude.{◌≡◌, ◌≤◌, ◌<◌, true, IfSome};
-ghost use Rattle.lwb_base.specs.declared.limits.TheConstants.{LAST_FRAME};
+ghost use Rattle.lwb_base.specs.declared.limits.TheConstants.{LAST_FRAME, MOST_RANKS};
 ghost use Rattle.bus_rules.specs.declared.tune.Tune.TheVariants.{Hold};
 ghost use Rattle.bus_rules.specs.Tuning.{booted, tune_after_frame, hosts, with_due};
 
@@ -33,7 +33,7 @@ impl Tuner {
     /// The tune of a booted node, which scans rank 0. `own` is the rank that the node hosts, if it does, and `hosts` the
     /// number of ranks, 1 to 4.
     pub fn new(own: Option<Rank>, hosts: u8) -> Tuner
-        requires hosts { (1 ≤ hosts) × (hosts ≤ 4) }
+        requires hosts { (1 ≤ hosts) × (hosts ≤ MOST_RANKS) }
         requires own { IfSome own (λ r. r < hosts) }
         ensures { result ≡ booted own hosts }
     {

@@ -11,26 +11,26 @@ use Rattle.std.proofs.lemmas.List.{get_or-map, length-map, map-append}
 use Rattle.std.proofs.lemmas.List.Elements.{All-nil, All-append, All-replicate, All-head, All-tail, All-map, All-filter, All-take, filter_passes}
 use Rattle.std.proofs.lemmas.List.Sums.{sum_by-cons}
 use Rattle.std.proofs.lemmas.Option.{slice_get-get_or}
-use Rattle.bus_rules.specs.Tables.{Entry, Table, EntriesAscend, code_in}
+use Rattle.bus_rules.specs.Tables.{TableEntry, Table, EntriesAscend, code_in}
 use Rattle.bus_rules.specs.Granting.{owed_to, in_turn, turn, turns, given, owners_by}
 use Rattle.stream_table.proofs.Order.{entry_at}
 use Rattle.host_scheduler.specs.declared.debts.Debt.{Debt}
 use Rattle.host_scheduler.specs.Debts.{debt_of, debts_of, code_of_debt, owed_in, codes_owed, all_owed, debts_from_place, beyond, owed_beyond, turns_of, IsCode}
 use Rattle.host_scheduler.specs.Debts.{IsGrantable}
 
-codes_of_debts : (owes : Entry → ℕ) (es : List Entry) → map code_of_debt (debts_of owes es) ≡ map code_in es
+codes_of_debts : (owes : TableEntry → ℕ) (es : List TableEntry) → map code_of_debt (debts_of owes es) ≡ map code_in es
 codes_of_debts owes [] = refl
 codes_of_debts owes (e ∷ es) = ap (λ (l : List ℕ). e.code ∷ l) (codes_of_debts owes es)
 
-pub all_is : (owes : Entry → ℕ) (es : List Entry) → all_owed (debts_of owes es) ≡ owners_by owes es
+pub all_is : (owes : TableEntry → ℕ) (es : List TableEntry) → all_owed (debts_of owes es) ≡ owners_by owes es
 all_is owes [] = refl
 all_is owes (e ∷ es) = ap (λ (l : List ℕ). replicate (owes e) e.code ++ l) (all_is owes es)
 
-pub sum_is : (owes : Entry → ℕ) (es : List Entry) → sum_by owed_in (debts_of owes es) ≡ sum_by owes es
+pub sum_is : (owes : TableEntry → ℕ) (es : List TableEntry) → sum_by owed_in (debts_of owes es) ≡ sum_by owes es
 sum_is owes [] = refl
 sum_is owes (e ∷ es) = sum_by-cons owed_in (debt_of owes e) (debts_of owes es) ∙ ap (λ (n : ℕ). owes e + n) (sum_is owes es) ∙ sym (sum_by-cons owes e es)
 
-line_of : (owes : Entry → ℕ) (place : ℕ) (es : List Entry) → debts_from_place place (debts_of owes es) ≡ debts_of owes (in_turn place es)
+line_of : (owes : TableEntry → ℕ) (place : ℕ) (es : List TableEntry) → debts_from_place place (debts_of owes es) ≡ debts_of owes (in_turn place es)
 line_of owes place es =
     let first : Debt → Bool = λ d. nat_le place d.code in
     let second : Debt → Bool = λ d. nat_lt d.code place in
@@ -38,17 +38,17 @@ line_of owes place es =
     ∙ ap (λ (l : List Debt). debts_of owes (filter (λ e. nat_le place e.code) es) ++ l) (filter_map_of (debt_of owes) second es)
     ∙ sym (map-append (debt_of owes) (filter (λ e. nat_le place e.code) es) (filter (λ e. nat_lt e.code place) es))
 
-turn_of : (owes : Entry → ℕ) (line : List Entry) (k : ℕ) → map code_of_debt (beyond k (debts_of owes line)) ≡ turn owes line k
+turn_of : (owes : TableEntry → ℕ) (line : List TableEntry) (k : ℕ) → map code_of_debt (beyond k (debts_of owes line)) ≡ turn owes line k
 turn_of owes line k = ap (map code_of_debt) (filter_map_of (debt_of owes) (owed_beyond k) line) ∙ codes_of_debts owes (filter (λ e. nat_lt k (owes e)) line)
 
-turns_are : (owes : Entry → ℕ) (line : List Entry) (k : ℕ) → turns_of (debts_of owes line) k ≡ turns owes line k
+turns_are : (owes : TableEntry → ℕ) (line : List TableEntry) (k : ℕ) → turns_of (debts_of owes line) k ≡ turns owes line k
 unfolding turns_of turns
 turns_are owes line zero = refl
 turns_are owes line (suc k) =
     ap (λ (l : List ℕ). l ++ map code_of_debt (beyond k (debts_of owes line))) (turns_are owes line k)
     ∙ ap (λ (l : List ℕ). turns owes line k ++ l) (turn_of owes line k)
 
-pub given_is : (owes : Entry → ℕ) (t : Table) → take 40 (turns_of (debts_from_place t.place (debts_of owes t.entries)) 40) ≡ given owes t
+pub given_is : (owes : TableEntry → ℕ) (t : Table) → take 40 (turns_of (debts_from_place t.place (debts_of owes t.entries)) 40) ≡ given owes t
 given_is owes t = ap (λ (l : List Debt). take 40 (turns_of l 40)) (line_of owes t.place t.entries)
     ∙ ap (take 40) (turns_are owes (in_turn t.place t.entries) 40)
 
@@ -87,7 +87,7 @@ module _ (P : ℕ → Type 0) where
       (All-append Owed (filter first ds) (filter second ds) (All-filter first Owed ds all) (All-filter second Owed ds all)))
 
 -- the owners of a table that are owed something can be granted it
-owed_few : (seconds frame : ℕ) (e : Entry) → seconds ≤ 5 → frame ≤ 16777219 → 0 < owed_to seconds frame e → e.granted < 2 ^ 31
+owed_few : (seconds frame : ℕ) (e : TableEntry) → seconds ≤ 5 → frame ≤ 16777219 → 0 < owed_to seconds frame e → e.granted < 2 ^ 31
 owed_few seconds frame e fast soon some =
     let n : ℕ = seconds * (frame - e.accepted) in
     let late : frame - e.accepted ≤ 16777219 = omega arith in
@@ -98,7 +98,7 @@ owed_few seconds frame e fast soon some =
 pub seconds_few : (p : Numbers) → IsProfile p → p.seconds ≤ 5
 seconds_few p made = ⊎_elim (λ is. omega (arith, ap (λ (q : Numbers). q.seconds) is)) (λ is. omega (arith, ap (λ (q : Numbers). q.seconds) is.0)) made
 
-pub grantable : (seconds frame : ℕ) (es : List Entry) → EntriesAscend es → seconds ≤ 5 → frame ≤ 16777219
+pub grantable : (seconds frame : ℕ) (es : List TableEntry) → EntriesAscend es → seconds ≤ 5 → frame ≤ 16777219
     → All (λ d. IsCode d.code) (debts_of (owed_to seconds frame) es) → All (Owed (IsGrantable es)) (debts_of (owed_to seconds frame) es)
 grantable seconds frame es up fast soon codes =
     All-map (Owed (IsGrantable es)) (debt_of (owed_to seconds frame)) es (λ k d within some.
@@ -111,5 +111,5 @@ grantable seconds frame es up fast soon codes =
     record {
       code = code;
       there = ap is_some found;
-      few = subst (λ (o : Option Entry). IfSome o (λ x. x.granted < 2 ^ 31)) (sym found) (owed_few seconds frame e fast soon some);
+      few = subst (λ (o : Option TableEntry). IfSome o (λ x. x.granted < 2 ^ 31)) (sym found) (owed_few seconds frame e fast soon some);
     })

@@ -5,13 +5,13 @@ use Rattle.std.proofs.Common.{option_map, refl, sym, ◌∙◌, ap, arith, add-o
 use Rattle.std.specs.List.{slice_get, sum_by}
 use Rattle.std.specs.Option.{option_map_or}
 use Rattle.std.proofs.lemmas.Bool.{ltb-true, lt-ltb, leb-true}
-use Rattle.std.proofs.lemmas.List.{get_or_default, take_more, take_all, get_or-map, length-map, length-replicate}
+use Rattle.std.proofs.lemmas.List.{get_or_default, take_more, get_or-map, length-map, length-replicate}
 use Rattle.std.proofs.lemmas.List.{take-append-drop, length-take, length-take-le, append-nil, map_more}
 use Rattle.std.proofs.lemmas.List.Elements.{filter-append, filter_more}
 use Rattle.std.proofs.lemmas.List.Sums.{sum_by-cons, sum_by_more, sum_by-take-le}
 use Rattle.std.proofs.lemmas.Option.{slice_get-map, slice_get_within, get_or_from_slice_get}
 use Rattle.lwb_base.proofs.Lists.{length_filtered}
-use Rattle.bus_rules.specs.Tables.{Entry, Table, EntriesAscend, entry_of, code_in}
+use Rattle.bus_rules.specs.Tables.{TableEntry, Table, EntriesAscend, entry_of, code_in}
 use Rattle.bus_rules.specs.Granting.{owed_to}
 use Rattle.stream_table.specs.Entries.{owed_by}
 use Rattle.stream_table.proofs.Order.{entry_at}
@@ -26,10 +26,10 @@ pub debt_more : (seconds frame : ℕ) (t : Table) (i owner : ℕ) (ds : List Deb
     → ds ++ record { code = owner; owed = owed_by seconds frame t owner } ∷ [] ≡ take (i + 1) (debts_of (owed_to seconds frame) t.entries)
 debt_more seconds frame t i owner ds up at is = of_entry (slice_get t.entries i) refl
   where
-    owes : Entry → ℕ
+    owes : TableEntry → ℕ
     owes = owed_to seconds frame
 
-    of_entry : (o : Option Entry) → slice_get t.entries i ≡ o → ds ++ record { code = owner; owed = owed_by seconds frame t owner }
+    of_entry : (o : Option TableEntry) → slice_get t.entries i ≡ o → ds ++ record { code = owner; owed = owed_by seconds frame t owner }
         ∷ [] ≡ take (i + 1) (debts_of owes t.entries)
     of_entry None none = let not : Some owner ≡ None = at ∙ slice_get-map code_in t.entries i ∙ ap (option_map code_in) none in cc
     of_entry (Some e) some =
@@ -39,18 +39,13 @@ debt_more seconds frame t i owner ds up at is = of_entry (slice_get t.entries i)
         let read : get_or t.entries i e ≡ e = get_or_from_slice_get t.entries i e e some in
         let found : entry_of t.entries owner ≡ Some e = entry_at owner t.entries i e up some (sym same) in
         let debt : Debt = record { code = owner; owed = owed_by seconds frame t owner } in
-        let value : debt ≡ debt_of owes e = ap (λ (o : Option Entry). record { code = owner; owed = option_map_or owes o 0 }) found
+        let value : debt ≡ debt_of owes e = ap (λ (o : Option TableEntry). record { code = owner; owed = option_map_or owes o 0 }) found
         ∙ ap (λ (c : ℕ). record { code = c; owed = owes e }) same in
         ap (λ (l : List Debt). l ++ debt ∷ []) is ∙ ap (λ (d : Debt). take i (debts_of owes t.entries) ++ d ∷ [])
         (value ∙ ap (debt_of owes) (sym read) ∙ sym (get_or-map (debt_of owes) t.entries i e debt within))
         ∙ sym (take_more (debts_of owes t.entries) i debt (omega (arith, within, length-map t.entries (debt_of owes))))
 
-pub debts_end : (seconds frame : ℕ) (t : Table) (i : ℕ) (ds : List Debt) → length t.entries ≤ i
-    → ds ≡ take i (debts_of (owed_to seconds frame) t.entries) → ds ≡ debts_of (owed_to seconds frame) t.entries
-debts_end seconds frame t i ds past is = is
-    ∙ take_all i (debts_of (owed_to seconds frame) t.entries) (omega (arith, length-map t.entries (debt_of (owed_to seconds frame))))
-
-pub none_left : (es : List Entry) (i : ℕ) → None ≡ slice_get (map code_in es) i → length es ≤ i
+pub none_left : (es : List TableEntry) (i : ℕ) → None ≡ slice_get (map code_in es) i → length es ≤ i
 none_left [] i none = omega arith
 none_left (e ∷ es) zero none = cc
 none_left (e ∷ es) (suc i) none = omega (arith, none_left es i none)
@@ -108,17 +103,6 @@ places_apart place d = by_tests (nat_le place d.code) (nat_lt d.code place) refl
     by_tests true true is less = absurd (omega (arith, leb-true place d.code is, ltb-true d.code place less))
     by_tests true false is less = refl
     by_tests false b is less = refl
-
-pub length_line : (place k : ℕ) (ds : List Debt) → length (beyond k (debts_from_place place ds)) ≤ length ds
-length_line place k ds =
-    let first : Debt → Bool = λ d. nat_le place d.code in
-    let second : Debt → Bool = λ d. nat_lt d.code place in
-    omega (
-      arith,
-      length_filtered (owed_beyond k) (debts_from_place place ds),
-      length-append (filter first ds) (filter second ds),
-      both_fit first second ds (places_apart place),
-    )
 
 -- one turn after another
 pub next_turn : (line : List Debt) (k : ℕ) (given : List ℕ) → given ≡ take 40 (turns_of line k)

@@ -1,5 +1,5 @@
 -- Lists of codes by how often each is in them.
-use Rattle.std.proofs.Common.{◌≡◌, ◌≢◌, ℕ, zero, suc, ◌+◌, ◌<◌, ◌≤◌, List, [], ◌∷◌, ◌++◌, Bool, true, false, ◌==◌, cond, is_some, length}
+use Rattle.std.proofs.Common.{◌≡◌, ◌≢◌, ℕ, zero, suc, ◌+◌, ◌<◌, ◌≤◌, List, [], ◌∷◌, ◌++◌, Bool, true, false, ◌==◌, cond, is_some}
 use Rattle.std.proofs.Common.{get_or, map, replicate, Option, Some, None, IsSome, ⊎_elim, refl, sym, ◌∙◌, ap, subst, arith, eq-eqb}
 use Rattle.std.specs.List.{All, slice_get}
 use Rattle.std.specs.Option.{option_map_or}
@@ -9,7 +9,7 @@ use Rattle.std.proofs.lemmas.List.Elements.{All-head, All-tail}
 use Rattle.std.proofs.lemmas.List.Sums.{sum_by-cons, sum_by-append}
 use Rattle.std.proofs.lemmas.List.Sorted.{sum_by-IsPermutation}
 use Rattle.std.proofs.lemmas.Option.{slice_get-get_or}
-use Rattle.bus_rules.specs.Tables.{Entry, EntriesAreAbove, EntriesAscend, entry_of}
+use Rattle.bus_rules.specs.Tables.{TableEntry, EntriesAreAbove, EntriesAscend, entry_of}
 use Rattle.bus_rules.specs.Granting.{count_of, grant, share_in, owners_by}
 use Rattle.bus_rules.proofs.Grants.{count_replicate}
 use Rattle.stream_table.proofs.Order.{entry_at, none_above, apart_from}
@@ -33,7 +33,7 @@ count_replicate_other c x zero apart = refl
 count_replicate_other c x (suc n) apart = omega (arith, count_other c x (replicate n x) apart, count_replicate_other c x n apart)
 
 -- how often a code owns a slot
-count_none : (share : Entry → ℕ) (c : ℕ) (es : List Entry) → entry_of es c ≡ None → count_of c (owners_by share es) ≡ 0
+count_none : (share : TableEntry → ℕ) (c : ℕ) (es : List TableEntry) → entry_of es c ≡ None → count_of c (owners_by share es) ≡ 0
 count_none share c [] none = refl
 count_none share c (e ∷ es) none =
     let apart = apart_from c e es none in
@@ -44,7 +44,8 @@ count_none share c (e ∷ es) none =
       count_none share c es apart.1,
     )
 
-pub count_owned : (share : Entry → ℕ) (c : ℕ) (es : List Entry) → EntriesAscend es → count_of c (owners_by share es) ≡ option_map_or share (entry_of es c) 0
+pub count_owned : (share : TableEntry → ℕ) (c : ℕ) (es : List TableEntry) → EntriesAscend es → count_of c (owners_by share es)
+    ≡ option_map_or share (entry_of es c) 0
 count_owned share c [] up = refl
 count_owned share c (e ∷ es) up = ⊎_elim here (λ apart. other apart (count_owned share c es up.1)) (cases_eq e.code c)
   where
@@ -78,7 +79,7 @@ rises_replicate : (low c n : ℕ) (xs : List ℕ) → low ≤ c → Rises c xs �
 rises_replicate low c zero xs le up = rises_from low c xs le up
 rises_replicate low c (suc n) xs le up = (le, rises_replicate c c n xs (omega arith) up)
 
-pub owners_rise : (share : Entry → ℕ) (low : ℕ) (es : List Entry) → EntriesAreAbove low es → EntriesAscend es → Rises low (owners_by share es)
+pub owners_rise : (share : TableEntry → ℕ) (low : ℕ) (es : List TableEntry) → EntriesAreAbove low es → EntriesAscend es → Rises low (owners_by share es)
 owners_rise share low [] above up = tt
 owners_rise share low (e ∷ es) above up = rises_replicate low e.code (share e) (owners_by share es) (omega (arith, above.0))
     (owners_rise share e.code es up.0 up.1)
@@ -111,12 +112,6 @@ same_counts low high (x ∷ xs) (y ∷ ys) up down counts = by_order (same_count
         (λ order. absurd (⊎_elim (λ lt. less x y xs ys lt down.1 (counts x)) (λ lt. less y x ys xs lt up.1 (sym (counts y))) order))
         (cases_order x y)
 
--- between the two ways to say that a list does not descend
-rises_at : (low : ℕ) (xs : List ℕ) (i d : ℕ) → Rises low xs → i < length xs → low ≤ get_or xs i d
-rises_at low [] i d up within = absurd (omega arith)
-rises_at low (x ∷ xs) zero d up within = up.0
-rises_at low (x ∷ xs) (suc i) d up within = omega (arith, up.0, rises_at x xs i d up.1 (omega arith))
-
 rises_tail : (x : ℕ) (xs : List ℕ) → IsNonDecreasing (x ∷ xs) → Rises x xs
 rises_tail x [] up = tt
 rises_tail x (y ∷ ys) up = (up 0 1 0 (omega arith) (omega arith), rises_tail y ys (λ i j d le within. up (suc i) (suc j) d (omega arith) (omega arith)))
@@ -126,44 +121,45 @@ rises_of [] up = tt
 rises_of (x ∷ xs) up = (omega arith, rises_tail x xs up)
 
 -- an entry that is found has the code
-found_test : (x e : Entry) (c : ℕ) (rest : Option Entry) (b : Bool) → (x.code == c) ≡ b → (rest ≡ Some e → e.code ≡ c)
+found_test : (x e : TableEntry) (c : ℕ) (rest : Option TableEntry) (b : Bool) → (x.code == c) ≡ b → (rest ≡ Some e → e.code ≡ c)
     → cond b (Some x) rest ≡ Some e → e.code ≡ c
-found_test x e c rest true same later is = let this : x ≡ e = cc in sym (ap (λ (y : Entry). y.code) this) ∙ eqb-true x.code c same
+found_test x e c rest true same later is = let this : x ≡ e = cc in sym (ap (λ (y : TableEntry). y.code) this) ∙ eqb-true x.code c same
 found_test x e c rest false same later is = later is
 
-found_code : (es : List Entry) (c : ℕ) (e : Entry) → entry_of es c ≡ Some e → e.code ≡ c
+found_code : (es : List TableEntry) (c : ℕ) (e : TableEntry) → entry_of es c ≡ Some e → e.code ≡ c
 found_code [] c e is = cc
 found_code (x ∷ es) c e is = found_test x e c (entry_of es c) (x.code == c) refl (found_code es c e) is
 
-none_counted : (es : List Entry) (c : ℕ) (xs : List ℕ) → All (λ x. IsSome (entry_of es x)) xs → entry_of es c ≡ None → count_of c xs ≡ 0
+none_counted : (es : List TableEntry) (c : ℕ) (xs : List ℕ) → All (λ x. IsSome (entry_of es x)) xs → entry_of es c ≡ None → count_of c xs ≡ 0
 none_counted es c [] all none = refl
 none_counted es c (x ∷ xs) all none =
     let there : is_some (entry_of es x) ≡ true = All-head (λ y. IsSome (entry_of es y)) x xs all in
     let apart : x ≢ c = λ is. of_some (entry_of es x) there (ap (entry_of es) is ∙ none) in
     count_other c x xs apart ∙ none_counted es c xs (All-tail (λ y. IsSome (entry_of es y)) x xs all) none
   where
-    of_some : (o : Option Entry) → is_some o ≡ true → o ≡ None → ⊥
+    of_some : (o : Option TableEntry) → is_some o ≡ true → o ≡ None → ⊥
     of_some None there is = cc
     of_some (Some e) there is = cc
 
-counted : (es : List Entry) (slots : List ℕ) (c : ℕ) → All (λ x. IsSome (entry_of es x)) slots → (o : Option Entry) → entry_of es c ≡ o
+counted : (es : List TableEntry) (slots : List ℕ) (c : ℕ) → All (λ x. IsSome (entry_of es x)) slots → (o : Option TableEntry) → entry_of es c ≡ o
     → option_map_or (share_in slots) o 0 ≡ count_of c slots
 counted es slots c all None is = sym (none_counted es c slots all is)
 counted es slots c all (Some e) is = ap (λ (d : ℕ). count_of d slots) (found_code es c e is)
 
 -- the slots in the order of their codes
-pub sorted_is : (es : List Entry) (slots sorted : List ℕ) → EntriesAscend es → All (λ x. IsSome (entry_of es x)) slots
+pub sorted_is : (es : List TableEntry) (slots sorted : List ℕ) → EntriesAscend es → All (λ x. IsSome (entry_of es x)) slots
     → IsPermutation slots sorted → IsNonDecreasing sorted → sorted ≡ owners_by (share_in slots) es
 sorted_is es slots sorted up all moved ascends =
     same_counts 0 0 sorted (owners_by (share_in slots) es) (rises_of sorted ascends) (rise es up)
     (λ c. sum_by-IsPermutation (one c) slots sorted moved ∙ sym (count_owned (share_in slots) c es up ∙ counted es slots c all (entry_of es c) refl))
   where
-    rise : (es : List Entry) → EntriesAscend es → Rises 0 (owners_by (share_in slots) es)
+    rise : (es : List TableEntry) → EntriesAscend es → Rises 0 (owners_by (share_in slots) es)
     rise [] up = tt
     rise (e ∷ es) up = rises_replicate 0 e.code (share_in slots e) (owners_by (share_in slots) es) (omega arith)
         (owners_rise (share_in slots) e.code es up.0 up.1)
 
-pub same_shares : (slots sorted : List ℕ) (es : List Entry) → IsPermutation slots sorted → map (grant (share_in sorted)) es ≡ map (grant (share_in slots)) es
+pub same_shares : (slots sorted : List ℕ) (es : List TableEntry) → IsPermutation slots sorted → map (grant (share_in sorted)) es
+    ≡ map (grant (share_in slots)) es
 same_shares slots sorted [] moved = refl
 same_shares slots sorted (e ∷ es) moved =
     let n : count_of e.code sorted ≡ count_of e.code slots = sum_by-IsPermutation (one e.code) slots sorted moved in
@@ -171,26 +167,26 @@ same_shares slots sorted (e ∷ es) moved =
     cc (here, same_shares slots sorted es moved)
 
 -- where each is granted all that it is owed
-all_shares : (owes : Entry → ℕ) (es : List Entry) → EntriesAscend es → All (λ e. share_in (owners_by owes es) e ≡ owes e) es
+all_shares : (owes : TableEntry → ℕ) (es : List TableEntry) → EntriesAscend es → All (λ e. share_in (owners_by owes es) e ≡ owes e) es
 all_shares owes es up k d within =
     let e = get_or es k d in
     let at : slice_get es k ≡ Some e = slice_get-get_or es k d within in
-    count_owned owes e.code es up ∙ ap (λ (o : Option Entry). option_map_or owes o 0) (entry_at e.code es k e up at refl)
+    count_owned owes e.code es up ∙ ap (λ (o : Option TableEntry). option_map_or owes o 0) (entry_at e.code es k e up at refl)
 
-grants_same : (s t : Entry → ℕ) (es : List Entry) → All (λ e. s e ≡ t e) es → map (grant s) es ≡ map (grant t) es
+grants_same : (s t : TableEntry → ℕ) (es : List TableEntry) → All (λ e. s e ≡ t e) es → map (grant s) es ≡ map (grant t) es
 grants_same s t [] all = refl
 grants_same s t (e ∷ es) all =
     let here : grant s e ≡ grant t e = ap (λ (k : ℕ). record e { granted = e.granted + k }) (All-head (λ x. s x ≡ t x) e es all) in
     cc (here, grants_same s t es (All-tail (λ x. s x ≡ t x) e es all))
 
-owners_same : (s t : Entry → ℕ) (es : List Entry) → All (λ e. s e ≡ t e) es → owners_by s es ≡ owners_by t es
+owners_same : (s t : TableEntry → ℕ) (es : List TableEntry) → All (λ e. s e ≡ t e) es → owners_by s es ≡ owners_by t es
 owners_same s t [] all = refl
 owners_same s t (e ∷ es) all =
     ap (λ (k : ℕ). replicate k e.code ++ owners_by s es) (All-head (λ x. s x ≡ t x) e es all)
     ∙ ap (λ (l : List ℕ). replicate (t e) e.code ++ l) (owners_same s t es (All-tail (λ x. s x ≡ t x) e es all))
 
-pub all_granted : (owes : Entry → ℕ) (es : List Entry) → EntriesAscend es → map (grant (share_in (owners_by owes es))) es ≡ map (grant owes) es
+pub all_granted : (owes : TableEntry → ℕ) (es : List TableEntry) → EntriesAscend es → map (grant (share_in (owners_by owes es))) es ≡ map (grant owes) es
 all_granted owes es up = grants_same (share_in (owners_by owes es)) owes es (all_shares owes es up)
 
-pub all_owned : (owes : Entry → ℕ) (es : List Entry) → EntriesAscend es → owners_by (share_in (owners_by owes es)) es ≡ owners_by owes es
+pub all_owned : (owes : TableEntry → ℕ) (es : List TableEntry) → EntriesAscend es → owners_by (share_in (owners_by owes es)) es ≡ owners_by owes es
 all_owned owes es up = owners_same (share_in (owners_by owes es)) owes es (all_shares owes es up)

@@ -3,13 +3,13 @@ use Rattle.std.specs.Prelude.{ℕ, zero, suc, ◌+◌, ◌<◌, ◌≤◌, ◌^�
 use Rattle.std.specs.Prelude.{filter, flat_map, replicate, sum_by, if◌then◌else◌, IsSome, IfSome}
 use Rattle.lwb_base.specs.declared.limits.TheConstants.{DATA_SLOTS}
 use Rattle.host_scheduler.specs.declared.debts.Debt.{Debt}
-use Rattle.bus_rules.specs.Tables.{Entry, Table, entry_of}
+use Rattle.bus_rules.specs.Tables.{TableEntry, Table, entry_of}
 use Rattle.bus_rules.specs.Granting.{grant, share_in, owners_by, given, last_code}
 
-abbrev pub debt_of : (Entry → ℕ) → Entry → Debt
+abbrev pub debt_of : (TableEntry → ℕ) → TableEntry → Debt
 debt_of owes e = record { code = e.code; owed = owes e }
 
-abbrev pub debts_of : (Entry → ℕ) → List Entry → List Debt
+abbrev pub debts_of : (TableEntry → ℕ) → List TableEntry → List Debt
 debts_of owes es = map (debt_of owes) es
 
 abbrev pub code_of_debt : Debt → ℕ
@@ -52,16 +52,16 @@ turns_of line zero = []
 turns_of line (suc k) = turns_of line k ++ map code_of_debt (beyond k line)
 
 -- a code of the table that can be counted forty times more
-pub record IsGrantable (es : List Entry) (c : ℕ) : Type 0 where
+pub record IsGrantable (es : List TableEntry) (c : ℕ) : Type 0 where
   pub code : IsCode c
   pub there : IsSome (entry_of es c)
   pub few : IfSome (entry_of es c) (λ e. e.granted < 2 ^ 31)
 
 -- the slots that are given for a round, in some order
-abbrev pub slots_given : (Entry → ℕ) → Table → List ℕ
+abbrev pub slots_given : (TableEntry → ℕ) → Table → List ℕ
 slots_given owes t = if nat_le (sum_by owes t.entries) DATA_SLOTS then owners_by owes t.entries else given owes t
 
-abbrev pub place_after : (Entry → ℕ) → Table → ℕ
+abbrev pub place_after : (TableEntry → ℕ) → Table → ℕ
 place_after owes t = if nat_le (sum_by owes t.entries) DATA_SLOTS then t.place else last_code (given owes t) + 1
 
 abbrev pub granted_all : List ℕ → Table → Table

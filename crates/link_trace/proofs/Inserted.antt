@@ -1,12 +1,12 @@
 -- A line added in its order: what the list then holds, that it ascends, and where a search finds its place.
-use Rattle.std.proofs.Common.{◌≡◌, ℕ, zero, suc, ◌+◌, ◌-◌, ◌<◌, ◌≤◌, List, [], ◌∷◌, ◌++◌, Bool, true, false, ◌||◌, ◌&&◌, length}
+use Rattle.std.proofs.Common.{◌≡◌, ℕ, zero, suc, ◌+◌, ◌-◌, ◌<◌, ◌≤◌, List, [], ◌∷◌, ◌++◌, Bool, true, false, ◌||◌, length}
 use Rattle.std.proofs.Common.{get_or, Result, Ok, Err, refl, sym, ◌∙◌, ap, subst, arith, inl, inr, if◌then◌else◌}
-use Rattle.std.proofs.lemmas.Bool.{cases_lt, false≢true}
+use Rattle.std.proofs.lemmas.Bool.{cases_lt}
 use Rattle.std.proofs.lemmas.List.Edits.{length-insert, get_or-insert_below, get_or-insert_at, get_or-insert_above, insert_end}
 use Rattle.std.proofs.lemmas.List.Sorted.{searchable_from_sorted}
 use Rattle.std.proofs.lemmas.List.Folds.{list_any_at, list_any_none}
 use Rattle.std.specs.Cmp.{IsTotalOrder}
-use Rattle.std.specs.List.{insert, list_any, list_all, AllWithin}
+use Rattle.std.specs.List.{insert, list_any, AllWithin}
 use Rattle.std.specs.List.Sorted.{IsSearchInRange, IsBinarySearchResult, IsNonDecreasingBy}
 use Rattle.std.specs.Ordering.{ordering_index, ordering_reverse, is_lt, is_eq}
 use Rattle.std.specs.declared.cmp.Ordering.{Ordering}
@@ -32,31 +32,11 @@ module _ {L : Type 0} (order : L → L → Ordering) where
   list_any-with_line p l [] = refl
   list_any-with_line p l (x ∷ xs) = one_of_them p l x xs (order x l) (list_any-with_line p l xs)
 
-  -- each of the old lines and the new one
-  each_of_them : (p : L → Bool) (l x : L) (xs : List L) (o : Ordering) → list_all p (with_line order l xs) ≡ (p l && list_all p xs)
-      → list_all p (if is_lt o then x ∷ with_line order l xs else l ∷ x ∷ xs) ≡ (p l && (p x && list_all p xs))
-  each_of_them p l x xs Less added = ap (λ (b : Bool). p x && b) added ∙ turned (p x) (p l) (list_all p xs)
-    where
-      turned : (a b c : Bool) → (a && (b && c)) ≡ (b && (a && c))
-      turned true b c = refl
-      turned false true c = refl
-      turned false false c = refl
-  each_of_them p l x xs Equal added = refl
-  each_of_them p l x xs Greater added = refl
-
-  pub list_all-with_line : (p : L → Bool) (l : L) (ls : List L) → list_all p (with_line order l ls) ≡ (p l && list_all p ls)
-  list_all-with_line p l [] = refl
-  list_all-with_line p l (x ∷ xs) = each_of_them p l x xs (order x l) (list_all-with_line p l xs)
-
   one_longer : (l x : L) (xs : List L) (o : Ordering) → length (with_line order l xs) ≡ length xs + 1
       → length (if is_lt o then x ∷ with_line order l xs else l ∷ x ∷ xs) ≡ length (x ∷ xs) + 1
   one_longer l x xs Less added = omega (arith, added)
   one_longer l x xs Equal added = omega arith
   one_longer l x xs Greater added = omega arith
-
-  pub length-with_line : (l : L) (ls : List L) → length (with_line order l ls) ≡ length ls + 1
-  length-with_line l [] = omega arith
-  length-with_line l (x ∷ xs) = one_longer l x xs (order x l) (length-with_line l xs)
 
   -- an insert at its place
   pub insert_is : (l : L) (at : ℕ) (ls : List L) → at ≤ length ls → AllWithin (λ x. order x l ≡ Less) ls 0 at
@@ -169,14 +149,6 @@ module _ {L : Type 0} (order : L → L → Ordering) (total : IsTotalOrder order
       pub added_ascends : Ascends order ls → Ascends order (with_line order l ls)
       added_ascends up = subst (Ascends order) insert_is_with_line (insert_ascends up)
 
-  -- a line that is not there has a place
-  place_here : (l x : L) (xs : List L) → Ascends order (x ∷ xs) → order x l ≡ Greater → HasPlace order (x ∷ xs) l 0
-  place_here l x xs up greater = record { within = omega arith; below = λ k d low high. absurd (omega arith); above = above }
-    where
-      above : AllWithin (λ y. order y l ≡ Greater) (x ∷ xs) 0 (length (x ∷ xs))
-      above zero d low high = greater
-      above (suc k) d low high = turned_less _ _ (total.trans l x _ (turned_greater _ _ greater) (up 0 (suc k) d (omega arith) high))
-
   place_later : (l x : L) (xs : List L) (at : ℕ) → order x l ≡ Less → HasPlace order xs l at → HasPlace order (x ∷ xs) l (suc at)
   place_later l x xs at less place = record { within = omega (arith, place.within); below = below; above = above }
     where
@@ -187,18 +159,3 @@ module _ {L : Type 0} (order : L → L → Ordering) (total : IsTotalOrder order
       above : AllWithin (λ y. order y l ≡ Greater) (x ∷ xs) (suc at) (length (x ∷ xs))
       above zero d low high = absurd (omega arith)
       above (suc k) d low high = place.above k d (omega arith) (omega arith)
-
-  pub has_place : (l : L) (ls : List L) → Ascends order ls → there ls l ≡ false → (at : ℕ) × HasPlace order ls l at
-  has_place l [] up new = (0, record { within = omega arith; below = λ k d low high. absurd (omega arith); above = λ k d low high. absurd (omega arith) })
-  has_place l (x ∷ xs) up new =
-      by (order x l) refl new (λ rest_new. has_place l xs (λ i j d less inside. up (suc i) (suc j) d (omega arith) (omega arith)) rest_new)
-    where
-      by : (o : Ordering) → order x l ≡ o → (is_eq o || there xs l) ≡ false → (there xs l ≡ false → (at : ℕ) × HasPlace order xs l at)
-          → (at : ℕ) × HasPlace order (x ∷ xs) l at
-      by Less is new rest = let later = rest new in (suc later.0, place_later l x xs later.0 is later.1)
-      by Equal is new rest = absurd (false≢true (sym new))
-      by Greater is new rest = (0, place_here l x xs up is)
-
-  -- the lines still ascend
-  pub ascends-with_line : (l : L) (ls : List L) → Ascends order ls → there ls l ≡ false → Ascends order (with_line order l ls)
-  ascends-with_line l ls up new = let place = has_place l ls up new in added_ascends ls l place.0 place.1 up

@@ -10,6 +10,7 @@ use Rattle.std.proofs.lemmas.List.Sorted.{searched}
 use Rattle.std.specs.List.Sorted.{IsBinarySearchResult}
 use Rattle.std.specs.Ordering.{nat_cmp}
 use Rattle.std.specs.Int.{bit_at, bit_not}
+use Rattle.lwb_base.specs.declared.limits.TheConstants.{MOST_NODES}
 use Rattle.lwb_base.proofs.Truths.{one_if}
 use Rattle.lwb_base.proofs.Orders.{rising}
 use Rattle.link_trace.specs.Masks.{IsMask, IsMaskUpto}
@@ -66,7 +67,7 @@ module _ (nodes : List ℕ) where
       same_tests (λ u. list_any (names u) (take i ls) || names u (get_or ls i d)) (λ u. list_any (names u) (take (i + 1) ls)) (bit_or a b)
       (λ u. sym (list_any_more (names u) ls i d inside)) (joined (λ u. list_any (names u) (take i ls)) (λ u. names u (get_or ls i d)) a b a_is b_is)
 
-  module _ (few : length nodes ≤ 64) where
+  module _ (few : length nodes ≤ MOST_NODES) where
     past : (p : ℕ → Bool) (i : ℕ) → 64 ≤ i → one_if (nat_lt i (length nodes) && p (get_or nodes i 0)) ≡ 0
     past p i far = rw (outside i far) refl
       where
@@ -141,7 +142,7 @@ module _ (nodes : List ℕ) where
       ]
 
 -- what a search for a node finds
-pub found_alone : (nodes : List ℕ) → length nodes ≤ 64 → AllPairs (λ a b. a < b) nodes → (v i : ℕ) → i < length nodes
+pub found_alone : (nodes : List ℕ) → length nodes ≤ MOST_NODES → AllPairs (λ a b. a < b) nodes → (v i : ℕ) → i < length nodes
     → IsBinarySearchResult (λ y. nat_cmp y v) nodes (Ok i) → IsMask (λ u. v == u) nodes (1 * 2 ^ i % 2 ^ 64)
 found_alone nodes few ascending v i inside found =
     let at = searched nodes v (Ok i) found (rising nodes ascending) in

@@ -2,6 +2,7 @@
 use Rattle.std.proofs.Common.{◌≡◌, ◌^◌, ◌<◌, ◌≤◌, ◌==◌, ℕ, Bool, true, false, List, [], get_or, length, bit_and, w64, sym, subst, ◌∙◌, ap}
 use Rattle.std.specs.Int.{bit_not}
 use Rattle.std.specs.List.{filter, list_any}
+use Rattle.lwb_base.specs.declared.limits.TheConstants.{MOST_NODES}
 use Rattle.link_trace.specs.declared.lines.CutLine.{CutLine}
 use Rattle.link_trace.specs.declared.lines.LoseLine.{LoseLine}
 use Rattle.link_trace.specs.declared.masks.LinkMasks.{LinkMasks}
@@ -23,7 +24,7 @@ pub record Side (w : Inside) (f j k : ℕ) : Type 0 where
   pub passing : ℕ → ℕ → Bool
   pub part : LinkMasks → ℕ
   pub tells : (u : ℕ) → TellsPassing (lines_in w) f j k u (linked u) (lost u) (passing u)
-  pub few : length w.nodes.items ≤ 64
+  pub few : length w.nodes.items ≤ MOST_NODES
   pub masks : (i : ℕ) (d : LinkMasks) → i < length w.nodes.items
       → IsMask (linked (get_or w.nodes.items i 0)) w.nodes.items (part (get_or w.masks.items i d))
 

@@ -3,6 +3,7 @@
 use Rattle.std.proofs.Common.{◌≡◌, ℕ, ◌^◌, ◌<◌, ◌≤◌, List, [], Bool, true, false, not, ◌&&◌, ◌==◌, length, bit_and, w64, refl, sym, ◌∙◌, ap}
 use Rattle.std.specs.Int.{bit_not}
 use Rattle.std.specs.List.{filter, list_any}
+use Rattle.lwb_base.specs.declared.limits.TheConstants.{MOST_NODES}
 use Rattle.link_trace.specs.declared.lines.LoseLine.{LoseLine}
 use Rattle.link_trace.specs.declared.lines.CutLine.{CutLine}
 use Rattle.link_trace.specs.Masks.{IsMask}
@@ -61,7 +62,7 @@ module _ (t : Lines) (f j k u : ℕ) (linked : ℕ → Bool) (lost : List LoseLi
           ∙ tells.whole v
 
   -- where no node is cut off
-  pub uncut_passing : (nodes : List ℕ) → length nodes ≤ 64 → (a b : ℕ) → b < 2 ^ 64 → t.cuts ≡ [] → IsMask linked nodes a
+  pub uncut_passing : (nodes : List ℕ) → length nodes ≤ MOST_NODES → (a b : ℕ) → b < 2 ^ 64 → t.cuts ≡ [] → IsMask linked nodes a
       → IsMask (lost t.losses) nodes b → IsMask passing nodes (bit_and a (bit_not w64 b))
   uncut_passing nodes few a b b_small no_cuts a_is b_is =
       same_tests nodes (λ v. linked v && not (lost t.losses v)) passing (bit_and a (bit_not w64 b)) each
@@ -92,7 +93,7 @@ module _ (t : Lines) (f j k u : ℕ) (linked : ℕ → Bool) (lost : List LoseLi
           ∙ tells.whole v
 
   -- where the node is not cut off
-  pub mask_of_passing : (nodes : List ℕ) → length nodes ≤ 64 → (a b c : ℕ) → b < 2 ^ 64 → c < 2 ^ 64 → cut u ≡ false → IsMask linked nodes a
+  pub mask_of_passing : (nodes : List ℕ) → length nodes ≤ MOST_NODES → (a b c : ℕ) → b < 2 ^ 64 → c < 2 ^ 64 → cut u ≡ false → IsMask linked nodes a
       → IsMask (lost t.losses) nodes b → IsMask cut nodes c → IsMask passing nodes (bit_and (bit_and a (bit_not w64 b)) (bit_not w64 c))
   mask_of_passing nodes few a b c b_small c_small none a_is b_is c_is =
       same_tests nodes (λ v. linked v && not (lost t.losses v) && not (cut v)) passing (bit_and (bit_and a (bit_not w64 b)) (bit_not w64 c)) each

@@ -3,6 +3,7 @@ use Rattle.std.proofs.Common.{◌≡◌, ℕ, ◌*◌, ◌<◌, ◌≤◌, true,
 use Rattle.std.proofs.lemmas.Bool.{cases_lt, lt-ltb, le-ltb}
 use Rattle.std.proofs.lemmas.Bool.Decides.{nat_tests}
 use Rattle.std.specs.List.{AllPairs}
+use Rattle.lwb_base.specs.declared.limits.TheConstants.{MOST_FRAMES}
 use Rattle.link_trace.specs.declared.lines.LoseLine.{LoseLine}
 use Rattle.link_trace.specs.declared.lines.CutLine.{CutLine}
 use Rattle.link_trace.specs.declared.lines.CaptureLine.{CaptureLine}
@@ -11,24 +12,24 @@ use Rattle.link_trace.specs.Passes.{cuts_by, is_capture, is_loss}
 use Rattle.link_trace.specs.Starts.{of_capture, of_cut, of_loss, slot_number}
 use Rattle.link_trace.proofs.Together.{Rises, steps_rise}
 
-small : (f j : ℕ) → slot_number f j ≤ 64 * 4096
-small f j = elim (cases_lt f 4096) [
-  | inl near ↦ rw (lt-ltb f 4096 near) (omega arith)
-  | inr far ↦ rw (le-ltb f 4096 far) (omega arith)
+small : (f j : ℕ) → slot_number f j ≤ 64 * MOST_FRAMES
+small f j = elim (cases_lt f MOST_FRAMES) [
+  | inl near ↦ rw (lt-ltb f MOST_FRAMES near) (omega arith)
+  | inr far ↦ rw (le-ltb f MOST_FRAMES far) (omega arith)
 ]
 
-in_frames : (f j g i : ℕ) → f ≤ g → (f ≡ g → j ≤ i) → g < 4096 → slot_number f j ≤ slot_number g i
+in_frames : (f j g i : ℕ) → f ≤ g → (f ≡ g → j ≤ i) → g < MOST_FRAMES → slot_number f j ≤ slot_number g i
 in_frames f j g i frames slots near =
-    rw (lt-ltb f 4096 (omega arith), lt-ltb g 4096 near)
+    rw (lt-ltb f MOST_FRAMES (omega arith), lt-ltb g MOST_FRAMES near)
     (elim (cases_lt f g) [
       | inl earlier ↦ omega arith
       | inr not_earlier ↦ let same : f ≡ g = omega arith in let slot = slots same in omega arith
     ])
 
 rise : (f j g i : ℕ) → f ≤ g → (f ≡ g → j ≤ i) → slot_number f j ≤ slot_number g i
-rise f j g i frames slots = elim (cases_lt g 4096) [
+rise f j g i frames slots = elim (cases_lt g MOST_FRAMES) [
   | inl near ↦ in_frames f j g i frames slots near
-  | inr far ↦ rw (le-ltb g 4096 far) (small f j)
+  | inr far ↦ rw (le-ltb g MOST_FRAMES far) (small f j)
 ]
 
 rise_with : (f j k g i h : ℕ) → Rises f j k g i h → slot_number f j ≤ slot_number g i

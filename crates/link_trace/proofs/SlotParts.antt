@@ -72,9 +72,6 @@ module _ {L : Type 0} (slot_of : L → ℕ) (first last : ℕ) (order : first �
 
 -- one more start
 module _ {L : Type 0} (slot_of : L → ℕ) (lines : List L) where
-  pub no_starts : AreStarts slot_of lines []
-  no_starts = record { within = λ k inside. absurd (omega arith); parted = λ k inside. absurd (omega arith) }
-
   pub one_more_start : (starts : List ℕ) (k : ℕ) (start : ℕ) → AreStarts slot_of lines starts → length starts ≡ k → start ≤ length lines
       → IsPartitionPoint (λ l. slot_of l < k) (λ l. k ≤ slot_of l) lines start → AreStarts slot_of lines (starts ++ start ∷ [])
   one_more_start starts k start are many within parted = record {

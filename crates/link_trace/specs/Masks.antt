@@ -2,6 +2,7 @@
 use Rattle.std.specs.Prelude.{◌≡◌, ℕ, ◌<◌, ◌≤◌, List, Bool, ◌&&◌, nat_lt, length, slice_index, slice_index_or, if◌then◌else◌}
 use Rattle.std.specs.Int.{bit_at}
 use Rattle.std.specs.List.{list_any, AllPairs}
+use Rattle.lwb_base.specs.declared.limits.TheConstants.{MOST_NODES}
 use Rattle.link_trace.specs.declared.lines.LinkLine.{LinkLine}
 use Rattle.link_trace.specs.declared.masks.LinkMasks.{LinkMasks}
 use Rattle.link_trace.specs.Order.{AreInOrder}
@@ -12,7 +13,7 @@ use Rattle.link_trace.specs.declared.starts.Starts.{Starts}
 -- 1 to 64 ids, each below those after it
 pub record AreNodes (nodes : List ℕ) : Type 0 where
   pub some : 1 ≤ length nodes
-  pub few : length nodes ≤ 64
+  pub few : length nodes ≤ MOST_NODES
   pub ascending : AllPairs (λ a b. a < b) nodes
 
 -- bit i is set if and only if the test holds of node i, which is one of the first n nodes
@@ -34,7 +35,7 @@ pub record AreLinkMasks (links : List LinkLine) (nodes : List ℕ) (masks : List
 -- what is true of each trace
 pub record AreTraceParts (t : Lines) (nodes : List ℕ) (masks : List LinkMasks) (starts : Starts) : Type 0 where
   pub in_order : AreInOrder t
-  pub few : length nodes ≤ 64
+  pub few : length nodes ≤ MOST_NODES
   pub ascending : AllPairs (λ a b. a < b) nodes
   pub link_masks : AreLinkMasks t.links nodes masks
   pub line_starts : AreStartsOf t starts

@@ -3,6 +3,7 @@ use Rattle.std.specs.Prelude.{◌≡◌, ℕ, ◌+◌, ◌*◌, ◌<◌, ◌≤�
 use Rattle.std.specs.declared.cmp.Ordering.{Ordering}
 use Rattle.std.specs.List.{filter}
 use Rattle.std.specs.List.Sorted.{IsPartitionPoint}
+use Rattle.lwb_base.specs.declared.limits.TheConstants.{MOST_FRAMES}
 use Rattle.link_trace.specs.declared.lines.LoseLine.{LoseLine}
 use Rattle.link_trace.specs.declared.lines.CutLine.{CutLine}
 use Rattle.link_trace.specs.declared.lines.CaptureLine.{CaptureLine}
@@ -10,9 +11,9 @@ use Rattle.link_trace.specs.declared.starts.Starts.{Starts}
 use Rattle.link_trace.specs.Order.{Ascends}
 use Rattle.link_trace.specs.Passes.{Lines}
 
--- the slots counted through the frames, 64 to a frame: slots from 63 on count as one, and so do all frames from 4,096 on
+-- the slots counted through the frames, 64 to a frame: slots from 63 on count as one, and so do all frames past the last of a scenario
 abbrev pub slot_number : ℕ → ℕ → ℕ
-slot_number f j = if nat_lt f 4096 then 64 * f + min j 63 else 64 * 4096
+slot_number f j = if nat_lt f MOST_FRAMES then 64 * f + min j 63 else 64 * MOST_FRAMES
 
 abbrev pub of_loss : LoseLine → ℕ
 of_loss l = slot_number l.frame l.slot

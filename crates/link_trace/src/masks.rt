@@ -2,6 +2,7 @@
 
 ghost use Rattle.std.specs.Prelude.{[], ◌≡◌, ◌≤◌, ◌<◌, ◌==◌, ◌&&◌, length, slice_index, IfOk};
 ghost use Rattle.std.specs.List.{list_any, AllPairs};
+ghost use Rattle.lwb_base.specs.declared.limits.TheConstants.{MOST_NODES};
 ghost use Rattle.link_trace.specs.Order.{Ascends, by_link};
 ghost use Rattle.link_trace.specs.Passes.{is_link, is_loss, is_of_step};
 ghost use Rattle.link_trace.specs.Starts.{AreNone, AreStarts, of_loss};
@@ -38,7 +39,7 @@ pub fn link_masks(
     nodes: &[NodeId],
 ) -> Result<Vec<LinkMasks>, Memory>
     requires links { Ascends by_link links.now }
-    requires few { length nodes.now ≤ 64 }
+    requires few { length nodes.now ≤ MOST_NODES }
     ensures { IfOk result (λ masks. AreLinkMasks links.now nodes.now masks.items) }
 {
     let mut masks = Vec::new(alloc);
@@ -61,7 +62,7 @@ pub fn lost_mask(
     to: NodeId,
 ) -> u64
     requires starts { AreStarts of_loss losses.now starts.now.losses.items }
-    requires few { length nodes.now ≤ 64 }
+    requires few { length nodes.now ≤ MOST_NODES }
     requires ascending { AllPairs (λ a b. a < b) nodes.now }
     ensures { IsMask (λ from. list_any (is_loss frame slot step from to) losses.now) nodes.now result }
 {
@@ -85,7 +86,7 @@ pub fn lost_from_mask(
     from: NodeId,
 ) -> u64
     requires starts { AreStarts of_loss losses.now starts.now.losses.items }
-    requires few { length nodes.now ≤ 64 }
+    requires few { length nodes.now ≤ MOST_NODES }
     requires ascending { AllPairs (λ a b. a < b) nodes.now }
     ensures { IsMask (λ to. list_any (is_loss frame slot step from to) losses.now) nodes.now result }
 {
@@ -100,7 +101,7 @@ pub fn lost_from_mask(
 
 /// Those of the nodes that one of the lines names.
 pub fn cut_mask(cuts: &[CutLine], nodes: &[NodeId]) -> u64
-    requires few { length nodes.now ≤ 64 }
+    requires few { length nodes.now ≤ MOST_NODES }
     requires ascending { AllPairs (λ a b. a < b) nodes.now }
     ensures { IsMask (λ node. list_any (λ l. l.node == node) cuts.now) nodes.now result }
 {
@@ -113,7 +114,7 @@ pub fn cut_mask(cuts: &[CutLine], nodes: &[NodeId]) -> u64
 
 // The node whose link to `to` the line loses in that step, if it loses one.
 fn lost_by(line: &LoseLine, frame: u32, slot: u8, step: u8, nodes: &[NodeId], to: NodeId) -> u64
-    requires few { length nodes.now ≤ 64 }
+    requires few { length nodes.now ≤ MOST_NODES }
     requires ascending { AllPairs (λ a b. a < b) nodes.now }
     ensures { IsMask (λ from. is_loss frame slot step from to line.now) nodes.now result }
 {
@@ -126,7 +127,7 @@ fn lost_by(line: &LoseLine, frame: u32, slot: u8, step: u8, nodes: &[NodeId], to
 
 // The node to which the line loses a link from `from` in that step, if it loses one.
 fn lost_from(line: &LoseLine, frame: u32, slot: u8, step: u8, nodes: &[NodeId], from: NodeId) -> u64
-    requires few { length nodes.now ≤ 64 }
+    requires few { length nodes.now ≤ MOST_NODES }
     requires ascending { AllPairs (λ a b. a < b) nodes.now }
     ensures { IsMask (λ to. is_loss frame slot step from to line.now) nodes.now result }
 {
@@ -147,7 +148,7 @@ fn is_of(line: &LoseLine, frame: u32, slot: u8, step: u8) -> bool
 // The nodes that have a link to `to`.
 fn links_to(links: &[LinkLine], nodes: &[NodeId], to: NodeId) -> u64
     requires links { Ascends by_link links.now }
-    requires few { length nodes.now ≤ 64 }
+    requires few { length nodes.now ≤ MOST_NODES }
     ensures { IsMask (λ from. list_any (is_link from to) links.now) nodes.now result }
 {
     let mut mask = 0u64;
@@ -162,7 +163,7 @@ fn links_to(links: &[LinkLine], nodes: &[NodeId], to: NodeId) -> u64
 // The nodes to which `from` has a link.
 fn links_from(links: &[LinkLine], nodes: &[NodeId], from: NodeId) -> u64
     requires links { Ascends by_link links.now }
-    requires few { length nodes.now ≤ 64 }
+    requires few { length nodes.now ≤ MOST_NODES }
     ensures { IsMask (λ to. list_any (is_link from to) links.now) nodes.now result }
 {
     let mut mask = 0;
@@ -176,7 +177,7 @@ fn links_from(links: &[LinkLine], nodes: &[NodeId], from: NodeId) -> u64
 
 // The mask of the one node, if it is one of these.
 fn mask_of(nodes: &[NodeId], node: NodeId) -> u64
-    requires few { length nodes.now ≤ 64 }
+    requires few { length nodes.now ≤ MOST_NODES }
     requires ascending { AllPairs (λ a b. a < b) nodes.now }
     ensures { IsMask (λ id. node == id) nodes.now result }
 {

@@ -7,7 +7,7 @@ ghost use Rattle.link_trace.specs.Order.{Ascends, by_loss, by_cut, by_capture};
 ghost use Rattle.link_trace.specs.Starts.{AreNone, AreStarts, HoldsSlots, of_loss, of_cut, of_capture, slot_number as number_of};
 
 use crate::{CaptureLine, CutLine, LoseLine};
-use lwb_base::Memory;
+use lwb_base::{MOST_FRAMES, Memory};
 use std::alloc::Global;
 
 /// A line of some slot of some frame.
@@ -45,15 +45,15 @@ impl OfSlot for CaptureLine {
 }
 
 /// The slots counted through the frames, 64 to a frame. So that few numbers do for any lines, slots from 63 on count as
-/// one, and so do all frames from 4,096 on.
+/// one, and so do all frames from `MOST_FRAMES` on.
 pub fn slot_number(frame: u32, slot: u8) -> usize
     ensures value { result ≡ number_of frame slot }
     ensures small { result ≤ 262_144 }
 {
-    if frame < 4_096 {
+    if frame < MOST_FRAMES {
         64 * frame as usize + usize::from(slot.min(63))
     } else {
-        64 * 4_096
+        64 * MOST_FRAMES as usize
     }
 }
 

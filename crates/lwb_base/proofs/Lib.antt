@@ -4,6 +4,7 @@ pub mod Options
 pub mod Orders
 pub mod Lists
 pub mod Elements
+pub mod NumbersOfRanges
 pub mod StableSorts
 pub mod LinesAbove
 -- for this crate alone

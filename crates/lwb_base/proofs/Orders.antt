@@ -1,6 +1,6 @@
 -- Numbers in order: how they compare, alone and three or four of them one after another, and when two are the same.
 use Rattle.std.proofs.Common.{◌≡◌, ℕ, suc, ◌*◌, ◌<◌, ◌≤◌, ◌==◌, Bool, true, false, List, length, get_or, AllPairs, inl, inr}
-use Rattle.std.proofs.Common.{Ordering, Less, Equal, Greater, refl, sym, ◌∙◌, ap, arith}
+use Rattle.std.proofs.Common.{Ordering, Less, Equal, Greater, refl, sym, ◌∙◌, arith}
 use Rattle.std.proofs.lemmas.Bool.{cases_lt, cases_order, eq-eqb, eqb-true, eqb-false, ne_eqb}
 use Rattle.std.proofs.lemmas.Bool.Decides.{nat_tests}
 use Rattle.std.proofs.Math.Nat.{mul-le-mul_right}
@@ -14,9 +14,6 @@ compares_less x y less = sym (nat_cmp_is x y Less less)
 
 pub compares_equal : (x y : ℕ) → x ≡ y → nat_cmp x y ≡ Equal
 compares_equal x y same = sym (nat_cmp_is x y Equal same)
-
-pub is_less : (x y : ℕ) → x < y → is_lt (nat_cmp x y) ≡ true
-is_less x y before = ap is_lt (compares_less x y before)
 
 -- what a comparison says
 pub same_number : (x y : ℕ) → nat_cmp x y ≡ Equal → x ≡ y

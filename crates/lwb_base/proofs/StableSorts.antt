@@ -9,7 +9,8 @@ use native.Mathlib.Numerals.{unary_clauses}
 use lib.ListN.{get_or}
 use Rattle.std.proofs.lemmas.Bool.{cond_both, true≢false}
 use Rattle.std.proofs.lemmas.List.Elements.{recursion_from_All}
-use Rattle.std.proofs.lemmas.List.Sorted.{sorted_far, IsPermutation-refl, IsPermutation-cons, IsPermutation-trans, IsPermutation-append_comm, IsPermutation-append_left}
+use Rattle.std.proofs.lemmas.List.Sorted.{sorted_far, IsPermutation-refl, IsPermutation-cons, IsPermutation-trans, IsPermutation-append_comm}
+use Rattle.std.proofs.lemmas.List.Sorted.{IsPermutation-append_left}
 use Rattle.lwb_base.proofs.Truths.{both_not}
 use Rattle.lwb_base.specs.Sorting.{with_inserted, in_order}
 use Rattle.lwb_base.proofs.Lists.{each_more}

@@ -6,6 +6,6 @@ mod network;
 mod ratio_line;
 mod ratio_lines;
 
-pub use limits::{GREATEST_RATIO, MOST_RATIO_LINES};
+pub use limits::{GREATEST_RATIO, MOST_RATIO_LINES, ratios_have_their_numbers};
 pub use network::parse_network;
 pub use ratio_lines::parse_ratios;

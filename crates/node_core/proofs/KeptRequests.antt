@@ -29,13 +29,6 @@ use Rattle.node_core.proofs.AcceptedKinds.{IsData, IsUnscheduled, accepted_by, s
 use Rattle.node_core.proofs.PassedWindows.{said_none}
 use Rattle.node_core.specs.Standing.{IsInside, IsInOwnRound, IsStage, HostsIn, KeepsFew, contended}
 
-guest_now : (f : ℕ) (c : Core) → hosts c.tune ≡ false → hosts_now f c ≡ false
-guest_now f c guest = by_test (hosts_now f c) refl
-  where
-    by_test : (b : Bool) → hosts_now f c ≡ b → b ≡ false
-    by_test false now = refl
-    by_test true now = absurd (false≢true (sym guest ∙ hosts_by_rank c.tune f now))
-
 none_kept : (l : List Ask) → length l ≤ 0 → l ≡ []
 none_kept [] few = refl
 none_kept (a ∷ l) few = absurd (omega (arith, few))

@@ -1,6 +1,7 @@
 //! The core of one node: from events to orders.
 
 ghost use Rattle.std.specs.Prelude.{◌≡◌, ◌≤◌, ◌<◌, Some, None, IfOk, IfSome, if◌then◌else◌, is_some, length};
+ghost use Rattle.lwb_base.specs.declared.limits.TheConstants.{MOST_RANKS};
 ghost use Rattle.bus_rules.specs.Cores.{own_rank};
 ghost use Rattle.bus_rules.specs.declared.tune.Tune.TheVariants.{Scan};
 ghost use Rattle.bus_rules.specs.States.{IsAct};
@@ -70,7 +71,7 @@ impl Node {
         hosts: &[NodeId],
         n: u8,
     ) -> Result<Node, Memory>
-        requires hosts { (1 ≤ length hosts.now) × (length hosts.now ≤ 4) }
+        requires hosts { (1 ≤ length hosts.now) × (length hosts.now ≤ MOST_RANKS) }
         requires sends { (1 ≤ n) × (n ≤ 4) }
         ensures { IfOk result (λ x. x ≡ record {
           setup = record { profile = profile.now; id = id; own = own_rank id hosts.now; ranks = length hosts.now; sends = n };
@@ -124,7 +125,7 @@ impl Node {
         requires payload { length payload.now ≤ self.old.setup.profile.payload_max }
         ensures answer { result
             ≡ (if rule.drops self.old.node.core.streams stream then Dropped else Queued (rule.stream_at self.old.node.core.streams stream).next) }
-        ensures after { self.new ≡ record self.old { node = with_streams self.old.node (rule.put stream payload.now self.old.node.core.streams) } }
+        ensures after { self.new ≡ record self.old { node = with_streams self.old.node (rule.after_put stream payload.now self.old.node.core.streams) } }
     {
         self.member.put(stream, payload)
     }
@@ -192,7 +193,7 @@ pub(crate) fn forget(delivery: &mut Option<Delivery>)
 
 // The rank that a node hosts, if it is one of the hosts.
 fn rank_among(id: NodeId, hosts: &[NodeId]) -> Option<Rank>
-    requires { length hosts.now ≤ 4 }
+    requires { length hosts.now ≤ MOST_RANKS }
     ensures value { result ≡ own_rank id hosts.now }
     ensures range { IfSome result (λ r. r < length hosts.now) }
 {

@@ -1,21 +1,21 @@
 -- Each latency of a run is one of those that may be.
-use Rattle.std.proofs.Common.{◌≡◌, ◌==◌, ◌+◌, ◌<◌, ◌≤◌, ◌∷◌, [], ℕ, zero, suc, List, Bool, true, false, cond, Option, Some, None, Contains, inl}
+use Rattle.std.proofs.Common.{◌≡◌, ◌+◌, ◌<◌, ◌∷◌, [], ℕ, List, Bool, true, false, cond, Option, Some, None, Contains, inl}
 use Rattle.std.proofs.Common.{inr, count_by, filter}
 use Rattle.std.proofs.Common.{find, flat_map, length, map, option_map, refl, sym, ◌∙◌, ap, subst, arith}
-use Rattle.std.proofs.lemmas.Bool.{cases_lt, cond_both, eqb-true, false≢true}
+use Rattle.std.proofs.lemmas.Bool.{cond_both, false≢true}
 use Rattle.std.proofs.lemmas.List.Elements.{All-contains}
 use Rattle.std.proofs.lemmas.List.Sums.{length-filter}
-use Rattle.std.specs.List.{enumerate_from, range_with_len}
+use Rattle.std.specs.List.{enumerate_from}
 use Rattle.std.specs.Option.{option_map_or}
 use Rattle.lwb_base.proofs.Elements.{contains_cases, contains_head, contains_tail, filter_from, filtered, from_flat, in_flat, map_contains, not_in_none}
-use Rattle.lwb_base.proofs.Elements.{some_of}
 use Rattle.lwb_base.specs.Messages.{Plan}
 use Rattle.scenario_text.specs.FloodParts.{knows}
 use Rattle.scenario_text.specs.ScenarioFacts.{IsScriptLine}
 use Rattle.scenario_text.specs.ScenarioParts.{ScenarioParts}
-use Rattle.scenario_text.specs.declared.lines.NodeLine.{NodeLine}
 use Rattle.scenario_text.specs.declared.script.ScriptLine.{ScriptLine}
+use Rattle.scenario_text.proofs.Known.{known_there}
 use Rattle.scenario_text.proofs.SoundScenarios.{sound}
+use Rattle.lwb_base.proofs.NumbersOfRanges.{from_range, in_range}
 use Rattle.bus_rules.specs.declared.act.Act.{Act}
 use Rattle.bus_rules.specs.declared.act.Act.TheVariants.{On, Off, Declare, Leave, Put}
 use Rattle.bus_rules.specs.declared.delivery.Delivery.{Delivery}
@@ -31,27 +31,11 @@ use Rattle.bus_terms.specs.Rounds.{delivery_in_slot, round_deliveries, round_pla
 use Rattle.bus_terms.specs.declared.packets.Latency.{Latency}
 use Rattle.bus_terms.specs.declared.packets.PacketId.{PacketId}
 use Rattle.bus_terms.specs.declared.packets.PutLine.{PutLine}
-use Rattle.packet_fates.proofs.PacketOrders.{same_packet}
+use Rattle.bus_terms.proofs.SamePackets.{same_packet}
 use Rattle.packet_fates.proofs.LatencyOrders.{same_latency}
 use Rattle.packet_fates.proofs.OrderedLatencies.{latency}
 
 -- ---- lists
-in_range : (a n k : ℕ) → a ≤ k → k < a + n → Contains (range_with_len a n) k
-in_range a zero k from below = absurd (omega (arith, from, below))
-in_range a (suc n) k from below =
-    elim (cases_lt a k) [
-      | inl later ↦ contains_tail a (range_with_len (a + 1) n) k (in_range (a + 1) n k (omega (arith, later)) (omega (arith, below)))
-      | inr first ↦ subst (λ (i : ℕ). Contains (a ∷ range_with_len (a + 1) n) i) (omega (arith, from, first)) (contains_head a (range_with_len (a + 1) n))
-    ]
-
-from_range : (a n k : ℕ) → Contains (range_with_len a n) k → (a ≤ k) × (k < a + n)
-from_range a zero k there = absurd (not_in_none k there)
-from_range a (suc n) k there =
-    elim (contains_cases a (range_with_len (a + 1) n) k there) [
-      | inl same ↦ (omega (arith, same), omega (arith, same))
-      | inr later ↦ (let within = from_range (a + 1) n k later in (omega (arith, within), omega (arith, within)))
-    ]
-
 from_enumerated : {X : Type 0} (n : ℕ) (xs : List X) (e : ℕ × X) → Contains (enumerate_from n xs) e → Contains xs e.1
 from_enumerated n [] e there = absurd (not_in_none e there)
 from_enumerated n (x ∷ xs) e there =
@@ -109,11 +93,6 @@ queued_by x v i (StateOn c) is =
     (λ queued is. let same = same_packet x y is in (ap (λ (z : PacketId). z.node) same, ap (λ (z : PacketId). z.stream) same))
     is
 
-known_id : (ns : List NodeLine) (v : ℕ) → knows ns v ≡ true → Contains (ids ns) v
-known_id ns v is =
-    let n = some_of (λ (n : NodeLine). n.node == v) ns is in
-    subst (Contains (ids ns)) (eqb-true n.0.node v n.2) (map_contains (λ (n : NodeLine). n.node) ns n.0 n.1)
-
 module _ (s : ScenarioParts) (said : IsOverScenario s) where
   by_act : (l : ScriptLine) (a : Act) (state : State) (p : PutLine) (x : PacketId) → put_by l a state ≡ Some p → knows s.nodes l.node ≡ true → IsAct s.profile a
       → queues x p.packet ≡ true → Contains (ids s.nodes) x.node × Contains streams x.stream
@@ -125,7 +104,7 @@ module _ (s : ScenarioParts) (said : IsOverScenario s) where
       let put : PutLine = record { frame = l.frame; node = l.node; stream = i; packet = queued_packet l.node i state } in
       let same : put ≡ p = cc in
       let of = queued_by x l.node i state (ap (λ (q : PutLine). queues x q.packet) same ∙ queued) in (
-        subst (Contains (ids s.nodes)) (sym of.0) (known_id s.nodes l.node known),
+        subst (Contains (ids s.nodes)) (sym of.0) (known_there s.nodes l.node known),
         subst (Contains streams) (sym of.1)
             (in_range 0 4 i (omega arith) (let few = act.0 in omega (arith, few))),
       )

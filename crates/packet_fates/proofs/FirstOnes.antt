@@ -11,7 +11,8 @@ use Rattle.std.specs.Map.{count_at}
 use Rattle.bus_terms.specs.Fates.{is_packet}
 use Rattle.bus_terms.specs.declared.packets.PacketId.{PacketId}
 use Rattle.packet_fates.specs.PacketOrder.{packet_cmp}
-use Rattle.packet_fates.proofs.PacketOrders.{packet_itself, packet_tied, same_packet}
+use Rattle.bus_terms.proofs.SamePackets.{packet_itself, same_packet}
+use Rattle.packet_fates.proofs.PacketOrders.{packet_tied}
 
 -- of one element more
 pub find_more : {X : Type 0} (p : X → Bool) (xs : List X) (i : ℕ) (x : X) → i < length xs → x ≡ get_or xs i x

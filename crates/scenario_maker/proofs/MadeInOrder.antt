@@ -5,6 +5,7 @@ use Rattle.std.proofs.lemmas.List.Elements.{All-nil, All-cons, All-map, All-from
 use Rattle.std.proofs.lemmas.List.FromFn.{length-map-range_with_len}
 use Rattle.std.specs.List.{AllByRecursion, flat_map, range_with_len}
 use Rattle.std.specs.declared.cmp.Ordering.TheVariants.{Less}
+use Rattle.lwb_base.specs.declared.limits.TheConstants.{MOST_SCRIPT_LINES}
 use Rattle.lwb_base.specs.Profile.{one}
 use Rattle.link_trace.specs.Order.{by_link, by_loss, by_cut, by_capture}
 use Rattle.rand_pcg.specs.Lcg.{Lcg}
@@ -80,7 +81,7 @@ losses_few g n frames =
 
 -- 20,000 script lines are enough
 lines_few : (n frames rates script losses : ℕ) → IsSize n frames → rates ≡ n → script ≤ n + n + frames * ((n + 6) / 4) → losses ≤ frames * (n / 2)
-    → rates + script + losses + 0 + 0 ≤ 20000
+    → rates + script + losses + 0 + 0 ≤ MOST_SCRIPT_LINES
 lines_few n frames rates script losses size is few_script few_losses =
     let halves : n / 2 * 2 ≤ n = omega arith in
     let quarters : (n + 6) / 4 * 4 ≤ n + 6 = omega arith in

@@ -6,6 +6,7 @@ use Rattle.std.proofs.lemmas.List.{length-append, length-map, append_assoc}
 use Rattle.std.proofs.lemmas.List.Elements.{All-nil, All-cons, All-map, All-filter, All-append, All-weaker}
 use Rattle.std.proofs.lemmas.List.FromFn.{length-map-range_with_len}
 use Rattle.std.specs.List.{AllPairs, flat_map, range_with_len}
+use Rattle.lwb_base.specs.declared.limits.TheConstants.{MOST_FRAMES}
 use Rattle.rand_pcg.specs.Lcg.{Lcg}
 use Rattle.scenario_text.specs.FloodParts.{knows}
 use Rattle.bus_rules.specs.States.{payload_of}
@@ -61,7 +62,7 @@ lines_in_range s g n frames two some is room known =
           (omega arith, omega (arith, room));
     })
 
-pub bytes_in_range : (g : Lcg) (n frames : ℕ) → frames ≤ 4096 → All (λ l. All (λ b. b < 256) (payload_of l.act)) (script g n frames)
+pub bytes_in_range : (g : Lcg) (n frames : ℕ) → frames ≤ MOST_FRAMES → All (λ l. All (λ b. b < 256) (payload_of l.act)) (script g n frames)
 bytes_in_range g n frames few =
     let none : All (λ b. b < 256) [] = All-nil (λ b. b < 256) in
     of_script (λ l. All (λ b. b < 256) (payload_of l.act)) g n frames (λ i low high. none) (λ i low high. none) (λ f inside. none)

@@ -1,6 +1,7 @@
 //! The links of a made scenario: a tree and random pairs.
 
 ghost use Rattle.std.specs.Prelude.{◌≡◌, ◌+◌, ◌-◌, ◌*◌, ◌≤◌, OnOk};
+ghost use Rattle.lwb_base.specs.declared.limits.TheConstants.{MOST_NODES};
 ghost use Rattle.scenario_maker.specs.Drawn.{later};
 ghost use Rattle.scenario_maker.specs.Made.{with_pair, with_pairs, tree_pairs, random_pairs};
 
@@ -10,7 +11,7 @@ use lwb_base::{Memory, NodeId};
 
 /// Links each node from 2 on with one before it, both ways.
 pub fn add_tree(trace: &mut Trace, draws: &mut Draws, nodes: u32) -> Result<(), Memory>
-    requires { (1 ≤ nodes) × (nodes ≤ 64) }
+    requires { (1 ≤ nodes) × (nodes ≤ MOST_NODES) }
     ensures links { OnOk result (trace.new.lines ≡ record trace.old.lines { links = with_pairs trace.old.lines.links (tree_pairs draws.old nodes) }) }
     ensures left { OnOk result (draws.new ≡ later (nodes - 1) draws.old) }
 {
@@ -24,7 +25,7 @@ pub fn add_tree(trace: &mut Trace, draws: &mut Draws, nodes: u32) -> Result<(), 
 
 /// Links as many random pairs as there are nodes, both ways.
 pub fn add_random_pairs(trace: &mut Trace, draws: &mut Draws, nodes: u32) -> Result<(), Memory>
-    requires { (1 ≤ nodes) × (nodes ≤ 64) }
+    requires { (1 ≤ nodes) × (nodes ≤ MOST_NODES) }
     ensures links { OnOk result (trace.new.lines ≡ record trace.old.lines { links = with_pairs trace.old.lines.links (random_pairs draws.old nodes) }) }
     ensures left { OnOk result (draws.new ≡ later (2 * nodes) draws.old) }
 {

@@ -2,6 +2,7 @@
 
 ghost use Rattle.std.specs.Prelude.{◌≡◌, ◌+◌, ◌*◌, ◌/◌, ◌≤◌, [], OnOk};
 ghost use Rattle.std.specs.List.{fold};
+ghost use Rattle.lwb_base.specs.declared.limits.TheConstants.{MOST_NODES};
 ghost use Rattle.scenario_maker.specs.Drawn.{later};
 ghost use Rattle.scenario_maker.specs.Made.{with_new_loss, drawn_losses, drawn_loss, losses as all_losses};
 
@@ -16,7 +17,7 @@ pub fn add_losses(
     nodes: u32,
     frames: u32,
 ) -> Result<(), Memory>
-    requires nodes { (1 ≤ nodes) × (nodes ≤ 64) }
+    requires nodes { (1 ≤ nodes) × (nodes ≤ MOST_NODES) }
     requires none { trace.old.lines.losses ≡ [] }
     ensures { OnOk result (trace.new.lines ≡ record trace.old.lines { losses = all_losses draws.old nodes frames }) }
 {
@@ -28,7 +29,7 @@ pub fn add_losses(
 
 // The losses of one frame.
 fn add_losses_of(trace: &mut Trace, draws: &mut Draws, nodes: u32, frame: u32) -> Result<(), Memory>
-    requires { (1 ≤ nodes) × (nodes ≤ 64) }
+    requires { (1 ≤ nodes) × (nodes ≤ MOST_NODES) }
     ensures losses { OnOk result (trace.new.lines
         ≡ record trace.old.lines { losses = fold with_new_loss trace.old.lines.losses (drawn_losses draws.old nodes frame) }) }
     ensures left { OnOk result (draws.new ≡ later (4 * (nodes / 2)) draws.old) }
@@ -42,7 +43,7 @@ fn add_losses_of(trace: &mut Trace, draws: &mut Draws, nodes: u32, frame: u32) -
 
 // A slot, a step and two nodes.
 fn draw_loss(draws: &mut Draws, nodes: u32, frame: u32) -> LoseLine
-    requires { (1 ≤ nodes) × (nodes ≤ 64) }
+    requires { (1 ≤ nodes) × (nodes ≤ MOST_NODES) }
     ensures value { result ≡ drawn_loss draws.old nodes frame 0 }
     ensures left { draws.new ≡ later 4 draws.old }
 {

@@ -1,6 +1,7 @@
 //! Makes a scenario from a seed.
 
 ghost use Rattle.std.specs.Prelude.{◌≡◌, ◌≤◌, [], ◌∷◌, IfOk};
+ghost use Rattle.lwb_base.specs.declared.limits.TheConstants.{MOST_NODES};
 ghost use Rattle.scenario_maker.specs.Made.{IsSize, all_nodes, made as made_scenario};
 
 use crate::draws::{Draws, node_of};
@@ -44,7 +45,7 @@ pub fn made(alloc: Global, seed: u64, nodes: u8, frames: u32) -> Result<Scenario
 
 // All nodes.
 fn ids(alloc: Global, nodes: u32) -> Result<Vec<NodeId>, Memory>
-    requires { nodes ≤ 64 }
+    requires { nodes ≤ MOST_NODES }
     ensures { IfOk result (λ v. v.items ≡ all_nodes nodes) }
 {
     let mut ids = Vec::new(alloc);
@@ -56,7 +57,7 @@ fn ids(alloc: Global, nodes: u32) -> Result<Vec<NodeId>, Memory>
 
 // The first node and the last.
 fn hosts(alloc: Global, nodes: u32) -> Result<Vec<NodeId>, Memory>
-    requires { (1 ≤ nodes) × (nodes ≤ 64) }
+    requires { (1 ≤ nodes) × (nodes ≤ MOST_NODES) }
     ensures { IfOk result (λ v. v.items ≡ 1 ∷ nodes ∷ []) }
 {
     let mut hosts = Vec::new(alloc);

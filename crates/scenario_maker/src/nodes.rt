@@ -1,6 +1,7 @@
 //! Nodes with random clocks.
 
 ghost use Rattle.std.specs.Prelude.{◌≡◌, ◌+◌, ◌-ℤ◌, ◌*◌, ◌%◌, ◌≤◌, IfOk, OnOk, map, pos};
+ghost use Rattle.lwb_base.specs.declared.limits.TheConstants.{MOST_NODES};
 ghost use Rattle.scenario_maker.specs.Drawn.{later, drawn_word};
 ghost use Rattle.scenario_maker.specs.Made.{all_nodes, node_line, rate_line};
 
@@ -15,7 +16,7 @@ pub fn clocks(
     draws: &mut Draws,
     nodes: u32,
 ) -> Result<(Vec<NodeLine>, Vec<RateLine>), Memory>
-    requires { nodes ≤ 64 }
+    requires { nodes ≤ MOST_NODES }
     ensures nodes { IfOk result (λ r. r.0.items ≡ map (node_line draws.old) (all_nodes nodes)) }
     ensures rates { IfOk result (λ r. r.1.items ≡ map (rate_line draws.old) (all_nodes nodes)) }
     ensures left { OnOk result (draws.new ≡ later (2 * nodes) draws.old) }

@@ -5,6 +5,7 @@ use Rattle.std.specs.Prelude.{slice_set}
 use Rattle.std.specs.Int.RustNames.{unsigned_abs}
 use Rattle.std.specs.List.{AllByRecursion, slice_index, slice_index_or}
 use Rattle.std.specs.declared.cmp.Ordering.TheVariants.{Less}
+use Rattle.lwb_base.specs.declared.limits.TheConstants.{MOST_FRAMES, MOST_NODES, MOST_RANKS, MOST_SCRIPT_LINES}
 use Rattle.lwb_base.specs.Profile.{Numbers, IsProfile}
 use Rattle.link_trace.specs.Order.{by_link, by_loss, by_cut, by_capture}
 use Rattle.link_trace.specs.Passes.{Lines}
@@ -143,17 +144,17 @@ judge s = judged s.profile (Some s.frames) s.nodes
 
 pub record KeepsRules (s : ScenarioParts) : Type 0 where
   pub profile : IsProfile s.profile
-  pub frames : (1 ≤ s.frames) × (s.frames ≤ 4096)
+  pub frames : (1 ≤ s.frames) × (s.frames ≤ MOST_FRAMES)
   pub sends : (1 ≤ s.sends) × (s.sends ≤ 4)
   pub some_nodes : 2 ≤ length s.nodes
-  pub few_nodes : length s.nodes ≤ 64
+  pub few_nodes : length s.nodes ≤ MOST_NODES
   pub nodes : AllByRecursion IsNode s.nodes
   pub rises : Rises s.nodes
   pub rates : AllByRecursion (IsRateOf s.profile s.nodes) s.rates
   pub follows : RatesBeginLater s.rates
   pub in_turn : rates_by_node s.nodes s.rates ≡ s.rates
   pub some_hosts : 1 ≤ length s.hosts
-  pub few_hosts : length s.hosts ≤ 4
+  pub few_hosts : length s.hosts ≤ MOST_RANKS
   pub hosts : AllByRecursion (IsHost s.nodes) s.hosts
   pub distinct : Climbs (λ g h. (g == h) ≡ false) s.hosts
   pub links : AllByRecursion (λ l. Fits (judge s) (said_link l)) s.trace.links
@@ -167,5 +168,5 @@ pub record KeepsRules (s : ScenarioParts) : Type 0 where
   pub cuts_climb : Climbs (λ a b. by_cut a b ≡ Less) s.trace.cuts
   pub captures : AllByRecursion (λ l. Fits (judge s) (said_capture l)) s.trace.captures
   pub captures_climb : Climbs (λ a b. by_capture a b ≡ Less) s.trace.captures
-  pub scripted : length s.rates + length s.script + length s.trace.losses + length s.trace.cuts + length s.trace.captures ≤ 20000
+  pub scripted : length s.rates + length s.script + length s.trace.losses + length s.trace.cuts + length s.trace.captures ≤ MOST_SCRIPT_LINES
   pub small : length s.nodes * s.frames ≤ BUS_NODE_FRAMES

@@ -19,6 +19,7 @@ use Rattle.scenario_text.proofs.LinesSaid.{says_profile, says_contend, says_fram
 use Rattle.scenario_text.proofs.LineRuns.{Step, step, goes_words, goes_after, Goes, goes_append}
 use Rattle.scenario_text.proofs.CanonicalFacts.{Power, no_power, power_after, mid, KeepsRules}
 use Rattle.std.specs.Str.Lines.{lines}
+use Rattle.lwb_base.specs.declared.limits.TheConstants.{MOST_FRAMES}
 use Rattle.scenario_text.specs.Network.{Parts, network_parts, rates_by_node}
 use Rattle.text_readers.specs.Faults.{draft_after_lines, in_line, ◌>>=◌}
 use Rattle.text_readers.specs.declared.fault.FaultKind.{FaultKind}
@@ -72,7 +73,7 @@ goes_first s b is =
       (
         step (after_top s.profile b) (numbered (codes "frames") (s.frames ∷ [])) (line.Frames s.frames) framed (says_frames s.frames (omega (arith, few)))
             (record {
-              range = and_from (nat_le 1 s.frames) (nat_le s.frames 4096) (le-leb 1 s.frames frames.0) (le-leb s.frames 4096 few);
+              range = and_from (nat_le 1 s.frames) (nat_le s.frames MOST_FRAMES) (le-leb 1 s.frames frames.0) (le-leb s.frames MOST_FRAMES few);
               known = refl;
               order = refl;
               fresh = refl;

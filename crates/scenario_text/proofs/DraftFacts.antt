@@ -9,6 +9,7 @@ use Rattle.std.specs.Option.{option_map_or}
 use Rattle.std.specs.Ordering.{is_lt, is_eq, ordering_reverse}
 use Rattle.std.specs.declared.cmp.Ordering.{Ordering}
 use Rattle.std.specs.declared.cmp.Ordering.TheVariants.{Less, Equal, Greater}
+use Rattle.lwb_base.specs.declared.limits.TheConstants.{MOST_FRAMES, MOST_RANKS, MOST_SCRIPT_LINES}
 use Rattle.lwb_base.specs.Profile.{Numbers, IsProfile, contended}
 use Rattle.link_trace.specs.Order.{with_line, by_link, by_loss, by_cut, by_capture}
 use Rattle.link_trace.specs.Passes.{Lines}
@@ -27,7 +28,7 @@ use Rattle.scenario_text.proofs.CanonicalFacts.{said_link, said_loss, said_cut, 
 
 pub record AreHosts (ns : List NodeLine) (hs : List ℕ) : Type 0 where
   pub known : AllByRecursion (λ h. knows ns h ≡ true) hs
-  pub few : length hs ≤ 4
+  pub few : length hs ≤ MOST_RANKS
   pub distinct : Climbs (λ g h. (g == h) ≡ false) hs
 
 pub record IsScript (p : Numbers) (frames : Option ℕ) (ns : List NodeLine) (ls : List ScriptLine) : Type 0 where
@@ -60,7 +61,7 @@ pub record IsFine (d : Scenario) : Type 0 where
   pub first : d.first ≡ true → d ≡ no_scenario
   pub second : d.after_two ≡ true → d ≡ after_top (contended 0) true
   pub profile : IsProfile d.profile
-  pub frames : IfSome d.frames (λ f. (1 ≤ f) × (f ≤ 4096))
+  pub frames : IfSome d.frames (λ f. (1 ≤ f) × (f ≤ MOST_FRAMES))
   pub ids : AllByRecursion (λ n. is_id n.node ≡ true) d.network.nodes
   pub ticks : AllByRecursion (λ r. r.from ≤ last_tick d.profile) d.network.rates
   pub hosts : AreHosts d.network.nodes d.hosts
@@ -70,7 +71,7 @@ pub record IsFine (d : Scenario) : Type 0 where
   pub power : record { on = d.on; boots = d.boots } ≡ power_after no_power d.script
   pub counted : d.network.scripted ≡ length d.network.rates + length d.script + length d.network.trace.losses + length d.network.trace.cuts
       + length d.network.trace.captures
-  pub few : d.network.scripted ≤ 20000
+  pub few : d.network.scripted ≤ MOST_SCRIPT_LINES
 
 -- a known node stays so
 abbrev pub KnowsMore : List NodeLine → List NodeLine → Type 0

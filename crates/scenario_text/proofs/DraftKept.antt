@@ -4,6 +4,7 @@ use Rattle.std.proofs.Common.{Option, Some, None, is_none, length, refl, sym, �
 use Rattle.std.proofs.lemmas.Bool.{and_parts, and_right, or_parts, leb-true, not-true, eqb-true, false≢true}
 use Rattle.std.proofs.lemmas.List.{length_push}
 use Rattle.std.specs.List.{AllByRecursion, list_any}
+use Rattle.lwb_base.specs.declared.limits.TheConstants.{MOST_FRAMES}
 use Rattle.lwb_base.specs.Profile.{contended}
 use Rattle.lwb_base.proofs.Lists.{each_append}
 use Rattle.link_trace.specs.Order.{by_loss, by_cut, by_capture}
@@ -69,7 +70,7 @@ host_fine d r i fine a =
 frames_fine : (d : Scenario) (f : ℕ) → IsFine d → Allowed d (line.Frames f) → IsFine (with_scenario_line d (line.Frames f))
 frames_fine d f fine a =
     let n = fine.network in
-    let range = and_parts (nat_le 1 f) (nat_le f 4096) a.range in
+    let range = and_parts (nat_le 1 f) (nat_le f MOST_FRAMES) a.range in
     let no_frames = none_is d.frames a.fresh in
     let empty = fine.unframed no_frames in
     let ns = d.network.nodes in
@@ -79,7 +80,7 @@ frames_fine d f fine a =
       first = λ is. absurd (false≢true is);
       second = λ is. absurd (false≢true is);
       profile = fine.profile;
-      frames = (leb-true 1 f range.0, leb-true f 4096 range.1);
+      frames = (leb-true 1 f range.0, leb-true f MOST_FRAMES range.1);
       ids = fine.ids;
       ticks = fine.ticks;
       hosts = fine.hosts;

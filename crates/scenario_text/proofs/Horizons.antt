@@ -74,7 +74,8 @@ pub longer : (most other : ℕ) (bytes : List ℕ) (s : ScenarioParts) → most 
 longer most other bytes s more is = let within = lines_within most (lines bytes) s is in within.1 other (le_trans within.0 more)
 
 -- what is said to be run is said over the long horizon, and what is said there is said to be run if it is small enough
-pub said_to_run : (bytes : List ℕ) (s : ScenarioParts) → (scenario_of bytes ≡ Ok s) ↔ ((long_scenario_of bytes ≡ Ok s) × (length s.nodes * s.frames ≤ RUN_NODE_FRAMES))
+pub said_to_run : (bytes : List ℕ) (s : ScenarioParts) → (scenario_of bytes ≡ Ok s) ↔ ((long_scenario_of bytes ≡ Ok s)
+    × (length s.nodes * s.frames ≤ RUN_NODE_FRAMES))
 said_to_run bytes s = (
   λ is. (longer RUN_NODE_FRAMES BUS_NODE_FRAMES bytes s (omega arith) is, (lines_within RUN_NODE_FRAMES (lines bytes) s is).0),
   λ both. (lines_within BUS_NODE_FRAMES (lines bytes) s both.0).1 RUN_NODE_FRAMES both.1,

@@ -2,6 +2,7 @@
 use Rattle.std.proofs.Common.{◌≡◌, ◌^◌, ◌<◌, ◌≤◌, List, [], ◌∷◌, true, false, not, ◌&&◌, nat_le, None, ◌∙◌, arith}
 use Rattle.std.proofs.lemmas.Bool.{and_from, and_parts, leb-true, ltb-true, not-true, false≢true}
 use Rattle.std.proofs.lemmas.List.{length_push}
+use Rattle.lwb_base.specs.declared.limits.TheConstants.{MOST_SCRIPT_LINES}
 use Rattle.lwb_base.specs.Profile.{Numbers, IsProfile}
 use Rattle.lwb_base.proofs.Lists.{each_append}
 use Rattle.link_trace.specs.Passes.{Lines}
@@ -103,7 +104,7 @@ network_fine d (Rate i t slow p) fine none =
     let a = allowed d (line.InNetwork (Rate i t slow p)) none in
     let r : RateLine = record { node = i; from = t; ppm = ppm slow p } in
     let range = and_parts (is_id i && nat_le t (last_tick d.profile)) (nat_le p 20) a.range in
-    let few = ltb-true d.network.scripted 20000 a.room in
+    let few = ltb-true d.network.scripted MOST_SCRIPT_LINES a.room in
     let counted = fine.counted in
     record {
       network = network_keeps (last_tick d.profile) d.network (Rate i t slow p) (early d.profile fine.profile) fine.network none;

@@ -8,6 +8,7 @@ use Rattle.std.proofs.lemmas.List.Sums.{sum_by-cons}
 use Rattle.link_trace.specs.Masks.{AreNodes}
 use Rattle.std.proofs.lemmas.List.Elements.{All-from_recursion}
 use Rattle.std.specs.List.{AllByRecursion, AllPairs}
+use Rattle.lwb_base.specs.declared.limits.TheConstants.{MOST_NODES}
 use Rattle.scenario_text.specs.FloodParts.{knows, node_id}
 use Rattle.scenario_text.specs.Network.{with_node}
 use Rattle.scenario_text.specs.FloodDrafts.{Rises}
@@ -132,7 +133,7 @@ ids_rise (n ∷ ns) rises (suc i) zero d before within = absurd (omega arith)
 ids_rise (n ∷ ns) rises (suc i) (suc j) d before within = ids_rise ns rises.1 i j d (omega arith) (omega arith)
 
 -- a trace may be sealed with them
-pub nodes_seal : (ns : List NodeLine) (ids : List ℕ) → Rises ns → 2 ≤ length ns → length ns ≤ 64 → ids ≡ map (λ n. n.node) ns → AreNodes ids
+pub nodes_seal : (ns : List NodeLine) (ids : List ℕ) → Rises ns → 2 ≤ length ns → length ns ≤ MOST_NODES → ids ≡ map (λ n. n.node) ns → AreNodes ids
 nodes_seal ns ids rises some few is =
     subst AreNodes (sym is) (record {
       some = omega (arith, some, length-map ns node_id);

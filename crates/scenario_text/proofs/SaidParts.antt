@@ -7,6 +7,7 @@ use Rattle.std.specs.Char.{is_ascii_hexdigit, digit_value}
 use Rattle.std.specs.List.{AllByRecursion}
 use Rattle.std.specs.Str.{bytes_eq}
 use Rattle.std.specs.Str.Lines.{lines}
+use Rattle.lwb_base.specs.declared.limits.TheConstants.{MOST_FRAMES}
 use Rattle.lwb_base.specs.Profile.{Numbers}
 use Rattle.scenario_text.specs.FloodParts.{knows}
 use Rattle.scenario_text.specs.FloodDrafts.{IsRate}
@@ -148,7 +149,7 @@ whole_said d n f fine sends frames two host small =
     let few = fine.few in
     record {
       profile = fine.profile;
-      frames = subst (λ (o : Option ℕ). IfSome o (λ g. (1 ≤ g) × (g ≤ 4096))) frames fine.frames;
+      frames = subst (λ (o : Option ℕ). IfSome o (λ g. (1 ≤ g) × (g ≤ MOST_FRAMES))) frames fine.frames;
       sends = subst (λ (o : Option ℕ). IfSome o (λ m. (1 ≤ m) × (m ≤ 4))) sends net.sends;
       some_nodes = two;
       few_nodes = net.few_nodes;

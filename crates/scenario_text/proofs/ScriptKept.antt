@@ -4,6 +4,7 @@ use Rattle.std.proofs.lemmas.Bool.{and_parts, ltb-true, false≢true}
 use Rattle.std.proofs.lemmas.List.{length_push}
 use Rattle.std.specs.List.{AllByRecursion}
 use Rattle.std.specs.Option.{option_map_or}
+use Rattle.lwb_base.specs.declared.limits.TheConstants.{MOST_SCRIPT_LINES}
 use Rattle.lwb_base.specs.Profile.{Numbers}
 use Rattle.lwb_base.proofs.Lists.{each_append}
 use Rattle.scenario_text.specs.Network.{has_script_room}
@@ -50,7 +51,7 @@ act_fine d f i a fine fits bytes order room boot =
     let l : ScriptLine = record { frame = f; node = i; act = a } in
     let parts = and_parts (is_some d.frames) (option_map_or (λ x. nat_le x.frame f) (last_script_line d.script) true) order in
     let before = none_later f d.script fine.script.climbs parts.1 in
-    let few = ltb-true d.network.scripted 20000 room in
+    let few = ltb-true d.network.scripted MOST_SCRIPT_LINES room in
     let counted = fine.counted in
     record {
       network = record { sends = n.sends; few_nodes = n.few_nodes; rises = n.rises; offsets = n.offsets; follows = n.follows; rates = n.rates };

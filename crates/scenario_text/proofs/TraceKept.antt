@@ -2,6 +2,7 @@
 use Rattle.std.proofs.Common.{◌≡◌, ℕ, ◌+◌, List, true, false, not, ◌&&◌, ◌==◌, Option, is_some, length, sym, arith}
 use Rattle.std.proofs.lemmas.Bool.{and_from, and_parts, ltb-true, not-true, not_from_false, eqb-false, ne_eqb, false≢true}
 use Rattle.std.specs.List.{list_any}
+use Rattle.lwb_base.specs.declared.limits.TheConstants.{MOST_SCRIPT_LINES}
 use Rattle.lwb_base.specs.Profile.{Numbers}
 use Rattle.link_trace.proofs.Orders.{by_link_total, by_loss_total, by_cut_total, by_capture_total, tells_link, tells_loss, tells_cut, tells_capture}
 use Rattle.link_trace.specs.Order.{by_link, by_loss, by_cut, by_capture}
@@ -29,7 +30,7 @@ pub trace_fine : (d : Scenario) (t : Lines) → IsFine d → IsTrace d.profile d
     + length d.network.trace.captures + 1 → IsFine (traced d t)
 trace_fine d t fine is some room more =
     let n = fine.network in
-    let few = ltb-true d.network.scripted 20000 room in
+    let few = ltb-true d.network.scripted MOST_SCRIPT_LINES room in
     let counted = fine.counted in
     record {
       network = record { sends = n.sends; few_nodes = n.few_nodes; rises = n.rises; offsets = n.offsets; follows = n.follows; rates = n.rates };

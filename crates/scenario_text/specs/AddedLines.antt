@@ -1,7 +1,7 @@
 -- A scenario with more lines in its script.
 use Rattle.std.specs.Prelude.{◌≡◌, ℕ, ◌≤◌, List, ◌++◌, Bool, false, ◌==◌, AllPairs, slice_index, slice_index_or}
 use Rattle.std.specs.List.{filter}
-use Rattle.lwb_base.specs.declared.limits.TheConstants.{MOST_BOOTS}
+use Rattle.lwb_base.specs.declared.limits.TheConstants.{MOST_BOOTS, MOST_SCRIPT_LINES}
 use Rattle.scenario_text.specs.PartsInOrder.{script_lines}
 use Rattle.scenario_text.specs.ScenarioFacts.{turned}
 use Rattle.scenario_text.specs.ScenarioParts.{ScenarioParts}
@@ -27,7 +27,7 @@ pub record IsWithScript (s : ScenarioParts) (added : List ScriptLine) (t : Scena
 -- no line is rejected as one too many: no node boots more often than it may, and there are at most 20,000 script lines of all
 -- kinds
 pub record HasRoom (s : ScenarioParts) : Type 0 where
-  pub lines : script_lines s ≤ 20000
+  pub lines : script_lines s ≤ MOST_SCRIPT_LINES
   pub boots : (v : ℕ) → (turned v (false, 0) s.script).1 ≤ MOST_BOOTS
 
 -- Internal: whether a node is on, and how often it booted, by lists over the ids of all nodes

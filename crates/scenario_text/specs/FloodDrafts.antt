@@ -2,7 +2,7 @@
 use Rattle.std.specs.Prelude.{◌≡◌, ◌<◌, ◌≤◌, ◌^◌, List, [], ◌∷◌, true, length, IfSome}
 use Rattle.std.specs.Int.RustNames.{unsigned_abs}
 use Rattle.std.specs.List.{AllByRecursion}
-use Rattle.lwb_base.specs.declared.limits.TheConstants.{DRIFT_BOUND}
+use Rattle.lwb_base.specs.declared.limits.TheConstants.{DRIFT_BOUND, MOST_NODES}
 use Rattle.scenario_text.specs.FloodParts.{knows}
 use Rattle.scenario_text.specs.FloodGrammar.{Flood}
 use Rattle.scenario_text.specs.Network.{DraftedNetwork}
@@ -30,7 +30,7 @@ pub record IsRate (ns : List NodeLine) (r : RateLine) : Type 0 where
 
 pub record IsNetwork (d : DraftedNetwork) : Type 0 where
   pub sends : IfSome d.sends (λ n. (1 ≤ n) × (n ≤ 4))
-  pub few_nodes : length d.nodes ≤ 64
+  pub few_nodes : length d.nodes ≤ MOST_NODES
   pub rises : Rises d.nodes
   pub offsets : AllByRecursion (λ n. n.offset ≤ 256000) d.nodes
   pub follows : RatesBeginLater d.rates

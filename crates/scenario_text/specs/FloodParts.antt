@@ -2,7 +2,7 @@
 use Rattle.std.specs.Prelude.{◌≡◌, ◌<◌, ◌≤◌, ◌^◌, ℕ, List, map, filter, Bool, true, length, ◌==◌, All}
 use Rattle.std.specs.Int.RustNames.{unsigned_abs}
 use Rattle.std.specs.List.{list_any, AllPairs}
-use Rattle.lwb_base.specs.declared.limits.TheConstants.{DRIFT_BOUND}
+use Rattle.lwb_base.specs.declared.limits.TheConstants.{DRIFT_BOUND, MOST_NODES}
 use Rattle.link_trace.specs.Passes.{Lines}
 use Rattle.link_trace.specs.Sealed.{Traced}
 use Rattle.scenario_text.specs.declared.lines.NodeLine.{NodeLine}
@@ -31,7 +31,7 @@ pub record IsSound (f : FloodParts) : Type 0 where
   pub some_sends : 1 ≤ f.sends
   pub few_sends : f.sends ≤ 4
   pub two_nodes : 2 ≤ length f.nodes
-  pub few_nodes : length f.nodes ≤ 64
+  pub few_nodes : length f.nodes ≤ MOST_NODES
   pub ascending : AllPairs (λ a b. a.node < b.node) f.nodes
   pub offsets : All (λ n. n.offset ≤ 256000) f.nodes
   pub start_known : knows f.nodes f.start ≡ true

@@ -4,6 +4,7 @@ pub mod FloodGrammar
 pub mod FloodDrafts
 pub mod Payloads
 pub mod ScenarioParts
+pub mod Setups
 pub mod ScriptGrammar
 pub mod ScenarioGrammar
 pub mod Canonical

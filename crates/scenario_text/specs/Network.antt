@@ -4,7 +4,7 @@ use Rattle.std.specs.Prelude.{Some, None, Option, is_none, length, drop, codes, 
 use Rattle.std.specs.List.{list_all, list_any, flat_map}
 use Rattle.std.specs.Str.{bytes_eq}
 use Rattle.std.specs.Option.{option_map_or}
-use Rattle.lwb_base.specs.declared.limits.TheConstants.{DRIFT_BOUND, GREATEST_ID}
+use Rattle.lwb_base.specs.declared.limits.TheConstants.{DRIFT_BOUND, GREATEST_ID, MOST_SCRIPT_LINES}
 use Rattle.link_trace.specs.Order.{with_line as in_order_with, by_link, by_loss, by_cut, by_capture}
 use Rattle.link_trace.specs.Passes.{Lines, is_link, is_loss, is_cut, is_capture}
 use Rattle.link_trace.specs.Sealed.{no_lines}
@@ -106,7 +106,7 @@ is_new n (Pair u v) = not (has_link n.trace u v) && not (has_link n.trace v u)
 
 -- a script line more is allowed
 abbrev pub has_script_room : DraftedNetwork → Bool
-has_script_room n = nat_lt n.scripted 20000
+has_script_room n = nat_lt n.scripted MOST_SCRIPT_LINES
 
 -- there are not too many nodes or script lines yet
 abbrev pub has_room : DraftedNetwork → NetworkLine → Bool

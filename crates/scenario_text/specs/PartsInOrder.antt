@@ -5,7 +5,7 @@ use Rattle.std.specs.List.{AllPairs}
 use Rattle.std.specs.Ordering.{nat_cmp, ordering_then}
 use Rattle.std.specs.declared.cmp.Ordering.{Ordering}
 use Rattle.lwb_base.specs.Profile.{IsProfile}
-use Rattle.lwb_base.specs.declared.limits.TheConstants.{DRIFT_BOUND, GREATEST_ID, MOST_BOOTS}
+use Rattle.lwb_base.specs.declared.limits.TheConstants.{DRIFT_BOUND, GREATEST_ID, MOST_BOOTS, MOST_FRAMES, MOST_NODES, MOST_RANKS, MOST_SCRIPT_LINES}
 use Rattle.bus_rules.specs.States.{payload_of}
 use Rattle.link_trace.specs.Order.{Ascends, by_link, by_loss, by_cut, by_capture}
 use Rattle.scenario_text.specs.FloodParts.{knows}
@@ -35,15 +35,15 @@ script_lines s = length s.rates + length s.script + length s.trace.losses + leng
 
 pub record IsInOrder (s : ScenarioParts) : Type 0 where
   pub profile : IsProfile s.profile
-  pub frames : (1 ≤ s.frames) × (s.frames ≤ 4096)
+  pub frames : (1 ≤ s.frames) × (s.frames ≤ MOST_FRAMES)
   pub sends : (1 ≤ s.sends) × (s.sends ≤ 4)
-  pub node_count : (2 ≤ length s.nodes) × (length s.nodes ≤ 64)
+  pub node_count : (2 ≤ length s.nodes) × (length s.nodes ≤ MOST_NODES)
   pub node_frames : length s.nodes * s.frames ≤ BUS_NODE_FRAMES
   pub nodes : All IsNodeLine s.nodes
   pub nodes_ascend : AllPairs (λ a b. a.node < b.node) s.nodes
   pub rates : All (IsRateLine s) s.rates
   pub rates_ascend : Ascends by_rate s.rates
-  pub host_count : (1 ≤ length s.hosts) × (length s.hosts ≤ 4)
+  pub host_count : (1 ≤ length s.hosts) × (length s.hosts ≤ MOST_RANKS)
   pub hosts : All (λ h. knows s.nodes h ≡ true) s.hosts
   pub hosts_differ : AllPairs (λ a b. a ≢ b) s.hosts
   pub links : All (λ l. AreEnds s.nodes l.from l.to) s.trace.links
@@ -57,5 +57,5 @@ pub record IsInOrder (s : ScenarioParts) : Type 0 where
   pub script : All (IsScriptLine s) s.script
   pub script_ascends : AllPairs (λ a b. a.frame ≤ b.frame) s.script
   pub payload_bytes : All (λ l. All (λ b. b < 256) (payload_of l.act)) s.script
-  pub few_lines : script_lines s ≤ 20000
+  pub few_lines : script_lines s ≤ MOST_SCRIPT_LINES
   pub few_boots : (v : ℕ) → (turned v (false, 0) s.script).1 ≤ MOST_BOOTS

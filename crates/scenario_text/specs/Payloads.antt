@@ -1,15 +1,13 @@
 -- How payloads are spelled.
 use Rattle.std.specs.Prelude.{ℕ, ◌+◌, ◌*◌, ◌%◌, List, [], ◌∷◌, Bool, ◌&&◌, ◌||◌, ◌==◌, nat_le, if◌then◌else◌, Some, None, Option, length, codes}
-use Rattle.std.specs.Char.{is_ascii_hexdigit, digit_value}
+use Rattle.std.specs.Char.{is_ascii_hexdigit}
 use Rattle.std.specs.List.{list_all}
 use Rattle.std.specs.Str.{bytes_eq}
+pub use Rattle.text_readers.specs.Hex.{hex_value}
 
 -- `-`, or an even count of hexadecimal digits
 abbrev pub is_payload : List ℕ → Bool
 is_payload w = bytes_eq w (codes "-") || (list_all is_ascii_hexdigit w && (length w % 2 == 0))
-
-abbrev pub hex_value : ℕ → ℕ
-hex_value c = if is_ascii_hexdigit c then digit_value c else 0
 
 -- a byte for two digits
 abbrev pub hex_bytes : List ℕ → List ℕ

@@ -3,7 +3,7 @@ use Rattle.std.specs.Prelude.{◌≡◌, ◌≢◌, ◌+◌, ◌*◌, ◌^◌, �
 use Rattle.std.specs.Int.RustNames.{unsigned_abs}
 use Rattle.std.specs.List.{AllPairs}
 use Rattle.lwb_base.specs.Profile.{IsProfile}
-use Rattle.lwb_base.specs.declared.limits.TheConstants.{DRIFT_BOUND, GREATEST_ID, LAST_STEP, MOST_BOOTS}
+use Rattle.lwb_base.specs.declared.limits.TheConstants.{DRIFT_BOUND, GREATEST_ID, LAST_STEP, MOST_BOOTS, MOST_FRAMES, MOST_NODES, MOST_RANKS}
 use Rattle.bus_rules.specs.States.{IsAct}
 use Rattle.link_trace.specs.Order.{Ascends, by_link, by_loss, by_cut, by_capture}
 use Rattle.scenario_text.specs.FloodParts.{knows}
@@ -46,11 +46,11 @@ turned v t (l ∷ ls) = turned v (if l.node == v then turned_by l.act t else t) 
 pub record IsSoundScenario (s : ScenarioParts) : Type 0 where
   pub profile : IsProfile s.profile
   pub some_frames : 1 ≤ s.frames
-  pub few_frames : s.frames ≤ 4096
+  pub few_frames : s.frames ≤ MOST_FRAMES
   pub some_sends : 1 ≤ s.sends
   pub few_sends : s.sends ≤ 4
   pub two_nodes : 2 ≤ length s.nodes
-  pub few_nodes : length s.nodes ≤ 64
+  pub few_nodes : length s.nodes ≤ MOST_NODES
   pub node_frames : length s.nodes * s.frames ≤ BUS_NODE_FRAMES
   pub ids : All (λ n. (1 ≤ n.node) × (n.node ≤ GREATEST_ID)) s.nodes
   pub ascending : AllPairs (λ a b. a.node < b.node) s.nodes
@@ -61,7 +61,7 @@ pub record IsSoundScenario (s : ScenarioParts) : Type 0 where
   pub rates_early : All (λ r. r.from < 2 ^ 47) s.rates
   pub rates_small : All (λ r. unsigned_abs r.ppm ≤ DRIFT_BOUND) s.rates
   pub some_hosts : 1 ≤ length s.hosts
-  pub few_hosts : length s.hosts ≤ 4
+  pub few_hosts : length s.hosts ≤ MOST_RANKS
   pub hosts_known : All (λ h. knows s.nodes h ≡ true) s.hosts
   pub hosts_differ : AllPairs (λ a b. a ≢ b) s.hosts
   pub links : All (λ l. AreEnds s.nodes l.from l.to) s.trace.links

@@ -7,7 +7,7 @@ use Rattle.std.specs.Option.{option_map_or}
 use Rattle.std.specs.Str.Lines.{lines}
 use Rattle.lwb_base.specs.Profile.{Numbers, one, contended}
 use Rattle.lwb_base.specs.Messages.{greatest_slot}
-use Rattle.lwb_base.specs.declared.limits.TheConstants.{LAST_STEP, MOST_BOOTS, PLACES_BY_ID}
+use Rattle.lwb_base.specs.declared.limits.TheConstants.{LAST_STEP, MOST_BOOTS, MOST_FRAMES, PLACES_BY_ID}
 use Rattle.link_trace.specs.Passes.{Lines}
 use Rattle.scenario_text.specs.FloodParts.{knows}
 use Rattle.scenario_text.specs.ScenarioParts.{ScenarioParts}
@@ -71,7 +71,7 @@ no_scenario = record {
 
 -- the end of the last frame that a scenario may have
 abbrev pub last_tick : Numbers → ℕ
-last_tick p = 4096 * p.frame
+last_tick p = MOST_FRAMES * p.frame
 
 abbrev pub greatest_slot_of : Numbers → ℕ
 greatest_slot_of p = greatest_slot p.contend
@@ -90,7 +90,7 @@ abbrev pub line_in_range : Scenario → ScenarioLine → Bool
 line_in_range d (InNetwork l) = numbers_in_range (last_tick d.profile) l
 line_in_range d (Profile p) = nat_le 1 p && nat_le p 2
 line_in_range d (Contend c) = nat_le 1 c && nat_le c 4
-line_in_range d (Frames f) = nat_le 1 f && nat_le f 4096
+line_in_range d (Frames f) = nat_le 1 f && nat_le f MOST_FRAMES
 line_in_range d (Host r i) = nat_le r 3 && is_id i
 line_in_range d (Script f i a) = is_frame d.frames f && is_id i && act_in_range d.profile a
 line_in_range d (Lose f j k u v) = is_step d f j k && are_ends u v

@@ -1,6 +1,7 @@
 //! A scenario with more lines in its script.
 
 ghost use Rattle.std.specs.Prelude.{◌≡◌, ◌≤◌, ◌<◌, ◌+◌, ◌++◌, true, false, length, All, AllPairs, IfOk, OnOk, IfSome, IfNone, IsPermutation};
+ghost use Rattle.lwb_base.specs.declared.limits.TheConstants.{MOST_SCRIPT_LINES};
 ghost use Rattle.scenario_text.specs.AddedLines.{IsMerged, IsWithScript, HasRoom};
 ghost use Rattle.scenario_text.specs.PartsInOrder.{script_lines};
 ghost use Rattle.bus_rules.specs.States.{payload_of};
@@ -11,7 +12,7 @@ ghost use Rattle.scenario_text.specs.ScenarioParts.{ScenarioParts};
 use crate::boots::has_few_boots;
 use crate::known_nodes::ids;
 use crate::{Scenario, ScriptLine};
-use lwb_base::Memory;
+use lwb_base::{MOST_SCRIPT_LINES, Memory};
 use std::alloc::Global;
 
 /// The scenario with these lines added to its script, each after all lines of its frame that are there already, and in the
@@ -53,7 +54,7 @@ pub fn with_script(
 
 // How many lines of the script may be next to the other script lines of the scenario.
 fn script_room(s: &Scenario) -> usize
-    ensures { result + script_lines s.now ≡ 20000 + length s.now.script }
+    ensures { result + script_lines s.now ≡ MOST_SCRIPT_LINES + length s.now.script }
 {
     let trace = s.trace();
     let script = s.script().len();
@@ -61,7 +62,7 @@ fn script_room(s: &Scenario) -> usize
         + trace.losses().len()
         + trace.cuts().len()
         + trace.captures().len();
-    20_000 - (script + others) + script
+    MOST_SCRIPT_LINES - (script + others) + script
 }
 
 // The lines of both by frame, and of each frame the old ones first.

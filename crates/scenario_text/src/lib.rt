@@ -31,7 +31,7 @@ pub use added_lines::with_script;
 pub use bus_rules::Act;
 pub use flood::parse_flood;
 pub use flood_text::FloodText;
-pub use limits::{BUS_NODE_FRAMES, RUN_NODE_FRAMES};
+pub use limits::{BUS_NODE_FRAMES, RUN_NODE_FRAMES, horizons_have_their_numbers};
 pub use lines::{NodeLine, RateLine};
 pub use parsing::{parse, parse_long};
 pub use printing::print;

@@ -15,7 +15,7 @@ use crate::network_line::NetworkLine;
 use crate::rates::{by_node, is_later, ppm};
 use crate::{FaultKind, NodeLine, RateLine};
 use link_trace::Trace;
-use lwb_base::{DRIFT_BOUND, Memory, NodeId};
+use lwb_base::{DRIFT_BOUND, MOST_NODES, MOST_RANKS, MOST_SCRIPT_LINES, Memory, NodeId};
 use std::alloc::Global;
 use std::marker::Model;
 use text_readers::{Refusal, refuse_unless};
@@ -166,7 +166,7 @@ impl NetworkDraft {
         ensures fault { RefusesBy result (first_fault ((has_script_room self.old, TooMany) ∷ [])) }
         ensures added { OnOk result (self.new ≡ with_script_line self.old self.old.trace) }
     {
-        refuse_unless(self.scripted < 20_000, FaultKind::TooMany)?;
+        refuse_unless(self.scripted < MOST_SCRIPT_LINES as u32, FaultKind::TooMany)?;
         self.scripted += 1;
         Ok(())
     }
@@ -175,7 +175,7 @@ impl NetworkDraft {
         ensures fault { RefusesBy result (network_fault 0 self.old (Sends count)) }
         ensures added { OnOk result (self.new ≡ with_network_line self.old (Sends count)) }
     {
-        refuse_unless(1 <= count && count <= 4, FaultKind::Range)?;
+        refuse_unless(1 <= count && count <= MOST_RANKS as u64, FaultKind::Range)?;
         refuse_unless(self.sends.is_none(), FaultKind::Twice)?;
         self.sends = Some(count as u8);
         Ok(())
@@ -188,7 +188,7 @@ impl NetworkDraft {
         let node = node_id(id).ok_or(FaultKind::Range)?;
         refuse_unless(offset <= 256_000, FaultKind::Range)?;
         refuse_unless(known(&self.nodes, id).is_none(), FaultKind::Twice)?;
-        refuse_unless(self.nodes.len() < 64, FaultKind::TooMany)?;
+        refuse_unless(self.nodes.len() < MOST_NODES, FaultKind::TooMany)?;
         let place = count_below(&self.nodes, node);
         self.nodes.insert(place, NodeLine { node, offset })?;
         Ok(())

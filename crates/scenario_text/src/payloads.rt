@@ -1,24 +1,17 @@
 //! Payloads as words of a text.
 
-ghost use Rattle.std.specs.Prelude.{◌≡◌, ◌<◌, nat_le, if◌then◌else◌, Some, None, length};
-ghost use Rattle.std.specs.Char.{is_ascii_hexdigit};
-ghost use Rattle.std.specs.List.{list_all};
-ghost use Rattle.scenario_text.specs.Payloads.{is_payload as is_payload_of, payload as payload_of, hex_value as hex_value_of, hex_bytes};
+ghost use Rattle.std.specs.Prelude.{◌≡◌, nat_le, if◌then◌else◌, Some, None, length};
+ghost use Rattle.scenario_text.specs.Payloads.{is_payload as is_payload_of, payload as payload_of, hex_bytes};
 
 use arrayvec::ArrayVec;
 use lwb_base::Payload;
+use text_readers::{are_hex, hex_value};
 
 /// Whether the word is `-`, or an even count of hexadecimal digits.
 pub fn is_payload(word: &[u8]) -> bool
     ensures { result ≡ is_payload_of word.now }
 {
     word == b"-".as_slice() || (are_hex(word) && word.len() % 2 == 0)
-}
-
-fn are_hex(word: &[u8]) -> bool
-    ensures { result ≡ list_all is_ascii_hexdigit word.now }
-{
-    word.iter().all(|b| b.is_ascii_hexdigit())
 }
 
 /// The payload that the word is. None where it is longer than any may be.
@@ -44,16 +37,4 @@ fn hex_payload(digits: &[u8]) -> Option<Payload>
         rest = &rest[2..];
     }
     Payload::new(bytes.as_slice())
-}
-
-fn hex_value(digit: u8) -> u8
-    ensures value { result ≡ hex_value_of digit }
-    ensures small { result < 16 }
-{
-    match digit {
-        b'0'..=b'9' => digit - b'0',
-        b'a'..=b'f' => digit - b'a' + 10,
-        b'A'..=b'F' => digit - b'A' + 10,
-        _ => 0,
-    }
 }

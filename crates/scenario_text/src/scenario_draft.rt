@@ -17,7 +17,7 @@ use crate::network_draft::NetworkDraft;
 use crate::scenario::Scenario;
 use crate::scenario_line::ScenarioLine;
 use crate::{FaultKind, ScriptLine};
-use lwb_base::{NodeId, PLACES_BY_ID, Profile};
+use lwb_base::{MOST_FRAMES, NodeId, PLACES_BY_ID, Profile};
 use std::alloc::Global;
 use std::marker::Model;
 use text_readers::{Draft, Refusal, refuse_unless};
@@ -187,7 +187,10 @@ impl ScenarioDraft {
         ensures fault { RefusesBy result (line_fault self.old (Frames frames)) }
         ensures added { OnOk result (self.new ≡ line_added self.old (Frames frames)) }
     {
-        refuse_unless(1 <= frames && frames <= 4_096, FaultKind::Range)?;
+        refuse_unless(
+            1 <= frames && frames <= MOST_FRAMES as u64,
+            FaultKind::Range,
+        )?;
         refuse_unless(self.frames.is_none(), FaultKind::Twice)?;
         self.frames = Some(frames as u32);
         Ok(())
@@ -236,7 +239,7 @@ impl ScenarioDraft {
 fn last_tick(profile: &Profile) -> u64
     ensures { result ≡ last_tick_of profile.now }
 {
-    4_096 * profile.frame()
+    MOST_FRAMES as u64 * profile.frame()
 }
 
 fn is_host(hosts: &[NodeId], node: NodeId) -> bool

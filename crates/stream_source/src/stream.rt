@@ -134,7 +134,7 @@ impl Stream {
     }
 
     pub(crate) fn is_due(&self) -> bool
-        ensures { result ≡ rule.wants self.now }
+        ensures { result ≡ rule.has_due_request self.now }
     {
         self.wish != self.agreed && (self.wish == 0 || !self.queue.is_empty())
     }

@@ -87,7 +87,7 @@ impl Streams {
     pub fn put(&mut self, stream: u8, payload: &Payload) -> Put
         requires { stream ≤ 3 }
         ensures answer { result ≡ (if rule.drops self.old stream then Dropped else Queued (rule.stream_at self.old stream).next) }
-        ensures after { self.new ≡ rule.put stream payload.now self.old }
+        ensures after { self.new ≡ rule.after_put stream payload.now self.old }
     {
         self.streams[usize::from(stream)].put(payload)
     }
@@ -111,7 +111,7 @@ impl Streams {
     pub fn take(&mut self, stream: u8) -> Option<Waiting>
         requires { stream ≤ 3 }
         ensures answer { result ≡ rule.first_waiting self.old stream }
-        ensures after { self.new ≡ rule.taken stream self.old }
+        ensures after { self.new ≡ rule.after_taking stream self.old }
     {
         self.streams[usize::from(stream)].take()
     }
@@ -232,7 +232,7 @@ impl Streams {
     }
 
     fn hear_owner(&mut self, node: NodeId, frame: u32, owner: Owner)
-        ensures { self.new ≡ rule.owns node frame self.old owner }
+        ensures { self.new ≡ rule.owner_named node frame self.old owner }
     {
         if owner.node() == node {
             self.streams[usize::from(owner.stream())].name(frame);
@@ -240,7 +240,7 @@ impl Streams {
     }
 
     fn hear_owners(&mut self, node: NodeId, frame: u32, owners: &Owners)
-        ensures { self.new ≡ fold (rule.owns node frame) self.old owners.now }
+        ensures { self.new ≡ fold (rule.owner_named node frame) self.old owners.now }
     {
         for i in 0..usize::from(owners.count()) {
             let owner = owners.at(i).unwrap();
@@ -249,7 +249,7 @@ impl Streams {
     }
 
     fn forget(&mut self, frame: u32)
-        ensures { self.new ≡ rule.forgets frame self.old }
+        ensures { self.new ≡ rule.after_forgetting frame self.old }
     {
         forget_each(&mut self.streams, frame);
     }

@@ -3,8 +3,8 @@
 #![tactic(auto)]
 
 pub mod code_order;
-mod entry;
 mod places;
 mod table;
+mod table_entry;
 
 pub use table::{Answer, Table};

@@ -6,12 +6,12 @@ ghost use Rattle.bus_rules.specs.Tables.{AreEntries, EntriesAscend, code_in, ent
 ghost use Rattle.stream_table.specs.Entries.{granted_once, misses_last, is_full_for};
 
 use crate::code_order::{self, Placement};
-use crate::entry::Entry;
+use crate::table_entry::TableEntry;
 use arrayvec::ArrayVec;
 
 // The place of the entry with this code, or the place at which it would be.
 #[tactic(auto, using(crate::proofs::InOrder::in_order))]
-pub(crate) fn search(entries: &[Entry], code: u16) -> Result<usize, usize>
+pub(crate) fn search(entries: &[TableEntry], code: u16) -> Result<usize, usize>
     requires { EntriesAscend entries.now }
     ensures found { IfOk result (IsAtPlace code_in entries.now code) }
     ensures missing { IfErr result (IsGap code_in entries.now code) }
@@ -20,7 +20,7 @@ pub(crate) fn search(entries: &[Entry], code: u16) -> Result<usize, usize>
 }
 
 // An entry in the place of another.
-fn set(entries: &mut ArrayVec<Entry, 32>, place: usize, entry: Entry)
+fn set(entries: &mut ArrayVec<TableEntry, 32>, place: usize, entry: TableEntry)
     requires { place < length entries.old.items }
     ensures { entries.new.items ≡ slice_set entries.old.items place entry }
 {
@@ -28,7 +28,7 @@ fn set(entries: &mut ArrayVec<Entry, 32>, place: usize, entry: Entry)
 }
 
 // Puts an entry in its place, or instead of the one that has its code.
-pub(crate) fn place_entry(entries: &mut ArrayVec<Entry, 32>, entry: Entry) -> Placement
+pub(crate) fn place_entry(entries: &mut ArrayVec<TableEntry, 32>, entry: TableEntry) -> Placement
     requires { AreEntries entries.old.items }
     ensures answer { result ≡ put_answer code_in 32 entries.old.items entry.code }
     ensures after { entries.new.items ≡ (if is_full_for entries.old.items entry.code then entries.old.items else with_entry entry entries.old.items) }
@@ -38,7 +38,7 @@ pub(crate) fn place_entry(entries: &mut ArrayVec<Entry, 32>, entry: Entry) -> Pl
 }
 
 // Removes the entry with this code. False where there is none.
-pub(crate) fn remove(entries: &mut ArrayVec<Entry, 32>, code: u16) -> bool
+pub(crate) fn remove(entries: &mut ArrayVec<TableEntry, 32>, code: u16) -> bool
     requires { AreEntries entries.old.items }
     ensures answer { result ≡ is_some (entry_of entries.old.items code) }
     ensures after { entries.new.items ≡ without code entries.old.items }
@@ -54,7 +54,7 @@ pub(crate) fn remove(entries: &mut ArrayVec<Entry, 32>, code: u16) -> bool
 }
 
 // The owner with this code was received.
-pub(crate) fn hear(entries: &mut ArrayVec<Entry, 32>, code: u16)
+pub(crate) fn hear(entries: &mut ArrayVec<TableEntry, 32>, code: u16)
     requires { AreEntries entries.old.items }
     ensures after { entries.new.items ≡ map (entry_after_data code) entries.old.items }
     ensures kept { AreEntries entries.new.items }
@@ -69,7 +69,7 @@ pub(crate) fn hear(entries: &mut ArrayVec<Entry, 32>, code: u16)
 }
 
 // The owner with this code was not received. True where its entry is gone for it.
-pub(crate) fn miss(entries: &mut ArrayVec<Entry, 32>, code: u16) -> bool
+pub(crate) fn miss(entries: &mut ArrayVec<TableEntry, 32>, code: u16) -> bool
     requires { AreEntries entries.old.items }
     ensures answer { result ≡ misses_last entries.old.items code }
     ensures after { entries.new.items ≡ filter_map (missed code) entries.old.items }
@@ -91,7 +91,7 @@ pub(crate) fn miss(entries: &mut ArrayVec<Entry, 32>, code: u16) -> bool
 }
 
 // One slot more for this code.
-pub(crate) fn grant(entries: &mut ArrayVec<Entry, 32>, code: u16)
+pub(crate) fn grant(entries: &mut ArrayVec<TableEntry, 32>, code: u16)
     requires entries { AreEntries entries.old.items }
     requires granted { IfSome (entry_of entries.old.items code) (λ e. e.granted < 2 ^ 32 - 1) }
     ensures after { entries.new.items ≡ map (granted_once code) entries.old.items }

@@ -10,8 +10,8 @@ ghost use Rattle.stream_table.specs.Requests.{ask_of, answer_to};
 ghost use Rattle.stream_table.specs.Entries.{grant_owner, owed_by};
 
 use crate::code_order::Placement;
-use crate::entry::Entry;
 use crate::places;
+use crate::table_entry::TableEntry;
 use arrayvec::ArrayVec;
 use lwb_base::Owner;
 use lwb_packets::Request;
@@ -33,7 +33,7 @@ pub enum Answer {
 /// The streams that a host accepted, at most 32, by ascending owner code, and the place at which its turns begin.
 #[derive(Drop)]
 pub struct Table {
-    entries: ArrayVec<Entry, 32>,
+    entries: ArrayVec<TableEntry, 32>,
     place: u16,
 }
 
@@ -93,7 +93,7 @@ impl Table {
             self.leave(owner);
             return Answer::Removed;
         }
-        let entry = Entry::new(owner, ask.boot, ask.interval, frame);
+        let entry = TableEntry::new(owner, ask.boot, ask.interval, frame);
         match places::place_entry(&mut self.entries, entry) {
             Placement::Added => Answer::Accepted,
             Placement::Replaced => Answer::Replaced,

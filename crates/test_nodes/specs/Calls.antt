@@ -3,7 +3,7 @@ use Rattle.std.specs.Prelude.{◌<◌, ◌≤◌, ◌^◌, List, [], ◌∷◌, 
 use Rattle.std.specs.declared.option.Option.{Option}
 use Rattle.lwb_base.specs.declared.order.Order.{Order}
 use Rattle.bus_rules.specs.declared.delivery.Delivery.{Delivery}
-use Rattle.bus_rules.specs.Streams.{declared, streams_after_leaving, put}
+use Rattle.bus_rules.specs.Streams.{declared, streams_after_leaving, after_put}
 use Rattle.bus_rules.specs.Cores.{Setup}
 use Rattle.node_core.specs.Nodes.{Node, rebooted, with_streams}
 use Rattle.node_core.specs.Rows.{Stepped, row, node_after, orders_by}
@@ -15,7 +15,7 @@ abbrev pub after_call : Setup → Node → Call → Node
 after_call s n (Step now e) = node_after n (row s n now e)
 after_call s n (Declare i interval) = with_streams n (declared i interval n.core.streams)
 after_call s n (Leave i) = with_streams n (streams_after_leaving i n.core.streams)
-after_call s n (Put i payload) = with_streams n (put i payload n.core.streams)
+after_call s n (Put i payload) = with_streams n (after_put i payload n.core.streams)
 after_call s n (Reboot boot) = rebooted boot
 
 -- the delivery after the row that fits. Where none fits, the one before stays

@@ -47,9 +47,6 @@ module _ (word : List ℕ) where
     pub ends : EndLines front ⊎ (rest ≡ [])
     pub few : count ≤ length front
 
-  pub none_passed : (bytes : List ℕ) → Passed bytes bytes 0
-  none_passed bytes = record { front = []; whole = refl; counted = refl; others = refl; ends = inl (λ more. refl); few = omega arith }
-
   not_empty : (front line : List ℕ) → lines front ≡ line ∷ [] → 0 < length front
   not_empty [] line is = cc
   not_empty (b ∷ front) line is = omega arith

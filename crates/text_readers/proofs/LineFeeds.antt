@@ -1,7 +1,9 @@
 -- Lines and words, as the code finds them.
 use Rattle.std.proofs.Common.{◌≡◌, ℕ, ◌+◌, ◌<◌, Option, List, [], ◌∷◌, Bool, true, false, not, nat_lt, ◌==◌, Some, None, Result, Ok, Err}
-use Rattle.std.proofs.Common.{◌++◌, length, take, drop, position, MatchResult, is_ok, refl, sym, ◌∙◌, ap, subst, arith, cond, All, append-nil, append_assoc, inl, inr}
-use Rattle.std.proofs.lemmas.Bool.{cases_lt, cases_order, eqb-true, le-ltb, lt-ltb, ltb-true, ltb-false, false_from_ne_true, cond-true, cond-false, ne_eqb, not-true, true≢false}
+use Rattle.std.proofs.Common.{◌++◌, length, take, drop, position, MatchResult, is_ok, refl, sym, ◌∙◌, ap, subst, arith, cond, All, append-nil}
+use Rattle.std.proofs.Common.{append_assoc, inl, inr}
+use Rattle.std.proofs.lemmas.Bool.{cases_lt, cases_order, eqb-true, le-ltb, lt-ltb, ltb-true, ltb-false, false_from_ne_true, cond-true, cond-false}
+use Rattle.std.proofs.lemmas.Bool.{ne_eqb, not-true, true≢false}
 use Rattle.std.proofs.lemmas.List.Splits.{slice_split_at, slice_split_first, slice_split_none, length-slice_split}
 use Rattle.std.proofs.lemmas.List.Sums.{prefix_len_passes, split_at_first, fails_before_first, passes_at_first}
 use Rattle.std.proofs.lemmas.Grind.{common_steps}

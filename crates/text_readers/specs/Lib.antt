@@ -4,3 +4,4 @@ pub mod Faults
 pub mod Words
 pub mod Reading
 pub mod Divisions
+pub mod Hex

@@ -4,6 +4,7 @@
 mod division;
 mod draft;
 mod fault;
+mod hex;
 mod numbers;
 mod reading;
 mod words;
@@ -11,6 +12,7 @@ mod words;
 pub use division::{Division, divided};
 pub use draft::Draft;
 pub use fault::{FaultKind, ParseFault, Refusal, refuse_unless};
+pub use hex::{are_hex, hex_value};
 pub use numbers::{
     five_numbers, four_numbers, number, one_number, signed_number, three_numbers, two_numbers,
 };

@@ -229,10 +229,6 @@ pub comes_found : (ss : List Segment) (wanted : ℕ) (s : Segment) → AreSegmen
     → Comes (map rate_entry_of ss) s wanted
 comes_found ss wanted s kept last = subst (λ (r : Segment). Comes (map rate_entry_of ss) r wanted) (sym last.2) (comes_to ss last.0 wanted kept last.1)
 
--- so few ticks that they fit
-pub few_ticks : (n p q : ℕ) → IsCeil n p q → 999980 ≤ p → p ≤ 1000020 → n ≤ 1000000 * 2 ^ 48 → q ≤ 2 ^ 49
-few_ticks n p q ceil slow fast small = omega (arith, mul-le-mul_left q slow)
-
 -- as the clock's range has it
 pub count_small : (ss : List Segment) (t : ℕ) → AreSegmentsAfter first_segment ss → t ≤ 2 ^ 48 → count_before (map rate_entry_of ss) t ≤ 1000020 * t
 count_small ss t kept within =

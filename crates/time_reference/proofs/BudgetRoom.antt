@@ -2,6 +2,7 @@
 use Rattle.std.proofs.Common.{ℕ, ◌+◌, ◌*◌, ◌/◌, ◌^◌, ◌<◌, ◌≤◌, arith}
 use Rattle.lwb_base.specs.Profile.{Numbers, airtime, step}
 use Rattle.std.proofs.Math.Nat.{mul-le-mul_right}
+use Rattle.lwb_base.specs.declared.limits.TheConstants.{MOST_FRAMES}
 use Rattle.time_reference.specs.Budgets.{Budget, Fits, span}
 
 module _ (p : Numbers) (b : Budget) (fits : Fits p b) where
@@ -19,7 +20,7 @@ module _ (p : Numbers) (b : Budget) (fits : Fits p b) where
       × (p.lead + b.last * p.slot + p.listen + b.clock < p.frame)
   frame_order = omega (arith, window_order)
 
-  pub clock_room : (256002 + 4096 * p.frame / 50000 ≤ b.clock) × (b.clock + b.zeros < p.lead)
+  pub clock_room : (256002 + MOST_FRAMES * p.frame / 50000 ≤ b.clock) × (b.clock + b.zeros < p.lead)
   clock_room = omega arith
 
   pub contenders_cover_drift : (2 * ((b.last * p.slot + p.listen) / 50000) + 160 ≤ b.contenders) × ((b.last * p.slot + p.listen) / 50000 ≤ b.age / 50000)
@@ -34,5 +35,5 @@ module _ (p : Numbers) (b : Budget) (fits : Fits p b) where
   pub drift_is_small : (b.age / 50000 + 57 < b.zeros) × (b.age / 50000 + 57 < p.slot) × (2 * (b.age / 50000) + 58 < p.listen)
   drift_is_small = omega (arith, window_order)
 
-  pub ages_end : b.age + 4096 * p.frame ≤ 2 ^ 48
+  pub ages_end : b.age + MOST_FRAMES * p.frame ≤ 2 ^ 48
   ages_end = omega (arith, window_order, frame_order)

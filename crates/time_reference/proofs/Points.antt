@@ -2,6 +2,7 @@
 use Rattle.std.proofs.Common.{◌≡◌, ℕ, ◌+◌, ◌*◌, ◌/◌, ◌-◌, ◌<◌, ◌≤◌, max, inl, inr, ap, arith}
 use Rattle.lwb_base.specs.Profile.{Numbers}
 use Rattle.std.proofs.Math.Nat.{mul-le-mul_right}
+use Rattle.lwb_base.specs.declared.limits.TheConstants.{MOST_FRAMES}
 use Rattle.tick_clock.proofs.DueTicks.{overshoot}
 use Rattle.tick_clock.proofs.Readings.{rounded}
 use Rattle.tick_clock.specs.Clocks.{Near, IsClock, due}
@@ -17,7 +18,7 @@ module _ (p : Numbers) (b : Budget) (fits : Fits p b) where
   pub good_later : (H L : ℕ → ℕ) (z f q r : ℕ) → q ≤ r → Good p b H L z f q → Good p b H L z f r
   good_later H L z f q r order g = record { c = g.c; j = g.j; ref = g.ref; after = elim g.after [ inl before ↦ inl before | inr later ↦ inr (omega arith) ] }
 
-  pub host_good : (H : ℕ → ℕ) (f : ℕ) → IsClock H → 2 ≤ f → f ≤ 4096 → Good p b H H (f * p.frame + p.lead) f 0
+  pub host_good : (H : ℕ → ℕ) (f : ℕ) → IsClock H → 2 ≤ f → f ≤ MOST_FRAMES → Good p b H H (f * p.frame + p.lead) f 0
   host_good H f clock begun within =
       let c : ℕ = f - 1 in
       let w = start p b fits H c 0 clock (omega arith) (omega arith) (omega arith) in

@@ -3,6 +3,7 @@ use Rattle.std.proofs.Common.{◌≡◌, ℕ, ◌+◌, ◌*◌, ◌/◌, ◌-◌
 use Rattle.lwb_base.specs.Profile.{Numbers}
 use Rattle.std.proofs.Math.Nat.{mul-le-mul_right}
 use Rattle.std.proofs.lemmas.Bool.{cases_order}
+use Rattle.lwb_base.specs.declared.limits.TheConstants.{MOST_FRAMES}
 use Rattle.tick_clock.proofs.DueTicks.{reads_nominal}
 use Rattle.tick_clock.specs.Clocks.{Near, IsClock, due}
 use Rattle.time_reference.proofs.Ages.{age, two_legs}
@@ -51,7 +52,7 @@ module _ (p : Numbers) (b : Budget) (fits : Fits p b) where
   pub record Start (H : ℕ → ℕ) (c j : ℕ) : Type 0 where
     pub below : start_tick p H c j + 256001 ≤ nominal p c j + b.clock
     pub above : nominal p c j + 1 ≤ start_tick p H c j + b.clock
-    pub in_run : start_tick p H c j + 256002 ≤ 4096 * p.frame
+    pub in_run : start_tick p H c j + 256002 ≤ MOST_FRAMES * p.frame
     pub reads : Near (H (start_tick p H c j)) (nominal p c j) 1
     pub at_least : nominal p c j ≤ H (start_tick p H c j)
     pub small : nominal p c j ≤ 2 ^ 47

@@ -1,7 +1,7 @@
 -- The numbers of a profile's error budget, and when they fit together.
 use Rattle.std.specs.Prelude.{ℕ, ◌+◌, ◌*◌, ◌/◌, ◌^◌, ◌<◌, ◌≤◌, if◌then◌else◌, ◌==◌}
 use Rattle.lwb_base.specs.Profile.{Numbers, airtime, is_one, step}
-use Rattle.lwb_base.specs.declared.limits.TheConstants.{DRIFT_BOUND, DRIFT_PERIOD, FLOOD_STEPS, GREATEST_GAP, LAST_STEP}
+use Rattle.lwb_base.specs.declared.limits.TheConstants.{DRIFT_BOUND, DRIFT_PERIOD, FLOOD_STEPS, GREATEST_GAP, LAST_STEP, MOST_FRAMES}
 
 -- each is an upper bound: the greatest packet in bytes, the last slot of any round, and in ticks the greatest age of a
 -- reference, the greatest difference of two zeros, that of two contenders, and the greatest error of a clock over the
@@ -27,7 +27,7 @@ pub record Fits (p : Numbers) (b : Budget) : Type 0 where
   pub turn_apart : b.contenders + 23 < p.turn
   pub turn_short : p.turn + 2 ≤ DRIFT_PERIOD
   pub overlap : b.contenders + 23 < airtime p 7
-  pub clock : 256002 + millionths (DRIFT_BOUND * (4096 * p.frame)) ≤ b.clock
+  pub clock : 256002 + millionths (DRIFT_BOUND * (MOST_FRAMES * p.frame)) ≤ b.clock
   pub lead : b.clock + b.zeros < p.lead
   pub run : 4104 * p.frame < 2 ^ 45
   pub age : GREATEST_GAP * p.frame + (b.last + 1) * p.slot ≤ b.age

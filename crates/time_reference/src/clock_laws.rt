@@ -2,7 +2,7 @@
 
 ghost use Rattle.std.specs.Prelude.{◌≡◌, ℕ, ◌+◌, ◌*◌, ◌/◌, ◌^◌, ◌<◌, ◌≤◌, ◌↔◌};
 ghost use Rattle.lwb_base.specs.Profile.{Numbers};
-ghost use Rattle.lwb_base.specs.declared.limits.TheConstants.{DRIFT_PERIOD, GREATEST_GAP};
+ghost use Rattle.lwb_base.specs.declared.limits.TheConstants.{DRIFT_PERIOD, GREATEST_GAP, MOST_FRAMES};
 ghost use Rattle.tick_clock.specs.Clocks.{Near, IsClock, due};
 ghost use Rattle.time_reference.specs.Budgets.{Budget, Fits};
 ghost use Rattle.time_reference.specs.Drift.{drift};
@@ -40,16 +40,16 @@ pub fn due_is_least()
 
 /// Over the run a clock is off by less than the budget's error.
 pub fn clock_in_the_run()
-    ensures { (p : Numbers) (b : Budget) → Fits p b → (own : ℕ → ℕ) → IsClock own → (t : ℕ) → t ≤ 4096 * p.frame
+    ensures { (p : Numbers) (b : Budget) → Fits p b → (own : ℕ → ℕ) → IsClock own → (t : ℕ) → t ≤ MOST_FRAMES * p.frame
         → (own t + 1 ≤ t + b.clock) × (t + 256001 ≤ own t + b.clock) }
 {}
 
 /// A number within the run is due near its own tick, one past the run is due past it.
 pub fn due_in_the_run()
     ensures within { (p : Numbers) (b : Budget) → Fits p b → (own : ℕ → ℕ) → IsClock own → (x : ℕ)
-        → x + b.clock ≤ 4096 * p.frame → (x + 1 ≤ due own x + b.clock) × (due own x + 256001 ≤ x + b.clock) }
+        → x + b.clock ≤ MOST_FRAMES * p.frame → (x + 1 ≤ due own x + b.clock) × (due own x + 256001 ≤ x + b.clock) }
     ensures past { (p : Numbers) (b : Budget) → Fits p b → (own : ℕ → ℕ) → IsClock own → (x : ℕ)
-        → 4096 * p.frame + b.clock ≤ x → 4096 * p.frame < due own x }
+        → MOST_FRAMES * p.frame + b.clock ≤ x → MOST_FRAMES * p.frame < due own x }
 {}
 
 /// A node that starts at the beginning of a frame computes that frame from its clock.
@@ -83,8 +83,8 @@ pub fn two_legs()
 
 /// No sum of a run comes to the number at which sums stop.
 pub fn nothing_stops_in_the_run()
-    ensures times { (p : Numbers) (b : Budget) → Fits p b → (own : ℕ → ℕ) → IsClock own → (f : ℕ) → f ≤ 4096
+    ensures times { (p : Numbers) (b : Budget) → Fits p b → (own : ℕ → ℕ) → IsClock own → (f : ℕ) → f ≤ MOST_FRAMES
         → ((f + GREATEST_GAP) * p.frame + p.end + 2 * b.clock < 4103 * p.frame) × (4103 * p.frame < 2 ^ 45) }
     ensures readings { (p : Numbers) (b : Budget) → Fits p b → (own : ℕ → ℕ) → IsClock own → (t : ℕ)
-        → t ≤ 4096 * p.frame → (t < 2 ^ 45) × (own t + p.turn < 2 ^ 45) }
+        → t ≤ MOST_FRAMES * p.frame → (t < 2 ^ 45) × (own t + p.turn < 2 ^ 45) }
 {}

@@ -1,7 +1,7 @@
 //! Budgets that fit a profile, and what follows from them.
 
 ghost use Rattle.std.specs.Prelude.{◌≡◌, ℕ, ◌+◌, ◌*◌, ◌^◌, ◌<◌, ◌≤◌, max};
-ghost use Rattle.lwb_base.specs.declared.limits.TheConstants.{DATA_SLOTS};
+ghost use Rattle.lwb_base.specs.declared.limits.TheConstants.{DATA_SLOTS, MOST_FRAMES};
 ghost use Rattle.lwb_base.specs.Profile.{Numbers, airtime, step, IsProfile, one, contended};
 ghost use Rattle.time_reference.specs.Budgets.{Budget, Fits, span, budget_one, budget_two, budget_of};
 ghost use Rattle.time_reference.specs.Drift.{drift};
@@ -50,7 +50,7 @@ pub fn times_of_a_frame_are_ordered()
 /// The error of a clock over the run has room for its offset and its drift.
 pub fn clock_error_covers_drift()
     ensures { (p : Numbers) (b : Budget) → Fits p b
-        → (256002 + drift (4096 * p.frame) ≤ b.clock) × (b.clock + b.zeros < p.lead) }
+        → (256002 + drift (MOST_FRAMES * p.frame) ≤ b.clock) × (b.clock + b.zeros < p.lead) }
 {}
 
 /// The difference of two contenders has room for the drift of two clocks over a round.
@@ -75,7 +75,7 @@ pub fn drift_is_small()
 
 /// A reference that was taken in the run ends its age where the clocks still keep the drift law.
 pub fn ages_end_in_range()
-    ensures { (p : Numbers) (b : Budget) → Fits p b → b.age + 4096 * p.frame ≤ 2 ^ 48 }
+    ensures { (p : Numbers) (b : Budget) → Fits p b → b.age + MOST_FRAMES * p.frame ≤ 2 ^ 48 }
 {}
 
 /// The bounds of the laws in numbers: one reference over its age, two zeros, contenders, and how late a window opens on

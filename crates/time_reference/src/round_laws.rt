@@ -2,7 +2,7 @@
 
 ghost use Rattle.std.specs.Prelude.{◌≡◌, ℕ, ◌+◌, ◌*◌, ◌<◌, ◌≤◌, ◌↔◌, max};
 ghost use Rattle.lwb_base.specs.Profile.{Numbers};
-ghost use Rattle.lwb_base.specs.declared.limits.TheConstants.{GREATEST_GAP};
+ghost use Rattle.lwb_base.specs.declared.limits.TheConstants.{GREATEST_GAP, MOST_FRAMES};
 ghost use Rattle.tick_clock.specs.Clocks.{Near, IsClock, due};
 ghost use Rattle.time_reference.specs.Budgets.{Budget, Fits, span};
 ghost use Rattle.time_reference.specs.Drift.{drift};
@@ -17,7 +17,7 @@ pub fn references_by_gap()
 
 /// A host's own zero is good from the beginning of the round.
 pub fn host_is_good()
-    ensures { (p : Numbers) (b : Budget) → Fits p b → (host : ℕ → ℕ) (f : ℕ) → IsClock host → 2 ≤ f → f ≤ 4096
+    ensures { (p : Numbers) (b : Budget) → Fits p b → (host : ℕ → ℕ) (f : ℕ) → IsClock host → 2 ≤ f → f ≤ MOST_FRAMES
         → Good p b host host (f * p.frame + p.lead) f 0 }
 {}
 
@@ -77,7 +77,7 @@ pub fn rounds_end_before_frame_alarms()
 
 /// A frame alarm that is set at the frame's start lies ahead, and comes in its frame.
 pub fn frame_alarms_in_their_frame()
-    ensures after { (p : Numbers) (b : Budget) → Fits p b → (own : ℕ → ℕ) → IsClock own → (f : ℕ) → f ≤ 4096
+    ensures after { (p : Numbers) (b : Budget) → Fits p b → (own : ℕ → ℕ) → IsClock own → (f : ℕ) → f ≤ MOST_FRAMES
         → (f * p.frame < due own (f * p.frame + p.end)) × (own (f * p.frame) < f * p.frame + p.end) }
     ensures before { (p : Numbers) (b : Budget) → Fits p b → (own : ℕ → ℕ) → IsClock own → (f : ℕ) → f ≤ 4095
         → due own (f * p.frame + p.end) < (f + 1) * p.frame }

@@ -5,7 +5,7 @@ use Rattle.scenario_text.specs.PartsInOrder.{IsInOrder, script_lines}
 use Rattle.scenario_text.proofs.OrderedParts.{said_in_order, in_order_said}
 use Rattle.bus_terms.specs.OverLines.{over}
 use Rattle.added_losses.specs.LossesAdded.{IsWithLosses}
-use Rattle.added_losses.specs.declared.limits.TheConstants.{MOST_SCRIPT_LINES}
+use Rattle.lwb_base.specs.declared.limits.TheConstants.{MOST_SCRIPT_LINES}
 use Rattle.added_losses.proofs.StillInOrder.{with_more, is_with_more, count_with_more, still_in_order}
 use Rattle.added_losses.proofs.losses.with_losses.Goals as goal
 

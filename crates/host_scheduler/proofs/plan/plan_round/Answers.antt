@@ -2,7 +2,7 @@ use Rattle.std.proofs.Common.{◌≡◌, ◌+◌, ◌∙◌, ℕ, List, IsSome, 
 use Rattle.std.specs.List.{All}
 use Rattle.std.proofs.lemmas.List.Elements.{All-same, All-weaker}
 use Rattle.std.proofs.lemmas.List.Sorted.{All-permutation}
-use Rattle.bus_rules.specs.Tables.{Entry, Table, entry_of}
+use Rattle.bus_rules.specs.Tables.{TableEntry, Table, entry_of}
 use Rattle.bus_rules.specs.Granting.{owed_to, gap_of, plan_round}
 use Rattle.host_scheduler.specs.Debts.{IsGrantable, slots_given, place_after, granted_all}
 use Rattle.host_scheduler.proofs.Bridge.{seconds_few}
@@ -21,7 +21,7 @@ grant-owners-requires-clause-grantable c =
     let es = c.args.table.now.entries in
     let moved = All-permutation (IsGrantable es) _ _ c.sorted-codes.ensures.same c.slots.ensures.grantable in
     let now : c.slots.new.table.entries ≡ es = ap (λ (t : Table). t.entries) c.slots.ensures.place in
-    subst (λ (l : List Entry). All (IsGrantable l) c.as_slice.result.now) (sym now) (All-same (IsGrantable es) _ _ c.as_slice.ensures.value moved)
+    subst (λ (l : List TableEntry). All (IsGrantable l) c.as_slice.result.now) (sym now) (All-same (IsGrantable es) _ _ c.as_slice.ensures.value moved)
 
 pub returns-clause-gap : goal.returns-clause-gap
 returns-clause-gap c =
@@ -59,5 +59,5 @@ returns-clause-table c =
     let place : c.slots.new.table ≡ record t { place = place_after owes t } = c.slots.ensures.place
     ∙ ap (λ (d : ℕ). record t { place = place_after (owed_to s d) t }) due in
     c.grant-owners.ensures.table ∙ ap (λ (l : List ℕ). granted_all l c.slots.new.table) c.as_slice.ensures.value ∙ ap (granted_all sorted) place
-    ∙ ap (λ (l : List Entry). record { entries = l; place = place_after owes t }) (same_shares c.slots.result.items sorted es c.sorted-codes.ensures.same)
+    ∙ ap (λ (l : List TableEntry). record { entries = l; place = place_after owes t }) (same_shares c.slots.result.items sorted es c.sorted-codes.ensures.same)
     ∙ planned_table s f t c.slots.result.items up slots ∙ ap (λ (n : ℕ). (plan_round n f t).table) c.seconds-seconds.ensures.value

@@ -1,4 +1,5 @@
 use Rattle.std.proofs.Common.{◌≡◌, ◌≤◌, ◌<◌, ◌++◌, ℕ, false, length, map, List, IsPermutation, ap, subst, sym, ◌∙◌, arith, refl, rules}
+use Rattle.lwb_base.specs.declared.limits.TheConstants.{MOST_SCRIPT_LINES}
 use Rattle.link_trace.specs.Sealed.{Traced}
 use Rattle.scenario_text.specs.AddedLines.{IsMerged}
 use Rattle.scenario_text.specs.Canonical.{IsSaid}
@@ -21,7 +22,8 @@ returns-then-len-script_room-clause-none c =
     let merged : IsMerged s.script c.args.added.now sc =
     subst (λ (old : List ScriptLine). IsMerged old c.args.added.now sc) c.script.ensures.value c.in_ok-script.ensures.merged in
     let same : t ≡ record s { script = sc } = one_with_script s c.args.added.now sc t merged is in
-    let lines : script_lines (record s { script = sc }) ≤ 20000 = subst (λ (u : ScenarioParts). script_lines u ≤ 20000) same room.lines in
+    let lines : script_lines (record s { script = sc }) ≤ MOST_SCRIPT_LINES =
+    subst (λ (u : ScenarioParts). script_lines u ≤ MOST_SCRIPT_LINES) same room.lines in
     let many = c.if-len-script_room.true in
     let others = c.script_room.ensures in
     let long : c.len.result ≡ length sc = search rules in
@@ -58,7 +60,7 @@ of_parts-requires-clause-said c =
     subst (λ (old : List ScriptLine). IsPermutation (old ++ c.args.added.now) sc) c.script.ensures.value c.in_ok-script.ensures.permutation in
     let few = c.if-len-script_room.false in
     let room = c.script_room.ensures in
-    let lines : script_lines (record s { script = sc }) ≤ 20000 =
+    let lines : script_lines (record s { script = sc }) ≤ MOST_SCRIPT_LINES =
     omega (arith, few, room, c.len.ensures, c.deref.ensures.len, ap length c.deref.ensures.value) in
     let boots : (v : ℕ) → (turned v (false, 0) sc).1 ≤ 200 =
     subst (λ (ls : List ScriptLine). (v : ℕ) → (turned v (false, 0) ls).1 ≤ 200) c.deref.ensures.value (c.if-not-has_few_boots.ensures.few refl) in

@@ -3,13 +3,13 @@ use Rattle.std.specs.List.{All}
 use Rattle.std.proofs.lemmas.Bool.{cond_both}
 use Rattle.std.proofs.lemmas.List.Elements.{All-cons, All-head, All-tail, All-filter}
 use Rattle.lwb_base.specs.Messages.{Ask, code_of}
-use Rattle.bus_rules.specs.Tables.{Entry, Table, has_code, is_full, new_entry, with_entry, without, after_request}
+use Rattle.bus_rules.specs.Tables.{TableEntry, Table, has_code, is_full, new_entry, with_entry, without, after_request}
 use Rattle.test_nodes.proofs.scheduler_tests.accept.Goals as goal
 
-abbrev Early : Entry → Type 0
+abbrev Early : TableEntry → Type 0
 Early e = e.accepted ≤ 9
 
-with_early : (e : Entry) (es : List Entry) → Early e → All Early es → All Early (with_entry e es)
+with_early : (e : TableEntry) (es : List TableEntry) → Early e → All Early es → All Early (with_entry e es)
 with_early e [] one all = All-cons Early e [] one all
 with_early e (x ∷ es) one all =
     let first = All-head Early x es all in

@@ -1,5 +1,5 @@
 use Rattle.std.proofs.Common.{ℕ, ◌≡◌, ◌<◌, List, length, Some, None, sym, ◌∙◌, ap, subst, arith}
-use Rattle.event_calendar.specs.declared.entry.Entry.{Entry}
+use Rattle.event_calendar.specs.declared.placed_order.PlacedOrder.{PlacedOrder}
 use Rattle.event_calendar.specs.Orders.{Due, at, changed, tick_of}
 use Rattle.event_calendar.specs.Queues.{HasQueues}
 use Rattle.event_calendar.proofs.OneOrder.{read_due, changed_as}
@@ -21,7 +21,7 @@ invariant_of-self c =
     let after = c.remove.new.self in
     let place : ℕ = c.args.place in
     let class = c.args.class in
-    let e : Entry = record { tick = c.in-Some.tick; place = place } in
+    let e : PlacedOrder = record { tick = c.in-Some.tick; place = place } in
     let within : place < length map = omega (arith, c.requires, ap length c.self.view_is) in
     let read = read_due map c.from.result place c.index.result.now c.from.ensures within c.index.ensures in
     let some : at map place class ≡ Some c.in-Some.tick = sym (ap (tick_of class) read) ∙ sym c.get.ensures ∙ c.in-Some.is in

@@ -1,5 +1,5 @@
 use Rattle.std.proofs.Common.{ℕ, ◌≡◌, ◌<◌, List, length, Some, None, sym, ◌∙◌, ap, subst, arith}
-use Rattle.event_calendar.specs.declared.entry.Entry.{Entry}
+use Rattle.event_calendar.specs.declared.placed_order.PlacedOrder.{PlacedOrder}
 use Rattle.event_calendar.specs.Orders.{Due, at, changed}
 use Rattle.event_calendar.specs.Queues.{HasQueues, queue_of}
 use Rattle.event_calendar.proofs.OneOrder.{there, changed_as, changed_twice}
@@ -25,7 +25,7 @@ invariant_of-self c =
     let place : ℕ = c.args.place in
     let class = c.args.class in
     let tick : ℕ = c.args.tick in
-    let e : Entry = record { tick = tick; place = place } in
+    let e : PlacedOrder = record { tick = tick; place = place } in
     let is : map ≡ changed old place class None = c.self.view_is ∙ c.clear.ensures in
     let within : place < length map = omega (arith, c.requires, ap length is, size_stays old place class None) in
     let none : at map place class ≡ None = ap (λ (m : List Due). at m place class) is ∙ there old place class None c.requires in

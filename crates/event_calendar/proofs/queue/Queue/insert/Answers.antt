@@ -1,5 +1,5 @@
 use Rattle.std.proofs.Common.{◌≡◌, ◌≤◌, List, insert, false, is_err, true≢false, Result, Ok, Err, OnOk, sym, ◌∙◌, ap, arith}
-use Rattle.event_calendar.specs.declared.entry.Entry.{Entry}
+use Rattle.event_calendar.specs.declared.placed_order.PlacedOrder.{PlacedOrder}
 use Rattle.event_calendar.specs.Waiting.{WaitingEntries}
 use Rattle.event_calendar.proofs.OrdersThatWait.{added}
 use Rattle.event_calendar.proofs.queue.Queue.insert.Goals as goal
@@ -19,6 +19,6 @@ returns c =
     let fits = sym c.is_err.ensures.value ∙ c.if-is_err.false in
     let inserted =
     when_ok c.insert.result (after.items ≡ insert c.self.inside.entries.items at c.args.entry) fits c.insert.ensures.items in
-    let is : after.items ≡ insert xs at c.args.entry = inserted ∙ ap (λ (l : List Entry). insert l at c.args.entry) same in
+    let is : after.items ≡ insert xs at c.args.entry = inserted ∙ ap (λ (l : List PlacedOrder). insert l at c.args.entry) same in
     let grows : c.args.self.now.room ≤ after.cap = omega (arith, room, c.insert.ensures.capacity) in
     added xs after.items at after.cap c.args.self.now.room c.args.entry c.requires.order place.before place.after place.bound is grows

@@ -1,10 +1,10 @@
 use Rattle.std.proofs.Common.{◌≡◌, ◌≤◌, List, remove, slice_index_or, Option, Some, None, OnSome, length, ◌∙◌, ap, arith}
-use Rattle.event_calendar.specs.declared.entry.Entry.{Entry}
+use Rattle.event_calendar.specs.declared.placed_order.PlacedOrder.{PlacedOrder}
 use Rattle.event_calendar.specs.Waiting.{WaitingEntries}
 use Rattle.event_calendar.proofs.OrdersThatWait.{removed}
 use Rattle.event_calendar.proofs.queue.Queue.remove_later.Goals as goal
 
-when_some : (o : Option Entry) (x : Entry) (P : Type 0) → o ≡ Some x → OnSome o P → P
+when_some : (o : Option PlacedOrder) (x : PlacedOrder) (P : Type 0) → o ≡ Some x → OnSome o P → P
 when_some None x P is holds = absurd (cc)
 when_some (Some y) x P is holds = holds
 
@@ -22,6 +22,6 @@ returns c =
     let there = c.index_of-at.ensures in
     let some = c.remove.ensures.succeeds e (omega (arith, there.bound, size, ok.0)) in
     let taken = when_some c.remove.result (slice_index_or items at e) (after.items ≡ remove items at) some c.remove.ensures.items in
-    let is : after.items ≡ remove xs at = taken ∙ ap (λ (l : List Entry). remove l at) same in
+    let is : after.items ≡ remove xs at = taken ∙ ap (λ (l : List PlacedOrder). remove l at) same in
     let grows : c.args.self.now.room ≤ after.cap = omega (arith, room, c.remove.ensures.capacity) in
     removed xs after.items at after.cap c.args.self.now.room e c.requires.order there.bound (there.there e) is grows

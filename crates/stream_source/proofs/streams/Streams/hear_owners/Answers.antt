@@ -1,5 +1,5 @@
 use Rattle.std.proofs.Common.{arith, sym, ◌∙◌}
-use Rattle.bus_rules.specs.Streams.{owns}
+use Rattle.bus_rules.specs.Streams.{owner_named}
 use Rattle.stream_source.proofs.InTurn.{some_at, fold_step}
 use Rattle.stream_source.proofs.streams.Streams.hear_owners.Goals as goal
 
@@ -8,5 +8,5 @@ unwrap-owner-requires c = rw c.at.ensures (some_at c.args.owners.now c.loop-i.i 
 
 pub loop-i-preserved : goal.loop-i-preserved
 loop-i-preserved c =
-    fold_step (owns c.args.node c.args.frame) c.args.self.now c.args.owners.now c.loop-i.i c.unwrap-owner.result c.loop-i.self c.hear_owner.new.self
+    fold_step (owner_named c.args.node c.args.frame) c.args.self.now c.args.owners.now c.loop-i.i c.unwrap-owner.result c.loop-i.self c.hear_owner.new.self
     (sym c.at.ensures ∙ c.unwrap-owner.ensures) c.loop-i.invariant c.hear_owner.ensures
