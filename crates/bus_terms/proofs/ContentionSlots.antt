@@ -13,7 +13,7 @@ use Rattle.bus_rules.specs.Slots.{request_of}
 use Rattle.bus_rules.specs.States.{State, StateOff, StateOn}
 use Rattle.bus_rules.specs.Streams.{Streams, WaitingPacket, first_waiting, requested, stream_at, due_stream, request_is_due}
 use Rattle.bus_terms.specs.Rounds.{opened_at, closed_slot_of, left_by}
-use Rattle.bus_terms.specs.ScriptedStates.{setup_in}
+use Rattle.scenario_text.specs.Setups.{setup_of}
 
 -- the contention slots are those after the data slots and before the last
 pub contention_at : (p : Plan) (j : ℕ) → length p.owners < j → j < last_slot p → part_of p j ≡ Contention (j - length p.owners)
@@ -132,7 +132,7 @@ own_stays s rank f i v (StateOn c) heard none = by_member (is_member rank f c) h
   where
     by_member : (t : Bool) (heard : Option Message) → ((y : Schedule) → heard ≡ Some (ScheduleOf y) → ⊥)
         → own_of (left_by (StateOn c)
-        (closed_slot_of s f (Contention i) v (if t then Some (opened_slot (setup_in s v) f (Contention i) c) else None) heard (StateOn c))) ≡ c.own_slot
+        (closed_slot_of s f (Contention i) v (if t then Some (opened_slot (setup_of s v) f (Contention i) c) else None) heard (StateOn c))) ≡ c.own_slot
     by_member true None none = refl
     by_member true (Some (ScheduleOf y)) none = absurd (none y refl)
     by_member true (Some (DataOf d)) none = refl

@@ -15,7 +15,7 @@ use Rattle.bus_rules.specs.States.{State}
 use Rattle.bus_terms.specs.FloodOfText.{ids}
 use Rattle.bus_terms.specs.Flooding.{Accepts, accepted, has}
 use Rattle.bus_terms.specs.RelayPaths.{IsLeast}
-use Rattle.bus_terms.specs.ScriptedStates.{setup_in}
+use Rattle.scenario_text.specs.Setups.{setup_of}
 use Rattle.bus_terms.specs.Rounds.{Slot, accepted_at, before_slot, closed_slot_of, delivery_in_slot, opened_at, message_said, slot_at, takes_part}
 use Rattle.bus_terms.specs.Received.{IsReceived}
 use Rattle.bus_terms.proofs.FirstHearings.{accepted_first}
@@ -83,7 +83,7 @@ module _ (s : ScenarioParts) (sound : IsSoundScenario s) (rank f : ℕ) (p : Pla
   delivery_is v o at =
       ap (λ (w : Option Opened). option_map (delivery_of v f rank j)
       (option_and_then (λ c. c.delivered) (closed_slot_of s f x.part v w (accepted_at x v) (before v)))) at
-      ∙ ap (option_map (delivery_of v f rank j)) (closed_data (setup_in s v) f x.part (is_some o.message) o.core (accepted_at x v))
+      ∙ ap (option_map (delivery_of v f rank j)) (closed_data (setup_of s v) f x.part (is_some o.message) o.core (accepted_at x v))
 
   -- who accepts delivers
   accepts_delivers : (one : OneSpeaks) (v k : ℕ) (o : Opened) → x.window v ≡ Some o → Accepts x.flood v (node_of owner) k → Delivers v k

@@ -20,7 +20,8 @@ use Rattle.bus_terms.specs.Bus.{state_at}
 use Rattle.bus_terms.specs.FloodOfText.{ids}
 use Rattle.bus_terms.specs.Flooding.{has, accepted, moment, STEPS}
 use Rattle.bus_terms.specs.Rounds.{Slot, slot_at, opened_at, message_said, accepted_at, closed_slot_of, left_by, before_slot, plan_in, first_node}
-use Rattle.bus_terms.specs.ScriptedStates.{is_on_and, setup_in}
+use Rattle.scenario_text.specs.Setups.{setup_of}
+use Rattle.bus_terms.specs.ScriptedStates.{is_on_and}
 use Rattle.bus_terms.proofs.ReceivedByPaths.{in_filtered}
 use Rattle.bus_terms.specs.HostedRounds.{IsHosted, slot_in, state_after_round}
 use Rattle.bus_terms.proofs.HostsOfRanks.{IsRightfulState, rightful, rightful_before, due_hosts, due_rank, one_of_rank}
@@ -63,7 +64,7 @@ closing_last p =
 
 -- what is said in a slot, by a member that is on
 pub said_message : (s : ScenarioParts) (rank f : ℕ) (part : Part) (v : ℕ) (x : State) (m : Message) → message_said (opened_at s rank f part v x) ≡ Some m
-    → (c : Core) × (x ≡ StateOn c) × (is_member rank f c ≡ true) × ((opened_slot (setup_in s v) f part c).message ≡ Some m)
+    → (c : Core) × (x ≡ StateOn c) × (is_member rank f c ≡ true) × ((opened_slot (setup_of s v) f part c).message ≡ Some m)
 said_message s rank f part v x m is =
     let o = speaks (opened_at s rank f part v x) (ap (λ (w : Option Message). is_some w) is) in
     let c = window_of s rank f part v x o.0 o.1 in
@@ -73,14 +74,14 @@ said_message s rank f part v x m is =
 pub heard_from : (s : ScenarioParts) (rank f : ℕ) (p : Plan) (states : ℕ → State) (j : ℕ) (part : Part) → part_of p j ≡ part → (v : ℕ) (m : Message)
     → accepted_at (slot_at s rank f p states j) v ≡ Some m
     → (w : ℕ) × (c : Core) × (before_slot s rank f p states j w ≡ StateOn c) × (is_member rank f c ≡ true)
-    × ((opened_slot (setup_in s w) f part c).message ≡ Some m)
+    × ((opened_slot (setup_of s w) f part c).message ≡ Some m)
 heard_from s rank f p states j part at v m said = by_answer (accepted (slot_at s rank f p states j).flood v) said
   where
     before : ℕ → State
     before = before_slot s rank f p states j
 
     by_answer : (a : Option (ℕ × ℕ)) → option_and_then (λ a. message_said ((slot_at s rank f p states j).window a.0)) a ≡ Some m
-        → (w : ℕ) × (c : Core) × (before w ≡ StateOn c) × (is_member rank f c ≡ true) × ((opened_slot (setup_in s w) f part c).message ≡ Some m)
+        → (w : ℕ) × (c : Core) × (before w ≡ StateOn c) × (is_member rank f c ≡ true) × ((opened_slot (setup_of s w) f part c).message ≡ Some m)
     by_answer None is = absurd (cc)
     by_answer (Some a) is =
         let c = said_message s rank f part a.0 (before a.0) m (ap (λ (q : Part). message_said (opened_at s rank f q a.0 (before a.0))) (sym at) ∙ is) in
@@ -95,7 +96,7 @@ initiator_accepts_none x v is =
 -- a member's state after the slot
 pub left_windowed : (s : ScenarioParts) (rank f : ℕ) (part : Part) (v : ℕ) (x : State) (c : Core) (heard : Option Message) → x ≡ StateOn c
     → is_member rank f c ≡ true → left_by x (closed_slot_of s f part v (opened_at s rank f part v x) heard x)
-    ≡ StateOn (closed_slot (setup_in s v) f part (is_some (opened_slot (setup_in s v) f part c).message) (opened_slot (setup_in s v) f part c).core heard).core
+    ≡ StateOn (closed_slot (setup_of s v) f part (is_some (opened_slot (setup_of s v) f part c).message) (opened_slot (setup_of s v) f part c).core heard).core
 left_windowed s rank f part v x c heard on member =
     ap (λ (x : State). left_by x (closed_slot_of s f part v (opened_at s rank f part v x) heard x)) on
     ∙ ap (λ (w : Option Opened). left_by (StateOn c) (closed_slot_of s f part v w heard (StateOn c))) (windowed s rank f part v c member)
@@ -127,7 +128,7 @@ on_core : (test : Core → Bool) (x : State) → is_on_and test x ≡ true → (
 on_core test (StateOff boots) is = absurd (false≢true is)
 on_core test (StateOn c) is = (c, refl, is)
 
-own_of : (s : ScenarioParts) (rank f v : ℕ) (x : State) → IsRightfulState (setup_in s v) x → is_on_and (λ c. hosts_in rank f c.tune) x ≡ true
+own_of : (s : ScenarioParts) (rank f v : ℕ) (x : State) → IsRightfulState (setup_of s v) x → is_on_and (λ c. hosts_in rank f c.tune) x ≡ true
     → own_rank v s.hosts ≡ Some rank
 own_of s rank f v (StateOff boots) is due = absurd (false≢true due)
 own_of s rank f v (StateOn c) is due = is.own (due_hosts rank f c.tune due) ∙ ap (λ (r : ℕ). Some r) (due_rank rank f c.tune due)
@@ -169,10 +170,10 @@ module _ (s : ScenarioParts) (rank f : ℕ) (p : Plan) (host : ℕ) (hosted : Is
 
   -- where it says a schedule, it initiates, and accepts nothing
   pub accepts_none : (j : ℕ) (part : Part) → part_of p j ≡ part → (is : Hosting rank f p (before_slot s rank f p (state_at s f) j host)) (y : Schedule)
-      → (opened_slot (setup_in s host) f part is.core).message ≡ Some (ScheduleOf y) → accepted_at (slot_in s rank f p j) host ≡ None
+      → (opened_slot (setup_of s host) f part is.core).message ≡ Some (ScheduleOf y) → accepted_at (slot_in s rank f p j) host ≡ None
   accepts_none j part at is y says =
       let x : Slot = slot_in s rank f p j in
-      let window : x.window host ≡ Some (opened_slot (setup_in s host) f part is.core) =
+      let window : x.window host ≡ Some (opened_slot (setup_of s host) f part is.core) =
       ap (λ (q : Part). opened_at s rank f q host (before j host)) at ∙ ap (λ (z : State). opened_at s rank f part host z) is.on
       ∙ windowed s rank f part host is.core (host_member rank f is.core is.due) in
       let initiates : has x.flood.initiators host ≡ true =
@@ -181,26 +182,26 @@ module _ (s : ScenarioParts) (rank f : ℕ) (p : Plan) (host : ℕ) (hosted : Is
       initiator_accepts_none x host initiates
 
   pub opening_said : (is : Hosting rank f p (before_slot s rank f p (state_at s f) 0 host))
-      → (opened_slot (setup_in s host) f Opening is.core).message ≡ Some (ScheduleOf (opening is.core.plan))
+      → (opened_slot (setup_of s host) f Opening is.core).message ≡ Some (ScheduleOf (opening is.core.plan))
   opening_said is = cond-true (hosts_now f is.core) _ None (hosts_own rank f is.core.tune is.due)
 
   pub closing_opens : (is : Hosting rank f p (before_slot s rank f p (state_at s f) (last_slot p) host))
-      → opened_slot (setup_in s host) f Closing is.core ≡ host_closes (setup_in s host) f is.core
-  closing_opens is = cond-true (hosts_now f is.core) (host_closes (setup_in s host) f is.core) (silent is.core) (hosts_own rank f is.core.tune is.due)
+      → opened_slot (setup_of s host) f Closing is.core ≡ host_closes (setup_of s host) f is.core
+  closing_opens is = cond-true (hosts_now f is.core) (host_closes (setup_of s host) f is.core) (silent is.core) (hosts_own rank f is.core.tune is.due)
 
   -- a schedule is said by the host alone, in a slot of schedules
   no_schedule : (j : ℕ) (part : Part) → part_of p j ≡ part → is_closing part ≡ false → Hosting rank f p (before j host)
       → (y : Schedule) → accepted_at (slot_in s rank f p j) host ≡ Some (ScheduleOf y) → ⊥
   no_schedule j Closing at early is y said = false≢true (sym early)
   no_schedule j Opening at early is y said =
-      let says : (opened_slot (setup_in s host) f Opening is.core).message ≡ Some (ScheduleOf (opening is.core.plan)) =
+      let says : (opened_slot (setup_of s host) f Opening is.core).message ≡ Some (ScheduleOf (opening is.core.plan)) =
       cond-true (hosts_now f is.core) _ None (hosts_own rank f is.core.tune is.due) in
       let none = accepts_none j Opening at is (opening is.core.plan) says in
       cc
   no_schedule j (DataSlot owner) at early is y said =
-      let m = heard_from s rank f p (state_at s f) j (DataSlot owner) at host (ScheduleOf y) said in data_no_schedule (setup_in s m.0) f owner m.1 y m.4
+      let m = heard_from s rank f p (state_at s f) j (DataSlot owner) at host (ScheduleOf y) said in data_no_schedule (setup_of s m.0) f owner m.1 y m.4
   no_schedule j (Contention i) at early is y said =
-      let m = heard_from s rank f p (state_at s f) j (Contention i) at host (ScheduleOf y) said in contention_no_schedule (setup_in s m.0) f i m.1 y m.4
+      let m = heard_from s rank f p (state_at s f) j (Contention i) at host (ScheduleOf y) said in contention_no_schedule (setup_of s m.0) f i m.1 y m.4
 
   -- it leads the round before each of its slots
   pub leads : (j : ℕ) → j ≤ last_slot p → Hosting rank f p (before_slot s rank f p (state_at s f) j host)
@@ -211,12 +212,12 @@ module _ (s : ScenarioParts) (rank f : ℕ) (p : Plan) (host : ℕ) (hosted : Is
       next : Hosting rank f p (before j host) → Hosting rank f p (before (suc j) host)
       next is =
           let part : Part = part_of p j in
-          let o = opened_slot (setup_in s host) f part is.core in
+          let o = opened_slot (setup_of s host) f part is.core in
           let heard = accepted_at (slot_in s rank f p j) host in
           let open_still = before_closing p j (omega (arith, early)) in
-          let same = stays_host (setup_in s host) f part (is_some o.message) is.core heard open_still (no_schedule j part refl open_still is) in
+          let same = stays_host (setup_of s host) f part (is_some o.message) is.core heard open_still (no_schedule j part refl open_still is) in
           record {
-            core = (closed_slot (setup_in s host) f part (is_some o.message) o.core heard).core;
+            core = (closed_slot (setup_of s host) f part (is_some o.message) o.core heard).core;
             on = left_windowed s rank f part host (before j host) is.core heard is.on (host_member rank f is.core is.due);
             due = ap (λ (t : Tune). hosts_in rank f t) same.0 ∙ is.due;
             plan = same.1 ∙ is.plan;
@@ -224,7 +225,7 @@ module _ (s : ScenarioParts) (rank f : ℕ) (p : Plan) (host : ℕ) (hosted : Is
 
   -- and after the closing it goes by the plan that it made
   pub has_planned : (is : Hosting rank f p (before_slot s rank f p (state_at s f) (last_slot p) host))
-      → state_after_round s rank f p host ≡ StateOn (host_closes (setup_in s host) f is.core).core
+      → state_after_round s rank f p host ≡ StateOn (host_closes (setup_of s host) f is.core).core
   unfolding before_slot
   has_planned is =
       let j = last_slot p in

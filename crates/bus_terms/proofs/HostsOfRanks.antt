@@ -23,7 +23,8 @@ use Rattle.bus_rules.proofs.Ranks.{same_schedule, rank_is, plan_contends}
 use Rattle.bus_rules.proofs.Switches.{acts_keep}
 use Rattle.bus_terms.specs.Bus.{before_frame, state_at}
 use Rattle.bus_terms.specs.Rounds.{rounds, before_slot}
-use Rattle.bus_terms.specs.ScriptedStates.{state_after_line, lines_of, states_after_script, setup_in}
+use Rattle.scenario_text.specs.Setups.{setup_of}
+use Rattle.bus_terms.specs.ScriptedStates.{state_after_line, lines_of, states_after_script}
 use Rattle.bus_terms.proofs.KeptInRounds.{slots_keep, rounds_keep}
 
 pub record IsRightful (q : Setup) (c : Core) : Type 0 where
@@ -180,30 +181,30 @@ ends_state q f (StateOff boots) is = is
 ends_state q f (StateOn c) is = ends q f c is
 
 module _ (s : ScenarioParts) where
-  told : (f : ℕ) (g : ℕ → State) → ((v : ℕ) → IsRightfulState (setup_in s v) (g v)) → (v : ℕ) → IsRightfulState (setup_in s v) (states_after_script s f g v)
-  told f g all v = lines (setup_in s v) (lines_of s f v) (g v) (all v)
+  told : (f : ℕ) (g : ℕ → State) → ((v : ℕ) → IsRightfulState (setup_of s v) (g v)) → (v : ℕ) → IsRightfulState (setup_of s v) (states_after_script s f g v)
+  told f g all v = lines (setup_of s v) (lines_of s f v) (g v) (all v)
 
-  run : (f : ℕ) (g : ℕ → State) → ((v : ℕ) → IsRightfulState (setup_in s v) (g v)) → (v : ℕ) → IsRightfulState (setup_in s v) (rounds s f g v)
-  run f g all = rounds_keep s f (λ v x. IsRightfulState (setup_in s v) x) (IsContended s.profile.contend)
-      (λ v part c is. opens (setup_in s v) f part c is)
-      (λ v part c m is said. says (setup_in s v) f part c m is said)
-      (λ v part b c o told is. closes (setup_in s v) f part b c o told is) g all
+  run : (f : ℕ) (g : ℕ → State) → ((v : ℕ) → IsRightfulState (setup_of s v) (g v)) → (v : ℕ) → IsRightfulState (setup_of s v) (rounds s f g v)
+  run f g all = rounds_keep s f (λ v x. IsRightfulState (setup_of s v) x) (IsContended s.profile.contend)
+      (λ v part c is. opens (setup_of s v) f part c is)
+      (λ v part c m is said. says (setup_of s v) f part c m is said)
+      (λ v part b c o told is. closes (setup_of s v) f part b c o told is) g all
 
-  before : (f v : ℕ) → IsRightfulState (setup_in s v) (before_frame s f v)
+  before : (f v : ℕ) → IsRightfulState (setup_of s v) (before_frame s f v)
   unfolding before_frame
   before zero v = tt
   before (suc f) v =
       let g = before_frame s f in
-      ends_state (setup_in s v) f (rounds s f (states_after_script s f g) v) (run f (states_after_script s f g) (told f g (before f)) v)
+      ends_state (setup_of s v) f (rounds s f (states_after_script s f g) v) (run f (states_after_script s f g) (told f g (before f)) v)
 
-  pub rightful : (f v : ℕ) → IsRightfulState (setup_in s v) (state_at s f v)
+  pub rightful : (f v : ℕ) → IsRightfulState (setup_of s v) (state_at s f v)
   rightful f v = told f (before_frame s f) (before f) v
 
-  pub rightful_before : (rank f : ℕ) (p : Plan) (j v : ℕ) → IsRightfulState (setup_in s v) (before_slot s rank f p (state_at s f) j v)
-  rightful_before rank f p j v = slots_keep s f (λ v x. IsRightfulState (setup_in s v) x) (IsContended s.profile.contend)
-      (λ v part c is. opens (setup_in s v) f part c is)
-      (λ v part c m is said. says (setup_in s v) f part c m is said)
-      (λ v part b c o told is. closes (setup_in s v) f part b c o told is) rank p (state_at s f) (rightful f) j v
+  pub rightful_before : (rank f : ℕ) (p : Plan) (j v : ℕ) → IsRightfulState (setup_of s v) (before_slot s rank f p (state_at s f) j v)
+  rightful_before rank f p j v = slots_keep s f (λ v x. IsRightfulState (setup_of s v) x) (IsContended s.profile.contend)
+      (λ v part c is. opens (setup_of s v) f part c is)
+      (λ v part c m is said. says (setup_of s v) f part c m is said)
+      (λ v part b c o told is. closes (setup_of s v) f part b c o told is) rank p (state_at s f) (rightful f) j v
 
 -- a rank has one host
 pub one_of_rank : (hosts : List ℕ) (u v rank : ℕ) → own_rank u hosts ≡ Some rank → own_rank v hosts ≡ Some rank → u ≡ v

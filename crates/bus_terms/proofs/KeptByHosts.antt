@@ -13,7 +13,7 @@ use Rattle.bus_rules.specs.States.{State, StateOn}
 use Rattle.bus_rules.proofs.Ranks.{hosts_own}
 use Rattle.bus_terms.specs.Bus.{state_at}
 use Rattle.bus_terms.specs.Rounds.{accepted_at, opened_at, closed_slot_of, left_by, before_slot}
-use Rattle.bus_terms.specs.ScriptedStates.{setup_in}
+use Rattle.scenario_text.specs.Setups.{setup_of}
 use Rattle.bus_terms.specs.HostedRounds.{IsHosted, slot_in}
 use Rattle.bus_terms.proofs.ContentionSlots.{contention_at, IsRequest, requests, only_requests, only_data}
 use Rattle.bus_terms.proofs.ContentionSlots.{few_more, kept_by, keeps_by, keeps_none, own_of, own_stays}
@@ -35,10 +35,10 @@ module _ (s : ScenarioParts) (rank f : ℕ) (p : Plan) where
       → (b : Ask) × (o ≡ RequestOf b) × ((w : ℕ) × (c : Core) × (before m w ≡ StateOn c) × IsRequest w (m - length p.owners) c b)
   request_from m v late early o said =
       let from = heard_from s rank f p (state_at s f) m (Contention (m - length p.owners)) (contention_at p m late early) v o said in
-      let only = only_requests (setup_in s from.0) f (m - length p.owners) from.1 o from.4 in
-      let as_said : (opened_slot (setup_in s from.0) f (Contention (m - length p.owners)) from.1).message ≡ Some (RequestOf only.0) =
+      let only = only_requests (setup_of s from.0) f (m - length p.owners) from.1 o from.4 in
+      let as_said : (opened_slot (setup_of s from.0) f (Contention (m - length p.owners)) from.1).message ≡ Some (RequestOf only.0) =
       from.4 ∙ ap (λ (n : Message). Some n) only.1 in
-      (only.0, only.1, (from.0, from.1, from.2, requests (setup_in s from.0) f (m - length p.owners) from.1 only.0 as_said))
+      (only.0, only.1, (from.0, from.1, from.2, requests (setup_of s from.0) f (m - length p.owners) from.1 only.0 as_said))
 
   no_schedule : (m v : ℕ) → length p.owners < m → m < last_slot p → (y : Schedule) → accepted_at (slot_in s rank f p m) v ≡ Some (ScheduleOf y) → ⊥
   no_schedule m v late early y said = (let b = request_from m v late early (ScheduleOf y) said in let is = b.1 in cc)
@@ -60,15 +60,15 @@ module _ (s : ScenarioParts) (rank f : ℕ) (p : Plan) where
   module _ (host : ℕ) (hosted : IsHosted s rank f p host) where
     -- the host's state after a contention slot
     pub slot_kept : (m : ℕ) → length p.owners < m → m < last_slot p → (is : Hosting rank f p (before m host))
-        → (d : Core) × (before (suc m) host ≡ StateOn d) × (d.kept ≡ kept_by (setup_in s host) f is.core (accepted_at (slot_in s rank f p m) host))
+        → (d : Core) × (before (suc m) host ≡ StateOn d) × (d.kept ≡ kept_by (setup_of s host) f is.core (accepted_at (slot_in s rank f p m) host))
         × (d.table ≡ is.core.table)
     unfolding before_slot
     slot_kept m late early is =
         let part = Contention (m - length p.owners) in
-        let o = opened_slot (setup_in s host) f part is.core in
+        let o = opened_slot (setup_of s host) f part is.core in
         let heard = accepted_at (slot_in s rank f p m) host in
-        let same = keeps_by (setup_in s host) f (m - length p.owners) (is_some o.message) is.core heard (λ y said. no_schedule m host late early y said) in (
-          (closed_slot (setup_in s host) f part (is_some o.message) o.core heard).core,
+        let same = keeps_by (setup_of s host) f (m - length p.owners) (is_some o.message) is.core heard (λ y said. no_schedule m host late early y said) in (
+          (closed_slot (setup_of s host) f part (is_some o.message) o.core heard).core,
           ap (λ (q : Part). left_by (before m host) (closed_slot_of s f q host (opened_at s rank f q host (before m host)) heard (before m host)))
               (contention_at p m late early)
               ∙ left_windowed s rank f part host (before m host) is.core heard is.on (host_member rank f is.core is.due),
@@ -97,18 +97,18 @@ module _ (s : ScenarioParts) (rank f : ℕ) (p : Plan) where
             → ((y : Schedule) → accepted_at (slot_in s rank f p m) host ≡ Some (ScheduleOf y) → ⊥)
             → ((a : Ask) → accepted_at (slot_in s rank f p m) host ≡ Some (RequestOf a) → ⊥) → kept_of (before (suc m) host) ≡ is.core.kept
         kept_with part at soon still none more =
-            let o = opened_slot (setup_in s host) f part is.core in
+            let o = opened_slot (setup_of s host) f part is.core in
             let heard = accepted_at (slot_in s rank f p m) host in
             ap (λ (q : Part). kept_of
             (left_by (before m host) (closed_slot_of s f q host (opened_at s rank f q host (before m host)) heard (before m host)))) at
             ∙ ap kept_of (left_windowed s rank f part host (before m host) is.core heard is.on (host_member rank f is.core is.due))
-            ∙ keeps_none (setup_in s host) f part (is_some o.message) is.core heard soon still none more
+            ∙ keeps_none (setup_of s host) f part (is_some o.message) is.core heard soon still none more
 
         by_part : (part : Part) → part_of p m ≡ part → first (part_of p m) ≡ true → kept_of (before (suc m) host) ≡ is.core.kept
         by_part Closing at early = absurd (false≢true (ap first (sym at) ∙ early))
         by_part (Contention i) at early = absurd (false≢true (ap first (sym at) ∙ early))
         by_part Opening at early =
-            let says : (opened_slot (setup_in s host) f Opening is.core).message ≡ Some (ScheduleOf (opening is.core.plan)) =
+            let says : (opened_slot (setup_of s host) f Opening is.core).message ≡ Some (ScheduleOf (opening is.core.plan)) =
             cond-true (hosts_now f is.core) _ None (hosts_own rank f is.core.tune is.due) in
             let none = accepts_none s rank f p host hosted m Opening at is (opening is.core.plan) says in
             kept_with Opening at (λ i same. cc) (λ same. cc) (λ y said. cc) (λ a said. cc)
@@ -119,7 +119,7 @@ module _ (s : ScenarioParts) (rank f : ℕ) (p : Plan) where
             data_from : (o : Message) → accepted_at (slot_in s rank f p m) host ≡ Some o → (d : Data) × (o ≡ DataOf d)
             data_from o said =
                 let from = heard_from s rank f p (state_at s f) m (DataSlot owner) at host o said in
-                only_data (setup_in s from.0) f owner from.1 o from.4
+                only_data (setup_of s from.0) f owner from.1 o from.4
 
     -- one more at most in each contention slot
     bound : (m : ℕ) → m ≤ last_slot p → length (kept_of (before m host)) ≤ m - (length p.owners + 1)
@@ -131,7 +131,7 @@ module _ (s : ScenarioParts) (rank f : ℕ) (p : Plan) where
           let lead = leads s rank f p host hosted m (omega (arith, early)) in
           let now = ap (λ (x : State). length (kept_of x)) d.1 in
           let same = ap length d.2 in
-          let more = few_more (setup_in s host) f lead.core (accepted_at (slot_in s rank f p m) host) in
+          let more = few_more (setup_of s host) f lead.core (accepted_at (slot_in s rank f p m) host) in
           let was = ap (λ (x : State). length (kept_of x)) lead.on in
           let few = bound m (omega (arith, early)) in
           omega (arith, now, same, more, was, few, late))
@@ -148,8 +148,8 @@ module _ (s : ScenarioParts) (rank f : ℕ) (p : Plan) where
     room j early is =
         let few = bound j (omega (arith, early)) in
         let was = ap (λ (x : State). length (kept_of x)) is.on in
-        let rightful : IsRightfulState (setup_in s host) (StateOn is.core) =
-        subst (λ (x : State). IsRightfulState (setup_in s host) x) is.on (rightful_before s rank f p j host) in
+        let rightful : IsRightfulState (setup_of s host) (StateOn is.core) =
+        subst (λ (x : State). IsRightfulState (setup_of s host) x) is.on (rightful_before s rank f p j host) in
         let contend : p.contend ≡ s.profile.contend = ap (λ (q : Plan). q.contend) (sym is.plan) ∙ rightful.contend (due_plans rank f is.core.tune is.due) in
         let named : slots_named p.contend ≡ slots_named s.profile.contend = ap slots_named contend in
         omega (arith, few, was, named, early, some_named s.profile.contend)

@@ -10,19 +10,19 @@ use Rattle.bus_rules.specs.States.{State, StateOff, StateOn}
 use Rattle.bus_terms.specs.Flooding.{accepted}
 use Rattle.bus_terms.specs.Rounds.{slot_of_round, opened_at, message_said, accepted_at, closed_slot_of, left_by, before_slot, after_round, rounds}
 use Rattle.bus_terms.specs.Rounds.{round_plan, rank_in}
-use Rattle.bus_terms.specs.ScriptedStates.{setup_in}
+use Rattle.scenario_text.specs.Setups.{setup_of}
 
 module _ (s : ScenarioParts) (f : ℕ) (P : ℕ → State → Type 0) (Q : Message → Type 0)
-    (opens : (v : ℕ) (part : Part) (c : Core) → P v (StateOn c) → P v (StateOn (opened_slot (setup_in s v) f part c).core))
-    (says : (v : ℕ) (part : Part) (c : Core) (m : Message) → P v (StateOn c) → (opened_slot (setup_in s v) f part c).message ≡ Some m → Q m)
+    (opens : (v : ℕ) (part : Part) (c : Core) → P v (StateOn c) → P v (StateOn (opened_slot (setup_of s v) f part c).core))
+    (says : (v : ℕ) (part : Part) (c : Core) (m : Message) → P v (StateOn c) → (opened_slot (setup_of s v) f part c).message ≡ Some m → Q m)
     (closes : (v : ℕ) (part : Part) (b : Bool) (c : Core) (heard : Option Message) → ((m : Message) → heard ≡ Some m → Q m) → P v (StateOn c)
-    → P v (StateOn (closed_slot (setup_in s v) f part b c heard).core)) where
+    → P v (StateOn (closed_slot (setup_of s v) f part b c heard).core)) where
   -- what is said in a window
   window_says : (rank : ℕ) (part : Part) (v : ℕ) (x : State) (m : Message) → P v x → message_said (opened_at s rank f part v x) ≡ Some m → Q m
   window_says rank part v (StateOff boots) m is said = absurd (cc)
   window_says rank part v (StateOn c) m is said = by_member (is_member rank f c) said
     where
-      by_member : (b : Bool) → message_said (if b then Some (opened_slot (setup_in s v) f part c) else None) ≡ Some m → Q m
+      by_member : (b : Bool) → message_said (if b then Some (opened_slot (setup_of s v) f part c) else None) ≡ Some m → Q m
       by_member true said = says v part c m is said
       by_member false said = absurd (cc)
 
@@ -33,8 +33,8 @@ module _ (s : ScenarioParts) (f : ℕ) (P : ℕ → State → Type 0) (Q : Messa
   closing rank part v heard (StateOn c) told is = by_member (is_member rank f c) heard told
     where
       by_member : (b : Bool) (heard : Option Message) → ((m : Message) → heard ≡ Some m → Q m)
-          → P v (left_by (StateOn c) (closed_slot_of s f part v (if b then Some (opened_slot (setup_in s v) f part c) else None) heard (StateOn c)))
-      by_member true heard told = let o = opened_slot (setup_in s v) f part c in closes v part (is_some o.message) o.core heard told (opens v part c is)
+          → P v (left_by (StateOn c) (closed_slot_of s f part v (if b then Some (opened_slot (setup_of s v) f part c) else None) heard (StateOn c)))
+      by_member true heard told = let o = opened_slot (setup_of s v) f part c in closes v part (is_some o.message) o.core heard told (opens v part c is)
       by_member false None told = is
       by_member false (Some m) told = closes v part false c (Some m) told is
 

@@ -18,7 +18,8 @@ use Rattle.bus_terms.specs.Bus.{before_frame, state_at}
 use Rattle.bus_terms.specs.FloodOfText.{ids}
 use Rattle.bus_terms.specs.Flooding.{has}
 use Rattle.bus_terms.specs.Rounds.{rounds, round_plan, rank_in, after_round}
-use Rattle.bus_terms.specs.ScriptedStates.{state_after_line, is_on_and, lines_of, states_after_script, setup_in}
+use Rattle.scenario_text.specs.Setups.{setup_of}
+use Rattle.bus_terms.specs.ScriptedStates.{state_after_line, is_on_and, lines_of, states_after_script}
 use Rattle.bus_terms.specs.HostedRounds.{IsHosted, state_after_round}
 use Rattle.bus_terms.proofs.KeptInRounds.{slots_keep}
 use Rattle.bus_terms.proofs.HostedRounds.{leads, has_planned}
@@ -105,9 +106,9 @@ module _ (s : ScenarioParts) (v : ℕ) (known : has (ids s.nodes) v ≡ true) wh
           ap kept_of (has_planned s rank f p v host lead)
       by_hosting p is false idle = of_quiet (state_after_round s rank f p v)
           (slots_keep s f (λ w x. w ≡ v → IsQuiet f x) (λ m. Unit {0})
-          (λ w part c is same. opens (setup_in s w) f part c (is same))
+          (λ w part c is same. opens (setup_of s w) f part c (is same))
           (λ w part c m is said. tt)
-          (λ w part b c o told is same. closes (setup_in s w) f part b c o (is same)) rank p (state_at s f)
+          (λ w part b c o told is same. closes (setup_of s w) f part b c o (is same)) rank p (state_at s f)
           (λ w same. subst (λ (u : ℕ). IsQuiet f (state_at s f u)) (sym same) (quiet (state_at s f v) none idle)) (last_slot p + 1) v refl)
 
       by_plan : (o : Option Plan) → round_plan s rank f (state_at s f) ≡ o → kept_of (after_round s rank f (state_at s f) o v) ≡ []
@@ -118,7 +119,7 @@ module _ (s : ScenarioParts) (v : ℕ) (known : has (ids s.nodes) v ≡ true) wh
   unfolding before_frame
   before zero = refl
   before (suc f) =
-      ends (setup_in s v) f (rounds s f (states_after_script s f (before_frame s f)) v) (after f (lines (lines_of s f v) (before_frame s f v) (before f)))
+      ends (setup_of s v) f (rounds s f (states_after_script s f (before_frame s f)) v) (after f (lines (lines_of s f v) (before_frame s f v) (before f)))
 
   pub keeps_nothing : (f : ℕ) → kept_of (state_at s f v) ≡ []
   keeps_nothing f = lines (lines_of s f v) (before_frame s f v) (before f)

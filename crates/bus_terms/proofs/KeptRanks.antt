@@ -26,7 +26,8 @@ use Rattle.bus_terms.specs.Bus.{before_frame, state_at}
 use Rattle.bus_terms.specs.Flooding.{accepted}
 use Rattle.bus_terms.specs.Rounds.{accepted_at, after_round, after_slot, before_slot, closed_slot_of, left_by, opened_at, rank_in, round_of_rank, round_plan}
 use Rattle.bus_terms.specs.Rounds.{rounds, message_said, slot_of_round}
-use Rattle.bus_terms.specs.ScriptedStates.{state_after_line, lines_of, states_after_script, setup_in}
+use Rattle.scenario_text.specs.Setups.{setup_of}
+use Rattle.bus_terms.specs.ScriptedStates.{state_after_line, lines_of, states_after_script}
 use Rattle.bus_terms.proofs.OtherRanks.{IsElsewhere, not_member, slot_elsewhere}
 
 -- a schedule by which no tune changes, or one of this rank
@@ -104,8 +105,8 @@ module _ (s : ScenarioParts) (rank f : ℕ) where
   window_says part v (StateOff boots) m said = absurd (cc)
   window_says part v (StateOn c) m said = by_member (is_member rank f c) refl said
     where
-      by_member : (b : Bool) → is_member rank f c ≡ b → message_said (if b then Some (opened_slot (setup_in s v) f part c) else None) ≡ Some m → IsOfRank rank m
-      by_member true is said = subst (λ (r : ℕ). IsOfRank r m) (member_of rank f c is) (said_rank (setup_in s v) f part c m said)
+      by_member : (b : Bool) → is_member rank f c ≡ b → message_said (if b then Some (opened_slot (setup_of s v) f part c) else None) ≡ Some m → IsOfRank rank m
+      by_member true is said = subst (λ (r : ℕ). IsOfRank r m) (member_of rank f c is) (said_rank (setup_of s v) f part c m said)
       by_member false is said = absurd (cc)
 
   closing_rank : (part : Part) (v : ℕ) (heard : Option Message) (x : State) → ((m : Message) → heard ≡ Some m → IsOfRank rank m) → rank_in x ≡ rank
@@ -115,12 +116,12 @@ module _ (s : ScenarioParts) (rank f : ℕ) where
   closing_rank part v heard (StateOn c) told at = by_member (is_member rank f c) heard told
     where
       by_member : (b : Bool) (heard : Option Message) → ((m : Message) → heard ≡ Some m → IsOfRank rank m)
-          → rank_in (left_by (StateOn c) (closed_slot_of s f part v (if b then Some (opened_slot (setup_in s v) f part c) else None) heard (StateOn c))) ≡ rank
+          → rank_in (left_by (StateOn c) (closed_slot_of s f part v (if b then Some (opened_slot (setup_of s v) f part c) else None) heard (StateOn c))) ≡ rank
       by_member true heard told =
-          let o = opened_slot (setup_in s v) f part c in
-          closed_rank (setup_in s v) rank f part (is_some o.message) o.core heard told (opened_rank (setup_in s v) f part c ∙ at)
+          let o = opened_slot (setup_of s v) f part c in
+          closed_rank (setup_of s v) rank f part (is_some o.message) o.core heard told (opened_rank (setup_of s v) f part c ∙ at)
       by_member false None told = at
-      by_member false (Some m) told = closed_rank (setup_in s v) rank f part false c (Some m) told at
+      by_member false (Some m) told = closed_rank (setup_of s v) rank f part false c (Some m) told at
 
   heard_said : (p : Plan) (j v : ℕ) (g : ℕ → State) (m : Message) → accepted_at (slot_of_round s rank f p j g) v ≡ Some m → IsOfRank rank m
   heard_said p j v g m is = by_first (accepted (slot_of_round s rank f p j g).flood v) is
@@ -200,7 +201,7 @@ module _ (s : ScenarioParts) (some_hosts : 1 ≤ length s.hosts) where
   frame_rank zero v = some_hosts
   frame_rank (suc f) v =
       let g = states_after_script s f (before_frame s f) in
-      ends (setup_in s v) f some_hosts (rounds s f g v)
+      ends (setup_of s v) f some_hosts (rounds s f g v)
       (subst (λ (r : ℕ). r < length s.hosts) (sym (round_rank s (rank_in (g v)) f g v)) (told_rank f v (before_frame s f) (frame_rank f v)))
 
   -- at the start of each frame

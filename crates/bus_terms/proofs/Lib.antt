@@ -15,6 +15,9 @@ pub mod NumbersKept
 pub mod DropsBelow
 pub mod ListsInTurn
 pub mod OrderedDeliveries
+pub mod SamePackets
+pub mod KeptFields
+pub mod PowerKept
 pub mod WorkedBuses
 pub mod ReachByDistance
 pub mod SaidByParts

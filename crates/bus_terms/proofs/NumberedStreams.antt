@@ -10,8 +10,9 @@ use Rattle.bus_rules.specs.declared.act.Act.{Act}
 use Rattle.bus_rules.specs.declared.act.Act.TheVariants.{On, Off, Declare, Leave, Put}
 use Rattle.bus_rules.specs.Tables.{Table}
 use Rattle.bus_rules.specs.HostPlans.{Served, serve, answers_to, host_plan}
-use Rattle.bus_rules.specs.Streams.{WaitingPacket, Stream, Streams, no_stream, stream_at, with_stream, queued, refuses, put_to, put, declared}
-use Rattle.bus_rules.specs.Streams.{streams_after_leaving, taken, without_first, unbound, heard_host, is_host, names, acknowledged, owns, forgets, forgotten}
+use Rattle.bus_rules.specs.Streams.{WaitingPacket, Stream, Streams, no_stream, stream_at, with_stream, queued, refuses, put_to, after_put, declared}
+use Rattle.bus_rules.specs.Streams.{streams_after_leaving, after_taking, without_first, unbound, heard_host, is_host, names, acknowledged}
+use Rattle.bus_rules.specs.Streams.{owner_named, after_forgetting, forgotten}
 use Rattle.bus_rules.specs.Streams.{with_granted_interval, with_agreed, after_contention, tries_after, due_stream, schedule_heard, first_waiting, cleared}
 use Rattle.bus_rules.specs.Streams.{granted_stream, named_in, wishes, emptied, streams_after_act}
 
@@ -41,9 +42,6 @@ KeepsNumbers x y = (low : ℕ) → IsNumbered low x → IsNumbered low y
 
 abbrev pub KeepsAll : Streams → Streams → Type 0
 KeepsAll s t = (i : ℕ) → KeepsNumbers (stream_at s i) (stream_at t i)
-
-pub keeps_then : (s t u : Streams) → KeepsAll s t → KeepsAll t u → KeepsAll s u
-keeps_then s t u first second i low is = second i low (first i low is)
 
 same_keeps : (s : Streams) → KeepsAll s s
 same_keeps s i low is = is
@@ -78,7 +76,7 @@ declared_keeps i interval s = with_stream_keeps s i (wishes interval (stream_at 
 left_keeps : (i : ℕ) (s : Streams) → KeepsAll s (streams_after_leaving i s)
 left_keeps i s = with_stream_keeps s i (emptied (stream_at s i)) (λ low is. up_to_next low (stream_at s i).queue (stream_at s i).next is)
 
-put_keeps : (i : ℕ) (payload : List ℕ) (s : Streams) → KeepsAll s (put i payload s)
+put_keeps : (i : ℕ) (payload : List ℕ) (s : Streams) → KeepsAll s (after_put i payload s)
 put_keeps i payload s = with_stream_keeps s i (put_to payload (stream_at s i)) (put_one (stream_at s i))
   where
     put_one : (x : Stream) → KeepsNumbers x (put_to payload x)
@@ -98,7 +96,7 @@ first_keeps x low is = by_queue x.queue x.next is
     by_queue [] next is = is
     by_queue (w ∷ ws) next is = from_lower low (w.seq + 1) ws next (omega arith) is.1
 
-pub taken_keeps : (i : ℕ) (s : Streams) → KeepsAll s (taken i s)
+pub taken_keeps : (i : ℕ) (s : Streams) → KeepsAll s (after_taking i s)
 taken_keeps i s = with_stream_keeps s i (without_first (stream_at s i)) (first_keeps (stream_at s i))
 
 pub unbound_keeps : (s : Streams) → KeepsAll s (unbound s)
@@ -128,12 +126,12 @@ acknowledged_keeps node boot frame s a =
     either_keeps (names node boot a) s (record (with_stream a.stream x s) { tries = 0; skips = 0 }) s
     (λ i low is. with_stream_keeps s a.stream x (λ low is. is) i low is) (same_keeps s)
 
-owns_keeps : (node frame : ℕ) (s : Streams) (c : ℕ) → KeepsAll s (owns node frame s c)
+owns_keeps : (node frame : ℕ) (s : Streams) (c : ℕ) → KeepsAll s (owner_named node frame s c)
 owns_keeps node frame s c =
     let x = named_in frame (stream_at s (stream_of c)) in
     either_keeps (node_of c == node) s (with_stream (stream_of c) x s) s (with_stream_keeps s (stream_of c) x (λ low is. is)) (same_keeps s)
 
-forgets_keeps : (frame : ℕ) (s : Streams) → KeepsAll s (forgets frame s)
+forgets_keeps : (frame : ℕ) (s : Streams) → KeepsAll s (after_forgetting frame s)
 forgets_keeps frame s i = map_keeps (forgotten frame) (λ x low is. is) s.all i
 
 pub heard_keeps : (node boot frame : ℕ) (x : Schedule) (s : Streams) → KeepsAll s (schedule_heard node boot frame x s)
@@ -141,11 +139,11 @@ unfolding schedule_heard
 heard_keeps node boot frame x s i low is =
     let known = heard_host x.plan.rank x.plan.boot s in
     let answered = fold (acknowledged node boot frame) known x.plan.acks in
-    let named = fold (owns node frame) answered x.plan.owners in
+    let named = fold (owner_named node frame) answered x.plan.owners in
     let first = host_keeps x.plan.rank x.plan.boot s i low is in
     let second = fold_keeps (acknowledged node boot frame) (acknowledged_keeps node boot frame) x.plan.acks known i low first in
-    let third = fold_keeps (owns node frame) (owns_keeps node frame) x.plan.owners answered i low second in
-    either_keeps (x.gap == 0) named named (forgets frame named) (same_keeps named) (forgets_keeps frame named) i low third
+    let third = fold_keeps (owner_named node frame) (owns_keeps node frame) x.plan.owners answered i low second in
+    either_keeps (x.gap == 0) named named (after_forgetting frame named) (same_keeps named) (forgets_keeps frame named) i low third
 
 -- a host serves its own streams
 serve_keeps : (frame node boot : ℕ) (x : Served) (i : ℕ) → KeepsAll x.streams (serve frame node boot x i).streams
@@ -175,7 +173,7 @@ take_first (x ∷ xs) zero low w first is = by_queue x.queue x.next first is
 take_first (x ∷ xs) (suc i) low w first is = take_first xs i low w first is
 
 pub taken_first : (s : Streams) (i low : ℕ) (w : WaitingPacket) → first_waiting s i ≡ Some w → IsNumbered low (stream_at s i)
-    → (low ≤ w.seq) × IsNumbered (w.seq + 1) (stream_at (taken i s) i)
+    → (low ≤ w.seq) × IsNumbered (w.seq + 1) (stream_at (after_taking i s) i)
 taken_first s i low w first is = take_first s.all i low w first is
 
 -- as a boot leaves them

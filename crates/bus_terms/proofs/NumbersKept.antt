@@ -10,9 +10,10 @@ use Rattle.bus_rules.specs.declared.tune.Tune.{Tune}
 use Rattle.bus_rules.specs.Cores.{Core, Setup, booted, as_host, begins_host, frame_ended, schedule_accepted, opening_accepted, closing_accepted}
 use Rattle.bus_rules.specs.Slots.{Message, ScheduleOf, DataOf, RequestOf, opened_slot, closed_slot, slot_heard, hosts_now, host_closes, silent, is_own}
 use Rattle.bus_rules.specs.States.{State, StateOff, StateOn, at_core, core_after_act, state_after_act}
-use Rattle.bus_rules.specs.Streams.{stream_at, taken, after_contention}
+use Rattle.bus_rules.specs.Streams.{stream_at, after_taking, after_contention}
 use Rattle.bus_rules.proofs.Switches.{acts_keep}
-use Rattle.bus_terms.specs.ScriptedStates.{state_after_line, states_after_script, lines_of, states_after_end, setup_in}
+use Rattle.scenario_text.specs.Setups.{setup_of}
+use Rattle.bus_terms.specs.ScriptedStates.{state_after_line, states_after_script, lines_of, states_after_end}
 use Rattle.bus_terms.proofs.NumberedStreams.{IsNumbered, KeepsAll, told_keeps, taken_keeps}
 use Rattle.bus_terms.proofs.NumberedStreams.{unbound_keeps, contention_keeps, heard_keeps, plan_keeps, cleared_is_numbered}
 
@@ -90,14 +91,14 @@ ended_core s f c = by_host _ (begins_host c.tune _)
     by_host t (Some rank) = record { boot = refl; numbers = unbound_keeps c.streams }
 
 pub ended_keeps : (s : ScenarioParts) (f v : ℕ) (states : ℕ → State) → Keeps (states v) (states_after_end s f states v)
-ended_keeps s f v states = at_core_keeps _ (ended_core (setup_in s v) f) (states v)
+ended_keeps s f v states = at_core_keeps _ (ended_core (setup_of s v) f) (states v)
 
 -- a window opens
 pub opened_core : (s : Setup) (f : ℕ) (part : Part) (c : Core) → KeepsCore c (opened_slot s f part c).core
 opened_core s f Opening c = core_same c
 opened_core s f (DataSlot owner) c = by_test (node_of owner == s.id)
   where
-    by_test : (b : Bool) → KeepsCore c (record c { streams = if b then taken (stream_of owner) c.streams else c.streams })
+    by_test : (b : Bool) → KeepsCore c (record c { streams = if b then after_taking (stream_of owner) c.streams else c.streams })
     by_test true = record { boot = refl; numbers = taken_keeps (stream_of owner) c.streams }
     by_test false = core_same c
 opened_core s f (Contention i) c = by_test (is_own c.own_slot i)

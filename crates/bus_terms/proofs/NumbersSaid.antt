@@ -11,8 +11,8 @@ use Rattle.bus_rules.specs.Cores.{Core, Setup, is_member}
 use Rattle.bus_rules.specs.Plans.{opening}
 use Rattle.bus_rules.specs.Slots.{Data, Message, ScheduleOf, DataOf, Opened, opened_slot, data_of, part_of, hosts_now, host_closes, silent, is_own, request_of}
 use Rattle.bus_rules.specs.States.{State, StateOff, StateOn}
-use Rattle.bus_rules.specs.Streams.{Streams, WaitingPacket, stream_at, taken, first_waiting, requested}
-use Rattle.bus_terms.specs.ScriptedStates.{setup_in}
+use Rattle.bus_rules.specs.Streams.{Streams, WaitingPacket, stream_at, after_taking, first_waiting, requested}
+use Rattle.scenario_text.specs.Setups.{setup_of}
 use Rattle.bus_terms.specs.Rounds.{slot_of_round, opened_at, message_said, accepted_at, closed_slot_of, left_by, after_slot, before_slot}
 use Rattle.bus_terms.proofs.NumberedStreams.{IsNumbered, taken_first}
 use Rattle.bus_terms.proofs.NumbersKept.{IsPast, IsWell, Keeps, keeps_same, keeps_both, core_both, on_keeps, opened_core, closed_core}
@@ -25,12 +25,12 @@ closing_keeps s rank f part v (Some m) (StateOff boots) = keeps_same (StateOff b
 closing_keeps s rank f part v heard (StateOn c) = by_member (is_member rank f c) heard
   where
     by_member : (b : Bool) (heard : Option Message)
-        → Keeps (StateOn c) (left_by (StateOn c) (closed_slot_of s f part v (if b then Some (opened_slot (setup_in s v) f part c) else None) heard (StateOn c)))
+        → Keeps (StateOn c) (left_by (StateOn c) (closed_slot_of s f part v (if b then Some (opened_slot (setup_of s v) f part c) else None) heard (StateOn c)))
     by_member true heard =
-        let o = opened_slot (setup_in s v) f part c in
-        on_keeps c _ (core_both c o.core _ (opened_core (setup_in s v) f part c) (closed_core (setup_in s v) f part (is_some o.message) o.core heard))
+        let o = opened_slot (setup_of s v) f part c in
+        on_keeps c _ (core_both c o.core _ (opened_core (setup_of s v) f part c) (closed_core (setup_of s v) f part (is_some o.message) o.core heard))
     by_member false None = keeps_same (StateOn c)
-    by_member false (Some m) = on_keeps c _ (closed_core (setup_in s v) f part false c (Some m))
+    by_member false (Some m) = on_keeps c _ (closed_core (setup_of s v) f part false c (Some m))
 
 slot_keeps : (s : ScenarioParts) (rank f : ℕ) (p : Plan) (j v : ℕ) (states : ℕ → State) → Keeps (states v) (after_slot s rank f p j states v)
 slot_keeps s rank f p j v states = closing_keeps s rank f (part_of p j) v (accepted_at (slot_of_round s rank f p j states) v) (states v)
@@ -65,7 +65,7 @@ pub record IsSaidBy (node : ℕ) (c : Core) (o : Opened) (d : Data) : Type 0 whe
   pub of_node : d.node ≡ node
   pub of_boot : d.boot ≡ c.boot
   pub boot : o.core.boot ≡ c.boot
-  pub streams : o.core.streams ≡ taken d.stream c.streams
+  pub streams : o.core.streams ≡ after_taking d.stream c.streams
 
 pub said_by : (s : Setup) (f : ℕ) (part : Part) (c : Core) (d : Data) → (opened_slot s f part c).message ≡ Some (DataOf d)
     → IsSaidBy s.id c (opened_slot s f part c) d × ((owner : ℕ) × (part ≡ DataSlot owner))
@@ -90,7 +90,7 @@ said_by s f (DataSlot owner) c d is = (by_test (node_of owner == s.id) (first_wa
           of_node = refl;
           of_boot = refl;
           boot = refl;
-          streams = ap (λ (b : Bool). if b then taken (stream_of owner) c.streams else c.streams) at;
+          streams = ap (λ (b : Bool). if b then after_taking (stream_of owner) c.streams else c.streams) at;
         })
       where
         data_same : (a b : Data) → Some (DataOf a) ≡ Some (DataOf b) → a ≡ b
@@ -112,7 +112,7 @@ pub record Says (s : ScenarioParts) (rank f : ℕ) (part : Part) (v : ℕ) (x : 
   pub core : Core
   pub on : x ≡ StateOn core
   pub member : is_member rank f core ≡ true
-  pub said : IsSaidBy v core (opened_slot (setup_in s v) f part core) d
+  pub said : IsSaidBy v core (opened_slot (setup_of s v) f part core) d
   pub slot : (owner : ℕ) × (part ≡ DataSlot owner)
 
 pub says : (s : ScenarioParts) (rank f : ℕ) (part : Part) (v : ℕ) (x : State) (d : Data) → message_said (opened_at s rank f part v x) ≡ Some (DataOf d)
@@ -120,11 +120,11 @@ pub says : (s : ScenarioParts) (rank f : ℕ) (part : Part) (v : ℕ) (x : State
 says s rank f part v (StateOff boots) d is = absurd (cc)
 says s rank f part v (StateOn c) d is = by_test (is_member rank f c) refl is
   where
-    by_test : (b : Bool) → is_member rank f c ≡ b → message_said (if b then Some (opened_slot (setup_in s v) f part c) else None) ≡ Some (DataOf d)
+    by_test : (b : Bool) → is_member rank f c ≡ b → message_said (if b then Some (opened_slot (setup_of s v) f part c) else None) ≡ Some (DataOf d)
         → Says s rank f part v (StateOn c) d
     by_test false at is = absurd (cc)
     by_test true at is =
-        let by = said_by (setup_in s v) f part c d is in
+        let by = said_by (setup_of s v) f part c d is in
         record { core = c; on = refl; member = at; said = by.0; slot = by.1 }
 
 -- its number is from the bound on
@@ -154,7 +154,7 @@ above_then s rank f p j v states d is well =
     c = is.core
 
     o : Opened
-    o = opened_slot (setup_in s v) f part c
+    o = opened_slot (setup_of s v) f part c
 
     numbered : IsNumbered 0 (stream_at c.streams d.stream)
     numbered = subst IsWell is.on well d.stream
@@ -162,14 +162,14 @@ above_then s rank f p j v states d is well =
     later : IsNumbered (d.seq + 1) (stream_at o.core.streams d.stream)
     later =
         let found = taken_first c.streams d.stream 0 is.said.waiting is.said.first numbered in
-        let above = subst (λ (n : ℕ). IsNumbered (n + 1) (stream_at (taken d.stream c.streams) d.stream)) (sym is.said.number) found.1 in
+        let above = subst (λ (n : ℕ). IsNumbered (n + 1) (stream_at (after_taking d.stream c.streams) d.stream)) (sym is.said.number) found.1 in
         subst (λ (t : Streams). IsNumbered (d.seq + 1) (stream_at t d.stream)) (sym is.said.streams) above
 
     by_member : (b : Bool) → b ≡ true
         → IsPast d.boot d.stream (d.seq + 1) (left_by (StateOn c)
-        (closed_slot_of s f part v (if b then Some (opened_slot (setup_in s v) f part c) else None) heard (StateOn c)))
+        (closed_slot_of s f part v (if b then Some (opened_slot (setup_of s v) f part c) else None) heard (StateOn c)))
     by_member false at = absurd (false≢true at)
     by_member true at =
         let boot = is.said.boot in
         let of_boot = is.said.of_boot in
-        (on_keeps o.core _ (closed_core (setup_in s v) f part (is_some o.message) o.core heard)).past d.boot d.stream (d.seq + 1) (omega arith, λ same. later)
+        (on_keeps o.core _ (closed_core (setup_of s v) f part (is_some o.message) o.core heard)).past d.boot d.stream (d.seq + 1) (omega arith, λ same. later)

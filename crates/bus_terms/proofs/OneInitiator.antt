@@ -1,4 +1,5 @@
--- A flood with one initiator: each origin is that one, and who receives is reached by a path.
+-- A flood with one initiator: each origin is that one, and who receives is reached by a path. Such is the flood of each data slot
+-- and each schedule, whose owner or host alone says something; of contention slots it is where one node contends.
 use Rattle.std.proofs.Common.{◌≡◌, ℕ, zero, suc, ◌+◌, ◌<◌, List, [], ◌∷◌, Bool, true, false, not, ◌&&◌, ◌||◌, if◌then◌else◌, inl, inr, ⊎_elim}
 use Rattle.std.proofs.Common.{eq-eqb, Option, Some, None, is_some, refl, sym, ◌∙◌, ap, subst, filter_map, ◌==◌, nat_lt}
 use Rattle.std.proofs.lemmas.Bool.{cases_eq, or_right, or_left, or_from, not_from_false, ne_eqb, cond_both, or_cases, eqb-true, and_parts, and_from}

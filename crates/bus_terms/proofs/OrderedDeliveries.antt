@@ -32,22 +32,22 @@ use Rattle.bus_terms.proofs.OtherRanks.{IsElsewhere, slots_elsewhere, not_member
 use Rattle.bus_terms.proofs.ReceivedInRounds.{ids_rise}
 
 -- the data that a delivery brings
-abbrev data_in : Delivery → Data
+abbrev pub data_in : Delivery → Data
 data_in a = record { node = a.from; boot = a.boot; stream = a.stream; seq = a.seq; payload = a.payload }
 
 -- it was said in slot j of the round by this plan
-abbrev IsSaidIn : ScenarioParts → ℕ → ℕ → Plan → ℕ → Delivery → Type 0
+abbrev pub IsSaidIn : ScenarioParts → ℕ → ℕ → Plan → ℕ → Delivery → Type 0
 IsSaidIn s rank f p j a = Says s rank f (part_of p j) a.from (before_slot s rank f p (state_at s f) j a.from) (data_in a)
 
 -- it was said in a round of this rank and frame
-record IsFrom (s : ScenarioParts) (rank f : ℕ) (a : Delivery) : Type 0 where
-  plan : Plan
-  planned : round_plan s rank f (state_at s f) ≡ Some plan
-  slot : ℕ
-  said : IsSaidIn s rank f plan slot a
+pub record IsFrom (s : ScenarioParts) (rank f : ℕ) (a : Delivery) : Type 0 where
+  pub plan : Plan
+  pub planned : round_plan s rank f (state_at s f) ≡ Some plan
+  pub slot : ℕ
+  pub said : IsSaidIn s rank f plan slot a
 
 -- what a window delivers it has accepted
-accepted_data : (s : ScenarioParts) (f : ℕ) (part : Part) (v : ℕ) (w : Option Opened) (heard : Option Message) (x : State) (d : Data)
+pub accepted_data : (s : ScenarioParts) (f : ℕ) (part : Part) (v : ℕ) (w : Option Opened) (heard : Option Message) (x : State) (d : Data)
     → option_and_then (λ c. c.delivered) (closed_slot_of s f part v w heard x) ≡ Some d → heard ≡ Some (DataOf d)
 accepted_data s f part v (Some o) None x d is = absurd (cc)
 accepted_data s f part v (Some o) (Some (ScheduleOf y)) x d is = absurd (cc)
@@ -60,7 +60,7 @@ accepted_data s f part v None (Some (DataOf e)) (StateOn c) d is = (let same : e
 accepted_data s f part v None (Some (RequestOf a)) (StateOn c) d is = absurd (cc)
 
 -- what is accepted somebody said
-said_somewhere : (x : Slot) (a : Option (ℕ × ℕ)) (m : Message) → option_and_then (λ b. message_said (x.window b.0)) a ≡ Some m
+pub said_somewhere : (x : Slot) (a : Option (ℕ × ℕ)) (m : Message) → option_and_then (λ b. message_said (x.window b.0)) a ≡ Some m
     → (o : ℕ) × (message_said (x.window o) ≡ Some m)
 said_somewhere x None m is = absurd (cc)
 said_somewhere x (Some a) m is = (a.0, is)
@@ -193,14 +193,15 @@ greater s rank f p j a b past said node from boot stream =
     let above = number_from s rank f (part_of p j) b.from (before b.from) (data_in b) said (a.seq + 1) third in
     omega (arith, above)
 
-later_slot : (s : ScenarioParts) (rank f : ℕ) (p : Plan) (j k : ℕ) → j < k → (a b : Delivery) → IsSaidIn s rank f p j a → IsSaidIn s rank f p k b → InOrder a b
+pub later_slot : (s : ScenarioParts) (rank f : ℕ) (p : Plan) (j k : ℕ) → j < k → (a b : Delivery) → IsSaidIn s rank f p j a → IsSaidIn s rank f p k b
+    → InOrder a b
 later_slot s rank f p j k less a b first second =
     greater s rank f p k a b
     ((slots_keep s rank f p a.from (state_at s f) (suc j) k (omega arith)).past a.boot a.stream (a.seq + 1) (past_slot s rank f p j a first))
     second
 
 -- a node says something in the rounds of one rank alone
-other_rank : (s : ScenarioParts) (rank other f : ℕ) → rank < other → (a b : Delivery) → IsFrom s rank f a → IsFrom s other f b → InOrder a b
+pub other_rank : (s : ScenarioParts) (rank other f : ℕ) → rank < other → (a b : Delivery) → IsFrom s rank f a → IsFrom s other f b → InOrder a b
 other_rank s rank other f less a b first second node from boot stream =
     let one = rank_is s rank f first.plan first.slot a.from (state_at s f) (data_in a) first.said in
     let two = rank_is s other f second.plan second.slot b.from (state_at s f) (data_in b) second.said in
@@ -223,7 +224,8 @@ past_frame s rank f a is =
     let over = subst (IsPast a.boot a.stream (a.seq + 1)) (sym (ranked ∙ planned)) behind in
     (ended_keeps s f u (rounds s f states)).past a.boot a.stream (a.seq + 1) over
 
-later_frame : (s : ScenarioParts) (f g : ℕ) → f < g → (a b : Delivery) → ((rank : ℕ) × IsFrom s rank f a) → ((rank : ℕ) × IsFrom s rank g b) → InOrder a b
+pub later_frame : (s : ScenarioParts) (f g : ℕ) → f < g → (a b : Delivery) → ((rank : ℕ) × IsFrom s rank f a) → ((rank : ℕ) × IsFrom s rank g b)
+    → InOrder a b
 unfolding before_slot
 later_frame s f g less a b first second =
     let u = a.from in

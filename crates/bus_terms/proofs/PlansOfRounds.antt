@@ -12,7 +12,8 @@ use Rattle.bus_rules.specs.Tuning.{holds_in, hosts_in, is_scan}
 use Rattle.bus_terms.specs.Bus.{state_at}
 use Rattle.bus_terms.specs.FloodOfText.{ids}
 use Rattle.bus_terms.specs.Rounds.{first_node, plan_in, round_plan}
-use Rattle.bus_terms.specs.ScriptedStates.{is_on_and, setup_in}
+use Rattle.scenario_text.specs.Setups.{setup_of}
+use Rattle.bus_terms.specs.ScriptedStates.{is_on_and}
 use Rattle.bus_terms.proofs.HostsOfRanks.{IsRightfulState, due_plans, rightful}
 use Rattle.bus_terms.proofs.SameRounds.{found_passes}
 
@@ -46,9 +47,9 @@ round_contends s rank f p is =
     by_leader : (h o : Option ℕ) → first_node s (is_on_and hosting) g ≡ h → first_node s (is_on_and holding) g ≡ o
         → option_and_then (λ v. plan_in (g v)) (option_or h o) ≡ Some p → p.contend ≡ s.profile.contend
     by_leader (Some v) o first second at =
-        of_leader (setup_in s v) p hosting (λ c. due_plans rank f c.tune) (g v) (rightful s f v)
+        of_leader (setup_of s v) p hosting (λ c. due_plans rank f c.tune) (g v) (rightful s f v)
         (found_passes (λ u. is_on_and hosting (g u)) (ids s.nodes) v first) at
     by_leader None (Some v) first second at =
-        of_leader (setup_in s v) p holding (λ c. held_plans rank f c.tune) (g v) (rightful s f v)
+        of_leader (setup_of s v) p holding (λ c. held_plans rank f c.tune) (g v) (rightful s f v)
         (found_passes (λ u. is_on_and holding (g u)) (ids s.nodes) v second) at
     by_leader None None first second at = absurd (cc)

@@ -18,7 +18,7 @@ use Rattle.bus_rules.specs.Streams.{WaitingPacket, first_waiting}
 use Rattle.bus_terms.specs.FloodOfText.{ids}
 use Rattle.bus_terms.specs.Flooding.{Setting, moment, has, accepted, Accepts, STEPS}
 use Rattle.bus_terms.specs.RelayPaths.{HasPath}
-use Rattle.bus_terms.specs.ScriptedStates.{setup_in}
+use Rattle.scenario_text.specs.Setups.{setup_of}
 use Rattle.bus_terms.specs.Rounds.{Slot, slot_of_round, opened_at, message_said, takes_part, accepted_at, closed_slot_of, before_slot, delivery_in_slot}
 use Rattle.bus_terms.specs.Received.{IsReceived}
 use Rattle.bus_terms.proofs.FirstHearings.{accepted_first}
@@ -51,7 +51,7 @@ module _ (s : ScenarioParts) (rank f owner : ℕ) where
   said_in_data v (StateOff boots) m is = absurd (cc)
   said_in_data v (StateOn c) m is = by_test (is_member rank f c) is
     where
-      by_test : (b : Bool) → message_said (if b then Some (opened_slot (setup_in s v) f (DataSlot owner) c) else None) ≡ Some m
+      by_test : (b : Bool) → message_said (if b then Some (opened_slot (setup_of s v) f (DataSlot owner) c) else None) ≡ Some m
           → (v ≡ node_of owner) × ((d : Data) × (m ≡ DataOf d))
       by_test false is = absurd (cc)
       by_test true is = said_from owner v c (first_waiting c.streams (stream_of owner)) m is

@@ -19,7 +19,8 @@ use Rattle.bus_terms.specs.Bus.{state_at}
 use Rattle.bus_terms.specs.FloodOfText.{ids}
 use Rattle.bus_terms.specs.Flooding.{has}
 use Rattle.bus_terms.specs.Rounds.{before_slot, round_plan}
-use Rattle.bus_terms.specs.ScriptedStates.{is_on_and, setup_in}
+use Rattle.scenario_text.specs.Setups.{setup_of}
+use Rattle.bus_terms.specs.ScriptedStates.{is_on_and}
 use Rattle.bus_terms.proofs.KeptInRounds.{slots_keep}
 use Rattle.bus_terms.proofs.HostedRounds.{Hosting, leads}
 use Rattle.bus_terms.proofs.KeptByHosts.{room}
@@ -86,9 +87,9 @@ module _ (s : ScenarioParts) (rank f : ℕ) (p : Plan) (led : round_plan s rank 
   idle : IsIdle rank f (state_at s f v) → IsIdle rank f (StateOn c)
   idle is = subst (IsIdle rank f) at
       (slots_keep s f (λ w x. w ≡ v → IsIdle rank f x) (λ m. Unit {0})
-      (λ w part d is same. opens (setup_in s w) rank f part d (is same))
+      (λ w part d is same. opens (setup_of s w) rank f part d (is same))
       (λ w part d m is said. tt)
-      (λ w part b d o told is same. closes (setup_in s w) rank f part b d o (is same)) rank p (state_at s f)
+      (λ w part b d o told is same. closes (setup_of s w) rank f part b d o (is same)) rank p (state_at s f)
       (λ w same. subst (λ (u : ℕ). IsIdle rank f (state_at s f u)) (sym same) is) j v refl)
 
   pub room_before : length c.kept < slots_named s.profile.contend

@@ -9,22 +9,22 @@ use Rattle.bus_rules.specs.Cores.{Core, is_member}
 use Rattle.bus_rules.specs.Slots.{Opened, opened_slot, data_of}
 use Rattle.bus_rules.specs.States.{State, StateOff, StateOn}
 use Rattle.bus_rules.specs.Streams.{WaitingPacket, first_waiting}
-use Rattle.bus_terms.specs.ScriptedStates.{setup_in}
+use Rattle.scenario_text.specs.Setups.{setup_of}
 use Rattle.bus_terms.specs.Rounds.{opened_at, message_said}
 
 -- the window of a node that is on
 pub windowed : (s : ScenarioParts) (rank f : ℕ) (part : Part) (v : ℕ) (c : Core) → is_member rank f c ≡ true
-    → opened_at s rank f part v (StateOn c) ≡ Some (opened_slot (setup_in s v) f part c)
+    → opened_at s rank f part v (StateOn c) ≡ Some (opened_slot (setup_of s v) f part c)
 windowed s rank f part v c member = rw member refl
 
 -- who has a window is on, and a member
 pub window_of : (s : ScenarioParts) (rank f : ℕ) (part : Part) (v : ℕ) (x : State) (o : Opened) → opened_at s rank f part v x ≡ Some o
-    → (c : Core) × (x ≡ StateOn c) × (is_member rank f c ≡ true) × (o ≡ opened_slot (setup_in s v) f part c)
+    → (c : Core) × (x ≡ StateOn c) × (is_member rank f c ≡ true) × (o ≡ opened_slot (setup_of s v) f part c)
 window_of s rank f part v (StateOff boots) o is = absurd (cc)
 window_of s rank f part v (StateOn c) o is = by_test (is_member rank f c) refl is
   where
-    by_test : (b : Bool) → is_member rank f c ≡ b → (if b then Some (opened_slot (setup_in s v) f part c) else None) ≡ Some o
-        → (d : Core) × (StateOn c ≡ StateOn d) × (is_member rank f d ≡ true) × (o ≡ opened_slot (setup_in s v) f part d)
+    by_test : (b : Bool) → is_member rank f c ≡ b → (if b then Some (opened_slot (setup_of s v) f part c) else None) ≡ Some o
+        → (d : Core) × (StateOn c ≡ StateOn d) × (is_member rank f d ≡ true) × (o ≡ opened_slot (setup_of s v) f part d)
     by_test false at is = absurd (cc)
     by_test true at is = (c, refl, at, cc)
 

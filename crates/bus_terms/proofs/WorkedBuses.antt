@@ -147,7 +147,7 @@ unfolding before_frame before_slot moment schedule_heard host_plan plan_round le
 two_contention_slots_costs = (refl, refl, refl)
 
 -- backup host takes over
-abbrev backup : ScenarioParts
+abbrev pub backup : ScenarioParts
 backup = record {
   profile = one;
   frames = 32;

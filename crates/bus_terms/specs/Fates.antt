@@ -91,10 +91,13 @@ is_latency a b = (a.node == b.node) && (a.stream == b.stream) && (a.at == b.at) 
 abbrev pub counted : ScenarioParts → Latency → LatencyCount
 counted s a = record { latency = a; count = count_by (is_latency a) (bus_latencies s) }
 
--- all latencies that may be, by node, stream, receiver and frames
+-- all latencies of a stream that may be, by receiver and frames
+abbrev pub latencies_of : ScenarioParts → ℕ → ℕ → List Latency
+latencies_of s v i = flat_map (λ w. map (λ n. record { node = v; stream = i; at = w; frames = n }) (frames_of s)) (ids s.nodes)
+
+-- all that may be, by node and stream too
 abbrev pub all_latencies : ScenarioParts → List Latency
-all_latencies s =
-    flat_map (λ v. flat_map (λ i. flat_map (λ w. map (λ n. record { node = v; stream = i; at = w; frames = n }) (frames_of s)) (ids s.nodes)) streams) (ids s.nodes)
+all_latencies s = flat_map (λ v. flat_map (latencies_of s v) streams) (ids s.nodes)
 
 -- how often each latency came, for those that did
 abbrev pub latency_counts : ScenarioParts → List LatencyCount

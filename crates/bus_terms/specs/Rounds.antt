@@ -16,7 +16,8 @@ use Rattle.bus_rules.specs.Slots.{Message, Opened, Closed, part_of, opened_slot,
 use Rattle.bus_rules.specs.States.{State, StateOff, StateOn}
 use Rattle.bus_terms.specs.FloodOfText.{ids}
 use Rattle.bus_terms.specs.Flooding.{Setting, accepted}
-use Rattle.bus_terms.specs.ScriptedStates.{is_on_and, setup_in}
+use Rattle.scenario_text.specs.Setups.{setup_of}
+use Rattle.bus_terms.specs.ScriptedStates.{is_on_and}
 
 abbrev pub plan_in : State → Option Plan
 plan_in (StateOff boots) = None
@@ -37,7 +38,7 @@ round_plan s rank f states = option_and_then (λ v. plan_in (states v)) (leader 
 -- open: each member of the round has a window in each slot
 abbrev pub opened_at : ScenarioParts → ℕ → ℕ → Part → ℕ → State → Option Opened
 opened_at s rank f part v (StateOff boots) = None
-opened_at s rank f part v (StateOn c) = if is_member rank f c then Some (opened_slot (setup_in s v) f part c) else None
+opened_at s rank f part v (StateOn c) = if is_member rank f c then Some (opened_slot (setup_of s v) f part c) else None
 
 -- what is said in a window, if its node initiates
 abbrev pub message_said : Option Opened → Option Message
@@ -75,10 +76,10 @@ accepted_at x v = option_and_then (λ a. message_said (x.window a.0)) (accepted 
 
 -- close: a member's window always closes, a scanning node has one only if it accepted
 abbrev pub closed_slot_of : ScenarioParts → ℕ → Part → ℕ → Option Opened → Option Message → State → Option Closed
-closed_slot_of s f part v (Some o) heard x = Some (closed_slot (setup_in s v) f part (is_some o.message) o.core heard)
+closed_slot_of s f part v (Some o) heard x = Some (closed_slot (setup_of s v) f part (is_some o.message) o.core heard)
 closed_slot_of s f part v None None x = None
 closed_slot_of s f part v None (Some m) (StateOff boots) = None
-closed_slot_of s f part v None (Some m) (StateOn c) = Some (closed_slot (setup_in s v) f part false c (Some m))
+closed_slot_of s f part v None (Some m) (StateOn c) = Some (closed_slot (setup_of s v) f part false c (Some m))
 
 abbrev pub closed_at : ScenarioParts → ℕ → Slot → (ℕ → State) → ℕ → Option Closed
 closed_at s f x states v = closed_slot_of s f x.part v (x.window v) (accepted_at x v) (states v)

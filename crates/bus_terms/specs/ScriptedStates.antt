@@ -1,17 +1,14 @@
 -- What the script and the ends of frames do to the nodes of the bus, and which packets are lost before they are queued.
-use Rattle.std.specs.Prelude.{ℕ, List, Bool, false, ◌&&◌, ◌==◌, if◌then◌else◌, Some, None, fold, filter}
+use Rattle.std.specs.Prelude.{ℕ, List, Bool, true, false, ◌&&◌, ◌==◌, if◌then◌else◌, Some, None, fold, filter}
 use Rattle.std.specs.declared.option.Option.{Option}
 use Rattle.scenario_text.specs.ScenarioParts.{ScenarioParts}
+use Rattle.scenario_text.specs.Setups.{setup_of}
 use Rattle.bus_rules.specs.declared.act.Act.{Act}
 use Rattle.bus_rules.specs.declared.act.Act.TheVariants.{Put}
 use Rattle.scenario_text.specs.declared.script.ScriptLine.{ScriptLine}
 use Rattle.bus_rules.specs.declared.delivery.DropLine.{DropLine}
-use Rattle.bus_rules.specs.Cores.{Core, Setup, setup_for, frame_ended}
+use Rattle.bus_rules.specs.Cores.{Core, frame_ended}
 use Rattle.bus_rules.specs.States.{State, StateOff, StateOn, state_after_act, at_core, loses}
-
--- what is fixed for this node of a scenario
-abbrev pub setup_in : ScenarioParts → ℕ → Setup
-setup_in s v = setup_for s.profile s.hosts s.sends v
 
 -- a test of a node's core, which fails where the node is off
 abbrev pub is_on_and : (Core → Bool) → State → Bool
@@ -39,4 +36,9 @@ told_above above l = filter (λ m. (m.node == l.node) && (m.frame == l.frame)) a
 
 -- the end of frame f at each node
 abbrev pub states_after_end : ScenarioParts → ℕ → (ℕ → State) → ℕ → State
-states_after_end s f states v = at_core (frame_ended (setup_in s v) f) (states v)
+states_after_end s f states v = at_core (frame_ended (setup_of s v) f) (states v)
+
+-- whether a node is on, and how often it booted
+abbrev pub power : State → Bool × ℕ
+power (StateOff boots) = (false, boots)
+power (StateOn c) = (true, c.boot)

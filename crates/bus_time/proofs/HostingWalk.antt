@@ -27,7 +27,8 @@ use Rattle.air_log.specs.Devices.{Device, Power, PowerOff, PowerOn, Listening, O
 use Rattle.air_log.specs.ScriptedDevices.{device_after_on, device_after_off, with_new_core}
 use Rattle.air_log.specs.Lawful.{heard_by}
 use Rattle.air_log.specs.Safe.{sender_hosts, is_hosting}
-use Rattle.air_log.specs.Trails.{setup_of, sending_from, tune_of}
+use Rattle.scenario_text.specs.Setups.{setup_of}
+use Rattle.air_log.specs.Trails.{sending_from, tune_of}
 use Rattle.lwb_base.proofs.Elements.{contains_head}
 use Rattle.law_trails.specs.Phases.{Phase, Lines, Hearings, End, Alarms, Start, Over, IsNextLineOf, IsNextAlarm, device_at}
 use Rattle.law_trails.specs.Walks.{Now, Keeps, device_after_row, with_start}

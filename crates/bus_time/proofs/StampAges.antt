@@ -29,7 +29,8 @@ use Rattle.law_safety.proofs.RunFacts.{frame_begins, frame_ends, host_is, run_fi
 use Rattle.law_safety.proofs.RunSendings.{begins_flood, of_flood}
 use Rattle.law_safety.proofs.InvariantHolds.{whole_run}
 use Rattle.bus_time.specs.Stamps.{IsReference, tick_by}
-use Rattle.bus_time.specs.StampErrors.{BeganFlood, DifferByLess, StampsStayClose, drifted, never_reached, slack}
+use Rattle.law_safety.specs.AgreeingNodes.{DifferByLess}
+use Rattle.bus_time.specs.StampErrors.{BeganFlood, StampsStayClose, drifted, never_reached, slack}
 use Rattle.bus_time.specs.StampLaws.{BeginsData}
 use Rattle.bus_time.proofs.StampErrors.{before, clock, errs, flood, host_clock, later_frame, slot_short, starts}
 

@@ -2,6 +2,7 @@
 use Rattle.std.proofs.Common.{◌≡◌, ℕ, ◌+◌, ◌-◌, ◌*◌, ◌^◌, ◌<◌, ◌≤◌, inl, inr, List, Bool, true, false, Some, refl, sym, ◌∙◌, ap, arith}
 use Rattle.std.specs.Prelude.{slice_get}
 use Rattle.std.proofs.Math.Nat.{mul-le-mul_right}
+use Rattle.lwb_base.specs.declared.limits.TheConstants.{MOST_FRAMES}
 use Rattle.lwb_base.specs.Profile.{airtime}
 use Rattle.tick_clock.specs.Clocks.{IsClock}
 use Rattle.time_reference.specs.Budgets.{budget_of}
@@ -45,7 +46,7 @@ module _ (s : ScenarioParts) (clocks : ℕ → ℕ → ℕ) (now ahead : Words) 
   pub in_run : x.start < run_end s
   in_run = (sent_lasts s clocks air may.lawful.trails x may.there).0
 
-  ticks : run_end s ≤ 4096 * s.profile.frame
+  ticks : run_end s ≤ MOST_FRAMES * s.profile.frame
   ticks = mul-le-mul_right s.profile.frame may.driven.sound.few_frames
 
   clock : IsClock (clocks x.node)

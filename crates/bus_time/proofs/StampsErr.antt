@@ -16,7 +16,8 @@ use Rattle.law_safety.proofs.RunFacts.{host_is, host_named}
 use Rattle.law_safety.proofs.RunSendings.{of_flood}
 use Rattle.law_safety.proofs.InvariantHolds.{whole_run}
 use Rattle.bus_time.specs.Stamps.{AreStamps, HasReference, IsStamp, stamped}
-use Rattle.bus_time.specs.StampErrors.{AllErrLittle, DifferByLess, ErrsByAge, ErrsLittle, drifted, never_reached, slack}
+use Rattle.law_safety.specs.AgreeingNodes.{DifferByLess}
+use Rattle.bus_time.specs.StampErrors.{AllErrLittle, ErrsByAge, ErrsLittle, drifted, never_reached, slack}
 use Rattle.bus_time.specs.StampLaws.{BeginsData}
 use Rattle.bus_time.specs.declared.stamp.Stamp.{Stamp}
 use Rattle.bus_time.proofs.DataHosts.{hosts_named}

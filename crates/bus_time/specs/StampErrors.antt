@@ -1,5 +1,5 @@
 -- How far a stamp is from what the clock of the host reads.
-use Rattle.std.specs.Prelude.{◌≡◌, ℕ, ◌+◌, ◌-◌, ◌*◌, ◌/◌, ◌<◌, ◌==◌, List, Contains, true, false, Some, if◌then◌else◌}
+use Rattle.std.specs.Prelude.{◌≡◌, ℕ, ◌+◌, ◌-◌, ◌*◌, ◌/◌, ◌==◌, List, Contains, true, false, Some, if◌then◌else◌}
 use Rattle.std.specs.List.{AllZip}
 use Rattle.lwb_base.specs.Profile.{Numbers, is_one}
 use Rattle.tick_clock.specs.Clocks.{Near}
@@ -14,6 +14,7 @@ use Rattle.air_log.specs.declared.entry.Entry.{Entry}
 use Rattle.air_log.specs.Entries.{sendings_of}
 use Rattle.air_log.specs.Lawful.{Lawful}
 use Rattle.air_log.specs.Safe.{SameSlot, sender_hosts}
+use Rattle.law_safety.specs.AgreeingNodes.{DifferByLess}
 use Rattle.law_safety.specs.Invariant.{IsDrivenWell}
 use Rattle.law_safety.specs.SentPlans.{IsHostOf}
 use Rattle.bus_time.specs.Stamps.{IsReference, HasReference, stamped, tick_by}
@@ -45,11 +46,6 @@ StampsErrLittle =
 -- no stamp errs by this many ticks: 0.7 ms with frames of 4 s, and 0.92 ms with those of 5 s
 abbrev pub never_reached : Numbers → ℕ
 never_reached p = if is_one p then 44960 else 58300
-
--- m and n differ by less than d
-pub record DifferByLess (m n d : ℕ) : Type 0 where
-  pub below : m < n + d
-  pub above : n < m + d
 
 -- a reference is of the frame itself or of one of the four before, so there is a bound for every age
 abbrev pub StampsStayClose : Type 0

@@ -21,7 +21,7 @@ pub record BeginsData (air : List Entry) (x : Sending) : Type 0 where
   pub data_ : Data
   pub says : message_of x.packet ≡ Some (DataOf data_)
 
--- who begins the flood of a data packet hosts, by its trace, if and only if the scenario names it as host of the channel
+-- who begins the flood of a data packet hosts, by its trail, if and only if the scenario names it as host of the channel
 abbrev pub DataHostsLaw : Type 0
 DataHostsLaw =
     (s : ScenarioParts) (clocks : ℕ → ℕ → ℕ) (air : List Entry) → IsDrivenWell s clocks → Lawful s clocks air

@@ -74,7 +74,7 @@ module _ (s : ScenarioParts) (air : List Entry) (x : Sending) where
     pub reference : IsReference ahead heard
     pub is : tick ≡ tick_by clocks ahead heard
 
-  -- a host by its trace takes its own clock
+  -- a host by its trail takes its own clock
   pub record IsTick (clocks : ℕ → ℕ → ℕ) (tick : ℕ) : Type 0 where
     pub host : sender_hosts s clocks air x ≡ true → tick ≡ clocks x.node x.start
     pub other : sender_hosts s clocks air x ≡ false → HasReference clocks tick

@@ -3,7 +3,7 @@
 ghost use Rattle.bus_time.specs.StampErrors.{StampsErrLittle, StampsStayClose};
 ghost use Rattle.bus_time.specs.StampLaws.{DataHostsLaw, OneListLaw};
 
-/// Who begins the flood of a data packet along a valid (`Lawful`) log hosts, by its trace, if and only if the scenario names it as
+/// Who begins the flood of a data packet along a valid (`Lawful`) log hosts, by its trail, if and only if the scenario names it as
 /// the host of the packet's channel.
 pub fn data_of_a_named_host_is_sent_as_a_host()
     ensures { DataHostsLaw }

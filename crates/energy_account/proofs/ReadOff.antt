@@ -1,4 +1,4 @@
--- What a trace over a valid log tells is the energy by the log.
+-- What a trail over a valid log tells is the energy by the log.
 use Rattle.std.proofs.Common.{◌≡◌, ℕ, List, [], ◌∷◌, true, map, reverse, sum_by, refl, sym, ◌∙◌, ap, arith}
 use Rattle.std.proofs.lemmas.Bool.{cond-true}
 use Rattle.std.proofs.lemmas.List.Sums.{sum_by-cons}
@@ -37,7 +37,7 @@ sum_under g f (y ∷ ys) =
 pub sum_turned : {X : Type 0} (f : X → ℕ) (xs : List X) → sum_by f (reverse xs) ≡ sum_by f xs
 sum_turned f xs = sum_by-IsPermutation f xs (reverse xs) (IsPermutation-reverse xs)
 
--- the entries of a trace lie apart
+-- the entries of a trail lie apart
 module _ (s : ScenarioParts) (v : ℕ) (clock : ℕ → ℕ) (hs : List Reception) where
   pub sent_apart : SendingsApart (trail s v clock hs).made.sent
   sent_apart =

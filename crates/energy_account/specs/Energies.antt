@@ -15,7 +15,7 @@ sending_time x = x.end - x.start
 abbrev pub tuning_time : Tuning → ℕ
 tuning_time t = t.end - t.start
 
--- of node v in the log `air` of a run over these clocks: its Sent entries, what the windows of its trace count, the frames
+-- of node v in the log `air` of a run over these clocks: its Sent entries, what the windows of its trail count, the frames
 -- at whose start it scans, and its Tuned entries
 abbrev pub energy_of : ScenarioParts → (ℕ → ℕ → ℕ) → List Entry → ℕ → Energy
 energy_of s clocks air v = record {

@@ -1,4 +1,4 @@
--- The energy that is read off what a trace tells, and that the times of its entries lie apart.
+-- The energy that is read off what a trail tells, and that the times of its entries lie apart.
 use Rattle.std.specs.Prelude.{ℕ, ◌-◌, List, sum_by}
 use Rattle.radio_model.specs.declared.sending.Sending.{Sending}
 use Rattle.radio_model.specs.OnAir.{Tuning}

@@ -1,4 +1,4 @@
-//! The energy of one node, from its trace.
+//! The energy of one node, from its trail.
 
 ghost use Rattle.std.specs.Prelude.{◌≡◌, reverse, sum_by};
 ghost use Rattle.energy_account.specs.Apart.{AreApart};
@@ -21,7 +21,7 @@ pub struct Energy {
     pub on: u64,
 }
 
-/// The energy of a trace. Its transmissions do not overlap, nor do its tunings.
+/// The energy of a trail. Its transmissions do not overlap, nor do its tunings.
 pub fn energy_told(trail: &Trail) -> Energy
     requires sent { SendingsApart trail.now.sent }
     requires tuned { TuningsApart (reverse trail.now.tuned) }

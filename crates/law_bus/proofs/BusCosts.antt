@@ -39,7 +39,7 @@ costs s clocks air lawful v known =
     same_cost _ _ (sent_same slots_are_runs s clocks air lawful v known) (windows_same slots_are_runs s clocks air lawful v known)
     (scans_law (slots_heard slots_are_runs) s clocks air lawful v known)
 
--- the log has the transmissions of each trace
+-- the log has the transmissions of each trail
 pub energies : EnergyLaw
 energies s clocks air lawful v known =
     let in_log : sum_by sending_time (sent_by air v) ≡ sum_by sending_time (trail_in s clocks air v).made.sent =

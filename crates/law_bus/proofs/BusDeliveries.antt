@@ -15,7 +15,7 @@ use Rattle.bus_terms.specs.FloodOfText.{ids}
 use Rattle.bus_terms.specs.Rounds.{delivery_in_slot, round_deliveries, round_plan, slot_deliveries, slots_of}
 use Rattle.bus_terms.proofs.OrderedDeliveries.{mapped}
 use Rattle.law_terms.specs.SlotLaws.{IsRound}
-use Rattle.law_bus.proofs.NumbersOfRanges.{in_range, from_range}
+use Rattle.lwb_base.proofs.NumbersOfRanges.{in_range, from_range}
 
 -- where a delivery is made
 pub record IsMadeOnBus (s : ScenarioParts) (a : Delivery) : Type 0 where

@@ -19,7 +19,7 @@ use Rattle.law_trails.proofs.SentInTrails.{sent_lasts}
 use Rattle.law_safety.proofs.RunFacts.{frame_below}
 use Rattle.law_windows.specs.WindowTimes.{IsInTime}
 use Rattle.law_windows.proofs.WindowFacts.{open_in_time}
-use Rattle.bus_terms.specs.ScriptedStates.{setup_in}
+use Rattle.scenario_text.specs.Setups.{setup_of}
 use Rattle.bus_terms.specs.Rounds.{opened_at, round_plan}
 use Rattle.bus_terms.specs.Bus.{state_at}
 use Rattle.law_terms.specs.LawfulRuns.{IsLawfulRun}
@@ -52,7 +52,7 @@ module _ (heards : SlotHeardLaw) where
   opens_at : (s : ScenarioParts) (rank f j v : ℕ) (p : Plan) (x : State) → is_some (opened_at s rank f (part_of p j) v x) ≡ true
       → (c : Core) × (x ≡ StateOn c) × (is_member rank f c ≡ true)
   opens_at s rank f j v p (StateOff boots) is = absurd (true≢false (sym is))
-  opens_at s rank f j v p (StateOn c) is = (c, refl, by_test (is_member rank f c) (Some (opened_slot (setup_in s v) f (part_of p j) c)) is)
+  opens_at s rank f j v p (StateOn c) is = (c, refl, by_test (is_member rank f c) (Some (opened_slot (setup_of s v) f (part_of p j) c)) is)
     where
       by_test : (b : Bool) (o : Option Opened) → is_some (if b then o else None) ≡ true → b ≡ true
       by_test true o is = refl
@@ -66,7 +66,7 @@ module _ (heards : SlotHeardLaw) where
             let w = has.window in
             ap (λ (x : State). is_some (opened_at s rank f (part_of p j) v x)) (start.core v w has.here has.by_alarm)
             ∙ ap (λ (o : Option Opened). is_some o)
-            (cond-true (is_member rank f w.before.core) (Some (opened_slot (setup_in s v) f (part_of p j) w.before.core)) None
+            (cond-true (is_member rank f w.before.core) (Some (opened_slot (setup_of s v) f (part_of p j) w.before.core)) None
             (start.member v w has.here has.by_alarm))),
       )
 

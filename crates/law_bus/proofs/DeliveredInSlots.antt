@@ -10,10 +10,9 @@ use Rattle.node_core.specs.Rows.{accepted_in}
 use Rattle.scenario_text.specs.ScenarioParts.{ScenarioParts}
 use Rattle.scenario_text.specs.FloodParts.{knows}
 use Rattle.air_log.specs.declared.entry.Entry.{Entry}
-use Rattle.air_log.specs.Trails.{setup_of}
+use Rattle.scenario_text.specs.Setups.{setup_of}
 use Rattle.air_log.specs.WindowLogs.{WindowLog, Closing}
 use Rattle.law_windows.specs.WindowDeliveries.{delivery_at_closing}
-use Rattle.bus_terms.specs.ScriptedStates.{setup_in}
 use Rattle.bus_terms.specs.Rounds.{accepted_at, before_slot, closed_slot_of, delivery_in_slot}
 use Rattle.bus_terms.specs.Bus.{state_at}
 use Rattle.bus_terms.proofs.DeliveredSteps.{closed_data, said_data}
@@ -53,7 +52,7 @@ module _ (s : ScenarioParts) (clocks : ℕ → ℕ → ℕ) (air : List Entry) (
     by_kind true alarm =
         let o = window_is s clocks air lawful rank f in_run j p start heard v w here alarm in
         ap (λ (x : Option Opened). brings (data_by s f (part_of p j) v x m (states v))) o
-        ∙ ap brings (member_data s f (part_of p j) v (opened_slot (setup_in s v) f (part_of p j) w.before.core) m (states v))
+        ∙ ap brings (member_data s f (part_of p j) v (opened_slot (setup_of s v) f (part_of p j) w.before.core) m (states v))
     by_kind false joined =
         ap (λ (x : Option Opened). brings (data_by s f (part_of p j) v x m (states v)))
         (no_window s clocks air lawful rank f in_run j p start heard v w here joined)

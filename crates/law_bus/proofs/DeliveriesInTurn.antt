@@ -16,7 +16,8 @@ use Rattle.scenario_text.specs.FloodParts.{knows}
 use Rattle.scenario_text.specs.FloodDrafts.{Climbs}
 use Rattle.air_log.specs.declared.entry.Entry.{Entry}
 use Rattle.air_log.specs.Lawful.{trail_in}
-use Rattle.air_log.specs.Trails.{run_end, setup_of}
+use Rattle.scenario_text.specs.Setups.{setup_of}
+use Rattle.air_log.specs.Trails.{run_end}
 use Rattle.air_log.specs.WindowLogs.{WindowLog, Closing}
 use Rattle.lwb_base.proofs.Elements.{contains_cases, contains_head, contains_tail, not_in_none}
 use Rattle.lwb_base.proofs.Lists.{each_more}

@@ -17,7 +17,7 @@ use Rattle.air_log.specs.Trails.{before_tick, frame_start}
 use Rattle.air_log.specs.WindowLogs.{WindowLog}
 use Rattle.law_safety.specs.SentPlans.{IsPlanned}
 use Rattle.law_safety.proofs.RunFacts.{frame_lasts}
-use Rattle.bus_terms.specs.ScriptedStates.{setup_in}
+use Rattle.scenario_text.specs.Setups.{setup_of}
 use Rattle.bus_terms.specs.Rounds.{round_of_rank, rounds, rank_in, after_round, round_plan}
 use Rattle.bus_terms.specs.Bus.{state_at, before_frame}
 use Rattle.bus_terms.proofs.OtherRanks.{IsElsewhere, slots_elsewhere}
@@ -77,13 +77,13 @@ module _ (heards : SlotHeardLaw) (s : ScenarioParts) (clocks : ℕ → ℕ → �
       states = state_at s f
 
       abbrev After : Type 0
-      After = state_of_power (power_after s clocks air v f) ≡ at_core (frame_ended (setup_in s v) f) (rounds s f states v)
+      After = state_of_power (power_after s clocks air v f) ≡ at_core (frame_ended (setup_of s v) f) (rounds s f states v)
 
       off_then : (boots : ℕ) → power_at s clocks air v f ≡ PowerOff boots → StaysOff s clocks air v f boots → After
       off_then boots off stays =
           let at : states v ≡ StateOff boots = sym (found v known) ∙ ap state_of_power off in
           stays.off
-          ∙ ap (at_core (frame_ended (setup_in s v) f)) (sym
+          ∙ ap (at_core (frame_ended (setup_of s v) f)) (sym
           (round_off s (rank_in (states v)) f v states boots at (round_plan s (rank_in (states v)) f states) ∙ at))
 
       module _ (n : Node) (on : power_at s clocks air v f ≡ PowerOn n) (course : IsCourse s clocks air v f n) where
@@ -93,10 +93,10 @@ module _ (heards : SlotHeardLaw) (s : ScenarioParts) (clocks : ℕ → ℕ → �
         at : states v ≡ StateOn n.core
         at = sym (found v known) ∙ ap state_of_power on
 
-        of_rank : (c : Core) → round_of_rank s rank f states v ≡ StateOn c → at_core (frame_ended (setup_in s v) f)
-            (rounds s f states v) ≡ StateOn (frame_ended (setup_in s v) f c)
-        of_rank c is = ap (λ (x : State). at_core (frame_ended (setup_in s v) f) (round_of_rank s (rank_in x) f states v)) at
-            ∙ ap (at_core (frame_ended (setup_in s v) f)) is
+        of_rank : (c : Core) → round_of_rank s rank f states v ≡ StateOn c → at_core (frame_ended (setup_of s v) f)
+            (rounds s f states v) ≡ StateOn (frame_ended (setup_of s v) f c)
+        of_rank c is = ap (λ (x : State). at_core (frame_ended (setup_of s v) f) (round_of_rank s (rank_in x) f states v)) at
+            ∙ ap (at_core (frame_ended (setup_of s v) f)) is
 
         as_of : (w : WindowLog) → IsWindowIn s clocks air v f w → IsWindowOf s clocks air rank f w.slot v w
         as_of w here = record { there = here.there; frame = here.frame; channel = course.ranks w here; slot = refl }

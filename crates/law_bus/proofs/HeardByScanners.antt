@@ -16,7 +16,8 @@ use Rattle.air_log.specs.declared.entry.Entry.{Entry}
 use Rattle.air_log.specs.Devices.{Device, Power, PowerOff, PowerOn, Listening}
 use Rattle.air_log.specs.Entries.{HasHeardEntry}
 use Rattle.air_log.specs.Lawful.{heard_by, trail_in}
-use Rattle.air_log.specs.Trails.{Reception, ending_at, device_after_reception, run_end, setup_of}
+use Rattle.scenario_text.specs.Setups.{setup_of}
+use Rattle.air_log.specs.Trails.{Reception, ending_at, device_after_reception, run_end}
 use Rattle.air_log.specs.WindowLogs.{WindowLog, Closing}
 use Rattle.lwb_base.proofs.Elements.{in_filtered, contains_head}
 use Rattle.air_log.proofs.SendingsKept.{profile_lasts}

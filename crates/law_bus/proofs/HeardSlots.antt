@@ -16,7 +16,8 @@ use Rattle.node_core.specs.Rows.{flood_for}
 use Rattle.scenario_text.specs.ScenarioParts.{ScenarioParts}
 use Rattle.scenario_text.specs.FloodParts.{knows}
 use Rattle.air_log.specs.declared.entry.Entry.{Entry}
-use Rattle.air_log.specs.Trails.{run_end, setup_of}
+use Rattle.scenario_text.specs.Setups.{setup_of}
+use Rattle.air_log.specs.Trails.{run_end}
 use Rattle.air_log.specs.WindowLogs.{WindowLog, Happening, HeardAt, SentAt}
 use Rattle.law_trails.proofs.HeedfulLogs.{lawful_is_heedful}
 use Rattle.law_trails.proofs.OtherCounters.{told_again}
@@ -28,7 +29,6 @@ use Rattle.bus_terms.specs.Flooding.{Setting, Accepts, accepted, has}
 use Rattle.bus_terms.specs.Rounds.{Slot, accepted_at, before_slot, opened_at, message_said}
 use Rattle.bus_terms.specs.Rounds.{takes_part as takes_part_by}
 use Rattle.bus_terms.specs.Bus.{state_at}
-use Rattle.bus_terms.specs.ScriptedStates.{setup_in}
 use Rattle.bus_terms.proofs.FirstHearings.{accepted_first, heard_in_time}
 use Rattle.bus_terms.proofs.ReceivedByPaths.{in_whole, of_filtered}
 use Rattle.bus_terms.proofs.ReceivedInRounds.{accepted_none}
@@ -82,7 +82,7 @@ module _ (s : ScenarioParts) (clocks : ℕ → ℕ → ℕ) (air : List Entry) (
     abbrev S : Setup
     S = setup_of s v
 
-    window_is : x.window v ≡ Some (opened_slot (setup_in s v) f (part_of p j) w.before.core)
+    window_is : x.window v ≡ Some (opened_slot (setup_of s v) f (part_of p j) w.before.core)
     window_is = ap (opened_at s rank f (part_of p j) v) (start.core v w here alarm) ∙ rw (start.member v w here alarm) refl
 
     part_is : part_of w.before.core.plan w.slot ≡ part_of p j
@@ -106,7 +106,7 @@ module _ (s : ScenarioParts) (clocks : ℕ → ℕ → ℕ) (air : List Entry) (
       by_state (StateOn c) at is = elim (cases_Bool (is_member rank f c)) [
         | inl takes ↦ start.window v c known at takes
         | inr other ↦ absurd (false≢true (ap
-            (λ (b : Bool). is_some (message_said (if b then Some (opened_slot (setup_in s v) f (part_of p j) c) else None))) (sym other) ∙ is))
+            (λ (b : Bool). is_some (message_said (if b then Some (opened_slot (setup_of s v) f (part_of p j) c) else None))) (sym other) ∙ is))
       ]
 
   -- a window initiated where its node says something on the bus

@@ -1,4 +1,4 @@
--- A window that is there at some tick is among those of the trace, and one that is open then closes later.
+-- A window that is there at some tick is among those of the trail, and one that is open then closes later.
 use Rattle.std.proofs.Common.{◌≡◌, ℕ, zero, suc, ◌<◌, ◌≤◌, inl, inr, List, [], ◌∷◌, ◌==◌, Some, None, Option, Contains, sym, ◌∙◌, ap, subst, arith}
 use Rattle.std.specs.Option.{IfSome}
 use Rattle.std.proofs.lemmas.Bool.{cases_lt, cond_both}
@@ -14,7 +14,8 @@ use Rattle.radio_model.specs.OnAir.{Tuning}
 use Rattle.radio_model.specs.declared.sending.Sending.{Sending}
 use Rattle.scenario_text.specs.ScenarioParts.{ScenarioParts}
 use Rattle.air_log.specs.Devices.{Device, Listening, OrderedPacket, obeyed, silenced, tunes, listens_to}
-use Rattle.air_log.specs.Trails.{Reception, setup_of, device_after_end, alarmed, before_start, begun_by, starts, before_tick}
+use Rattle.scenario_text.specs.Setups.{setup_of}
+use Rattle.air_log.specs.Trails.{Reception, device_after_end, alarmed, before_start, begun_by, starts, before_tick}
 use Rattle.air_log.specs.WindowLogs.{WindowLog, opened_log, gone_on, logs_after_closing, window_of_stage, windows_after, windows_by}
 use Rattle.lwb_base.proofs.Elements.{not_in_none, contains_head, contains_tail, contains_cases}
 use Rattle.air_log.proofs.KeptByEvents.{IsKept, in_alarms, in_end, in_tick}

@@ -7,7 +7,7 @@ use Rattle.std.specs.Option.{option_map_or}
 use Rattle.std.proofs.lemmas.Bool.{cases_lt, cond_both, cond-true, cond-false, eq-eqb, eqb-true, ne_eqb}
 use Rattle.std.proofs.lemmas.List.Sums.{sum_by-cons}
 use Rattle.lwb_base.proofs.Elements.{Distinct, contains_cases, contains_head, contains_tail, not_in_none}
-use Rattle.law_bus.proofs.NumbersOfRanges.{from_range}
+use Rattle.lwb_base.proofs.NumbersOfRanges.{from_range}
 
 module _ {X : Type 0} where
   -- terms that are the same

@@ -8,7 +8,6 @@ mod PlannedRounds
 mod RoundsInTurn
 mod MembersByTune
 mod WindowsOfRounds
-mod NumbersOfRanges
 mod SameDeliveries
 mod CoresOfWindows
 mod SameScans

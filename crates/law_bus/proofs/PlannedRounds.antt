@@ -17,7 +17,8 @@ use Rattle.node_core.specs.Windows.{Window}
 use Rattle.node_core.specs.Rows.{accepted_in, flood_for, window_opens}
 use Rattle.scenario_text.specs.ScenarioParts.{ScenarioParts}
 use Rattle.air_log.specs.declared.entry.Entry.{Entry}
-use Rattle.air_log.specs.Trails.{run_end, setup_of}
+use Rattle.scenario_text.specs.Setups.{setup_of}
+use Rattle.air_log.specs.Trails.{run_end}
 use Rattle.air_log.specs.WindowLogs.{WindowLog, Closing, Happening, HeardAt, SentAt}
 use Rattle.law_safety.specs.Beginnings.{Closes}
 use Rattle.law_safety.specs.SentPlans.{IsPlanned}

@@ -17,7 +17,7 @@ use Rattle.radio_model.specs.declared.sending.Sending.{Sending}
 use Rattle.air_log.specs.declared.entry.Entry.{Entry}
 use Rattle.air_log.specs.Lawful.{trail_in}
 use Rattle.air_log.specs.NodeEvents.{Event, Heard, EventOccasion, event_occasions}
-use Rattle.air_log.specs.Trails.{setup_of}
+use Rattle.scenario_text.specs.Setups.{setup_of}
 use Rattle.air_log.specs.WindowLogs.{WindowLog}
 use Rattle.lwb_base.proofs.Elements.{not_in_none}
 use Rattle.law_trails.proofs.OtherCounters.{first_place}

@@ -20,7 +20,8 @@ use Rattle.air_log.specs.declared.entry.Entry.{Entry}
 use Rattle.air_log.specs.Devices.{Power, PowerOff, PowerOn}
 use Rattle.air_log.specs.Lawful.{trail_in}
 use Rattle.air_log.specs.Safe.{sender_hosts}
-use Rattle.air_log.specs.Trails.{run_end, setup_of}
+use Rattle.scenario_text.specs.Setups.{setup_of}
+use Rattle.air_log.specs.Trails.{run_end}
 use Rattle.air_log.specs.WindowLogs.{WindowLog}
 use Rattle.law_trails.specs.TrailLinks.{device_in}
 use Rattle.law_trails.proofs.OtherCounters.{bodies_same}

@@ -17,7 +17,8 @@ use Rattle.air_log.specs.Deliveries.{deliveries_of_node as delivered_in_air, del
 use Rattle.air_log.specs.Devices.{Device}
 use Rattle.air_log.specs.Drops.{drops_of}
 use Rattle.air_log.specs.Lawful.{trail_in}
-use Rattle.air_log.specs.Trails.{run_end, setup_of}
+use Rattle.scenario_text.specs.Setups.{setup_of}
+use Rattle.air_log.specs.Trails.{run_end}
 use Rattle.air_log.specs.WindowLogs.{WindowLog, Closing}
 use Rattle.law_safety.proofs.RunFacts.{frame_lasts}
 use Rattle.law_windows.specs.WindowDeliveries.{delivery_at_closing, delivered_by, delivered_in}

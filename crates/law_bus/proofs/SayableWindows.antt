@@ -11,7 +11,7 @@ use Rattle.scenario_text.specs.ScenarioParts.{ScenarioParts}
 use Rattle.air_log.specs.declared.entry.Entry.{Entry}
 use Rattle.air_log.specs.Devices.{Device, Power, PowerOn}
 use Rattle.air_log.specs.Lawful.{heard_by}
-use Rattle.air_log.specs.Trails.{setup_of}
+use Rattle.scenario_text.specs.Setups.{setup_of}
 use Rattle.law_trails.specs.DeviceRanges.{IsPower}
 use Rattle.law_trails.specs.NodeRanges.{IsInStage, IsNodeInRange}
 use Rattle.law_trails.specs.Phases.{IsNextAlarm}

@@ -4,6 +4,7 @@ use Rattle.std.proofs.Common.{subst, arith}
 use Rattle.std.proofs.Math.Nat.{mul-le-mul_right}
 use Rattle.std.proofs.lemmas.Bool.{cases_lt}
 use Rattle.std.proofs.lemmas.List.Elements.{Contains-append_right}
+use Rattle.lwb_base.specs.declared.limits.TheConstants.{MOST_FRAMES}
 use Rattle.lwb_base.specs.Messages.{Plan}
 use Rattle.time_reference.specs.Budgets.{budget_of}
 use Rattle.bus_rules.specs.Plans.{last_slot}
@@ -86,7 +87,7 @@ module _ (s : ScenarioParts) (clocks : ℕ → ℕ → ℕ) (air : List Entry) (
         let ends = ((lawful.lawful.hearing.heard v was.heard).0 was.there).0 in
         let at = was.end in
         let few = mul-le-mul_right s.profile.frame lawful.sound.few_frames in
-        let early : relays.until ≤ 4096 * s.profile.frame = omega (arith, ends, at, few) in
+        let early : relays.until ≤ MOST_FRAMES * s.profile.frame = omega (arith, ends, at, few) in
         let fits = run_fits s lawful.sound in
         let clock = lawful.drift v known in
         let after = relay_after s.profile (budget_of s.profile) fits (clocks v) clock relays.until early in

@@ -33,7 +33,7 @@ use Rattle.law_bus.proofs.RunsOfLogs.{whole}
 use Rattle.law_bus.proofs.AscendingLists.{same_ascending}
 use Rattle.law_bus.proofs.SentBySteps.{IsSentHere, on_bus, sent_as, sent_once, step_of, all_steps, not_given}
 use Rattle.law_bus.proofs.StepsInTurn.{lower_first}
-use Rattle.law_bus.proofs.NumbersOfRanges.{from_range, in_range}
+use Rattle.lwb_base.proofs.NumbersOfRanges.{from_range, in_range}
 
 -- of an own transmission that has ended
 abbrev own_step : Event → Option (ℕ × ℕ)

@@ -38,7 +38,7 @@ use Rattle.law_bus.proofs.KeyedSums.{by_key, no_sum, one_counts, same_sums, sum_
 use Rattle.law_bus.proofs.PlacedWindows.{round_here, sending_placed, sending_rank, sent_of}
 use Rattle.law_bus.proofs.SentBySteps.{IsSent, IsSentHere, on_bus, sent_as, sent_once, step_of, all_steps, not_given}
 use Rattle.law_bus.proofs.SumsOverRounds.{over_rounds, plan_at, rank_at, slot_of_own_rank}
-use Rattle.law_bus.proofs.NumbersOfRanges.{from_range}
+use Rattle.lwb_base.proofs.NumbersOfRanges.{from_range}
 
 abbrev lasts : Sending → ℕ
 lasts y = y.end - y.start

@@ -20,7 +20,7 @@ use Rattle.scenario_text.specs.ScenarioParts.{ScenarioParts}
 use Rattle.radio_model.specs.declared.sending.Sending.{Sending}
 use Rattle.air_log.specs.declared.entry.Entry.{Entry}
 use Rattle.air_log.specs.NodeEvents.{Event}
-use Rattle.air_log.specs.Trails.{setup_of}
+use Rattle.scenario_text.specs.Setups.{setup_of}
 use Rattle.law_trails.specs.PacketKinds.{IsPacketOf, kind_of_message}
 use Rattle.law_trails.proofs.LogsInRange.{all_sent}
 use Rattle.law_trails.proofs.SaidPackets.{says, request_first, request_read}

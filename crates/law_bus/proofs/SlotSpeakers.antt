@@ -15,7 +15,7 @@ use Rattle.scenario_text.specs.FloodParts.{knows}
 use Rattle.air_log.specs.declared.entry.Entry.{Entry}
 use Rattle.air_log.specs.Lawful.{trail_in}
 use Rattle.air_log.specs.NodeEvents.{Event}
-use Rattle.air_log.specs.Trails.{setup_of}
+use Rattle.scenario_text.specs.Setups.{setup_of}
 use Rattle.air_log.specs.WindowLogs.{WindowLog}
 use Rattle.lwb_base.proofs.Elements.{contains_cases, contains_head, contains_tail, not_in_none}
 use Rattle.lwb_base.proofs.Options.{some_is}
@@ -24,7 +24,6 @@ use Rattle.law_windows.specs.WindowParts.{SendsAt}
 use Rattle.bus_terms.specs.FloodOfText.{ids}
 use Rattle.bus_terms.specs.Flooding.{has}
 use Rattle.bus_terms.specs.Rounds as rounds
-use Rattle.bus_terms.specs.ScriptedStates.{setup_in}
 use Rattle.bus_terms.proofs.ReceivedByPaths.{in_filtered, in_whole, of_filtered}
 use Rattle.lwb_flood.specs.FloodRun.{Run, initiates}
 use Rattle.lwb_flood.proofs.LogEntries.{ids_known}
@@ -68,7 +67,7 @@ member_says s rank f part v (StateOn c) is = by_test (is_member rank f c) refl
     by_test true member = (c, refl, member)
     by_test false other = absurd (true≢false (sym is
         ∙ ap (λ (o : Option Opened). is_some (rounds.message_said o))
-        (cond-false (is_member rank f c) (Some (opened_slot (setup_in s v) f part c)) None other)))
+        (cond-false (is_member rank f c) (Some (opened_slot (setup_of s v) f part c)) None other)))
 
 -- and so it takes part
 speaker_takes : (rank : ℕ) (part : Part) (x : State) (w : Option Opened) → is_some (rounds.message_said w) ≡ true → rounds.takes_part rank part x w ≡ true
@@ -91,10 +90,10 @@ module _ (s : ScenarioParts) (clocks : ℕ → ℕ → ℕ) (air : List Entry) (
     frame_is : w.before.frame ≡ f
     frame_is = (opened_by s clocks air lawful v w here.there).frame_before ∙ here.frame
 
-    pub window_is : window_of v ≡ Some (opened_slot (setup_in s v) f (part_of p j) w.before.core)
+    pub window_is : window_of v ≡ Some (opened_slot (setup_of s v) f (part_of p j) w.before.core)
     window_is =
         ap (rounds.opened_at s rank f (part_of p j) v) (start.core v w here alarm)
-        ∙ cond-true (is_member rank f w.before.core) (Some (opened_slot (setup_in s v) f (part_of p j) w.before.core)) None (start.member v w here alarm)
+        ∙ cond-true (is_member rank f w.before.core) (Some (opened_slot (setup_of s v) f (part_of p j) w.before.core)) None (start.member v w here alarm)
 
     pub said_same : rounds.message_said (window_of v) ≡ initial_message (setup_of s v) w
     said_same =

@@ -27,7 +27,8 @@ use Rattle.law_safety.proofs.SentPlans.{one_planned}
 use Rattle.bus_terms.specs.FloodOfText.{ids}
 use Rattle.bus_terms.specs.Flooding.{has}
 use Rattle.bus_terms.specs.Rounds.{opened_at, takes_part}
-use Rattle.bus_terms.specs.ScriptedStates.{is_on_and, setup_in}
+use Rattle.scenario_text.specs.Setups.{setup_of}
+use Rattle.bus_terms.specs.ScriptedStates.{is_on_and}
 use Rattle.bus_terms.proofs.ReceivedByPaths.{in_filtered}
 use Rattle.law_terms.specs.LawfulRuns.{IsLawfulRun}
 use Rattle.bus_terms.specs.HostedRounds.{node_before, slot_in}
@@ -124,7 +125,7 @@ module _ (s : ScenarioParts) (clocks : ℕ → ℕ → ℕ) (air : List Entry) (
     pub no_window : (slot_in s rank f p j).window v ≡ None
     no_window =
         ap (opened_at s rank f (part_of p j) v) scans_on
-        ∙ cond-false (is_member rank f w.before.core) (Some (opened_slot (setup_in s v) f (part_of p j) w.before.core)) None
+        ∙ cond-false (is_member rank f w.before.core) (Some (opened_slot (setup_of s v) f (part_of p j) w.before.core)) None
         (scanner_takes s clocks v w.before rank f w.before.core.tune scanner.scans)
 
     scanner_test : takes_part rank (part_of p j) (node_before s rank f p j v) ((slot_in s rank f p j).window v) ≡ true

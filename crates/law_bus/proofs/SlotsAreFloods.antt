@@ -1,6 +1,7 @@
 -- Each slot of a round is a run of the theorem on floods, if its scanning nodes listen.
 use Rattle.std.proofs.Common.{◌≡◌, ℕ, ◌+◌, ◌*◌, ◌^◌, ◌≤◌, List, [], ◌∷◌, Bool, true, false, ◌||◌, ◌==◌, if◌then◌else◌, length, refl, ◌∙◌, ap, arith, eq-eqb}
 use Rattle.std.proofs.Math.Nat.{mul-le-mul_right}
+use Rattle.lwb_base.specs.declared.limits.TheConstants.{MOST_FRAMES}
 use Rattle.lwb_base.specs.Messages.{Plan}
 use Rattle.lwb_base.specs.Profile.{step}
 use Rattle.time_reference.specs.Budgets.{budget_of, budget_one, budget_two}
@@ -86,7 +87,7 @@ module _ (s : ScenarioParts) (clocks : ℕ → ℕ → ℕ) (air : List Entry) (
       let b = budget_of s.profile in
       let fits = run_fits s lawful.sound in
       let begins = (origin_times s clocks air lawful rank f j p round start events are o here).1 in
-      let frames : s.frames * s.profile.frame ≤ 4096 * s.profile.frame = mul-le-mul_right s.profile.frame lawful.sound.few_frames in
+      let frames : s.frames * s.profile.frame ≤ MOST_FRAMES * s.profile.frame = mul-le-mul_right s.profile.frame lawful.sound.few_frames in
       let room = fits.run in
       let window = fits.window in
       let close = fits.close in

@@ -16,11 +16,11 @@ use Rattle.scenario_text.specs.ScenarioParts.{ScenarioParts}
 use Rattle.scenario_text.specs.FloodParts.{knows}
 use Rattle.air_log.specs.declared.entry.Entry.{Entry}
 use Rattle.air_log.specs.Devices.{state_of_power}
-use Rattle.air_log.specs.Trails.{run_end, setup_of}
+use Rattle.scenario_text.specs.Setups.{setup_of}
+use Rattle.air_log.specs.Trails.{run_end}
 use Rattle.air_log.specs.WindowLogs.{WindowLog, Closing}
 use Rattle.lwb_base.proofs.Elements.{contains_cases, contains_head, contains_tail, not_in_none}
 use Rattle.law_windows.specs.WindowRows.{node_in_window, OpensByAlarm, OpensByHearing}
-use Rattle.bus_terms.specs.ScriptedStates.{setup_in}
 use Rattle.bus_terms.specs.Rounds.{opened_at, closed_slot_of, left_by, message_said, accepted_at, before_slot}
 use Rattle.bus_terms.specs.Bus.{state_at}
 use Rattle.law_terms.specs.LawfulRuns.{IsLawfulRun}
@@ -125,13 +125,13 @@ module _ (s : ScenarioParts) (clocks : ℕ → ℕ → ℕ) (air : List Entry) (
       frame_before : w.before.frame ≡ f
       frame_before = (opened_by s clocks air lawful v w here.there).frame_before ∙ here.frame
 
-      core_after : w.after.core ≡ (opened_slot (setup_in s v) f (part_of p j) w.before.core).core
+      core_after : w.after.core ≡ (opened_slot (setup_of s v) f (part_of p j) w.before.core).core
       core_after =
           ap (λ (n : Node). n.core) opens.after
           ∙ ap (λ (g : ℕ). (opened_slot (setup_of s v) g (part_of w.before.core.plan w.slot) w.before.core).core) frame_before
           ∙ ap (λ (k : Part). (opened_slot (setup_of s v) f k w.before.core).core) part_is
 
-      pub window_is : opened_at s rank f (part_of p j) v (states v) ≡ Some (opened_slot (setup_in s v) f (part_of p j) w.before.core)
+      pub window_is : opened_at s rank f (part_of p j) v (states v) ≡ Some (opened_slot (setup_of s v) f (part_of p j) w.before.core)
       window_is = ap (opened_at s rank f (part_of p j) v) (start.core v w here alarm) ∙ rw (start.member v w here alarm) refl
 
     module _ (hears : w.by_alarm ≡ false) where
@@ -162,7 +162,7 @@ module _ (s : ScenarioParts) (clocks : ℕ → ℕ → ℕ) (air : List Entry) (
       pub no_window : opened_at s rank f (part_of p j) v (states v) ≡ None
       no_window =
           ap (opened_at s rank f (part_of p j) v) up
-          ∙ cond-false (is_member rank f w.before.core) (Some (opened_slot (setup_in s v) f (part_of p j) w.before.core)) None
+          ∙ cond-false (is_member rank f w.before.core) (Some (opened_slot (setup_of s v) f (part_of p j) w.before.core)) None
           (scanner_takes s clocks v w.before rank f w.before.core.tune scanner.scans)
 
       guest : hosts_now f w.before.core ≡ false
@@ -219,7 +219,7 @@ module _ (s : ScenarioParts) (clocks : ℕ → ℕ → ℕ) (air : List Entry) (
     not_member (StateOn c) at =
         elim (cases_Bool (is_member rank f c)) [
           | inl takes ↦ absurd (not_there (start.window v c known at takes))
-          | inr other ↦ cond-false (is_member rank f c) (Some (opened_slot (setup_in s v) f (part_of p j) c)) None other
+          | inr other ↦ cond-false (is_member rank f c) (Some (opened_slot (setup_of s v) f (part_of p j) c)) None other
         ]
 
     -- who has none stays as it is

@@ -10,7 +10,7 @@ use Rattle.bus_terms.specs.Bus.{state_at, frames_of, over_frames}
 use Rattle.bus_terms.specs.Costs.{over_round}
 use Rattle.bus_terms.specs.Rounds.{Slot, rank_in, round_plan, slot_at, slots_of}
 use Rattle.law_bus.proofs.KeyedSums.{by_key, no_sum, same_sums, under, under_none}
-use Rattle.law_bus.proofs.NumbersOfRanges.{from_range}
+use Rattle.lwb_base.proofs.NumbersOfRanges.{from_range}
 
 not_both : (p : Plan) → ◌≡◌ {A = Option Plan} None (Some p) → ⊥
 not_both p is = cc

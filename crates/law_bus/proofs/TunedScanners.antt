@@ -116,7 +116,7 @@ module _ (s : ScenarioParts) (clocks : ℕ → ℕ → ℕ) (air : List Entry) (
       let way : IsUnderWay s clocks air v t Over d = under_way_over s clocks air v all_rows go is_node t in_run in
       subst (λ (g : ℕ). StandsIn s clocks air v g d.made.windows d.power) frame (way.stands tt)
 
-  -- a window of the frame that is there after the tick, as the trace has it
+  -- a window of the frame that is there after the tick, as the trail has it
   module _ (y : WindowLog) (in_it : Contains d.made.windows y) (of_frame : y.frame ≡ f) where
     still : (bound : ℕ) → bound ≤ suc t → IfSome y.closed (λ c. bound ≤ c.tick) → IsStill bound y trail_windows
     still bound early closed =

@@ -15,7 +15,7 @@ use Rattle.law_windows.proofs.WindowParts.{nodes_take_part}
 use Rattle.bus_terms.specs.Bus.{bus_cost, state_at}
 use Rattle.bus_terms.specs.Costs.{steps_sent_by, slot_window}
 use Rattle.bus_terms.specs.Rounds.{Slot, before_slot}
-use Rattle.bus_terms.specs.ScriptedStates.{setup_in}
+use Rattle.scenario_text.specs.Setups.{setup_of}
 use Rattle.law_terms.specs.LawfulRuns.{IsLawfulRun}
 use Rattle.bus_terms.specs.HostedRounds.{slot_in}
 use Rattle.law_terms.specs.SlotLaws.{IsRound, IsWindowOf}
@@ -80,7 +80,7 @@ module _ (runs : RunsLaw) (s : ScenarioParts) (clocks : ℕ → ℕ → ℕ) (ai
           let found = runs s clocks air lawful rank f j p round within start in
           let part = nodes_take_part s clocks air (record { sound = lawful.sound; drift = lawful.drift }) lawful.lawful v known w here.there in
           charge_same s clocks air lawful rank f p j found.0 found.1 found.2 v w here part.has alarm
-          (opened_slot (setup_in s v) f (part_of p j) w.before.core)
+          (opened_slot (setup_of s v) f (part_of p j) w.before.core)
           (window_is s clocks air lawful rank f in_run j p start heard v w here alarm)
       charge_by false joined =
           ap (λ (b : Bool). if b then charge_by_last s.profile (last_if_all_sent s.sends (sent_packets w)) else 0) joined

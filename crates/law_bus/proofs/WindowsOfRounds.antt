@@ -18,7 +18,8 @@ use Rattle.air_log.specs.declared.entry.Entry.{Entry}
 use Rattle.air_log.specs.Entries.{HasHeardEntry}
 use Rattle.air_log.specs.Devices.{Device, PowerOn}
 use Rattle.air_log.specs.Lawful.{heard_by}
-use Rattle.air_log.specs.Trails.{Reception, setup_of, run_end}
+use Rattle.scenario_text.specs.Setups.{setup_of}
+use Rattle.air_log.specs.Trails.{Reception, run_end}
 use Rattle.air_log.specs.WindowLogs.{WindowLog, Happening, Closing}
 use Rattle.law_trails.specs.Phases.{Hearings, Alarms, IsNextHearing}
 use Rattle.law_trails.specs.TrailLinks.{device_in}

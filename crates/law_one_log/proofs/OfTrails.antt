@@ -1,4 +1,4 @@
--- What the traces tell of the entries of a log: transmissions and tunings of one node start apart, and its transmissions do
+-- What the trails tell of the entries of a log: transmissions and tunings of one node start apart, and its transmissions do
 -- not meet.
 use Rattle.std.proofs.Common.{◌≡◌, ℕ, ◌<◌, ◌≤◌, ◌⊎◌, inl, inr, List, [], Bool, true, false, ◌==◌, if◌then◌else◌, length, Contains, AllPairs}
 use Rattle.std.proofs.Common.{refl, sym, ◌∙◌, ap, arith}

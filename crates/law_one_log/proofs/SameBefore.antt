@@ -19,7 +19,8 @@ use Rattle.air_log.specs.Entries.{sendings_of, hearings_of, tunings_of, HasHeard
 use Rattle.air_log.specs.HearsAir.{scene_of}
 use Rattle.air_log.specs.Lawful.{Lawful, by_end, reception_of, hearings_by, heard_by}
 use Rattle.air_log.specs.QuietTicks.{ends_before}
-use Rattle.air_log.specs.Trails.{Reception, setup_of, lines_at, frame_start, run_end, trail, tick, device_after_receptions, device_after_end, alarmed}
+use Rattle.scenario_text.specs.Setups.{setup_of}
+use Rattle.air_log.specs.Trails.{Reception, lines_at, frame_start, run_end, trail, tick, device_after_receptions, device_after_end, alarmed}
 use Rattle.air_log.specs.Trails.{device_after_start, before_tick, tune_of, tune_at}
 use Rattle.air_log.specs.ScriptedDevices.{device_after_line}
 use Rattle.lwb_base.proofs.Elements.{in_filtered, filtered}
@@ -55,7 +56,7 @@ over_before t h = nat_lt h.sending.end t
 abbrev taken : List Entry → ℕ → ℕ → List Hearing
 taken air v t = filter (over_before t) (by_end (hearings_by air v))
 
--- what a node receives, as its trace takes it
+-- what a node receives, as its trail takes it
 taken_too : (a b : List Entry) (t v : ℕ) → HeardToo a b t → (h : Hearing) → Contains (taken a v t) h → Contains (taken b v t) h
 taken_too a b t v too h there =
     let early = filtered (over_before t) (by_end (hearings_by a v)) h there in

@@ -1,4 +1,4 @@
--- Up to a tick a log has its nodes tuned as the devices of their traces were before that tick.
+-- Up to a tick a log has its nodes tuned as the devices of their trails were before that tick.
 use Rattle.std.proofs.Common.{◌≡◌, ℕ, zero, suc, ◌<◌, ◌≤◌, ◌↔◌, inl, inr, List, Bool, true, ◌==◌, None, Contains, sym, subst, arith}
 use Rattle.std.proofs.lemmas.Bool.{cases_lt, eq-eqb, eqb-true}
 use Rattle.std.proofs.lemmas.List.Sorted.{Contains-permutation, IsPermutation-sym}

@@ -10,10 +10,10 @@ use Rattle.bus_rules.specs.declared.part.Part.TheVariants.{Opening, Data as Data
 use Rattle.bus_rules.specs.Cores.{Core, Setup, as_host, begins_host, closing_accepted, frame_ended, is_fresh, opening_accepted}
 use Rattle.bus_rules.specs.Slots.{DataOf, Message, RequestOf, ScheduleOf, closed_slot, host_closes, hosts_now, is_own, opened_slot, silent, slot_heard}
 use Rattle.bus_rules.specs.HostPlans.{host_plan}
-use Rattle.bus_rules.specs.Streams.{Stream, Streams, WaitingPacket, after_contention, no_stream, schedule_heard, stream_at, taken, unbound}
+use Rattle.bus_rules.specs.Streams.{Stream, Streams, WaitingPacket, after_contention, no_stream, schedule_heard, stream_at, after_taking, unbound}
 use Rattle.bus_rules.specs.Streams.{with_stream, without_first}
 use Rattle.bus_rules.specs.Tuning.{next_tune, rank_of}
-use Rattle.law_packets.proofs.KeptFields as fields
+use Rattle.bus_terms.proofs.KeptFields as fields
 
 -- one stream is exchanged for a related one
 pub set_related : (R : Stream → Stream → Type 0) → ((x : Stream) → R x x) → (xs : List Stream) (k i : ℕ) (x : Stream)
@@ -69,7 +69,7 @@ module _ (q : Setup) (f : ℕ) where
   opened_less Opening c = same_core c
   opened_less (DataSlot owner) c = by_test (node_of owner == q.id)
     where
-      by_test : (b : Bool) → IsLess c (record c { streams = if b then taken (stream_of owner) c.streams else c.streams })
+      by_test : (b : Bool) → IsLess c (record c { streams = if b then after_taking (stream_of owner) c.streams else c.streams })
       by_test true = record { boot = refl; streams = with_fewer c.streams (stream_of owner) _ (first_fewer (stream_at c.streams (stream_of owner))) }
       by_test false = same_core c
   opened_less (Contention k) c = by_own (is_own c.own_slot k)

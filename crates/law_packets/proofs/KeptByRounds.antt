@@ -9,7 +9,8 @@ use Rattle.bus_rules.specs.Slots.{Message, opened_slot, part_of}
 use Rattle.bus_rules.specs.States.{State, StateOff, StateOn}
 use Rattle.bus_terms.specs.Bus.{before_frame, state_at}
 use Rattle.bus_terms.specs.Rounds.{accepted_at, after_round, before_slot, closed_slot_of, left_by, opened_at, rank_in, round_plan, rounds, slot_of_round}
-use Rattle.bus_terms.specs.ScriptedStates.{setup_in, states_after_end}
+use Rattle.scenario_text.specs.Setups.{setup_of}
+use Rattle.bus_terms.specs.ScriptedStates.{states_after_end}
 use Rattle.law_packets.proofs.FewerWaiting.{IsLess, closed_less, ended_less, opened_less}
 
 module _ (s : ScenarioParts) (P : State → Type 0) (less : (c d : Core) → IsLess c d → P (StateOn c) → P (StateOn d)) where
@@ -20,13 +21,13 @@ module _ (s : ScenarioParts) (P : State → Type 0) (less : (c d : Core) → IsL
   slot_closes rank f part v heard (StateOn c) is = by_member (is_member rank f c) heard
     where
       by_member : (b : Bool) (heard : Option Message)
-          → P (left_by (StateOn c) (closed_slot_of s f part v (if b then Some (opened_slot (setup_in s v) f part c) else None) heard (StateOn c)))
+          → P (left_by (StateOn c) (closed_slot_of s f part v (if b then Some (opened_slot (setup_of s v) f part c) else None) heard (StateOn c)))
       by_member true heard =
-          let o = opened_slot (setup_in s v) f part c in
-          less o.core _ (closed_less (setup_in s v) f part (is_some o.message) o.core heard)
-          (less c o.core (opened_less (setup_in s v) f part c) is)
+          let o = opened_slot (setup_of s v) f part c in
+          less o.core _ (closed_less (setup_of s v) f part (is_some o.message) o.core heard)
+          (less c o.core (opened_less (setup_of s v) f part c) is)
       by_member false None = is
-      by_member false (Some m) = less c _ (closed_less (setup_in s v) f part false c (Some m)) is
+      by_member false (Some m) = less c _ (closed_less (setup_of s v) f part false c (Some m)) is
 
   pub slots_keep : (rank f : ℕ) (p : Plan) (v : ℕ) (states : ℕ → State) → P (states v) → (j : ℕ) → P (before_slot s rank f p states j v)
   unfolding before_slot
@@ -47,7 +48,7 @@ module _ (s : ScenarioParts) (P : State → Type 0) (less : (c d : Core) → IsL
     where
       by_state : (x : State) → P x → P (states_after_end s f (λ (u : ℕ). x) v)
       by_state (StateOff boots) is = is
-      by_state (StateOn c) is = less c _ (ended_less (setup_in s v) f c) is
+      by_state (StateOn c) is = less c _ (ended_less (setup_of s v) f c) is
 
   -- from after the script lines of a frame to before those of the next
   pub frame_keeps : (f v : ℕ) → P (state_at s f v) → P (before_frame s (suc f) v)

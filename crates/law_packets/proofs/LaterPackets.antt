@@ -18,8 +18,8 @@ use Rattle.bus_terms.specs.Rounds.{round_plan, slots_of}
 use Rattle.bus_terms.specs.declared.packets.PacketId.{PacketId}
 use Rattle.bus_terms.specs.declared.packets.SentPacket.{SentPacket}
 use Rattle.bus_terms.proofs.ListsInTurn.{each_given, each_of_pieces, given_in_turn, in_turn_pairs, pieces_in_turn, range_in_turn}
-use Rattle.law_packets.proofs.SaidDeliveries.{IsFrom, IsSaidIn, later_frame, later_slot, other_rank}
-use Rattle.law_packets.proofs.SamePackets.{same_packet}
+use Rattle.bus_terms.proofs.OrderedDeliveries.{IsFrom, IsSaidIn, later_frame, later_slot, other_rank}
+use Rattle.bus_terms.proofs.SamePackets.{same_packet}
 use Rattle.law_packets.specs.Sendings.{AreSentInOrder, AreSentOnce, InSentOrder}
 use Rattle.law_packets.proofs.SentPackets.{sent_so}
 

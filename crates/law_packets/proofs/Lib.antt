@@ -1,7 +1,4 @@
 mod CountedFates
-mod SamePackets
-mod SaidDeliveries
-mod KeptFields
 mod SentPackets
 mod LaterPackets
 mod ReceivedPackets

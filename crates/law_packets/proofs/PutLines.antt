@@ -21,7 +21,7 @@ use Rattle.bus_terms.specs.declared.packets.PacketId.{PacketId}
 use Rattle.bus_terms.specs.declared.packets.PutLine.{PutLine}
 use Rattle.bus_terms.specs.declared.packets.SentPacket.{SentPacket}
 use Rattle.bus_terms.proofs.ListsInTurn.{in_turn_pairs, turn_append}
-use Rattle.law_packets.proofs.SamePackets.{packet_itself, same_packet}
+use Rattle.bus_terms.proofs.SamePackets.{packet_itself, same_packet}
 use Rattle.law_packets.specs.Sendings.{AreQueuedOnce, QueueOther, WasPut, WerePut}
 use Rattle.law_packets.proofs.KeptByRounds.{slots_keep}
 use Rattle.law_packets.proofs.PutPackets.{AreKnown, IsPutUpTo, all_put, less_known}

@@ -19,7 +19,7 @@ use Rattle.bus_terms.specs.Packets.{bus_puts, put_by}
 use Rattle.bus_terms.specs.ScriptedStates.{state_after_line}
 use Rattle.bus_terms.specs.declared.packets.PacketId.{PacketId}
 use Rattle.bus_terms.specs.declared.packets.PutLine.{PutLine}
-use Rattle.law_packets.proofs.KeptFields as fields
+use Rattle.bus_terms.proofs.KeptFields as fields
 use Rattle.law_packets.proofs.FewerWaiting.{IsFewer, IsLess, same_stream, with_fewer}
 use Rattle.law_packets.proofs.KeptByRounds.{frame_keeps}
 use Rattle.law_packets.proofs.ToldLines.{is_told, put_among, put_below, state_told, told_more}

@@ -19,7 +19,7 @@ use Rattle.bus_terms.specs.Packets.{bus_sent, round_sent, sent_in_slot}
 use Rattle.bus_terms.specs.Rounds.{delivery_in_slot, round_deliveries, round_plan, slot_deliveries, slots_of}
 use Rattle.bus_terms.specs.declared.packets.SentPacket.{SentPacket}
 use Rattle.bus_terms.proofs.ListsInTurn.{each_given, each_of_pieces}
-use Rattle.law_packets.proofs.SamePackets.{packet_itself, same_packet}
+use Rattle.bus_terms.proofs.SamePackets.{packet_itself, same_packet}
 use Rattle.law_packets.specs.Sendings.{sending_of}
 use Rattle.law_packets.proofs.LaterPackets.{different}
 use Rattle.law_packets.proofs.SentPackets.{delivered_was_sent, sent_so}

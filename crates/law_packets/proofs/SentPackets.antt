@@ -13,7 +13,7 @@ use Rattle.bus_terms.specs.Rounds.{Slot, accepted_at, before_slot, delivery_in_s
 use Rattle.bus_terms.specs.declared.packets.SentPacket.{SentPacket}
 use Rattle.bus_terms.proofs.NumbersSaid.{Says, says}
 use Rattle.bus_terms.proofs.OrderedDeliveries.{mapped}
-use Rattle.law_packets.proofs.SaidDeliveries.{accepted_data, said_somewhere}
+use Rattle.bus_terms.proofs.OrderedDeliveries.{accepted_data, said_somewhere}
 use Rattle.bus_terms.proofs.SaidByParts.{owner_alone}
 use Rattle.law_packets.specs.Sendings.{sending_of}
 

@@ -23,7 +23,8 @@ use Rattle.bus_terms.specs.Bus.{state_at}
 use Rattle.bus_terms.specs.FloodOfText.{ids}
 use Rattle.bus_terms.specs.Flooding.{Accepts}
 use Rattle.bus_terms.specs.Rounds.{Slot, opened_at, message_said, accepted_at, closed_slot_of, left_by, before_slot, takes_part}
-use Rattle.bus_terms.specs.ScriptedStates.{is_on_and, setup_in}
+use Rattle.scenario_text.specs.Setups.{setup_of}
+use Rattle.bus_terms.specs.ScriptedStates.{is_on_and}
 use Rattle.bus_terms.proofs.ReceivedByPaths.{in_filtered, of_filtered}
 use Rattle.bus_terms.proofs.ReceivedInRounds.{ids_rise}
 use Rattle.law_service.specs.Reach.{TakesPart, LosesNothing, IsWithin}
@@ -43,9 +44,9 @@ heard_schedule s rank f part v (StateOff boots) y schedule takes = absurd (false
 heard_schedule s rank f part v (StateOn c) y schedule takes = by_member (is_member rank f c)
   where
     by_member : (b : Bool) → (d : Core) × (left_by (StateOn c)
-        (closed_slot_of s f part v (if b then Some (opened_slot (setup_in s v) f part c) else None) (Some (ScheduleOf y)) (StateOn c))
+        (closed_slot_of s f part v (if b then Some (opened_slot (setup_of s v) f part c) else None) (Some (ScheduleOf y)) (StateOn c))
         ≡ StateOn (schedule_accepted v f y d))
-    by_member true = ((opened_slot (setup_in s v) f part c).core, refl)
+    by_member true = ((opened_slot (setup_of s v) f part c).core, refl)
     by_member false = (c, refl)
 
 -- the next round comes later
@@ -62,8 +63,8 @@ module _ (s : ScenarioParts) (scenario : IsSoundScenario s) (rank f : ℕ) (p : 
 
   -- slot j is one of schedules, in which a host with its round due says this
   module _ (j : ℕ) (part : Part) (at : part_of p j ≡ part) (is : Hosting rank f p (before j host)) (y : Schedule)
-      (says : (opened_slot (setup_in s host) f part is.core).message ≡ Some (ScheduleOf y))
-      (only_hosts : (v : ℕ) (c : Core) (m : Message) → (opened_slot (setup_in s v) f part c).message ≡ Some m → hosts_now f c ≡ true)
+      (says : (opened_slot (setup_of s host) f part is.core).message ≡ Some (ScheduleOf y))
+      (only_hosts : (v : ℕ) (c : Core) (m : Message) → (opened_slot (setup_of s v) f part c).message ≡ Some m → hosts_now f c ≡ true)
       (only_members : (c : Core) → is_member rank f c ≡ true → hosts_now f c ≡ true → hosts_in rank f c.tune ≡ true) where
     abbrev x : Slot
     x = slot_in s rank f p j
@@ -71,7 +72,7 @@ module _ (s : ScenarioParts) (scenario : IsSoundScenario s) (rank f : ℕ) (p : 
     window_is : (v : ℕ) → x.window v ≡ opened_at s rank f part v (before j v)
     window_is v = ap (λ (q : Part). opened_at s rank f q v (before j v)) at
 
-    host_window : x.window host ≡ Some (opened_slot (setup_in s host) f part is.core)
+    host_window : x.window host ≡ Some (opened_slot (setup_of s host) f part is.core)
     host_window = window_is host ∙ ap (λ (z : State). opened_at s rank f part host z) is.on
         ∙ windowed s rank f part host is.core (host_member rank f is.core is.due)
 
@@ -113,17 +114,17 @@ module _ (s : ScenarioParts) (scenario : IsSoundScenario s) (rank f : ℕ) (p : 
           )
 
 -- in the first slot and the last one who says something hosts its own round
-opening_hosts : (s : ScenarioParts) (f v : ℕ) (c : Core) (m : Message) → (opened_slot (setup_in s v) f Opening c).message ≡ Some m → hosts_now f c ≡ true
+opening_hosts : (s : ScenarioParts) (f v : ℕ) (c : Core) (m : Message) → (opened_slot (setup_of s v) f Opening c).message ≡ Some m → hosts_now f c ≡ true
 opening_hosts s f v c m said = by_test (hosts_now f c) refl said
   where
     by_test : (b : Bool) → hosts_now f c ≡ b → (if b then Some (ScheduleOf (opening c.plan)) else None) ≡ Some m → hosts_now f c ≡ true
     by_test true at said = at
     by_test false at said = absurd (cc)
 
-closing_hosts : (s : ScenarioParts) (f v : ℕ) (c : Core) (m : Message) → (opened_slot (setup_in s v) f Closing c).message ≡ Some m → hosts_now f c ≡ true
+closing_hosts : (s : ScenarioParts) (f v : ℕ) (c : Core) (m : Message) → (opened_slot (setup_of s v) f Closing c).message ≡ Some m → hosts_now f c ≡ true
 closing_hosts s f v c m said = by_test (hosts_now f c) refl said
   where
-    by_test : (b : Bool) → hosts_now f c ≡ b → (if b then host_closes (setup_in s v) f c else silent c).message ≡ Some m → hosts_now f c ≡ true
+    by_test : (b : Bool) → hosts_now f c ≡ b → (if b then host_closes (setup_of s v) f c else silent c).message ≡ Some m → hosts_now f c ≡ true
     by_test true at said = at
     by_test false at said = absurd (cc)
 
@@ -185,12 +186,12 @@ closings s accepted rank f p host hosted lossless k v within = record {
     y = record { plan = plan.plan; gap = plan.gap }
 
     planned : Opened
-    planned = host_closes (setup_in s host) f is.core
+    planned = host_closes (setup_of s host) f is.core
 
-    opens : opened_slot (setup_in s host) f Closing is.core ≡ planned
+    opens : opened_slot (setup_of s host) f Closing is.core ≡ planned
     opens = closing_opens s rank f p host hosted is
 
-    says : (opened_slot (setup_in s host) f Closing is.core).message ≡ Some (ScheduleOf y)
+    says : (opened_slot (setup_of s host) f Closing is.core).message ≡ Some (ScheduleOf y)
     says = ap (λ (o : Opened). o.message) opens
 
     gap_some : 0 < plan.gap

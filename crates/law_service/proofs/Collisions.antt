@@ -17,7 +17,7 @@ use Rattle.bus_terms.specs.Bus.{state_at}
 use Rattle.bus_terms.specs.FloodOfText.{ids}
 use Rattle.bus_terms.specs.Flooding.{Setting, Moment, STEPS, moment, has, offer, candidates, named, pick, may_hear, takes, hears, accepted, Hears}
 use Rattle.bus_terms.specs.Rounds.{Slot, accepted_at, opened_at, closed_slot_of, left_by, before_slot, message_said, takes_part}
-use Rattle.bus_terms.specs.ScriptedStates.{setup_in}
+use Rattle.scenario_text.specs.Setups.{setup_of}
 use Rattle.bus_terms.proofs.Options.{inspect, only_from, in_filter, from_filter, heard_parts, sends_parts, named_parts}
 use Rattle.bus_terms.proofs.ReceivedByPaths.{in_filtered, of_filtered, in_whole}
 use Rattle.bus_terms.proofs.ReceivedInRounds.{accepted_none}
@@ -166,18 +166,18 @@ module _ (s : ScenarioParts) (rank f : ℕ) (p : Plan) (j u v : ℕ) (is : Colli
       let m = some_of (message_said (x.window w)) says in
       let said = said_message s rank f (Contention i) w (before w) m.0 (ap (λ (q : Part). message_said (opened_at s rank f q w (before w))) (sym at) ∙ m.1) in
       let same : said.0 ≡ c = (let both : StateOn said.0 ≡ StateOn c = sym said.1 ∙ on in cc) in
-      let request = only_requests (setup_in s w) f i said.0 m.0 said.3 in
-      let asks : (opened_slot (setup_in s w) f (Contention i) said.0).message ≡ Some (RequestOf request.0) = said.3 ∙ ap (λ (n : Message). Some n) request.1 in
-      let own : c.own_slot ≡ Some i = ap (λ (d : Core). d.own_slot) (sym same) ∙ (requests (setup_in s w) f i said.0 request.0 asks).own in
+      let request = only_requests (setup_of s w) f i said.0 m.0 said.3 in
+      let asks : (opened_slot (setup_of s w) f (Contention i) said.0).message ≡ Some (RequestOf request.0) = said.3 ∙ ap (λ (n : Message). Some n) request.1 in
+      let own : c.own_slot ≡ Some i = ap (λ (d : Core). d.own_slot) (sym same) ∙ (requests (setup_of s w) f i said.0 request.0 asks).own in
       let member = ap (λ (d : Core). is_member rank f d) (sym same) ∙ said.2 in
       let mine : is_own c.own_slot i ≡ true = ap (λ (o : Option ℕ). is_own o i) own ∙ eq-eqb i i refl in (
-        (opened_slot (setup_in s w) f (Contention i) c).core,
+        (opened_slot (setup_of s w) f (Contention i) c).core,
         ap (λ (h : Option Message). left_by (before w) (closed_slot_of s f (part_of p j) w (opened_at s rank f (part_of p j) w (before w)) h (before w)))
             (none_accepts w)
             ∙ ap (λ (q : Part). left_by (before w) (closed_slot_of s f q w (opened_at s rank f q w (before w)) None (before w))) at
             ∙ left_windowed s rank f (Contention i) w (before w) c None on member,
         cond-true (is_own c.own_slot i) (after_contention w c.streams) c.streams mine,
-        has_due w c i (ap (λ (d : Core). is_some (opened_slot (setup_in s w) f (Contention i) d).message) (sym same)
+        has_due w c i (ap (λ (d : Core). is_some (opened_slot (setup_of s w) f (Contention i) d).message) (sym same)
             ∙ ap (λ (o : Option Message). is_some o) said.3),
       )
     where
@@ -185,7 +185,7 @@ module _ (s : ScenarioParts) (rank f : ℕ) (p : Plan) (j u v : ℕ) (is : Colli
       some_of None is = absurd (false≢true is)
       some_of (Some m) is = (m, refl)
 
-      has_due : (w : ℕ) (c : Core) (i : ℕ) → is_some (opened_slot (setup_in s w) f (Contention i) c).message ≡ true → is_some (due_stream c.streams) ≡ true
+      has_due : (w : ℕ) (c : Core) (i : ℕ) → is_some (opened_slot (setup_of s w) f (Contention i) c).message ≡ true → is_some (due_stream c.streams) ≡ true
       has_due w c i some = by_tests (is_own c.own_slot i) (c.streams.skips == 0) (due_stream c.streams) some
         where
           by_tests : (b t : Bool) (o : Option ℕ) → is_some (if b then option_map (request_of w c) (if t then o else None) else None) ≡ true

@@ -15,7 +15,7 @@ use Rattle.bus_rules.specs.States.{State, StateOn}
 use Rattle.bus_rules.specs.Streams.{WaitingPacket, first_waiting}
 use Rattle.bus_terms.specs.FloodOfText.{ids}
 use Rattle.bus_terms.specs.Flooding.{has}
-use Rattle.bus_terms.specs.ScriptedStates.{setup_in}
+use Rattle.scenario_text.specs.Setups.{setup_of}
 use Rattle.bus_terms.specs.Rounds.{Slot, slot_of_round, opened_at, message_said, takes_part, accepted_at, closed_slot_of, before_slot}
 use Rattle.bus_terms.proofs.ReceivedByPaths.{of_filtered, in_whole}
 use Rattle.bus_terms.proofs.ReceivedInRounds.{ids_rise}
@@ -26,7 +26,7 @@ use Rattle.law_service.proofs.SoleVoices.{accepts, accepts_said}
 
 -- what the owner says
 owner_sends : (s : ScenarioParts) (f owner : ℕ) (c : Core) (w : WaitingPacket) → first_waiting c.streams (stream_of owner) ≡ Some w
-    → (opened_slot (setup_in s (node_of owner)) f (DataSlot owner) c).message ≡ Some (data_of (node_of owner) c (stream_of owner) w)
+    → (opened_slot (setup_of s (node_of owner)) f (DataSlot owner) c).message ≡ Some (data_of (node_of owner) c (stream_of owner) w)
 owner_sends s f owner c w waits = rw (eq-eqb (node_of owner) (node_of owner) refl, waits) refl
 
 -- members alone take part in a data slot
@@ -88,7 +88,7 @@ delivered_within s accepted rank f p states j owner c w has_data lossless k v wi
         let same : StateOn own.0 ≡ StateOn c = sym own.1 ∙ has_data.on in
         let core : own.0 ≡ c = cc in
         ap message_said mine.1 ∙ ap (λ (o : Opened). o.message) own.3
-        ∙ ap (λ (d : Core). (opened_slot (setup_in s u) f (DataSlot owner) d).message) core
+        ∙ ap (λ (d : Core). (opened_slot (setup_of s u) f (DataSlot owner) d).message) core
         ∙ owner_sends s f owner c w has_data.waits
 
     alone : (v : ℕ) → is_some (message_said (x.window v)) ≡ true → v ≡ u

@@ -12,11 +12,11 @@ use Rattle.bus_rules.specs.HostPlans.{host_plan, answers_to}
 use Rattle.bus_rules.specs.Plans.{last_slot}
 use Rattle.bus_rules.specs.Slots.{host_closes}
 use Rattle.bus_rules.specs.States.{StateOn}
-use Rattle.bus_rules.specs.Tables.{Entry, Table, is_full, new_entry}
+use Rattle.bus_rules.specs.Tables.{TableEntry, Table, is_full, new_entry}
 use Rattle.bus_rules.specs.Tuning.{rank_of}
 use Rattle.bus_terms.specs.Bus.{state_at}
 use Rattle.bus_terms.specs.Rounds.{before_slot}
-use Rattle.bus_terms.specs.ScriptedStates.{setup_in}
+use Rattle.scenario_text.specs.Setups.{setup_of}
 use Rattle.law_service.specs.FirstSlots.{table_at, PlansRound, FitsNextRound, RoundsFollow, OwedSlotsAreGranted, NewStreamsAreGranted}
 use Rattle.bus_terms.specs.HostedRounds.{IsHosted, slot_in, node_before, state_after_round}
 use Rattle.law_service.proofs.GrantedSlots.{gap_range, round_gap, fitting_grants, table_has}
@@ -40,18 +40,18 @@ same_due r d q e is = cc
 
 module _ (s : ScenarioParts) (rank f : ℕ) (p : Plan) (host : ℕ) (hosted : IsHosted s rank f p host) (c : Core) (due : ℕ) (plan : Plan)
     (plans : PlansRound s rank f p host c due plan) where
-  next_is : (lead : Hosting rank f p (before_slot s rank f p (state_at s f) (last_slot p) host)) → plans.next ≡ (host_closes (setup_in s host) f c).core
+  next_is : (lead : Hosting rank f p (before_slot s rank f p (state_at s f) (last_slot p) host)) → plans.next ≡ (host_closes (setup_of s host) f c).core
   next_is lead =
       let same : lead.core ≡ c = same_core lead.core c (before_slot s rank f p (state_at s f) (last_slot p) host) lead.on plans.on in
-      let after = has_planned s rank f p host hosted lead ∙ ap (λ (d : Core). StateOn (host_closes (setup_in s host) f d).core) same in
-      same_core plans.next (host_closes (setup_in s host) f c).core (state_after_round s rank f p host) plans.next_on after
+      let after = has_planned s rank f p host hosted lead ∙ ap (λ (d : Core). StateOn (host_closes (setup_of s host) f d).core) same in
+      same_core plans.next (host_closes (setup_of s host) f c).core (state_after_round s rank f p host) plans.next_on after
 
   lead : Hosting rank f p (before_slot s rank f p (state_at s f) (last_slot p) host)
   lead = leads s rank f p host hosted (last_slot p) (omega arith)
 
   pub due_is : due ≡ f + (plan_round s.profile.seconds f (table_at f host c)).gap
   due_is =
-      let tune : Host rank due ≡ (host_closes (setup_in s host) f c).core.tune = sym plans.tune ∙ ap (λ (d : Core). d.tune) (next_is lead) in
+      let tune : Host rank due ≡ (host_closes (setup_of s host) f c).core.tune = sym plans.tune ∙ ap (λ (d : Core). d.tune) (next_is lead) in
       same_due rank due (rank_of c.tune) _ tune ∙ ap (λ (g : ℕ). f + g) (planned_gap s.profile host (rank_of c.tune) f c)
 
   owners_are : plan.owners ≡ (plan_round s.profile.seconds f (table_at f host c)).owners
@@ -65,7 +65,7 @@ module _ (s : ScenarioParts) (rank f : ℕ) (p : Plan) (host : ℕ) (hosted : Is
       let is = due_is in
       (omega (arith, gap, range, is), omega (arith, gap, range, is))
 
-  pub grants : FitsNextRound s f host c due → (e : Entry) → Contains (table_at f host c).entries e
+  pub grants : FitsNextRound s f host c due → (e : TableEntry) → Contains (table_at f host c).entries e
       → owed_to s.profile.seconds due e ≤ count_of e.code plan.owners
   grants fits e there =
       subst (λ (owners : _). owed_to s.profile.seconds due e ≤ count_of e.code owners) (sym owners_are)

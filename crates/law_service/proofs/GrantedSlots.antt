@@ -9,7 +9,7 @@ use Rattle.lwb_base.specs.Messages.{Ask, code_of, code}
 use Rattle.bus_rules.specs.Granting.{Grants, count_of, owners_by, granted_by, given, share_in, last_code, grants_for, gap_of, owed_to, total, plan_round}
 use Rattle.bus_rules.specs.HostPlans.{Answered, answer, answers_to, Served, serve, served, put_if}
 use Rattle.bus_rules.specs.Streams.{Streams, due_of, with_agreed}
-use Rattle.bus_rules.specs.Tables.{Entry, Table, has_code, is_full, new_entry, without, with_entry, after_request, interval_of}
+use Rattle.bus_rules.specs.Tables.{TableEntry, Table, has_code, is_full, new_entry, without, with_entry, after_request, interval_of}
 use Rattle.bus_rules.proofs.Grants.{count_replicate, gap_stays}
 use Rattle.law_service.proofs.AcknowledgedRequests.{NoneOf}
 use Rattle.lwb_base.proofs.Elements.{not_in_none, contains_head, contains_tail, contains_cases}
@@ -36,7 +36,7 @@ in_first whole first rest n is same = omega (arith, is, same)
 in_rest : (whole first rest n : ℕ) → whole ≡ first + rest → n ≤ rest → n ≤ whole
 in_rest whole first rest n is more = omega (arith, is, more)
 
-owed_counted : (owes : Entry → ℕ) (e : Entry) (es : List Entry) → Contains es e → owes e ≤ count_of e.code (owners_by owes es)
+owed_counted : (owes : TableEntry → ℕ) (e : TableEntry) (es : List TableEntry) → Contains es e → owes e ≤ count_of e.code (owners_by owes es)
 owed_counted owes e [] there = absurd (not_in_none e there)
 owed_counted owes e (x ∷ es) there =
     let own : List ℕ = replicate (owes x) x.code in
@@ -46,12 +46,12 @@ owed_counted owes e (x ∷ es) there =
     elim (contains_cases x es e there) [
       | inl is ↦
           in_first (count_of e.code (own ++ others)) (count_of e.code own) (count_of e.code others) (owes e) joined
-          (ap (λ (y : Entry). count_of e.code (replicate (owes y) y.code)) is ∙ count_replicate e.code (owes e))
+          (ap (λ (y : TableEntry). count_of e.code (replicate (owes y) y.code)) is ∙ count_replicate e.code (owes e))
       | inr later ↦ in_rest (count_of e.code (own ++ others)) (count_of e.code own) (count_of e.code others) (owes e) joined (more later)
     ]
 
 -- the gap is one to four frames
-pub gap_range : (seconds f : ℕ) (es : List Entry) → (0 < gap_of seconds f es) × (gap_of seconds f es ≤ 4)
+pub gap_range : (seconds f : ℕ) (es : List TableEntry) → (0 < gap_of seconds f es) × (gap_of seconds f es ≤ 4)
 gap_range seconds f es =
     cond_both (nat_le (total seconds (f + 4) es) 40) 4 _ (λ (g : ℕ). (0 < g) × (g ≤ 4)) (λ _. omega arith)
     (λ _. cond_both (nat_le (total seconds (f + 3) es) 40) 3 _ (λ (g : ℕ). (0 < g) × (g ≤ 4)) (λ _. omega arith)
@@ -66,13 +66,13 @@ some_gap seconds f t = (let is = round_gap seconds f t in let range = gap_range 
 
 -- where all fits, each stream has its own
 pub fitting_grants : (seconds f due : ℕ) (t : Table) → due ≡ f + (plan_round seconds f t).gap → total seconds due t.entries ≤ 40
-    → (e : Entry) → Contains t.entries e → owed_to seconds due e ≤ count_of e.code (plan_round seconds f t).owners
+    → (e : TableEntry) → Contains t.entries e → owed_to seconds due e ≤ count_of e.code (plan_round seconds f t).owners
 unfolding plan_round
 fitting_grants seconds f due t is fits e there =
     let gap = gap_of seconds f t.entries in
     let same : due ≡ f + gap = is ∙ ap (λ (g : ℕ). f + g) (gap_stays (owed_to seconds (f + gap)) gap t) in
     let fitting : total seconds (f + gap) t.entries ≤ 40 = subst (λ (d : ℕ). total seconds d t.entries ≤ 40) same fits in
-    let owes : Entry → ℕ = owed_to seconds (f + gap) in
+    let owes : TableEntry → ℕ = owed_to seconds (f + gap) in
     let all : grants_for owes gap t ≡ granted_by owes gap t.place t.entries =
     cond-true (nat_le (sum_by owes t.entries) 40) (granted_by owes gap t.place t.entries)
     (granted_by (share_in (given owes t)) gap (last_code (given owes t) + 1) t.entries) (le-leb (sum_by owes t.entries) 40 fitting) in
@@ -81,18 +81,18 @@ fitting_grants seconds f due t is fits e there =
     (subst (λ (g : Grants). owes e ≤ count_of e.code g.owners) (sym all) counted)
 
 -- a stream stays in the table while requests of others are put to it
-stays_without : (c : ℕ) (e : Entry) (es : List Entry) → e.code ≢ c → Contains es e → Contains (without c es) e
+stays_without : (c : ℕ) (e : TableEntry) (es : List TableEntry) → e.code ≢ c → Contains es e → Contains (without c es) e
 stays_without c e [] other there = absurd (not_in_none e there)
 stays_without c e (x ∷ es) other there =
     let more = stays_without c e es other in
     let cases = contains_cases x es e there in
-    cond_both (not (has_code c x)) (x ∷ without c es) (without c es) (λ (l : List Entry). Contains l e)
+    cond_both (not (has_code c x)) (x ∷ without c es) (without c es) (λ (l : List TableEntry). Contains l e)
     (λ _. elim cases [
-      | inl is ↦ subst (λ (y : Entry). Contains (y ∷ without c es) e) (sym is) (contains_head e (without c es))
+      | inl is ↦ subst (λ (y : TableEntry). Contains (y ∷ without c es) e) (sym is) (contains_head e (without c es))
       | inr later ↦ contains_tail x (without c es) e (more later)
     ])
     (λ drops. elim cases [
-      | inl is ↦ absurd (false_not (x.code == c) drops (ne_eqb x.code c (λ same. other (ap (λ (y : Entry). y.code) (sym is) ∙ same))))
+      | inl is ↦ absurd (false_not (x.code == c) drops (ne_eqb x.code c (λ same. other (ap (λ (y : TableEntry). y.code) (sym is) ∙ same))))
       | inr later ↦ more later
     ])
   where
@@ -100,45 +100,45 @@ stays_without c e (x ∷ es) other there =
     false_not true drops is = absurd (false≢true (sym is))
     false_not false drops is = absurd (false≢true (sym drops))
 
-added : (x : Entry) (es : List Entry) → Contains (with_entry x es) x
+added : (x : TableEntry) (es : List TableEntry) → Contains (with_entry x es) x
 added x [] = contains_head x []
 added x (y ∷ es) =
     let more = added x es in
-    cond_both (x.code == y.code) (x ∷ es) _ (λ (l : List Entry). Contains l x) (λ _. contains_head x es)
-    (λ _. cond_both (nat_lt x.code y.code) (x ∷ y ∷ es) (y ∷ with_entry x es) (λ (l : List Entry). Contains l x) (λ _. contains_head x (y ∷ es))
+    cond_both (x.code == y.code) (x ∷ es) _ (λ (l : List TableEntry). Contains l x) (λ _. contains_head x es)
+    (λ _. cond_both (nat_lt x.code y.code) (x ∷ y ∷ es) (y ∷ with_entry x es) (λ (l : List TableEntry). Contains l x) (λ _. contains_head x (y ∷ es))
     (λ _. contains_tail y (with_entry x es) x more))
 
-stays_with : (e x : Entry) (es : List Entry) → e.code ≢ x.code → Contains es e → Contains (with_entry x es) e
+stays_with : (e x : TableEntry) (es : List TableEntry) → e.code ≢ x.code → Contains es e → Contains (with_entry x es) e
 stays_with e x [] other there = absurd (not_in_none e there)
 stays_with e x (y ∷ es) other there =
     let more = stays_with e x es other in
     let cases = contains_cases y es e there in
-    cond_both (x.code == y.code) (x ∷ es) _ (λ (l : List Entry). Contains l e)
+    cond_both (x.code == y.code) (x ∷ es) _ (λ (l : List TableEntry). Contains l e)
     (λ same. contains_tail x es e (elim cases [
-      | inl is ↦ absurd (other (ap (λ (z : Entry). z.code) (sym is) ∙ sym (eqb-true x.code y.code same)))
+      | inl is ↦ absurd (other (ap (λ (z : TableEntry). z.code) (sym is) ∙ sym (eqb-true x.code y.code same)))
       | inr later ↦ later
     ]))
-    (λ _. cond_both (nat_lt x.code y.code) (x ∷ y ∷ es) (y ∷ with_entry x es) (λ (l : List Entry). Contains l e)
+    (λ _. cond_both (nat_lt x.code y.code) (x ∷ y ∷ es) (y ∷ with_entry x es) (λ (l : List TableEntry). Contains l e)
     (λ _. contains_tail x (y ∷ es) e there)
     (λ _. elim cases [
-      | inl is ↦ subst (λ (z : Entry). Contains (z ∷ with_entry x es) e) (sym is) (contains_head e (with_entry x es))
+      | inl is ↦ subst (λ (z : TableEntry). Contains (z ∷ with_entry x es) e) (sym is) (contains_head e (with_entry x es))
       | inr later ↦ contains_tail y (with_entry x es) e (more later)
     ]))
 
-stays_in : (f : ℕ) (e : Entry) (t : Table) (b : Ask) → e.code ≢ code_of b → Contains t.entries e → Contains (after_request f t b).entries e
+stays_in : (f : ℕ) (e : TableEntry) (t : Table) (b : Ask) → e.code ≢ code_of b → Contains t.entries e → Contains (after_request f t b).entries e
 stays_in f e t b other there =
-    cond_both (is_full b t) t.entries _ (λ (l : List Entry). Contains l e) (λ _. there)
-    (λ _. cond_both (b.interval == 0) (without (code_of b) t.entries) (with_entry (new_entry b f) t.entries) (λ (l : List Entry). Contains l e)
+    cond_both (is_full b t) t.entries _ (λ (l : List TableEntry). Contains l e) (λ _. there)
+    (λ _. cond_both (b.interval == 0) (without (code_of b) t.entries) (with_entry (new_entry b f) t.entries) (λ (l : List TableEntry). Contains l e)
     (λ _. stays_without (code_of b) e t.entries other there) (λ _. stays_with e (new_entry b f) t.entries other there))
 
 put_in : (f : ℕ) (t : Table) (a : Ask) → is_full a t ≡ false → a.interval ≢ 0 → Contains (after_request f t a).entries (new_entry a f)
 put_in f t a room wants =
-    subst (λ (l : List Entry). Contains l (new_entry a f))
+    subst (λ (l : List TableEntry). Contains l (new_entry a f))
     (sym (cond-false (is_full a t) t.entries _ room
     ∙ cond-false (a.interval == 0) (without (code_of a) t.entries) (with_entry (new_entry a f) t.entries) (ne_eqb a.interval 0 wants)))
     (added (new_entry a f) t.entries)
 
-stay_answered : (f : ℕ) (e : Entry) (later : List Ask) (x : Answered) → NoneOf e.code later → Contains x.table.entries e
+stay_answered : (f : ℕ) (e : TableEntry) (later : List Ask) (x : Answered) → NoneOf e.code later → Contains x.table.entries e
     → Contains (fold (answer f) x later).table.entries e
 stay_answered f e [] x none there = there
 stay_answered f e (b ∷ bs) x none there =
@@ -153,17 +153,17 @@ answered_entry f a earlier later t none room wants =
     (stay_answered f (new_entry a f) later (answer f x a) none (put_in f x.table a room wants))
 
 -- the host's own requests are of other streams than another node's
-put_own : (f host boot i : ℕ) (o : Option ℕ) (t : Table) (e : Entry) → e.code ≢ code host i → Contains t.entries e
+put_own : (f host boot i : ℕ) (o : Option ℕ) (t : Table) (e : TableEntry) → e.code ≢ code host i → Contains t.entries e
     → Contains (put_if f host boot i o t).entries e
 put_own f host boot i None t e other there = there
 put_own f host boot i (Some n) t e other there = stays_in f e t (record { node = host; boot = boot; stream = i; interval = n }) other there
 
-served_once : (f host boot i : ℕ) (x : Served) (e : Entry) → e.code ≢ code host i → Contains x.table.entries e
+served_once : (f host boot i : ℕ) (x : Served) (e : TableEntry) → e.code ≢ code host i → Contains x.table.entries e
     → Contains (serve f host boot x i).table.entries e
 served_once f host boot i x e other there =
     put_own f host boot i (due_of (with_agreed i (interval_of x.table (code host i)) x.streams) i) x.table e other there
 
-pub served_entry : (f host boot : ℕ) (t : Table) (x : Streams) (e : Entry) → ((i : ℕ) → i ≤ 3 → e.code ≢ code host i) → Contains t.entries e
+pub served_entry : (f host boot : ℕ) (t : Table) (x : Streams) (e : TableEntry) → ((i : ℕ) → i ≤ 3 → e.code ≢ code host i) → Contains t.entries e
     → Contains (served f host boot t x).table.entries e
 served_entry f host boot t x e other there =
     let s0 : Served = record { table = t; streams = x } in

@@ -20,7 +20,7 @@ use Rattle.bus_rules.proofs.Ranks.{hosts_own}
 use Rattle.bus_terms.specs.Bus.{state_at}
 use Rattle.bus_terms.specs.FloodOfText.{ids}
 use Rattle.bus_terms.specs.Rounds.{Slot, accepted_at, before_slot, takes_part}
-use Rattle.bus_terms.specs.ScriptedStates.{setup_in}
+use Rattle.scenario_text.specs.Setups.{setup_of}
 use Rattle.bus_terms.proofs.ReceivedByPaths.{in_whole}
 use Rattle.bus_terms.proofs.ReceivedInRounds.{ids_rise}
 use Rattle.bus_terms.specs.HostedRounds.{slot_in}
@@ -69,7 +69,7 @@ module _ (s : ScenarioParts) (scenario : IsSoundScenario s) (rank f : ℕ) (p : 
       let now = hosts_own rank f lead.core.tune lead.due in (
         d.0,
         d.1,
-        d.2 ∙ ap (λ (h : Option Message). kept_by (setup_in s host) f lead.core h) heard
+        d.2 ∙ ap (λ (h : Option Message). kept_by (setup_of s host) f lead.core h) heard
             ∙ cond-true (hosts_now f lead.core) (lead.core.kept ++ a ∷ []) lead.core.kept now
             ∙ ap (λ (e : Core). e.kept ++ a ∷ []) same,
         d.3 ∙ ap (λ (e : Core). e.table) same,
@@ -81,8 +81,8 @@ module _ (s : ScenarioParts) (scenario : IsSoundScenario s) (rank f : ℕ) (p : 
   pub asked : (d : Core) × (at j u ≡ StateOn d) × IsRequest u (j - length p.owners) d a
   asked =
       let said = said_message s rank f (part_of p j) u (at j u) (RequestOf a) reaches.request.says in
-      let message = ap (λ (q : Part). (opened_slot (setup_in s u) f q said.0).message) (sym (contention_at p j late early)) ∙ said.3 in
-      (said.0, said.1, requests (setup_in s u) f (j - length p.owners) said.0 a message)
+      let message = ap (λ (q : Part). (opened_slot (setup_of s u) f q said.0).message) (sym (contention_at p j late early)) ∙ said.3 in
+      (said.0, said.1, requests (setup_of s u) f (j - length p.owners) said.0 a message)
 
   -- requests of later slots are of other streams: their nodes differ, since a node has one slot of its own
   other : (n : ℕ) → j + suc n < last_slot p → (b : Ask) → accepted_at (slot_in s rank f p (j + suc n)) host ≡ Some (RequestOf b) → code_of b ≢ code_of a
@@ -109,7 +109,7 @@ module _ (s : ScenarioParts) (scenario : IsSoundScenario s) (rank f : ℕ) (p : 
       lead : Hosting rank f p (at m host)
       lead = leads s rank f p host reaches.hosted m (omega (arith, soon))
 
-      d : (d : Core) × (at (suc m) host ≡ StateOn d) × (d.kept ≡ kept_by (setup_in s host) f lead.core (accepted_at (slot_in s rank f p m) host))
+      d : (d : Core) × (at (suc m) host ≡ StateOn d) × (d.kept ≡ kept_by (setup_of s host) f lead.core (accepted_at (slot_in s rank f p m) host))
           × (d.table ≡ lead.core.table)
       d = slot_kept s rank f p host reaches.hosted m (omega (arith, late)) soon lead
 
@@ -140,11 +140,11 @@ module _ (s : ScenarioParts) (scenario : IsSoundScenario s) (rank f : ℕ) (p : 
       }
 
       by_heard : (o : Option Message) → accepted_at (slot_in s rank f p m) host ≡ o → Tracked c a (at (suc m) host)
-      by_heard None is = keeps (d.2 ∙ ap (λ (h : Option Message). kept_by (setup_in s host) f lead.core h) is)
-      by_heard (Some (ScheduleOf y)) is = keeps (d.2 ∙ ap (λ (h : Option Message). kept_by (setup_in s host) f lead.core h) is)
-      by_heard (Some (DataOf y)) is = keeps (d.2 ∙ ap (λ (h : Option Message). kept_by (setup_in s host) f lead.core h) is)
+      by_heard None is = keeps (d.2 ∙ ap (λ (h : Option Message). kept_by (setup_of s host) f lead.core h) is)
+      by_heard (Some (ScheduleOf y)) is = keeps (d.2 ∙ ap (λ (h : Option Message). kept_by (setup_of s host) f lead.core h) is)
+      by_heard (Some (DataOf y)) is = keeps (d.2 ∙ ap (λ (h : Option Message). kept_by (setup_of s host) f lead.core h) is)
       by_heard (Some (RequestOf b)) is =
-          let kept = d.2 ∙ ap (λ (h : Option Message). kept_by (setup_in s host) f lead.core h) is in
+          let kept = d.2 ∙ ap (λ (h : Option Message). kept_by (setup_of s host) f lead.core h) is in
           let now = hosts_own rank f lead.core.tune lead.due in
           adds b (other n soon b is) (kept ∙ cond-true (hosts_now f lead.core) (lead.core.kept ++ b ∷ []) lead.core.kept now)
 
@@ -161,7 +161,7 @@ module _ (s : ScenarioParts) (scenario : IsSoundScenario s) (rank f : ℕ) (p : 
       let had : lead.core.kept ≡ c.kept ++ a ∷ t.later = ap (λ (e : Core). e.kept) same ∙ t.kept in
       let has_room : is_full a (answers_to f c.kept lead.core.table).table ≡ false = ap (λ (x : Table). is_full a (answers_to f c.kept x).table) table ∙ free in
       record {
-        core = (host_closes (setup_in s host) f lead.core).core;
+        core = (host_closes (setup_of s host) f lead.core).core;
         on = has_planned s rank f p host reaches.hosted lead;
         acknowledged = plan_acks s.profile host lead.core.boot (rank_of lead.core.tune) f a c.kept t.later lead.core.kept lead.core.table lead.core.streams
             had t.others has_room;

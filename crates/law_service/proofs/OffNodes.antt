@@ -12,7 +12,8 @@ use Rattle.bus_terms.specs.Bus.{before_frame, state_at}
 use Rattle.bus_terms.specs.HostedRounds.{node_before, slot_in}
 use Rattle.bus_terms.specs.Rounds.{accepted_at, after_round, before_slot, closed_slot_of, left_by, message_said, opened_at, rank_in, round_plan}
 use Rattle.bus_terms.specs.Rounds.{rounds, slot_at}
-use Rattle.bus_terms.specs.ScriptedStates.{lines_of, setup_in, state_after_line}
+use Rattle.scenario_text.specs.Setups.{setup_of}
+use Rattle.bus_terms.specs.ScriptedStates.{lines_of, state_after_line}
 
 module _ (s : ScenarioParts) (v : ℕ) (none : (f : ℕ) → lines_of s f v ≡ []) where
   left_off : (f : ℕ) (heard : Option Message) (x : State) (part : Part) (rank : ℕ) → x ≡ StateOff 0
@@ -40,7 +41,7 @@ module _ (s : ScenarioParts) (v : ℕ) (none : (f : ℕ) → lines_of s f v ≡ 
   unfolding before_frame
   before_off zero = refl
   before_off (suc f) =
-      ap (λ (x : State). at_core (frame_ended (setup_in s v) f) x)
+      ap (λ (x : State). at_core (frame_ended (setup_of s v) f) x)
       (rounds_off f (state_at s f) (told_off f (before_frame s f v) (before_off f)))
 
   pub is_off : (rank f : ℕ) (p : Plan) (j : ℕ) → node_before s rank f p j v ≡ StateOff 0

@@ -4,7 +4,8 @@ use Rattle.std.proofs.Common.{if◌then◌else◌, is_none, is_some, min, fold, 
 use Rattle.std.specs.List.{list_any}
 use Rattle.std.proofs.lemmas.Bool.{false≢true, cond_both, cond-false}
 use Rattle.lwb_base.specs.Messages.{Ask, Schedule, node_of}
-use Rattle.bus_rules.specs.Streams.{Streams, after_contention, tries_after, due_stream, is_host, heard_host, unbound, names, acknowledged, owns, schedule_heard}
+use Rattle.bus_rules.specs.Streams.{Streams, after_contention, tries_after, due_stream, is_host, heard_host, unbound, names, acknowledged}
+use Rattle.bus_rules.specs.Streams.{owner_named, schedule_heard}
 use Rattle.law_service.specs.Contenders.{AreTied, own_number, TiesShareSlots, ThreeSlotsPart, ContentionKeepsTies, SchedulesKeepTies}
 
 pub share_slots : TiesShareSlots
@@ -76,10 +77,10 @@ answers_none node boot f (a ∷ acks) x t k none is =
     neither true q none = absurd (false≢true (sym none))
     neither false q none = (refl, none)
 
-owners_keep : (node f : ℕ) (owners : List ℕ) (x : Streams) (t k : ℕ) → HasTries x t k → HasTries (fold (owns node f) x owners) t k
+owners_keep : (node f : ℕ) (owners : List ℕ) (x : Streams) (t k : ℕ) → HasTries x t k → HasTries (fold (owner_named node f) x owners) t k
 owners_keep node f [] x t k is = is
 owners_keep node f (c ∷ owners) x t k is =
-    owners_keep node f owners (owns node f x c) t k
+    owners_keep node f owners (owner_named node f x c) t k
     (cond_both (node_of c == node) _ x (λ (y : Streams). HasTries y t k) (λ _. record { tries = is.tries; backoff = is.backoff }) (λ _. is))
 
 -- after a schedule that does not name the node: as before, or none where its host is new
@@ -96,7 +97,7 @@ heard_tries node boot f y x none =
     let begins : HasTries (heard_host r b x) t k = by_host known in
     let answered = answers_none node boot f y.plan.acks (heard_host r b x) t k none begins in
     let named = owners_keep node f y.plan.owners (fold (acknowledged node boot f) (heard_host r b x) y.plan.acks) t k answered in
-    cond_both (y.gap == 0) (fold (owns node f) (fold (acknowledged node boot f) (heard_host r b x) y.plan.acks) y.plan.owners) _
+    cond_both (y.gap == 0) (fold (owner_named node f) (fold (acknowledged node boot f) (heard_host r b x) y.plan.acks) y.plan.owners) _
     (λ (z : Streams). HasTries z t k) (λ _. named) (λ _. record { tries = named.tries; backoff = named.backoff })
   where
     by_host : (known : Bool) → HasTries (if known then x else record (unbound x) { host = Some (y.plan.rank, y.plan.boot) })

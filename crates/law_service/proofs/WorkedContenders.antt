@@ -7,7 +7,7 @@ use Rattle.bus_rules.specs.declared.act.Act.TheVariants.{On, Declare, Put}
 use Rattle.bus_rules.specs.declared.delivery.Delivery.{Delivery}
 use Rattle.bus_rules.specs.Granting.{plan_round}
 use Rattle.bus_rules.specs.HostPlans.{host_plan}
-use Rattle.bus_rules.specs.Streams.{Streams, cleared, declared, put, after_contention, schedule_heard}
+use Rattle.bus_rules.specs.Streams.{Streams, cleared, declared, after_put, after_contention, schedule_heard}
 use Rattle.bus_terms.specs.Bus.{before_frame, bus_deliveries}
 use Rattle.bus_terms.specs.Flooding.{Setting, moment, accepted}
 use Rattle.bus_terms.specs.Rounds.{before_slot}
@@ -51,7 +51,7 @@ part_with_three_slots = refl
 
 -- after a first try nodes 7 and 23 back off for one slot, and node 8, whose id is not equal to theirs modulo 16, for none
 abbrev asking : Streams
-asking = put 0 (0xaa ∷ []) (declared 0 5 cleared)
+asking = after_put 0 (0xaa ∷ []) (declared 0 5 cleared)
 
 abbrev skips_of : Streams → ℕ
 skips_of s = s.skips

@@ -2,13 +2,13 @@
 use Rattle.std.proofs.Common.{◌≡◌, ℕ, [], ◌∷◌, map, length, refl}
 use Rattle.std.specs.List.{range_with_len}
 use Rattle.bus_rules.specs.Granting.{count_of, owed_to, plan_round, total, turns}
-use Rattle.bus_rules.specs.Tables.{Entry, Table}
+use Rattle.bus_rules.specs.Tables.{TableEntry, Table}
 
 -- streams that were accepted in frame 5, of one packet in this many seconds, or one a second
-abbrev stream_every : ℕ → ℕ → Entry
+abbrev stream_every : ℕ → ℕ → TableEntry
 stream_every interval c = record { code = c; boot = 1; interval = interval; accepted = 5; granted = 0; unheard = 0 }
 
-abbrev every_second : ℕ → Entry
+abbrev every_second : ℕ → TableEntry
 every_second c = stream_every 1 c
 
 abbrev table_of : ℕ → Table

@@ -7,7 +7,7 @@ use Rattle.bus_rules.specs.Granting.{plan_round}
 use Rattle.bus_rules.specs.HostPlans.{host_plan, answers_to}
 use Rattle.bus_rules.specs.States.{State, StateOff, StateOn}
 use Rattle.bus_rules.specs.Streams.{schedule_heard}
-use Rattle.bus_rules.specs.Tables.{Entry, Table, is_full}
+use Rattle.bus_rules.specs.Tables.{TableEntry, Table, is_full}
 use Rattle.bus_terms.specs.Flooding.{moment}
 use Rattle.bus_terms.specs.Rounds.{before_slot, rounds}
 use Rattle.bus_terms.specs.Bus.{before_frame, state_at}
@@ -48,7 +48,7 @@ unfolding before_frame before_slot moment schedule_heard host_plan plan_round le
 a_request_thirteen_hops_off = refl
 
 -- a table of this many streams
-abbrev entry_of : ℕ → Entry
+abbrev entry_of : ℕ → TableEntry
 entry_of c = record { code = c; boot = 1; interval = 4; accepted = 0; granted = 0; unheard = 0 }
 
 abbrev table_of : ℕ → Table

@@ -10,7 +10,7 @@ use Rattle.bus_rules.specs.Granting.{count_of, owed_to, total}
 use Rattle.bus_rules.specs.HostPlans.{answers_to, served}
 use Rattle.bus_rules.specs.Plans.{last_slot}
 use Rattle.bus_rules.specs.States.{StateOn}
-use Rattle.bus_rules.specs.Tables.{Entry, Table, is_full}
+use Rattle.bus_rules.specs.Tables.{TableEntry, Table, is_full}
 use Rattle.law_service.specs.RequestService.{ReachesHost}
 use Rattle.bus_terms.specs.HostedRounds.{IsHosted, node_before, state_after_round}
 
@@ -42,7 +42,7 @@ abbrev pub OwedSlotsAreGranted : Type 0
 OwedSlotsAreGranted =
     (s : ScenarioParts) → IsScenario s → (rank f : ℕ) (p : Plan) (host : ℕ) → IsHosted s rank f p host
     → (c : Core) (due : ℕ) (plan : Plan) → PlansRound s rank f p host c due plan → FitsNextRound s f host c due
-    → (e : Entry) → Contains (table_at f host c).entries e → owed_to s.profile.seconds due e ≤ count_of e.code plan.owners
+    → (e : TableEntry) → Contains (table_at f host c).entries e → owed_to s.profile.seconds due e ≤ count_of e.code plan.owners
 
 -- so a stream whose lone request of frame f was taken has by then what has come due since f
 abbrev pub NewStreamsAreGranted : Type 0

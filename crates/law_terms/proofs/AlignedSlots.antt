@@ -8,9 +8,8 @@ use Rattle.bus_rules.specs.Slots.{Message, Opened, opened_slot, closed_slot, par
 use Rattle.node_core.specs.Nodes.{Node}
 use Rattle.node_core.specs.Windows.{Window}
 use Rattle.node_core.specs.Rows.{window_opens, window_closes, frame_alarms, accepted_in}
-use Rattle.air_log.specs.Trails as Trails
 use Rattle.bus_rules.specs.States.{State, StateOn}
-use Rattle.bus_terms.specs.ScriptedStates.{setup_in}
+use Rattle.scenario_text.specs.Setups.{setup_of}
 use Rattle.bus_terms.specs.Rounds.{opened_at, closed_slot_of, left_by, after_slot, slot_of_round, accepted_at}
 
 pub open_core : (s : Setup) (n : Node) (j : ℕ) → (window_opens s n j).node.core ≡ (opened_slot s n.frame (part_of n.core.plan j) n.core).core
@@ -26,11 +25,11 @@ frame_core s n = refl
 -- a member's state after a slot
 pub member_after : (s : ScenarioParts) (rank f : ℕ) (p : Plan) (j v : ℕ) (states : ℕ → State) (c : Core) → states v ≡ StateOn c → is_member rank f c ≡ true
     → after_slot s rank f p j states v ≡ StateOn
-    (closed_slot (setup_in s v) f (part_of p j) (is_some (opened_slot (setup_in s v) f (part_of p j) c).message)
-    (opened_slot (setup_in s v) f (part_of p j) c).core (accepted_at (slot_of_round s rank f p j states) v)).core
+    (closed_slot (setup_of s v) f (part_of p j) (is_some (opened_slot (setup_of s v) f (part_of p j) c).message)
+    (opened_slot (setup_of s v) f (part_of p j) c).core (accepted_at (slot_of_round s rank f p j states) v)).core
 member_after s rank f p j v states c up member =
     let part = part_of p j in
-    let o = opened_slot (setup_in s v) f part c in
+    let o = opened_slot (setup_of s v) f part c in
     let heard = accepted_at (slot_of_round s rank f p j states) v in
     let window : opened_at s rank f part v (states v) ≡ Some o = ap (opened_at s rank f part v) up ∙ rw member refl in
     ap (λ (w : Option Opened). left_by (states v) (closed_slot_of s f part v w heard (states v))) window
@@ -38,12 +37,12 @@ member_after s rank f p j v states c up member =
 -- the node table's node, whose window closes with the same accepted message
 module _ (s : ScenarioParts) (rank f : ℕ) (p : Plan) (j v : ℕ) (states : ℕ → State) (c : Core) (n : Node) (w : Window)
     (up : states v ≡ StateOn c) (member : is_member rank f c ≡ true) (frame : n.frame ≡ f)
-    (core : n.core ≡ (opened_slot (setup_in s v) f (part_of p j) c).core) (part : w.part ≡ part_of p j)
-    (initiated : w.flood.initiated ≡ is_some (opened_slot (setup_in s v) f (part_of p j) c).message)
+    (core : n.core ≡ (opened_slot (setup_of s v) f (part_of p j) c).core) (part : w.part ≡ part_of p j)
+    (initiated : w.flood.initiated ≡ is_some (opened_slot (setup_of s v) f (part_of p j) c).message)
     (heard : accepted_in w ≡ accepted_at (slot_of_round s rank f p j states) v) where
-  pub slot_aligned : after_slot s rank f p j states v ≡ StateOn (window_closes (Trails.setup_of s v) n j w).node.core
+  pub slot_aligned : after_slot s rank f p j states v ≡ StateOn (window_closes (setup_of s v) n j w).node.core
   slot_aligned =
-      let t = setup_in s v in
+      let t = setup_of s v in
       let o = opened_slot t f (part_of p j) c in
       let h = accepted_in w in
       member_after s rank f p j v states c up member

@@ -10,7 +10,8 @@ use Rattle.node_core.specs.Nodes.{Node}
 use Rattle.air_log.specs.declared.entry.Entry.{Entry}
 use Rattle.air_log.specs.Devices.{Power, PowerOff, PowerOn, state_of_power}
 use Rattle.air_log.specs.Lawful.{heard_by, trail_in}
-use Rattle.air_log.specs.Trails.{at_frame, before_tick, frame_start, setup_of}
+use Rattle.scenario_text.specs.Setups.{setup_of}
+use Rattle.air_log.specs.Trails.{at_frame, before_tick, frame_start}
 use Rattle.air_log.specs.WindowLogs.{WindowLog, Closing}
 use Rattle.law_terms.specs.LawfulRuns.{IsLawfulRun}
 

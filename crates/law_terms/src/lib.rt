@@ -1,4 +1,4 @@
-//! The bus of the definitions next to the traces of a valid (`Lawful`) log: what it means that both are the same, and what of
+//! The bus of the definitions next to the trails of a valid (`Lawful`) log: what it means that both are the same, and what of
 //! it depends on no clock.
 #![tactic(auto)]
 

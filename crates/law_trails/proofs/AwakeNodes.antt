@@ -1,4 +1,4 @@
--- A node that is on is at a place, and its alarm is set: each step of a trace keeps it.
+-- A node that is on is at a place, and its alarm is set: each step of a trail keeps it.
 use Rattle.std.proofs.Common.{◌≡◌, ℕ, ◌+◌, ◌<◌, List, true, ◌==◌, nat_lt, None, Option, is_some, refl, sym, ◌∙◌, ap, subst, arith}
 use Rattle.std.proofs.lemmas.Bool.{cond_both}
 use Rattle.tick_clock.specs.Clocks.{IsClock}
@@ -11,7 +11,8 @@ use Rattle.node_core.specs.declared.stage.Stage.TheVariants.{Idle, AwaitFrame, A
 use Rattle.node_core.specs.Nodes.{Node, stopped_frame}
 use Rattle.node_core.specs.Rows.{stage_for}
 use Rattle.air_log.specs.Devices.{Device, PowerOn, OrderedPacket}
-use Rattle.air_log.specs.Trails.{Reception, setup_of, run_end}
+use Rattle.scenario_text.specs.Setups.{setup_of}
+use Rattle.air_log.specs.Trails.{Reception, run_end}
 use Rattle.law_trails.specs.Phases.{Phase, device_at}
 use Rattle.law_trails.specs.Walks.{Keeps, IsAwakeStage, AwakeBy, IsAwake}
 use Rattle.law_trails.specs.RowEffects.{Leaves}

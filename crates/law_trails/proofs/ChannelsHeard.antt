@@ -26,7 +26,8 @@ use Rattle.air_log.specs.HearsAir.{scene_of}
 use Rattle.air_log.specs.Devices.{Device, Listening, Power, PowerOff, PowerOn, moved, event_by}
 use Rattle.air_log.specs.Lawful.{FollowsTrails, heard_by}
 use Rattle.air_log.specs.ScriptedDevices.{device_after_line}
-use Rattle.air_log.specs.Trails.{Reception, setup_of, lines_at, device_after_reception}
+use Rattle.scenario_text.specs.Setups.{setup_of}
+use Rattle.air_log.specs.Trails.{Reception, lines_at, device_after_reception}
 use Rattle.law_trails.specs.Obeying.{channel_if_on, channel_by}
 use Rattle.law_trails.specs.Phases.{Hearings, device_at, IsNextHearing}
 use Rattle.law_trails.specs.TrailLinks.{ListensSince, device_in}

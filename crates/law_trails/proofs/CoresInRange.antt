@@ -11,7 +11,7 @@ use Rattle.bus_rules.specs.declared.part.Part.{Part}
 use Rattle.bus_rules.specs.declared.part.Part.TheVariants.{Opening, Data as DataSlot, Contention, Closing}
 use Rattle.bus_rules.specs.declared.tune.Tune.{Tune}
 use Rattle.bus_rules.specs.declared.tune.Tune.TheVariants.{Scan, Hold, Host}
-use Rattle.bus_rules.specs.Streams.{Streams, taken, after_contention}
+use Rattle.bus_rules.specs.Streams.{Streams, after_taking, after_contention}
 use Rattle.bus_rules.specs.Tables.{Table}
 use Rattle.bus_rules.specs.Tuning.{rank_of, hosts, is_scan, is_rank, HasWaited, next_tune}
 use Rattle.bus_rules.specs.HostPlans.{host_plan}
@@ -207,8 +207,8 @@ module _ (s : Setup) (set : IsSetup s) where
   opened_is f Opening c is = is
   opened_is f (DataSlot owner) c is =
       let i = stream_of owner in
-      with_streams c (if node_of owner == s.id then taken i c.streams else c.streams) is
-      (cond_both (node_of owner == s.id) (taken i c.streams) c.streams (AreStreams s.profile) (λ own. taken_are s.profile c.streams i is.streams)
+      with_streams c (if node_of owner == s.id then after_taking i c.streams else c.streams) is
+      (cond_both (node_of owner == s.id) (after_taking i c.streams) c.streams (AreStreams s.profile) (λ own. taken_are s.profile c.streams i is.streams)
       (λ other. is.streams))
   opened_is f (Contention i) c is =
       with_streams c (if is_own c.own_slot i then after_contention s.id c.streams else c.streams) is

@@ -1,4 +1,4 @@
--- A trace that is written down, at each of its due ticks.
+-- A trail that is written down, at each of its due ticks.
 use Rattle.std.proofs.Common.{◌≡◌, ℕ, zero, suc, ◌<◌, List, [], ◌∷◌, length, get_or, Bool, true, ◌&&◌, nat_le, arith}
 use Rattle.std.proofs.lemmas.Bool.{and_parts, leb-true}
 use Rattle.scenario_text.specs.ScenarioParts.{ScenarioParts}

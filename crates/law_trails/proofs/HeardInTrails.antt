@@ -1,4 +1,4 @@
--- What a trace takes as received are the Heard entries of its node.
+-- What a trail takes as received are the Heard entries of its node.
 use Rattle.std.proofs.Common.{◌≡◌, ℕ, ◌↔◌, inl, inr, List, [], ◌∷◌, Bool, ◌==◌, Contains, refl, sym, ap, subst}
 use Rattle.std.proofs.lemmas.Bool.{cond_both, eq-eqb, eqb-true}
 use Rattle.radio_model.specs.OnAir.{Hearing}

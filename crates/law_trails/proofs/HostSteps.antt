@@ -1,4 +1,4 @@
--- The trace of the host in the worked rounds of one packet, from each due tick to the next.
+-- The trail of the host in the worked rounds of one packet, from each due tick to the next.
 use Rattle.std.proofs.Common.{ℕ, List, take, drop, refl, sym, subst}
 use Rattle.lwb_base.specs.Messages.{least_passing}
 use Rattle.schedule_codec.specs.Packing.{digits, packed_number}

@@ -8,7 +8,8 @@ use Rattle.std.proofs.Math.Path.{fun_ext}
 use Rattle.tick_clock.specs.Clocks.{due}
 use Rattle.air_log.specs.WindowLogs.{WindowLog}
 use Rattle.air_log.specs.Devices.{Device}
-use Rattle.air_log.specs.Trails.{setup_of, one_alarm}
+use Rattle.scenario_text.specs.Setups.{setup_of}
+use Rattle.air_log.specs.Trails.{one_alarm}
 use Rattle.law_trails.specs.DueDevices.{IsDeviceWithWindows}
 use Rattle.law_trails.specs.OnePacket.{one_packet, drifting, data_with}
 use Rattle.law_trails.specs.OnePacketMember.{member_36, member_late, member_37}

@@ -27,6 +27,7 @@ pub mod LogsInRange
 pub mod LifeLaws
 pub mod HeedfulLogs
 pub mod MemberSteps
+pub mod OnePacketTrails
 pub mod UnmovedDevices
 pub mod SafeTests
 -- for this crate alone
@@ -43,7 +44,6 @@ mod TrailSteps
 mod HostSteps
 mod LateOpening
 mod DuePlaces
-mod OnePacketTrails
 mod OnePacketHearings
 mod OnePacketLog
 mod OnePacketSafe

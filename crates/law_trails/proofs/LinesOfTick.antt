@@ -1,5 +1,6 @@
 -- What the script lines of a tick leave of a node.
-use Rattle.std.proofs.Common.{◌≡◌, ◌≢◌, ℕ, ◌+◌, ◌≤◌, ◌↔◌, ◌⊎◌, inl, inr, List, [], ◌∷◌, Bool, ◌==◌, ◌&&◌, fold, Contains, Some, None, Option, refl, sym, ◌∙◌, ap, subst, arith}
+use Rattle.std.proofs.Common.{◌≡◌, ◌≢◌, ℕ, ◌+◌, ◌≤◌, ◌↔◌, ◌⊎◌, inl, inr, List, [], ◌∷◌, Bool, ◌==◌, ◌&&◌, fold, Contains, Some, None, Option, refl}
+use Rattle.std.proofs.Common.{sym, ◌∙◌, ap, subst, arith}
 use Rattle.std.proofs.lemmas.Bool.{and_parts, and_from, eqb-true, eq-eqb}
 use Rattle.scenario_text.specs.ScenarioParts.{ScenarioParts}
 use Rattle.bus_rules.specs.declared.act.Act.{Act}
@@ -17,7 +18,8 @@ use Rattle.node_core.specs.Nodes.{with_streams}
 use Rattle.air_log.specs.Devices.{Device, Power, PowerOff, PowerOn}
 use Rattle.air_log.specs.ScriptedDevices.{device_after_act, device_after_line, device_after_on}
 use Rattle.air_log.proofs.DeviceActs.{told, by_act}
-use Rattle.air_log.specs.Trails.{setup_of, frame_start, lines_at, device_after_script}
+use Rattle.scenario_text.specs.Setups.{setup_of}
+use Rattle.air_log.specs.Trails.{frame_start, lines_at, device_after_script}
 use Rattle.lwb_base.proofs.Elements.{not_in_none, contains_head, contains_tail, contains_cases, in_filtered, filtered}
 use Rattle.law_trails.specs.Phases.{IsSilent, SilentBy}
 use Rattle.law_trails.specs.TrailLinks.{IsLineOfTick, HasBooted, WentOff, WentOffBy, DeviceStaysOn, boots_of_power}

@@ -1,4 +1,4 @@
--- In a log that follows its traces and in which only what was sent is received, all packets and all nodes are in their ranges.
+-- In a log that follows its trails and in which only what was sent is received, all packets and all nodes are in their ranges.
 use Rattle.std.proofs.Common.{◌≡◌, ℕ, zero, suc, ◌<◌, ◌≤◌, ◌⊎◌, List, [], ◌∷◌, length, filter, Bool, true, false, ◌==◌, if◌then◌else◌, Some, None, Option}
 use Rattle.std.proofs.Common.{get_or, inl, inr, refl, sym, ◌∙◌, ap, subst, arith, eq-eqb}
 use Rattle.std.specs.Prelude.{All, Contains}
@@ -17,7 +17,8 @@ use Rattle.air_log.specs.declared.entry.Entry.{Entry}
 use Rattle.air_log.specs.Entries.{sendings_of, hearings_of}
 use Rattle.air_log.specs.Lawful.{FollowsTrails, reception_comes_before, put_in, by_end, reception_of, hearings_by, heard_by, sent_by, trail_sent}
 use Rattle.air_log.specs.Devices.{Device, Listening, OrderedPacket}
-use Rattle.air_log.specs.Trails.{Reception, setup_of, run_end, before_start, begun_by, starts, sending_from, before_tick}
+use Rattle.scenario_text.specs.Setups.{setup_of}
+use Rattle.air_log.specs.Trails.{Reception, run_end, before_start, begun_by, starts, sending_from, before_tick}
 use Rattle.air_log.specs.TrailEntries.{IsSentBefore}
 use Rattle.lwb_base.proofs.Elements.{not_in_none, contains_head, contains_tail, contains_cases}
 use Rattle.air_log.proofs.KeptByEvents.{in_tick}

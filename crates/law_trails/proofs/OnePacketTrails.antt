@@ -1,4 +1,4 @@
--- The traces of the worked rounds of one packet: the device before each due tick by its place, and what they have made.
+-- The trails of the worked rounds of one packet: the device before each due tick by its place, and what they have made.
 use Rattle.std.proofs.Common.{◌≡◌, ℕ, ◌<◌, get_or, refl, ap, arith}
 use Rattle.air_log.specs.Devices.{Device, silenced}
 use Rattle.air_log.specs.Trails.{before_tick, trail}
@@ -16,7 +16,7 @@ host_end = record { tick = 3072000000; device = host_62 }
 abbrev member_end : DueDevice
 member_end = record { tick = 3072000000; device = member_62 }
 
--- `host_at 7` says that before tick 1344037120 the host is `host_7`, and so on
+-- `host_at 7` says that before tick 1344037120 the host is as its row 7 says, and so on
 abbrev pub host_due : ℕ → DueDevice
 host_due i = get_or host_dues i host_end
 

@@ -14,7 +14,7 @@ use Rattle.schedule_codec.specs.OwnerLists.{ascend}
 use Rattle.schedule_codec.specs.Spelling.{most_acks}
 use Rattle.bus_rules.specs.Plans.{slots_named}
 use Rattle.bus_rules.specs.Streams.{Streams, with_agreed, request_is_due, due_of, stream_at}
-use Rattle.bus_rules.specs.Tables.{Entry, Table, EntriesAreAbove, is_full, interval_of}
+use Rattle.bus_rules.specs.Tables.{TableEntry, Table, EntriesAreAbove, is_full, interval_of}
 use Rattle.bus_rules.specs.Granting.{Grants, grant, owners_by, granted_by, grants_for, share_in, given, last_code, gap_of, owed_to, plan_round}
 use Rattle.bus_rules.specs.HostPlans.{Answered, Served, with_ack, answer, answers_to, put_if, serve, served, host_plan}
 use Rattle.bus_rules.proofs.Grants.{with_few}
@@ -95,14 +95,14 @@ each_between : (n c : ℕ) (rest : List ℕ) → between 4 803 c ≡ true → li
 each_between zero c rest is all = all
 each_between (suc n) c rest is all = and_from _ _ is (each_between n c rest is all)
 
-owners_between : (share : Entry → ℕ) (es : List Entry) → All IsEntry es → list_all (between 4 803) (owners_by share es) ≡ true
+owners_between : (share : TableEntry → ℕ) (es : List TableEntry) → All IsEntry es → list_all (between 4 803) (owners_by share es) ≡ true
 owners_between share [] all = refl
 owners_between share (e ∷ es) all =
     let this = All-head IsEntry e es all in
     each_between (share e) e.code (owners_by share es) (and_from _ _ (le-leb 4 e.code this.code.0) (le-leb e.code 803 this.code.1))
     (owners_between share es (All-tail IsEntry e es all))
 
-above_none : (es : List Entry) → All IsEntry es → EntriesAreAbove 0 es
+above_none : (es : List TableEntry) → All IsEntry es → EntriesAreAbove 0 es
 above_none [] all = tt
 above_none (e ∷ es) all = let this = All-head IsEntry e es all in (omega (arith, this.code), above_none es (All-tail IsEntry e es all))
 
@@ -116,14 +116,14 @@ record AreGrants (g : Grants) : Type 0 where
   between : list_all (between 4 803) g.owners ≡ true
   ascend : ascend g.owners ≡ true
 
-granted_is : (share : Entry → ℕ) (gap place : ℕ) (t : Table) → IsTable t → AreGrants (granted_by share gap place t.entries)
+granted_is : (share : TableEntry → ℕ) (gap place : ℕ) (t : Table) → IsTable t → AreGrants (granted_by share gap place t.entries)
 granted_is share gap place t is = record {
   table = mapped_is (grant share) t place (grant_keeps share) (λ e x. record { code = x.code; boot = x.boot; interval = x.interval }) is;
   between = owners_between share t.entries is.each;
   ascend = ascend_of 0 (owners_by share t.entries) (owners_rise share 0 t.entries (above_none t.entries is.each) is.entries.ascends);
 }
 
-grants_are : (owes : Entry → ℕ) (gap : ℕ) (t : Table) → IsTable t → AreGrants (grants_for owes gap t)
+grants_are : (owes : TableEntry → ℕ) (gap : ℕ) (t : Table) → IsTable t → AreGrants (grants_for owes gap t)
 grants_are owes gap t is =
     cond_both (nat_le (sum_by owes t.entries) 40) (granted_by owes gap t.place t.entries)
     (granted_by (share_in (given owes t)) gap (last_code (given owes t) + 1) t.entries) AreGrants

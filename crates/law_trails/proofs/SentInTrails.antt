@@ -1,4 +1,4 @@
--- What a trace has sent before a tick is what the log has of it.
+-- What a trail has sent before a tick is what the log has of it.
 use Rattle.std.proofs.Common.{◌≡◌, ℕ, zero, suc, ◌+◌, length, ◌<◌, ◌≤◌, ◌↔◌, ◌⊎◌, inl, inr, List, [], ◌∷◌, ◌++◌, Bool, true, false, ◌==◌, if◌then◌else◌, Some}
 use Rattle.std.proofs.Common.{None, Option, Contains, refl, sym, ap, subst, arith}
 use Rattle.std.proofs.lemmas.Bool.{cond_both, cases_lt, eq-eqb, false≢true}
@@ -13,7 +13,8 @@ use Rattle.air_log.specs.Entries.{sendings_of}
 use Rattle.air_log.specs.Devices.{Device, Listening, OrderedPacket}
 use Rattle.air_log.specs.Lawful.{FollowsTrails, heard_by, sent_by}
 use Rattle.air_log.specs.TrailEntries.{IsSentBefore}
-use Rattle.air_log.specs.Trails.{Reception, setup_of, run_end, begun_by, starts, sending_from, before_start, before_tick}
+use Rattle.scenario_text.specs.Setups.{setup_of}
+use Rattle.air_log.specs.Trails.{Reception, run_end, begun_by, starts, sending_from, before_start, before_tick}
 use Rattle.air_log.proofs.KeptByEvents.{in_tick}
 use Rattle.air_log.proofs.TrailSendings.{kept_sent, at_tick}
 use Rattle.lwb_base.proofs.Elements.{not_in_none, in_filtered, filtered}

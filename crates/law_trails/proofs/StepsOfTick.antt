@@ -25,7 +25,8 @@ use Rattle.node_core.specs.Rows.{Stepped, at_alarm, at_heard, at_sent, scanner_h
 use Rattle.air_log.specs.Devices.{Device, Power, PowerOff, PowerOn, Listening, OrderedPacket, obeyed, moved, event, event_by}
 use Rattle.air_log.specs.ScriptedDevices.{device_after_act, device_after_line, with_new_core}
 use Rattle.air_log.specs.AlarmRuns.{IsAlarmRun, after_alarms}
-use Rattle.air_log.specs.Trails.{Reception, setup_of, run_end, lines_at, ending_at, device_after_reception, device_after_end, device_ended_by, alarm_is_due}
+use Rattle.scenario_text.specs.Setups.{setup_of}
+use Rattle.air_log.specs.Trails.{Reception, run_end, lines_at, ending_at, device_after_reception, device_after_end, device_ended_by, alarm_is_due}
 use Rattle.air_log.specs.Trails.{device_after_start, begun_by, starts, before_tick}
 use Rattle.air_log.proofs.AlarmRuns.{alarms_are_run}
 use Rattle.air_log.proofs.DeviceActs.{told, by_act}

@@ -11,8 +11,9 @@ use Rattle.schedule_codec.specs.AckLists.{ask_in_range}
 use Rattle.bus_rules.specs.declared.act.Act.{Act}
 use Rattle.bus_rules.specs.declared.act.Act.TheVariants.{On, Off, Declare, Leave, Put}
 use Rattle.bus_rules.specs.States.{IsAct}
-use Rattle.bus_rules.specs.Streams.{WaitingPacket, Stream, Streams, no_stream, cleared, stream_at, with_stream, queued, put_to, put, declared}
-use Rattle.bus_rules.specs.Streams.{streams_after_leaving, taken, without_first, unbound, heard_host, is_host, names, acknowledged, owns, forgets, forgotten}
+use Rattle.bus_rules.specs.Streams.{WaitingPacket, Stream, Streams, no_stream, cleared, stream_at, with_stream, queued, put_to, after_put, declared}
+use Rattle.bus_rules.specs.Streams.{streams_after_leaving, after_taking, without_first, unbound, heard_host, is_host, names, acknowledged}
+use Rattle.bus_rules.specs.Streams.{owner_named, after_forgetting, forgotten}
 use Rattle.bus_rules.specs.Streams.{with_granted_interval, with_agreed, after_contention, tries_after, due_stream, schedule_heard, granted_stream, named_in}
 use Rattle.bus_rules.specs.Streams.{wishes, emptied, streams_after_act}
 use Rattle.law_trails.specs.StreamRanges.{IsWaiting, IsStream, AreStreams}
@@ -87,7 +88,7 @@ module _ (p : Numbers) where
       by_tests false true false few more = is
       by_tests false true true few more = queued_is x payload short (ltb-true (length x.queue) 16 few) (ltb-true x.next 65535 more) is
 
-  put_are : (s : Streams) (i : ℕ) (payload : List ℕ) → length payload ≤ p.payload_max → AreStreams p s → AreStreams p (put i payload s)
+  put_are : (s : Streams) (i : ℕ) (payload : List ℕ) → length payload ≤ p.payload_max → AreStreams p s → AreStreams p (after_put i payload s)
   put_are s i payload short are = with_are s i (put_to payload (stream_at s i)) are (put_to_is (stream_at s i) payload short (stream_is s i are))
 
   -- what a script has the node do
@@ -98,7 +99,7 @@ module _ (p : Numbers) where
   act_are s (Leave i) is are = left_are s i are
   act_are s (Put i payload) is are = put_are s i payload is.1 are
 
-  pub taken_are : (s : Streams) (i : ℕ) → AreStreams p s → AreStreams p (taken i s)
+  pub taken_are : (s : Streams) (i : ℕ) → AreStreams p s → AreStreams p (after_taking i s)
   taken_are s i are =
       let x = stream_is s i are in
       let gone = length-drop 1 (stream_at s i).queue in
@@ -166,7 +167,7 @@ module _ (p : Numbers) where
       let both = and_parts (ask_in_range a) (list_all ask_in_range acks) ranges in
       acks_are node boot frame acks (acknowledged node boot frame s a) both.1 (ack_are node boot frame s a both.0 are)
 
-  owner_are : (node frame : ℕ) (s : Streams) (c : ℕ) → AreStreams p s → AreStreams p (owns node frame s c)
+  owner_are : (node frame : ℕ) (s : Streams) (c : ℕ) → AreStreams p s → AreStreams p (owner_named node frame s c)
   owner_are node frame s c are =
       let x = stream_is s (stream_of c) are in
       let y = named_in frame (stream_at s (stream_of c)) in
@@ -174,9 +175,9 @@ module _ (p : Numbers) where
       (λ mine. with_are s (stream_of c) y are (record { wish = x.wish; agreed = x.agreed; few = x.few; next = x.next; queue = x.queue }))
       (λ other. are)
 
-  owners_are : (node frame : ℕ) (owners : List ℕ) (s : Streams) → AreStreams p s → AreStreams p (fold (owns node frame) s owners)
+  owners_are : (node frame : ℕ) (owners : List ℕ) (s : Streams) → AreStreams p s → AreStreams p (fold (owner_named node frame) s owners)
   owners_are node frame [] s are = are
-  owners_are node frame (c ∷ owners) s are = owners_are node frame owners (owns node frame s c) (owner_are node frame s c are)
+  owners_are node frame (c ∷ owners) s are = owners_are node frame owners (owner_named node frame s c) (owner_are node frame s c are)
 
   forgotten_is : (frame : ℕ) (x : Stream) → IsStream p x → IsStream p (forgotten frame x)
   forgotten_is frame x is = record {
@@ -193,6 +194,7 @@ module _ (p : Numbers) where
   heard_are node boot frame x s ranges are =
       let known = heard_host x.plan.rank x.plan.boot s in
       let answered = fold (acknowledged node boot frame) known x.plan.acks in
-      let named = fold (owns node frame) answered x.plan.owners in
+      let named = fold (owner_named node frame) answered x.plan.owners in
       let now = owners_are node frame x.plan.owners answered (acks_are node boot frame x.plan.acks known ranges (host_are s x.plan.rank x.plan.boot are)) in
-      cond_both (x.gap == 0) named (forgets frame named) (AreStreams p) (λ opens. now) (λ closes. each_are (forgotten frame) named (forgotten_is frame) now)
+      cond_both (x.gap == 0) named (after_forgetting frame named) (AreStreams p) (λ opens. now)
+      (λ closes. each_are (forgotten frame) named (forgotten_is frame) now)

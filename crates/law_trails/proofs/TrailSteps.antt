@@ -1,4 +1,4 @@
--- A trace that is written down by its due ticks is computed from each of them to the next.
+-- A trail that is written down by its due ticks is computed from each of them to the next.
 use Rattle.std.proofs.Common.{◌≡◌, ℕ, zero, suc, ◌≤◌, List, [], ◌∷◌, ◌++◌, true, take, drop, refl, sym, ◌∙◌, ap, subst, arith}
 use Rattle.std.proofs.lemmas.Bool.{and_parts, and_from}
 use Rattle.tick_clock.specs.Clocks.{due}

@@ -8,7 +8,8 @@ use Rattle.scenario_text.specs.ScenarioFacts.{IsSoundScenario, IsScriptLine, tur
 use Rattle.scenario_text.specs.declared.script.ScriptLine.{ScriptLine}
 use Rattle.bus_rules.specs.Cores.{own_rank}
 use Rattle.air_log.specs.Devices.{Device, at_rest}
-use Rattle.air_log.specs.Trails.{Reception, setup_of, lines_at, device_after_script, device_after_receptions, before_alarms, before_start, before_tick}
+use Rattle.scenario_text.specs.Setups.{setup_of}
+use Rattle.air_log.specs.Trails.{Reception, lines_at, device_after_script, device_after_receptions, before_alarms, before_start, before_tick}
 use Rattle.law_trails.specs.CoreRanges.{IsSetup}
 use Rattle.law_trails.specs.DeviceRanges.{IsRanged, HeardBefore, HoldsThrough}
 use Rattle.law_trails.proofs.RowsInRange.{AreRules}

@@ -14,7 +14,8 @@ use Rattle.air_log.specs.Devices.{Device, Listening}
 use Rattle.air_log.specs.Lawful.{FollowsTrails, heard_by, tuned_by}
 use Rattle.air_log.specs.TrailEntries.{IsTunedBy}
 use Rattle.air_log.specs.TunedTimes.{listened}
-use Rattle.air_log.specs.Trails.{Reception, setup_of, run_end, before_start, before_tick, trail}
+use Rattle.scenario_text.specs.Setups.{setup_of}
+use Rattle.air_log.specs.Trails.{Reception, run_end, before_start, before_tick, trail}
 use Rattle.air_log.proofs.KeptByEvents.{in_tick}
 use Rattle.air_log.proofs.TrailTunings.{each_tuned}
 use Rattle.air_log.proofs.TunedBefore.{TunedAt, Stays, IsTunedAs, stays_same, stays_on, silenced_stays, kept, As, begun_stays, tick_by}

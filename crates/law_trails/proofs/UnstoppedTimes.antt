@@ -1,6 +1,7 @@
 -- No time of a run stops, and relays begin a turnaround after the end of what was received.
 use Rattle.std.proofs.Common.{◌≡◌, ℕ, ◌+◌, ◌*◌, ◌/◌, ◌<◌, ◌≤◌, ap, subst, arith}
 use Rattle.std.proofs.Math.Nat.{mul-le-mul_right}
+use Rattle.lwb_base.specs.declared.limits.TheConstants.{MOST_FRAMES}
 use Rattle.lwb_base.specs.Profile.{Numbers, airtime, step}
 use Rattle.tick_clock.specs.Clocks.{Near, IsClock, due}
 use Rattle.tick_clock.proofs.DueTicks.{turn}
@@ -49,26 +50,26 @@ module _ (p : Numbers) (b : Budget) (fits : Fits p b) where
 
   -- ---- relays
 
-  pub turn_sum : (L : ℕ → ℕ) → IsClock L → (t : ℕ) → t ≤ 4096 * p.frame → stopped (L t + p.turn) ≡ L t + p.turn
+  pub turn_sum : (L : ℕ → ℕ) → IsClock L → (t : ℕ) → t ≤ MOST_FRAMES * p.frame → stopped (L t + p.turn) ≡ L t + p.turn
   turn_sum L clock t within = omega (arith, no_stop_reading p b fits L clock t within)
 
-  pub turned_near : (L : ℕ → ℕ) → IsClock L → (t : ℕ) → t ≤ 4096 * p.frame → Near (due L (L t + p.turn)) (t + p.turn) 1
+  pub turned_near : (L : ℕ → ℕ) → IsClock L → (t : ℕ) → t ≤ MOST_FRAMES * p.frame → Near (due L (L t + p.turn)) (t + p.turn) 1
   turned_near L clock t within = turn L p.turn t clock (omega arith) (omega (arith, fits.turn_short)) (omega (arith, no_stop_reading p b fits L clock t within))
 
-  pub relay_is : (L : ℕ → ℕ) → IsClock L → (t : ℕ) → t ≤ 4096 * p.frame → relay_tick p L t ≡ due L (L t + p.turn)
+  pub relay_is : (L : ℕ → ℕ) → IsClock L → (t : ℕ) → t ≤ MOST_FRAMES * p.frame → relay_tick p L t ≡ due L (L t + p.turn)
   relay_is L clock t within =
       let near = turned_near L clock t within in
       let same : due L (stopped (L t + p.turn)) ≡ due L (L t + p.turn) = ap (due L) (turn_sum L clock t within) in
       omega arith
 
-  pub relay_near : (L : ℕ → ℕ) → IsClock L → (t : ℕ) → t ≤ 4096 * p.frame → Near (relay_tick p L t) (t + p.turn) 1
+  pub relay_near : (L : ℕ → ℕ) → IsClock L → (t : ℕ) → t ≤ MOST_FRAMES * p.frame → Near (relay_tick p L t) (t + p.turn) 1
   relay_near L clock t within = omega (arith, relay_is L clock t within, turned_near L clock t within)
 
-  pub relay_after : (L : ℕ → ℕ) → IsClock L → (t : ℕ) → t ≤ 4096 * p.frame → t < relay_tick p L t
+  pub relay_after : (L : ℕ → ℕ) → IsClock L → (t : ℕ) → t ≤ MOST_FRAMES * p.frame → t < relay_tick p L t
   relay_after L clock t within = omega (arith, relay_is L clock t within, turned_near L clock t within)
 
   -- what was received with counter k is relayed a step later
-  pub relay_follows : (L : ℕ → ℕ) → IsClock L → (n k s t origin : ℕ) → t ≤ 4096 * p.frame → t ≡ s + airtime p n
+  pub relay_follows : (L : ℕ → ℕ) → IsClock L → (n k s t origin : ℕ) → t ≤ MOST_FRAMES * p.frame → t ≡ s + airtime p n
       → Near s (origin + k * step p n) k → Near (relay_tick p L t) (origin + (k + 1) * step p n) (k + 1)
   relay_follows L clock n k s t origin within is near =
       chain p n k s (relay_tick p L t) origin near (subst (λ (e : ℕ). Near (relay_tick p L t) (e + p.turn) 1) is (relay_near L clock t within))

@@ -34,7 +34,7 @@ keeps_nothing s v clock hs t = record {
   passing = λ d here is. tt;
 }
 
--- what is known of all devices of a trace
+-- what is known of all devices of a trail
 pub known_before : (s : ScenarioParts) (v : ℕ) (clock : ℕ → ℕ) (hs : List Reception) → IsSoundScenario s → IsClock clock
     → (t : ℕ) → t ≤ run_end s → NothingDue t Lines (before_tick s v clock hs t)
 unfolding before_tick

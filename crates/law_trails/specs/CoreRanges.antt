@@ -2,7 +2,7 @@
 use Rattle.std.specs.Prelude.{◌≡◌, ℕ, ◌<◌, ◌≤◌, true, false, length, is_some, Some}
 use Rattle.std.specs.List.{list_all}
 use Rattle.std.specs.Option.{IfSome}
-use Rattle.lwb_base.specs.declared.limits.TheConstants.{GREATEST_ID}
+use Rattle.lwb_base.specs.declared.limits.TheConstants.{GREATEST_ID, MOST_RANKS}
 use Rattle.lwb_base.specs.Profile.{IsProfile}
 use Rattle.lwb_base.specs.Messages.{Plan}
 use Rattle.schedule_codec.specs.AckLists.{ask_in_range}
@@ -20,7 +20,7 @@ pub record IsSetup (s : Setup) : Type 0 where
   pub profile : IsProfile s.profile
   pub id : (1 ≤ s.id) × (s.id ≤ GREATEST_ID)
   pub own : IfSome s.own (λ r. r < s.ranks)
-  pub ranks : (1 ≤ s.ranks) × (s.ranks ≤ 4)
+  pub ranks : (1 ≤ s.ranks) × (s.ranks ≤ MOST_RANKS)
   pub sends : (1 ≤ s.sends) × (s.sends ≤ 4)
 
 -- the plan of a node with this tune can be written, and is of the tune's rank

@@ -4,7 +4,8 @@ use Rattle.std.specs.Option.{IfSome}
 use Rattle.lwb_base.specs.declared.limits.TheConstants.{MOST_BOOTS}
 use Rattle.bus_rules.specs.Cores.{Setup}
 use Rattle.air_log.specs.Devices.{Device, Power, PowerOff, PowerOn}
-use Rattle.air_log.specs.Trails.{Reception, setup_of, device_after_script, device_after_receptions, before_alarms, before_start, before_tick}
+use Rattle.scenario_text.specs.Setups.{setup_of}
+use Rattle.air_log.specs.Trails.{Reception, device_after_script, device_after_receptions, before_alarms, before_start, before_tick}
 use Rattle.scenario_text.specs.ScenarioParts.{ScenarioParts}
 use Rattle.law_trails.specs.NodeRanges.{IsNodeInRange}
 use Rattle.law_trails.specs.SpokenRanges.{IsSpoken, IsProper}

@@ -1,4 +1,4 @@
--- A trace written down: the ticks at which something happens at its node, and the device before each of them.
+-- A trail written down: the ticks at which something happens at its node, and the device before each of them.
 use Rattle.std.specs.Prelude.{◌≡◌, ⊤, ℕ, suc, ◌≤◌, List, [], ◌∷◌}
 use Rattle.scenario_text.specs.ScenarioParts.{ScenarioParts}
 use Rattle.air_log.specs.WindowLogs.{WindowLog}
@@ -9,6 +9,9 @@ use Rattle.air_log.specs.Trails.{Reception, before_tick}
 pub record DueDevice : Type 0 where
   pub tick : ℕ
   pub device : List WindowLog → Device
+
+abbrev pub before : ℕ → (List WindowLog → Device) → DueDevice
+before t device = record { tick = t; device = device }
 
 -- it is that device, with some windows
 pub record IsDeviceWithWindows (d : Device) (device : List WindowLog → Device) : Type 0 where

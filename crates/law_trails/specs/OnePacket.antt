@@ -1,4 +1,4 @@
--- Worked traces over clocks that drift apart: node 1 hosts for node 2, which has one packet to say. In frame 5 node 2 asks
+-- Worked trails over clocks that drift apart: node 1 hosts for node 2, which has one packet to say. In frame 5 node 2 asks
 -- for its stream and is granted four slots, and in frame 9 it says the packet in the first of them. The clock of node 1
 -- gains 20 millionths, that of node 2 loses as much. In slot 0 of frame 9 the host does not receive the relay of its opening.
 -- By that opening node 2 takes its next window to be open already when it closes the first, so both tunings are one.

@@ -1,4 +1,4 @@
--- The words in which the devices of the worked traces of one packet are written down.
+-- The words in which the devices of the worked trails of one packet are written down.
 use Rattle.std.specs.Prelude.{ℕ, List, [], ◌∷◌, Bool, drop, take, Some, None}
 use Rattle.std.specs.declared.option.Option.{Option}
 use Rattle.lwb_base.specs.Messages.{Ask, Plan}

@@ -1,4 +1,4 @@
--- The phases of a tick, and the device of a trace as it enters each of them.
+-- The phases of a tick, and the device of a trail as it enters each of them.
 use Rattle.std.specs.Prelude.{◌≡◌, ⊤, ℕ, suc, ◌≤◌, List, ◌∷◌, ◌++◌, Some, None, Contains, fold}
 use Rattle.std.specs.Option.{IfSome}
 use Rattle.scenario_text.specs.ScenarioParts.{ScenarioParts}
@@ -7,7 +7,8 @@ use Rattle.scenario_text.specs.declared.script.ScriptLine.{ScriptLine}
 use Rattle.air_log.specs.Devices.{Device, Power, PowerOff, PowerOn}
 use Rattle.air_log.specs.ScriptedDevices.{device_after_line}
 use Rattle.air_log.specs.AlarmRuns.{after_alarms}
-use Rattle.air_log.specs.Trails.{Reception, setup_of, frame_start, lines_at, device_after_script, ending_at, device_after_reception, device_after_receptions}
+use Rattle.scenario_text.specs.Setups.{setup_of}
+use Rattle.air_log.specs.Trails.{Reception, frame_start, lines_at, device_after_script, ending_at, device_after_reception, device_after_receptions}
 use Rattle.air_log.specs.Trails.{before_alarms, before_start, tick, before_tick}
 
 -- what is done next: script lines are given, receptions are taken, the end of the own transmission, alarms, the start of the

@@ -1,4 +1,4 @@
--- What a log and the traces that it follows know of one another, and what the script lines of a tick leave.
+-- What a log and the trails that it follows know of one another, and what the script lines of a tick leave.
 use Rattle.std.specs.Prelude.{◌≡◌, ℕ, ◌+◌, ◌/◌, ◌<◌, ◌≤◌, List, Some, None, Contains, max}
 use Rattle.tick_clock.specs.Clocks.{due}
 use Rattle.radio_model.specs.declared.sending.Sending.{Sending}
@@ -16,7 +16,7 @@ use Rattle.air_log.specs.Lawful.{heard_by}
 use Rattle.law_trails.specs.Obeying.{channel_if_on}
 use Rattle.air_log.specs.Trails.{Reception, frame_start, before_tick}
 
--- the device of v before tick t, by its trace over what it received in the log
+-- the device of v before tick t, by its trail over what it received in the log
 abbrev pub device_in : ScenarioParts → (ℕ → ℕ → ℕ) → List Entry → ℕ → ℕ → Device
 device_in s clocks air v t = before_tick s v (clocks v) (heard_by air v) t
 

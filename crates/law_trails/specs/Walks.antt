@@ -1,4 +1,4 @@
--- What is kept by each step of a trace holds all along it.
+-- What is kept by each step of a trail holds all along it.
 use Rattle.std.specs.Prelude.{◌≡◌, ⊤, ◌⊎◌, ℕ, suc, ◌<◌, ◌≤◌, List, [], ◌∷◌, ◌++◌, true, false, Some, None, is_some, fold}
 use Rattle.std.specs.declared.option.Option.{Option}
 use Rattle.lwb_base.specs.Messages.{Schedule}
@@ -23,7 +23,8 @@ use Rattle.node_core.specs.Nodes.{Node}
 use Rattle.node_core.specs.Rows.{Stepped, frame_alarms, window_opens, window_closes, window_hears, joins, sends}
 use Rattle.air_log.specs.Devices.{Device, Power, PowerOff, PowerOn, Listening, OrderedPacket, at_rest, obeyed, moved}
 use Rattle.air_log.specs.ScriptedDevices.{device_after_on, device_after_off, with_new_core}
-use Rattle.air_log.specs.Trails.{Reception, setup_of, run_end, sending_from, before_tick}
+use Rattle.scenario_text.specs.Setups.{setup_of}
+use Rattle.air_log.specs.Trails.{Reception, run_end, sending_from, before_tick}
 use Rattle.law_trails.specs.Phases.{Phase, Lines, Hearings, End, Alarms, Start, Over, next_phase, device_at, NothingDue, IsNextLineOf, IsNextHearing}
 use Rattle.law_trails.specs.Phases.{IsNextAlarm}
 
@@ -190,7 +191,7 @@ HoldsInTick P = (s : ScenarioParts) (v : ℕ) (clock : ℕ → ℕ) (hs : List R
     → (((phase : Phase) → P t phase (device_at s v clock hs t phase))
     × P (suc t) Lines (before_tick s v clock hs (suc t)))
 
--- a trace at each of whose ticks the steps keep it: it holds before each
+-- a trail at each of whose ticks the steps keep it: it holds before each
 abbrev pub HoldsAlong : (ℕ → Phase → Device → Type 0) → Type 0
 HoldsAlong P = (s : ScenarioParts) (v : ℕ) (clock : ℕ → ℕ) (hs : List Reception) → IsSoundScenario s → IsClock clock
     → P 0 Lines at_rest

@@ -1,5 +1,5 @@
 //! Why no two steps of a run can meet on the air: laws that need no others. They are of the life of a host, of local times, of
-//! packets, of what a log and its node traces have in common, of the steps of a trace, of the ranges of all that a node keeps,
+//! packets, of what a log and its trails have in common, of the steps of a trail, of the ranges of all that a node keeps,
 //! orders and sends, of logs that are safe and that are not, and of worked rounds.
 #![tactic(auto)]
 

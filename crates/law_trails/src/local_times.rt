@@ -7,7 +7,7 @@
 ghost use Rattle.std.specs.Prelude.{◌≡◌, ℕ, ◌+◌, ◌*◌, ◌/◌, ◌<◌, ◌≤◌, List, Some, length};
 ghost use Rattle.lwb_base.specs.Profile.{Numbers, IsProfile, airtime, step};
 ghost use Rattle.lwb_base.specs.Messages.{Schedule};
-ghost use Rattle.lwb_base.specs.declared.limits.TheConstants.{GREATEST_GAP, LAST_STEP};
+ghost use Rattle.lwb_base.specs.declared.limits.TheConstants.{GREATEST_GAP, LAST_STEP, MOST_FRAMES};
 ghost use Rattle.tick_clock.specs.Clocks.{Near, IsClock, due};
 ghost use Rattle.time_reference.specs.Budgets.{Budget, Fits, budget_of, span};
 ghost use Rattle.time_reference.specs.Drift.{drift};
@@ -30,10 +30,10 @@ pub fn times_of_slots_are_sums()
 /// So are a host's zero and the alarm of a frame, up to a greatest gap after frame 4,096: a host closes its last round in frame 4,095 with a
 /// gap of at most `GREATEST_GAP`. Frame numbers count on there, and a node that boots at the start of a frame finds its number.
 pub fn times_of_frames_are_sums()
-    ensures zero { (p : Numbers) (b : Budget) → Fits p b → (f : ℕ) → f ≤ 4096 + GREATEST_GAP → zero_of_host p f ≡ host_zero p f }
-    ensures alarm { (p : Numbers) (b : Budget) → Fits p b → (f : ℕ) → f ≤ 4096 + GREATEST_GAP
+    ensures zero { (p : Numbers) (b : Budget) → Fits p b → (f : ℕ) → f ≤ MOST_FRAMES + GREATEST_GAP → zero_of_host p f ≡ host_zero p f }
+    ensures alarm { (p : Numbers) (b : Budget) → Fits p b → (f : ℕ) → f ≤ MOST_FRAMES + GREATEST_GAP
         → frame_alarm p f ≡ f * p.frame + p.end }
-    ensures next { (f : ℕ) → f ≤ 4096 + GREATEST_GAP → stopped_frame (f + 1) ≡ f + 1 }
+    ensures next { (f : ℕ) → f ≤ MOST_FRAMES + GREATEST_GAP → stopped_frame (f + 1) ≡ f + 1 }
     ensures boot { (p : Numbers) (b : Budget) → Fits p b → (own : ℕ → ℕ) → IsClock own → (f : ℕ) → f ≤ 4095
         → stopped_frame ((own (f * p.frame) + p.lead) / p.frame) ≡ f }
 {}
@@ -80,13 +80,13 @@ pub fn references_move_on_by_gaps()
 /// of k steps after its origin is relayed within k + 1 ticks of k + 1 steps after it (`follows`).
 pub fn relays_begin_after_a_turnaround()
     ensures tick { (p : Numbers) (b : Budget) → Fits p b → (own : ℕ → ℕ) → IsClock own → (t : ℕ)
-        → t ≤ 4096 * p.frame → relay_tick p own t ≡ due own (own t + p.turn) }
+        → t ≤ MOST_FRAMES * p.frame → relay_tick p own t ≡ due own (own t + p.turn) }
     ensures near { (p : Numbers) (b : Budget) → Fits p b → (own : ℕ → ℕ) → IsClock own → (t : ℕ)
-        → t ≤ 4096 * p.frame → Near (relay_tick p own t) (t + p.turn) 1 }
+        → t ≤ MOST_FRAMES * p.frame → Near (relay_tick p own t) (t + p.turn) 1 }
     ensures after { (p : Numbers) (b : Budget) → Fits p b → (own : ℕ → ℕ) → IsClock own → (t : ℕ)
-        → t ≤ 4096 * p.frame → t < relay_tick p own t }
+        → t ≤ MOST_FRAMES * p.frame → t < relay_tick p own t }
     ensures follows { (p : Numbers) (b : Budget) → Fits p b → (own : ℕ → ℕ) → IsClock own → (n k s t origin : ℕ)
-        → t ≤ 4096 * p.frame → t ≡ s + airtime p n → Near s (origin + k * step p n) k
+        → t ≤ MOST_FRAMES * p.frame → t ≡ s + airtime p n → Near s (origin + k * step p n) k
         → Near (relay_tick p own t) (origin + (k + 1) * step p n) (k + 1) }
 {}
 

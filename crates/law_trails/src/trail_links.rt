@@ -1,4 +1,4 @@
-//! How a log and the node traces that it follows are related, each law a function that does nothing.
+//! How a log and the trails that it follows are related, each law a function that does nothing.
 
 ghost use Rattle.std.specs.Prelude.{◌≡◌, ◌≢◌, ◌↔◌, ◌⊎◌, ℕ, suc, ◌<◌, ◌≤◌, ◌+◌, List, [], length, All, AllPairs, Contains, Some, true, slice_get};
 ghost use Rattle.lwb_base.specs.Profile.{airtime};
@@ -18,14 +18,15 @@ ghost use Rattle.air_log.specs.HearsAir.{scene_of};
 ghost use Rattle.air_log.specs.Devices.{Device, PowerOn};
 ghost use Rattle.air_log.specs.Lawful.{FollowsTrails, heard_by};
 ghost use Rattle.air_log.specs.TrailEntries.{IsSentBefore, StartsBefore};
-ghost use Rattle.air_log.specs.Trails.{Reception, setup_of, run_end, lines_at, device_after_script, before_tick};
+ghost use Rattle.scenario_text.specs.Setups.{setup_of};
+ghost use Rattle.air_log.specs.Trails.{Reception, run_end, lines_at, device_after_script, before_tick};
 ghost use Rattle.law_trails.specs.Obeying.{channel_if_on};
 ghost use Rattle.law_trails.specs.Phases.{Hearings, SilentBy, IsNextHearing, device_at};
 ghost use Rattle.law_trails.specs.TrailLinks.{IsSentBelow, ListensSince, IsReceptionOf, IsLineOfTick, WentOff, DeviceStaysOn, boots_of_power, device_in};
 
 /// What a node has sent before a tick is what the log has of it: a `Sent` entry of it starts below tick t if and only if it is
-/// among what its trace has sent before t. Only nodes of the scenario send, each transmission starts in the run and lasts its
-/// airtime, and those of a trace start one after another.
+/// among what its trail has sent before t. Only nodes of the scenario send, each transmission starts in the run and lasts its
+/// airtime, and those of a trail start one after another.
 pub fn sendings_stand_in_their_trails()
     ensures below { (s : ScenarioParts) (clocks : ℕ → ℕ → ℕ) (air : List Entry) → FollowsTrails s clocks air
         → (v : ℕ) → knows s.nodes v ≡ true → (t : ℕ) → t ≤ run_end s → (x : Sending)
@@ -64,7 +65,7 @@ pub fn hearings_leave_the_channel()
         → channel_if_on d.listening ≡ Some rank }
 {}
 
-/// What a trace takes as received are the `Heard` entries of its node, each with its packet and its end.
+/// What a trail takes as received are the `Heard` entries of its node, each with its packet and its end.
 pub fn receptions_are_heard_entries()
     ensures { (air : List Entry) (v : ℕ) (h : Reception) → Contains (heard_by air v) h ↔ IsReceptionOf air v h }
 {}

@@ -13,7 +13,7 @@ ghost use Rattle.glossy_relay.specs.declared.flood.Reply.TheVariants.{Relay};
 ghost use Rattle.bus_rules.specs.Plans.{slots_named};
 ghost use Rattle.bus_rules.specs.declared.act.Act.{Act};
 ghost use Rattle.bus_rules.specs.States.{IsAct};
-ghost use Rattle.bus_rules.specs.Streams.{Streams, after_contention, cleared, streams_after_act, schedule_heard, taken, unbound};
+ghost use Rattle.bus_rules.specs.Streams.{Streams, after_contention, cleared, streams_after_act, schedule_heard, after_taking, unbound};
 ghost use Rattle.bus_rules.specs.Tables.{Table};
 ghost use Rattle.bus_rules.specs.HostPlans.{host_plan};
 ghost use Rattle.bus_rules.specs.Cores.{Setup};
@@ -46,7 +46,7 @@ pub fn streams_stay_in_range()
     ensures boot { (p : Numbers) → AreStreams p cleared }
     ensures act { (p : Numbers) (s : Streams) (a : Act) → IsAct p a
         → AreStreams p s → AreStreams p (streams_after_act a s) }
-    ensures take { (p : Numbers) (s : Streams) (i : ℕ) → AreStreams p s → AreStreams p (taken i s) }
+    ensures take { (p : Numbers) (s : Streams) (i : ℕ) → AreStreams p s → AreStreams p (after_taking i s) }
     ensures contend { (p : Numbers) (s : Streams) (node : ℕ)
         → AreStreams p s → AreStreams p (after_contention node s) }
     ensures host { (p : Numbers) (s : Streams) → AreStreams p s → AreStreams p (unbound s) }
@@ -102,9 +102,9 @@ pub fn trails_stay_in_range()
         → HoldsThrough (IsWellAndProper s v) s v clock hs t }
 {}
 
-/// In a log that follows its node traces, and in which only what was sent is received, each packet that is sent says what may
+/// In a log that follows its trails, and in which only what was sent is received, each packet that is sent says what may
 /// be said, and what is of the profile (`sent`). So what a node receives fits (`heard`), and at every tick each node of the log
-/// is in its ranges, by the node trace over what it received (`nodes`).
+/// is in its ranges, by the trail over what it received (`nodes`).
 pub fn packets_of_a_log_stay_in_range()
     ensures sent { (s : ScenarioParts) → IsSoundScenario s → (clocks : ℕ → ℕ → ℕ) (air : List Entry)
         → FollowsTrails s clocks air → HearsWhatIsSent air

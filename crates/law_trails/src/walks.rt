@@ -1,4 +1,4 @@
-//! What each step of a trace keeps holds all along it.
+//! What each step of a trail keeps holds all along it.
 
 ghost use Rattle.std.specs.Prelude.{◌≡◌, ℕ, suc, ◌<◌, ◌≤◌, List, Bool, true, fold};
 ghost use Rattle.scenario_text.specs.ScenarioParts.{ScenarioParts};
@@ -13,7 +13,7 @@ ghost use Rattle.law_trails.specs.Phases.{Phase, Lines, NothingDue, device_at};
 ghost use Rattle.law_trails.specs.RowEffects.{BootLeaves, JoiningLeaves, HearingLeaves, SentLeaves, FrameAlarmLeaves, OpeningLeaves, ClosingLeaves};
 ghost use Rattle.law_trails.specs.Walks.{HoldsInTick, HoldsAlong, HoldsInRun, IsAwake};
 
-/// What each step of a tick keeps holds in each phase of the tick and before the next (`tick`), along a trace (`along`), and at
+/// What each step of a tick keeps holds in each phase of the tick and before the next (`tick`), along a trail (`along`), and at
 /// all nodes of a run, where a step may build on all of them before its tick (`run`). Here a property is a test, as clauses
 /// have no others; the lemmas that say so are of any property.
 pub fn what_each_step_keeps_holds_throughout()

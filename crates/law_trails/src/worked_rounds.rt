@@ -6,7 +6,8 @@ ghost use Rattle.lwb_base.specs.Profile.{one};
 ghost use Rattle.time_reference.specs.Budgets.{budget_one};
 ghost use Rattle.time_reference.specs.Zeros.{Ref};
 ghost use Rattle.air_log.specs.WindowLogs.{WindowLog};
-ghost use Rattle.air_log.specs.Trails.{setup_of, one_alarm};
+ghost use Rattle.scenario_text.specs.Setups.{setup_of};
+ghost use Rattle.air_log.specs.Trails.{one_alarm};
 ghost use Rattle.air_log.specs.Lawful.{Lawful, heard_by};
 ghost use Rattle.air_log.specs.Safe.{Safe};
 ghost use Rattle.law_trails.specs.DueDevices.{IsDeviceWithWindows, StandsAs};
@@ -25,7 +26,7 @@ pub fn zeros_of_one_packet()
     ensures closed { Ref one budget_one (drifting 1) (drifting 2) 3391904772 13 9 6 }
 {}
 
-/// Worked example, over clocks that drift apart: the traces of a host and of a node that asks for a stream, is granted its
+/// Worked example, over clocks that drift apart: the trails of a host and of a node that asks for a stream, is granted its
 /// slots, and says its packet. Each is as it is written down from each due tick to the next, until the end of the run.
 pub fn trails_of_one_packet()
     ensures host { StandsAs one_packet 1 (drifting 1) (heard_by one_packet_log 1) 0 host_dues }

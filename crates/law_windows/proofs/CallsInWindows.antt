@@ -4,6 +4,7 @@ use Rattle.std.proofs.Common.{Option, is_some, fold, max, refl, sym, ◌∙◌, 
 use Rattle.std.specs.Option.{IfSome}
 use Rattle.std.proofs.Math.Nat.{mul-le-mul_right}
 use Rattle.std.proofs.lemmas.Bool.{and_parts, not-true}
+use Rattle.lwb_base.specs.declared.limits.TheConstants.{MOST_FRAMES}
 use Rattle.lwb_base.specs.Messages.{Schedule}
 use Rattle.lwb_packets.specs.declared.kind.Kind as Kind
 use Rattle.tick_clock.specs.Clocks.{IsClock, due}
@@ -27,7 +28,8 @@ use Rattle.radio_model.specs.declared.sending.Sending.{Sending}
 use Rattle.air_log.specs.declared.entry.Entry.{Entry}
 use Rattle.air_log.specs.Devices.{Device, PowerOn, Listening, OrderedPacket, listens_to}
 use Rattle.air_log.specs.Lawful.{heard_by}
-use Rattle.air_log.specs.Trails.{Reception, setup_of, sending_from}
+use Rattle.scenario_text.specs.Setups.{setup_of}
+use Rattle.air_log.specs.Trails.{Reception, sending_from}
 use Rattle.air_log.specs.WindowLogs.{WindowLog, HeardAt, Closing}
 use Rattle.law_trails.specs.Phases.{Hearings, Alarms, Start, IsNextAlarm}
 use Rattle.law_trails.specs.RowEffects.{relayed, said}
@@ -83,10 +85,10 @@ module _ (s : ScenarioParts) (clocks : ℕ → ℕ → ℕ) (air : List Entry) (
   own_drifts : IsClock (clocks v)
   own_drifts = at.run.driven.drift v at.known
 
-  tick_in_run : t ≤ 4096 * s.profile.frame
+  tick_in_run : t ≤ MOST_FRAMES * s.profile.frame
   tick_in_run =
       let few = frame_in_run s at.run.driven.sound t at.in_run in
-      let early : t / s.profile.frame + 1 ≤ 4096 = omega (arith, few) in
+      let early : t / s.profile.frame + 1 ≤ MOST_FRAMES = omega (arith, few) in
       let frames = mul-le-mul_right s.profile.frame early in
       omega (arith, frames, frame_ends s at.run.driven.sound t)
 

@@ -20,7 +20,8 @@ use Rattle.air_log.specs.WindowLogs.{WindowLog, Closing}
 use Rattle.air_log.specs.Devices.{Device, Power, PowerOff, PowerOn}
 use Rattle.air_log.specs.ScriptedDevices.{device_after_on, with_new_core}
 use Rattle.air_log.specs.Lawful.{heard_by}
-use Rattle.air_log.specs.Trails.{setup_of, run_end, before_tick}
+use Rattle.scenario_text.specs.Setups.{setup_of}
+use Rattle.air_log.specs.Trails.{run_end, before_tick}
 use Rattle.lwb_base.proofs.Elements.{not_in_none, contains_head, contains_tail}
 use Rattle.law_trails.specs.Phases.{Phase, Lines, Hearings, End, Alarms, Start, Over, IsNextLineOf}
 use Rattle.law_trails.specs.Walks.{Now, Keeps, AwaitsFrame, device_after_row}

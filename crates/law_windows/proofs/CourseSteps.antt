@@ -21,7 +21,8 @@ use Rattle.air_log.specs.Lawful.{heard_by}
 use Rattle.air_log.specs.WindowLogs.{WindowLog}
 use Rattle.air_log.specs.Devices.{Device, Power, PowerOn}
 use Rattle.air_log.specs.ScriptedDevices.{device_after_on}
-use Rattle.air_log.specs.Trails.{Reception, setup_of}
+use Rattle.scenario_text.specs.Setups.{setup_of}
+use Rattle.air_log.specs.Trails.{Reception}
 use Rattle.law_trails.specs.Phases.{Phase, Lines, Hearings, End, Alarms, IsNextLineOf}
 use Rattle.law_trails.specs.Walks.{AwaitsFrame, NoWindow, device_after_row}
 use Rattle.law_trails.proofs.RowsOfDevices.{row_obeyed, row_power}

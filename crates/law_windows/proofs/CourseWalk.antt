@@ -1,6 +1,7 @@
 -- A node is on its way through its frame in each phase of each tick of a run.
 use Rattle.std.proofs.Common.{◌≡◌, ℕ, zero, suc, ◌/◌, ◌<◌, ◌≤◌, inl, inr, List, [], true, Contains, refl, sym, ◌∙◌, ap, subst, arith, true≢false}
 use Rattle.std.proofs.lemmas.Bool.{cases_lt}
+use Rattle.lwb_base.specs.declared.limits.TheConstants.{MOST_FRAMES}
 use Rattle.scenario_text.specs.ScenarioParts.{ScenarioParts}
 use Rattle.scenario_text.specs.ScenarioFacts.{IsSoundScenario}
 use Rattle.scenario_text.specs.FloodParts.{knows}
@@ -42,7 +43,7 @@ module _ (s : ScenarioParts) (clocks : ℕ → ℕ → ℕ) (air : List Entry) (
 
   -- at the first tick of a frame all nodes rest, and those that are on count it
   module _ (run : IsObedientRun s clocks air) (known : knows s.nodes v ≡ true) (t : ℕ)
-      (early : t / s.profile.frame ≤ 4096) (start : frame_start s (t / s.profile.frame) ≡ t) where
+      (early : t / s.profile.frame ≤ MOST_FRAMES) (start : frame_start s (t / s.profile.frame) ≡ t) where
     none_by : (told : ℕ) (d : Device) (p : Power) → InOrderBy s clocks air v t told d p → HasNoWindow p
     none_by told d (PowerOff boots) is = tt
     none_by told d (PowerOn n) is = no_window n.stage (rests_at_start s clocks v t n start is.frame)
@@ -68,7 +69,7 @@ module _ (s : ScenarioParts) (clocks : ℕ → ℕ → ℕ) (air : List Entry) (
         )
 
   module _ (t : ℕ) (at : AtTick s clocks air v t) where
-    early : t / s.profile.frame ≤ 4096
+    early : t / s.profile.frame ≤ MOST_FRAMES
     early = let few = frame_in_run s at.run.driven.sound t at.in_run in omega (arith, few)
 
     -- after the script lines

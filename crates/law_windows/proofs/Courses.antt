@@ -8,7 +8,7 @@ use Rattle.scenario_text.specs.ScenarioParts.{ScenarioParts}
 use Rattle.air_log.specs.declared.entry.Entry.{Entry}
 use Rattle.air_log.specs.WindowLogs.{WindowLog, Closing}
 use Rattle.air_log.specs.Devices.{Power, PowerOff, PowerOn, state_of_power}
-use Rattle.air_log.specs.Trails.{setup_of}
+use Rattle.scenario_text.specs.Setups.{setup_of}
 use Rattle.lwb_base.proofs.Elements.{contains_head}
 use Rattle.law_trails.specs.Walks.{AwaitsFrame}
 use Rattle.law_trails.proofs.HeedfulLogs.{lawful_is_heedful}

@@ -13,7 +13,8 @@ use Rattle.air_log.specs.Entries.{sendings_of}
 use Rattle.air_log.specs.Devices.{Device}
 use Rattle.air_log.specs.ScriptedDevices.{device_after_line}
 use Rattle.air_log.specs.Lawful.{Lawful, heard_by}
-use Rattle.air_log.specs.Trails.{Reception, setup_of, run_end, before_tick, frame_start, ending_at, device_after_reception, device_after_script}
+use Rattle.scenario_text.specs.Setups.{setup_of}
+use Rattle.air_log.specs.Trails.{Reception, run_end, before_tick, frame_start, ending_at, device_after_reception, device_after_script}
 use Rattle.air_log.specs.WindowLogs.{WindowLog, Happening, HeardAt, SentAt}
 use Rattle.lwb_base.proofs.Elements.{Distinct, not_in_none, contains_head, contains_cases, map_from, filtered}
 use Rattle.lwb_base.proofs.Options.{none_not_some}

@@ -19,7 +19,8 @@ use Rattle.scenario_text.specs.ScenarioParts.{ScenarioParts}
 use Rattle.air_log.specs.declared.entry.Entry.{Entry}
 use Rattle.air_log.specs.Charges.{sent_in, sent_packets}
 use Rattle.air_log.specs.Devices.{Device, PowerOn}
-use Rattle.air_log.specs.Trails.{run_end, setup_of}
+use Rattle.scenario_text.specs.Setups.{setup_of}
+use Rattle.air_log.specs.Trails.{run_end}
 use Rattle.air_log.specs.WindowLogs.{WindowLog, Happening, HeardAt, SentAt}
 use Rattle.law_trails.specs.Phases.{End}
 use Rattle.law_trails.specs.TrailLinks.{device_in}

@@ -11,7 +11,8 @@ use Rattle.air_log.specs.Devices.{Device, Power, PowerOff, PowerOn}
 use Rattle.air_log.specs.Lawful.{heard_by}
 use Rattle.air_log.specs.ScriptedDevices.{device_after_act, device_after_line}
 use Rattle.air_log.proofs.DeviceActs.{each_act}
-use Rattle.air_log.specs.Trails.{before_tick, frame_start, lines_at, setup_of}
+use Rattle.scenario_text.specs.Setups.{setup_of}
+use Rattle.air_log.specs.Trails.{before_tick, frame_start, lines_at}
 use Rattle.law_trails.specs.TrailLinks.{device_in}
 use Rattle.law_trails.proofs.RowsOfDevices.{switched_on_is}
 use Rattle.law_safety.specs.Invariant.{IsObedientRun}

@@ -19,7 +19,8 @@ use Rattle.node_core.specs.Rows.{orders_by}
 use Rattle.scenario_text.specs.ScenarioParts.{ScenarioParts}
 use Rattle.air_log.specs.WindowLogs.{WindowLog, Happening, HeardAt, Closing}
 use Rattle.air_log.specs.Devices.{Device, Power, PowerOff, PowerOn, event_by, moved, stepped, obeyed}
-use Rattle.air_log.specs.Trails.{Reception, setup_of, device_after_reception}
+use Rattle.scenario_text.specs.Setups.{setup_of}
+use Rattle.air_log.specs.Trails.{Reception, device_after_reception}
 use Rattle.lwb_base.proofs.Elements.{contains_head, contains_tail, contains_cases}
 use Rattle.law_trails.specs.Walks.{NoWindow, device_after_row}
 use Rattle.law_trails.proofs.UnmovedDevices.{unmoved}

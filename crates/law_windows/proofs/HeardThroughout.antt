@@ -14,7 +14,8 @@ use Rattle.air_log.specs.Entries.{HasHeardEntry}
 use Rattle.air_log.specs.Devices.{Device}
 use Rattle.air_log.specs.ScriptedDevices.{device_after_line}
 use Rattle.air_log.specs.Lawful.{heard_by}
-use Rattle.air_log.specs.Trails.{Reception, setup_of, frame_start, ending_at, device_after_reception, device_after_receptions, device_after_script}
+use Rattle.scenario_text.specs.Setups.{setup_of}
+use Rattle.air_log.specs.Trails.{Reception, frame_start, ending_at, device_after_reception, device_after_receptions, device_after_script}
 use Rattle.air_log.specs.WindowLogs.{WindowLog, Happening, HeardAt, SentAt, Closing}
 use Rattle.lwb_base.proofs.Elements.{in_filtered, map_contains}
 use Rattle.law_trails.specs.Phases.{End, device_at}

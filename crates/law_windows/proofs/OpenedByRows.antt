@@ -8,7 +8,7 @@ use Rattle.node_core.specs.Rows.{window_closes}
 use Rattle.scenario_text.specs.ScenarioParts.{ScenarioParts}
 use Rattle.air_log.specs.declared.entry.Entry.{Entry}
 use Rattle.air_log.specs.WindowLogs.{WindowLog, Happening, HeardAt, Closing}
-use Rattle.air_log.specs.Trails.{setup_of}
+use Rattle.scenario_text.specs.Setups.{setup_of}
 use Rattle.lwb_base.proofs.Elements.{contains_head}
 use Rattle.law_safety.proofs.OpeningRoles.{same_standing, role_of}
 use Rattle.law_windows.specs.WindowRows.{node_in_window, OpensBy, IsOpened, ClosesAs}

@@ -16,7 +16,7 @@ use Rattle.node_core.specs.Nodes.{Node}
 use Rattle.node_core.specs.Rows.{flood_for, flood_by, is_foreign, accepted_in, window_closes}
 use Rattle.scenario_text.specs.ScenarioParts.{ScenarioParts}
 use Rattle.air_log.specs.declared.entry.Entry.{Entry}
-use Rattle.air_log.specs.Trails.{setup_of}
+use Rattle.scenario_text.specs.Setups.{setup_of}
 use Rattle.air_log.specs.WindowLogs.{WindowLog}
 use Rattle.law_safety.specs.SetAlarms.{rank_at}
 use Rattle.law_windows.specs.WindowSteps.{KeepsWindows}

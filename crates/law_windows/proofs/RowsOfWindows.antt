@@ -19,7 +19,7 @@ use Rattle.node_core.specs.Rows.{Stepped, window_opens, window_closes, window_he
 use Rattle.scenario_text.specs.ScenarioParts.{ScenarioParts}
 use Rattle.air_log.specs.WindowLogs.{WindowLog, Closing, happening, windows_after, gone_on}
 use Rattle.air_log.specs.Devices.{Device, Power, PowerOn}
-use Rattle.air_log.specs.Trails.{setup_of}
+use Rattle.scenario_text.specs.Setups.{setup_of}
 use Rattle.lwb_base.proofs.Elements.{contains_head, contains_tail, contains_cases}
 use Rattle.law_trails.specs.Walks.{device_after_row, NoWindow}
 use Rattle.law_trails.proofs.RowsOfDevices.{row_obeyed}

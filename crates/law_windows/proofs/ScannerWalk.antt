@@ -24,7 +24,8 @@ use Rattle.air_log.specs.WindowLogs.{WindowLog, Happening, Closing}
 use Rattle.air_log.specs.Devices.{Device, Power, PowerOff, PowerOn}
 use Rattle.air_log.specs.ScriptedDevices.{device_after_on}
 use Rattle.air_log.specs.Lawful.{heard_by}
-use Rattle.air_log.specs.Trails.{Reception, ending_at, device_after_receptions as heard_all, setup_of, run_end, frame_start, device_after_script, before_tick}
+use Rattle.scenario_text.specs.Setups.{setup_of}
+use Rattle.air_log.specs.Trails.{Reception, ending_at, device_after_receptions as heard_all, run_end, frame_start, device_after_script, before_tick}
 use Rattle.lwb_base.proofs.Elements.{in_filtered, not_in_none, contains_head, contains_tail, contains_cases}
 use Rattle.law_trails.specs.Phases.{Phase, Lines, Hearings, End, Alarms, Start, Over, IsNextLineOf, next_phase, device_at}
 use Rattle.law_trails.specs.Walks.{Now, Keeps, device_after_row}

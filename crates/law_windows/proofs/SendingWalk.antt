@@ -17,7 +17,8 @@ use Rattle.air_log.specs.WindowLogs.{WindowLog}
 use Rattle.air_log.specs.Devices.{Device, Power, PowerOff, PowerOn, OrderedPacket, listens_to}
 use Rattle.air_log.specs.ScriptedDevices.{device_after_on}
 use Rattle.air_log.specs.Lawful.{heard_by}
-use Rattle.air_log.specs.Trails.{setup_of, run_end, before_tick}
+use Rattle.scenario_text.specs.Setups.{setup_of}
+use Rattle.air_log.specs.Trails.{run_end, before_tick}
 use Rattle.law_trails.specs.Phases.{Phase, Lines, Hearings, End, Alarms, Start, Over, IsNextLineOf}
 use Rattle.law_trails.specs.Walks.{Now, Keeps, AwaitsFrame, CannotSend, HasNoWindow, NoWindow, device_after_row}
 use Rattle.law_trails.specs.TrailLinks.{device_in}

@@ -19,7 +19,7 @@ use Rattle.scenario_text.specs.ScenarioParts.{ScenarioParts}
 use Rattle.air_log.specs.declared.entry.Entry.{Entry}
 use Rattle.air_log.specs.Devices.{Device, PowerOn}
 use Rattle.air_log.specs.Lawful.{heard_by}
-use Rattle.air_log.specs.Trails.{setup_of}
+use Rattle.scenario_text.specs.Setups.{setup_of}
 use Rattle.air_log.specs.WindowLogs.{WindowLog}
 use Rattle.law_trails.specs.DeviceRanges.{IsPower}
 use Rattle.law_trails.specs.NodeRanges.{IsNodeInRange, IsInStage, IsFloodOfSlot}

@@ -12,7 +12,8 @@ use Rattle.air_log.specs.Devices.{Device, at_rest}
 use Rattle.air_log.specs.Lawful.{heard_by}
 use Rattle.air_log.specs.ScriptedDevices.{device_after_line}
 use Rattle.air_log.specs.Trails.{Reception, alarm_limit, alarmed, alarms, before_tick, device_after_start, device_after_end, ending_at, frame_start}
-use Rattle.air_log.specs.Trails.{device_after_reception, lines_at, run_end, setup_of, tick}
+use Rattle.scenario_text.specs.Setups.{setup_of}
+use Rattle.air_log.specs.Trails.{device_after_reception, lines_at, run_end, tick}
 use Rattle.lwb_base.proofs.Elements.{not_in_none, contains_head, contains_tail}
 use Rattle.law_terms.specs.LawfulRuns.{IsLawfulRun}
 use Rattle.law_windows.specs.FramePlaces.{StrangersLaw}

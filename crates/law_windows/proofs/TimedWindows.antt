@@ -15,7 +15,8 @@ use Rattle.air_log.specs.declared.entry.Entry.{Entry}
 use Rattle.air_log.specs.Devices.{Device, PowerOn, listens_to}
 use Rattle.air_log.specs.Lawful.{heard_by}
 use Rattle.air_log.specs.WindowLogs.{WindowLog, Happening, Closing}
-use Rattle.air_log.specs.Trails.{Reception, setup_of}
+use Rattle.scenario_text.specs.Setups.{setup_of}
+use Rattle.air_log.specs.Trails.{Reception}
 use Rattle.law_trails.specs.Phases.{Hearings, Alarms, IsNextHearing, IsNextAlarm}
 use Rattle.law_trails.proofs.HeardReferences.{good_now}
 use Rattle.law_safety.specs.RoundZeros.{RefFor, GoodFor}

@@ -18,7 +18,8 @@ use Rattle.air_log.specs.declared.entry.Entry.{Entry}
 use Rattle.air_log.specs.WindowLogs.{WindowLog}
 use Rattle.air_log.specs.Devices.{Device, Power, PowerOff, PowerOn}
 use Rattle.air_log.specs.Lawful.{heard_by}
-use Rattle.air_log.specs.Trails.{setup_of, frame_start, at_frame, device_after_script, before_tick}
+use Rattle.scenario_text.specs.Setups.{setup_of}
+use Rattle.air_log.specs.Trails.{frame_start, at_frame, device_after_script, before_tick}
 use Rattle.law_trails.specs.Phases.{Phase, Lines, Hearings, End, Alarms, Start, Over, IsNextLineOf, next_phase, device_at}
 use Rattle.law_trails.specs.Walks.{Now, device_after_row}
 use Rattle.law_trails.proofs.RowsOfDevices.{row_power}

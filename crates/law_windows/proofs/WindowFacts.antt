@@ -7,7 +7,7 @@ use Rattle.law_windows.specs.WindowLaws.{WindowsAreApart, OneWindowASlot, SlotsK
 use Rattle.law_windows.specs.WindowLaws.{NodesSendAsCalled, HearingsHappen, RoundsAreChained, RadiosAreOnInWindows}
 use Rattle.law_windows.proofs.OpenedByRows.{IsOfRows, rows_steps}
 use Rattle.law_windows.proofs.TimedWindows.{IsTimed, times_steps}
-use Rattle.air_log.specs.Trails.{setup_of}
+use Rattle.scenario_text.specs.Setups.{setup_of}
 use Rattle.law_windows.specs.WindowFloods.{WindowHasFlood}
 use Rattle.law_windows.proofs.WindowFloods.{flood_steps}
 use Rattle.law_windows.proofs.WindowHistory.{IsHistory, history_steps}

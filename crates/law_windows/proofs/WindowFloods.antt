@@ -10,7 +10,7 @@ use Rattle.node_core.specs.Rows.{is_foreign}
 use Rattle.scenario_text.specs.ScenarioParts.{ScenarioParts}
 use Rattle.air_log.specs.declared.entry.Entry.{Entry}
 use Rattle.air_log.specs.WindowLogs.{WindowLog, Happening, HeardAt, SentAt, Closing}
-use Rattle.air_log.specs.Trails.{setup_of}
+use Rattle.scenario_text.specs.Setups.{setup_of}
 use Rattle.law_trails.specs.Phases.{Hearings}
 use Rattle.law_safety.specs.SetAlarms.{rank_at}
 use Rattle.law_safety.specs.Rows.{AtTick}

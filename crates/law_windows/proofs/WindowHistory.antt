@@ -15,7 +15,7 @@ use Rattle.air_log.specs.declared.entry.Entry.{Entry}
 use Rattle.air_log.specs.Entries.{sendings_of}
 use Rattle.air_log.specs.Devices.{Device, PowerOn}
 use Rattle.air_log.specs.Lawful.{heard_by}
-use Rattle.air_log.specs.Trails.{setup_of}
+use Rattle.scenario_text.specs.Setups.{setup_of}
 use Rattle.air_log.specs.WindowLogs.{WindowLog, Happening, HeardAt, SentAt, Closing}
 use Rattle.lwb_base.proofs.Elements.{not_in_none}
 use Rattle.air_log.proofs.KeptByEvents.{in_hearings}

@@ -19,7 +19,8 @@ use Rattle.air_log.specs.HearsAir.{scene_of}
 use Rattle.air_log.specs.Lawful.{Lawful}
 use Rattle.air_log.proofs.SendingsKept.{profile_lasts}
 use Rattle.air_log.specs.NodeEvents.{Event, Heard, Ended, flood_after_events, event_occasions}
-use Rattle.air_log.specs.Trails.{run_end, setup_of}
+use Rattle.scenario_text.specs.Setups.{setup_of}
+use Rattle.air_log.specs.Trails.{run_end}
 use Rattle.air_log.specs.WindowLogs.{WindowLog, HeardAt, SentAt, Closing}
 use Rattle.law_trails.specs.TrailLinks.{device_in}
 use Rattle.law_trails.proofs.HeedfulLogs.{lawful_is_heedful}

@@ -16,7 +16,8 @@ use Rattle.radio_model.specs.Hearing.{IsTuned}
 use Rattle.air_log.specs.declared.entry.Entry.{Entry}
 use Rattle.air_log.specs.HearsAir.{scene_of}
 use Rattle.air_log.specs.Devices.{Device, Power, PowerOff, PowerOn, Listening, listens_to}
-use Rattle.air_log.specs.Trails.{run_end, setup_of}
+use Rattle.scenario_text.specs.Setups.{setup_of}
+use Rattle.air_log.specs.Trails.{run_end}
 use Rattle.air_log.specs.WindowLogs.{WindowLog, Happening, HeardAt, SentAt, Closing}
 use Rattle.lwb_base.proofs.Elements.{contains_head, contains_tail, contains_cases}
 use Rattle.lwb_base.proofs.Options.{none_not_some}

@@ -6,7 +6,8 @@ use Rattle.schedule_codec.specs.Reading.{schedule_of, asks_in}
 use Rattle.bus_rules.specs.Streams.{schedule_heard}
 use Rattle.scenario_text.specs.ScenarioParts.{ScenarioParts}
 use Rattle.air_log.specs.Devices.{Device, state_of_power}
-use Rattle.air_log.specs.Trails.{Reception, before_tick, one_alarm, device_after_script, setup_of}
+use Rattle.scenario_text.specs.Setups.{setup_of}
+use Rattle.air_log.specs.Trails.{Reception, before_tick, one_alarm, device_after_script}
 use Rattle.air_log.specs.WindowLogs.{WindowLog}
 use Rattle.law_trails.specs.DueDevices.{DueDevice, IsDeviceWithWindows, StandsAs}
 use Rattle.law_trails.specs.OnePacket.{drifting, heard_by_member, one_packet}

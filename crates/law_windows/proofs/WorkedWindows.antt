@@ -9,7 +9,7 @@ use Rattle.bus_rules.specs.Granting.{plan_round, turns}
 use Rattle.bus_rules.specs.HostPlans.{host_plan}
 use Rattle.node_core.specs.Rows.{joins as joins_by}
 use Rattle.air_log.specs.FirstRound.{opening_with}
-use Rattle.air_log.specs.Trails.{setup_of}
+use Rattle.scenario_text.specs.Setups.{setup_of}
 use Rattle.law_trails.specs.OnePacket.{drifting, one_packet}
 use Rattle.law_trails.specs.OnePacketNodes.{first_plan}
 use Rattle.law_trails.proofs.DriftingClocks.{member_clock}

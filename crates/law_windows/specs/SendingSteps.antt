@@ -16,7 +16,8 @@ use Rattle.radio_model.specs.declared.sending.Sending.{Sending}
 use Rattle.air_log.specs.declared.entry.Entry.{Entry}
 use Rattle.air_log.specs.Devices.{Device, PowerOn, OrderedPacket, Listening}
 use Rattle.air_log.specs.Lawful.{heard_by}
-use Rattle.air_log.specs.Trails.{Reception, setup_of, sending_from}
+use Rattle.scenario_text.specs.Setups.{setup_of}
+use Rattle.air_log.specs.Trails.{Reception, sending_from}
 use Rattle.air_log.specs.WindowLogs.{WindowLog}
 use Rattle.law_trails.specs.Phases.{Hearings, End, Alarms, Start, IsNextHearing, IsNextAlarm, device_at}
 use Rattle.law_trails.specs.RowEffects.{relayed, said}

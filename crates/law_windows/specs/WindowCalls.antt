@@ -11,7 +11,7 @@ use Rattle.lwb_member.specs.Said.{bytes_of}
 use Rattle.scenario_text.specs.ScenarioParts.{ScenarioParts}
 use Rattle.radio_model.specs.declared.sending.Sending.{Sending}
 use Rattle.air_log.specs.Devices.{OrderedPacket}
-use Rattle.air_log.specs.Trails.{setup_of}
+use Rattle.scenario_text.specs.Setups.{setup_of}
 use Rattle.air_log.specs.WindowLogs.{WindowLog, Happening, HeardAt, SentAt}
 use Rattle.law_windows.specs.WindowFloods.{initial_message, flood_at_first, after_happening}
 use Rattle.law_windows.specs.WindowTimes.{IsOfSlot}

@@ -5,7 +5,7 @@ use Rattle.radio_model.specs.declared.sending.Sending.{Sending}
 use Rattle.air_log.specs.declared.entry.Entry.{Entry}
 use Rattle.air_log.specs.Entries.{sendings_of, HasHeardEntry}
 use Rattle.air_log.specs.NodeEvents.{Event, Heard, Ended, EventsInOrder, flood_after_events}
-use Rattle.air_log.specs.Trails.{setup_of}
+use Rattle.scenario_text.specs.Setups.{setup_of}
 use Rattle.air_log.specs.WindowLogs.{WindowLog, Happening, HeardAt, SentAt}
 use Rattle.law_windows.specs.WindowFloods.{flood_at_first}
 use Rattle.law_windows.specs.WindowTimes.{IsOfSlot}

@@ -7,7 +7,8 @@ use Rattle.air_log.specs.declared.entry.Entry.{Entry}
 use Rattle.air_log.specs.WindowLogs.{WindowLog}
 use Rattle.air_log.specs.Devices.{Device}
 use Rattle.air_log.specs.Lawful.{Lawful, trail_in}
-use Rattle.air_log.specs.Trails.{run_end, frame_start, setup_of}
+use Rattle.scenario_text.specs.Setups.{setup_of}
+use Rattle.air_log.specs.Trails.{run_end, frame_start}
 use Rattle.law_trails.specs.TrailLinks.{device_in}
 use Rattle.law_safety.specs.Invariant.{IsDrivenWell, IsObedientRun}
 use Rattle.law_windows.specs.WindowRows.{IsOpened, ClosesAs}

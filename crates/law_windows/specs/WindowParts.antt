@@ -14,7 +14,7 @@ use Rattle.air_log.specs.declared.entry.Entry.{Entry}
 use Rattle.air_log.specs.Entries.{sendings_of}
 use Rattle.air_log.specs.HearsAir.{scene_of}
 use Rattle.air_log.specs.NodeEvents.{Event, Heard, event_occasions, own_ends}
-use Rattle.air_log.specs.Trails.{setup_of}
+use Rattle.scenario_text.specs.Setups.{setup_of}
 use Rattle.air_log.specs.WindowLogs.{WindowLog}
 use Rattle.law_windows.specs.WindowEvents.{WindowHasEvents}
 use Rattle.law_windows.specs.WindowFloods.{flood_at_first, initial_message}

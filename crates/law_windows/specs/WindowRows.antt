@@ -9,7 +9,7 @@ use Rattle.node_core.specs.Nodes.{Node}
 use Rattle.node_core.specs.Rows.{window_opens, window_closes, joins}
 use Rattle.scenario_text.specs.ScenarioParts.{ScenarioParts}
 use Rattle.air_log.specs.WindowLogs.{WindowLog, HeardAt, Closing}
-use Rattle.air_log.specs.Trails.{setup_of}
+use Rattle.scenario_text.specs.Setups.{setup_of}
 use Rattle.law_safety.specs.SetAlarms.{rank_at}
 
 -- the node in a window, as the last event in it left it: since the opening nothing but the window has changed

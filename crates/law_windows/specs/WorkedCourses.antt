@@ -10,7 +10,8 @@ use Rattle.node_core.specs.declared.stage.Stage.TheVariants.{AwaitSlot}
 use Rattle.node_core.specs.Nodes.{Node}
 use Rattle.node_core.specs.Windows.{Window}
 use Rattle.air_log.specs.Devices.{Device, PowerOn, state_of_power}
-use Rattle.air_log.specs.Trails.{one_alarm, setup_of}
+use Rattle.scenario_text.specs.Setups.{setup_of}
+use Rattle.air_log.specs.Trails.{one_alarm}
 use Rattle.air_log.specs.WindowLogs.{WindowLog, opened_log}
 use Rattle.law_trails.specs.OnePacket.{data_with, drifting, one_packet, one_packet_log}
 use Rattle.law_trails.specs.OnePacketMember.{member_32, member_36, member_late}

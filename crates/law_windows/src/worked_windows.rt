@@ -1,7 +1,7 @@
 //! Worked examples of windows, each law a function that does nothing and has the law as its contract.
 
 ghost use Rattle.std.specs.Option.{IfSome};
-ghost use Rattle.air_log.specs.Trails.{setup_of};
+ghost use Rattle.scenario_text.specs.Setups.{setup_of};
 ghost use Rattle.law_trails.specs.OnePacket.{drifting, one_packet};
 ghost use Rattle.law_windows.specs.WindowFloods.{WindowHasFlood};
 ghost use Rattle.law_windows.specs.WindowRows.{ClosesAs, IsOpened};

@@ -34,7 +34,8 @@ use Rattle.lwb_flood.specs.FloodLog.{HasClocks}
 use Rattle.lwb_flood.specs.FloodWorlds.{World, medium_at_opening, first_member, first_world}
 use Rattle.lwb_flood.proofs.FloodOpening.{IsOpening, at_first, opened_is, opened_medium, tuned_one, sound_nodes, first_shape}
 use Rattle.lwb_flood.proofs.FloodSoFar.{running, tuned_by, sending_by, Stands, IsMember, WaitsToBegin, IsFloodSoFar}
-use Rattle.lwb_flood.proofs.LogEntries.{known_of, known_there}
+use Rattle.scenario_text.proofs.Known.{known_there}
+use Rattle.lwb_flood.proofs.LogEntries.{known_of}
 
 abbrev from_opening : Option TunedTo
 from_opening = Some (record { rank = 0; since = OPENING })

@@ -35,7 +35,7 @@ use Rattle.lwb_flood.proofs.ActsTold.{waits_off, sends_off}
 use Rattle.lwb_flood.proofs.EventsInLog.{ended_event, heard_event, heard_is_not}
 use Rattle.lwb_flood.proofs.FloodOpening.{sound_nodes}
 use Rattle.lwb_flood.proofs.FloodSoFar.{scene, standing, event_in, events_in, running, tuned_by, IsGone, Stands, Runs, IsSettled, IsFloodSoFar}
-use Rattle.lwb_flood.proofs.LogEntries.{known_there}
+use Rattle.scenario_text.proofs.Known.{known_there}
 
 -- the events of a node and the entries of the log
 heard_of : (e : Entry) (v : ℕ) (x : Sending) → hearing_in e ≡ Some (record { node = v; sending = x }) → event_in v e ≡ Some (Heard x)

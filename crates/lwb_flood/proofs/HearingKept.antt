@@ -19,7 +19,7 @@ use Rattle.lwb_flood.specs.FloodWorlds.{World, node_of_member, world_after_recep
 use Rattle.lwb_flood.proofs.FloodSoFar.{scene, standing, events_in, Stands, IsMember, Runs, IsSettled, IsSent, WasHeard, IsDue, WasTuned}
 use Rattle.lwb_flood.proofs.FloodSoFar.{WaitsToBegin, IsFloodSoFar}
 use Rattle.lwb_flood.proofs.WorldLists.{events_heard_other, pairs_push}
-use Rattle.lwb_flood.proofs.LogEntries.{known_there}
+use Rattle.scenario_text.proofs.Known.{known_there}
 use Rattle.lwb_flood.proofs.FloodReplies.{heard_runs_back}
 use Rattle.lwb_flood.proofs.SendingCauses.{cause_more}
 use Rattle.lwb_flood.proofs.HearingLogged.{heard_on, heard_new, occasions_on, ends_same, runs_on}

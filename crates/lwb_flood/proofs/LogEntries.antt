@@ -1,8 +1,8 @@
 -- The entries of a log, and of a log that keeps the law of one flood.
 use Rattle.std.proofs.Common.{◌≡◌, ℕ, zero, suc, ◌+◌, ◌*◌, ◌<◌, List, [], ◌∷◌, Bool, true, ◌||◌, inl, inr, Some, refl, sym, ◌∙◌, ap, subst, arith, length, ◌==◌}
-use Rattle.std.proofs.Common.{eq-eqb, eqb-true}
+use Rattle.std.proofs.Common.{eq-eqb}
 use Rattle.std.specs.Prelude.{Contains, ◌≢◌, AllPairs}
-use Rattle.std.proofs.lemmas.Bool.{or_left, or_right, eqb-true}
+use Rattle.std.proofs.lemmas.Bool.{or_left, or_right}
 use Rattle.std.proofs.lemmas.List.{length-set}
 use Rattle.std.proofs.lemmas.Option.{same_Some}
 use Rattle.glossy_relay.specs.Relaying.{counter_of}
@@ -17,8 +17,7 @@ use Rattle.air_log.specs.Entries.{sendings_of, hearings_of, sending_in}
 use Rattle.air_log.specs.NodeEvents.{Heard}
 use Rattle.air_log.specs.FloodLaw.{FloodLaw, first_flood}
 use Rattle.air_log.proofs.LoggedEntries.{sending_node}
-use Rattle.lwb_base.proofs.Elements.{not_in_none, contains_cases, filter_from, filter_distinct, map_from, pairs_head, pairs_tail, Distinct, map_contains}
-use Rattle.lwb_base.proofs.Elements.{some_of}
+use Rattle.lwb_base.proofs.Elements.{not_in_none, contains_cases, filter_from, filter_distinct, map_from, pairs_head, pairs_tail, Distinct}
 use Rattle.glossy_relay.proofs.CountedPackets.{counter_set, fitting_long, relayed_parts}
 use Rattle.lwb_flood.proofs.SendingTimes.{occasion_event}
 
@@ -90,9 +89,3 @@ module _ (f : FloodParts) (clocks : ℕ → ℕ → ℕ) (air : List Entry) (law
       let last = law.lasts x sent in
       let end : x.end ≡ x.start + (length x.packet + 8) * 2048 = ap (λ (y : Sending). y.end) last in
       (ap (λ (y : Sending). y.rank) last, omega (arith, end, eight x sent))
-
--- a known node is one of the nodes
-pub known_there : (nodes : List NodeLine) (v : ℕ) → knows nodes v ≡ true → Contains (ids nodes) v
-known_there nodes v known =
-    let n = some_of (λ (n : NodeLine). n.node == v) nodes known in
-    subst (λ (u : ℕ). Contains (ids nodes) u) (eqb-true n.0.node v n.2) (map_contains (λ (n : NodeLine). n.node) nodes n.0 n.1)

@@ -8,6 +8,7 @@ use Rattle.std.proofs.lemmas.List.Sums.{sum_by-le, count_by-le-length}
 use Rattle.std.specs.List.{cons_option}
 use Rattle.std.proofs.lemmas.List.Elements.{filter_map-append, Contains-push, Contains-push_cases, Contains-append_left}
 use Rattle.std.proofs.lemmas.Option.{slice_get-get_or}
+use Rattle.lwb_base.specs.declared.limits.TheConstants.{MOST_NODES}
 use Rattle.air_log.specs.declared.entry.Entry.{Entry}
 use Rattle.air_log.specs.declared.entry.Entry.TheVariants.{Sent, Heard, Tuned}
 use Rattle.air_log.specs.Entries.{sendings_of, hearings_of, sending_in, hearing_in}
@@ -206,7 +207,7 @@ step_is f air firsts are v = by_test (v == f.start) refl (get_or firsts v None) 
     by_test false at (Some g) is = (eqb-false v f.start at, record { sending = is.sending; there = is.there; counter = is.counter; first = is.first })
 
 -- a flood has few transmissions
-pub few_sendings : (s : Setting) → length s.everyone ≤ 64 → sendings s ≤ 768
+pub few_sendings : (s : Setting) → length s.everyone ≤ MOST_NODES → sendings s ≤ 768
 few_sendings s few =
     let each : All (λ v. count_by (λ k. is_some ((moment s k).sends v)) steps ≤ 12) s.everyone = λ k d less. count_by-le-length
     (λ i. is_some ((moment s i).sends (get_or s.everyone k d))) steps in

@@ -26,7 +26,8 @@ use Rattle.lwb_flood.specs.FloodLog.{HasClocks}
 use Rattle.lwb_flood.specs.FloodWorlds.{World, moment_of, NotAfter, ActsNext, after_own, is_last, own_ended}
 use Rattle.lwb_flood.proofs.ActsTold.{same_sends, sends_by, listens_differ}
 use Rattle.lwb_flood.proofs.FloodSoFar.{scene, standing, sending_by, IsSending, Stands, IsMember, Runs, IsSettled, IsSent, IsDue, IsFloodSoFar}
-use Rattle.lwb_flood.proofs.LogEntries.{known_of, known_there}
+use Rattle.scenario_text.proofs.Known.{known_there}
+use Rattle.lwb_flood.proofs.LogEntries.{known_of}
 use Rattle.lwb_flood.proofs.NodesAndStations.{one_member, member_of, old_lasts}
 use Rattle.lwb_flood.proofs.WorldLists.{each_changed, same_there}
 

@@ -1,4 +1,4 @@
-//! What each node does in a worked run, by its log: the trace and the account.
+//! What each node does in a worked run, by its log: the trail and the account.
 
 use crate::calls::log_of;
 use crate::texts::FIRST_ROUND;
@@ -64,7 +64,7 @@ fn tuned(alloc: Global, trail: &Trail) -> Result<Vec<(u64, u64)>, Fail> {
     Ok(tuned)
 }
 
-// The trace of a node, which has this place among those of the scenario.
+// The trail of a node, which has this place among those of the scenario.
 fn trace(alloc: Global, s: &Scenario, air: &Air, place: usize) -> Result<Trail, Fail> {
     let clocks = clocks_of(alloc, s)?;
     let line = s.nodes().get(place).ok_or("node")?;
@@ -72,7 +72,7 @@ fn trace(alloc: Global, s: &Scenario, air: &Air, place: usize) -> Result<Trail, 
     Ok(trail_of(alloc, s, air, line.node, clock)?)
 }
 
-// Whether the trace of the node at this place among those of the scenario has what the row says, and no deliveries.
+// Whether the trail of the node at this place among those of the scenario has what the row says, and no deliveries.
 fn is_traced(
     alloc: Global,
     s: &Scenario,

@@ -58,7 +58,7 @@ pub fn world_after(
     Ok(world)
 }
 
-/// The traces of all nodes over the log of such a run, by ascending ids.
+/// The trails of all nodes over the log of such a run, by ascending ids.
 pub fn trails(alloc: Global, s: &Scenario, air: &Air, speeds: Speeds) -> Result<Vec<Trail>, Fail> {
     let clocks = jump_clocks(alloc, s.nodes(), speeds)?;
     let mut trails = Vec::new(alloc);

@@ -21,7 +21,7 @@ pub enum Clause {
     OneInitiator,
     /// A schedule is begun by the host of its channel.
     HostSchedules,
-    /// Who begins another flood hosts by its trace, or has received a schedule that allows it and stayed on.
+    /// Who begins another flood hosts by its trail, or has received a schedule that allows it and stayed on.
     Silence,
 }
 
@@ -35,7 +35,7 @@ impl Clause {
         Clause::Silence,
     ];
 
-    /// Whether each transmission, and each pair of them, keeps it. The traces are those of all nodes, by ascending ids.
+    /// Whether each transmission, and each pair of them, keeps it. The trails are those of all nodes, by ascending ids.
     pub fn holds(
         self,
         s: &Scenario,
@@ -139,7 +139,7 @@ fn may_begin(s: &Scenario, x: &SentEntry, heard: &[HeardEntry], trails: &[Trail]
         || heard.iter().any(|h| gives_word(s, h, x))
 }
 
-// Whether the sender hosts by its trace, in the frame in which it sends.
+// Whether the sender hosts by its trail, in the frame in which it sends.
 fn hosts(s: &Scenario, x: &SentEntry, trails: &[Trail]) -> bool {
     let Ok(frame) = u32::try_from(frame_at(&s.profile(), x.start)) else {
         return false;

@@ -1,4 +1,4 @@
-use Rattle.air_log.specs.Trails.{setup_of}
+use Rattle.scenario_text.specs.Setups.{setup_of}
 use Rattle.law_trails.proofs.RelayedMessages.{spoken_rules, proper_rules}
 use Rattle.law_trails.proofs.TrailsInRange.{trail_is, through}
 use Rattle.law_trails.proofs.trails_in_range.trails_stay_in_range.Goals as goal

@@ -5,8 +5,10 @@ use Rattle.std.specs.List.{slice_index_or}
 use Rattle.std.specs.Prelude.{slice_set}
 use Rattle.lwb_base.specs.Messages.{Schedule, Ask, code, node_of, stream_of}
 use Rattle.bus_rules.specs.HostPlans.{Served, answers_to, host_plan, serve}
-use Rattle.bus_rules.specs.Streams.{Stream, Streams, acknowledged, after_contention, due_stream, forgets, forgotten, granted_stream, heard_host, is_host}
-use Rattle.bus_rules.specs.Streams.{named_in, names, no_stream, owns, schedule_heard, stream_at, tries_after, unbound, with_agreed, with_granted_interval}
+use Rattle.bus_rules.specs.Streams.{Stream, Streams, acknowledged, after_contention, due_stream, after_forgetting, forgotten, granted_stream}
+use Rattle.bus_rules.specs.Streams.{heard_host, is_host}
+use Rattle.bus_rules.specs.Streams.{named_in, names, no_stream, owner_named, schedule_heard, stream_at, tries_after, unbound, with_agreed}
+use Rattle.bus_rules.specs.Streams.{with_granted_interval}
 use Rattle.bus_rules.specs.Streams.{with_stream}
 use Rattle.bus_rules.specs.Tables.{Table, interval_of}
 use Rattle.lwb_base.specs.Profile.{Numbers}
@@ -77,7 +79,7 @@ module _ {X : Type 0} (field : Stream → X)
       either_keeps (names node boot a) s (record (with_stream a.stream x s) { tries = 0; skips = 0 }) s (λ i. with_stream_keeps s a.stream x same i)
       (λ i. refl)
 
-  owns_keeps : (node frame : ℕ) (s : Streams) (c : ℕ) → KeepsField s (owns node frame s c)
+  owns_keeps : (node frame : ℕ) (s : Streams) (c : ℕ) → KeepsField s (owner_named node frame s c)
   owns_keeps node frame s c =
       let x = named_in frame (stream_at s (stream_of c)) in
       either_keeps (node_of c == node) s (with_stream (stream_of c) x s) s (with_stream_keeps s (stream_of c) x (named frame (stream_at s (stream_of c))))
@@ -88,9 +90,9 @@ module _ {X : Type 0} (field : Stream → X)
   heard_keeps node boot frame x s i =
       let known = heard_host x.plan.rank x.plan.boot s in
       let answered = fold (acknowledged node boot frame) known x.plan.acks in
-      let at = fold (owns node frame) answered x.plan.owners in
-      either_keeps (x.gap == 0) at at (forgets frame at) (λ i. refl) (λ i. map_keeps (forgotten frame) (forgot frame) at.all i) i
-      ∙ fold_keeps (owns node frame) (owns_keeps node frame) x.plan.owners answered i
+      let at = fold (owner_named node frame) answered x.plan.owners in
+      either_keeps (x.gap == 0) at at (after_forgetting frame at) (λ i. refl) (λ i. map_keeps (forgotten frame) (forgot frame) at.all i) i
+      ∙ fold_keeps (owner_named node frame) (owns_keeps node frame) x.plan.owners answered i
       ∙ fold_keeps (acknowledged node boot frame) (acknowledged_keeps node boot frame) x.plan.acks known i ∙ host_keeps x.plan.rank x.plan.boot s i
 
   -- what a host agrees with itself
