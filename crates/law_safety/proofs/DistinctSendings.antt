@@ -1,4 +1,4 @@
--- No transmission is there twice in a log that follows its traces.
+-- No transmission is there twice in a log that follows its trails.
 use Rattle.std.proofs.Common.{◌≡◌, ◌≢◌, ℕ, List, [], ◌∷◌, Bool, true, false, ◌==◌, filter, AllPairs, Contains, if◌then◌else◌, refl, sym, subst, arith}
 use Rattle.std.specs.List.{IsDistinct}
 use Rattle.std.proofs.lemmas.Bool.{cond_both, cond-true, eq-eqb, eqb-false, ne_eqb}
@@ -19,7 +19,7 @@ use Rattle.air_log.proofs.TrailSendings.{in_order}
 abbrev start_together : Sending → Sending → Bool
 start_together x y = x.start == y.start
 
--- the trace of a node sends at one time after another, so its transmissions in the log start apart
+-- the trail of a node sends at one time after another, so its transmissions in the log start apart
 abbrev StartApart : Sending → Sending → Type 0
 StartApart x y = x.start ≢ y.start
 

@@ -11,7 +11,7 @@ use Rattle.node_core.specs.Windows.{Window}
 use Rattle.node_core.specs.Nodes.{Node}
 use Rattle.node_core.specs.Rows.{sends}
 use Rattle.air_log.specs.Devices.{Device, PowerOn, listens_to}
-use Rattle.air_log.specs.Trails.{setup_of}
+use Rattle.scenario_text.specs.Setups.{setup_of}
 use Rattle.law_trails.specs.Obeying.{channel_if_on, channel_by, alarm_by, ordered_by}
 use Rattle.law_trails.specs.Walks.{device_after_row}
 use Rattle.law_trails.proofs.RowsOfDevices.{row_obeyed}

@@ -2,6 +2,7 @@
 use Rattle.std.proofs.Common.{◌≡◌, ℕ, ◌/◌, ◌<◌, ◌≤◌, ◌⊎◌, inl, inr, ◌∙◌, ap, arith}
 use Rattle.std.proofs.Math.Nat.{mul-le-mul_right}
 use Rattle.std.proofs.lemmas.Bool.{cases_lt}
+use Rattle.lwb_base.specs.declared.limits.TheConstants.{MOST_FRAMES}
 use Rattle.tick_clock.specs.Clocks.{IsClock}
 use Rattle.time_reference.specs.Budgets.{budget_of}
 use Rattle.time_reference.proofs.Run.{alarm_after_start}
@@ -62,7 +63,7 @@ module _ (s : ScenarioParts) (clocks : ℕ → ℕ → ℕ) (v t : ℕ) (n : Nod
   rests_at_start is = rests_by n.stage (elim is.at [ inl same ↦ inl same | inr over ↦ inr over.rests ]) is.began
 
   -- and it counts the true frame
-  pub counts_at_start : IsSoundScenario s → IsClock (clocks v) → t / s.profile.frame ≤ 4096 → InFrame s clocks v t n → n.frame ≡ t / s.profile.frame
+  pub counts_at_start : IsSoundScenario s → IsClock (clocks v) → t / s.profile.frame ≤ MOST_FRAMES → InFrame s clocks v t n → n.frame ≡ t / s.profile.frame
   counts_at_start sound clock early is =
       let alarm = alarm_after_start s.profile (budget_of s.profile) (run_fits s sound) (clocks v) clock (t / s.profile.frame) early in
       elim is.at [ inl same ↦ same | inr over ↦ absurd (let after = alarm.0 in let past = over.past in omega (arith, after, past, start)) ]

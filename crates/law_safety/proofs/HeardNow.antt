@@ -27,7 +27,8 @@ use Rattle.radio_model.specs.Hearing.{frame_of_sending}
 use Rattle.air_log.specs.declared.entry.Entry.{Entry}
 use Rattle.air_log.specs.Devices.{Device, Power, PowerOff, PowerOn, Listening, event_by, moved}
 use Rattle.air_log.specs.ScriptedDevices.{device_after_line}
-use Rattle.air_log.specs.Trails.{Reception, setup_of, frame_start, lines_at, device_after_reception, device_after_script}
+use Rattle.scenario_text.specs.Setups.{setup_of}
+use Rattle.air_log.specs.Trails.{Reception, frame_start, lines_at, device_after_reception, device_after_script}
 use Rattle.air_log.proofs.SendingsKept.{profile_lasts}
 use Rattle.law_trails.specs.Obeying.{channel_if_on, channel_by}
 use Rattle.law_trails.specs.TrailLinks.{ListensSince, device_in}

@@ -2,6 +2,7 @@
 use Rattle.std.proofs.Common.{◌≡◌, ℕ, suc, ◌+◌, ◌*◌, ◌/◌, ◌<◌, ◌≤◌, List, length, length-set, Contains, inr, sym, ◌∙◌, ap, subst, arith}
 use Rattle.std.specs.Prelude.{slice_index}
 use Rattle.std.proofs.Math.Nat.{mul-le-mul_right}
+use Rattle.lwb_base.specs.declared.limits.TheConstants.{MOST_FRAMES}
 use Rattle.lwb_base.specs.Profile.{airtime}
 use Rattle.tick_clock.specs.Clocks.{IsClock, due}
 use Rattle.time_reference.specs.Budgets.{budget_of}
@@ -38,10 +39,10 @@ module _ (s : ScenarioParts) (clocks : ℕ → ℕ → ℕ) (air : List Entry) (
   pub it_lasts : t ≡ now.sending.start + airtime s.profile (length now.sending.packet)
   it_lasts = sym now.end ∙ now.of_flood.lasts
 
-  pub tick_in_run : t ≤ 4096 * s.profile.frame
+  pub tick_in_run : t ≤ MOST_FRAMES * s.profile.frame
   tick_in_run =
       let few = frame_in_run s at.run.driven.sound t at.in_run in
-      let early : t / s.profile.frame + 1 ≤ 4096 = omega (arith, few) in
+      let early : t / s.profile.frame + 1 ≤ MOST_FRAMES = omega (arith, few) in
       let frames = mul-le-mul_right s.profile.frame early in
       omega (arith, frames, frame_ends s at.run.driven.sound t)
 

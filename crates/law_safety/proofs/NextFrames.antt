@@ -4,6 +4,7 @@ use Rattle.std.proofs.Common.{Contains, refl, sym, ◌∙◌, ap, subst, arith, 
 use Rattle.std.specs.Prelude.{max, slice_index}
 use Rattle.std.proofs.lemmas.Bool.{cases_lt, eqb-false}
 use Rattle.std.proofs.lemmas.Option.{same_Some}
+use Rattle.lwb_base.specs.declared.limits.TheConstants.{MOST_FRAMES}
 use Rattle.tick_clock.specs.Clocks.{IsClock, due}
 use Rattle.time_reference.specs.Budgets.{Fits, budget_of}
 use Rattle.time_reference.specs.Zeros.{opening_offset}
@@ -106,7 +107,7 @@ module _ (s : ScenarioParts) (clocks : ℕ → ℕ → ℕ) (air : List Entry) (
       rests = rests;
     }
 
-    pub f_early : f ≤ 4096
+    pub f_early : f ≤ MOST_FRAMES
     f_early = let few = early in let is_next = next in omega (arith, few, is_next)
 
     -- the alarm of the frame to come

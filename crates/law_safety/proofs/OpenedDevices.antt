@@ -13,7 +13,7 @@ use Rattle.node_core.specs.Rows.{flood_for}
 use Rattle.scenario_text.specs.ScenarioParts.{ScenarioParts}
 use Rattle.air_log.specs.declared.entry.Entry.{Entry}
 use Rattle.air_log.specs.Devices.{Device, OrderedPacket, listens_to}
-use Rattle.air_log.specs.Trails.{setup_of}
+use Rattle.scenario_text.specs.Setups.{setup_of}
 use Rattle.law_trails.specs.NodeRanges.{IsNodeInRange, IsInStage, IsOpenInRange}
 use Rattle.law_trails.specs.RowEffects.{said}
 use Rattle.law_trails.proofs.WindowsInRange.{opens_is}

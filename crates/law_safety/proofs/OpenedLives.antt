@@ -22,7 +22,8 @@ use Rattle.radio_model.specs.Hearing.{frame_of_sending}
 use Rattle.scenario_text.specs.ScenarioParts.{ScenarioParts}
 use Rattle.air_log.specs.declared.entry.Entry.{Entry}
 use Rattle.air_log.specs.Devices.{Device}
-use Rattle.air_log.specs.Trails.{setup_of, frame_start}
+use Rattle.scenario_text.specs.Setups.{setup_of}
+use Rattle.air_log.specs.Trails.{frame_start}
 use Rattle.law_trails.specs.Lives.{Life, OpeningMade, ClosingMade, Opens, Closes, after_step, Quiet}
 use Rattle.law_trails.specs.NodeRanges.{IsNodeInRange}
 use Rattle.law_trails.proofs.CoresInRange.{host_plan_of}

@@ -16,7 +16,8 @@ use Rattle.node_core.specs.Nodes.{Node}
 use Rattle.scenario_text.specs.ScenarioParts.{ScenarioParts}
 use Rattle.air_log.specs.declared.entry.Entry.{Entry}
 use Rattle.air_log.specs.Devices.{Device}
-use Rattle.air_log.specs.Trails.{setup_of, frame_start}
+use Rattle.scenario_text.specs.Setups.{setup_of}
+use Rattle.air_log.specs.Trails.{frame_start}
 use Rattle.law_trails.specs.NodeRanges.{IsNodeInRange}
 use Rattle.law_trails.proofs.CoresInRange.{host_plan_of}
 use Rattle.bus_rules.proofs.Ranks.{host_now}

@@ -16,7 +16,8 @@ use Rattle.air_log.specs.declared.entry.Entry.{Entry}
 use Rattle.air_log.specs.Devices.{Device, Power, PowerOff, PowerOn, OrderedPacket, moved}
 use Rattle.air_log.specs.ScriptedDevices.{device_after_on}
 use Rattle.air_log.specs.Lawful.{heard_by}
-use Rattle.air_log.specs.Trails.{setup_of, frame_start}
+use Rattle.scenario_text.specs.Setups.{setup_of}
+use Rattle.air_log.specs.Trails.{frame_start}
 use Rattle.law_trails.specs.Lives.{Life, ComesOn, after_step}
 use Rattle.law_trails.specs.Phases.{Lines, IsNextLineOf}
 use Rattle.law_trails.proofs.LifeSteps.{step_quiet}

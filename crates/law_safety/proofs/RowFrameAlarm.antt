@@ -1,6 +1,7 @@
 -- The alarm of a frame: the node goes on to the next frame, and the life of its rank with it.
 use Rattle.std.proofs.Common.{◌≡◌, ℕ, suc, ◌+◌, ◌/◌, ◌<◌, ◌≤◌, inl, inr, List, length, Bool, true, false, ◌==◌, if◌then◌else◌, Some, None, Option, fold}
 use Rattle.std.proofs.Common.{Contains, refl, sym, ◌∙◌, ap, subst, arith, true≢false}
+use Rattle.lwb_base.specs.declared.limits.TheConstants.{MOST_FRAMES}
 use Rattle.lwb_base.specs.Messages.{Plan}
 use Rattle.lwb_base.specs.declared.event.Event.TheVariants.{Alarm}
 use Rattle.time_reference.specs.Budgets.{budget_of}
@@ -18,8 +19,8 @@ use Rattle.node_core.specs.Nodes.{Node, stopped_frame, frame_alarm, zero_of_host
 use Rattle.node_core.specs.Rows.{Stepped, frame_alarms}
 use Rattle.air_log.specs.declared.entry.Entry.{Entry}
 use Rattle.air_log.specs.Devices.{Device, Power, PowerOn, OrderedPacket}
-use Rattle.air_log.specs.Trails.{setup_of}
-use Rattle.law_trails.specs.Lives.{Life, Step, Ends, IsPast, after_step, plan_after, ByTune, ByPower, HostsQuietly}
+use Rattle.scenario_text.specs.Setups.{setup_of}
+use Rattle.law_trails.specs.Lives.{Step, Ends, IsPast, after_step, plan_after, ByTune, ByPower, HostsQuietly}
 use Rattle.law_trails.specs.Obeying.{channel_if_on, channel_by, alarm_by, ordered_by}
 use Rattle.law_trails.specs.Phases.{Alarms}
 use Rattle.law_trails.specs.Walks.{AwaitsFrame, device_after_row}
@@ -56,7 +57,7 @@ module _ (s : ScenarioParts) (clocks : ℕ → ℕ → ℕ) (air : List Entry) (
   is_next : g ≡ n.frame + 1
   is_next = next s clocks air v t at d n is awaits now fine.before
 
-  g_early : g ≤ 4096
+  g_early : g ≤ MOST_FRAMES
   g_early = f_early s clocks air v t at d n is awaits now fine.before
 
   ranks : 1 ≤ length s.hosts
@@ -95,9 +96,6 @@ module _ (s : ScenarioParts) (clocks : ℕ → ℕ → ℕ) (air : List Entry) (
         let waits : Waits s clocks v n (Host rank n.frame) = (waits_by s clocks air v t n (Host rank n.frame) this refl rests).0 in
         let less : n.frame < n.frame = waits.2 in
         omega (arith, less)
-
-    life_after : Life
-    life_after = after_step rank (length s.hosts) h.life ending
 
   -- the end of the frame in the life of a rank
   host_after : (rank : ℕ) (named : IsHostOf s rank v) (e : Device) → e.power ≡ PowerOn (frame_alarms set_up n).node

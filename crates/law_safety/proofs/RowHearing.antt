@@ -21,7 +21,8 @@ use Rattle.bus_rules.specs.declared.delivery.Delivery.{Delivery}
 use Rattle.air_log.specs.declared.entry.Entry.{Entry}
 use Rattle.air_log.specs.Devices.{Device, PowerOn, OrderedPacket}
 use Rattle.air_log.specs.WindowLogs.{WindowLog, windows_after}
-use Rattle.air_log.specs.Trails.{Reception, setup_of, frame_start}
+use Rattle.scenario_text.specs.Setups.{setup_of}
+use Rattle.air_log.specs.Trails.{Reception, frame_start}
 use Rattle.law_trails.specs.Phases.{Hearings}
 use Rattle.law_trails.specs.Walks.{device_after_row}
 use Rattle.law_safety.specs.SetAlarms.{rank_at}

@@ -24,7 +24,8 @@ use Rattle.air_log.specs.declared.entry.Entry.{Entry}
 use Rattle.air_log.specs.Devices.{Device, PowerOn, OrderedPacket, listens_to}
 use Rattle.air_log.specs.Lawful.{heard_by}
 use Rattle.air_log.specs.WindowLogs.{WindowLog, windows_after}
-use Rattle.air_log.specs.Trails.{Reception, setup_of}
+use Rattle.scenario_text.specs.Setups.{setup_of}
+use Rattle.air_log.specs.Trails.{Reception}
 use Rattle.law_trails.specs.Phases.{Hearings}
 use Rattle.law_trails.specs.Walks.{device_after_row}
 use Rattle.law_safety.specs.SetAlarms.{rank_at}

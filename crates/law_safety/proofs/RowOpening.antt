@@ -6,7 +6,7 @@ use Rattle.node_core.specs.Nodes.{Node}
 use Rattle.node_core.specs.Rows.{window_opens}
 use Rattle.radio_model.specs.declared.sending.Sending.{Sending}
 use Rattle.air_log.specs.Devices.{Device, Power}
-use Rattle.air_log.specs.Trails.{setup_of}
+use Rattle.scenario_text.specs.Setups.{setup_of}
 use Rattle.law_trails.specs.DeviceRanges.{IsPower}
 use Rattle.law_trails.specs.NodeRanges.{IsNodeInRange}
 use Rattle.law_trails.specs.Walks.{device_after_row}

@@ -16,7 +16,7 @@ use Rattle.node_core.specs.Nodes.{Node}
 use Rattle.node_core.specs.Rows.{sends}
 use Rattle.air_log.specs.declared.entry.Entry.{Entry}
 use Rattle.air_log.specs.Devices.{Device, Power, PowerOff, PowerOn, OrderedPacket, listens_to}
-use Rattle.air_log.specs.Trails.{setup_of}
+use Rattle.scenario_text.specs.Setups.{setup_of}
 use Rattle.law_trails.specs.Lives.{Life}
 use Rattle.law_trails.specs.Phases.{End, Alarms}
 use Rattle.law_trails.specs.Walks.{device_after_row, NoWindow, HasNoWindow}

@@ -22,7 +22,8 @@ use Rattle.air_log.specs.Entries.{sendings_of}
 use Rattle.air_log.specs.Devices.{Device, Power, Listening, OrderedPacket, listens_to}
 use Rattle.air_log.specs.Lawful.{heard_by}
 use Rattle.air_log.specs.Safe.{sender_hosts, is_hosting}
-use Rattle.air_log.specs.Trails.{setup_of, sending_from, starts, begun_by, device_after_start, before_tick, tune_of}
+use Rattle.scenario_text.specs.Setups.{setup_of}
+use Rattle.air_log.specs.Trails.{sending_from, starts, begun_by, device_after_start, before_tick, tune_of}
 use Rattle.law_trails.specs.Phases.{Start, Over, device_at}
 use Rattle.law_trails.specs.TrailLinks.{device_in}
 use Rattle.law_trails.specs.Walks.{with_start}

@@ -10,7 +10,8 @@ use Rattle.scenario_text.specs.declared.script.ScriptLine.{ScriptLine}
 use Rattle.air_log.specs.declared.entry.Entry.{Entry}
 use Rattle.air_log.specs.Devices.{Device, Power, PowerOff, PowerOn, OrderedPacket}
 use Rattle.air_log.specs.Lawful.{heard_by}
-use Rattle.air_log.specs.Trails.{setup_of, frame_start, lines_at, device_after_script}
+use Rattle.scenario_text.specs.Setups.{setup_of}
+use Rattle.air_log.specs.Trails.{frame_start, lines_at, device_after_script}
 use Rattle.law_trails.specs.Lives.{Life}
 use Rattle.law_trails.specs.Phases.{Phase, Lines, Hearings, End, Alarms, Start, Over, device_at, next_phase, NothingDue}
 use Rattle.law_trails.specs.TrailLinks.{WentOff, WentOffBy, boots_of_power, device_in}

@@ -31,7 +31,7 @@ module _ (s : ScenarioParts) (clocks : ℕ → ℕ → ℕ) (air : List Entry) (
       let is = of_flood x there in
       subst (λ (o : Sending). BeginsFlood s clocks air is.zero o) (is.itself first) is.begins
 
-  -- it is in the trace of its node
+  -- it is in the trail of its node
   pub in_trail : (x : Sending) → Contains (sendings_of air) x → Contains (device_in s clocks air x.node (run_end s)).made.sent x
   in_trail x there =
       let follows = whole.run.heedful.trails in

@@ -3,6 +3,7 @@ use Rattle.std.proofs.Common.{◌≡◌, ℕ, suc, ◌+◌, ◌*◌, ◌/◌, �
 use Rattle.std.specs.Prelude.{slice_index}
 use Rattle.std.proofs.Math.Nat.{mul-le-mul_right}
 use Rattle.std.proofs.lemmas.List.{length-set}
+use Rattle.lwb_base.specs.declared.limits.TheConstants.{MOST_FRAMES}
 use Rattle.lwb_base.specs.Profile.{airtime, step}
 use Rattle.lwb_packets.specs.Body.{body}
 use Rattle.tick_clock.specs.Clocks.{Near}
@@ -67,7 +68,7 @@ module _ (s : ScenarioParts) (clocks : ℕ → ℕ → ℕ) (air : List Entry) (
         near = subst (λ (k : ℕ). Near t (t + k * step s.profile (length x.packet)) k) (sym zero) (record { below = omega arith; above = omega arith });
       }
 
-  in_ticks : t ≤ 4096 * s.profile.frame
+  in_ticks : t ≤ MOST_FRAMES * s.profile.frame
   in_ticks =
       let few = mul-le-mul_right s.profile.frame at.run.driven.sound.few_frames in
       let in_run = at.in_run in
@@ -83,7 +84,7 @@ module _ (s : ScenarioParts) (clocks : ℕ → ℕ → ℕ) (air : List Entry) (
       let fits = run_fits s at.run.driven.sound in
       let clock = at.run.driven.drift v at.known in
       let by = relay.in_slot.by in
-      let within : y.end ≤ 4096 * p.frame = (let ticks = in_ticks in omega (arith, by, ticks)) in
+      let within : y.end ≤ MOST_FRAMES * p.frame = (let ticks = in_ticks in omega (arith, by, ticks)) in
       let ends : relay_tick p (clocks v) y.end ≡ t = relay_is p budget fits (clocks v) clock y.end within ∙ sym relay.at ∙ now in
       let later : y.end < relay_tick p (clocks v) y.end = relay_after p budget fits (clocks v) clock y.end within in
       let was = (at.run.heedful.heard v y relay.in_slot.there).sent in

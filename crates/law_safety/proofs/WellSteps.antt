@@ -9,7 +9,8 @@ use Rattle.air_log.specs.declared.entry.Entry.{Entry}
 use Rattle.air_log.specs.AlarmRuns.{after_alarms}
 use Rattle.air_log.specs.Devices.{Device}
 use Rattle.air_log.specs.Lawful.{heard_by}
-use Rattle.air_log.specs.Trails.{Reception, setup_of, ending_at, device_after_reception, device_after_script, before_alarms, before_tick}
+use Rattle.scenario_text.specs.Setups.{setup_of}
+use Rattle.air_log.specs.Trails.{Reception, ending_at, device_after_reception, device_after_script, before_alarms, before_tick}
 use Rattle.law_trails.specs.CoreRanges.{IsSetup}
 use Rattle.law_trails.specs.SpokenRanges.{IsFitting, IsProper}
 use Rattle.law_trails.specs.DeviceRanges.{IsRanged, IsWellAndProper, HoldsThrough}

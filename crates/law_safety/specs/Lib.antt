@@ -17,6 +17,6 @@ pub mod QuietHosts
 pub mod Invariant
 pub mod Rows
 pub mod KnownInRows
-pub mod WorkedRounds
 pub mod Endings
 pub mod SlotLaws
+pub mod AgreeingNodes
