@@ -14,15 +14,16 @@ use Rattle.bus_rules.specs.Cores.{Core, Setup, as_host, begins_host, closing_acc
 use Rattle.bus_rules.specs.HostPlans.{Served, answers_to, host_plan, serve}
 use Rattle.bus_rules.specs.Slots.{DataOf, Message, RequestOf, ScheduleOf, closed_slot, host_closes, hosts_now, is_own, opened_slot, silent, slot_heard}
 use Rattle.bus_rules.specs.States.{State, StateOff, StateOn, at_core}
-use Rattle.bus_rules.specs.Streams.{Streams, acknowledged, after_contention, due_stream, forgets, heard_host, is_host, names}
-use Rattle.bus_rules.specs.Streams.{owns, schedule_heard, streams_after_act}
-use Rattle.bus_rules.specs.Streams.{taken, tries_after, unbound, with_stream}
+use Rattle.bus_rules.specs.Streams.{Streams, acknowledged, after_contention, due_stream, after_forgetting, heard_host, is_host, names}
+use Rattle.bus_rules.specs.Streams.{owner_named, schedule_heard, streams_after_act}
+use Rattle.bus_rules.specs.Streams.{after_taking, tries_after, unbound, with_stream}
 use Rattle.bus_rules.specs.Tables.{Table}
 use Rattle.bus_rules.specs.Tuning.{next_tune, rank_of}
 use Rattle.bus_rules.proofs.Switches.{acts_keep}
 use Rattle.bus_terms.specs.Bus.{before_frame, state_at}
 use Rattle.bus_terms.specs.Rounds.{rounds}
-use Rattle.bus_terms.specs.ScriptedStates.{lines_of, setup_in, state_after_line, states_after_script}
+use Rattle.scenario_text.specs.Setups.{setup_of}
+use Rattle.bus_terms.specs.ScriptedStates.{lines_of, state_after_line, states_after_script}
 use Rattle.bus_terms.proofs.KeptInRounds.{rounds_keep}
 
 pub record IsRuled (node : ℕ) (x : Streams) : Type 0 where
@@ -62,12 +63,12 @@ module _ (node : ℕ) where
       (λ z a ruled. cond_both (names node boot a) (record (with_stream a.stream _ z) { tries = 0; skips = 0 }) z (IsRuled node)
       (λ _. none_ruled (record (with_stream a.stream _ z) { tries = 0; skips = 0 }) refl refl) (λ _. ruled))
       y.plan.acks (heard_host y.plan.rank y.plan.boot x) known in
-      let named = fold_ruled (owns node f)
+      let named = fold_ruled (owner_named node f)
       (λ z c ruled. cond_both (node_of c == node) (with_stream (stream_of c) _ z) z (IsRuled node)
       (λ _. same_ruled z (with_stream (stream_of c) _ z) refl refl ruled) (λ _. ruled))
       y.plan.owners (fold (acknowledged node boot f) (heard_host y.plan.rank y.plan.boot x) y.plan.acks) answered in
-      let last : Streams = fold (owns node f) (fold (acknowledged node boot f) (heard_host y.plan.rank y.plan.boot x) y.plan.acks) y.plan.owners in
-      cond_both (y.gap == 0) last (forgets f last) (IsRuled node) (λ _. named) (λ _. same_ruled last (forgets f last) refl refl named)
+      let last : Streams = fold (owner_named node f) (fold (acknowledged node boot f) (heard_host y.plan.rank y.plan.boot x) y.plan.acks) y.plan.owners in
+      cond_both (y.gap == 0) last (after_forgetting f last) (IsRuled node) (λ _. named) (λ _. same_ruled last (after_forgetting f last) refl refl named)
 
   served_ruled : (f boot : ℕ) (is : List ℕ) (x : Served) → IsRuled node x.streams → IsRuled node (fold (serve f node boot) x is).streams
   served_ruled f boot [] x ruled = ruled
@@ -95,8 +96,8 @@ module _ (q : Setup) (f : ℕ) where
   opens : (part : Part) (c : Core) → IsRuled q.id c.streams → IsRuled q.id (opened_slot q f part c).core.streams
   opens Opening c is = is
   opens (DataSlot owner) c is =
-      cond_both (node_of owner == q.id) (taken (stream_of owner) c.streams) c.streams (IsRuled q.id)
-      (λ _. same_ruled q.id c.streams (taken (stream_of owner) c.streams) refl refl is) (λ _. is)
+      cond_both (node_of owner == q.id) (after_taking (stream_of owner) c.streams) c.streams (IsRuled q.id)
+      (λ _. same_ruled q.id c.streams (after_taking (stream_of owner) c.streams) refl refl is) (λ _. is)
   opens (Contention k) c is =
       cond_both (is_own c.own_slot k) (after_contention q.id c.streams) c.streams (IsRuled q.id) (λ _. contention_ruled q.id c.streams is) (λ _. is)
   opens Closing c is = by_test (hosts_now f c)
@@ -143,9 +144,9 @@ module _ (s : ScenarioParts) where
   before zero v = tt
   before (suc f) v =
       let told : (w : ℕ) → Ruled w (states_after_script s f (before_frame s f) w) = λ w. lines w (lines_of s f w) (before_frame s f w) (before f w) in
-      ends (setup_in s v) f (rounds s f (states_after_script s f (before_frame s f)) v)
-      (rounds_keep s f Ruled (λ m. Unit {0}) (λ w part c is. opens (setup_in s w) f part c is) (λ w part c m is said. tt)
-      (λ w part b c o heard_it is. closes (setup_in s w) f part b c o is) (states_after_script s f (before_frame s f)) told v)
+      ends (setup_of s v) f (rounds s f (states_after_script s f (before_frame s f)) v)
+      (rounds_keep s f Ruled (λ m. Unit {0}) (λ w part c is. opens (setup_of s w) f part c is) (λ w part c m is said. tt)
+      (λ w part b c o heard_it is. closes (setup_of s w) f part b c o is) (states_after_script s f (before_frame s f)) told v)
 
   pub ruled : (f v : ℕ) → Ruled v (state_at s f v)
   ruled f v = lines v (lines_of s f v) (before_frame s f v) (before f v)

@@ -1,5 +1,5 @@
 -- The power of a node goes by the script; and a node that boots in a frame scans for rank 0 after its script lines.
-use Rattle.std.proofs.Common.{◌≡◌, ◌<◌, ◌≤◌, ◌+◌, ◌||◌, ℕ, zero, suc, List, [], ◌∷◌, Bool, true, false, Option, Some, None}
+use Rattle.std.proofs.Common.{◌≡◌, ◌<◌, ◌≤◌, ◌+◌, ◌||◌, ℕ, zero, suc, List, [], ◌∷◌, Bool, true, false, Some}
 use Rattle.std.proofs.Common.{fold, refl, sym, ◌∙◌, ap, subst, arith}
 use Rattle.std.proofs.lemmas.Bool.{false≢true}
 use Rattle.std.specs.List.{list_any}
@@ -8,65 +8,29 @@ use Rattle.scenario_text.specs.ScenarioFacts.{turned_by}
 use Rattle.scenario_text.specs.declared.script.ScriptLine.{ScriptLine}
 use Rattle.bus_rules.specs.declared.act.Act.{Act}
 use Rattle.bus_rules.specs.declared.act.Act.TheVariants.{On, Off, Declare, Leave, Put}
-use Rattle.bus_rules.specs.declared.tune.Tune.{Tune}
 use Rattle.bus_rules.specs.declared.tune.Tune.TheVariants.{Scan}
-use Rattle.bus_rules.specs.Cores.{Setup, as_host, begins_host, frame_ended, is_fresh, no_plan}
-use Rattle.bus_rules.specs.States.{State, StateOff, StateOn, at_core, state_after_act}
-use Rattle.bus_rules.specs.Tuning.{next_tune}
+use Rattle.bus_rules.specs.Cores.{no_plan}
+use Rattle.bus_rules.specs.States.{State, state_after_act}
 use Rattle.bus_rules.proofs.Switches.{acts_keep}
 use Rattle.bus_terms.specs.Bus.{before_frame, state_at}
 use Rattle.bus_terms.specs.Rounds.{rounds}
-use Rattle.bus_terms.specs.ScriptedStates.{lines_of, setup_in, state_after_line, states_after_script}
-use Rattle.bus_terms.proofs.KeptInRounds.{rounds_keep}
-use Rattle.bus_terms.proofs.NumbersKept.{opened_core, closed_core}
+use Rattle.bus_terms.specs.ScriptedStates.{lines_of, power, state_after_line, states_after_script}
+use Rattle.bus_terms.proofs.PowerKept.{act_power, ended_power, rounds_power}
 use Rattle.law_times.specs.ScriptedPower.{power_before, power_in, power_after_line, is_on_in, turns_on, BootsIn, StaysOff}
 use Rattle.law_times.proofs.Settings.{setting, idle}
 use Rattle.law_times.proofs.QuietFrames.{Goes, none_in_frame}
-
--- whether a node is on, and its boots
-abbrev pub power : State → Bool × ℕ
-power (StateOff boots) = (false, boots)
-power (StateOn c) = (true, c.boot)
-
-act_power : (a : Act) (x : State) → power (state_after_act a x) ≡ turned_by a (power x)
-act_power On (StateOff boots) = refl
-act_power On (StateOn c) = refl
-act_power Off (StateOff boots) = refl
-act_power Off (StateOn c) = refl
-act_power (Declare i interval) (StateOff boots) = refl
-act_power (Declare i interval) (StateOn c) = refl
-act_power (Leave i) (StateOff boots) = refl
-act_power (Leave i) (StateOn c) = refl
-act_power (Put i payload) (StateOff boots) = refl
-act_power (Put i payload) (StateOn c) = refl
 
 lines_power : (ls : List ScriptLine) (x : State) → power (fold state_after_line x ls) ≡ fold power_after_line (power x) ls
 lines_power [] x = refl
 lines_power (l ∷ ls) x =
     lines_power ls (state_after_line x l) ∙ ap (λ (t : Bool × ℕ). fold power_after_line t ls) (act_power l.act x)
 
-ended_power : (q : Setup) (f : ℕ) (x : State) → power (at_core (frame_ended q f) x) ≡ power x
-ended_power q f (StateOff boots) = refl
-ended_power q f (StateOn c) = by_host _ (begins_host c.tune (next_tune c.tune f (is_fresh c) q.own q.ranks))
-  where
-    by_host : (t : Tune) (o : Option ℕ) → power (StateOn (as_host q.profile o (record c { tune = t; own_slot = None }))) ≡ (true, c.boot)
-    by_host t None = refl
-    by_host t (Some rank) = refl
-
-rounds_power : (s : ScenarioParts) (f : ℕ) (states : ℕ → State) (v : ℕ) → power (rounds s f states v) ≡ power (states v)
-rounds_power s f states =
-    rounds_keep s f (λ v x. power x ≡ power (states v)) (λ m. Unit {0})
-    (λ v part c is. ap (λ (n : ℕ). (true, n)) (opened_core (setup_in s v) f part c).boot ∙ is)
-    (λ v part c m is said. tt)
-    (λ v part b c heard told is. ap (λ (n : ℕ). (true, n)) (closed_core (setup_in s v) f part b c heard).boot ∙ is)
-    states (λ v. refl)
-
 module _ (s : ScenarioParts) where
   before_power : (f v : ℕ) → power (before_frame s f v) ≡ power_before s f v
   unfolding before_frame power_before
   before_power zero v = refl
   before_power (suc f) v =
-      ended_power (setup_in s v) f (rounds s f (states_after_script s f (before_frame s f)) v)
+      ended_power s f v (rounds s f (states_after_script s f (before_frame s f)))
       ∙ rounds_power s f (states_after_script s f (before_frame s f)) v
       ∙ lines_power (lines_of s f v) (before_frame s f v)
       ∙ ap (λ (t : Bool × ℕ). fold power_after_line t (lines_of s f v)) (before_power f v)

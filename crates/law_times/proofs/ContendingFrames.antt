@@ -13,12 +13,13 @@ use Rattle.bus_rules.specs.declared.tune.Tune.TheVariants.{Hold}
 use Rattle.bus_rules.specs.Cores.{Core, Setup, as_host, begins_host, frame_ended, is_fresh}
 use Rattle.bus_rules.specs.HostPlans.{host_plan}
 use Rattle.bus_rules.specs.States.{State, StateOff, StateOn, at_core, state_after_act}
-use Rattle.bus_rules.specs.Streams.{Streams, put}
+use Rattle.bus_rules.specs.Streams.{Streams, after_put}
 use Rattle.bus_rules.specs.Tables.{Table}
 use Rattle.bus_rules.specs.Tuning.{next_tune}
 use Rattle.bus_terms.specs.Bus.{before_frame, state_at}
 use Rattle.bus_terms.specs.Rounds.{before_slot, rounds}
-use Rattle.bus_terms.specs.ScriptedStates.{lines_of, setup_in, state_after_line}
+use Rattle.scenario_text.specs.Setups.{setup_of}
+use Rattle.bus_terms.specs.ScriptedStates.{lines_of, state_after_line}
 use Rattle.bus_terms.proofs.KeptInRounds.{rounds_keep, slots_keep}
 use Rattle.bus_terms.proofs.NumbersKept.{closed_core, opened_core}
 use Rattle.law_times.specs.Contentions.{changes_wish}
@@ -42,7 +43,7 @@ module _ (boot i rank host_boot : ℕ) (b : Backoff) where
   act_asks (Leave j) x stays keeps is = absurd (false≢true (sym keeps))
   act_asks (Put j payload) (StateOff boots) stays keeps is = absurd is
   act_asks (Put j payload) (StateOn c) stays keeps is =
-      asks_on boot i rank host_boot b c (record c { streams = put j payload c.streams }) refl (put_goes j payload c.streams i) is
+      asks_on boot i rank host_boot b c (record c { streams = after_put j payload c.streams }) refl (put_goes j payload c.streams i) is
 
   lines_ask : (ls : List ScriptLine) (x : State) → list_any (λ l. turns_off l.act) ls ≡ false → list_any (λ l. changes_wish l.act) ls ≡ false
       → Asking x → Asking (fold state_after_line x ls)
@@ -76,7 +77,7 @@ module _ (boot i rank host_boot : ℕ) (b : Backoff) where
   next_asks s first e f u c r d stays keeps after within on hold is =
       lines_ask (lines_of s (suc f) u) (before_frame s (suc f) u) (none_in_frame turns_off s first e u (suc f) stays (omega (arith, after)) within)
       (none_in_frame changes_wish s first e u (suc f) keeps (omega (arith, after)) within)
-      (subst (λ (x : State). Asking (at_core (frame_ended (setup_in s u) f) x)) (sym on) (end_asks (setup_in s u) f c r d hold is))
+      (subst (λ (x : State). Asking (at_core (frame_ended (setup_of s u) f) x)) (sym on) (end_asks (setup_of s u) f c r d hold is))
 
 -- a boot lasts as long as its node is on
 abbrev pub HasBoot : ℕ → State → Type 0
@@ -92,13 +93,13 @@ module _ (s : ScenarioParts) (f boot host : ℕ) (is : HasBoot boot (state_at s 
 
   pub boot_in_slots : (rank : ℕ) (p : Plan) (j : ℕ) → HasBoot boot (before_slot s rank f p (state_at s f) j host)
   boot_in_slots rank p j =
-      slots_keep s f Kept (λ m. Unit {0}) (λ v part c keeps same. (opened_core (setup_in s v) f part c).boot ∙ keeps same) (λ v part c m keeps said. tt)
-      (λ v part b c o told keeps same. (closed_core (setup_in s v) f part b c o).boot ∙ keeps same) rank p (state_at s f) starts j host refl
+      slots_keep s f Kept (λ m. Unit {0}) (λ v part c keeps same. (opened_core (setup_of s v) f part c).boot ∙ keeps same) (λ v part c m keeps said. tt)
+      (λ v part b c o told keeps same. (closed_core (setup_of s v) f part b c o).boot ∙ keeps same) rank p (state_at s f) starts j host refl
 
   boot_in_rounds : HasBoot boot (rounds s f (state_at s f) host)
   boot_in_rounds =
-      rounds_keep s f Kept (λ m. Unit {0}) (λ v part c keeps same. (opened_core (setup_in s v) f part c).boot ∙ keeps same) (λ v part c m keeps said. tt)
-      (λ v part b c o told keeps same. (closed_core (setup_in s v) f part b c o).boot ∙ keeps same) (state_at s f) starts host refl
+      rounds_keep s f Kept (λ m. Unit {0}) (λ v part c keeps same. (opened_core (setup_of s v) f part c).boot ∙ keeps same) (λ v part c m keeps said. tt)
+      (λ v part b c o told keeps same. (closed_core (setup_of s v) f part b c o).boot ∙ keeps same) (state_at s f) starts host refl
 
   pub next_boot : (first e : ℕ) → StaysOn s first e host → first ≤ f → suc f ≤ e → HasBoot boot (state_at s (suc f) host)
   unfolding before_frame
@@ -106,9 +107,9 @@ module _ (s : ScenarioParts) (f boot host : ℕ) (is : HasBoot boot (state_at s 
       lines_boot (lines_of s (suc f) host) (before_frame s (suc f) host) (none_in_frame turns_off s first e host (suc f) stays (omega (arith, after)) within)
       (ended (rounds s f (state_at s f) host) boot_in_rounds)
     where
-      ended : (x : State) → HasBoot boot x → HasBoot boot (at_core (frame_ended (setup_in s host) f) x)
+      ended : (x : State) → HasBoot boot x → HasBoot boot (at_core (frame_ended (setup_of s host) f) x)
       ended (StateOff boots) has = has
-      ended (StateOn c) has = (ended_same (setup_in s host) f c).boot ∙ has
+      ended (StateOn c) has = (ended_same (setup_of s host) f c).boot ∙ has
 
       act_boot : (a : Act) (x : State) → turns_off a ≡ false → HasBoot boot x → HasBoot boot (state_after_act a x)
       act_boot On (StateOff boots) stays has = absurd has

@@ -12,7 +12,7 @@ use Rattle.bus_rules.specs.Slots.{Message, ScheduleOf, DataOf, RequestOf, opened
 use Rattle.bus_rules.proofs.Ranks.{same_schedule}
 use Rattle.bus_terms.specs.Bus.{state_at}
 use Rattle.bus_terms.specs.Rounds.{before_slot}
-use Rattle.bus_terms.specs.ScriptedStates.{setup_in}
+use Rattle.scenario_text.specs.Setups.{setup_of}
 use Rattle.bus_terms.proofs.HostedRounds.{is_closing, before_closing}
 use Rattle.bus_terms.proofs.HostsOfRanks.{data_no_schedule, contention_no_schedule}
 use Rattle.law_times.proofs.Settings.{tune_of}
@@ -63,13 +63,13 @@ module _ (s : ScenarioParts) (rank f : ℕ) (p : Plan) where
   pub tunes_stay : (j : ℕ) → j ≤ last_slot p → (v : ℕ) → tune_of (before_slot s rank f p (state_at s f) j v) ≡ tune_of (state_at s f v)
   tunes_stay =
       keeps s rank f p (λ part. is_closing part ≡ false) (λ v x. tune_of x ≡ tune_of (state_at s f v)) (λ v part m. OpensOnly m)
-      (λ v part c m early member rightful same said. says (setup_in s v) f part c m early said)
+      (λ v part c m early member rightful same said. says (setup_of s v) f part c m early said)
       (λ v part c o early member same told.
-      ap (λ (t : Tune). Some t) (closes (setup_in s v) f part (is_some (opened_slot (setup_in s v) f part c).message)
-      (opened_slot (setup_in s v) f part c).core o
-      (λ m is. (told m is).said) ∙ opens (setup_in s v) f part c early) ∙ same)
+      ap (λ (t : Tune). Some t) (closes (setup_of s v) f part (is_some (opened_slot (setup_of s v) f part c).message)
+      (opened_slot (setup_of s v) f part c).core o
+      (λ m is. (told m is).said) ∙ opens (setup_of s v) f part c early) ∙ same)
       (λ v part c m early scanning same told.
-      ap (λ (t : Tune). Some t) (closes (setup_in s v) f part false c (Some m) (λ n is. only m n is told.said)) ∙ same)
+      ap (λ (t : Tune). Some t) (closes (setup_of s v) f part false c (Some m) (λ n is. only m n is told.said)) ∙ same)
       (last_slot p) (λ j early. before_closing p j early) (λ v. refl)
     where
       only : (m n : Message) → Some m ≡ Some n → OpensOnly m → OpensOnly n

@@ -20,7 +20,8 @@ use Rattle.law_times.specs.ScriptedPower.{is_on_in}
 use Rattle.law_times.proofs.Settings.{setting, idle, core_tune}
 use Rattle.law_times.proofs.QuietRounds.{hosts_round}
 use Rattle.law_times.proofs.QuietFrames.{Goes}
-use Rattle.law_times.proofs.BootedNodes.{power, power_is}
+use Rattle.bus_terms.specs.ScriptedStates.{power}
+use Rattle.law_times.proofs.BootedNodes.{power_is}
 use Rattle.law_times.proofs.TuneRanges.{HasStarted, Starts, started}
 
 -- how many ranks lie before this one, from rank q on

@@ -17,26 +17,26 @@ use Rattle.bus_rules.specs.Plans.{last_slot}
 use Rattle.bus_rules.specs.Slots.{DataOf, Message, RequestOf, ScheduleOf, closed_slot, hosts_now, opened_slot, owner_heard, slot_heard}
 use Rattle.bus_rules.specs.States.{State, StateOff, StateOn}
 use Rattle.bus_rules.specs.Streams.{Streams, due_of, with_agreed}
-use Rattle.bus_rules.specs.Tables.{Entry, Table, after_request, entry_after_data, has_code, interval_of, is_full, missed, new_entry, with_entry, without}
+use Rattle.bus_rules.specs.Tables.{TableEntry, Table, after_request, entry_after_data, has_code, interval_of, is_full, missed, new_entry, with_entry, without}
 use Rattle.bus_terms.specs.Bus.{state_at}
 use Rattle.bus_terms.specs.Rounds.{before_slot}
-use Rattle.bus_terms.specs.ScriptedStates.{setup_in}
+use Rattle.scenario_text.specs.Setups.{setup_of}
 use Rattle.bus_terms.proofs.HostedRounds.{before_closing, is_closing}
 use Rattle.law_service.proofs.GrantedSlots.{fitting_grants, round_gap}
 use Rattle.law_times.proofs.PacedTables.{Paced, fits}
 use Rattle.law_times.proofs.SlotInvariants.{keeps}
 
 -- the same stream, accepted in the same frame, with as many slots granted
-pub record SameGrants (a b : Entry) : Type 0 where
+pub record SameGrants (a b : TableEntry) : Type 0 where
   pub code : a.code ≡ b.code
   pub interval : a.interval ≡ b.interval
   pub accepted : a.accepted ≡ b.accepted
   pub granted : a.granted ≡ b.granted
 
-pub same_grants : (e : Entry) → SameGrants e e
+pub same_grants : (e : TableEntry) → SameGrants e e
 same_grants e = record { code = refl; interval = refl; accepted = refl; granted = refl }
 
-grants_both : (a b c : Entry) → SameGrants a b → SameGrants b c → SameGrants a c
+grants_both : (a b c : TableEntry) → SameGrants a b → SameGrants b c → SameGrants a c
 grants_both a b c first second = record {
   code = first.code ∙ second.code;
   interval = first.interval ∙ second.interval;
@@ -45,16 +45,16 @@ grants_both a b c first second = record {
 }
 
 -- such an entry is among these
-pub record IsOf (es : List Entry) (e : Entry) : Type 0 where
-  pub entry : Entry
+pub record IsOf (es : List TableEntry) (e : TableEntry) : Type 0 where
+  pub entry : TableEntry
   pub there : Contains es entry
   pub same : SameGrants entry e
 
-pub itself : (es : List Entry) (e : Entry) → Contains es e → IsOf es e
+pub itself : (es : List TableEntry) (e : TableEntry) → Contains es e → IsOf es e
 itself es e there = record { entry = e; there = there; same = same_grants e }
 
 -- data slots
-after_heard : (c : ℕ) (es : List Entry) (e : Entry) → Contains (map (entry_after_data c) es) e → IsOf es e
+after_heard : (c : ℕ) (es : List TableEntry) (e : TableEntry) → Contains (map (entry_after_data c) es) e → IsOf es e
 after_heard c es e there =
     let x = map_from (entry_after_data c) es e there in
     record {
@@ -63,12 +63,13 @@ after_heard c es e there =
       same = subst (SameGrants x.0) x.2 (record { code = refl; interval = refl; accepted = refl; granted = refl });
     }
 
-after_missed : (c : ℕ) (es : List Entry) (e : Entry) → Contains (filter_map (missed c) es) e → IsOf es e
+after_missed : (c : ℕ) (es : List TableEntry) (e : TableEntry) → Contains (filter_map (missed c) es) e → IsOf es e
 after_missed c es e there =
     let x = filter_from (missed c) es e there in
     record { entry = x.0; there = x.1; same = by_test x.0 (has_code c x.0) (nat_lt (x.0.unheard + 1) 16) x.2 }
   where
-    by_test : (x : Entry) (a b : Bool) → (if a then (if b then Some (record x { unheard = x.unheard + 1 }) else None) else Some x) ≡ Some e → SameGrants x e
+    by_test : (x : TableEntry) (a b : Bool) → (if a then (if b then Some (record x { unheard = x.unheard + 1 }) else None) else Some x) ≡ Some e
+        → SameGrants x e
     by_test x false b is = let same : x ≡ e = cc in subst (SameGrants x) same (same_grants x)
     by_test x true false is = absurd (cc)
     by_test x true true is =
@@ -76,7 +77,7 @@ after_missed c es e there =
         subst (SameGrants x) same (record { code = refl; interval = refl; accepted = refl; granted = refl })
 
 -- requests
-of_with : (x : Entry) (es : List Entry) (e : Entry) → Contains (with_entry x es) e → (x ≡ e) ⊎ Contains es e
+of_with : (x : TableEntry) (es : List TableEntry) (e : TableEntry) → Contains (with_entry x es) e → (x ≡ e) ⊎ Contains es e
 of_with x [] e there = inl (one_of x e there)
 of_with x (y ∷ es) e there = by_code (x.code == y.code) (nat_lt x.code y.code) there (of_with x es e)
   where
@@ -85,15 +86,15 @@ of_with x (y ∷ es) e there = by_code (x.code == y.code) (nat_lt x.code y.code)
     by_code true b there among = elim (contains_cases x es e there) [ inl same ↦ inl same | inr later ↦ inr (contains_tail y es e later) ]
     by_code false true there among = contains_cases x (y ∷ es) e there
     by_code false false there among = elim (contains_cases y (with_entry x es) e there) [
-      | inl same ↦ inr (subst (λ (z : Entry). Contains (z ∷ es) e) (sym same) (contains_head e es))
+      | inl same ↦ inr (subst (λ (z : TableEntry). Contains (z ∷ es) e) (sym same) (contains_head e es))
       | inr later ↦ elim (among later) [ inl same ↦ inl same | inr there ↦ inr (contains_tail y es e there) ]
     ]
 
 -- an entry is new in this frame, with nothing granted, or was there
-abbrev pub NewOr : ℕ → List Entry → Entry → Type 0
+abbrev pub NewOr : ℕ → List TableEntry → TableEntry → Type 0
 NewOr f es e = ((e.accepted ≡ f) × (e.granted ≡ 0)) ⊎ Contains es e
 
-after_asked : (f : ℕ) (t : Table) (a : Ask) (e : Entry) → Contains (after_request f t a).entries e → NewOr f t.entries e
+after_asked : (f : ℕ) (t : Table) (a : Ask) (e : TableEntry) → Contains (after_request f t a).entries e → NewOr f t.entries e
 after_asked f t a e there = by_test (is_full a t) (a.interval == 0) there
   where
     by_test : (full gone : Bool) → Contains
@@ -101,20 +102,21 @@ after_asked f t a e there = by_test (is_full a t) (a.interval == 0) there
     by_test true gone there = inr there
     by_test false true there = inr (filtered (λ x. not (has_code (code_of a) x)) t.entries e there).0
     by_test false false there = elim (of_with (new_entry a f) t.entries e there) [
-      | inl same ↦ inl (ap (λ (x : Entry). x.accepted) (sym same), ap (λ (x : Entry). x.granted) (sym same))
+      | inl same ↦ inl (ap (λ (x : TableEntry). x.accepted) (sym same), ap (λ (x : TableEntry). x.granted) (sym same))
       | inr was ↦ inr was
     ]
 
-new_both : (f : ℕ) (xs ys : List Entry) (e : Entry) → NewOr f ys e → (Contains ys e → NewOr f xs e) → NewOr f xs e
+new_both : (f : ℕ) (xs ys : List TableEntry) (e : TableEntry) → NewOr f ys e → (Contains ys e → NewOr f xs e) → NewOr f xs e
 new_both f xs ys e (inl new) before = inl new
 new_both f xs ys e (inr there) before = before there
 
-answered_new : (f : ℕ) (kept : List Ask) (x : Answered) (e : Entry) → Contains (fold (answer f) x kept).table.entries e → NewOr f x.table.entries e
+answered_new : (f : ℕ) (kept : List Ask) (x : Answered) (e : TableEntry) → Contains (fold (answer f) x kept).table.entries e → NewOr f x.table.entries e
 answered_new f [] x e there = inr there
 answered_new f (a ∷ more) x e there =
     new_both f x.table.entries (answer f x a).table.entries e (answered_new f more (answer f x a) e there) (after_asked f x.table a e)
 
-served_new : (f node boot : ℕ) (is : List ℕ) (x : Served) (e : Entry) → Contains (fold (serve f node boot) x is).table.entries e → NewOr f x.table.entries e
+served_new : (f node boot : ℕ) (is : List ℕ) (x : Served) (e : TableEntry) → Contains (fold (serve f node boot) x is).table.entries e
+    → NewOr f x.table.entries e
 served_new f node boot [] x e there = inr there
 served_new f node boot (k ∷ ks) x e there =
     new_both f x.table.entries (serve f node boot x k).table.entries e (served_new f node boot ks (serve f node boot x k) e there)
@@ -128,7 +130,7 @@ served_new f node boot (k ∷ ks) x e there =
 abbrev pub asked_table : ℕ → ℕ → ℕ → List Ask → Table → Streams → Table
 asked_table f node boot kept t x = (served f node boot (answers_to f kept t).table x).table
 
-asked_new : (f node boot : ℕ) (kept : List Ask) (t : Table) (x : Streams) (e : Entry) → Contains (asked_table f node boot kept t x).entries e
+asked_new : (f node boot : ℕ) (kept : List Ask) (t : Table) (x : Streams) (e : TableEntry) → Contains (asked_table f node boot kept t x).entries e
     → NewOr f t.entries e
 asked_new f node boot kept t x e there =
     new_both f t.entries (answers_to f kept t).table.entries e
@@ -136,37 +138,37 @@ asked_new f node boot kept t x e there =
     (answered_new f kept (record { table = t; acks = [] }) e)
 
 -- what is granted
-pub record IsGrown (f : ℕ) (es : List Entry) (owners : List ℕ) (e : Entry) : Type 0 where
-  pub before : Entry
+pub record IsGrown (f : ℕ) (es : List TableEntry) (owners : List ℕ) (e : TableEntry) : Type 0 where
+  pub before : TableEntry
   pub code : before.code ≡ e.code
   pub interval : before.interval ≡ e.interval
   pub accepted : before.accepted ≡ e.accepted
   pub granted : e.granted ≤ before.granted + count_of e.code owners
   pub was : NewOr f es before
 
-planned_grows : (seconds f : ℕ) → 0 < seconds → (t : Table) → Paced seconds f t.entries → (e : Entry) → Contains (plan_round seconds f t).table.entries e
-    → (x : Entry) × Contains t.entries x × (x.code ≡ e.code) × (x.interval ≡ e.interval) × (x.accepted ≡ e.accepted)
+planned_grows : (seconds f : ℕ) → 0 < seconds → (t : Table) → Paced seconds f t.entries → (e : TableEntry) → Contains (plan_round seconds f t).table.entries e
+    → (x : TableEntry) × Contains t.entries x × (x.code ≡ e.code) × (x.interval ≡ e.interval) × (x.accepted ≡ e.accepted)
     × (e.granted ≤ x.granted + count_of e.code (plan_round seconds f t).owners)
 unfolding plan_round
 planned_grows seconds f some t paced e there =
-    let owes : Entry → ℕ = owed_to seconds (f + gap_of seconds f t.entries) in
+    let owes : TableEntry → ℕ = owed_to seconds (f + gap_of seconds f t.entries) in
     let fitting = fits seconds f some t paced in
     let all : grants_for owes (gap_of seconds f t.entries) t ≡ granted_by owes (gap_of seconds f t.entries) t.place t.entries =
     cond-true (nat_le (sum_by owes t.entries) 40) (granted_by owes (gap_of seconds f t.entries) t.place t.entries)
     (granted_by (share_in (given owes t)) (gap_of seconds f t.entries) (last_code (given owes t) + 1) t.entries) (le-leb (sum_by owes t.entries) 40 fitting) in
     let among : Contains (map (grant owes) t.entries) e = subst (λ (g : Grants). Contains g.table.entries e) all there in
     let x = map_from (grant owes) t.entries e among in
-    let code_is : x.0.code ≡ e.code = ap (λ (y : Entry). y.code) x.2 in
-    let granted_is : x.0.granted + owes x.0 ≡ e.granted = ap (λ (y : Entry). y.granted) x.2 in
+    let code_is : x.0.code ≡ e.code = ap (λ (y : TableEntry). y.code) x.2 in
+    let granted_is : x.0.granted + owes x.0 ≡ e.granted = ap (λ (y : TableEntry). y.granted) x.2 in
     let gap : (plan_round seconds f t).gap ≡ gap_of seconds f t.entries = round_gap seconds f t in
     let counted : owes x.0 ≤ count_of x.0.code (plan_round seconds f t).owners =
     fitting_grants seconds f (f + gap_of seconds f t.entries) t (ap (λ (g : ℕ). f + g) (sym gap)) fitting x.0 x.1 in
     let same : count_of x.0.code (plan_round seconds f t).owners ≡ count_of e.code (plan_round seconds f t).owners =
     ap (λ (c : ℕ). count_of c (plan_round seconds f t).owners) code_is in
-    (x.0, x.1, code_is, ap (λ (y : Entry). y.interval) x.2, ap (λ (y : Entry). y.accepted) x.2, omega (arith, granted_is, counted, same))
+    (x.0, x.1, code_is, ap (λ (y : TableEntry). y.interval) x.2, ap (λ (y : TableEntry). y.accepted) x.2, omega (arith, granted_is, counted, same))
 
 pub plan_grows : (n : Numbers) (node boot rank f : ℕ) (kept : List Ask) (t : Table) (x : Streams) → 0 < n.seconds
-    → Paced n.seconds f (asked_table f node boot kept t x).entries → (e : Entry) → Contains (host_plan n node boot rank f kept t x).table.entries e
+    → Paced n.seconds f (asked_table f node boot kept t x).entries → (e : TableEntry) → Contains (host_plan n node boot rank f kept t x).table.entries e
     → IsGrown f t.entries (host_plan n node boot rank f kept t x).plan.owners e
 unfolding host_plan
 plan_grows n node boot rank f kept t x some paced e there =
@@ -181,24 +183,24 @@ plan_grows n node boot rank f kept t x some paced e there =
     }
 
 -- up to the closing slot each entry of a table is one that the node had at the start of the frame
-abbrev pub entries_at : State → List Entry
+abbrev pub entries_at : State → List TableEntry
 entries_at (StateOff boots) = []
 entries_at (StateOn c) = c.table.entries
 
-abbrev pub Comes : List Entry → State → Type 0
+abbrev pub Comes : List TableEntry → State → Type 0
 Comes es (StateOff boots) = Unit {0}
-Comes es (StateOn c) = (e : Entry) → Contains c.table.entries e → IsOf es e
+Comes es (StateOn c) = (e : TableEntry) → Contains c.table.entries e → IsOf es e
 
 comes_first : (x : State) → Comes (entries_at x) x
 comes_first (StateOff boots) = tt
 comes_first (StateOn c) = λ e there. itself c.table.entries e there
 
-further : (xs ys : List Entry) (e : Entry) → IsOf ys e → ((x : Entry) → Contains ys x → IsOf xs x) → IsOf xs e
+further : (xs ys : List TableEntry) (e : TableEntry) → IsOf ys e → ((x : TableEntry) → Contains ys x → IsOf xs x) → IsOf xs e
 further xs ys e is from =
     let first = from is.entry is.there in
     record { entry = first.entry; there = first.there; same = grants_both first.entry is.entry e first.same is.same }
 
-module _ (q : Setup) (f : ℕ) (es : List Entry) where
+module _ (q : Setup) (f : ℕ) (es : List TableEntry) where
   opens : (part : Part) (c : Core) → is_closing part ≡ false → Comes es (StateOn c) → Comes es (StateOn (opened_slot q f part c).core)
   opens Opening c early comes = comes
   opens (DataSlot owner) c early comes = comes
@@ -211,7 +213,7 @@ module _ (q : Setup) (f : ℕ) (es : List Entry) where
   heard Closing b c comes = comes
   heard (DataSlot owner) b c comes = by_test (hosts_now f c) b
     where
-      by_test : (now b : Bool) (e : Entry) → Contains (if now then owner_heard b owner c.table else c.table).entries e → IsOf es e
+      by_test : (now b : Bool) (e : TableEntry) → Contains (if now then owner_heard b owner c.table else c.table).entries e → IsOf es e
       by_test false b e there = comes e there
       by_test true true e there = further es c.table.entries e (after_heard owner c.table.entries e there) comes
       by_test true false e there = further es c.table.entries e (after_missed owner c.table.entries e there) comes
@@ -232,7 +234,7 @@ tables_come s rank f p =
     keeps s rank f p (λ part. is_closing part ≡ false) (λ v x. Comes (entries_at (state_at s f v)) x) (λ v part m. Unit {0})
     (λ v part c m early member rightful comes said. tt)
     (λ v part c o early member comes told.
-    closes (setup_in s v) f (entries_at (state_at s f v)) part (is_some (opened_slot (setup_in s v) f part c).message)
-    (opened_slot (setup_in s v) f part c).core o (opens (setup_in s v) f (entries_at (state_at s f v)) part c early comes))
-    (λ v part c m early scanning comes told. closes (setup_in s v) f (entries_at (state_at s f v)) part false c (Some m) comes)
+    closes (setup_of s v) f (entries_at (state_at s f v)) part (is_some (opened_slot (setup_of s v) f part c).message)
+    (opened_slot (setup_of s v) f part c).core o (opens (setup_of s v) f (entries_at (state_at s f v)) part c early comes))
+    (λ v part c m early scanning comes told. closes (setup_of s v) f (entries_at (state_at s f v)) part false c (Some m) comes)
     (last_slot p) (λ j early. before_closing p j early) (λ v. comes_first (state_at s f v))

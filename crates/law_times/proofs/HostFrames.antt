@@ -16,14 +16,15 @@ use Rattle.bus_rules.specs.Cores.{Core, Setup, as_host, begins_host, closing_acc
 use Rattle.bus_rules.specs.Plans.{last_slot}
 use Rattle.bus_rules.specs.Slots.{DataOf, Message, RequestOf, ScheduleOf, closed_slot, host_closes, hosts_now, opened_slot, owner_heard, silent, slot_heard}
 use Rattle.bus_rules.specs.States.{State, StateOff, StateOn, at_core}
-use Rattle.bus_rules.specs.Tables.{Entry, Table}
+use Rattle.bus_rules.specs.Tables.{TableEntry, Table}
 use Rattle.bus_rules.specs.Tuning.{hosts, hosts_in, next_tune, rank_of}
 use Rattle.bus_rules.proofs.Ranks.{host_now}
 use Rattle.bus_rules.proofs.Switches.{acts_keep}
 use Rattle.bus_terms.specs.Bus.{before_frame, state_at}
 use Rattle.bus_terms.specs.HostedRounds.{IsHosted}
 use Rattle.bus_terms.specs.Rounds.{before_slot, rank_in, rounds}
-use Rattle.bus_terms.specs.ScriptedStates.{is_on_and, lines_of, setup_in, state_after_line}
+use Rattle.scenario_text.specs.Setups.{setup_of}
+use Rattle.bus_terms.specs.ScriptedStates.{is_on_and, lines_of, state_after_line}
 use Rattle.bus_terms.proofs.HostedRounds.{Hosting, has_planned, leads}
 use Rattle.bus_terms.proofs.HostsOfRanks.{IsRightfulState, rightful}
 use Rattle.bus_terms.proofs.KeptInRounds.{rounds_keep}
@@ -39,7 +40,7 @@ use Rattle.law_times.proofs.Settings.{Setting, setting}
 use Rattle.law_times.proofs.TuneRanges.{HasStarted, Starts, started}
 
 -- in a frame without a round of its own a node keeps its table, and who is no host becomes none in a round
-abbrev KeepsTable : ℕ → State → State → Type 0
+abbrev pub KeepsTable : ℕ → State → State → Type 0
 KeepsTable f y (StateOff boots) = Unit {0}
 KeepsTable f y (StateOn c) =
     (is_on_and (λ d. hosts_now f d) y ≡ false → (hosts_now f c ≡ false) × (c.table.entries ≡ entries_at y))
@@ -86,10 +87,10 @@ first_keeps : (f : ℕ) (y : State) → KeepsTable f y y
 first_keeps f (StateOff boots) = tt
 first_keeps f (StateOn c) = (λ idle. (idle, refl), λ guest. guest)
 
-in_rounds : (s : ScenarioParts) (f v : ℕ) → KeepsTable f (state_at s f v) (rounds s f (state_at s f) v)
+pub in_rounds : (s : ScenarioParts) (f v : ℕ) → KeepsTable f (state_at s f v) (rounds s f (state_at s f) v)
 in_rounds s f =
-    rounds_keep s f (λ v x. KeepsTable f (state_at s f v) x) (λ m. Unit {0}) (λ v part c keeps. opens (setup_in s v) f (state_at s f v) part c keeps)
-    (λ v part c m keeps said. tt) (λ v part b c o told keeps. closes (setup_in s v) f (state_at s f v) part b c o keeps) (state_at s f)
+    rounds_keep s f (λ v x. KeepsTable f (state_at s f v) x) (λ m. Unit {0}) (λ v part c keeps. opens (setup_of s v) f (state_at s f v) part c keeps)
+    (λ v part c m keeps said. tt) (λ v part b c o told keeps. closes (setup_of s v) f (state_at s f v) part b c o keeps) (state_at s f)
     (λ v. first_keeps f (state_at s f v))
 
 -- a host with streams in its table had them after the rounds of the frame before
@@ -147,7 +148,7 @@ came : (s : ScenarioParts) (f v : ℕ) → CameFrom (rounds s f (state_at s f) v
 unfolding before_frame
 came s f v =
     lines_come (rounds s f (state_at s f) v) (lines_of s (suc f) v) (before_frame s (suc f) v)
-    (ended_came (setup_in s v) f (rounds s f (state_at s f) v))
+    (ended_came (setup_of s v) f (rounds s f (state_at s f) v))
 
 -- before the first frame nobody hosts
 no_first : (s : ScenarioParts) (v : ℕ) → CameFrom (StateOff 0) (state_at s 0 v)
@@ -163,10 +164,10 @@ pub record HostBefore (s : ScenarioParts) (f v : ℕ) (c : Core) : Type 0 where
   pub tune : core.tune ≡ Host rank due
   pub low : f ≤ due
   pub idle : f < due → (c.table.entries ≡ core.table.entries) × (c.plan ≡ core.plan)
-  pub grown : due ≡ f → (e : Entry) → Contains c.table.entries e → IsGrown f core.table.entries c.plan.owners e
+  pub grown : due ≡ f → (e : TableEntry) → Contains c.table.entries e → IsGrown f core.table.entries c.plan.owners e
 
 -- by the round that was due each entry is new, or has been granted at most the slots of the next round more
-further : (f : ℕ) (xs ys : List Entry) (owners : List ℕ) (e : Entry) → ((x : Entry) → Contains ys x → IsOf xs x) → IsGrown f ys owners e
+further : (f : ℕ) (xs ys : List TableEntry) (owners : List ℕ) (e : TableEntry) → ((x : TableEntry) → Contains ys x → IsOf xs x) → IsGrown f ys owners e
     → IsGrown f xs owners e
 further f xs ys owners e from grown = by_age grown.was
   where
@@ -198,7 +199,7 @@ module _ (s : ScenarioParts) (scenario : IsSoundScenario s) (slow : HasSlowStrea
 
   own_of : (d : Core) → start ≡ StateOn d → (r due : ℕ) → d.tune ≡ Host r due → own_rank v s.hosts ≡ Some r
   own_of d on r due tune =
-      let is = subst (IsRightfulState (setup_in s v)) on (rightful s f v) in
+      let is = subst (IsRightfulState (setup_of s v)) on (rightful s f v) in
       is.own (ap hosts tune) ∙ ap (λ (t : Tune). Some (rank_of t)) tune
 
   -- a host that is not due
@@ -236,7 +237,7 @@ module _ (s : ScenarioParts) (scenario : IsSoundScenario s) (slow : HasSlowStrea
       same_plan = ap plan_or (ap setting (sym after) ∙ quiet_rounds s f v nobody ∙ ap setting on)
 
   -- and one that is
-  plans : (d c : Core) → start ≡ StateOn d → rounds s f (state_at s f) v ≡ StateOn c → (r : ℕ) → d.tune ≡ Host r f → (e : Entry)
+  plans : (d c : Core) → start ≡ StateOn d → rounds s f (state_at s f) v ≡ StateOn c → (r : ℕ) → d.tune ≡ Host r f → (e : TableEntry)
       → Contains c.table.entries e → IsGrown f d.table.entries c.plan.owners e
   plans d c on after r tune e there =
       further f d.table.entries lead.core.table.entries c.plan.owners e from
@@ -256,9 +257,9 @@ module _ (s : ScenarioParts) (scenario : IsSoundScenario s) (slow : HasSlowStrea
       lead : Hosting r f p (before_slot s r f p (state_at s f) (last_slot p) v)
       lead = leads s r f p v found.1 (last_slot p) (omega arith)
 
-      core : c ≡ (host_closes (setup_in s v) f lead.core).core
+      core : c ≡ (host_closes (setup_of s v) f lead.core).core
       core =
-          (let is : StateOn c ≡ StateOn (host_closes (setup_in s v) f lead.core).core =
+          (let is : StateOn c ≡ StateOn (host_closes (setup_of s v) f lead.core).core =
           sym after ∙ rounds_are s scenario v r f p (ap rank_in on ∙ ap rank_of tune) found.1.plan ∙ has_planned s r f p v found.1 lead in
           cc)
 
@@ -269,13 +270,13 @@ module _ (s : ScenarioParts) (scenario : IsSoundScenario s) (slow : HasSlowStrea
       asked = asked_paced s.profile.seconds f v lead.core.boot lead.core.kept lead.core.table lead.core.streams keeps.kept keeps.wishes
           (paced_now s.profile.seconds r f lead.core.tune lead.core.table.entries lead.due keeps.table)
 
-      from : (x : Entry) → Contains lead.core.table.entries x → IsOf d.table.entries x
-      from = subst (λ (l : List Entry). (x : Entry) → Contains lead.core.table.entries x → IsOf l x) (ap entries_at on)
+      from : (x : TableEntry) → Contains lead.core.table.entries x → IsOf d.table.entries x
+      from = subst (λ (l : List TableEntry). (x : TableEntry) → Contains lead.core.table.entries x → IsOf l x) (ap entries_at on)
           (subst (Comes (entries_at start)) lead.on (tables_come s r f p (last_slot p) (omega arith) v))
 
-  pub host_before : (c : Core) → state_at s (suc f) v ≡ StateOn c → hosts c.tune ≡ true → (e : Entry) → Contains c.table.entries e → HostBefore s f v c
+  pub host_before : (c : Core) → state_at s (suc f) v ≡ StateOn c → hosts c.tune ≡ true → (e : TableEntry) → Contains c.table.entries e → HostBefore s f v c
   host_before c on host e there = elim (subst (CameFrom (rounds s f (state_at s f) v)) on (came s f v) host) [
-    | inl none ↦ absurd (not_in_none e (subst (λ (l : List Entry). Contains l e) none there))
+    | inl none ↦ absurd (not_in_none e (subst (λ (l : List TableEntry). Contains l e) none there))
     | inr from ↦ by_start from start refl
   ]
     where
@@ -301,7 +302,7 @@ module _ (s : ScenarioParts) (scenario : IsSoundScenario s) (slow : HasSlowStrea
         low = (subst (λ (t : Tune). Starts f (own_rank v s.hosts) t) tune (subst (HasStarted f (own_rank v s.hosts)) at (started s scenario f v)).0).0;
         idle = λ later. (let same = idles d from.core at from.on r due tune later in (from.table ∙ same.0, from.plan ∙ same.1));
         grown = λ now x among. subst (λ (q : Plan). IsGrown f d.table.entries q.owners x) (sym from.plan)
-            (plans d from.core at from.on r (tune ∙ ap (λ (n : ℕ). Host r n) now) x (subst (λ (l : List Entry). Contains l x) from.table among));
+            (plans d from.core at from.on r (tune ∙ ap (λ (n : ℕ). Host r n) now) x (subst (λ (l : List TableEntry). Contains l x) from.table among));
       }
 
       by_start : (from : Came (rounds s f (state_at s f) v) c) (x : State) → start ≡ x → HostBefore s f v c
@@ -311,9 +312,10 @@ module _ (s : ScenarioParts) (scenario : IsSoundScenario s) (slow : HasSlowStrea
       by_start from (StateOn d) at = by_tune from d at d.tune refl
 
 -- in frame 0 no host has a stream
-pub none_at_first : (s : ScenarioParts) (v : ℕ) (c : Core) → state_at s 0 v ≡ StateOn c → hosts c.tune ≡ true → (e : Entry) → Contains c.table.entries e → ⊥
+pub none_at_first : (s : ScenarioParts) (v : ℕ) (c : Core) → state_at s 0 v ≡ StateOn c → hosts c.tune ≡ true → (e : TableEntry)
+    → Contains c.table.entries e → ⊥
 none_at_first s v c on host e there = elim (subst (CameFrom (StateOff 0)) on (no_first s v) host) [
-  | inl none ↦ not_in_none e (subst (λ (l : List Entry). Contains l e) none there)
+  | inl none ↦ not_in_none e (subst (λ (l : List TableEntry). Contains l e) none there)
   | inr from ↦ never from.on
 ]
   where

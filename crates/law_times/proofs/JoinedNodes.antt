@@ -17,7 +17,7 @@ use Rattle.bus_terms.specs.Bus.{before_frame, state_at}
 use Rattle.bus_terms.specs.Flooding.{has}
 use Rattle.bus_terms.specs.HostedRounds.{IsHosted, slot_in}
 use Rattle.bus_terms.specs.Rounds.{rank_in, rounds}
-use Rattle.bus_terms.specs.ScriptedStates.{setup_in}
+use Rattle.scenario_text.specs.Setups.{setup_of}
 use Rattle.bus_terms.proofs.HostsOfRanks.{due_rank}
 use Rattle.law_service.specs.Reach.{HasNoLines, LosesNothing}
 use Rattle.law_service.specs.ScheduleService.{AcceptsClosing}
@@ -81,7 +81,7 @@ module _ (s : ScenarioParts) (accepted : IsScenario s) (rank f host : ℕ) (due 
 
   pub host_next : setting (before_frame s (suc f) host) ≡ Some (idle (Host rank next.due) next.plan)
   unfolding before_frame
-  host_next = (ended (setup_in s host) f (rounds s f (state_at s f) host)
+  host_next = (ended (setup_of s host) f (rounds s f (state_at s f) host)
       (record { tune = Host rank next.due; own_slot = next.own_slot; plan = next.plan }) next.goes).1
 
   module _ (lossless : IsLossless s f) (among : List ℕ) (all : (v : ℕ) → has among v ≡ true → IsThere s rank f v) where
@@ -109,7 +109,7 @@ module _ (s : ScenarioParts) (accepted : IsScenario s) (rank f host : ℕ) (due 
         ap setting (rounds_are s scenario host rank f p (host_rank (state_at s f host) due) hosted.plan ∙ taken.host_on)
         ∙ ap (λ (t : Tune). Some (record { tune = t; own_slot = taken.hosting.own_slot; plan = taken.hosting.plan })) taken.hosts in
         let same = same_round rank taken.due next.due taken.hosting.own_slot next.own_slot taken.hosting.plan next.plan (sym hosts ∙ next.goes) in
-        let end = ended (setup_in s v) f (rounds s f (state_at s f) v)
+        let end = ended (setup_of s v) f (rounds s f (state_at s f) v)
         (record { tune = Hold rank taken.due; own_slot = taken.holding.own_slot; plan = taken.holding.plan }) held in
         end.1 ∙ ap (λ (t : Tune). Some (idle t taken.holding.plan))
         (cond-true (nat_lt f taken.due) (Hold rank taken.due) (Scan rank 0) (lt-ltb f taken.due taken.later))

@@ -16,7 +16,7 @@ use Rattle.bus_rules.specs.Tuning.{hosts as is_hosting, hosts_in, rank_of}
 use Rattle.bus_terms.specs.Bus.{state_at}
 use Rattle.bus_terms.specs.Flooding.{has}
 use Rattle.bus_terms.specs.Rounds.{rounds}
-use Rattle.bus_terms.specs.ScriptedStates.{setup_in}
+use Rattle.scenario_text.specs.Setups.{setup_of}
 use Rattle.bus_terms.proofs.HostsOfRanks.{IsRightfulState, rightful}
 use Rattle.law_times.specs.Reaches.{IsLossless, IsGroup}
 use Rattle.law_times.specs.Tunes.{AreMembers}
@@ -43,7 +43,7 @@ not_due rank f due later = by_rank (rank == rank) (due == f) (ne_eqb due f (λ s
 pub host_own : (s : ScenarioParts) (rank f v due : ℕ) (p : Plan) → Goes s f v (Host rank due) p → own_rank v s.hosts ≡ Some rank
 host_own s rank f v due p goes = by_state (state_at s f v) (rightful s f v) goes
   where
-    by_state : (x : State) → IsRightfulState (setup_in s v) x → setting x ≡ Some (idle (Host rank due) p) → own_rank v s.hosts ≡ Some rank
+    by_state : (x : State) → IsRightfulState (setup_of s v) x → setting x ≡ Some (idle (Host rank due) p) → own_rank v s.hosts ≡ Some rank
     by_state (StateOff boots) is goes = absurd (cc)
     by_state (StateOn c) is goes =
         let same : c.tune ≡ Host rank due = core_tune c (Host rank due) p goes in

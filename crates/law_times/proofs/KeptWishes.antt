@@ -3,8 +3,8 @@ use Rattle.std.proofs.Common.{◌≡◌, ℕ, zero, suc, List, [], ◌∷◌, re
 use Rattle.std.specs.List.{slice_index_or}
 use Rattle.std.specs.Prelude.{slice_set}
 use Rattle.lwb_base.specs.Messages.{Schedule}
-use Rattle.bus_rules.specs.Streams.{Stream, Streams, after_contention, no_stream, schedule_heard, stream_at, taken, unbound, with_agreed, without_first}
-use Rattle.law_times.proofs.KeptFields as fields
+use Rattle.bus_rules.specs.Streams.{Stream, Streams, after_contention, no_stream, schedule_heard, stream_at, after_taking, unbound, with_agreed, without_first}
+use Rattle.bus_terms.proofs.KeptFields as fields
 
 abbrev wish : Stream → ℕ
 wish x = x.wish
@@ -21,7 +21,7 @@ set_wish P (y ∷ ys) zero (suc i) x new is = is
 set_wish P (y ∷ ys) (suc k) zero x new is = is
 set_wish P (y ∷ ys) (suc k) (suc i) x new is = set_wish P ys k i x new is
 
-pub taken_keeps : (i : ℕ) (s : Streams) → KeepsWishes s (taken i s)
+pub taken_keeps : (i : ℕ) (s : Streams) → KeepsWishes s (after_taking i s)
 taken_keeps i s = fields.with_stream_keeps wish (λ n x. refl) (λ n f x. refl) (λ f x. refl) (λ f x. refl) s i (without_first (stream_at s i)) refl
 
 pub unbound_keeps : (s : Streams) → KeepsWishes s (unbound s)

@@ -14,14 +14,15 @@ use Rattle.bus_rules.specs.declared.tune.Tune.TheVariants.{Scan, Hold, Host}
 use Rattle.bus_rules.specs.Cores.{Core, Setup, as_host, begins_host, closing_accepted, frame_ended, is_fresh, opening_accepted}
 use Rattle.bus_rules.specs.Slots.{DataOf, Message, RequestOf, ScheduleOf, closed_slot, host_closes, hosts_now, is_own, opened_slot, silent, slot_heard}
 use Rattle.bus_rules.specs.States.{State, StateOff, StateOn, at_core}
-use Rattle.bus_rules.specs.Streams.{Streams, acknowledged, after_contention, due_stream, forgets, heard_host, is_host, names}
-use Rattle.bus_rules.specs.Streams.{owns, schedule_heard, streams_after_act}
-use Rattle.bus_rules.specs.Streams.{taken, unbound}
+use Rattle.bus_rules.specs.Streams.{Streams, acknowledged, after_contention, due_stream, after_forgetting, heard_host, is_host, names}
+use Rattle.bus_rules.specs.Streams.{owner_named, schedule_heard, streams_after_act}
+use Rattle.bus_rules.specs.Streams.{after_taking, unbound}
 use Rattle.bus_rules.specs.Tuning.{is_rank, next_tune}
 use Rattle.bus_rules.proofs.Switches.{acts_keep}
 use Rattle.bus_terms.specs.Bus.{before_frame, state_at}
 use Rattle.bus_terms.specs.Rounds.{rounds}
-use Rattle.bus_terms.specs.ScriptedStates.{lines_of, setup_in, state_after_line, states_after_script}
+use Rattle.scenario_text.specs.Setups.{setup_of}
+use Rattle.bus_terms.specs.ScriptedStates.{lines_of, state_after_line, states_after_script}
 use Rattle.bus_terms.proofs.KeptInRounds.{rounds_keep}
 
 fold_knows : {A : Type 0} (rank boot : ℕ) (g : Streams → A → Streams) → ((x : Streams) (a : A) → (g x a).host ≡ x.host) → (xs : List A) (x : Streams)
@@ -30,7 +31,7 @@ fold_knows rank boot g keeps [] x is = is
 fold_knows rank boot g keeps (a ∷ more) x is =
     fold_knows rank boot g keeps more (g x a) (subst (λ (h : Option (ℕ × ℕ)). is_host h rank boot ≡ true) (sym (keeps x a)) is)
 
-heard_knows : (node boot f : ℕ) (y : Schedule) (x : Streams) → is_host (schedule_heard node boot f y x).host y.plan.rank y.plan.boot ≡ true
+pub heard_knows : (node boot f : ℕ) (y : Schedule) (x : Streams) → is_host (schedule_heard node boot f y x).host y.plan.rank y.plan.boot ≡ true
 unfolding schedule_heard
 heard_knows node boot f y x =
     let r = y.plan.rank in
@@ -40,11 +41,11 @@ heard_knows node boot f y x =
     (λ _. both (r == r) (b == b) (eq-eqb r r refl) (eq-eqb b b refl)) in
     let answered = fold_knows r b (acknowledged node boot f)
     (λ z a. cond_both (names node boot a) _ z (λ (t : Streams). t.host ≡ z.host) (λ _. refl) (λ _. refl)) y.plan.acks (heard_host r b x) known in
-    let named = fold_knows r b (owns node f)
+    let named = fold_knows r b (owner_named node f)
     (λ z c. cond_both (node_of c == node) _ z (λ (t : Streams). t.host ≡ z.host) (λ _. refl) (λ _. refl))
     y.plan.owners (fold (acknowledged node boot f) (heard_host r b x) y.plan.acks) answered in
-    let last : Streams = fold (owns node f) (fold (acknowledged node boot f) (heard_host r b x) y.plan.acks) y.plan.owners in
-    cond_both (y.gap == 0) last (forgets f last) (λ (z : Streams). is_host z.host r b ≡ true) (λ _. named) (λ _. named)
+    let last : Streams = fold (owner_named node f) (fold (acknowledged node boot f) (heard_host r b x) y.plan.acks) y.plan.owners in
+    cond_both (y.gap == 0) last (after_forgetting f last) (λ (z : Streams). is_host z.host r b ≡ true) (λ _. named) (λ _. named)
   where
     both : (p q : Bool) → p ≡ true → q ≡ true → (p && q) ≡ true
     both p q first second = rw (first, second) refl
@@ -61,8 +62,9 @@ module _ (q : Setup) (f : ℕ) where
   opens : (part : Part) (c : Core) → Knows (StateOn c) → Knows (StateOn (opened_slot q f part c).core)
   opens Opening c knows = knows
   opens (DataSlot owner) c knows =
-      same_host c (if node_of owner == q.id then taken (stream_of owner) c.streams else c.streams)
-      (cond_both (node_of owner == q.id) (taken (stream_of owner) c.streams) c.streams (λ (t : Streams). t.host ≡ c.streams.host) (λ _. refl) (λ _. refl))
+      same_host c (if node_of owner == q.id then after_taking (stream_of owner) c.streams else c.streams)
+      (cond_both (node_of owner == q.id) (after_taking (stream_of owner) c.streams) c.streams (λ (t : Streams). t.host
+      ≡ c.streams.host) (λ _. refl) (λ _. refl))
       knows
   opens (Contention k) c knows =
       same_host c (if is_own c.own_slot k then after_contention q.id c.streams else c.streams)
@@ -143,9 +145,9 @@ module _ (s : ScenarioParts) where
   before zero v = tt
   before (suc f) v =
       let told : (w : ℕ) → Knows (states_after_script s f (before_frame s f) w) = λ w. lines (lines_of s f w) (before_frame s f w) (before f w) in
-      ends (setup_in s v) f (rounds s f (states_after_script s f (before_frame s f)) v)
-      (rounds_keep s f (λ w x. Knows x) (λ m. Unit {0}) (λ w part c is. opens (setup_in s w) f part c is) (λ w part c m is said. tt)
-      (λ w part b c o heard_it is. closes (setup_in s w) f part b c o is) (states_after_script s f (before_frame s f)) told v)
+      ends (setup_of s v) f (rounds s f (states_after_script s f (before_frame s f)) v)
+      (rounds_keep s f (λ w x. Knows x) (λ m. Unit {0}) (λ w part c is. opens (setup_of s w) f part c is) (λ w part c m is said. tt)
+      (λ w part b c o heard_it is. closes (setup_of s w) f part b c o is) (states_after_script s f (before_frame s f)) told v)
 
   pub knows : (f v : ℕ) → Knows (state_at s f v)
   knows f v = lines (lines_of s f v) (before_frame s f v) (before f v)

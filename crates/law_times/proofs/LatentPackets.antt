@@ -14,7 +14,7 @@ use Rattle.bus_rules.specs.declared.tune.Tune.TheVariants.{Host}
 use Rattle.bus_rules.specs.Cores.{Core}
 use Rattle.bus_rules.specs.Granting.{count_of}
 use Rattle.bus_rules.specs.States.{StateOn}
-use Rattle.bus_rules.specs.Tables.{Entry}
+use Rattle.bus_rules.specs.Tables.{TableEntry}
 use Rattle.bus_rules.specs.Tuning.{hosts}
 use Rattle.bus_terms.specs.Bus.{state_at}
 use Rattle.law_times.specs.Paces.{HasEntry, HasSlowStreams, IsOnPace, latency_bound}
@@ -30,7 +30,7 @@ use Rattle.law_times.proofs.QueuedRounds.{code_of_packet}
 use Rattle.law_times.proofs.Settings.{Setting, core_at, idle}
 
 -- the slots that a stream has been granted before frame f are those that had come due by then: what is granted more are slots of the next round
-pub record IsCounted (seconds f : ℕ) (owners : List ℕ) (e : Entry) : Type 0 where
+pub record IsCounted (seconds f : ℕ) (owners : List ℕ) (e : TableEntry) : Type 0 where
   pub accepted : e.accepted < f
   pub few : e.granted ≤ count_of e.code owners + seconds * (f - 1 - e.accepted) / e.interval
 
@@ -38,13 +38,13 @@ module _ (s : ScenarioParts) (accepted : IsScenario s) (slow : HasSlowStreams s)
   abbrev scenario : IsSoundScenario s
   scenario = sound s accepted
 
-  some : 0 < s.profile.seconds
+  pub some : 0 < s.profile.seconds
   some = some_seconds s.profile scenario.profile
 
   before_next : (f a i : ℕ) → 0 < i → s.profile.seconds * (f - 1 - a) / i ≤ s.profile.seconds * (suc f - 1 - a) / i
   before_next f a i positive = more_due _ _ i positive (mul-le-mul_left s.profile.seconds (omega arith))
 
-  pub counted : (f v : ℕ) (c : Core) → state_at s f v ≡ StateOn c → hosts c.tune ≡ true → (e : Entry) → Contains c.table.entries e
+  pub counted : (f v : ℕ) (c : Core) → state_at s f v ≡ StateOn c → hosts c.tune ≡ true → (e : TableEntry) → Contains c.table.entries e
       → IsCounted s.profile.seconds f c.plan.owners e
   counted zero v c on host e there = absurd (none_at_first s v c on host e there)
   counted (suc f) v c on host e there = by_due (counted f v)
@@ -52,13 +52,13 @@ module _ (s : ScenarioParts) (accepted : IsScenario s) (slow : HasSlowStreams s)
       last : HostBefore s f v c
       last = host_before s scenario slow some f v c on host e there
 
-      paced : (x : Entry) → Contains last.core.table.entries x → IsOnPace s.profile.seconds last.due x
+      paced : (x : TableEntry) → Contains last.core.table.entries x → IsOnPace s.profile.seconds last.due x
       paced x among = keep_pace s accepted slow f v last.rank last.due last.core last.on last.tune x among
 
       idle_still : IsCounted s.profile.seconds f last.core.plan.owners e → f < last.due → IsCounted s.profile.seconds (suc f) c.plan.owners e
       idle_still before later =
           let same = last.idle later in
-          let among : Contains last.core.table.entries e = subst (λ (l : List Entry). Contains l e) same.0 there in
+          let among : Contains last.core.table.entries e = subst (λ (l : List TableEntry). Contains l e) same.0 there in
           let count : count_of e.code last.core.plan.owners ≡ count_of e.code c.plan.owners = ap (λ (p : Plan). count_of e.code p.owners) (sym same.1) in
           let pace = (paced e among).slow in
           let more = before_next f e.accepted e.interval (omega (arith, some, pace)) in
@@ -88,14 +88,14 @@ module _ (s : ScenarioParts) (accepted : IsScenario s) (slow : HasSlowStreams s)
               let granted = grown.granted in
               record { accepted = omega (arith, early, at, now); few = omega (arith, granted, was, due) }
 
-      by_due : ((d : Core) → state_at s f v ≡ StateOn d → hosts d.tune ≡ true → (x : Entry) → Contains d.table.entries x
+      by_due : ((d : Core) → state_at s f v ≡ StateOn d → hosts d.tune ≡ true → (x : TableEntry) → Contains d.table.entries x
           → IsCounted s.profile.seconds f d.plan.owners x) → IsCounted s.profile.seconds (suc f) c.plan.owners e
       by_due earlier = elim (cases_eq last.due f) [
         | inl now ↦ after_round (last.grown now e there) now
         | inr other ↦
             (let low = last.low in
             let later : f < last.due = omega (arith, low, other) in
-            let among : Contains last.core.table.entries e = subst (λ (l : List Entry). Contains l e) (last.idle later).0 there in
+            let among : Contains last.core.table.entries e = subst (λ (l : List TableEntry). Contains l e) (last.idle later).0 there in
             idle_still (earlier last.core last.on (ap hosts last.tune) e among) later)
       ]
 
@@ -144,12 +144,12 @@ module _ (s : ScenarioParts) (accepted : IsScenario s) (slow : HasSlowStreams s)
     same_due r d q n is = cc
 
     -- from an entry of the host's table in frame x on: where not more is to be granted than this, the packet arrives in time
-    module _ (bound last : ℕ) (within : last ≤ e) (target : Entry) (early : target.accepted < f) (of_packet : target.code ≡ code_of_packet w) where
+    module _ (bound last : ℕ) (within : last ≤ e) (target : TableEntry) (early : target.accepted < f) (of_packet : target.code ≡ code_of_packet w) where
       pub record FromHere (x : ℕ) : Type 0 where
         pub core : Core
         pub on : state_at s x host ≡ StateOn core
         pub host_tune : hosts core.tune ≡ true
-        pub entry : Entry
+        pub entry : TableEntry
         pub there : Contains core.table.entries entry
         pub code_is : entry.code ≡ target.code
         pub interval_is : entry.interval ≡ target.interval
@@ -171,7 +171,7 @@ module _ (s : ScenarioParts) (accepted : IsScenario s) (slow : HasSlowStreams s)
             on = before.on;
             host_tune = ap hosts before.tune;
             entry = here.entry;
-            there = subst (λ (l : List Entry). Contains l here.entry) (before.idle later).0 here.there;
+            there = subst (λ (l : List TableEntry). Contains l here.entry) (before.idle later).0 here.there;
             code_is = here.code_is;
             interval_is = here.interval_is;
             accepted_is = here.accepted_is;
@@ -234,14 +234,14 @@ module _ (s : ScenarioParts) (accepted : IsScenario s) (slow : HasSlowStreams s)
           far_back n x after (omega (arith, soon)) (back (n + x) (omega (arith, after)) (omega (arith, soon)) (subst FromHere (omega arith) here))
 
 -- each slot needs a frame at least
-some_frames : (queue interval seconds : ℕ) → 0 < queue → 0 < seconds → seconds ≤ interval → 1 ≤ (queue * interval + seconds - 1) / seconds
+pub some_frames : (queue interval seconds : ℕ) → 0 < queue → 0 < seconds → seconds ≤ interval → 1 ≤ (queue * interval + seconds - 1) / seconds
 some_frames queue interval seconds first some slow =
     let one : 1 * interval ≤ queue * interval = mul-le-mul_right interval first in
     le-div 1 (queue * interval + seconds - 1) seconds some (omega (arith, one, some, slow))
 
 module _ (queue interval seconds : ℕ) (s : ScenarioParts) (accepted : IsScenario s) (slow : HasSlowStreams s) (at : s.profile.seconds ≡ seconds)
     (rank host f : ℕ) (among : List ℕ) (w : StreamPacket) (ahead : ℕ)
-    (awaits : AwaitsSlot s rank host f (f + latency_bound queue interval seconds) among w ahead) (first : ahead < queue) (due : ℕ) (e : Entry)
+    (awaits : AwaitsSlot s rank host f (f + latency_bound queue interval seconds) among w ahead) (first : ahead < queue) (due : ℕ) (e : TableEntry)
     (has_entry : HasEntry s host (f + latency_bound queue interval seconds - 3) due e) (of_packet : e.code ≡ code w.node w.stream)
     (long : e.interval ≡ interval) (early : e.accepted < f) where
   abbrev sec : ℕ

@@ -9,7 +9,7 @@ use Rattle.bus_rules.specs.declared.tune.Tune.{Tune}
 use Rattle.bus_rules.specs.Cores.{Core}
 use Rattle.bus_rules.specs.Granting.{gap_of, total}
 use Rattle.bus_rules.specs.Plans.{last_slot}
-use Rattle.bus_rules.specs.Tables.{Entry}
+use Rattle.bus_rules.specs.Tables.{TableEntry}
 use Rattle.bus_rules.specs.Tuning.{hosts_in}
 use Rattle.bus_terms.specs.HostedRounds.{node_before}
 use Rattle.bus_terms.proofs.HostedRounds.{leads}
@@ -22,7 +22,7 @@ use Rattle.law_times.proofs.PacedHosts.{Keeps, KeepsPace, PacedBy, asked_paced, 
 use Rattle.law_times.proofs.PacedRuns.{at_frame, at_slot}
 use Rattle.law_times.proofs.PacedTables.{Each, Paced, fits, more_due}
 
-pub each_of : (P : Entry → Type 0) (es : List Entry) (e : Entry) → Each P es → Contains es e → P e
+pub each_of : (P : TableEntry → Type 0) (es : List TableEntry) (e : TableEntry) → Each P es → Contains es e → P e
 each_of P [] e all there = absurd (not_in_none e there)
 each_of P (x ∷ es) e all there = elim (contains_cases x es e there) [
   | inl same ↦ subst P same all.0

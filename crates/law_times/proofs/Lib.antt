@@ -21,7 +21,6 @@ mod FrameEnds
 mod WaitingNodes
 mod ComputedTests
 mod PacedTables
-mod KeptFields
 mod KeptWishes
 mod PacedHosts
 mod PacedRuns
@@ -33,6 +32,11 @@ mod PacketFrames
 mod GrownTables
 mod HostFrames
 mod LatentPackets
+mod KeptEntries
+mod KeptStreams
+mod AgreedStreams
+mod AgreedRounds
+mod AgreedPackets
 mod ContentionTurnsOfTwo
 mod NewStreams
 mod ContendingRounds
@@ -40,6 +44,8 @@ mod ContendingFrames
 mod BackoffRanges
 mod KnownHosts
 mod SilentHosts
+mod ContendingMembers
+mod SharedSlots
 mod ContendersPart
 mod ContentionTurnsOfSix
 mod ContentionTurnsOfThreeSlots
@@ -52,3 +58,7 @@ mod WorkedTurns
 mod WorkedPaces
 mod WorkedQueues
 mod WorkedContentions
+mod WorkedSlots
+mod WorkedSix
+mod StarvedNodes
+mod UnansweredNodes

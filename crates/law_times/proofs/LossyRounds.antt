@@ -22,7 +22,8 @@ use Rattle.bus_rules.proofs.Ranks.{member_hosts, planned_rank, same_schedule}
 use Rattle.bus_terms.specs.Bus.{state_at}
 use Rattle.bus_terms.specs.HostedRounds.{IsHosted, slot_in}
 use Rattle.bus_terms.specs.Rounds.{accepted_at, before_slot, closed_slot_of, left_by, opened_at, rank_in, rounds}
-use Rattle.bus_terms.specs.ScriptedStates.{is_on_and, setup_in}
+use Rattle.scenario_text.specs.Setups.{setup_of}
+use Rattle.bus_terms.specs.ScriptedStates.{is_on_and}
 use Rattle.bus_terms.proofs.HostedRounds.{Hosting, closing_last, closing_opens, has_planned, heard_from, leads, sole_host}
 use Rattle.bus_terms.proofs.HostsOfRanks.{due_rank}
 use Rattle.law_service.proofs.LoneRequests.{same_core}
@@ -47,7 +48,7 @@ module _ (s : ScenarioParts) (rank f v : ℕ) (y : Schedule) (later : 0 < y.gap)
       (inr (ap (λ (r : ℕ). Hold r (f + y.gap)) of_rank, refl))
 
   hears : (c : Core) (b : Bool) (heard : Option Message) → ((m : Message) → heard ≡ Some m → m ≡ ScheduleOf y)
-      → IsLeft c.tune rank (f + y.gap) y.plan (StateOn (closed_slot (setup_in s v) f Closing b c heard).core)
+      → IsLeft c.tune rank (f + y.gap) y.plan (StateOn (closed_slot (setup_of s v) f Closing b c heard).core)
   hears c b None only = inl refl
   hears c b (Some (DataOf d)) only = (let is = only (DataOf d) refl in absurd (cc))
   hears c b (Some (RequestOf a)) only = (let is = only (RequestOf a) refl in absurd (cc))
@@ -61,14 +62,14 @@ module _ (s : ScenarioParts) (rank f v : ℕ) (y : Schedule) (later : 0 < y.gap)
     where
       by_host : (t : Bool) → t ≡ false → (b : Bool) (heard : Option Message) → ((m : Message) → heard ≡ Some m → m ≡ ScheduleOf y)
           → IsLeft c.tune rank (f + y.gap) y.plan
-          (StateOn (closed_slot (setup_in s v) f Closing b (if t then host_closes (setup_in s v) f c else silent c).core heard).core)
+          (StateOn (closed_slot (setup_of s v) f Closing b (if t then host_closes (setup_of s v) f c else silent c).core heard).core)
       by_host true not b heard only = absurd (false≢true (sym not))
       by_host false not b heard only = hears c b heard only
 
       by_member : (t : Bool) (heard : Option Message) → ((m : Message) → heard ≡ Some m → m ≡ ScheduleOf y)
           → IsLeft c.tune rank (f + y.gap) y.plan
-          (left_by (StateOn c) (closed_slot_of s f Closing v (if t then Some (opened_slot (setup_in s v) f Closing c) else None) heard (StateOn c)))
-      by_member true heard only = by_host (hosts_now f c) idles (is_some (opened_slot (setup_in s v) f Closing c).message) heard only
+          (left_by (StateOn c) (closed_slot_of s f Closing v (if t then Some (opened_slot (setup_of s v) f Closing c) else None) heard (StateOn c)))
+      by_member true heard only = by_host (hosts_now f c) idles (is_some (opened_slot (setup_of s v) f Closing c).message) heard only
       by_member false None only = inl refl
       by_member false (Some m) only = hears c false (Some m) only
 
@@ -113,14 +114,14 @@ module _ (s : ScenarioParts) (accepted : IsScenario s) (rank f host : ℕ) (due 
   only_host v m is =
       let from = heard_from s rank f p (state_at s f) j Closing (closing_last p) v m is in
       let c = from.1 in
-      let now = closing_hosts (setup_in s from.0) f c m from.4 in
+      let now = closing_hosts (setup_of s from.0) f c m from.4 in
       let hosts : hosts_in rank f c.tune ≡ true = member_hosts rank f c from.3 now in
       let same : from.0 ≡ host = sole_host s rank f p host hosted j from.0 (ap (is_on_and (λ c. hosts_in rank f c.tune)) from.2 ∙ hosts) in
       let at : before host ≡ StateOn c = ap before (sym same) ∙ from.2 in
       let core : c ≡ lead.core = same_core c lead.core (before host) at lead.on in
-      let says : (opened_slot (setup_in s host) f Closing lead.core).message ≡ Some m =
-      ap (λ (u : ℕ). (opened_slot (setup_in s u) f Closing lead.core).message) (sym same)
-      ∙ ap (λ (d : Core). (opened_slot (setup_in s from.0) f Closing d).message) (sym core) ∙ from.4 in
+      let says : (opened_slot (setup_of s host) f Closing lead.core).message ≡ Some m =
+      ap (λ (u : ℕ). (opened_slot (setup_of s u) f Closing lead.core).message) (sym same)
+      ∙ ap (λ (d : Core). (opened_slot (setup_of s from.0) f Closing d).message) (sym core) ∙ from.4 in
       let is : Some m ≡ Some (ScheduleOf said) = sym says ∙ ap (λ (o : Opened). o.message) (closing_opens s rank f p host hosted lead) in
       cc
 

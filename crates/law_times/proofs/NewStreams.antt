@@ -6,12 +6,13 @@ use Rattle.std.specs.List.{find, list_any, slice_index_or}
 use Rattle.std.specs.Prelude.{slice_set}
 use Rattle.std.proofs.lemmas.Bool.{cases_eq, cond_both, cond-true, cond-false, false≢true, ne_eqb, or_cases, eqb-true}
 use Rattle.lwb_base.specs.Messages.{Ask, Schedule, node_of}
-use Rattle.bus_rules.specs.Streams.{Stream, Streams, WaitingPacket, acknowledged, after_contention, due_stream, forgets, forgotten, heard_host, is_host, names}
-use Rattle.bus_rules.specs.Streams.{no_stream, owns, put, put_to, queued, refuses, request_is_due, schedule_heard, stream_at, wants}
+use Rattle.bus_rules.specs.Streams.{Stream, Streams, WaitingPacket, acknowledged, after_contention, due_stream, after_forgetting, forgotten}
+use Rattle.bus_rules.specs.Streams.{heard_host, is_host, names}
+use Rattle.bus_rules.specs.Streams.{no_stream, owner_named, after_put, put_to, queued, refuses, request_is_due, schedule_heard, stream_at, has_due_request}
 use Rattle.bus_terms.specs.Flooding.{has}
 use Rattle.law_times.specs.Contentions.{IsNew}
 use Rattle.law_times.proofs.ContentionTurnsOfTwo.{backoff_of, one_turn, turn}
-use Rattle.law_times.proofs.KeptFields as fields
+use Rattle.bus_terms.proofs.KeptFields as fields
 
 -- its request is due
 found : (p : ℕ → Bool) (xs : List ℕ) (i : ℕ) → has xs i ≡ true → p i ≡ true → is_some (find p xs) ≡ true
@@ -46,7 +47,7 @@ new_due x i new = found (request_is_due x) (0 ∷ 1 ∷ 2 ∷ 3 ∷ []) i (few_h
     both a true c first third = rw first refl
     both a false c first third = rw (first, third) refl
 
-    wanted : wants (stream_at x i) ≡ true
+    wanted : has_due_request (stream_at x i) ≡ true
     wanted = both ((stream_at x i).wish == (stream_at x i).agreed) ((stream_at x i).wish == 0) (length (stream_at x i).queue == 0)
         (ne_eqb (stream_at x i).wish (stream_at x i).agreed (λ same. new.wish (same ∙ new.agreed))) (some (stream_at x i).queue new.waits)
 
@@ -71,33 +72,33 @@ acked_none node boot f (a ∷ acks) x none =
     neither true b none = absurd (false≢true (sym none))
     neither false b none = (refl, none)
 
-owned_none : (node f : ℕ) (owners : List ℕ) (x : Streams) → list_any (λ c. node_of c == node) owners ≡ false → fold (owns node f) x owners ≡ x
+owned_none : (node f : ℕ) (owners : List ℕ) (x : Streams) → list_any (λ c. node_of c == node) owners ≡ false → fold (owner_named node f) x owners ≡ x
 owned_none node f [] x none = refl
 owned_none node f (c ∷ owners) x none =
     let both = neither (node_of c == node) (list_any (λ c. node_of c == node) owners) none in
-    ap (λ (y : Streams). fold (owns node f) y owners) (cond-false (node_of c == node) _ x both.0) ∙ owned_none node f owners x both.1
+    ap (λ (y : Streams). fold (owner_named node f) y owners) (cond-false (node_of c == node) _ x both.0) ∙ owned_none node f owners x both.1
   where
     neither : (a b : Bool) → (a || b) ≡ false → (a ≡ false) × (b ≡ false)
     neither true b none = absurd (false≢true (sym none))
     neither false b none = (refl, none)
 
 heard_is : (node boot f : ℕ) (y : Schedule) (x : Streams) → is_host x.host y.plan.rank y.plan.boot ≡ true → list_any (names node boot) y.plan.acks ≡ false
-    → list_any (λ c. node_of c == node) y.plan.owners ≡ false → schedule_heard node boot f y x ≡ (if y.gap == 0 then x else forgets f x)
+    → list_any (λ c. node_of c == node) y.plan.owners ≡ false → schedule_heard node boot f y x ≡ (if y.gap == 0 then x else after_forgetting f x)
 unfolding schedule_heard
 heard_is node boot f y x knows acks owners =
     let known : heard_host y.plan.rank y.plan.boot x ≡ x = cond-true (is_host x.host y.plan.rank y.plan.boot) x _ knows in
-    let named : fold (owns node f) (fold (acknowledged node boot f) (heard_host y.plan.rank y.plan.boot x) y.plan.acks) y.plan.owners ≡ x =
-    ap (λ (z : Streams). fold (owns node f) (fold (acknowledged node boot f) z y.plan.acks) y.plan.owners) known
-    ∙ ap (λ (z : Streams). fold (owns node f) z y.plan.owners) (acked_none node boot f y.plan.acks x acks) ∙ owned_none node f y.plan.owners x owners in
-    ap (λ (z : Streams). if y.gap == 0 then z else forgets f z) named
+    let named : fold (owner_named node f) (fold (acknowledged node boot f) (heard_host y.plan.rank y.plan.boot x) y.plan.acks) y.plan.owners ≡ x =
+    ap (λ (z : Streams). fold (owner_named node f) (fold (acknowledged node boot f) z y.plan.acks) y.plan.owners) known
+    ∙ ap (λ (z : Streams). fold (owner_named node f) z y.plan.owners) (acked_none node boot f y.plan.acks x acks) ∙ owned_none node f y.plan.owners x owners in
+    ap (λ (z : Streams). if y.gap == 0 then z else after_forgetting f z) named
 
-map_at : (g : Stream → Stream) → g no_stream ≡ no_stream → (xs : List Stream) (i : ℕ)
+pub map_at : (g : Stream → Stream) → g no_stream ≡ no_stream → (xs : List Stream) (i : ℕ)
     → slice_index_or (map g xs) i no_stream ≡ g (slice_index_or xs i no_stream)
 map_at g none [] i = sym none
 map_at g none (x ∷ xs) zero = refl
 map_at g none (x ∷ xs) (suc i) = map_at g none xs i
 
-forgotten_goes : (f : ℕ) (x : Streams) (i : ℕ) → GoesOn x (forgets f x) i
+forgotten_goes : (f : ℕ) (x : Streams) (i : ℕ) → GoesOn x (after_forgetting f x) i
 forgotten_goes f x i = record {
   tries = refl;
   skips = refl;
@@ -110,7 +111,7 @@ forgotten_goes f x i = record {
   };
 }
   where
-    at : stream_at (forgets f x) i ≡ forgotten f (stream_at x i)
+    at : stream_at (after_forgetting f x) i ≡ forgotten f (stream_at x i)
     at = map_at (forgotten f) refl x.all i
 
     stays : (z : Stream) → z.agreed ≡ 0 → (forgotten f z).agreed ≡ 0
@@ -121,7 +122,7 @@ pub heard_goes : (node boot f : ℕ) (y : Schedule) (x : Streams) (i : ℕ) → 
     → GoesOn x (schedule_heard node boot f y x) i
 heard_goes node boot f y x i knows acks owners =
     subst (λ (z : Streams). GoesOn x z i) (sym (heard_is node boot f y x knows acks owners))
-    (cond_both (y.gap == 0) x (forgets f x) (λ (z : Streams). GoesOn x z i) (λ _. same_streams x i) (λ _. forgotten_goes f x i))
+    (cond_both (y.gap == 0) x (after_forgetting f x) (λ (z : Streams). GoesOn x z i) (λ _. same_streams x i) (λ _. forgotten_goes f x i))
 
 -- a contention slot of its own
 pub turned_new : (node : ℕ) (x : Streams) (i : ℕ) → IsNew x i
@@ -141,15 +142,15 @@ turned_new node x i new =
     )
 
 -- a packet that is put
-pub put_goes : (j : ℕ) (payload : List ℕ) (x : Streams) (i : ℕ) → GoesOn x (put j payload x) i
+pub put_goes : (j : ℕ) (payload : List ℕ) (x : Streams) (i : ℕ) → GoesOn x (after_put j payload x) i
 put_goes j payload x i = record {
   tries = refl;
   skips = refl;
   host = refl;
   new = λ new. elim (cases_eq j i) [
-    | inl same ↦ subst (λ (k : ℕ). IsNew (put j payload x) k) same (at_own j (subst (λ (k : ℕ). IsNew x k) (sym same) new))
+    | inl same ↦ subst (λ (k : ℕ). IsNew (after_put j payload x) k) same (at_own j (subst (λ (k : ℕ). IsNew x k) (sym same) new))
     | inr other ↦
-        (let at : stream_at (put j payload x) i ≡ stream_at x i = fields.other_stays x.all j i (put_to payload (stream_at x j)) other in
+        (let at : stream_at (after_put j payload x) i ≡ stream_at x i = fields.other_stays x.all j i (put_to payload (stream_at x j)) other in
         record {
           few = new.few;
           wish = λ none. new.wish (sym (ap (λ (z : Stream). z.wish) at) ∙ none);
@@ -174,7 +175,7 @@ put_goes j payload x i = record {
         longer w [] same = absurd (cc)
         longer w (z ∷ zs) same = absurd (cc)
 
-    at_own : (k : ℕ) → IsNew x k → IsNew (put k payload x) k
+    at_own : (k : ℕ) → IsNew x k → IsNew (after_put k payload x) k
     at_own k new =
         let more = added (stream_at x k) in
         record {

@@ -17,9 +17,9 @@ use Rattle.bus_rules.specs.Slots.{DataOf, Message, RequestOf, ScheduleOf, closed
 use Rattle.bus_rules.specs.Slots.{silent}
 use Rattle.bus_rules.specs.Slots.{slot_heard}
 use Rattle.bus_rules.specs.States.{State, StateOff, StateOn}
-use Rattle.bus_rules.specs.Streams.{Streams, request_is_due, requested, schedule_heard, stream_at, taken}
+use Rattle.bus_rules.specs.Streams.{Streams, request_is_due, requested, schedule_heard, stream_at, after_taking}
 use Rattle.bus_rules.specs.Streams.{with_agreed}
-use Rattle.bus_rules.specs.Tables.{Entry, Table, interval_of}
+use Rattle.bus_rules.specs.Tables.{TableEntry, Table, interval_of}
 use Rattle.bus_rules.specs.Tuning.{hosts_in, next_tune, rank_of}
 use Rattle.bus_terms.proofs.ContentionSlots.{only_data}
 use Rattle.law_service.proofs.GrantedSlots.{round_gap}
@@ -31,7 +31,7 @@ AllSlow seconds [] = Unit {0}
 AllSlow seconds (a ∷ more) = IsSlow seconds a.interval × AllSlow seconds more
 
 -- the table of a host that has its next round in a frame is on pace by then
-abbrev pub PacedBy : ℕ → Tune → List Entry → Type 0
+abbrev pub PacedBy : ℕ → Tune → List TableEntry → Type 0
 PacedBy seconds (Host r d) es = Paced seconds d es
 PacedBy seconds (Hold r d) es = Unit {0}
 PacedBy seconds (Scan r w) es = Unit {0}
@@ -63,7 +63,7 @@ one_more seconds [] a all is = (is, tt)
 one_more seconds (x ∷ xs) a all is = (all.0, one_more seconds xs a all.1 is)
 
 -- a host whose round is due
-pub paced_now : (seconds rank f : ℕ) (t : Tune) (es : List Entry) → hosts_in rank f t ≡ true → PacedBy seconds t es → Paced seconds f es
+pub paced_now : (seconds rank f : ℕ) (t : Tune) (es : List TableEntry) → hosts_in rank f t ≡ true → PacedBy seconds t es → Paced seconds f es
 paced_now seconds rank f (Host r d) es now paced = subst (λ (n : ℕ). Paced seconds n es) (eqb-true d f (and_parts (r == rank) (d == f) now).1) paced
 paced_now seconds rank f (Hold r d) es now paced = absurd (false≢true now)
 paced_now seconds rank f (Scan r w) es now paced = absurd (false≢true now)
@@ -124,7 +124,7 @@ module _ (q : Setup) (f : ℕ) (some : 0 < q.profile.seconds) where
   pub opens : (part : Part) (c : Core) → KeepsPace sec c → KeepsPace sec (opened_slot q f part c).core
   opens Opening c is = is
   opens (DataSlot owner) c is = record {
-    wishes = cond_both (node_of owner == q.id) (taken (stream_of owner) c.streams) c.streams (λ (x : Streams). (i : ℕ) → IsSlow sec (stream_at x i).wish)
+    wishes = cond_both (node_of owner == q.id) (after_taking (stream_of owner) c.streams) c.streams (λ (x : Streams). (i : ℕ) → IsSlow sec (stream_at x i).wish)
         (λ _ i. slow_same sec _ _ (taken_keeps (stream_of owner) c.streams i) (is.wishes i)) (λ _. is.wishes);
     kept = is.kept;
     table = is.table;

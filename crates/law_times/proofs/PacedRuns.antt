@@ -15,7 +15,8 @@ use Rattle.bus_rules.specs.Streams.{Stream, cleared, emptied, put_to, queued, re
 use Rattle.bus_rules.specs.Streams.{wishes, with_stream}
 use Rattle.bus_terms.specs.Bus.{before_frame, state_at}
 use Rattle.bus_terms.specs.Rounds.{before_slot, rounds}
-use Rattle.bus_terms.specs.ScriptedStates.{lines_of, setup_in, state_after_line, states_after_script}
+use Rattle.scenario_text.specs.Setups.{setup_of}
+use Rattle.bus_terms.specs.ScriptedStates.{lines_of, state_after_line, states_after_script}
 use Rattle.bus_terms.proofs.KeptInRounds.{rounds_keep, slots_keep}
 use Rattle.law_times.specs.Paces.{HasSlowStreams, is_fast}
 use Rattle.law_times.proofs.KeptWishes.{set_wish}
@@ -91,12 +92,12 @@ module _ (s : ScenarioParts) (slow : HasSlowStreams s) (some : 0 < s.profile.sec
 
   run : (f : ℕ) (g : ℕ → State) → ((v : ℕ) → Keeps s.profile.seconds (g v)) → (v : ℕ) → Keeps s.profile.seconds (rounds s f g v)
   run f g all =
-      rounds_keep s f (λ v x. Keeps s.profile.seconds x) (AsksSlowly s.profile.seconds) (λ v part c is. opens (setup_in s v) f some part c is)
-      (λ v part c m is said. says (setup_in s v) f some part c m is said) (λ v part b c o told is. closes (setup_in s v) f some part b c o told is) g all
+      rounds_keep s f (λ v x. Keeps s.profile.seconds x) (AsksSlowly s.profile.seconds) (λ v part c is. opens (setup_of s v) f some part c is)
+      (λ v part c m is said. says (setup_of s v) f some part c m is said) (λ v part b c o told is. closes (setup_of s v) f some part b c o told is) g all
 
-  ended : (f v : ℕ) (x : State) → Keeps s.profile.seconds x → Keeps s.profile.seconds (at_core (frame_ended (setup_in s v) f) x)
+  ended : (f v : ℕ) (x : State) → Keeps s.profile.seconds x → Keeps s.profile.seconds (at_core (frame_ended (setup_of s v) f) x)
   ended f v (StateOff boots) is = tt
-  ended f v (StateOn c) is = ends (setup_in s v) f some c is
+  ended f v (StateOn c) is = ends (setup_of s v) f some c is
 
   before : (f v : ℕ) → Keeps s.profile.seconds (before_frame s f v)
   unfolding before_frame
@@ -110,6 +111,6 @@ module _ (s : ScenarioParts) (slow : HasSlowStreams s) (some : 0 < s.profile.sec
 
   pub at_slot : (rank f : ℕ) (p : Plan) (j v : ℕ) → Keeps s.profile.seconds (before_slot s rank f p (state_at s f) j v)
   at_slot rank f p =
-      slots_keep s f (λ v x. Keeps s.profile.seconds x) (AsksSlowly s.profile.seconds) (λ v part c is. opens (setup_in s v) f some part c is)
-      (λ v part c m is said. says (setup_in s v) f some part c m is said) (λ v part b c o told is. closes (setup_in s v) f some part b c o told is) rank p
+      slots_keep s f (λ v x. Keeps s.profile.seconds x) (AsksSlowly s.profile.seconds) (λ v part c is. opens (setup_of s v) f some part c is)
+      (λ v part c m is said. says (setup_of s v) f some part c m is said) (λ v part b c o told is. closes (setup_of s v) f some part b c o told is) rank p
       (state_at s f) (at_frame f)

@@ -10,7 +10,7 @@ use Rattle.std.proofs.lemmas.Bool.{cases_eq, cases_lt, cond_both, eq-eqb, le-ltb
 use Rattle.std.proofs.lemmas.Bool.{ne_eqb}
 use Rattle.std.proofs.lemmas.List.Sums.{sum_by-cons}
 use Rattle.bus_rules.specs.Granting.{Grants, gap_of, given, grant, granted_by, grants_for, last_code, owed_to, plan_round, share_in, total}
-use Rattle.bus_rules.specs.Tables.{AreEntries, EntriesAreAbove, EntriesAscend, Entry, Table, after_request, entry_after_data, entry_of, has_code, is_full}
+use Rattle.bus_rules.specs.Tables.{AreEntries, EntriesAreAbove, EntriesAscend, TableEntry, Table, after_request, entry_after_data, entry_of, has_code, is_full}
 use Rattle.bus_rules.specs.Tables.{missed, new_entry}
 use Rattle.bus_rules.specs.Tables.{with_entry, without}
 use Rattle.lwb_base.specs.Messages.{Ask, code_of}
@@ -18,32 +18,33 @@ use Rattle.stream_table.proofs.Order.{ascends_map, ascends_with, none_above}
 use Rattle.stream_table.proofs.Changes.{grant_keeps, heard_kept, missed_kept, removed_kept}
 use Rattle.law_times.specs.Paces.{IsOnPace}
 
-abbrev pub Each : (Entry → Type 0) → List Entry → Type 0
+abbrev pub Each : (TableEntry → Type 0) → List TableEntry → Type 0
 Each P [] = Unit {0}
 Each P (e ∷ es) = P e × Each P es
 
-each_map : (P : Entry → Type 0) (f : Entry → Entry) → ((e : Entry) → P e → P (f e)) → (es : List Entry) → Each P es → Each P (map f es)
+each_map : (P : TableEntry → Type 0) (f : TableEntry → TableEntry) → ((e : TableEntry) → P e → P (f e)) → (es : List TableEntry) → Each P es → Each P (map f es)
 each_map P f keeps [] all = tt
 each_map P f keeps (e ∷ es) all = (keeps e all.0, each_map P f keeps es all.1)
 
-each_map_to : (P Q : Entry → Type 0) (f : Entry → Entry) → ((e : Entry) → P e → Q (f e)) → (es : List Entry) → Each P es → Each Q (map f es)
+each_map_to : (P Q : TableEntry → Type 0) (f : TableEntry → TableEntry) → ((e : TableEntry) → P e → Q (f e)) → (es : List TableEntry) → Each P es
+    → Each Q (map f es)
 each_map_to P Q f keeps [] all = tt
 each_map_to P Q f keeps (e ∷ es) all = (keeps e all.0, each_map_to P Q f keeps es all.1)
 
-each_filter : (P : Entry → Type 0) (test : Entry → Bool) (es : List Entry) → Each P es → Each P (filter test es)
+each_filter : (P : TableEntry → Type 0) (test : TableEntry → Bool) (es : List TableEntry) → Each P es → Each P (filter test es)
 each_filter P test [] all = tt
 each_filter P test (e ∷ es) all =
     (let rest = each_filter P test es all.1 in
-    cond_both (test e) (e ∷ filter test es) (filter test es) (λ (l : List Entry). Each P l) (λ _. (all.0, rest)) (λ _. rest))
+    cond_both (test e) (e ∷ filter test es) (filter test es) (λ (l : List TableEntry). Each P l) (λ _. (all.0, rest)) (λ _. rest))
 
-each_with : (P : Entry → Type 0) (x : Entry) → P x → (es : List Entry) → Each P es → Each P (with_entry x es)
+each_with : (P : TableEntry → Type 0) (x : TableEntry) → P x → (es : List TableEntry) → Each P es → Each P (with_entry x es)
 each_with P x is [] all = (is, tt)
 each_with P x is (e ∷ es) all =
     (let rest = each_with P x is es all.1 in
-    cond_both (x.code == e.code) (x ∷ es) _ (λ (l : List Entry). Each P l) (λ _. (is, all.1))
-    (λ _. cond_both (nat_lt x.code e.code) (x ∷ e ∷ es) (e ∷ with_entry x es) (λ (l : List Entry). Each P l) (λ _. (is, all)) (λ _. (all.0, rest))))
+    cond_both (x.code == e.code) (x ∷ es) _ (λ (l : List TableEntry). Each P l) (λ _. (is, all.1))
+    (λ _. cond_both (nat_lt x.code e.code) (x ∷ e ∷ es) (e ∷ with_entry x es) (λ (l : List TableEntry). Each P l) (λ _. (is, all)) (λ _. (all.0, rest))))
 
-each_missed : (P : Entry → Type 0) → ((e : Entry) (n : ℕ) → P e → P (record e { unheard = n })) → (c : ℕ) (es : List Entry) → Each P es
+each_missed : (P : TableEntry → Type 0) → ((e : TableEntry) (n : ℕ) → P e → P (record e { unheard = n })) → (c : ℕ) (es : List TableEntry) → Each P es
     → Each P (filter_map (missed c) es)
 each_missed P keeps c [] all = tt
 each_missed P keeps c (e ∷ es) all = by_test (has_code c e) (nat_lt (e.unheard + 1) 16) (each_missed P keeps c es all.1)
@@ -54,24 +55,24 @@ each_missed P keeps c (e ∷ es) all = by_test (has_code c e) (nat_lt (e.unheard
     by_test true false rest = rest
     by_test false b rest = (all.0, rest)
 
-above_less : (c d : ℕ) (l : List Entry) → d < c → EntriesAreAbove c l → EntriesAreAbove d l
+above_less : (c d : ℕ) (l : List TableEntry) → d < c → EntriesAreAbove c l → EntriesAreAbove d l
 above_less c d [] less above = tt
 above_less c d (y ∷ ys) less above = (let more = above.0 in omega (arith, less, more), above_less c d ys less above.1)
 
 -- an entry replaces one of its code
-with_same : (x : Entry) (es : List Entry) → EntriesAscend es → is_none (entry_of es x.code) ≡ false → length (with_entry x es) ≡ length es
+with_same : (x : TableEntry) (es : List TableEntry) → EntriesAscend es → is_none (entry_of es x.code) ≡ false → length (with_entry x es) ≡ length es
 with_same x [] up there = absurd (false≢true (sym there))
 with_same x (e ∷ es) up there = by_code (cases_eq e.code x.code) (with_same x es up.1)
   where
     by_code : (e.code ≡ x.code) ⊎ (e.code ≢ x.code) → (is_none (entry_of es x.code) ≡ false → length (with_entry x es) ≡ length es)
         → length (with_entry x (e ∷ es)) ≡ length (e ∷ es)
-    by_code (inl same) rest = ap (λ (l : List Entry). length l) (cond-true (x.code == e.code) (x ∷ es) _ (eq-eqb x.code e.code (sym same)))
+    by_code (inl same) rest = ap (λ (l : List TableEntry). length l) (cond-true (x.code == e.code) (x ∷ es) _ (eq-eqb x.code e.code (sym same)))
     by_code (inr other) rest =
         let later : is_none (entry_of es x.code) ≡ false =
-        ap (λ (o : Option Entry). is_none o) (sym (cond-false (e.code == x.code) (Some e) (entry_of es x.code) (ne_eqb e.code x.code other))) ∙ there in
+        ap (λ (o : Option TableEntry). is_none o) (sym (cond-false (e.code == x.code) (Some e) (entry_of es x.code) (ne_eqb e.code x.code other))) ∙ there in
         let not_same = ne_eqb x.code e.code (λ same. other (sym same)) in
         let not_less : nat_lt x.code e.code ≡ false = by_order (cases_lt x.code e.code) later in
-        let is = ap (λ (l : List Entry). length l) (cond-false (x.code == e.code) (x ∷ es) _ not_same
+        let is = ap (λ (l : List TableEntry). length l) (cond-false (x.code == e.code) (x ∷ es) _ not_same
         ∙ cond-false (nat_lt x.code e.code) (x ∷ e ∷ es) (e ∷ with_entry x es) not_less) in
         let rest_is = rest later in
         omega (arith, is, rest_is)
@@ -80,18 +81,18 @@ with_same x (e ∷ es) up there = by_code (cases_eq e.code x.code) (with_same x 
         by_order (inr more) later = le-ltb x.code e.code more
         by_order (inl less) later =
             let none : entry_of es x.code ≡ None = none_above x.code es (above_less e.code x.code es less up.0) in
-            absurd (false≢true (sym (ap (λ (o : Option Entry). is_none o) (sym none) ∙ later)))
+            absurd (false≢true (sym (ap (λ (o : Option TableEntry). is_none o) (sym none) ∙ later)))
 
-with_more : (x : Entry) (es : List Entry) → length (with_entry x es) ≤ length es + 1
+with_more : (x : TableEntry) (es : List TableEntry) → length (with_entry x es) ≤ length es + 1
 with_more x [] = omega arith
 with_more x (e ∷ es) =
     (let rest = with_more x es in
-    cond_both (x.code == e.code) (x ∷ es) _ (λ (l : List Entry). length l ≤ length (e ∷ es) + 1) (λ _. omega arith)
-    (λ _. cond_both (nat_lt x.code e.code) (x ∷ e ∷ es) (e ∷ with_entry x es) (λ (l : List Entry). length l ≤ length (e ∷ es) + 1) (λ _. omega arith)
+    cond_both (x.code == e.code) (x ∷ es) _ (λ (l : List TableEntry). length l ≤ length (e ∷ es) + 1) (λ _. omega arith)
+    (λ _. cond_both (nat_lt x.code e.code) (x ∷ e ∷ es) (e ∷ with_entry x es) (λ (l : List TableEntry). length l ≤ length (e ∷ es) + 1) (λ _. omega arith)
     (λ _. omega (arith, rest))))
 
 -- at most 32 entries, ascending, each on pace
-pub record Paced (seconds due : ℕ) (es : List Entry) : Type 0 where
+pub record Paced (seconds due : ℕ) (es : List TableEntry) : Type 0 where
   pub entries : AreEntries es
   pub pace : Each (IsOnPace seconds due) es
 
@@ -115,7 +116,7 @@ owed_more : (seconds due a : ℕ) → a ≤ due → seconds * (due + 1 - a) ≡ 
 owed_more seconds due a low =
     (let next : due + 1 - a ≡ suc (due - a) = omega (arith, low) in ap (λ (n : ℕ). seconds * n) next ∙ mul-suc seconds (due - a))
 
-one_owed : (seconds due : ℕ) (e : Entry) → 0 < seconds → IsOnPace seconds due e → owed_to seconds (due + 1) e ≤ 1
+one_owed : (seconds due : ℕ) (e : TableEntry) → 0 < seconds → IsOnPace seconds due e → owed_to seconds (due + 1) e ≤ 1
 one_owed seconds due e some pace =
     let slow = pace.slow in
     let next = next_due seconds e.interval (seconds * (due - e.accepted)) (omega (arith, some, slow)) slow in
@@ -124,7 +125,7 @@ one_owed seconds due e some pace =
     let granted = pace.granted in
     omega (arith, next, same, granted)
 
-few_owed : (seconds due : ℕ) (es : List Entry) → 0 < seconds → Each (IsOnPace seconds due) es → total seconds (due + 1) es ≤ length es
+few_owed : (seconds due : ℕ) (es : List TableEntry) → 0 < seconds → Each (IsOnPace seconds due) es → total seconds (due + 1) es ≤ length es
 few_owed seconds due [] some all = omega arith
 few_owed seconds due (e ∷ es) some all =
     let more = sum_by-cons (owed_to seconds (due + 1)) e es in
@@ -145,7 +146,7 @@ module _ (seconds f : ℕ) (some : 0 < seconds) (t : Table) (paced : Paced secon
       (λ _. cond_both (nat_le (total seconds (f + 2) t.entries) 40) 2 1 (λ (g : ℕ). total seconds (f + g) t.entries ≤ 40) (λ is. leb-true _ 40 is)
       (λ _. (let owed = few_owed seconds f t.entries some paced.pace in let few = paced.entries.few in omega (arith, owed, few)))))
 
-  grants : (e : Entry) → IsOnPace seconds f e → IsOnPace seconds (f + gap) (grant (owed_to seconds (f + gap)) e)
+  grants : (e : TableEntry) → IsOnPace seconds f e → IsOnPace seconds (f + gap) (grant (owed_to seconds (f + gap)) e)
   grants e pace = record {
     accepted = (let low = pace.accepted in omega (arith, low));
     slow = pace.slow;
@@ -223,13 +224,13 @@ after_asked seconds f t a slow paced =
             full b c d first second third = rw (first, second, third) refl
 
 -- what a data slot leaves
-pub after_heard : (seconds d c : ℕ) (es : List Entry) → Paced seconds d es → Paced seconds d (map (entry_after_data c) es)
+pub after_heard : (seconds d c : ℕ) (es : List TableEntry) → Paced seconds d es → Paced seconds d (map (entry_after_data c) es)
 after_heard seconds d c es paced = record {
   entries = heard_kept es (map (entry_after_data c) es) c paced.entries refl;
   pace = each_map (IsOnPace seconds d) (entry_after_data c) (λ e is. record { accepted = is.accepted; slow = is.slow; granted = is.granted }) es paced.pace;
 }
 
-pub after_missed : (seconds d c : ℕ) (es : List Entry) → Paced seconds d es → Paced seconds d (filter_map (missed c) es)
+pub after_missed : (seconds d c : ℕ) (es : List TableEntry) → Paced seconds d es → Paced seconds d (filter_map (missed c) es)
 after_missed seconds d c es paced = record {
   entries = missed_kept es (filter_map (missed c) es) c paced.entries refl;
   pace = each_missed (IsOnPace seconds d) (λ e n is. record { accepted = is.accepted; slow = is.slow; granted = is.granted }) c es paced.pace;

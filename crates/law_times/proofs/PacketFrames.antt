@@ -20,7 +20,8 @@ use Rattle.bus_terms.specs.Bus.{before_frame, state_at}
 use Rattle.bus_terms.specs.Flooding.{has}
 use Rattle.bus_terms.specs.HostedRounds.{IsHosted, state_after_round}
 use Rattle.bus_terms.specs.Rounds.{after_round, rank_in, round_plan, rounds}
-use Rattle.bus_terms.specs.ScriptedStates.{lines_of, setup_in}
+use Rattle.scenario_text.specs.Setups.{setup_of}
+use Rattle.bus_terms.specs.ScriptedStates.{lines_of}
 use Rattle.bus_terms.proofs.HostedRounds.{Hosting, begins}
 use Rattle.law_service.proofs.LosslessSlots.{lose_nothing}
 use Rattle.law_times.specs.Queues.{IsDelivered, StreamPacket, leaves}
@@ -121,7 +122,7 @@ module _ (s : ScenarioParts) (accepted : IsScenario s) (rank host b e : ℕ) (am
       lines_wait w k (lines_of s (suc f) w.node) (before_frame s (suc f) w.node)
       (none_in_frame turns_off s b e w.node (suc f) (group.stay w.node there) (omega (arith, after)) within)
       (none_in_frame (leaves w.stream) s b e w.node (suc f) stays (omega (arith, after)) within)
-      (end_waits w k (setup_in s w.node) f (rounds s f (state_at s f) w.node) is)
+      (end_waits w k (setup_of s w.node) f (rounds s f (state_at s f) w.node) is)
 
   -- a frame without a round of the rank
   pub idle_frame : (f k : ℕ) → b ≤ f → suc f ≤ e → (m : Members s rank f host among) → f < m.due → Waits w k (state_at s f w.node)

@@ -13,13 +13,13 @@ use Rattle.bus_rules.specs.declared.part.Part.TheVariants.{Opening, Data as Data
 use Rattle.bus_rules.specs.Cores.{Core, Setup, as_host, begins_host, closing_accepted, frame_ended, is_fresh, opening_accepted}
 use Rattle.bus_rules.specs.Slots.{DataOf, Message, RequestOf, ScheduleOf, closed_slot, host_closes, hosts_now, is_own, opened_slot, silent, slot_heard}
 use Rattle.bus_rules.specs.States.{State, StateOff, StateOn, at_core, state_after_act}
-use Rattle.bus_rules.specs.Streams.{Stream, WaitingPacket, after_contention, emptied, no_stream, put_to, queued, refuses, stream_at, taken}
+use Rattle.bus_rules.specs.Streams.{Stream, WaitingPacket, after_contention, emptied, no_stream, put_to, queued, refuses, stream_at, after_taking}
 use Rattle.bus_rules.specs.Streams.{wishes, with_stream, without_first}
 use Rattle.bus_rules.specs.Tuning.{next_tune, rank_of}
 use Rattle.bus_terms.specs.ScriptedStates.{state_after_line}
 use Rattle.law_times.specs.Queues.{IsQueued, StreamPacket, leaves}
 use Rattle.law_times.specs.ScriptedPower.{turns_off}
-use Rattle.law_times.proofs.KeptFields as fields
+use Rattle.bus_terms.proofs.KeptFields as fields
 
 abbrev pub queue : Stream → List WaitingPacket
 queue x = x.queue
@@ -62,7 +62,7 @@ code_of_parts owner v i node stream = omega (arith, node, stream)
 -- in a window
 module _ (q : Setup) (f : ℕ) where
   opened_data : (owner i : ℕ) (c : Core) → (owner ≢ code q.id i) → i ≤ 3 → (b : Bool) → (node_of owner == q.id) ≡ b
-      → (stream_at (if b then taken (stream_of owner) c.streams else c.streams) i).queue ≡ (stream_at c.streams i).queue
+      → (stream_at (if b then after_taking (stream_of owner) c.streams else c.streams) i).queue ≡ (stream_at c.streams i).queue
   opened_data owner i c other few false at = refl
   opened_data owner i c other few true at =
       ap queue (fields.other_stays c.streams.all (stream_of owner) i (without_first (stream_at c.streams (stream_of owner)))
@@ -100,9 +100,9 @@ module _ (q : Setup) (f : ℕ) where
       let parts = parts_of_code q.id i few in
       record {
         boot = refl;
-        queue = ap (λ (b : Bool). (stream_at (if b then taken (stream_of owner) c.streams else c.streams) i).queue)
+        queue = ap (λ (b : Bool). (stream_at (if b then after_taking (stream_of owner) c.streams else c.streams) i).queue)
             (eq-eqb (node_of owner) q.id (ap node_of at ∙ parts.0))
-            ∙ ap (λ (k : ℕ). (stream_at (taken k c.streams) i).queue) (ap stream_of at ∙ parts.1) ∙ taken_first c.streams.all i;
+            ∙ ap (λ (k : ℕ). (stream_at (after_taking k c.streams) i).queue) (ap stream_of at ∙ parts.1) ∙ taken_first c.streams.all i;
       }
 
   heard_same : (part : Part) (b : Bool) (c : Core) → KeepsQueues c (slot_heard f part b c)

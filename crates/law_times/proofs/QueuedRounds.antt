@@ -19,7 +19,7 @@ use Rattle.bus_rules.specs.Streams.{WaitingPacket}
 use Rattle.bus_terms.specs.Bus.{state_at}
 use Rattle.bus_terms.specs.HostedRounds.{slot_in}
 use Rattle.bus_terms.specs.Rounds.{accepted_at, before_slot, closed_slot_of, left_by, opened_at}
-use Rattle.bus_terms.specs.ScriptedStates.{setup_in}
+use Rattle.scenario_text.specs.Setups.{setup_of}
 use Rattle.bus_terms.proofs.HostedRounds.{closing_last}
 use Rattle.law_times.specs.Queues.{StreamPacket}
 use Rattle.law_times.proofs.EarlyTunes.{tunes_stay}
@@ -35,8 +35,8 @@ module _ (s : ScenarioParts) (rank f : ℕ) (w : StreamPacket) (few : w.stream �
   after part heard x = left_by x (closed_slot_of s f part w.node (opened_at s rank f part w.node x) heard x)
 
   closes : (part : Part) (k : ℕ) (b : Bool) (c : Core) (heard : Option Message) → Waits w k (StateOn c)
-      → Waits w k (StateOn (closed_slot (setup_in s w.node) f part b c heard).core)
-  closes part k b c heard is = waits_same c (closed_slot (setup_in s w.node) f part b c heard).core w k (closed_same (setup_in s w.node) f part b c heard) is
+      → Waits w k (StateOn (closed_slot (setup_of s w.node) f part b c heard).core)
+  closes part k b c heard is = waits_same c (closed_slot (setup_of s w.node) f part b c heard).core w k (closed_same (setup_of s w.node) f part b c heard) is
 
   -- who is no member loses nothing
   slot_idle : (part : Part) (heard : Option Message) (k : ℕ) (c : Core) → is_member rank f c ≡ false → Waits w k (StateOn c)
@@ -45,7 +45,7 @@ module _ (s : ScenarioParts) (rank f : ℕ) (w : StreamPacket) (few : w.stream �
     where
       by_member : (b : Bool) → b ≡ false → (heard : Option Message)
           → Waits w k (left_by (StateOn c)
-          (closed_slot_of s f part w.node (if b then Some (opened_slot (setup_in s w.node) f part c) else None) heard (StateOn c)))
+          (closed_slot_of s f part w.node (if b then Some (opened_slot (setup_of s w.node) f part c) else None) heard (StateOn c)))
       by_member true is_false heard = absurd (false≢true (sym is_false))
       by_member false is_false None = is
       by_member false is_false (Some m) = closes part k false c (Some m) is
@@ -56,16 +56,16 @@ module _ (s : ScenarioParts) (rank f : ℕ) (w : StreamPacket) (few : w.stream �
   slot_other part heard k (StateOn c) other is = by_member (is_member rank f c) heard
     where
       opened : Core
-      opened = (opened_slot (setup_in s w.node) f part c).core
+      opened = (opened_slot (setup_of s w.node) f part c).core
 
       by_member : (b : Bool) (heard : Option Message)
           → Waits w k (left_by (StateOn c)
-          (closed_slot_of s f part w.node (if b then Some (opened_slot (setup_in s w.node) f part c) else None) heard (StateOn c)))
+          (closed_slot_of s f part w.node (if b then Some (opened_slot (setup_of s w.node) f part c) else None) heard (StateOn c)))
       by_member false None = is
       by_member false (Some m) = closes part k false c (Some m) is
       by_member true heard =
-          let same = opened_other (setup_in s w.node) f part c w.stream few other in
-          closes part k (is_some (opened_slot (setup_in s w.node) f part c).message) opened heard
+          let same = opened_other (setup_of s w.node) f part c w.stream few other in
+          closes part k (is_some (opened_slot (setup_of s w.node) f part c).message) opened heard
           (same.0 ∙ is.0, ap (λ (l : List WaitingPacket). slice_get l k) same.1 ∙ is.1)
 
   slot_own : (part : Part) (heard : Option Message) (k : ℕ) (c : Core) → is_slot_of (code_of_packet w) part ≡ true → is_member rank f c ≡ true
@@ -73,14 +73,14 @@ module _ (s : ScenarioParts) (rank f : ℕ) (w : StreamPacket) (few : w.stream �
   slot_own part heard k c own member is = by_member (is_member rank f c) member
     where
       opened : Core
-      opened = (opened_slot (setup_in s w.node) f part c).core
+      opened = (opened_slot (setup_of s w.node) f part c).core
 
       by_member : (b : Bool) → b ≡ true → Waits w k (left_by (StateOn c)
-          (closed_slot_of s f part w.node (if b then Some (opened_slot (setup_in s w.node) f part c) else None) heard (StateOn c)))
+          (closed_slot_of s f part w.node (if b then Some (opened_slot (setup_of s w.node) f part c) else None) heard (StateOn c)))
       by_member false is_true = absurd (false≢true is_true)
       by_member true is_true =
-          closes part k (is_some (opened_slot (setup_in s w.node) f part c).message) opened heard
-          (moves_up c opened w k (opened_own (setup_in s w.node) f part c w.stream few own) is)
+          closes part k (is_some (opened_slot (setup_of s w.node) f part c).message) opened heard
+          (moves_up c opened w k (opened_own (setup_of s w.node) f part c w.stream few own) is)
 
 -- the data slots of a stream before slot j
 unfoldable pub slots_before : Plan → ℕ → ℕ → ℕ
@@ -203,7 +203,7 @@ module _ (s : ScenarioParts) (rank f : ℕ) (p : Plan) (w : StreamPacket) (few :
     pub moved : left + slots_before p c end ≡ k
     pub waits : Waits w left (before end)
 
-  longer : (j : ℕ) → IsTurn j → IsTurn (suc j)
+  pub longer : (j : ℕ) → IsTurn j → IsTurn (suc j)
   longer j turn = record {
     slot = turn.slot;
     early = (let early = turn.early in omega (arith, early));
@@ -220,7 +220,7 @@ module _ (s : ScenarioParts) (rank f : ℕ) (p : Plan) (w : StreamPacket) (few :
     | inr other ↦ (let apart = eqb-false j (last_slot p) other in omega (arith, early, apart))
   ]
 
-  slots : ((d : Core) → d.tune ≡ t → is_member rank f d ≡ true) → (k : ℕ) → Waits w k (state_at s f w.node) → (j : ℕ) → j ≤ last_slot p + 1
+  pub slots : ((d : Core) → d.tune ≡ t → is_member rank f d ≡ true) → (k : ℕ) → Waits w k (state_at s f w.node) → (j : ℕ) → j ≤ last_slot p + 1
       → IsTurn j ⊎ IsBehind j k
   unfolding before_slot slots_before
   slots member k is zero early = inr (record { left = k; moved = omega arith; waits = is })

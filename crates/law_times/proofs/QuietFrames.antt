@@ -15,7 +15,8 @@ use Rattle.bus_rules.specs.States.{State, StateOff, StateOn, at_core}
 use Rattle.bus_rules.specs.Tuning.{rank_of, next_tune}
 use Rattle.bus_terms.specs.Bus.{before_frame, state_at}
 use Rattle.bus_terms.specs.Rounds.{rounds, rank_in}
-use Rattle.bus_terms.specs.ScriptedStates.{lines_of, setup_in, state_after_line}
+use Rattle.scenario_text.specs.Setups.{setup_of}
+use Rattle.bus_terms.specs.ScriptedStates.{lines_of, state_after_line}
 use Rattle.law_times.specs.ScriptedPower.{turns_off, has_line, StaysOn}
 use Rattle.law_times.proofs.Settings.{Setting, setting, idle, of_core, act_same}
 use Rattle.law_times.proofs.QuietRounds.{NobodyHosts, quiet_rounds}
@@ -139,5 +140,5 @@ module _ (s : ScenarioParts) where
   quiet_frame b e f v t p stays after within goes nobody =
       let of_rank : NobodyHosts s (rank_in (state_at s f v)) f = subst (λ (r : ℕ). NobodyHosts s r f) (sym (goes_rank s f v t p goes)) nobody in
       let round : setting (rounds s f (state_at s f) v) ≡ Some (idle t p) = quiet_rounds s f v of_rank ∙ goes in
-      let end = ended (setup_in s v) f (rounds s f (state_at s f) v) (idle t p) round in
+      let end = ended (setup_of s v) f (rounds s f (state_at s f) v) (idle t p) round in
       (end.0, script_same s b e (suc f) v (idle (after_quiet f v t) (plan_of s.profile end.0 (begins_host t (after_quiet f v t)) p)) stays after within end.1)

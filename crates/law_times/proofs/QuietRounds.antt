@@ -11,7 +11,8 @@ use Rattle.bus_rules.specs.Tuning.{hosts_in}
 use Rattle.bus_rules.proofs.Ranks.{member_hosts}
 use Rattle.bus_terms.specs.Bus.{state_at}
 use Rattle.bus_terms.specs.Rounds.{after_round, before_slot, round_of_rank, round_plan, rounds, rank_in}
-use Rattle.bus_terms.specs.ScriptedStates.{is_on_and, setup_in}
+use Rattle.scenario_text.specs.Setups.{setup_of}
+use Rattle.bus_terms.specs.ScriptedStates.{is_on_and}
 use Rattle.bus_terms.proofs.HostsOfRanks.{IsRightfulState, rightful, one_of_rank, due_hosts, due_rank}
 use Rattle.law_times.proofs.Settings.{Setting, setting, IsOther, says_other, opened_same, closed_same}
 use Rattle.law_times.proofs.SlotInvariants.{keeps}
@@ -35,7 +36,7 @@ by_setting rank f (StateOn c) = refl
 pub host_is_own : (s : ScenarioParts) (rank f v : ℕ) → hosts_round rank f (state_at s f v) ≡ true → own_rank v s.hosts ≡ Some rank
 host_is_own s rank f v = by_state (state_at s f v) (rightful s f v)
   where
-    by_state : (x : State) → IsRightfulState (setup_in s v) x → hosts_round rank f x ≡ true → own_rank v s.hosts ≡ Some rank
+    by_state : (x : State) → IsRightfulState (setup_of s v) x → hosts_round rank f x ≡ true → own_rank v s.hosts ≡ Some rank
     by_state (StateOff boots) is due = absurd (false≢true due)
     by_state (StateOn c) is due = is.own (due_hosts rank f c.tune due) ∙ ap (λ (r : ℕ). Some r) (due_rank rank f c.tune due)
 
@@ -69,12 +70,12 @@ module _ (s : ScenarioParts) (rank f : ℕ) (nobody : NobodyHosts s rank f) wher
   in_slots : (p : Plan) (j : ℕ) → j ≤ last_slot p + 1 → (v : ℕ) → Same v (before_slot s rank f p (state_at s f) j v)
   in_slots p =
       keeps s rank f p (λ part. Unit {0}) Same (λ v part m. IsOther m)
-      (λ v part c m allowed member is same said. says_other (setup_in s v) f part c m (not_now v c member same) said)
+      (λ v part c m allowed member is same said. says_other (setup_of s v) f part c m (not_now v c member same) said)
       (λ v part c heard allowed member same told.
-      ap (λ (k : Setting). Some k) (closed_same (setup_in s v) f part (is_some (opened_slot (setup_in s v) f part c).message)
-      (opened_slot (setup_in s v) f part c).core heard (λ m is. (told m is).said) ∙ opened_same (setup_in s v) f part c (not_now v c member same)) ∙ same)
+      ap (λ (k : Setting). Some k) (closed_same (setup_of s v) f part (is_some (opened_slot (setup_of s v) f part c).message)
+      (opened_slot (setup_of s v) f part c).core heard (λ m is. (told m is).said) ∙ opened_same (setup_of s v) f part c (not_now v c member same)) ∙ same)
       (λ v part c m allowed scanning same told.
-      ap (λ (k : Setting). Some k) (closed_same (setup_in s v) f part false c (Some m) (λ n is. subst_other m n is told.said)) ∙ same)
+      ap (λ (k : Setting). Some k) (closed_same (setup_of s v) f part false c (Some m) (λ n is. subst_other m n is told.said)) ∙ same)
       (last_slot p + 1) (λ j early. tt) (λ v. refl)
     where
       subst_other : (m n : Message) → Some m ≡ Some n → IsOther m → IsOther n

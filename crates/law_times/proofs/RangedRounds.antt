@@ -19,7 +19,8 @@ use Rattle.bus_rules.specs.Tuning.{rank_of, scans}
 use Rattle.bus_rules.proofs.Ranks.{same_schedule, planned_rank, host_now}
 use Rattle.bus_terms.specs.Bus.{state_at}
 use Rattle.bus_terms.specs.Rounds.{after_round, before_slot, rounds, round_plan, rank_in}
-use Rattle.bus_terms.specs.ScriptedStates.{is_on_and, setup_in}
+use Rattle.scenario_text.specs.Setups.{setup_of}
+use Rattle.bus_terms.specs.ScriptedStates.{is_on_and}
 use Rattle.bus_terms.proofs.HostsOfRanks.{IsRightful, one_of_rank, data_no_schedule, contention_no_schedule}
 use Rattle.bus_terms.proofs.KeptRanks.{member_of}
 use Rattle.law_times.proofs.HostedFrames.{plan_gap}
@@ -39,7 +40,7 @@ IsOfHost s rank w (RequestOf a) = Unit {0}
 
 module _ (s : ScenarioParts) (rank f : ℕ) where
   abbrev q_of : ℕ → Setup
-  q_of v = setup_in s v
+  q_of v = setup_of s v
 
   says : (v : ℕ) (part : Part) (c : Core) (m : Message) → is_member rank f c ≡ true → IsRightful (q_of v) c
       → (opened_slot (q_of v) f part c).message ≡ Some m → IsOfHost s rank v m

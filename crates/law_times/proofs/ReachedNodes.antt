@@ -18,7 +18,7 @@ use Rattle.bus_terms.specs.FloodOfText.{ids}
 use Rattle.bus_terms.specs.Flooding.{has}
 use Rattle.bus_terms.specs.HostedRounds.{slot_in}
 use Rattle.bus_terms.specs.Rounds.{Slot, before_slot, opened_at, takes_part}
-use Rattle.bus_terms.specs.ScriptedStates.{setup_in}
+use Rattle.scenario_text.specs.Setups.{setup_of}
 use Rattle.bus_terms.proofs.HostedRounds.{closing_last}
 use Rattle.bus_terms.proofs.OneInitiator.{witness, any_of}
 use Rattle.bus_terms.proofs.ReceivedByPaths.{in_filtered}
@@ -106,7 +106,7 @@ module _ (s : ScenarioParts) (rank f : ℕ) (p : Plan) where
       before = before_slot s rank f p (state_at s f) (last_slot p)
 
       by_member : (c : Core) → in_round rank f c.tune ≡ true → (b : Bool) → is_member rank f c ≡ b
-          → takes_part rank Closing (StateOn c) (if b then Some (opened_slot (setup_in s v) f Closing c) else None) ≡ true
+          → takes_part rank Closing (StateOn c) (if b then Some (opened_slot (setup_of s v) f Closing c) else None) ≡ true
       by_member c takes true member = refl
       by_member c takes false member = left (hosts_in rank f c.tune) (holds_in rank f c.tune) (scans rank c.tune) (is_fresh c) takes member
         where

@@ -1,12 +1,10 @@
 -- A packet that is the first in its queue is delivered in a data slot of its stream in which nothing is lost.
 use Rattle.std.proofs.Common.{◌≡◌, ◌≢◌, ◌<◌, ◌≤◌, ◌+◌, ◌==◌, ℕ, suc, List, [], true, Option, Some, flat_map}
 use Rattle.std.proofs.Common.{length, refl, sym, ◌∙◌, ap, subst, arith}
-use Rattle.std.specs.List.{range_with_len}
 use Rattle.std.specs.Option.{option_map_or}
 use Rattle.std.specs.Prelude.{Contains}
 use Rattle.std.proofs.lemmas.Bool.{eqb-true, false≢true}
-use Rattle.std.proofs.lemmas.List.Elements.{Contains-get_or}
-use Rattle.std.proofs.lemmas.List.FromFn.{get_or-range_with_len, length-range_with_len}
+use Rattle.lwb_base.proofs.NumbersOfRanges.{in_range}
 use Rattle.lwb_base.proofs.Elements.{in_filter, in_flat, some_of}
 use Rattle.lwb_base.specs.Messages.{Plan, code, node_of, stream_of}
 use Rattle.scenario_text.specs.ScenarioGrammar.{IsScenario}
@@ -39,12 +37,6 @@ use Rattle.law_times.proofs.ReachedNodes.{reached_in}
 use Rattle.law_times.proofs.Settings.{tune_of}
 
 -- what is delivered in a slot of a round is among the bus's deliveries
-in_range : (n f : ℕ) → f < n → Contains (range_with_len 0 n) f
-in_range n f below =
-    let long = length-range_with_len 0 n in
-    subst (λ (x : ℕ). Contains (range_with_len 0 n) x) (get_or-range_with_len 0 n f 0 below ∙ (let at : 0 + f ≡ f = omega arith in at))
-    (Contains-get_or (range_with_len 0 n) f 0 (omega (arith, long, below)))
-
 in_ids : (s : ScenarioParts) (v : ℕ) → has (ids s.nodes) v ≡ true → Contains (ids s.nodes) v
 in_ids s v there =
     let x = some_of (λ u. u == v) (ids s.nodes) there in
@@ -54,13 +46,14 @@ delivered_in : (s : ScenarioParts) (rank f : ℕ) (p : Plan) (j v : ℕ) (d : De
     → rank < length s.hosts → j ≤ last_slot p → has (ids s.nodes) v ≡ true → delivery_in_slot s rank f p (state_at s f) j v ≡ Some d
     → Contains (bus_deliveries s) d
 delivered_in s rank f p j v d planned frame known_rank slot known is =
-    in_flat (λ f. flat_map (λ rank. round_deliveries s rank f (state_at s f)) (ranks_of s)) (frames_of s) f d (in_range s.frames f frame)
-    (in_flat (λ rank. round_deliveries s rank f (state_at s f)) (ranks_of s) rank d (in_range (length s.hosts) rank known_rank)
+    in_flat (λ f. flat_map (λ rank. round_deliveries s rank f (state_at s f)) (ranks_of s)) (frames_of s) f d
+    (in_range 0 s.frames f (omega arith) (omega (arith, frame)))
+    (in_flat (λ rank. round_deliveries s rank f (state_at s f)) (ranks_of s) rank d (in_range 0 (length s.hosts) rank (omega arith) (omega (arith, known_rank)))
     (subst (λ (o : Option Plan). Contains (option_map_or (λ p. flat_map (slot_deliveries s rank f p (state_at s f)) (slots_of p)) o []) d) (sym planned)
-    (in_flat (slot_deliveries s rank f p (state_at s f)) (slots_of p) j d (in_range (last_slot p + 1) j (omega (arith, slot)))
+    (in_flat (slot_deliveries s rank f p (state_at s f)) (slots_of p) j d (in_range 0 (last_slot p + 1) j (omega arith) (omega (arith, slot)))
     (in_filter (delivery_in_slot s rank f p (state_at s f) j) (ids s.nodes) v d (in_ids s v known) is))))
 
-slot_is : (c : ℕ) (part : Part) → is_slot_of c part ≡ true → part ≡ DataSlot c
+pub slot_is : (c : ℕ) (part : Part) → is_slot_of c part ≡ true → part ≡ DataSlot c
 slot_is c Opening is = absurd (false≢true is)
 slot_is c (DataSlot owner) is = ap (λ (n : ℕ). DataSlot n) (eqb-true owner c is)
 slot_is c (Contention i) is = absurd (false≢true is)

@@ -1,5 +1,5 @@
 -- The host of a round is not fresh in it, so it says nothing in a contention slot.
-use Rattle.std.proofs.Common.{◌≡◌, ◌≤◌, ◌+◌, ◌-◌, ◌==◌, ℕ, Bool, true, false, Option, Some, None, if◌then◌else◌, is_some, length, nat_le, nat_lt}
+use Rattle.std.proofs.Common.{◌≡◌, ◌<◌, ◌≤◌, ◌-◌, ◌==◌, ℕ, Bool, true, false, Option, Some, None, if◌then◌else◌, is_some, length, nat_le, nat_lt}
 use Rattle.std.proofs.Common.{option_map, refl, sym, ◌∙◌, ap, subst, arith}
 use Rattle.std.proofs.lemmas.Bool.{cond-true, cond-false, false≢true, lt-leb, lt-ltb, ne_eqb}
 use Rattle.lwb_base.specs.Messages.{Plan, Schedule}
@@ -8,7 +8,7 @@ use Rattle.scenario_text.specs.ScenarioFacts.{IsSoundScenario}
 use Rattle.bus_rules.specs.declared.part.Part.{Part}
 use Rattle.bus_rules.specs.declared.part.Part.TheVariants.{Opening, Data as DataSlot, Contention, Closing}
 use Rattle.bus_rules.specs.Cores.{Core, is_member, own_rank}
-use Rattle.bus_rules.specs.Plans.{last_slot, slots_named}
+use Rattle.bus_rules.specs.Plans.{last_slot}
 use Rattle.bus_rules.specs.Slots.{DataOf, Message, Opened, RequestOf, ScheduleOf, closed_slot, hosts_now, is_own, opened_slot, part_of, request_of}
 use Rattle.bus_rules.specs.States.{State, StateOff, StateOn}
 use Rattle.bus_rules.specs.Streams.{requested}
@@ -16,7 +16,7 @@ use Rattle.bus_rules.proofs.Ranks.{host_now}
 use Rattle.bus_terms.specs.Bus.{state_at}
 use Rattle.bus_terms.specs.HostedRounds.{IsHosted, slot_in}
 use Rattle.bus_terms.specs.Rounds.{before_slot, message_said, opened_at}
-use Rattle.bus_terms.specs.ScriptedStates.{setup_in}
+use Rattle.scenario_text.specs.Setups.{setup_of}
 use Rattle.bus_terms.proofs.HostedRounds.{Hosting, before_closing, host_member, is_closing, leads}
 use Rattle.bus_terms.proofs.KeptRanks.{member_of}
 use Rattle.bus_terms.proofs.HostsOfRanks.{IsRightful, one_of_rank}
@@ -38,16 +38,16 @@ module _ (s : ScenarioParts) (scenario : IsSoundScenario s) (rank f : ℕ) (p : 
   own : own_rank host s.hosts ≡ Some rank
   own = host_is_own s rank f host hosted.due
 
-  says : (w : ℕ) (part : Part) (c : Core) (m : Message) → is_member rank f c ≡ true → IsRightful (setup_in s w) c
-      → (opened_slot (setup_in s w) f part c).message ≡ Some m → IsNamedHost s rank w m
+  says : (w : ℕ) (part : Part) (c : Core) (m : Message) → is_member rank f c ≡ true → IsRightful (setup_of s w) c
+      → (opened_slot (setup_of s w) f part c).message ≡ Some m → IsNamedHost s rank w m
   says w part c m member rightful said y is = by_test (hosts_now f c) refl
     where
       by_test : (b : Bool) → hosts_now f c ≡ b → own_rank w s.hosts ≡ Some rank
       by_test true now = rightful.own (host_now f c now) ∙ ap (λ (r : ℕ). Some r) (member_of rank f c member)
-      by_test false now = absurd (says_other (setup_in s w) f part c m now said y is)
+      by_test false now = absurd (says_other (setup_of s w) f part c m now said y is)
 
   opened_none : (w : ℕ) (part : Part) (c : Core) → is_closing part ≡ false → NotFresh host w (StateOn c)
-      → NotFresh host w (StateOn (opened_slot (setup_in s w) f part c).core)
+      → NotFresh host w (StateOn (opened_slot (setup_of s w) f part c).core)
   opened_none w Opening c early none = none
   opened_none w (DataSlot owner) c early none = none
   opened_none w (Contention i) c early none = none
@@ -55,7 +55,7 @@ module _ (s : ScenarioParts) (scenario : IsSoundScenario s) (rank f : ℕ) (p : 
 
   closed_none : (w : ℕ) (part : Part) (b : Bool) (c : Core) (heard : Option Message)
       → ((m : Message) → heard ≡ Some m → Told (λ v part m. IsNamedHost s rank v m) w part m) → NotFresh host w (StateOn c)
-      → NotFresh host w (StateOn (closed_slot (setup_in s w) f part b c heard).core)
+      → NotFresh host w (StateOn (closed_slot (setup_of s w) f part b c heard).core)
   closed_none w part b c (Some (ScheduleOf y)) told none =
       (λ at. (let from = told (ScheduleOf y) refl in
       absurd (from.other (one_of_rank s.hosts from.from host rank (from.said y refl) own ∙ sym at))))
@@ -74,7 +74,7 @@ module _ (s : ScenarioParts) (scenario : IsSoundScenario s) (rank f : ℕ) (p : 
       keeps s rank f p (λ part. is_closing part ≡ false) (NotFresh host) (λ w part m. IsNamedHost s rank w m)
       (λ w part c m early member rightful none said. says w part c m member rightful said)
       (λ w part c heard early member none told.
-      closed_none w part (is_some (opened_slot (setup_in s w) f part c).message) (opened_slot (setup_in s w) f part c).core heard told
+      closed_none w part (is_some (opened_slot (setup_of s w) f part c).message) (opened_slot (setup_of s w) f part c).core heard told
       (opened_none w part c early none))
       (λ w part c m early scanning none told. closed_none w part false c (Some m) (λ n is. told_same w part m n is told) none)
       (last_slot p) (λ j early. before_closing p j early) starts
@@ -90,23 +90,20 @@ module _ (s : ScenarioParts) (scenario : IsSoundScenario s) (rank f : ℕ) (p : 
           by_state (StateOff boots) is = tt
           by_state (StateOn c) is = λ same. is.1
 
-  pub host_silent : slots_named p.contend ≡ 1 → is_some (message_said ((slot_in s rank f p (length p.owners + 1)).window host)) ≡ false
-  host_silent one =
+  pub host_silent : (j : ℕ) → length p.owners < j → j < last_slot p → is_some (message_said ((slot_in s rank f p j).window host)) ≡ false
+  host_silent j after before =
       ap (λ (q : Part). is_some (message_said (opened_at s rank f q host (before_slot s rank f p (state_at s f) j host)))) part
       ∙ ap (λ (x : State). is_some (message_said (opened_at s rank f (Contention (j - length p.owners)) host x))) lead.on
       ∙ ap (λ (w : Option Opened). is_some (message_said w))
       (windowed s rank f (Contention (j - length p.owners)) host lead.core (host_member rank f lead.core lead.due))
       ∙ ap (λ (o : Option ℕ). is_some (if is_own o (j - length p.owners) then option_map (request_of host lead.core) (requested lead.core.streams) else None))
-      (subst (NotFresh host host) lead.on (in_slots j (omega (arith, one)) host) refl)
+      (subst (NotFresh host host) lead.on (in_slots j (omega (arith, before)) host) refl)
     where
-      j : ℕ
-      j = length p.owners + 1
-
       lead : Hosting rank f p (before_slot s rank f p (state_at s f) j host)
-      lead = leads s rank f p host hosted j (omega (arith, one))
+      lead = leads s rank f p host hosted j (omega (arith, before))
 
       part : part_of p j ≡ Contention (j - length p.owners)
       part =
-          cond-false (j == 0) Opening _ (ne_eqb j 0 (λ none. absurd (omega (arith, none))))
-          ∙ cond-false (nat_le j (length p.owners)) (DataSlot _) _ (lt-leb j (length p.owners) (omega arith))
-          ∙ cond-true (nat_lt j (last_slot p)) (Contention (j - length p.owners)) Closing (lt-ltb j (last_slot p) (omega (arith, one)))
+          cond-false (j == 0) Opening _ (ne_eqb j 0 (λ none. absurd (omega (arith, none, after))))
+          ∙ cond-false (nat_le j (length p.owners)) (DataSlot _) _ (lt-leb j (length p.owners) after)
+          ∙ cond-true (nat_lt j (last_slot p)) (Contention (j - length p.owners)) Closing (lt-ltb j (last_slot p) before)

@@ -14,7 +14,7 @@ use Rattle.bus_terms.specs.Bus.{state_at}
 use Rattle.bus_terms.specs.FloodOfText.{ids}
 use Rattle.bus_terms.specs.Flooding.{accepted, has, Accepts}
 use Rattle.bus_terms.specs.Rounds.{Slot, opened_at, message_said, accepted_at, closed_slot_of, left_by, before_slot, takes_part}
-use Rattle.bus_terms.specs.ScriptedStates.{setup_in}
+use Rattle.scenario_text.specs.Setups.{setup_of}
 use Rattle.bus_terms.specs.HostedRounds.{slot_in}
 use Rattle.bus_terms.proofs.FirstHearings.{accepted_first}
 use Rattle.bus_terms.proofs.HostedRounds.{said_message}
@@ -28,21 +28,21 @@ pub record Told (Q : ℕ → Part → Message → Type 0) (v : ℕ) (part : Part
   pub said : Q from part m
 
 module _ (s : ScenarioParts) (rank f : ℕ) (p : Plan) (A : Part → Type 0) (P : ℕ → State → Type 0) (Q : ℕ → Part → Message → Type 0)
-    (says : (v : ℕ) (part : Part) (c : Core) (m : Message) → A part → is_member rank f c ≡ true → IsRightful (setup_in s v) c → P v (StateOn c)
-    → (opened_slot (setup_in s v) f part c).message ≡ Some m → Q v part m)
+    (says : (v : ℕ) (part : Part) (c : Core) (m : Message) → A part → is_member rank f c ≡ true → IsRightful (setup_of s v) c → P v (StateOn c)
+    → (opened_slot (setup_of s v) f part c).message ≡ Some m → Q v part m)
     (member_closes : (v : ℕ) (part : Part) (c : Core) (heard : Option Message) → A part → is_member rank f c ≡ true → P v (StateOn c)
     → ((m : Message) → heard ≡ Some m → Told Q v part m)
-    → P v (StateOn (closed_slot (setup_in s v) f part (is_some (opened_slot (setup_in s v) f part c).message) (opened_slot (setup_in s v) f part c).core
+    → P v (StateOn (closed_slot (setup_of s v) f part (is_some (opened_slot (setup_of s v) f part c).message) (opened_slot (setup_of s v) f part c).core
     heard).core))
     (other_closes : (v : ℕ) (part : Part) (c : Core) (m : Message) → A part → scans rank c.tune ≡ true → P v (StateOn c) → Told Q v part m
-    → P v (StateOn (closed_slot (setup_in s v) f part false c (Some m)).core)) where
+    → P v (StateOn (closed_slot (setup_of s v) f part false c (Some m)).core)) where
   abbrev at : ℕ → ℕ → State
   at j = before_slot s rank f p (state_at s f) j
 
   said_in : (j v : ℕ) (m : Message) → A (part_of p j) → P v (at j v) → message_said ((slot_in s rank f p j).window v) ≡ Some m → Q v (part_of p j) m
   said_in j v m allowed is said =
       let c = said_message s rank f (part_of p j) v (at j v) m said in
-      says v (part_of p j) c.0 m allowed c.2 (subst (IsRightfulState (setup_in s v)) c.1 (rightful_before s rank f p j v)) (subst (P v) c.1 is) c.3
+      says v (part_of p j) c.0 m allowed c.2 (subst (IsRightfulState (setup_of s v)) c.1 (rightful_before s rank f p j v)) (subst (P v) c.1 is) c.3
 
   told : (j v : ℕ) (m : Message) → A (part_of p j) → ((u : ℕ) → P u (at j u)) → accepted_at (slot_in s rank f p j) v ≡ Some m
       → Told Q v (part_of p j) m × (takes_part rank (part_of p j) (at j v) (opened_at s rank f (part_of p j) v (at j v)) ≡ true)
@@ -77,12 +77,12 @@ module _ (s : ScenarioParts) (rank f : ℕ) (p : Plan) (A : Part → Type 0) (P 
   closes j v part (StateOn c) heard allowed is heard_told = by_member (is_member rank f c) refl heard heard_told
     where
       window : Bool → Option Opened
-      window b = if b then Some (opened_slot (setup_in s v) f part c) else None
+      window b = if b then Some (opened_slot (setup_of s v) f part c) else None
 
       by_member : (b : Bool) → is_member rank f c ≡ b → (heard : Option Message)
           → ((m : Message) → heard ≡ Some m
-          → Told Q v part m × (takes_part rank part (StateOn c) (if b then Some (opened_slot (setup_in s v) f part c) else None) ≡ true))
-          → P v (left_by (StateOn c) (closed_slot_of s f part v (if b then Some (opened_slot (setup_in s v) f part c) else None) heard (StateOn c)))
+          → Told Q v part m × (takes_part rank part (StateOn c) (if b then Some (opened_slot (setup_of s v) f part c) else None) ≡ true))
+          → P v (left_by (StateOn c) (closed_slot_of s f part v (if b then Some (opened_slot (setup_of s v) f part c) else None) heard (StateOn c)))
       by_member true member heard given = member_closes v part c heard allowed member is (λ m hears. (given m hears).0)
       by_member false member None given = is
       by_member false member (Some m) given =

@@ -16,7 +16,8 @@ use Rattle.bus_rules.specs.Tuning.{hosts_in, is_rank, next_tune, rank_of}
 use Rattle.bus_rules.proofs.Switches.{acts_keep}
 use Rattle.bus_terms.specs.Bus.{before_frame, state_at}
 use Rattle.bus_terms.specs.Rounds.{rounds}
-use Rattle.bus_terms.specs.ScriptedStates.{is_on_and, lines_of, setup_in, state_after_line}
+use Rattle.scenario_text.specs.Setups.{setup_of}
+use Rattle.bus_terms.specs.ScriptedStates.{is_on_and, lines_of, state_after_line}
 use Rattle.law_times.proofs.Settings.{Setting, setting, of_core}
 use Rattle.law_times.proofs.QuietRounds.{hosts_round}
 use Rattle.law_times.proofs.QuietFrames.{host_tune, host_slot}
@@ -142,7 +143,7 @@ module _ (s : ScenarioParts) (scenario : IsSoundScenario s) where
   before (suc f) v =
       let all : (u : ℕ) → InRange s 0 f u (state_at s f u) = λ u. in_range f u (told f u (before f u)) in
       let after = rounds_in_range s f all v in
-      ended_started (setup_in s v) f (is_on_and (λ c. hosts_now f c) (state_at s f v)) (rounds s f (state_at s f) v)
+      ended_started (setup_of s v) f (is_on_and (λ c. hosts_now f c) (state_at s f v)) (rounds s f (state_at s f) v)
       (λ c on. (let range = subst (InRange s 0 f v) on after in (range, later f v c on range)))
 
   -- at the start of each frame

@@ -17,7 +17,7 @@ use Rattle.bus_rules.specs.Tuning.{hosts_in}
 use Rattle.bus_terms.specs.Bus.{before_frame, state_at}
 use Rattle.bus_terms.specs.Flooding.{has}
 use Rattle.bus_terms.specs.Rounds.{rounds}
-use Rattle.bus_terms.specs.ScriptedStates.{setup_in}
+use Rattle.scenario_text.specs.Setups.{setup_of}
 use Rattle.bus_terms.proofs.HostsOfRanks.{one_of_rank}
 use Rattle.law_times.specs.Reaches.{IsLossless, IsGroup}
 use Rattle.law_times.proofs.Settings.{setting, idle, tune_of, setting_tune}
@@ -170,7 +170,7 @@ module _ (s : ScenarioParts) (accepted : IsScenario s) (rank host b e : ℕ) (am
           goes_on v there t p is = script_same s b e (suc f) v (idle t p) (group.stay v there) (omega (arith, after)) within is
 
           at_end : (v : ℕ) → has among v ≡ true → (t : Tune) (p : Plan)
-              → setting (at_core (frame_ended (setup_in s v) f) (rounds s f (state_at s f) v)) ≡ Some (idle t p)
+              → setting (at_core (frame_ended (setup_of s v) f) (rounds s f (state_at s f) v)) ≡ Some (idle t p)
               → Goes s (suc f) v t p
           at_end v there t p is = goes_on v there t p is
 
@@ -182,7 +182,7 @@ module _ (s : ScenarioParts) (accepted : IsScenario s) (rank host b e : ℕ) (am
               → Waits s rank (suc f) plan.due plan.plan (most + 4) v
           joined v there c on tune planned =
               inl (at_end v there (Hold rank plan.due) plan.plan
-              (held_end (setup_in s v) f (rounds s f (state_at s f) v) c on rank plan.due plan.plan tune planned low))
+              (held_end (setup_of s v) f (rounds s f (state_at s f) v) c on rank plan.due plan.plan tune planned low))
 
           of_hold : (v : ℕ) → has among v ≡ true → (x : State) → rounds s f (state_at s f) v ≡ x → IsLeft (Hold rank waiting.due) rank plan.due plan.plan x
               → Waits s rank (suc f) plan.due plan.plan (most + 4) v
@@ -192,7 +192,7 @@ module _ (s : ScenarioParts) (accepted : IsScenario s) (rank host b e : ℕ) (am
                 0,
                 c.plan,
                 at_end v there (Scan rank 0) c.plan
-                    (fallen_end (setup_in s v) f (rounds s f (state_at s f) v) c on rank waiting.due same (omega (arith, now))),
+                    (fallen_end (setup_of s v) f (rounds s f (state_at s f) v) c on rank waiting.due same (omega (arith, now))),
                 omega (arith, high),
               )
           of_hold v there (StateOn c) on (inr (tune, planned)) = joined v there c on tune planned
@@ -201,7 +201,7 @@ module _ (s : ScenarioParts) (accepted : IsScenario s) (rank host b e : ℕ) (am
               → rounds s f (state_at s f) v ≡ x → IsLeft (Scan rank w) rank plan.due plan.plan x → Waits s rank (suc f) plan.due plan.plan (most + 4) v
           of_scan v there other w soon (StateOff boots) on left = absurd left
           of_scan v there other w soon (StateOn c) on (inl same) =
-              let end = scan_end (setup_in s v) f (rounds s f (state_at s f) v) c on rank w same other (omega (arith, soon, fewer)) in
+              let end = scan_end (setup_of s v) f (rounds s f (state_at s f) v) c on rank w same other (omega (arith, soon, fewer)) in
               let more = end.2 in
               inr (end.0, end.1, at_end v there (Scan rank end.0) end.1 end.3, omega (arith, high, soon, more))
           of_scan v there other w soon (StateOn c) on (inr (tune, planned)) = joined v there c on tune planned

@@ -1,6 +1,6 @@
 -- Nodes 2 and 3, neighbours of the host alone, ask for the first time in the same round, that of frame 5: the premises on two contenders are
 -- met in frame 6.
-use Rattle.std.proofs.Common.{◌≡◌, ◌≢◌, ◌<◌, ◌≤◌, ◌+◌, ◌++◌, ◌==◌, ℕ, List, [], ◌∷◌, true, false, inl, inr, length, codes, refl, sym, ◌∙◌, ap, subst}
+use Rattle.std.proofs.Common.{◌≡◌, ◌≢◌, ◌<◌, ◌≤◌, ◌++◌, ◌==◌, ℕ, List, [], ◌∷◌, true, false, inl, inr, length, codes, refl, sym, ◌∙◌, ap, subst}
 use Rattle.std.proofs.Common.{arith}
 use Rattle.std.specs.Str.{is_utf8, chars}
 use lib.Utf8.{encode}
@@ -33,6 +33,7 @@ use Rattle.law_times.specs.Reaches.{IsGroup, IsReached}
 use Rattle.law_times.specs.ScriptedPower.{StaysOn}
 use Rattle.law_times.specs.Tunes.{AreMembers, IsTuned}
 use Rattle.law_times.proofs.ContendersPart.{part_on_bus}
+use Rattle.law_times.proofs.ContentionTurnsOfTwo.{part_within}
 use Rattle.law_times.proofs.WorkedTimes.{each_of_three, is_tuned, plan_of}
 
 abbrev s : ScenarioParts
@@ -125,15 +126,15 @@ no_lines w first second third f =
     rw (ne_eqb 1 w (λ same. first (sym same)), ne_eqb 2 w (λ same. second (sym same)), ne_eqb 3 w (λ same. third (sym same))) refl
 
 alone : (g : ℕ) (p : Plan) → AreAlone s 0 g p 1 2 3
-alone g p w guest says = elim (cases_eq w 2) [
+alone g p j w after before guest says = elim (cases_eq w 2) [
   | inl same ↦ inl same
   | inr second ↦ elim (cases_eq w 3) [
     | inl same ↦ inr same
-    | inr third ↦ absurd (false≢true (sym (says_none s w (no_lines w guest second third) 0 g p (length p.owners + 1)) ∙ says))
+    | inr third ↦ absurd (false≢true (sym (says_none s w (no_lines w guest second third) 0 g p j) ∙ says))
   ]
 ]
 
-two : AreTwo s 0 1 6 126 three 2 3
+two : AreTwo s 0 1 6 126 three 2 3 1
 unfolding before_frame before_slot moment schedule_heard host_plan plan_round least_passing walks members
 two = record {
   group = group 126;
@@ -143,7 +144,7 @@ two = record {
   differ = λ same. absurd (omega (arith, same));
   guests = (λ same. absurd (omega (arith, same)), λ same. absurd (omega (arith, same)));
   reach = (record { links = 1; few = omega arith; walk = refl }, record { links = 1; few = omega arith; walk = refl });
-  one_slot = refl;
+  named = refl;
   boot = 1;
   booted = λ c on. (let same : StateOn c ≡ StateOn (core_of (state_at s 6 1)) = sym on ∙ on_core (state_at s 6 1) refl in
       let core : c ≡ core_of (state_at s 6 1) = cc in ap (λ (k : Core). k.boot) core);
@@ -156,4 +157,4 @@ two = record {
 }
 
 answered : (g : ℕ) × (6 ≤ g) × (g < 126) × IsAnswered s 0 g 1 2 3
-answered = part_on_bus s accepted 0 1 6 three 2 3 two
+answered = part_on_bus 1 30 (part_within 1 (omega arith) (omega arith)) s accepted 0 1 6 three 2 3 two

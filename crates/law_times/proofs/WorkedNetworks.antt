@@ -9,8 +9,8 @@ use Rattle.scenario_text.specs.ScenarioParts.{ScenarioParts}
 use Rattle.scenario_text.specs.ScriptGrammar.{script_line, step_line, put_line}
 use Rattle.text_readers.specs.Reading.{draft_after_line}
 use Rattle.link_trace.specs.declared.lines.LoseLine.{LoseLine}
-use Rattle.bus_rules.specs.declared.act.Act.TheVariants.{On, Off, Declare, Put}
-use Rattle.bus_terms.proofs.WorkedBuses.{node, link, at}
+use Rattle.bus_rules.specs.declared.act.Act.TheVariants.{On, Declare, Put}
+use Rattle.bus_terms.proofs.WorkedBuses.{node, link, at, backup}
 
 abbrev lost : LoseLine
 lost = record { frame = 4; slot = 0; step = 0; from = 1; to = 2 }
@@ -34,18 +34,6 @@ line_is_scenario =
     (codes "sends 1\nnode 1 0\nnode 2 0\nnode 3 0\nhost 0 1\npair 1 2\npair 2 3\nframes 12\nlose 4 0 0 1 2\non 0 1\non 2 2\non 5 3\n", refl)
 
 -- node 1 hosts, and node 2 if that fails. It does in frame 6, when all hold its round of frame 9
-abbrev pub backup : ScenarioParts
-backup = record {
-  profile = one;
-  frames = 32;
-  sends = 2;
-  nodes = node 1 ∷ node 2 ∷ node 3 ∷ [];
-  rates = [];
-  hosts = 1 ∷ 2 ∷ [];
-  trace = record { links = link 1 2 ∷ link 1 3 ∷ link 2 1 ∷ link 2 3 ∷ link 3 1 ∷ link 3 2 ∷ []; losses = []; cuts = []; captures = [] };
-  script = at 0 1 On ∷ at 0 2 On ∷ at 0 3 On ∷ at 0 3 (Declare 0 4) ∷ at 0 3 (Put 0 (0xaa ∷ [])) ∷ at 6 1 Off ∷ at 20 3 (Put 0 (0xbb ∷ [])) ∷ [];
-}
-
 pub backup_is_scenario : IsScenario backup
 unfolding draft_after_line scenario_after_words scenario_line script_line step_line put_line network_line is_utf8 chars encode
 backup_is_scenario = (

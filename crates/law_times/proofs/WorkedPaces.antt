@@ -11,7 +11,7 @@ use Rattle.bus_rules.specs.Granting.{plan_round, gap_of, total}
 use Rattle.bus_rules.specs.HostPlans.{host_plan}
 use Rattle.bus_rules.specs.States.{State, StateOff, StateOn}
 use Rattle.bus_rules.specs.Streams.{schedule_heard}
-use Rattle.bus_rules.specs.Tables.{Entry}
+use Rattle.bus_rules.specs.Tables.{TableEntry}
 use Rattle.bus_rules.specs.Cores.{Core, empty_plan}
 use Rattle.bus_terms.specs.Bus.{before_frame, state_at}
 use Rattle.bus_terms.specs.Flooding.{moment}
@@ -25,7 +25,7 @@ use Rattle.law_times.proofs.GrownTables.{entries_at}
 use Rattle.law_times.proofs.Settings.{tune_of}
 use Rattle.law_times.proofs.WorkedNetworks.{slow_stream, slow_is_scenario}
 
-pub has_entry : (s : ScenarioParts) (host frame rank due : ℕ) (e : Entry) → tune_of (state_at s frame host) ≡ Some (Host rank due)
+pub has_entry : (s : ScenarioParts) (host frame rank due : ℕ) (e : TableEntry) → tune_of (state_at s frame host) ≡ Some (Host rank due)
     → entries_at (state_at s frame host) ≡ e ∷ [] → HasEntry s host frame due e
 has_entry s host frame rank due e tune only = by_state (state_at s frame host) refl tune only
   where
@@ -36,10 +36,10 @@ has_entry s host frame rank due e tune only = by_state (state_at s frame host) r
       rank = rank;
       on = at;
       tune = cc;
-      there = subst (λ (l : List Entry). Contains l e) (sym only) (contains_head e []);
+      there = subst (λ (l : List TableEntry). Contains l e) (sym only) (contains_head e []);
     }
 
-abbrev granted_by : ℕ → ℕ → Entry
+abbrev granted_by : ℕ → ℕ → TableEntry
 granted_by granted unheard = record { code = 8; boot = 1; interval = 6; accepted = 5; granted = granted; unheard = unheard }
 
 slow : HasSlowStreams slow_stream
@@ -94,7 +94,7 @@ fits : FitsNextRound slow_stream 5 1 planning 9
 fits = owed_fits slow_stream slow_is_scenario slow 0 5 first_plan 1 hosted planning 9 planned.plan plans
 
 -- of 32 streams with a slot in each frame all fits into the round of the next frame, and no more into one of two frames
-abbrev each_frame : ℕ → Entry
+abbrev each_frame : ℕ → TableEntry
 each_frame c = record { code = c; boot = 1; interval = 4; accepted = 5; granted = 0; unheard = 0 }
 
 full_table : (total 4 6 (map each_frame (range_with_len 40 32)) ≡ 32) × (total 4 7 (map each_frame (range_with_len 40 32)) ≡ 64)

@@ -1,9 +1,11 @@
 -- A stream with a slot in seventeen seconds, accepted in frame 5: the packet that waits at first in frame 6 is delivered in frame 13, the last
 -- that its bound allows.
-use Rattle.std.proofs.Common.{◌≡◌, ◌≢◌, ◌≤◌, ℕ, List, [], ◌∷◌, true, codes, refl, arith}
+use Rattle.std.proofs.Common.{◌≡◌, ◌≢◌, ◌≤◌, ℕ, List, [], ◌∷◌, true, codes, refl, sym, ◌∙◌, ap, subst, arith}
 use Rattle.std.specs.Str.{is_utf8, chars}
 use lib.Utf8.{encode}
-use Rattle.lwb_base.specs.Messages.{least_passing}
+use Rattle.std.specs.Prelude.{Contains}
+use Rattle.lwb_base.proofs.Elements.{one_of}
+use Rattle.lwb_base.specs.Messages.{Ask, Plan, least_passing}
 use Rattle.lwb_base.specs.Profile.{one}
 use Rattle.scenario_text.specs.Network.{network_line}
 use Rattle.scenario_text.specs.ScenarioGrammar.{IsScenario, scenario_after_words, scenario_line}
@@ -14,8 +16,9 @@ use Rattle.bus_rules.specs.declared.act.Act.TheVariants.{On, Declare, Put}
 use Rattle.bus_rules.specs.declared.delivery.Delivery.{Delivery}
 use Rattle.bus_rules.specs.Granting.{plan_round}
 use Rattle.bus_rules.specs.HostPlans.{host_plan}
+use Rattle.bus_rules.specs.States.{State}
 use Rattle.bus_rules.specs.Streams.{schedule_heard}
-use Rattle.bus_rules.specs.Tables.{Entry}
+use Rattle.bus_rules.specs.Tables.{TableEntry}
 use Rattle.bus_terms.specs.Bus.{before_frame, bus_deliveries, state_at}
 use Rattle.bus_terms.specs.Distances.{walks}
 use Rattle.bus_terms.specs.Flooding.{has, moment}
@@ -25,14 +28,15 @@ use Rattle.bus_terms.proofs.WorkedBuses.{node, link, at}
 use Rattle.law_service.proofs.ComputedCores.{core_of}
 use Rattle.law_times.specs.FirstRounds.{Begins, IsUpBy}
 use Rattle.law_times.specs.Paces.{HasEntry, HasSlowStreams, latency_bound}
-use Rattle.law_times.specs.Queues.{AwaitsSlot, IsDelivered, IsQueued, StreamPacket}
+use Rattle.law_times.specs.Queues.{AwaitsSlot, IsAgreed, IsDelivered, IsQueued, IsServed, StreamPacket}
 use Rattle.law_times.specs.Reaches.{IsGroup, IsReached}
 use Rattle.law_times.specs.ScriptedPower.{StaysOn, power_before}
 use Rattle.law_times.specs.Tunes.{AreMembers}
 use Rattle.law_times.proofs.FirstRoundsOfHosts.{nodes_join}
 use Rattle.law_times.proofs.LatentPackets.{packets_come}
 use Rattle.law_times.proofs.WorkedPaces.{has_entry}
-use Rattle.law_times.proofs.WorkedTimes.{each_of_two}
+use Rattle.law_times.proofs.WorkedTimes.{each_of_two, plan_of}
+use Rattle.law_times.proofs.AgreedPackets.{agreed_come}
 
 abbrev s : ScenarioParts
 s = record {
@@ -104,18 +108,70 @@ awaits = record {
   stays = refl;
 }
 
-abbrev entry : Entry
+abbrev entry : TableEntry
 entry = record { code = 8; boot = 1; interval = 17; accepted = 5; granted = 1; unheard = 0 }
 
 in_frame_10 : HasEntry s 1 10 13 entry
 unfolding before_frame before_slot moment schedule_heard host_plan plan_round least_passing
 in_frame_10 = has_entry s 1 10 0 13 entry refl refl
 
+-- in frame 6 node 2 and the host have agreed to the stream, and no slot has come due yet
+abbrev first_entry : TableEntry
+first_entry = record { code = 8; boot = 1; interval = 17; accepted = 5; granted = 0; unheard = 0 }
+
+in_frame_6 : HasEntry s 1 6 9 first_entry
+unfolding before_frame before_slot moment schedule_heard host_plan plan_round least_passing
+in_frame_6 = has_entry s 1 6 0 9 first_entry refl refl
+
+abbrev acked : Ask
+acked = record { node = 2; boot = 1; stream = 0; interval = 17 }
+
+acks_in_6 : (plan_of (state_at s 6 1)).acks ≡ acked ∷ []
+unfolding before_frame before_slot moment schedule_heard host_plan plan_round least_passing
+acks_in_6 = refl
+
+rank_in_6 : (plan_of (state_at s 6 1)).rank ≡ 0
+unfolding before_frame before_slot moment schedule_heard host_plan plan_round least_passing
+rank_in_6 = refl
+
+boot_in_6 : (plan_of (state_at s 6 1)).boot ≡ (core_of (state_at s 6 1)).boot
+unfolding before_frame before_slot moment schedule_heard host_plan plan_round least_passing
+boot_in_6 = refl
+
+plan_is : members.plan ≡ plan_of (state_at s 6 1)
+plan_is = sym (ap plan_of members.hosts.on ∙ members.hosts.plan)
+
+agreed : IsAgreed s 0 1 6 members.plan packet first_entry
+unfolding before_frame before_slot moment schedule_heard host_plan plan_round least_passing
+agreed = record {
+  core = core_of (state_at s 6 2);
+  on = refl;
+  wish = refl;
+  agreed = refl;
+  lately = omega arith;
+  acks = λ a there of_code. sym (ap (λ (b : Ask). b.interval)
+      (one_of acked a (subst (λ (l : List Ask). Contains l a) (ap (λ (p : Plan). p.acks) plan_is ∙ acks_in_6) there)));
+  of_rank = ap (λ (p : Plan). p.rank) plan_is ∙ rank_in_6;
+  of_boot = λ c on. ap (λ (p : Plan). p.boot) plan_is ∙ boot_in_6 ∙ ap (λ (x : State). (core_of x).boot) on;
+}
+
+served : IsServed s 0 1 6 13 both members.plan packet first_entry
+served = record {
+  guest = λ same. absurd (omega (arith, same));
+  reach = reached 2 1 refl refl (λ same. absurd (omega (arith, same)));
+  keeps = refl;
+  agreed = agreed;
+}
+
 bound : latency_bound 1 17 4 ≡ 7
 bound = refl
 
 arrives : (g : ℕ) × (6 ≤ g) × (g ≤ 13) × IsDelivered s 0 g both packet
 arrives = packets_come 1 17 4 s accepted slow refl 0 1 6 both packet 0 awaits (omega arith) 13 entry in_frame_10 refl refl (omega arith)
+
+arrives_too : (g : ℕ) × (6 ≤ g) × (g ≤ 13) × IsDelivered s 0 g both packet
+unfolding awaits
+arrives_too = agreed_come 1 17 4 s accepted slow refl 0 1 6 both packet 0 awaits (omega arith) 9 first_entry in_frame_6 refl refl (omega arith) served
 
 abbrev in_frame_13 : Delivery
 in_frame_13 = record { frame = 13; rank = 0; slot = 1; node = 1; from = 2; boot = 1; stream = 0; seq = 0; payload = 0xaa ∷ [] }

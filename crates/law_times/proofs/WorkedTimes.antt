@@ -25,7 +25,8 @@ use Rattle.law_times.proofs.BackupHosts.{backups, nodes_follow}
 use Rattle.law_times.proofs.FirstRoundsOfHosts.{first_rounds, nodes_join}
 use Rattle.law_times.proofs.LastHosts.{last_hosts}
 use Rattle.law_times.proofs.Settings.{tune_of}
-use Rattle.law_times.proofs.WorkedNetworks.{line_of_three, line_is_scenario, backup, backup_is_scenario}
+use Rattle.bus_terms.proofs.WorkedBuses.{backup}
+use Rattle.law_times.proofs.WorkedNetworks.{line_of_three, line_is_scenario, backup_is_scenario}
 
 -- a tune that is computed
 pub has_tune : (s : ScenarioParts) (f v : ℕ) (t : Tune) → tune_of (state_at s f v) ≡ Some t → HasTune s f v t

@@ -1,7 +1,9 @@
 -- Nodes that have a request due in each contention slot of their own, round after round: who of them requests.
 use Rattle.std.specs.Prelude.{◌≡◌, ◌≢◌, ◌<◌, ◌≤◌, ◌-◌, ◌^◌, ◌%◌, ◌==◌, ◌&&◌, ℕ, zero, suc, List, [], ◌∷◌, Bool, true, is_some, nat_le, count_by}
+use Rattle.std.specs.Prelude.{if◌then◌else◌, Some, None}
 use Rattle.std.specs.List.{list_all}
-use Rattle.bus_rules.specs.Streams.{Streams, after_contention, cleared, due_stream, requested, declared, put}
+use Rattle.std.specs.declared.option.Option.{Option}
+use Rattle.bus_rules.specs.Streams.{Streams, after_contention, cleared, due_stream, requested, declared, after_put}
 use Rattle.law_service.specs.Contenders.{own_number}
 
 -- the streams of a node after n such slots
@@ -19,15 +21,27 @@ pub record IsBackingOff (node : ℕ) (x : Streams) : Type 0 where
   pub tries : x.tries ≤ 4
   pub skips : x.skips ≤ node % 2 ^ x.tries
 
--- within so many rounds one of two such nodes alone requests, if their ids differ modulo 16
-abbrev pub PartWithin : ℕ → Type 0
-PartWithin rounds =
-    (u v : ℕ) (x y : Streams) → u % 16 ≢ v % 16 → IsBackingOff u x → IsBackingOff v y
-    → (n : ℕ) × (n < rounds) × (requests_after u x n ≢ requests_after v y n)
+-- in which of so many contention slots it does so, if it does
+abbrev pub slot_after : ℕ → ℕ → Streams → ℕ → Option ℕ
+slot_after slots node x n = if requests_after node x n then Some (own_number node (after_turns node x n).tries slots) else None
+
+-- the ids of two nodes that part differ modulo this number
+abbrev pub ids_apart : ℕ → ℕ
+ids_apart slots = if slots == 3 then 48 else 16
+
+-- within so many rounds, with so many contention slots in each, one of two such nodes alone requests, or both do so in different slots
+abbrev pub PartWithin : ℕ → ℕ → Type 0
+PartWithin slots rounds =
+    (u v : ℕ) (x y : Streams) → u % ids_apart slots ≢ v % ids_apart slots → IsBackingOff u x → IsBackingOff v y
+    → (n : ℕ) × (n < rounds) × (slot_after slots u x n ≢ slot_after slots v y n)
+
+-- the rounds that it takes at most, by the number of contention slots
+abbrev pub parting_bound : ℕ → ℕ
+parting_bound slots = if slots == 2 then 28 else if slots == 4 then 24 else 30
 
 -- a stream that waits to be requested, first tried now
 abbrev pub asks_anew : Streams
-asks_anew = put 0 (0xaa ∷ []) (declared 0 4 cleared)
+asks_anew = after_put 0 (0xaa ∷ []) (declared 0 4 cleared)
 
 -- a node that begins to ask in a round, and whether it requests in another
 pub record Asker : Type 0 where

@@ -1,4 +1,4 @@
--- Two members of a rank that request in its one contention slot, round after round.
+-- Two members of a rank that request in its contention slots, round after round.
 use Rattle.std.specs.Prelude.{◌≡◌, ◌≢◌, ◌<◌, ◌≤◌, ◌+◌, ◌*◌, ◌%◌, ◌⊎◌, ◌==◌, ℕ, List, [], Bool, true, false, is_some, length}
 use Rattle.std.specs.List.{list_any}
 use Rattle.lwb_base.specs.Messages.{Ask, Plan, node_of}
@@ -8,7 +8,7 @@ use Rattle.scenario_text.specs.ScenarioGrammar.{IsScenario}
 use Rattle.bus_rules.specs.declared.act.Act.{Act}
 use Rattle.bus_rules.specs.declared.act.Act.TheVariants.{Declare, Leave}
 use Rattle.bus_rules.specs.Cores.{Core}
-use Rattle.bus_rules.specs.Plans.{slots_named}
+use Rattle.bus_rules.specs.Plans.{last_slot, slots_named}
 use Rattle.bus_rules.specs.States.{StateOn}
 use Rattle.bus_rules.specs.Streams.{Streams, names, stream_at}
 use Rattle.bus_terms.specs.Bus.{state_at}
@@ -16,6 +16,7 @@ use Rattle.bus_terms.specs.Flooding.{has}
 use Rattle.bus_terms.specs.HostedRounds.{IsHosted, slot_in, state_after_round}
 use Rattle.bus_terms.specs.Rounds.{message_said}
 use Rattle.law_service.specs.RequestService.{ReachesHost}
+use Rattle.law_times.specs.ContentionTurns.{ids_apart}
 use Rattle.law_times.specs.Reaches.{IsGroup, IsLossless, IsReached}
 use Rattle.law_times.specs.ScriptedPower.{has_line}
 use Rattle.law_times.specs.Tunes.{AreMembers}
@@ -40,26 +41,27 @@ changes_wish (Declare i interval) = true
 changes_wish (Leave i) = true
 changes_wish other = false
 
--- in the contention slot of this round nobody but the two requests; of the host it is known
+-- in the contention slots of this round nobody but the two requests; of the host it is known
 abbrev pub AreAlone : ScenarioParts → ℕ → ℕ → Plan → ℕ → ℕ → ℕ → Type 0
 AreAlone s rank f p host u v =
-    (w : ℕ) → w ≢ host → is_some (message_said ((slot_in s rank f p (length p.owners + 1)).window w)) ≡ true → (w ≡ u) ⊎ (w ≡ v)
+    (j w : ℕ) → length p.owners < j → j < last_slot p → w ≢ host → is_some (message_said ((slot_in s rank f p j).window w)) ≡ true → (w ≡ u) ⊎ (w ≡ v)
 
 -- a plan that neither acknowledges a request of this node and boot nor has a data slot for it
 pub record PassesOver (p : Plan) (node boot : ℕ) : Type 0 where
   pub acks : list_any (names node boot) p.acks ≡ false
   pub owners : list_any (λ c. node_of c == node) p.owners ≡ false
 
--- two such members, up to frame e, in which nothing is lost; the host's plan in frame f passes over both
-pub record AreTwo (s : ScenarioParts) (rank host f e : ℕ) (among : List ℕ) (u v : ℕ) : Type 0 where
+-- two such members, up to frame e, in which nothing is lost, and with so many contention slots in each round; the host's plan in frame f
+-- passes over both
+pub record AreTwo (s : ScenarioParts) (rank host f e : ℕ) (among : List ℕ) (u v slots : ℕ) : Type 0 where
   pub group : IsGroup s host f e among
   pub members : AreMembers s rank f host among
   pub lossless : (g : ℕ) → f ≤ g → g ≤ e → IsLossless s g
   pub there : (has among u ≡ true) × (has among v ≡ true)
-  pub differ : u % 16 ≢ v % 16
+  pub differ : u % ids_apart slots ≢ v % ids_apart slots
   pub guests : (u ≢ host) × (v ≢ host)
   pub reach : IsReached s among u host × IsReached s among v host
-  pub one_slot : slots_named s.profile.contend ≡ 1
+  pub named : slots_named s.profile.contend ≡ slots
   pub boot : ℕ
   pub booted : (c : Core) → state_at s f host ≡ StateOn c → c.boot ≡ boot
   pub plan : (members.plan.rank ≡ rank) × (members.plan.boot ≡ boot)
@@ -91,7 +93,7 @@ pub record IsAnswered (s : ScenarioParts) (rank f host u v : ℕ) : Type 0 where
       ⊎ (IsHeardAlone s rank f plan host u ⊎ IsHeardAlone s rank f plan host v)
 
 -- within so many rounds one of them is
-abbrev pub PartOnTheBus : ℕ → Type 0
-PartOnTheBus rounds =
-    (s : ScenarioParts) → IsScenario s → (rank host f : ℕ) (among : List ℕ) (u v : ℕ) → AreTwo s rank host f (f + GREATEST_GAP * rounds) among u v
+abbrev pub PartOnTheBus : ℕ → ℕ → Type 0
+PartOnTheBus slots rounds =
+    (s : ScenarioParts) → IsScenario s → (rank host f : ℕ) (among : List ℕ) (u v : ℕ) → AreTwo s rank host f (f + GREATEST_GAP * rounds) among u v slots
     → (g : ℕ) × (f ≤ g) × (g < f + GREATEST_GAP * rounds) × IsAnswered s rank g host u v

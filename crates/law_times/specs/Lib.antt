@@ -8,3 +8,4 @@ pub mod ContentionTurns
 pub mod Contentions
 pub mod Paces
 pub mod Queues
+pub mod SixNodes

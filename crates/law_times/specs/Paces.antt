@@ -10,7 +10,7 @@ use Rattle.bus_rules.specs.declared.act.Act.TheVariants.{Declare}
 use Rattle.bus_rules.specs.declared.tune.Tune.TheVariants.{Host}
 use Rattle.bus_rules.specs.Cores.{Core}
 use Rattle.bus_rules.specs.States.{StateOn}
-use Rattle.bus_rules.specs.Tables.{Entry}
+use Rattle.bus_rules.specs.Tables.{TableEntry}
 use Rattle.bus_terms.specs.Bus.{state_at}
 use Rattle.bus_terms.specs.HostedRounds.{IsHosted}
 use Rattle.law_service.specs.FirstSlots.{PlansRound, FitsNextRound}
@@ -25,7 +25,7 @@ abbrev pub HasSlowStreams : ScenarioParts → Type 0
 HasSlowStreams s = list_any (λ l. is_fast s.profile.seconds l.act) s.script ≡ false
 
 -- a stream has been granted just the slots that have come due by frame due since it was accepted
-pub record IsOnPace (seconds due : ℕ) (e : Entry) : Type 0 where
+pub record IsOnPace (seconds due : ℕ) (e : TableEntry) : Type 0 where
   pub accepted : e.accepted ≤ due
   pub slow : seconds ≤ e.interval
   pub granted : e.granted ≡ seconds * (due - e.accepted) / e.interval
@@ -34,7 +34,7 @@ pub record IsOnPace (seconds due : ℕ) (e : Entry) : Type 0 where
 abbrev pub StreamsKeepPace : Type 0
 StreamsKeepPace =
     (s : ScenarioParts) → IsScenario s → HasSlowStreams s → (f v rank due : ℕ) (c : Core) → state_at s f v ≡ StateOn c → c.tune ≡ Host rank due
-    → (e : Entry) → Contains c.table.entries e → IsOnPace s.profile.seconds due e
+    → (e : TableEntry) → Contains c.table.entries e → IsOnPace s.profile.seconds due e
 
 -- and all that is owed by the next round of a host fits into it
 abbrev pub OwedAlwaysFits : Type 0
@@ -47,7 +47,7 @@ abbrev pub latency_bound : ℕ → ℕ → ℕ → ℕ
 latency_bound queue interval seconds = (queue * interval + seconds - 1) / seconds + 2
 
 -- a host has this entry in its table at the start of a frame, and its next round in frame due
-pub record HasEntry (s : ScenarioParts) (host frame due : ℕ) (e : Entry) : Type 0 where
+pub record HasEntry (s : ScenarioParts) (host frame due : ℕ) (e : TableEntry) : Type 0 where
   pub core : Core
   pub rank : ℕ
   pub on : state_at s frame host ≡ StateOn core
@@ -55,7 +55,7 @@ pub record HasEntry (s : ScenarioParts) (host frame due : ℕ) (e : Entry) : Typ
   pub there : Contains core.table.entries e
 
 -- the same stream, not accepted anew
-pub record IsSameStream (a b : Entry) : Type 0 where
+pub record IsSameStream (a b : TableEntry) : Type 0 where
   pub code : a.code ≡ b.code
   pub interval : a.interval ≡ b.interval
   pub accepted : a.accepted ≡ b.accepted
@@ -64,6 +64,6 @@ pub record IsSameStream (a b : Entry) : Type 0 where
 -- stream has been granted as many slots more
 abbrev pub SlotsComeWithin : ℕ → ℕ → ℕ → ℕ → Type 0
 SlotsComeWithin queue interval seconds frames =
-    (s : ScenarioParts) → IsScenario s → HasSlowStreams s → s.profile.seconds ≡ seconds → (host m n before to f : ℕ) (a b : Entry)
+    (s : ScenarioParts) → IsScenario s → HasSlowStreams s → s.profile.seconds ≡ seconds → (host m n before to f : ℕ) (a b : TableEntry)
     → HasEntry s host m before a → HasEntry s host n to b → IsSameStream a b → a.interval ≡ interval
     → before < f → f + frames < to + GREATEST_GAP → a.granted + queue ≤ b.granted

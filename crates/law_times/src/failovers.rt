@@ -1,6 +1,7 @@
 //! How long it takes until another host leads the network.
 
 ghost use Rattle.std.specs.Prelude.{◌≡◌, ◌≤◌};
+ghost use Rattle.lwb_base.specs.declared.limits.TheConstants.{MOST_RANKS};
 ghost use Rattle.law_times.specs.Failovers.{BackupsTakeOver, HostsWithin, NodesFollow, failover_bound, takeover_bound};
 
 use lwb_base::{GREATEST_GAP, QUIET_FRAMES, SEARCH_FRAMES};
@@ -8,7 +9,7 @@ use lwb_base::{GREATEST_GAP, QUIET_FRAMES, SEARCH_FRAMES};
 /// The frames within which a host hosts its rank once it is the last host that is on, in a network of this many hosts, 1 to 4:
 /// whatever is lost, and from whatever it goes by then.
 pub fn failover_frames(hosts: u8) -> u32
-    requires { (1 ≤ hosts) × (hosts ≤ 4) }
+    requires { (1 ≤ hosts) × (hosts ≤ MOST_RANKS) }
     ensures value { result ≡ failover_bound hosts }
     ensures enough { HostsWithin hosts result }
 {

@@ -10,7 +10,7 @@ mod first_rounds;
 mod losses;
 mod paces;
 
-pub use contention_turns::{parting_rounds, six_never_part};
+pub use contention_turns::{ids_apart, parting_rounds, six_never_part};
 pub use failovers::{failover_frames, takeover_frames};
 pub use first_rounds::{first_round_frames, members_stay};
 pub use losses::lossy_round_frames;

@@ -1,0 +1,252 @@
+-- A member that asks in contention slots, from frame to frame, as long as nothing is lost and the host's plans pass it over.
+use Rattle.std.proofs.Common.{◌≡◌, ◌≢◌, ◌<◌, ◌≤◌, ◌+◌, ◌==◌, ℕ, suc, List, true, false, inl, inr, Option, Some, None, length, refl}
+use Rattle.std.proofs.Common.{sym, ◌∙◌, ap, subst, arith, is_some}
+use Rattle.std.specs.List.{list_any}
+use Rattle.std.specs.Prelude.{◌⊎◌}
+use Rattle.std.proofs.lemmas.Bool.{cases_Bool}
+use Rattle.lwb_base.specs.Messages.{Plan, node_of}
+use Rattle.scenario_text.specs.ScenarioGrammar.{IsScenario}
+use Rattle.scenario_text.specs.ScenarioParts.{ScenarioParts}
+use Rattle.scenario_text.specs.ScenarioFacts.{IsSoundScenario}
+use Rattle.scenario_text.proofs.SoundScenarios.{sound}
+use Rattle.bus_rules.specs.declared.tune.Tune.TheVariants.{Hold, Host}
+use Rattle.bus_rules.specs.Cores.{Core, is_member}
+use Rattle.bus_rules.specs.HostPlans.{HostPlan}
+use Rattle.bus_rules.specs.Plans.{last_slot, slots_named}
+use Rattle.bus_rules.specs.Slots.{Message, host_closes}
+use Rattle.bus_rules.specs.States.{State, StateOff, StateOn}
+use Rattle.bus_rules.specs.Streams.{names}
+use Rattle.bus_rules.specs.Tuning.{is_scan, rank_of}
+use Rattle.bus_rules.proofs.Ranks.{planned_rank}
+use Rattle.bus_terms.specs.Bus.{state_at}
+use Rattle.bus_terms.specs.Flooding.{has}
+use Rattle.bus_terms.specs.HostedRounds.{IsHosted, slot_in, state_after_round}
+use Rattle.bus_terms.specs.Rounds.{after_round, before_slot, message_said, rank_in, round_plan, rounds}
+use Rattle.scenario_text.specs.Setups.{setup_of}
+use Rattle.bus_terms.proofs.HostedRounds.{Hosting, has_planned, leads}
+use Rattle.bus_terms.proofs.HostsOfRanks.{IsRightfulState, due_rank, rightful}
+use Rattle.law_service.specs.Reach.{IsWithin, LosesNothing, TakesPart}
+use Rattle.law_service.proofs.AcceptedSchedules.{closings, openings}
+use Rattle.law_service.proofs.LosslessSlots.{lose_nothing}
+use Rattle.law_times.specs.Contentions.{IsHeardAlone, IsNamed, PassesOver, changes_wish}
+use Rattle.law_service.specs.Contenders.{own_number}
+use Rattle.law_times.specs.Reaches.{IsGroup, IsLossless, IsReached}
+use Rattle.law_times.specs.ScriptedPower.{has_line}
+use Rattle.law_times.proofs.ContendingFrames.{Asking, HasBoot, boot_in_slots, next_asks, planned_boot}
+use Rattle.law_times.proofs.ContendingRounds.{AsksCore, HasGoneOn, IsFreshAt, after_closing, after_opening, idle_round}
+use Rattle.law_times.proofs.ContendingRounds.{lead_last, own_few, plans, says_at, turn_request}
+use Rattle.law_times.proofs.ContentionTurnsOfTwo.{Backoff, asks, later, spot, turn}
+use Rattle.law_times.proofs.HostedFrames.{plan_gap, rounds_are}
+use Rattle.law_times.proofs.JoinedNodes.{host_next, next as next_round, no_lines, same_round}
+use Rattle.law_times.proofs.KeptMembers.{Members}
+use Rattle.law_times.proofs.PacketFrames.{is_due, is_idle, member_tune}
+use Rattle.law_times.proofs.QuietFrames.{script_same}
+use Rattle.law_times.proofs.ReachedNodes.{reached_in}
+use Rattle.law_times.proofs.SentPackets.{takes}
+use Rattle.law_times.proofs.Settings.{Setting, core_at, core_tune, idle, setting}
+
+module _ (s : ScenarioParts) (accepted : IsScenario s) (rank host f e : ℕ) (among : List ℕ) (slots host_boot : ℕ)
+    (group : IsGroup s host f e among) (lossless : (g : ℕ) → f ≤ g → g ≤ e → IsLossless s g) (contends : slots_named s.profile.contend ≡ slots) where
+  abbrev scenario : IsSoundScenario s
+  scenario = sound s accepted
+
+  abbrev pub M : ℕ → Type 0
+  M x = Members s rank x host among
+
+  -- the contention slots of a plan of theirs
+  pub slots_of : (x : ℕ) (m : M x) → slots_named m.plan.contend ≡ slots
+  slots_of x m =
+      let c = core_at (state_at s x host) (idle (Host rank m.due) m.plan) m.hosts in
+      let is = subst (IsRightfulState (setup_of s host)) c.1 (rightful s x host) in
+      let serves : is_scan c.0.tune ≡ false = ap (λ (k : Setting). is_scan k.tune) c.2 in
+      ap slots_named (ap (λ (k : Setting). k.plan.contend) (sym c.2) ∙ is.contend serves) ∙ contends
+
+  -- one of them
+  module _ (w boot i : ℕ) (there : has among w ≡ true) (guest : w ≢ host) (lines : has_line changes_wish s f e w ≡ false) where
+    core_of : (x : ℕ) (b : Backoff) (m : M x) → Asking boot i rank host_boot b (state_at s x w)
+        → (c : Core) × (state_at s x w ≡ StateOn c) × (c.tune ≡ Hold rank m.due) × AsksCore boot i rank host_boot b c
+    core_of x b m asking = by_state (state_at s x w) refl (m.hold w there guest) asking
+      where
+        by_state : (y : State) → state_at s x w ≡ y → setting y ≡ Some (idle (Hold rank m.due) m.plan) → Asking boot i rank host_boot b y
+            → (c : Core) × (state_at s x w ≡ StateOn c) × (c.tune ≡ Hold rank m.due) × AsksCore boot i rank host_boot b c
+        by_state (StateOff boots) at goes asking = absurd asking
+        by_state (StateOn c) at goes asking = (c, at, core_tune c (Hold rank m.due) m.plan goes, asking)
+
+    -- a frame without a round
+    pub idle_asks : (x : ℕ) (b : Backoff) → f ≤ x → suc x ≤ e → (m : M x) → x < m.due → Asking boot i rank host_boot b (state_at s x w)
+        → Asking boot i rank host_boot b (state_at s (suc x) w)
+    idle_asks x b after within m later asking =
+        next_asks boot i rank host_boot b s f e x w c.0 rank m.due (group.stay w there) lines after within
+        (by_plan (round_plan s r x (state_at s x))) c.2 c.3
+      where
+        c : (c : Core) × (state_at s x w ≡ StateOn c) × (c.tune ≡ Hold rank m.due) × AsksCore boot i rank host_boot b c
+        c = core_of x b m asking
+
+        r : ℕ
+        r = rank_in (state_at s x w)
+
+        of_rank : r ≡ rank
+        of_rank = ap rank_in c.1 ∙ ap rank_of c.2
+
+        idles : is_member r x c.0 ≡ false
+        idles = ap (λ (n : ℕ). is_member n x c.0) of_rank ∙ is_idle rank x m.due (Hold rank m.due) (inr refl) later c.0 c.2
+
+        by_plan : (o : Option Plan) → after_round s r x (state_at s x) o w ≡ StateOn c.0
+        by_plan None = c.1
+        by_plan (Some p) =
+            idle_round s r x p w m.due c.0 c.1 (c.2 ∙ ap (λ (n : ℕ). Hold n m.due) (sym of_rank)) idles (last_slot p + 1) (omega arith)
+
+    -- and one with a round
+    module _ (x : ℕ) (b : Backoff) (m : M x) (now : m.due ≡ x) (after : f ≤ x) (soon : suc x ≤ e)
+        (asking : Asking boot i rank host_boot b (state_at s x w)) (hosted : IsHosted s rank x m.plan host) (of_rank : m.plan.rank ≡ rank)
+        (of_boot : m.plan.boot ≡ host_boot) (unnamed : list_any (names w boot) m.plan.acks ≡ false)
+        (no_slots : list_any (λ c. node_of c == w) m.plan.owners ≡ false) where
+      abbrev p : Plan
+      p = m.plan
+
+      abbrev contend : slots_named p.contend ≡ slots
+      contend = slots_of x m
+
+      pub nothing_lost : (j : ℕ) → LosesNothing s (slot_in s rank x p j)
+      nothing_lost j = lose_nothing s rank x p (state_at s x) j (no_lines s x j (lossless x after (omega (arith, soon))))
+
+      pub part_takes : (j : ℕ) → j ≤ last_slot p → (z : ℕ) → has among z ≡ true → TakesPart (slot_in s rank x p j) z
+      part_takes j early z is =
+          takes s rank x p among group.known
+          (λ y at. (let t = member_tune s rank x host among m y at in (t.0, t.1, is_due rank x m.due t.0 t.2 now))) j z early is
+
+      near : (j : ℕ) → j ≤ last_slot p → (k : ℕ) × IsWithin s (slot_in s rank x p j) host (suc k) w
+      near j early = reached_in s (slot_in s rank x p j) among host w (part_takes j early) there guest (group.reached w there guest)
+
+      core : (c : Core) × (state_at s x w ≡ StateOn c) × (c.tune ≡ Hold rank m.due) × AsksCore boot i rank host_boot b c
+      core = core_of x b m asking
+
+      holds : core.0.tune ≡ Hold rank x
+      holds = core.2 ∙ ap (λ (d : ℕ). Hold rank d) now
+
+      abbrev Fresh : ℕ → Type 0
+      Fresh j = IsFreshAt s rank x p host hosted w boot i host_boot b of_rank of_boot unnamed no_slots slots contend j b
+
+      fresh : Fresh 1
+      fresh =
+          let k = near 0 (omega arith) in
+          after_opening s rank x p host hosted w boot i host_boot b of_rank of_boot unnamed no_slots slots contend core.0 core.1 holds core.3 k.0
+          (openings s accepted rank x p host hosted (nothing_lost 0) k.0 w k.1).accepts
+
+      abbrev pub planned : HostPlan
+      planned = plans s rank x p host hosted w boot i host_boot b of_rank of_boot unnamed no_slots slots contend
+
+      abbrev pub lead : Hosting rank x p (before_slot s rank x p (state_at s x) (last_slot p) host)
+      lead = lead_last s rank x p host hosted w boot i host_boot b of_rank of_boot unnamed no_slots slots contend
+
+      some_gap : 0 < planned.gap
+      some_gap = (plan_gap s.profile host lead.core.boot (rank_of lead.core.tune) x lead.core.kept lead.core.table lead.core.streams).0
+
+      pub planned_of_rank : planned.plan.rank ≡ rank
+      planned_of_rank =
+          planned_rank s.profile host lead.core.boot (rank_of lead.core.tune) x lead.core.kept lead.core.table lead.core.streams
+          ∙ due_rank rank x lead.core.tune lead.due
+
+      pub planned_of_boot : HasBoot host_boot (state_at s x host) → planned.plan.boot ≡ host_boot
+      planned_of_boot has =
+          planned_boot s.profile host lead.core.boot (rank_of lead.core.tune) x lead.core.kept lead.core.table lead.core.streams
+          ∙ subst (HasBoot host_boot) lead.on (boot_in_slots s x host_boot host has rank p (last_slot p))
+
+      -- the plan of the next round
+      host_rank : rank_in (state_at s x host) ≡ rank
+      host_rank =
+          (let c = core_at (state_at s x host) (idle (Host rank m.due) m.plan) m.hosts in ap rank_in c.1 ∙ ap (λ (k : Setting). rank_of k.tune) c.2)
+
+      pub next_plan : (n : M (suc x)) → planned.plan ≡ n.plan
+      next_plan n =
+          let coming = next_round s accepted rank x host hosted.due in
+          let after_it : rounds s x (state_at s x) host ≡ StateOn (host_closes (setup_of s host) x lead.core).core =
+          rounds_are s scenario host rank x p host_rank hosted.plan ∙ has_planned s rank x p host hosted lead in
+          let same = same_round rank n.due coming.due None None n.plan coming.plan (sym n.hosts
+          ∙ script_same s f e (suc x) host (idle (Host rank coming.due) coming.plan) (group.stay host group.led) (omega (arith, after)) soon
+          (host_next s accepted rank x host hosted.due)) in
+          ap plan_or (sym (ap setting after_it) ∙ coming.goes) ∙ sym same.1
+        where
+          plan_or : Option Setting → Plan
+          plan_or None = p
+          plan_or (Some k) = k.plan
+
+      named : (n : M (suc x)) → (list_any (names w boot) n.plan.acks ≡ true) ⊎ (list_any (λ c. node_of c == w) n.plan.owners ≡ true)
+          → IsNamed s rank x p host w boot
+      named n is = record {
+        core = (host_closes (setup_of s host) x lead.core).core;
+        on = has_planned s rank x p host hosted lead;
+        named = elim is [
+          | inl acked ↦ inl (ap (λ (q : Plan). list_any (names w boot) q.acks) (next_plan n) ∙ acked)
+          | inr owns ↦ inr (ap (λ (q : Plan). list_any (λ c. node_of c == w) q.owners) (next_plan n) ∙ owns)
+        ];
+      }
+
+      -- or it passes over it
+      pub named_or_not : (n : M (suc x)) → IsNamed s rank x p host w boot ⊎ PassesOver n.plan w boot
+      named_or_not n = elim (cases_Bool (list_any (names w boot) n.plan.acks)) [
+        | inl acked ↦ inl (named n (inl acked))
+        | inr acks ↦ elim (cases_Bool (list_any (λ c. node_of c == w) n.plan.owners)) [
+          | inl owns ↦ inl (named n (inr owns))
+          | inr owners ↦ inr (record { acks = acks; owners = owners })
+        ]
+      ]
+
+      pub goes_on : (n : M (suc x)) → HasBoot host_boot (state_at s x host) → list_any (names w boot) n.plan.acks ≡ false
+          → list_any (λ c. node_of c == w) n.plan.owners ≡ false → Asking boot i rank host_boot (turn w b) (state_at s (suc x) w)
+      goes_on n has acks owners =
+          let k = near (last_slot p) (omega arith) in
+          let same = next_plan n in
+          let gone : HasGoneOn s rank x p host hosted w boot i host_boot b of_rank of_boot unnamed no_slots slots contend (state_after_round s rank x p w) =
+          after_closing s rank x p host hosted w boot i host_boot b of_rank of_boot unnamed no_slots slots contend
+          fresh k.0
+          (closings s accepted rank x p host hosted (nothing_lost (last_slot p)) k.0 w k.1).accepts some_gap planned_of_rank (planned_of_boot has)
+          (ap (λ (q : Plan). list_any (names w boot) q.acks) same ∙ acks) (ap (λ (q : Plan). list_any (λ c. node_of c == w) q.owners) same ∙ owners) in
+          next_asks boot i rank host_boot (turn w b) s f e x w gone.core gone.tune.0 gone.tune.1 (group.stay w there) lines after soon
+          (rounds_are s scenario w rank x p (ap rank_in core.1 ∙ ap rank_of holds) hosted.plan ∙ gone.on) gone.tune.2 gone.asks
+
+      -- in which contention slot it says something
+      pub says : (k : ℕ) → 1 ≤ k → k ≤ slots → is_some (message_said ((slot_in s rank x p (length p.owners + k)).window w)) ≡ true → spot slots w b ≡ Some k
+      says k some few = says_at s rank x p host hosted w boot i host_boot b of_rank of_boot unnamed no_slots slots contend k some few fresh
+
+      -- the slot of its own
+      abbrev pub mine : ℕ
+      mine = own_number w b.0 slots
+
+      pub mine_few : mine ≤ slots
+      mine_few = own_few s rank x p host hosted w boot i host_boot b of_rank of_boot unnamed no_slots slots contend
+
+      -- in which it requests if it skips no more slots
+      pub says_if : asks b ≡ true → is_some (message_said ((slot_in s rank x p (length p.owners + mine)).window w)) ≡ true
+      says_if asks_now =
+          (let request = turn_request s rank x p host hosted w boot i host_boot b of_rank of_boot unnamed no_slots slots contend fresh asks_now in
+          ap (λ (m : Option Message). is_some m) request.1)
+
+      -- where it alone requests, its request reaches the host
+      pub heard_alone : IsReached s among w host → asks b ≡ true
+          → ((z : ℕ) → is_some (message_said ((slot_in s rank x p (length p.owners + mine)).window z)) ≡ true → z ≡ w) → IsHeardAlone s rank x p host w
+      heard_alone reach asks_now alone =
+          let j : ℕ = length p.owners + mine in
+          let last : j < last_slot p = (let slots_are = contend in let few = mine_few in omega (arith, slots_are, few)) in
+          let request = turn_request s rank x p host hosted w boot i host_boot b of_rank of_boot unnamed no_slots slots contend fresh asks_now in
+          let here = leads s rank x p host hosted j (omega (arith, last)) in
+          let way = reached_in s (slot_in s rank x p j) among w host (part_takes j (omega (arith, last))) group.led (λ same. guest (sym same)) reach in
+          record {
+            slot = j;
+            ask = request.0;
+            core = here.core;
+            reaches = record {
+              hosted = hosted;
+              request = record {
+                after_data = omega arith;
+                before_last = last;
+                member = part_takes j (omega (arith, last)) w there;
+                says = request.1;
+                alone = alone;
+              };
+              lossless = nothing_lost j;
+              step = way.0;
+              within = way.1;
+              on = here.on;
+            };
+          }
