@@ -17,18 +17,18 @@ use Rattle.bus_terms.specs.FloodOfText.{ids}
 use Rattle.bus_terms.specs.OverLines.{IsOverScenario}
 use Rattle.bus_terms.specs.Packets.{bus_puts, put_at}
 use Rattle.bus_terms.specs.Rounds.{rank_in, rounds}
-use Rattle.bus_terms.specs.ScriptedStates.{states_after_end, is_on_and}
+use Rattle.bus_terms.specs.ScriptedStates.{is_on_and, power, states_after_end}
 use Rattle.plain_bus.specs.BusNodes.{BusNode, bus_node, IsEarlyState, ranks_in}
 use Rattle.plain_bus.specs.Networks.{Network, IsReady, no_cost, node_at_first}
 use Rattle.plain_bus.specs.SlotCosts.{IsBelow}
 use Rattle.plain_bus.proofs.MembersOfSlots.{map_of_map, map_same}
 use Rattle.plain_bus.proofs.SlotsMet.{ids_each}
 use Rattle.plain_bus.proofs.SoundOver.{sound_over}
-use Rattle.bus_model.specs.FrameNodes.{HavePower, CountsLinesBefore, deliveries_to, ended_at, frame_deliveries, frame_sent, nodes_with, power}
+use Rattle.bus_model.specs.FrameNodes.{HavePower, CountsLinesBefore, deliveries_to, ended_at, frame_deliveries, frame_sent, nodes_with}
 use Rattle.bus_model.specs.FrameNodes.{prior_ranks, puts_to, sent_to, with_round_rank}
 use Rattle.bus_model.specs.RoundCosts.{cost_after, with_round, with_scan}
 use Rattle.bus_model.proofs.LinesAllowed.{ended_early}
-use Rattle.bus_model.proofs.PowerKept.{ended_power, rounds_power}
+use Rattle.bus_terms.proofs.PowerKept.{ended_power, rounds_power}
 use Rattle.bus_model.proofs.SlotsInTurn.{flat_more, sum_more}
 
 pub next_frame : (s : ScenarioParts) (f : ℕ) → before_frame s (suc f) ≡ states_after_end s f (rounds s f (state_at s f))

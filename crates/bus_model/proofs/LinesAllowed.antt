@@ -15,13 +15,13 @@ use Rattle.scenario_text.proofs.BootsCounted.{never_less}
 use Rattle.bus_rules.proofs.Switches.{acts_keep}
 use Rattle.bus_rules.specs.Cores.{Setup, as_host, begins_host, frame_ended}
 use Rattle.bus_rules.specs.declared.tune.Tune.{Tune}
+use Rattle.bus_terms.specs.ScriptedStates.{power}
 use Rattle.bus_terms.specs.FloodOfText.{ids}
 use Rattle.bus_terms.specs.Flooding.{has}
 use Rattle.bus_terms.specs.OverLines.{IsOverScenario}
 use Rattle.plain_bus.specs.BusNodes.{MayDo, IsEarlyState}
 use Rattle.plain_bus.proofs.SoundOver.{sound_over}
 use Rattle.plain_bus.proofs.TextFloods.{has_known}
-use Rattle.bus_model.specs.FrameNodes.{power}
 
 module _ (s : ScenarioParts) (said : IsOverScenario s) (n : ℕ) (l : ScriptLine) (below : n < length s.script) (at : l ≡ get_or s.script n l) where
   pub line_act : IsAct s.profile l.act

@@ -16,10 +16,10 @@ use Rattle.bus_rules.specs.States.{State}
 use Rattle.bus_terms.specs.Bus.{before_frame, state_at}
 use Rattle.bus_terms.specs.FloodOfText.{ids}
 use Rattle.bus_terms.specs.Packets.{put_at, put_by}
-use Rattle.bus_terms.specs.ScriptedStates.{state_after_line}
+use Rattle.bus_terms.specs.ScriptedStates.{power, state_after_line}
 use Rattle.plain_bus.specs.BusNodes.{BusNode, bus_node}
-use Rattle.bus_model.specs.FrameNodes.{HavePower, CountsLinesBefore, puts_to, nodes_with, power, node_after_line, told_at}
-use Rattle.bus_model.proofs.PowerKept.{act_power}
+use Rattle.bus_model.specs.FrameNodes.{HavePower, CountsLinesBefore, puts_to, nodes_with, node_after_line, told_at}
+use Rattle.bus_terms.proofs.PowerKept.{act_power}
 
 -- a filter that keeps nothing
 pub none_kept : {X : Type 0} (p : X → Bool) (xs : List X) → ((i : ℕ) (d : X) → i < length xs → p (get_or xs i d) ≡ false) → filter p xs ≡ []

@@ -10,7 +10,8 @@ use Rattle.bus_terms.specs.FloodOfText.{ids}
 use Rattle.bus_terms.specs.Flooding.{has}
 use Rattle.bus_terms.specs.OverLines.{IsOverScenario}
 use Rattle.bus_terms.specs.Rounds.{rank_in}
-use Rattle.bus_terms.specs.ScriptedStates.{lines_of, setup_in, state_after_line}
+use Rattle.scenario_text.specs.Setups.{setup_of}
+use Rattle.bus_terms.specs.ScriptedStates.{lines_of, state_after_line}
 use Rattle.bus_terms.proofs.OtherRanks.{IsElsewhere, round_elsewhere}
 use Rattle.plain_bus.specs.BusNodes.{AreOffOutside}
 use Rattle.plain_bus.proofs.SoundOver.{sound_over}
@@ -35,7 +36,7 @@ module _ (s : ScenarioParts) (said : IsOverScenario s) (v : ℕ) (out : has (ids
       let off = after_lines f (off_before f) in
       let rank = rank_in (state_at s f v) in
       ap (λ (g : ℕ → State). g v) (next_frame s f)
-      ∙ ap (at_core (frame_ended (setup_in s v) f))
+      ∙ ap (at_core (frame_ended (setup_of s v) f))
       (round_elsewhere s rank f v (state_at s f) (subst (IsElsewhere rank) (sym off) tt) ∙ off)
 
   pub off_at : (f : ℕ) → state_at s f v ≡ StateOff 0

@@ -1,5 +1,5 @@
 -- The run of a scenario on the bus.
-use Rattle.std.specs.Prelude.{◌≡◌, ℕ, List, map}
+use Rattle.std.specs.Prelude.{◌≡◌, ◌<◌, ℕ, List, Some, length, map, slice_get, slice_index}
 use Rattle.scenario_text.specs.ScenarioParts.{ScenarioParts}
 use Rattle.bus_rules.specs.declared.delivery.Delivery.{Delivery}
 use Rattle.bus_rules.specs.declared.delivery.DropLine.{DropLine}
@@ -26,3 +26,10 @@ pub record IsBusRun (s : ScenarioParts) (b : BusRun) : Type 0 where
   pub lost : b.drops ≡ bus_drops s
   pub put : b.puts ≡ bus_puts s
   pub sent : b.sent ≡ bus_sent s
+
+-- what the run has counted for a node: its cost is at the place of its id
+pub record IsCounted (b : BusRun) (v : ℕ) (cost : Cost) : Type 0 where
+  pub place : ℕ
+  pub below : place < length b.ids
+  pub here : slice_index b.ids place ≡ v
+  pub is : slice_get b.costs place ≡ Some cost

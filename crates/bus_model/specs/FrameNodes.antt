@@ -1,5 +1,5 @@
 -- The nodes in the course of a frame as the code has them.
-use Rattle.std.specs.Prelude.{◌*◌, zero, suc, ◌≡◌, ◌<◌, ◌≤◌, ◌==◌, ◌&&◌, nat_lt, ℕ, List, Bool, true, false, map, fold, filter, take, flat_map}
+use Rattle.std.specs.Prelude.{◌*◌, zero, suc, ◌≡◌, ◌<◌, ◌≤◌, ◌==◌, ◌&&◌, nat_lt, ℕ, List, false, map, fold, filter, take, flat_map}
 use Rattle.std.specs.Prelude.{filter_map, length, slice_index_or, if◌then◌else◌}
 use Rattle.std.specs.List.{range_with_len, enumerate_from}
 use Rattle.scenario_text.specs.ScenarioFacts.{turned}
@@ -7,12 +7,12 @@ use Rattle.scenario_text.specs.ScenarioParts.{ScenarioParts}
 use Rattle.scenario_text.specs.declared.script.ScriptLine.{ScriptLine}
 use Rattle.bus_rules.specs.declared.delivery.Delivery.{Delivery}
 use Rattle.bus_rules.specs.Cores.{frame_ended}
-use Rattle.bus_rules.specs.States.{State, StateOff, StateOn, at_core, state_after_act}
+use Rattle.bus_rules.specs.States.{State, at_core, state_after_act}
 use Rattle.bus_terms.specs.Bus.{before_frame, state_at, ranks_of}
 use Rattle.bus_terms.specs.FloodOfText.{ids}
 use Rattle.bus_terms.specs.Packets.{put_at, round_sent}
 use Rattle.bus_terms.specs.Rounds.{rank_in, rounds, round_deliveries}
-use Rattle.bus_terms.specs.ScriptedStates.{state_after_line}
+use Rattle.bus_terms.specs.ScriptedStates.{power, state_after_line}
 use Rattle.bus_terms.specs.declared.packets.PutLine.{PutLine}
 use Rattle.bus_terms.specs.declared.packets.SentPacket.{SentPacket}
 use Rattle.plain_bus.specs.BusNodes.{BusNode, bus_node, ranks_in}
@@ -57,11 +57,6 @@ pub record CountsLinesBefore (ls : List ScriptLine) (f n : ℕ) : Type 0 where
   pub within : n ≤ length ls
   pub before : (i : ℕ) (d : ScriptLine) → i < n → (slice_index_or ls i d).frame < f
   pub from : (i : ℕ) (d : ScriptLine) → n ≤ i → i < length ls → f ≤ (slice_index_or ls i d).frame
-
--- whether a node is on, and how often it booted
-abbrev pub power : State → Bool × ℕ
-power (StateOff boots) = (false, boots)
-power (StateOn c) = (true, c.boot)
 
 -- that of each node is what the first n lines made of it
 abbrev pub HavePower : ScenarioParts → (ℕ → State) → ℕ → Type 0

@@ -1,7 +1,7 @@
 //! What comes to all nodes alike: the rounds of a frame begin, and a frame ends.
 
 ghost use Rattle.std.specs.Prelude.{◌≡◌, ◌≤◌, ◌<◌, ℕ, All, length, map};
-ghost use Rattle.lwb_base.specs.declared.limits.TheConstants.{LAST_FRAME};
+ghost use Rattle.lwb_base.specs.declared.limits.TheConstants.{LAST_FRAME, MOST_FRAMES};
 ghost use Rattle.bus_rules.specs.States.{State};
 ghost use Rattle.bus_terms.specs.Bus.{Cost as CostOf};
 ghost use Rattle.bus_terms.specs.FloodOfText.{ids};
@@ -33,7 +33,7 @@ pub fn end_all(nodes: &mut [BusNode], frame: u32)
 /// A frame more for those that scan.
 pub fn count_scans(costs: &mut [Cost], nodes: &[BusNode])
     requires nodes { length nodes.now ≡ length costs.old }
-    requires few { All (λ c. c.scanned ≤ 4096) costs.old }
+    requires few { All (λ c. c.scanned ≤ MOST_FRAMES) costs.old }
     ensures { (s : ScenarioParts) (ranks : ℕ → ℕ) (states : ℕ → State) (cost : ℕ → CostOf) → nodes.now ≡ nodes_with s ranks states
         → costs.old ≡ map cost (ids s.nodes)
         → costs.new ≡ map (λ v. with_scan (states v) (cost v)) (ids s.nodes) }
@@ -47,7 +47,7 @@ pub fn count_scans(costs: &mut [Cost], nodes: &[BusNode])
 }
 
 fn count_scan(cost: &mut Cost, node: &BusNode)
-    requires { cost.old.scanned ≤ 4096 }
+    requires { cost.old.scanned ≤ MOST_FRAMES }
     ensures { cost.new ≡ with_scan node.now.state cost.old }
 {
     if node.scans() {

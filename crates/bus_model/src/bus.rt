@@ -1,12 +1,13 @@
 //! The run of a whole scenario on the ideal single-hop bus.
 
-ghost use Rattle.std.specs.Prelude.{◌≡◌, IfOk, Some, None, if◌then◌else◌};
+ghost use Rattle.std.specs.Prelude.{◌≡◌, IfOk, IfSome, IfNone, Some, None, false, if◌then◌else◌};
 ghost use Rattle.bus_terms.specs.Bus.{bus_cost};
+ghost use Rattle.bus_terms.specs.Flooding.{has};
 ghost use Rattle.bus_terms.specs.OverLines.{over};
 ghost use Rattle.plain_bus.specs.FloodMasks.{traced};
 ghost use Rattle.scenario_text.specs.FloodParts.{knows, IsSealed};
 ghost use Rattle.scenario_text.specs.ScenarioParts.{ScenarioParts};
-ghost use Rattle.bus_model.specs.BusRuns.{IsBusRun};
+ghost use Rattle.bus_model.specs.BusRuns.{IsBusRun, IsCounted};
 
 use crate::RunningBus;
 use crate::drops::drops_of;
@@ -75,9 +76,11 @@ impl Bus {
         })
     }
 
-    /// What a node costs; returns `None` if and only if it is not in the scenario.
+    /// What a node costs, as the run has counted it; returns `None` if and only if it is none of the nodes.
     pub fn cost(&self, node: NodeId) -> Option<Cost>
-        ensures { (s : ScenarioParts) → IsBusRun s self.now → result ≡ (if knows s.nodes node then Some (bus_cost s node) else None) }
+        ensures bus { (s : ScenarioParts) → IsBusRun s self.now → result ≡ (if knows s.nodes node then Some (bus_cost s node) else None) }
+        ensures some { IfSome result (IsCounted self.now node) }
+        ensures none { IfNone result (has self.now.ids node ≡ false) }
     {
         let net = &self.net;
         match place_of(&net.ids, node) {

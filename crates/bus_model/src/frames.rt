@@ -1,7 +1,7 @@
 //! A frame of a scenario at all nodes.
 
 ghost use Rattle.std.specs.Prelude.{◌≡◌, ◌≤◌, ◌<◌, ◌+◌, ℕ, All, IfOk, OnOk, [], length, map};
-ghost use Rattle.lwb_base.specs.declared.limits.TheConstants.{LAST_FRAME};
+ghost use Rattle.lwb_base.specs.declared.limits.TheConstants.{LAST_FRAME, MOST_FRAMES};
 ghost use Rattle.bus_rules.specs.States.{State};
 ghost use Rattle.bus_terms.specs.Bus.{Cost as CostOf, before_frame, state_at};
 ghost use Rattle.bus_terms.specs.FloodOfText.{ids};
@@ -32,7 +32,7 @@ pub fn run_frame<M: Links>(
     puts: &mut Vec<PutLine>,
 ) -> Result<usize, Memory>
     requires frame { frame < s.now.frames }
-    requires few { s.now.frames ≤ 4096 }
+    requires few { s.now.frames ≤ MOST_FRAMES }
     requires at { IsAtFrame s.now frame net.old }
     requires cut { CountsLinesBefore s.now.script frame told }
     requires power { HavePower s.now (before_frame s.now frame) told }
@@ -53,7 +53,7 @@ pub fn run_frame<M: Links>(
 // The rounds of a frame begin. No flood of the frame before is left.
 fn begin_rounds(net: &mut Network)
     requires each { length net.old.nodes ≡ length net.old.costs }
-    requires few { All (λ c. c.scanned ≤ 4096) net.old.costs }
+    requires few { All (λ c. c.scanned ≤ MOST_FRAMES) net.old.costs }
     ensures nodes { net.new.nodes ≡ map with_round_rank net.old.nodes }
     ensures costs { (s : ScenarioParts) (ranks : ℕ → ℕ) (states : ℕ → State) (cost : ℕ → CostOf) → net.old.nodes ≡ nodes_with s ranks states
         → net.old.costs ≡ map cost (ids s.nodes)

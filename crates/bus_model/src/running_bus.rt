@@ -1,6 +1,7 @@
 //! The bus of a scenario as it goes on frame by frame.
 
 ghost use Rattle.std.specs.Prelude.{◌≤◌, ◌<◌, ◌+◌, IfOk, OnOk};
+ghost use Rattle.lwb_base.specs.declared.limits.TheConstants.{MOST_FRAMES};
 ghost use Rattle.link_trace.specs.Passes.{Lines};
 ghost use Rattle.bus_terms.specs.Bus.{state_at};
 ghost use Rattle.bus_terms.specs.OverLines.{over};
@@ -47,7 +48,7 @@ impl RunningBus {
         frame: u32,
     ) -> Result<(), Memory>
         requires frame { frame < s.now.frames }
-        requires few { s.now.frames ≤ 4096 }
+        requires few { s.now.frames ≤ MOST_FRAMES }
         requires before { IsBeforeFrame s.now frame self.old }
         ensures after { OnOk result (IsBeforeFrame s.now (frame + 1) self.new) }
         ensures floods { OnOk result (HasRun s.now frame (frame_floods s.now frame (state_at s.now frame)) self.new.net.floods) }

@@ -1,5 +1,7 @@
 //! Streams with deadlines.
 
+ghost use Rattle.std.specs.Prelude.{◌≡◌};
+
 use lwb_base::{NodeId, Owner};
 
 /// A stream with deadlines, in frames. It has a job for each m from 0: its release is `start + m * period`, and its end
@@ -16,9 +18,12 @@ pub struct DeadlineStream {
     pub deadline: u8,
 }
 
-/// What a place of a list contains that holds no stream yet.
+/// What a place of a list contains that holds no stream yet: stream 0 of node 1, whose owner's code is 4, with a job in each
+/// frame.
 impl Default for DeadlineStream {
-    fn default() -> DeadlineStream {
+    fn default() -> DeadlineStream
+        ensures { result ≡ record { owner = 4; start = 0; period = 1; deadline = 1 } }
+    {
         DeadlineStream {
             owner: Owner::new(NodeId::new(1).unwrap(), 0),
             start: 0,

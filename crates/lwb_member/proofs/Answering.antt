@@ -1,16 +1,15 @@
 -- Requests that are put to a table, one after another, and acknowledgements in their places by code.
-use Rattle.std.proofs.Common.{◌≡◌, ℕ, zero, suc, ◌+◌, ◌-◌, ◌<◌, ◌≤◌, List, [], ◌∷◌, ◌++◌, Bool, true, not, ◌==◌, nat_lt}
-use Rattle.std.proofs.Common.{nat_le, if◌then◌else◌, length, get_or, take, fold, refl, sym, ◌∙◌, ap, subst, arith}
-use Rattle.std.specs.List.{All, list_all, slice_get}
-use Rattle.std.proofs.lemmas.List.{take_more, length-take}
+use Rattle.std.proofs.Common.{◌≡◌, ℕ, zero, suc, ◌+◌, ◌-◌, ◌<◌, ◌≤◌, List, [], ◌∷◌, Bool, true, not, ◌==◌, nat_lt}
+use Rattle.std.proofs.Common.{if◌then◌else◌, get_or, take, fold, refl, sym, ◌∙◌, ap, arith}
+use Rattle.std.specs.List.{All, list_all}
 use Rattle.std.proofs.lemmas.List.Sums.{fold_more}
-use Rattle.std.proofs.lemmas.Bool.{eqb-true, eqb-false, lt-ltb, ltb-false, leb-true, and_parts, cond_both}
+use Rattle.std.proofs.lemmas.Bool.{eqb-true, eqb-false, lt-ltb, ltb-false, and_parts, cond_both}
 use Rattle.std.proofs.lemmas.List.Elements.{All-cons, All-head, All-tail, All-filter}
 use Rattle.lwb_base.specs.Messages.{Ask, code, code_of, node_of, stream_of}
-use Rattle.schedule_codec.specs.AckLists.{are_acks, strictly_ascend, ask_in_range, may_follow, takes_ack}
+use Rattle.schedule_codec.specs.AckLists.{strictly_ascend, ask_in_range}
 use Rattle.bus_rules.specs.Streams.{Streams}
-use Rattle.bus_rules.specs.Tables.{Entry, Table, new_entry, with_entry, without, is_full, has_code, after_request}
-use Rattle.bus_rules.specs.HostPlans.{Answered, Served, with_ack, answer, answers_to, serve}
+use Rattle.bus_rules.specs.Tables.{TableEntry, Table, new_entry, with_entry, without, is_full, has_code, after_request}
+use Rattle.bus_rules.specs.HostPlans.{Answered, Served, with_ack, serve}
 use Rattle.lwb_member.specs.Planning.{AreAnswers, IsEarly}
 
 -- the order by codes stays
@@ -65,10 +64,10 @@ with_ranges a (x ∷ xs) this all =
     (λ more. rw parts.0 (with_ranges a xs this parts.1)))
 
 -- nothing that a request leaves was accepted later
-abbrev pub Early : ℕ → Entry → Type 0
+abbrev pub Early : ℕ → TableEntry → Type 0
 Early frame e = e.accepted ≤ frame
 
-with_early : (frame : ℕ) (e : Entry) (es : List Entry) → Early frame e → All (Early frame) es → All (Early frame) (with_entry e es)
+with_early : (frame : ℕ) (e : TableEntry) (es : List TableEntry) → Early frame e → All (Early frame) es → All (Early frame) (with_entry e es)
 with_early frame e [] this all = All-cons (Early frame) e [] this all
 with_early frame e (x ∷ es) this all =
     let first = All-head (Early frame) x es all in
@@ -83,57 +82,12 @@ request_early frame t a all =
     cond_both (is_full a t) t.entries (if a.interval == 0 then without (code_of a) t.entries else with_entry (new_entry a frame) t.entries) (All (Early frame))
     (λ full. all)
     (λ room. cond_both (a.interval == 0) (without (code_of a) t.entries) (with_entry (new_entry a frame) t.entries) (All (Early frame))
-    (λ ends. All-filter (λ (e : Entry). not (has_code (code_of a) e)) (Early frame) t.entries all)
+    (λ ends. All-filter (λ (e : TableEntry). not (has_code (code_of a) e)) (Early frame) t.entries all)
     (λ asks. with_early frame (new_entry a frame) t.entries (omega arith) all))
-
--- each may follow those before it
-follows_at : (xs : List Ask) (i n : ℕ) (a : Ask) → strictly_ascend xs ≡ true → suc n ≡ i → i < length xs → a ≡ get_or xs i a
-    → may_follow (slice_get (take i xs) n) a ≡ true
-follows_at [] i n a up next within is = absurd (omega arith)
-follows_at (x ∷ xs) zero n a up next within is = absurd (omega arith)
-follows_at (x ∷ []) (suc i) n a up next within is = absurd (omega arith)
-follows_at (x ∷ y ∷ ys) (suc zero) zero a up next within is =
-    let parts = and_parts (nat_lt (code_of x) (code_of y)) (strictly_ascend (y ∷ ys)) up in
-    subst (λ (z : Ask). nat_lt (code_of x) (code_of z) ≡ true) (sym is) parts.0
-follows_at (x ∷ y ∷ ys) (suc zero) (suc n) a up next within is = absurd (omega arith)
-follows_at (x ∷ y ∷ ys) (suc (suc i)) zero a up next within is = absurd (omega arith)
-follows_at (x ∷ y ∷ ys) (suc (suc i)) (suc n) a up next within is =
-    let parts = and_parts (nat_lt (code_of x) (code_of y)) (strictly_ascend (y ∷ ys)) up in
-    follows_at (y ∷ ys) (suc i) n a parts.1 (omega arith) (omega arith) is
-
-follows_next : (xs : List Ask) (i : ℕ) (a : Ask) → strictly_ascend xs ≡ true → i < length xs → a ≡ get_or xs i a
-    → may_follow (slice_get (take i xs) (length (take i xs) - 1)) a ≡ true
-follows_next xs zero a up within is = refl
-follows_next xs (suc i) a up within is =
-    let long = length-take (suc i) xs in
-    subst (λ (n : ℕ). may_follow (slice_get (take (suc i) xs) n) a ≡ true) (omega arith) (follows_at xs (suc i) i a up refl within is)
-
-pub takes_next : (xs : List Ask) (i : ℕ) (a : Ask) → are_acks xs ≡ true → i < length xs → a ≡ get_or xs i a → takes_ack (take i xs) a ≡ true
-takes_next xs i a are within is =
-    let parts = and_parts (nat_le (length xs) 4) (strictly_ascend xs) are in
-    let few = leb-true (length xs) 4 parts.0 in
-    let long = length-take i xs in
-    rw (lt-ltb (length (take i xs)) 4 (omega arith)) (follows_next xs i a parts.1 within is)
-
-pub added_next : (xs acks new : List Ask) (i : ℕ) (a : Ask) (b : Bool) → are_acks xs ≡ true → i < length xs → a ≡ get_or xs i a → acks ≡ take i xs
-    → b ≡ takes_ack acks a → new ≡ (if b then acks ++ a ∷ [] else acks)
-    → new ≡ take (i + 1) xs
-added_next xs acks new i a b are within is before answer now =
-    let takes : b ≡ true = answer ∙ ap (λ (l : List Ask). takes_ack l a) before ∙ takes_next xs i a are within is in
-    now ∙ ap (λ (t : Bool). if t then acks ++ a ∷ [] else acks) takes ∙ ap (λ (l : List Ask). l ++ a ∷ []) before ∙ ap (λ (x : Ask). take i xs ++ x ∷ []) is
-    ∙ sym (take_more xs i a within)
 
 -- one after another
 abbrev pub collected : Table → List Ask → Answered
 collected t acks = record { table = t; acks = acks }
-
-pub answered_more : (frame : ℕ) (kept : List Ask) (i : ℕ) (a : Ask) (start t t' : Table) (acks acks' : List Ask) → i < length kept → a ≡ get_or kept i a
-    → collected t acks ≡ answers_to frame (take i kept) start → t' ≡ after_request frame t a → acks' ≡ (answer frame (collected t acks) a).acks
-    → collected t' acks' ≡ answers_to frame (take (i + 1) kept) start
-answered_more frame kept i a start t t' acks acks' within is before table acked =
-    let now : collected t' acks' ≡ answer frame (collected t acks) a = cc (table, acked) in
-    now ∙ ap (λ (x : Answered). answer frame x a) before ∙ ap (λ (x : Ask). answer frame (answers_to frame (take i kept) start) x) is
-    ∙ sym (fold_more (answer frame) (collected start []) kept i a within)
 
 abbrev pub four : List ℕ
 four = 0 ∷ 1 ∷ 2 ∷ 3 ∷ []

@@ -7,7 +7,7 @@ use Rattle.std.proofs.lemmas.List.Elements.{All-map}
 use Rattle.lwb_base.specs.Profile.{Numbers, IsProfile}
 use Rattle.lwb_base.specs.Messages.{Ask, Plan}
 use Rattle.bus_rules.specs.Streams.{Streams}
-use Rattle.bus_rules.specs.Tables.{Entry, Table}
+use Rattle.bus_rules.specs.Tables.{TableEntry, Table}
 use Rattle.bus_rules.specs.Granting.{gap_of, total, owed_to, grant, grants_for, granted_by, share_in, given, last_code, plan_round, Grants}
 use Rattle.bus_rules.specs.HostPlans.{HostPlan, Served, answers_to, served, host_plan}
 use Rattle.lwb_packets.specs.Ranges.{between}
@@ -80,10 +80,10 @@ one_of false true two = (omega arith, omega arith)
 one_of false false true = (omega arith, omega arith)
 one_of false false false = (omega arith, omega arith)
 
-abbrev fits_in : ℕ → ℕ → List Entry → Bool
+abbrev fits_in : ℕ → ℕ → List TableEntry → Bool
 fits_in seconds frame es = nat_le (total seconds frame es) 40
 
-gap_bounds : (seconds frame : ℕ) (es : List Entry) → (1 ≤ gap_of seconds frame es) × (gap_of seconds frame es ≤ 4)
+gap_bounds : (seconds frame : ℕ) (es : List TableEntry) → (1 ≤ gap_of seconds frame es) × (gap_of seconds frame es ≤ 4)
 gap_bounds seconds frame es = one_of (fits_in seconds (frame + 4) es) (fits_in seconds (frame + 3) es) (fits_in seconds (frame + 2) es)
 
 pub gap_in_range : (seconds frame : ℕ) (t : Table) → (1 ≤ (plan_round seconds frame t).gap) × ((plan_round seconds frame t).gap ≤ 4)
@@ -92,10 +92,10 @@ gap_in_range seconds frame t =
     let gap = gap_of seconds frame t.entries in
     subst (λ (g : ℕ). (1 ≤ g) × (g ≤ 4)) (sym (gap_stays (owed_to seconds (frame + gap)) gap t)) (gap_bounds seconds frame t.entries)
 
-shares_early : (frame : ℕ) (share : Entry → ℕ) (es : List Entry) → All (Early frame) es → All (Early frame) (map (grant share) es)
+shares_early : (frame : ℕ) (share : TableEntry → ℕ) (es : List TableEntry) → All (Early frame) es → All (Early frame) (map (grant share) es)
 shares_early frame share es all = All-map (Early frame) (grant share) es all
 
-grants_early : (frame : ℕ) (owes : Entry → ℕ) (gap : ℕ) (t : Table) → IsEarly frame t → IsEarly frame (grants_for owes gap t).table
+grants_early : (frame : ℕ) (owes : TableEntry → ℕ) (gap : ℕ) (t : Table) → IsEarly frame t → IsEarly frame (grants_for owes gap t).table
 grants_early frame owes gap t all =
     cond_both (nat_le (sum_by owes t.entries) 40) (granted_by owes gap t.place t.entries)
     (granted_by (share_in (given owes t)) gap (last_code (given owes t) + 1) t.entries) (λ (g : Grants). IsEarly frame g.table)

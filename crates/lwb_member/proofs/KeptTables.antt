@@ -7,25 +7,25 @@ use Rattle.std.specs.List.{cons_option}
 use Rattle.std.specs.Option.{IfSome}
 use Rattle.bus_rules.specs.declared.part.Part.{Part}
 use Rattle.bus_rules.specs.declared.part.Part.TheVariants.{Opening, Data as DataSlot, Contention, Closing}
-use Rattle.bus_rules.specs.Tables.{Entry, Table, has_code, entry_after_data, missed}
+use Rattle.bus_rules.specs.Tables.{TableEntry, Table, has_code, entry_after_data, missed}
 use Rattle.bus_rules.specs.Cores.{Core}
 use Rattle.bus_rules.specs.Slots.{hosts_now, owner_heard, slot_heard}
 use Rattle.lwb_member.specs.Planning.{IsEarly}
 use Rattle.lwb_member.proofs.Answering.{Early}
 
-put : (frame : ℕ) (o : Option Entry) (es : List Entry) → IfSome o (Early frame) → All (Early frame) es → All (Early frame) (cons_option o es)
+put : (frame : ℕ) (o : Option TableEntry) (es : List TableEntry) → IfSome o (Early frame) → All (Early frame) es → All (Early frame) (cons_option o es)
 put frame None es this all = all
 put frame (Some e) es this all = All-cons (Early frame) e es this all
 
-missed_early : (frame c : ℕ) (e : Entry) → Early frame e → IfSome (missed c e) (Early frame)
+missed_early : (frame c : ℕ) (e : TableEntry) → Early frame e → IfSome (missed c e) (Early frame)
 missed_early frame c e early =
     cond_both (has_code c e) (if nat_lt (e.unheard + 1) 16 then Some (record e { unheard = e.unheard + 1 }) else None) (Some e)
-    (λ (o : Option Entry). IfSome o (Early frame))
-    (λ is. cond_both (nat_lt (e.unheard + 1) 16) (Some (record e { unheard = e.unheard + 1 })) None (λ (o : Option Entry). IfSome o (Early frame))
+    (λ (o : Option TableEntry). IfSome o (Early frame))
+    (λ is. cond_both (nat_lt (e.unheard + 1) 16) (Some (record e { unheard = e.unheard + 1 })) None (λ (o : Option TableEntry). IfSome o (Early frame))
     (λ less. early) (λ goes. tt))
     (λ other. early)
 
-each_missed : (frame c : ℕ) (es : List Entry) → All (Early frame) es → All (Early frame) (filter_map (missed c) es)
+each_missed : (frame c : ℕ) (es : List TableEntry) → All (Early frame) es → All (Early frame) (filter_map (missed c) es)
 each_missed frame c [] all = all
 each_missed frame c (e ∷ es) all =
     put frame (missed c e) (filter_map (missed c) es) (missed_early frame c e (All-head (Early frame) e es all))

@@ -3,7 +3,7 @@ use Rattle.std.specs.Prelude.{◌≡◌, ℕ, ◌≤◌, true, List, length, All
 use Rattle.std.specs.List.{list_all}
 use Rattle.lwb_base.specs.Messages.{Ask}
 use Rattle.schedule_codec.specs.AckLists.{strictly_ascend, ask_in_range}
-use Rattle.bus_rules.specs.Tables.{Entry, Table}
+use Rattle.bus_rules.specs.Tables.{TableEntry, Table}
 
 -- acknowledgements while they are collected: by ascending code, each in its ranges
 pub record AreAnswers (acks : List Ask) : Type 0 where
@@ -17,4 +17,4 @@ pub record AreKeptRequests (kept : List Ask) : Type 0 where
 
 -- no stream of the table was accepted after this frame
 abbrev pub IsEarly : ℕ → Table → Type 0
-IsEarly frame t = All (λ (e : Entry). e.accepted ≤ frame) t.entries
+IsEarly frame t = All (λ (e : TableEntry). e.accepted ≤ frame) t.entries

@@ -2,7 +2,7 @@
 use Rattle.std.specs.Prelude.{◌≡◌, ℕ, true, ◌+◌, ◌*◌, ◌≤◌, List, length, if◌then◌else◌, slice_index, drop, Some, option_map}
 use Rattle.std.specs.declared.option.Option.{Option}
 use Rattle.lwb_base.specs.declared.limits.TheConstants.{GREATEST_ID}
-use Rattle.lwb_base.specs.Messages.{Ask}
+use Rattle.lwb_base.specs.Messages.{Ask, Plan}
 use Rattle.lwb_packets.specs.DataPackets.{is_data, data_spelling, InRange as IsData}
 use Rattle.lwb_packets.specs.Requests.{is_request, request_spelling, InRange as IsRequest}
 use Rattle.lwb_packets.specs.declared.data_packet.DataPacket.{DataPacket}
@@ -14,6 +14,9 @@ use Rattle.schedule_codec.specs.Spelling.{schedule_spelling, schedule_in_range}
 use Rattle.schedule_codec.specs.Reading.{schedule_of}
 use Rattle.lwb_member.specs.declared.message.Heard.{Heard}
 use Rattle.lwb_member.specs.declared.message.Heard.TheVariants.{Schedule, Data, Request}
+use Rattle.bus_rules.specs.declared.part.Part.{Part}
+use Rattle.bus_rules.specs.declared.part.Part.TheVariants.{Opening, Data as DataSlot, Contention, Closing}
+use Rattle.bus_rules.specs.Plans.{last_slot}
 use Rattle.bus_rules.specs.Slots.{Data as DataSaid, Message, ScheduleOf, DataOf, RequestOf}
 
 -- what a packet says that was read
@@ -43,6 +46,13 @@ MaySay j (RequestOf a) = IsRequest (request_packet a j) × (1 ≤ a.node) × (a.
 
 abbrev pub bytes_in_slot : ℕ → Message → List ℕ
 bytes_in_slot j m = bytes_of m j
+
+-- the slot that a packet names where its place is not given: the first that such a part may have, or the round's last
+abbrev pub slot_said : Plan → Part → ℕ
+slot_said p Opening = 0
+slot_said p (DataSlot owner) = 1
+slot_said p (Contention i) = 1
+slot_said p Closing = last_slot p
 
 abbrev pub data_in : List ℕ → DataSaid
 data_in p = record {

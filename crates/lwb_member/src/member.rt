@@ -1,7 +1,7 @@
 //! A node as a member of its rounds.
 
 ghost use Rattle.std.specs.Prelude.{◌≡◌, ◌+◌, ◌≤◌, ◌<◌, Some, None, IfOk, IfSome, length, is_some, nat_lt, [], if◌then◌else◌};
-ghost use Rattle.lwb_base.specs.declared.limits.TheConstants.{DATA_SLOTS, LAST_FRAME};
+ghost use Rattle.lwb_base.specs.declared.limits.TheConstants.{DATA_SLOTS, LAST_FRAME, MOST_RANKS};
 ghost use Rattle.bus_rules.specs.Plans.{last_slot as last_slot_of, slots_named};
 ghost use Rattle.bus_rules.specs.Tuning.{rank_of};
 ghost use Rattle.bus_rules.specs.Cores.{booted, frame_ended, is_fresh, begins_host as begins};
@@ -80,7 +80,7 @@ impl Member {
         ranks: u8,
         sends: u8,
     ) -> Result<Member, Memory>
-        requires ranks { (1 ≤ ranks) × (ranks ≤ 4) }
+        requires ranks { (1 ≤ ranks) × (ranks ≤ MOST_RANKS) }
         requires own { IfSome own (λ r. r < ranks) }
         requires sends { (1 ≤ sends) × (sends ≤ 4) }
         ensures { IfOk result
@@ -175,7 +175,7 @@ impl Member {
     pub fn put(&mut self, stream: u8, payload: &Payload) -> Put
         requires { stream ≤ 3 }
         ensures answer { result ≡ (if rule.drops self.old.core.streams stream then Dropped else Queued (rule.stream_at self.old.core.streams stream).next) }
-        ensures after { self.new ≡ record self.old { core = record self.old.core { streams = rule.put stream payload.now self.old.core.streams } } }
+        ensures after { self.new ≡ record self.old { core = record self.old.core { streams = rule.after_put stream payload.now self.old.core.streams } } }
     {
         self.streams.put(stream, payload)
     }

@@ -4,9 +4,9 @@ ghost use Rattle.std.specs.Prelude.{◌≡◌, ◌+◌, ◌≤◌, false, IfSome
 ghost use Rattle.std.specs.Option.{option_map, option_and_then};
 ghost use Rattle.lwb_base.specs.declared.limits.TheConstants.{DATA_SLOTS, LAST_FRAME};
 ghost use Rattle.lwb_packets.specs.declared.kind.Kind.TheVariants.{Schedule as OfSchedule, Payload as OfData, Request as OfRequest};
-ghost use Rattle.bus_rules.specs.Slots.{opened_slot, data_opened, contention_opened, silent};
+ghost use Rattle.bus_rules.specs.Slots.{opened_slot, data_opened, contention_opened, is_turn, silent};
 ghost use Rattle.bus_rules.specs.declared.part.Part.TheVariants.{Opening, Closing};
-ghost use Rattle.lwb_member.specs.Said.{bytes_in_slot, message_of, IsInitialPacket};
+ghost use Rattle.lwb_member.specs.Said.{bytes_in_slot, slot_said, message_of, IsInitialPacket};
 ghost use Rattle.lwb_member.specs.Planning.{IsEarly};
 ghost use Rattle.lwb_member.specs.Places.{IsPartOfSlot, kind_for};
 
@@ -20,7 +20,8 @@ impl Member {
     /// Whether a slot of this part, in this frame, is the member's turn: the slot of its own round as a host, of one of its
     /// streams, or its own contention slot. Where it is not, the member says nothing in the slot, and nothing changes.
     pub fn has_turn(&self, part: &Part, frame: u32) -> bool
-        ensures { result ≡ false → opened_slot self.now.setup frame part.now self.now.core ≡ silent self.now.core }
+        ensures turn { result ≡ is_turn self.now.setup frame part.now self.now.core }
+        ensures silent { result ≡ false → opened_slot self.now.setup frame part.now self.now.core ≡ silent self.now.core }
     {
         match part {
             Part::Opening | Part::Closing => self.hosts_now(frame),
@@ -48,10 +49,13 @@ impl Member {
         }
     }
 
-    /// The slot of this part opens, as for `speak`, in whatever place. The packet that it says reads as what it says.
+    /// The slot of this part opens, as for `speak`, in whatever place. The packet that it says reads as what it says, and names the
+    /// first slot that such a part may have, or the last one of the round.
     pub fn say(&mut self, part: &Part, frame: u32) -> Option<Packet>
         requires frame { frame ≤ LAST_FRAME }
         requires early { IsEarly frame self.old.core.table }
+        ensures packet { result ≡ option_map (bytes_in_slot (slot_said self.old.core.plan part.now))
+            (opened_slot self.old.setup frame part.now self.old.core).message }
         ensures told { option_and_then message_of result ≡ (opened_slot self.old.setup frame part.now self.old.core).message }
         ensures core { self.new ≡ record self.old { core = (opened_slot self.old.setup frame part.now self.old.core).core } }
         ensures early { IsEarly frame self.new.core.table }
@@ -148,6 +152,7 @@ impl Member {
 
     // A request as the others read it.
     fn ask(&mut self, own: u8) -> Option<Packet>
+        ensures packet { result ≡ option_map (bytes_in_slot 1) (contention_opened self.old.setup.id own self.old.core).message }
         ensures told { option_and_then message_of result ≡ (contention_opened self.old.setup.id own self.old.core).message }
         ensures core { self.new ≡ record self.old { core = (contention_opened self.old.setup.id own self.old.core).core } }
     {

@@ -16,7 +16,7 @@ use Rattle.bus_rules.specs.States.{State, StateOff, StateOn}
 use Rattle.bus_terms.specs.Flooding.{has}
 use Rattle.bus_terms.specs.FloodOfText.{ids}
 use Rattle.bus_terms.specs.Rounds.{opened_at, message_said, takes_part, closed_slot_of, flood_in_slot}
-use Rattle.bus_terms.specs.ScriptedStates.{setup_in}
+use Rattle.scenario_text.specs.Setups.{setup_of}
 use Rattle.plain_bus.specs.BusNodes.{window_of_state, state_opened, closed_of}
 use Rattle.plain_bus.specs.SlotFloods.{AreWindows, Seen, seen_window, seen_by}
 use Rattle.plain_bus.specs.declared.window.Window.{Window}
@@ -25,23 +25,23 @@ use Rattle.plain_bus.specs.declared.station.Flood.{Flood}
 use Rattle.plain_bus.proofs.TextFloods.{has_element}
 
 -- a node's window is that of its state
-pub window_at : (s : ScenarioParts) (rank f : ℕ) (part : Part) (v : ℕ) (x : State) → window_of_state (setup_in s v) rank f part x ≡ opened_at s rank f part v x
+pub window_at : (s : ScenarioParts) (rank f : ℕ) (part : Part) (v : ℕ) (x : State) → window_of_state (setup_of s v) rank f part x ≡ opened_at s rank f part v x
 window_at s rank f part v (StateOff boots) = refl
 window_at s rank f part v (StateOn c) = refl
 
 -- and so is its closing, from the state that its opening left
 pub closing_at : (s : ScenarioParts) (rank f : ℕ) (part : Part) (v : ℕ) (x : State) (heard : Option Message)
-    → closed_of (setup_in s v) f part (is_some (opened_at s rank f part v x)) (is_some (message_said (opened_at s rank f part v x))) heard
-    (state_opened (setup_in s v) rank f part x)
+    → closed_of (setup_of s v) f part (is_some (opened_at s rank f part v x)) (is_some (message_said (opened_at s rank f part v x))) heard
+    (state_opened (setup_of s v) rank f part x)
     ≡ closed_slot_of s f part v (opened_at s rank f part v x) heard x
 closing_at s rank f part v (StateOff boots) None = refl
 closing_at s rank f part v (StateOff boots) (Some m) = refl
 closing_at s rank f part v (StateOn c) heard = by_member (is_member rank f c) heard
   where
     by_member : (b : Bool) (heard : Option Message)
-        → (let window : Option Opened = if b then Some (opened_slot (setup_in s v) f part c) else None in
-        closed_of (setup_in s v) f part (is_some window) (is_some (message_said window)) heard
-        (StateOn (if b then (opened_slot (setup_in s v) f part c).core else c))
+        → (let window : Option Opened = if b then Some (opened_slot (setup_of s v) f part c) else None in
+        closed_of (setup_of s v) f part (is_some window) (is_some (message_said window)) heard
+        (StateOn (if b then (opened_slot (setup_of s v) f part c).core else c))
         ≡ closed_slot_of s f part v window heard (StateOn c))
     by_member true heard = refl
     by_member false None = refl

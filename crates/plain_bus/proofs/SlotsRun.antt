@@ -14,7 +14,7 @@ use Rattle.bus_terms.specs.FloodOfText.{ids}
 use Rattle.bus_terms.specs.Flooding.{moment, has, STEPS}
 use Rattle.bus_terms.specs.Rounds.{Slot, opened_at, message_said, takes_part, closed_slot_of, closed_at, left_by, accepted_at, before_slot, after_slot}
 use Rattle.bus_terms.specs.Rounds.{slot_at, rank_in, delivery_in_slot}
-use Rattle.bus_terms.specs.ScriptedStates.{setup_in}
+use Rattle.scenario_text.specs.Setups.{setup_of}
 use Rattle.bus_terms.proofs.OtherRanks.{IsElsewhere, no_window, slots_elsewhere}
 use Rattle.bus_terms.proofs.ReceivedByPaths.{of_filtered}
 use Rattle.bus_terms.proofs.ReceivedInRounds.{accepted_none}
@@ -153,26 +153,26 @@ module _ (s : ScenarioParts) (rank f : ℕ) (p : Plan) (start others : ℕ → S
   all_may room v there = by_rank (ranks_in start v == rank) refl
     where
       by_rank : (c : Bool) → (ranks_in start v == rank) ≡ c
-          → MayAcceptIn (setup_in s v) f
-          (if c then state_opened (setup_in s v) rank f part (if c then states v else others v) else (if c then states v else others v))
+          → MayAcceptIn (setup_of s v) f
+          (if c then state_opened (setup_of s v) rank f part (if c then states v else others v) else (if c then states v else others v))
           (heard_at behind v)
       by_rank true is = may_accept s rank f part v (states v) (heard_at behind v)
           (λ says. ap (λ (c : Bool). if c then None else option_and_then (λ (a : ℕ × ℕ). message_said (window a.0)) ((moment x.flood STEPS).heard v)) says)
           (outside v there) (plain v) (unasked v) (room v there)
       by_rank false is =
-          subst (λ (h : Option Message). MayAcceptIn (setup_in s v) f (others v) h) (sym (apart v there is)) (may_none (setup_in s v) f (others v))
+          subst (λ (h : Option Message). MayAcceptIn (setup_of s v) f (others v) h) (sym (apart v there is)) (may_none (setup_of s v) f (others v))
 
   -- the closing of a node
   closes : (v : ℕ) → has (ids s.nodes) v ≡ true → (c : Bool) → (ranks_in start v == rank) ≡ c
-      → (let y : State = if c then state_opened (setup_in s v) rank f part (if c then states v else others v) else (if c then states v else others v) in
-      closed_of (setup_in s v) f part (is_some (window v)) (is_some (message_said (window v))) (heard_at behind v) y) ≡ closed_slot_of s f part v (window v)
+      → (let y : State = if c then state_opened (setup_of s v) rank f part (if c then states v else others v) else (if c then states v else others v) in
+      closed_of (setup_of s v) f part (is_some (window v)) (is_some (message_said (window v))) (heard_at behind v) y) ≡ closed_slot_of s f part v (window v)
       (heard_at behind v) (states v)
   closes v there true is = closing_at s rank f part v (states v) (heard_at behind v)
   closes v there false is =
       let shut = no_window s rank f part v (states v) (other_rank v is) in
       let deaf = apart v there is in
-      ap (λ (w : Option Opened). closed_of (setup_in s v) f part (is_some w) (is_some (message_said w)) (heard_at behind v) (others v)) shut
-      ∙ ap (λ (h : Option Message). closed_of (setup_in s v) f part false false h (others v)) deaf ∙ untouched s f part v (others v)
+      ap (λ (w : Option Opened). closed_of (setup_of s v) f part (is_some w) (is_some (message_said w)) (heard_at behind v) (others v)) shut
+      ∙ ap (λ (h : Option Message). closed_of (setup_of s v) f part false false h (others v)) deaf ∙ untouched s f part v (others v)
       ∙ ap (λ (h : Option Message). closed_slot_of s f part v None h (states v)) (sym deaf)
       ∙ ap (λ (w : Option Opened). closed_slot_of s f part v w (heard_at behind v) (states v)) (sym shut)
 
@@ -180,11 +180,11 @@ module _ (s : ScenarioParts) (rank f : ℕ) (p : Plan) (start others : ℕ → S
   closed_as v there = ap (λ (h : Option Message). closed_slot_of s f part v (window v) h (states v)) (accepts_as v there)
 
   leaves : (v : ℕ) → has (ids s.nodes) v ≡ true → (c : Bool) → (ranks_in start v == rank) ≡ c
-      → (let y : State = if c then state_opened (setup_in s v) rank f part (if c then states v else others v) else (if c then states v else others v) in
-      left_by y (closed_of (setup_in s v) f part (is_some (window v)) (is_some (message_said (window v))) (heard_at behind v) y))
+      → (let y : State = if c then state_opened (setup_of s v) rank f part (if c then states v else others v) else (if c then states v else others v) in
+      left_by y (closed_of (setup_of s v) f part (is_some (window v)) (is_some (message_said (window v))) (heard_at behind v) y))
       ≡ (if c then after_slot s rank f p j states v else others v)
   leaves v there true is =
-      ap (left_by (state_opened (setup_in s v) rank f part (states v))) (closes v there true is)
+      ap (left_by (state_opened (setup_of s v) rank f part (states v))) (closes v there true is)
       ∙ left_opened s rank f part v (states v) (heard_at behind v) ∙ ap (left_by (states v)) (closed_as v there)
   leaves v there false is =
       let shut = no_window s rank f part v (states v) (other_rank v is) in
@@ -195,7 +195,7 @@ module _ (s : ScenarioParts) (rank f : ℕ) (p : Plan) (start others : ℕ → S
   nodes_closed =
       same_in (closed_node behind f part node_at) (bus_node s (ranks_in start) (mixed rank (ranks_in start) (after_slot s rank f p j states) others))
       (ids s.nodes)
-      (λ v there. ap (λ (y : State). record { setup = setup_in s v; rank = ranks_in start v; state = y }) (leaves v there (ranks_in start v == rank) refl))
+      (λ v there. ap (λ (y : State). record { setup = setup_of s v; rank = ranks_in start v; state = y }) (leaves v there (ranks_in start v == rank) refl))
       ∙ ap (λ (g : ℕ → State). map (bus_node s (ranks_in start) (mixed rank (ranks_in start) g others)) (ids s.nodes)) (sym (slot_more s rank f p start j))
 
   pub nodes_delivered : filter_map (delivers_node behind rank f j part node_at) (ids s.nodes) ≡ filter_map (delivery_in_slot s rank f p start j) (ids s.nodes)

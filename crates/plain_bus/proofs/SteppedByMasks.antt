@@ -8,6 +8,7 @@ use Rattle.std.proofs.lemmas.Bool.Decides.{nat_tests}
 use Rattle.std.proofs.lemmas.List.{get_or-map, length-map, take_more}
 use Rattle.std.proofs.lemmas.Nat.Bits.{bit_at-zero}
 use Rattle.std.proofs.lemmas.Option.{same_Some}
+use Rattle.lwb_base.specs.declared.limits.TheConstants.{MOST_NODES}
 use Rattle.link_trace.specs.Masks.{IsMaskUpto}
 use Rattle.link_trace.specs.Sealed.{Traced}
 use Rattle.link_trace.proofs.MaskBits.{one_set, one_unset, same_tests}
@@ -74,7 +75,7 @@ one_more_station f nodes i x old new below is at adds =
     ∙ ap (λ (y : Station). take i (map f nodes) ++ y ∷ []) (at ∙ sym (get_or-map f nodes i 0 x below))
     ∙ sym (take_more (map f nodes) i x (omega (arith, below, length-map nodes f)))
 
-pub one_more_sender : (test : ℕ → Bool) (nodes : List ℕ) (i : ℕ) (x : Station) (mask : ℕ) → length nodes ≤ 64 → i < length nodes
+pub one_more_sender : (test : ℕ → Bool) (nodes : List ℕ) (i : ℕ) (x : Station) (mask : ℕ) → length nodes ≤ MOST_NODES → i < length nodes
     → IsMaskUpto test nodes i mask → is_some x.sends ≡ test (get_or nodes i 0)
     → IsMaskUpto test nodes (i + 1) (with_sender mask i x)
 one_more_sender test nodes i x mask few below is at = by_sends (is_some x.sends) refl

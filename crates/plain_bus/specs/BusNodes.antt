@@ -17,7 +17,7 @@ use Rattle.bus_rules.specs.Tuning.{hosts_in}
 use Rattle.bus_terms.specs.FloodOfText.{ids}
 use Rattle.bus_terms.specs.Flooding.{has}
 use Rattle.bus_terms.specs.Rounds.{rank_in, before_slot, round_plan}
-use Rattle.bus_terms.specs.ScriptedStates.{setup_in}
+use Rattle.scenario_text.specs.Setups.{setup_of}
 use Rattle.lwb_base.specs.Messages.{Plan}
 
 -- what is fixed for a node, the rank in whose round of the frame it takes part, and its state
@@ -27,7 +27,7 @@ pub record BusNode : Type 0 where
   pub state : State
 
 abbrev pub bus_node : ScenarioParts → (ℕ → ℕ) → (ℕ → State) → ℕ → BusNode
-bus_node s ranks states v = record { setup = setup_in s v; rank = ranks v; state = states v }
+bus_node s ranks states v = record { setup = setup_of s v; rank = ranks v; state = states v }
 
 -- the nodes of this rank are in these states, the others are not
 abbrev pub mixed : ℕ → (ℕ → ℕ) → (ℕ → State) → (ℕ → State) → ℕ → State
@@ -107,7 +107,7 @@ HasRoom s rank f part (StateOn c) = is_schedule_part part ≡ false → hosts_in
 
 -- so it is at all nodes, before slot j of the round that began in these states
 abbrev pub HaveRoom : ScenarioParts → ℕ → ℕ → Plan → (ℕ → State) → ℕ → Type 0
-HaveRoom s rank f p start j = (v : ℕ) → has (ids s.nodes) v ≡ true → HasRoom (setup_in s v) rank f (part_of p j) (before_slot s rank f p start j v)
+HaveRoom s rank f p start j = (v : ℕ) → has (ids s.nodes) v ≡ true → HasRoom (setup_of s v) rank f (part_of p j) (before_slot s rank f p start j v)
 
 -- and before each slot of the round of this rank, if there is one
 abbrev pub HaveRoomInRound : ScenarioParts → ℕ → ℕ → (ℕ → State) → Type 0

@@ -1,6 +1,7 @@
 //! What the flood of a flood text gives.
 
 ghost use Rattle.std.specs.Prelude.{◌≡◌, ◌≤◌, ◌==◌, IfOk, All, length, sum_by, filter_map, true};
+ghost use Rattle.lwb_base.specs.declared.limits.TheConstants.{MOST_NODES};
 ghost use Rattle.link_trace.specs.Masks.{IsMask};
 ghost use Rattle.link_trace.specs.Sealed.{Traced};
 ghost use Rattle.scenario_text.specs.FloodParts.{IsSealed};
@@ -42,7 +43,7 @@ fn flood_of(f: &FloodText) -> Flood
 
 // The nodes of this id.
 fn mask_of(nodes: &[NodeLine], node: NodeId) -> u64
-    requires { length nodes.now ≤ 64 }
+    requires { length nodes.now ≤ MOST_NODES }
     ensures { IsMask (λ v. v == node) (ids nodes.now) result }
 {
     let mut mask = 0;
@@ -56,7 +57,7 @@ fn mask_of(nodes: &[NodeLine], node: NodeId) -> u64
 
 // All nodes.
 fn mask_of_all(nodes: &[NodeLine]) -> u64
-    requires { length nodes.now ≤ 64 }
+    requires { length nodes.now ≤ MOST_NODES }
     ensures { IsMask (λ v. true) (ids nodes.now) result }
 {
     let mut mask = 0;
@@ -68,7 +69,7 @@ fn mask_of_all(nodes: &[NodeLine]) -> u64
 
 // How often all have sent.
 fn sendings(stations: &[Station]) -> u32
-    requires few { length stations.now ≤ 64 }
+    requires few { length stations.now ≤ MOST_NODES }
     requires times { All (λ x. x.times ≤ 12) stations.now }
     ensures { result ≡ sum_by (λ x. x.times) stations.now }
 {

@@ -2,6 +2,7 @@
 
 ghost use Rattle.std.specs.Prelude.{◌≡◌, ◌≤◌, ◌<◌, ◌+◌, ℕ, Bool, All, Some, length, map, slice_index, true, if◌then◌else◌};
 ghost use Rattle.std.specs.List.{AllPairs};
+ghost use Rattle.lwb_base.specs.declared.limits.TheConstants.{MOST_NODES};
 ghost use Rattle.bus_terms.specs.Bus.{Cost as CostOf};
 ghost use Rattle.bus_terms.specs.Flooding.{has};
 ghost use Rattle.plain_bus.specs.BusNodes.{BusNode as NodeOf};
@@ -39,7 +40,7 @@ pub fn charge_all(
     rank: Rank,
     setting: &Setting,
 )
-    requires few { length costs.old ≤ 64 }
+    requires few { length costs.old ≤ MOST_NODES }
     requires nodes { length nodes.now ≡ length costs.old }
     requires windows { length windows.now ≡ length costs.old }
     requires stations { length end.now.stations.each.items ≡ length costs.old }
@@ -77,7 +78,7 @@ fn charge(
     sent: &SlotSends,
     setting: &Setting,
 )
-    requires few { length setting.now.ids.now ≤ 64 }
+    requires few { length setting.now.ids.now ≤ MOST_NODES }
     requires place { place < length setting.now.ids.now }
     requires windows { length windows.now ≡ length setting.now.ids.now }
     requires stations { length end.now.stations.each.items ≡ length setting.now.ids.now }
@@ -145,7 +146,7 @@ fn length_at(ids: &[NodeId], lengths: &[u8], node: NodeId) -> u8
 
 // The lengths of what is said in the windows, and 0 where nothing is.
 fn lengths_of(windows: &[Window]) -> ArrayVec<u8, 64>
-    requires { length windows.now ≤ 64 }
+    requires { length windows.now ≤ MOST_NODES }
     ensures { result.items ≡ map (λ w. said_bytes (seen_window w)) windows.now }
 {
     let mut lengths = ArrayVec::new();

@@ -1,6 +1,7 @@
 //! What a node receives in a step of a flood.
 
 ghost use Rattle.std.specs.Prelude.{◌≡◌, ◌<◌, ◌≤◌, length, slice_index};
+ghost use Rattle.lwb_base.specs.declared.limits.TheConstants.{MOST_NODES};
 ghost use Rattle.bus_terms.specs.Flooding.{Setting, Moment, hears as hears_in, agrees as agrees_with};
 ghost use Rattle.plain_bus.specs.FloodMasks.{AreAt, IsMaskedFlood, SendsForInitiators, heard_alone, may_hear_at, takes_at, traced};
 
@@ -20,7 +21,7 @@ pub fn hears<M: Links>(
 ) -> Option<NodeId>
     requires place { place < length now.now.each.items }
     requires sealed { length now.now.each.items ≡ length (M.nodes links.now) }
-    requires few { length (M.nodes links.now) ≤ 64 }
+    requires few { length (M.nodes links.now) ≤ MOST_NODES }
     ensures { (s : Setting) (m : Moment) → IsMaskedFlood s (traced (M.lines links.now) (M.nodes links.now)) flood.now → SendsForInitiators s m
         → AreAt m (M.nodes links.now) now.now
         → result ≡ hears_in s m step (slice_index (M.nodes links.now) place) }

@@ -2,7 +2,7 @@
 
 ghost use Rattle.std.specs.Prelude.{◌≡◌, ◌≤◌, ◌<◌, ◌+◌, ◌++◌, ◌∷◌, ◌==◌, ℕ, List, OnOk, IfOk, IfSome, map, length, option_to_list, [], if◌then◌else◌};
 ghost use Rattle.lwb_base.specs.Messages.{Plan};
-ghost use Rattle.lwb_base.specs.declared.limits.TheConstants.{LAST_FRAME};
+ghost use Rattle.lwb_base.specs.declared.limits.TheConstants.{LAST_FRAME, MOST_RANKS};
 ghost use Rattle.bus_rules.specs.Cores.{own_rank};
 ghost use Rattle.bus_rules.specs.States.{State};
 ghost use Rattle.bus_rules.specs.Slots.{part_of};
@@ -187,7 +187,7 @@ fn new_node(alloc: Global, s: &Scenario, id: NodeId) -> Result<BusNode, Memory>
 
 // The rank of a node among at most 4 hosts.
 fn rank_of(hosts: &[NodeId], id: NodeId) -> Option<Rank>
-    requires { length hosts.now ≤ 4 }
+    requires { length hosts.now ≤ MOST_RANKS }
     ensures value { result ≡ own_rank id hosts.now }
     ensures within { IfSome result (λ r. r < length hosts.now) }
 {

@@ -1,7 +1,7 @@
 //! A node of the bus: off, or on as a member of its rounds.
 
 ghost use Rattle.std.specs.Prelude.{◌≡◌, ◌≤◌, ◌<◌, ◌++◌, IfOk, OnOk, IfSome, option_to_list};
-ghost use Rattle.lwb_base.specs.declared.limits.TheConstants.{LAST_FRAME};
+ghost use Rattle.lwb_base.specs.declared.limits.TheConstants.{LAST_FRAME, MOST_RANKS};
 ghost use Rattle.bus_rules.specs.Cores.{frame_ended as core_ended};
 ghost use Rattle.bus_rules.specs.States.{StateOff, at_core, core_after_act, state_after_on, state_after_off, IsAct, IsStreamAct, state_after_act};
 ghost use Rattle.bus_rules.specs.declared.act.Act.TheVariants.{Put as PutAct};
@@ -49,7 +49,7 @@ impl BusNode {
         ranks: u8,
         sends: u8,
     ) -> Result<BusNode, Memory>
-        requires ranks { (1 ≤ ranks) × (ranks ≤ 4) }
+        requires ranks { (1 ≤ ranks) × (ranks ≤ MOST_RANKS) }
         requires own { IfSome own (λ r. r < ranks) }
         requires sends { (1 ≤ sends) × (sends ≤ 4) }
         ensures { IfOk result

@@ -3,6 +3,7 @@
 ghost use Rattle.std.specs.Prelude.{◌≡◌, ◌≤◌, ◌<◌, ℕ, Option, true, false, not, ◌==◌, length, Some, None, if◌then◌else◌};
 ghost use Rattle.std.specs.Int.{bit_at};
 ghost use Rattle.std.specs.Option.{option_map_or};
+ghost use Rattle.lwb_base.specs.declared.limits.TheConstants.{MOST_NODES};
 ghost use Rattle.bus_terms.specs.Flooding.{Setting, Moment, offer, pick};
 ghost use Rattle.plain_bus.specs.FloodMasks.{AreOffers, IsOffer, AllOffer, IsMaskedFlood, SendsForInitiators, traced};
 
@@ -13,7 +14,7 @@ use lwb_base::NodeId;
 
 // One of the origins that the nodes of the mask send; None where they send nothing.
 fn first_sent(stations: &[Station], from: u64) -> Option<NodeId>
-    requires few { length stations.now ≤ 64 }
+    requires few { length stations.now ≤ MOST_NODES }
     ensures { (give : ℕ → Option ℕ) → AreOffers give stations.now from → IsOffer give result }
 {
     let mut rest = from;
@@ -42,7 +43,7 @@ fn differs(sends: Option<NodeId>, origin: NodeId) -> bool
 
 // Whether the nodes of the mask send this origin and no other.
 fn all_send(stations: &[Station], from: u64, origin: NodeId) -> bool
-    requires few { length stations.now ≤ 64 }
+    requires few { length stations.now ≤ MOST_NODES }
     ensures { (give : ℕ → Option ℕ) → AreOffers give stations.now from → AllOffer give origin result }
 {
     let mut rest = from;
@@ -61,7 +62,7 @@ fn all_send(stations: &[Station], from: u64, origin: NodeId) -> bool
 
 // What the node sends, if it is one of the mask.
 fn sent_by(stations: &[Station], from: u64, node: NodeId) -> Option<NodeId>
-    requires few { length stations.now ≤ 64 }
+    requires few { length stations.now ≤ MOST_NODES }
     ensures { (give : ℕ → Option ℕ) → AreOffers give stations.now from → result ≡ give node }
 {
     let mut rest = from;
@@ -88,7 +89,7 @@ pub(crate) fn picked<M: Links>(
     at: NodeId,
     from: u64,
 ) -> Option<NodeId>
-    requires few { length stations.now ≤ 64 }
+    requires few { length stations.now ≤ MOST_NODES }
     ensures { (s : Setting) (m : Moment) → IsMaskedFlood s (traced (M.lines links.now) (M.nodes links.now)) flood.now → SendsForInitiators s m
         → AreOffers (offer s m step at) stations.now from → result ≡ pick s m step at }
 {

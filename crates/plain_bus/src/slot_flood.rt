@@ -9,7 +9,7 @@ ghost use Rattle.bus_rules.specs.declared.part.Part.{Part as PartOf};
 ghost use Rattle.bus_rules.specs.States.{State};
 ghost use Rattle.bus_rules.specs.Slots.{part_of};
 ghost use Rattle.lwb_base.specs.Messages.{Plan};
-ghost use Rattle.lwb_base.specs.declared.limits.TheConstants.{LAST_FRAME};
+ghost use Rattle.lwb_base.specs.declared.limits.TheConstants.{LAST_FRAME, MOST_NODES};
 ghost use Rattle.bus_terms.specs.FloodOfText.{ids};
 ghost use Rattle.bus_terms.specs.Rounds.{flood_in_slot, opened_at, slot_at};
 ghost use Rattle.plain_bus.specs.FloodMasks.{IsMaskedFlood};
@@ -36,7 +36,7 @@ pub fn open_slot(
     limit: u8,
 ) -> Result<Flood, Memory>
     requires frame { frame ≤ LAST_FRAME }
-    requires few { length nodes.old ≤ 64 }
+    requires few { length nodes.old ≤ MOST_NODES }
     requires early { All (λ n. IsEarlyState frame n.state) nodes.old }
     ensures early { OnOk result (All (λ n. IsEarlyState frame n.state) nodes.new) }
     ensures nodes { OnOk result (nodes.new ≡ map (node_opened rank frame part.now) nodes.old) }
@@ -52,7 +52,7 @@ pub fn open_slot(
 
 /// The flood of that slot in which these windows opened: who says something initiates.
 pub fn flood_in(windows: &[Window], frame: u32, slot: u8, limit: u8) -> Flood
-    requires { length windows.now ≤ 64 }
+    requires { length windows.now ≤ MOST_NODES }
     ensures place { (result.frame ≡ frame) × (result.slot ≡ slot) }
     ensures flood { (s : ScenarioParts) (t : Traced) (rank : ℕ) (part : PartOf) (states : ℕ → State) → AreWindows s rank frame part states windows.now
         → t.lines ≡ s.trace → IsSealed t s.nodes → limit ≡ s.sends
@@ -70,7 +70,7 @@ pub fn flood_in(windows: &[Window], frame: u32, slot: u8, limit: u8) -> Flood
 
 // Those who say something.
 fn initiators_of(windows: &[Window]) -> u64
-    requires { length windows.now ≤ 64 }
+    requires { length windows.now ≤ MOST_NODES }
     ensures { (nodes : List ℕ) (test : ℕ → Bool) → map (λ w. w.initiates) windows.now ≡ map test nodes → IsMask test nodes result }
 {
     let mut mask = 0;
@@ -84,7 +84,7 @@ fn initiators_of(windows: &[Window]) -> u64
 
 // Those who take part.
 fn takers_of(windows: &[Window]) -> u64
-    requires { length windows.now ≤ 64 }
+    requires { length windows.now ≤ MOST_NODES }
     ensures { (nodes : List ℕ) (test : ℕ → Bool) → map (λ w. w.takes_part) windows.now ≡ map test nodes → IsMask test nodes result }
 {
     let mut mask = 0;

@@ -1,6 +1,6 @@
 //! The nodes of a flood at the beginning of a step.
 
-ghost use Rattle.std.specs.Prelude.{◌≡◌, ◌<◌, ◌==◌, ◌∷◌, [], ◌++◌, length};
+ghost use Rattle.std.specs.Prelude.{◌≡◌, ◌<◌, ◌==◌, ◌∷◌, [], ◌++◌, length, None};
 
 use arrayvec::ArrayVec;
 use lwb_base::NodeId;
@@ -31,8 +31,11 @@ pub struct Station {
     pub heard: Option<(NodeId, u8)>,
 }
 
+/// What a place of a list contains that holds no node yet: node 1, which has sent and received nothing.
 impl Default for Station {
-    fn default() -> Station {
+    fn default() -> Station
+        ensures { result ≡ record { node = 1; sends = None; times = 0; heard = None } }
+    {
         Station {
             node: NodeId::new(1).unwrap(),
             sends: None,

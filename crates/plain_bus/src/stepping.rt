@@ -1,6 +1,7 @@
 //! A flood from step to step.
 
 ghost use Rattle.std.specs.Prelude.{◌≡◌, ◌<◌, ◌≤◌, ◌+◌, ◌++◌, ◌∷◌, [], ℕ, Option, All, length, map, take, is_some, Some, None};
+ghost use Rattle.lwb_base.specs.declared.limits.TheConstants.{MOST_NODES};
 ghost use Rattle.bus_terms.specs.Flooding.{Setting, Moment, moment, beginning, next as next_moment, STEPS};
 ghost use Rattle.link_trace.specs.Sealed.{Traced};
 ghost use Rattle.scenario_text.specs.FloodParts.{IsSealed};
@@ -50,7 +51,7 @@ impl Stations {
 
     // With one node more.
     fn push(&mut self, station: Station)
-        requires { length self.old.each.items < 64 }
+        requires { length self.old.each.items < MOST_NODES }
         ensures each { self.new.each.items ≡ self.old.each.items ++ station ∷ [] }
         ensures senders { self.new.senders ≡ with_sender self.old.senders (length self.old.each.items) station }
     {
@@ -64,7 +65,7 @@ impl Stations {
     fn next<M: Links>(&self, links: &M, flood: &Flood, step: u8) -> Stations
         requires step { step ≤ 11 }
         requires sealed { length self.now.each.items ≡ length (M.nodes links.now) }
-        requires few { length (M.nodes links.now) ≤ 64 }
+        requires few { length (M.nodes links.now) ≤ MOST_NODES }
         requires times { All (λ x. x.times ≤ step) self.now.each.items }
         ensures at { (s : Setting) (m : Moment) → IsMaskedFlood s (traced (M.lines links.now) (M.nodes links.now)) flood.now → SendsForInitiators s m
             → AreAt m (M.nodes links.now) self.now
@@ -117,7 +118,7 @@ impl Stations {
     fn pass_all<M: Links>(&mut self, links: &M, flood: &Flood, step: u8, origin: NodeId)
         requires step { step ≤ 11 }
         requires sealed { length self.old.each.items ≡ length (M.nodes links.now) }
-        requires few { length (M.nodes links.now) ≤ 64 }
+        requires few { length (M.nodes links.now) ≤ MOST_NODES }
         requires times { All (λ x. x.times ≤ step) self.old.each.items }
         ensures at { (s : Setting) (m : Moment) → IsMaskedFlood s (traced (M.lines links.now) (M.nodes links.now)) flood.now → IsLone s origin
             → SendsForInitiators s m
@@ -143,7 +144,7 @@ impl Stations {
     pub fn go_on<M: Links>(&mut self, links: &M, flood: &Flood, step: u8)
         requires step { step ≤ 11 }
         requires sealed { length self.old.each.items ≡ length (M.nodes links.now) }
-        requires few { length (M.nodes links.now) ≤ 64 }
+        requires few { length (M.nodes links.now) ≤ MOST_NODES }
         requires times { All (λ x. x.times ≤ step) self.old.each.items }
         ensures at { (s : Setting) (m : Moment) → IsMaskedFlood s (traced (M.lines links.now) (M.nodes links.now)) flood.now → SendsForInitiators s m
             → AreAt m (M.nodes links.now) self.old
@@ -163,7 +164,7 @@ impl Stations {
 
 /// The flood with its initiator, if there is one alone.
 pub fn with_lone(flood: &Flood, nodes: &[NodeLine]) -> Flood
-    requires { length nodes.now ≤ 64 }
+    requires { length nodes.now ≤ MOST_NODES }
     ensures { (s : Setting) (t : Traced) → t.nodes ≡ map (λ n. n.node) nodes.now → IsMaskedFlood s t flood.now → IsMaskedFlood s t result }
 {
     let mut flood = *flood;
@@ -179,7 +180,7 @@ pub fn with_lone(flood: &Flood, nodes: &[NodeLine]) -> Flood
 
 /// All nodes at the beginning of the flood: the initiators send.
 pub fn first(flood: &Flood, nodes: &[NodeLine]) -> Stations
-    requires few { length nodes.now ≤ 64 }
+    requires few { length nodes.now ≤ MOST_NODES }
     ensures at { (s : Setting) (t : Traced) → t.nodes ≡ map (λ n. n.node) nodes.now → IsMaskedFlood s t flood.now → AreAt (beginning s) t.nodes result }
     ensures length { length result.each.items ≡ length nodes.now }
     ensures times { All (λ x. x.times ≤ 0) result.each.items }
@@ -220,7 +221,7 @@ pub struct FloodEnd {
 /// The flood among all nodes, which are those that the links are sealed with.
 pub fn flooded<M: Links>(links: &M, flood: &Flood, nodes: &[NodeLine]) -> FloodEnd
     requires sealed { IsSealed (traced (M.lines links.now) (M.nodes links.now)) nodes.now }
-    requires few { length nodes.now ≤ 64 }
+    requires few { length nodes.now ≤ MOST_NODES }
     ensures each { (s : Setting) → IsMaskedFlood s (traced (M.lines links.now) (M.nodes links.now)) flood.now
         → result.stations.each.items ≡ map (station_at (moment s STEPS)) (M.nodes links.now) }
     ensures senders { (s : Setting) → IsMaskedFlood s (traced (M.lines links.now) (M.nodes links.now)) flood.now

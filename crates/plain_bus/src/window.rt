@@ -149,7 +149,7 @@ impl BusNode {
 
     /// The slot of this part and number closes in the round of this rank and frame, which is at most `LAST_FRAME`: the node
     /// initiated in it, accepted this, or neither. What it delivers, if something. A host accepts no schedule, and no more
-    /// requests than its round has contention slots.
+    /// requests than its round has contention slots: of what it may not accept nothing comes, and nothing of it changes.
     pub fn close(
         &mut self,
         rank: Rank,
@@ -166,6 +166,8 @@ impl BusNode {
             → self.new ≡ node_closed frame part (seen_window window.now) (option_map meaning accepted) self.old }
         ensures delivery { MayAcceptIn self.old.setup frame self.old.state (option_map meaning accepted)
             → result ≡ node_delivers rank frame slot part (seen_window window.now) (option_map meaning accepted) self.old }
+        ensures refused { (MayAcceptIn self.old.setup frame self.old.state (option_map meaning accepted) → ⊥)
+            → (self.new ≡ self.old) × (result ≡ None) }
         ensures early { IsEarlyState frame self.new.state }
     {
         if self.refuses(frame, &accepted) {

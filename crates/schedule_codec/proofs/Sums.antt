@@ -79,9 +79,3 @@ pub all_in_range : (first : ℕ) (steps codes : List ℕ) (code i : ℕ) → Sum
     → list_all (between 4 803) (summed first steps) ≡ true
 all_in_range first steps codes code i sum end high =
     ap (λ (l : List ℕ). list_all (between 4 803) l) (sym (finished first steps codes code i sum end)) ∙ sum.within high
-
--- no list in range begins out of it
-pub begins_in_range : (first : ℕ) (steps : List ℕ) → list_all (between 4 803) (summed first steps) ≡ true → (4 ≤ first) × (first ≤ 803)
-begins_in_range first steps all =
-    let within = and_parts _ _ (and_parts _ _ all).0 in
-    (leb-true 4 first within.0, leb-true first 803 within.1)

@@ -1,12 +1,16 @@
 -- The schedule whose bytes a packet is. What its bytes would say is read off them, and then spelled again: no other
 -- bytes are a spelling.
-use Rattle.std.specs.Prelude.{ℕ, zero, suc, ◌+◌, ◌-◌, ◌*◌, ◌/◌, ◌%◌, ◌^◌, List, [], ◌∷◌, Bool, ◌==◌}
+use Rattle.std.specs.Prelude.{ℕ, zero, suc, ◌+◌, ◌-◌, ◌*◌, ◌/◌, ◌%◌, ◌^◌, List, [], ◌∷◌, Bool, ◌==◌, ◌&&◌, ◌||◌, nat_lt}
 use Rattle.std.specs.Prelude.{if◌then◌else◌, length, drop, slice_index, is_some, Some, None}
 use Rattle.std.specs.declared.option.Option.{Option}
 use Rattle.lwb_base.specs.Messages.{Ask, Schedule}
 use Rattle.lwb_packets.specs.TwoBytes.{number_of_two}
 use Rattle.schedule_codec.specs.Packing.{packed_number, digits}
 use Rattle.schedule_codec.specs.Spelling.{spells}
+
+-- the rank that bytes name as schedules do, whose first is 1 or 4; none where it is another, or they are too few
+abbrev pub host_named : List ℕ → Option ℕ
+host_named bs = if nat_lt 3 (length bs) && ((slice_index bs 0 == 1) || (slice_index bs 0 == 4)) then Some (slice_index bs 3 / 16) else None
 
 -- the codes that follow, each by its difference from the one before
 abbrev pub following : ℕ → List ℕ → List ℕ

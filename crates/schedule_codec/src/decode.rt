@@ -3,7 +3,7 @@
 ghost use Rattle.std.specs.Prelude.{◌≡◌, ◌++◌, ◌≤◌, ℕ, List, length, true, IfSome, Some, slice_index, slice_set};
 ghost use Rattle.lwb_base.specs.Messages.{Ask, Schedule as Said};
 ghost use Rattle.schedule_codec.specs.Spelling.{acks_bytes, SpellsAcks, SpellsBody, IsWritable, slot_fits as fits, schedule_spelling, spells};
-ghost use Rattle.schedule_codec.specs.Reading.{schedule_of};
+ghost use Rattle.schedule_codec.specs.Reading.{host_named, schedule_of};
 
 use crate::ack_bytes::{Acknowledged, read_acks};
 use crate::owner_bytes::read_owners;
@@ -23,10 +23,11 @@ pub fn read(p: &Packet) -> Option<Schedule>
     spelled(p)
 }
 
-/// The rank of the host, where these bytes spell a schedule. Whether they spell one is not tested: other bytes give some
-/// number up to 15, or None.
+/// The rank of the host, where these bytes spell a schedule. Whether they spell one is not tested: any bytes whose first is 1 or
+/// 4, as those of schedules are, give the upper half of the fourth byte, and all others None.
 pub fn named_host(p: &Packet) -> Option<u8>
     ensures rank { (s : Said) → spells p.now s ≡ true → result ≡ Some s.plan.rank }
+    ensures value { result ≡ host_named p.now }
     ensures range { IfSome result (λ n. n ≤ 15) }
 {
     let [kind, _, _, head, ..] = p.bytes() else {

@@ -1,5 +1,6 @@
 use Rattle.std.proofs.Common.{◌≡◌, ◌<◌, ◌≤◌, ◌+◌, ℕ, List, length, map, take, get_or, subst, sym, ◌∙◌, ap, arith}
 use Rattle.std.proofs.lemmas.List.{take_all, length-map, get_or_default, get_or-map, take_more_set}
+use Rattle.lwb_base.specs.declared.limits.TheConstants.{MOST_FRAMES}
 use Rattle.bus_terms.specs.Bus.{Cost}
 use Rattle.bus_terms.specs.FloodOfText.{ids}
 use Rattle.plain_bus.specs.BusNodes.{BusNode, bus_node}
@@ -16,7 +17,7 @@ count_scan-requires c =
     let below : i < length olds = omega (arith, c.loop-cost-test.true, size) in
     let at : d ≡ get_or olds i d = same_place c.loop-cost.costs olds i c.cost-item.result c.loop-cost.invariant.todo
     ∙ get_or_default olds i c.cost-item.result d below in
-    subst (λ (x : Cost). x.scanned ≤ 4096) (sym at) (c.requires.few i d below)
+    subst (λ (x : Cost). x.scanned ≤ MOST_FRAMES) (sym at) (c.requires.few i d below)
 
 pub loop-cost-preserved : goal.loop-cost-preserved
 loop-cost-preserved c =

@@ -1,5 +1,6 @@
 use Rattle.std.proofs.Common.{◌≡◌, ◌≤◌, List, All, length, map, subst, sym, ◌∙◌, ap, arith}
 use Rattle.std.proofs.lemmas.List.{length-map}
+use Rattle.lwb_base.specs.declared.limits.TheConstants.{MOST_FRAMES}
 use Rattle.bus_terms.specs.Bus.{Cost}
 use Rattle.plain_bus.specs.Networks.{Network}
 use Rattle.plain_bus.proofs.SlotsMet.{put_back}
@@ -13,7 +14,7 @@ count_scans-requires-clause-nodes c =
 
 pub count_scans-requires-clause-few : goal.count_scans-requires-clause-few
 count_scans-requires-clause-few c =
-    subst (λ (l : List Cost). All (λ (x : Cost). x.scanned ≤ 4096) l) (sym (c.deref_mut.ensures.value ∙ ap (λ (n : Network). n.costs) c.net.view_is))
+    subst (λ (l : List Cost). All (λ (x : Cost). x.scanned ≤ MOST_FRAMES) l) (sym (c.deref_mut.ensures.value ∙ ap (λ (n : Network). n.costs) c.net.view_is))
     c.requires.few
 
 pub returns-clause-nodes : goal.returns-clause-nodes

@@ -6,6 +6,7 @@ use Rattle.std.proofs.lemmas.List.Elements.{All-set}
 use Rattle.scenario_text.specs.ScenarioFacts.{turned}
 use Rattle.bus_rules.specs.States.{IsAct}
 use Rattle.scenario_text.specs.declared.script.ScriptLine.{ScriptLine}
+use Rattle.bus_terms.specs.ScriptedStates.{power}
 use Rattle.bus_terms.specs.Bus.{Cost}
 use Rattle.bus_terms.specs.FloodOfText.{ids}
 use Rattle.bus_terms.specs.Flooding.{has}
@@ -14,7 +15,7 @@ use Rattle.bus_terms.specs.declared.packets.PutLine.{PutLine}
 use Rattle.plain_bus.specs.BusNodes.{BusNode, bus_node, IsEarlyState, MayDo}
 use Rattle.plain_bus.specs.SlotCosts.{IsBelow}
 use Rattle.plain_bus.proofs.SlotsMet.{ids_ascend, ids_each}
-use Rattle.bus_model.specs.FrameNodes.{CountsLinesBefore, nodes_with, power, prior_ranks, puts_to, node_after_line, told_at}
+use Rattle.bus_model.specs.FrameNodes.{CountsLinesBefore, nodes_with, prior_ranks, puts_to, node_after_line, told_at}
 use Rattle.bus_model.proofs.LinesTold.{none_told, all_told, node_told, power_told, put_more}
 use Rattle.bus_model.proofs.LinesAllowed.{line_act, line_known, may_do, act_early, later_lines}
 use Rattle.bus_model.proofs.script.tell_lines.Given.{Over}

@@ -1,5 +1,6 @@
 use Rattle.std.proofs.Common.{◌≡◌, ◌<◌, ◌≤◌, ◌+◌, ◌==◌, ℕ, Bool, length, get_or, ap, sym, ◌∙◌, subst, arith}
 use Rattle.std.proofs.lemmas.List.{get_or-map, length-map}
+use Rattle.lwb_base.specs.declared.limits.TheConstants.{MOST_NODES}
 use Rattle.link_trace.specs.Masks.{IsMaskUpto}
 use Rattle.link_trace.proofs.MaskBits.{one_set, one_unset}
 use Rattle.scenario_text.specs.declared.lines.NodeLine.{NodeLine}
@@ -15,7 +16,7 @@ loop-i-preserved c =
     let test : ℕ → Bool = λ v. v == c.args.node in
     let size = length-map lines (λ (l : NodeLine). l.node) in
     let below : i < length (ids lines) = omega (arith, c.loop-i-test.true, size) in
-    let few : length (ids lines) ≤ 64 = omega (arith, c.requires, size) in
+    let few : length (ids lines) ≤ MOST_NODES = omega (arith, c.requires, size) in
     let read : get_or (ids lines) i 0 ≡ n.node = get_or-map (λ (l : NodeLine). l.node) lines i n 0 c.loop-i-test.true
     ∙ ap (λ (l : NodeLine). l.node) (sym c.index-nodes-i.is) in
     let answer : test (get_or (ids lines) i 0) ≡ c.eq.result = ap test read ∙ sym c.eq.ensures in

@@ -1,5 +1,6 @@
 use Rattle.std.proofs.Common.{◌≡◌, ◌≤◌, ◌+◌, ℕ, Bool, length, ap, sym, ◌∙◌, subst, arith}
 use Rattle.std.proofs.lemmas.List.{length-map}
+use Rattle.lwb_base.specs.declared.limits.TheConstants.{MOST_NODES}
 use Rattle.link_trace.specs.Masks.{IsMaskUpto}
 use Rattle.link_trace.proofs.MaskBits.{one_set, one_unset}
 use Rattle.plain_bus.specs.declared.window.Window.{Window}
@@ -18,7 +19,7 @@ loop-i-preserved c nodes test same =
     let w = c.index-windows-i.result in
     let flag : Window → Bool = λ x. x.takes_part in
     let at = same_test flag ws test nodes i w same c.loop-i-test.true c.index-windows-i.is in
-    let few : length nodes ≤ 64 = omega (arith, c.requires, length-map ws flag, ap length same, length-map nodes test) in
+    let few : length nodes ≤ MOST_NODES = omega (arith, c.requires, length-map ws flag, ap length same, length-map nodes test) in
     elim c.if-window.branch [
       | then-window b ↦
           subst (λ (m : ℕ). IsMaskUpto test nodes (i + 1) m) (sym b.mask-is)
