@@ -1,4 +1,4 @@
--- What a log holds, one entry more at a time, and what of it was sent by traces.
+-- What a log holds, one entry more at a time, and what of it was sent by trails.
 use Rattle.std.proofs.Common.{◌≡◌, ℕ, ◌+◌, ◌<◌, List, [], ◌++◌, take, map, length, get_or, Bool, true, false, ◌==◌}
 use Rattle.std.proofs.Common.{if◌then◌else◌, Option, Some, None, option_map, option_to_list, filter_map, refl, sym, ◌∙◌, ap, arith, inl, inr}
 use Rattle.std.proofs.Common.{eq-eqb, Contains, All}
@@ -31,7 +31,7 @@ one_more_of {X} {Y} g f air i e old new o below at is so adds =
     chosen_more f air i e (map g old) (map g new) (option_map g o) below at is so
     (ap (map g) adds ∙ map-append g old (option_to_list o) ∙ ap (λ (l : List Y). map g old ++ l) (mapped g o))
 
--- what follows its traces was sent by traces
+-- what follows its trails was sent by trails
 module _ (s : ScenarioParts) (clocks : ℕ → ℕ → ℕ) (air : List Entry) (trails : FollowsTrails s clocks air) where
   in_trail : (x : Sending) (v : ℕ) → x.node ≡ v → Contains (sendings_of air) x → Contains (trail_sent s clocks air v) x
   in_trail x v node there =

@@ -3,21 +3,13 @@ use Rattle.std.proofs.Common.{◌≡◌, ℕ, ◌<◌, ◌≤◌, ◌^◌, ◌�
 use Rattle.scenario_text.specs.ScenarioParts.{ScenarioParts}
 use Rattle.radio_model.specs.Hearing.{HearsInScene}
 use Rattle.radio_model.specs.OnAir.{Sending}
-use Rattle.radio_model.specs.Receptions.{AreNear}
 use Rattle.air_log.specs.declared.entry.Entry.{Entry}
 use Rattle.air_log.specs.HearsAir.{scene_of}
 use Rattle.air_log.specs.Trails.{run_end}
 use Rattle.air_check.specs.Indexes.{IsIndex}
-use Rattle.air_check.specs.ReceiverMasks.{HoldSame}
+use Rattle.radio_model.specs.Reaches.{HoldSame}
 use Rattle.air_check.specs.Verdicts.{IsGiven}
 use Rattle.air_check.specs.declared.index.Index.{Index}
-
--- what is near among some is so among the same ones
-pub near_in_same : (xs ys near : List Sending) (x : Sending) → HoldSame xs ys → AreNear ys x near → AreNear xs x near
-near_in_same xs ys near x same are = record {
-  among = λ y there. same.back y (are.among y there);
-  all = λ y there meets. are.all y (same.into y there) meets;
-}
 
 pub same_in_air : (air : List Entry) (s : ScenarioParts) (i : Index) → IsIndex air i → HoldSame (scene_of s.profile s.trace air).sendings i.sent.items
 same_in_air air s i is = record { into = is.all_sent; back = is.sent }

@@ -19,5 +19,5 @@ mod RightEntries
 mod LinksFound
 mod SameStart
 mod MissingOnes
-mod ReceiverMasks
+pub mod ReceiverMasks
 mod Extended

@@ -1,4 +1,4 @@
--- A log follows the trace of a node where the two, in order of time, are one.
+-- A log follows the trail of a node where the two, in order of time, are one.
 use Rattle.std.proofs.Common.{◌≡◌, ℕ, zero, suc, ◌<◌, List, [], ◌∷◌, Bool, true, false, ◌==◌, AllPairs, map, length, reverse, refl, sym, ◌∙◌, ap, subst, arith}
 use Rattle.std.specs.Prelude.{IsPermutation}
 use Rattle.std.specs.Bool.{Decides}

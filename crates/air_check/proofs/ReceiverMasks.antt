@@ -1,11 +1,10 @@
 -- The masks of the nodes to which transmissions come.
-use Rattle.std.proofs.Common.{◌≡◌, ℕ, ◌+◌, ◌<◌, ◌≤◌, ◌↔◌, List, [], ◌∷◌, ◌++◌, ◌-◌, take, drop, Bool, true}
-use Rattle.std.proofs.Common.{◌==◌, length, get_or, map, sym, ◌∙◌, ap, subst, arith, inl, inr, Contains, AllPairs, length-drop, length-take-le}
-use Rattle.std.proofs.lemmas.Bool.{cases_lt, eqb-true}
-use Rattle.std.proofs.lemmas.List.{length-map, get_or-map, get_or_default, get_or_append_left, get_or_push, get_or-take, get_or-drop}
+use Rattle.std.proofs.Common.{◌≡◌, ℕ, ◌<◌, ◌↔◌, List, [], ◌∷◌, Bool, true}
+use Rattle.std.proofs.Common.{◌==◌, length, get_or, map, sym, ◌∙◌, ap, subst, arith, Contains, AllPairs}
+use Rattle.std.proofs.lemmas.Bool.{eqb-true}
+use Rattle.std.proofs.lemmas.List.{length-map, get_or-map, get_or_default}
 use Rattle.std.proofs.lemmas.List.Elements.{All-contains}
 use Rattle.lwb_base.proofs.Elements.{some_of}
-use Rattle.lwb_base.specs.Profile.{Numbers}
 use Rattle.link_trace.specs.Masks.{AreNodes}
 use Rattle.link_trace.specs.Passes.{Lines}
 use Rattle.link_trace.specs.declared.lines.LinkLine.{LinkLine}
@@ -16,10 +15,8 @@ use Rattle.scenario_text.specs.declared.lines.NodeLine.{NodeLine}
 use Rattle.scenario_text.proofs.SoundScenarios.{sound}
 use Rattle.radio_model.specs.Hearing.{Scene, HearsInScene, TunedThrough}
 use Rattle.radio_model.specs.OnAir.{Sending}
-use Rattle.radio_model.specs.Reaches.{AreReaches, IsReach, IsAmong}
-use Rattle.radio_model.specs.declared.receivers.Reach.{Reach}
+use Rattle.radio_model.specs.Reaches.{HoldSame, IsAmong, IsReceivedBy}
 use Rattle.air_check.specs.Indexes.{IsSearchable}
-use Rattle.air_check.specs.ReceiverMasks.{HoldSame}
 use Rattle.air_check.specs.declared.index.Index.{Index}
 use Rattle.air_check.proofs.MissingOnes.{link_between}
 
@@ -64,63 +61,22 @@ receiver_known s ids said is a lines v x hears =
     subst (λ (u : ℕ). Contains ids u) (eqb-true w.0.node l.0.to w.2 ∙ l.3)
     (subst (λ (us : List ℕ). Contains us w.0.node) (sym is) (id_there s.nodes w.0 w.1))
 
--- what stands for each of the first n
-module _ {B : Type 0} (R : Sending → B → Type 0) (sent : List Sending) where
-  abbrev pub EachOf : ℕ → List B → Type 0
-  EachOf n bs = (k : ℕ) (d : Sending) (e : B) → k < n → R (get_or sent k d) (get_or bs k e)
-
-  pub one_more : (i : ℕ) (x : Sending) (old new : List B) (b : B) → i < length sent → x ≡ get_or sent i x → length old ≡ i → new ≡ old ++ b ∷ []
-      → EachOf i old → R x b → EachOf (i + 1) new
-  one_more i x old new b below at size pushed each here k d e less = elim (cases_lt k i) [
-    | inl before ↦
-        subst (λ (c : B). R (get_or sent k d) c)
-        (sym (ap (λ (l : List B). get_or l k e) pushed ∙ get_or_append_left old (b ∷ []) e k (omega (arith, before, size)))) (each k d e before)
-    | inr after ↦
-        let last : k ≡ i = omega (arith, less, after) in
-        subst (λ (y : Sending). R y (get_or new k e)) (at ∙ get_or_default sent i x d below ∙ ap (λ (n : ℕ). get_or sent n d) (sym last))
-        (subst (λ (c : B). R x c) (sym (ap (λ (l : List B). get_or l k e) pushed ∙ get_or_push old b e k (size ∙ sym last))) here)
-  ]
-
--- of a stretch of them
-pub reaches_of_some : (p : Numbers) (lines : Lines) (nodes : List ℕ) (sent : List Sending) (reaches : List Reach) (first count : ℕ) → first ≤ length sent
-    → count ≤ length sent - first → AreReaches p lines nodes sent reaches
-    → AreReaches p lines nodes (take count (drop first sent)) (take count (drop first reaches))
-reaches_of_some p lines nodes sent reaches first count within few are =
-    let left = length-drop first sent in
-    let also = length-drop first reaches in
-    let same = are.one_each in
-    let size = length-take-le count (drop first sent) (omega (arith, left, few)) in
-    let also_size = length-take-le count (drop first reaches) (omega (arith, also, same, few)) in
-    record {
-      one_each = omega (arith, size, also_size);
-      each = λ k d e below. (
-          let inside : k < count = omega (arith, below, size) in
-          let at : get_or (take count (drop first sent)) k d ≡ get_or sent (first + k) d =
-          get_or-take count (drop first sent) k d inside ∙ get_or-drop first sent k d in
-          let reach : get_or (take count (drop first reaches)) k e ≡ get_or reaches (first + k) e =
-          get_or-take count (drop first reaches) k e inside ∙ get_or-drop first reaches k e in
-          subst (λ (y : Sending). IsReach p lines nodes y (get_or (take count (drop first reaches)) k e)) (sym at)
-          (subst (λ (r : Reach). IsReach p lines nodes (get_or sent (first + k) d) r) (sym reach)
-          (are.each (first + k) d e (omega (arith, inside, within, few)))));
-    }
+-- the mask at a place is that of its transmission
+pub mask_at : (s : ScenarioParts) (i : Index) → IsSearchable s i → (place : ℕ) → place < length i.sent.items → (d : Sending) (mask : ℕ)
+    → mask ≡ get_or i.receivers.items place mask → IsReceivedBy s.profile s.trace i.nodes.items i.sent.items (get_or i.sent.items place d) mask
+mask_at s i is place below d mask at =
+    let inside : place < length i.receivers.items = omega (arith, below, is.receivers.one_each) in
+    subst (λ (m : ℕ). IsReceivedBy s.profile s.trace i.nodes.items i.sent.items (get_or i.sent.items place d) m)
+    (sym (at ∙ get_or_default i.receivers.items place mask 0 inside)) (is.receivers.each place d below)
 
 -- by the mask of a transmission
-module _ (s : ScenarioParts) (i : Index) (is : IsSearchable s i) (place : ℕ) (below : place < length i.sent.items) (d : Sending) (v mask : ℕ)
-    (at : mask ≡ get_or i.receivers.items place mask) (among : Bool) (so : (among ≡ true) ↔ IsAmong i.nodes.items mask v)
-    (a : Scene) (numbers : a.numbers ≡ s.profile) (lines : a.lines ≡ s.trace) (same : HoldSame a.sendings i.sent.items) where
-  abbrev pub sending : Sending
-  sending = get_or i.sent.items place d
-
-  by_mask : Contains i.nodes.items v → TunedThrough a v sending → (IsAmong i.nodes.items mask v ↔ HearsInScene a v sending)
-  by_mask known tuned =
-      let inside : place < length i.receivers.items = omega (arith, below, is.receivers.one_each) in
-      subst (λ (m : ℕ). IsAmong i.nodes.items m v ↔ HearsInScene a v sending) (sym (at ∙ get_or_default i.receivers.items place mask 0 inside))
-      (is.receivers.each place d below a v numbers lines same known tuned)
-
-  pub hears : among ≡ true → TunedThrough a v sending → HearsInScene a v sending
+module _ (s : ScenarioParts) (nodes : List ℕ) (said : IsScenario s) (ids : nodes ≡ map (λ n. n.node) s.nodes) (sent : List Sending) (x : Sending)
+    (v mask : ℕ) (is : IsReceivedBy s.profile s.trace nodes sent x mask) (among : Bool) (so : (among ≡ true) ↔ IsAmong nodes mask v)
+    (a : Scene) (numbers : a.numbers ≡ s.profile) (lines : a.lines ≡ s.trace) (same : HoldSame a.sendings sent) where
+  pub hears : among ≡ true → TunedThrough a v x → HearsInScene a v x
   hears among_so tuned =
       let is_in = so.0 among_so in
-      (by_mask (is_in.place, is_in.below, get_or_default i.nodes.items is_in.place v 0 is_in.below ∙ is_in.node) tuned).0 is_in
+      (is a v numbers lines same (is_in.place, is_in.below, get_or_default nodes is_in.place v 0 is_in.below ∙ is_in.node) tuned).0 is_in
 
-  pub is_in_mask : HearsInScene a v sending → among ≡ true
-  is_in_mask heard = so.1 ((by_mask (receiver_known s i.nodes.items is.said is.ids a lines v sending heard) heard.tuned).1 heard)
+  pub is_in_mask : HearsInScene a v x → among ≡ true
+  is_in_mask heard = so.1 ((is a v numbers lines same (receiver_known s nodes said ids a lines v x heard) heard.tuned).1 heard)

@@ -1,4 +1,4 @@
--- The worked verdicts, by traces that are computed.
+-- The worked verdicts, by trails that are computed.
 use Rattle.std.proofs.Common.{◌≡◌, ℕ, zero, suc, ◌<◌, List, [], ◌∷◌, true, IsPermutation, length, refl, ap, ◌∙◌, arith}
 use Rattle.std.proofs.lemmas.List.Sorted.{IsPermutation-refl, length_permutation}
 use Rattle.lwb_base.specs.Messages.{least_passing}

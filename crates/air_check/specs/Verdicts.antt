@@ -11,7 +11,7 @@ use Rattle.air_log.specs.Trails.{run_end}
 use Rattle.air_check.specs.declared.verdict.Verdict.{Verdict}
 use Rattle.air_check.specs.declared.verdict.Verdict.TheVariants.{Lawful, Trail, Heard, Missing}
 
--- the transmissions and tunings of v are those of its trace, each once
+-- the transmissions and tunings of v are those of its trail, each once
 pub record FollowsTrail (s : ScenarioParts) (clocks : ℕ → ℕ → ℕ) (air : List Entry) (v : ℕ) : Type 0 where
   pub sent : IsPermutation (trail_sent s clocks air v) (sent_by air v)
   pub tuned : IsPermutation (trail_tuned s clocks air v) (tuned_by air v)
@@ -60,7 +60,7 @@ pub record IsFirstMissing (s : ScenarioParts) (air : List Entry) (v u t : ℕ) :
   pub start : t ≡ sending.start
   pub first : (w : ℕ) (y : Sending) → IsMissing s air w y → NoLater v sending w y
 
--- traces come first, then receptions that are there, then those that are missing
+-- trails come first, then receptions that are there, then those that are missing
 abbrev pub IsVerdict : ScenarioParts → (ℕ → ℕ → ℕ) → List Entry → Verdict → Type 0
 IsVerdict s clocks air Lawful = LawfulLog s clocks air
 IsVerdict s clocks air (Trail v) = IsFirstAstray s clocks air v

@@ -1,4 +1,4 @@
-//! The first node that does not follow its trace.
+//! The first node that does not follow its trail.
 
 ghost use Rattle.std.specs.Prelude.{IfOk, IfSome, IfNone};
 ghost use Rattle.scenario_clocks.specs.StatedClocks.{scenario_clock};
@@ -15,7 +15,7 @@ use scenario_text::Scenario;
 use std::alloc::Global;
 use std::mem;
 
-/// The least id whose transmissions or tunings in the log are not those of its trace. `None` if and only if those of all ids are.
+/// The least id whose transmissions or tunings in the log are not those of its trail. `None` if and only if those of all ids are.
 pub(crate) fn first_astray(alloc: Global, s: &Scenario, air: &Air) -> Result<Option<NodeId>, Memory>
     ensures astray { IfOk result (λ o. IfSome o (λ v. IsFirstAstray s.now (scenario_clock s.now) air.now v)) }
     ensures followed { IfOk result (λ o. IfNone o (FollowsTrails s.now (scenario_clock s.now) air.now)) }

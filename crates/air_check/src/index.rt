@@ -1,24 +1,21 @@
 //! The transmissions and tunings of a log, in the orders in which they are searched.
 
-ghost use Rattle.std.specs.Prelude.{◌≡◌, nat_lt, ◌↔◌, ◌<◌, ◌≤◌, ◌^◌, ◌+◌, length, slice_index_or, IfOk, OnOk, IsPermutation};
-ghost use Rattle.std.specs.Prelude.{AllPairs, map, ◌++◌, option_to_list, true};
-ghost use Rattle.radio_model.specs.Hearing.{Before};
+ghost use Rattle.std.specs.Prelude.{◌≡◌, nat_lt, ◌↔◌, ◌<◌, ◌≤◌, ◌^◌, length, slice_index_or, IfOk, true};
 ghost use Rattle.radio_model.specs.OnAir.{Sending};
-ghost use Rattle.scenario_text.specs.ScenarioGrammar.{IsScenario};
 ghost use Rattle.scenario_clocks.specs.StatedClocks.{scenario_clock};
 ghost use Rattle.std.specs.Prelude.{List};
 ghost use Rattle.air_log.specs.declared.entry.Entry.{Entry};
 ghost use Rattle.air_log.specs.Trails.{run_end as run_end_of};
-ghost use Rattle.air_log.specs.Entries.{sendings_of, sending_in};
 ghost use Rattle.air_log.specs.Lawful.{FollowsTrails};
 ghost use Rattle.air_check.specs.Indexes.{IsIndex, IsSearchable};
 ghost use Rattle.air_check.specs.Verdicts.{IsGiven};
 
 use crate::receiver_masks::receiver_masks;
 use crate::receives::receives;
+use crate::sent::{ids, transmissions_of};
 use crate::tuned_index::tuned_of;
 use crate::tunings::Tuned;
-use air_log::{Air, Entry};
+use air_log::Air;
 use lwb_base::{Memory, NodeId};
 use radio_model::sending::Sending;
 use scenario_text::Scenario;
@@ -44,23 +41,15 @@ pub(crate) fn index_of(alloc: Global, s: &Scenario, air: &Air) -> Result<Index, 
     ensures searchable { IfOk result (IsSearchable s.now) }
 {
     let nodes = ids(alloc, s)?;
-    let sent = sent_in_order(alloc, air)?;
+    let sent = transmissions_of(alloc, s, &nodes, air)?;
     let receivers = receiver_masks(alloc, s, &nodes, &sent)?;
     let tuned = tuned_of(alloc, air)?;
     Ok(Index {
         nodes,
-        sent,
+        sent: sent.into_sent(),
         receivers,
         tuned,
     })
-}
-
-// The ids of the nodes of a scenario.
-fn ids(alloc: Global, s: &Scenario) -> Result<Vec<NodeId>, Memory>
-    ensures ids { IfOk result (λ ids. ids.items ≡ map (λ n. n.node) s.now.nodes) }
-    ensures said { IfOk result (λ ids. IsScenario s.now) }
-{
-    Ok(s.nodes().iter().map(|n| n.node).collect(alloc)?)
 }
 
 /// Whether the rules of the medium give the node a reception of the transmission at that place.
@@ -74,14 +63,6 @@ pub(crate) fn is_given(s: &Scenario, index: &Index, node: NodeId, place: usize) 
         return false;
     }
     receives(s, index, node, place)
-}
-
-/// The entry at that place.
-pub(crate) fn entry_at(air: &Air, i: usize) -> &Entry
-    requires { i < length air.now }
-    ensures { result.now ≡ slice_index_or air.now i result.now }
-{
-    air.at(i).unwrap()
 }
 
 // Whether x ends before the run does.
@@ -98,50 +79,4 @@ fn run_end(s: &Scenario) -> u64
     ensures range { result ≤ 2 ^ 46 }
 {
     u64::from(s.frames()) * s.profile().frame()
-}
-
-// The transmissions of a log by start, then sender.
-fn sent_in_order(alloc: Global, air: &Air) -> Result<Vec<Sending>, Memory>
-    ensures sent { IfOk result (λ xs. IsPermutation (sendings_of air.now) xs.items) }
-    ensures in_order { IfOk result (λ xs. AllPairs Before xs.items) }
-{
-    let mut sent = sent_in(alloc, air)?;
-    sent.sort_by_key(|x| place(x))?;
-    Ok(sent)
-}
-
-// What the order goes by.
-fn place(x: &Sending) -> (u64, u8)
-    ensures { result ≡ (x.now.start, x.now.node) }
-{
-    (x.start, x.node.number())
-}
-
-fn sent_in(alloc: Global, air: &Air) -> Result<Vec<Sending>, Memory>
-    ensures { IfOk result (λ xs. xs.items ≡ sendings_of air.now) }
-{
-    let mut sent = Vec::new(alloc);
-    for i in 0..air.len() {
-        push_some(&mut sent, sending_by(entry_at(air, i)))?;
-    }
-    Ok(sent)
-}
-
-fn push_some(sent: &mut Vec<Sending>, x: Option<Sending>) -> Result<(), Memory>
-    ensures { OnOk result (sent.new.items ≡ sent.old.items ++ option_to_list x) }
-{
-    if let Some(x) = x {
-        sent.push(x)?;
-    }
-    Ok(())
-}
-
-// The transmission that an entry says.
-fn sending_by(entry: &Entry) -> Option<Sending>
-    ensures { result ≡ sending_in entry.now }
-{
-    match entry {
-        Entry::Sent(sent) => Some(sent.copy()),
-        Entry::Heard(_) | Entry::Tuned(_) => None,
-    }
 }

@@ -17,7 +17,7 @@ pub fn a_log_has_one_verdict()
 {}
 
 /// Worked out, on the log of a host's first round with another node: it is valid. Without its first reception node 2
-/// relays what it did not receive. With no entry at all node 1 does not do what its trace says, which is on and transmits
+/// relays what it did not receive. With no entry at all node 1 does not do what its trail says, which is on and transmits
 /// whatever it receives.
 pub fn verdicts_on_a_first_round()
     ensures whole { IsVerdict first_round true_time first_round_log Lawful }

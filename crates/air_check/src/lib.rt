@@ -21,6 +21,7 @@ mod reach;
 mod receiver_masks;
 mod receives;
 mod same_entries;
+pub mod sent;
 mod tuned_index;
 mod tunings;
 mod verdict;

@@ -1,4 +1,4 @@
-//! Whether a node did by a log what its trace says.
+//! Whether a node did by a log what its trail says.
 
 ghost use Rattle.std.specs.Prelude.{◌≡◌, List, true, IfOk, IsPermutation};
 ghost use Rattle.std.specs.List.Sorted.{IsNonDecreasingBy};
@@ -19,7 +19,7 @@ use scenario_text::Scenario;
 use std::alloc::Global;
 use tick_clock::{DriftClock, SegmentClock};
 
-/// Whether the transmissions and tunings of this id are those of its trace, each once. An id that is no node has none. `Err`
+/// Whether the transmissions and tunings of this id are those of its trail, each once. An id that is no node has none. `Err`
 /// means out of memory.
 pub fn follows_trail(
     alloc: Global,

@@ -1,25 +1,18 @@
 //! Packets as words of hexadecimal digits.
 
-ghost use Rattle.std.specs.Prelude.{◌≡◌, ◌<◌};
-ghost use Rattle.std.specs.Char.{is_ascii_hexdigit};
-ghost use Rattle.std.specs.List.{list_all};
-ghost use Rattle.scenario_text.specs.Payloads.{hex_value as hex_value_of, hex_bytes};
+ghost use Rattle.std.specs.Prelude.{◌≡◌};
+ghost use Rattle.scenario_text.specs.Payloads.{hex_bytes};
 ghost use Rattle.air_check.specs.LogGrammar.{is_hex as is_hex_of, packet_of_bytes};
 
 use arrayvec::ArrayVec;
 use lwb_base::Packet;
+use text_readers::{are_hex, hex_value};
 
 /// Whether the word is an even count of hexadecimal digits, of either case.
 pub fn is_hex(word: &[u8]) -> bool
     ensures { result ≡ is_hex_of word.now }
 {
     are_hex(word) && word.len() % 2 == 0
-}
-
-fn are_hex(word: &[u8]) -> bool
-    ensures { result ≡ list_all is_ascii_hexdigit word.now }
-{
-    word.iter().all(|b| b.is_ascii_hexdigit())
 }
 
 /// The packet that the digits spell. None where it has fewer than 3 or more than 125 bytes.
@@ -36,16 +29,4 @@ pub fn packet(digits: &[u8]) -> Option<Packet>
         rest = &rest[2..];
     }
     Packet::new(bytes.as_slice())
-}
-
-fn hex_value(digit: u8) -> u8
-    ensures value { result ≡ hex_value_of digit }
-    ensures small { result < 16 }
-{
-    match digit {
-        b'0'..=b'9' => digit - b'0',
-        b'a'..=b'f' => digit - b'a' + 10,
-        b'A'..=b'F' => digit - b'A' + 10,
-        _ => 0,
-    }
 }

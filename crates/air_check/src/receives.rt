@@ -4,7 +4,7 @@ ghost use Rattle.std.specs.Prelude.{◌≡◌, ◌↔◌, ◌<◌, true, length,
 ghost use Rattle.radio_model.specs.Hearing.{Scene, HearsInScene};
 ghost use Rattle.radio_model.specs.OnAir.{Sending};
 ghost use Rattle.air_check.specs.Indexes.{IsSearchable};
-ghost use Rattle.air_check.specs.ReceiverMasks.{HoldSame};
+ghost use Rattle.radio_model.specs.Reaches.{HoldSame};
 ghost use Rattle.air_check.specs.Tunings.{AreTuned};
 
 use crate::index::Index;

@@ -5,7 +5,7 @@ ghost use Rattle.std.specs.Option.{option_map};
 ghost use Rattle.air_log.specs.Entries.{tunings_of, tuning_in};
 ghost use Rattle.air_check.specs.Tunings.{AreTuned, IsNoLater, IsUntilAfter, tuning_of_tuned};
 
-use crate::index::entry_at;
+use crate::sent::entry_at;
 use crate::tunings::Tuned;
 use air_log::{Air, Entry};
 use lwb_base::Memory;

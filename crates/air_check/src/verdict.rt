@@ -5,10 +5,10 @@ use lwb_base::NodeId;
 /// What is wrong first with a log, if anything is. The four exclude each other: `laws::a_log_has_one_verdict`.
 #[derive(Clone, Copy, Debug, PartialEq, Eq)]
 pub enum Verdict {
-    /// The log is valid: each node did what its trace says over what it received, and each reception is there, once,
+    /// The log is valid: each node did what its trail says over what it received, and each reception is there, once,
     /// that the rules of the medium give.
     Lawful,
-    /// The node of the least id whose transmissions and tunings aren't those of its trace.
+    /// The node of the least id whose transmissions and tunings aren't those of its trail.
     Trail(NodeId),
     /// Traces are followed. The first entry, counted from 1, that is a reception which the rules of the medium don't give,
     /// or which is above already.

@@ -12,7 +12,8 @@ ghost use Rattle.air_check.specs.Verdicts.{IsFirstWrong, AreGiven};
 
 use crate::due::is_due;
 use crate::flags::{heard_in, place_of, receive};
-use crate::index::{Index, entry_at};
+use crate::index::Index;
+use crate::sent::entry_at;
 use air_log::{Air, Entry, HeardEntry};
 use scenario_text::Scenario;
 

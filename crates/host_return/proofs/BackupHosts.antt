@@ -13,7 +13,8 @@ use Rattle.scenario_text.specs.ScenarioParts.{ScenarioParts}
 use Rattle.air_log.specs.declared.entry.Entry.{Entry}
 use Rattle.air_log.specs.Devices.{Power, PowerOff, PowerOn}
 use Rattle.air_log.specs.Lawful.{Lawful, heard_by}
-use Rattle.air_log.specs.Trails.{frame_start, setup_of, tune_of, at_frame}
+use Rattle.scenario_text.specs.Setups.{setup_of}
+use Rattle.air_log.specs.Trails.{frame_start, tune_of, at_frame}
 use Rattle.law_trails.specs.DeviceRanges.{IsPower}
 use Rattle.law_trails.proofs.LogsInRange.{all_through}
 use Rattle.law_safety.proofs.RunFacts.{known_id}

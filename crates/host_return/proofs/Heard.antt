@@ -1,29 +1,24 @@
 -- Schedules that a node receives as it probes their channel.
 use Rattle.std.proofs.Common.{◌≡◌, ℕ, ◌+◌, ◌*◌, ◌<◌, ◌≤◌, ◌^◌, List, [], ◌∷◌, ◌++◌, zero, suc, take, get_or, length, length-take}
-use Rattle.std.proofs.Common.{inl, inr, Contains, All, AllPairs, refl, sym, ◌∙◌, ap, subst, arith}
+use Rattle.std.proofs.Common.{inl, inr, Contains, AllPairs, refl, sym, ◌∙◌, ap, subst, arith}
 use Rattle.std.proofs.lemmas.Bool.{cases_lt}
 use Rattle.std.proofs.lemmas.List.{take_more, get_or-take, get_or_default}
-use Rattle.std.proofs.lemmas.List.Elements.{Contains-get_or, Contains-append_cases}
+use Rattle.std.proofs.lemmas.List.Elements.{Contains-append_cases}
 use Rattle.std.proofs.Math.Nat.{mul-le-mul_right}
 use Rattle.scenario_text.specs.ScenarioGrammar.{IsScenario}
 use Rattle.scenario_text.specs.ScenarioParts.{ScenarioParts}
 use Rattle.scenario_text.proofs.SoundScenarios.{sound}
-use Rattle.scenario_clocks.specs.StatedClocks.{scenario_clock}
 use Rattle.radio_model.specs.Hearing.{Before, TunedThrough}
 use Rattle.radio_model.specs.OnAir.{Tuning}
-use Rattle.radio_model.specs.Receptions.{AreNear}
+use Rattle.radio_model.specs.Reaches.{HoldSame}
 use Rattle.radio_model.specs.declared.sending.Sending.{Sending}
 use Rattle.radio_model.proofs.Members.{in_head}
 use Rattle.air_log.specs.declared.entry.Entry.{Entry}
-use Rattle.air_log.specs.Entries.{tunings_of}
+use Rattle.air_log.specs.Entries.{sendings_of, tunings_of}
 use Rattle.air_log.specs.HearsAir.{scene_of}
-use Rattle.air_log.specs.Lawful.{Lawful}
 use Rattle.air_log.specs.Trails.{frame_start}
 use Rattle.air_log.proofs.ShortRuns.{short_run}
-use Rattle.law_trails.proofs.SentInTrails.{sent_lasts}
 use Rattle.host_return.specs.Probes.{Brings, IsOfFrame, with_probe}
-use Rattle.host_return.specs.Transmissions.{AreSent}
-use Rattle.host_return.specs.declared.transmissions.Transmissions.{Transmissions}
 
 -- it is tuned there all the time
 pub tuned_through : (s : ScenarioParts) (air : List Entry) (f v rank : ℕ) (x : Sending) → x.rank ≡ rank → IsOfFrame s f x.start → IsOfFrame s f x.end
@@ -41,20 +36,10 @@ tuned_through s air f v rank x channel starts ends t after before =
       until = omega (arith, until, before);
     }
 
-pub near_sent : (s : ScenarioParts) (air : List Entry) (f v rank : ℕ) (t : Transmissions) (near : List Sending) (x : Sending) → AreSent air t
-    → AreNear t.sent.items x near → AreNear (scene_of s.profile s.trace (with_probe s air f v rank)).sendings x near
-near_sent s air f v rank t near x sent are = record {
-  among = λ y there. sent.among y (are.among y there);
-  all = λ y there meets. are.all y (sent.all y there) meets;
-}
-
-pub early_sent : (s : ScenarioParts) (air : List Entry) (t : Transmissions) → IsScenario s → Lawful s (scenario_clock s) air → AreSent air t
-    → All (λ (y : Sending). y.start ≤ 2 ^ 46) t.sent.items
-early_sent s air t said lawful sent k d below =
-    let y : Sending = get_or t.sent.items k d in
-    let starts = (sent_lasts s (scenario_clock s) air lawful.trails y (sent.among y (Contains-get_or t.sent.items k d below))).0 in
-    let short = short_run s (sound s said) in
-    omega (arith, starts, short)
+-- a probe sends nothing
+pub same_sent : (s : ScenarioParts) (air : List Entry) (f v rank : ℕ) (sent : List Sending) → HoldSame (sendings_of air) sent
+    → HoldSame (scene_of s.profile s.trace (with_probe s air f v rank)).sendings sent
+same_sent s air f v rank sent same = record { into = same.into; back = same.back }
 
 pub early_start : (s : ScenarioParts) (f : ℕ) → IsScenario s → f ≤ s.frames → f * s.profile.frame < 2 ^ 64
 early_start s f said few =

@@ -4,6 +4,7 @@ mod Heard
 mod IdleCounted
 mod IdleInOrder
 mod IdleInRuns
+mod IdleRead
 mod NodesProbing
 mod OneReturned
 mod ProbedStill

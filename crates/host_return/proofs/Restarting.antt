@@ -15,7 +15,7 @@ use Rattle.host_return.specs.Wishes.{told}
 use Rattle.host_return.specs.declared.returned.Return.{Return}
 use Rattle.host_return.proofs.WishesTold.{wish_told, few_wished}
 
--- by what the script tells, they are those by what the trace says
+-- by what the script tells, they are those by what the trail says
 pub restart_told : (s : ScenarioParts) (air : List Entry) (r : Return) → IsSoundScenario s
     → restart (r.frame + 1) r.node (λ i. (told (r.frame + 1) r.node i s.script).1) ≡ lines_of_going_back s air r
 restart_told s air r sound =

@@ -11,8 +11,9 @@ use Rattle.lwb_base.specs.declared.event.Event.{Event}
 use Rattle.lwb_base.specs.declared.event.Event.TheVariants.{Boot, Alarm, Heard, Sent}
 use Rattle.bus_rules.specs.Tables.{Table}
 use Rattle.bus_rules.specs.HostPlans.{Served, serve, answers_to, host_plan}
-use Rattle.bus_rules.specs.Streams.{Stream, Streams, no_stream, stream_at, with_stream, taken, without_first, unbound, heard_host, is_host, names}
-use Rattle.bus_rules.specs.Streams.{acknowledged, owns, forgets, forgotten, with_granted_interval, after_contention, tries_after, due_stream, schedule_heard}
+use Rattle.bus_rules.specs.Streams.{Stream, Streams, no_stream, stream_at, with_stream, after_taking, without_first, unbound, heard_host, is_host, names}
+use Rattle.bus_rules.specs.Streams.{acknowledged, owner_named, after_forgetting, forgotten, with_granted_interval, after_contention, tries_after}
+use Rattle.bus_rules.specs.Streams.{due_stream, schedule_heard}
 use Rattle.bus_rules.specs.Streams.{granted_stream, named_in}
 use Rattle.bus_rules.specs.declared.part.Part.{Part}
 use Rattle.bus_rules.specs.declared.part.Part.TheVariants.{Opening, Data as DataSlot, Contention, Closing}
@@ -85,12 +86,12 @@ acknowledged_same node boot frame s a =
     let new = with_same s a.stream x refl in
     either (names node boot a) s (record (with_stream a.stream x s) { tries = 0; skips = 0 }) s (record { count = new.count; wish = new.wish }) (same s)
 
-owns_same : (node frame : ℕ) (s : Streams) (c : ℕ) → SameWishes s (owns node frame s c)
+owns_same : (node frame : ℕ) (s : Streams) (c : ℕ) → SameWishes s (owner_named node frame s c)
 owns_same node frame s c =
     let x = named_in frame (stream_at s (stream_of c)) in
     either (node_of c == node) s (with_stream (stream_of c) x s) s (with_same s (stream_of c) x refl) (same s)
 
-forgets_same : (frame : ℕ) (s : Streams) → SameWishes s (forgets frame s)
+forgets_same : (frame : ℕ) (s : Streams) → SameWishes s (after_forgetting frame s)
 forgets_same frame s = record { count = length-map s.all (forgotten frame); wish = λ i. map_wish (forgotten frame) (λ x. refl) s.all i }
 
 heard_same : (node boot frame : ℕ) (x : Schedule) (s : Streams) → SameWishes s (schedule_heard node boot frame x s)
@@ -98,12 +99,12 @@ unfolding schedule_heard
 heard_same node boot frame x s =
     let known = heard_host x.plan.rank x.plan.boot s in
     let answered = fold (acknowledged node boot frame) known x.plan.acks in
-    let named = fold (owns node frame) answered x.plan.owners in
+    let named = fold (owner_named node frame) answered x.plan.owners in
     let first = host_same x.plan.rank x.plan.boot s in
     let second = fold_same (acknowledged node boot frame) (acknowledged_same node boot frame) x.plan.acks known in
-    let third = fold_same (owns node frame) (owns_same node frame) x.plan.owners answered in
+    let third = fold_same (owner_named node frame) (owns_same node frame) x.plan.owners answered in
     let all = in_turn s answered named (in_turn s known answered first second) third in
-    either (x.gap == 0) s named (forgets frame named) all (in_turn s named (forgets frame named) all (forgets_same frame named))
+    either (x.gap == 0) s named (after_forgetting frame named) all (in_turn s named (after_forgetting frame named) all (forgets_same frame named))
 
 -- a host serves its own streams
 served_same : (frame node boot : ℕ) (is : List ℕ) (x : Served) → SameWishes x.streams (fold (serve frame node boot) x is).streams
@@ -131,7 +132,8 @@ at_opening : (s : Setup) (f : ℕ) (part : Part) (c : Core) → SameWishes c.str
 at_opening s f Opening c = same c.streams
 at_opening s f (DataSlot owner) c =
     let i = stream_of owner in
-    either (node_of owner == s.id) c.streams (taken i c.streams) c.streams (with_same c.streams i (without_first (stream_at c.streams i)) refl) (same c.streams)
+    either (node_of owner == s.id) c.streams (after_taking i c.streams) c.streams
+    (with_same c.streams i (without_first (stream_at c.streams i)) refl) (same c.streams)
 at_opening s f (Contention i) c =
     either (is_own c.own_slot i) c.streams (after_contention s.id c.streams) c.streams (contention_same s.id c.streams) (same c.streams)
 at_opening s f Closing c =

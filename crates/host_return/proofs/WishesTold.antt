@@ -15,7 +15,8 @@ use Rattle.bus_rules.specs.declared.act.Act.TheVariants.{On, Off, Declare, Leave
 use Rattle.scenario_text.specs.declared.script.ScriptLine.{ScriptLine}
 use Rattle.scenario_text.proofs.EachPair.{pairs_climb}
 use Rattle.air_log.specs.Devices.{Device, Power, PowerOff, PowerOn}
-use Rattle.air_log.specs.Trails.{Reception, setup_of, frame_start, lines_at, device_after_script, ending_at, device_after_receptions, alarm_is_due, alarm_limit}
+use Rattle.scenario_text.specs.Setups.{setup_of}
+use Rattle.air_log.specs.Trails.{Reception, frame_start, lines_at, device_after_script, ending_at, device_after_receptions, alarm_is_due, alarm_limit}
 use Rattle.air_log.specs.Trails.{before_alarms, before_start, before_tick, at_frame}
 use Rattle.lwb_base.proofs.Elements.{filtered}
 use Rattle.law_safety.proofs.RunFacts.{frame_lasts}

@@ -33,6 +33,10 @@ probed_rank s air f v = probed_with f (tune_at s v (scenario_clock s v) (heard_b
 abbrev pub idle_of : ScenarioParts → List Entry → List Idle
 idle_of s air = all_idle s (scenario_clock s) air
 
+-- the frame, the node, and the rank that it hosts
+abbrev pub idle_parts : Idle → ℕ × ℕ × ℕ
+idle_parts i = (i.frame, i.node, i.rank)
+
 -- the rank that the host of a rank probes in frame f, where it is idle
 abbrev pub probed_from : ℕ → ℕ → Option ℕ
 probed_from f rank = if nat_lt 0 rank then Some (f % rank) else None

@@ -1,17 +1,18 @@
 -- Internal: the transmissions of a log by start, for a search.
-use Rattle.std.specs.Prelude.{◌+◌, ◌≤◌, List, All, AllPairs, Contains}
-use Rattle.radio_model.specs.Hearing.{Before}
-use Rattle.radio_model.specs.declared.sending.Sending.{Sending}
+use Rattle.std.specs.Prelude.{◌≡◌, List, map}
+use Rattle.radio_model.specs.Reaches.{AreSearchable, HoldSame}
+use Rattle.scenario_text.specs.ScenarioGrammar.{IsScenario}
+use Rattle.scenario_text.specs.ScenarioParts.{ScenarioParts}
 use Rattle.air_log.specs.declared.entry.Entry.{Entry}
 use Rattle.air_log.specs.Entries.{sendings_of}
-use Rattle.host_return.specs.declared.transmissions.Transmissions.{Transmissions}
+use Rattle.host_return.specs.declared.transmissions.Search.{Search}
 
 -- they are those of the log
-pub record AreSent (air : List Entry) (t : Transmissions) : Type 0 where
-  pub among : (y : Sending) → Contains t.sent.items y → Contains (sendings_of air) y
-  pub all : (y : Sending) → Contains (sendings_of air) y → Contains t.sent.items y
+abbrev pub AreSent : List Entry → Search → Type 0
+AreSent air t = HoldSame (sendings_of air) t.sent.sent
 
--- they are in order, and none lasts longer than is said
-pub record TransmissionsAreSearchable (t : Transmissions) : Type 0 where
-  pub in_order : AllPairs Before t.sent.items
-  pub longest : All (λ y. y.end ≤ y.start + t.longest) t.sent.items
+-- the nodes are those of the scenario, and the transmissions are in order over its trail
+pub record IsSearchable (s : ScenarioParts) (t : Search) : Type 0 where
+  pub said : IsScenario s
+  pub ids : t.nodes.items ≡ map (λ n. n.node) s.nodes
+  pub sent : AreSearchable s.profile s.trace t.nodes.items t.sent

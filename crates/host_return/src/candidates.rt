@@ -1,6 +1,6 @@
 //! The next return in a run.
 
-ghost use Rattle.std.specs.Prelude.{◌≡◌, ◌≤◌, ◌^◌, List, false, IfOk, IfSome, IfNone, All};
+ghost use Rattle.std.specs.Prelude.{◌≡◌, List, false, IfOk, IfSome, IfNone};
 ghost use Rattle.std.specs.List.{list_any};
 ghost use Rattle.scenario_clocks.specs.StatedClocks.{scenario_clock};
 ghost use Rattle.scenario_text.specs.ScenarioGrammar.{IsScenario};
@@ -8,12 +8,12 @@ ghost use Rattle.air_log.specs.declared.entry.Entry.{Entry as EntryOf};
 ghost use Rattle.air_log.specs.Lawful.{Lawful};
 ghost use Rattle.host_return.specs.Candidates.{switches_off, AllListed, IsCandidate, IsNextReturn, is_listed as is_listed_in};
 ghost use Rattle.host_return.specs.Probes.{idle_of, IsIdleIn};
-ghost use Rattle.host_return.specs.Transmissions.{AreSent, TransmissionsAreSearchable};
+ghost use Rattle.host_return.specs.Transmissions.{AreSent, IsSearchable};
 ghost use Rattle.host_return.specs.declared.returned.Return.{Return as ReturnOf};
 
 use crate::Return;
 use crate::probes::probed_rank;
-use crate::transmissions::Transmissions;
+use crate::transmissions::Search;
 use air_log::Air;
 use lwb_base::{Memory, NodeId};
 use scenario_text::{Act, Scenario, ScriptLine};
@@ -41,7 +41,7 @@ pub(crate) fn next_return(
     if idle.is_empty() {
         return Ok(None);
     }
-    let sent = Transmissions::of(alloc, air)?;
+    let sent = Search::of(alloc, s, air)?;
     for one in idle {
         if let Some(next) = fresh_candidate(read, s, one, &sent, listed) {
             return Ok(Some(next));
@@ -55,13 +55,12 @@ fn fresh_candidate(
     read: &Scenario,
     s: &Scenario,
     idle: &Idle,
-    sent: &Transmissions,
+    sent: &Search,
     listed: &[Return],
 ) -> Option<Return>
     requires said { IsScenario s.now }
     requires frames { read.now.frames ≡ s.now.frames }
-    requires searchable { TransmissionsAreSearchable sent.now }
-    requires early { All (λ y. y.start ≤ 2 ^ 46) sent.now.sent.items }
+    requires searchable { IsSearchable s.now sent.now }
     ensures some { (air : List EntryOf) → AreSent air sent.now → IsIdleIn s.now air idle.now
         → IfSome result (λ r. IsCandidate read.now s.now air r × (is_listed_in listed.now r ≡ false) × (r.frame ≡ idle.now.frame)
         × (r.node ≡ idle.now.node)) }

@@ -7,21 +7,23 @@ ghost use Rattle.air_log.specs.Lawful.{Lawful};
 ghost use Rattle.air_log.specs.Safe.{Safe};
 ghost use Rattle.host_return.specs.AfterReturns.{AllProbed, AllQuiet};
 ghost use Rattle.host_return.specs.Courses.{IsFollowed, IsOneMore};
+ghost use Rattle.host_return.specs.Probes.{idle_of};
 ghost use Rattle.host_return.specs.Returned.{ReturnsEnd, IsReturned, counts_in};
 
 use crate::candidates::next_return;
 use crate::probes::counts_of;
 use crate::restart::lines_of;
-use crate::{Return, Returned, Runner};
+use crate::{ListsIdle, Return, Returned, Runner};
 use air_log::Air;
 use lwb_base::Memory;
 use scenario_text::{Scenario, with_script};
 use std::alloc::Global;
+use world_engine::Idle;
 
 /// Follows the returns of a scenario, at most 16: in each run it takes the least candidate by frame and then node, and runs the
 /// scenario again with the script lines of that return. What the runner keeps is of the last run. The only error is out of
 /// memory; after it the runner may hold anything.
-pub fn follow_returns<R: Runner>(
+pub fn follow_returns<R: ListsIdle>(
     alloc: Global,
     s: &Scenario,
     runner: &mut R,
@@ -68,7 +70,7 @@ impl Course {
     }
 
     // Takes one return more. It is `false` where there is none, or no room for its lines.
-    fn go_back<R: Runner>(
+    fn go_back<R: ListsIdle>(
         &mut self,
         alloc: Global,
         read: &Scenario,
@@ -83,8 +85,9 @@ impl Course {
         ensures kept { result ≡ Ok true → R.kept runner.new self.new.scenario self.new.air }
         ensures no_run { result ≡ Ok false → runner.new ≡ runner.old }
     {
+        let idle = self.idle(alloc, runner)?;
         let s = &self.scenario;
-        let Some(r) = next_return(alloc, read, s, &self.air, runner.idle(), &self.returns)? else {
+        let Some(r) = next_return(alloc, read, s, &self.air, &idle, &self.returns)? else {
             return Ok(false);
         };
         let lines = lines_of(alloc, s, &r)?;
@@ -98,8 +101,20 @@ impl Course {
         Ok(true)
     }
 
+    // Where nodes are idle in this run, as the runner lists it.
+    fn idle<R: ListsIdle>(&self, alloc: Global, runner: &R) -> Result<Vec<Idle>, Memory>
+        requires kept { R.kept runner.now self.now.scenario self.now.air }
+        ensures { IfOk result (λ idle. idle.items ≡ idle_of self.now.scenario self.now.air) }
+    {
+        let mut idle = Vec::new(alloc);
+        while let Some((frame, node, rank)) = runner.idle(idle.len()) {
+            idle.push(Idle { frame, node, rank })?;
+        }
+        Ok(idle)
+    }
+
     // What came of it, with the counts of its run.
-    fn finish<R: Runner>(self, alloc: Global, runner: &R) -> Result<Returned, Memory>
+    fn finish<R: ListsIdle>(self, alloc: Global, runner: &R) -> Result<Returned, Memory>
         requires lawful { Lawful self.scenario (scenario_clock self.scenario) self.air }
         requires kept { R.kept runner.now self.scenario self.air }
         ensures { IfOk result (λ x. x ≡ record {
@@ -109,7 +124,8 @@ impl Course {
           counts = counts_in self.scenario self.air;
         }) }
     {
-        let counts = counts_of(alloc, &self.scenario, runner.idle())?;
+        let idle = self.idle(alloc, runner)?;
+        let counts = counts_of(alloc, &self.scenario, &idle)?;
         let Course {
             scenario,
             air,

@@ -12,4 +12,4 @@ mod transmissions;
 
 pub use follow::follow_returns;
 pub use returned::{Return, Returned};
-pub use runner::Runner;
+pub use runner::{ListsIdle, Runner};

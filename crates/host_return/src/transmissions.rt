@@ -1,66 +1,66 @@
-//! The transmissions of a log by start, and the schedules among them that a node would receive.
+//! The schedules in a log that a node would receive.
 
-ghost use Rattle.std.specs.Prelude.{◌≡◌, ◌↔◌, ◌≤◌, ◌<◌, ◌^◌, ◌++◌, ℕ, List, true, IfOk, OnOk, IsPermutation, All, AllPairs, Contains};
-ghost use Rattle.std.specs.Prelude.{option_to_list, slice_index_or, length};
+ghost use Rattle.std.specs.Prelude.{◌≡◌, ◌↔◌, ◌≤◌, ◌<◌, List, true, IfOk, AllPairs, Contains};
 ghost use Rattle.schedule_codec.specs.Reading.{is_schedule as is_schedule_of};
 ghost use Rattle.radio_model.specs.Hearing.{Before};
 ghost use Rattle.radio_model.specs.declared.sending.Sending.{Sending as SendingOf};
+ghost use Rattle.scenario_text.specs.ScenarioGrammar.{IsScenario};
+ghost use Rattle.scenario_clocks.specs.StatedClocks.{scenario_clock};
+ghost use Rattle.air_log.specs.Lawful.{Lawful};
 ghost use Rattle.air_log.specs.declared.entry.Entry.{Entry as EntryOf};
-ghost use Rattle.air_log.specs.Entries.{sendings_of, sending_in};
 ghost use Rattle.host_return.specs.Probes.{Brings, HearsAsProbe, IsOfFrame};
 ghost use Rattle.air_log.specs.Trails.{frame_start as start_of_frame};
-ghost use Rattle.host_return.specs.Transmissions.{AreSent, TransmissionsAreSearchable};
+ghost use Rattle.host_return.specs.Transmissions.{AreSent, IsSearchable};
 
 use crate::Return;
-use air_log::{Air, Entry};
-use lwb_base::{Memory, Packet};
-use radio_model::near::{longest, near};
-use radio_model::reception::comes_through;
+use air_check::sent::{ids, transmissions_of};
+use air_log::Air;
+use lwb_base::{Memory, NodeId, Packet};
+use radio_model::Transmissions;
+use radio_model::receivers::is_among;
 use radio_model::sending::Sending;
 use scenario_text::Scenario;
 use schedule_codec::read;
 use std::alloc::Global;
 
-/// The transmissions of a log by start and then sender.
+/// The transmissions of a log, for a search.
 #[derive(Drop)]
-pub(crate) struct Transmissions {
-    sent: Vec<Sending>,
-    // The longest time that one of them is on the air, in ticks.
-    longest: u64,
+pub(crate) struct Search {
+    // The ids of the nodes, ascending.
+    nodes: Vec<NodeId>,
+    sent: Transmissions,
 }
 
-impl Transmissions {
-    pub(crate) fn of(alloc: Global, air: &Air) -> Result<Transmissions, Memory>
+impl Search {
+    pub(crate) fn of(alloc: Global, s: &Scenario, air: &Air) -> Result<Search, Memory>
+        requires said { IsScenario s.now }
+        requires lawful { Lawful s.now (scenario_clock s.now) air.now }
         ensures sent { IfOk result (AreSent air.now) }
-        ensures searchable { IfOk result TransmissionsAreSearchable }
+        ensures searchable { IfOk result (IsSearchable s.now) }
     {
-        let sent = sent_in_order(alloc, air)?;
-        Ok(Transmissions {
-            longest: longest(&sent),
-            sent,
-        })
+        let nodes = ids(alloc, s)?;
+        let sent = transmissions_of(alloc, s, &nodes, air)?;
+        Ok(Search { nodes, sent })
     }
 
     /// Whether the node of r would receive a schedule of the rank of r in the frame of r.
     pub(crate) fn bring_schedule(&self, s: &Scenario, r: &Return) -> bool
         requires frame { r.now.frame < s.now.frames }
-        requires searchable { TransmissionsAreSearchable self.now }
-        requires early { All (λ y. y.start ≤ 2 ^ 46) self.now.sent.items }
+        requires searchable { IsSearchable s.now self.now }
         ensures { (air : List EntryOf) → AreSent air self.now
             → (result ≡ true ↔ ((x : SendingOf) × Brings s.now air r.now.frame r.now.node r.now.rank x)) }
     {
-        let some = since(&self.sent, frame_start(s, r.frame));
+        let some = since(self.sent.sent(), frame_start(s, r.frame));
         self.bring_one_of(some, s, r)
     }
 
     // Whether one of these, which are in order from the start of the frame on, is such a schedule.
     fn bring_one_of(&self, some: &[Sending], s: &Scenario, r: &Return) -> bool
         requires frame { r.now.frame < s.now.frames }
-        requires searchable { TransmissionsAreSearchable self.now }
-        requires early { All (λ y. y.start ≤ 2 ^ 46) self.now.sent.items }
+        requires searchable { IsSearchable s.now self.now }
         requires in_order { AllPairs Before some.now }
         requires since { (y : SendingOf) → Contains some.now y → start_of_frame s.now r.now.frame ≤ y.start }
-        requires among { (y : SendingOf) → Contains some.now y → Contains self.now.sent.items y }
+        requires among { (y : SendingOf) → Contains some.now y → Contains self.now.sent.sent y }
         ensures { (air : List EntryOf) → AreSent air self.now
             → (result ≡ true ↔ ((x : SendingOf) × Contains some.now x × Brings s.now air r.now.frame r.now.node r.now.rank x)) }
     {
@@ -78,9 +78,8 @@ impl Transmissions {
     // Whether this one is such a schedule.
     fn brings(&self, x: &Sending, s: &Scenario, r: &Return) -> bool
         requires frame { r.now.frame < s.now.frames }
-        requires searchable { TransmissionsAreSearchable self.now }
-        requires early { All (λ y. y.start ≤ 2 ^ 46) self.now.sent.items }
-        requires there { Contains self.now.sent.items x.now }
+        requires searchable { IsSearchable s.now self.now }
+        requires there { Contains self.now.sent.sent x.now }
         ensures { (air : List EntryOf) → AreSent air self.now → (result ≡ true ↔ Brings s.now air r.now.frame r.now.node r.now.rank x.now) }
     {
         if x.rank != r.rank {
@@ -100,14 +99,13 @@ impl Transmissions {
 
     // Whether the node would receive it, tuned to its channel for the whole frame.
     fn comes_through(&self, x: &Sending, s: &Scenario, r: &Return) -> bool
-        requires searchable { TransmissionsAreSearchable self.now }
-        requires early { All (λ y. y.start ≤ 2 ^ 46) self.now.sent.items }
-        requires there { Contains self.now.sent.items x.now }
+        requires searchable { IsSearchable s.now self.now }
+        requires there { Contains self.now.sent.sent x.now }
         ensures { (air : List EntryOf) → AreSent air self.now → x.now.rank ≡ r.now.rank → IsOfFrame s.now r.now.frame x.now.start
             → IsOfFrame s.now r.now.frame x.now.end → (result ≡ true ↔ HearsAsProbe s.now air r.now.frame r.now.node r.now.rank x.now) }
     {
-        let near = near(&self.sent, self.longest, x);
-        comes_through(&s.profile(), s.trace(), near, r.node, x)
+        let mask = self.sent.receivers(&s.profile(), s.trace(), &self.nodes, x);
+        is_among(&self.nodes, mask, r.node)
     }
 }
 
@@ -142,56 +140,4 @@ fn since(sent: &[Sending], start: u64) -> &[Sending]
 {
     let first = sent.partition_point(|x| x.start < start);
     &sent[first..]
-}
-
-fn sent_in_order(alloc: Global, air: &Air) -> Result<Vec<Sending>, Memory>
-    ensures sent { IfOk result (λ xs. IsPermutation (sendings_of air.now) xs.items) }
-    ensures in_order { IfOk result (λ xs. AllPairs Before xs.items) }
-{
-    let mut sent = sent_in(alloc, air)?;
-    sent.sort_by_key(|x| place(x))?;
-    Ok(sent)
-}
-
-// What the order goes by.
-fn place(x: &Sending) -> (u64, u8)
-    ensures { result ≡ (x.now.start, x.now.node) }
-{
-    (x.start, x.node.number())
-}
-
-fn sent_in(alloc: Global, air: &Air) -> Result<Vec<Sending>, Memory>
-    ensures { IfOk result (λ xs. xs.items ≡ sendings_of air.now) }
-{
-    let mut sent = Vec::new(alloc);
-    for i in 0..air.len() {
-        push_some(&mut sent, sending_by(entry_at(air, i)))?;
-    }
-    Ok(sent)
-}
-
-fn entry_at(air: &Air, i: usize) -> &Entry
-    requires { i < length air.now }
-    ensures { result.now ≡ slice_index_or air.now i result.now }
-{
-    air.at(i).unwrap()
-}
-
-fn push_some(sent: &mut Vec<Sending>, x: Option<Sending>) -> Result<(), Memory>
-    ensures { OnOk result (sent.new.items ≡ sent.old.items ++ option_to_list x) }
-{
-    if let Some(x) = x {
-        sent.push(x)?;
-    }
-    Ok(())
-}
-
-// The transmission that an entry says.
-fn sending_by(entry: &Entry) -> Option<Sending>
-    ensures { result ≡ sending_in entry.now }
-{
-    match entry {
-        Entry::Sent(sent) => Some(sent.copy()),
-        Entry::Heard(_) | Entry::Tuned(_) => None,
-    }
 }

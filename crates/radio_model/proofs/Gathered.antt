@@ -6,6 +6,7 @@ use Rattle.std.proofs.lemmas.Nat.Bits.{bit_at_or, bit_at_and, bit_at-lt}
 use Rattle.std.specs.Int.{bit_at}
 use Rattle.std.specs.List.{list_any}
 use Rattle.std.proofs.lemmas.List.{get_or_default}
+use Rattle.lwb_base.specs.declared.limits.TheConstants.{MOST_NODES}
 use Rattle.lwb_base.specs.Profile.{Numbers}
 use Rattle.link_trace.specs.Masks.{IsMask}
 use Rattle.link_trace.specs.Passes.{Lines, passes}
@@ -170,7 +171,7 @@ tells_more_of lines nodes rs i old new adds was = record {
 
 -- the stations from which no link passes to a node tell nothing, where their marks show that they come close
 module _ (lines : Lines) (nodes : List ℕ) (p : Numbers) (x : Sending) (sts : List Station) (mks : List Mark) (origin : Origin) (opens delta places near far
-    strange : ℕ) (i : ℕ) (inside : i < length nodes) (few : length sts ≤ 64) (starts : IsInOneFrame p.frame x.start opens) (by : delta ≡ p.delta)
+    strange : ℕ) (i : ℕ) (inside : i < length nodes) (few : length sts ≤ MOST_NODES) (starts : IsInOneFrame p.frame x.start opens) (by : delta ≡ p.delta)
     (placed : All (λ (st : Station). IsPlaceOf nodes st.place st.node) sts) (in_order : InOrder sts) (marks : AreMarks sts mks)
     (alike : AreAlikeTo sts mks origin x) (among : AreAmong p x sts places)
     (no_link : (k : ℕ) → k < length nodes → bit_at near k ≡ 0 → passes_at lines (key_of p x) (get_or nodes k 0) (get_or nodes i 0) ≡ false)

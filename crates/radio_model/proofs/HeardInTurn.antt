@@ -6,6 +6,7 @@ use Rattle.std.proofs.lemmas.List.{append_assoc}
 use Rattle.std.proofs.lemmas.Nat.Bits.{bit_at-zero, bit_at-lt}
 use Rattle.std.specs.Int.{bit_at}
 use Rattle.std.specs.List.{cons_option}
+use Rattle.lwb_base.specs.declared.limits.TheConstants.{MOST_NODES}
 use Rattle.link_trace.specs.Masks.{IsMask}
 use Rattle.link_trace.specs.Passes.{Lines}
 use Rattle.radio_model.specs.Meetings.{reception_pair, is_heard}
@@ -114,30 +115,39 @@ module _ {Y : Type 0} where
       one (Some y) ys n few = omega arith
 
   pub room_left : (b : Bool) (y : Y) (now rest next all : List Y) (n : ℕ) → b ≡ true → next ≡ option_to_list (if b then Some y else None) ++ rest
-      → now ++ next ≡ all → length all ≤ n → n ≤ 64 → length now < 64
+      → now ++ next ≡ all → length all ≤ n → n ≤ MOST_NODES → length now < MOST_NODES
   room_left true y now rest next all n so is whole few most = omega (arith, ap length is, ap length whole, length-append now next)
   room_left false y now rest next all n so is whole few most = absurd (false≢true so)
 
--- the lowest of the places that are left has been looked at
-module _ (lines : Lines) (u : ℕ) (x : Sending) (key : Key) (rs : List Rival) (sts : List Station) (in_order : InOrder sts) (rest new k : ℕ) (st : Station)
-    (below : k < length sts) (at : st ≡ get_or sts k st) (was : bit_at rest k ≡ 1)
-    (first : (i : ℕ) → i < k → bit_at rest i ≡ 0) (now : bit_at new k ≡ 0) (others : (i : ℕ) → i ≢ k → bit_at new i ≡ bit_at rest i) (b : Bool) (is : b
-    ≡ is_heard lines u x key rs st) (hearers : List (ℕ × ℕ))
-    (so : hearers ++ filter_map (heard_at lines u x key rs rest) sts ≡ filter_map (reception_pair lines u x key rs) sts) where
+-- the lowest of the places that are left is looked at, that of station st, and b says whether it hears
+pub record LooksAt (lines : Lines) (u : ℕ) (x : Sending) (key : Key) (rs : List Rival) (sts : List Station) (rest new k : ℕ) (st : Station) (b : Bool)
+    (hearers : List (ℕ × ℕ)) : Type 0 where
+  pub in_order : InOrder sts
+  pub below : k < length sts
+  pub at : st ≡ get_or sts k st
+  pub was : bit_at rest k ≡ 1
+  pub first : (i : ℕ) → i < k → bit_at rest i ≡ 0
+  pub now : bit_at new k ≡ 0
+  pub others : (i : ℕ) → i ≢ k → bit_at new i ≡ bit_at rest i
+  pub is : b ≡ is_heard lines u x key rs st
+  pub so : hearers ++ filter_map (heard_at lines u x key rs rest) sts ≡ filter_map (reception_pair lines u x key rs) sts
+
+module _ {lines : Lines} {u : ℕ} {x : Sending} {key : Key} {rs : List Rival} {sts : List Station} {rest new k : ℕ} {st : Station} {b : Bool}
+    {hearers : List (ℕ × ℕ)} (q : LooksAt lines u x key rs sts rest new k st b hearers) where
   next_is : filter_map (heard_at lines u x key rs rest) sts ≡ option_to_list (if b then Some (st.node, u) else None) ++ filter_map
       (heard_at lines u x key rs new) sts
   next_is =
-      heard_next lines u x key rs sts in_order rest new k st below at was first now others
-      ∙ ap (λ (c : Bool). option_to_list (if c then Some (st.node, u) else None) ++ filter_map (heard_at lines u x key rs new) sts) (sym is)
+      heard_next lines u x key rs sts q.in_order rest new k st q.below q.at q.was q.first q.now q.others
+      ∙ ap (λ (c : Bool). option_to_list (if c then Some (st.node, u) else None) ++ filter_map (heard_at lines u x key rs new) sts) (sym q.is)
 
   pub looked_at : (more : List (ℕ × ℕ)) → more ≡ (if b then hearers ++ (st.node, u) ∷ [] else hearers)
       → more ++ filter_map (heard_at lines u x key rs new) sts ≡ filter_map (reception_pair lines u x key rs) sts
   looked_at more adds =
       pushed b (st.node, u) more hearers (filter_map (heard_at lines u x key rs new) sts) (filter_map (heard_at lines u x key rs rest) sts) (filter_map
-      (reception_pair lines u x key rs) sts) adds next_is so
+      (reception_pair lines u x key rs) sts) adds next_is q.so
 
-  pub room_for_it : b ≡ true → length sts ≤ 64 → length hearers < 64
+  pub room_for_it : b ≡ true → length sts ≤ MOST_NODES → length hearers < MOST_NODES
   room_for_it true_is few =
       room_left b (st.node, u) hearers (filter_map (heard_at lines u x key rs new) sts) (filter_map (heard_at lines u x key rs rest) sts) (filter_map
-      (reception_pair lines u x key rs) sts) (length sts) true_is next_is so
+      (reception_pair lines u x key rs) sts) (length sts) true_is next_is q.so
       (few_kept (reception_pair lines u x key rs) sts) few

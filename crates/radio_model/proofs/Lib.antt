@@ -44,5 +44,7 @@ pub mod HearersInOrder
 pub mod SameHistory
 pub mod Named
 pub mod WorkedHearings
+-- for this crate alone, and the crates that search a log
+pub mod AreReached
 mod Received
 mod ReceiverMasks

@@ -5,8 +5,10 @@ use Rattle.std.proofs.lemmas.Bool.{false≢true, cond-false}
 use Rattle.std.proofs.lemmas.Nat.Bits.{bit_at-lt}
 use Rattle.std.specs.Int.{bit_at}
 use Rattle.std.specs.List.{list_any}
+use Rattle.lwb_base.specs.declared.limits.TheConstants.{MOST_NODES}
 use Rattle.link_trace.specs.Masks.{IsMask}
 use Rattle.link_trace.specs.Passes.{Lines, captured}
+use Rattle.radio_model.specs.Stations.{fresh}
 use Rattle.radio_model.specs.Meetings.{differs, reception_pair, is_chosen, is_heard, is_ready, passes_at, spoils, AreThose, IsFrom, IsPlaceOf, HasBitsOf}
 use Rattle.radio_model.specs.declared.crowd.Crowd.{Crowd}
 use Rattle.radio_model.specs.declared.rivals.Key.{Key}
@@ -15,7 +17,7 @@ use Rattle.radio_model.specs.declared.sending.Sending.{Sending}
 use Rattle.radio_model.specs.declared.station.Station.{Station}
 use Rattle.radio_model.proofs.EndedSendings.{none_kept}
 use Rattle.radio_model.proofs.Gathered.{if_set, if_unset}
-use Rattle.radio_model.proofs.HeardInTurn.{left_one, left_none}
+use Rattle.radio_model.proofs.HeardInTurn.{of_node, left_bits, left_one, left_none}
 use Rattle.radio_model.proofs.RestOfPlaces.{InOrder, bit_cases}
 
 unreached : (r s c o e : Bool) → r ≡ false → (r && not s && c && not o && e) ≡ false
@@ -47,13 +49,38 @@ bit_says n b small none one = elim (bit_cases n small) [
   | inr is ↦ ap (λ (m : ℕ). m == 1) is ∙ sym (one is)
 ]
 
-module _ (lines : Lines) (nodes : List ℕ) (u : ℕ) (x : Sending) (key : Key) (rs : List Rival) (sts : List Station) (few : length sts ≤ 64)
-    (placed : All (λ (st : Station). IsPlaceOf nodes st.place st.node) sts) (in_order : InOrder sts) where
+-- these nodes are ready for x, which node u sends: those of the stations that x reaches, that are not lost, and that pass the test
+pub record AreReady (lines : Lines) (nodes : List ℕ) (u : ℕ) (x : Sending) (key : Key) (rs : List Rival) (sts : List Station) (ready : ℕ) : Type 0 where
+  pub few : length sts ≤ MOST_NODES
+  pub size : length nodes ≡ length sts
+  pub placed : All (λ (st : Station). IsPlaceOf nodes st.place st.node) sts
+  pub in_order : InOrder sts
+  pub reached : ℕ
+  pub lost : ℕ
+  pub left : ℕ
+  pub reach : IsMask (λ v. passes_at lines key u v) nodes reached
+  pub lost_is : (i : ℕ) → bit_at lost i ≡ 1 → list_any (spoils lines (get_or nodes i 0)) rs ≡ true
+  pub left_is : (i : ℕ) → i < 64 → bit_at left i ≡ min (bit_at reached i) (1 - bit_at lost i)
+  pub above : (i : ℕ) → 64 ≤ i → bit_at left i ≡ 0
+  pub those : (d : Station) → AreThose (λ k. is_ready x (get_or sts k d)) left ready
+
+module _ {lines : Lines} {nodes : List ℕ} {u : ℕ} {x : Sending} {key : Key} {rs : List Rival} {sts : List Station} {ready : ℕ}
+    (q : AreReady lines nodes u x key rs sts ready) where
+  -- a node that is ready is one of the stations
+  pub ready_below : (i : ℕ) → bit_at ready i ≡ 1 → i < length sts
+  ready_below i one =
+      omega (
+        arith,
+        q.size,
+        of_node nodes (λ v. passes_at lines key u v) q.reached i q.reach
+            (left_bits q.reached q.lost q.left i q.left_is q.above ((q.those (fresh 0 0)).among i one)).0,
+      )
+
   -- the node of a station is that of its place
   node_at : (k : ℕ) (d : Station) → k < length sts → (get_or nodes k 0 ≡ (get_or sts k d).node) × (k < length nodes)
   node_at k d below =
-      let at = placed k d below in
-      let place = in_order k d below in
+      let at = q.placed k d below in
+      let place = q.in_order k d below in
       (ap (λ (n : ℕ). get_or nodes n 0) (sym place) ∙ at.there, omega (arith, at.below, place))
 
   pub not_where_spoiled : (k : ℕ) (d : Station) → k < length sts → list_any (spoils lines (get_or nodes k 0)) rs ≡ true
@@ -62,62 +89,58 @@ module _ (lines : Lines) (nodes : List ℕ) (u : ℕ) (x : Sending) (key : Key) 
       spoiled (passes_at lines key u (get_or sts k d).node) (list_any (spoils lines (get_or sts k d).node) rs) _ _ _
       (ap (λ (v : ℕ). list_any (spoils lines v) rs) (sym (node_at k d below).0) ∙ is)
 
-  module _ (reached lost left ready : ℕ) (reach : IsMask (λ v. passes_at lines key u v) nodes reached)
-      (lost_is : (i : ℕ) → bit_at lost i ≡ 1 → list_any (spoils lines (get_or nodes i 0)) rs ≡ true)
-      (left_is : (i : ℕ) → i < 64 → bit_at left i ≡ min (bit_at reached i) (1 - bit_at lost i))
-      (those : (d : Station) → AreThose (λ k. is_ready x (get_or sts k d)) left ready) where
-    pub not_where_unready : (k : ℕ) (d : Station) → k < length sts → bit_at ready k ≡ 0 → is_heard lines u x key rs (get_or sts k d) ≡ false
-    not_where_unready k d below none = elim (bit_cases (bit_at left k) (bit_at-lt left k)) [
-      | inr one ↦ unready (passes_at lines key u (get_or sts k d).node) (list_any (spoils lines (get_or sts k d).node) rs) _ _ _ ((those d).others k one none)
-      | inl gone ↦ elim (bit_cases (bit_at reached k) (bit_at-lt reached k)) [
-        | inl out ↦
-            unreached (passes_at lines key u (get_or sts k d).node) _ _ _ _
-            (ap (λ (v : ℕ). passes_at lines key u v) (sym (node_at k d below).0)
-            ∙ if_unset nodes (λ v. passes_at lines key u v) reached reach k (node_at k d below).1 out)
-        | inr in_reach ↦
-            not_where_spoiled k d below (lost_is k (left_none (bit_at reached k) (bit_at lost k) (bit_at-lt reached k) (bit_at-lt lost k)
-            (sym (left_is k (omega (arith, few, below))) ∙ gone) in_reach))
-      ]
+  pub not_where_unready : (k : ℕ) (d : Station) → k < length sts → bit_at ready k ≡ 0 → is_heard lines u x key rs (get_or sts k d) ≡ false
+  not_where_unready k d below none = elim (bit_cases (bit_at q.left k) (bit_at-lt q.left k)) [
+    | inr one ↦ unready (passes_at lines key u (get_or sts k d).node) (list_any (spoils lines (get_or sts k d).node) rs) _ _ _ ((q.those d).others k one none)
+    | inl gone ↦ elim (bit_cases (bit_at q.reached k) (bit_at-lt q.reached k)) [
+      | inl out ↦
+          unreached (passes_at lines key u (get_or sts k d).node) _ _ _ _
+          (ap (λ (v : ℕ). passes_at lines key u v) (sym (node_at k d below).0)
+          ∙ if_unset nodes (λ v. passes_at lines key u v) q.reached q.reach k (node_at k d below).1 out)
+      | inr in_reach ↦
+          not_where_spoiled k d below (q.lost_is k (left_none (bit_at q.reached k) (bit_at q.lost k) (bit_at-lt q.reached k) (bit_at-lt q.lost k)
+          (sym (q.left_is k (omega (arith, q.few, below))) ∙ gone) in_reach))
     ]
+  ]
 
-    pub reached_where_ready : (k : ℕ) (d : Station) → k < length sts → bit_at ready k ≡ 1 → passes_at lines key u (get_or sts k d).node ≡ true
-    reached_where_ready k d below one =
-        let both = left_one (bit_at reached k) (bit_at lost k) (bit_at-lt reached k) (bit_at-lt lost k)
-        (sym (left_is k (omega (arith, few, below))) ∙ (those d).among k one) in
-        ap (λ (v : ℕ). passes_at lines key u v) (sym (node_at k d below).0) ∙ if_set nodes (λ v. passes_at lines key u v) reached reach k both.0
+  pub reached_where_ready : (k : ℕ) (d : Station) → k < length sts → bit_at ready k ≡ 1 → passes_at lines key u (get_or sts k d).node ≡ true
+  reached_where_ready k d below one =
+      let both = left_one (bit_at q.reached k) (bit_at q.lost k) (bit_at-lt q.reached k) (bit_at-lt q.lost k)
+      (sym (q.left_is k (omega (arith, q.few, below))) ∙ (q.those d).among k one) in
+      ap (λ (v : ℕ). passes_at lines key u v) (sym (node_at k d below).0) ∙ if_set nodes (λ v. passes_at lines key u v) q.reached q.reach k both.0
 
-    -- what the test of another packet leaves
-    pub taken_is_heard : (k : ℕ) (d : Station) (c : Crowd) → k < length sts → bit_at ready k ≡ 1 → bit_at c.spoiled k ≡ 0 → IsFrom lines nodes rs c
-        → HasBitsOf lines nodes rs k c
-        → (not (bit_at c.mixed k == 1)
-        || is_chosen lines (get_or sts k d).node rs (captured lines key.frame key.slot key.counter (get_or sts k d).node))
-        ≡ is_heard lines u x key rs (get_or sts k d)
-    taken_is_heard k d c below one clean from tells =
-        let st = get_or sts k d in
-        let node = (node_at k d below).0 in
-        let named = is_chosen lines st.node rs (captured lines key.frame key.slot key.counter st.node) in
-        let mixed : (bit_at c.mixed k == 1) ≡ list_any (differs lines st.node) rs =
-        bit_says (bit_at c.mixed k) (list_any (differs lines (get_or nodes k 0)) rs) (bit_at-lt c.mixed k) tells.mixed (from.mixed k)
-        ∙ ap (λ (v : ℕ). list_any (differs lines v) rs) node in
-        ap (λ (b : Bool). not b || named) mixed
-        ∙ taken (passes_at lines key u st.node) (list_any (spoils lines st.node) rs) _ _ (not (list_any (differs lines st.node) rs) || named)
-        (reached_where_ready k d below one) (ap (λ (v : ℕ). list_any (spoils lines v) rs) (sym node) ∙ tells.spoiled clean) ((those d).so k one)
+  -- what the test of another packet leaves
+  pub taken_is_heard : (k : ℕ) (d : Station) (c : Crowd) → k < length sts → bit_at ready k ≡ 1 → bit_at c.spoiled k ≡ 0 → IsFrom lines nodes rs c
+      → HasBitsOf lines nodes rs k c
+      → (not (bit_at c.mixed k == 1)
+      || is_chosen lines (get_or sts k d).node rs (captured lines key.frame key.slot key.counter (get_or sts k d).node))
+      ≡ is_heard lines u x key rs (get_or sts k d)
+  taken_is_heard k d c below one clean from tells =
+      let st = get_or sts k d in
+      let node = (node_at k d below).0 in
+      let named = is_chosen lines st.node rs (captured lines key.frame key.slot key.counter st.node) in
+      let mixed : (bit_at c.mixed k == 1) ≡ list_any (differs lines st.node) rs =
+      bit_says (bit_at c.mixed k) (list_any (differs lines (get_or nodes k 0)) rs) (bit_at-lt c.mixed k) tells.mixed (from.mixed k)
+      ∙ ap (λ (v : ℕ). list_any (differs lines v) rs) node in
+      ap (λ (b : Bool). not b || named) mixed
+      ∙ taken (passes_at lines key u st.node) (list_any (spoils lines st.node) rs) _ _ (not (list_any (differs lines st.node) rs) || named)
+      (reached_where_ready k d below one) (ap (λ (v : ℕ). list_any (spoils lines v) rs) (sym node) ∙ tells.spoiled clean) ((q.those d).so k one)
 
-    pub not_where_left_out : (k : ℕ) (d : Station) (c : Crowd) (rest : ℕ) → k < length sts → IsFrom lines nodes rs c
-        → ((i : ℕ) → i < 64 → bit_at rest i ≡ min (bit_at ready i) (1 - bit_at c.spoiled i)) → bit_at rest k ≡ 0
-        → is_heard lines u x key rs (get_or sts k d) ≡ false
-    not_where_left_out k d c rest below from bits none = elim (bit_cases (bit_at ready k) (bit_at-lt ready k)) [
-      | inl out ↦ not_where_unready k d below out
-      | inr one ↦
-          not_where_spoiled k d below (from.spoiled k (left_none (bit_at ready k) (bit_at c.spoiled k) (bit_at-lt ready k) (bit_at-lt c.spoiled k)
-          (sym (bits k (omega (arith, few, below))) ∙ none) one))
-    ]
+  pub not_where_left_out : (k : ℕ) (d : Station) (c : Crowd) (rest : ℕ) → k < length sts → IsFrom lines nodes rs c
+      → ((i : ℕ) → i < 64 → bit_at rest i ≡ min (bit_at ready i) (1 - bit_at c.spoiled i)) → bit_at rest k ≡ 0
+      → is_heard lines u x key rs (get_or sts k d) ≡ false
+  not_where_left_out k d c rest below from bits none = elim (bit_cases (bit_at ready k) (bit_at-lt ready k)) [
+    | inl out ↦ not_where_unready k d below out
+    | inr one ↦
+        not_where_spoiled k d below (from.spoiled k (left_none (bit_at ready k) (bit_at c.spoiled k) (bit_at-lt ready k) (bit_at-lt c.spoiled k)
+        (sym (bits k (omega (arith, q.few, below))) ∙ none) one))
+  ]
 
-    pub nobody_hears : ((i : ℕ) → bit_at ready i ≡ 1 → list_any (spoils lines (get_or nodes i 0)) rs ≡ true)
-        → [] ≡ filter_map (reception_pair lines u x key rs) sts
-    nobody_hears all_spoiled =
-        sym (none_kept (reception_pair lines u x key rs) sts (λ k d below.
-        cond-false (is_heard lines u x key rs (get_or sts k d)) _ _ (elim (bit_cases (bit_at ready k) (bit_at-lt ready k)) [
-          | inl out ↦ not_where_unready k d below out
-          | inr one ↦ not_where_spoiled k d below (all_spoiled k one)
-        ])))
+  pub nobody_hears : ((i : ℕ) → bit_at ready i ≡ 1 → list_any (spoils lines (get_or nodes i 0)) rs ≡ true)
+      → [] ≡ filter_map (reception_pair lines u x key rs) sts
+  nobody_hears all_spoiled =
+      sym (none_kept (reception_pair lines u x key rs) sts (λ k d below.
+      cond-false (is_heard lines u x key rs (get_or sts k d)) _ _ (elim (bit_cases (bit_at ready k) (bit_at-lt ready k)) [
+        | inl out ↦ not_where_unready k d below out
+        | inr one ↦ not_where_spoiled k d below (all_spoiled k one)
+      ])))

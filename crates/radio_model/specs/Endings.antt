@@ -1,5 +1,6 @@
 -- A transmission that ends, with what the medium knows of it.
 use Rattle.std.specs.Prelude.{◌≡◌, ℕ, ◌<◌, ◌≤◌, ◌^◌, All, List, length, map, slice_index_or}
+use Rattle.lwb_base.specs.declared.limits.TheConstants.{MOST_NODES}
 use Rattle.radio_model.specs.Ages.{IsAged}
 use Rattle.radio_model.specs.Marks.{AreMarks, AreAlikeTo}
 use Rattle.radio_model.specs.Meetings.{key_of, rivals_in, rivals_to, IsInOneFrame, IsPlaceOf}
@@ -24,7 +25,7 @@ pub record IsEnding (nodes : List ℕ) (e : Ending) : Type 0 where
   pub opens : IsInOneFrame e.profile.now.frame e.x.now.start e.opens
   pub delta : (e.delta ≡ e.profile.now.delta) × (e.delta ≤ 2 ^ 32)
   -- the stations are those of the nodes, each at its place
-  pub few : length e.stations.now ≤ 64
+  pub few : length e.stations.now ≤ MOST_NODES
   pub seal : nodes ≡ map id_of_station e.stations.now
   pub placed : All (λ st. IsPlaceOf nodes st.place st.node) e.stations.now
   pub in_order : (k : ℕ) (d : Station) → k < length e.stations.now → (slice_index_or e.stations.now k d).place ≡ k

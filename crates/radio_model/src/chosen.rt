@@ -2,6 +2,7 @@
 
 ghost use Rattle.std.specs.Prelude.{◌≡◌, ◌≤◌, ◌<◌, ◌^◌, length, All, true};
 ghost use Rattle.std.specs.List.{list_any};
+ghost use Rattle.lwb_base.specs.declared.limits.TheConstants.{MOST_NODES};
 ghost use Rattle.link_trace.specs.Passes.{captured};
 ghost use Rattle.radio_model.specs.Ages.{IsAged, ByEnd};
 ghost use Rattle.radio_model.specs.declared.station.Station.{Station};
@@ -27,7 +28,7 @@ pub fn is_chosen<M: Links>(
 ) -> bool
     requires start { x.now.start ≤ 2 ^ 46 }
     requires end { x.now.end ≤ 2 ^ 46 }
-    requires few { length (M.nodes links.now) ≤ 64 }
+    requires few { length (M.nodes links.now) ≤ MOST_NODES }
     requires aged { All (λ st. IsAged x.now.end st.ended.items) stations.now }
     requires places { All (λ st. IsPlaceOf (M.nodes links.now) st.place st.node) stations.now }
     requires at { IsPlaceOf (M.nodes links.now) at.now.place at.now.node }
@@ -56,7 +57,7 @@ fn sends_same<M: Links>(
 ) -> bool
     requires start { x.now.start ≤ 2 ^ 46 }
     requires end { x.now.end ≤ 2 ^ 46 }
-    requires few { length (M.nodes links.now) ≤ 64 }
+    requires few { length (M.nodes links.now) ≤ MOST_NODES }
     requires by_end { ByEnd station.now.ended.items }
     requires station { IsPlaceOf (M.nodes links.now) station.now.place station.now.node }
     requires at { IsPlaceOf (M.nodes links.now) at.now.place at.now.node }

@@ -1,6 +1,7 @@
 //! The receivers of one transmission.
 
 ghost use Rattle.std.specs.Prelude.{◌≡◌, ◌+◌, ◌≤◌, ◌<◌, ◌^◌, ℕ, List, [], ◌∷◌, ◌++◌, length, slice_get};
+ghost use Rattle.lwb_base.specs.declared.limits.TheConstants.{MOST_NODES};
 
 use arrayvec::ArrayVec;
 use lwb_base::NodeId;
@@ -14,7 +15,9 @@ struct Pair {
 }
 
 impl Default for Pair {
-    fn default() -> Pair {
+    fn default() -> Pair
+        ensures { result ≡ record { hearer = 1; sender = 1 } }
+    {
         let first = NodeId::new(1).unwrap();
         Pair {
             hearer: first,
@@ -52,7 +55,7 @@ impl Hearers {
 
     /// One more receives.
     pub(crate) fn push(&mut self, hearer: NodeId, sender: NodeId)
-        requires { length self.old < 64 }
+        requires { length self.old < MOST_NODES }
         ensures { self.new ≡ self.old ++ (hearer, sender) ∷ [] }
     {
         self.pairs.push(Pair { hearer, sender });

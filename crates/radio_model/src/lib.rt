@@ -2,6 +2,7 @@
 #![tactic(auto)]
 
 mod brought;
+mod captured;
 mod chosen;
 mod crowd;
 mod ending;
@@ -10,15 +11,16 @@ pub mod laws;
 mod listeners;
 mod mark;
 mod medium;
-pub mod near;
-mod overlapping;
+mod meeting;
+mod near;
 pub mod receivers;
 mod recent;
-pub mod reception;
 mod rivals;
 pub mod sending;
 mod station;
+mod transmissions;
 pub mod tuning;
 
 pub use hearers::Hearers;
 pub use medium::Medium;
+pub use transmissions::Transmissions;

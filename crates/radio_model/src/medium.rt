@@ -1,7 +1,7 @@
 //! The radio medium that all nodes share.
 
 ghost use Rattle.std.specs.Prelude.{◌≡◌, ◌≤◌, ◌<◌, ◌^◌, ℕ, IfOk, IfSome, All, AllPairs, Contains, ◌↔◌, length, List, slice_index, Some};
-ghost use Rattle.lwb_base.specs.declared.limits.TheConstants.{PLACES_BY_ID};
+ghost use Rattle.lwb_base.specs.declared.limits.TheConstants.{MOST_NODES, PLACES_BY_ID};
 ghost use Rattle.link_trace.specs.Masks.{AreNodes};
 ghost use Rattle.link_trace.specs.Passes.{Lines};
 ghost use Rattle.radio_model.specs.Hearing.{Scene, HearsInScene};
@@ -185,7 +185,7 @@ impl Medium {
 }
 
 fn new_stations(alloc: Global, nodes: &[NodeId]) -> Result<Vec<Station>, Memory>
-    requires { length nodes.now ≤ 64 }
+    requires { length nodes.now ≤ MOST_NODES }
     ensures { IfOk result (λ s. s.items ≡ stations_from 0 nodes.now) }
 {
     let mut stations = Vec::new(alloc);

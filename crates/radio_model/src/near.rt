@@ -1,13 +1,13 @@
 //! Which transmissions of a log can overlap one of them.
 
-ghost use Rattle.std.specs.Prelude.{◌≡◌, ◌+◌, ◌-◌, ◌≤◌, All, AllPairs, Contains, length, take, drop};
+ghost use Rattle.std.specs.Prelude.{◌≡◌, ◌+◌, ◌-◌, ◌≤◌, All, AllPairs, length, take, drop};
 ghost use Rattle.radio_model.specs.Hearing.{Before};
 ghost use Rattle.radio_model.specs.Receptions.{AreNear};
 
 use crate::sending::Sending;
 
 /// The longest time that one of them is on the air, in ticks.
-pub fn longest(sent: &[Sending]) -> u64
+pub(crate) fn longest(sent: &[Sending]) -> u64
     ensures { All (λ y. y.end ≤ y.start + result) sent.now }
 {
     let mut longest = 0;
@@ -17,18 +17,9 @@ pub fn longest(sent: &[Sending]) -> u64
     longest
 }
 
-/// The transmissions that can overlap x: they start before its end, and no longer before its start than one lasts.
-pub fn near<'a>(sent: &'a [Sending], longest: u64, x: &Sending) -> &'a [Sending]
-    requires in_order { AllPairs Before sent.now }
-    requires longest { All (λ y. y.end ≤ y.start + longest) sent.now }
-    ensures { AreNear sent.now x.now result.now }
-{
-    let (first, count) = near_places(sent, longest, x);
-    &sent[first..][..count]
-}
-
-/// The place of the first of them, and how many they are.
-pub fn near_places(sent: &[Sending], longest: u64, x: &Sending) -> (usize, usize)
+/// Which transmissions can overlap x: they start before its end, and no longer before its start than one lasts. The place of
+/// the first of them, and how many they are.
+pub(crate) fn near_places(sent: &[Sending], longest: u64, x: &Sending) -> (usize, usize)
     requires in_order { AllPairs Before sent.now }
     requires longest { All (λ y. y.end ≤ y.start + longest) sent.now }
     ensures first { result.0 ≤ length sent.now }

@@ -5,6 +5,7 @@ ghost use Rattle.std.specs.Prelude.{Bool, ◌≡◌, ◌==◌, ◌&&◌, ◌↔�
 ghost use Rattle.std.specs.List.{list_any};
 ghost use Rattle.std.specs.Int.{bit_at};
 ghost use Rattle.std.specs.Str.{bytes_eq};
+ghost use Rattle.lwb_base.specs.declared.limits.TheConstants.{MOST_NODES};
 ghost use Rattle.lwb_base.specs.Profile.{Numbers};
 ghost use Rattle.link_trace.specs.Masks.{AreNodes, IsMask};
 ghost use Rattle.link_trace.specs.Passes.{Lines, captured};
@@ -14,7 +15,8 @@ ghost use Rattle.radio_model.specs.Reaches.{IsReach, AreReaches, AreDisturbed, I
 ghost use Rattle.radio_model.specs.Receptions.{AreNear, arrives as arrival, transmits, spoils, differs, is_captured as captured_by};
 ghost use Rattle.radio_model.specs.Receptions.{repeats as repetition, meets_on as meets_on_channel};
 
-use crate::overlapping::{arrives, comes_in_time, is_captured, meets_on, overlap, repeats};
+use crate::captured::{arrives, is_captured};
+use crate::meeting::{comes_in_time, meets_on, overlap, repeats};
 use crate::sending::Sending;
 use link_trace::Trace;
 use link_trace::bits::has_bit;
@@ -28,7 +30,7 @@ pub struct Reach {
 }
 
 /// The sender of y, and the nodes to which a link passes from it.
-pub fn reach_of(profile: &Profile, trace: &Trace, nodes: &[NodeId], y: &Sending) -> Reach
+pub(crate) fn reach_of(profile: &Profile, trace: &Trace, nodes: &[NodeId], y: &Sending) -> Reach
     requires nodes { AreNodes nodes.now }
     requires sealed { nodes.now ≡ trace.now.nodes }
     requires start { y.now.start ≤ 2 ^ 46 }
@@ -48,7 +50,7 @@ pub fn reach_of(profile: &Profile, trace: &Trace, nodes: &[NodeId], y: &Sending)
 
 /// The nodes to which x comes and where nothing on the air keeps it from being received, where all transmissions are near
 /// that overlap it. So a node that is tuned to the channel of x as long as x lasts receives it if and only if its bit is set.
-pub fn receivers(
+pub(crate) fn receivers(
     profile: &Profile,
     trace: &Trace,
     nodes: &[NodeId],
@@ -77,7 +79,7 @@ pub fn receivers(
 
 // The nodes of the mask that are not in the other one.
 fn except(mask: u64, other: u64) -> u64
-    ensures { (nodes : List ℕ) (m o : ℕ → Bool) → length nodes ≤ 64 → IsMask m nodes mask → IsMask o nodes other
+    ensures { (nodes : List ℕ) (m o : ℕ → Bool) → length nodes ≤ MOST_NODES → IsMask m nodes mask → IsMask o nodes other
         → IsMask (λ v. m v && not (o v)) nodes result }
 {
     mask & !other
@@ -118,7 +120,7 @@ fn disturbance(
     requires one_each { length reaches.now ≡ length near.now }
     ensures some { IfSome result (λ d. (lines : Lines) (nodes : List ℕ) → AreReaches profile.now lines nodes near.now reaches.now
         → AreDisturbed profile.now lines nodes x.now near.now d) }
-    ensures none { IfNone result ((lines : Lines) (nodes : List ℕ) (m : ℕ → Bool) → length nodes ≤ 64
+    ensures none { IfNone result ((lines : Lines) (nodes : List ℕ) (m : ℕ → Bool) → length nodes ≤ MOST_NODES
         → AreReaches profile.now lines nodes near.now reaches.now → IsMask m nodes to
         → IsMask (λ v. m v && not (list_any (transmits v x.now) near.now) && not (list_any (spoils profile.now lines v x.now) near.now)) nodes 0) }
 {

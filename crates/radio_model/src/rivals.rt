@@ -5,8 +5,9 @@ ghost use Rattle.link_trace.specs.Masks.{IsMask};
 ghost use Rattle.radio_model.specs.Ages.{ByEnd};
 ghost use Rattle.radio_model.specs.Meetings.{key_of, IsInOneFrame, rival_to as rival_by, passes_at};
 
+use crate::meeting::{comes_in_time, meets_on, same_packet};
 use crate::sending::Sending;
-use crate::station::{Station, overlap};
+use crate::station::Station;
 use link_trace::Links;
 use lwb_base::{NodeId, Profile};
 
@@ -54,15 +55,14 @@ pub fn rival_to(profile: &Profile, station: &Station, x: &Sending, y: &Sending) 
     requires end { x.now.end ≤ 2 ^ 46 }
     ensures { result ≡ rival_by profile.now x.now station.now y.now }
 {
-    if y.rank != x.rank || !overlap(x, y) {
+    if !meets_on(x, y) {
         return None;
     }
-    let comes_first = x.start < y.start || x.start == y.start && x.node <= y.node;
     Some(Rival {
         node: station.node,
         key: Key::of(profile, y),
-        same: y.packet.bytes() == x.packet.bytes(),
-        in_time: comes_first && y.start <= x.start + profile.delta(),
+        same: same_packet(x, y),
+        in_time: comes_in_time(profile, x, y),
     })
 }
 

@@ -8,6 +8,7 @@ ghost use Rattle.radio_model.specs.Stations.{tuned_in, tuned_out, station_after_
 ghost use Rattle.radio_model.specs.Stations.{covers, overlaps};
 ghost use Rattle.radio_model.specs.Ages.{IsAged};
 
+use crate::meeting::overlap;
 use crate::sending::Sending;
 use crate::tuning::goes_on;
 use circular_buffer::HeapCircularBuffer;
@@ -182,11 +183,4 @@ impl Station {
         };
         !sends && !self.sent_over(x)
     }
-}
-
-/// Whether both are on the air at some tick.
-pub(crate) fn overlap(x: &Sending, y: &Sending) -> bool
-    ensures { result ≡ overlaps x.now y.now }
-{
-    x.start < y.end && y.start < x.end
 }

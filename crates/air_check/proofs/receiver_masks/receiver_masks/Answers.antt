@@ -1,41 +1,57 @@
-use Rattle.std.proofs.Common.{◌≡◌, ◌++◌, ◌∷◌, [], length, get_or, sym, ap, subst, arith, rules}
+use Rattle.std.proofs.Common.{◌≡◌, ◌<◌, List, ◌++◌, ◌∷◌, [], length, get_or, sym, ◌∙◌, ap, subst, arith, rules}
+use Rattle.std.specs.Prelude.{Contains}
 use Rattle.std.proofs.lemmas.List.{length_push}
+use Rattle.std.proofs.lemmas.List.Elements.{Contains-get_or}
+use Rattle.lwb_base.specs.Profile.{Numbers}
+use Rattle.link_trace.specs.Passes.{Lines}
 use Rattle.radio_model.specs.OnAir.{Sending}
-use Rattle.radio_model.specs.Reaches.{IsReach}
-use Rattle.radio_model.specs.declared.receivers.Reach.{Reach}
-use Rattle.air_check.specs.ReceiverMasks.{IsReceivedBy}
-use Rattle.air_check.proofs.ReceiverMasks.{one_more}
+use Rattle.radio_model.specs.Reaches.{AreSearchable, IsReceivedBy}
+use Rattle.radio_model.proofs.AreReached.{one_more}
 use Rattle.air_check.proofs.receiver_masks.receiver_masks.Goals as goal
 
-pub receivers_of-mask-requires-clause-reach : goal.receivers_of-mask-requires-clause-reach
-receivers_of-mask-requires-clause-reach c =
+pub receivers-mask-requires-clause-sealed : goal.receivers-mask-requires-clause-sealed
+receivers-mask-requires-clause-sealed c = c.requires.ids ∙ sym c.trace.ensures.sealed
+
+pub receivers-mask-requires-clause-searchable : goal.receivers-mask-requires-clause-searchable
+receivers-mask-requires-clause-searchable c =
+    let s = c.args.s.now in
+    let t = c.args.sent.now in
+    subst (λ (l : Lines). AreSearchable c.profile-profile.result l c.args.nodes.now t) (sym c.trace.ensures.value)
+    (subst (λ (p : Numbers). AreSearchable p s.trace c.args.nodes.now t) (sym c.profile-profile.ensures.value) c.requires.searchable)
+
+pub receivers-mask-requires-clause-there : goal.receivers-mask-requires-clause-there
+receivers-mask-requires-clause-there c =
+    let sent = c.sent-x-items.result.now in
+    let x = c.x-item.result in
+    subst (λ (ys : List Sending). Contains ys x) c.sent-x-items.ensures
+    (subst (Contains sent) (sym c.x-item.is) (Contains-get_or sent c.loop-x.x-index x c.loop-x-test.true))
+
+pub loop-x-preserved : goal.loop-x-preserved
+loop-x-preserved c =
     let s = c.args.s.now in
     let nodes = c.args.nodes.now in
-    let x = c.index-sent-k.result in
-    let r = c.index.result.now in
-    subst (λ (y : Sending). IsReach s.profile s.trace nodes y r) (sym c.index-sent-k.is)
-    (subst (λ (q : Reach). IsReach s.profile s.trace nodes (get_or c.args.sent.now c.loop-k.k x) q) (sym c.index.ensures)
-    (c.in_ok-reaches.ensures.each c.loop-k.k x r c.loop-k-test.true))
-
-pub loop-k-preserved : goal.loop-k-preserved
-loop-k-preserved c =
-    let s = c.args.s.now in
-    let sent = c.args.sent.now in
-    let i = c.loop-k.k in
-    let x = c.index-sent-k.result in
-    let m = c.receivers_of-mask.result in
-    let old = c.loop-k.masks.items in
+    let sent = c.args.sent.now.sent in
+    let x = c.x-item.result in
+    let i = c.loop-x.x-index in
+    let m = c.receivers-mask.result in
+    let old = c.loop-x.masks.items in
+    let below = subst (λ (ys : List Sending). i < length ys) c.sent-x-items.ensures c.loop-x-test.true in
+    let at = subst (λ (ys : List Sending). x ≡ get_or ys i x) c.sent-x-items.ensures c.x-item.is in
     let pushed : c.push.new.self.items ≡ old ++ m ∷ [] = search rules in
     let size = ap length pushed in
     let longer = length_push old m in
+    let here = subst (λ (l : Lines). IsReceivedBy s.profile l nodes sent x m) c.trace.ensures.value
+    (subst (λ (p : Numbers). IsReceivedBy p c.trace.result.now.lines nodes sent x m) c.profile-profile.ensures.value c.receivers-mask.ensures) in
     record {
-      one_each = omega (arith, size, longer, c.loop-k.invariant.one_each);
-      each = one_more (IsReceivedBy s c.args.nodes.now sent) sent i x old c.push.new.self.items m c.loop-k-test.true c.index-sent-k.is
-          c.loop-k.invariant.one_each pushed c.loop-k.invariant.each c.receivers_of-mask.ensures;
+      one_each = omega (arith, size, longer, c.loop-x.invariant.one_each);
+      each = one_more (IsReceivedBy s.profile s.trace nodes sent) sent i x old c.push.new.self.items m below at c.loop-x.invariant.one_each pushed
+          c.loop-x.invariant.each here;
     }
 
 pub returns : goal.returns
-returns c = record {
-  one_each = omega (arith, c.loop-k.invariant.one_each, c.loop-k-test.false, c.loop-k.auto);
-  each = λ k d below. c.loop-k.invariant.each k d 0 (omega (arith, below, c.loop-k-test.false));
-}
+returns c =
+    let size = ap length c.sent-x-items.ensures in
+    record {
+      one_each = omega (arith, size, c.loop-x.invariant.one_each, c.loop-x-test.false, c.loop-x.auto);
+      each = λ k d below. c.loop-x.invariant.each k d 0 (omega (arith, size, below, c.loop-x-test.false));
+    }

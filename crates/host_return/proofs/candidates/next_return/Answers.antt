@@ -6,7 +6,6 @@ use Rattle.std.specs.Prelude.{Contains}
 use Rattle.scenario_text.proofs.SoundScenarios.{sound}
 use Rattle.world_engine.specs.declared.idle.Idle.{Idle}
 use Rattle.host_return.specs.Probes.{idle_of}
-use Rattle.host_return.proofs.Heard.{early_sent}
 use Rattle.host_return.proofs.IdleInRuns.{idle_in_run}
 use Rattle.host_return.proofs.NodesProbing.{first_listed, none_fresh}
 use Rattle.host_return.proofs.candidates.next_return.Goals as goal
@@ -35,10 +34,6 @@ loop-one-preserved c =
   where
     same : (k i : ℕ) → k < i + 1 → i ≤ k → k ≡ i
     same k i less at = omega (arith, less, at)
-
-pub fresh_candidate-requires-clause-early : goal.fresh_candidate-requires-clause-early
-fresh_candidate-requires-clause-early c =
-    early_sent c.args.s.now c.args.air.now c.in_ok-sent.sent c.requires.said c.requires.lawful c.in_ok-sent.ensures.sent
 
 pub returns-in-Some-clause-some : goal.returns-in-Some-clause-some
 returns-in-Some-clause-some c =

@@ -1,4 +1,4 @@
-use Rattle.std.proofs.Common.{◌<◌, ℕ, ◌∙◌, get_or, length, sym, subst, ap, arith}
+use Rattle.std.proofs.Common.{◌≡◌, ◌<◌, ℕ, ◌∙◌, get_or, length, sym, subst, ap, arith}
 use Rattle.std.proofs.lemmas.List.{get_or_default}
 use Rattle.radio_model.specs.Ages.{IsAged}
 use Rattle.radio_model.specs.Marks.{IsMark}
@@ -8,39 +8,47 @@ use Rattle.radio_model.specs.declared.mark.Mark.{Mark}
 use Rattle.radio_model.specs.declared.station.Station.{Station}
 use Rattle.radio_model.proofs.Those.{all_left, stays, goes, none_left}
 use Rattle.radio_model.proofs.listeners.ready_of.Goals as goal
+use Rattle.radio_model.proofs.listeners.ready_of.Goals.{After-from-i, After-is_ready}
 
-pub bounds-stations-i : goal.bounds-stations-i
-bounds-stations-i c =
+-- the place that is looked at is one of the stations
+inside : (c : After-from-i) → c.from-i.result < length c.args.stations.now
+inside c =
     let i = c.from-i.ensures in
     let was = c.loop-rest.invariant (fresh 0 0) in
     let k = c.lowest-place.result in
     omega (arith, i, c.requires.within k (was.among k (was.left k c.lowest-place.ensures.set)))
 
+-- and its answer is that of its station
+answered : (c : After-is_ready) (d : Station) → c.from-i.result < length c.args.stations.now
+    → is_ready c.args.x.now (get_or c.args.stations.now c.lowest-place.result d) ≡ c.is_ready.result
+answered c d below =
+    let sts = c.args.stations.now in
+    let k = c.lowest-place.result in
+    let st = c.index-stations-i.result in
+    let i = c.from-i.ensures in
+    ap (is_ready c.args.x.now)
+    (get_or_default sts k d st (omega (arith, i, below)) ∙ ap (λ (n : ℕ). get_or sts n st) (sym i) ∙ sym c.index-stations-i.is)
+    ∙ sym c.is_ready.ensures
+
+pub bounds-stations-i : goal.bounds-stations-i
+bounds-stations-i c = inside c
+
 pub bounds-marks-i : goal.bounds-marks-i
 bounds-marks-i c =
-    let i = c.from-i.ensures in
-    let was = c.loop-rest.invariant (fresh 0 0) in
-    let k = c.lowest-place.result in
-    omega (arith, i, c.requires.marks.one_each, c.requires.within k (was.among k (was.left k c.lowest-place.ensures.set)))
+    let below = inside (goal.at.bounds-marks-i c).After-from-i in
+    omega (arith, below, c.requires.marks.one_each)
 
 pub is_ready-requires-clause-own : goal.is_ready-requires-clause-own
 is_ready-requires-clause-own c =
-    let i = c.from-i.ensures in
-    let was = c.loop-rest.invariant (fresh 0 0) in
-    let k = c.lowest-place.result in
-    let below : c.from-i.result < length c.args.stations.now = omega (arith, i, c.requires.within k (was.among k (was.left k c.lowest-place.ensures.set))) in
     subst (λ (st : Station). IsAged c.args.x.now.end st.ended.items) (sym c.index-stations-i.is)
-    (c.requires.aged c.from-i.result c.index-stations-i.result below)
+    (c.requires.aged c.from-i.result c.index-stations-i.result (inside (goal.at.is_ready-requires-clause-own c).After-from-i))
 
 pub is_ready-requires-clause-mark : goal.is_ready-requires-clause-mark
 is_ready-requires-clause-mark c =
-    let i = c.from-i.ensures in
-    let was = c.loop-rest.invariant (fresh 0 0) in
-    let k = c.lowest-place.result in
-    let below : c.from-i.result < length c.args.stations.now = omega (arith, i, c.requires.within k (was.among k (was.left k c.lowest-place.ensures.set))) in
     subst (λ (m : Mark). IsMark (on_air c.index-stations-i.result) m) (sym c.index-marks-i.is)
     (subst (λ (st : Station). IsMark (on_air st) (get_or c.args.marks.now c.from-i.result c.index-marks-i.result)) (sym c.index-stations-i.is)
-    (c.requires.marks.each c.from-i.result c.index-stations-i.result c.index-marks-i.result below))
+    (c.requires.marks.each c.from-i.result c.index-stations-i.result c.index-marks-i.result
+    (inside (goal.at.is_ready-requires-clause-mark c).After-from-i)))
 
 pub without_bit-ready-requires-clause-set : goal.without_bit-ready-requires-clause-set
 without_bit-ready-requires-clause-set c = (c.loop-rest.invariant (fresh 0 0)).left c.lowest-place.result c.lowest-place.ensures.set
@@ -50,32 +58,17 @@ loop-rest-init c = λ d. all_left (λ k. is_ready c.args.x.now (get_or c.args.st
 
 pub loop-rest-preserved-then-not-is_ready : goal.loop-rest-preserved-then-not-is_ready
 loop-rest-preserved-then-not-is_ready c =
-    let x = c.args.x.now in
-    let sts = c.args.stations.now in
-    let k = c.lowest-place.result in
-    let st = c.index-stations-i.result in
-    let i = c.from-i.ensures in
-    let was = c.loop-rest.invariant st in
-    let below : k < length sts = c.requires.within k (was.among k (was.left k c.lowest-place.ensures.set)) in
-    λ d. goes (λ n. is_ready x (get_or sts n d)) c.args.places c.loop-rest.ready c.loop-rest.rest c.without_bit-rest.result k (c.loop-rest.invariant d)
-    c.without_bit-rest.ensures.cleared c.without_bit-rest.ensures.others c.without_bit-ready.result c.without_bit-ready.ensures.cleared
-    c.without_bit-ready.ensures.others
-    (ap (is_ready x) (get_or_default sts k d st below ∙ ap (λ (n : ℕ). get_or sts n st) (sym i) ∙ sym c.index-stations-i.is) ∙ sym c.is_ready.ensures
-    ∙ c.if-not-is_ready.true)
+    let back = goal.at.loop-rest-preserved-then-not-is_ready c in
+    λ d. goes (λ n. is_ready c.args.x.now (get_or c.args.stations.now n d)) c.args.places c.loop-rest.ready c.loop-rest.rest c.without_bit-rest.result
+    c.lowest-place.result (c.loop-rest.invariant d) c.without_bit-rest.ensures.cleared c.without_bit-rest.ensures.others c.without_bit-ready.result
+    c.without_bit-ready.ensures.cleared c.without_bit-ready.ensures.others (answered back.After-is_ready d (inside back.After-from-i) ∙ c.if-not-is_ready.true)
 
 pub loop-rest-preserved : goal.loop-rest-preserved
 loop-rest-preserved c =
-    let x = c.args.x.now in
-    let sts = c.args.stations.now in
-    let k = c.lowest-place.result in
-    let st = c.index-stations-i.result in
-    let i = c.from-i.ensures in
-    let was = c.loop-rest.invariant st in
-    let below : k < length sts = c.requires.within k (was.among k (was.left k c.lowest-place.ensures.set)) in
-    λ d. stays (λ n. is_ready x (get_or sts n d)) c.args.places c.loop-rest.ready c.loop-rest.rest c.without_bit-rest.result k (c.loop-rest.invariant d)
-    c.without_bit-rest.ensures.cleared c.without_bit-rest.ensures.others
-    (ap (is_ready x) (get_or_default sts k d st below ∙ ap (λ (n : ℕ). get_or sts n st) (sym i) ∙ sym c.index-stations-i.is) ∙ sym c.is_ready.ensures
-    ∙ c.if-not-is_ready.false)
+    let back = goal.at.loop-rest-preserved c in
+    λ d. stays (λ n. is_ready c.args.x.now (get_or c.args.stations.now n d)) c.args.places c.loop-rest.ready c.loop-rest.rest c.without_bit-rest.result
+    c.lowest-place.result (c.loop-rest.invariant d) c.without_bit-rest.ensures.cleared c.without_bit-rest.ensures.others
+    (answered back.After-is_ready d (inside back.After-from-i) ∙ c.if-not-is_ready.false)
 
 pub returns : goal.returns
 returns c = λ d. none_left (λ k. is_ready c.args.x.now (get_or c.args.stations.now k d)) c.args.places c.loop-rest.ready c.loop-rest.rest

@@ -1,7 +1,0 @@
-use Rattle.std.proofs.Common.{◌≡◌, take, false}
-use Rattle.std.specs.List.{list_any}
-use Rattle.radio_model.specs.Receptions.{spoils}
-use Rattle.radio_model.proofs.overlapping.is_spoiled.Given as goal
-
-abbrev pub invariant-loop-y : goal.invariant-loop-y
-invariant-loop-y l = list_any (spoils l.profile l.trace.lines l.node l.x) (take l.y-index l.near) ≡ false
