@@ -2,6 +2,7 @@
 use Rattle.std.proofs.Common.{◌≡◌, ℕ, zero, suc, ◌+◌, ◌*◌, ◌/◌, ◌^◌, ◌≤◌, List, [], ◌∷◌, Bool, true, false, ◌==◌, fold, Option, Some, None, refl, sym, ◌∙◌}
 use Rattle.std.proofs.Common.{ap, subst, arith, mul-le-mul_left, mul-le-mul_right, suc-mul, div-mul-le_self, eqb-true, true≢false, inl, inr, ◌⊎◌}
 use Rattle.std.proofs.lemmas.Bool.{cond_both}
+use Rattle.lwb_base.specs.declared.limits.TheConstants.{MOST_FRAMES}
 use Rattle.lwb_base.specs.declared.event.Event.{Event}
 use Rattle.lwb_base.specs.declared.event.Event.TheVariants.{Boot, Alarm, Heard, Sent}
 use Rattle.lwb_base.specs.declared.order.Order.{Order}
@@ -25,7 +26,8 @@ use Rattle.node_core.specs.declared.stage.Stage.TheVariants.{Idle, Scanning, Awa
 use Rattle.air_log.specs.Devices.{Device, Power, PowerOff, PowerOn, Listening, OrderedPacket, obeyed, moved, stepped, event, event_by, silenced, tunes}
 use Rattle.air_log.specs.Devices.{listens_to}
 use Rattle.air_log.specs.ScriptedDevices.{device_after_act, device_after_line}
-use Rattle.air_log.specs.Trails.{Reception, run_end, setup_of, lines_at, device_after_script, ending_at, device_after_reception, device_after_receptions}
+use Rattle.scenario_text.specs.Setups.{setup_of}
+use Rattle.air_log.specs.Trails.{Reception, run_end, lines_at, device_after_script, ending_at, device_after_reception, device_after_receptions}
 use Rattle.air_log.specs.Trails.{device_ended_by, device_after_end, alarm_is_due, alarms, alarm_limit, alarmed, before_start, begun_by, starts, before_tick}
 use Rattle.air_log.proofs.DeviceActs.{each_act}
 use Rattle.air_log.proofs.AlarmRows.{IsRoomy, roomy, Waits, Goes, GoesBy, alarm_by, alarm_after, progress, most}
@@ -167,7 +169,7 @@ module _ (s : Setup) (L : ℕ → ℕ) (t : ℕ) where
       loop zero true d due sound left = absurd (at_last d d.power due sound left)
       loop (suc more) true d due sound left = goes_on more d d.power due sound left (λ e here there. loop more (alarm_is_due t e.alarm) e refl here there)
 
-      -- as many alarms as the trace allows are enough
+      -- as many alarms as the trail allows are enough
       enough : (q r F : ℕ) → 2 ^ 23 ≤ F → q * F ≤ r + F → 128 * (q + 1) ≤ r + 300
       enough zero r F long fits = omega arith
       enough (suc k) r F long fits =
@@ -239,7 +241,7 @@ module _ (s : ScenarioParts) (v : ℕ) (L : ℕ → ℕ) (hs : List Reception) (
 pub early_in_run : (s : ScenarioParts) (t : ℕ) → IsSoundScenario s → t ≤ run_end s → t ≤ 2 ^ 45
 early_in_run s t sound within =
     let room = roomy s.profile sound.profile in
-    let few : s.frames * s.profile.frame ≤ 4096 * s.profile.frame = mul-le-mul_right s.profile.frame sound.few_frames in
+    let few : s.frames * s.profile.frame ≤ MOST_FRAMES * s.profile.frame = mul-le-mul_right s.profile.frame sound.few_frames in
     omega (arith, within, few, room.short)
 
 pub no_alarm_left : (s : ScenarioParts) (v : ℕ) (L : ℕ → ℕ) (hs : List Reception) (t : ℕ) → IsSoundScenario s → IsClock L → t ≤ run_end s

@@ -2,6 +2,7 @@
 use Rattle.std.proofs.Common.{◌≡◌, ℕ, ◌+◌, ◌*◌, ◌/◌, ◌^◌, ◌<◌, ◌≤◌, max, List, ◌==◌, nat_lt, if◌then◌else◌, fold, Option, Some, None, refl, subst, arith}
 use Rattle.std.proofs.Common.{mul-le-mul_left, mul-le-mul_right, add-mul, le-div_iff_mul-le, div-mul-le_self, ltb-true, inl, inr, IfSome}
 use Rattle.std.proofs.lemmas.Bool.{cond_both}
+use Rattle.lwb_base.specs.declared.limits.TheConstants.{MOST_FRAMES}
 use Rattle.lwb_base.specs.Profile.{Numbers, IsProfile}
 use Rattle.lwb_base.specs.Messages.{Schedule}
 use Rattle.lwb_base.specs.declared.event.Event.TheVariants.{Boot}
@@ -31,7 +32,7 @@ use Rattle.air_log.proofs.SmallCores.{IsSmall, booted_small, frame_small, opened
 -- frames are long, and rounds lie in them
 pub record IsRoomy (p : Numbers) : Type 0 where
   pub long : 2 ^ 23 ≤ p.frame
-  pub short : 4096 * p.frame ≤ 2 ^ 45
+  pub short : MOST_FRAMES * p.frame ≤ 2 ^ 45
   pub end : p.end ≤ p.frame
   pub lead : p.lead ≤ p.frame
   pub few : p.contend ≤ 4

@@ -6,7 +6,8 @@ use Rattle.scenario_text.specs.ScenarioParts.{ScenarioParts}
 use Rattle.scenario_text.specs.ScenarioFacts.{IsSoundScenario}
 use Rattle.bus_rules.specs.Cores.{Setup}
 use Rattle.air_log.specs.Devices.{Device}
-use Rattle.air_log.specs.Trails.{Reception, run_end, setup_of, alarm_is_due, one_alarm, alarms, before_alarms, before_start, before_tick, alarm_limit, alarmed}
+use Rattle.scenario_text.specs.Setups.{setup_of}
+use Rattle.air_log.specs.Trails.{Reception, run_end, alarm_is_due, one_alarm, alarms, before_alarms, before_start, before_tick, alarm_limit, alarmed}
 use Rattle.air_log.specs.AlarmRuns.{after_alarms, IsAlarmRun}
 use Rattle.air_log.proofs.AlarmLoop.{no_alarm_left}
 
@@ -30,7 +31,7 @@ module _ (clock : ℕ → ℕ) (s : Setup) (t : ℕ) where
   is_run true zero d due over = record { count = zero; is = refl; due = λ j less. absurd (omega (arith, less)); over = over }
   is_run true (suc more) d due over = let e = one_alarm clock s t d in with_first d _ due (is_run (alarm_is_due t e.alarm) more e refl over)
 
-  -- there are no more of them than the trace takes at most
+  -- there are no more of them than the trail takes at most
   due_still : (more : ℕ) (d : Device) (b : Bool) → alarm_is_due t d.alarm ≡ b → ((j : ℕ) → j ≤ more → alarm_is_due t (after_alarms clock s t j d).alarm ≡ true)
       → alarm_is_due t (alarms clock s t b more d).alarm ≡ true
   unfolding alarms

@@ -1,4 +1,4 @@
--- What the windows of a trace count, from what is counted of them.
+-- What the windows of a trail count, from what is counted of them.
 use Rattle.std.proofs.Common.{◌≡◌, ℕ, ◌+◌, ◌*◌, ◌%◌, ◌^◌, ◌<◌, ◌≤◌, List, [], ◌∷◌, Bool, true, false, if◌then◌else◌, sum_by, refl, ◌∙◌, arith, mul-le-mul_right}
 use Rattle.std.proofs.Math.Nat.{mod-eq_of_lt}
 use Rattle.std.proofs.lemmas.List.Sums.{sum_by-cons}

@@ -23,7 +23,8 @@ use Rattle.node_core.specs.Rows.{row}
 use Rattle.node_core.specs.Rows.{orders_by}
 use Rattle.air_log.specs.Devices.{Device, Power, PowerOff, PowerOn, OrderedPacket, at_rest, silenced, listens_to, device_after_tuning, moved}
 use Rattle.air_log.specs.ScriptedDevices.{device_after_off, with_new_core}
-use Rattle.air_log.specs.Trails.{Reception, setup_of, frame_start, lines_at, ending_at, alarm_is_due, alarms, alarm_limit, device_after_start, tick}
+use Rattle.scenario_text.specs.Setups.{setup_of}
+use Rattle.air_log.specs.Trails.{Reception, frame_start, lines_at, ending_at, alarm_is_due, alarms, alarm_limit, device_after_start, tick}
 use Rattle.air_log.specs.Trails.{before_tick}
 use Rattle.air_log.specs.Ahead.{NextDue}
 use Rattle.lwb_base.proofs.Elements.{all_passes}
@@ -173,7 +174,7 @@ from_test D clock s v hs a b d is =
     end_set None is = tt
     end_set (Some x) is = leb-true b x.end is
 
--- what is computed is the trace
+-- what is computed is the trail
 through : (clock : ℕ → ℕ) (s : ScenarioParts) (v : ℕ) (hs : List Reception) (last a : ℕ) (bs : List ℕ) (d : Device) → before_tick s v clock hs a ≡ d
     → goes_through (due clock) clock s v hs last a bs d ≡ true
     → before_tick s v clock hs last ≡ after_ticks (due clock) clock s v hs bs d

@@ -2,6 +2,7 @@
 use Rattle.std.proofs.Common.{◌≡◌, true≢false, ℕ, zero, suc, ◌+◌, ◌*◌, ◌^◌, ◌<◌, ◌≤◌, List, [], ◌∷◌, Bool, true, false, ◌==◌}
 use Rattle.std.proofs.Common.{nat_lt, fold, Option, Some, None, refl, sym, ◌∙◌, ap, subst, arith, ltb-true, mul-le-mul_right}
 use Rattle.std.proofs.lemmas.Bool.{cond_both}
+use Rattle.lwb_base.specs.declared.limits.TheConstants.{MOST_FRAMES}
 use Rattle.lwb_base.specs.declared.event.Event.TheVariants.{Boot, Alarm, Heard, Sent}
 use Rattle.tick_clock.specs.Clocks.{IsClock}
 use Rattle.tick_clock.proofs.Readings.{rounded, never_back}
@@ -18,7 +19,8 @@ use Rattle.node_core.specs.declared.stage.Stage.{Stage}
 use Rattle.node_core.specs.declared.stage.Stage.TheVariants.{Idle, Scanning, AwaitFrame, AwaitSlot, InWindow}
 use Rattle.air_log.specs.Devices.{Device, Power, PowerOff, PowerOn, Listening, OrderedPacket, stepped, event_by}
 use Rattle.air_log.specs.ScriptedDevices.{device_after_act, device_after_line}
-use Rattle.air_log.specs.Trails.{Reception, run_end, setup_of, lines_at, device_after_script, ending_at, device_after_reception, device_after_receptions}
+use Rattle.scenario_text.specs.Setups.{setup_of}
+use Rattle.air_log.specs.Trails.{Reception, run_end, lines_at, device_after_script, ending_at, device_after_reception, device_after_receptions}
 use Rattle.air_log.specs.Trails.{device_ended_by, device_after_end, alarm_is_due, alarms, alarm_limit, alarmed, begun_by, starts, before_tick, trail}
 use Rattle.air_log.proofs.DeviceActs.{each_act}
 use Rattle.air_log.proofs.AlarmRows.{IsRoomy, roomy, InRange, IsGoing, alarm_goes}
@@ -130,7 +132,7 @@ module _ (s : ScenarioParts) (v : ℕ) (L : ℕ → ℕ) (hs : List Reception) (
           let times : 2 ^ 13 * s.profile.frame ≤ n.frame * s.profile.frame = mul-le-mul_right s.profile.frame much in
           let early = early_in_run s t sound within in
           let read = rounded L 0 t t clock (omega arith) (omega (arith, early)) in
-          let few : s.frames * s.profile.frame ≤ 4096 * s.profile.frame = mul-le-mul_right s.profile.frame sound.few_frames in
+          let few : s.frames * s.profile.frame ≤ MOST_FRAMES * s.profile.frame = mul-le-mul_right s.profile.frame sound.few_frames in
           absurd (omega (arith, times, read, few, within, going.frame, room.long, clock.begins))
 
   at_tick : (t : ℕ) → t ≤ run_end s → Goes_few (setup_of s v) L t (before_tick s v L hs t)

@@ -1,4 +1,4 @@
--- The worked trace is computed.
+-- The worked trail is computed.
 use Rattle.std.proofs.Common.{◌≡◌, ℕ, List, [], ◌∷◌, true, refl, ap, sym, subst}
 use Rattle.lwb_base.specs.Messages.{least_passing}
 use Rattle.schedule_codec.specs.Packing.{digits, packed_number}

@@ -14,7 +14,7 @@ use Rattle.air_log.proofs.NextDue.{none_passes}
 use Rattle.air_log.proofs.FirstRound.{host_trail, other_trail}
 use Rattle.air_log.proofs.FirstRoundHearings.{tuned_in_round, follows_hearing}
 
--- the traces
+-- the trails
 abbrev pub of_either : ℕ → Bool
 of_either v = (v == 1) || (v == 2)
 

@@ -16,7 +16,8 @@ use Rattle.lwb_base.specs.declared.event.Event.TheVariants.{Heard, Sent}
 use Rattle.air_log.specs.Devices.{Device, OrderedPacket, event, seen_power}
 use Rattle.air_log.proofs.KeptPower.{event_power, alarmed_power, begun_power}
 use Rattle.air_log.specs.ScriptedDevices.{device_after_line}
-use Rattle.air_log.specs.Trails.{Reception, setup_of, run_end, frame_start, lines_at, device_after_script, at_frame}
+use Rattle.scenario_text.specs.Setups.{setup_of}
+use Rattle.air_log.specs.Trails.{Reception, run_end, frame_start, lines_at, device_after_script, at_frame}
 use Rattle.air_log.specs.Trails.{before_tick, device_after_reception, device_after_receptions, ending_at, device_after_end, device_ended_by, alarmed}
 use Rattle.air_log.specs.Courses.{CourseState, CourseShows, IsShownEnding, IsSplitByKey, IsSortedByKey, AlarmsEnd, end_of_reception, reception_in}
 use Rattle.air_log.specs.Courses.{least_due, before_alarms_in, rest_of_tick}

@@ -103,7 +103,7 @@ same_receptions : (hs : List HeardEntry) → map reception_in hs ≡ map recepti
 same_receptions [] = refl
 same_receptions (h ∷ hs) = ap (λ (rs : List Reception). reception_in h ∷ rs) (same_receptions hs)
 
--- what is sorted is what the trace takes
+-- what is sorted is what the trail takes
 pub received : (picks sorts : List HeardEntry) → sorts ≡ in_order before picks → map reception_in sorts ≡ map reception_of (by_end (map hearing_of picks))
 received picks sorts sorted =
     same_receptions sorts

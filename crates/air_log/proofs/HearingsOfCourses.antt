@@ -16,7 +16,7 @@ use Rattle.air_log.specs.Courses.{CourseState, Goes, IsSplitByKey, end_of_recept
 use Rattle.air_log.proofs.ShownCourses.{shows_as}
 use Rattle.air_log.proofs.ListCuts.{IsGone, gone_first, gone_more, none_yet, none_left, filter_more}
 
--- what ends at a tick, of entries and of what the trace takes
+-- what ends at a tick, of entries and of what the trail takes
 abbrev ends : ℕ → HeardEntry → Bool
 ends t h = h.end == t
 

@@ -14,7 +14,8 @@ use Rattle.node_core.specs.Rows.{orders_by}
 use Rattle.node_core.specs.Rows.{Stepped, row}
 use Rattle.air_log.specs.Devices.{Device, Power, PowerOff, PowerOn, obeyed, moved, event, event_by, silenced}
 use Rattle.air_log.specs.ScriptedDevices.{device_after_act, device_after_line}
-use Rattle.air_log.specs.Trails.{Reception, setup_of, lines_at, device_after_script, ending_at, device_after_reception, device_after_receptions}
+use Rattle.scenario_text.specs.Setups.{setup_of}
+use Rattle.air_log.specs.Trails.{Reception, lines_at, device_after_script, ending_at, device_after_reception, device_after_receptions}
 use Rattle.air_log.specs.Trails.{device_ended_by, device_after_end, alarm_is_due, alarms, alarm_limit, alarmed, before_start}
 use Rattle.air_log.proofs.DeviceActs.{each_act}
 

@@ -4,7 +4,8 @@ use Rattle.std.proofs.Common.{Some, None, option_map, IfSome, arith}
 use Rattle.air_log.specs.declared.entry.HeardEntry.{HeardEntry}
 use Rattle.air_log.specs.DeviceStates.{DeviceState}
 use Rattle.air_log.specs.Courses.{end_of_reception}
-use Rattle.air_log.specs.Courses.{tick_of_ordered as ordered_tick, sending_end, least_of, least_due}
+use Rattle.air_log.specs.Courses.{sending_end, least_of, least_due}
+use Rattle.air_log.specs.DeviceStates.{tick_of_ordered as ordered_tick}
 
 -- the least of what is due comes no later than any of it
 least_below : (t : ℕ) (o : Option ℕ) → (least_of t o ≤ t) × IfSome o (λ u. least_of t o ≤ u)

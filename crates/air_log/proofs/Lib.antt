@@ -21,13 +21,12 @@ pub mod TunedBefore
 pub mod KeptPower
 pub mod ComputedTrails
 pub mod FirstRound
-pub mod CountedEvents
 pub mod ChargedWindows
 pub mod EventKinds
 pub mod EventPower
 pub mod ShownCourses
-pub mod CourseSteps
-pub mod CourseEvents
+pub mod AlarmsTaken
+pub mod DeviceChanges
 pub mod FramesOfCourses
 pub mod FirstRoundLog
 pub mod ShortRuns
@@ -35,8 +34,14 @@ pub mod DropsBelow
 -- for this crate alone
 pub mod SmallCores
 mod DeviceEvents
-mod AlarmsOfCourses
+mod DeviceNotified
+mod DeviceOrders
+mod DeviceScript
+mod EndsNoticed
+mod FilledPlaces
+mod CountedEvents
 mod CountedWindows
+mod CourseSteps
 mod FewWindows
 mod FirstRoundHearings
 mod HearingsInAir
@@ -45,7 +50,6 @@ mod LeastDue
 mod LinesOfCourses
 mod ListCuts
 mod LogTextExamples
-mod ObeyedCourses
 mod OpenedByAlarm
 mod TimelyOrders
 mod TrailsOfCourses

@@ -13,7 +13,8 @@ use Rattle.scenario_text.specs.ScenarioParts.{ScenarioParts}
 use Rattle.scenario_text.specs.ScenarioFacts.{IsSoundScenario}
 use Rattle.bus_rules.specs.Cores.{Setup}
 use Rattle.air_log.specs.Devices.{Device, Listening, OrderedPacket, event, obeyed, silenced, tunes, listens_to}
-use Rattle.air_log.specs.Trails.{Reception, setup_of, run_end, frame_start, device_after_script, device_after_receptions, device_ended_by, device_after_end}
+use Rattle.scenario_text.specs.Setups.{setup_of}
+use Rattle.air_log.specs.Trails.{Reception, run_end, frame_start, device_after_script, device_after_receptions, device_ended_by, device_after_end}
 use Rattle.air_log.specs.Trails.{alarm_is_due, alarmed, begun_by, starts, before_tick}
 use Rattle.air_log.specs.QuietTicks.{IsQuiet, ends_at, ordered_starts_at}
 use Rattle.air_log.specs.Ahead.{IsAhead, NextDue}

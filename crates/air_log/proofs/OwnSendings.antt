@@ -11,7 +11,8 @@ use Rattle.radio_model.specs.declared.sending.Sending.{Sending}
 use Rattle.scenario_text.specs.ScenarioParts.{ScenarioParts}
 use Rattle.bus_rules.specs.Cores.{Setup}
 use Rattle.air_log.specs.Devices.{Device, Listening, OrderedPacket, event, obeyed, silenced, tunes, listens_to}
-use Rattle.air_log.specs.Trails.{Reception, setup_of, device_after_script, device_after_receptions, device_ended_by, device_after_end, alarmed, begun_by}
+use Rattle.scenario_text.specs.Setups.{setup_of}
+use Rattle.air_log.specs.Trails.{Reception, device_after_script, device_after_receptions, device_ended_by, device_after_end, alarmed, begun_by}
 use Rattle.air_log.specs.Trails.{starts, sending_from, before_start, before_tick}
 use Rattle.air_log.specs.QuietTicks.{ends_at}
 use Rattle.air_log.proofs.KeptByEvents.{IsKept, in_hearings, in_end, in_event, in_alarms, in_tick}

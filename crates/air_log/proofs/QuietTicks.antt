@@ -5,7 +5,8 @@ use Rattle.radio_model.specs.declared.sending.Sending.{Sending}
 use Rattle.scenario_text.specs.ScenarioParts.{ScenarioParts}
 use Rattle.bus_rules.specs.Cores.{Setup}
 use Rattle.air_log.specs.Devices.{Device, OrderedPacket, silenced}
-use Rattle.air_log.specs.Trails.{Reception, setup_of, ending_at, device_ended_by, begun_by, alarms, alarm_is_due, alarm_limit, before_start, device_after_start}
+use Rattle.scenario_text.specs.Setups.{setup_of}
+use Rattle.air_log.specs.Trails.{Reception, ending_at, device_ended_by, begun_by, alarms, alarm_is_due, alarm_limit, before_start, device_after_start}
 use Rattle.air_log.specs.Trails.{tick, before_tick, run_end, trail}
 use Rattle.air_log.specs.QuietTicks.{IsQuiet, ends_at, ordered_starts_at, ends_before}
 

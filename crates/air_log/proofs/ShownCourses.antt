@@ -1,6 +1,6 @@
 -- When a course shows a device: by its state and what was made, at a later tick, and through changes in turn.
 use Rattle.std.proofs.Common.{◌≡◌, ℕ, ◌≤◌, List, [], ◌∷◌, Option, Some}
-use Rattle.std.proofs.Common.{None, IfSome, refl, sym, subst, arith}
+use Rattle.std.proofs.Common.{None, IfSome, refl, subst, arith}
 use Rattle.radio_model.specs.OnAir.{Tuning}
 use Rattle.bus_rules.specs.Cores.{Setup}
 use Rattle.air_log.specs.declared.entry.TunedEntry.{TunedEntry}
@@ -21,7 +21,7 @@ shown_still t change old new goes shown = record {
 
 -- what a device shows, by its state and by what was made
 pub whole_shows : (q : Setup) (t : ℕ) (c : CourseState) (windows : List WindowLog) → c.device.setup ≡ q
-    → IsCounted q.profile q.sends windows c.windows → q.sends ≤ 4 → EndedBefore t c.tuned → HappenedBy t c.device → c.device.delivery ≡ None
+    → IsCounted q.profile q.sends windows c.device.windows → q.sends ≤ 4 → EndedBefore t c.tuned → HappenedBy t c.device → c.device.delivery ≡ None
     → CourseShows q t c (whole c.device (made_in c windows))
 whole_shows q t c windows setup counted few ended happened taken = record {
   windows = windows;
@@ -34,7 +34,7 @@ whole_shows q t c windows setup counted few ended happened taken = record {
   taken = taken;
 }
 
--- a device of a trace by the one that is shown
+-- a device of a trail by the one that is shown
 pub shows_as : (q : Setup) (t : ℕ) (c : CourseState) (d e : Device) → CourseShows q t c d → d ≡ e → CourseShows q t c e
 shows_as q t c d e shows same = subst (λ (x : Device). CourseShows q t c x) same shows
 
@@ -68,14 +68,6 @@ shows_later q t u c d le shows = record {
   ended = ended_later t u c.tuned le shows.ended;
   happened = happened_later t u c.device le shows.happened;
   taken = shows.taken;
-}
-
--- where what is set changes alone, all has happened as before
-pub set_happened : (t : ℕ) (state after : DeviceState) → after.closed ≡ state.closed → after.listening ≡ state.listening → HappenedBy t state
-    → HappenedBy t after
-set_happened t state after closed listening h = record {
-  closed = subst (λ (o : Option TunedEntry). IfSome o (λ e. e.end ≤ t)) (sym closed) h.closed;
-  listening = subst (λ (o : Option Listening). IfSome o (λ l. l.since ≤ t)) (sym listening) h.listening;
 }
 
 -- the same between courses that are known by equations

@@ -11,7 +11,7 @@ use Rattle.lwb_packets.specs.Requests.{is_request}
 use Rattle.schedule_codec.specs.Spelling.{spells, slot_fits}
 use Rattle.schedule_codec.specs.Reading.{said, schedule_of}
 use Rattle.bus_rules.specs.Plans.{last_slot}
-use Rattle.bus_rules.specs.Tables.{interval_of, Entry, Table, EntriesAreAbove, EntriesAscend, after_request, is_full, without, with_entry, new_entry}
+use Rattle.bus_rules.specs.Tables.{interval_of, TableEntry, Table, EntriesAreAbove, EntriesAscend, after_request, is_full, without, with_entry, new_entry}
 use Rattle.bus_rules.specs.Tables.{entry_after_data, missed}
 use Rattle.bus_rules.specs.Granting.{last_code, share_in, owners_by, grant, granted_by, grants_for, plan_round, owed_to, given, gap_of, in_turn, turns, Grants}
 use Rattle.bus_rules.specs.HostPlans.{Answered, Served, answer, answers_to, serve, served, put_if, host_plan}
@@ -24,45 +24,46 @@ use Rattle.stream_table.proofs.Changes.{seen_keeps, missed_sifts, grant_keeps}
 use Rattle.lwb_member.specs.Said.{data_in, request_in, message_of}
 
 -- a code that is in one entry at most
-none_at : (x : ℕ) (es : List Entry) → EntriesAreAbove x es → sum_by (λ (e : Entry). cond (x == e.code) 1 0) es ≡ 0
+none_at : (x : ℕ) (es : List TableEntry) → EntriesAreAbove x es → sum_by (λ (e : TableEntry). cond (x == e.code) 1 0) es ≡ 0
 none_at x [] above = refl
-none_at x (e ∷ es) above = omega (arith, sum_by-cons (λ (e : Entry). cond (x == e.code) 1 0) e es, none_at x es above.1, here (x == e.code) refl)
+none_at x (e ∷ es) above = omega (arith, sum_by-cons (λ (e : TableEntry). cond (x == e.code) 1 0) e es, none_at x es above.1, here (x == e.code) refl)
   where
     here : (b : Bool) → (x == e.code) ≡ b → ◌≡◌ {A = ℕ} (cond b 1 0) 0
     here true is = absurd (omega (arith, above.0, eqb-true x e.code is))
     here false is = refl
 
-one_at : (x : ℕ) (es : List Entry) → EntriesAscend es → sum_by (λ (e : Entry). cond (x == e.code) 1 0) es ≤ 1
+one_at : (x : ℕ) (es : List TableEntry) → EntriesAscend es → sum_by (λ (e : TableEntry). cond (x == e.code) 1 0) es ≤ 1
 one_at x [] up = omega arith
-one_at x (e ∷ es) up = omega (arith, sum_by-cons (λ (e : Entry). cond (x == e.code) 1 0) e es, by_test (one_at x es up.1) (x == e.code) refl)
+one_at x (e ∷ es) up = omega (arith, sum_by-cons (λ (e : TableEntry). cond (x == e.code) 1 0) e es, by_test (one_at x es up.1) (x == e.code) refl)
   where
-    by_test : sum_by (λ (e : Entry). cond (x == e.code) 1 0) es ≤ 1 → (b : Bool) → (x == e.code) ≡ b
-        → cond b 1 0 + sum_by (λ (e : Entry). cond (x == e.code) 1 0) es ≤ 1
+    by_test : sum_by (λ (e : TableEntry). cond (x == e.code) 1 0) es ≤ 1 → (b : Bool) → (x == e.code) ≡ b
+        → cond b 1 0 + sum_by (λ (e : TableEntry). cond (x == e.code) 1 0) es ≤ 1
     by_test rest true is = omega (arith, none_at x es (subst (λ (c : ℕ). EntriesAreAbove c es) (sym (eqb-true x e.code is)) up.0))
     by_test rest false is = omega (arith, rest)
 
-one_more : (x : ℕ) (cs : List ℕ) (es : List Entry) → sum_by (share_in (x ∷ cs)) es ≡ sum_by (λ (e : Entry). cond (x == e.code) 1 0) es + sum_by (share_in cs) es
+one_more : (x : ℕ) (cs : List ℕ) (es : List TableEntry) → sum_by (share_in (x ∷ cs)) es
+    ≡ sum_by (λ (e : TableEntry). cond (x == e.code) 1 0) es + sum_by (share_in cs) es
 one_more x cs [] = refl
 one_more x cs (e ∷ es) =
     omega (
       arith,
       sum_by-cons (share_in (x ∷ cs)) e es,
-      sum_by-cons (λ (e : Entry). cond (x == e.code) 1 0) e es,
+      sum_by-cons (λ (e : TableEntry). cond (x == e.code) 1 0) e es,
       sum_by-cons (share_in cs) e es,
       sum_by-cons (λ (y : ℕ). cond (y == e.code) 1 0) x cs,
       one_more x cs es,
     )
 
-no_shares : (es : List Entry) → sum_by (share_in []) es ≡ 0
+no_shares : (es : List TableEntry) → sum_by (share_in []) es ≡ 0
 no_shares [] = refl
 no_shares (e ∷ es) = omega (arith, sum_by-cons (share_in []) e es, no_shares es)
 
 -- no more slots are shared out than were given
-shares : (cs : List ℕ) (es : List Entry) → EntriesAscend es → sum_by (share_in cs) es ≤ length cs
+shares : (cs : List ℕ) (es : List TableEntry) → EntriesAscend es → sum_by (share_in cs) es ≤ length cs
 shares [] es up = omega (arith, no_shares es)
 shares (x ∷ cs) es up = omega (arith, one_more x cs es, one_at x es up, shares cs es up)
 
-owned : (share : Entry → ℕ) (es : List Entry) → length (owners_by share es) ≡ sum_by share es
+owned : (share : TableEntry → ℕ) (es : List TableEntry) → length (owners_by share es) ≡ sum_by share es
 owned share [] = refl
 owned share (e ∷ es) =
     omega (arith, length-append (replicate (share e) e.code) (owners_by share es), length-replicate (share e) e.code, sum_by-cons share e es, owned share es)
@@ -71,14 +72,14 @@ owned share (e ∷ es) =
 abbrev AreFew : List ℕ → Table → Type 0
 AreFew owners t = (length owners ≤ 40) × EntriesAscend t.entries
 
-few_by : (share : Entry → ℕ) (gap place : ℕ) (es : List Entry) → EntriesAscend es → sum_by share es ≤ 40
+few_by : (share : TableEntry → ℕ) (gap place : ℕ) (es : List TableEntry) → EntriesAscend es → sum_by share es ≤ 40
     → AreFew (granted_by share gap place es).owners (granted_by share gap place es).table
 few_by share gap place es up fits = (omega (arith, owned share es, fits), ascends_map (grant share) es (grant_keeps share) up)
 
-given_few : (owes : Entry → ℕ) (t : Table) → length (given owes t) ≤ 40
+given_few : (owes : TableEntry → ℕ) (t : Table) → length (given owes t) ≤ 40
 given_few owes t = omega (arith, length-take 40 (turns owes (in_turn t.place t.entries) 40))
 
-few_for : (owes : Entry → ℕ) (gap : ℕ) (t : Table) → EntriesAscend t.entries → AreFew (grants_for owes gap t).owners (grants_for owes gap t).table
+few_for : (owes : TableEntry → ℕ) (gap : ℕ) (t : Table) → EntriesAscend t.entries → AreFew (grants_for owes gap t).owners (grants_for owes gap t).table
 few_for owes gap t up =
     cond_both (nat_le (sum_by owes t.entries) 40) (granted_by owes gap t.place t.entries)
     (granted_by (share_in (given owes t)) gap (last_code (given owes t) + 1) t.entries) (λ (g : Grants). AreFew g.owners g.table)

@@ -1,4 +1,4 @@
--- The transmissions of a trace: each begins after the one before it.
+-- The transmissions of a trail: each begins after the one before it.
 use Rattle.std.proofs.Common.{ℕ, zero, suc, List, [], ◌∷◌, ◌++◌, ◌==◌, Some, None, Option, refl, arith, All, AllPairs}
 use Rattle.std.proofs.lemmas.Bool.{cond_both}
 use Rattle.std.proofs.lemmas.List.Elements.{All-nil, All-push, All-head, All-tail}
@@ -10,7 +10,8 @@ use Rattle.radio_model.specs.declared.sending.Sending.{Sending}
 use Rattle.scenario_text.specs.ScenarioParts.{ScenarioParts}
 use Rattle.bus_rules.specs.Cores.{Setup}
 use Rattle.air_log.specs.Devices.{Device, Listening, OrderedPacket, obeyed, silenced, tunes, listens_to}
-use Rattle.air_log.specs.Trails.{Reception, setup_of, run_end, before_start, begun_by, starts, sending_from, before_tick, trail}
+use Rattle.scenario_text.specs.Setups.{setup_of}
+use Rattle.air_log.specs.Trails.{Reception, run_end, before_start, begun_by, starts, sending_from, before_tick, trail}
 use Rattle.air_log.specs.TrailEntries.{IsSentBefore, StartsBefore}
 use Rattle.air_log.proofs.KeptByEvents.{IsKept, in_tick}
 

@@ -1,4 +1,4 @@
--- The tunings of a trace: none is empty, they do not overlap, and two of one rank do not meet.
+-- The tunings of a trail: none is empty, they do not overlap, and two of one rank do not meet.
 use Rattle.std.proofs.Common.{◌≡◌, ℕ, zero, suc, ◌<◌, ◌≤◌, List, [], ◌∷◌, Bool, true, false, ◌==◌, ◌&&◌, nat_lt, Some}
 use Rattle.std.proofs.Common.{None, Option, refl, sym, ◌∙◌, arith, All, AllPairs, ltb-true, eqb-true, subst}
 use Rattle.std.proofs.lemmas.Bool.{cond_both, and_parts, eq-eqb, eqb-false, true≢false}
@@ -11,7 +11,8 @@ use Rattle.radio_model.specs.OnAir.{Tuning}
 use Rattle.scenario_text.specs.ScenarioParts.{ScenarioParts}
 use Rattle.bus_rules.specs.Cores.{Setup}
 use Rattle.air_log.specs.Devices.{Device, Listening, OrderedPacket, obeyed, silenced, tunes, with_tuning, listens_to}
-use Rattle.air_log.specs.Trails.{Reception, setup_of, run_end, before_start, begun_by, starts, before_tick, trail}
+use Rattle.scenario_text.specs.Setups.{setup_of}
+use Rattle.air_log.specs.Trails.{Reception, run_end, before_start, begun_by, starts, before_tick, trail}
 use Rattle.air_log.specs.TrailEntries.{IsTunedBy, FollowsOn}
 use Rattle.air_log.proofs.KeptByEvents.{IsKept, in_tick}
 

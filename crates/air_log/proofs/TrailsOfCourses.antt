@@ -18,7 +18,8 @@ use Rattle.air_log.specs.declared.entry.HeardEntry.{HeardEntry}
 use Rattle.air_log.specs.Charges.{windows_charge, scanned_frames, scans_with}
 use Rattle.air_log.specs.Devices.{Device, seen_power, silenced}
 use Rattle.air_log.specs.ScriptedDevices.{device_after_line}
-use Rattle.air_log.specs.Trails.{Reception, setup_of, run_end, frame_start, lines_at, at_frame, before_tick, trail, tune_of, tune_at}
+use Rattle.scenario_text.specs.Setups.{setup_of}
+use Rattle.air_log.specs.Trails.{Reception, run_end, frame_start, lines_at, at_frame, before_tick, trail, tune_of, tune_at}
 use Rattle.air_log.specs.TrailsTold.{TrailTold, trail_told}
 use Rattle.scenario_text.specs.AddedLines.{frame_of_line}
 use Rattle.air_log.specs.Courses.{CourseState, CourseShows, HasListsOf, Goes, IsSplitByKey, end_of_reception, reception_in}
@@ -105,11 +106,11 @@ module _ (clock : ℕ → ℕ) (s : ScenarioParts) (v : ℕ) (hs : List HeardEnt
       → CourseShows (setup_of s v) (run_end s) c (before_tick s v clock (map reception_in hs) (run_end s))
       → seen_power c.device.power ≡ turned v (false, 0) (take told s.script)
       → HasListsOf (setup_of s v) last (trail s v clock (map reception_in hs))
-      → (last.windows.earlier + last.windows.last) % 2 ^ 64 ≡ windows_charge s (trail s v clock (map reception_in hs))
+      → (last.device.windows.earlier + last.device.windows.last) % 2 ^ 64 ≡ windows_charge s (trail s v clock (map reception_in hs))
   windows_are told c last shows power tells =
       let seen = ap (λ (b : Bool × ℕ). b.1) (sym (ap (λ (x : Device). seen_power x.power) shows.is) ∙ power) in
       let less = few_boots told in
-      charge_is clock s v (map reception_in hs) sound drifts (omega (arith, seen, less)) last.windows tells.counted
+      charge_is clock s v (map reception_in hs) sound drifts (omega (arith, seen, less)) last.device.windows tells.counted
 
 -- what is given, part by part
 same_told : (a b : List Sending) (c d : List Tuning) (e f : List Delivery) (g h i j : ℕ) (k l : List (Option Tune)) → b ≡ a → d ≡ c → f ≡ e → h ≡ g → j ≡ i
@@ -132,7 +133,7 @@ pub told_is : (clock : ℕ → ℕ) (s : ScenarioParts) (v : ℕ) (hs : List Hea
       sent = last.sent;
       tuned = last.tuned;
       deliveries = last.deliveries;
-      windows = (last.windows.earlier + last.windows.last) % 2 ^ 64;
+      windows = (last.device.windows.earlier + last.device.windows.last) % 2 ^ 64;
       scanned = scanned;
       tunes = tunes;
     }
@@ -146,7 +147,7 @@ told_is clock s v hs sound drifts f told next tunes scanned c at over t end last
     (before_tick s v clock rs (run_end s)) shows in
     is
     ∙ same_told (trail s v clock rs).made.sent last.sent (trail s v clock rs).made.tuned last.tuned (trail s v clock rs).made.deliveries last.deliveries
-    (windows_charge s (trail s v clock rs)) ((last.windows.earlier + last.windows.last) % 2 ^ 64) (scanned_frames s v clock rs) scanned
+    (windows_charge s (trail s v clock rs)) ((last.device.windows.earlier + last.device.windows.last) % 2 ^ 64) (scanned_frames s v clock rs) scanned
     (map (tune_at s v clock rs) (range_with_len 0 s.frames)) tunes
     (sym tells.sent) (sym tells.tuned) (sym tells.deliveries) (windows_are clock s v hs sound drifts told c last shows at.power tells)
     (at.scanned_are ∙ ap (λ (k : ℕ). count_by (λ (n : ℕ). scans_with (tune_at s v clock rs n)) (range_with_len 0 k)) over)

@@ -13,7 +13,8 @@ use Rattle.scenario_text.specs.declared.script.ScriptLine.{ScriptLine}
 use Rattle.bus_rules.specs.Cores.{Setup}
 use Rattle.air_log.specs.Devices.{Device, Listening, OrderedPacket, obeyed, silenced, tunes, with_tuning, listens_to, event}
 use Rattle.air_log.specs.ScriptedDevices.{device_after_line}
-use Rattle.air_log.specs.Trails.{Reception, setup_of, device_after_start, begun_by, starts, alarmed, before_tick, before_start}
+use Rattle.scenario_text.specs.Setups.{setup_of}
+use Rattle.air_log.specs.Trails.{Reception, device_after_start, begun_by, starts, alarmed, before_tick, before_start}
 use Rattle.air_log.proofs.KeptByEvents.{IsKept, by_act, in_event, in_alarms, in_tick}
 use Rattle.air_log.specs.TunedTimes.{CoversTick, listened}
 
@@ -216,7 +217,7 @@ begun_as s t P d (Some o) is =
 pub begun_stays : (s : Setup) (t : ℕ) (d : Device) → HasTunedBy t d → IsTunedAs t d (device_after_start s t d)
 begun_stays s t d by = begun_as s t (Stays t d.made.tuned d.listening) d d.ordered (stays_same t d.made.tuned d.listening by)
 
--- along a trace
+-- along a trail
 module _ (s : ScenarioParts) (v : ℕ) (clock : ℕ → ℕ) (hs : List Reception) where
   step_by : (t : ℕ) → HasTunedBy t (before_tick s v clock hs t) → HasTunedBy (suc t) (before_tick s v clock hs (suc t))
   unfolding before_tick

@@ -1,4 +1,4 @@
--- The account of a trace: what its windows count, and the frames in which it scans.
+-- The account of a trail: what its windows count, and the frames in which it scans.
 use Rattle.std.specs.Prelude.{ℕ, List, Bool, false, if◌then◌else◌, Some, None, filter_map, sum_by, count_by, length}
 use Rattle.std.specs.declared.option.Option.{Option}
 use Rattle.std.specs.List.{range_with_len}

@@ -1,4 +1,4 @@
--- A trace as code goes through it: the device, and what it has made so far.
+-- A trail as code goes through it: the device, and what it has made so far.
 use Rattle.std.specs.Prelude.{◌≡◌, ℕ, ◌<◌, ◌≤◌, List, Some, None, slice_get, AllPairs, ◌==◌, if◌then◌else◌, min}
 use Rattle.std.specs.declared.option.Option.{Option}
 use Rattle.radio_model.specs.declared.sending.Sending.{Sending}
@@ -10,11 +10,11 @@ use Rattle.air_log.specs.declared.entry.Entry.{Entry}
 use Rattle.air_log.specs.declared.entry.HeardEntry.{HeardEntry}
 use Rattle.air_log.specs.Entries.{hearing_in}
 use Rattle.air_log.specs.AlarmRuns.{IsAlarmRun}
-use Rattle.air_log.specs.Devices.{Device, Made, OrderedPacket}
-use Rattle.air_log.specs.DeviceStates.{DeviceState, whole, EndedBefore, HappenedBy}
+use Rattle.air_log.specs.Devices.{Device, Made}
+use Rattle.air_log.specs.DeviceStates.{DeviceState, whole, EndedBefore, HappenedBy, tick_of_ordered}
 use Rattle.air_log.specs.Trails.{Reception, device_after_receptions, device_after_end, alarmed, device_after_start}
 use Rattle.air_log.specs.WindowLogs.{WindowLog}
-use Rattle.air_log.specs.WindowSums.{WindowSum, IsCounted}
+use Rattle.air_log.specs.WindowSums.{IsCounted}
 
 -- tunings are with the last first
 pub record CourseState : Type 0 where
@@ -22,18 +22,17 @@ pub record CourseState : Type 0 where
   pub sent : List Sending
   pub tuned : List Tuning
   pub deliveries : List Delivery
-  pub windows : WindowSum
 
 -- all that was made, with these windows, which are not kept
 abbrev pub made_in : CourseState → List WindowLog → Made
 made_in c windows = record { sent = c.sent; tuned = c.tuned; deliveries = c.deliveries; windows = windows }
 
--- at tick t it is this device of a trace
+-- at tick t it is this device of a trail
 pub record CourseShows (q : Setup) (t : ℕ) (c : CourseState) (d : Device) : Type 0 where
   pub windows : List WindowLog
   pub is : whole c.device (made_in c windows) ≡ d
   pub setup : c.device.setup ≡ q
-  pub counted : IsCounted q.profile q.sends windows c.windows
+  pub counted : IsCounted q.profile q.sends windows c.device.windows
   pub few : q.sends ≤ 4
   pub ended : EndedBefore t c.tuned
   pub happened : HappenedBy t c.device
@@ -44,14 +43,14 @@ pub record HasListsOf (q : Setup) (c : CourseState) (d : Device) : Type 0 where
   pub sent : d.made.sent ≡ c.sent
   pub tuned : d.made.tuned ≡ c.tuned
   pub deliveries : d.made.deliveries ≡ c.deliveries
-  pub counted : IsCounted q.profile q.sends d.made.windows c.windows
+  pub counted : IsCounted q.profile q.sends d.made.windows c.device.windows
 
 pub record CourseIsShown (t : ℕ) (c : CourseState) : Type 0 where
   pub setup : Setup
   pub device : Device
   pub shows : CourseShows setup t c device
 
--- at tick t it goes through this change, as a trace does
+-- at tick t it goes through this change, as a trail does
 abbrev pub Goes : ℕ → (Setup → Device → Device) → CourseState → CourseState → Type 0
 Goes t change old new = (q : Setup) (d : Device) → CourseShows q t old d → CourseShows q t new (change q d)
 
@@ -87,9 +86,6 @@ hearing_with e v = only_of v (hearing_in e)
 abbrev pub least_of : ℕ → Option ℕ → ℕ
 least_of t None = t
 least_of t (Some u) = min t u
-
-abbrev pub tick_of_ordered : OrderedPacket → ℕ
-tick_of_ordered o = o.tick
 
 abbrev pub sending_end : Sending → ℕ
 sending_end x = x.end

@@ -13,7 +13,7 @@ abbrev pub delivery_comes_before : Delivery → Delivery → Bool
 delivery_comes_before a b =
     is_lt (ordering_then (ordering_then (ordering_then (nat_cmp a.frame b.frame) (nat_cmp a.rank b.rank)) (nat_cmp a.slot b.slot)) (nat_cmp a.node b.node))
 
--- what a node of the scenario delivers by its trace
+-- what a node of the scenario delivers by its trail
 abbrev pub deliveries_of_node : ScenarioParts → (ℕ → ℕ → ℕ) → List Entry → NodeLine → List Delivery
 deliveries_of_node s clocks air n = (trail_in s clocks air n.node).made.deliveries
 

@@ -1,7 +1,7 @@
 -- A device as code keeps it, and what it makes known of itself step by step.
-use Rattle.std.specs.Prelude.{◌≡◌, ℕ, ◌^◌, ◌<◌, ◌≤◌, List, [], ◌∷◌, ◌++◌, ◌==◌, if◌then◌else◌, Some, None, option_to_list, ⊤}
+use Rattle.std.specs.Prelude.{◌≡◌, ℕ, ◌^◌, ◌<◌, ◌≤◌, List, [], ◌∷◌, ◌++◌, true, ◌==◌, if◌then◌else◌, Some, None, is_some, option_to_list, ⊤}
 use Rattle.std.specs.declared.option.Option.{Option}
-use Rattle.std.specs.Option.{IfSome}
+use Rattle.std.specs.Option.{IfSome, option_map}
 use Rattle.lwb_base.specs.declared.limits.TheConstants.{MOST_BOOTS}
 use Rattle.lwb_base.specs.declared.event.Event.{Event}
 use Rattle.lwb_base.specs.declared.event.Event.TheVariants.{Sent}
@@ -15,11 +15,13 @@ use Rattle.node_core.specs.Nodes.{Node, NodeState}
 use Rattle.node_core.specs.Rows.{Stepped, row}
 use Rattle.node_core.specs.Rows.{node_after}
 use Rattle.air_log.specs.declared.entry.TunedEntry.{TunedEntry}
-use Rattle.air_log.specs.WindowLogs.{windows_after}
+use Rattle.air_log.specs.WindowLogs.{windows_after, is_alarm}
+use Rattle.air_log.specs.WindowSums.{WindowSum, power_has_window, sent_with, noted}
+use Rattle.air_log.specs.declared.settings.Settings.{Settings}
 use Rattle.air_log.specs.Devices.{Device, Power, PowerOff, PowerOn, Listening, OrderedPacket, Made, delivery_by, event}
 
 -- core: the node, also where its power is off; closed: the tuning that ended last, as long as its entry is not in the log;
--- delivery: that of the last step
+-- delivery: that of the last step; windows: what its windows count so far
 pub record DeviceState : Type 0 where
   pub setup : Setup
   pub core : Node
@@ -30,6 +32,17 @@ pub record DeviceState : Type 0 where
   pub ordered : Option OrderedPacket
   pub sending : Option Sending
   pub delivery : Option Delivery
+  pub windows : WindowSum
+
+abbrev pub channel_of : Listening → ℕ
+channel_of l = l.rank
+
+abbrev pub tick_of_ordered : OrderedPacket → ℕ
+tick_of_ordered o = o.tick
+
+-- what is set at it
+abbrev pub settings_of : DeviceState → Settings
+settings_of s = record { channel = option_map channel_of s.listening; alarm = s.alarm; sending = option_map tick_of_ordered s.ordered }
 
 abbrev pub tuning_of : TunedEntry → Tuning
 tuning_of e = record { rank = e.rank; node = e.node; start = e.start; end = e.end }
@@ -69,10 +82,21 @@ IsKeptBack None l = ⊤
 IsKeptBack (Some e) None = e.start < e.end
 IsKeptBack (Some e) (Some l) = (e.start < e.end) × (e.end ≤ l.since)
 
--- the same node with the delivery of the same step
+-- nothing that it keeps back ended before this tick
+abbrev pub KeepsBack : ℕ → DeviceState → Type 0
+KeepsBack t s = IfSome s.closed (λ e. t ≤ e.end)
+
+-- at tick t it hands out no tuning but one that it kept back from before, and so one at most
+pub record HandsOut (t : ℕ) (old : DeviceState) (closed : Option TunedEntry) (new : DeviceState) : Type 0 where
+  pub once : is_some closed ≡ true → KeepsBack t new
+  pub none : KeepsBack t old → closed ≡ None
+  pub still : KeepsBack t old → KeepsBack t new
+
+-- the same node with the delivery of the same step, the same transmission and the same windows
 pub record IsSameNode (old new : DeviceState) : Type 0 where
   pub setup : new.setup ≡ old.setup
   pub delivery : new.delivery ≡ old.delivery
+  pub windows : new.windows ≡ old.windows
 
 -- local times of orders are those at which times stop, or earlier ones
 abbrev pub IsTimely : Order → Type 0
@@ -93,6 +117,12 @@ row_of clock t e s = row_at clock t e s.setup s.power
 abbrev pub state_after_row : DeviceState → Option Stepped → DeviceState
 state_after_row s None = s
 state_after_row s (Some r) = record s { core = r.node; power = PowerOn r.node; delivery = r.delivery }
+
+-- the device after an event, but for its orders: its delivery is taken, and its windows have counted the event
+abbrev pub state_after_event : (ℕ → ℕ) → ℕ → Event → Option Sending → DeviceState → DeviceState
+state_after_event clock t e ended s =
+    let after = state_after_row s (row_of clock t e s) in
+    record after { delivery = None; windows = noted (power_has_window s.power) (power_has_window after.power) (is_alarm e) (sent_with e ended) s.windows }
 
 -- what a row makes: its delivery, and what it is to the windows
 abbrev pub made_by : ℕ → Event → Option Sending → Power → Option Stepped → Made → Made

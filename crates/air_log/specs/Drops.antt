@@ -11,14 +11,15 @@ use Rattle.bus_rules.specs.States.{loses}
 use Rattle.air_log.specs.declared.entry.Entry.{Entry}
 use Rattle.air_log.specs.Devices.{Device, Power, state_of_power}
 use Rattle.air_log.specs.ScriptedDevices.{device_after_line}
-use Rattle.air_log.specs.Trails.{setup_of, frame_start, before_tick}
+use Rattle.scenario_text.specs.Setups.{setup_of}
+use Rattle.air_log.specs.Trails.{frame_start, before_tick}
 use Rattle.air_log.specs.Lawful.{heard_by}
 
 -- the lines above that the node of this line is given at the same tick
 abbrev pub told_at_tick : ScenarioParts → List ScriptLine → ScriptLine → List ScriptLine
 told_at_tick s above l = filter (λ m. (m.node == l.node) && (frame_start s m.frame == frame_start s l.frame)) above
 
--- the node of a line by its trace, just before the line: as it comes to the start of the frame, and then given the lines above
+-- the node of a line by its trail, just before the line: as it comes to the start of the frame, and then given the lines above
 abbrev pub device_before_line : ScenarioParts → (ℕ → ℕ → ℕ) → List Entry → List ScriptLine → ScriptLine → Device
 device_before_line s clocks air above l =
     let t = frame_start s l.frame in

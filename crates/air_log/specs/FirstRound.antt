@@ -1,4 +1,4 @@
--- Worked traces: node 1 hosts a first round for node 2, in the last of six frames, and their clocks keep true time. It
+-- Worked trails: node 1 hosts a first round for node 2, in the last of six frames, and their clocks keep true time. It
 -- sends the opening in slot 0 and the closing in slot 2. Both are relayed by turns, twice by each node.
 use Rattle.std.specs.Prelude.{◌≡◌, ℕ, List, [], ◌∷◌, ◌++◌, Some, map}
 use Rattle.lwb_base.specs.Profile.{one}
@@ -80,7 +80,7 @@ first_round_tuned_by_host =
 abbrev pub tuned_by_other : List Tuning
 tuned_by_other = tuned_at 2 1348224000 1348472320 ∷ tuned_at 2 1346112000 1348208000 ∷ tuned_at 2 0 1344248320 ∷ []
 
--- the entries of a trace, what its windows count, and its tune at the end
+-- the entries of a trail, what its windows count, and its tune at the end
 pub record IsWorked (s : ScenarioParts) (d : Device) (sent : List Sending) (tuned : List Tuning) (windows : ℕ) (tune : Tune) : Type 0 where
   pub sendings : d.made.sent ≡ sent
   pub tunings : d.made.tuned ≡ tuned

@@ -31,7 +31,7 @@ AreInTurn hs = AllPairs (λ g h. reception_comes_before h g ≡ false) hs
 abbrev pub reception_of : Hearing → Reception
 reception_of h = record { packet = h.sending.packet; end = h.sending.end }
 
--- what v received, as it is in the log, and in the order in which its trace takes it
+-- what v received, as it is in the log, and in the order in which its trail takes it
 abbrev pub hearings_by : List Entry → ℕ → List Hearing
 hearings_by air v = filter (λ h. h.node == v) (hearings_of air)
 
@@ -44,7 +44,7 @@ sent_by air v = filter (λ x. x.node == v) (sendings_of air)
 abbrev pub tuned_by : List Entry → ℕ → List Tuning
 tuned_by air v = filter (λ t. t.node == v) (tunings_of air)
 
--- the trace of v over what it received
+-- the trail of v over what it received
 abbrev pub trail_in : ScenarioParts → (ℕ → ℕ → ℕ) → List Entry → ℕ → Device
 trail_in s clocks air v = trail s v (clocks v) (heard_by air v)
 
@@ -55,7 +55,7 @@ trail_sent s clocks air v = if knows s.nodes v then (trail_in s clocks air v).ma
 abbrev pub trail_tuned : ScenarioParts → (ℕ → ℕ → ℕ) → List Entry → ℕ → List Tuning
 trail_tuned s clocks air v = if knows s.nodes v then (trail_in s clocks air v).made.tuned else []
 
--- the transmissions and tunings of each id are those of its trace, each once
+-- the transmissions and tunings of each id are those of its trail, each once
 pub record FollowsTrails (s : ScenarioParts) (clocks : ℕ → ℕ → ℕ) (air : List Entry) : Type 0 where
   pub sent : (v : ℕ) → IsPermutation (trail_sent s clocks air v) (sent_by air v)
   pub tuned : (v : ℕ) → IsPermutation (trail_tuned s clocks air v) (tuned_by air v)

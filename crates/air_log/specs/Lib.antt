@@ -28,3 +28,7 @@ pub mod DeviceShapes
 pub mod TrailsTold
 pub mod WindowSums
 pub mod Courses
+pub mod CourseParts
+pub mod DeviceChanges
+pub mod EventOrders
+pub mod Notices

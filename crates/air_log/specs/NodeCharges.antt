@@ -7,7 +7,7 @@ use Rattle.air_log.specs.declared.charge.NodeCharge.{NodeCharge}
 use Rattle.air_log.specs.Lawful.{heard_by, trail_in}
 use Rattle.air_log.specs.Charges.{windows_charge, scanned_frames}
 
--- what the windows of its trace count, and the frames at whose start it scans
+-- what the windows of its trail count, and the frames at whose start it scans
 abbrev pub charge_in : ScenarioParts → (ℕ → ℕ → ℕ) → List Entry → NodeLine → NodeCharge
 charge_in s clocks air n = record {
   windows = windows_charge s (trail_in s clocks air n.node);

@@ -93,7 +93,7 @@ abbrev pub is_hosting : Option Tune → Bool
 is_hosting None = false
 is_hosting (Some tune) = hosts tune
 
--- whether the sender of x hosts when x starts, by its trace
+-- whether the sender of x hosts when x starts, by its trail
 abbrev pub sender_hosts : ScenarioParts → (ℕ → ℕ → ℕ) → List Entry → Sending → Bool
 sender_hosts s clocks air x = is_hosting (tune_when s x.node (clocks x.node) (heard_by air x.node) x.start)
 

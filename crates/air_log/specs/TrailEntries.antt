@@ -1,4 +1,4 @@
--- What the entries of a trace are like.
+-- What the entries of a trail are like.
 use Rattle.std.specs.Prelude.{◌≡◌, ℕ, ◌+◌, ◌<◌, ◌≤◌, length}
 use Rattle.lwb_base.specs.Profile.{airtime}
 use Rattle.radio_model.specs.declared.sending.Sending.{Sending}

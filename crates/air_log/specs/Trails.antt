@@ -1,4 +1,4 @@
--- The trace of a node: what it does from tick to tick, by the script, its clock and what it receives.
+-- The trail of a node: what it does from tick to tick, by the script, its clock and what it receives.
 use Rattle.std.specs.Prelude.{ℕ, zero, suc, ◌+◌, ◌*◌, List, [], ◌∷◌, ◌++◌, Bool, true, false, ◌&&◌, ◌==◌}
 use Rattle.std.specs.Prelude.{nat_lt, if◌then◌else◌, Some, None, filter, fold, length}
 use Rattle.std.specs.declared.option.Option.{Option}
@@ -6,9 +6,10 @@ use Rattle.lwb_base.specs.Profile.{airtime}
 use Rattle.lwb_base.specs.declared.event.Event.TheVariants.{Alarm, Heard, Sent}
 use Rattle.radio_model.specs.declared.sending.Sending.{Sending}
 use Rattle.scenario_text.specs.ScenarioParts.{ScenarioParts}
+use Rattle.scenario_text.specs.Setups.{setup_of}
 use Rattle.scenario_text.specs.declared.script.ScriptLine.{ScriptLine}
 use Rattle.bus_rules.specs.declared.tune.Tune.{Tune}
-use Rattle.bus_rules.specs.Cores.{Setup, setup_for}
+use Rattle.bus_rules.specs.Cores.{Setup}
 use Rattle.air_log.specs.Devices.{Device, Power, PowerOff, PowerOn, Listening, OrderedPacket, at_rest, event, silenced}
 use Rattle.air_log.specs.ScriptedDevices.{device_after_line}
 
@@ -16,10 +17,6 @@ use Rattle.air_log.specs.ScriptedDevices.{device_after_line}
 pub record Reception : Type 0 where
   pub packet : List ℕ
   pub end : ℕ
-
--- what is fixed for the node of this id
-abbrev pub setup_of : ScenarioParts → ℕ → Setup
-setup_of s v = setup_for s.profile s.hosts s.sends v
 
 -- the run ends at this tick
 abbrev pub run_end : ScenarioParts → ℕ
@@ -121,7 +118,7 @@ unfoldable pub before_tick : ScenarioParts → ℕ → (ℕ → ℕ) → List Re
 before_tick s v clock hs zero = at_rest
 before_tick s v clock hs (suc t) = tick s v clock hs t (before_tick s v clock hs t)
 
--- the trace of v by its clock and what it received: the device at the end of the run, at which its tuning ends
+-- the trail of v by its clock and what it received: the device at the end of the run, at which its tuning ends
 abbrev pub trail : ScenarioParts → ℕ → (ℕ → ℕ) → List Reception → Device
 trail s v clock hs = silenced v (run_end s) (before_tick s v clock hs (run_end s))
 

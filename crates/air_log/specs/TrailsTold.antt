@@ -1,4 +1,4 @@
--- What a trace tells of its node: what it sent, when it was tuned, what it delivered, what it counts, and its tunes.
+-- What a trail tells of its node: what it sent, when it was tuned, what it delivered, what it counts, and its tunes.
 use Rattle.std.specs.Prelude.{ℕ, List, map}
 use Rattle.std.specs.declared.option.Option.{Option}
 use Rattle.std.specs.List.{range_with_len}

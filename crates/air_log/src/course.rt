@@ -1,55 +1,44 @@
-//! The trace of one node as code walks it: which events a device receives, and how it responds.
+//! The trail of one node as code walks it: which events a device receives, and how it responds.
 
-ghost use Rattle.std.specs.Prelude.{◌≡◌, ◌≤◌, ◌<◌, ◌^◌, ℕ, List, [], ◌∷◌, ◌++◌, Some, None, Option, OnOk, IfOk, length, option_to_list, All, fold};
-ghost use Rattle.lwb_base.specs.declared.event.Event.TheVariants.{Heard as HeardOf};
-ghost use Rattle.bus_rules.specs.Cores.{Setup, setup_for};
-ghost use Rattle.radio_model.specs.declared.sending.Sending.{Sending as SendingOf};
+ghost use Rattle.std.specs.Prelude.{◌≡◌, ◌≤◌, ◌^◌, ◌++◌, OnOk, IfOk, option_to_list, option_copied};
+ghost use Rattle.bus_rules.specs.Cores.{Setup};
 ghost use Rattle.bus_rules.specs.States.{IsAct};
 ghost use Rattle.bus_rules.specs.declared.act.Act.TheVariants.{On as OnOf};
 ghost use Rattle.air_log.specs.AlarmRuns.{IsAlarmRun};
-ghost use Rattle.air_log.specs.Devices.{Device as DeviceOf, at_rest, obeyed, event as event_at, silenced};
-ghost use Rattle.air_log.specs.ScriptedDevices.{device_after_act, device_after_line};
-ghost use Rattle.air_log.specs.Trails.{setup_of, alarm_is_due, one_alarm, alarmed, device_after_start as begun_at, device_after_end as ended_at};
-ghost use Rattle.air_log.specs.DeviceStates.{IsTimely, CanBoot, one_more};
-ghost use Rattle.air_log.specs.WindowLogs.{is_alarm};
-ghost use Rattle.air_log.specs.WindowSums.{sent_with};
+ghost use Rattle.air_log.specs.Devices.{Device as DeviceOf, at_rest, event as event_at, silenced};
+ghost use Rattle.air_log.specs.ScriptedDevices.{device_after_line};
+ghost use Rattle.scenario_text.specs.Setups.{setup_of};
+ghost use Rattle.air_log.specs.Trails.{alarmed, device_after_start as begun_at, device_after_end as ended_at};
+ghost use Rattle.air_log.specs.DeviceStates.{CanBoot, one_more};
 ghost use Rattle.air_log.specs.Courses.{CourseShows, HasListsOf, CourseIsShown, Goes, IsShownEnding};
 
-use crate::TunedEntry;
 use crate::device::Device;
-use crate::window_sum::WindowSum;
-use bus_rules::{Delivery, Switch};
-use lwb_base::{Event, Memory, NodeId, Order, Packet, RecordingRadio};
+use crate::{EventRadio, Notice, TunedEntry};
+use bus_rules::Delivery;
+use lwb_base::{Event, Memory, NodeId};
 use radio_model::sending::Sending;
 use scenario_text::{Scenario, ScriptLine};
 use std::alloc::Global;
 use std::marker::Model;
 use tick_clock::DriftClock;
 
-// The device of a trace, what it has made so far, each in the order in which it was made, and what its windows count.
+// The device of a trail, what it has made so far, each in the order in which it was made, and the buffer of its radio.
 #[derive(Drop)]
 pub(crate) struct Course {
     pub(crate) device: Device,
     pub(crate) sent: Vec<Sending>,
     pub(crate) tuned: Vec<TunedEntry>,
     pub(crate) deliveries: Vec<Delivery>,
-    pub(crate) windows: WindowSum,
+    radio: EventRadio,
 }
 
 impl Model for Course {
-    ghost use Rattle.std.specs.Prelude.{map, reverse};
-    ghost use Rattle.air_log.specs.DeviceStates.{tuning_of};
     ghost use Rattle.air_log.specs.Courses.{CourseState};
+    ghost use Rattle.air_log.specs.CourseParts.{course_of};
 
     ghost Value = { CourseState };
 
-    ghost view = { λ c. record {
-      device = c.device;
-      sent = c.sent.items;
-      tuned = reverse (map tuning_of c.tuned.items);
-      deliveries = c.deliveries.items;
-      windows = c.windows;
-    } };
+    ghost view = { course_of };
 }
 
 impl Course {
@@ -63,75 +52,25 @@ impl Course {
             sent: Vec::new(alloc),
             tuned: Vec::new(alloc),
             deliveries: Vec::new(alloc),
-            windows: WindowSum::new(&profile, s.sends()),
+            radio: EventRadio::new(),
         })
     }
 
-    // The device is notified of an event at tick t, and what it orders is done. A Sent comes with the transmission that ended.
+    // The device is notified of an event at tick t, and what it orders is done.
     pub(crate) fn tell<C: DriftClock>(
         &mut self,
         clock: &C,
         t: u64,
-        event: Event,
-        ended: Option<Sending>,
+        notice: &Notice<'_, '_>,
     ) -> Result<(), Memory>
         requires shown { CourseIsShown t self.old }
         requires early { t ≤ 2 ^ 45 }
-        ensures { OnOk result (Goes t (λ q d. event_at (C.readings clock.now) q t event ended d) self.old self.new) }
+        ensures { OnOk result (Goes t (λ q d. event_at (C.readings clock.now) q t notice.now.event.now (option_copied notice.now.ended) d) self.old self.new) }
     {
-        let by_alarm = is_alarm(&event);
-        let sent = sent_with(&event, ended);
-        let before = self.device.is_in_window();
-        let mut radio = RecordingRadio::new();
-        self.device.react(clock, t, &event, &mut radio);
-        let after = self.device.is_in_window();
-        self.windows.note(before, after, by_alarm, sent.as_ref());
-        let delivery = self.device.delivered();
-        self.log_delivery(delivery)?;
-        self.obey_all(clock, t, radio)
-    }
-
-    // The orders that the device gave to its radio, at tick t.
-    fn obey_all<C: DriftClock>(
-        &mut self,
-        clock: &C,
-        t: u64,
-        mut radio: RecordingRadio,
-    ) -> Result<(), Memory>
-        requires shown { CourseIsShown t self.old }
-        requires timely { All IsTimely radio }
-        ensures { OnOk result (Goes t (λ q d. fold (obeyed (C.readings clock.now) q.id t) d radio) self.old self.new) }
-    {
-        while let Some(order) = radio.take() {
-            self.obey(clock, t, order)?;
-        }
-        Ok(())
-    }
-
-    // An order of the device, at tick t.
-    fn obey<C: DriftClock>(&mut self, clock: &C, t: u64, order: Order) -> Result<(), Memory>
-        requires shown { CourseIsShown t self.old }
-        requires timely { IsTimely order }
-        ensures { OnOk result (Goes t (λ q d. obeyed (C.readings clock.now) q.id t d order) self.old self.new) }
-    {
-        match order {
-            Order::Listen(rank) => {
-                let closed = self.device.listen(rank, t);
-                self.log_tuning(closed)
-            }
-            Order::Off => {
-                let closed = self.device.silence(t);
-                self.log_tuning(closed)
-            }
-            Order::SendAt(local, packet) => {
-                let _ = self.device.order_sending(clock, t, local, &packet);
-                Ok(())
-            }
-            Order::Alarm(local) => {
-                let _ = self.device.set_alarm(clock, t, local);
-                Ok(())
-            }
-        }
+        let closed = self
+            .device
+            .notify(clock, t, notice, &mut self.radio, &mut self.deliveries)?;
+        self.log_tuning(closed)
     }
 
     // The alarms that are due at tick t, one after another.
@@ -142,14 +81,10 @@ impl Course {
             → IsAlarmRun (C.readings clock.now) q t d (alarmed (C.readings clock.now) q t d)
             → CourseShows q t self.new (alarmed (C.readings clock.now) q t d)) }
     {
-        // The proof bounds the loop; the language needs a limit.
-        for _ in 0..u64::MAX {
-            if !self.device.take_alarm(t) {
-                return Ok(());
-            }
-            self.tell(clock, t, Event::Alarm, None)?;
-        }
-        unreachable!()
+        let closed = self
+            .device
+            .take_alarms(clock, t, &mut self.radio, &mut self.deliveries)?;
+        self.log_tuning(closed)
     }
 
     // The transmission that ends at tick t, if one does.
@@ -158,10 +93,15 @@ impl Course {
         requires early { t ≤ 2 ^ 45 }
         ensures { OnOk result (Goes t (λ q d. ended_at (C.readings clock.now) q t d) self.old self.new) }
     {
-        match self.device.end_sending(t) {
-            Some(x) => self.tell(clock, t, Event::Sent, Some(x)),
-            None => Ok(()),
-        }
+        let Some(x) = self.device.end_sending(t) else {
+            return Ok(());
+        };
+        let event = Event::Sent;
+        let notice = Notice {
+            event: &event,
+            ended: Some(&x),
+        };
+        self.tell(clock, t, &notice)
     }
 
     // The transmission that starts at tick t, if one does.
@@ -187,42 +127,19 @@ impl Course {
         requires boots { line.now.act ≡ OnOf → CanBoot self.old.device.power }
         ensures { OnOk result (Goes t (λ q d. device_after_line (C.readings clock.now) q t d line.now) self.old self.new) }
     {
-        match line.act.switch() {
-            Some(Switch::On) => {
-                if self.device.switch_on() {
-                    self.tell(clock, t, Event::Boot, None)?;
-                }
-                Ok(())
-            }
-            Some(Switch::Off) => {
-                let closed = self.device.switch_off(t);
-                self.log_tuning(closed)
-            }
-            None => {
-                let _ = self.device.tell(line.frame, &line.act);
-                Ok(())
-            }
-        }
+        let (closed, _) = self
+            .device
+            .act(clock, t, line, &mut self.radio, &mut self.deliveries)?;
+        self.log_tuning(closed)
     }
 
     // At tick t its tuning ends, and all its tunings are in the list.
     pub(crate) fn close(&mut self, t: u64) -> Result<(), Memory>
         ensures { OnOk result ((q : Setup) (d : DeviceOf) → CourseShows q t self.old d → HasListsOf q self.new (silenced q.id t d)) }
     {
-        let before = self.device.silence(t);
-        let last = self.device.hand_out();
-        self.log_tuning(before)?;
+        let (first, last) = self.device.close(t);
+        self.log_tuning(first)?;
         self.log_tuning(last)
-    }
-
-    // A delivery, if there is one.
-    fn log_delivery(&mut self, delivery: Option<Delivery>) -> Result<(), Memory>
-        ensures { OnOk result (self.new ≡ record self.old { deliveries = self.old.deliveries ++ option_to_list delivery }) }
-    {
-        if let Some(delivery) = delivery {
-            self.deliveries.push(delivery)?;
-        }
-        Ok(())
     }
 
     // A tuning that has ended, if there is one.
@@ -243,24 +160,5 @@ impl Course {
             self.sent.push(x)?;
         }
         Ok(())
-    }
-}
-
-fn is_alarm(event: &Event) -> bool
-    ensures { result ≡ is_alarm event.now }
-{
-    match event {
-        Event::Alarm => true,
-        Event::Boot | Event::Heard(_) | Event::Sent => false,
-    }
-}
-
-// The packet of the transmission whose end an event reports.
-fn sent_with(event: &Event, ended: Option<Sending>) -> Option<Packet>
-    ensures { result ≡ sent_with event.now ended }
-{
-    match event {
-        Event::Sent => Some(ended?.packet),
-        Event::Boot | Event::Alarm | Event::Heard(_) => None,
     }
 }

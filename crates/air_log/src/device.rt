@@ -1,6 +1,7 @@
-//! The node of a trace: a node core with its radio and its alarm.
+//! The node of a trail: a node core with its radio and its alarm.
 
-ghost use Rattle.std.specs.Prelude.{◌≡◌, ◌<◌, ◌≤◌, ◌^◌, ℕ, IfOk, IfSome, Some, None, length, max};
+ghost use Rattle.std.specs.Prelude.{◌≡◌, ◌<◌, ◌≤◌, ◌^◌, ◌+◌, ◌%◌, ℕ, false, IfOk, IfSome, Some, None, length, max};
+ghost use Rattle.lwb_base.specs.declared.limits.TheConstants.{MOST_RANKS};
 ghost use Rattle.bus_rules.specs.Cores.{own_rank};
 ghost use Rattle.node_core.specs.Nodes.{rebooted};
 ghost use Rattle.air_log.specs.Devices.{nothing_made, at_rest, power_is_on};
@@ -9,9 +10,10 @@ ghost use Rattle.node_core.specs.declared.stage.Stage.{Stage};
 ghost use Rattle.air_log.specs.Trails.{tune_of};
 ghost use Rattle.air_log.specs.Charges.{scans_with};
 ghost use Rattle.air_log.specs.WindowSums.{stage_has_window, power_has_window};
-ghost use Rattle.air_log.specs.DeviceStates.{whole, IsCoreAt, core_in};
+ghost use Rattle.air_log.specs.DeviceStates.{whole, IsCoreAt, core_in, settings_of};
 
-use crate::TunedEntry;
+use crate::window_sum::WindowSum;
+use crate::{Settings, TunedEntry};
 use bus_rules::Tune;
 use lwb_base::{Memory, NodeId, Packet, Profile, Rank};
 use node_core::{Node, Place};
@@ -53,11 +55,12 @@ impl Model for Ordered {
     ghost inverse = { λ o. record { tick = o.tick; packet = o.packet } };
 }
 
-/// The node of a trace (`Trail`), for what runs nodes in true time: a node core with its power, its radio, its one alarm, its
-/// one ordered transmission and its running transmission. All times are true ticks of 1/64 µs, and those of orders are by the
-/// node's clock. A tuning that ended is kept back as long as it may go on, and handed out after that.
+/// The node of a trail (`Trail`), for what runs nodes in true time: a node core with its power, its radio, its one alarm, its
+/// one ordered transmission, its running transmission and what its windows count. All times are true ticks of 1/64 µs, and those
+/// of orders are by the node's clock. A tuning that ended is kept back as long as it may go on, and handed out after that: in one
+/// tick at most one is.
 ///
-/// Contracts see its state, and say what each call does to it by the trace: `whole` is the device of the trace, where what it
+/// Contracts see its state, and say what each call does to it by the trail: `whole` is the device of the trail, where what it
 /// has made so far is in the log.
 #[derive(Drop)]
 pub struct Device {
@@ -71,6 +74,7 @@ pub struct Device {
     pub(crate) alarm: Option<u64>,
     pub(crate) ordered: Option<Ordered>,
     pub(crate) sending: Option<Sending>,
+    pub(crate) windows: WindowSum,
 }
 
 impl Model for Device {
@@ -89,6 +93,7 @@ impl Model for Device {
       ordered = d.ordered;
       sending = d.sending;
       delivery = d.core.delivery;
+      windows = d.windows;
     } };
 
     ghost invariant = { λ d. IsDevice d.node d.profile d.core d.on d.boots d.closed d.listening };
@@ -104,13 +109,15 @@ impl Device {
         hosts: &[NodeId],
         n: u8,
     ) -> Result<Device, Memory>
-        requires hosts { (1 ≤ length hosts.now) × (length hosts.now ≤ 4) }
+        requires hosts { (1 ≤ length hosts.now) × (length hosts.now ≤ MOST_RANKS) }
         requires sends { (1 ≤ n) × (n ≤ 4) }
         ensures setup { IfOk result
             (λ d. d.setup ≡ record { profile = profile.now; id = node; own = own_rank node hosts.now; ranks = length hosts.now; sends = n }) }
         ensures rest { IfOk result (λ d. whole d nothing_made ≡ at_rest) }
         ensures delivery { IfOk result (λ d. d.delivery ≡ None) }
         ensures core { IfOk result (λ d. d.core ≡ rebooted 1) }
+        ensures windows { IfOk result
+            (λ d. d.windows ≡ record { profile = profile.now; sends = n; earlier = 0; last = 0; by_alarm = false; sent = 0 }) }
     {
         Ok(Device {
             node,
@@ -123,6 +130,7 @@ impl Device {
             alarm: None,
             ordered: None,
             sending: None,
+            windows: WindowSum::new(profile, n),
         })
     }
 
@@ -163,6 +171,30 @@ impl Device {
         ensures { result ≡ power_has_window self.now.power }
     {
         self.on && is_window(self.core.place())
+    }
+
+    /// The channel of its radio, its alarm and the start of its next transmission.
+    pub fn settings(&self) -> Settings
+        ensures { result ≡ settings_of self.now }
+    {
+        Settings {
+            channel: match self.listening {
+                Some(listening) => Some(listening.rank),
+                None => None,
+            },
+            alarm: self.alarm,
+            sending: match &self.ordered {
+                Some(ordered) => Some(ordered.tick),
+                None => None,
+            },
+        }
+    }
+
+    /// What its windows count so far, in ticks of 1/64 µs, as 64 bits have it.
+    pub fn windows(&self) -> u64
+        ensures { result ≡ (self.now.windows.earlier + self.now.windows.last) % 2 ^ 64 }
+    {
+        self.windows.total()
     }
 
     /// The core that it drives, also while its power is off.

@@ -16,8 +16,8 @@ use radio_model::sending::Sending;
 use tick_clock::{At, DriftClock};
 
 impl Device {
-    /// An event at tick t; its orders go to a radio that has room for 4. At a node that is off it has no effect.
-    pub fn react<C: DriftClock, R: Radio>(
+    // An event at tick t; its orders go to a radio that has room for 4. At a node that is off it has no effect.
+    pub(crate) fn react<C: DriftClock, R: Radio>(
         &mut self,
         clock: &C,
         t: u64,
@@ -41,23 +41,23 @@ impl Device {
         }
     }
 
-    /// Whether the last event that had an effect delivered something that is not yet taken.
-    pub fn has_delivered(&self) -> bool
+    // Whether the last event that had an effect delivered something that is not yet taken.
+    pub(crate) fn has_delivered(&self) -> bool
         ensures { result ≡ is_some self.now.delivery }
     {
         self.core.has_delivered()
     }
 
-    /// The delivery of the last event that had an effect, once. Returns `None` if and only if it delivered nothing.
-    pub fn delivered(&mut self) -> Option<Delivery>
+    // The delivery of the last event that had an effect, once. Returns `None` if and only if it delivered nothing.
+    pub(crate) fn delivered(&mut self) -> Option<Delivery>
         ensures delivery { result ≡ self.old.delivery }
         ensures once { self.new ≡ record self.old { delivery = None } }
     {
         self.core.delivered()
     }
 
-    /// Whether the alarm is due at tick t; it is not set any more then.
-    pub fn take_alarm(&mut self, t: u64) -> bool
+    // Whether the alarm is due at tick t; it is not set any more then.
+    pub(crate) fn take_alarm(&mut self, t: u64) -> bool
         ensures due { result ≡ alarm_is_due t self.old.alarm }
         ensures after { self.new ≡ record self.old { alarm = if result then None else self.old.alarm } }
     {
@@ -71,9 +71,9 @@ impl Device {
         due
     }
 
-    /// The transmission that starts at tick t. Returns `None` if and only if none does: nothing is ordered for this tick, the
-    /// radio is off, or the node still sends.
-    pub fn begin(&mut self, t: u64) -> Option<Sending>
+    // The transmission that starts at tick t. Returns `None` if and only if none does: nothing is ordered for this tick, the
+    // radio is off, or the node still sends.
+    pub(crate) fn begin(&mut self, t: u64) -> Option<Sending>
         requires early { t ≤ 2 ^ 45 }
         ensures whole { (made : Made) → device_after_start self.old.setup t (whole self.old made) ≡ whole self.new (with_sent result made) }
         ensures time { (now : ℕ) → HappenedBy now self.old → HappenedBy now self.new }

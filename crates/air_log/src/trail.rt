@@ -1,4 +1,4 @@
-//! What a node does by its trace (`Trail`).
+//! What a node does by its trail (`Trail`).
 
 ghost use Rattle.std.specs.Prelude.{◌≡◌, map, reverse, slice_get};
 ghost use Rattle.std.specs.Option.{option_flatten};
@@ -9,7 +9,7 @@ use bus_rules::{Delivery, Tune};
 use std::marker::Model;
 
 /// What a node does by the script, its clock and what it received, from the start of the run to its end. Contracts see what the
-/// trace (`Trail`) of the definitions says.
+/// trail (`Trail`) of the definitions says.
 #[derive(Drop)]
 pub struct Trail {
     pub(crate) sent: Vec<SentEntry>,

@@ -1,11 +1,12 @@
-//! Laws of the traces of nodes, each a function that does nothing and has the law as its contract.
+//! Laws of the trails of nodes, each a function that does nothing and has the law as its contract.
 
 ghost use Rattle.std.specs.Prelude.{◌≡◌, ℕ, suc, ◌<◌, ◌≤◌, List, [], ◌∷◌, ◌++◌, filter, map, All, AllPairs};
 ghost use Rattle.scenario_text.specs.ScenarioParts.{ScenarioParts};
 ghost use Rattle.scenario_text.specs.ScenarioFacts.{IsSoundScenario};
 ghost use Rattle.tick_clock.specs.Clocks.{IsClock};
 ghost use Rattle.air_log.specs.AlarmRuns.{IsAlarmRun};
-ghost use Rattle.air_log.specs.Trails.{Reception, device_after_reception, device_after_receptions, setup_of, run_end, before_alarms, before_start, before_tick};
+ghost use Rattle.scenario_text.specs.Setups.{setup_of};
+ghost use Rattle.air_log.specs.Trails.{Reception, device_after_reception, device_after_receptions, run_end, before_alarms, before_start, before_tick};
 ghost use Rattle.air_log.specs.Trails.{trail};
 ghost use Rattle.air_log.specs.Courses.{AlarmsEnd};
 ghost use Rattle.air_log.specs.QuietTicks.{IsQuiet, ends_before};
@@ -41,14 +42,14 @@ pub fn later_hearings_change_nothing_before()
         → trail s v clock gs ≡ trail s v clock hs }
 {}
 
-/// Receptions that the log lists by end and sender are taken by the trace of their node in that order.
+/// Receptions that the log lists by end and sender are taken by the trail of their node in that order.
 pub fn hearings_in_turn_are_taken_as_they_stand()
     ensures { (air : List Entry) (v : ℕ) → AreInTurn (hearings_by air v)
         → heard_by air v ≡ map reception_of (hearings_by air v) }
 {}
 
 /// Alarms of a tick come to an end, whatever a node receives: they are due one after another, until none is, so the limit of a
-/// trace (`alarm_limit`) cuts none off. So whoever takes them one after another until none is due comes to the same.
+/// trail (`alarm_limit`) cuts none off. So whoever takes them one after another until none is due comes to the same.
 pub fn alarms_of_a_tick_end()
     ensures end { (s : ScenarioParts) (v : ℕ) (clock : ℕ → ℕ) (hs : List Reception) (t : ℕ)
         → IsSoundScenario s → IsClock clock → t ≤ run_end s
@@ -75,7 +76,7 @@ pub fn nothing_happens_until_the_next_is_due()
         → before_tick s v clock hs b ≡ before_tick s v clock hs a }
 {}
 
-/// No entry of a trace appears twice. Each transmission starts after the one before it, in the run, and lasts its airtime. No
+/// No entry of a trail appears twice. Each transmission starts after the one before it, in the run, and lasts its airtime. No
 /// tuning is empty, and they are listed with the last first: each begins when the one before it has ended, or later if both are
 /// of one rank.
 pub fn entries_of_a_trail_differ()
@@ -89,14 +90,14 @@ pub fn entries_of_a_trail_differ()
         → All (IsTunedBy v (run_end s)) (trail s v clock hs).made.tuned }
 {}
 
-/// Worked example: the traces of a host and of another node through their first round.
+/// Worked example: the trails of a host and of another node through their first round.
 pub fn trails_of_a_first_round()
     ensures host { IsWorked first_round (trail first_round 1 (true_time 1) first_round_heard_by_host) first_round_sent_by_host first_round_tuned_by_host
         2494336 (Host 0 9) }
     ensures other { IsWorked first_round (trail first_round 2 (true_time 2) heard_by_other) sent_by_other tuned_by_other 2344320 (Hold 0 9) }
 {}
 
-/// Worked example: the log of these two traces is valid (`Lawful`).
+/// Worked example: the log of these two trails is valid (`Lawful`).
 pub fn the_log_of_a_first_round_is_lawful()
     ensures { Lawful first_round true_time first_round_log }
 {}

@@ -1,4 +1,4 @@
-//! The trace of a node over the entries of a log.
+//! The trail of a node over the entries of a log.
 
 ghost use Rattle.std.specs.Prelude.{◌≡◌, ◌≤◌, ◌<◌, ◌+◌, ◌%◌, ◌^◌, ℕ, true, false, Some, None, OnOk, IfOk, List, map, take};
 ghost use Rattle.std.specs.Prelude.{fold, slice_get, min, ◌==◌, if◌then◌else◌, [], ◌∷◌, ◌++◌};
@@ -11,7 +11,8 @@ ghost use Rattle.air_log.specs.Charges.{scans_with};
 ghost use Rattle.air_log.specs.Devices.{Device as DeviceOf, seen_power};
 ghost use Rattle.air_log.specs.ScriptedDevices.{device_after_line};
 ghost use Rattle.air_log.specs.Lawful.{by_end, heard_by, reception_of};
-ghost use Rattle.air_log.specs.Trails.{Reception, setup_of, frame_start, tune_of, lines_at, device_after_receptions as heard_at, at_frame, before_tick};
+ghost use Rattle.scenario_text.specs.Setups.{setup_of};
+ghost use Rattle.air_log.specs.Trails.{Reception, frame_start, tune_of, lines_at, device_after_receptions as heard_at, at_frame, before_tick};
 ghost use Rattle.air_log.specs.TrailsTold.{trail_told};
 ghost use Rattle.scenario_text.specs.AddedLines.{frame_of_line};
 ghost use Rattle.air_log.specs.Courses.{CourseShows, CourseIsShown, Goes, IsShownEnding, IsSplitByKey, IsSortedByKey, AlarmsEnd};
@@ -19,14 +20,14 @@ ghost use Rattle.air_log.specs.Courses.{end_of_reception, hearing_of, reception_
 
 use crate::course::Course;
 use crate::hearings::{hearings_by, in_turn};
-use crate::{Air, HeardEntry, Trail};
+use crate::{Air, HeardEntry, Notice, Trail};
 use bus_rules::Tune;
 use lwb_base::{Event, Memory, NodeId};
 use scenario_text::{Scenario, ScriptLine};
 use std::alloc::Global;
 use tick_clock::DriftClock;
 
-/// The trace of a node over its `Heard` entries of any log, valid (`Lawful`) or not, taken by end, then sender, then place in
+/// The trail of a node over its `Heard` entries of any log, valid (`Lawful`) or not, taken by end, then sender, then place in
 /// the log. One that ends where the node is off, or not before the end of the run, has no effect.
 pub fn trail_of<C: DriftClock>(
     alloc: Global,
@@ -97,12 +98,12 @@ impl Course {
           sent = self.sent;
           tuned = self.tuned;
           deliveries = self.deliveries;
-          windows = (self.windows.earlier + self.windows.last) % 2 ^ 64;
+          windows = (self.device.windows.earlier + self.device.windows.last) % 2 ^ 64;
           scanned = scanned;
           tunes = tunes.items;
         } }
     {
-        let windows = self.windows.total();
+        let windows = self.device.windows();
         Trail {
             sent: self.sent,
             tuned: self.tuned,
@@ -239,7 +240,11 @@ impl Course {
                 return Ok(next);
             }
             let event = Event::Heard(hearing.packet.copy());
-            self.tell(clock, t, event, None)?;
+            let notice = Notice {
+                event: &event,
+                ended: None,
+            };
+            self.tell(clock, t, &notice)?;
             next += 1;
         }
         Ok(next)

@@ -10,9 +10,9 @@ use lwb_base::{Packet, Profile};
 use std::marker::Model;
 
 /// What the windows of a node count so far, in ticks of 1/64 µs, for what runs nodes in true time. That the sum of all windows
-/// of a run is below 2^64 is a law of traces, so on the way it may wrap.
+/// of a run is below 2^64 is a law of trails, so on the way it may wrap.
 #[derive(Drop)]
-pub struct WindowSum {
+pub(crate) struct WindowSum {
     profile: Profile,
     sends: u8,
     earlier: u64,

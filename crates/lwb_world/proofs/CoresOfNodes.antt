@@ -6,7 +6,7 @@ use Rattle.scenario_text.specs.ScenarioParts.{ScenarioParts}
 use Rattle.scenario_text.specs.declared.lines.NodeLine.{NodeLine}
 use Rattle.bus_rules.specs.Cores.{Setup}
 use Rattle.node_core.specs.Nodes.{NodeState}
-use Rattle.air_log.specs.Trails.{setup_of}
+use Rattle.scenario_text.specs.Setups.{setup_of}
 use Rattle.world_engine.specs.Running.{setup_by}
 use Rattle.world_engine.specs.Worlds.{WorldState, core_of, core_setup}
 use Rattle.lwb_world.specs.Worlds.{IsLeftByRun}

@@ -13,7 +13,6 @@ has_run clocks old new has =
       ran = has.ran;
       run = record {
         lawful = made.lawful;
-        safe = bus.safe;
         deliveries = made.deliveries;
         drops = made.drops ∙ bus.lost;
         bus = bus;

@@ -4,7 +4,7 @@ ghost use Rattle.std.specs.Prelude.{◌≡◌, false, IfOk, IfSome, OnOk, length
 ghost use Rattle.bus_terms.specs.Bus.{bus_deliveries, bus_drops};
 ghost use Rattle.event_calendar.specs.Orders.{nothing_due};
 ghost use Rattle.air_log.specs.ClockLists.{clocks_by};
-ghost use Rattle.air_log.specs.Trails.{setup_of};
+ghost use Rattle.scenario_text.specs.Setups.{setup_of};
 ghost use Rattle.world_engine.specs.Runs.{orders_left};
 ghost use Rattle.world_engine.specs.Worlds.{new_world, core_of};
 ghost use Rattle.lwb_world.specs.Worlds.{HasRun, IsLeftByRun};

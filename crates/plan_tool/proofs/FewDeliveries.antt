@@ -6,6 +6,7 @@ use Rattle.std.specs.Option.{option_map_or}
 use Rattle.std.proofs.Math.Nat.{suc-mul}
 use Rattle.std.proofs.lemmas.List.{length-append, length-map}
 use Rattle.std.proofs.lemmas.List.FromFn.{length-enumerate_from, length-range_with_len}
+use Rattle.lwb_base.specs.declared.limits.TheConstants.{MOST_NODES}
 use Rattle.lwb_base.specs.Messages.{Plan}
 use Rattle.lwb_base.specs.Profile.{IsProfile, Numbers}
 use Rattle.scenario_text.specs.ScenarioParts.{ScenarioParts}
@@ -51,7 +52,7 @@ few_slots n p named is few =
     by_test false m most = most
 
 module _ (s : ScenarioParts) (said : IsOverScenario s) where
-  in_slot : (rank f : ℕ) (p : Plan) (j : ℕ) → length (slot_deliveries s rank f p (state_at s f) j) ≤ 64
+  in_slot : (rank f : ℕ) (p : Plan) (j : ℕ) → length (slot_deliveries s rank f p (state_at s f) j) ≤ MOST_NODES
   in_slot rank f p j =
       let nodes = (sound (over s said.0) said.1).few_nodes in
       let named = length-map s.nodes (λ (n : NodeLine). n.node) in

@@ -15,4 +15,4 @@ pub returned_run : (s : ScenarioParts) → IsScenario s → (air : List Entry) �
     → text ≡ told (bus_deliveries s) (bus_drops s) s (scenario_clock s) air → IsOfRun told s air text
 returned_run s said air lawful told text is =
     let bus = bus_run s (scenario_clock s) air (record { sound = sound s said; drift = scenario_clocks_drift s said; lawful = lawful }) in
-    record { law = lawful; safe = bus.safe; is = is; bus = bus }
+    record { law = lawful; is = is; bus = bus }

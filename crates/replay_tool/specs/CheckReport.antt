@@ -17,7 +17,7 @@ verdict_line (Trail v) = line_text (numbered (codes "no trail") (v ∷ []))
 verdict_line (Heard i) = line_text (numbered (codes "no heard") (i ∷ []))
 verdict_line (Missing v u t) = line_text (numbered (codes "no missing") (v ∷ u ∷ t ∷ []))
 
--- All is over the clocks that the scenario states. A log that is called lawful is safe, and what its traces deliver and lose is
+-- All is over the clocks that the scenario states. A log that is called lawful is safe, and what its trails deliver and lose is
 -- the ideal single-hop bus's
 pub record IsCheckReport (s : ScenarioParts) (log : List Entry) (text : List ℕ) : Type 0 where
   pub verdict : Verdict

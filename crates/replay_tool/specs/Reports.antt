@@ -15,7 +15,6 @@ use Rattle.bus_terms.specs.FloodOfText.{outcome}
 use Rattle.air_log.specs.declared.entry.Entry.{Entry}
 use Rattle.air_log.specs.FloodLaw.{FloodLaw}
 use Rattle.air_log.specs.Lawful.{Lawful}
-use Rattle.air_log.specs.Safe.{Safe}
 use Rattle.air_log.specs.LogText.{log_text}
 use Rattle.bus_time.specs.StampErrors.{AllErrLittle}
 use Rattle.bus_time.specs.Stamps.{AreStamps}
@@ -60,11 +59,10 @@ Telling = List Delivery → List DropLine → ScenarioParts → (ℕ → ℕ →
 -- The headline, of the text that tells of a run and of the log of this run. All is over the clocks that the scenario states
 pub record IsOfRun (told : Telling) (s : ScenarioParts) (air : List Entry) (text : List ℕ) : Type 0 where
   pub law : Lawful s (scenario_clock s) air
-  -- one node at most initiates in a data slot, different steps never overlap, relays of one flood differ only by counter
-  pub safe : Safe s (scenario_clock s) air
   -- the printed deliveries, and the printed drops, are the ideal single-hop bus's
   pub is : text ≡ told (bus_deliveries s) (bus_drops s) s (scenario_clock s) air
-  -- the traces of the log deliver and lose these, received by relay paths, each stream in order and no packet twice
+  -- the log is safe: one node at most initiates in a data slot, different steps never overlap, relays of one flood differ only by
+  -- counter; and its trails deliver and lose these, received by relay paths, each stream in order and no packet twice
   pub bus : AgreesWithBus s (scenario_clock s) air
 
 -- the report, with the text of the log after it

@@ -7,6 +7,7 @@ ghost use Rattle.replay_tool.specs.declared.command.Command.{Command as CommandO
 ghost use Rattle.replay_tool.specs.declared.command.Command.TheVariants as asked;
 
 use command_line::{is_word, number};
+use lwb_base::{MOST_FRAMES, MOST_NODES};
 use scenario_text::RUN_NODE_FRAMES;
 
 /// What the words of the command line can ask for.
@@ -97,7 +98,9 @@ fn demo_of(words: &[String]) -> Option<Command>
 fn sized(seed: u64, nodes: u64, frames: u64) -> Option<Command>
     ensures { SomeIff result (IsSize nodes frames) (asked.Demo seed nodes frames) }
 {
-    if !(2..=64).contains(&nodes) || !(1..=4096).contains(&frames) {
+    if !(2..=MOST_NODES as u64).contains(&nodes)
+        || !(1..=u64::from(MOST_FRAMES)).contains(&frames)
+    {
         return None;
     }
     if nodes * frames > u64::from(RUN_NODE_FRAMES) {

@@ -18,8 +18,8 @@ use crate::run_answer::world_after;
 use air_log::{Air, NodeCharge};
 use bus_report::write_report_lines;
 use bus_rules::{Delivery, DropLine};
-use host_return::{Returned, Runner, follow_returns};
-use lwb_base::Memory;
+use host_return::{ListsIdle, Returned, Runner, follow_returns};
+use lwb_base::{Memory, NodeId, Rank};
 use lwb_world::RunParts;
 use scenario_text::{ParseFault, Scenario, parse};
 use std::alloc::Global;
@@ -81,9 +81,12 @@ impl Runner for Worlds {
         self.idle = idle;
         Ok(air)
     }
+}
 
-    fn idle(&self) -> &[Idle] {
-        &self.idle
+impl ListsIdle for Worlds {
+    fn idle(&self, place: usize) -> Option<(u32, NodeId, Rank)> {
+        let one = self.idle.get(place)?;
+        Some((one.frame, one.node, one.rank))
     }
 }
 

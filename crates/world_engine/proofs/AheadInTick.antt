@@ -7,7 +7,8 @@ use Rattle.radio_model.specs.declared.sending.Sending.{Sending}
 use Rattle.scenario_text.specs.ScenarioParts.{ScenarioParts}
 use Rattle.scenario_text.specs.ScenarioFacts.{IsSoundScenario}
 use Rattle.air_log.specs.Devices.{Device, OrderedPacket}
-use Rattle.air_log.specs.Trails.{Reception, setup_of, run_end, device_after_script, device_after_receptions, device_after_end, alarmed, before_tick}
+use Rattle.scenario_text.specs.Setups.{setup_of}
+use Rattle.air_log.specs.Trails.{Reception, run_end, device_after_script, device_after_receptions, device_after_end, alarmed, before_tick}
 use Rattle.air_log.specs.Ahead.{IsAhead}
 use Rattle.air_log.proofs.KeptByEvents.{in_hearings, in_end, in_alarms}
 use Rattle.air_log.proofs.NextDue.{is_ahead, Ahead, kept_ahead}

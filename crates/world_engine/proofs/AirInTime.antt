@@ -25,7 +25,8 @@ use Rattle.bus_rules.specs.Cores.{Setup}
 use Rattle.air_log.specs.declared.entry.Entry.{Entry}
 use Rattle.air_log.specs.Entries.{sendings_of, hearings_of}
 use Rattle.air_log.specs.Devices.{Device, Listening}
-use Rattle.world_engine.specs.Fields.{FieldState, IsField, FieldShows, rank_of_tuned, channel_of}
+use Rattle.world_engine.specs.Fields.{FieldState, IsField, FieldShows, rank_of_tuned}
+use Rattle.air_log.specs.DeviceStates.{channel_of}
 use Rattle.world_engine.specs.FieldSteps.{IsFirstField}
 use Rattle.world_engine.specs.Running.{Runs, HoldsScene, HasHearings, IsOnAir}
 use Rattle.air_log.specs.TunedTimes.{WasTuned, listened}

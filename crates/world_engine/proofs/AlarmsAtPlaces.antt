@@ -15,7 +15,8 @@ use Rattle.bus_rules.specs.Cores.{Setup}
 use Rattle.node_core.specs.Rows.{row}
 use Rattle.node_core.specs.Rows.{orders_by}
 use Rattle.air_log.specs.Devices.{Device, Power, PowerOff, PowerOn, obeyed, moved, event_by, silenced, tunes, listens_to}
-use Rattle.air_log.specs.Trails.{setup_of, run_end, alarm_is_due, one_alarm, alarms, alarmed}
+use Rattle.scenario_text.specs.Setups.{setup_of}
+use Rattle.air_log.specs.Trails.{run_end, alarm_is_due, one_alarm, alarms, alarmed}
 use Rattle.air_log.specs.AlarmRuns.{IsAlarmRun}
 use Rattle.air_log.specs.Lawful.{heard_by}
 use Rattle.air_log.proofs.AlarmRuns.{is_run}

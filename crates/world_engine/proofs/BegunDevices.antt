@@ -10,7 +10,7 @@ use Rattle.bus_rules.specs.Cores.{Setup}
 use Rattle.air_log.specs.Devices.{Device, Listening, OrderedPacket, Made}
 use Rattle.air_log.specs.Trails.{device_after_start, begun_by, starts, sending_from, sendings_starting, starting_by}
 use Rattle.air_log.specs.DeviceStates.{DeviceState, whole, with_sent}
-use Rattle.air_log.specs.Courses.{tick_of_ordered}
+use Rattle.air_log.specs.DeviceStates.{tick_of_ordered}
 
 -- an order that is due is gone
 abbrev pub unordered : Device → Device

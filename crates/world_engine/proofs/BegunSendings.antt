@@ -31,7 +31,9 @@ use Rattle.air_log.proofs.LoggedEntries.{sendings_sent, hearings_sent}
 use Rattle.radio_model.proofs.ChangedStations.{node_of_station, station_changed}
 use Rattle.air_log.specs.DeviceStates.{DeviceState, whole, with_sent, HappenedBy, IsSameNode}
 use Rattle.world_engine.specs.Fields.{FieldState, IsField, IsKnownDevice, FieldShows, FieldIsShown, due_of_device, id_of, ids_of, setup_of_device}
-use Rattle.world_engine.specs.Fields.{rank_of_tuned, channel_of}
+use Rattle.world_engine.specs.Fields.{rank_of_tuned}
+use Rattle.air_log.specs.DeviceStates.{channel_of}
+use Rattle.air_log.specs.WindowSums.{WindowSum, IsCounted}
 use Rattle.world_engine.specs.FieldSteps.{MediumGoesOn}
 use Rattle.world_engine.proofs.ShownPlaces.{there_now, still_field, still_shown, shown_as}
 use Rattle.world_engine.proofs.DevicesOfNodes.{one_place}
@@ -39,8 +41,8 @@ use Rattle.world_engine.proofs.LoggedSendings.{sent_own, sent_other, tuned_besid
 use Rattle.world_engine.proofs.BegunDevices.{BeginsToSend, sends_now, begins_with}
 use Rattle.world_engine.proofs.NothingBegun.{Begins, due_by}
 use Rattle.world_engine.proofs.NothingBegun as NothingBegun
-use Rattle.world_engine.proofs.ObeyedOrders.{due_changed}
-use Rattle.air_log.specs.Courses.{tick_of_ordered}
+use Rattle.world_engine.proofs.DueChanges.{due_changed}
+use Rattle.air_log.specs.DeviceStates.{tick_of_ordered}
 
 module _ (t p : ℕ) (w : FieldState) (field : IsField w) (due : List Due) (st new : DeviceState) (here : slice_get w.devices p ≡ Some st)
     (node : IsSameNode st new) (keeps_time : (now : ℕ) → HappenedBy now st → HappenedBy now new) (stands : at due p SendingStart ≡ Some t)
@@ -158,7 +160,8 @@ module _ (t p : ℕ) (w : FieldState) (field : IsField w) (due : List Due) (st n
             sending = station_sends ∙ ap (λ (e : Device). e.sending) (sym begun_now);
             set = begun_set;
           };
-          counted = sh.counted;
+          counted = subst (λ (x : WindowSum). IsCounted s.profile s.sends sh.made.windows x) (sym node.windows) sh.counted;
+          few = sh.few;
           ended = sh.ended;
           happened = keeps_time t sh.happened;
           taken = node.delivery ∙ sh.taken;
@@ -176,7 +179,6 @@ module _ (t p : ℕ) (w : FieldState) (field : IsField w) (due : List Due) (st n
           station =
               other_station w.medium t x.node (station_after_start w.medium.numbers t x.packet) (started_keeps w.medium.numbers t x.packet).node s.id apart;
           due = set_elsewhere (changed due p SendingStart None) p q _ other ∙ set_elsewhere due p q _ other;
-          sums = refl;
         }) shows
 
     begun_time : IsTime begun_field.medium t

@@ -1,4 +1,4 @@
--- The end of a run: the node cores are where their traces leave them.
+-- The end of a run: the node cores are where their trails leave them.
 use Rattle.std.proofs.Common.{◌≡◌, ℕ, zero, suc, List, [], ◌∷◌, map, true, false, ◌==◌, Option, Some, sym, ◌∙◌, ap, subst, eq-eqb}
 use Rattle.std.specs.Prelude.{Contains, slice_get}
 use Rattle.std.specs.Option.{option_map}

@@ -9,6 +9,7 @@ use Rattle.std.proofs.lemmas.List.{length-map}
 use Rattle.std.proofs.lemmas.List.Elements.{All-map}
 use Rattle.std.proofs.lemmas.List.Sums.{count_by-le-length}
 use Rattle.std.proofs.lemmas.Option.{slice_get-map}
+use Rattle.lwb_base.specs.declared.limits.TheConstants.{MOST_FRAMES}
 use Rattle.lwb_base.proofs.Elements.{among_or_not}
 use Rattle.lwb_base.proofs.Lists.{counted_alike, count_next}
 use Rattle.scenario_text.specs.ScenarioParts.{ScenarioParts}
@@ -25,7 +26,8 @@ use Rattle.air_log.specs.Devices.{Device}
 use Rattle.air_log.specs.DeviceStates.{DeviceState}
 use Rattle.air_log.specs.Lawful.{heard_by}
 use Rattle.air_log.specs.ScriptedDevices.{device_after_line}
-use Rattle.air_log.specs.Trails.{Reception, setup_of, frame_start, lines_at, device_after_script, before_tick, tune_of, tune_at}
+use Rattle.scenario_text.specs.Setups.{setup_of}
+use Rattle.air_log.specs.Trails.{Reception, frame_start, lines_at, device_after_script, before_tick, tune_of, tune_at}
 use Rattle.air_log.proofs.HearingMore.{earlier_stays}
 use Rattle.world_engine.specs.Counting.{TrailsStay, scans_before, all_scans_before, scans_now, AreCountedOn}
 use Rattle.world_engine.specs.Fields.{FieldState}
@@ -109,7 +111,7 @@ module _ (s : ScenarioParts) (clocks : ℕ → ℕ → ℕ) where
       by (n ∷ ns) = ap (λ (l : List ℕ). 0 ∷ l) (by ns)
 
   -- they are few
-  pub few_scans : (air : List Entry) (f : ℕ) → f ≤ 4096 → All (λ n. n < 2 ^ 31) (all_scans_before s clocks air f)
+  pub few_scans : (air : List Entry) (f : ℕ) → f ≤ MOST_FRAMES → All (λ n. n < 2 ^ 31) (all_scans_before s clocks air f)
   few_scans air f small = All-map (λ n. n < 2 ^ 31) (scans_before s clocks air f) s.nodes (λ k d less.
       let n = count_by-le-length
       (λ (g : ℕ). scans_with (tune_at s (Rattle.std.specs.Prelude.get_or s.nodes k d).node

@@ -1,4 +1,4 @@
--- The end of a run: the deliveries in the field, in order, are those of the traces.
+-- The end of a run: the deliveries in the field, in order, are those of the trails.
 use Rattle.std.proofs.Common.{◌≡◌, ℕ, List, [], ◌∷◌, ◌++◌, map, flat_map, Bool, true, false, ◌==◌, cond, ◌||◌, refl, sym, ◌∙◌, ap, subst, eq-eqb}
 use Rattle.std.specs.Prelude.{Contains}
 use Rattle.std.specs.List.{filter}

@@ -1,10 +1,8 @@
--- The medium after one device is tuned to a channel, or to nothing, and the device after it.
-use Rattle.std.proofs.Common.{◌≡◌, ◌≢◌, ℕ, List, [], ◌∷◌, true, Option, Some, None, option_map, ◌==◌, ◌&&◌, refl, sym, ◌∙◌, ap, subst, arith}
+-- The medium after one device is tuned to a channel, or to nothing.
+use Rattle.std.proofs.Common.{◌≡◌, ◌≢◌, ℕ, [], true, Option, Some, None, option_map, ◌==◌, refl, sym, ◌∙◌, ap, subst, arith}
 use Rattle.std.proofs.lemmas.Bool.{cond_both, eqb-true}
 use Rattle.std.proofs.lemmas.List.{append-nil}
-use Rattle.lwb_base.specs.declared.order.Order.TheVariants.{Listen}
 use Rattle.link_trace.specs.Masks.{AreNodes}
-use Rattle.radio_model.specs.OnAir.{Tuning}
 use Rattle.radio_model.specs.Hearing.{Scene}
 use Rattle.radio_model.specs.Holding.{Agree, Holds, as_it_stands, after_tuning}
 use Rattle.radio_model.specs.declared.station.Station.{Station}
@@ -17,11 +15,10 @@ use Rattle.radio_model.proofs.Changes.{retuned_keeps}
 use Rattle.radio_model.proofs.Places.{still_medium}
 use Rattle.radio_model.proofs.NothingBefore.{by_tuning}
 use Rattle.radio_model.proofs.TunedStations.{sends_still}
-use Rattle.air_log.specs.Devices.{Device, Listening, Made, silenced, tunes, obeyed, listens_to, device_after_tuning as tuned_again}
-use Rattle.air_log.specs.DeviceStates.{DeviceState, whole}
-use Rattle.world_engine.specs.Fields.{rank_of_tuned, channel_of}
+use Rattle.world_engine.specs.Fields.{rank_of_tuned}
 use Rattle.world_engine.specs.FieldSteps.{MediumGoesOn}
-use Rattle.world_engine.proofs.DeviceSteps.{IsStationOf}
+use Rattle.world_engine.specs.Following.{Retunes}
+use Rattle.world_engine.proofs.GoesOn.{goes_on_nothing}
 
 -- the station is tuned to the channel then
 tuned_then : (rank : Option ℕ) (t : ℕ) (st : Station) → option_map rank_of_tuned (station_after_tuning rank t st).tuned ≡ rank
@@ -83,63 +80,18 @@ module _ (t v : ℕ) (rank : Option ℕ) (old new : MediumState) (is : new ≡ m
     still = retuned_medium;
   }
 
-  -- as the device is tuned
-  pub retuned_station : (d : DeviceState) (st : Station) → d.setup.id ≡ v → station_of old v ≡ Some st → st.sending ≡ d.sending
-      → option_map channel_of d.listening ≡ rank → IsStationOf new d
-  retuned_station d st id there sending listening = record {
-    station = station_after_tuning rank t st;
-    there = ap (station_of new) id ∙ retuned_own st there;
-    tuned = tuned_then rank t st ∙ sym listening;
-    sending = sends_still rank t st ∙ sending;
-  }
+-- so a station gets to a channel, and stays at one
+pub is_tuned : (t v : ℕ) (from to : Option ℕ) (old new : MediumState) → new ≡ medium_after_change t v (station_after_tuning to t) old → AreNodes (nodes_of old)
+    → IsTime old t → ((a : Scene) → Holds old a → Holds new (after_tuning old v to t a)) → Retunes t v from to old new
+is_tuned t v from to old new is nodes time holds = record {
+  goes_on = retuned_goes_on t v to old new is nodes time holds;
+  own = λ x there tuned. (station_after_tuning to t x, retuned_own t v to old new is x there, tuned_then to t x, sends_still to t x);
+  others = retuned_others t v to old new is;
+}
 
--- what is set at a device, and its transmission
-pub record IsSetAs (d e : Device) : Type 0 where
-  pub sending : d.sending ≡ e.sending
-  pub alarm : d.alarm ≡ e.alarm
-  pub ordered : d.ordered ≡ e.ordered
-
--- an order to listen changes nothing that is set, and the radio is on at the channel then
-abbrev IsListening : ℕ → Device → Device → Type 0
-IsListening rank d e = IsSetAs e d × (option_map channel_of e.listening ≡ Some rank)
-
-as_tuned : (rank t : ℕ) (d : Device) (es : List Tuning) → IsListening rank d (tunes rank t d es)
-as_tuned rank t d [] = (record { sending = refl; alarm = refl; ordered = refl }, refl)
-as_tuned rank t d (e ∷ es) =
-    cond_both ((e.rank == rank) && (e.end == t))
-    (record d { listening = Some (record { rank = rank; since = e.start }); made = record (d.made) { tuned = es } })
-    (record d { listening = Some (record { rank = rank; since = t }) })
-    (IsListening rank d)
-    (λ is. (record { sending = refl; alarm = refl; ordered = refl }, refl))
-    (λ not. (record { sending = refl; alarm = refl; ordered = refl }, refl))
-
-was_listening : (rank : ℕ) (l : Option Listening) → listens_to rank l ≡ true → option_map channel_of l ≡ Some rank
-was_listening rank None is = cc
-was_listening rank (Some l) is = ap (λ (n : ℕ). Some n) (eqb-true l.rank rank is)
-
-pub listening_then : (clock : ℕ → ℕ) (v t rank : ℕ) (d : Device) → IsListening rank d (obeyed clock v t d (Listen rank))
-listening_then clock v t rank d =
-    cond_both (listens_to rank d.listening) d (tuned_again rank t (silenced v t d)) (IsListening rank d)
-    (λ is. (record { sending = refl; alarm = refl; ordered = refl }, was_listening rank d.listening is))
-    (λ not. let on = as_tuned rank t (silenced v t d) (silenced v t d).made.tuned in (
-      record {
-        sending = on.0.sending;
-        alarm = on.0.alarm;
-        ordered = on.0.ordered;
-      },
-      on.1,
-    ))
-
--- so of a device whose whole is what the order makes of it
-pub listens_after : (clock : ℕ → ℕ) (v t rank : ℕ) (state after : DeviceState) (made making : Made)
-    → obeyed clock v t (whole state made) (Listen rank) ≡ whole after making → IsListening rank (whole state made) (whole after making)
-listens_after clock v t rank state after made making same =
-    subst (λ (e : Device). IsListening rank (whole state made) e) same (listening_then clock v t rank (whole state made))
-
-pub silent_after : (v t : ℕ) (state after : DeviceState) (made making : Made) → silenced v t (whole state made) ≡ whole after making
-    → IsSetAs (whole after making) (whole state made)
-silent_after v t state after made making same = subst (λ (e : Device). IsSetAs e (whole state made)) same (record {
-  sending = refl;
-  alarm = refl;
-  ordered = refl;
-})
+pub stays_tuned : (t v : ℕ) (from to : Option ℕ) (m : MediumState) → IsTime m t → from ≡ to → Retunes t v from to m m
+stays_tuned t v from to m time same = record {
+  goes_on = goes_on_nothing t m time;
+  own = λ x there tuned. (x, there, tuned ∙ same, refl);
+  others = λ u other. refl;
+}

@@ -1,11 +1,11 @@
 -- A step of the device at one place: what it is to the lists, to the devices at other places, and to the queue.
-use Rattle.std.proofs.Common.{◌≡◌, ◌≢◌, ℕ, ◌<◌, List, [], ◌∷◌, ◌++◌, map, filter, reverse, set, length, Option, Some, None, IfSome, option_map, option_to_list}
+use Rattle.std.proofs.Common.{◌≡◌, ◌≢◌, ℕ, ◌<◌, List, [], ◌∷◌, ◌++◌, map, filter, reverse, set, length, Option, Some, None, IfSome, option_map}
 use Rattle.std.proofs.Common.{◌==◌, if◌then◌else◌, refl, sym, ◌∙◌, ap, subst, inl, inr, eq-eqb}
 use Rattle.std.specs.Prelude.{Contains, All, AllPairs}
 use Rattle.std.specs.List.{slice_get}
 use Rattle.std.proofs.lemmas.Bool.{cond-true, cond-false, ne_eqb}
 use Rattle.std.proofs.lemmas.List.{append-nil, reverse-append}
-use Rattle.std.proofs.lemmas.List.Elements.{filter-append, filter_map-append, Contains-append_cases, All-set}
+use Rattle.std.proofs.lemmas.List.Elements.{filter-append, filter_map-append, Contains-append_cases, All-set, All-head, All-tail, All-contains}
 use Rattle.lwb_base.specs.Profile.{Numbers}
 use Rattle.std.proofs.lemmas.Option.{slice_get-map, slice_get_within, get_or_from_slice_get}
 use Rattle.event_calendar.specs.Orders.{Due}
@@ -22,10 +22,11 @@ use Rattle.air_log.specs.declared.entry.TunedEntry.{TunedEntry}
 use Rattle.air_log.specs.Entries.{sending_in, hearing_in, tuning_in, sendings_of, hearings_of, tunings_of, node_of_entry}
 use Rattle.air_log.specs.Lawful.{sent_by, tuned_by}
 use Rattle.air_log.specs.Devices.{Device, Made}
-use Rattle.air_log.specs.DeviceStates.{DeviceState, whole, tuning_of, one_more, EndedBefore, HappenedBy}
-use Rattle.air_log.proofs.CourseSteps.{ended_more}
-use Rattle.world_engine.specs.Fields.{FieldState, FieldShows, IsField, HasCounted, IsLogged, entries_of, setup_of_device, id_of, setups_of, ids_of}
-use Rattle.world_engine.specs.Fields.{due_of_device, rank_of_tuned, channel_of}
+use Rattle.air_log.specs.DeviceStates.{DeviceState, channel_of, tuning_of, one_more}
+use Rattle.air_log.specs.DeviceChanges.{DeviceShows, made_more, DeviceGoes}
+use Rattle.air_log.specs.WindowLogs.{WindowLog}
+use Rattle.world_engine.specs.Fields.{FieldState, FieldShows, IsField, IsLogged, entries_of, setup_of_device, id_of, setups_of, ids_of}
+use Rattle.world_engine.specs.Fields.{due_of_device, rank_of_tuned}
 use Rattle.world_engine.specs.FieldSteps.{MediumGoesOn, AreSame, Acts}
 use Rattle.world_engine.proofs.ActsInTurn.{same_ids}
 use Rattle.world_engine.proofs.DevicePlaces.{at_set, apart_at}
@@ -67,35 +68,30 @@ pub entries_own : (c : Option TunedEntry) (v : ℕ) (e : Entry) → IfSome c (λ
 entries_own None v e own there = absurd (not_in_none e there)
 entries_own (Some x) v e own there = elim (contains_cases _ [] e there) [ inl is ↦ ap node_of_entry (sym is) ∙ own | inr none ↦ absurd (not_in_none e none) ]
 
-delivery_own : (o : Option Delivery) (v : ℕ) (d : Delivery) → IfSome o (λ e. e.node ≡ v) → Contains (option_to_list o) d → d.node ≡ v
-delivery_own None v d own there = absurd (not_in_none d there)
-delivery_own (Some x) v d own there = elim (contains_cases _ [] d there) [
-  | inl is ↦ ap (λ (e : Delivery). e.node) (sym is) ∙ own
-  | inr none ↦ absurd (not_in_none d none)
-]
-
--- the deliveries with one more, if there is one
+-- the deliveries with those of a node more
 abbrev pub delivered_by : List Delivery → ℕ → List Delivery
 delivered_by ds v = filter (λ d. d.node == v) ds
 
-one_own : (u : ℕ) (o : Option Delivery) → IfSome o (λ d. d.node ≡ u) → delivered_by (option_to_list o) u ≡ option_to_list o
-one_own u None own = refl
-one_own u (Some d) own = cond-true (d.node == u) (d ∷ []) [] (eq-eqb d.node u own)
+all_own : (u : ℕ) (es : List Delivery) → All (λ d. d.node ≡ u) es → delivered_by es u ≡ es
+all_own u [] own = refl
+all_own u (d ∷ es) own =
+    cond-true (d.node == u) (d ∷ delivered_by es u) (delivered_by es u) (eq-eqb d.node u (All-head (λ (x : Delivery). x.node ≡ u) d es own))
+    ∙ ap (λ (l : List Delivery). d ∷ l) (all_own u es (All-tail (λ (x : Delivery). x.node ≡ u) d es own))
 
-one_other : (u v : ℕ) (o : Option Delivery) → IfSome o (λ d. d.node ≡ v) → u ≢ v → delivered_by (option_to_list o) u ≡ []
-one_other u v None own other = refl
-one_other u v (Some d) own other = cond-false (d.node == u) (d ∷ []) [] (ne_eqb d.node u (λ same. other (sym same ∙ own)))
+none_other : (u v : ℕ) (es : List Delivery) → All (λ d. d.node ≡ v) es → u ≢ v → delivered_by es u ≡ []
+none_other u v [] own other = refl
+none_other u v (d ∷ es) own other =
+    cond-false (d.node == u) (d ∷ delivered_by es u) (delivered_by es u)
+    (ne_eqb d.node u (λ same. other (sym same ∙ All-head (λ (x : Delivery). x.node ≡ v) d es own)))
+    ∙ none_other u v es (All-tail (λ (x : Delivery). x.node ≡ v) d es own) other
 
-pub delivered_own : (ds : List Delivery) (u : ℕ) (o : Option Delivery) → IfSome o (λ d. d.node ≡ u)
-    → delivered_by (ds ++ option_to_list o) u ≡ delivered_by ds u ++ option_to_list o
-delivered_own ds u o own = filter-append (λ (d : Delivery). d.node == u) ds (option_to_list o)
-    ∙ ap (λ (l : List Delivery). delivered_by ds u ++ l) (one_own u o own)
+pub delivered_own : (ds : List Delivery) (u : ℕ) (es : List Delivery) → All (λ d. d.node ≡ u) es → delivered_by (ds ++ es) u ≡ delivered_by ds u ++ es
+delivered_own ds u es own = filter-append (λ (d : Delivery). d.node == u) ds es ∙ ap (λ (l : List Delivery). delivered_by ds u ++ l) (all_own u es own)
 
-pub delivered_other : (ds : List Delivery) (u v : ℕ) (o : Option Delivery) → IfSome o (λ d. d.node ≡ v) → u ≢ v
-    → delivered_by (ds ++ option_to_list o) u ≡ delivered_by ds u
-delivered_other ds u v o own other =
-    filter-append (λ (d : Delivery). d.node == u) ds (option_to_list o)
-    ∙ ap (λ (l : List Delivery). delivered_by ds u ++ l) (one_other u v o own other)
+pub delivered_other : (ds : List Delivery) (u v : ℕ) (es : List Delivery) → All (λ d. d.node ≡ v) es → u ≢ v → delivered_by (ds ++ es) u ≡ delivered_by ds u
+delivered_other ds u v es own other =
+    filter-append (λ (d : Delivery). d.node == u) ds es
+    ∙ ap (λ (l : List Delivery). delivered_by ds u ++ l) (none_other u v es own other)
     ∙ append-nil (delivered_by ds u)
 
 -- what the medium keeps of a device that is on this channel, or off, and sends this
@@ -105,35 +101,41 @@ pub record IsStationOf (m : MediumState) (d : DeviceState) : Type 0 where
   pub tuned : option_map rank_of_tuned station.tuned ≡ option_map channel_of d.listening
   pub sending : station.sending ≡ d.sending
 
--- in a step at t the device at place p has become another of the same node; a tuning and a delivery of it are in the lists,
+-- the device that a field shows
+pub device_in : (s : Setup) (t : ℕ) (w : FieldState) (due : List Due) (p : ℕ) (d : Device) → (shows : FieldShows s t w due p d)
+    → DeviceShows s t shows.state shows.made d
+device_in s t w due p d shows = record {
+  is = shows.is;
+  setup = shows.setup;
+  counted = shows.counted;
+  few = shows.few;
+  ended = shows.ended;
+  happened = shows.happened;
+  taken = shows.taken;
+}
+
+-- in a step at t the device at place p has become another of the same node; a tuning and deliveries of it are in the lists,
 -- and these puts are lost
-pub record IsStepAt (t p : ℕ) (state after : DeviceState) (closed : Option TunedEntry) (delivery : Option Delivery) (lost : List DropLine)
+pub record IsStepAt (t p : ℕ) (state after : DeviceState) (closed : Option TunedEntry) (ds : List Delivery) (lost : List DropLine)
     (old : FieldState) (old_due : List Due) (new : FieldState) (new_due : List Due) : Type 0 where
   pub here : slice_get old.devices p ≡ Some state
   pub setup : after.setup ≡ state.setup
   pub devices : new.devices ≡ set old.devices p after
   pub air : new.air ≡ old.air ++ entries_of closed
-  pub deliveries : new.deliveries ≡ old.deliveries ++ option_to_list delivery
+  pub deliveries : new.deliveries ≡ old.deliveries ++ ds
   pub drops : new.drops ≡ old.drops ++ lost
   pub own_tuning : IfSome closed (λ e. e.node ≡ state.setup.id)
-  pub own_delivery : IfSome delivery (λ d. d.node ≡ state.setup.id)
+  pub own_deliveries : All (λ d. d.node ≡ state.setup.id) ds
   pub medium : MediumGoesOn t old.medium new.medium []
   pub station : IsStationOf new.medium after
   pub stations : (u : ℕ) → u ≢ state.setup.id → station_of new.medium u ≡ station_of old.medium u
   pub due : slice_get new_due p ≡ Some (due_of_device after)
   pub dues : (q : ℕ) → q ≢ p → slice_get new_due q ≡ slice_get old_due q
   pub places : length new_due ≡ length old_due
-  pub sums : (q : ℕ) → q ≢ p → slice_get new.sums q ≡ slice_get old.sums q
 
--- what the device has made goes on
-pub record GoesOnMaking (closed : Option TunedEntry) (delivery : Option Delivery) (before after : Made) : Type 0 where
-  pub sent : after.sent ≡ before.sent
-  pub tuned : after.tuned ≡ one_more closed before.tuned
-  pub deliveries : after.deliveries ≡ before.deliveries ++ option_to_list delivery
-
-module _ (t p : ℕ) (state after : DeviceState) (closed : Option TunedEntry) (delivery : Option Delivery) (lost : List DropLine) (old new : FieldState)
+module _ (t p : ℕ) (state after : DeviceState) (closed : Option TunedEntry) (ds : List Delivery) (lost : List DropLine) (old new : FieldState)
     (old_due new_due : List Due)
-    (is : IsStepAt t p state after closed delivery lost old old_due new new_due) where
+    (is : IsStepAt t p state after closed ds lost old old_due new new_due) where
   within : p < length old.devices
   within = slice_get_within old.devices p state is.here
 
@@ -152,9 +154,10 @@ module _ (t p : ℕ) (state after : DeviceState) (closed : Option TunedEntry) (d
       | inr more ↦ inr (subst (λ (v : ℕ). Contains (ids_of old) v) (sym (entries_own closed state.setup.id e is.own_tuning more)) stands_in)
     ];
     deliverers = λ d there. elim
-        (Contains-append_cases old.deliveries (option_to_list delivery) d (subst (λ (l : List Delivery). Contains l d) is.deliveries there)) [
+        (Contains-append_cases old.deliveries ds d (subst (λ (l : List Delivery). Contains l d) is.deliveries there)) [
           | inl before ↦ inl before
-          | inr more ↦ inr (subst (λ (v : ℕ). Contains (ids_of old) v) (sym (delivery_own delivery state.setup.id d is.own_delivery more)) stands_in)
+          | inr more ↦ inr (subst (λ (v : ℕ). Contains (ids_of old) v)
+              (sym (All-contains (λ (x : Delivery). x.node ≡ state.setup.id) ds d is.own_deliveries more)) stands_in)
         ];
   }
 
@@ -171,18 +174,18 @@ module _ (t p : ℕ) (state after : DeviceState) (closed : Option TunedEntry) (d
     tuned = logged.tuned ∙ ap (λ (l : List Tuning). reverse l)
         (sym (ap (λ (l : List Entry). tuned_by l u) is.air ∙ tuned_other old.air u state.setup.id closed is.own_tuning other));
     deliveries = logged.deliveries
-        ∙ sym (ap (λ (l : List Delivery). delivered_by l u) is.deliveries ∙ delivered_other old.deliveries u state.setup.id delivery is.own_delivery other);
+        ∙ sym (ap (λ (l : List Delivery). delivered_by l u) is.deliveries ∙ delivered_other old.deliveries u state.setup.id ds is.own_deliveries other);
   }
 
-  logged_own : (before made : Made) → GoesOnMaking closed delivery before made → IsLogged old state.setup.id before → IsLogged new state.setup.id made
-  logged_own before made goes logged =
+  logged_own : (windows : List WindowLog) (made : Made) → IsLogged old state.setup.id made → IsLogged new state.setup.id (made_more closed ds windows made)
+  logged_own windows made logged =
       let v = state.setup.id in
       record {
-        sent = goes.sent ∙ logged.sent ∙ sym (ap (λ (l : List Entry). sent_by l v) is.air ∙ sent_same old.air v closed);
-        tuned = goes.tuned ∙ ap (λ (l : List Tuning). one_more closed l) logged.tuned
+        sent = logged.sent ∙ sym (ap (λ (l : List Entry). sent_by l v) is.air ∙ sent_same old.air v closed);
+        tuned = ap (λ (l : List Tuning). one_more closed l) logged.tuned
             ∙ sym (ap (λ (l : List Entry). reverse (tuned_by l v)) is.air ∙ tuned_own old.air v closed is.own_tuning);
-        deliveries = goes.deliveries ∙ ap (λ (l : List Delivery). l ++ option_to_list delivery) logged.deliveries
-            ∙ sym (ap (λ (l : List Delivery). delivered_by l v) is.deliveries ∙ delivered_own old.deliveries v delivery is.own_delivery);
+        deliveries = ap (λ (l : List Delivery). l ++ ds) logged.deliveries
+            ∙ sym (ap (λ (l : List Delivery). delivered_by l v) is.deliveries ∙ delivered_own old.deliveries v ds is.own_deliveries);
       }
 
   pub shown_other : IsField old → (q : ℕ) → q ≢ p → (s : Setup) (d : Device) → FieldShows s t old old_due q d → FieldShows s t new new_due q d
@@ -204,7 +207,8 @@ module _ (t p : ℕ) (state after : DeviceState) (closed : Option TunedEntry) (d
           sending = known.sending;
           set = is.dues q other ∙ known.set;
         };
-        counted = record { sum = shows.counted.sum; there = is.sums q other ∙ shows.counted.there; is = shows.counted.is; few = shows.counted.few };
+        counted = shows.counted;
+        few = shows.few;
         ended = shows.ended;
         happened = shows.happened;
         taken = shows.taken;
@@ -217,32 +221,26 @@ module _ (t p : ℕ) (state after : DeviceState) (closed : Option TunedEntry) (d
       same : {x y : DeviceState} → (let o : Option DeviceState = Some x in o ≡ Some y) → x ≡ y
       same e = cc
 
-  module _ (taken : after.delivery ≡ None) (happened : HappenedBy t after) (before : IfSome closed (λ e. e.end < t)) (change : Setup → Device → Device)
-      (making : Made → Made)
-      (goes : (made : Made) → GoesOnMaking closed delivery made (making made))
-      (comes : (made : Made) → EndedBefore t made.tuned → change state.setup (whole state made) ≡ whole after (making made))
-      (counts : (made : Made) → HasCounted old.sums p state.setup made.windows → HasCounted new.sums p state.setup (making made).windows) where
+  module _ (change : Setup → Device → Device) (goes : DeviceGoes t change state after closed ds) where
     pub shown_own : (s : Setup) (d : Device) → FieldShows s t old old_due p d → FieldShows s t new new_due p (change s d)
     shown_own s d shows =
-        let same = same_state s d shows in
-        let is_s : state.setup ≡ s = ap (λ (x : DeviceState). x.setup) (sym same) ∙ shows.setup in
-        let own : s.id ≡ state.setup.id = ap (λ (x : Setup). x.id) (sym is_s) in
-        let made = shows.made in
+        let next = goes.shows s shows.made d (subst (λ (x : DeviceState). DeviceShows s t x shows.made d) (same_state s d shows)
+        (device_in s t old old_due p d shows)) in
+        let own : s.id ≡ state.setup.id = ap (λ (x : Setup). x.id) (sym next.1.setup ∙ is.setup) in
         record {
           state = after;
           there = ap (λ (l : List DeviceState). slice_get l p) is.devices ∙ at_set old.devices p after within;
-          setup = is.setup ∙ is_s;
-          made = making made;
-          is = sym (comes made shows.ended) ∙ ap (λ (x : DeviceState). change state.setup (whole x made)) (sym same)
-              ∙ ap (λ (x : Setup). change x (whole shows.state made)) is_s ∙ ap (change s) shows.is;
-          logged = subst (λ (v : ℕ). IsLogged new v (making made)) (sym own)
-              (logged_own made (making made) (goes made) (subst (λ (v : ℕ). IsLogged old v made) own shows.logged));
+          setup = next.1.setup;
+          made = made_more closed ds next.0 shows.made;
+          is = next.1.is;
+          logged = subst (λ (v : ℕ). IsLogged new v (made_more closed ds next.0 shows.made)) (sym own)
+              (logged_own next.0 shows.made (subst (λ (v : ℕ). IsLogged old v shows.made) own shows.logged));
           known = record { station = is.station.station; there = is.station.there; tuned = is.station.tuned; sending = is.station.sending; set = is.due };
-          counted = subst (λ (z : Setup). HasCounted new.sums p z (making made).windows) is_s
-              (counts made (subst (λ (z : Setup). HasCounted old.sums p z made.windows) (sym is_s) shows.counted));
-          ended = subst (λ (l : List Tuning). EndedBefore t l) (sym (goes made).tuned) (ended_more t closed made.tuned before shows.ended);
-          happened = happened;
-          taken = taken;
+          counted = next.1.counted;
+          few = next.1.few;
+          ended = next.1.ended;
+          happened = next.1.happened;
+          taken = next.1.taken;
         }
 
     -- so the field acts by what the device does

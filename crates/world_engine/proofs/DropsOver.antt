@@ -6,7 +6,8 @@ use Rattle.event_calendar.specs.Orders.{Due}
 use Rattle.bus_rules.specs.declared.delivery.DropLine.{DropLine}
 use Rattle.air_log.specs.declared.entry.Entry.{Entry}
 use Rattle.air_log.specs.ScriptedDevices.{device_after_line}
-use Rattle.air_log.specs.Trails.{Reception, setup_of, frame_start, run_end, before_tick}
+use Rattle.scenario_text.specs.Setups.{setup_of}
+use Rattle.air_log.specs.Trails.{Reception, frame_start, run_end, before_tick}
 use Rattle.air_log.specs.Lawful.{heard_by}
 use Rattle.air_log.specs.Drops.{told_at_tick, drop_by, drops_of}
 use Rattle.air_log.proofs.DropsBelow.{trail_drops_below, drops_by_place}

@@ -25,7 +25,7 @@ use Rattle.world_engine.specs.Fields.{FieldState, IsField, IsKnownDevice, FieldS
 use Rattle.world_engine.specs.FieldSteps.{Acts, DeviceSends}
 use Rattle.world_engine.proofs.DevicesOfNodes.{one_place}
 use Rattle.world_engine.proofs.ShownPlaces.{there_now, still_field, still_shown, shown_as}
-use Rattle.world_engine.proofs.ObeyedOrders.{due_changed}
+use Rattle.world_engine.proofs.DueChanges.{due_changed}
 
 -- the transmission x of the device st at place p ends at t
 pub record IsEnding (t p : ℕ) (w : FieldState) (due : List Due) (st : DeviceState) (x : Sending) : Type 0 where
@@ -56,7 +56,7 @@ module _ (t p : ℕ) (w : FieldState) (due : List Due) (st : DeviceState) (x : S
       let at = ending.shown p (slice_get_within w.devices p st ending.here) in
       (shown_as at.setup t w due p at.device st ending.here at.shows).known
 
-  -- whatever trace it is of, it sends x
+  -- whatever trail it is of, it sends x
   pub sends_only : (y : Sending) → DeviceSends t w due p y → y ≡ x
   sends_only y sends =
       let at = ending.shown p (slice_get_within w.devices p st ending.here) in
@@ -84,6 +84,7 @@ module _ (t p : ℕ) (w : FieldState) (due : List Due) (st : DeviceState) (x : S
           set = due_changed due p SendingEnd None (due_of_device st) known.set;
         };
         counted = sh.counted;
+        few = sh.few;
         ended = sh.ended;
         happened = record { closed = sh.happened.closed; listening = sh.happened.listening };
         taken = sh.taken;
@@ -100,7 +101,6 @@ module _ (t p : ℕ) (w : FieldState) (due : List Due) (st : DeviceState) (x : S
         deliveries = refl;
         station = other_station w.medium t st.setup.id station_after_end finished_keeps.node s.id apart;
         due = set_elsewhere due p q _ other;
-        sums = refl;
       }) shows
 
   over_time : IsTime (over t p st w).medium t

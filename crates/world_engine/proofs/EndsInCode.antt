@@ -115,7 +115,7 @@ module _ {t p : ℕ} {w given : FieldState} {due : List Due} (seen : w ≡ given
     pub ended_field : IsField (changed_field w m (set w.devices j new))
     ended_field = subst IsField (sym is_over) (over_is_field t p w due st x ending)
 
-    -- whatever trace the device is of, it sends x
+    -- whatever trail the device is of, it sends x
     pub sends_that : (y : Sending) → DeviceSends t given due p y → x ≡ y
     sends_that y sends = sym (sends_only t p w due st x ending y (subst (λ (v : FieldState). DeviceSends t v due p y) (sym seen) sends))
 

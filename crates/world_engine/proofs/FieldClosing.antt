@@ -17,7 +17,7 @@ use Rattle.air_log.specs.Lawful.{sent_by, tuned_by}
 use Rattle.lwb_base.proofs.Elements.{map_contains, contains_at}
 use Rattle.lwb_base.proofs.Lists.{set_elsewhere, map_stays}
 use Rattle.air_log.specs.DeviceStates.{DeviceState, whole, one_more, with_tuned, IsCoreAt}
-use Rattle.world_engine.specs.Fields.{FieldState, IsField, IsLogged, entries_of, setup_of_device, id_of, power_of, ids_of}
+use Rattle.world_engine.specs.Fields.{FieldState, IsField, IsLogged, entries_of, setup_of_device, id_of, power_of, windows_of, ids_of, sums_of}
 use Rattle.world_engine.specs.FieldSteps.{GoesSilent, IsClosed}
 use Rattle.world_engine.proofs.DevicePlaces.{at_set, apart_at}
 use Rattle.world_engine.proofs.DeviceSteps.{hearings_tuned, sendings_tuned, sent_same, tuned_own, tuned_other, entries_own}
@@ -62,7 +62,7 @@ pub record IsClosedUpto (t i : ℕ) (old new : FieldState) : Type 0 where
   pub sendings : sendings_of new.air ≡ sendings_of old.air
   pub deliveries : new.deliveries ≡ old.deliveries
   pub drops : new.drops ≡ old.drops
-  pub sums : new.sums ≡ old.sums
+  pub sums : sums_of new ≡ sums_of old
   pub powers : map power_of new.devices ≡ map power_of old.devices
   pub setups : map setup_of_device new.devices ≡ map setup_of_device old.devices
   pub cores : (p : ℕ) (d : DeviceState) → p < i → slice_get new.devices p ≡ Some d → IsCoreAt d.core d.power
@@ -181,7 +181,7 @@ module _ (t i : ℕ) (old now new : FieldState) (field : IsField old) (is : IsCl
     sendings = sendings_tuned (now.air ++ entries_of goes.before) goes.last ∙ sendings_tuned now.air goes.before ∙ is.sendings;
     deliveries = is.deliveries;
     drops = is.drops;
-    sums = is.sums;
+    sums = map_stays windows_of now.devices i state goes.silent goes.there goes.windows ∙ is.sums;
     powers = map_stays power_of now.devices i state goes.silent goes.there same_power ∙ is.powers;
     setups = map_stays setup_of_device now.devices i state goes.silent goes.there goes.setup ∙ is.setups;
     cores = one_core;

@@ -14,10 +14,10 @@ use Rattle.radio_model.proofs.Places.{nodes_from, first_is_medium}
 use Rattle.node_core.specs.Nodes.{rebooted, NodeState}
 use Rattle.air_log.specs.declared.entry.TunedEntry.{TunedEntry}
 use Rattle.air_log.specs.Devices.{Device, at_rest, nothing_made}
-use Rattle.air_log.specs.Trails.{setup_of}
+use Rattle.scenario_text.specs.Setups.{setup_of}
 use Rattle.air_log.specs.DeviceStates.{DeviceState, whole, one_more, core_in}
 use Rattle.world_engine.specs.Fields.{FieldState, IsField, id_of}
-use Rattle.world_engine.specs.FieldSteps.{first_device, IsFirstField}
+use Rattle.world_engine.specs.FieldSteps.{first_device, IsFirstField, nothing_counted}
 use Rattle.world_engine.specs.Worlds.{new_core}
 use Rattle.lwb_base.proofs.Elements.{pairs_of_map}
 
@@ -27,8 +27,8 @@ none_closed (Some x) is = cc
 
 -- a device that is made for a node
 pub new_device : (s : ScenarioParts) (n : NodeLine) (d : DeviceState) → d.setup ≡ setup_of s n.node → whole d nothing_made ≡ at_rest
-    → d.delivery ≡ None → d.core ≡ rebooted 1 → d ≡ first_device s n
-new_device s n d setup rest delivery core =
+    → d.delivery ≡ None → d.core ≡ rebooted 1 → d.windows ≡ nothing_counted s → d ≡ first_device s n
+new_device s n d setup rest delivery core windows =
     let power = ap (λ (x : Device). x.power) rest in
     let listening = ap (λ (x : Device). x.listening) rest in
     let alarm = ap (λ (x : Device). x.alarm) rest in

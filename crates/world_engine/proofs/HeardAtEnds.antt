@@ -21,13 +21,14 @@ use Rattle.scenario_text.specs.declared.lines.NodeLine.{NodeLine}
 use Rattle.bus_rules.specs.Cores.{Setup}
 use Rattle.air_log.specs.Entries.{hearings_of, sendings_of}
 use Rattle.air_log.specs.Devices.{Device}
-use Rattle.air_log.specs.Trails.{Reception, setup_of, device_after_script, device_after_receptions, before_tick}
+use Rattle.scenario_text.specs.Setups.{setup_of}
+use Rattle.air_log.specs.Trails.{Reception, device_after_script, device_after_receptions, before_tick}
 use Rattle.air_log.specs.Lawful.{reception_comes_before, AreInTurn, reception_of, hearings_by, heard_by, sent_by}
 use Rattle.lwb_base.proofs.Elements.{map_from, filtered, pairs_append}
 use Rattle.air_log.proofs.InTurn.{heard_in_turn}
 use Rattle.air_log.proofs.KeptByEvents.{in_end}
 use Rattle.air_log.specs.DeviceStates.{DeviceState}
-use Rattle.world_engine.specs.Fields.{FieldState, ids_of, id_of, setup_of_device as setup_in}
+use Rattle.world_engine.specs.Fields.{FieldState, ids_of, id_of, setup_of_device}
 use Rattle.world_engine.specs.FieldSteps.{EndsSending, DeviceSends, hearing_at}
 use Rattle.world_engine.specs.Moments.{At, IsAtMoment}
 use Rattle.world_engine.specs.Running.{HasPlaces, setup_by, Runs, HoldsScene, HasHearings}
@@ -45,10 +46,10 @@ id_at s w due places q n there =
     (slice_get-map id_of w.devices q
     ∙ by_setup (slice_get w.devices q)
     ∙ ap (option_map (λ (x : Setup). x.id))
-    (sym (slice_get-map setup_in w.devices q) ∙ ap (λ (xs : List Setup). slice_get xs q) places.setups ∙ slice_get-map (setup_by s) s.nodes q
+    (sym (slice_get-map setup_of_device w.devices q) ∙ ap (λ (xs : List Setup). slice_get xs q) places.setups ∙ slice_get-map (setup_by s) s.nodes q
     ∙ ap (option_map (setup_by s)) there))
   where
-    by_setup : (o : Option DeviceState) → option_map id_of o ≡ option_map (λ (x : Setup). x.id) (option_map setup_in o)
+    by_setup : (o : Option DeviceState) → option_map id_of o ≡ option_map (λ (x : Setup). x.id) (option_map setup_of_device o)
     by_setup None = refl
     by_setup (Some d) = refl
 
@@ -57,7 +58,7 @@ pub node_within : (s : ScenarioParts) (w : FieldState) (due : List Due) → HasP
 node_within s w due places q within = by ((slice_get_cases s.nodes q).1)
   where
     long : length w.devices ≡ length s.nodes
-    long = sym (length-map w.devices setup_in) ∙ ap length places.setups ∙ length-map s.nodes (setup_by s)
+    long = sym (length-map w.devices setup_of_device) ∙ ap length places.setups ∙ length-map s.nodes (setup_by s)
 
     by : ((n : NodeLine) × (q < length s.nodes) × (slice_get s.nodes q ≡ Some n) × (get_or s.nodes q n ≡ n))
         ⊎ ((length s.nodes ≤ q) × (slice_get s.nodes q ≡ None)) → (n : NodeLine) × (slice_get s.nodes q ≡ Some n)

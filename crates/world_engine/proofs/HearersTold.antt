@@ -40,7 +40,6 @@ shown_when_logged t q u x w due s d shows =
       deliveries = refl;
       station = refl;
       due = refl;
-      sums = refl;
     }) shows
 
 pub is_shown_when_logged : (t q u : ℕ) (x : Sending) (w : FieldState) (due : List Due) → FieldIsShown t w due q → FieldIsShown t (logged u x w) due q

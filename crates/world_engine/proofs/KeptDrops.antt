@@ -7,7 +7,8 @@ use Rattle.bus_rules.specs.declared.delivery.DropLine.{DropLine}
 use Rattle.air_log.specs.declared.entry.Entry.{Entry}
 use Rattle.air_log.specs.Devices.{Device}
 use Rattle.air_log.specs.ScriptedDevices.{device_after_line}
-use Rattle.air_log.specs.Trails.{Reception, setup_of, frame_start, before_tick}
+use Rattle.scenario_text.specs.Setups.{setup_of}
+use Rattle.air_log.specs.Trails.{Reception, frame_start, before_tick}
 use Rattle.air_log.specs.Lawful.{heard_by}
 use Rattle.air_log.specs.Drops.{told_at_tick, device_before_line, drop_by}
 use Rattle.lwb_base.proofs.Elements.{contains_head, contains_tail}

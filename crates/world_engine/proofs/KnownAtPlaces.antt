@@ -18,7 +18,7 @@ use Rattle.bus_rules.specs.declared.act.Act.TheVariants.{On}
 use Rattle.scenario_text.specs.declared.script.ScriptLine.{ScriptLine}
 use Rattle.bus_rules.specs.Cores.{Setup}
 use Rattle.air_log.specs.Devices.{Device, Power, PowerOff, PowerOn, seen_power}
-use Rattle.air_log.specs.Trails.{setup_of}
+use Rattle.scenario_text.specs.Setups.{setup_of}
 use Rattle.lwb_base.proofs.Elements.{contains_head, contains_tail}
 use Rattle.air_log.proofs.KeptPower.{few_before}
 use Rattle.air_log.specs.DeviceStates.{CanBoot}

@@ -9,7 +9,8 @@ use Rattle.scenario_text.specs.ScenarioParts.{ScenarioParts}
 use Rattle.scenario_text.specs.declared.script.ScriptLine.{ScriptLine}
 use Rattle.air_log.specs.Devices.{Device, at_rest}
 use Rattle.air_log.specs.ScriptedDevices.{device_after_line}
-use Rattle.air_log.specs.Trails.{Reception, setup_of, frame_start, lines_at, device_after_script, ending_at, device_after_receptions, before_tick}
+use Rattle.scenario_text.specs.Setups.{setup_of}
+use Rattle.air_log.specs.Trails.{Reception, frame_start, lines_at, device_after_script, ending_at, device_after_receptions, before_tick}
 use Rattle.air_log.proofs.NextDue.{none_passes}
 use Rattle.world_engine.specs.Moments.{Before, InLines, At, IsAtMoment, trail_after_lines}
 

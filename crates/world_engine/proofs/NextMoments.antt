@@ -9,7 +9,8 @@ use Rattle.scenario_text.specs.ScenarioParts.{ScenarioParts}
 use Rattle.scenario_text.specs.ScenarioFacts.{IsSoundScenario}
 use Rattle.scenario_text.specs.declared.lines.NodeLine.{NodeLine}
 use Rattle.scenario_text.specs.declared.script.ScriptLine.{ScriptLine}
-use Rattle.air_log.specs.Trails.{setup_of, run_end, frame_start}
+use Rattle.scenario_text.specs.Setups.{setup_of}
+use Rattle.air_log.specs.Trails.{run_end, frame_start}
 use Rattle.air_log.specs.Lawful.{heard_by}
 use Rattle.air_log.proofs.AlarmRows.{roomy}
 use Rattle.world_engine.specs.Fields.{FieldState}

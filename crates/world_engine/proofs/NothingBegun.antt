@@ -1,5 +1,5 @@
 -- A field after the ordered transmission of a device has not started.
-use Rattle.std.proofs.Common.{◌≡◌, ℕ, ◌<◌, List, [], set, length, Option, Some, None, refl, sym, ◌∙◌, ap, inl}
+use Rattle.std.proofs.Common.{◌≡◌, ℕ, ◌<◌, List, [], set, length, Option, Some, None, refl, sym, ◌∙◌, ap, subst, inl}
 use Rattle.std.specs.Prelude.{slice_get}
 use Rattle.std.specs.Option.{option_map}
 use Rattle.std.proofs.lemmas.List.{append-nil, length-set}
@@ -15,12 +15,15 @@ use Rattle.air_log.specs.Devices.{Device, OrderedPacket, Made, nothing_made}
 use Rattle.air_log.specs.Trails.{device_after_start, sendings_starting}
 use Rattle.air_log.specs.Entries.{sendings_of}
 use Rattle.air_log.specs.DeviceStates.{DeviceState, whole, with_sent, HappenedBy, IsSameNode}
-use Rattle.world_engine.specs.Fields.{FieldState, IsField, IsKnownDevice, FieldShows, FieldIsShown, due_of_device, setup_of_device, channel_of}
+use Rattle.world_engine.specs.Fields.{FieldState, IsField, IsKnownDevice, FieldShows, FieldIsShown, due_of_device, setup_of_device}
+use Rattle.air_log.specs.DeviceStates.{channel_of}
+use Rattle.air_log.specs.WindowSums.{WindowSum, IsCounted}
 use Rattle.world_engine.specs.FieldSteps.{Acts}
 use Rattle.world_engine.proofs.ShownPlaces.{there_now, still_field, still_shown, shown_as}
 use Rattle.world_engine.proofs.BegunDevices.{silent_with}
-use Rattle.world_engine.proofs.ObeyedOrders.{due_changed}
-use Rattle.air_log.specs.Courses.{tick_of_ordered, sending_end}
+use Rattle.world_engine.proofs.DueChanges.{due_changed}
+use Rattle.air_log.specs.Courses.{sending_end}
+use Rattle.air_log.specs.DeviceStates.{tick_of_ordered}
 
 -- what the start at a device comes to
 abbrev pub Begins : ℕ → ℕ → FieldState → List Due → FieldState → List Due → Type 0
@@ -77,7 +80,8 @@ module _ (t p : ℕ) (w : FieldState) (field : IsField w) (due : List Due) (st n
             sending = known.sending ∙ ap (λ (e : Device). e.sending) (sym silent_now);
             set = silent_set;
           };
-          counted = sh.counted;
+          counted = subst (λ (x : WindowSum). IsCounted s.profile s.sends sh.made.windows x) (sym node.windows) sh.counted;
+          few = sh.few;
           ended = sh.ended;
           happened = keeps_time t sh.happened;
           taken = node.delivery ∙ sh.taken;
@@ -95,7 +99,6 @@ module _ (t p : ℕ) (w : FieldState) (field : IsField w) (due : List Due) (st n
           deliveries = refl;
           station = refl;
           due = set_elsewhere due p q _ other;
-          sums = refl;
         }) shows;
         hearings = refl;
         sendings = sym (append-nil (sendings_of w.air));

@@ -1,4 +1,4 @@
--- The end of a run: the queue has what is at the nodes by their traces.
+-- The end of a run: the queue has what is at the nodes by their trails.
 use Rattle.std.proofs.Common.{◌≡◌, ℕ, zero, suc, List, [], ◌∷◌, map, length, Some, refl, sym, ◌∙◌, ap, arith}
 use Rattle.std.specs.Prelude.{slice_get}
 use Rattle.scenario_text.specs.ScenarioParts.{ScenarioParts}

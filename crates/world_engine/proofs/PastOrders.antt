@@ -18,7 +18,8 @@ use Rattle.bus_rules.specs.Cores.{Setup}
 use Rattle.bus_rules.specs.declared.delivery.DropLine.{DropLine}
 use Rattle.air_log.specs.Devices.{Device, Listening, OrderedPacket}
 use Rattle.air_log.specs.AlarmRuns.{IsAlarmRun}
-use Rattle.air_log.specs.Trails.{setup_of, run_end, alarmed, device_after_start, begun_by, starts}
+use Rattle.scenario_text.specs.Setups.{setup_of}
+use Rattle.air_log.specs.Trails.{run_end, alarmed, device_after_start, begun_by, starts}
 use Rattle.world_engine.specs.Fields.{FieldState, FieldShows}
 use Rattle.world_engine.specs.FieldSteps.{Acts, EndsSending, told_of_end, told_of_hearing}
 use Rattle.world_engine.specs.Frames.{order_key, AllComeLater}
@@ -33,7 +34,8 @@ use Rattle.world_engine.proofs.ToldDevices.{told_of_hearing_sending, told_of_end
 use Rattle.world_engine.proofs.ShownDevices.{stands_at}
 use Rattle.world_engine.proofs.TrailsGoOn.{AreClocks}
 use Rattle.world_engine.proofs.TickPoints.{alarm_at}
-use Rattle.air_log.specs.Courses.{tick_of_ordered as start_of, sending_end}
+use Rattle.air_log.specs.Courses.{sending_end}
+use Rattle.air_log.specs.DeviceStates.{tick_of_ordered as start_of}
 
 -- what is of the class at the tick is at later places
 abbrev pub LaterPlaces : ℕ → Class → ℕ → List Due → Type 0

@@ -1,4 +1,4 @@
--- The places of a run: those at which something is in the queue, and the nodes of its trace.
+-- The places of a run: those at which something is in the queue, and the nodes of its trail.
 use Rattle.std.proofs.Common.{◌≡◌, ℕ, zero, suc, ◌<◌, List, [], ◌∷◌, map, length, Some, refl, sym, ap, ◌∙◌, arith}
 use Rattle.scenario_text.specs.ScenarioParts.{ScenarioParts}
 use Rattle.scenario_text.specs.FloodParts.{IsSealed}

@@ -15,12 +15,11 @@ use Rattle.bus_rules.specs.Cores.{Setup}
 use Rattle.air_log.specs.declared.entry.Entry.{Entry}
 use Rattle.air_log.specs.Devices.{Device, at_rest, nothing_made, seen_power}
 use Rattle.air_log.specs.Lawful.{sent_by, tuned_by, heard_by}
-use Rattle.air_log.specs.Trails.{setup_of as setup_in}
+use Rattle.scenario_text.specs.Setups.{setup_of}
 use Rattle.lwb_base.proofs.Elements.{not_in_none}
 use Rattle.air_log.specs.DeviceStates.{DeviceState}
-use Rattle.air_log.specs.WindowSums.{WindowSum}
 use Rattle.world_engine.specs.Fields.{FieldState, IsField, FieldShows, setup_of_device, id_of}
-use Rattle.world_engine.specs.FieldSteps.{IsFirstField, first_device, nothing_counted}
+use Rattle.world_engine.specs.FieldSteps.{IsFirstField, first_device}
 use Rattle.world_engine.specs.Moments.{Before}
 use Rattle.world_engine.specs.Running.{IsRunning, IsOnTrail, setup_by}
 use Rattle.world_engine.proofs.FirstField.{first_field}
@@ -59,7 +58,7 @@ as_many (suc n) x = let rest = as_many n x in omega (arith, rest)
 
 first_setups : (s : ScenarioParts) (ns : List NodeLine) → map setup_of_device (map (first_device s) ns) ≡ map (setup_by s) ns
 first_setups s [] = refl
-first_setups s (n ∷ ns) = ap (λ (l : List Setup). setup_in s n.node ∷ l) (first_setups s ns)
+first_setups s (n ∷ ns) = ap (λ (l : List Setup). setup_of s n.node ∷ l) (first_setups s ns)
 
 module _ (s : ScenarioParts) (clocks : ℕ → ℕ → ℕ) (sound : IsSoundScenario s) (w : FieldState) (due : List Due) (first : IsFirstField s w)
     (none : due ≡ replicate (length s.nodes) nothing_due) where
@@ -86,7 +85,7 @@ module _ (s : ScenarioParts) (clocks : ℕ → ℕ → ℕ) (sound : IsSoundScen
   due_at_first : (p : ℕ) (n : NodeLine) → slice_get s.nodes p ≡ Some n → slice_get due p ≡ Some nothing_due
   due_at_first p n at = ap (λ (l : List Due). slice_get l p) none ∙ same_at (length s.nodes) p nothing_due (slice_get_within s.nodes p n at)
 
-  shown_first : (p : ℕ) (n : NodeLine) → slice_get s.nodes p ≡ Some n → FieldShows (setup_in s n.node) 0 w due p at_rest
+  shown_first : (p : ℕ) (n : NodeLine) → slice_get s.nodes p ≡ Some n → FieldShows (setup_of s n.node) 0 w due p at_rest
   shown_first p n at = record {
     state = first_device s n;
     there = device_at p n at;
@@ -99,12 +98,8 @@ module _ (s : ScenarioParts) (clocks : ℕ → ℕ → ℕ) (sound : IsSoundScen
       deliveries = ap (filter (λ d. d.node == n.node)) (sym first.deliveries);
     };
     known = record { station = fresh n.node p; there = station_at p n at; tuned = refl; sending = refl; set = due_at_first p n at };
-    counted = record {
-      sum = nothing_counted s;
-      there = ap (λ (l : List WindowSum). slice_get l p) first.sums ∙ same_at (length s.nodes) p (nothing_counted s) (slice_get_within s.nodes p n at);
-      is = record { profile = refl; sends = refl; counts = record { earlier = refl; last = refl; by_alarm = refl }; small = tt };
-      few = sound.few_sends;
-    };
+    counted = record { profile = refl; sends = refl; counts = record { earlier = refl; last = refl; by_alarm = refl }; small = tt };
+    few = sound.few_sends;
     ended = tt;
     happened = record { closed = tt; listening = tt };
     taken = refl;

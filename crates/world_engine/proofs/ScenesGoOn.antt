@@ -17,7 +17,7 @@ use Rattle.bus_rules.specs.Cores.{Setup}
 use Rattle.air_log.specs.Entries.{sendings_of, node_of_entry}
 use Rattle.air_log.specs.Devices.{Device}
 use Rattle.air_log.specs.DeviceStates.{DeviceState}
-use Rattle.world_engine.specs.Fields.{FieldState, FieldShows, setups_of, ids_of, setup_of_device as setup_in, id_of}
+use Rattle.world_engine.specs.Fields.{FieldState, FieldShows, setups_of, ids_of, setup_of_device, id_of}
 use Rattle.world_engine.specs.FieldSteps.{IsSceneAfter, MediumGoesOn, AreSame}
 use Rattle.world_engine.specs.Running.{Runs, HoldsScene}
 use Rattle.air_log.specs.TunedTimes.{WasTuned}
@@ -25,7 +25,7 @@ use Rattle.air_log.proofs.TunedBefore.{IsTunedAs}
 use Rattle.world_engine.proofs.ShownTunings.{shown_within, alike, alike_back, tuned_alike}
 
 -- ids and number of the devices of a field are those of its setups
-ids_from : (xs : List DeviceState) → map id_of xs ≡ map (λ (s : Setup). s.id) (map setup_in xs)
+ids_from : (xs : List DeviceState) → map id_of xs ≡ map (λ (s : Setup). s.id) (map setup_of_device xs)
 ids_from [] = refl
 ids_from (x ∷ xs) = ap (λ (l : List ℕ). x.setup.id ∷ l) (ids_from xs)
 
@@ -33,7 +33,7 @@ pub same_ids : (old new : FieldState) → setups_of new ≡ setups_of old → id
 same_ids old new same = ids_from new.devices ∙ ap (map (λ (s : Setup). s.id)) same ∙ sym (ids_from old.devices)
 
 pub same_length : (old new : FieldState) → setups_of new ≡ setups_of old → length new.devices ≡ length old.devices
-same_length old new same = omega (arith, length-map new.devices setup_in, length-map old.devices setup_in, ap length same)
+same_length old new same = omega (arith, length-map new.devices setup_of_device, length-map old.devices setup_of_device, ap length same)
 
 -- a station that is found
 pub found_in : (v : ℕ) (xs : List Station) (st : Station) → find (is_station_of v) xs ≡ Some st → Contains xs st × (st.node ≡ v)

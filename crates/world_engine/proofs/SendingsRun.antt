@@ -6,7 +6,8 @@ use Rattle.radio_model.specs.declared.sending.Sending.{Sending}
 use Rattle.scenario_text.specs.ScenarioParts.{ScenarioParts}
 use Rattle.bus_rules.specs.Cores.{Setup}
 use Rattle.air_log.specs.Devices.{Device}
-use Rattle.air_log.specs.Trails.{Reception, setup_of, device_after_script, device_after_reception, device_after_receptions, device_after_end, device_ended_by}
+use Rattle.scenario_text.specs.Setups.{setup_of}
+use Rattle.air_log.specs.Trails.{Reception, device_after_script, device_after_reception, device_after_receptions, device_after_end, device_ended_by}
 use Rattle.air_log.specs.Trails.{before_tick}
 use Rattle.air_log.proofs.HearingMore.{earlier_stays, heard_now}
 use Rattle.world_engine.specs.FieldSteps.{told_of_end}

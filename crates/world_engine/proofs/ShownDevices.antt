@@ -12,11 +12,11 @@ use Rattle.scenario_text.specs.declared.lines.NodeLine.{NodeLine}
 use Rattle.bus_rules.specs.Cores.{Setup}
 use Rattle.air_log.specs.declared.entry.TunedEntry.{TunedEntry}
 use Rattle.air_log.specs.Devices.{Device, Listening, OrderedPacket}
-use Rattle.air_log.specs.Trails.{setup_of}
+use Rattle.scenario_text.specs.Setups.{setup_of}
 use Rattle.air_log.specs.Ahead.{IsAhead}
 use Rattle.air_log.specs.DeviceStates.{DeviceState}
 use Rattle.air_log.proofs.ShownCourses.{ended_later}
-use Rattle.world_engine.specs.Fields.{FieldState, FieldShows, due_of_device, setup_of_device as setup_in}
+use Rattle.world_engine.specs.Fields.{FieldState, FieldShows, due_of_device, setup_of_device}
 use Rattle.world_engine.specs.Running.{HasPlaces, setup_by}
 use Rattle.world_engine.specs.Runs.{standing}
 use Rattle.world_engine.proofs.TickPoints.{IsOver}
@@ -39,6 +39,7 @@ shows_later q t u w due p d up shows = record {
   logged = shows.logged;
   known = shows.known;
   counted = shows.counted;
+  few = shows.few;
   ended = ended_later t u shows.made.tuned up shows.ended;
   happened = record {
     closed = closed_by t u shows.state.closed up shows.happened.closed;
@@ -68,8 +69,8 @@ node_there s q t w due p d places shows =
     by (slice_get s.nodes p) refl
     (sym (slice_get-map (setup_by s) s.nodes p)
     ∙ ap (λ (xs : List Setup). slice_get xs p) (sym places.setups)
-    ∙ slice_get-map setup_in w.devices p
-    ∙ ap (option_map setup_in) shows.there
+    ∙ slice_get-map setup_of_device w.devices p
+    ∙ ap (option_map setup_of_device) shows.there
     ∙ ap (λ (x : Setup). Some x) shows.setup)
   where
     by : (o : Option NodeLine) → slice_get s.nodes p ≡ o → option_map (setup_by s) o ≡ Some q

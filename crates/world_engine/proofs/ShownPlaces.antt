@@ -15,9 +15,8 @@ use Rattle.air_log.specs.declared.entry.Entry.{Entry}
 use Rattle.air_log.specs.Devices.{Device}
 use Rattle.air_log.specs.Lawful.{sent_by, tuned_by}
 use Rattle.air_log.specs.DeviceStates.{DeviceState, whole, HappenedBy}
-use Rattle.air_log.specs.WindowLogs.{WindowLog}
-use Rattle.air_log.specs.WindowSums.{WindowSum}
-use Rattle.world_engine.specs.Fields.{FieldState, IsField, IsKnownDevice, HasCounted, FieldShows, FieldIsShown, id_of}
+use Rattle.air_log.specs.WindowSums.{IsCounted}
+use Rattle.world_engine.specs.Fields.{FieldState, IsField, IsKnownDevice, FieldShows, FieldIsShown, id_of}
 
 -- a list with another element at one place
 pub there_now : {X : Type 0} (xs : List X) (p : ℕ) (x y : X) → slice_get xs p ≡ Some x → slice_get (set xs p y) p ≡ Some y
@@ -28,7 +27,7 @@ there_now (z ∷ xs) (suc p) x y at = there_now xs p x y at
 -- the devices and their medium are those of a field still
 pub still_field : (w : FieldState) (m : MediumState) (p : ℕ) (old new : DeviceState) (air : List Entry) (deliveries : List Delivery) (drops : List DropLine)
     → IsField w → IsMedium m → nodes_of m ≡ nodes_of w.medium → m.numbers ≡ w.medium.numbers → slice_get w.devices p ≡ Some old → new.setup ≡ old.setup
-    → IsField (record { medium = m; devices = set w.devices p new; air = air; deliveries = deliveries; drops = drops; sums = w.sums })
+    → IsField (record { medium = m; devices = set w.devices p new; air = air; deliveries = deliveries; drops = drops })
 still_field w m p old new air deliveries drops is medium nodes numbers at same =
     let own : new.setup.profile ≡ m.numbers = ap (λ (s : Setup). s.profile) same
     ∙ All-contains (λ (d : DeviceState). d.setup.profile ≡ w.medium.numbers) w.devices old is.numbers (contains_at w.devices p old at) ∙ sym numbers in
@@ -47,12 +46,6 @@ pub record HasStayed (v q : ℕ) (old : FieldState) (old_due : List Due) (new : 
   pub deliveries : filter (λ (d : Delivery). d.node == v) new.deliveries ≡ filter (λ (d : Delivery). d.node == v) old.deliveries
   pub station : station_of new.medium v ≡ station_of old.medium v
   pub due : slice_get new_due q ≡ slice_get old_due q
-  pub sums : slice_get new.sums q ≡ slice_get old.sums q
-
--- and with it what its windows count
-pub counted_still : (old new : List WindowSum) (q : ℕ) (s : Setup) (logs : List WindowLog) → slice_get new q ≡ slice_get old q
-    → HasCounted old q s logs → HasCounted new q s logs
-counted_still old new q s logs same is = record { sum = is.sum; there = same ∙ is.there; is = is.is; few = is.few }
 
 pub still_shown : (t q : ℕ) (old : FieldState) (old_due : List Due) (new : FieldState) (new_due : List Due) (s : Setup) (d : Device)
     → HasStayed s.id q old old_due new new_due → FieldShows s t old old_due q d → FieldShows s t new new_due q d
@@ -75,7 +68,8 @@ still_shown t q old old_due new new_due s d stays is = record {
     sending = is.known.sending;
     set = stays.due ∙ is.known.set;
   };
-  counted = counted_still old.sums new.sums q s is.made.windows stays.sums is.counted;
+  counted = is.counted;
+  few = is.few;
   ended = is.ended;
   happened = is.happened;
   taken = is.taken;
@@ -102,7 +96,8 @@ shown_as s t w due p d st at shows =
       is = subst (λ (e : DeviceState). whole e shows.made ≡ d) same shows.is;
       logged = shows.logged;
       known = subst (λ (e : DeviceState). IsKnownDevice w due p e) same shows.known;
-      counted = shows.counted;
+      counted = subst (λ (e : DeviceState). IsCounted s.profile s.sends shows.made.windows e.windows) same shows.counted;
+      few = shows.few;
       ended = shows.ended;
       happened = subst (λ (e : DeviceState). HappenedBy t e) same shows.happened;
       taken = subst (λ (e : DeviceState). e.delivery ≡ None) same shows.taken;

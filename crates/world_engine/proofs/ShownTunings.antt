@@ -12,10 +12,10 @@ use Rattle.event_calendar.specs.Orders.{Due, at, nothing_due}
 use Rattle.event_calendar.specs.declared.class.Class.TheVariants.{SendingEnd}
 use Rattle.bus_rules.specs.Cores.{Setup}
 use Rattle.air_log.specs.Devices.{Device, Listening}
-use Rattle.air_log.specs.Trails.{setup_of}
+use Rattle.scenario_text.specs.Setups.{setup_of}
 use Rattle.air_log.specs.Lawful.{tuned_by, heard_by}
 use Rattle.air_log.specs.DeviceStates.{DeviceState, one_more}
-use Rattle.world_engine.specs.Fields.{FieldState, FieldShows, ids_of, setup_of_device as setup_in, id_of, due_of_device}
+use Rattle.world_engine.specs.Fields.{FieldState, FieldShows, ids_of, setup_of_device, id_of, due_of_device}
 use Rattle.world_engine.specs.Moments.{TickMoment}
 use Rattle.world_engine.specs.Running.{HasPlaces, IsOnTrail, setup_by}
 use Rattle.air_log.specs.TunedTimes.{WasTuned}
@@ -94,13 +94,13 @@ pub record IsTunedAt (t : ℕ) (w : FieldState) (due : List Due) (p : ℕ) : Typ
 abbrev pub AreTuned : ℕ → FieldState → List Due → Type 0
 AreTuned t w due = (p : ℕ) → p < length w.devices → IsTunedAt t w due p
 
--- so on their traces
+-- so on their trails
 pub trails_tuned : (s : ScenarioParts) (clocks : ℕ → ℕ → ℕ) (t : ℕ) (m : TickMoment) (w : FieldState) (due : List Due) → HasPlaces s w due
     → ((p : ℕ) (n : NodeLine) → slice_get s.nodes p ≡ Some n → IsOnTrail s clocks t m w due p n.node) → AreTuned t w due
 trails_tuned s clocks t m w due places trails p within = by_line s.nodes refl below
   where
     below : p < length s.nodes
-    below = omega (arith, within, length-map w.devices setup_in, length-map s.nodes (setup_by s), ap length places.setups)
+    below = omega (arith, within, length-map w.devices setup_of_device, length-map s.nodes (setup_by s), ap length places.setups)
 
     at_line : (n : NodeLine) → slice_get s.nodes p ≡ Some n → IsTunedAt t w due p
     at_line n is =

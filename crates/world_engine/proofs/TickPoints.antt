@@ -13,7 +13,8 @@ use Rattle.scenario_text.specs.ScenarioParts.{ScenarioParts}
 use Rattle.scenario_text.specs.ScenarioFacts.{IsSoundScenario}
 use Rattle.bus_rules.specs.Cores.{Setup}
 use Rattle.air_log.specs.Devices.{Device, OrderedPacket}
-use Rattle.air_log.specs.Trails.{Reception, setup_of, run_end, device_after_script, device_after_receptions, device_after_end, alarm_is_due, alarmed}
+use Rattle.scenario_text.specs.Setups.{setup_of}
+use Rattle.air_log.specs.Trails.{Reception, run_end, device_after_script, device_after_receptions, device_after_end, alarm_is_due, alarmed}
 use Rattle.air_log.specs.Trails.{device_after_start, before_alarms, before_start, before_tick}
 use Rattle.air_log.specs.AlarmRuns.{IsAlarmRun}
 use Rattle.air_log.specs.QuietTicks.{ends_at, ordered_starts_at}
@@ -25,7 +26,8 @@ use Rattle.world_engine.specs.Moments.{At, IsAtMoment, after_point}
 use Rattle.world_engine.specs.Runs.{standing}
 use Rattle.air_log.proofs.OwnSendings.{none_ends, none_ends_later}
 use Rattle.air_log.proofs.QuietTicks.{no_end, no_start, no_alarm}
-use Rattle.air_log.specs.Courses.{tick_of_ordered as start_of, sending_end}
+use Rattle.air_log.specs.Courses.{sending_end}
+use Rattle.air_log.specs.DeviceStates.{tick_of_ordered as start_of}
 
 -- no order of the class is at the tick
 abbrev pub IsOver : Class → ℕ → Device → Type 0

@@ -18,7 +18,8 @@ use Rattle.bus_rules.specs.declared.delivery.DropLine.{DropLine}
 use Rattle.bus_rules.specs.Cores.{Setup}
 use Rattle.air_log.specs.Devices.{Device, seen_power}
 use Rattle.air_log.specs.ScriptedDevices.{device_after_line}
-use Rattle.air_log.specs.Trails.{setup_of, frame_start}
+use Rattle.scenario_text.specs.Setups.{setup_of}
+use Rattle.air_log.specs.Trails.{frame_start}
 use Rattle.air_log.specs.Lawful.{heard_by}
 use Rattle.air_log.specs.Drops.{device_before_line}
 use Rattle.world_engine.specs.Fields.{FieldState, FieldShows}
@@ -40,7 +41,7 @@ pub record HasPower (s : ScenarioParts) (told : List ScriptLine) (t : ℕ) (w : 
 abbrev pub HavePower : ScenarioParts → List ScriptLine → ℕ → FieldState → List Due → Type 0
 HavePower s told t w due = (p : ℕ) (n : NodeLine) → slice_get s.nodes p ≡ Some n → HasPower s told t w due p n
 
--- whatever trace a device is of
+-- whatever trail a device is of
 pub power_told : (s : ScenarioParts) (told : List ScriptLine) (t : ℕ) (w : FieldState) (due : List Due) → HasPlaces s w due → HavePower s told t w due
     → (q : Setup) (p : ℕ) (d : Device) → FieldShows q t w due p d → seen_power d.power ≡ turned q.id (false, 0) told
 power_told s told t w due places each q p d shows =
@@ -140,7 +141,7 @@ module _ (s : ScenarioParts) (clocks : ℕ → ℕ → ℕ) (told : List ScriptL
     (l : ScriptLine) (n : NodeLine) (sound : IsSoundScenario s) (here : slice_get s.nodes p ≡ Some n) (own : l.node ≡ n.node) (now : frame_start s l.frame ≡ t)
     (starting : List Sending) (lost : List DropLine) (acts : Acts t p (λ x d. device_after_line clock x t d l) starting lost old old_due new new_due)
     (trails : OnTrails s clocks t (InLines told) old old_due) (is : HasTakenLines s clocks told t old old_due) where
-  -- the node is as the line finds it by its trace
+  -- the node is as the line finds it by its trail
   found : (trails p n here).device ≡ device_before_line s clocks old.air told l
   found =
       (trails p n here).at

@@ -1,4 +1,4 @@
--- The end of a transmission leaves all devices on their traces.
+-- The end of a transmission leaves all devices on their trails.
 use Rattle.std.proofs.Common.{◌≡◌, ◌≢◌, ℕ, List, [], ◌∷◌, ◌++◌, Some, Contains, ◌⊎◌, inl, inr, sym, ◌∙◌, ap, subst}
 use Rattle.std.specs.Prelude.{slice_get}
 use Rattle.std.proofs.lemmas.Bool.{cases_eq}
@@ -10,7 +10,8 @@ use Rattle.scenario_text.specs.ScenarioParts.{ScenarioParts}
 use Rattle.scenario_text.specs.declared.lines.NodeLine.{NodeLine}
 use Rattle.air_log.specs.declared.entry.Entry.{Entry}
 use Rattle.air_log.specs.Devices.{Device}
-use Rattle.air_log.specs.Trails.{Reception, setup_of}
+use Rattle.scenario_text.specs.Setups.{setup_of}
+use Rattle.air_log.specs.Trails.{Reception}
 use Rattle.air_log.specs.Lawful.{heard_by, sent_by}
 use Rattle.lwb_base.proofs.Elements.{among_or_not}
 use Rattle.world_engine.specs.Fields.{FieldState, FieldShows}

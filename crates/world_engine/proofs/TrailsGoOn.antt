@@ -1,4 +1,4 @@
--- A step of a run leaves all devices on their traces.
+-- A step of a run leaves all devices on their trails.
 use Rattle.std.proofs.Common.{◌≡◌, ◌≢◌, ℕ, ◌<◌, List, [], ◌∷◌, ◌++◌, map, filter, ◌==◌, get_or, Some, ◌⊎◌, inl, inr, sym, ◌∙◌, ap, subst, arith}
 use Rattle.std.specs.Prelude.{slice_get}
 use Rattle.std.proofs.lemmas.Bool.{cases_eq, cases_order}
@@ -16,7 +16,8 @@ use Rattle.bus_rules.specs.declared.delivery.DropLine.{DropLine}
 use Rattle.bus_rules.specs.Cores.{Setup}
 use Rattle.air_log.specs.Devices.{Device}
 use Rattle.air_log.specs.ScriptedDevices.{device_after_line}
-use Rattle.air_log.specs.Trails.{Reception, setup_of, run_end, frame_start, alarmed, device_after_start}
+use Rattle.scenario_text.specs.Setups.{setup_of}
+use Rattle.air_log.specs.Trails.{Reception, run_end, frame_start, alarmed, device_after_start}
 use Rattle.air_log.specs.Lawful.{by_end, reception_of, heard_by}
 use Rattle.world_engine.specs.Fields.{IsField, FieldState}
 use Rattle.world_engine.specs.FieldSteps.{AreSame, Acts}
@@ -25,7 +26,7 @@ use Rattle.world_engine.specs.Running.{HasPlaces, IsOnTrail}
 use Rattle.world_engine.proofs.TickPoints.{alarmed_at, begun_at}
 use Rattle.world_engine.proofs.LinesTold.{line_told, line_of_other}
 
--- each node's device is at its place, at this moment of its trace
+-- each node's device is at its place, at this moment of its trail
 abbrev pub OnTrails : ScenarioParts → (ℕ → ℕ → ℕ) → ℕ → TickMoment → FieldState → List Due → Type 0
 OnTrails s clocks t m w due = (p : ℕ) (n : NodeLine) → slice_get s.nodes p ≡ Some n → IsOnTrail s clocks t m w due p n.node
 
@@ -64,7 +65,7 @@ module _ (s : ScenarioParts) (clocks : ℕ → ℕ → ℕ) (t p : ℕ) (change 
   pub heard_same : (v : ℕ) → heard_by new.air v ≡ heard_by old.air v
   heard_same v = ap (λ (hs : List Hearing). map reception_of (by_end (filter (λ h. h.node == v) hs))) acts.hearings
 
-  -- from one moment of a trace to another
+  -- from one moment of a trail to another
   abbrev Comes : TickMoment → TickMoment → ℕ → (Device → Device) → Type 0
   Comes m k v f = (d : Device) → IsAtMoment s (clocks v) (heard_by old.air v) v t m d → IsAtMoment s (clocks v) (heard_by old.air v) v t k (f d)
 

@@ -1,4 +1,4 @@
--- The end of a run: the log of the closed field has what the traces have.
+-- The end of a run: the log of the closed field has what the trails have.
 use Rattle.std.proofs.Common.{◌≡◌, ℕ, List, [], map, reverse, Bool, true, false, ◌==◌, if◌then◌else◌, Some, inl, inr, refl, sym, ◌∙◌, ap, subst}
 use Rattle.std.specs.Prelude.{Contains, IsPermutation, slice_get}
 use Rattle.std.specs.List.{filter}
@@ -13,11 +13,12 @@ use Rattle.event_calendar.specs.Orders.{Due}
 use Rattle.air_log.specs.declared.entry.Entry.{Entry}
 use Rattle.air_log.specs.Entries.{sending_in, tuning_in, sendings_of, tunings_of, node_of_entry}
 use Rattle.air_log.specs.Devices.{Device, silenced}
-use Rattle.air_log.specs.Trails.{Reception, setup_of, run_end, before_tick}
+use Rattle.scenario_text.specs.Setups.{setup_of}
+use Rattle.air_log.specs.Trails.{Reception, run_end, before_tick}
 use Rattle.air_log.specs.Lawful.{reception_of, by_end, heard_by, sent_by, tuned_by, trail_in, FollowsTrails}
 use Rattle.air_log.proofs.LoggedEntries.{sending_node, tuning_node}
 use Rattle.lwb_base.proofs.Elements.{filter_from}
-use Rattle.world_engine.specs.Fields.{FieldState, FieldShows, IsLogged, ids_of, setup_of_device as setup_in}
+use Rattle.world_engine.specs.Fields.{FieldState, FieldShows, IsLogged, ids_of, setup_of_device}
 use Rattle.world_engine.specs.FieldSteps.{IsClosed}
 use Rattle.world_engine.specs.Moments.{Before}
 use Rattle.world_engine.specs.Running.{IsRunning, setup_by}
@@ -40,7 +41,7 @@ module _ (s : ScenarioParts) (clocks : ℕ → ℕ → ℕ) (w : FieldState) (du
   pub same_heard : (v : ℕ) → heard_by closed.air v ≡ heard_by w.air v
   same_heard v = ap (λ (hs : List Hearing). map reception_of (by_end (filter (λ (h : Hearing). h.node == v) hs))) over.hearings
 
-  -- the device at the place of a node, whose tuning the end of its trace ends
+  -- the device at the place of a node, whose tuning the end of its trail ends
   pub record IsTrailEnd (p v : ℕ) : Type 0 where
     pub device : Device
     pub shows : FieldShows (setup_of s v) (run_end s) w due p device
@@ -61,14 +62,14 @@ module _ (s : ScenarioParts) (clocks : ℕ → ℕ → ℕ) (w : FieldState) (du
       let end = at_place p n there in
       subst (λ (d : Device). IsLogged closed n.node d.made) (sym end.is) (over.own p (setup_of s n.node) end.device end.shows)
 
-  -- what a node has made by its trace is what the lists have of it
+  -- what a node has made by its trail is what the lists have of it
   pub logged : (v : ℕ) → knows s.nodes v ≡ true → IsLogged closed v (trail_in s clocks closed.air v).made
   logged v known =
       let at = place_of_known s.nodes v known in
       subst (λ (u : ℕ). IsLogged closed u (trail_in s clocks closed.air u).made) at.3 (logged_at at.0 at.1 at.2)
 
   pub ids_are : ids_of w ≡ map node_id s.nodes
-  ids_are = sym (map-map id_in setup_in w.devices) ∙ ap (map id_in) running.places.setups ∙ map-map id_in (setup_by s) s.nodes
+  ids_are = sym (map-map id_in setup_of_device w.devices) ∙ ap (map id_in) running.places.setups ∙ map-map id_in (setup_by s) s.nodes
 
   pub of_known : (v : ℕ) → Contains (ids_of w) v → knows s.nodes v ≡ true
   of_known v there = id_known s.nodes v (subst (λ (l : List ℕ). Contains l v) ids_are there)

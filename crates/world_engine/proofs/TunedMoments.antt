@@ -4,7 +4,8 @@ use Rattle.event_calendar.specs.declared.class.Class.{Class}
 use Rattle.event_calendar.specs.declared.class.Class.TheVariants.{SendingEnd, Alarm as AlarmOf, SendingStart}
 use Rattle.scenario_text.specs.ScenarioParts.{ScenarioParts}
 use Rattle.air_log.specs.Devices.{Device}
-use Rattle.air_log.specs.Trails.{Reception, setup_of, frame_start, before_tick, before_start}
+use Rattle.scenario_text.specs.Setups.{setup_of}
+use Rattle.air_log.specs.Trails.{Reception, frame_start, before_tick, before_start}
 use Rattle.air_log.proofs.KeptByEvents.{IsKept, in_hearings, in_end, in_tick}
 use Rattle.air_log.proofs.TunedBefore.{HasTunedBy, As, kept, stays_same, lines_as, begun_stays, tick_by}
 use Rattle.world_engine.specs.Moments.{TickMoment, Before, InLines, At, device_at_point, after_point, IsAtMoment}

@@ -14,7 +14,7 @@ use Rattle.air_log.specs.DeviceStates.{core_in}
 use Rattle.air_log.specs.declared.charge.NodeCharge.{NodeCharge}
 use Rattle.air_log.specs.NodeCharges.{charges_in}
 use Rattle.world_engine.specs.Counting.{all_scans_before, AreCharges}
-use Rattle.world_engine.specs.Fields.{FieldState, FieldIsShown}
+use Rattle.world_engine.specs.Fields.{FieldState, FieldIsShown, sums_of}
 use Rattle.world_engine.specs.FieldSteps.{IsClosed}
 use Rattle.world_engine.specs.Idling.{all_idle}
 use Rattle.world_engine.specs.Moments.{Before}
@@ -50,15 +50,12 @@ module _ (s : ScenarioParts) (sound : IsSoundScenario s) (clocks : ℕ → ℕ �
         (subst (λ (ds : List Delivery). IsEngineRun s clocks closed.air ds closed.drops (core_of (map core_in closed.devices))) (sym taken) is.0, is.1)
 
     -- what was counted of its nodes
-    pub sums_left : (left : FieldState) → left ≡ record closed { deliveries = [] } → left.sums ≡ w.sums
-    sums_left left rest = ap (λ (l : FieldState). l.sums) rest ∙ over.sums
-
     pub charges_left : AreClocks clocks → (left : FieldState) → left ≡ record closed { deliveries = [] } → (scanned : List ℕ)
-        → scanned ≡ all_scans_before s clocks w.air s.frames → (charges : List NodeCharge) → AreCharges left.sums scanned charges
+        → scanned ≡ all_scans_before s clocks w.air s.frames → (charges : List NodeCharge) → AreCharges (sums_of left) scanned charges
         → charges ≡ charges_in s clocks left.air
     charges_left drifts left rest scanned counted charges are =
         charges_over s clocks w due closed sound drifts run over scanned charges counted
-        (subst (λ (l : FieldState). AreCharges l.sums scanned charges) rest are)
+        (subst (λ (l : FieldState). AreCharges (sums_of l) scanned charges) rest are)
         ∙ ap (λ (l : FieldState). charges_in s clocks l.air) (sym rest)
 
     -- where they were idle

@@ -11,7 +11,7 @@ use Rattle.air_log.specs.Lawful.{heard_by}
 use Rattle.air_log.specs.Trails.{before_tick, tune_of, tune_at}
 use Rattle.air_log.specs.WindowSums.{WindowSum}
 
--- up to tick t the nodes have the same traces over both logs
+-- up to tick t the nodes have the same trails over both logs
 abbrev pub TrailsStay : ScenarioParts → (ℕ → ℕ → ℕ) → ℕ → List Entry → List Entry → Type 0
 TrailsStay s clocks t old new = (p : ℕ) (n : NodeLine) → slice_get s.nodes p ≡ Some n → (u : ℕ) → u ≤ t
     → before_tick s n.node (clocks n.node) (heard_by new n.node) u ≡ before_tick s n.node (clocks n.node) (heard_by old n.node) u

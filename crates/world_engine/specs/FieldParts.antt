@@ -9,5 +9,4 @@ state_of w = record {
   air = w.air;
   deliveries = w.deliveries.items;
   drops = w.drops.items;
-  sums = w.sums.items;
 }

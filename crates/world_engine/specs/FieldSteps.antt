@@ -1,5 +1,5 @@
 -- What a step of a run does: at one device, on the air, and in the lists.
-use Rattle.std.specs.Prelude.{◌≡◌, ◌≢◌, ◌⊎◌, ◌↔◌, ℕ, ◌<◌, List, [], ◌++◌, map, length, replicate, slice_get, slice_set, slice_index_or, All, AllPairs, Contains}
+use Rattle.std.specs.Prelude.{◌≡◌, ◌≢◌, ◌⊎◌, ◌↔◌, ℕ, ◌<◌, List, [], ◌++◌, map, length, slice_get, slice_set, slice_index_or, All, AllPairs, Contains}
 use Rattle.std.specs.Prelude.{Some, None, option_to_list, false}
 use Rattle.std.specs.declared.option.Option.{Option}
 use Rattle.std.specs.Option.{IfSome}
@@ -20,7 +20,7 @@ use Rattle.air_log.specs.declared.entry.TunedEntry.{TunedEntry}
 use Rattle.air_log.specs.Devices.{Device, Made, PowerOff, event, silenced}
 use Rattle.air_log.specs.ScriptedDevices.{device_after_act}
 use Rattle.air_log.specs.Drops.{drop_by}
-use Rattle.air_log.specs.Trails.{setup_of}
+use Rattle.scenario_text.specs.Setups.{setup_of}
 use Rattle.scenario_text.specs.ScenarioParts.{ScenarioParts}
 use Rattle.scenario_text.specs.declared.lines.NodeLine.{NodeLine}
 use Rattle.bus_rules.specs.declared.act.Act.{Act}
@@ -29,7 +29,7 @@ use Rattle.scenario_text.specs.FloodParts.{node_id}
 use Rattle.node_core.specs.Nodes.{rebooted}
 use Rattle.air_log.specs.DeviceStates.{DeviceState, IsCoreAt, whole, with_tuned}
 use Rattle.air_log.specs.WindowSums.{WindowSum}
-use Rattle.world_engine.specs.Fields.{FieldState, FieldShows, IsLogged, entries_of, ids_of, setups_of, power_of}
+use Rattle.world_engine.specs.Fields.{FieldState, FieldShows, IsLogged, entries_of, ids_of, setups_of, sums_of, power_of}
 
 -- a scene that the medium holds after a step at t: these transmissions have begun, and nothing has changed before t
 pub record IsSceneAfter (t : ℕ) (old new : MediumState) (begun : List Sending) (a b : Scene) : Type 0 where
@@ -111,7 +111,7 @@ pub record EndsSending (lines : Lines) (clocks : ℕ → ℕ → ℕ) (t p : ℕ
   pub air : MediumGoesOn t old.medium new.medium []
   pub same : AreSame old old_due new new_due
 
--- whatever trace a device is of, if it sends x
+-- whatever trail a device is of, if it sends x
 abbrev pub DeviceSends : ℕ → FieldState → List Due → ℕ → Sending → Type 0
 DeviceSends t w due p x = (s : Setup) (d : Device) → FieldShows s t w due p d → d.sending ≡ Some x
 
@@ -128,6 +128,7 @@ pub record GoesSilent (t p : ℕ) (old new : FieldState) : Type 0 where
   pub own_last : IfSome last (λ e. e.node ≡ state.setup.id)
   pub none : silent.closed ≡ None
   pub setup : silent.setup ≡ state.setup
+  pub windows : silent.windows ≡ state.windows
   pub core : IsCoreAt silent.core silent.power
 
 -- at tick t all tunings end, and nothing else happens
@@ -137,11 +138,15 @@ pub record IsClosed (t : ℕ) (old : FieldState) (old_due : List Due) (new : Fie
   pub sendings : sendings_of new.air ≡ sendings_of old.air
   pub deliveries : new.deliveries ≡ old.deliveries
   pub drops : new.drops ≡ old.drops
-  pub sums : new.sums ≡ old.sums
+  pub sums : sums_of new ≡ sums_of old
   pub powers : map power_of new.devices ≡ map power_of old.devices
   pub cores : All (λ d. IsCoreAt d.core d.power) new.devices
   pub setups : setups_of new ≡ setups_of old
   pub entries : (e : Entry) → Contains new.air e → Contains old.air e ⊎ Contains (ids_of old) (node_of_entry e)
+
+-- of no windows
+abbrev pub nothing_counted : ScenarioParts → WindowSum
+nothing_counted s = record { profile = s.profile; sends = s.sends; earlier = 0; last = 0; by_alarm = false; sent = 0 }
 
 -- nothing has happened yet to the nodes of the scenario
 abbrev pub first_device : ScenarioParts → NodeLine → DeviceState
@@ -155,11 +160,8 @@ first_device s n = record {
   ordered = None;
   sending = None;
   delivery = None;
+  windows = nothing_counted s;
 }
-
--- of no windows
-abbrev pub nothing_counted : ScenarioParts → WindowSum
-nothing_counted s = record { profile = s.profile; sends = s.sends; earlier = 0; last = 0; by_alarm = false; sent = 0 }
 
 pub record IsFirstField (s : ScenarioParts) (w : FieldState) : Type 0 where
   pub medium : w.medium ≡ first_state s.profile (map node_id s.nodes)
@@ -168,4 +170,3 @@ pub record IsFirstField (s : ScenarioParts) (w : FieldState) : Type 0 where
   pub air : w.air ≡ []
   pub deliveries : w.deliveries ≡ []
   pub drops : w.drops ≡ []
-  pub sums : w.sums ≡ replicate (length s.nodes) (nothing_counted s)

@@ -12,21 +12,19 @@ use Rattle.bus_rules.specs.Cores.{Setup}
 use Rattle.air_log.specs.declared.entry.Entry.{Entry}
 use Rattle.air_log.specs.declared.entry.Entry.TheVariants.{Tuned}
 use Rattle.air_log.specs.declared.entry.TunedEntry.{TunedEntry}
-use Rattle.air_log.specs.Devices.{Device, Power, Made, Listening}
+use Rattle.air_log.specs.Devices.{Device, Power, Made}
 use Rattle.air_log.specs.Lawful.{sent_by, tuned_by}
-use Rattle.air_log.specs.DeviceStates.{DeviceState, whole, EndedBefore, HappenedBy}
-use Rattle.air_log.specs.WindowLogs.{WindowLog}
+use Rattle.air_log.specs.DeviceStates.{DeviceState, whole, EndedBefore, HappenedBy, channel_of, tick_of_ordered}
 use Rattle.air_log.specs.WindowSums.{WindowSum, IsCounted}
-use Rattle.air_log.specs.Courses.{tick_of_ordered, sending_end}
+use Rattle.air_log.specs.Courses.{sending_end}
 
--- deliveries and drops are in the order in which they were made; sums: what the windows of each device count so far
+-- deliveries and drops are in the order in which they were made
 pub record FieldState : Type 0 where
   pub medium : MediumState
   pub devices : List DeviceState
   pub air : List Entry
   pub deliveries : List Delivery
   pub drops : List DropLine
-  pub sums : List WindowSum
 
 abbrev pub setup_of_device : DeviceState → Setup
 setup_of_device d = d.setup
@@ -36,6 +34,13 @@ id_of d = d.setup.id
 
 abbrev pub power_of : DeviceState → Power
 power_of d = d.power
+
+abbrev pub windows_of : DeviceState → WindowSum
+windows_of d = d.windows
+
+-- what the windows of each device count so far
+abbrev pub sums_of : FieldState → List WindowSum
+sums_of w = map windows_of w.devices
 
 abbrev pub setups_of : FieldState → List Setup
 setups_of w = map setup_of_device w.devices
@@ -67,9 +72,6 @@ pub record IsLogged (w : FieldState) (v : ℕ) (made : Made) : Type 0 where
 abbrev pub rank_of_tuned : TunedTo → ℕ
 rank_of_tuned o = o.rank
 
-abbrev pub channel_of : Listening → ℕ
-channel_of l = l.rank
-
 -- the medium and the queue know of the device at the place what they have to
 pub record IsKnownDevice (w : FieldState) (due : List Due) (p : ℕ) (d : DeviceState) : Type 0 where
   pub station : Station
@@ -78,14 +80,7 @@ pub record IsKnownDevice (w : FieldState) (due : List Due) (p : ℕ) (d : Device
   pub sending : station.sending ≡ d.sending
   pub set : slice_get due p ≡ Some (due_of_device d)
 
--- at the place it is known what these windows of a device count
-pub record HasCounted (sums : List WindowSum) (p : ℕ) (s : Setup) (windows : List WindowLog) : Type 0 where
-  pub sum : WindowSum
-  pub there : slice_get sums p ≡ Some sum
-  pub is : IsCounted s.profile s.sends windows sum
-  pub few : s.sends ≤ 4
-
--- at tick t the device at the place, with all that it has made, is this one of a trace
+-- at tick t the device at the place, with all that it has made, is this one of a trail
 pub record FieldShows (s : Setup) (t : ℕ) (w : FieldState) (due : List Due) (p : ℕ) (d : Device) : Type 0 where
   pub state : DeviceState
   pub there : slice_get w.devices p ≡ Some state
@@ -94,12 +89,13 @@ pub record FieldShows (s : Setup) (t : ℕ) (w : FieldState) (due : List Due) (p
   pub is : whole state made ≡ d
   pub logged : IsLogged w s.id made
   pub known : IsKnownDevice w due p state
-  pub counted : HasCounted w.sums p s made.windows
+  pub counted : IsCounted s.profile s.sends made.windows state.windows
+  pub few : s.sends ≤ 4
   pub ended : EndedBefore t made.tuned
   pub happened : HappenedBy t state
   pub taken : state.delivery ≡ None
 
--- the device at the place is that of some trace
+-- the device at the place is that of some trail
 pub record FieldIsShown (t : ℕ) (w : FieldState) (due : List Due) (p : ℕ) : Type 0 where
   pub setup : Setup
   pub device : Device

@@ -10,6 +10,5 @@ pub mod Idling
 pub mod Worlds
 pub mod WorldShapes
 pub mod Frames
-pub mod EventOrders
-pub mod Notices
+pub mod Following
 pub mod SortedRuns

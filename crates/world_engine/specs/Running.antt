@@ -17,7 +17,8 @@ use Rattle.air_log.specs.declared.entry.Entry.{Entry}
 use Rattle.air_log.specs.Entries.{sendings_of, hearings_of, node_of_entry, HasHeardEntry}
 use Rattle.air_log.specs.Devices.{Device, seen_power}
 use Rattle.air_log.specs.TunedTimes.{WasTuned}
-use Rattle.air_log.specs.Trails.{setup_of, frame_start}
+use Rattle.scenario_text.specs.Setups.{setup_of}
+use Rattle.air_log.specs.Trails.{frame_start}
 use Rattle.air_log.specs.Lawful.{reception_comes_before, AreInTurn, heard_by}
 use Rattle.air_log.specs.Drops.{device_before_line, drop_of_line}
 use Rattle.world_engine.specs.Fields.{FieldState, IsField, FieldShows, setups_of, ids_of}
@@ -32,7 +33,7 @@ pub record HasPlaces (s : ScenarioParts) (w : FieldState) (due : List Due) : Typ
   pub field : IsField w
   pub places : length due ≡ length s.nodes
 
--- the device at the place of v has come to this moment of its trace over what is in the log
+-- the device at the place of v has come to this moment of its trail over what is in the log
 pub record IsOnTrail (s : ScenarioParts) (clocks : ℕ → ℕ → ℕ) (t : ℕ) (m : TickMoment) (w : FieldState) (due : List Due) (p v : ℕ) : Type 0 where
   pub device : Device
   pub shows : FieldShows (setup_of s v) t w due p device

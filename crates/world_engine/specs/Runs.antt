@@ -16,9 +16,10 @@ use Rattle.air_log.specs.Devices.{Device, Power, PowerOff, PowerOn}
 use Rattle.air_log.specs.Lawful.{Lawful, trail_in}
 use Rattle.air_log.specs.Deliveries.{deliveries_of}
 use Rattle.air_log.specs.Drops.{drops_of}
-use Rattle.air_log.specs.Courses.{tick_of_ordered, sending_end}
+use Rattle.air_log.specs.Courses.{sending_end}
+use Rattle.air_log.specs.DeviceStates.{tick_of_ordered}
 
--- the core of each node of the scenario that is on at the end is in the state in which its trace leaves it
+-- the core of each node of the scenario that is on at the end is in the state in which its trail leaves it
 abbrev pub IsCoreOf : Option NodeState → Power → Type 0
 IsCoreOf core (PowerOff boots) = Unit {0}
 IsCoreOf None (PowerOn n) = ⊥
@@ -35,8 +36,8 @@ standing_at s clocks air n = standing (trail_in s clocks air n.node)
 abbrev pub orders_left : ScenarioParts → (ℕ → ℕ → ℕ) → List Entry → List Due
 orders_left s clocks air = map (standing_at s clocks air) s.nodes
 
--- a sound scenario over clocks of the drift law, a valid log, the deliveries and drops of its traces, and the cores where the
--- traces leave them
+-- a sound scenario over clocks of the drift law, a valid log, the deliveries and drops of its trails, and the cores where the
+-- trails leave them
 pub record IsEngineRun (s : ScenarioParts) (clocks : ℕ → ℕ → ℕ) (air : List Entry) (made : List Delivery) (lost : List DropLine)
     (core : ℕ → Option NodeState) : Type 0 where
   pub sound : IsSoundScenario s

@@ -10,7 +10,7 @@ use Rattle.node_core.specs.Nodes.{NodeState, rebooted}
 use Rattle.air_log.specs.declared.entry.Entry.{Entry}
 use Rattle.air_log.specs.declared.charge.NodeCharge.{NodeCharge}
 use Rattle.air_log.specs.NodeCharges.{charges_in}
-use Rattle.air_log.specs.Trails.{setup_of}
+use Rattle.scenario_text.specs.Setups.{setup_of}
 use Rattle.world_engine.specs.Idling.{all_idle}
 use Rattle.world_engine.specs.Running.{setup_by}
 use Rattle.world_engine.specs.Runs.{IsEngineRun}

@@ -1,6 +1,7 @@
 //! The engine: the nodes of a scenario in true time.
 
 ghost use Rattle.std.specs.Prelude.{◌≡◌, ◌≤◌, false, IfOk, OnOk, length, replicate, option_copied};
+ghost use Rattle.lwb_base.specs.declared.limits.TheConstants.{MOST_NODES};
 ghost use Rattle.event_calendar.specs.Orders.{nothing_due};
 ghost use Rattle.air_log.specs.ClockLists.{clocks_by};
 ghost use Rattle.world_engine.specs.Runs.{orders_left};
@@ -105,7 +106,7 @@ impl<'a, C: DriftClock> Engine<'a, C> {
     pub fn places(&self) -> u8
         requires { self.now.0.ran ≡ false }
         ensures value { result ≡ length self.now.0.scenario.nodes }
-        ensures range { (1 ≤ result) × (result ≤ 64) }
+        ensures range { (1 ≤ result) × (result ≤ MOST_NODES) }
     {
         self.field.places()
     }

@@ -1,16 +1,17 @@
 //! A field at the beginning and at the end of a run.
 
-ghost use Rattle.std.specs.Prelude.{◌≡◌, ◌≤◌, ◌<◌, ◌^◌, ℕ, List, [], OnOk, IfOk, length, map, replicate, slice_get, Some, Contains};
+ghost use Rattle.std.specs.Prelude.{◌≡◌, ◌≤◌, ◌<◌, ◌^◌, ℕ, List, [], OnOk, IfOk, length, map, slice_get, Some, Contains};
+ghost use Rattle.lwb_base.specs.declared.limits.TheConstants.{MOST_NODES};
 ghost use Rattle.scenario_text.specs.FloodParts.{node_id};
 ghost use Rattle.world_engine.specs.Fields.{FieldIsShown, ids_of};
-ghost use Rattle.world_engine.specs.FieldSteps.{IsFirstField, IsClosed, GoesSilent, first_device, nothing_counted};
+ghost use Rattle.world_engine.specs.FieldSteps.{IsFirstField, IsClosed, GoesSilent, first_device};
 ghost use Rattle.event_calendar.specs.Orders.{Due as DueOf};
 ghost use Rattle.lwb_base.specs.Sorting.{in_order};
 ghost use Rattle.air_log.specs.Deliveries.{delivery_comes_before};
 
 use crate::deliveries::sort_deliveries;
 use crate::field::Field;
-use air_log::{Air, Device, WindowSum};
+use air_log::{Air, Device};
 use bus_rules::{Delivery, DropLine};
 use lwb_base::{Memory, NodeId};
 use radio_model::Medium;
@@ -32,7 +33,6 @@ impl Field {
             air: Air::new(alloc),
             deliveries: Vec::new(alloc),
             drops: Vec::new(alloc),
-            sums: sums(alloc, s)?,
         })
     }
 
@@ -53,9 +53,8 @@ impl Field {
         ensures { OnOk result (GoesSilent t place self.old self.new) }
     {
         let device = &mut self.devices[place];
-        let before = device.silence(t);
-        let last = device.hand_out();
-        self.log_tuning(before)?;
+        let (first, last) = device.close(t);
+        self.log_tuning(first)?;
         self.log_tuning(last)
     }
 
@@ -87,7 +86,7 @@ impl Field {
     // How many places there are.
     pub(crate) fn places(&self) -> u8
         ensures value { result ≡ length self.now.devices }
-        ensures range { (1 ≤ result) × (result ≤ 64) }
+        ensures range { (1 ≤ result) × (result ≤ MOST_NODES) }
     {
         self.devices.as_slice().len() as u8
     }
@@ -131,15 +130,4 @@ fn devices(alloc: Global, s: &Scenario) -> Result<Vec<Device>, Memory>
         devices.push(device)?;
     }
     Ok(devices)
-}
-
-fn sums(alloc: Global, s: &Scenario) -> Result<Vec<WindowSum>, Memory>
-    ensures { IfOk result (λ v. v.items ≡ replicate (length s.now.nodes) (nothing_counted s.now)) }
-{
-    let profile = s.profile();
-    let mut sums = Vec::new(alloc);
-    for _ in 0..s.nodes().len() {
-        sums.push(WindowSum::new(&profile, s.sends()))?;
-    }
-    Ok(sums)
 }

@@ -2,6 +2,7 @@
 
 ghost use Rattle.std.specs.Prelude.{◌≡◌, ◌≤◌, ◌<◌, ◌^◌, IfOk, All, length, replicate};
 ghost use Rattle.world_engine.specs.Counting.{AreCountedOn, AreCharges};
+ghost use Rattle.world_engine.specs.Fields.{sums_of};
 
 use crate::field::Field;
 use air_log::NodeCharge;
@@ -22,13 +23,13 @@ impl Field {
 
     // What the listening of each device came to, which was counted in this many frames.
     pub(crate) fn charges(&self, alloc: Global, scanned: &[u32]) -> Result<Vec<NodeCharge>, Memory>
-        requires { length scanned.now ≤ length self.now.sums }
-        ensures { IfOk result (λ v. AreCharges self.now.sums scanned.now v.items) }
+        requires { length scanned.now ≤ length self.now.devices }
+        ensures { IfOk result (λ v. AreCharges (sums_of self.now) scanned.now v.items) }
     {
         let mut charges = Vec::new(alloc);
         for place in 0..scanned.len() {
             let charge = NodeCharge {
-                windows: self.sums[place].total(),
+                windows: self.devices[place].windows(),
                 scanned: scanned[place],
             };
             charges.push(charge)?;

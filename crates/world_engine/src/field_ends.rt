@@ -12,10 +12,8 @@ ghost use Rattle.world_engine.specs.Fields.{FieldShows, FieldIsShown, ids_of};
 ghost use Rattle.world_engine.specs.FieldHearings.{StandAtPlaces, AllHear};
 ghost use Rattle.world_engine.specs.FieldSteps.{EndsSending, DeviceSends, readings_at};
 
-use crate::event_radio::EventRadio;
 use crate::field::Field;
-use crate::notice::Notice;
-use air_log::{Entry, HeardEntry};
+use air_log::{Entry, EventRadio, HeardEntry, Notice};
 use event_calendar::{Class, Orders};
 use link_trace::Links;
 use lwb_base::{Event, Memory, NodeId};

@@ -13,10 +13,10 @@ ghost use Rattle.world_engine.specs.Moments.{Before, InLines, At};
 ghost use Rattle.world_engine.specs.Running.{IsRunning};
 ghost use Rattle.world_engine.specs.Frames.{told_before, CountsScriptLinesBefore, IsNextLine, AllComeLater};
 
-use crate::event_radio::EventRadio;
 use crate::field::Field;
 use crate::field_counts::none_scanned;
 use crate::idle::Idle;
+use air_log::EventRadio;
 use event_calendar::{Class, Orders};
 use lwb_base::Memory;
 use scenario_text::{Scenario, ScriptLine};

@@ -4,15 +4,14 @@
 
 mod deliveries;
 mod engine;
-mod event_radio;
 mod field;
 mod field_bounds;
 mod field_counts;
 mod field_ends;
+mod field_follow;
 mod field_script;
 mod frames;
 mod idle;
-mod notice;
 mod run_parts;
 
 pub use engine::Engine;

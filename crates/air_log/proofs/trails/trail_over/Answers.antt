@@ -5,7 +5,8 @@ use Rattle.bus_rules.specs.Cores.{Setup}
 use Rattle.bus_rules.specs.declared.tune.Tune.{Tune}
 use Rattle.air_log.specs.declared.entry.HeardEntry.{HeardEntry}
 use Rattle.air_log.specs.Lawful.{by_end, reception_of}
-use Rattle.air_log.specs.Trails.{setup_of, frame_start, at_frame, before_tick}
+use Rattle.scenario_text.specs.Setups.{setup_of}
+use Rattle.air_log.specs.Trails.{frame_start, at_frame, before_tick}
 use Rattle.air_log.specs.Courses.{CourseShows, IsSortedByKey, IsSplitByKey, end_of_reception, reception_in, hearing_of}
 use Rattle.air_log.proofs.FramesOfCourses.{tick_of}
 use Rattle.air_log.proofs.TrailsOfCourses.{IsAtFrame, begins, after_lines_shows, tunes_more, scanned_more, tune_in, told_is}

@@ -21,7 +21,8 @@ returns-clause-text c =
     let ratios = c.args.ratios.now.lines in
     let found = c.deref.ensures.value ∙ found_lines s ratios c.args.seed c.new-links.result c.trace.result.now c.frames.result c.in_ok-losses.losses.items
     c.new-links.ensures c.trace.ensures.value c.frames.ensures.value c.in_ok-losses.ensures in
-    answered (λ (t : String Global). SaysWithLosses s c.deref.result.now (string_bytes t)) (λ (t : String Global). IsDrawnText s ratios c.args.seed (string_bytes t))
+    answered (λ (t : String Global). SaysWithLosses s c.deref.result.now (string_bytes t))
+    (λ (t : String Global). IsDrawnText s ratios c.args.seed (string_bytes t))
     (text_fault s c.deref.result.now)
     (λ t is fits. is_drawn_text s ratios c.args.seed c.frames.ensures.said (string_bytes t)
     (subst (λ (ls : List LoseLine). SaysWithLosses s ls (string_bytes t)) found is) (ap (text_fault s) (sym found) ∙ fits))

@@ -1,8 +1,8 @@
 use Rattle.std.proofs.Common.{◌≡◌, ◌++◌, ◌∷◌, [], ◌∙◌, ap, rules, arith, length}
 use Rattle.scenario_text.proofs.SoundScenarios.{sound}
-use Rattle.air_log.specs.Trails.{setup_of}
+use Rattle.scenario_text.specs.Setups.{setup_of}
 use Rattle.lwb_base.proofs.Elements.{map_pushed}
-use Rattle.world_engine.specs.FieldSteps.{first_device}
+use Rattle.world_engine.specs.FieldSteps.{first_device, nothing_counted}
 use Rattle.world_engine.proofs.FirstField.{new_device}
 use Rattle.world_engine.proofs.field_bounds.devices.Goals as goal
 
@@ -24,9 +24,10 @@ loop-line-preserved c =
     let profile = c.profile-profile.ensures.value in
     let hosts = c.hosts.ensures.value in
     let sends = c.sends.ensures in
+    let windows : d.windows ≡ nothing_counted c.args.s.now = c.in_ok-device.ensures.windows ∙ search rules in
     let setup : d.setup ≡ setup_of c.args.s.now n.node = c.in_ok-device.ensures.setup ∙ search rules in
     pushed
     ∙ map_pushed
     (first_device c.args.s.now) c.nodes-line-items.result.now c.loop-line.line-index n c.loop-line.devices.items d c.loop-line-test.true
     c.line-item.is c.loop-line.invariant
-    (new_device c.args.s.now n d setup c.in_ok-device.ensures.rest c.in_ok-device.ensures.delivery c.in_ok-device.ensures.core)
+    (new_device c.args.s.now n d setup c.in_ok-device.ensures.rest c.in_ok-device.ensures.delivery c.in_ok-device.ensures.core windows)

@@ -1,21 +1,14 @@
-use Rattle.std.proofs.Common.{map, reverse, sym}
+use Rattle.std.proofs.Common.{sym}
 use Rattle.std.proofs.lemmas.Result.{on_ok_weaker}
 use Rattle.air_log.specs.Trails.{device_after_start}
-use Rattle.air_log.specs.DeviceStates.{tuning_of}
-use Rattle.air_log.specs.Courses.{CourseState}
+use Rattle.air_log.specs.CourseParts.{course_of}
 use Rattle.air_log.proofs.ShownCourses.{goes_seen}
 use Rattle.air_log.proofs.CourseSteps.{begin_goes}
 use Rattle.air_log.proofs.course.Course.begin.Goals as goal
 
 pub returns : goal.returns
 returns c =
-    let old : CourseState = record {
-      device = c.self.inside.device;
-      sent = c.self.inside.sent.items;
-      tuned = reverse (map tuning_of c.self.inside.tuned.items);
-      deliveries = c.self.inside.deliveries.items;
-      windows = c.self.inside.windows;
-    } in
+    let old = course_of c.self.inside in
     let x = c.begin-sending in
     on_ok_weaker c.log_sending.result (λ logged.
     goes_seen c.args.t (λ q d. device_after_start q c.args.t d) old c.args.self.now _ c.log_sending.new.self c.self.view_is (sym logged)

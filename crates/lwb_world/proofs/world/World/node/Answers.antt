@@ -1,6 +1,6 @@
 use Rattle.std.proofs.Common.{◌≡◌, Option, IfSome, subst, sym, ap, ◌∙◌, List}
 use Rattle.std.specs.Prelude.{option_copied}
-use Rattle.air_log.specs.Trails.{setup_of}
+use Rattle.scenario_text.specs.Setups.{setup_of}
 use Rattle.node_core.specs.Nodes.{NodeState}
 use Rattle.world_engine.specs.Worlds.{WorldState, core_of}
 use Rattle.lwb_world.proofs.CoresOfNodes.{has_setup}

@@ -1,18 +1,18 @@
-use Rattle.std.proofs.Common.{◌≡◌, ◌*◌, false, length, replicate, List, sym, ap, subst, ◌∙◌, refl, rules, arith}
+use Rattle.std.proofs.Common.{◌≡◌, ◌*◌, false, length, map, replicate, List, sym, ap, subst, ◌∙◌, refl, rules, arith}
 use Rattle.std.proofs.lemmas.List.{length-map}
 use Rattle.scenario_text.proofs.SoundScenarios.{sound}
 use Rattle.event_calendar.specs.Orders.{nothing_due}
 use Rattle.air_log.specs.Trails.{run_end}
 use Rattle.air_log.specs.ClockLists.{clocks_by}
+use Rattle.air_log.specs.DeviceStates.{core_in}
 use Rattle.world_engine.specs.Counting.{scans_before, all_scans_before}
 use Rattle.world_engine.specs.Idling.{all_idle}
 use Rattle.world_engine.specs.Moments.{Before}
-use Rattle.world_engine.specs.Running.{IsRunning}
-use Rattle.world_engine.specs.Worlds.{WorldState}
-use Rattle.world_engine.proofs.ChargesOver.{sums_at_nodes}
+use Rattle.world_engine.specs.Running.{IsRunning, setup_by}
+use Rattle.world_engine.specs.Worlds.{WorldState, core_setup}
 use Rattle.world_engine.proofs.ClocksAtPlaces.{all_drift}
 use Rattle.world_engine.proofs.RunsBegin.{run_begins}
-use Rattle.world_engine.proofs.WorldRuns.{run_left, sums_left, charges_left, idle_left, cores_left, has_run, has_left}
+use Rattle.world_engine.proofs.WorldRuns.{run_left, charges_left, idle_left, cores_left, has_run, has_left}
 use Rattle.world_engine.proofs.engine.Engine.run_with.Goals as goal
 
 pub frames-requires-clause-sound : goal.frames-requires-clause-sound
@@ -87,11 +87,20 @@ charges-requires g c =
     subst (λ (l : List g.row.C.Denot). IsRunning s (clocks_by g.C.DriftClock.readings s.nodes l) s.script
     (run_end s) Before w due) c.as_slice-clocks.ensures.value c.in_ok-counts.ensures.running in
     let end : c.from.result * c.frame.result ≡ run_end s = search rules in
-    let sums = sums_left s (sound s c.profile-profile.ensures.said) (clocks_by g.C.DriftClock.readings s.nodes cs) w due run
+    let setups = cores_left s (sound s c.profile-profile.ensures.said) (clocks_by g.C.DriftClock.readings s.nodes cs) w due run
     (c.from.result * c.frame.result) end c.close.new.self c.in_ok-close.ensures
     c.take_deliveries.new.self c.take_deliveries.ensures.rest in
-    let enough = sums_at_nodes s (clocks_by g.C.DriftClock.readings s.nodes cs) w due run (sound s c.profile-profile.ensures.said) in
+    let places = c.take_deliveries.new.self.devices in
     let many = ap length c.as_slice.ensures.value in
     let long = ap length c.in_ok-counts.ensures.scanned in
     let as_nodes = length-map s.nodes (scans_before s (clocks_by g.C.DriftClock.readings s.nodes c.as_slice-clocks.result.now) w.air s.frames) in
-    omega (arith, enough, many, long, as_nodes, ap length sums)
+    omega (
+      arith,
+      many,
+      long,
+      as_nodes,
+      ap length setups,
+      length-map (map core_in places) core_setup,
+      length-map places core_in,
+      length-map s.nodes (setup_by s),
+    )

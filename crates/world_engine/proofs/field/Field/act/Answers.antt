@@ -1,47 +1,110 @@
-use Rattle.std.proofs.Common.{◌≡◌, [], Some, refl, sym, ◌∙◌, ap, subst}
-use Rattle.std.proofs.lemmas.Option.{slice_get_within, same_Some}
+use Rattle.std.proofs.Common.{◌++◌, option_to_list, sym, subst, ap}
 use Rattle.std.proofs.lemmas.Result.{on_ok_weaker}
 use Rattle.bus_rules.specs.States.{IsAct}
-use Rattle.bus_rules.specs.declared.act.Act.TheVariants.{On, Off}
-use Rattle.bus_rules.specs.declared.act.Switch.{Switch}
-use Rattle.bus_rules.proofs.Switches.{switches_on, switches_off}
 use Rattle.bus_rules.specs.Cores.{Setup}
-use Rattle.air_log.specs.DeviceStates.{DeviceState}
-use Rattle.world_engine.proofs.ToldInCode.{as_told}
+use Rattle.air_log.specs.Devices.{Device}
+use Rattle.air_log.specs.DeviceStates.{CanBoot}
+use Rattle.world_engine.specs.Fields.{FieldState, FieldShows, FieldIsShown}
+use Rattle.world_engine.specs.FieldParts.{state_of}
+use Rattle.world_engine.specs.FieldSteps.{TakesLine}
+use Rattle.world_engine.proofs.FollowedDevices.{after_there, mid_within, line_followed}
+use Rattle.world_engine.proofs.StepsInCode.{field_as_was, in_queue, state_shown, state_shows}
 use Rattle.world_engine.proofs.field.Field.act.Goals as goal
 
-pub switch_on-requires-clause-boots : goal.switch_on-requires-clause-boots
-switch_on-requires-clause-boots g c =
-    let act : c.args.line.now.act ≡ On =
-    switches_on c.args.line.now.act (sym c.switch.ensures ∙ c.in-Some-On.is ∙ ap (λ (w : Switch). Some w) c.in-Some-On.field-0-is) in
-    λ s d shows. c.requires.boots s d shows act
+pub act-requires-clause-shown : goal.act-requires-clause-shown
+act-requires-clause-shown g c =
+    let t = c.args.t in
+    let p = c.args.place in
+    let orders = g.Q.Orders.map c.args.orders.now in
+    let old = state_of c.self.inside in
+    let shown : FieldIsShown t old orders p = subst (λ (w : FieldState). FieldIsShown t w orders p) (sym c.self.view_is) c.requires.shown in
+    state_shown t p old orders shown c.from.result c.from.ensures c.index_mut-device.result.now c.index_mut-device.ensures.value
 
-pub tell_stream-requires-clause-within : goal.tell_stream-requires-clause-within
-tell_stream-requires-clause-within g c = slice_get_within c.args.self.now.devices c.args.place c.requires.shown.shows.state c.requires.shown.shows.there
-
-pub tell_stream-requires-clause-range : goal.tell_stream-requires-clause-range
-tell_stream-requires-clause-range g c = λ d there.
+pub act-requires-clause-range : goal.act-requires-clause-range
+act-requires-clause-range g c =
+    let t = c.args.t in
+    let p = c.args.place in
+    let orders = g.Q.Orders.map c.args.orders.now in
+    let old = state_of c.self.inside in
+    let shown : FieldIsShown t old orders p = subst (λ (w : FieldState). FieldIsShown t w orders p) (sym c.self.view_is) c.requires.shown in
     let first = c.requires.shown in
-    let same : first.setup ≡ d.setup = sym first.shows.setup ∙ ap (λ (x : DeviceState). x.setup) (same_Some _ _ (sym first.shows.there ∙ there)) in
-    subst (λ (s : Setup). IsAct s.profile c.args.line.now.act) same (c.requires.range first.setup first.device first.shows)
+    let sh = state_shows t p old orders shown c.from.result c.from.ensures c.index_mut-device.result.now c.index_mut-device.ensures.value
+    shown.setup shown.device shown.shows in
+    subst (λ (s : Setup). IsAct s.profile c.args.line.now.act) (sym sh.setup)
+    (c.requires.range shown.setup shown.device (subst (λ (w : FieldState). FieldShows shown.setup t w orders p shown.device) c.self.view_is shown.shows))
 
-pub returns-in-Some-On : goal.returns-in-Some-On
-returns-in-Some-On g c =
-    let act : c.args.line.now.act ≡ On =
-    switches_on c.args.line.now.act (sym c.switch.ensures ∙ c.in-Some-On.is ∙ ap (λ (w : Switch). Some w) c.in-Some-On.field-0-is) in
-    on_ok_weaker c.switch_on.result
-    (λ acts. as_told (g.C.DriftClock.readings c.args.clock.now) c.args.line.now refl (sym act) ([], acts, λ s d shows. refl))
-    c.switch_on.ensures
+pub act-requires-clause-boots : goal.act-requires-clause-boots
+act-requires-clause-boots g c = λ on.
+    let t = c.args.t in
+    let p = c.args.place in
+    let orders = g.Q.Orders.map c.args.orders.now in
+    let old = state_of c.self.inside in
+    let shown : FieldIsShown t old orders p = subst (λ (w : FieldState). FieldIsShown t w orders p) (sym c.self.view_is) c.requires.shown in
+    let sh = state_shows t p old orders shown c.from.result c.from.ensures c.index_mut-device.result.now c.index_mut-device.ensures.value
+    shown.setup shown.device shown.shows in
+    subst CanBoot (ap (λ (d : Device). d.power) (sym sh.is))
+    (c.requires.boots shown.setup shown.device (subst (λ (w : FieldState). FieldShows shown.setup t w orders p shown.device) c.self.view_is shown.shows) on)
 
-pub returns-in-Some-Off : goal.returns-in-Some-Off
-returns-in-Some-Off g c =
-    let act : c.args.line.now.act ≡ Off =
-    switches_off c.args.line.now.act (sym c.switch.ensures ∙ c.in-Some-Off.is ∙ ap (λ (w : Switch). Some w) c.in-Some-Off.field-0-is) in
-    on_ok_weaker c.switch_off.result
-    (λ acts. as_told (g.C.DriftClock.readings c.args.clock.now) c.args.line.now refl (sym act) ([], acts, λ s d shows. refl))
-    (c.switch_off.ensures (g.C.DriftClock.readings c.args.clock.now))
+pub invariant_of-self : goal.invariant_of-self
+invariant_of-self g c =
+    let t = c.args.t in
+    let p = c.args.place in
+    let orders = g.Q.Orders.map c.args.orders.now in
+    let old = state_of c.self.inside in
+    let shown : FieldIsShown t old orders p = subst (λ (w : FieldState). FieldIsShown t w orders p) (sym c.self.view_is) c.requires.shown in
+    field_as_was t p old orders shown c.from.result c.from.ensures c.index_mut-device.result.now c.index_mut-device.ensures.value c.self.invariant
+    c.act.new.self c.act.ensures.setup c.act.new.deliveries.items
 
-pub returns-in-None : goal.returns-in-None
-returns-in-None g c =
-    c.tell_stream.ensures (g.C.DriftClock.readings c.args.clock.now) c.args.t (g.Q.Orders.map c.args.orders.now) c.requires.time c.requires.shown
-    c.requires.node
+pub invariant_of-self-2 : goal.invariant_of-self-2
+invariant_of-self-2 g c =
+    let t = c.args.t in
+    let p = c.args.place in
+    let orders = g.Q.Orders.map c.args.orders.now in
+    let old = state_of c.self.inside in
+    let shown : FieldIsShown t old orders p = subst (λ (w : FieldState). FieldIsShown t w orders p) (sym c.self.view_is) c.requires.shown in
+    field_as_was t p old orders shown c.from.result c.from.ensures c.index_mut-device.result.now c.index_mut-device.ensures.value c.self.invariant
+    c.act.new.self c.act.ensures.setup c.act.new.deliveries.items
+
+pub follow-requires-clause-within : goal.follow-requires-clause-within
+follow-requires-clause-within g c =
+    let t = c.args.t in
+    let p = c.args.place in
+    let orders = g.Q.Orders.map c.args.orders.now in
+    let old = state_of c.self.inside in
+    let shown : FieldIsShown t old orders p = subst (λ (w : FieldState). FieldIsShown t w orders p) (sym c.self.view_is) c.requires.shown in
+    mid_within t p old orders shown c.from.result c.from.ensures c.index_mut-device.result.now c.index_mut-device.ensures.value c.self.invariant
+    c.act.new.self c.in_ok-closed.closed c.act.new.deliveries.items c.settings-before.result c.settings-before.ensures
+
+pub follow-requires-clause-queue : goal.follow-requires-clause-queue
+follow-requires-clause-queue g c =
+    let t = c.args.t in
+    let p = c.args.place in
+    let orders = g.Q.Orders.map c.args.orders.now in
+    let old = state_of c.self.inside in
+    let shown : FieldIsShown t old orders p = subst (λ (w : FieldState). FieldIsShown t w orders p) (sym c.self.view_is) c.requires.shown in
+    in_queue t p old orders shown c.from.result c.from.ensures c.index_mut-device.result.now c.index_mut-device.ensures.value
+
+pub returns : goal.returns
+returns g c =
+    let t = c.args.t in
+    let p = c.args.place in
+    let orders = g.Q.Orders.map c.args.orders.now in
+    let old = state_of c.self.inside in
+    let shown : FieldIsShown t old orders p = subst (λ (w : FieldState). FieldIsShown t w orders p) (sym c.self.view_is) c.requires.shown in
+    let clock = g.C.DriftClock.readings c.args.clock.now in
+    let line = c.args.line.now in
+    let state = c.index_mut-device.result.now in
+    let x = c.in_ok-closed.ensures.goes in
+    let new = c.act.new in
+    let due = g.Q.Orders.map c.follow.new.orders in
+    let next : FieldState = c.follow.new.self in
+    let end : FieldState = record next { drops = next.drops ++ option_to_list c.in_ok-closed.lost } in
+    let follows = c.in_ok-follow.ensures new.self (after_there t p old orders shown c.from.result c.from.ensures state c.index_mut-device.ensures.value
+    c.self.invariant new.self c.in_ok-closed.closed new.deliveries.items c.settings-before.result c.settings-before.ensures) in
+    on_ok_weaker c.log_drop.result (λ logged.
+    subst (λ (w : FieldState). TakesLine clock line t p line.act c.args.self.now orders w due) (sym logged)
+    (subst (λ (w : FieldState). TakesLine clock line t p line.act w orders end due) c.self.view_is
+    (line_followed t p old orders shown c.from.result c.from.ensures state c.index_mut-device.ensures.value c.self.invariant new.self c.in_ok-closed.closed
+    new.deliveries.items c.settings-before.result c.settings-before.ensures c.follow.new.self due follows clock line c.in_ok-closed.lost x.0 x.1 x.2
+    c.in_ok-closed.ensures.lost (λ s d shows. c.requires.node s d (subst (λ (w : FieldState). FieldShows s t w orders p d) c.self.view_is shows)))))
+    c.log_drop.ensures

@@ -1,55 +1,88 @@
-use Rattle.std.proofs.Common.{List, [], sym, ◌∙◌, subst, arith}
-use Rattle.tick_clock.proofs.Readings.{read_in_range}
-use Rattle.event_calendar.specs.Orders.{Due}
+use Rattle.std.proofs.Common.{sym, subst}
+use Rattle.std.proofs.lemmas.Result.{on_ok_weaker}
+use Rattle.bus_rules.specs.Cores.{Setup}
+use Rattle.air_log.specs.AlarmRuns.{IsAlarmRun}
+use Rattle.air_log.specs.Devices.{Device}
 use Rattle.air_log.specs.Trails.{alarmed}
-use Rattle.world_engine.specs.Fields.{FieldState}
-use Rattle.world_engine.specs.FieldSteps.{Acts}
-use Rattle.world_engine.proofs.ObeyedInTurn.{shown_still}
-use Rattle.world_engine.proofs.AlarmsTaken.{none_taken, one_more_taken, all_taken, few_taken}
+use Rattle.world_engine.specs.Fields.{FieldState, FieldShows, FieldIsShown}
+use Rattle.world_engine.specs.FieldParts.{state_of}
+use Rattle.world_engine.proofs.ActsInTurn.{acts_seen}
+use Rattle.world_engine.proofs.FollowedDevices.{after_there, mid_within, alarms_followed}
+use Rattle.world_engine.proofs.StepsInCode.{field_as_was, in_queue, state_shows}
 use Rattle.world_engine.proofs.field.Field.alarm.Goals as goal
 
-pub loop-init : goal.loop-init
-loop-init g c = none_taken (g.C.DriftClock.readings c.args.clock.now) c.args.t c.args.place c.args.self.now (g.Q.Orders.map c.args.orders.now) c.requires.time
-
-pub take_alarm-requires-clause-shown : goal.take_alarm-requires-clause-shown
-take_alarm-requires-clause-shown g c = shown_still _ _ _ _ _ _ _ c.loop.invariant.acts c.requires.shown
-
-pub take_alarm-requires-clause-time : goal.take_alarm-requires-clause-time
-take_alarm-requires-clause-time g c = c.loop.invariant.acts.air.time
-
-pub returns-then-not-take_alarm : goal.returns-then-not-take_alarm
-returns-then-not-take_alarm g c =
+pub take_alarms-requires-clause-ends : goal.take_alarms-requires-clause-ends
+take_alarms-requires-clause-ends g c =
     let t = c.args.t in
     let p = c.args.place in
+    let orders = g.Q.Orders.map c.args.orders.now in
+    let old = state_of c.self.inside in
+    let shown : FieldIsShown t old orders p = subst (λ (w : FieldState). FieldIsShown t w orders p) (sym c.self.view_is) c.requires.shown in
+    let first = c.requires.shown in
+    record {
+      setup = shown.setup;
+      made = shown.shows.made;
+      device = shown.device;
+      shows = state_shows t p old orders shown c.from.result c.from.ensures c.index_mut-device.result.now c.index_mut-device.ensures.value
+          shown.setup shown.device shown.shows;
+      ends = c.requires.ends shown.setup shown.device
+          (subst (λ (w : FieldState). FieldShows shown.setup t w orders p shown.device) c.self.view_is shown.shows);
+    }
+
+pub invariant_of-self : goal.invariant_of-self
+invariant_of-self g c =
+    let t = c.args.t in
+    let p = c.args.place in
+    let orders = g.Q.Orders.map c.args.orders.now in
+    let old = state_of c.self.inside in
+    let shown : FieldIsShown t old orders p = subst (λ (w : FieldState). FieldIsShown t w orders p) (sym c.self.view_is) c.requires.shown in
+    field_as_was t p old orders shown c.from.result c.from.ensures c.index_mut-device.result.now c.index_mut-device.ensures.value c.self.invariant
+    c.take_alarms.new.self c.take_alarms.ensures.setup c.take_alarms.new.deliveries.items
+
+pub invariant_of-self-2 : goal.invariant_of-self-2
+invariant_of-self-2 g c =
+    let t = c.args.t in
+    let p = c.args.place in
+    let orders = g.Q.Orders.map c.args.orders.now in
+    let old = state_of c.self.inside in
+    let shown : FieldIsShown t old orders p = subst (λ (w : FieldState). FieldIsShown t w orders p) (sym c.self.view_is) c.requires.shown in
+    field_as_was t p old orders shown c.from.result c.from.ensures c.index_mut-device.result.now c.index_mut-device.ensures.value c.self.invariant
+    c.take_alarms.new.self c.take_alarms.ensures.setup c.take_alarms.new.deliveries.items
+
+pub follow-requires-clause-within : goal.follow-requires-clause-within
+follow-requires-clause-within g c =
+    let t = c.args.t in
+    let p = c.args.place in
+    let orders = g.Q.Orders.map c.args.orders.now in
+    let old = state_of c.self.inside in
+    let shown : FieldIsShown t old orders p = subst (λ (w : FieldState). FieldIsShown t w orders p) (sym c.self.view_is) c.requires.shown in
+    mid_within t p old orders shown c.from.result c.from.ensures c.index_mut-device.result.now c.index_mut-device.ensures.value c.self.invariant
+    c.take_alarms.new.self c.in_ok-closed.closed c.take_alarms.new.deliveries.items c.settings-before.result c.settings-before.ensures
+
+pub follow-requires-clause-queue : goal.follow-requires-clause-queue
+follow-requires-clause-queue g c =
+    let t = c.args.t in
+    let p = c.args.place in
+    let orders = g.Q.Orders.map c.args.orders.now in
+    let old = state_of c.self.inside in
+    let shown : FieldIsShown t old orders p = subst (λ (w : FieldState). FieldIsShown t w orders p) (sym c.self.view_is) c.requires.shown in
+    in_queue t p old orders shown c.from.result c.from.ensures c.index_mut-device.result.now c.index_mut-device.ensures.value
+
+pub returns : goal.returns
+returns g c =
+    let t = c.args.t in
+    let p = c.args.place in
+    let orders = g.Q.Orders.map c.args.orders.now in
+    let old = state_of c.self.inside in
+    let shown : FieldIsShown t old orders p = subst (λ (w : FieldState). FieldIsShown t w orders p) (sym c.self.view_is) c.requires.shown in
     let clock = g.C.DriftClock.readings c.args.clock.now in
-    let old = c.args.self.now in
-    let old_due = g.Q.Orders.map c.args.orders.now in
-    let stays = c.take_alarm.ensures.stays c.if-not-take_alarm.true in
-    let acts = all_taken clock t p c.loop.counter old c.loop.self old_due (g.Q.Orders.map c.loop.orders) c.loop.invariant c.requires.ends
-    (λ s d shows. sym (c.take_alarm.ensures.due s d shows) ∙ c.if-not-take_alarm.true) in
-    subst (λ (w : FieldState). Acts t p (λ s d. alarmed clock s t d) [] [] old old_due w (g.Q.Orders.map c.take_alarm.new.orders)) (sym stays.0)
-    (subst (λ (due : List Due). Acts t p (λ s d. alarmed clock s t d) [] [] old old_due c.loop.self due) (sym stays.1) acts)
-
-pub tell-requires-clause-shown : goal.tell-requires-clause-shown
-tell-requires-clause-shown g c = shown_still _ _ _ _ _ _ _ (c.take_alarm.ensures.taken c.if-not-take_alarm.false)
-    (shown_still _ _ _ _ _ _ _ c.loop.invariant.acts c.requires.shown)
-
-pub tell-requires-clause-time : goal.tell-requires-clause-time
-tell-requires-clause-time g c = (c.take_alarm.ensures.taken c.if-not-take_alarm.false).air.time
-
-pub loop-preserved : goal.loop-preserved
-loop-preserved g c =
-    one_more_taken (g.C.DriftClock.readings c.args.clock.now) c.args.t c.args.place c.loop.counter c.args.self.now c.loop.self
-    (g.Q.Orders.map c.args.orders.now) (g.Q.Orders.map c.loop.orders) c.loop.invariant
-    c.take_alarm.new.self c.tell.new.self (g.Q.Orders.map c.take_alarm.new.orders) (g.Q.Orders.map c.tell.new.orders)
-    (λ s d shows. sym (c.take_alarm.ensures.due s d shows) ∙ c.if-not-take_alarm.false)
-    (c.take_alarm.ensures.taken c.if-not-take_alarm.false)
-    c.in_ok-tell.ensures
-
-pub unreachable-requires : goal.unreachable-requires
-unreachable-requires g c =
-    let clock = g.C.DriftClock.readings c.args.clock.now in
-    let reads = read_in_range clock c.args.t (g.met.C.DriftClock.keeps_drift_law c.args.clock.now) c.requires.early in
-    let few = few_taken clock c.args.t c.args.place c.loop.counter c.args.self.now c.loop.self (g.Q.Orders.map c.args.orders.now)
-    (g.Q.Orders.map c.loop.orders) c.loop.invariant c.requires.ends c.requires.shown in
-    omega (arith, reads, few, c.loop-test.false)
+    let state = c.index_mut-device.result.now in
+    let new = c.take_alarms.new in
+    let ends : (s : Setup) (d : Device) → FieldShows s t old orders p d → IsAlarmRun clock s t d (alarmed clock s t d) =
+    λ s d shows. c.requires.ends s d (subst (λ (w : FieldState). FieldShows s t w orders p d) c.self.view_is shows) in
+    on_ok_weaker c.follow.result (λ follows. acts_seen c.self.view_is (
+    alarms_followed t p old orders shown c.from.result c.from.ensures state c.index_mut-device.ensures.value c.self.invariant new.self c.in_ok-closed.closed
+    new.deliveries.items c.settings-before.result c.settings-before.ensures c.follow.new.self (g.Q.Orders.map c.follow.new.orders) follows clock
+    c.in_ok-closed.ensures.goes ends))
+    (c.follow.ensures new.self (after_there t p old orders shown c.from.result c.from.ensures state c.index_mut-device.ensures.value c.self.invariant new.self
+    c.in_ok-closed.closed new.deliveries.items c.settings-before.result c.settings-before.ensures))

@@ -36,5 +36,4 @@ returns c =
       air = c.new-2.ensures;
       deliveries = c.new-3.ensures.items;
       drops = c.new-4.ensures.items;
-      sums = c.in_ok-sums.ensures;
     }

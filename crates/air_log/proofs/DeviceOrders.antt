@@ -1,0 +1,64 @@
+-- The orders of a device, obeyed one after another.
+use Rattle.std.proofs.Common.{◌≡◌, ℕ, zero, suc, ◌+◌, List, [], ◌∷◌, ◌++◌, drop, fold, Option, Some, None, refl, sym, ◌∙◌, ap, subst, arith}
+use Rattle.std.specs.Prelude.{All}
+use Rattle.std.specs.List.{slice_get}
+use Rattle.std.specs.Option.{option_or}
+use Rattle.std.proofs.lemmas.List.{append_assoc, append-nil}
+use Rattle.std.proofs.lemmas.List.Sums.{fold-append}
+use Rattle.std.proofs.lemmas.List.Elements.{All-head, All-tail}
+use Rattle.lwb_base.specs.declared.order.Order.{Order}
+use Rattle.lwb_base.proofs.Elements.{first_of, none_in}
+use Rattle.air_log.specs.declared.entry.TunedEntry.{TunedEntry}
+use Rattle.air_log.specs.Devices.{obeyed}
+use Rattle.air_log.specs.DeviceStates.{DeviceState, IsTimely}
+use Rattle.air_log.specs.DeviceChanges.{DeviceGoes}
+use Rattle.air_log.proofs.DeviceChanges.{goes_nothing, goes_then, goes_as}
+
+-- of these orders a front has been obeyed, and the rest is left
+pub record AreObeyed (clock : ℕ → ℕ) (t : ℕ) (all rest : List Order) (old new : DeviceState) (closed : Option TunedEntry) : Type 0 where
+  pub front : List Order
+  pub split : front ++ rest ≡ all
+  pub timely : All IsTimely rest
+  pub goes : DeviceGoes t (λ q d. fold (obeyed clock q.id t) d front) old new closed []
+
+module _ (clock : ℕ → ℕ) (t : ℕ) (all : List Order) where
+  pub none_obeyed : (s : DeviceState) → All IsTimely all → AreObeyed clock t all all s s None
+  none_obeyed s timely = record { front = []; split = refl; timely = timely; goes = goes_nothing t s }
+
+  pub next_is_timely : (rest : List Order) (order : Order) → slice_get rest 0 ≡ Some order → All IsTimely rest → IsTimely order
+  next_is_timely rest order is timely = All-head IsTimely order (drop 1 rest) (subst (λ (l : List Order). All IsTimely l) (first_of rest order is) timely)
+
+  pub one_more_obeyed : (rest : List Order) (order : Order) (a b c : DeviceState) (x y : Option TunedEntry) → slice_get rest 0 ≡ Some order
+      → AreObeyed clock t all rest a b x → DeviceGoes t (λ q d. obeyed clock q.id t d order) b c y []
+      → AreObeyed clock t all (drop 1 rest) a c (option_or x y)
+  one_more_obeyed rest order a b c x y is so goes = record {
+    front = so.front ++ order ∷ [];
+    split = append_assoc so.front (order ∷ []) (drop 1 rest) ∙ ap (λ (l : List Order). so.front ++ l) (sym (first_of rest order is)) ∙ so.split;
+    timely = All-tail IsTimely order (drop 1 rest) (subst (λ (l : List Order). All IsTimely l) (first_of rest order is) so.timely);
+    goes =
+        goes_as t (λ q d. obeyed clock q.id t (fold (obeyed clock q.id t) d so.front) order) (λ q d. fold (obeyed clock q.id t) d (so.front ++ order ∷ [])) a c
+        (option_or x y) [] (λ q made d sh. sym (fold-append (obeyed clock q.id t) d so.front (order ∷ [])))
+        (goes_then t (λ q d. fold (obeyed clock q.id t) d so.front) (λ q d. obeyed clock q.id t d order) a b c x y [] [] so.goes goes);
+  }
+
+  pub all_obeyed : (rest : List Order) (a b : DeviceState) (x : Option TunedEntry) → slice_get rest 0 ≡ None → AreObeyed clock t all rest a b x
+      → DeviceGoes t (λ q d. fold (obeyed clock q.id t) d all) a b x []
+  all_obeyed rest a b x is so =
+      goes_as t (λ q d. fold (obeyed clock q.id t) d so.front) (λ q d. fold (obeyed clock q.id t) d all) a b x []
+      (λ q made d sh.
+      ap (fold (obeyed clock q.id t) d) (sym (append-nil so.front) ∙ ap (λ (l : List Order). so.front ++ l) (sym (none_in rest is)) ∙ so.split))
+      so.goes
+
+-- the orders that are left after this many
+pub first_left : {X : Type 0} (xs : List X) (k : ℕ) → slice_get (drop k xs) 0 ≡ slice_get xs k
+first_left xs zero = refl
+first_left [] (suc k) = refl
+first_left (x ∷ xs) (suc k) = first_left xs k
+
+drop_one : {X : Type 0} (xs : List X) (k : ℕ) → drop 1 (drop k xs) ≡ drop (suc k) xs
+drop_one xs zero = refl
+drop_one [] (suc k) = refl
+drop_one (x ∷ xs) (suc k) = drop_one xs k
+
+pub next_left : {X : Type 0} (xs : List X) (k : ℕ) → drop 1 (drop k xs) ≡ drop (k + 1) xs
+next_left xs k = let same : suc k ≡ k + 1 = omega arith in drop_one xs k ∙ ap (λ (n : ℕ). drop n xs) same

@@ -1,6 +1,0 @@
-use Rattle.std.proofs.Common.{refl}
-use Rattle.lwb_base.specs.declared.order.Order.TheVariants.{Listen}
-use Rattle.world_engine.proofs.event_radio.EventRadioRadio.listen.Goals as goal
-
-pub returns : goal.returns
-returns c = c.keep.ensures (Listen c.args.rank) refl
