@@ -1,7 +1,8 @@
 #!/bin/sh
 # Times the planner's program: the processor time of a seed, least of ten, and with valgrind its instructions. outcome and sample on
 # a survey of 34 nodes over an hour (bench/survey.py); draw on the longest survey that a run takes, 481 frames, and on the network of
-# docs/PLANNING.md, 25 nodes over 30 minutes (bench/planning.py, where Python has the modules of the package).
+# docs/PLANNING.md, 25 nodes over 30 minutes (bench/planning.py, where Python has the modules of the package). For that network also
+# the package: a sample of a thousand seeds, and the ranking of all links and nodes (bench/sample.py).
 # Usage: bench/plan.sh [PROGRAM], where PROGRAM is the program of a planner, the stored one if none is named.
 set -eu
 
@@ -45,6 +46,7 @@ if "$("$here/../tools/setup-python.sh" --print)" "$here/planning.py" > "$folder/
     measure outcome "$folder/planning.network" "PLANNING's network" deliver
     measure draw "$folder/planning.network" "PLANNING's network" lose
     measure sample "$folder/planning.network" "PLANNING's network" latency
+    FOLDCAIRN_PLAN=$program "$("$here/../tools/setup-python.sh" --print)" "$here/sample.py" "$folder/planning.network"
 else
     echo "PLANNING's network is left out: $(tail -n 1 "$folder/err")"
 fi

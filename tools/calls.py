@@ -136,8 +136,9 @@ def promised(clauses, wanted):
                        for kind, label, words in clauses if kind == "ensures" and wanted(words))
 
 
-# What a call may leave in any state: who runs scenarios keeps what it likes, and nothing depends on it.
-FREE = {("Runner::run", "self"), ("follow_returns", "runner")}
+# What a call may leave in any state, since nothing depends on it: who runs scenarios keeps what it likes, and a buffer that is lent
+# is cleared by the call that takes it next.
+FREE = {("Runner::run", "self"), ("follow_returns", "runner")} | {(f"Device::{name}", "radio") for name in ("notify", "take_alarms", "act")}
 
 
 def open_ends(name, arguments, result, clauses, by):

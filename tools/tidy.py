@@ -11,27 +11,10 @@ import sys
 
 TOP = pathlib.Path(__file__).resolve().parent.parent
 COLUMNS = 160
-# How many longer lines a file has.
-KNOWN_LINES = {
-    "crates/bus_terms/specs/Fates.antt": 1,
-    "crates/command_line/proofs/Runs.antt": 1,
-    "crates/drawn_bus/proofs/CollectedLosses.antt": 4,
-    "crates/law_trails/proofs/LinesOfTick.antt": 1,
-    "crates/lwb_base/proofs/StableSorts.antt": 1,
-    "crates/plan_tool/proofs/draw_answer/drawn/Answers.antt": 1,
-    "crates/scenario_text/proofs/Horizons.antt": 1,
-    "crates/schedule_codec/proofs/decode/spelled/Answers.antt": 1,
-    "crates/text_readers/proofs/LineFeeds.antt": 2,
-}
+# How many longer lines a file has: this one is a name that the prover gives.
+KNOWN_LINES = {"crates/schedule_codec/proofs/decode/spelled/Answers.antt": 1}
 # A crate, and what it lists without need.
-KNOWN_EDGES = {
-    ("plain_bus", "stream_source"),
-    ("air_log", "stream_source"),
-    ("drawn_losses", "arrayvec"),
-    ("fate_report", "lwb_base"),
-    ("law_timed_runs", "tick_clock"),
-    ("law_timed_runs", "bus_terms"),
-}
+KNOWN_EDGES = {("air_log", "stream_source")}
 
 
 def sources(crate):

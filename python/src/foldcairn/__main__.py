@@ -83,6 +83,7 @@ def _add_draw(listed: Commands) -> None:
     parser.add_argument("file", metavar="FILE", help="a scenario, or - for standard input")
     parser.add_argument("--ratios", metavar="CSV", required=True, help="a table of links: from, to, prr (0 to 1)")
     parser.add_argument("--seed", type=int, default=1, help="a whole number (1 without it)")
+    parser.add_argument("--results", metavar="FOLDER", help="where the losses are kept as they come: what was stopped goes on from there")
 
 
 def _draw(chosen: argparse.Namespace) -> int:
@@ -90,7 +91,7 @@ def _draw(chosen: argparse.Namespace) -> int:
 
     scenario = commands.scenario(chosen.file, chosen.ratios)
     try:
-        drawn = losses.draw(scenario, chosen.seed)
+        drawn = losses.draw(scenario, chosen.seed, results=chosen.results, progress=True)
     except losses.TooManyLosses as error:
         raise commands.Failed(str(error)) from error
     sys.stdout.write(drawn.text())
@@ -115,10 +116,12 @@ def _add_sweep(listed: Commands) -> None:
 
 
 def _drawing(file: str, ratios: str, seed: int) -> losses.Drawing:
-    """The scenario of a file with ratios, whose losses are drawn by a seed; in the process of a worker."""
-    from . import losses, tables
+    """The scenario of a file with ratios, whose losses are drawn by a seed; where it is too long for a log, it is counted. In the process
+    of a worker."""
+    from . import counts, lines, losses, tables
 
-    return losses.Drawing(tables.set_ratios(Scenario.read(Path(file)), ratios), seed)
+    made = tables.set_ratios(Scenario.read(Path(file)), ratios)
+    return (counts.Sampled if len(made.nodes) * made.frames > lines.NODE_FRAMES_MOST else losses.Drawing)(made, seed)
 
 
 def _cases(chosen: argparse.Namespace) -> tuple[sweep.Build, list[dict[str, object]]]:

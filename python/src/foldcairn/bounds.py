@@ -25,8 +25,10 @@ from .scenario import Scenario
 
 # The constants of the rules, in frames: the greatest gap between two rounds, a search for a rank, and one for the own rank.
 GREATEST_GAP, SEARCH_FRAMES, QUIET_FRAMES = 4, 12, 5
-# Of two hosts, from the round that falls out to the first of the other; and the rounds within which two contenders part.
-TAKEOVER_FRAMES, PARTING_ROUNDS = 1 + SEARCH_FRAMES + QUIET_FRAMES, 30
+# Of two hosts, from the round that falls out to the first of the other.
+TAKEOVER_FRAMES = 1 + SEARCH_FRAMES + QUIET_FRAMES
+# The rounds within which two contenders part, by the number of contention slots.
+PARTING_ROUNDS = {1: 30, 2: 28, 3: 30, 4: 24}
 # A host takes a stream away whose slots stayed empty so many times in a row.
 EMPTY_SLOTS = 16
 # How many rounds with losses in a row cost a member no more than `GREATEST_GAP` frames each.
@@ -418,16 +420,15 @@ def _contention(known: _Known) -> Iterator[Bound]:
     """Within how many frames one of two contenders requests alone, or is acknowledged, of the nodes that are no hosts and ask for
     slots."""
     scenario = known.scenario
+    rounds, apart = PARTING_ROUNDS[scenario.contention_slots], 48 if scenario.contention_slots == 3 else 16
     asking = sorted({event.node for event in scenario.script if isinstance(event, Stream)} - {known.host})
     wrong = []
     if len(asking) > 2:
         wrong.append(f"{len(asking)} nodes ask for slots, and more than two that ask at once need not part")
     if len(asking) < 2:
         wrong.append("fewer than two nodes ask for slots, so none contends")
-    if len(asking) == 2 and asking[0] % 16 == asking[1] % 16:
-        wrong.append(f"the ids of {known.named(asking)} are equal modulo 16: they may contend for ever")
-    if scenario.contention_slots > 1:
-        wrong.append(f"there are {scenario.contention_slots} contention slots, and the bound is of one")
-    needs = f"two nodes have a request due in each of {PARTING_ROUNDS} rounds, with nothing lost; a round is at most {GREATEST_GAP} frames later"
+    if len(asking) == 2 and asking[0] % apart == asking[1] % apart:
+        wrong.append(f"the ids of {known.named(asking)} are equal modulo {apart}: they may contend for ever")
+    needs = f"two nodes have a request due in each of {rounds} rounds, with nothing lost; a round is at most {GREATEST_GAP} frames later"
     of = known.named(asking) if asking else "two nodes"
-    yield Bound("contention", of, PARTING_ROUNDS * GREATEST_GAP, needs, "parting_rounds", tuple(wrong))
+    yield Bound("contention", of, rounds * GREATEST_GAP, needs, "parting_rounds", tuple(wrong))

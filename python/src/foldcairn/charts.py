@@ -101,12 +101,15 @@ def _percent(ratio: float) -> str:
 
 def latency(deliveries: pd.DataFrame, *, title: str | None = None, axes: Axes | None = None) -> Figure:
     """How the latencies of each stream are distributed, in seconds, of a table of `planning.latencies(log)`: a box from the
-    first quartile to the third with a line at the median, and whiskers from the least to the greatest.
+    first quartile to the third with a line at the median, and whiskers from the least to the greatest. The latencies of a report
+    without a log are by plan, and the axis says so.
 
     With `axes` it is drawn there, as a part of their figure. Raises `ValueError` where the table has not its columns, or no rows.
     """
-    _require(deliveries, "source", "stream", "latency_seconds")
-    groups = deliveries.groupby(["source", "stream"])["latency_seconds"]
+    by_plan = "planned_latency_seconds" in deliveries
+    column = "planned_latency_seconds" if by_plan else "latency_seconds"
+    _require(deliveries, "source", "stream", column)
+    groups = deliveries.groupby(["source", "stream"])[column]
     names = _names(groups.groups)
     with style.settings():
         figure, drawn = style.axes(max(5.0, 1.4 + 0.36 * len(names)), 4.0, axes)
@@ -119,7 +122,7 @@ def latency(deliveries: pd.DataFrame, *, title: str | None = None, axes: Axes | 
         drawn.set_ylim(bottom=0)
         drawn.grid(axis="y", color=style.FAINT, linewidth=0.5)
         drawn.set_xlabel(_of_streams(groups.groups))
-        drawn.set_ylabel("seconds from put to delivery")
+        drawn.set_ylabel("seconds from put to delivery" + (", by plan" if by_plan else ""))
         if len(names) > 12:
             drawn.tick_params(axis="x", rotation=90)
         drawn.set_title(title or "Latency: least, quartiles, median and greatest")

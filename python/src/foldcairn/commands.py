@@ -66,6 +66,20 @@ def add_receivers(parser: argparse.ArgumentParser) -> None:
     )  # fmt: skip
 
 
+def add_battery(parser: argparse.ArgumentParser) -> None:
+    """The battery, and the currents of the radio."""
+    parser.add_argument("--capacity-mah", type=float, metavar="MAH", help="the capacity of a battery (2600 without it)")
+    for name, words in (("transmit", "while the radio transmits (17.4)"), ("receive", "while it is on otherwise (18.8)"),
+                        ("sleep", "while it is off (0)")):  # fmt: skip
+        parser.add_argument(f"--{name}-ma", type=float, metavar="MA", help=f"the current {words}")
+
+
+def battery(chosen: argparse.Namespace) -> dict[str, float]:
+    """The words of `planning.battery_life` that are given."""
+    words = {name: getattr(chosen, name) for name in ("capacity_mah", "transmit_ma", "receive_ma", "sleep_ma")}
+    return {name: value for name, value in words.items() if value is not None}
+
+
 def add_places(parser: Options) -> None:
     """The table of nodes for a map."""
     parser.add_argument(
@@ -90,6 +104,11 @@ def seeds(words: str) -> range:
     if not found:
         raise ArgumentError(f"`--seeds` is {words!r}, and has no seed")
     return found
+
+
+def many_seeds(words: str) -> range:
+    """So many seeds from 1 on, or those of `A-B`. Raises `ArgumentError` where there are none."""
+    return seeds(words if "-" in words or not words.isdecimal() else f"1-{words}")
 
 
 def nodes(words: str) -> list[int | str]:

@@ -16,7 +16,7 @@ import numpy as np
 import pandas as pd
 from numpy.typing import NDArray
 
-from . import files, findings, intervals, losses, page, planning, plot, results as runs, service, sweep
+from . import arguments, files, findings, intervals, lines, losses, page, planning, plot, results as runs, sample, seeds as many, service, sweep, tallies
 from .arguments import ArgumentError
 from .receivers import Receivers, meant
 from .results import Log
@@ -84,29 +84,38 @@ def compare(
     executor: Executor | None = None,
     results: str | os.PathLike[str] | None = None,
     progress: bool | TextIO = True,
+    by: str | None = None,
 ) -> Comparison:
     """Runs each plan once for each seed, and compares the answers: on one page there are the maps, a table of the answers with
     intervals of 95 %, in which what is better is marked, and the radios of each plan where its host fails, by the first seed.
+
+    `by` is "log" for all answers, each by the log of a run, or "sample" for those that `planning.sample` has (what is delivered,
+    latencies, duty cycles), which takes a hundredth of the time and so hundreds of seeds; then the page has no radios. Without it
+    (None) it is "log", and "sample" where a plan is too long for a log. Latencies and duty cycles of a sample are counted by plan,
+    so compare them with those of a sample alone.
 
     `plans` are two or more networks by their names. With a `path` the page is written there. The losses are drawn by the seeds
     anew, and a seed gives a link the same coins in each plan. `receivers` are in the forms of `foldcairn.receivers`, `positions`
     are places of the nodes for the maps, and `executor`, `results` and `progress` are those of `sweep.sweep`. An interval is
     Student's for the mean: it takes the seeds for a sample, and says nothing of what the model leaves out.
 
-    Raises `ArgumentError` where there are fewer than two plans, no seeds, or a receiver is no node of a plan, and `ValueError` where a
-    run fails.
+    Raises `ArgumentError` where there are fewer than two plans, no seeds, `by` is another word, or a receiver is no node of a plan,
+    and `ValueError` where a run fails.
     """
     if len(plans) < 2 or not seeds:
         raise ArgumentError("a comparison takes two plans or more by their names, and at least one seed")
     for network in plans.values():
         meant(network, receivers)
-    told = _runs(plans, seeds, receivers, executor, results, progress)
+    too_long = any(len(network.nodes) * network.frames > lines.NODE_FRAMES_MOST for network in plans.values())
+    by = arguments.one_of("by", by or ("sample" if too_long else "log"), ("log", "sample"))
+    measured = _runs if by == "log" else _samples
+    told = measured(plans, seeds, receivers, executor, results, progress)
     table = _table(told, list(plans), findings.whom(next(iter(plans.values())), receivers))
     table.attrs.update(sweep.origin(seeds, plans))
 
     def whole() -> str:
-        first = {name: runs.log(_drawn(network, seeds[0]), warn=False) for name, network in plans.items()}
-        return _page(first, table, seeds, title, site, notes, positions)
+        logs = {name: runs.log(_drawn(network, seeds[0]), warn=False) for name, network in plans.items() if by == "log"}
+        return _page(plans, logs, table, seeds, title, site, notes, positions)
 
     made = Comparison(table, told, whole)
     if path is not None:
@@ -135,6 +144,18 @@ def _runs(
     return told.drop(columns="status")
 
 
+def _samples(
+    plans: Mapping[str, Scenario], seeds: Sequence[int], receivers: Receivers, executor: Executor | None,
+    results: str | os.PathLike[str] | None, progress: bool | TextIO,
+) -> pd.DataFrame:  # fmt: skip
+    """The same numbers as far as samples have them."""
+    names = ("ratio_of_put", "latency_median", "latency_p90", "duty_cycle", "duty_cycle_in_rounds")
+    asked = [tallies.question(network, receivers, None) for network in plans.values()]
+    told = many.answers(asked, seeds, executor=executor, results=results, progress=progress)
+    found = [sample.of(network, seeds, receivers, None, answers).runs for network, answers in zip(plans.values(), told)]
+    return pd.concat([runs[["seed", *names]].assign(plan=name) for name, runs in zip(plans, found)], ignore_index=True)
+
+
 def _built(plans: Mapping[str, Scenario], plan: str, seed: int) -> Scenario | losses.Drawing:
     network = plans[plan]
     return losses.Drawing(network, seed) if network.is_to_be_drawn else network
@@ -149,7 +170,7 @@ def _numbers(receivers: Receivers, scenario: Scenario | str) -> dict[str, float]
 
 def _table(told: pd.DataFrame, plans: list[str], whom: str) -> pd.DataFrame:
     rows = []
-    for name, words, more, times, unit in _ANSWERS:
+    for name, words, more, times, unit in (answer for answer in _ANSWERS if answer[0] in told):
         values = {plan: times * told.loc[told["plan"] == plan, name].to_numpy(dtype="float64") for plan in plans}
         spans = {plan: _interval(numbers) for plan, numbers in values.items()}
         missing = [_missing(plan, numbers) for plan, numbers in values.items() if 0 < np.isnan(numbers).sum() < len(numbers)]
@@ -183,18 +204,19 @@ def _better(spans: Mapping[str, tuple[float, float]], more: bool) -> str:
 
 
 def _page(
-    logs: Mapping[str, Log], table: pd.DataFrame, seeds: Sequence[int], title: str, site: str, notes: str,
+    plans: Mapping[str, Scenario], logs: Mapping[str, Log], table: pd.DataFrame, seeds: Sequence[int], title: str, site: str, notes: str,
     positions: Mapping[int, tuple[float, float]] | None,
 ) -> str:  # fmt: skip
-    listed = [f"{html.escape(name)}: {html.escape(page.about(log))}" for name, log in logs.items()]
+    about = {name: page.about(logs[name]) if name in logs else page.about_network(network) for name, network in plans.items()}
+    listed = [f"{html.escape(name)}: {html.escape(words)}" for name, words in about.items()]
     own = "".join(f"<p>{html.escape(part.strip())}</p>" for part in notes.split("\n\n") if part.strip())
     parts = [
         f"<h1>{html.escape(title)}</h1>",
         f'<p class="where">Site: {html.escape(site)}</p>' if site else "",
         f'<div class="notes">{own}</div>' if own else "",
         "<ul>" + "".join(f"<li>{line}</li>" for line in listed) + "</ul>",
-        _answers(table, list(logs), seeds),
-        *(f'<section class="figure"><h2>The network, plan {html.escape(name)}</h2>{_map(log, positions)}</section>' for name, log in logs.items()),
+        _answers(table, list(plans), seeds),
+        *(f'<section class="figure"><h2>The network, plan {html.escape(name)}</h2>{_map(one, positions)}</section>' for name, one in plans.items()),
         *(_failure(name, log) for name, log in logs.items()),
         _origin(table.attrs),
     ]
@@ -236,8 +258,8 @@ def _cell(mean: float, half: float, unit: str, best: bool) -> str:
     return f'<td class="best">{told}</td>' if best else f"<td>{told}</td>"
 
 
-def _map(log: Log, positions: Mapping[int, tuple[float, float]] | None) -> str:
-    return page.picture("The network", lambda: plot.topology(log.scenario, positions=positions))
+def _map(network: Scenario, positions: Mapping[int, tuple[float, float]] | None) -> str:
+    return page.picture("The network", lambda: plot.topology(network, positions=positions))
 
 
 def _failure(name: str, log: Log) -> str:

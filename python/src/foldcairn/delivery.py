@@ -1,8 +1,9 @@
 """What became of packets: delivery ratios, where each packet went, and latencies. `planning` has all answers in one place.
 
-All times are seconds of true time from the start of the run, or spans of it. Each answer takes a `results.Log`, or a report
-without a log, as `results.outcome` gives it for runs of hours; then times of deliveries are by plan, the start of the slot, and
-what only a log tells is left out. Tested, not proved.
+What became of each packet is the answer of the planner's program (`foldcairn.fates`), which is proved; a log adds the times. Each
+answer takes a `results.Log`, or a report without a log, as `results.outcome` gives it for runs of hours. All times are seconds from
+the start of the run, or spans of it. Those of a log are true time. A report without a log has no true times of packets: the columns
+of its times begin with `planned_`, and are those of the starts of slots by plan. This module is tested, not proved.
 """
 
 from __future__ import annotations
@@ -10,14 +11,13 @@ from __future__ import annotations
 import numpy as np
 import pandas as pd
 
-from . import arguments, power
+from . import arguments, fates as _fates, power
 from .answers import report_answer
 from .receivers import Receivers, meant, of_streams, stream_index
-from .results import Log, Report
+from .results import PACKET, Log, Report, slot_seconds
 
-PACKET = ["source", "boot", "stream", "number"]
 FATES = (
-    "delivered", "delivered by none", "queued", "lost with its node", "withdrawn", "not delivered",
+    "delivered", "delivered by none", "queued", "lost with its node", "withdrawn",
     "dropped: node off", "dropped: no stream", "dropped: full queue",
 )  # fmt: skip
 
@@ -31,41 +31,51 @@ def packets(log: Report) -> pd.DataFrame:
     boot, number          the boot of the node (0 without power) and the packet's number in it, -1 if it was dropped
     payload               in hexadecimal digits, `-` for none
     keep_alive            whether it is one of `Scenario.stream(.., keep_alive=..)`, which no answer counts
-    sent_seconds          when its node transmitted it first, in seconds of true time; missing if it never did
+    sent_frame, sent_slot  in which frame and data slot its node transmitted it first; -1 if it never did
+    sent_seconds          when that was, in seconds of true time; missing if it never was
     rank                  the channel on which it did, by the rank of its host; -1 if it never did
     deliveries            how many nodes delivered it
     first_seconds, last_seconds   when the first and the last of them had received it, as `results.Log` has it
     fate                  "delivered" (by at least one node); "delivered by none" (it was sent); "queued" (it waits at the end
                           of the run); "lost with its node" (power went off while it waited); "withdrawn" (its stream was
                           left while it waited); or "dropped: " and why: "node off", "no stream" or "full queue"
+    cleared_frame         in which frame it was lost with its node or withdrawn; -1 if it was not
 
-    A report without a log has `sent_seconds` and `rank` of packets that were delivered alone, by plan, and all others that were
-    not dropped are "not delivered": it does not tell which of them were sent.
+    A report without a log has no true times. In place of `sent_seconds`, `first_seconds` and `last_seconds` it has
+    `planned_sent_seconds`, `planned_first_seconds` and `planned_last_seconds`, all three the start of its slot by plan; its `rank` is
+    -1 also of packets that were sent and delivered by none. Raises what `foldcairn.fates.of` raises.
     """
-    table = power.puts(log)
-    sent = _sent(log)
+    table = _fates.puts(log)
     table["keep_alive"] = of_streams(table, log.scenario.keep_alive) & (table["payload"] == "-")
-    delivered = _arrivals(log).groupby(PACKET)["delivered_seconds"].agg(deliveries="size", first_seconds="min", last_seconds="max")
-    table = _joined(_joined(table, sent), delivered.reset_index())
-    table["deliveries"] = table["deliveries"].fillna(0).astype("int64")
+    sent, first, last = _times(log)
+    came = _arrivals(log).groupby(PACKET)["delivered_seconds"].agg(**{first: "min", last: "max"}).reset_index()
+    table = _joined(_joined(table, _sent(log)), came)
+    if not isinstance(log, Log):
+        table[sent] = slot_seconds(log.scenario.profile, table["sent_frame"], table["sent_slot"]).where(table["sent_frame"] >= 0)
     table["rank"] = table["rank"].fillna(-1).astype("int64")
-    was_sent = table["sent_seconds"].notna()
+    became = table["became"].astype(str)
     fate = np.select(
-        [table["dropped"] != "", table["deliveries"] > 0, was_sent, (table["cleared"] != "") & isinstance(log, Log)],
+        [became == "dropped", table["deliveries"] > 0, became == "sent", became == "cleared"],
         ["dropped: " + table["dropped"].astype(str), "delivered", "delivered by none", table["cleared"].astype(str)],
-        "queued" if isinstance(log, Log) else "not delivered",
+        "queued",
     )
     table["fate"] = pd.Categorical(fate, categories=FATES)
-    return table.drop(columns=["dropped", "cleared"])
+    told = ["sent_frame", "sent_slot", sent, "rank", "deliveries", first, last, "fate", "cleared_frame"]
+    return table[["frame", "put_seconds", "source", "boot", "stream", "number", "payload", "keep_alive", *told]]
+
+
+def _times(log: Report) -> tuple[str, str, str]:
+    """The columns of the times at which a packet was sent, and delivered first and last, by the clock of the report."""
+    clock = "" if isinstance(log, Log) else "planned_"
+    return f"{clock}sent_seconds", f"{clock}first_seconds", f"{clock}last_seconds"
 
 
 def _sent(log: Report) -> pd.DataFrame:
-    """When each packet that was sent was sent first, and on which channel; without a log, of those that were delivered."""
+    """On which channel each packet was sent first, and when by true time; without a log, of those that were delivered, and no time."""
     if isinstance(log, Log):
         data = log.initiations[log.initiations["kind"] == "data"]
         return data.rename(columns={"origin": "source", "start_seconds": "sent_seconds"})[[*PACKET, "sent_seconds", "rank"]]
-    first = log.deliveries.drop_duplicates(PACKET)
-    return first.rename(columns={"planned_seconds": "sent_seconds"})[[*PACKET, "sent_seconds", "rank"]]
+    return log.deliveries.drop_duplicates(PACKET)[[*PACKET, "rank"]]
 
 
 def _arrivals(log: Report) -> pd.DataFrame:
@@ -124,14 +134,13 @@ def delivery_ratio(
     sent_while_on      those that it transmitted in a frame in which the receiver had power
     delivered          those that the receiver delivered
     ratio_of_put, ratio_of_sent, ratio_of_sent_while_on   `delivered` as a part of each, 0 to 1; missing where there is none
-    Of a report without a log there are `put`, `delivered` and `ratio_of_put`.
 
     Raises `ArgumentError` where `by` is another word, the time is no part of the run, or `receivers` names what the scenario does
     not have.
     """
     keys = _keys(by, *_KEYS)
     pairs = _within(log, _pairs(log, receivers), start_seconds, end_seconds)
-    counts = ["put", "sent", "sent_while_on", "delivered"] if isinstance(log, Log) else ["put", "delivered"]
+    counts = ["put", "sent", "sent_while_on", "delivered"]
     table = _summed(log, pairs, by, keys, counts)
     for count in counts[:-1]:
         table[f"ratio_of_{count}"] = table["delivered"] / table[count].where(table[count] > 0)
@@ -157,21 +166,16 @@ def _within(log: Report, table: pd.DataFrame, start_seconds: float, end_seconds:
 
 def _pairs(log: Report, receivers: Receivers) -> pd.DataFrame:
     """A row for each packet that was put and each node that it is meant for, with what became of it there."""
-    table = packets(log)
-    table = table.loc[~table["keep_alive"], [*PACKET, "put_seconds", "sent_seconds", "rank"]]
+    table = packets(log).rename(columns={_times(log)[0]: "sent_seconds"})
+    table = table.loc[~table["keep_alive"], [*PACKET, "put_seconds", "sent_frame", "sent_seconds", "rank"]]
     pairs = meant(log.scenario, receivers).pairs(log, table.reset_index(drop=True))
     got = _arrivals(log)[[*PACKET, "node", "delivered_seconds"]]
     pairs = pairs.merge(got.astype({name: "int64" for name in (*PACKET, "node")}), how="left", on=[*PACKET, "node"])
     pairs["delivered"] = pairs["delivered_seconds"].notna()
-    pairs["put"] = True
-    return _with_sent(log, pairs) if isinstance(log, Log) else pairs
-
-
-def _with_sent(log: Log, pairs: pd.DataFrame) -> pd.DataFrame:
-    """The pairs with whether the packet was sent, and while the receiver had power."""
-    pairs["sent"] = pairs["sent_seconds"].notna()
-    frame = (pairs["sent_seconds"].fillna(0) // log.scenario.frame_seconds).astype("int64").to_numpy()
+    pairs["put"], pairs["sent"] = True, pairs["sent_frame"] >= 0
     power_of = power.powered(log.scenario)
+    # A packet that was not sent has no frame; whatever the frame 0 says of it does not count.
+    frame = pairs["sent_frame"].clip(lower=0).to_numpy()
     pairs["sent_while_on"] = pairs["sent"] & power_of.to_numpy()[frame, power_of.columns.get_indexer(pairs["node"])]
     return pairs
 
@@ -215,15 +219,24 @@ def deadline(
 def latencies(log: Report, *, receivers: Receivers = None) -> pd.DataFrame:
     """A row for each delivery at a node that the packet is meant for (`receivers`): the packet, the `node`, `put_seconds` (the
     start of the frame of the put), `delivered_seconds` (when the node had received it, see `results.Log`), and `latency_seconds`,
-    the second less the first. A packet that came up within the frame of its put waited less, by up to a frame. Without a log
-    `delivered_seconds` is the start of the slot by plan, at most 56 ms before the node has the packet by a clock without drift."""
-    got = _arrivals(log)[meant(log.scenario, receivers).kept(log.deliveries)]
-    got = got[[*PACKET, "node", "delivered_seconds"]]
+    the second less the first. A packet that came up within the frame of its put waited less, by up to a frame.
+
+    A report without a log has `planned_seconds` and `planned_latency_seconds` in place of the last two: `planned_seconds` is the start
+    of the slot by plan, at most 56 ms before the node has the packet by a clock without drift."""
+    clock = "" if isinstance(log, Log) else "planned_"
+    came = "delivered_seconds" if isinstance(log, Log) else "planned_seconds"
+    got = log.deliveries.loc[meant(log.scenario, receivers).kept(log.deliveries), [*PACKET, "node", came]]
     put = packets(log)
     put = put.loc[~put["keep_alive"], [*PACKET, "put_seconds"]]
     table = got.astype({name: "int64" for name in PACKET}).merge(put, on=PACKET)
-    table["latency_seconds"] = table["delivered_seconds"] - table["put_seconds"]
+    table[f"{clock}latency_seconds"] = table[came] - table["put_seconds"]
     return table
+
+
+def waited(log: Report, receivers: Receivers = None) -> pd.Series:
+    """The latency of each delivery of `latencies`, in seconds: of true time, or by plan where there is no log."""
+    table = latencies(log, receivers=receivers)
+    return table["latency_seconds" if isinstance(log, Log) else "planned_latency_seconds"]
 
 
 @report_answer
@@ -231,14 +244,16 @@ def latency(log: Report, by: str = "stream", *, receivers: Receivers = None, sta
             end_seconds: float | None = None) -> pd.DataFrame:  # fmt: skip
     """The time from put to delivery in seconds, by "stream", by receiving "node", or over "all": `deliveries` (their count),
     `min`, `median`, `p90`, `p99` and `max`. Only packets that were put from `start_seconds` on and before `end_seconds` count.
-    A stream, or a receiver, that has no delivery is a row with 0 of them, and its times are missing.
+    A stream, or a receiver, that has no delivery is a row with 0 of them, and its times are missing. Without a log they are by plan, as
+    in `latencies`.
 
     It is the latency of what was delivered: `fates` says how many packets never came, `deadline` which part came in time, and
     `latencies` has each delivery. Raises what `delivery_ratio` raises.
     """
     keys = _keys(by, "stream", "node", "all")
     table = _within(log, latencies(log, receivers=receivers), start_seconds, end_seconds)
-    grouped = table[table["inside"]].groupby(keys or (lambda _: "all"))["latency_seconds"]
+    table["latency"] = waited(log, receivers)
+    grouped = table[table["inside"]].groupby(keys or (lambda _: "all"))["latency"]
     summary = grouped.agg(
         deliveries="size", min="min", median="median", p90=lambda s: s.quantile(0.9), p99=lambda s: s.quantile(0.99), max="max"
     )

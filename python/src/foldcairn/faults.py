@@ -91,9 +91,11 @@ class _Fault:
         self.above = rows[: line - 1]
         self.words = rows[line - 1] if line <= len(rows) else []
         self.context = context_of(self.above)
-        self.node_frames_most = lines.LONG_NODE_FRAMES_MOST if command == "outcome" else lines.NODE_FRAMES_MOST
+        # What `draw` writes is for `run`.
+        long = command in lines.NETWORK_COMMANDS - {"draw"}
+        self.node_frames_most = lines.LONG_NODE_FRAMES_MOST if long else lines.NODE_FRAMES_MOST
         self.table = lines.fields(self.grammar, self.context)
-        if command == "outcome" and ["ratios"] in self.above:
+        if command in lines.NETWORK_COMMANDS and ["ratios"] in self.above:
             self.table = {"ratio": lines.fields(command, self.context)["ratio"]}
         self.fields = self.table.get(self.words[0], ()) if self.words else ()
         self.values = list(zip(self.words[1:], self.fields))
@@ -149,8 +151,8 @@ class _Fault:
             return "the text begins with a byte order mark; save it without one"
         if list(self.table) == ["ratio"] and first in lines.fields("run"):
             return f"below a line `ratios` all lines are ratios, and `{first}` comes above it"
-        if first == "ratio" and self.grammar == "scenario":
-            return "`ratio` is a line of a network, which is read by outcome, below a line `ratios`"
+        if first in ("ratio", "ratios") and self.grammar == "scenario":
+            return f"`{first}` is a line of a network, which is read by outcome, fates, sample and draw; `ratio` lines are below a line `ratios`"
         for grammar, commands in (("scenario", "run, log and bus"), ("flood", "flood"), ("deadlines", "deadlines")):
             if grammar != self.grammar and first in lines.fields(grammar):
                 return f"`{first}` is a line of another text, which is read by {commands}"
@@ -276,8 +278,9 @@ class _Fault:
         nodes = sum(1 for words in self.above if words[:1] == ["node"])
         frames = self.context.frames or 0
         return (
-            f"the text ends above this line; {nodes} nodes times {frames:,} frames are {nodes * frames:,}, "
-            f"and at most {self.node_frames_most:,} are run"
+            f"the text ends above this line; {nodes} nodes times {frames:,} frames are {nodes * frames:,}, and at most "
+            f"{self.node_frames_most:,} are run: take {self.node_frames_most // max(1, nodes):,} frames, or `outcome` and `fates`, which take "
+            f"up to {lines.LONG_NODE_FRAMES_MOST:,}"
         )
 
 

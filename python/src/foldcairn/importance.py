@@ -7,7 +7,6 @@ from __future__ import annotations
 
 import functools
 import os
-from collections import Counter
 from collections.abc import Iterable, Sequence
 from concurrent.futures import Executor
 from typing import TextIO
@@ -16,7 +15,7 @@ import numpy as np
 import pandas as pd
 from numpy.typing import NDArray
 
-from . import intervals, losses, results as runs, sweep
+from . import intervals, program, seeds as many, sweep, tallies
 from .events import Put
 from .receivers import Receivers, meant
 from .scenario import Scenario
@@ -70,19 +69,13 @@ def importance(
     meant(scenario, receivers)
     cuts = _candidates(scenario, what, candidates)
     nodes = [cut for cut in cuts if isinstance(cut, int)]
-    cases = [{"cut": _word(cut), "seed": seed} for cut in (None, *cuts) for seed in seeds]
-    table = sweep.sweep(
-        functools.partial(_cut_and_drawn, scenario), cases, functools.partial(_delivered, scenario, receivers, nodes),
-        executor=executor, results=results, progress=progress, name=f"importance {receivers!r} {nodes} {scenario.receivers!r}",
-    )  # fmt: skip
-    if (table["status"] != "ok").any():
-        first = table[table["status"] != "ok"].iloc[0]
-        raise ValueError(f"the run without {first['cut'] or 'a cut'} with seed {first['seed']} failed: {first['status']}: {first['message']}")
-    ratio = table.set_index(["cut", "without", "seed"])["ratio"]
+    asked = [_question(scenario, receivers, None, [None, *nodes])]
+    asked += [_question(scenario, receivers, cut, [cut if isinstance(cut, int) else None]) for cut in cuts]
+    whole, *told = many.answers(asked, seeds, executor=executor, results=results, progress=progress)
     rows = []
-    for cut in cuts:
-        without = cut if isinstance(cut, int) else 0
-        before, after = (np.array([ratio[word, without, seed] for seed in seeds]) for word in ("", _word(cut)))
+    for cut, ratios in zip(cuts, told):
+        place = 1 + nodes.index(cut) if isinstance(cut, int) else 0
+        before, after = np.array(whole, dtype=np.float64)[:, place], np.array(ratios, dtype=np.float64)[:, 0]
         rows.append((*(cut if isinstance(cut, tuple) else (cut,)), before.mean(), after.mean(), *_summary(after - before)))
     names = ["one", "other"] if what == "links" else ["node"]
     columns = [*names, "ratio", "ratio_cut", "change", "spread", "least", "greatest", "error", "low", "high", "p"]
@@ -108,38 +101,36 @@ def _candidates(scenario: Scenario, what: str, candidates: Iterable[Cut] | None)
 
 
 def _word(cut: Cut | None) -> str:
-    """A cut as a word, by which a result is kept."""
-    return "" if cut is None else "-".join(map(str, cut)) if isinstance(cut, tuple) else str(cut)
+    """A cut in words."""
+    return "a cut" if cut is None else "-".join(map(str, cut)) if isinstance(cut, tuple) else str(cut)
 
 
-def _cut_and_drawn(scenario: Scenario, cut: str, seed: int) -> losses.Outcome:
-    """The scenario with this cut, whose losses are to be drawn; in the process of a worker."""
+def _question(scenario: Scenario, receivers: Receivers, cut: Cut | None, without: Sequence[int | None]) -> many.Question:
+    """What is asked of each seed with a cut: the measure, where each of some nodes (or none) is neither a source nor a receiver."""
+    about = f"importance {receivers!r} {without} {scenario.receivers!r} {sorted(scenario.keep_alive)}"
+    return many.Question(_without(scenario, cut), functools.partial(_ratios, receivers, without, _word(cut)), about)
+
+
+def _without(scenario: Scenario, cut: Cut | None) -> Scenario:
+    """The scenario with this cut, whose losses are to be drawn."""
     changed = scenario.copy()
     changed.seed = None
-    ends = [int(node) for node in cut.split("-")] if cut else []
-    if len(ends) == 2:
-        changed.unlink(*ends)
-    for link in sorted(scenario.links) if len(ends) == 1 else []:
-        if ends[0] in link:
+    if isinstance(cut, tuple):
+        return changed.unlink(*cut)
+    for link in sorted(scenario.links) if cut is not None else []:
+        if cut in link:
             changed.unlink(*link)
-    return losses.Outcome(changed, seed)
+    return changed
 
 
-def _delivered(scenario: Scenario, receivers: Receivers, nodes: Sequence[int], report: runs.Report) -> pd.DataFrame:
-    """The measure of a run, with all nodes (`without` 0) and without each of some."""
-    whom = meant(scenario, receivers)
-    put = Counter((line.node, line.stream) for line in scenario.script if isinstance(line, Put) and not _kept_alive(scenario, line))
-    table = report.deliveries[whom.kept(report.deliveries)]
-    if scenario.keep_alive:
-        alive = {4 * node + stream for node, stream in scenario.keep_alive}
-        table = table[~((4 * table["source"].astype("int64") + table["stream"]).isin(alive) & (table["payload"] == "-"))]
-    rows = []
-    for without in (0, *nodes):
-        due = whom.due(report, put, without or None)
-        got = int(((table["source"] != without) & (table["node"] != without)).sum())
-        rows.append({"without": without, "ratio": got / due if due else float("nan")})
-    return pd.DataFrame(rows)
-
-
-def _kept_alive(scenario: Scenario, line: Put) -> bool:
-    return (line.node, line.stream) in scenario.keep_alive and not line.payload
+def _ratios(
+    receivers: Receivers, without: Sequence[int | None], cut: str, scenario: Scenario, seeds: Sequence[int]
+) -> list[list[float]]:  # fmt: skip
+    """For each seed the measure, without each of some nodes; in the process of a worker."""
+    try:
+        came = tallies.arrivals(scenario, receivers, seeds)
+    except program.ProgramError as error:
+        which = f"with seeds {seeds[0]} to {seeds[-1]} failed: {type(error).__name__}: {error}"
+        raise ValueError(f"the run without {cut} {which}") from error
+    found: list[list[float]] = np.stack([came.ratios(node) for node in without], axis=1).tolist()
+    return found

@@ -35,6 +35,32 @@ def of_mean(values: ArrayLike, confidence: float = 0.95) -> tuple[float, float, 
     return mean, mean - half, mean + half
 
 
+def over_seeds(values: ArrayLike, confidence: float = 0.95, *, bounds: tuple[float, float] = (-np.inf, np.inf)) -> pd.DataFrame:
+    """How numbers spread over seeds: `values` has a row for each seed and a column for each number, and what is not a number (NaN) is
+    left out. A row for each number:
+
+    seeds                  how many seeds have it
+    mean, error            the mean, and its standard error: the sample standard deviation over the square root of `seeds`
+    low, high              the interval that has the mean of all seeds with this confidence, by Student's distribution (`of_mean`), cut to
+                           the `bounds` that a number can have
+    least, p5, p50, p95, greatest   the quantiles over the seeds: the least, those of 5, 50 and 95 %, and the greatest
+
+    Seeds that are all the same give an interval without width, which says nothing of what is rarer than one seed. Raises
+    `ArgumentError` where the confidence is not between 0 and 1.
+    """
+    from scipy import stats
+
+    part = arguments.real("confidence", confidence, 0, 1, above=0)
+    table = pd.DataFrame(np.asarray(values, dtype=np.float64))
+    seeds, mean, error = table.count(), table.mean(), table.sem()
+    half = stats.t.ppf((1 + part) / 2, seeds - 1) * error
+    low, high = (mean - half).clip(*bounds), (mean + half).clip(*bounds)
+    found = {"seeds": seeds.astype("int64"), "mean": mean, "error": error, "low": low, "high": high}
+    for name, quantile in (("least", 0.0), ("p5", 0.05), ("p50", 0.5), ("p95", 0.95), ("greatest", 1.0)):
+        found[name] = table.quantile(quantile)
+    return pd.DataFrame(found)
+
+
 def chance(changes: ArrayLike) -> float:
     """How likely a mean so far from 0 would be if the true mean were 0, by Student's distribution: 0 to 1, and missing for
     fewer than two values. Values that are all the same are 0 to the chance unless they are 0 themselves, which is 1."""

@@ -13,6 +13,8 @@ NODES_MOST = 64
 NODE_FRAMES_MOST = 16_384
 # The same for `outcome`, which keeps no log: 64 nodes over all frames.
 LONG_NODE_FRAMES_MOST = 262_144
+# The commands that read a network text: a scenario, and ratios below a line `ratios`.
+NETWORK_COMMANDS = frozenset({"draw", "fates", "outcome", "sample"})
 SCRIPT_LINES_MOST = 20_000
 RATIO_LINES_MOST = 100_000
 # The greatest seed that the programs take.
@@ -158,9 +160,9 @@ def _deadline_fields(_: Context) -> dict[str, tuple[Field, ...]]:
 def fields(command: str, context: Context = Context()) -> dict[str, tuple[Field, ...]]:
     """The fields of each line that `command` reads, by the first word of the line.
 
-    `command` is "run", "log", "bus" or another that reads a scenario, or "outcome", "flood" or "deadlines".
+    `command` is "run", "log", "bus" or another that reads a scenario, one of `NETWORK_COMMANDS`, "flood" or "deadlines".
     """
-    if command == "outcome":
+    if command in NETWORK_COMMANDS:
         return _network_fields(context)
     if command == "flood":
         return _flood_fields(context)

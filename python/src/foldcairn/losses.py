@@ -391,7 +391,7 @@ class Drawing:
         """The scenario with its losses; raises what `draw` raises."""
         return draw(self.scenario, self.seed, program=program)
 
-    def result(self) -> Scenario | runs.Report:
+    def result(self) -> Any:
         """What is measured: the scenario with its losses."""
         return self.drawn()
 
@@ -403,7 +403,7 @@ class Outcome(Drawing):
 
     def result(self) -> runs.Report:
         """The report; raises what `results.outcome` raises."""
-        return runs.outcome(self.scenario, self.seed)
+        return runs.outcome(self.scenario, self.seed, warn=False)
 
 
 def _log(scenario: Scenario, drawn: Array, program: Path | None) -> _Log:

@@ -62,7 +62,7 @@ _PLAIN = {"source", "stream", "node", "host", "rank", "boot", "host_boot"}
 
 
 @cache
-def _of_docstring(function: Callable[..., Any]) -> dict[str, str]:
+def of_docstring(function: Callable[..., Any]) -> dict[str, str]:
     """The rows of a docstring that have names, two spaces, and a meaning, with what goes on in lines further to the right."""
     found: dict[str, str] = {}
     names: list[str] = []
@@ -84,7 +84,7 @@ def of_table(name: str, table: pd.DataFrame) -> dict[str, str]:
     """What each column of a table of `planning.tables` means, in its order; a column of which nothing is said is left out."""
     told: dict[str, str] = {}
     for function in _CALLS.get(name, ()):
-        told = {**_of_docstring(function), **told}
+        told = {**of_docstring(function), **told}
     told |= {column: _ALWAYS[column] for column in _PLAIN & told.keys() if name != "power-cycles"}
     found = {str(column): told.get(str(column), _ALWAYS.get(str(column), "")) for column in table.columns}
     return {column: meaning.rstrip(". ").replace("`", "") for column, meaning in found.items() if meaning}

@@ -28,10 +28,11 @@ import plotly.graph_objects as graph
 import plotly.offline
 from matplotlib.figure import Figure
 
-from . import files, findings, meanings, notebook, planning, plot, radio, report, style, timing
+from . import arguments, files, findings, meanings, notebook, planning, plot, radio, report, style, timing
 from .packets import Data, Packet, Request
 from .results import Log
 from .rounds import rounds
+from .scenario import Scenario
 from .settings import Settings
 from .timeline import DETAIL_SECONDS
 from .version import version
@@ -43,6 +44,7 @@ _EVENTS_MOST = 20
 _OFF = "rgba(127, 140, 160, 0.2)"
 
 
+@arguments.of_log
 def write(log: Log, path: str | os.PathLike[str], **given: Any) -> Path:
     """Writes the page of a run into a file, and gives its path.
 
@@ -60,6 +62,7 @@ def write(log: Log, path: str | os.PathLike[str], **given: Any) -> Path:
     return files.write(path, text(log, **given).encode())
 
 
+@arguments.of_log
 def text(log: Log, **given: Any) -> str:
     """The text of the page (see `write`)."""
     return of_settings(log, Settings.of(log.scenario, **given))
@@ -105,12 +108,18 @@ def _script() -> str:
 
 def about(log: Log) -> str:
     """What was run, in some sentences."""
-    scenario = log.scenario
+    return (
+        f"{about_network(log.scenario)} {len(log.transmissions):,} transmissions, {len(log.receptions):,} receptions, "
+        f"{len(log.deliveries):,} deliveries."
+    )
+
+
+def about_network(scenario: Scenario) -> str:
+    """What a network is, in two sentences."""
     hosts = ", ".join(f"{findings.node(scenario, node)} (rank {rank})" for rank, node in sorted(scenario.hosts.items())) or "none"
     return (
         f"{len(scenario.nodes)} nodes, {len(scenario.links)} links, hosts: {hosts}. {scenario.frames} frames of "
-        f"{scenario.frame_seconds} s in profile {scenario.profile}: {scenario.seconds:,} s. "
-        f"{len(log.transmissions):,} transmissions, {len(log.receptions):,} receptions, {len(log.deliveries):,} deliveries."
+        f"{scenario.frame_seconds} s in profile {scenario.profile}: {scenario.seconds:,} s."
     )
 
 

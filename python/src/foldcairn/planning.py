@@ -22,6 +22,7 @@
 | when two hosts served at once | `hosts(log, "at once")` |
 | outages | `outages(log)`, `outages(log, "stream")`, `outages(log, "node")` |
 | requests, collisions, acknowledgements | `contention(log)`, `contention(log, "node")`, `contention(log, "slot")` |
+| how likely all this is, over many seeds | `sample(scenario, seeds=range(1000))` |
 | which links and nodes matter most | `importance(scenario)`, `importance(scenario, "nodes")` |
 | how many more streams the network takes | `capacity(scenario, every=60)` |
 | how long things take at most, by proof | `bounds(scenario)`, `bounds(scenario, "stream")` |
@@ -30,13 +31,14 @@
 
 `log` is a `results.Log`, as `foldcairn.run` and `results.log` give it. `delivery_ratio`, `fates`, `packets`, `latency`, `latencies`,
 `deadline`, `duty_cycle`, `battery_life` and `summary` also take a report without a log, as `results.outcome` gives it for runs
-of hours, up to 64 nodes over 4,096 frames; `importance`, `capacity` and `bounds` take the network itself, of that length.
+of hours, up to 64 nodes over 4,096 frames; `sample`, `importance`, `capacity` and `bounds` take the network itself, of that length.
 
 `receivers` says for whom packets are meant, where that is not all nodes: the forms are in `foldcairn.receivers`. Where nodes have
 names, tables have these in place of ids. Columns that end in `_seconds` are in seconds of true time from the start of the run, or
-spans of it; ratios and shares are from 0 to 1. Ids and counts are int64, also in tables without rows. Each function says what its
-columns mean. The programs that run the scenarios are proved; these functions are plain Python that reads what they write: they
-are tested, and nothing of them is proved.
+spans of it; those that begin with `planned_` are by plan, in reports without a log. Ratios and shares are from 0 to 1. Ids and counts
+are int64, also in tables without rows. Each function says what its columns mean. The programs that run the scenarios, and that say what
+became of each packet, are proved; these functions are plain Python that reads what they write: they are tested, and nothing of them
+is proved.
 """
 
 from __future__ import annotations
@@ -45,8 +47,9 @@ import math
 
 import pandas as pd
 
-from . import bounds as _bounds, capacity as _capacity, delivery, importance as _importance, radio, rounds as _rounds, service
+from . import bounds as _bounds, capacity as _capacity, delivery, importance as _importance, radio, rounds as _rounds, sample as _sample, service
 from .answers import answer
+from .counts import Counts
 from .labels import answers
 from .receivers import Receivers
 from .program import Refused
@@ -55,8 +58,8 @@ from .scenario import Scenario
 
 __all__ = [
     "battery_life", "bounds", "capacity", "cautions", "contention", "data_slots", "deadline", "delivery_ratio", "duty_cycle", "fates",
-    "hosts", "importance", "joins", "latencies", "latency", "outages", "packets", "power_cycles", "radio_time", "rounds", "streams",
-    "summary", "tables",
+    "hosts", "importance", "joins", "latencies", "latency", "outages", "packets", "power_cycles", "radio_time", "rounds", "sample",
+    "streams", "summary", "tables",
 ]  # fmt: skip
 
 delivery_ratio = answers(delivery.delivery_ratio)
@@ -76,6 +79,7 @@ hosts = answers(service.hosts)
 outages = answers(service.outages)
 power_cycles = answers(service.power_cycles)
 importance, capacity = answers(_importance.importance), answers(_capacity.capacity)
+sample = _sample.sample
 bounds = answers(_bounds.bounds)
 
 
@@ -138,10 +142,11 @@ def cautions(log: Log) -> list[str]:
     return found
 
 
-def summary(run: Report | Scenario | str, *, receivers: Receivers = None) -> dict[str, float]:
+def summary(run: Report | Counts | Scenario | str, *, receivers: Receivers = None) -> dict[str, float]:
     """The main numbers of a run in one row, for `sweep.sweep`; a scenario or its text is run first, by `results.log`, or by `results.bus`
-    where it is too long for a log. Of a report without a log there are `ratio_of_put`, the latencies, `duty_cycle` and
-    `duty_cycle_in_rounds`, by plan.
+    where it is too long for a log. Of a report without a log there are the two ratios, and, by plan, the latencies, `duty_cycle` and
+    `duty_cycle_in_rounds`. Of counts of one seed, which a sweep of `counts.Sampled(network, seed)` has soonest, there are the same but for
+    `ratio_of_sent_while_on`, as `Sample.network` has them, and the parts `dropped`, `sent`, `waiting` and `cleared`.
 
     ratio_of_put, ratio_of_sent_while_on   as `delivery_ratio` has them, over all streams and the `receivers` that are meant
     latency_median, latency_p90    seconds from put to delivery
@@ -154,13 +159,15 @@ def summary(run: Report | Scenario | str, *, receivers: Receivers = None) -> dic
     duty_cycle, duty_cycle_in_rounds   the means over the nodes that had power
     What there is not is not a number (NaN). Raises what `results.log` and `delivery_ratio` raise.
     """
+    if isinstance(run, Counts):
+        return _sample.summary(run, receivers)
     # Without warnings: in a sweep they would come once a case.
     log = run if isinstance(run, Report) else _run_of(run)
     if not isinstance(log, Log):
         return _summary_without_log(log, receivers)
     ratio = delivery.delivery_ratio(log, "all", receivers=receivers).iloc[0]
     terms, asked, duty = service.hosts(log), service.contention(log), radio.duty_cycle(log)
-    waited = delivery.latencies(log, receivers=receivers)["latency_seconds"]
+    waited = delivery.waited(log, receivers)
     requests = int(asked["requests"].sum())
     return {
         "ratio_of_put": float(ratio["ratio_of_put"]),
@@ -192,10 +199,12 @@ def _run_of(scenario: Scenario | str) -> Report:
 
 def _summary_without_log(report: Report, receivers: Receivers) -> dict[str, float]:
     """What of `summary` a report tells."""
-    waited = delivery.latencies(report, receivers=receivers)["latency_seconds"]
+    ratio = delivery.delivery_ratio(report, "all", receivers=receivers).iloc[0]
+    waited = delivery.waited(report, receivers)
     duty = radio.duty_cycle(report)
     return {
-        "ratio_of_put": float(delivery.delivery_ratio(report, "all", receivers=receivers)["ratio_of_put"].iloc[0]),
+        "ratio_of_put": float(ratio["ratio_of_put"]),
+        "ratio_of_sent_while_on": float(ratio["ratio_of_sent_while_on"]),
         "latency_median": float(waited.median()),
         "latency_p90": float(waited.quantile(0.9)),
         "duty_cycle": float(duty["duty_cycle"].mean()),

@@ -1,4 +1,5 @@
-"""The commands of `python3 -m foldcairn` that run a network many times: plans side by side, room for more streams, and what matters most.
+"""The commands of `python3 -m foldcairn` that run a network many times: a sample of seeds, plans side by side, room for more streams, and
+what matters most.
 
 Tested, not proved.
 """
@@ -16,7 +17,7 @@ from typing import Any
 
 import pandas as pd
 
-from . import commands, planning, report
+from . import commands, planning, program, report
 from .arguments import ArgumentError
 from .commands import Commands
 from .scenario import Scenario
@@ -24,6 +25,7 @@ from .scenario import Scenario
 
 def add_commands(listed: Commands) -> None:
     """Adds the commands to those of `python3 -m foldcairn`."""
+    _add_sample(listed)
     _add_compare(listed)
     _add_capacity(listed)
     _add_importance(listed)
@@ -40,7 +42,7 @@ def workers(jobs: int | None) -> Iterator[Executor]:
             raise
 
 
-def _add(listed: Commands, name: str, run: Any, about: str, files: str, seeds: str) -> argparse.ArgumentParser:
+def _add(listed: Commands, name: str, run: Any, about: str, files: str, seeds: str | None) -> argparse.ArgumentParser:
     """A command with what all of them take."""
     parser = commands.add(listed, name, run, about)
     if files:
@@ -63,6 +65,38 @@ def _write(table: pd.DataFrame, as_json: bool) -> int:
     return 0
 
 
+def _add_sample(listed: Commands) -> None:
+    parser = _add(
+        listed, "sample", _sample,
+        "Runs a network with the losses of many seeds, and says how likely it is: delivery ratios, latencies, fates, radio time, searching "
+        "and battery lives with means, standard errors, intervals of 95 % and quantiles over the seeds. It goes on where it was stopped if it "
+        "is given the same folder of results. (`foldcairn sample FROM COUNT` with two numbers is the command of the program, which counts "
+        "what these tables are made of.)", "", None,
+    )  # fmt: skip
+    parser.add_argument("--seeds", default="100", metavar="N", help="how many seeds, from 1 on, or A-B for those from A to B (100 without it)")
+    parser.add_argument("--deadline", type=float, metavar="S", help="say also which part is delivered within so many seconds")
+    parser.add_argument("--html", metavar="FILE", help="write one HTML file with the tables and a map instead; it is whole without other files")
+    commands.add_battery(parser)
+
+
+def _sample(chosen: argparse.Namespace) -> int:
+    from . import sample_page
+
+    network, battery = commands.scenario(chosen.file, chosen.ratios), commands.battery(chosen)
+    with workers(chosen.jobs) as pool:
+        found = planning.sample(
+            network, commands.many_seeds(chosen.seeds), receivers=commands.receivers(chosen.receivers), deadline=chosen.deadline, executor=pool,
+            results=chosen.results,
+        )  # fmt: skip
+    if chosen.html:
+        found.write(chosen.html, title=Path(chosen.file).stem, **battery)
+    elif chosen.json:
+        sys.stdout.write(report.as_json(found.tables(**battery), program.versions()))
+    else:
+        sys.stdout.write(report.shown(found.tables(**battery), sample_page.titles(found, battery)))
+    return 0
+
+
 def _add_compare(listed: Commands) -> None:
     parser = _add(
         listed, "compare", _compare,
@@ -71,6 +105,7 @@ def _add_compare(listed: Commands) -> None:
         "two scenarios or more; a plan is called NAME, or as its file", "1-4",
     )  # fmt: skip
     parser.add_argument("-o", "--output", metavar="FILE", default="plans.html", help="the page that is written (plans.html without it)")
+    parser.add_argument("--by", choices=("log", "sample"), help="all answers by logs, or those that a sample has, for hundreds of seeds")
     parser.add_argument("--title", default="Plans side by side", help="the title of the page")
     parser.add_argument("--site", default="", help="the name of the site, below the title")
     parser.add_argument("--notes", metavar="FILE", help="a text of your own, which stands at the top")
@@ -83,7 +118,7 @@ def _compare(chosen: argparse.Namespace) -> int:
         told = report.compare(
             plans, chosen.output, seeds=commands.seeds(chosen.seeds), title=chosen.title, site=chosen.site,
             notes=Path(chosen.notes).read_text(encoding="utf-8") if chosen.notes else "", positions=positions,
-            receivers=commands.receivers(chosen.receivers), executor=pool, results=chosen.results,
+            receivers=commands.receivers(chosen.receivers), executor=pool, results=chosen.results, by=chosen.by,
         )  # fmt: skip
     return _write(told.table, chosen.json)
 

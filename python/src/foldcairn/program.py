@@ -18,10 +18,10 @@ from collections.abc import Sequence
 from pathlib import Path
 from typing import IO
 
-from . import arguments, faults, files, front_end, version
+from . import arguments, faults, files, front_end, lines, version
 
 # The commands of the planner's program; all others are those of the first program.
-PLANNERS = frozenset({"draw", "outcome"})
+PLANNERS = lines.NETWORK_COMMANDS
 # How many bytes of standard error an exception keeps.
 _STDERR_MOST = 4_000
 # For how many seconds a program that took too long may end by itself, before it is killed.
@@ -379,20 +379,22 @@ def _refused(words: Sequence[str], data: bytes, output: bytes, stderr: str) -> P
     return Refused(line, kind, faults.line_of(data, line), faults.explain(data, line, kind, command), words, 1, stderr)
 
 
-# The lines that a whole report has: their first word, and whether it has one of them for each node.
+# The lines that a whole report has: their first word, and the word of the lines of the text each of which has one; without such a
+# word there is one.
 _CLOSING = {
-    "run": (b"energy ", True),
-    "log": (b"energy ", True),
-    "bus": (b"cost ", True),
-    "outcome": (b"cost ", True),
-    "flood": (b"sent ", False),
-    "demo": (b"on ", False),
+    "run": (b"energy ", b"node"),
+    "log": (b"energy ", b"node"),
+    "bus": (b"cost ", b"node"),
+    "outcome": (b"cost ", b"node"),
+    "fates": (b"put ", b"put"),
+    "flood": (b"sent ", b""),
+    "demo": (b"on ", b""),
 }
 
 
 def _closing_lines(words: Sequence[str], output: bytes) -> int:
     """How many closing lines (`energy`, `cost`, ..) an output has."""
-    first, _ = _CLOSING.get(words[0] if words else "", (b"", False))
+    first, _ = _CLOSING.get(words[0] if words else "", (b"", b""))
     if not first:
         return 0
     at = 0 if output.startswith(first) else output.find(b"\n" + first) + 1
@@ -408,7 +410,7 @@ def _closing_lines(words: Sequence[str], output: bytes) -> int:
 
 
 def _closing_lines_of_file(words: Sequence[str], sink: IO[bytes]) -> int:
-    first, _ = _CLOSING.get(words[0] if words else "", (b"", False))
+    first, _ = _CLOSING.get(words[0] if words else "", (b"", b""))
     count = 0
     if first:
         for row in sink:
@@ -422,12 +424,12 @@ def _closing_lines_of_file(words: Sequence[str], sink: IO[bytes]) -> int:
 def _check_whole(words: Sequence[str], data: bytes, end: bytes, closing: int, size: int) -> None:
     """Raises `CutOutput` where an output that ends with `end` and has so many closing lines is not whole."""
     command = " ".join(words)
-    first, for_each_node = _CLOSING.get(words[0] if words else "", (b"", False))
+    first, counted = _CLOSING.get(words[0] if words else "", (b"", b""))
     if size and end != b"\n":
         raise CutOutput(f"the output of `{command}` is cut: its last line has no end", words, 0)
     if not first:
         return
-    wanted = len(re.findall(rb"^[ \t]*node[ \t]", data, re.MULTILINE)) if for_each_node else 1
+    wanted = len(re.findall(rb"^[ \t]*" + counted + rb"[ \t]", data, re.MULTILINE)) if counted else 1
     if closing != wanted:
         word = first.decode().strip()
         raise CutOutput(f"the output of `{command}` is cut: it has {closing} of {wanted} `{word}` lines", words, 0)

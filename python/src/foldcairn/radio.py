@@ -207,10 +207,19 @@ def battery_life(
     Of a report without a log it is of the whole run, as `duty_cycle` has it.
     Raises `ArgumentError` where a current or the capacity is below 0, or the time is no part of the run.
     """
+    table = duty_cycle(log, start_seconds=start_seconds, end_seconds=end_seconds)
+    lives = lives_of(table, capacity_mah=capacity_mah, transmit_ma=transmit_ma, receive_ma=receive_ma, sleep_ma=sleep_ma)
+    return pd.concat([table[["node"]], lives], axis=1)
+
+
+def lives_of(
+    table: pd.DataFrame, *, capacity_mah: float = 2600.0, transmit_ma: float = 17.4, receive_ma: float = 18.8, sleep_ma: float = 0.0
+) -> pd.DataFrame:
+    """What `battery_life` says of each row of a table with `powered_seconds`, `on_seconds`, `transmit_seconds` and
+    `searching_seconds`. Raises `ArgumentError` where a current or the capacity is below 0."""
     capacity_mah = arguments.real("capacity_mah", capacity_mah, 0)
     transmit_ma, receive_ma = arguments.real("transmit_ma", transmit_ma, 0), arguments.real("receive_ma", receive_ma, 0)
     sleep_ma = arguments.real("sleep_ma", sleep_ma, 0)
-    table = duty_cycle(log, start_seconds=start_seconds, end_seconds=end_seconds)
     powered = table["powered_seconds"].where(table["powered_seconds"] > 0)
 
     def mean_current(on: pd.Series) -> pd.Series:
@@ -223,4 +232,4 @@ def battery_life(
 
     mean = mean_current(table["on_seconds"])
     in_rounds = mean_current(table["on_seconds"] - table["searching_seconds"])
-    return pd.DataFrame({"node": table["node"], "mean_ma": mean, "days": days(mean), "days_in_rounds": days(in_rounds)})
+    return pd.DataFrame({"mean_ma": mean, "days": days(mean), "days_in_rounds": days(in_rounds)})

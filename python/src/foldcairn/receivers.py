@@ -82,7 +82,7 @@ class Meant:
         return kept
 
     def pairs(self, log: Report, packets: pd.DataFrame) -> pd.DataFrame:
-        """A row for each packet of `delivery.packets` and each node, `node`, that it is meant for."""
+        """A row for each packet of `delivery.packets`, with `sent_seconds`, and each node, `node`, that it is meant for."""
         parts = []
         for nodes, streams in self.groups():
             part = packets[of_streams(packets, streams)]
@@ -93,31 +93,17 @@ class Meant:
         table = pd.concat(parts) if parts else packets.assign(node=0).iloc[:0]
         return table[table["node"] != table["source"]].sort_index(kind="stable").reset_index(drop=True)
 
-    def due(self, report: Report, put: Mapping[tuple[int, int], int], without: int | None = None) -> int:
-        """How many pairs of a packet and a receiver there are in a report that has no log, of so many packets of each stream;
-        `without` is neither a source nor a receiver. Where the host that serves is meant, packets of its own do not count
-        that others delivered."""
-        total = 0
-        for nodes, streams in self.groups():
-            for stream in streams:
-                if stream[0] != without:
-                    others = 1 if isinstance(nodes, str) else len(nodes - {stream[0]} - ({without} if without is not None else set()))
-                    total += put.get(stream, 0) * others
-        table = report.deliveries
-        own = table[table["source"] == table["rank"].map(self.scenario.hosts)]
-        own = own[["source", "boot", "stream", "number"]].drop_duplicates()
-        meant = {stream for nodes, streams in self.groups() if nodes == HOSTS for stream in streams}
-        streams_of_own = zip(own["source"].tolist(), own["stream"].tolist())
-        return total - len([stream for stream in streams_of_own if stream in meant and stream[0] != without])
-
 
 def _serving(log: Report, packets: pd.DataFrame) -> NDArray[np.int64]:
-    """The host that serves when each packet is sent, or is put if it never is."""
+    """The host that serves when each packet is sent, or is put if it never is; the packets have `rank`, `sent_seconds`, which may be by
+    plan, and `put_seconds`."""
     hosts = log.scenario.hosts
     opened = _rounds(log).sort_values("start_seconds")
     if opened.empty:
         return np.full(len(packets), hosts[min(hosts)] if hosts else -1, dtype="int64")
-    place = np.searchsorted(opened["start_seconds"].to_numpy(), packets["put_seconds"].to_numpy(), side="right") - 1
+    # Without a log nobody knows the channel of a packet that was sent and delivered by none, but the frame in which it was sent.
+    when = packets["sent_seconds"].fillna(packets["put_seconds"])
+    place = np.searchsorted(opened["start_seconds"].to_numpy(), when.to_numpy(), side="right") - 1
     before = opened["host"].to_numpy()[np.maximum(place, 0)].astype("int64")
     sent = packets["rank"].map({-1: -1, **hosts}).to_numpy(dtype="int64")
     return np.where(sent >= 0, sent, before)
@@ -136,7 +122,9 @@ def _rounds(log: Report) -> pd.DataFrame:
 
 def meant(scenario: Scenario, receivers: Receivers = None) -> Meant:
     """For whom the packets of each stream are meant. Raises `ValueError` for a word that is none of them, a node that the scenario
-    does not have, or a stream of a mapping that is not named."""
+    does not have, or a stream of a mapping that is not named. What is a `Meant` already stays."""
+    if isinstance(receivers, Meant):
+        return receivers
     given = scenario.receivers if receivers is None else receivers
     streams = streams_of(scenario)
     if not isinstance(given, Mapping):

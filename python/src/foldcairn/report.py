@@ -124,10 +124,7 @@ def add_command(listed: Commands) -> None:
     )
     parser.add_argument("--json", action="store_true", help="write all tables as JSON, with the versions of package and program")
     commands.add_receivers(parser)
-    parser.add_argument("--capacity-mah", type=float, metavar="MAH", help="the capacity of a battery (2600 without it)")
-    for name, words in (("transmit", "while the radio transmits (17.4)"), ("receive", "while it is on otherwise (18.8)"),
-                        ("sleep", "while it is off (0)")):  # fmt: skip
-        parser.add_argument(f"--{name}-ma", type=float, metavar="MA", help=f"the current {words}")
+    commands.add_battery(parser)
     page = parser.add_argument_group("the page of --html")
     page.add_argument("--title", default="", help="the title of the page; the name of the scenario without it")
     page.add_argument("--site", default="", help="the name of the site, below the title")
@@ -169,12 +166,11 @@ def _settings(log: results.Log, chosen: argparse.Namespace) -> Settings:
     # First of all, since a table of ratios may have the names that this one gives.
     positions = commands.places(log.scenario, chosen.places)
     commands.set_ratios(log.scenario, chosen.ratios)
-    battery = {name: getattr(chosen, name) for name in ("capacity_mah", "transmit_ma", "receive_ma", "sleep_ma")}
     return Settings.of(
         log.scenario, title=chosen.title or Path(chosen.file).stem, site=chosen.site, plan=chosen.plan,
         notes=Path(chosen.notes).read_text(encoding="utf-8") if chosen.notes else "",
         positions=positions, receivers=commands.receivers(chosen.receivers),
-        battery={name: value for name, value in battery.items() if value is not None}, background=chosen.background,
+        battery=commands.battery(chosen), background=chosen.background,
         extent=commands.extent(chosen.extent),
     )  # fmt: skip
 

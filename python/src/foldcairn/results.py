@@ -1,5 +1,5 @@
-"""What the programs write, as tables: of `run`, `log`, `bus`, `outcome`, `flood`, `deadlines`, `times` and `return`. What `check`
-answers is in `verdicts`.
+"""What the programs write, as tables: of `run`, `log`, `bus`, `outcome`, `fates`, `flood`, `deadlines`, `times` and `return`. What
+`check` answers is in `verdicts`.
 
 Each function runs the program on a scenario and reads its lines, which docs/OUTPUT.md has. Nothing is simulated here.
 Columns are named in full: those that end in `_ticks` are true time in ticks of 1/64 µs, those that end in `_seconds` true
@@ -50,6 +50,14 @@ _DELIVER = {
     "number": "int64",
     "payload": "category",
 }
+# What tells one packet from all others.
+PACKET = ["source", "boot", "stream", "number"]
+# The words of `fates` for what became of a packet, and the columns of its table.
+FATES = ("dropped", "sent", "waiting", "cleared")
+FATE_TYPES = {
+    "frame": "int64", "source": "int64", "stream": "int64", "boot": "int64", "number": "int64",
+    "became": pd.CategoricalDtype(FATES), "sent_frame": "int64", "sent_slot": "int64", "deliveries": "int64", "cleared_frame": "int64",
+}  # fmt: skip
 _DROP = {"frame": "int64", "node": "int64", "stream": "int64"}
 _COST = {"node": "int64", "transmit_ticks": "int64", "window_ticks": "int64", "scanned_frames": "int64"}
 _ENERGY = {**_COST, "on_ticks": "int64"}
@@ -214,17 +222,66 @@ def bus(scenario: Given, *, program: Path | None = None, timeout: float | None =
     return _bus_report(output, text, _scenario(scenario), program)
 
 
-def outcome(scenario: Given, seed: int = 1, *, program: Path | None = None, timeout: float | None = None) -> Report:
+def outcome(
+    scenario: Given, seed: int = 1, *, program: Path | None = None, timeout: float | None = None, warn: bool = True
+) -> Report:
     """The report of `bus` with the losses of a seed, 0 to 9,999,999,999,999, drawn from the reception ratios as the bus runs
     (docs/RATIOS.md): the same deliveries and drops as `losses.draw` and `run` have, without clocks and without lines of losses. Nodes
     times frames may be up to 262,144, which is 64 nodes over 4,096 frames. A scenario without ratios, or whose losses are drawn, is
-    run as it is. `program` is that of `program.find_planner` without it. Raises `ArgumentError` where the seed is none."""
+    run as it is. `program` is that of `program.find_planner` without it. Unless `warn` is False it gives `ScenarioWarning`s. Raises
+    `ArgumentError` where the seed is none."""
     seed = arguments.whole("seed", seed, 0, lines.SEED_MOST)
-    text = _text(scenario, long=True, ratios=True)
+    text = _text(scenario, warn, long=True, ratios=True)
     planner = programs.find_planner() if program is None else program
     output = programs.execute(["outcome", str(seed)], text, program=planner, timeout=timeout)
     whole = _scenario(scenario)
     return _bus_report(output, text, whole, planner, seed if whole.is_to_be_drawn else whole.seed)
+
+
+def fates(scenario: Given, seed: int = 1, *, program: Path | None = None, timeout: float | None = None) -> pd.DataFrame:
+    """What became of each packet that is put in the run of `outcome`: a row for each `put` line, in their order (docs/RATIOS.md).
+
+    frame, source, stream    the frame, the node and the stream of the line
+    boot, number             which boot of the node it was, and the packet's number in the stream since then; -1 if it was dropped
+    became                   "dropped" (it never was in a queue), "sent" (its node transmitted it), "waiting" (it was in its queue at the
+                             end), or "cleared" (its queue was emptied before it was sent)
+    sent_frame, sent_slot    when its node transmitted it first: the frame, and the data slot of its round; -1 if it never did
+    deliveries               how many nodes delivered it
+    cleared_frame            in which frame its queue was emptied; -1 if it was not
+    Arguments, ranges and errors are those of `outcome`. Raises `columns.UnknownLine` where the program writes other lines.
+    """
+    seed = arguments.whole("seed", seed, 0, lines.SEED_MOST)
+    return _fates(_text(scenario, long=True, ratios=True), seed, program, timeout)
+
+
+def fates_of(report: Report) -> pd.DataFrame:
+    """The `fates` of the run of a report: of its scenario as it was run, or of its ratios and the seed by which they were drawn."""
+    drawn_as_it_ran = report.scenario.is_to_be_drawn and report.origin.seed is not None
+    text = report.scenario.network_text(warn=False) if drawn_as_it_ran else report.scenario.text(warn=False)
+    return _fates(text.encode(), report.origin.seed or 0, None, None)
+
+
+def _fates(text: bytes, seed: int, program: Path | None, timeout: float | None) -> pd.DataFrame:
+    output = programs.execute(["fates", str(seed)], text, program=program, timeout=timeout)
+    rows = [_fate(line) for line in output.decode().splitlines()]
+    return pd.DataFrame(rows, columns=list(FATE_TYPES)).astype(FATE_TYPES)
+
+
+def _fate(line: str) -> tuple[int | str, ...]:
+    """The row of a line of `fates`."""
+    try:
+        word, *place = line.split(" ")
+        if word == "put" and place[3:] == ["dropped"]:
+            frame, node, stream = map(int, place[:3])
+            return frame, node, stream, -1, -1, "dropped", -1, -1, 0, -1
+        became, more = place[5], [int(number) for number in place[6:]]
+        sent = more if became == "sent" else [-1, -1, 0]
+        cleared = more if became == "cleared" else [-1]
+        if word == "put" and became in FATES[1:] and len(more) == {"sent": 3, "waiting": 0, "cleared": 1}[became]:
+            return *map(int, place[:5]), became, *sent, *cleared
+    except (ValueError, IndexError):
+        pass
+    raise columns.UnknownLine(f"unknown line {line!r} of `fates`")
 
 
 def _bus_report(output: bytes, text: bytes, whole: Scenario, program: Path | None, seed: int | None = None) -> Report:

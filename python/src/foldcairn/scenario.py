@@ -533,7 +533,8 @@ class Scenario:
 
     def network_text(self, *, warn: bool = True) -> str:
         """The canonical text, and below a line `ratios` a line for each reception ratio, in millionths (docs/RATIOS.md). A scenario
-        without ratios, or whose losses are drawn, has none."""
+        without ratios, or whose losses are drawn, has none. Raises what `check_ratios` raises."""
+        self.check_ratios()
         below = ["ratios", *(one.text() for one in self.ratio_lines())] if self.is_to_be_drawn else []
         return self.text(warn=warn) + "".join(f"{one}\n" for one in below)
 

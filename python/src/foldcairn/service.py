@@ -11,7 +11,7 @@ from typing import Any
 import numpy as np
 import pandas as pd
 
-from . import arguments, power, radio
+from . import arguments, fates, power, radio
 from .answers import answer
 from .results import Log
 from .rounds import TERM, joins, rounds, streams
@@ -235,7 +235,7 @@ def outages(log: Log, by: str = "host") -> pd.DataFrame:
 
 def _causes(log: Log, table: pd.DataFrame) -> pd.Categorical:
     """Why each stream was without deliveries."""
-    put = power.puts(log)
+    put = fates.puts(log)
     packet = ["source", "boot", "stream", "number"]
     first = log.deliveries.groupby(packet, as_index=False)["delivered_seconds"].min()
     put = put.merge(first, how="left", on=packet)

@@ -7,11 +7,12 @@ many machines. A run depends on its text alone, so the table is the same whereve
 
 from __future__ import annotations
 
+import functools
 import hashlib
 import itertools
 import os
 from collections.abc import Callable, Iterable, Iterator, Mapping, Sequence
-from concurrent.futures import FIRST_COMPLETED, Executor, Future, ProcessPoolExecutor, wait
+from concurrent.futures import Executor
 from dataclasses import dataclass
 from numbers import Integral
 from pathlib import Path
@@ -19,7 +20,8 @@ from typing import Any, TextIO
 
 import pandas
 
-from . import kept, program, progress as bars
+from . import executors, kept, program, progress as bars
+from .counts import Counts
 from .losses import Drawing, TooManyLosses
 from .scenario import Scenario
 
@@ -29,8 +31,6 @@ Measure = Callable[[Any], "Mapping[str, Any] | pandas.DataFrame"]
 
 # Ends that the same scenario has each time; a case with another one is run again by the next call.
 _LASTING = (program.Refused, program.BadUsage, program.BadWords, TooManyLosses)
-# How many cases are handed to the executor and not done, at most; more would cost memory only.
-_WAITING_MOST = 1_000
 
 
 class SweepStopped(Exception):
@@ -57,12 +57,21 @@ def text_of(scenario: Scenario | str) -> str:
     return scenario if isinstance(scenario, str) else scenario.text(warn=False)
 
 
-def summary(scenario: Scenario | str) -> dict[str, int]:
+def summary(scenario: Scenario | str | Counts) -> dict[str, int]:
     """What `run` gives in sums, as tools/sweep.sh has them.
 
     `deliveries` and `drops` count lines; `sent_ticks` and `on_ticks` are for how many ticks of 1/64 µs all nodes together
-    transmitted and had their radios on. Raises what `program.execute` raises.
+    transmitted and had their radios on. Of counts (`counts.Sampled`), which no clock has a part in, there are `window_ticks` and
+    `scanned_frames` in place of `on_ticks`: the ticks that are planned for windows, and the frames at whose start a node searched. Raises
+    what `program.execute` raises.
     """
+    if isinstance(scenario, Counts):
+        cost = scenario.cost
+        return {
+            "deliveries": int(scenario.latencies["count"].sum()), "drops": int(scenario.puts["dropped"].sum()),
+            "sent_ticks": int(cost["transmit_ticks"].sum()), "window_ticks": int(cost["window_ticks"].sum()),
+            "scanned_frames": int(cost["scanned_frames"].sum()),
+        }  # fmt: skip
     counts = {"deliveries": 0, "drops": 0, "sent_ticks": 0, "on_ticks": 0}
     for line in program.execute(["run"], text_of(scenario)).splitlines():
         if line.startswith(b"deliver "):
@@ -97,9 +106,10 @@ def sweep(
 
     build      called with a case's parameters by name, gives its scenario or text, or a `losses.Drawing`, whose losses are drawn
                once it is known that its result is not there; parameters are numbers, words and such
-    measure    takes what was built, a drawn scenario for a `Drawing` and a report for a `losses.Outcome`, and gives a mapping for
-               a row, or a DataFrame for several rows
-    executor   runs the cases; without one a pool with a process for each processor. The functions must be importable there.
+    measure    takes what was built, a drawn scenario for a `Drawing`, a report for a `losses.Outcome` and counts for a `counts.Sampled`, and
+               gives a mapping for a row, or a DataFrame for several rows
+    executor   runs the cases, also a client of `distributed`; without one a process for each processor. The functions must be importable
+               there
     results    a folder that keeps each result as soon as it is there; a later call takes what is there, and makes the rest
     progress   a bar on standard error or on the stream that is given, a line a minute where that is no terminal; False: none
     name       a name for the measure, by which results are kept instead of by its name and source
@@ -121,16 +131,11 @@ def sweep(
     known: dict[str, list[str]] = {}
     for key in store.keys():
         known.setdefault(key.split("-")[0], []).append(key)
-    runner = ProcessPoolExecutor() if executor is None else executor
     done: dict[str, _Outcome] = {}
-    try:
-        with bars.bar(len(listed), "cases", progress) as bar:
-            for case_name, outcome in _finished(runner, job, dict(zip(names, listed)), known, store):
-                done[case_name] = outcome
-                bar.update()
-    finally:
-        if executor is None:
-            runner.shutdown(cancel_futures=True)
+    with executors.running(executor) as runner, bars.bar(len(listed), "cases", progress) as bar:
+        for case_name, outcome in _finished(runner, job, dict(zip(names, listed)), known, store):
+            done[case_name] = outcome
+            bar.update()
     table = _table(listed, [done[case_name] for case_name in names])
     table.attrs.update(versions)
     return table
@@ -204,49 +209,24 @@ def _names(cases: Sequence[Case]) -> list[str]:
 def _finished(
     runner: Executor, job: _Job, cases: Mapping[str, dict[str, Any]], known: Mapping[str, list[str]], store: kept.Store
 ) -> Iterator[tuple[str, _Outcome]]:
-    """The outcomes as they come, with at most so many cases waiting at a time; what is new is kept."""
-    waiting: dict[Future[_Outcome | _Kept], str] = {}
-    # A result that turns out to be damaged is made again, with its key not known.
-    ahead: list[tuple[str, Sequence[str]]] = [(name, known.get(name, ())) for name in reversed(list(cases))]
+    """The outcomes as they come; what is new is kept."""
+
+    def call(name: str, keys: Sequence[str]) -> tuple[str, Callable[[], _Outcome | _Kept]]:
+        return name, functools.partial(job.run, name, cases[name], keys)
+
+    ahead = [call(name, known.get(name, ())) for name in reversed(list(cases))]
     left = len(cases)
     try:
-        while ahead or waiting:
-            while ahead and len(waiting) < _WAITING_MOST:
-                name, keys = ahead.pop()
-                waiting[_submitted(runner, job, left, name, cases[name], keys)] = name
-            finished, _ = wait(waiting, return_when=FIRST_COMPLETED)
-            for future in finished:
-                name = waiting.pop(future)
-                outcome = _outcome(_result(future, left), store)
-                if outcome is None:
-                    ahead.append((name, ()))
-                else:
-                    left -= 1
-                    yield name, outcome
-    finally:
-        for future in waiting:
-            future.cancel()
-
-
-def _submitted(
-    runner: Executor, job: _Job, left: int, name: str, case: dict[str, Any], keys: Sequence[str]
-) -> Future[_Outcome | _Kept]:
-    try:
-        return runner.submit(job.run, name, case, keys)
-    except (OSError, RuntimeError) as error:
-        raise _stopped(left, error) from error
-
-
-def _result(future: Future[_Outcome | _Kept], left: int) -> _Outcome | _Kept:
-    try:
-        return future.result()
-    except (OSError, RuntimeError) as error:
-        # A worker that is killed breaks its pool: BrokenExecutor is a RuntimeError.
-        raise _stopped(left, error) from error
-
-
-def _stopped(left: int, error: Exception) -> SweepStopped:
-    return SweepStopped(f"the executor broke down, with {left} cases still to make: {error or type(error).__name__}")
+        for name, found in executors.done(runner, ahead):
+            outcome = _outcome(found, store)
+            if outcome is None:
+                # A result that turns out to be damaged is made again, with its key not known.
+                ahead.append(call(name, ()))
+            else:
+                left -= 1
+                yield name, outcome
+    except executors.BrokeDown as error:
+        raise SweepStopped(f"the executor broke down, with {left} cases still to make: {error}") from error
 
 
 def _outcome(found: _Outcome | _Kept, store: kept.Store) -> _Outcome | None:

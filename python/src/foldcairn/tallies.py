@@ -1,0 +1,213 @@
+"""What is counted of each seed of a sample: of each stream, at each receiver and of the whole network, the packets that were put and
+delivered and their latencies; the fates of packets, and the cost of radios. Tested, not proved."""
+
+from __future__ import annotations
+
+import functools
+from collections.abc import Mapping, Sequence
+from dataclasses import dataclass
+from typing import Any
+
+import numpy as np
+import pandas as pd
+from numpy.typing import NDArray
+
+from . import arguments, counts, lines, results, served
+from .events import Put
+from .receivers import HOSTS, Meant, Receivers, meant
+from .scenario import Scenario
+from .seeds import Question
+
+Numbers = NDArray[np.float64]
+Places = NDArray[np.int64]
+
+# The numbers of a group, in the order in which they are kept.
+_NUMBERS = ("put", "delivered", "in_time", "median", "p90")
+_FATES = ["put", "dropped", "sent", "waiting", "cleared"]
+_COST = ["transmit_ticks", "window_ticks", "scanned_frames"]
+# For the sums of floats.
+_LITTLE = 1e-9
+
+
+@dataclass(frozen=True)
+class Groups:
+    """Numbers of the streams, of the receivers or of all together: of each an array with a row for each seed and a column for each."""
+
+    numbers: Mapping[str, Numbers]
+
+    def __getitem__(self, name: str) -> Numbers:
+        return self.numbers[name]
+
+    def ratio(self, part: str, whole: str) -> Numbers:
+        """One number as a part of another; missing where that is 0."""
+        found: Numbers = self[part] / np.where(self[whole] > 0, self[whole], np.nan)
+        return found
+
+
+@dataclass(frozen=True)
+class Tallies:
+    """What was counted of all seeds: `groups` by "stream", "node" and "all"; `fates`, by seed, stream with packets and fate (first how many
+    were put); and `cost`, by seed, node and kind. `rows` has the keys of their rows, by the same words, "fates" and "nodes"."""
+
+    groups: Mapping[str, Groups]
+    fates: Numbers
+    cost: Numbers
+    rows: Mapping[str, pd.DataFrame]
+
+    @classmethod
+    def of(cls, told: Sequence[Mapping[str, Any]], scenario: Scenario, whom: Meant) -> Tallies:
+        """The tallies of the answers to `question`."""
+        groups = {}
+        for by in ("stream", "node", "all"):
+            table = np.array([one[by] for one in told], dtype=np.float64)
+            groups[by] = Groups({name: table[:, place] for place, name in enumerate(_NUMBERS)})
+        fates, cost = (np.array([one[name] for one in told], dtype=np.float64) for name in ("fates", "cost"))
+        put = sorted({(event.node, event.stream) for event in scenario.script if isinstance(event, Put)})
+        rows = {
+            "stream": pd.DataFrame(list(whom.by_stream), columns=["source", "stream"]), "node": pd.DataFrame({"node": sorted(whom.nodes())}),
+            "all": pd.DataFrame(index=[0]), "fates": pd.DataFrame(put, columns=["source", "stream"]),
+            "nodes": pd.DataFrame({"node": sorted(scenario.nodes)}),
+        }  # fmt: skip
+        return cls(groups, fates, cost, rows)
+
+
+def question(scenario: Scenario, receivers: Receivers, deadline: float | None) -> Question:
+    """What is asked of each seed. Raises `ArgumentError` where nothing is put in the scenario."""
+    if not any(isinstance(event, Put) for event in scenario.script):
+        raise arguments.ArgumentError("nothing is put in this network, so nothing can be delivered; give it packets by `put` or `every`")
+    about = f"sample {receivers!r} {scenario.receivers!r} {sorted(scenario.keep_alive)} {deadline!r}"
+    return Question(scenario, functools.partial(_tally, receivers, deadline), about)
+
+
+def latency_seconds(profile: int, frames: Numbers) -> Numbers:
+    """The time from the start of a frame to the end of the last data slot that the round of the `frames`-th frame after it may have."""
+    slots = (1 + lines.DATA_SLOTS) * lines.slot_ticks(profile) / results.TICKS_A_SECOND
+    return frames * lines.frame_seconds(profile) + results.ROUND_SECONDS + slots
+
+
+def asks_for_deliveries(scenario: Scenario, whom: Meant) -> bool:
+    """Whether the counts of a seed do not tell what arrived: which of several hosts served, or which packets keep a stream alive."""
+    return bool(scenario.keep_alive) or (HOSTS in whom.by_stream.values() and len(scenario.hosts) > 1)
+
+
+@dataclass(frozen=True)
+class Arrivals:
+    """What was put and what arrived in some seeds, at nodes that it was meant for.
+
+    streams, nodes   the streams, each by its source and number, and the nodes that some stream is meant for
+    put              how many pairs of a packet and a receiver there are, by seed, stream and node
+    table            a row for each latency: `place` of the seed, of the stream (`group`), and of the node (`at`), `frames` and `count`
+    """
+
+    streams: Sequence[tuple[int, int]]
+    nodes: Sequence[int]
+    put: Numbers
+    table: pd.DataFrame
+
+    def ratios(self, without: int | None = None) -> Numbers:
+        """The part of what was put that was delivered, of each seed, where one node is neither a source nor a receiver; missing where
+        nothing was put."""
+        table = self.table
+        place = (table["place"] * len(self.streams) + table["group"]) * len(self.nodes) + table["at"]
+        delivered = np.bincount(place, table["count"], self.put.size).reshape(self.put.shape)
+        kept = np.outer([source != without for source, _ in self.streams], [node != without for node in self.nodes])
+        whole = (self.put * kept).sum(axis=(1, 2))
+        found: Numbers = (delivered * kept).sum(axis=(1, 2)) / np.where(whole > 0, whole, np.nan)
+        return found
+
+
+def arrivals(scenario: Scenario, receivers: Receivers, seeds: Sequence[int], found: counts.Counts | None = None) -> Arrivals:
+    """What arrived with the losses of these seeds, which follow each other: by the counts of the program's `sample`, which may be given, or
+    where these do not tell (`asks_for_deliveries`), by the deliveries of each seed. Raises what `program.execute` raises."""
+    whom = meant(scenario, receivers)
+    if asks_for_deliveries(scenario, whom):
+        return _by_deliveries(scenario, whom, seeds)
+    return _by_counts(counts.of(scenario, seeds[0], len(seeds)) if found is None else found, whom)
+
+
+def _by_counts(found: counts.Counts, whom: Meant) -> Arrivals:
+    streams, nodes = _places(whom)
+    (host,) = found.scenario.hosts.values() if HOSTS in whom.by_stream.values() else (0,)
+    is_meant = np.zeros((len(streams), len(nodes)), dtype=bool)
+    for stream, who in whom.by_stream.items():
+        for node in ({host} if isinstance(who, str) else who) - {stream[0]}:
+            is_meant[streams[stream], nodes[node]] = True
+    put = np.zeros((len(found.seeds), len(streams)))
+    put[_seed_of(found.puts, found.seeds), _stream_of(found.puts, streams)] = found.puts["put"]
+    table = found.latencies
+    group, at = _stream_of(table, streams), pd.Series(nodes, dtype="int64").reindex(table["node"]).fillna(-1).to_numpy(dtype="int64")
+    kept = (at >= 0) & is_meant[group, at]
+    parts = {"place": _seed_of(table, found.seeds), "group": group, "at": at, "frames": table["frames"].to_numpy(), "count": table["count"].to_numpy()}
+    return Arrivals(list(streams), list(nodes), put[..., None] * is_meant, pd.DataFrame({name: part[kept] for name, part in parts.items()}))
+
+
+def _by_deliveries(scenario: Scenario, whom: Meant, seeds: Sequence[int]) -> Arrivals:
+    streams, nodes = _places(whom)
+    put = np.zeros((len(seeds), len(streams), len(nodes)))
+    tables = []
+    for place, seed in enumerate(seeds):
+        found = served.of(scenario, whom, seed)
+        np.add.at(put[place], (_stream_of(found.put, streams), found.put["node"].map(nodes).to_numpy(dtype="int64")), 1)
+        came = found.arrived
+        parts = {"place": place, "group": _stream_of(came, streams), "at": came["node"].map(nodes), "frames": came["frames"], "count": 1}
+        tables.append(pd.DataFrame(parts))
+    return Arrivals(list(streams), list(nodes), put, pd.concat(tables, ignore_index=True).astype("int64"))
+
+
+def _places(whom: Meant) -> tuple[dict[tuple[int, int], int], dict[int, int]]:
+    """The places of the streams, and of the nodes that some stream is meant for."""
+    return {stream: place for place, stream in enumerate(whom.by_stream)}, {node: place for place, node in enumerate(sorted(whom.nodes()))}
+
+
+def _stream_of(table: pd.DataFrame, streams: Mapping[tuple[int, int], int]) -> Places:
+    """The place of the stream of each row."""
+    known = {4 * source + stream: place for (source, stream), place in streams.items()}
+    found: Places = (4 * table["source"].astype("int64") + table["stream"].astype("int64")).map(known).to_numpy(dtype="int64")
+    return found
+
+
+def _seed_of(table: pd.DataFrame, seeds: Sequence[int]) -> Places:
+    """The place of the seed of each row; the seeds ascend."""
+    found: Places = np.searchsorted(np.array(seeds), table["seed"].to_numpy())
+    return found
+
+
+def _tally(receivers: Receivers, deadline: float | None, scenario: Scenario, seeds: Sequence[int]) -> list[dict[str, Any]]:
+    """What is counted of each of these seeds; in the process of a worker."""
+    return tally(counts.of(scenario, seeds[0], len(seeds)), receivers, deadline)
+
+
+def tally(found: counts.Counts, receivers: Receivers, deadline: float | None) -> list[dict[str, Any]]:
+    """The answer to `question` of each seed of some counts."""
+    scenario, seeds = found.scenario, found.seeds
+    came = arrivals(scenario, receivers, seeds, found)
+    table, most = came.table, -1 if deadline is None else _frames_within(scenario.profile, deadline)
+    groups = {
+        "stream": (table["group"], came.put.sum(axis=2)), "node": (table["at"], came.put.sum(axis=1)),
+        "all": (0 * table["group"], came.put.sum(axis=(1, 2))[:, None]),
+    }  # fmt: skip
+    told = {by: _numbers(table, group.to_numpy(), put, most, scenario.profile) for by, (group, put) in groups.items()}
+    told["fates"] = found.puts[_FATES].to_numpy().reshape(len(seeds), -1, len(_FATES))
+    told["cost"] = found.cost[_COST].to_numpy().reshape(len(seeds), -1, len(_COST))
+    return [{name: part[place].tolist() for name, part in told.items()} for place in range(len(seeds))]
+
+
+def _frames_within(profile: int, deadline: float) -> int:
+    """The most frames of a latency within a deadline; -1 where none is."""
+    first = float(latency_seconds(profile, np.zeros(1))[0])
+    return max(-1, int((deadline - first + _LITTLE) // lines.frame_seconds(profile)))
+
+
+def _numbers(table: pd.DataFrame, group: Places, put: Numbers, most: int, profile: int) -> NDArray[Any]:
+    """The numbers of each seed and group, in the order of `_NUMBERS`: an array by seed, number and group."""
+    seeds, groups = put.shape
+    width = int(table["frames"].max()) + 1 if len(table) else 1
+    place = (table["place"].to_numpy() * groups + group) * width + table["frames"].to_numpy()
+    counted = np.bincount(place, table["count"].to_numpy(), seeds * groups * width).reshape(seeds, groups, width)
+    by_then = counted.cumsum(axis=2)
+    delivered = by_then[..., -1]
+    in_time = by_then[..., min(most, width - 1)] if most >= 0 else np.zeros_like(delivered)
+    # The least latency that the part of all deliveries does not exceed.
+    reached = [(by_then < part * delivered[..., None] - _LITTLE).sum(axis=2) for part in (0.5, 0.9)]
+    times = [np.where(delivered > 0, latency_seconds(profile, frames.astype(np.float64)), np.nan) for frames in reached]
+    return np.stack([put, delivered, in_time, *times], axis=1)
