@@ -185,7 +185,7 @@ front_end_places() {
 }
 
 # The program of draws, for which a script is put in its place: it writes its words, and its input after them. A word that the
-# package has too is the package's where an option is given.
+# package has too is the package's where an option is given, or a word after it that is no number.
 front_end_draws() {
     local script=$copy/bin/foldcairn-plan-x86_64-linux
     if [ -e "$script" ]; then
@@ -201,6 +201,10 @@ front_end_draws() {
         says "fates over a long horizon: status $status, not 0" [ "$status" -eq 0 ]
         front outcome 7 long.network
         says "a long horizon: status $status, not 0" [ "$status" -eq 0 ]
+        front sample 7 2 line.flood
+        explains "seeds of a text that is no network" 1 $'fault line 7: BadWord\n' "line 7, 'start 1'"
+        front sample line.flood
+        says "sample of a file alone is not the package's" [ "$status" -ne 0 -a ! -s "$folder/out" ]
         return
     fi
     front outcome 7 line.flood
@@ -221,6 +225,8 @@ front_end_draws() {
     ends "fates of a file" 0 "fates 7"$'\n'"$line"
     front draw 7 line.flood
     ends "a draw of a file" 0 "draw 7"$'\n'"$line"
+    front sample 7 2 line.flood
+    ends "two seeds of a file" 0 "sample 7 2"$'\n'"$line"
     front --help
     says "--help does not have outcome" grep -q '^  foldcairn outcome SEED \[FILE\]' "$folder/out"
     says "--help does not have sample" grep -q '^  foldcairn sample FROM COUNT \[FILE\]' "$folder/out"
@@ -228,6 +234,8 @@ front_end_draws() {
     says "--help does not have draw" grep -q '^  foldcairn draw SEED \[FILE\]' "$folder/out"
     front draw line.flood --ratios none.csv
     says "draw with an option is not the package's" [ "$status" -ne 0 -a ! -s "$folder/out" ]
+    front sample line.flood
+    says "sample of a file alone is not the package's" [ "$status" -ne 0 -a ! -s "$folder/out" ]
     rm "$script"
     cp "$folder/SOURCES" "$copy/bin/SOURCES"
 }

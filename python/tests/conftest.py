@@ -8,14 +8,22 @@ from __future__ import annotations
 
 import os
 import warnings
-from collections.abc import Callable
+from collections.abc import Callable, Iterator
+from concurrent.futures import ThreadPoolExecutor
 from pathlib import Path
 
 import pytest
+from browser import Browser
 from gate import pytest_configure, pytest_runtest_protocol, pytest_sessionfinish, pytest_terminal_summary
 from hypothesis import HealthCheck, settings
+from measured import pytest_collection_finish
 
-__all__ = ["EXAMPLES", "REPOSITORY", "pytest_configure", "pytest_runtest_protocol", "pytest_sessionfinish", "pytest_terminal_summary"]
+from foldcairn import executors
+
+__all__ = [
+    "EXAMPLES", "REPOSITORY", "pytest_collection_finish", "pytest_configure", "pytest_runtest_protocol", "pytest_sessionfinish",
+    "pytest_terminal_summary",
+]  # fmt: skip
 
 REPOSITORY = Path(__file__).resolve().parents[2]
 EXAMPLES = REPOSITORY / "examples"
@@ -38,6 +46,14 @@ def _quiet() -> None:
     warnings.simplefilter("ignore")
 
 
+@pytest.fixture(autouse=True)
+def _threads(request: pytest.FixtureRequest, monkeypatch: pytest.MonkeyPatch) -> None:
+    """Threads where no executor is given, since a process for each processor costs more than most tests; a test with the mark
+    `processes` has processes."""
+    if request.node.get_closest_marker("processes") is None:
+        monkeypatch.setattr(executors, "ProcessPoolExecutor", lambda: ThreadPoolExecutor(2))
+
+
 @pytest.fixture
 def fake(tmp_path: Path) -> Callable[[str], Path]:
     """Makes a program of a shell script."""
@@ -49,3 +65,42 @@ def fake(tmp_path: Path) -> Callable[[str], Path]:
         return path
 
     return make
+
+
+@pytest.fixture
+def undrawn(monkeypatch: pytest.MonkeyPatch) -> None:
+    """Pages whose pictures are made and not drawn, which takes most of the time of a page: for tests of their words."""
+    from foldcairn import style
+
+    monkeypatch.setattr(style, "rendered", lambda figure, kind: b"<svg/>")
+
+
+@pytest.fixture(scope="session")
+def page_given(tmp_path_factory: pytest.TempPathFactory) -> dict[str, object]:
+    """All that a page can be given."""
+    from PIL import Image
+
+    path = tmp_path_factory.mktemp("site") / "site.png"
+    Image.new("RGB", (16, 10), "#e8e4d8").save(path)
+    return {
+        "title": "failover", "site": "a room", "plan": "one backup", "notes": "For <us>.\n\nIn two parts.", "receivers": {(3, 0): "hosts"},
+        "positions": {1: (0, 0), 2: (1, 0), 3: (0, 1)}, "battery": {"capacity_mah": 2500, "receive_ma": 20}, "background": path,
+        "extent": (-1, 2, -1, 2),
+    }  # fmt: skip
+
+
+@pytest.fixture(scope="session")
+def failover_page(page_given: dict[str, object]) -> str:
+    """The page of the worked failover with all of that, which is made once."""
+    from networks import FAILOVER, log_of
+
+    from foldcairn import page
+
+    return page.text(log_of(FAILOVER), **page_given)
+
+
+@pytest.fixture(scope="session")
+def browser(tmp_path_factory: pytest.TempPathFactory) -> Iterator[Browser]:
+    """One Chromium for all pages."""
+    with Browser(tmp_path_factory.mktemp("chromium")) as started:
+        yield started

@@ -1,5 +1,8 @@
 """What the gate asks of a run of the tests: with CI=true no test is skipped. At its end a run says how much processor time it took.
 
+With CI=true it says so loudly where that is above `MOST`, and does not fail: the same tests take up to twice as long on another machine,
+or on one whose cores are shared, so a failure would say more of the machine than of the tests.
+
 A test with the mark `no_cover` isn't measured for coverage, nor are the fixtures that it is the first to need: for tests of much
 work whose lines others have measured. To measure costs some two fifths more time.
 """
@@ -13,11 +16,14 @@ import pytest
 
 # Of this process, and of what it had started before the tests: a script that installs packages and then becomes this process.
 _BEFORE = os.times()
+# How many seconds of processor time all tests may take, on a machine that does nothing else.
+MOST = 180
 
 
 def pytest_configure(config: pytest.Config) -> None:
-    """The mark is known also where pytest-cov isn't there."""
+    """The marks are known also where pytest-cov isn't there."""
     config.addinivalue_line("markers", "no_cover: not measured for coverage")
+    config.addinivalue_line("markers", "processes: with processes where no executor is given, in place of threads")
 
 
 @pytest.hookimpl(hookwrapper=True)
@@ -43,5 +49,7 @@ def pytest_terminal_summary(terminalreporter: pytest.TerminalReporter) -> None:
     """Says the processor time of all tests, with that of the programs and workers that they started."""
     spent = sum(os.times()[:4]) - sum(_BEFORE[:4])
     terminalreporter.write_line(f"processor time: {spent:.0f} s")
+    if os.environ.get("CI") == "true" and spent > MOST:
+        terminalreporter.write_sep("!", f"the tests took {spent:.0f} s of processor time, and {MOST} s are what they may take", red=True)
     if os.environ.get("CI") == "true" and terminalreporter.stats.get("skipped"):
         terminalreporter.write_line("with CI=true no test may be skipped")

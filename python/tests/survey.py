@@ -14,7 +14,7 @@ import pandas
 
 from foldcairn import Scenario
 
-MINUTES = 10
+MINUTES = 7
 HOST, BACKUP = 101, 131
 A, B, C, CORRIDOR = range(101, 113), range(121, 133), range(141, 147), range(151, 155)
 SENSORS = [*range(102, 112), *range(122, 130), 141, 142]

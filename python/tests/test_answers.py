@@ -13,14 +13,13 @@ EMPTY = "frames 1\nsends 1\nnode 1 0\nnode 2 0\nhost 0 1\n"
 
 
 def all_tables(text: str) -> dict[str, pd.DataFrame]:
-    log = results.log(text)
-    bus = results.bus(text)
+    log, bus, returned = results.log(text), results.bus(text), results.returns(text)
     more = {
         "deliveries": log.deliveries, "drops": log.drops, "energy": log.energy, "transmissions": log.transmissions,
         "receptions": log.receptions, "tunings": log.tunings, "on air": log.packets, "initiations": log.initiations,
         "bus": bus.deliveries, "cost": bus.energy, "rounds": planning.rounds(log), "data slots": planning.data_slots(log),
         "windows": radio.tunings(log), "slots": timing.slots(log), "spells": timing.spells(log), "pauses": timing.pauses(log),
-        "stamps": results.times(text), "returns": results.returns(text).returns, "probes": results.returns(text).probes,
+        "stamps": results.times(text), "returns": returned.returns, "probes": returned.probes,
         "fates by stream": planning.fates(log), "radio time by node": planning.radio_time(log),
     }  # fmt: skip
     return {**planning.tables(log), **more}

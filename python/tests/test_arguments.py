@@ -11,7 +11,7 @@ import pandas
 import pytest
 from networks import LINE, log_of
 
-from foldcairn import arguments, export, losses, planning, plot, program, results, tables
+from foldcairn import arguments, export, losses, page, planning, plot, program, results, running, tables
 from foldcairn.arguments import ArgumentError
 from foldcairn.scenario import Put, Scenario, ScenarioError
 
@@ -113,11 +113,18 @@ def test_a_ratio_that_became_no_number() -> None:
         losses.draw(made, 1)
     with pytest.raises(ScenarioError, match="`link 1 2`: `prr` is nan"):
         made.copy()
+    for call in (made.network_text, lambda: results.outcome(made), lambda: results.fates(made)):
+        with pytest.raises(ScenarioError, match="`link 1 2`: `prr` is nan, and has to be a number from 0 to 1"):
+            call()
 
 
 def test_seeds_and_scenarios_to_draw() -> None:
     with pytest.raises(ArgumentError, match="`seed` is 1.5, and has to be a whole number"):
         losses.draw(two(), 1.5)  # type: ignore[arg-type]
+    # Also where there is nothing to draw, and in the text of a scenario.
+    for given in (two(), LINE):
+        with pytest.raises(ArgumentError, match="`seed` is 1.5, and has to be a whole number"):
+            running.run(given, seed=1.5)  # type: ignore[arg-type]
     with pytest.raises(ArgumentError, match=r"`scenario` is a str, and has to be a Scenario; write Scenario.read\(..\)"):
         losses.draw(LINE, 1)  # type: ignore[type-var]
 
@@ -131,9 +138,10 @@ def test_the_path_of_a_file_is_no_text(tmp_path: Path) -> None:
     assert program.execute(["run"], path) == program.execute(["run"], LINE)
 
 
-@pytest.mark.parametrize(
-    "call", [getattr(planning, name) for name in planning.__all__ if name not in ("bounds", "capacity", "importance", "summary")]
-)
+_NO_LOG = ("bounds", "capacity", "importance", "sample", "summary")
+
+
+@pytest.mark.parametrize("call", [page.text, page.write, *(getattr(planning, name) for name in planning.__all__ if name not in _NO_LOG)])
 def test_a_scenario_where_a_log_is_due(call) -> None:
     with pytest.raises(ArgumentError, match=rf"`{call.__name__}` takes the log of a run(, or its report)?, and was given a Scenario; write {call.__name__}\("):
         call(Scenario.read(LINE))

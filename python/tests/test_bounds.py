@@ -9,9 +9,10 @@ from collections import defaultdict
 
 import pytest
 from conftest import EXAMPLES, REPOSITORY
+from networks import FAILOVER, log_of
 from scenarios import planned_grid
 
-from foldcairn import bounds, page, planning, program, report, results
+from foldcairn import bounds, planning, program, report, results
 from foldcairn.arguments import ArgumentError
 from foldcairn.bounds import Bound, failover_frames, latency_frames
 from foldcairn.events import Put
@@ -39,9 +40,10 @@ def test_the_numbers_of_the_page() -> None:
     assert "| scanning after a round with losses, for each such round | 4 | 16 s | 20 s |" in PAGE
     assert "| until the last of 2, 3 or 4 hosts that is on hosts | 21, 33, 45 | 84, 132, 180 s | 105, 165, 225 s |" in PAGE
     assert "| from the round that falls out to the first of the other host, of two | 18 | 72 s | 90 s |" in PAGE
-    assert "| until one of two contenders requests alone, or is acknowledged, in rounds | 30 | | |" in PAGE
+    assert "in rounds, with 1, 2, 3 or 4 contention slots | 30, 28, 30, 24 | | |" in PAGE
     assert [failover_frames(hosts) for hosts in (2, 3, 4)] == [21, 33, 45]
-    assert (bounds.QUIET_FRAMES, bounds.GREATEST_GAP, bounds.TAKEOVER_FRAMES, bounds.PARTING_ROUNDS) == (5, 4, 18, 30)
+    assert (bounds.QUIET_FRAMES, bounds.GREATEST_GAP, bounds.TAKEOVER_FRAMES) == (5, 4, 18)
+    assert bounds.PARTING_ROUNDS == {1: 30, 2: 28, 3: 30, 4: 24}
     # Five packets with an interval of 6 s: 30 s are 8 frames of 4 s, and 2 more.
     assert "5 * 6 / 4 rounded up and 2" in PAGE and latency_frames(5, 6, 4) == 10
     made = WORKED["slow"].copy()
@@ -94,12 +96,11 @@ def test_tables_of_a_network() -> None:
     assert planning.bounds(results.outcome(ratios, 1)).equals(planning.bounds(ratios)) and not planning.bounds(ratios).equals(planning.bounds(named))
 
 
-def test_they_are_in_reports_and_on_pages() -> None:
-    log = results.log(BACKUP)
+def test_they_are_in_reports_and_on_pages(failover_page: str) -> None:
+    log = log_of(FAILOVER)
     assert planning.tables(log)["bounds"].equals(planning.bounds(log.scenario)) and "bounds" in report.SHOWN
-    text = page.text(log)
-    assert "How long things take at most, by proof" in text and "takeover_frames" in text
-    assert "1 of the one that is sent next" in text and "whether all that the bound needs holds" in text
+    assert "How long things take at most, by proof" in failover_page and "takeover_frames" in failover_page
+    assert "1 of the one that is sent next" in failover_page and "whether all that the bound needs holds" in failover_page
 
 
 # What is in the way.
@@ -107,6 +108,12 @@ def test_they_are_in_reports_and_on_pages() -> None:
 
 def network(frames: int = 60, hosts: int = 2, **words) -> Scenario:
     return Scenario.from_graph(line(4), frames, hosts=range(1, hosts + 1), **words).stream(3, 8).every(20, 3)
+
+
+def pair_with_slots(slots: int, first: int, second: int) -> Scenario:
+    """Two nodes that ask for slots of node 1, with so many contention slots in each round."""
+    made = Scenario(150, profile=2, contend=slots).node(1).node(first).node(second).host(0, 1).pair(1, first).pair(1, second).on()
+    return made.stream(first, 8).stream(second, 8)
 
 
 @pytest.mark.parametrize(
@@ -141,7 +148,8 @@ def network(frames: int = 60, hosts: int = 2, **words) -> Scenario:
         ("latency", lambda: network().unlink(3, 4), "node 4 is out of reach"),
         ("latency", lambda: Scenario(99).node(1).node(2).host(0, 1).pair(1, 2).on(2).stream(2, 4), "the host of rank 0 is never switched on"),
         ("contention", network, "fewer than two nodes ask for slots"),
-        ("contention", lambda: network(profile=2, contend=4).stream(4, 8), "there are 4 contention slots, and the bound is of one"),
+        ("contention", lambda: pair_with_slots(3, 2, 50), "are equal modulo 48"),
+        ("contention", lambda: pair_with_slots(4, 2, 18), "are equal modulo 16"),
         ("contention", lambda: Scenario.from_graph(line(18), 9, hosts=[3]).stream(2, 9).stream(18, 9), "are equal modulo 16"),
     ],
 )  # fmt: skip
@@ -156,7 +164,10 @@ def test_what_is_not_in_the_way() -> None:
     made = network().ratio(1, 2, 1.0, frame=7)
     assert only(made, "scanning").holds and only(made, "membership").holds
     assert only(network(hosts=3).off(1, 3, frame=10), "failover").frames == 33
-    assert only(network(profile=2).stream(4, 8), "contention").holds
+    # Ids that are equal modulo 16 part with three slots.
+    for slots, other, frames in [(1, 3, 120), (2, 3, 112), (3, 3, 120), (3, 18, 120), (4, 3, 96)]:
+        parting = only(pair_with_slots(slots, 2, other), "contention")
+        assert parting.holds and parting.frames == frames
     # Losses before a host serves cost no member anything.
     early = network()
     for frame in range(5):
@@ -211,6 +222,7 @@ def told(name: str, slack: list[int], unit: str = "frames") -> None:
     print(f"{name}: {len(slack)} cases, nearest miss {min(slack)} {unit}, the middle one {sorted(slack)[len(slack) // 2]}")
 
 
+@pytest.mark.no_cover
 def test_first_rounds_members_and_latencies_against_runs() -> None:
     joined, late = [], []
     for seed in range(SCENARIOS):
@@ -258,6 +270,7 @@ def latencies(made: Scenario, delivered: list[list[int]]) -> list[int]:
     return slack
 
 
+@pytest.mark.no_cover
 def test_rounds_with_losses_against_runs() -> None:
     slack = []
     for seed in range(SCENARIOS):
@@ -281,6 +294,7 @@ def test_rounds_with_losses_against_runs() -> None:
     told("scanning", slack)
 
 
+@pytest.mark.no_cover
 @pytest.mark.parametrize("hosts", [2, 3, 4])
 def test_failovers_against_runs(hosts: int) -> None:
     """Whatever is lost: all links lose what the coins say, and hosts restart before."""
@@ -318,6 +332,7 @@ def until(made: Scenario, frames: int) -> Scenario:
     return cut
 
 
+@pytest.mark.no_cover
 def test_takeovers_against_runs() -> None:
     slack = []
     for seed in range(SCENARIOS):
@@ -343,6 +358,7 @@ def test_takeovers_against_runs() -> None:
     told("takeover", slack)
 
 
+@pytest.mark.no_cover
 def test_two_contenders_against_runs() -> None:
     slack = []
     for seed in range(SCENARIOS):
@@ -362,6 +378,6 @@ def test_two_contenders_against_runs() -> None:
         delivered, _ = run(made)
         # The first round from the put on; the slot comes in the round after the one in which a request was alone.
         first = max(5, 5 + 4 * -(-(begun - 5) // 4))
-        slack.append(bounds.PARTING_ROUNDS - 1 - (delivered[0][0] - 4 - first) // 4)
+        slack.append(bounds.PARTING_ROUNDS[made.contention_slots] - 1 - (delivered[0][0] - 4 - first) // 4)
     assert min(slack) >= 0
     told("contention", slack, "rounds")

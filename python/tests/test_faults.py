@@ -18,6 +18,8 @@ CASES = [
     ("xyzzy", "BadWord", "the words are profile, contend, frames"),
     ("start 1", "BadWord", "`start` is a line of another text, which is read by flood"),
     ("slots 4", "BadWord", "is read by deadlines"),
+    ("ratios", "BadWord", "`ratios` is a line of a network, which is read by outcome, fates, sample and draw"),
+    ("ratio 0 1 2 5", "BadWord", "`ratio` lines are below a line `ratios`"),
     ("node 3", "BadWord", "`node` has 2 values (id of the node, clock offset), and here are 1"),
     ("link 1 2 # both hear", "BadWord", "a comment has a line of its own"),
     ("put 0 2 0", "BadWord", "write - for an empty payload"),

@@ -71,6 +71,7 @@ def test_longer_runs_than_any() -> None:
         results.log(Scenario.from_graph(line(64), 360, hosts=[1]))
 
 
+@pytest.mark.no_cover
 def test_answers_of_64_nodes_over_five_hours() -> None:
     network = Scenario.from_graph(grid(8, 8, diagonals=True), 4_096, hosts=[1, 36], profile=2).sinks("hosts")
     for link in sorted(network.links):
@@ -81,7 +82,8 @@ def test_answers_of_64_nodes_over_five_hours() -> None:
     report = outcome(network, 3)
     assert report.origin.seed == 3 and len(report.deliveries) > 20_000
     ratio = planning.delivery_ratio(report)
-    assert ratio["ratio_of_put"].between(0.9, 1).all() and list(ratio) == ["source", "stream", "put", "delivered", "ratio_of_put"]
+    assert ratio["ratio_of_put"].between(0.9, 1).all() and (ratio["put"] >= ratio["sent"]).all()
+    assert (ratio["sent"] >= ratio["sent_while_on"]).all() and (ratio["sent_while_on"] >= ratio["delivered"]).all()
     assert planning.fates(report, "all")["puts"].tolist() == [sum(ratio["put"])]
     # Slots come every 60 s, and the search for the other host takes less than 36 of 5 s each.
     assert planning.latency(report, "all")["max"][0] < 1_000
@@ -97,22 +99,21 @@ def test_answers_of_64_nodes_over_five_hours() -> None:
             call(report)
 
 
-@pytest.mark.parametrize("seed", range(3))
+@pytest.mark.no_cover
+@pytest.mark.parametrize("seed", range(2))
 def test_answers_without_a_log_are_those_of_the_log(seed: int) -> None:
     network = drawn(seed)
     log, report, run = results.log(network), results.bus(network), results.run(network)
     for by in ("stream", "node", "pair", "all"):
         for receivers in (None, "hosts", [2, 3]):
             with_log, without = (planning.delivery_ratio(one, by, receivers=receivers) for one in (log, report))
-            pd.testing.assert_frame_equal(with_log[list(without)], without)
+            pd.testing.assert_frame_equal(with_log, without)
     # Times are by plan: starts of slots, with clocks up to 4 ms off, and less than a slot apart.
     columns = ["node", "source", "boot", "stream", "number"]
-    with_log, without = (planning.latencies(one).set_index(columns)["latency_seconds"] for one in (log, report))
+    with_log = planning.latencies(log).set_index(columns)["latency_seconds"]
+    without = planning.latencies(report).set_index(columns)["planned_latency_seconds"]
     assert len(with_log) == len(without) > 0 and ((with_log - without.reindex(with_log.index)).abs() < 0.056).all()
-    fates = planning.fates(report, "all").iloc[0]
-    known = planning.fates(log, "all").iloc[0]
-    rest = [name for name in ("delivered by none", "queued", "lost with its node", "withdrawn") if name in known]
-    assert fates["not delivered"] == known[rest].sum() and fates["delivered"] == known["delivered"]
+    pd.testing.assert_frame_equal(planning.fates(report), planning.fates(log))
     # The cost by plan is no less than that of the log, and that of `run` is the same.
     spent, charged, exact = (planning.duty_cycle(one).set_index("node") for one in (log, report, run))
     assert (charged["on_seconds"] >= spent["on_seconds"]).all() and np.allclose(exact["on_seconds"], spent["on_seconds"])

@@ -2,7 +2,9 @@
 
 from __future__ import annotations
 
+from collections.abc import Callable
 from concurrent.futures import ThreadPoolExecutor
+from pathlib import Path
 
 import numpy as np
 import pytest
@@ -70,6 +72,12 @@ def test_losses_are_drawn_anew_for_each_cut(pool: ThreadPoolExecutor) -> None:
     assert (table["least"], table["greatest"]) == pytest.approx((min(after - before), max(after - before)))
     assert table["spread"] > 0
     assert network.links == lossy().links
+
+
+def test_a_run_that_fails_is_named(pool: ThreadPoolExecutor, fake: Callable[[str], Path], monkeypatch: pytest.MonkeyPatch) -> None:
+    monkeypatch.setenv("FOLDCAIRN_PLAN", str(fake("exit 5")))
+    with pytest.raises(ValueError, match="the run without (a cut|1-2) with seeds 1 to 2 failed: OutOfMemory: out of memory"):
+        planning.importance(Scenario.read(LINE), candidates=[(1, 2)], seeds=[1, 2], executor=pool, progress=False)
 
 
 def test_what_can_not_be_answered(pool: ThreadPoolExecutor) -> None:

@@ -6,6 +6,7 @@ import io
 import os
 import random
 from collections import Counter
+from functools import cache
 
 import networkx
 import numpy
@@ -16,7 +17,7 @@ from hypothesis import strategies as st
 
 from conftest import EXAMPLES
 from foldcairn import losses, program
-from foldcairn.scenario import Loss, Scenario, ScenarioError, grid, line
+from foldcairn.scenario import Loss, On, Scenario, ScenarioError, grid, line
 from scenarios import planned_grid
 
 # The first outputs of SplitMix64 from the state 1234567, as its reference implementation has them.
@@ -122,25 +123,37 @@ def receptions(scenario: Scenario) -> set[tuple]:
     return {(int(row[4]) // ticks, row[1], row[2], row[6]) for row in rows if row[0] == b"heard"}
 
 
+def bus(scenario: Scenario) -> bytes:
+    """The report of `bus`: the deliveries, the drops, and what radios are charged."""
+    return program.execute(["bus"], scenario.text(warn=False))
+
+
+@cache
+def with_all_losses(seed: int) -> tuple[set[Loss], set[tuple], bytes]:
+    """Of a random network all losses that its coins have, and who receives what and what the bus reports with them: once for both ways."""
+    scenario = networks(seed)
+    known = set(scenario.losses)
+    everything = scenario.copy()
+    everything.losses += [loss for loss in losses.every_loss(scenario, seed, slots=SLOTS) if loss not in known]
+    return set(everything.losses), receptions(everything), bus(everything)
+
+
+@pytest.mark.no_cover
 @ways
 @pytest.mark.parametrize("seed", range(24))
 def test_drawn_losses_make_the_run_of_all_losses(seed, way):
     scenario = networks(seed)
-    everything = scenario.copy()
-    known = set(scenario.losses)
-    everything.losses += [loss for loss in losses.every_loss(scenario, seed, slots=SLOTS) if loss not in known]
+    everything, received, reported = with_all_losses(seed)
     drawn = way(scenario, seed)
-    assert set(drawn.losses) <= set(everything.losses)
-    assert len(drawn.losses) <= len(everything.losses)
-    received = receptions(everything)
+    assert set(scenario.losses) <= set(drawn.losses) <= everything and len(set(drawn.losses)) == len(drawn.losses)
     assert way is losses.draw or receptions(drawn) == received
     assert all(int(packet[2:4], 16) < SLOTS for *_, packet in received)
-    # `bus` has the deliveries, the drops, and what radios are charged.
-    assert program.execute(["bus"], drawn.text(warn=False)) == program.execute(["bus"], everything.text(warn=False))
+    assert bus(drawn) == reported
     assert way(drawn, seed).losses == drawn.losses
     assert scenario.losses == networks(seed).losses
 
 
+@pytest.mark.no_cover
 @ways
 @pytest.mark.parametrize("seed", range(24, 36))
 def test_each_drawn_loss_is_needed(seed, way):
@@ -187,11 +200,10 @@ def test_the_losses_of_half_an_hour_are_drawn_in_30_seconds():
     assert 20_000 < report.count(b"deliver ") < 35_928
 
 
-@ways
-@pytest.mark.parametrize("of_host", [0.5, 0.9])
-@pytest.mark.parametrize("seed", range(12))
-def test_losses_at_captures_and_cuts(seed, of_host, way):
-    """Three nodes ask at once and the host captures one of them, whose request may be lost; a node is cut off twice in a frame."""
+@cache
+def captured(seed: int, of_host: float) -> tuple[Scenario, set[Loss], set[tuple], bytes]:
+    """Three nodes ask at once and the host captures one of them, whose request may be lost; a node is cut off twice in a frame. With
+    all losses that the coins have, and who receives what and what the bus reports with them."""
     scenario = Scenario.from_graph(networkx.complete_graph([1, 2, 3, 4]), 14, hosts=[1])
     for node in (2, 3, 4):
         scenario.stream(node, 8).put(node, bytes([node]))
@@ -200,22 +212,32 @@ def test_losses_at_captures_and_cuts(seed, of_host, way):
         scenario.link(*link, prr=of_host if link[0] == 1 else 0.5)
     everything = scenario.copy()
     everything.losses = losses.every_loss(scenario, seed, slots=SLOTS)
+    return scenario, set(everything.losses), receptions(everything), bus(everything)
+
+
+@pytest.mark.no_cover
+@ways
+@pytest.mark.parametrize("of_host", [0.5, 0.9])
+@pytest.mark.parametrize("seed", range(3))
+def test_losses_at_captures_and_cuts(seed, of_host, way):
+    scenario, everything, received, reported = captured(seed, of_host)
     drawn = way(scenario, seed)
-    assert set(drawn.losses) <= set(everything.losses)
-    assert way is losses.draw or receptions(drawn) == receptions(everything)
-    assert program.execute(["bus"], drawn.text(warn=False)) == program.execute(["bus"], everything.text(warn=False))
+    assert set(drawn.losses) <= everything
+    assert way is losses.draw or receptions(drawn) == received
+    assert bus(drawn) == reported
 
 
-@pytest.mark.parametrize("seed", range(50))
+@pytest.mark.no_cover
+@pytest.mark.parametrize("seed", range(24, 50))
 def test_both_ways_of_drawing_deliver_the_same(seed):
     """Each may write losses that the other leaves out, as where all packets of a collision are lost; both write losses of the coins
-    alone."""
+    alone. The networks of the seeds before are those of `test_drawn_losses_make_the_run_of_all_losses`, which says it of each way."""
     scenario = networks(seed)
     drawn, other = losses.draw(scenario, seed), by_fixed_point(scenario, seed)
     everything = {*scenario.losses, *losses.every_loss(scenario, seed, slots=SLOTS)}
     for made in (drawn, other):
         assert set(scenario.losses) <= set(made.losses) <= everything and len(set(made.losses)) == len(made.losses)
-    assert program.execute(["bus"], drawn.text(warn=False)) == program.execute(["bus"], other.text(warn=False))
+    assert bus(drawn) == bus(other)
     if not program.has_command("draw", program.find_planner()):
         assert drawn.losses == other.losses
 
@@ -269,8 +291,7 @@ def test_more_losses_than_lines():
         scenario.link(*link, prr=0.5)
     whole = losses.draw(scenario, 1)
     # 19,900 `on` lines that do nothing leave 100 lines, less those of the script.
-    for _ in range(19_900):
-        scenario.on(1, frame=59)
+    scenario.script += [On(59, 1)] * 19_900
     free = 20_000 - len(scenario.script)
     assert len(whole.losses) > free
     with pytest.raises(losses.TooManyLosses) as raised:
@@ -278,8 +299,7 @@ def test_more_losses_than_lines():
     assert raised.value.fitting == free
     assert raised.value.frame == sorted(whole.losses)[free].frame
     assert f"used up in frame {raised.value.frame}" in str(raised.value)
-    for _ in range(100):
-        scenario.on(1, frame=59)
+    scenario.script += [On(59, 1)] * 100
     with pytest.raises((losses.TooManyLosses, program.Refused)):
         losses.draw(scenario, 1)
 

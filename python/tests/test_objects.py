@@ -9,6 +9,7 @@ from pathlib import Path
 from unittest.mock import Mock
 
 import pytest
+from conftest import REPOSITORY
 from networks import FAILOVER, LINE
 
 import foldcairn
@@ -57,6 +58,10 @@ def test_a_run_in_one_call() -> None:
     # Losses that are drawn already are kept, and a text is run as it is.
     assert foldcairn.run(losses.draw(lossy(), 6), progress=False).origin.seed == 6
     assert foldcairn.run(LINE).origin == results.log(LINE).origin
+    # A text with ratios, which is none for `run` of the program, is drawn as its scenario is: docs/RATIOS.md has four deliveries.
+    assert foldcairn.run(lossy().network_text(warn=False), seed=5, progress=False).deliveries.equals(log.deliveries)
+    worked = foldcairn.run(REPOSITORY / "tests" / "worked" / "three-in-a-line.network", seed=8, progress=False)
+    assert len(worked.deliveries) == 4 and worked.origin.seed == 8
     with pytest.warns(ScenarioWarning, match="node 9 is never switched on"):
         foldcairn.run(lossy().node(9), progress=False)
 

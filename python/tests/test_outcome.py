@@ -75,10 +75,24 @@ def test_the_report_of_an_outcome():
         results.outcome(network, -1)
 
 
-def test_a_rejected_ratio_is_explained():
-    text = small_network(0).network_text(warn=False).replace("ratio 0 1 2 ", "ratio 0 1 2 9")
-    with pytest.raises(program.Refused, match="the fourth number, the ratio, is from 0 to 1,000,000 millionths"):
-        results.outcome(text)
+@pytest.mark.parametrize("words", [["outcome", "1"], ["fates", "1"], ["sample", "0", "2"], ["draw", "1"]])
+def test_a_rejected_ratio_is_explained(words):
+    whole = small_network(0).network_text(warn=False)
+    for one, other, says in (
+        ("ratio 0 1 2 ", "ratio 0 1 2 9", "the fourth number, the ratio, is from 0 to 1,000,000 millionths"),
+        ("ratio 0 1 2 ", "ratio 0 1 99 ", "no line above is `node 99 OFFSET`"),
+        ("ratio 0 1 2 ", "ration 0 1 2 ", "did you mean `ratio`"),
+    ):
+        with pytest.raises(program.Refused, match=says):
+            program.execute(words, whole.replace(one, other))
+
+
+def test_what_is_too_long_is_told_what_to_take():
+    """262,144 nodes times frames are 64 nodes over 4,096 frames; what `draw` writes is for `run`, which takes 16,384 of them."""
+    text = "frames 4096\nsends 1\n" + "".join(f"node {node} 0\n" for node in range(1, 9)) + "host 0 1\nratios\n"
+    with pytest.raises(program.Refused, match="at most 16,384 are run: take 2,048 frames, or `outcome` and `fates`, which take up to 262,144"):
+        program.execute(["draw", "1"], text)
+    assert results.outcome(text).deliveries.empty and results.fates(text).empty
 
 
 def test_where_the_program_of_a_planner_is(monkeypatch, tmp_path, fake):
@@ -109,5 +123,5 @@ def test_importance_asks_the_bus_alone(monkeypatch):
     monkeypatch.setattr(losses, "draw", None)
     network = small_network(2)
     drawn = losses.Outcome(network, 3).result()
-    table = importance._delivered(network, None, [], drawn)
-    assert table["ratio"][0] == len(drawn.deliveries) / (len(network.nodes) - 1) / sum(type(line).__name__ == "Put" for line in network.script)
+    ((ratio,),) = importance._ratios(None, [None], "", network, [3])
+    assert ratio == len(drawn.deliveries) / (len(network.nodes) - 1) / sum(type(line).__name__ == "Put" for line in network.script)

@@ -6,14 +6,12 @@ import base64
 import gzip
 import json
 import re
-from collections.abc import Iterator
 from pathlib import Path
 
 import numpy as np
 import pytest
 from browser import CHROMIUM, Browser
 from networks import FAILOVER, log_of
-from PIL import Image
 
 from foldcairn import page, results, style
 from foldcairn.settings import Settings
@@ -31,32 +29,19 @@ def log() -> results.Log:
 
 
 @pytest.fixture(scope="module")
-def given(tmp_path_factory: pytest.TempPathFactory) -> dict[str, object]:
-    """All that a page can be given."""
-    path = tmp_path_factory.mktemp("site") / "site.png"
-    Image.new("RGB", (16, 10), "#e8e4d8").save(path)
-    return {
-        "title": "failover", "site": "a room", "plan": "one backup", "notes": "For <us>.\n\nIn two parts.", "receivers": {(3, 0): "hosts"},
-        "positions": {1: (0, 0), 2: (1, 0), 3: (0, 1)}, "battery": {"capacity_mah": 2500, "receive_ma": 20}, "background": path,
-        "extent": (-1, 2, -1, 2),
-    }  # fmt: skip
+def given(page_given: dict[str, object]) -> dict[str, object]:
+    return page_given
 
 
 @pytest.fixture(scope="module")
-def text(log: results.Log, given: dict[str, object]) -> str:
-    return page.text(log, **given)
+def text(failover_page: str) -> str:
+    return failover_page
 
 
 def unpacked(text: str, name: str) -> str:
     found = re.search(f'<script type="application/gzip" id="{name}">([^<]*)</script>', text)
     assert found
     return gzip.decompress(base64.b64decode(found[1])).decode()
-
-
-@pytest.fixture(scope="module")
-def browser(tmp_path_factory: pytest.TempPathFactory) -> Iterator[Browser]:
-    with Browser(tmp_path_factory.mktemp("chromium")) as started:
-        yield started
 
 
 @pytest.fixture(scope="module")
@@ -107,7 +92,7 @@ def test_what_the_timeline_has(log: results.Log, text: str) -> None:
     assert names == ["no power", "radio on, channel of rank 0", "radio on, channel of rank 1", "opens a round"]
 
 
-def test_a_run_with_nothing_to_show() -> None:
+def test_a_run_with_nothing_to_show(undrawn: None) -> None:
     made = Scenario(8, nodes={1: 0, 2: 0}, hosts={0: 1})
     told = page.text(results.log(made), title="<b>")
     assert "the table has no rows" in told and "<h1>&lt;b&gt;</h1>" in told

@@ -4,6 +4,7 @@ from __future__ import annotations
 
 import re
 import time
+from concurrent.futures import ThreadPoolExecutor
 from pathlib import Path
 
 import matplotlib
@@ -11,7 +12,7 @@ import pages
 import pytest
 from conftest import REPOSITORY
 
-from foldcairn import planning
+from foldcairn import executors, planning
 
 # Much work, on lines that the other tests measure.
 pytestmark = pytest.mark.no_cover
@@ -27,8 +28,11 @@ def folder(tmp_path_factory: pytest.TempPathFactory) -> Path:
 
 @pytest.fixture(scope="module")
 def page(folder: Path) -> tuple[str, dict[str, object]]:
-    """The page with what its code prints now, and the names that the code makes."""
-    return pages.run(PAGE, folder)
+    """The page with what its code prints now, and the names that the code makes. Threads, since processes that are forked from all
+    the tests cost more; the answers are the same."""
+    with pytest.MonkeyPatch.context() as patched:
+        patched.setattr(executors, "ProcessPoolExecutor", lambda: ThreadPoolExecutor(2))
+        return pages.run(PAGE, folder)
 
 
 def test_the_page_shows_what_its_code_prints(page: tuple[str, dict[str, object]]) -> None:

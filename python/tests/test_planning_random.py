@@ -9,8 +9,11 @@ import numpy as np
 import pytest
 from conftest import EXAMPLES
 
-from foldcairn import delivery, planning, power, radio, results
+from foldcairn import delivery, fates, planning, radio, results
 from foldcairn.scenario import Scenario
+
+# Much work, on lines that the other tests measure.
+pytestmark = pytest.mark.no_cover
 
 # By how much the radio's time in a window may differ from what is planned for it, in ticks, in profile 1 and 2.
 NEAR = {1: 44_960, 2: 58_300}
@@ -51,7 +54,7 @@ def drawn(seed: int) -> Scenario:
     return made
 
 
-@pytest.fixture(scope="module", params=range(3))
+@pytest.fixture(scope="module", params=range(2))
 def log(request: pytest.FixtureRequest) -> results.Log:
     return results.log(drawn(request.param).text(warn=False))
 
@@ -67,7 +70,7 @@ def test_packets_that_were_sent_are_those_that_were_put(log: results.Log) -> Non
         assert payloads[one.source, one.boot, one.stream, one.number] == one.payload
     assert table["sent_seconds"].notna().sum() == len(data)
     assert table["fate"].astype(str).str.startswith("dropped").sum() == len(log.drops)
-    assert (table.loc[table["fate"] == "queued"].groupby(["source", "stream"]).size() <= power.QUEUE_LENGTH).all()
+    assert (table.loc[table["fate"] == "queued"].groupby(["source", "stream"]).size() <= fates.QUEUE_LENGTH).all()
     assert table["deliveries"].sum() == len(log.deliveries)
     assert planning.fates(log, "all")["puts"].tolist() == [len(table)]
 

@@ -12,7 +12,7 @@ import pandas as pd
 import pytest
 from networks import FAILOVER, LINE
 
-from foldcairn import commands, compare, importance, planning, plans, program
+from foldcairn import commands, compare, planning, plans, program, tallies
 from foldcairn.__main__ import main
 from foldcairn.scenario import Scenario
 
@@ -34,7 +34,7 @@ def folder(tmp_path: Path, monkeypatch: pytest.MonkeyPatch) -> Path:
     return tmp_path
 
 
-def test_compare(folder: Path, capsys: pytest.CaptureFixture[str]) -> None:
+def test_compare(folder: Path, capsys: pytest.CaptureFixture[str], undrawn: None) -> None:
     (folder / "notes").write_text("For the <council>.")
     words = ["compare", "early.scenario", "B=late.scenario", "--seeds", "1-2", "--receivers", "hosts", "--site", "North slope", "--notes", "notes",
              "--places", "places.csv", "--ratios", "ratios.csv", "--results", "kept", "-o", "both.html"]  # fmt: skip
@@ -102,9 +102,9 @@ def test_words_that_make_no_sense(words: list[str], says: str, folder: Path, cap
 
 
 def test_what_was_stopped_goes_on(folder: Path, capsys: pytest.CaptureFixture[str], monkeypatch: pytest.MonkeyPatch) -> None:
-    """A call that is stopped in its third run keeps what it has, and the next one makes the rest."""
+    """A call that is stopped in its third piece, the seeds of a cut, keeps what it has, and the next one makes the rest."""
     words = ["importance", "line.scenario", "--only", "1-2,2-3", "--seeds", "1-2", "--jobs", "1", "--results", "kept"]
-    whole, runs = importance._delivered, []
+    whole, runs = tallies.arrivals, []
 
     def stopped(*given: object) -> object:
         runs.append(given)
@@ -112,13 +112,20 @@ def test_what_was_stopped_goes_on(folder: Path, capsys: pytest.CaptureFixture[st
             raise KeyboardInterrupt
         return whole(*given)  # type: ignore[arg-type]
 
-    monkeypatch.setattr(importance, "_delivered", stopped)
+    monkeypatch.setattr(tallies, "arrivals", stopped)
     assert main(words) == 130
-    kept = len(list((folder / "kept").iterdir()))
-    assert kept in (1, 2) and "foldcairn: stopped" in capsys.readouterr().err
-    before = len(runs)
+    assert len(list((folder / "kept").iterdir())) == 4 and "foldcairn: stopped" in capsys.readouterr().err
     assert main(words) == 0
-    assert len(runs) == before + 6 - kept and len(list((folder / "kept").iterdir())) == 6
+    assert len(runs) == 4 and len(list((folder / "kept").iterdir())) == 6
+
+
+def test_a_draw_is_kept(folder: Path, capsys: pytest.CaptureFixture[str]) -> None:
+    texts = []
+    for _ in range(2):
+        assert main(["draw", "line.scenario", "--ratios", "ratios.csv", "--seed", "3", "--results", "kept"]) == 0
+        texts.append(capsys.readouterr())
+    # It says how far it is where it draws, and the second call takes what is there.
+    assert texts[0].out == texts[1].out and "frames" in texts[0].err and texts[1].err == "" and len(list((folder / "kept").iterdir())) == 1
 
 
 def test_a_sweep_counts_at_receivers(folder: Path, capsys: pytest.CaptureFixture[str]) -> None:

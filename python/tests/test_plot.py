@@ -13,7 +13,6 @@ from weakref import WeakSet
 import numpy as np
 import pandas as pd
 import pytest
-from matplotlib.backends.backend_agg import FigureCanvasAgg
 from matplotlib.collections import LineCollection
 from matplotlib.figure import Figure
 from matplotlib.text import Annotation, Text
@@ -48,7 +47,7 @@ _drawn: WeakSet[Figure] = WeakSet()
 def texts(figure: Figure) -> list[Text]:
     """The texts of a picture that are seen; those of scales come with drawing, which is done once."""
     if figure not in _drawn:
-        FigureCanvasAgg(figure).draw()
+        figure.draw_without_rendering()
         _drawn.add(figure)
     return [text for text in figure.findobj(Text) if text.get_visible() and text.get_text()]
 
@@ -194,6 +193,7 @@ def test_a_timeline_as_a_part_of_another_figure(failover: results.Log) -> None:
     assert [axes.get_legend() for axes in figure.axes] == [None, None] and covered(figure) == []
 
 
+@pytest.mark.no_cover
 def test_a_timeline_of_450_frames() -> None:
     made = Scenario.from_graph(grid(4, 4), 450, hosts=[1]).every(4, 16, interval=4)
     figure = plot.timeline(results.log(made))
@@ -242,6 +242,7 @@ def test_a_map_without_ratios() -> None:
     assert len(drawn) == 3 and "The half of a line next to a node shows the link to that node." in words(figure)
 
 
+@pytest.mark.no_cover
 def test_a_map_of_64_nodes_can_be_read() -> None:
     made = Scenario.from_graph(random_geometric(64, 0.2, 3), 10, hosts=[1])
     figure = plot.topology(made)
@@ -345,7 +346,7 @@ def test_no_node_hides_another(tmp_path: Path) -> None:
         {1: (0.0, 0.0), 2: (0.0, 1e-9), 3: (0.0, 7.0), 4: (0.0, 7.0)},
     ):
         figure = plot.topology(made, positions=places)
-        FigureCanvasAgg(figure).draw()
+        figure.draw_without_rendering()
         drawn = figure.axes[0]
         nodes = [line for line in drawn.lines if line.get_marker() in ("o", "s") and len(line.get_xdata()) == 1]
         spots = np.array([drawn.transData.transform((line.get_xdata()[0], line.get_ydata()[0])) for line in nodes])
@@ -370,7 +371,7 @@ def test_the_same_picture_gives_the_same_bytes(failover: results.Log, tmp_path: 
     assert "prefers-color-scheme: dark" in text and 'fill: #0d1117' in text and "<text" in text
     assert len(text) < 60_000
     with pytest.raises(ValueError, match="svg, png or pdf, not txt"):
-        plot.save(plot.timeline(failover), tmp_path / "one.txt")
+        plot.save(Figure(), tmp_path / "one.txt")
 
 
 def test_the_commands(tmp_path: Path, capsys: pytest.CaptureFixture[str]) -> None:
@@ -392,6 +393,7 @@ def test_the_commands(tmp_path: Path, capsys: pytest.CaptureFixture[str]) -> Non
     assert "the window from 9999" in capsys.readouterr().err
 
 
+@pytest.mark.no_cover
 def test_labels_of_hosts_cover_nothing() -> None:
     """Neither a node nor a line, in the middle of a grid with lines to all sides."""
     made = Scenario.from_graph(grid(5, 5, diagonals=True), 4, hosts=[3, 13])

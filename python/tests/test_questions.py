@@ -27,6 +27,9 @@ from conftest import REPOSITORY
 from foldcairn import meanings, page, planning, plot, report
 from foldcairn.scenario import Scenario
 
+# Much work, on lines that the tests of single answers, of pages and of plans measure.
+pytestmark = pytest.mark.no_cover
+
 needs_chromium = pytest.mark.skipif(
     CHROMIUM is None, reason="chromium is missing; tools/setup-python.sh --optional installs it (apt-get install chromium)"
 )
@@ -152,12 +155,6 @@ def test_what_a_column_means_stands_next_to_it(given: SimpleNamespace, text: str
         told = meanings.of_table(name, tables[name])
         assert [column for column in tables[name] if str(column) not in told] == [], name
     assert "<dt>outage_seconds</dt><dd>from the last delivery to the first, or to the end of the run" in text
-
-
-@pytest.fixture(scope="module")
-def browser(tmp_path_factory: pytest.TempPathFactory) -> Iterator[Browser]:
-    with Browser(tmp_path_factory.mktemp("chromium")) as started:
-        yield started
 
 
 @needs_chromium

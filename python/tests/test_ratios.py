@@ -85,7 +85,7 @@ HEAD = "sends 2\nnode 1 0\nnode 2 0\nhost 0 1\nlink 1 2\nframes 12\nratios\n"
         (HEAD + "ratio 0 2 1 5\n", "there is no link from 2 to 1"),
         (HEAD + "ratio 3 1 2 5\n# again\nratio 3 1 2 6\n", "line 8 has frame 3 for this link"),
         (HEAD.replace("host 0 1\n", "") + "ratio 3 1 2 5\n", "line 6: `ratios`: "),
-        (HEAD.replace("ratios\n", "") + "ratio 0 1 2 5\n", "which is read by outcome, below a line `ratios`"),
+        (HEAD.replace("ratios\n", "") + "ratio 0 1 2 5\n", "which is read by outcome, fates, sample and draw; `ratio` lines are below a line `ratios`"),
     ],
 )
 def test_network_texts_that_are_wrong(text, says) -> None:
@@ -170,6 +170,7 @@ def turns(made: Scenario, link: tuple[int, int]) -> numpy.ndarray:
     return pandas.Series(changes).reindex(range(made.frames), method="ffill").fillna(1.0).to_numpy()
 
 
+@pytest.mark.no_cover
 @pytest.mark.parametrize(("ratio", "bad", "pair"), [(0.7, 0.1, (0.1, 0.9)), (0.6, None, (0.0, 0.8)), (0.9, None, (0.6, 1.0))])
 def test_bursts_have_their_means(ratio, bad, pair) -> None:
     """The mean ratio, and the mean lengths of good and bad times, to four standard errors; a good time has 60 s, a bad one 20 s."""

@@ -6,7 +6,7 @@ import numpy as np
 import pytest
 from networks import FAILOVER, LINE, log_of
 
-from foldcairn import importance, planning, receivers, results
+from foldcairn import importance, planning, results
 from foldcairn.results import Log
 from foldcairn.scenario import Scenario, ScenarioError
 
@@ -91,13 +91,6 @@ def test_importance_of_what_arrives_at_the_host() -> None:
     assert (cut["ratio"], cut["ratio_cut"]) == (1, 1)
     cut = importance.importance(made, candidates=[(2, 4)], seeds=[1], progress=False).iloc[0]
     assert (cut["ratio"], cut["ratio_cut"]) == pytest.approx((1, 2 / 3))
-
-
-def test_pairs_and_due_agree(failover: Log) -> None:
-    put = {(3, 0): 2}
-    for whom in ("all", "hosts", [1, 2], {3: 2}):
-        meant = receivers.meant(failover.scenario, whom)
-        assert meant.due(failover, put) == ratios(failover, whom)[0][0]
 
 
 # Deadlines.

@@ -7,7 +7,7 @@ import pytest
 from networks import FAILOVER, LINE, log_of
 
 from foldcairn import planning, results
-from foldcairn.scenario import Scenario
+from foldcairn.scenario import On, Scenario
 
 # Node 1 hosts until frame 6, node 2 from frame 27 until frame 40, and then nobody.
 SILENT = FAILOVER.replace("frames 32", "frames 60") + "off 40 2\nput 45 3 0 cc\n"
@@ -133,6 +133,11 @@ def line(count: int, ratio: float = 1.0, frames: int = 20) -> Scenario:
     return made.host(0, 1).on()
 
 
+def with_script(made: Scenario, more: list[On]) -> Scenario:
+    made.script += more
+    return made
+
+
 @pytest.mark.parametrize(
     ("made", "says"),
     [
@@ -144,7 +149,7 @@ def line(count: int, ratio: float = 1.0, frames: int = 20) -> Scenario:
         (lambda: line(34, frames=720), "`run` and `log` take at most 16,384 nodes times frames, which with 34 nodes are 481 frames, or 32 "
                                       "minutes, and this network has 720 (48 minutes); for all of it take `results.outcome`"),
         (lambda: line(65), "`run` rejects this: it has 65 nodes, and at most 64 are run"),
-        (lambda: line(3, frames=4096).every(1, 2, interval=1).every(1, 3, interval=1), "lines of its script, and at most 20,000 are read"),
+        (lambda: with_script(line(3), [On(0, 1)] * 20_000), "lines of its script, and at most 20,000 are read"),
         (lambda: Scenario(4).node(1).node(2).pair(1, 2).on(), "`run` rejects this: no node hosts; say which one by `host(0, id)`"),
         (lambda: line(5).stream(2, 9).put(2).stream(3, 9).put(3).stream(4, 9).put(4), "3 nodes ask for their streams in one contention slot"),
     ],

@@ -102,6 +102,7 @@ def test_all_tables_have_the_names(named: results.Log) -> None:
     assert planning.importance(named.scenario, candidates=[("stairs", "pump")], seeds=[1], progress=False)["other"].tolist() == ["pump"]
 
 
+@pytest.mark.no_cover
 def test_all_pictures_have_the_names(named: results.Log) -> None:
     def words(figure) -> set[str]:
         figure.draw_without_rendering()
@@ -115,7 +116,7 @@ def test_all_pictures_have_the_names(named: results.Log) -> None:
     assert "slot 1: data pump.0" in words(plot.timeline(named, frame=named.deliveries["frame"][0]))
 
 
-def test_where_only_some_nodes_have_names(named: results.Log) -> None:
+def test_where_only_some_nodes_have_names(named: results.Log, undrawn: None) -> None:
     scenario = named.scenario.copy()
     scenario.labels = {2: "stairs"}
     scenario.put(2, b"x", frame=8).stream(2, 4, frame=5)
@@ -125,7 +126,7 @@ def test_where_only_some_nodes_have_names(named: results.Log) -> None:
     assert planning.outages(results.log(scenario.off(1, frame=12), warn=False))["to_host"].tolist()[-1] in (-1, "3")
 
 
-def test_all_that_is_written_has_the_names(named: results.Log, tmp_path: Path) -> None:
+def test_all_that_is_written_has_the_names(named: results.Log, tmp_path: Path, undrawn: None) -> None:
     """The page with the words that the mouse shows, what a notebook shows, and traces: no node is told by its id."""
     shown = page.overview(named).to_json()
     assert "pump in the round of frame" in shown and "stairs has no power" in shown and "cellar opens the round" in shown
@@ -157,6 +158,7 @@ def test_a_text_keeps_the_names(named: results.Log) -> None:
     assert Scenario.read("#: name 9 x\n#: name 3\n#: name x y\n" + text).labels == named.scenario.labels
 
 
+@pytest.mark.no_cover
 def test_names_on_the_command_line(named: results.Log, tmp_path: Path, monkeypatch: pytest.MonkeyPatch, capsys: pytest.CaptureFixture[str]) -> None:
     """By the text that a scenario writes, or by the table of places."""
     monkeypatch.chdir(tmp_path)

@@ -15,7 +15,7 @@ import pytest
 
 from conftest import EXAMPLES
 from foldcairn import kept, losses, program, sweep
-from foldcairn.scenario import Scenario, grid, line
+from foldcairn.scenario import On, Scenario, grid, line
 
 LINE = EXAMPLES / "packets-along-a-line.scenario"
 
@@ -52,6 +52,8 @@ def test_the_cases_of_a_grid_and_of_a_folder():
     assert [Path(case["file"]).name for case in sweep.files(EXAMPLES, "three*")] == ["three-in-a-line.flood"]
 
 
+@pytest.mark.no_cover
+@pytest.mark.processes
 def test_a_table_in_the_order_of_its_cases():
     table = sweep.sweep(network, sweep.grid(interval=[16, 4, 8]), progress=False)
     assert list(table.columns) == ["interval", "status", "deliveries", "drops", "sent_ticks", "on_ticks"]
@@ -88,6 +90,8 @@ class Counted:
         return len(Path(self.log).read_text().split()) if Path(self.log).exists() else 0
 
 
+@pytest.mark.no_cover
+@pytest.mark.processes
 def test_going_on_where_it_was_stopped(tmp_path):
     measure, results = Counted(tmp_path / "log"), tmp_path / "results"
     first = sweep.sweep(network, sweep.grid(interval=[4, 8]), measure, results=results, progress=False)
@@ -218,14 +222,13 @@ def test_single_cases_that_fail(tmp_path):
 
 
 def too_lossy(seed: int) -> losses.Drawing:
-    """Far more losses than a text has room for: lines that do nothing leave 500 for them."""
-    made = Scenario.from_graph(grid(3, 3), 200, hosts=[1], profile=2)
+    """Far more losses than a text has room for: lines that do nothing leave 100 for them."""
+    made = Scenario.from_graph(grid(3, 3), 60, hosts=[1], profile=2)
     for link in sorted(made.links):
         made.link(*link, prr=0.3)
     for node in range(2, 10):
         made.stream(node, 4).every(4, node)
-    for _ in range(19_500 - len(made.script)):
-        made.on(1, frame=199)
+    made.script += [On(59, 1)] * (19_900 - len(made.script))
     return losses.Drawing(made, seed)
 
 
@@ -272,19 +275,11 @@ def test_the_table_has_versions():
     assert set(program.versions()) == {"package", "planner", "program"} and len(program.versions()["program"]) == 64
 
 
+@pytest.mark.no_cover
+@pytest.mark.processes
 def test_all_executors_give_the_same_table():
     cases = sweep.grid(interval=[4, 8], seed=[1, 2, 3])
     table = sweep.sweep(network, cases, progress=False)
     assert table.deliveries.nunique() > 1
     with ThreadPoolExecutor(2) as threads:
         pandas.testing.assert_frame_equal(table, sweep.sweep(network, cases, executor=threads, progress=False))
-
-
-def test_dask():
-    distributed = pytest.importorskip("distributed")
-    cases = sweep.grid(interval=[4, 8], seed=[1, 2])
-    # A process of its own, which has to be sent all that a case needs.
-    with distributed.LocalCluster(1, threads_per_worker=2, dashboard_address=None) as cluster, distributed.Client(cluster) as client:
-        with client.get_executor() as executor:
-            table = sweep.sweep(network, cases, executor=executor, progress=False)
-    pandas.testing.assert_frame_equal(table, sweep.sweep(network, cases, progress=False))
