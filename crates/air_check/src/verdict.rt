@@ -10,10 +10,10 @@ pub enum Verdict {
     Lawful,
     /// The node of the least id whose transmissions and tunings aren't those of its trail.
     Trail(NodeId),
-    /// Traces are followed. The first entry, counted from 1, that is a reception which the rules of the medium don't give,
+    /// Trails are followed. The first entry, counted from 1, that is a reception which the rules of the medium don't give,
     /// or which is above already.
     Heard(usize),
-    /// Traces are followed and each reception is given. The first reception that is missing, by start, then sender, then
+    /// Trails are followed and each reception is given. The first reception that is missing, by start, then sender, then
     /// receiver: who would receive it, from whom, and the tick of 1/64 µs at which it starts.
     Missing(NodeId, NodeId, u64),
 }

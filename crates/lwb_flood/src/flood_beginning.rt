@@ -5,7 +5,6 @@ ghost use Rattle.lwb_base.specs.declared.limits.TheConstants.{GREATEST_ID};
 ghost use Rattle.scenario_text.specs.FloodParts.{IsSound};
 ghost use Rattle.lwb_base.specs.Profile.{one};
 ghost use Rattle.glossy_relay.specs.Relaying.{is_packet};
-ghost use Rattle.bus_terms.specs.FloodOfText.{ids};
 ghost use Rattle.radio_model.specs.Stations.{first_state};
 ghost use Rattle.air_log.specs.FloodLaw.{first_packet as first_packet_of};
 ghost use Rattle.lwb_flood.specs.FloodWorlds.{medium_at_opening, first_world, first_member as first_member_of};
@@ -17,7 +16,8 @@ use glossy_relay::Flood;
 use lwb_base::{Memory, NodeId, Packet, Payload, Profile};
 use lwb_packets::{DataPacket, Kind, encode_payload};
 use radio_model::Medium;
-use scenario_text::{FloodText, NodeLine};
+use scenario_text::FloodText;
+use scenario_text::known_nodes::ids;
 use std::alloc::Global;
 
 // The true ticks at which the nodes tune in, and the starting node sends.
@@ -32,7 +32,7 @@ impl FloodWorld {
         ensures sound { IfOk result (λ w. IsSound f.now) }
         ensures start { IfOk result (λ w. (1 ≤ f.now.start) × (f.now.start ≤ GREATEST_ID)) }
     {
-        let nodes = node_ids(alloc, f.nodes())?;
+        let nodes = ids(alloc, f.nodes())?;
         let mut medium = Medium::new(alloc, &Profile::one(), nodes.as_slice())?;
         open(&mut medium, nodes.as_slice());
         let packet = first_packet(f.start());
@@ -42,16 +42,6 @@ impl FloodWorld {
             air: Air::new(alloc),
         })
     }
-}
-
-fn node_ids(alloc: Global, lines: &[NodeLine]) -> Result<Vec<NodeId>, Memory>
-    ensures { IfOk result (λ v. v.items ≡ ids lines.now) }
-{
-    let mut nodes = Vec::new(alloc);
-    for line in lines {
-        nodes.push(line.node)?;
-    }
-    Ok(nodes)
 }
 
 fn open(medium: &mut Medium, nodes: &[NodeId])

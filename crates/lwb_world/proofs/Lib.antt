@@ -1,3 +1,4 @@
 mod ListsOfTheBus
 mod RunsOfTheBus
 mod CoresOfNodes
+mod StatedRuns

@@ -2,8 +2,10 @@
 //! (`Lawful`) log.
 #![tactic(auto)]
 
+mod stated;
 mod world;
 
 pub use lwb_flood::{flood, flood_air};
+pub use stated::{clocks_of, stated_world, world_after};
 pub use world::World;
 pub use world_engine::RunParts;

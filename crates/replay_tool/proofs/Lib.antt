@@ -1,7 +1,6 @@
 pub mod Words
 pub mod Due
 pub mod CheckedLogs
-pub mod StatedRuns
 pub mod ReportLines
 pub mod ProbeLines
 pub mod ReturnedRuns

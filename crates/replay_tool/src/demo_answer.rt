@@ -6,9 +6,9 @@ ghost use Rattle.replay_tool.specs.Answers.{Answers};
 ghost use Rattle.replay_tool.specs.declared.command.Command.TheVariants as asked;
 
 use crate::answer::Answer;
-use crate::run_answer::world_after;
 use crate::summary::summary;
 use lwb_base::Memory;
+use lwb_world::world_after;
 use scenario_maker::made;
 use std::alloc::Global;
 

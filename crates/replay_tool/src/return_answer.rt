@@ -14,13 +14,12 @@ ghost use Rattle.replay_tool.specs.declared.command.Command.TheVariants as asked
 use crate::answer::{Answer, fault_answer};
 use crate::energy_lines::write_energies;
 use crate::return_lines::{write_probes, write_returns};
-use crate::run_answer::world_after;
 use air_log::{Air, NodeCharge};
 use bus_report::write_report_lines;
 use bus_rules::{Delivery, DropLine};
 use host_return::{ListsIdle, Returned, Runner, follow_returns};
 use lwb_base::{Memory, NodeId, Rank};
-use lwb_world::RunParts;
+use lwb_world::{RunParts, world_after};
 use scenario_text::{ParseFault, Scenario, parse};
 use std::alloc::Global;
 use world_engine::Idle;

@@ -6,9 +6,9 @@ ghost use Rattle.replay_tool.specs.TimesReport.{stamp_line};
 ghost use Rattle.replay_tool.specs.declared.command.Command.TheVariants as asked;
 
 use crate::answer::{Answer, fault_answer};
-use crate::run_answer::world_after;
 use bus_time::{Stamp, stamps};
 use lwb_base::Memory;
+use lwb_world::world_after;
 use scenario_text::{ParseFault, parse};
 use std::alloc::{AllocError, Global};
 use text_writers::{write_line, write_lines};

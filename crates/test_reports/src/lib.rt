@@ -18,6 +18,4 @@ mod run_tests;
 #[cfg(test)]
 mod texts;
 #[cfg(test)]
-mod trace_tests;
-#[cfg(test)]
-mod worlds;
+mod trail_tests;

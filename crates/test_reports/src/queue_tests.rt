@@ -3,10 +3,10 @@
 ghost use Rattle.std.specs.Prelude.{◌≡◌, IfOk, length, replicate};
 ghost use Rattle.event_calendar.specs.Orders.{nothing_due};
 
-use crate::worlds::stated_world;
 use air_log::{Air, Entry};
 use event_calendar::{Calendar, Class, Orders};
 use lwb_base::Memory;
+use lwb_world::stated_world;
 use scenario_text::Scenario;
 use std::alloc::Global;
 use std::test::Fail;

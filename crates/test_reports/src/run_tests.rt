@@ -2,11 +2,10 @@
 
 use crate::calls::log_of;
 use crate::texts::FIRST_ROUND;
-use crate::worlds::world_after;
 use air_log::{Air, Entry};
 use bus_rules::Tune;
 use lwb_base::{NodeId, Rank};
-use lwb_world::World;
+use lwb_world::{World, world_after};
 use node_core::Place;
 use std::test::Fail;
 use test_texts::{ONE_PACKET, TWO_CONTENTION_SLOTS, scenario};

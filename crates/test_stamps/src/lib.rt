@@ -6,6 +6,6 @@ mod cases;
 #[cfg(test)]
 mod definition;
 #[cfg(test)]
-mod stamp_tests;
+mod lines;
 #[cfg(test)]
-mod worlds;
+mod stamp_tests;

@@ -2,7 +2,8 @@
 
 use crate::cases::CASES;
 use crate::definition::defined;
-use crate::worlds::{air_of, clocks_of, stamp_lines, write_stamp};
+use crate::lines::{stamp_lines, write_stamp};
+use lwb_world::{clocks_of, world_after};
 use scenario_maker::made;
 use scenario_text::Scenario;
 use std::alloc::Global;
@@ -23,9 +24,9 @@ fn stamps_of_worked_scenarios(rt: HostRuntime) -> Result<(), Fail> {
 // The lines of the stamps of a run by their definition.
 fn defined_lines(alloc: Global, s: &Scenario) -> Result<String, Fail> {
     let clocks = clocks_of(alloc, s)?;
-    let air = air_of(alloc, s)?;
+    let world = world_after(alloc, s)?;
     let mut text = String::new(alloc);
-    for stamp in &defined(alloc, s, &clocks, &air)? {
+    for stamp in &defined(alloc, s, &clocks, world.air())? {
         write_stamp(&mut text, stamp)?;
     }
     Ok(text)

@@ -2,7 +2,6 @@
 
 ghost use Rattle.std.specs.Prelude.{◌≡◌, ◌≤◌, ◌<◌, ◌^◌, ℕ, List, [], OnOk, IfOk, length, map, slice_get, Some, Contains};
 ghost use Rattle.lwb_base.specs.declared.limits.TheConstants.{MOST_NODES};
-ghost use Rattle.scenario_text.specs.FloodParts.{node_id};
 ghost use Rattle.world_engine.specs.Fields.{FieldIsShown, ids_of};
 ghost use Rattle.world_engine.specs.FieldSteps.{IsFirstField, IsClosed, GoesSilent, first_device};
 ghost use Rattle.event_calendar.specs.Orders.{Due as DueOf};
@@ -15,7 +14,8 @@ use air_log::{Air, Device};
 use bus_rules::{Delivery, DropLine};
 use lwb_base::{Memory, NodeId};
 use radio_model::Medium;
-use scenario_text::{NodeLine, Scenario};
+use scenario_text::Scenario;
+use scenario_text::known_nodes::ids;
 use std::alloc::Global;
 use std::mem;
 
@@ -25,7 +25,7 @@ impl Field {
         ensures { IfOk result (λ w. IsFirstField s.now w) }
     {
         let profile = s.profile();
-        let nodes = node_ids(alloc, s.nodes())?;
+        let nodes = ids(alloc, s.nodes())?;
         let medium = Medium::new(alloc, &profile, nodes.as_slice())?;
         Ok(Field {
             medium,
@@ -108,16 +108,6 @@ impl Field {
         }
         unreachable!()
     }
-}
-
-fn node_ids(alloc: Global, lines: &[NodeLine]) -> Result<Vec<NodeId>, Memory>
-    ensures { IfOk result (λ v. v.items ≡ map node_id lines.now) }
-{
-    let mut nodes = Vec::new(alloc);
-    for line in lines {
-        nodes.push(line.node)?;
-    }
-    Ok(nodes)
 }
 
 fn devices(alloc: Global, s: &Scenario) -> Result<Vec<Device>, Memory>

@@ -2,11 +2,11 @@
 
 use crate::calls::log_of;
 use crate::texts::FIRST_ROUND;
-use crate::worlds::{clocks_of, world_after};
 use air_log::{Air, Trail, trail_of};
 use bus_rules::Tune;
 use energy_account::{Account, Energy};
 use lwb_base::NodeId;
+use lwb_world::{clocks_of, world_after};
 use scenario_text::Scenario;
 use std::alloc::Global;
 use std::test::Fail;
@@ -65,7 +65,7 @@ fn tuned(alloc: Global, trail: &Trail) -> Result<Vec<(u64, u64)>, Fail> {
 }
 
 // The trail of a node, which has this place among those of the scenario.
-fn trace(alloc: Global, s: &Scenario, air: &Air, place: usize) -> Result<Trail, Fail> {
+fn trail_at(alloc: Global, s: &Scenario, air: &Air, place: usize) -> Result<Trail, Fail> {
     let clocks = clocks_of(alloc, s)?;
     let line = s.nodes().get(place).ok_or("node")?;
     let clock = clocks.get(place).ok_or("clock")?;
@@ -73,14 +73,14 @@ fn trace(alloc: Global, s: &Scenario, air: &Air, place: usize) -> Result<Trail, 
 }
 
 // Whether the trail of the node at this place among those of the scenario has what the row says, and no deliveries.
-fn is_traced(
+fn has_trail(
     alloc: Global,
     s: &Scenario,
     air: &Air,
     place: usize,
     row: &Row,
 ) -> Result<bool, Fail> {
-    let trail = trace(alloc, s, air, place)?;
+    let trail = trail_at(alloc, s, air, place)?;
     let hosts = matches!(trail.tune_at(5), Some(Tune::Host(_, _)));
     Ok(
         trail.windows() == row.energy.windows
@@ -93,12 +93,12 @@ fn is_traced(
 }
 
 #[test]
-fn traces_of_a_first_round(rt: HostRuntime) -> Result<(), Fail> {
+fn trails_of_a_first_round(rt: HostRuntime) -> Result<(), Fail> {
     let alloc = rt.alloc();
     let s = scenario(alloc, FIRST_ROUND)?;
     let air = log_of(alloc, &["run"], FIRST_ROUND.concat(alloc)?.as_str())?;
-    assert!(rt; is_traced(alloc, &s, &air, 0, &HOST)?);
-    assert!(rt; is_traced(alloc, &s, &air, 1, &RELAY)?);
+    assert!(rt; has_trail(alloc, &s, &air, 0, &HOST)?);
+    assert!(rt; has_trail(alloc, &s, &air, 1, &RELAY)?);
     Ok(())
 }
 

@@ -1,5 +1,5 @@
-use Rattle.replay_tool.proofs.StatedRuns.{stated_run, stated_charges, stated_idle}
-use Rattle.replay_tool.proofs.run_answer.world_after.Goals as goal
+use Rattle.lwb_world.proofs.StatedRuns.{stated_run, stated_charges, stated_idle}
+use Rattle.lwb_world.proofs.stated.world_after.Goals as goal
 
 pub returns-clause-run : goal.returns-clause-run
 returns-clause-run c =
