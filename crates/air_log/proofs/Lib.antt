@@ -16,6 +16,7 @@ pub mod SmallPlans
 pub mod TrailSendings
 pub mod TrailTunings
 pub mod SendingsKept
+pub mod SendingsApart
 pub mod OwnSendings
 pub mod TunedBefore
 pub mod KeptPower

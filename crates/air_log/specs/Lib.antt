@@ -14,6 +14,7 @@ pub mod Ahead
 pub mod FirstRound
 pub mod TrailEntries
 pub mod Charges
+pub mod Energies
 pub mod Lawful
 pub mod NodeCharges
 pub mod Heedful

@@ -12,7 +12,7 @@ use Rattle.scenario_text.specs.ScenarioParts.{ScenarioParts}
 use Rattle.scenario_text.specs.declared.lines.NodeLine.{NodeLine}
 use Rattle.scenario_text.specs.declared.lines.RateLine.{RateLine}
 use Rattle.scenario_text.proofs.SoundScenarios.{sound}
-use Rattle.energy_account.proofs.StatedPlaces.{stated_place}
+use Rattle.scenario_clocks.proofs.StatedPlaces.{stated_place}
 use Rattle.radio_model.specs.declared.sending.Sending.{Sending}
 use Rattle.air_log.specs.declared.entry.Entry.{Entry}
 use Rattle.air_log.specs.Lawful.{Lawful}

@@ -6,7 +6,7 @@ use Rattle.scenario_text.specs.declared.lines.NodeLine.{NodeLine}
 use Rattle.air_log.specs.declared.entry.Entry.{Entry}
 use Rattle.energy_account.specs.declared.account.AccountLine.{AccountLine}
 use Rattle.energy_account.specs.Accounts.{IsAccount, energy_in, line_for, line_of}
-use Rattle.energy_account.specs.Energies.{energy_of}
+use Rattle.air_log.specs.Energies.{energy_of}
 
 module _ (s : ScenarioParts) (clocks : ℕ → ℕ → ℕ) (air : List Entry) where
   among : (ns : List NodeLine) (v : ℕ) → line_of (map (line_for s clocks air) ns) v ≡ (if knows ns v then Some (energy_of s clocks air v) else None)

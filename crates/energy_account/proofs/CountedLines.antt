@@ -13,7 +13,7 @@ use Rattle.air_log.specs.Lawful.{Lawful}
 use Rattle.air_log.specs.NodeCharges.{charge_in, charges_in}
 use Rattle.energy_account.specs.declared.account.AccountLine.{AccountLine}
 use Rattle.energy_account.specs.Accounts.{line_for}
-use Rattle.energy_account.specs.Energies.{energy_of}
+use Rattle.air_log.specs.Energies.{energy_of}
 use Rattle.energy_account.specs.Times.{TimesState, HasTimes, EndsEarly}
 use Rattle.energy_account.proofs.SummedTimes.{sent_fits, on_fits}
 

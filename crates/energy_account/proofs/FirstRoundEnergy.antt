@@ -14,7 +14,7 @@ use Rattle.air_log.specs.FirstRound.{first_round, first_round_log, first_round_h
 use Rattle.air_log.specs.TwoNodeLog.{true_time}
 use Rattle.air_log.proofs.ComputedTrails.{goes_through, after_ticks, computed, true_due}
 use Rattle.air_log.proofs.FirstRound.{host_trail, other_trail}
-use Rattle.energy_account.specs.Energies.{costs, energy_of}
+use Rattle.air_log.specs.Energies.{costs, energy_of}
 
 -- the ticks at which something happens at either node before the round of frame 5
 abbrev scanning_ticks : List ℕ

@@ -1,7 +1,3 @@
--- kept for the crates above
-pub mod SendingsApart
-pub mod StatedPlaces
--- for this crate alone
 mod CountedLines
 mod SummedTimes
 pub mod AccountLines

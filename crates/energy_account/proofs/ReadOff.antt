@@ -13,12 +13,12 @@ use Rattle.air_log.specs.TrailsTold.{trail_told}
 use Rattle.air_log.specs.Lawful.{Lawful, heard_by, sent_by, tuned_by, trail_in, trail_sent, trail_tuned}
 use Rattle.air_log.proofs.TrailSendings.{each_sent}
 use Rattle.air_log.proofs.TrailTunings.{each_tuned, tuned_in_turn}
-use Rattle.energy_account.specs.declared.energy.Energy.{Energy}
+use Rattle.air_log.specs.declared.energy.Energy.{Energy}
 use Rattle.energy_account.specs.Apart.{AreApart}
-use Rattle.energy_account.specs.Energies.{sending_time, tuning_time, energy_of}
+use Rattle.air_log.specs.Energies.{sending_time, tuning_time, energy_of}
 use Rattle.energy_account.specs.ToldEnergies.{told_energy, SendingsApart, TuningsApart}
 use Rattle.energy_account.proofs.Apart.{in_turn, turned}
-use Rattle.energy_account.proofs.SendingsApart.{sendings_apart}
+use Rattle.air_log.proofs.SendingsApart.{sendings_apart}
 
 -- under a function
 pub apart_under : {X Y : Type 0} (g : Y → X) (start end : X → ℕ) (since : ℕ) (ys : List Y) → AreApart start end since (map g ys)

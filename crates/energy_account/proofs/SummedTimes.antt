@@ -24,7 +24,7 @@ use Rattle.air_log.proofs.AlarmLoop.{early_in_run}
 use Rattle.lwb_base.proofs.Elements.{filter_from, contains_head, contains_tail, contains_cases}
 use Rattle.air_log.proofs.TrailTunings.{each_tuned}
 use Rattle.energy_account.specs.Apart.{AreApart}
-use Rattle.energy_account.specs.Energies.{sending_time, tuning_time}
+use Rattle.air_log.specs.Energies.{sending_time, tuning_time}
 use Rattle.energy_account.specs.Times.{TimesState, HasTimes, IsRaised, EndsEarly}
 use Rattle.energy_account.proofs.Apart.{all_reverse}
 use Rattle.energy_account.proofs.ReadOff.{sent_apart, tuned_apart, sum_turned}

@@ -6,9 +6,9 @@ use Rattle.scenario_text.specs.FloodParts.{knows}
 use Rattle.scenario_text.specs.ScenarioParts.{ScenarioParts}
 use Rattle.scenario_text.specs.declared.lines.NodeLine.{NodeLine}
 use Rattle.air_log.specs.declared.entry.Entry.{Entry}
-use Rattle.energy_account.specs.declared.energy.Energy.{Energy}
+use Rattle.air_log.specs.declared.energy.Energy.{Energy}
 use Rattle.energy_account.specs.declared.account.AccountLine.{AccountLine}
-use Rattle.energy_account.specs.Energies.{energy_of}
+use Rattle.air_log.specs.Energies.{energy_of}
 
 abbrev pub energy_in : AccountLine → Energy
 energy_in l = l.energy

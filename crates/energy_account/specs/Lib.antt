@@ -1,4 +1,3 @@
-pub mod Energies
 pub mod Accounts
 pub mod Apart
 pub mod ToldEnergies

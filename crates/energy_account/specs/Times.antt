@@ -4,7 +4,7 @@ use Rattle.lwb_base.specs.declared.limits.TheConstants.{PLACES_BY_ID}
 use Rattle.air_log.specs.declared.entry.Entry.{Entry}
 use Rattle.air_log.specs.declared.entry.Entry.TheVariants.{Sent, Heard, Tuned}
 use Rattle.air_log.specs.Lawful.{sent_by, tuned_by}
-use Rattle.energy_account.specs.Energies.{sending_time, tuning_time}
+use Rattle.air_log.specs.Energies.{sending_time, tuning_time}
 
 -- by the number of the node
 pub record TimesState : Type 0 where

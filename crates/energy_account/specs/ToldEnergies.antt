@@ -4,9 +4,9 @@ use Rattle.radio_model.specs.declared.sending.Sending.{Sending}
 use Rattle.radio_model.specs.OnAir.{Tuning}
 use Rattle.air_log.specs.declared.entry.TunedEntry.{TunedEntry}
 use Rattle.air_log.specs.TrailsTold.{TrailTold}
-use Rattle.energy_account.specs.declared.energy.Energy.{Energy}
+use Rattle.air_log.specs.declared.energy.Energy.{Energy}
 use Rattle.energy_account.specs.Apart.{AreApart}
-use Rattle.energy_account.specs.Energies.{sending_time, tuning_time}
+use Rattle.air_log.specs.Energies.{sending_time, tuning_time}
 
 abbrev pub told_energy : TrailTold → Energy
 told_energy t = record {

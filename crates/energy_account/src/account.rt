@@ -7,7 +7,7 @@ ghost use Rattle.scenario_clocks.specs.StatedClocks.{scenario_clock};
 ghost use Rattle.air_log.specs.Lawful.{Lawful};
 ghost use Rattle.air_log.specs.NodeCharges.{charges_in};
 ghost use Rattle.energy_account.specs.Accounts.{IsAccount, line_of};
-ghost use Rattle.energy_account.specs.Energies.{energy_of};
+ghost use Rattle.air_log.specs.Energies.{energy_of};
 
 use crate::Energy;
 use crate::energy::energy_told;

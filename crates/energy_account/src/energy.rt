@@ -2,24 +2,10 @@
 
 ghost use Rattle.std.specs.Prelude.{◌≡◌, reverse, sum_by};
 ghost use Rattle.energy_account.specs.Apart.{AreApart};
-ghost use Rattle.energy_account.specs.Energies.{sending_time};
+ghost use Rattle.air_log.specs.Energies.{sending_time};
 ghost use Rattle.energy_account.specs.ToldEnergies.{SendingsApart, TuningsApart, told_energy, tuned_span};
 
-use air_log::{SentEntry, Trail, TunedEntry};
-
-/// What the radio of a node costs in a run. Times are ticks of 1/64 µs.
-#[derive(Clone, Copy, Debug, PartialEq, Eq)]
-pub struct Energy {
-    /// The airtimes of its transmissions, summed.
-    pub sent: u64,
-    /// What the windows count that it opened in rounds: each until the end of its last transmission, if it sent as often as it
-    /// may, and else until the window closes.
-    pub windows: u64,
-    /// The number of frames at whose start it scanned for a host.
-    pub scanned: u32,
-    /// The time in which its radio was on, its transmissions included.
-    pub on: u64,
-}
+use air_log::{Energy, SentEntry, Trail, TunedEntry};
 
 /// The energy of a trail. Its transmissions do not overlap, nor do its tunings.
 pub fn energy_told(trail: &Trail) -> Energy

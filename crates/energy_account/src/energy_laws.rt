@@ -7,7 +7,7 @@ ghost use Rattle.bus_rules.specs.Charges.{charge};
 ghost use Rattle.air_log.specs.FirstRound.{first_round, first_round_log};
 ghost use Rattle.air_log.specs.Trails.{Reception, trail};
 ghost use Rattle.air_log.specs.TwoNodeLog.{true_time};
-ghost use Rattle.energy_account.specs.Energies.{costs, energy_of};
+ghost use Rattle.air_log.specs.Energies.{costs, energy_of};
 ghost use Rattle.energy_account.specs.ToldEnergies.{SendingsApart, TuningsApart};
 ghost use Rattle.energy_account.specs.WindowRows.{IsRowOf};
 

@@ -7,4 +7,4 @@ pub mod energy_laws;
 mod times;
 
 pub use account::Account;
-pub use energy::Energy;
+pub use air_log::Energy;

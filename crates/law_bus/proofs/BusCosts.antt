@@ -6,7 +6,7 @@ use Rattle.radio_model.specs.declared.sending.Sending.{Sending}
 use Rattle.scenario_text.specs.FloodParts.{knows}
 use Rattle.air_log.specs.Lawful.{sent_by, trail_in, trail_sent}
 use Rattle.law_windows.proofs.WindowParts.{nodes_take_part}
-use Rattle.energy_account.specs.Energies.{energy_of, sending_time}
+use Rattle.air_log.specs.Energies.{energy_of, sending_time}
 use Rattle.bus_terms.specs.Bus.{Cost}
 use Rattle.law_terms.specs.RunLaws.{CostLaw}
 use Rattle.law_bus.proofs.CoresOfWindows.{all_slots}

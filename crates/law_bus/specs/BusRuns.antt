@@ -10,7 +10,7 @@ use Rattle.air_log.specs.declared.entry.Entry.{Entry}
 use Rattle.air_log.specs.Safe.{Safe}
 use Rattle.air_log.specs.Deliveries.{deliveries_of}
 use Rattle.air_log.specs.Drops.{drops_of}
-use Rattle.energy_account.specs.Energies.{energy_of}
+use Rattle.air_log.specs.Energies.{energy_of}
 use Rattle.law_terms.specs.LawfulRuns.{IsLawfulRun}
 use Rattle.law_terms.specs.SlotLaws.{IsRound}
 use Rattle.law_bus.specs.ReceivedInRuns.{IsReceivedInSlot}

@@ -3,8 +3,8 @@ use Rattle.std.specs.Prelude.{◌≡◌, ℕ, List, true}
 use Rattle.scenario_text.specs.ScenarioParts.{ScenarioParts}
 use Rattle.scenario_text.specs.FloodParts.{knows}
 use Rattle.air_log.specs.declared.entry.Entry.{Entry}
-use Rattle.energy_account.specs.declared.energy.Energy.{Energy}
-use Rattle.energy_account.specs.Energies.{energy_of}
+use Rattle.air_log.specs.declared.energy.Energy.{Energy}
+use Rattle.air_log.specs.Energies.{energy_of}
 use Rattle.bus_terms.specs.Bus.{Cost, bus_cost}
 use Rattle.law_terms.specs.LawfulRuns.{IsLawfulRun}
 

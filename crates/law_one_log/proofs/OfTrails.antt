@@ -20,7 +20,7 @@ use Rattle.air_log.proofs.StrictOrders.{Apart, in_other_order}
 use Rattle.air_log.proofs.TrailSendings.{in_order}
 use Rattle.air_log.proofs.TrailTunings.{each_tuned, tuned_in_turn}
 use Rattle.law_trails.proofs.SentInTrails.{sent_known, sent_lasts, sent_below}
-use Rattle.energy_account.proofs.SendingsApart.{sendings_apart}
+use Rattle.air_log.proofs.SendingsApart.{sendings_apart}
 use Rattle.law_one_log.proofs.SameElements.{which_first}
 use Rattle.law_one_log.proofs.KeptApart.{of_all_nodes}
 use Rattle.law_one_log.proofs.EntriesApart.{SendingsApart, TuningsApart, Other}

@@ -14,7 +14,7 @@ use Rattle.air_log.specs.Charges.{windows_charge, scanned_frames, scans_with}
 use Rattle.air_log.specs.Devices.{Device}
 use Rattle.air_log.specs.Lawful.{Lawful, heard_by, sent_by, tuned_by, trail_in}
 use Rattle.air_log.specs.Trails.{run_end, frame_start, device_after_script, tune_of, tune_at}
-use Rattle.energy_account.specs.Energies.{energy_of, sending_time, tuning_time, costs}
+use Rattle.air_log.specs.Energies.{energy_of, sending_time, tuning_time, costs}
 use Rattle.law_one_log.specs.OneLog.{OneCostLaw}
 use Rattle.law_one_log.proofs.SameBefore.{alike_before, same_device, same_trail, one_scenario}
 

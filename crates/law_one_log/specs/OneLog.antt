@@ -6,7 +6,7 @@ use Rattle.air_log.specs.declared.entry.Entry.{Entry}
 use Rattle.air_log.specs.Entries.{node_of_entry}
 use Rattle.air_log.specs.FloodLaw.{FloodLaw}
 use Rattle.air_log.specs.LogText.{start_of, kind_number, log_text}
-use Rattle.energy_account.specs.Energies.{energy_of}
+use Rattle.air_log.specs.Energies.{energy_of}
 use Rattle.law_terms.specs.LawfulRuns.{IsLawfulRun}
 use Rattle.lwb_flood.specs.FloodLog.{HasClocks}
 

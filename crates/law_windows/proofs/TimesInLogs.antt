@@ -18,7 +18,7 @@ use Rattle.air_log.specs.Trails.{run_end}
 use Rattle.air_log.specs.TrailEntries.{IsTunedBy}
 use Rattle.lwb_base.proofs.Elements.{in_filtered, filtered}
 use Rattle.air_log.proofs.TrailTunings.{each_tuned, tuned_in_turn}
-use Rattle.energy_account.specs.Energies.{tuning_time}
+use Rattle.air_log.specs.Energies.{tuning_time}
 use Rattle.law_windows.specs.ChargeLaws.{OnIsTimeInRun}
 use Rattle.law_windows.specs.RadioTimes.{on_within, time_within}
 use Rattle.law_windows.proofs.TuningTimes.{within, none_at, one_at, on_then_off}

@@ -11,7 +11,7 @@ use Rattle.air_log.specs.Charges.{charge_of_window}
 use Rattle.air_log.specs.Lawful.{Lawful, trail_in}
 use Rattle.air_log.specs.Trails.{run_end}
 use Rattle.air_log.specs.WindowLogs.{WindowLog, Closing}
-use Rattle.energy_account.specs.Energies.{energy_of}
+use Rattle.air_log.specs.Energies.{energy_of}
 use Rattle.law_safety.specs.Invariant.{IsDrivenWell}
 use Rattle.law_windows.specs.WindowLaws.{OfLawfulWindows}
 use Rattle.law_windows.specs.RadioTimes.{on_within}

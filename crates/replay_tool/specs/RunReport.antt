@@ -7,8 +7,8 @@ use Rattle.bus_rules.specs.declared.delivery.Delivery.{Delivery}
 use Rattle.bus_rules.specs.declared.delivery.DropLine.{DropLine}
 use Rattle.air_log.specs.declared.entry.Entry.{Entry}
 use Rattle.bus_report.specs.ReportLines.{report_lines}
-use Rattle.energy_account.specs.Energies.{energy_of}
-use Rattle.energy_account.specs.declared.energy.Energy.{Energy}
+use Rattle.air_log.specs.Energies.{energy_of}
+use Rattle.air_log.specs.declared.energy.Energy.{Energy}
 
 -- what the radio of a node costs, in ticks but for the number of frames in which it scans
 abbrev pub energy_line : ℕ → Energy → List ℕ

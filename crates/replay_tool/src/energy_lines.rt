@@ -7,7 +7,7 @@ ghost use Rattle.air_log.specs.Lawful.{Lawful};
 ghost use Rattle.air_log.specs.declared.entry.Entry.{Entry};
 ghost use Rattle.air_log.specs.NodeCharges.{charges_in};
 ghost use Rattle.energy_account.specs.Accounts.{IsAccount, line_of};
-ghost use Rattle.energy_account.specs.declared.energy.Energy.{Energy};
+ghost use Rattle.air_log.specs.declared.energy.Energy.{Energy};
 ghost use Rattle.replay_tool.specs.RunReport.{energy_line, energy_lines};
 
 use air_log::{Air, NodeCharge};

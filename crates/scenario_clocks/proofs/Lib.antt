@@ -2,3 +2,4 @@
 pub mod NodeRates
 pub mod StatedDrift
 pub mod ListedClocks
+pub mod StatedPlaces

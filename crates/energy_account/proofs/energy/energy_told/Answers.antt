@@ -2,7 +2,7 @@ use Rattle.std.proofs.Common.{◌≡◌, List, sum_by, refl, sym, ◌∙◌, ap,
 use Rattle.radio_model.specs.declared.sending.Sending.{Sending}
 use Rattle.radio_model.specs.OnAir.{Tuning}
 use Rattle.air_log.specs.DeviceStates.{tuning_of}
-use Rattle.energy_account.specs.Energies.{sending_time, tuning_time}
+use Rattle.air_log.specs.Energies.{sending_time, tuning_time}
 use Rattle.energy_account.specs.ToldEnergies.{SendingsApart, TuningsApart}
 use Rattle.energy_account.proofs.ReadOff.{apart_under, sum_under, sum_turned}
 use Rattle.energy_account.proofs.energy.energy_told.Goals as goal

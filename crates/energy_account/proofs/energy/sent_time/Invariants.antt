@@ -1,5 +1,5 @@
 use Rattle.std.proofs.Common.{◌≡◌, sum_by, take}
-use Rattle.energy_account.specs.Energies.{sending_time}
+use Rattle.air_log.specs.Energies.{sending_time}
 use Rattle.energy_account.proofs.energy.sent_time.Given as goal
 
 abbrev pub invariant-loop-x : goal.invariant-loop-x

@@ -3,8 +3,8 @@ use Rattle.std.proofs.lemmas.Bool.{cond-true}
 use Rattle.scenario_text.specs.FloodParts.{knows}
 use Rattle.scenario_text.specs.declared.lines.NodeLine.{NodeLine}
 use Rattle.scenario_clocks.specs.StatedClocks.{scenario_clock}
-use Rattle.energy_account.specs.Energies.{energy_of}
-use Rattle.energy_account.specs.declared.energy.Energy.{Energy}
+use Rattle.air_log.specs.Energies.{energy_of}
+use Rattle.air_log.specs.declared.energy.Energy.{Energy}
 use Rattle.replay_tool.specs.RunReport.{node_energy}
 use Rattle.bus_report.proofs.NodeLines.{known_in}
 use Rattle.replay_tool.proofs.energy_lines.write_account.Goals as goal

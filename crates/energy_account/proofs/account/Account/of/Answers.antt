@@ -6,10 +6,10 @@ use Rattle.scenario_clocks.specs.StatedClocks.{scenario_clock}
 use Rattle.scenario_clocks.proofs.StatedDrift.{scenario_states}
 use Rattle.lwb_base.proofs.Elements.{map_pushed}
 use Rattle.energy_account.specs.declared.account.AccountLine.{AccountLine}
-use Rattle.energy_account.specs.declared.energy.Energy.{Energy}
+use Rattle.air_log.specs.declared.energy.Energy.{Energy}
 use Rattle.energy_account.specs.Accounts.{line_for, line_of}
 use Rattle.energy_account.proofs.AccountLines.{account_of_lines}
-use Rattle.energy_account.proofs.StatedPlaces.{stated_place}
+use Rattle.scenario_clocks.proofs.StatedPlaces.{stated_place}
 use Rattle.energy_account.proofs.account.Account.of.Goals as goal
 
 pub stated_clocks-requires : goal.stated_clocks-requires

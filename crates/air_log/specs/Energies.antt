@@ -6,7 +6,7 @@ use Rattle.scenario_text.specs.ScenarioParts.{ScenarioParts}
 use Rattle.air_log.specs.declared.entry.Entry.{Entry}
 use Rattle.air_log.specs.Lawful.{heard_by, sent_by, tuned_by, trail_in}
 use Rattle.air_log.specs.Charges.{windows_charge, scanned_frames}
-use Rattle.energy_account.specs.declared.energy.Energy.{Energy}
+use Rattle.air_log.specs.declared.energy.Energy.{Energy}
 
 -- how long it lasts, in ticks of 1/64 µs
 abbrev pub sending_time : Sending → ℕ
