@@ -67,32 +67,30 @@ front_end_calls() {
 front_end_sentences() {
     printf 'frames 6\n%srate 1 0 21\n' "$base" > "$folder/rate.scenario"
     front run rate.scenario
-    explains "a rate out of range" 1 $'fault line 7: Range\n' "line 7, 'rate 1 0 21'"
-    says "a rate out of range: no range" grep -q 'rate ID TICK PPM.* -20 to 20' "$folder/err"
+    explains "a rate out of range" 1 $'fault line 7: Range\n' 'line 7: `rate 1 0 21`: the third number, the drift, is from -20 to 20 ppm'
+    says "a rate out of range: no page" grep -q 'SCENARIO.md has all lines' "$folder/err"
     front run < <(cat "$folder/rate.scenario")
-    explains "the same by a pipe" 1 $'fault line 7: Range\n' "line 7, 'rate 1 0 21'"
+    explains "the same by a pipe" 1 $'fault line 7: Range\n' 'line 7: `rate 1 0 21`'
     printf 'frames 6\n%spiar 1 2\n' "$base" > "$folder/word.scenario"
     front run < "$folder/word.scenario"
-    explains "an unknown word" 1 $'fault line 7: BadWord\n' "the word 'piar' begins no line"
-    # What a kind means is read off the pages: of this word, and of all words.
+    explains "an unknown word" 1 $'fault line 7: BadWord\n' "did you mean \`pair\`?"
     printf 'frames 6\nprofile 1\n' > "$folder/late.scenario"
     front run late.scenario
-    explains "a profile that comes late" 1 $'fault line 2: Order\n' "has this fault if it is not the first line"
+    explains "a profile that comes late" 1 $'fault line 2: Order\n' "is the first line of the text"
     printf 'frames 6\nframes 6\n' > "$folder/twice.scenario"
     front run twice.scenario
-    explains "a line twice" 1 $'fault line 2: Twice\n' "Twice: the same is said again"
+    explains "a line twice" 1 $'fault line 2: Twice\n' "is given already, by line 1"
     printf 'frames 6\nnode 1 0\n' > "$folder/short.scenario"
     front bus short.scenario
-    explains "what is missing" 1 $'fault line 3: Missing\n' "a 'sends' line; a 'host' line; two 'node' lines"
+    explains "what is missing" 1 $'fault line 3: Missing\n' "lacks a \`sends\` line and a second \`node\` line and a \`host\` line"
     front run "$folder/long"
     explains "a long text" 1 $'fault too long\n' "more than 4,194,304 bytes"
     { printf 'frames 6\n%s' "$base"; printf 'log\ntuned 0 1 6 6\n'; } > "$folder/range.check"
     front check range.check
-    explains "a log line out of range" 1 $'fault line 8: Range\n' "line 8, 'tuned 0 1 6 6'"
-    says "a log line out of range: no range" grep -q 'tuned RANK NODE START END.* END above START' "$folder/err"
+    explains "a log line out of range" 1 $'fault line 8: Range\n' 'line 8: `tuned 0 1 6 6`: the end is above the start'
     printf 'frames 6\n%s' "$base" > "$folder/no-log.check"
     front check no-log.check
-    explains "no log" 1 $'fault line 7: Missing\n' "what is missing is a line 'log'"
+    explains "no log" 1 $'fault line 7: Missing\n' "lacks a line \`log\`"
     front run nowhere.scenario
     explains "no file" 2 "$usage" "there is no file 'nowhere.scenario'"
     front run "$top"
@@ -192,17 +190,17 @@ front_end_draws() {
         front outcome 07 line.flood
         explains "a seed with a leading zero" 2 "$(cat "$folder/out")"$'\n' "SEED first"
         front outcome 7 line.flood
-        explains "a text that is no network" 1 $'fault line 7: BadWord\n' "line 7, 'start 1'"
+        explains "a text that is no network" 1 $'fault line 7: BadWord\n' 'line 7: `start 1`'
         printf 'frames 4096\n%s' "$base" > "$folder/long.network"
         for node in 3 4 5 6; do echo "node $node 0"; done >> "$folder/long.network"
         front draw 7 long.network
-        explains "a draw that no run takes" 1 "fault line $(($(wc -l < "$folder/long.network") + 1)): TooBig"$'\n' "nodes times frames is above 16,384, and it has 6 nodes"
+        explains "a draw that no run takes" 1 "fault line $(($(wc -l < "$folder/long.network") + 1)): TooBig"$'\n' "6 nodes times 4,096 frames are 24,576"
         front fates 7 long.network
         says "fates over a long horizon: status $status, not 0" [ "$status" -eq 0 ]
         front outcome 7 long.network
         says "a long horizon: status $status, not 0" [ "$status" -eq 0 ]
         front sample 7 2 line.flood
-        explains "seeds of a text that is no network" 1 $'fault line 7: BadWord\n' "line 7, 'start 1'"
+        explains "seeds of a text that is no network" 1 $'fault line 7: BadWord\n' 'line 7: `start 1`'
         front sample line.flood
         says "sample of a file alone is not the package's" [ "$status" -ne 0 -a ! -s "$folder/out" ]
         return
@@ -267,8 +265,8 @@ front_end_installed() {
     starts "$installed/foldcairn" flood line.flood
     ends "an installed copy" 0 $'accept 2 0\naccept 3 1\nsent 6\n'
     starts "$installed/foldcairn" run rate.scenario
-    explains "an installed copy explains" 1 $'fault line 7: Range\n' "line 7, 'rate 1 0 21'"
-    says "an installed copy: no range" grep -q 'rate ID TICK PPM.* -20 to 20' "$folder/err"
+    explains "a copy without the package names the line" 1 $'fault line 7: Range\n' "line 7: Range"
+    says "a copy without the package: no page" grep -q 'SCENARIO.md has all lines' "$folder/err"
     starts "$installed/foldcairn" --prove
     explains "an installed copy is not proved" 2 "" "installed without the sources"
     starts "$installed/foldcairn" --version

@@ -105,7 +105,7 @@ wheels() {
 # A rejected line is explained with its range.
 explains() {
     printf 'frames 6\nsends 9\n' | "$1" run 2> "$folder/err" && return 1
-    grep -q 'sends N.*1 to' "$folder/err" || { cat "$folder/err" && return 1; }
+    grep -q 'line 2: `sends 9`.* from 1 to 4' "$folder/err" || { cat "$folder/err" && return 1; }
 }
 
 # Each command of the package is one of the help, and has a help of its own.

@@ -2,7 +2,6 @@
 # Says in a sentence why a call of the program failed.
 # Usage: tools/explain.sh STATUS PROGRAM INPUT FORM WORD.. where INPUT is a file with what the program read, or nothing, and
 # FORM what comes after the command's word by tools/commands.txt, or nothing.
-# shellcheck disable=SC2016 # In "${line:+'$line'}" the marks are text, and the name is expanded.
 set -u
 top=$(cd "$(dirname "$0")/.." && pwd) || exit 0
 status=$1
@@ -22,84 +21,32 @@ say() {
     echo "foldcairn: $*"
 }
 
-# The page that has the lines of the input of a command. A text to be checked has a log from its first line 'log' on, and a network
-# its ratios from its first line 'ratios' on.
-page() {
+# Which pages have the lines of the input of a command.
+pages() {
     case $1 in
-        deadlines) echo DEADLINES.md ;;
-        draw | fates | outcome | sample)
-            if [ -n "${number-}" ] && head -n "$number" "$input" | grep -q "$ratios_line"; then
-                echo RATIOS.md
-            else
-                echo SCENARIO.md
-            fi
-            ;;
-        check)
-            if [ -n "${number-}" ] && head -n "$number" "$input" | grep -q "$log_line"; then
-                echo CHECK.md
-            else
-                echo SCENARIO.md
-            fi
-            ;;
-        *) echo SCENARIO.md ;;
+        deadlines) echo "$docs/DEADLINES.md has" ;;
+        draw | fates | outcome | sample) echo "$docs/SCENARIO.md and $docs/RATIOS.md have" ;;
+        check) echo "$docs/SCENARIO.md and $docs/CHECK.md have" ;;
+        *) echo "$docs/SCENARIO.md has" ;;
     esac
 }
 
-log_line='^[[:blank:]]*log[[:blank:]]*$'
-ratios_line='^[[:blank:]]*ratios[[:blank:]]*$'
-
-# The rows of the page's table of lines that begin with the word, each cell after a bar: how the line is written, what it says, its
-# ranges and its faults. A flood has its table at the end of the page.
-cells() {
-    rows=$(sed -n "s/^| *\(\`$2[ \`].*\)/\1/p" "$top/docs/$(page "$1")")
-    case $1 in
-        flood) printf '%s\n' "$rows" | tail -n 1 ;;
-        *) printf '%s\n' "$rows" | head -n 1 ;;
-    esac
-}
-
-row() {
-    cells "$1" "$2" | awk -F ' *[|] *' 'NF { print "it is written " $1 ": " $2 ($3 == "" ? "" : "; range: " $3) }'
-}
-
-# What a kind of fault means, as the pages have it: what the word's row says of it, or else the table of kinds.
-meaning() {
-    cause=$(cells "$1" "$word" | awk -F ' *[|] *' '{ print $4 }' | tr ';' '\n' | sed -n "s/^ *$2 if /such a line has this fault if /p")
-    [ -n "$cause" ] || cause=$(sed -n "s/^| $2 | \([^|]*\) |.*/\1/p" "$top/docs/SCENARIO.md")
-    case $2 in
-        BadWord) [ -n "$form" ] || cause="the word '$word' begins no line of this input" ;;
-        TooMany)
-            if [ "$1" = draw ] && [ "$number" -gt "$(awk 'END { print NR }' "$input")" ]; then
-                cause="with the losses of this seed the scenario has more than 20,000 script lines"
-            fi
-            ;;
-        TooBig)
-            # These of the planner's commands keep no log, so they take more.
-            [ "$1" != outcome ] && [ "$1" != fates ] && [ "$1" != sample ] || cause=$(printf '%s\n' "$cause" | sed 's/16,384/262,144/')
-            cause="$cause, and it has $(grep -c '^[[:blank:]]*node[[:blank:]]' "$input") nodes"
-            ;;
-    esac
-    echo "$2: $cause"
-}
-
-# What a text of a command needs and lacks.
-lacking() {
-    case $1 in
-        flood) words="sends start" ;;
-        deadlines) words="slots frames stream" ;;
-        *) words="frames sends host" ;;
-    esac
-    [ "$1" != check ] || grep -q "$log_line" "$input" || printf ' %s' "a line 'log';"
-    for word in $words; do
-        grep -q "^[[:blank:]]*${word}[[:blank:]]" "$input" || printf ' %s' "a '$word' line;"
+# What is wrong with a line of the input, by the Python package, which says it in one place for its own calls too. The package is
+# in the clone, above what a wheel installed, or where Debian's Python looks; this module stands on no other.
+explanation() {
+    for folder in "$top/python/src" "$top/../.."; do
+        [ -f "$folder/foldcairn/faults.py" ] && PYTHONPATH=$folder && export PYTHONPATH && break
     done
-    [ "$1" = deadlines ] || [ "$(grep -c '^[[:blank:]]*node[[:blank:]]' "$input")" -ge 2 ] || printf ' %s' "two 'node' lines;"
+    for python in ${FOLDCAIRN_PYTHON:+"$FOLDCAIRN_PYTHON"} python3 /usr/bin/python3; do
+        "$python" -P -m foldcairn.faults "$1" "$number" "$kind" < "$input" 2>/dev/null && return
+    done
+    echo "line $number: $kind"
 }
 
 # The first rejected line, as the program says it once more.
 rejected() {
     if [ -z "$input" ]; then
-        say "the input was rejected; the line above names the line and the kind of fault ($docs/$(page "$1") has the ranges)"
+        say "the input was rejected; the line above names the line and the kind of fault ($(pages "$1") the ranges)"
         return
     fi
     fault=$("$program" "$@" < "$input" | head -n 1)
@@ -107,25 +54,9 @@ rejected() {
     kind=${number#*: }
     number=${number%%:*}
     case $fault in
-        "fault line "*) ;;
-        *)
-            say "the input has more than 4,194,304 bytes"
-            return
-            ;;
+        "fault line "*) say "$(explanation "$1")" && say "$(pages "$1") all lines with their ranges" ;;
+        *) say "the input has more than 4,194,304 bytes" ;;
     esac
-    line=$(sed -n "${number}{p;q;}" "$input" | tr -d '\r' | cut -c 1-80)
-    if [ "$kind" = Missing ]; then
-        say "line $number, after the last line: what is missing is$(lacking "$1" | sed 's/;$//')"
-        return
-    fi
-    word=$(printf '%s\n' "$line" | awk '{ print $1 }')
-    form=
-    case $word in
-        '' | *[!a-z]*) ;;
-        *) form=$(row "$1" "$word") ;;
-    esac
-    say "line $number${line:+, '$line'}: $(meaning "$1" "$kind")"
-    say "${form:-$docs/$(page "$1") has all lines with their ranges}"
 }
 
 # Whether the word is a number as the program reads it, from the second word to the third.

@@ -2,6 +2,9 @@
 
 from __future__ import annotations
 
+import subprocess
+import sys
+
 import pytest
 from hypothesis import given, settings
 from hypothesis import strategies as st
@@ -120,6 +123,40 @@ def test_floods_and_deadlines():
     assert "the fourth number, the period, is from 1 to 64 frames" in refused("slots 1\nframes 4\nstream 2 0 0 0 2\n", "deadlines").explanation
     twice = "slots 1\nframes 4\nstream 2 0 0 2 2\nstream 2 0 0 2 1\n"
     assert "stream 0 of node 2 is given already, by line 3" in refused(twice, "deadlines").explanation
+
+
+LOG = HEAD.replace("frames 12", "frames 6") + "pair 1 2\nlog\n"
+# The last line of a recorded log, below LOG; the kind of fault; what its explanation says.
+LOG_CASES = [
+    ("tuned 0 1 6 6", "Range", "the end is above the start, and here they are 6 and 6"),
+    ("tuned 4 1 6 7", "Range", "the first number, the rank, is from 0 to 3"),
+    ("sent 0 1 6 7 aabb", "Range", "the packet, is from 3 to 125 bytes, and here are 2"),
+    ("heard 0 1 9 6 7 aabbcc", "UnknownNode", "no line above is `node 9 OFFSET`"),
+    ("tuned 0 1 06 7", "BadNumber", "the third value, the start, is no number as texts have them: `06`, it begins with a zero"),
+    ("sent 0 1 6 7 -", "BadWord", "a packet has hexadecimal digits only"),
+    ("tuned 0 1 6", "BadWord", "`tuned` has 4 values (rank, id of the node, start, end), and here are 3"),
+    ("on 0 1", "BadWord", "below a line `log` all lines are of the log, and `on` comes above it"),
+    ("tune 0 1 6 7", "BadWord", "did you mean `tuned`?"),
+]  # fmt: skip
+
+
+@pytest.mark.parametrize(("line", "kind", "says"), LOG_CASES, ids=[f"{case[0]} {case[1]}" for case in LOG_CASES])
+def test_faults_of_a_recorded_log(line, kind, says):
+    error = refused(f"{LOG}{line}\n", "check")
+    assert (error.line, error.kind) == (LOG.count("\n") + 1, kind)
+    assert says in error.explanation
+
+
+def test_what_a_log_to_be_checked_lacks():
+    assert refused("frames 2\nsends 1\nnode 1 0\nnode 2 0\nhost 0 1\n", "check").explanation.endswith("lacks a line `log`")
+    assert "lacks a `host` line" in refused("frames 2\nsends 1\nnode 1 0\nnode 2 0\nlog\n", "check").explanation
+
+
+def test_the_front_end_explains_by_the_same_module():
+    """It runs the module with the text on the standard input, and the module stands on the standard library alone."""
+    words = [sys.executable, "-S", "-m", "foldcairn.faults", "check", "8", "Range"]
+    said = subprocess.run(words, input=f"{LOG}tuned 0 1 6 6\n".encode(), capture_output=True, check=True).stdout.decode()
+    assert said == "line 8: `tuned 0 1 6 6`: the end is above the start, and here they are 6 and 6\n"
 
 
 def test_a_text_that_does_not_show_the_fault():

@@ -3,11 +3,15 @@
 The program names the first line that it rejects, and the kind of fault. `explain` reads that line with those above it, and
 names the word and its range, the earlier line or the missing one. It decides nothing: a text is rejected by the program
 alone. Tested, not proved.
+
+The front end runs it too, `python3 -m foldcairn.faults COMMAND LINE KIND` with the text on the standard input, so it stands on
+Python's standard library alone.
 """
 
 from __future__ import annotations
 
 import difflib
+import sys
 from collections.abc import Callable, Sequence
 
 from . import lines
@@ -95,8 +99,12 @@ class _Fault:
         long = command in lines.NETWORK_COMMANDS - {"draw"}
         self.node_frames_most = lines.LONG_NODE_FRAMES_MOST if long else lines.NODE_FRAMES_MOST
         self.table = lines.fields(self.grammar, self.context)
+        self.is_log = command == "check" and ["log"] in self.above
+        self.lacks_log = command == "check" and ["log"] not in (*self.above, self.words)
         if command in lines.NETWORK_COMMANDS and ["ratios"] in self.above:
             self.table = {"ratio": lines.fields(command, self.context)["ratio"]}
+        elif self.is_log:
+            self.table = lines.fields(command, self.context)
         self.fields = self.table.get(self.words[0], ()) if self.words else ()
         self.values = list(zip(self.words[1:], self.fields))
 
@@ -140,7 +148,7 @@ class _Fault:
         if len(rest) != len(self.fields):
             return self._wrong_count(first, rest)
         for word, field in self.values:
-            if field.kind == "payload" and (why := lines.payload_fault(word)):
+            if field.is_bytes and (why := lines.bytes_fault(word, field.kind)):
                 return why
         if self.words[-1].endswith("\r"):
             return "the last line ends in a carriage return without a line feed"
@@ -151,6 +159,8 @@ class _Fault:
             return "the text begins with a byte order mark; save it without one"
         if list(self.table) == ["ratio"] and first in lines.fields("run"):
             return f"below a line `ratios` all lines are ratios, and `{first}` comes above it"
+        if self.is_log and first in (*lines.fields("run"), "log"):
+            return f"below a line `log` all lines are of the log, and `{first}` comes above it"
         if first in ("ratio", "ratios") and self.grammar == "scenario":
             return f"`{first}` is a line of a network, which is read by outcome, fates, sample and draw; `ratio` lines are below a line `ratios`"
         for grammar, commands in (("scenario", "run, log and bus"), ("flood", "flood"), ("deadlines", "deadlines")):
@@ -170,7 +180,7 @@ class _Fault:
 
     def bad_number(self) -> str | None:
         for place, (word, field) in enumerate(self.values):
-            if field.kind == "payload":
+            if field.is_bytes:
                 continue
             if why := lines.number_fault(word, field.kind == "signed"):
                 return f"the {_ORDINALS[place]} value, the {field.name}, is no number as texts have them: `{word}`, {why}"
@@ -180,12 +190,16 @@ class _Fault:
         for place, (word, field) in enumerate(self.values):
             if not _within(word, field):
                 of_run = f", since the run has {self.context.frames:,} frames" if self._is_bounded_frame(field) else ""
-                if field.kind == "payload":
-                    return f"{field.range_in_words()} in profile {self.context.profile}, and here are {_payload_size(word):,}"
+                if field.is_bytes:
+                    of_profile = f" in profile {self.context.profile}" if field.kind == "payload" else ""
+                    return f"{field.range_in_words()}{of_profile}, and here are {_payload_size(word):,}"
                 advice = field.advice if int(word) > field.high else ""
                 return f"the {_ORDINALS[place]} number, {field.range_in_words()}{of_run}{advice}"
+        ends = [int(word) for word, field in self.values if self.is_log and field.name in ("start", "end") and word.isdigit()]
+        if len(ends) == 2 and ends[1] <= ends[0]:
+            return f"the end is above the start, and here they are {ends[1]:,} and {ends[0]:,}"
         ids = [word for word, field in self.values if field.kind == "id"]
-        if len(ids) == 2 and ids[0] == ids[1]:
+        if not self.is_log and len(ids) == 2 and ids[0] == ids[1]:
             return f"the two ids must differ, and both are {ids[0]}"
         return None
 
@@ -271,7 +285,7 @@ class _Fault:
             f"a second `{word}` line" if counts[word] else f"a `{word}` line"
             for word, wanted in _MISSING[self.grammar]
             if counts[word] < wanted
-        ]
+        ] + ["a line `log`"] * self.lacks_log
         return f"the text ends above this line, and lacks {' and '.join(lacking)}" if lacking else None
 
     def too_big(self) -> str | None:
@@ -289,8 +303,8 @@ def _payload_size(word: str) -> int:
 
 
 def _within(word: str, field: Field) -> bool:
-    if field.kind == "payload":
-        return _payload_size(word) <= field.high
+    if field.is_bytes:
+        return field.low <= _payload_size(word) <= field.high
     try:
         return field.low <= int(word) <= field.high
     except ValueError:
@@ -322,3 +336,13 @@ def _repeats(earlier: Sequence[str], words: Sequence[str]) -> str | None:
     if first == "stream" and earlier[1:3] == words[1:3]:
         return f"stream {words[2]} of node {words[1]}"
     return None
+
+
+def main() -> None:
+    """Explains the fault of a text on the standard input: the words are its command, its line and its kind."""
+    command, line, kind = sys.argv[1:]
+    print(explain(sys.stdin.buffer.read(), int(line), kind, command))
+
+
+if __name__ == "__main__":
+    main()

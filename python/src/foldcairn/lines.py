@@ -35,8 +35,8 @@ SCRIPT_WORDS = frozenset({"rate", "on", "off", "stream", "leave", "put", "lose",
 class Field:
     """One value of a line: its name, its range (both ends included), its unit, and what kind of value it is.
 
-    `kind` is "number", "id" (of a node that a line above gives), "new id", "signed" or "payload". The range of a payload is
-    that of its bytes.
+    `kind` is "number", "id" (of a node that a line above gives), "new id", "signed", "payload" or "packet" (of a log). The range
+    of a payload and of a packet is that of its bytes.
     """
 
     name: str
@@ -47,11 +47,16 @@ class Field:
     # What to do where a value is above the range, as the end of a sentence.
     advice: str = ""
 
+    @property
+    def is_bytes(self) -> bool:
+        """Whether it is written as two hexadecimal digits a byte."""
+        return self.kind in ("payload", "packet")
+
     def range_in_words(self) -> str:
         """Its name and range: "the drift, is from -20 to 20 ppm"."""
         unit = f" {self.unit}" if self.unit else ""
-        if self.kind == "payload":
-            return f"the payload, is at most {self.high:,}{unit}"
+        if self.is_bytes and not self.low:
+            return f"the {self.name}, is at most {self.high:,}{unit}"
         return f"the {self.name}, is from {self.low:,} to {self.high:,}{unit}"
 
 
@@ -156,11 +161,25 @@ def _deadline_fields(_: Context) -> dict[str, tuple[Field, ...]]:
     }
 
 
+def _log_fields(_: Context) -> dict[str, tuple[Field, ...]]:
+    """The lines of a recorded log. That the end is above the start is no range of either."""
+    last = 10**DIGITS_MOST - 1
+    rank, node = Field("rank", 0, 3), _id("id of the node")
+    times = Field("start", 0, last, "ticks of 1/64 µs"), Field("end", 0, last, "ticks of 1/64 µs")
+    packet = Field("packet", 3, 125, "bytes", kind="packet")
+    return {
+        "sent": (rank, node, *times, packet),
+        "heard": (rank, node, _id("id of the sender"), *times, packet),
+        "tuned": (rank, node, *times),
+    }
+
+
 @cache
 def fields(command: str, context: Context = Context()) -> dict[str, tuple[Field, ...]]:
     """The fields of each line that `command` reads, by the first word of the line.
 
-    `command` is "run", "log", "bus" or another that reads a scenario, one of `NETWORK_COMMANDS`, "flood" or "deadlines".
+    `command` is "run", "log", "bus" or another that reads a scenario, one of `NETWORK_COMMANDS`, "flood" or "deadlines"; or
+    "check", for the lines below a line `log`.
     """
     if command in NETWORK_COMMANDS:
         return _network_fields(context)
@@ -168,6 +187,8 @@ def fields(command: str, context: Context = Context()) -> dict[str, tuple[Field,
         return _flood_fields(context)
     if command == "deadlines":
         return _deadline_fields(context)
+    if command == "check":
+        return _log_fields(context)
     return _scenario_fields(context)
 
 
@@ -192,12 +213,13 @@ def number_fault(word: str, signed: bool = False) -> str | None:
     return None
 
 
-def payload_fault(word: str) -> str | None:
-    """Why a word is no payload of a text (two hexadecimal digits a byte, or `-` for none), or None where it is one."""
-    if word == "-":
+def bytes_fault(word: str, kind: str = "payload") -> str | None:
+    """Why a word is no payload of a text (two hexadecimal digits a byte, or `-` for none), or no packet of a log (without the
+    `-`), or None where it is one."""
+    if word == "-" and kind == "payload":
         return None
     if any(digit not in "0123456789abcdefABCDEF" for digit in word):
-        return "a payload has hexadecimal digits only, without 0x"
+        return f"a {kind} has hexadecimal digits only, without 0x"
     if len(word) % 2:
-        return "a payload has two hexadecimal digits for each byte, and this one has an odd number of them"
+        return f"a {kind} has two hexadecimal digits for each byte, and this one has an odd number of them"
     return None

@@ -100,7 +100,7 @@ class _Reader:
         if fields is None or len(fields) != len(rest):
             return "BadWord"
         pairs = list(zip(rest, fields))
-        if any(what.kind == "payload" and lines.payload_fault(word) for word, what in pairs):
+        if any(what.kind == "payload" and lines.bytes_fault(word) for word, what in pairs):
             return "BadWord"
         if any(what.kind != "payload" and lines.number_fault(word, what.kind == "signed") for word, what in pairs):
             return "BadNumber"
