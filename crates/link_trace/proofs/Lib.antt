@@ -8,6 +8,4 @@ pub mod Together
 pub mod SlotParts
 pub mod SlotNumbers
 pub mod CaptureKeys
-pub mod MaskReads
 pub mod MasksOfPassing
-pub mod MaskSides

@@ -9,6 +9,7 @@ mod links;
 mod masks;
 mod ranges;
 mod sealed_trace;
+mod sides;
 mod starts;
 mod trace;
 

@@ -4,11 +4,13 @@ ghost use Rattle.std.specs.Prelude.{[], ◌≡◌, ◌≤◌, ◌<◌, ◌==◌,
 ghost use Rattle.std.specs.List.{list_any, AllPairs};
 ghost use Rattle.lwb_base.specs.declared.limits.TheConstants.{MOST_NODES};
 ghost use Rattle.link_trace.specs.Order.{Ascends, by_link};
-ghost use Rattle.link_trace.specs.Passes.{is_link, is_loss, is_of_step};
+ghost use Rattle.link_trace.specs.Passes.{is_of_step};
 ghost use Rattle.link_trace.specs.Starts.{AreNone, AreStarts, of_loss};
+ghost use Rattle.link_trace.specs.Sides.{is_linked, is_lost, is_lost_by};
 ghost use Rattle.link_trace.specs.Masks.{IsMask, AreLinkMasks};
 
 use crate::in_order::has_link;
+use crate::sides::Side;
 use crate::starts::{Starts, of_slots, slot_number};
 use crate::{CutLine, LinkLine, LoseLine};
 use lwb_base::{Memory, NodeId};
@@ -44,14 +46,15 @@ pub fn link_masks(
 {
     let mut masks = Vec::new(alloc);
     for node in nodes {
-        let to_it = links_to(links, nodes, *node);
-        let from_it = links_from(links, nodes, *node);
+        let to_it = links_of(links, nodes, &Side::To(*node));
+        let from_it = links_of(links, nodes, &Side::From(*node));
         masks.push(LinkMasks { to_it, from_it })?;
     }
     Ok(masks)
 }
 
-/// Those of the nodes whose link to `to` a line loses in that frame, slot and step.
+/// Those of the nodes whose link on that side a line loses in that frame, slot and step.
+#[inline(always)]
 pub fn lost_mask(
     losses: &[LoseLine],
     starts: &Starts,
@@ -59,42 +62,18 @@ pub fn lost_mask(
     slot: u8,
     step: u8,
     nodes: &[NodeId],
-    to: NodeId,
+    side: &Side,
 ) -> u64
     requires starts { AreStarts of_loss losses.now starts.now.losses.items }
     requires few { length nodes.now ≤ MOST_NODES }
     requires ascending { AllPairs (λ a b. a < b) nodes.now }
-    ensures { IsMask (λ from. list_any (is_loss frame slot step from to) losses.now) nodes.now result }
+    ensures { IsMask (λ v. is_lost frame slot step side.now losses.now v) nodes.now result }
 {
     let number = slot_number(frame, slot);
     let of_slot = of_slots(losses, &starts.losses, number, number);
     let mut mask = 0;
     for line in of_slot {
-        mask |= lost_by(line, frame, slot, step, nodes, to);
-    }
-    mask
-}
-
-/// Those of the nodes to which a line loses the link from `from` in that frame, slot and step.
-pub fn lost_from_mask(
-    losses: &[LoseLine],
-    starts: &Starts,
-    frame: u32,
-    slot: u8,
-    step: u8,
-    nodes: &[NodeId],
-    from: NodeId,
-) -> u64
-    requires starts { AreStarts of_loss losses.now starts.now.losses.items }
-    requires few { length nodes.now ≤ MOST_NODES }
-    requires ascending { AllPairs (λ a b. a < b) nodes.now }
-    ensures { IsMask (λ to. list_any (is_loss frame slot step from to) losses.now) nodes.now result }
-{
-    let number = slot_number(frame, slot);
-    let of_slot = of_slots(losses, &starts.losses, number, number);
-    let mut mask = 0;
-    for line in of_slot {
-        mask |= lost_from(line, frame, slot, step, nodes, from);
+        mask |= lost_by(line, frame, slot, step, nodes, side);
     }
     mask
 }
@@ -112,30 +91,26 @@ pub fn cut_mask(cuts: &[CutLine], nodes: &[NodeId]) -> u64
     mask
 }
 
-// The node whose link to `to` the line loses in that step, if it loses one.
-fn lost_by(line: &LoseLine, frame: u32, slot: u8, step: u8, nodes: &[NodeId], to: NodeId) -> u64
+// The node whose link on that side the line loses in that step, if it loses one.
+#[inline(always)]
+fn lost_by(line: &LoseLine, frame: u32, slot: u8, step: u8, nodes: &[NodeId], side: &Side) -> u64
     requires few { length nodes.now ≤ MOST_NODES }
     requires ascending { AllPairs (λ a b. a < b) nodes.now }
-    ensures { IsMask (λ from. is_loss frame slot step from to line.now) nodes.now result }
+    ensures { IsMask (λ v. is_lost_by frame slot step side.now v line.now) nodes.now result }
 {
-    if line.to == to && is_of(line, frame, slot, step) {
-        mask_of(nodes, line.from)
-    } else {
-        0
+    match side {
+        Side::To(to) => {
+            if line.to == *to && is_of(line, frame, slot, step) {
+                return mask_of(nodes, line.from);
+            }
+        }
+        Side::From(from) => {
+            if line.from == *from && is_of(line, frame, slot, step) {
+                return mask_of(nodes, line.to);
+            }
+        }
     }
-}
-
-// The node to which the line loses a link from `from` in that step, if it loses one.
-fn lost_from(line: &LoseLine, frame: u32, slot: u8, step: u8, nodes: &[NodeId], from: NodeId) -> u64
-    requires few { length nodes.now ≤ MOST_NODES }
-    requires ascending { AllPairs (λ a b. a < b) nodes.now }
-    ensures { IsMask (λ to. is_loss frame slot step from to line.now) nodes.now result }
-{
-    if line.from == from && is_of(line, frame, slot, step) {
-        mask_of(nodes, line.to)
-    } else {
-        0
-    }
+    0
 }
 
 // Whether the line is of that frame, slot and step. Most lines of a slot are of other steps.
@@ -145,34 +120,27 @@ fn is_of(line: &LoseLine, frame: u32, slot: u8, step: u8) -> bool
     line.step == step && line.slot == slot && line.frame == frame
 }
 
-// The nodes that have a link to `to`.
-fn links_to(links: &[LinkLine], nodes: &[NodeId], to: NodeId) -> u64
+// The nodes with which the node has a link on that side.
+fn links_of(links: &[LinkLine], nodes: &[NodeId], side: &Side) -> u64
     requires links { Ascends by_link links.now }
     requires few { length nodes.now ≤ MOST_NODES }
-    ensures { IsMask (λ from. list_any (is_link from to) links.now) nodes.now result }
+    ensures { IsMask (λ v. is_linked side.now links.now v) nodes.now result }
 {
     let mut mask = 0u64;
-    for (i, from) in nodes.iter().enumerate() {
-        if has_link(links, *from, to) {
+    for (i, other) in nodes.iter().enumerate() {
+        if has_link_on(links, side, *other) {
             mask |= 1 << i;
         }
     }
     mask
 }
 
-// The nodes to which `from` has a link.
-fn links_from(links: &[LinkLine], nodes: &[NodeId], from: NodeId) -> u64
-    requires links { Ascends by_link links.now }
-    requires few { length nodes.now ≤ MOST_NODES }
-    ensures { IsMask (λ to. list_any (is_link from to) links.now) nodes.now result }
+// Whether there is the link with the other node on that side.
+fn has_link_on(links: &[LinkLine], side: &Side, other: NodeId) -> bool
+    requires { Ascends by_link links.now }
+    ensures { result ≡ is_linked side.now links.now other }
 {
-    let mut mask = 0;
-    for (i, to) in nodes.iter().enumerate() {
-        if has_link(links, from, *to) {
-            mask |= 1u64 << i;
-        }
-    }
-    mask
+    has_link(links, side.sender(other), side.receiver(other))
 }
 
 // The mask of the one node, if it is one of these.

@@ -2,10 +2,12 @@
 
 ghost use Rattle.std.specs.Prelude.{◌≡◌, ◌<◌, length, slice_index, OnOk, OnErr};
 ghost use Rattle.link_trace.specs.Passes.{passes as passes_by};
+ghost use Rattle.link_trace.specs.Sides.{is_linked, passes_on};
 ghost use Rattle.link_trace.specs.Masks.{AreNodes, IsMask};
 
-use crate::masks::{cut_mask, link_masks, lost_from_mask, lost_mask};
+use crate::masks::{cut_mask, link_masks, lost_mask};
 use crate::ranges::{are_none, cuts_so_far, has_no_cuts, names};
+use crate::sides::Side;
 use crate::starts::starts_of;
 use crate::trace::Trace;
 use lwb_base::{Memory, NodeId};
@@ -34,22 +36,14 @@ impl Trace {
         ensures { IsMask (λ from. passes_by self.now.lines frame slot step from (slice_index self.now.nodes at))
             self.now.nodes result }
     {
-        let links = self.masks[usize::from(at)];
-        if are_none(&self.losses, &self.cuts) {
-            return links.to_it;
-        }
-        let nodes = self.nodes.as_slice();
-        let to = nodes[usize::from(at)];
-        let lost = lost_mask(&self.losses, &self.starts, frame, slot, step, nodes, to);
-        if has_no_cuts(&self.cuts) {
-            return links.to_it & !lost;
-        }
-        let cuts = cuts_so_far(&self.cuts, &self.starts.cuts, frame, slot, step);
-        if names(cuts, to) {
-            return 0;
-        }
-        let cut = cut_mask(cuts, nodes);
-        links.to_it & !lost & !cut
+        let place = usize::from(at);
+        self.passing(
+            frame,
+            slot,
+            step,
+            self.masks[place].to_it,
+            &Side::To(self.nodes[place]),
+        )
     }
 
     /// The nodes to which a link from node `from` passes in that frame, slot and step, as `from_mask` gives nodes. It
@@ -59,21 +53,37 @@ impl Trace {
         ensures { IsMask (λ to. passes_by self.now.lines frame slot step (slice_index self.now.nodes from) to)
             self.now.nodes result }
     {
-        let links = self.masks[usize::from(from)];
+        let place = usize::from(from);
+        self.passing(
+            frame,
+            slot,
+            step,
+            self.masks[place].from_it,
+            &Side::From(self.nodes[place]),
+        )
+    }
+
+    // The nodes with which a link of that side passes in that frame, slot and step, where `links` are those with which there is
+    // one. It is a part of both callers, each of which has one side.
+    #[inline(always)]
+    #[tactic(auto, using(crate::proofs::MasksOfPassing::all_passing, crate::proofs::MasksOfPassing::uncut_passing))]
+    fn passing(&self, frame: u32, slot: u8, step: u8, links: u64, side: &Side) -> u64
+        requires { IsMask (λ v. is_linked side.now self.now.lines.links v) self.now.nodes links }
+        ensures { IsMask (λ v. passes_on self.now.lines frame slot step side.now v) self.now.nodes result }
+    {
         if are_none(&self.losses, &self.cuts) {
-            return links.from_it;
+            return links;
         }
         let nodes = self.nodes.as_slice();
-        let node = nodes[usize::from(from)];
-        let lost = lost_from_mask(&self.losses, &self.starts, frame, slot, step, nodes, node);
+        let lost = lost_mask(&self.losses, &self.starts, frame, slot, step, nodes, side);
         if has_no_cuts(&self.cuts) {
-            return links.from_it & !lost;
+            return links & !lost;
         }
         let cuts = cuts_so_far(&self.cuts, &self.starts.cuts, frame, slot, step);
-        if names(cuts, node) {
+        if names(cuts, side.own()) {
             return 0;
         }
         let cut = cut_mask(cuts, nodes);
-        links.from_it & !lost & !cut
+        links & !lost & !cut
     }
 }

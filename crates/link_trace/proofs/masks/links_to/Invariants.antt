@@ -1,7 +1,0 @@
-use Rattle.std.specs.List.{list_any}
-use Rattle.link_trace.specs.Masks.{IsMaskUpto}
-use Rattle.link_trace.specs.Passes.{is_link}
-use Rattle.link_trace.proofs.masks.links_to.Given as goal
-
-abbrev pub invariant-loop-i : goal.invariant-loop-i
-invariant-loop-i l = IsMaskUpto (λ from. list_any (is_link from l.to) l.links) l.nodes l.i l.mask
