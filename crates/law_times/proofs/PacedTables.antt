@@ -1,22 +1,13 @@
 -- Tables of a host whose streams keep pace: what requests, data slots and grants leave of them.
 use Rattle.std.proofs.Common.{◌≡◌, ◌≢◌, ◌<◌, ◌≤◌, ◌+◌, ◌-◌, ◌*◌, ◌/◌, ◌==◌, ◌&&◌, ℕ, suc, List, [], ◌∷◌, Bool, true, false, not, Option, Some, None, inl, inr}
-use Rattle.std.proofs.Common.{if◌then◌else◌, filter, filter_map, is_none, length, map, nat_le, nat_lt, sum_by, refl, sym, ◌∙◌, ap, subst, arith}
-use Rattle.std.specs.List.{cons_option}
-use Rattle.std.specs.Prelude.{◌⊎◌}
-use Rattle.std.proofs.Math.Nat.{div-eq_of_lt, div-lt_iff_lt-mul, div-mul-le_self, lt-div-mul-add, mul-le-mul_left, mul-suc}
-use Rattle.std.proofs.lemmas.Nat.{le-div}
-use Rattle.std.proofs.lemmas.List.{length-map}
-use Rattle.std.proofs.lemmas.Bool.{cases_eq, cases_lt, cond_both, eq-eqb, le-ltb, cond-true, cond-false, eqb-false, false≢true, le-leb, leb-true, ltb-true}
-use Rattle.std.proofs.lemmas.Bool.{ne_eqb}
-use Rattle.std.proofs.lemmas.List.Sums.{sum_by-cons}
-use Rattle.bus_rules.specs.Granting.{Grants, gap_of, given, grant, granted_by, grants_for, last_code, owed_to, plan_round, share_in, total}
-use Rattle.bus_rules.specs.Tables.{AreEntries, EntriesAreAbove, EntriesAscend, TableEntry, Table, after_request, entry_after_data, entry_of, has_code, is_full}
-use Rattle.bus_rules.specs.Tables.{missed, new_entry}
-use Rattle.bus_rules.specs.Tables.{with_entry, without}
-use Rattle.lwb_base.specs.Messages.{Ask, code_of}
+use Rattle.std.proofs.Common.{if◌then◌else◌, filter, filter_map, is_none, length, map, nat_le, nat_lt, sum_by, refl, sym, ◌∙◌, ap, subst, arith, ◌⊎◌}
 use Rattle.stream_table.proofs.Order.{ascends_map, ascends_with, none_above}
 use Rattle.stream_table.proofs.Changes.{grant_keeps, heard_kept, missed_kept, removed_kept}
-use Rattle.law_times.specs.Paces.{IsOnPace}
+use Rattle.law_times.proofs.Words.{cons_option, div-eq_of_lt, div-lt_iff_lt-mul, div-mul-le_self, lt-div-mul-add, mul-le-mul_left, mul-suc, le-div, length-map}
+use Rattle.law_times.proofs.Words.{cases_eq, cases_lt, cond_both, eq-eqb, le-ltb, cond-true, cond-false, eqb-false, false≢true, le-leb, leb-true, ltb-true}
+use Rattle.law_times.proofs.Words.{ne_eqb, sum_by-cons, Grants, gap_of, given, grant, granted_by, grants_for, last_code, owed_to, plan_round, share_in, total}
+use Rattle.law_times.proofs.Words.{AreEntries, EntriesAreAbove, EntriesAscend, TableEntry, Table, after_request, entry_after_data, entry_of, has_code, is_full}
+use Rattle.law_times.proofs.Words.{missed, new_entry, with_entry, without, Ask, code_of, IsOnPace}
 
 abbrev pub Each : (TableEntry → Type 0) → List TableEntry → Type 0
 Each P [] = Unit {0}
