@@ -7,6 +7,7 @@ pub mod FirstRounds
 pub mod DeliveredData
 pub mod OffNodes
 pub mod ComputedCores
+pub mod SharedSlots
 -- for this crate alone
 mod SoleVoices
 mod AcknowledgedRequests

@@ -264,7 +264,8 @@ module _ (s : ScenarioParts) (accepted : IsScenario s) (slow : HasSlowStreams s)
             (let range = n.range in
             let most = div-mul-le_self (sec * (n.due - since)) interval in
             let whole : sec * n.due ≡ sec * (n.due - since) + sec * since =
-            ap (λ (d : ℕ). sec * d) (let sum : n.due ≡ (n.due - since) + since = omega (arith, range, after, early) in sum) ∙ spread sec (n.due - since) since in
+            ap (λ (d : ℕ). sec * d) (let sum : n.due ≡ (n.due - since) + since = omega (arith, range, after, early) in sum)
+            ∙ spread sec (n.due - since) since in
             let far : sec * n.due ≤ sec * (x + 4) = mul-le-mul_left sec (omega (arith, range)) in
             hold_on x (omega arith) (good_next x (gone.named there)) (omega (arith, most, whole, far)))
       ]

@@ -7,22 +7,13 @@ use Rattle.law_times.proofs.Words.{Contention, Closing, Core, Setup, Opened, hos
 use Rattle.law_times.proofs.Words.{after_contention, due_stream, after_forgetting, forgotten, granted_stream, heard_host, is_host, named_in, names, no_stream}
 use Rattle.law_times.proofs.Words.{owner_named, request_is_due, requested, schedule_heard, stream_at, after_taking, has_due_request, with_stream, without_first}
 use Rattle.bus_terms.proofs.KeptFields as fields
-use Rattle.law_times.proofs.NewStreams.{map_at}
+use Rattle.law_times.proofs.NewStreams.{map_at, exchanged}
 
 -- the node requests this interval, has agreed to it, and a schedule has named the stream in this frame or later
 pub record IsGood (interval low : ℕ) (z : Stream) : Type 0 where
   pub wish : z.wish ≡ interval
   pub agreed : z.agreed ≡ interval
   pub last : low ≤ z.last
-
-later_good : (interval low high : ℕ) (z : Stream) → low ≤ high → IsGood interval high z → IsGood interval low z
-later_good interval low high z less is = record { wish = is.wish; agreed = is.agreed; last = (let last = is.last in omega (arith, less, last)) }
-
-exchanged : (xs : List Stream) (k : ℕ) (y : Stream) (P : Stream → Type 0) → P (slice_index_or xs k no_stream) → P y
-    → P (slice_index_or (slice_set xs k y) k no_stream)
-exchanged [] k y P was new = was
-exchanged (z ∷ zs) zero y P was new = new
-exchanged (z ∷ zs) (suc k) y P was new = exchanged zs k y P was new
 
 set_at : (xs : List Stream) (k : ℕ) (y : Stream) → (slice_index_or xs k no_stream).wish ≢ 0 → slice_index_or (slice_set xs k y) k no_stream ≡ y
 set_at [] k y some = absurd (some refl)

@@ -1,6 +1,6 @@
 -- Tries and backoff as two numbers: what a contention slot of its own leaves of them, and when a node requests.
-use Rattle.std.proofs.Common.{◌≡◌, ◌≤◌, ◌+◌, ◌-◌, ◌^◌, ◌%◌, ◌==◌, ℕ, zero, suc, List, Bool, true, false, Option, Some, None, if◌then◌else◌, is_some}
-use Rattle.std.proofs.Common.{is_none, min, refl, sym, ◌∙◌, ap, subst, arith}
+use Rattle.std.proofs.Common.{◌≡◌, ◌≤◌, ◌+◌, ◌-◌, ◌^◌, ◌%◌, ◌==◌, ℕ, zero, suc, List, Bool, true, false, Option, Some, None, if◌then◌else◌, is_some, is_none}
+use Rattle.std.proofs.Common.{min, refl, sym, ◌∙◌, ap, subst, arith}
 use Rattle.law_times.proofs.Words.{false≢true, ne_eqb, Stream, Streams, after_contention, due_stream, own_number, after_turns, requests_after, slot_after}
 
 -- tries and skips
@@ -25,9 +25,6 @@ one_turn node x due = by_test (is_none (due_stream x)) (x.skips == 0) (none (due
     none : (o : Option ℕ) → is_some o ≡ true → is_none o ≡ false
     none None is = absurd (false≢true is)
     none (Some i) is = refl
-
-    tried : Streams
-    tried = record x { tries = min 4 (x.tries + 1); skips = node % 2 ^ min 4 (x.tries + 1) }
 
     by_test : (a t : Bool) → a ≡ false
         → (let y : Streams = if a then x else if t then record x { tries = min 4 (x.tries + 1); skips = node % 2 ^ min 4 (x.tries + 1) }

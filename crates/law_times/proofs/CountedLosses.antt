@@ -3,7 +3,7 @@ use Rattle.std.proofs.Common.{◌≡◌, ◌≢◌, ◌<◌, ◌≤◌, ◌+◌,
 use Rattle.std.proofs.Common.{sym, ◌∙◌, ap, arith, ◌⊎◌}
 use Rattle.law_times.proofs.Words.{list_any, and_parts, cases_eq, cond-true, cond-false, cond_both, false≢true, Plan, IsScenario, ScenarioParts, Hold, State}
 use Rattle.law_times.proofs.Words.{StateOff, StateOn, is_scan, state_at, has, is_on_and, CostsFew, LossesCostFew, has_round, is_lossless, lossy_rounds}
-use Rattle.law_times.proofs.Words.{lossy_row, scanned, IsLossless, IsGroup}
+use Rattle.law_times.proofs.Words.{lossy_row, scanned, IsLossless, IsGroup, not-true}
 use Rattle.law_times.proofs.KeptMembers.{Members, not_due, of_members, to_members}
 use Rattle.law_times.proofs.QuietFrames.{Goes}
 use Rattle.law_times.proofs.QuietRounds.{set_to_host, by_setting}
@@ -14,11 +14,7 @@ use Rattle.law_times.proofs.WaitingNodes.{Waiting, Waits, due, lossless, lossy, 
 pub of_test : (s : ScenarioParts) (f : ℕ) → is_lossless s f ≡ true → IsLossless s f
 of_test s f is =
     let parts = and_parts (not (list_any (λ l. l.frame == f) s.trace.losses)) (not (list_any (λ l. l.frame == f) s.trace.cuts)) is in
-    record { losses = not_true (list_any (λ l. l.frame == f) s.trace.losses) parts.0; cuts = not_true (list_any (λ l. l.frame == f) s.trace.cuts) parts.1 }
-  where
-    not_true : (b : Bool) → not b ≡ true → b ≡ false
-    not_true true is = absurd (false≢true is)
-    not_true false is = refl
+    record { losses = not-true (list_any (λ l. l.frame == f) s.trace.losses) parts.0; cuts = not-true (list_any (λ l. l.frame == f) s.trace.cuts) parts.1 }
 
 -- a frame more in which v scans, or not
 scans_more : (s : ScenarioParts) (v f n : ℕ) → scanned s v f (suc n) ≤ scanned s v f n + 1

@@ -53,7 +53,6 @@ mod KnownHosts
 mod SilentHosts
 mod PlannedRounds
 mod ContendingMembers
-mod SharedSlots
 mod ContendersPart
 mod ContentionTurnsOfSix
 mod CountedLosses

@@ -128,6 +128,13 @@ turned_new node x i new =
           (λ _. cond_both (x.skips == 0) _ _ (λ (z : Streams). z.host ≡ x.host) (λ _. refl) (λ _. refl)),
     )
 
+-- a stream itself, or the one that is put in its place
+pub exchanged : (xs : List Stream) (k : ℕ) (y : Stream) (P : Stream → Type 0) → P (slice_index_or xs k no_stream) → P y
+    → P (slice_index_or (slice_set xs k y) k no_stream)
+exchanged [] k y P was new = was
+exchanged (z ∷ zs) zero y P was new = new
+exchanged (z ∷ zs) (suc k) y P was new = exchanged zs k y P was new
+
 -- a packet that is put
 pub put_goes : (j : ℕ) (payload : List ℕ) (x : Streams) (i : ℕ) → GoesOn x (after_put j payload x) i
 put_goes j payload x i = record {
@@ -147,13 +154,6 @@ put_goes j payload x i = record {
   ];
 }
   where
-    -- the stream itself, or the one that is put in its place
-    exchanged : (xs : List Stream) (k : ℕ) (y : Stream) → (P : Stream → Type 0) → P (slice_index_or xs k no_stream) → P y
-        → P (slice_index_or (slice_set xs k y) k no_stream)
-    exchanged [] k y P was new = was
-    exchanged (z ∷ zs) zero y P was new = new
-    exchanged (z ∷ zs) (suc k) y P was new = exchanged zs k y P was new
-
     added : (y : Stream) → ((put_to payload y).wish ≡ y.wish) × ((put_to payload y).agreed ≡ y.agreed) × (y.queue ≢ [] → (put_to payload y).queue ≢ [])
     added y = cond_both (refuses y) y (queued payload y) (λ (z : Stream). (z.wish ≡ y.wish) × (z.agreed ≡ y.agreed) × (y.queue ≢ [] → z.queue ≢ []))
         (λ _. (refl, refl, λ some. some)) (λ _. (refl, refl, λ some. longer (record { seq = y.next; payload = payload }) y.queue))

@@ -13,14 +13,10 @@ abbrev pub Each : (TableEntry → Type 0) → List TableEntry → Type 0
 Each P [] = Unit {0}
 Each P (e ∷ es) = P e × Each P es
 
-each_map : (P : TableEntry → Type 0) (f : TableEntry → TableEntry) → ((e : TableEntry) → P e → P (f e)) → (es : List TableEntry) → Each P es → Each P (map f es)
-each_map P f keeps [] all = tt
-each_map P f keeps (e ∷ es) all = (keeps e all.0, each_map P f keeps es all.1)
-
-each_map_to : (P Q : TableEntry → Type 0) (f : TableEntry → TableEntry) → ((e : TableEntry) → P e → Q (f e)) → (es : List TableEntry) → Each P es
+each_map : (P Q : TableEntry → Type 0) (f : TableEntry → TableEntry) → ((e : TableEntry) → P e → Q (f e)) → (es : List TableEntry) → Each P es
     → Each Q (map f es)
-each_map_to P Q f keeps [] all = tt
-each_map_to P Q f keeps (e ∷ es) all = (keeps e all.0, each_map_to P Q f keeps es all.1)
+each_map P Q f keeps [] all = tt
+each_map P Q f keeps (e ∷ es) all = (keeps e all.0, each_map P Q f keeps es all.1)
 
 each_filter : (P : TableEntry → Type 0) (test : TableEntry → Bool) (es : List TableEntry) → Each P es → Each P (filter test es)
 each_filter P test [] all = tt
@@ -165,7 +161,7 @@ module _ (seconds f : ℕ) (some : 0 < seconds) (t : Table) (paced : Paced secon
               (arith, same, few));
           ascends = ascends_map (grant owes) t.entries (grant_keeps owes) paced.entries.ascends;
         };
-        pace = each_map_to (IsOnPace seconds f) (IsOnPace seconds (f + gap)) (grant owes) grants t.entries paced.pace;
+        pace = each_map (IsOnPace seconds f) (IsOnPace seconds (f + gap)) (grant owes) grants t.entries paced.pace;
       })
 
 -- a request, in the frame in which the table is on pace
@@ -218,7 +214,7 @@ after_asked seconds f t a slow paced =
 pub after_heard : (seconds d c : ℕ) (es : List TableEntry) → Paced seconds d es → Paced seconds d (map (entry_after_data c) es)
 after_heard seconds d c es paced = record {
   entries = heard_kept es (map (entry_after_data c) es) c paced.entries refl;
-  pace = each_map (IsOnPace seconds d) (entry_after_data c) (λ e is. record { accepted = is.accepted; slow = is.slow; granted = is.granted }) es paced.pace;
+  pace = each_map (IsOnPace seconds d) (IsOnPace seconds d) (entry_after_data c) (λ e is. record { accepted = is.accepted; slow = is.slow; granted = is.granted }) es paced.pace;
 }
 
 pub after_missed : (seconds d c : ℕ) (es : List TableEntry) → Paced seconds d es → Paced seconds d (filter_map (missed c) es)

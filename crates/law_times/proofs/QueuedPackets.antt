@@ -18,12 +18,6 @@ pub record KeepsQueues (c d : Core) : Type 0 where
   pub boot : d.boot ≡ c.boot
   pub queues : (i : ℕ) → (stream_at d.streams i).queue ≡ (stream_at c.streams i).queue
 
-pub same_queues : (c : Core) → KeepsQueues c c
-same_queues c = record { boot = refl; queues = λ i. refl }
-
-pub queues_both : (a b c : Core) → KeepsQueues a b → KeepsQueues b c → KeepsQueues a c
-queues_both a b c first second = record { boot = second.boot ∙ first.boot; queues = λ i. second.queues i ∙ first.queues i }
-
 -- a data slot of this stream of a node
 abbrev pub is_slot_of : ℕ → Part → Bool
 is_slot_of c Opening = false

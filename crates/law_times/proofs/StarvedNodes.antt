@@ -1,6 +1,7 @@
 -- The six nodes from frame 30 on: in each round none of them or two of them request, so nobody receives a request, and the host plans as before.
 use Rattle.std.proofs.Common.{◌≡◌, ◌≢◌, ◌<◌, ◌≤◌, ◌+◌, ◌-◌, ◌%◌, ◌==◌, ◌||◌, ℕ, zero, suc, List, [], Bool, true, false, inl, inr, Option, Some, None, fold}
 use Rattle.std.proofs.Common.{if◌then◌else◌, is_some, option_and_then, refl, sym, ◌∙◌, ap, subst, arith, Contains, not}
+use Rattle.law_service.proofs.SharedSlots.{deaf_slot, none_starts, two_start}
 use Rattle.law_times.proofs.Words.{list_all, list_any, option_or, cases_Bool, cases_eq, eqb-true, false≢true, ne_eqb, or_cases, Plan, node_of, IsScenario}
 use Rattle.law_times.proofs.Words.{ScenarioParts, IsSoundScenario, ScriptLine, sound, Opening, Contention, Tune, Hold, Host, Core, frame_ended, is_member}
 use Rattle.law_times.proofs.Words.{plan_round, host_plan, opening, host_closes, State, StateOn, at_core, names, hosts_in, holds_in, before_frame, state_at, ids}
@@ -20,7 +21,6 @@ use Rattle.law_times.proofs.MemberSlots.{after_member}
 use Rattle.law_times.proofs.PacketFrames.{hosted_now}
 use Rattle.law_times.proofs.QuietFrames.{Goes}
 use Rattle.law_times.proofs.Settings.{idle, setting, node_test}
-use Rattle.law_times.proofs.SharedSlots.{deaf_slot, none_starts, two_start}
 use Rattle.law_times.proofs.SilentHosts.{host_silent}
 use Rattle.law_times.proofs.SixAskers.{found_two, six_apart, asker_of, one_of_six, first_asker, backoff, next_backoff, asks_by, first_there}
 use Rattle.law_times.proofs.WorkedSix.{all_ask_in_30, all_linked, asks_so, bare_plan, group, host_core, host_in_30, is_asking, members_in_30, no_lines, wishes}
@@ -210,7 +210,7 @@ module _ (frames : ℕ) (accepted : IsScenario (six_nodes frames)) where
             initiates two.first.node first.there (says_now two.first two.there.0 two.both.0),
             initiates two.second.node second.there (says_now two.second two.there.1 two.both.1),
           )
-          (λ w here not_first not_second. (
+          (λ w here not_first not_second x starts over. (
             passes two.first.node w (takes two.first.node first.there) here not_first,
             passes two.second.node w (takes two.second.node second.there) here not_second,
           )))

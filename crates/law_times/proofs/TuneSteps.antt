@@ -8,13 +8,6 @@ use Rattle.law_times.proofs.Settings.{Setting, setting, idle, core_at}
 use Rattle.law_times.proofs.TuneRanges.{HasStarted, started}
 
 -- the rules
-other_rank : (own : Option ℕ) (r : ℕ) → (own ≡ Some r → ⊥) → is_rank own r ≡ false
-other_rank own r other = by_test (is_rank own r) refl
-  where
-    by_test : (b : Bool) → is_rank own r ≡ b → is_rank own r ≡ false
-    by_test true is = absurd (other (rank_is own r is))
-    by_test false is = is
-
 serves_not : (own : Option ℕ) (r w : ℕ) → (own ≡ Some r → w + 1 < 5) → (is_rank own r && (w + 1 == 5)) ≡ false
 serves_not own r w early = by_test (is_rank own r) refl
   where

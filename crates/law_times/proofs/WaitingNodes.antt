@@ -1,9 +1,8 @@
 -- Nodes that wait for the next round of their host, over frames with and without losses: each holds it, or scans the rank and has
 -- done so for few enough frames.
 use Rattle.std.proofs.Common.{◌≡◌, ◌≢◌, ◌<◌, ◌≤◌, ◌+◌, ◌-◌, ℕ, suc, List, true, false, Some, inl, inr, length, refl, ◌∙◌, ap, subst, arith, ◌⊎◌}
-use Rattle.law_times.proofs.Words.{cases_eq, eq-eqb, Plan, IsScenario, ScenarioParts, IsSoundScenario, sound, Tune, Scan, Hold, Host, Core, frame_ended}
-use Rattle.law_times.proofs.Words.{own_rank, State, StateOff, StateOn, at_core, hosts_in, before_frame, state_at, has, rounds, setup_of, one_of_rank}
-use Rattle.law_times.proofs.Words.{IsLossless, IsGroup}
+use Rattle.law_times.proofs.Words.{cases_eq, eq-eqb, Plan, IsScenario, ScenarioParts, Tune, Scan, Hold, Host, Core, frame_ended, own_rank, State, StateOff}
+use Rattle.law_times.proofs.Words.{StateOn, at_core, hosts_in, before_frame, state_at, has, rounds, setup_of, one_of_rank, IsLossless, IsGroup}
 use Rattle.law_times.proofs.FrameEnds.{fallen_end, held_end, scan_end}
 use Rattle.law_times.proofs.HostedFrames.{Planned}
 use Rattle.law_times.proofs.JoinedNodes.{next, host_next}
@@ -61,9 +60,6 @@ waiting_members s rank host f among w = record {
     holds v (inr (k, p, goes, soon)) = absurd (omega (arith, soon))
 
 module _ (s : ScenarioParts) (accepted : IsScenario s) (rank host b e : ℕ) (among : List ℕ) (group : IsGroup s host b e among) where
-  abbrev scenario : IsSoundScenario s
-  scenario = sound s accepted
-
   module _ (f most : ℕ) (after : b ≤ f) (within : suc f ≤ e) (few : most ≤ 12) (waiting : Waiting s rank f host among most) where
     own : own_rank host s.hosts ≡ Some rank
     own = host_own s rank f host waiting.due waiting.plan waiting.hosts
