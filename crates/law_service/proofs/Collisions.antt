@@ -1,28 +1,12 @@
 -- Two contenders with the same neighbours: where nothing is lost and nothing captured, nobody receives either request.
-use Rattle.std.proofs.Common.{◌≡◌, ◌≢◌, ◌+◌, ◌-◌, ◌==◌, ◌&&◌, ℕ, suc, Bool, true, false, inl, inr, Option, Some, None}
-use Rattle.std.proofs.Common.{if◌then◌else◌, is_some, length, option_map, eq-eqb, add-one, refl, sym, ◌∙◌, ap, subst, arith}
-use Rattle.std.specs.Prelude.{◌⊎◌}
-use Rattle.std.proofs.lemmas.Bool.{false≢true, cond-true}
-use Rattle.lwb_base.specs.Messages.{Plan}
-use Rattle.scenario_text.specs.ScenarioParts.{ScenarioParts}
-use Rattle.bus_rules.specs.declared.part.Part.{Part}
-use Rattle.bus_rules.specs.declared.part.Part.TheVariants.{Contention}
-use Rattle.bus_rules.specs.Cores.{Core, is_member}
-use Rattle.bus_rules.specs.Slots.{Message, RequestOf, opened_slot, part_of, is_own, request_of}
-use Rattle.bus_rules.specs.States.{State, StateOn}
-use Rattle.bus_rules.specs.Streams.{Streams, after_contention, due_stream}
-use Rattle.bus_terms.specs.Bus.{state_at}
-use Rattle.bus_terms.specs.FloodOfText.{ids}
-use Rattle.bus_terms.specs.Flooding.{Setting, moment, has, pick, may_hear, takes, hears, accepted, Hears}
-use Rattle.bus_terms.specs.Rounds.{Slot, accepted_at, opened_at, closed_slot_of, left_by, before_slot, message_said, takes_part}
-use Rattle.scenario_text.specs.Setups.{setup_of}
-use Rattle.bus_terms.proofs.Options.{inspect, heard_parts}
-use Rattle.bus_terms.proofs.ReceivedByPaths.{in_filtered, of_filtered, in_whole}
-use Rattle.law_service.specs.Contenders.{DifferentPacketsCollide, Collide, ContendersAreLost, ContendersStayTied, AreTied}
-use Rattle.law_service.specs.Reach.{is_linked, TakesPart}
-use Rattle.bus_terms.specs.HostedRounds.{slot_in, node_before}
-use Rattle.bus_terms.proofs.ContentionSlots.{contention_at, requests, only_requests}
-use Rattle.bus_terms.proofs.HostedRounds.{said_message, left_windowed}
+use Rattle.std.proofs.Common.{◌≡◌, ◌≢◌, ◌+◌, ◌-◌, ◌==◌, ◌&&◌, ℕ, suc, Bool, true, false, inl, inr, Option, Some, None, if◌then◌else◌, is_some, length}
+use Rattle.std.proofs.Common.{option_map, eq-eqb, add-one, refl, sym, ◌∙◌, ap, subst, arith, ◌⊎◌}
+use Rattle.law_service.proofs.Words.{false≢true, cond-true, Plan, ScenarioParts, Part, Contention, Core, is_member, Message, RequestOf, opened_slot, part_of}
+use Rattle.law_service.proofs.Words.{is_own, request_of, State, StateOn, Streams, after_contention, due_stream, state_at, ids, Setting, moment, has, pick}
+use Rattle.law_service.proofs.Words.{may_hear, takes, hears, accepted, Hears, Slot, accepted_at, opened_at, closed_slot_of, left_by, before_slot, message_said}
+use Rattle.law_service.proofs.Words.{takes_part, setup_of, inspect, heard_parts, in_filtered, of_filtered, in_whole, DifferentPacketsCollide, Collide}
+use Rattle.law_service.proofs.Words.{ContendersAreLost, ContendersStayTied, AreTied, is_linked, TakesPart, slot_in, node_before, contention_at, requests}
+use Rattle.law_service.proofs.Words.{only_requests, said_message, left_windowed}
 use Rattle.law_service.proofs.SharedSlots.{deaf_slot, one_or_none, two_start}
 use Rattle.law_service.proofs.TiedNodes.{contention_keeps}
 

@@ -9,6 +9,7 @@ pub mod OffNodes
 pub mod ComputedCores
 pub mod SharedSlots
 -- for this crate alone
+mod Words
 mod SoleVoices
 mod AcknowledgedRequests
 mod TiedNodes

@@ -1,11 +1,9 @@
 -- A flood with no initiator, or with two that reach each node which one initiator reaches: nobody receives anything.
 use Rattle.std.proofs.Common.{◌≡◌, ◌≢◌, ◌+◌, ◌&&◌, ℕ, zero, suc, true, false, inl, inr, Option, Some, None, is_none, nat_lt, option_and_then, sym, ◌∙◌, ap}
-use Rattle.std.proofs.lemmas.Bool.{false≢true, and_parts, cond-true}
 use Rattle.lwb_base.proofs.Options.{not_both, none_is}
-use Rattle.bus_terms.specs.Flooding.{Setting, Moment, STEPS, moment, has, offer, candidates, named, pick, may_hear, takes, hears, Hears}
-use Rattle.bus_terms.specs.Rounds.{Slot, accepted_at, message_said}
-use Rattle.bus_terms.proofs.Options.{only_from, in_filter, from_filter, heard_parts, sends_parts, named_parts}
-use Rattle.bus_terms.proofs.ReceivedInRounds.{accepted_none}
+use Rattle.law_service.proofs.Words.{false≢true, and_parts, cond-true, Setting, Moment, STEPS, moment, has, offer, candidates, named, pick, may_hear, takes}
+use Rattle.law_service.proofs.Words.{hears, Hears, Slot, accepted_at, message_said, only_from, in_filter, from_filter, heard_parts, sends_parts, named_parts}
+use Rattle.law_service.proofs.Words.{accepted_none}
 
 -- of two different packets that reach a node it takes none, but by a capture line
 pub one_or_none : (s : Setting) (m : Moment) (k w u v o : ℕ) → u ≢ v → has (candidates s m k w) u ≡ true → has (candidates s m k w) v ≡ true
