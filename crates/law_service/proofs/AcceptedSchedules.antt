@@ -1,38 +1,15 @@
 -- In a slot of schedules without losses who listens within reach of the host accepts, and goes by what it accepted.
-use Rattle.std.proofs.Common.{◌≡◌, ◌<◌, ◌+◌, ◌==◌, ℕ, suc, List, Bool, true, false, Option, Some, None, if◌then◌else◌}
-use Rattle.std.proofs.Common.{is_some, refl, sym, ◌∙◌, ap, arith, AllPairs, add-one}
-use Rattle.std.proofs.lemmas.Bool.{false≢true, and_parts, cond-false, ne_eqb}
-use Rattle.lwb_base.specs.Profile.{Numbers}
-use Rattle.lwb_base.specs.Messages.{Ask, Plan, Schedule}
-use Rattle.scenario_text.specs.ScenarioParts.{ScenarioParts}
-use Rattle.scenario_text.specs.ScenarioFacts.{IsSoundScenario}
-use Rattle.scenario_text.proofs.SoundScenarios.{sound}
-use Rattle.bus_rules.specs.declared.part.Part.{Part}
-use Rattle.bus_rules.specs.declared.part.Part.TheVariants.{Opening, Closing}
-use Rattle.bus_rules.specs.declared.tune.Tune.TheVariants.{Hold, Host}
-use Rattle.bus_rules.specs.Cores.{Core, is_member, schedule_accepted, opening_accepted, closing_accepted}
-use Rattle.bus_rules.specs.HostPlans.{host_plan, HostPlan}
-use Rattle.bus_rules.specs.Plans.{last_slot, opening}
-use Rattle.bus_rules.specs.Slots.{Message, ScheduleOf, Opened, opened_slot, part_of, hosts_now, host_closes, silent, is_schedule_part}
-use Rattle.bus_rules.specs.States.{State, StateOff, StateOn}
-use Rattle.bus_rules.specs.Streams.{Streams}
-use Rattle.bus_rules.specs.Tables.{Table}
-use Rattle.bus_rules.specs.Tuning.{hosts_in, rank_of}
-use Rattle.bus_rules.proofs.Ranks.{planned_rank, member_hosts}
-use Rattle.bus_terms.specs.Bus.{state_at}
-use Rattle.bus_terms.specs.FloodOfText.{ids}
-use Rattle.bus_terms.specs.Flooding.{Accepts}
-use Rattle.bus_terms.specs.Rounds.{Slot, opened_at, message_said, accepted_at, closed_slot_of, left_by, before_slot, takes_part}
-use Rattle.scenario_text.specs.Setups.{setup_of}
-use Rattle.bus_terms.specs.ScriptedStates.{is_on_and}
-use Rattle.bus_terms.proofs.ReceivedByPaths.{in_filtered, of_filtered}
-use Rattle.bus_terms.proofs.ReceivedInRounds.{ids_rise}
-use Rattle.law_service.specs.Reach.{TakesPart, LosesNothing, IsWithin}
-use Rattle.bus_terms.specs.HostedRounds.{IsHosted, slot_in, state_after_round}
-use Rattle.law_service.specs.ScheduleService.{OpeningsAreAccepted, ClosingsAreAccepted}
+use Rattle.std.proofs.Common.{◌≡◌, ◌<◌, ◌+◌, ◌==◌, ℕ, suc, List, Bool, true, false, Option, Some, None, if◌then◌else◌, is_some, refl, sym, ◌∙◌, ap, arith}
+use Rattle.std.proofs.Common.{AllPairs, add-one}
 use Rattle.bus_terms.proofs.HostsOfRanks.{due_rank}
-use Rattle.bus_terms.proofs.HostedRounds.{Hosting, has_planned, closing_opens, opening_said, leads, sole_host, said_message, host_member, closing_last}
-use Rattle.bus_terms.proofs.SaidByParts.{windowed}
+use Rattle.law_service.proofs.Words.{false≢true, and_parts, cond-false, ne_eqb, Numbers, Ask, Plan, Schedule, ScenarioParts, IsSoundScenario, sound, Part}
+use Rattle.law_service.proofs.Words.{Opening, Closing, Hold, Host, Core, is_member, schedule_accepted, opening_accepted, closing_accepted, host_plan, HostPlan}
+use Rattle.law_service.proofs.Words.{last_slot, opening, Message, ScheduleOf, Opened, opened_slot, part_of, hosts_now, host_closes, silent, is_schedule_part}
+use Rattle.law_service.proofs.Words.{State, StateOff, StateOn, Streams, Table, hosts_in, rank_of, planned_rank, member_hosts, state_at, ids, Accepts, Slot}
+use Rattle.law_service.proofs.Words.{opened_at, message_said, accepted_at, closed_slot_of, left_by, before_slot, takes_part, setup_of, is_on_and, in_filtered}
+use Rattle.law_service.proofs.Words.{of_filtered, ids_rise, TakesPart, LosesNothing, IsWithin, IsHosted, slot_in, state_after_round, Hosting, has_planned}
+use Rattle.law_service.proofs.Words.{closing_opens, opening_said, leads, sole_host, said_message, host_member, closing_last, windowed}
+use Rattle.law_service.specs.ScheduleService.{OpeningsAreAccepted, ClosingsAreAccepted}
 use Rattle.law_service.proofs.SoleVoices.{accepts, accepts_said}
 use Rattle.law_service.proofs.GrantedSlots.{some_gap}
 

@@ -1,14 +1,7 @@
 -- A request that the table takes is acknowledged, whatever requests of other streams come after it.
-use Rattle.std.proofs.Common.{◌≡◌, ◌≢◌, ◌==◌, ℕ, List, [], ◌∷◌, ◌++◌, false, inl, inr, nat_lt, fold, sym, ◌∙◌, ap, subst}
-use Rattle.std.specs.Prelude.{Contains}
-use Rattle.std.proofs.lemmas.Bool.{cond_both, cond-false, eqb-true}
-use Rattle.std.proofs.lemmas.Grind.{fold-append}
-use Rattle.lwb_base.specs.Profile.{Numbers}
-use Rattle.lwb_base.specs.Messages.{Ask, code_of}
-use Rattle.bus_rules.specs.HostPlans.{Answered, answer, answers_to, with_ack, host_plan}
-use Rattle.bus_rules.specs.Streams.{Streams}
-use Rattle.bus_rules.specs.Tables.{Table, is_full}
-use Rattle.lwb_base.proofs.Elements.{not_in_none, contains_head, contains_tail, contains_cases}
+use Rattle.std.proofs.Common.{◌≡◌, ◌≢◌, ◌==◌, ℕ, List, [], ◌∷◌, ◌++◌, false, inl, inr, nat_lt, fold, sym, ◌∙◌, ap, subst, Contains}
+use Rattle.law_service.proofs.Words.{cond_both, cond-false, eqb-true, fold-append, Numbers, Ask, code_of, Answered, answer, answers_to, with_ack, host_plan}
+use Rattle.law_service.proofs.Words.{Streams, Table, is_full, not_in_none, contains_head, contains_tail, contains_cases}
 
 -- none of the requests is of this stream
 abbrev pub NoneOf : ℕ → List Ask → Type 0

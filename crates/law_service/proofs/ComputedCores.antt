@@ -1,8 +1,6 @@
 -- The core of a node that is computed to be on.
 use Rattle.std.proofs.Common.{◌≡◌, Bool, true, false, refl}
-use Rattle.std.proofs.lemmas.Bool.{false≢true}
-use Rattle.bus_rules.specs.Cores.{Core, booted}
-use Rattle.bus_rules.specs.States.{State, StateOff, StateOn}
+use Rattle.law_service.proofs.Words.{false≢true, Core, booted, State, StateOff, StateOn}
 
 abbrev pub core_of : State → Core
 core_of (StateOff boots) = booted boots

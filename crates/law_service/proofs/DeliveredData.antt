@@ -1,27 +1,9 @@
 -- In a data slot without losses the members within reach deliver what the owner sends.
-use Rattle.std.proofs.Common.{◌≡◌, ℕ, ◌<◌, true, Option, Some, None, is_some, option_map, option_and_then}
-use Rattle.std.proofs.Common.{refl, sym, ◌∙◌, ap, AllPairs, eq-eqb}
-use Rattle.std.proofs.lemmas.Bool.{false≢true}
-use Rattle.lwb_base.specs.Messages.{node_of, stream_of}
-use Rattle.scenario_text.specs.ScenarioParts.{ScenarioParts}
-use Rattle.scenario_text.specs.ScenarioFacts.{IsSoundScenario}
-use Rattle.scenario_text.proofs.SoundScenarios.{sound}
-use Rattle.bus_rules.specs.declared.delivery.Delivery.{Delivery}
-use Rattle.bus_rules.specs.declared.part.Part.{Part}
-use Rattle.bus_rules.specs.declared.part.Part.TheVariants.{Data as DataSlot}
-use Rattle.bus_rules.specs.Cores.{Core}
-use Rattle.bus_rules.specs.Slots.{Message, Opened, opened_slot, data_of, delivery_of}
-use Rattle.bus_rules.specs.States.{State, StateOn}
-use Rattle.bus_rules.specs.Streams.{WaitingPacket, first_waiting}
-use Rattle.bus_terms.specs.FloodOfText.{ids}
-use Rattle.bus_terms.specs.Flooding.{has}
-use Rattle.scenario_text.specs.Setups.{setup_of}
-use Rattle.bus_terms.specs.Rounds.{Slot, slot_of_round, opened_at, message_said, takes_part, accepted_at, closed_slot_of, before_slot}
-use Rattle.bus_terms.proofs.ReceivedByPaths.{of_filtered, in_whole}
-use Rattle.bus_terms.proofs.ReceivedInRounds.{ids_rise}
-use Rattle.law_service.specs.Reach.{TakesPart}
-use Rattle.law_service.specs.DataService.{DataIsDelivered}
-use Rattle.bus_terms.proofs.SaidByParts.{window_of, owner_alone}
+use Rattle.std.proofs.Common.{◌≡◌, ℕ, ◌<◌, true, Option, Some, None, is_some, option_map, option_and_then, refl, sym, ◌∙◌, ap, AllPairs, eq-eqb}
+use Rattle.law_service.proofs.Words.{false≢true, node_of, stream_of, ScenarioParts, IsSoundScenario, sound, Delivery, Part, DataSlot, Core, Message, Opened}
+use Rattle.law_service.proofs.Words.{opened_slot, data_of, delivery_of, State, StateOn, WaitingPacket, first_waiting, ids, has, setup_of, Slot, slot_of_round}
+use Rattle.law_service.proofs.Words.{opened_at, message_said, takes_part, accepted_at, closed_slot_of, before_slot, of_filtered, in_whole, ids_rise, TakesPart}
+use Rattle.law_service.proofs.Words.{DataIsDelivered, window_of, owner_alone}
 use Rattle.law_service.proofs.SoleVoices.{accepts, accepts_said}
 
 -- what the owner says

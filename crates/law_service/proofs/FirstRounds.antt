@@ -1,26 +1,10 @@
 -- The round after a closing: when it comes, and the slots of those who were taken.
-use Rattle.std.proofs.Common.{◌≡◌, ◌≢◌, ◌<◌, ◌≤◌, ◌+◌, ◌-◌, ◌*◌, ◌/◌, ℕ, false, refl, sym, ◌∙◌, ap, subst, arith}
-use Rattle.std.specs.Prelude.{Contains}
-use Rattle.lwb_base.specs.Profile.{Numbers}
-use Rattle.lwb_base.specs.Messages.{Plan, code, code_of}
-use Rattle.scenario_text.specs.ScenarioParts.{ScenarioParts}
-use Rattle.scenario_text.proofs.SoundScenarios.{sound}
-use Rattle.bus_rules.specs.declared.tune.Tune.TheVariants.{Host}
-use Rattle.bus_rules.specs.Cores.{Core}
-use Rattle.bus_rules.specs.Granting.{count_of, owed_to, plan_round}
-use Rattle.bus_rules.specs.HostPlans.{host_plan, answers_to}
-use Rattle.bus_rules.specs.Plans.{last_slot}
-use Rattle.bus_rules.specs.Slots.{host_closes}
-use Rattle.bus_rules.specs.States.{StateOn}
-use Rattle.bus_rules.specs.Tables.{TableEntry, Table, is_full, new_entry}
-use Rattle.bus_rules.specs.Tuning.{rank_of}
-use Rattle.bus_terms.specs.Bus.{state_at}
-use Rattle.bus_terms.specs.Rounds.{before_slot}
-use Rattle.scenario_text.specs.Setups.{setup_of}
-use Rattle.law_service.specs.FirstSlots.{table_at, PlansRound, FitsNextRound, RoundsFollow, OwedSlotsAreGranted, NewStreamsAreGranted}
-use Rattle.bus_terms.specs.HostedRounds.{IsHosted, slot_in, node_before, state_after_round}
+use Rattle.std.proofs.Common.{◌≡◌, ◌≢◌, ◌<◌, ◌≤◌, ◌+◌, ◌-◌, ◌*◌, ◌/◌, ℕ, false, refl, sym, ◌∙◌, ap, subst, arith, Contains}
+use Rattle.law_service.proofs.Words.{Numbers, Plan, code, code_of, ScenarioParts, sound, Host, Core, count_of, owed_to, plan_round, host_plan, answers_to}
+use Rattle.law_service.proofs.Words.{last_slot, host_closes, StateOn, TableEntry, Table, is_full, new_entry, rank_of, state_at, before_slot, setup_of, table_at}
+use Rattle.law_service.proofs.Words.{PlansRound, FitsNextRound, RoundsFollow, OwedSlotsAreGranted, NewStreamsAreGranted, IsHosted, slot_in, node_before}
+use Rattle.law_service.proofs.Words.{state_after_round, Hosting, leads, has_planned}
 use Rattle.law_service.proofs.GrantedSlots.{gap_range, round_gap, fitting_grants, table_has}
-use Rattle.bus_terms.proofs.HostedRounds.{Hosting, leads, has_planned}
 use Rattle.law_service.proofs.LoneRequests.{same_core, at_closing, asked}
 use Rattle.law_service.proofs.SoleVoices.{is_another}
 

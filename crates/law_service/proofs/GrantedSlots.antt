@@ -1,18 +1,13 @@
 -- What a host grants for its next round, and the streams that a table keeps while others are put to it.
-use Rattle.std.proofs.Common.{◌≡◌, ◌≢◌, ◌<◌, ◌≤◌, ◌+◌, ◌==◌, ℕ, List, [], ◌∷◌, ◌++◌, Bool, true, false, not, inl, inr, Option, Some, None}
-use Rattle.std.proofs.Common.{cond, nat_lt, nat_le, fold, replicate, sum_by, sym, ◌∙◌, ap, subst, arith}
-use Rattle.std.specs.Prelude.{Contains}
-use Rattle.std.proofs.lemmas.Bool.{cond_both, cond-true, cond-false, eqb-true, ne_eqb, le-leb, false≢true}
-use Rattle.std.proofs.lemmas.Grind.{fold-append}
+use Rattle.std.proofs.Common.{◌≡◌, ◌≢◌, ◌<◌, ◌≤◌, ◌+◌, ◌==◌, ℕ, List, [], ◌∷◌, ◌++◌, Bool, true, false, not, inl, inr, Option, Some, None, cond, nat_lt, nat_le}
+use Rattle.std.proofs.Common.{fold, replicate, sum_by, sym, ◌∙◌, ap, subst, arith, Contains}
 use Rattle.std.proofs.lemmas.List.Sums.{sum_by-cons}
-use Rattle.lwb_base.specs.Messages.{Ask, code_of, code}
-use Rattle.bus_rules.specs.Granting.{Grants, count_of, owners_by, granted_by, given, share_in, last_code, grants_for, gap_of, owed_to, total, plan_round}
-use Rattle.bus_rules.specs.HostPlans.{Answered, answer, answers_to, Served, serve, served, put_if}
-use Rattle.bus_rules.specs.Streams.{Streams, due_of, with_agreed}
-use Rattle.bus_rules.specs.Tables.{TableEntry, Table, has_code, is_full, new_entry, without, with_entry, after_request, interval_of}
 use Rattle.bus_rules.proofs.Grants.{count_replicate, gap_stays}
+use Rattle.law_service.proofs.Words.{cond_both, cond-true, cond-false, eqb-true, ne_eqb, le-leb, false≢true, fold-append, Ask, code_of, code, Grants, count_of}
+use Rattle.law_service.proofs.Words.{owners_by, granted_by, given, share_in, last_code, grants_for, gap_of, owed_to, total, plan_round, Answered, answer}
+use Rattle.law_service.proofs.Words.{answers_to, Served, serve, served, put_if, Streams, due_of, with_agreed, TableEntry, Table, has_code, is_full, new_entry}
+use Rattle.law_service.proofs.Words.{without, with_entry, after_request, interval_of, not_in_none, contains_head, contains_tail, contains_cases}
 use Rattle.law_service.proofs.AcknowledgedRequests.{NoneOf}
-use Rattle.lwb_base.proofs.Elements.{not_in_none, contains_head, contains_tail, contains_cases}
 
 -- how often a code is among owners
 count_cons : (c x : ℕ) (xs : List ℕ) → count_of c (x ∷ xs) ≡ cond (x == c) 1 0 + count_of c xs

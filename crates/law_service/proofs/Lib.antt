@@ -7,7 +7,9 @@ pub mod FirstRounds
 pub mod DeliveredData
 pub mod OffNodes
 pub mod ComputedCores
+pub mod SharedSlots
 -- for this crate alone
+mod Words
 mod SoleVoices
 mod AcknowledgedRequests
 mod TiedNodes

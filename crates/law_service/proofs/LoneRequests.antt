@@ -1,35 +1,16 @@
 -- A request that alone is said in a contention slot without losses is kept by the host within reach, and acknowledged.
-use Rattle.std.proofs.Common.{◌≡◌, ◌≢◌, ◌<◌, ◌≤◌, ◌+◌, ◌-◌, ℕ, zero, suc, List, [], ◌∷◌, ◌++◌, false, Option, Some, None}
-use Rattle.std.proofs.Common.{length, add-one, refl, sym, ◌∙◌, ap, subst, arith}
-use Rattle.std.proofs.lemmas.Bool.{cond-true}
+use Rattle.std.proofs.Common.{◌≡◌, ◌≢◌, ◌<◌, ◌≤◌, ◌+◌, ◌-◌, ℕ, zero, suc, List, [], ◌∷◌, ◌++◌, false, Option, Some, None, length, add-one, refl, sym, ◌∙◌, ap}
+use Rattle.std.proofs.Common.{subst, arith}
 use Rattle.std.proofs.lemmas.List.{append_assoc}
 use Rattle.std.proofs.lemmas.Option.{same_Some}
-use Rattle.lwb_base.specs.Messages.{Ask, Plan, code_of}
-use Rattle.scenario_text.specs.ScenarioParts.{ScenarioParts}
-use Rattle.scenario_text.specs.ScenarioFacts.{IsSoundScenario}
-use Rattle.scenario_text.proofs.SoundScenarios.{sound}
-use Rattle.bus_rules.specs.declared.part.Part.{Part}
-use Rattle.bus_rules.specs.Cores.{Core}
-use Rattle.bus_rules.specs.Plans.{last_slot}
-use Rattle.bus_rules.specs.Slots.{Message, ScheduleOf, DataOf, RequestOf, opened_slot, part_of, hosts_now, host_closes}
-use Rattle.bus_rules.specs.States.{State, StateOn}
-use Rattle.bus_rules.specs.Tables.{Table, is_full}
-use Rattle.bus_rules.specs.HostPlans.{answers_to}
-use Rattle.bus_rules.specs.Tuning.{rank_of}
-use Rattle.bus_rules.proofs.Ranks.{hosts_own}
-use Rattle.bus_terms.specs.Bus.{state_at}
-use Rattle.bus_terms.specs.FloodOfText.{ids}
-use Rattle.bus_terms.specs.Rounds.{Slot, accepted_at, before_slot, takes_part}
-use Rattle.scenario_text.specs.Setups.{setup_of}
-use Rattle.bus_terms.proofs.ReceivedByPaths.{in_whole}
-use Rattle.bus_terms.proofs.ReceivedInRounds.{ids_rise}
-use Rattle.bus_terms.specs.HostedRounds.{slot_in}
-use Rattle.law_service.specs.RequestService.{ReachesHost, Acknowledges, LoneRequestsAreKept, LoneRequestsAreAcknowledged}
-use Rattle.law_service.proofs.AcknowledgedRequests.{NoneOf, none_more, plan_acks}
-use Rattle.bus_terms.proofs.ContentionSlots.{contention_at, IsRequest, requests, kept_by, own_of}
-use Rattle.bus_terms.proofs.HostedRounds.{Hosting, leads, has_planned, said_message}
-use Rattle.law_service.proofs.SoleVoices.{accepts_said}
 use Rattle.bus_terms.proofs.KeptByHosts.{request_from, own_same, slot_kept}
+use Rattle.law_service.proofs.Words.{cond-true, Ask, Plan, code_of, ScenarioParts, IsSoundScenario, sound, Part, Core, last_slot, Message, ScheduleOf, DataOf}
+use Rattle.law_service.proofs.Words.{RequestOf, opened_slot, part_of, hosts_now, host_closes, State, StateOn, Table, is_full, answers_to, rank_of, hosts_own}
+use Rattle.law_service.proofs.Words.{state_at, ids, Slot, accepted_at, before_slot, takes_part, setup_of, in_whole, ids_rise, slot_in, ReachesHost}
+use Rattle.law_service.proofs.Words.{Acknowledges, LoneRequestsAreKept, LoneRequestsAreAcknowledged, contention_at, IsRequest, requests, kept_by, own_of}
+use Rattle.law_service.proofs.Words.{Hosting, leads, has_planned, said_message}
+use Rattle.law_service.proofs.AcknowledgedRequests.{NoneOf, none_more, plan_acks}
+use Rattle.law_service.proofs.SoleVoices.{accepts_said}
 
 -- the host with the request that it kept, and with those that it kept after
 pub record Tracked (c : Core) (a : Ask) (x : State) : Type 0 where

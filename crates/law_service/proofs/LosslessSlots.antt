@@ -1,11 +1,7 @@
 -- A slot that no line of the trace touches loses nothing.
 use Rattle.std.proofs.Common.{◌≡◌, ◌==◌, ◌&&◌, ◌||◌, ℕ, List, [], ◌∷◌, Bool, true, false, not, refl, sym, ◌∙◌, nat_lt, nat_le}
-use Rattle.std.specs.List.{list_any}
-use Rattle.std.proofs.lemmas.Bool.{false≢true}
-use Rattle.link_trace.specs.Passes.{is_loss, cuts_by}
 use Rattle.link_trace.specs.declared.lines.CutLine.{CutLine}
-use Rattle.link_trace.specs.declared.lines.LoseLine.{LoseLine}
-use Rattle.law_service.specs.Reach.{SlotsWithoutLinesLoseNothing}
+use Rattle.law_service.proofs.Words.{list_any, false≢true, is_loss, cuts_by, LoseLine, SlotsWithoutLinesLoseNothing}
 
 -- where a test fails of all, so does one that is harder to pass
 pub none_harder : {X : Type 0} (p q : X → Bool) → ((x : X) → q x ≡ true → p x ≡ true) → (xs : List X) → list_any p xs ≡ false → list_any q xs ≡ false

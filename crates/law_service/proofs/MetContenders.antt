@@ -1,30 +1,11 @@
 -- The premises of the laws on contenders are met where nodes 7 and 23 request in the fourth contention slot of the first round, both
 -- neighbours of the host alone; nobody accepts either request, and both are tied again.
-use Rattle.std.proofs.Common.{◌≡◌, ◌≢◌, ◌++◌, ◌==◌, ℕ, List, [], ◌∷◌, true, false, None, inl, inr, is_some}
-use Rattle.std.proofs.Common.{codes, refl, sym, ◌∙◌, ap, subst, arith}
-use Rattle.std.specs.Prelude.{◌⊎◌}
-use Rattle.std.specs.Str.{is_utf8, chars}
-use lib.Utf8.{encode}
-use Rattle.std.proofs.lemmas.Bool.{cases_eq, eqb-true, false≢true, ne_eqb, or_cases}
-use Rattle.lwb_base.specs.Messages.{Plan, least_passing}
-use Rattle.lwb_base.specs.Profile.{contended}
-use Rattle.scenario_text.specs.Network.{network_line}
-use Rattle.scenario_text.specs.ScenarioGrammar.{IsScenario, scenario_after_words, scenario_line}
-use Rattle.scenario_text.specs.ScenarioParts.{ScenarioParts}
-use Rattle.scenario_text.specs.ScriptGrammar.{put_line, script_line, step_line}
-use Rattle.text_readers.specs.Reading.{draft_after_line}
-use Rattle.bus_rules.specs.Cores.{Core, empty_plan}
-use Rattle.bus_rules.specs.Granting.{plan_round}
-use Rattle.bus_rules.specs.HostPlans.{host_plan}
-use Rattle.bus_rules.specs.States.{StateOn}
-use Rattle.bus_rules.specs.Streams.{schedule_heard}
-use Rattle.bus_terms.specs.Bus.{before_frame, state_at}
-use Rattle.bus_terms.specs.Flooding.{has, moment}
-use Rattle.bus_terms.specs.HostedRounds.{node_before, slot_in}
-use Rattle.bus_terms.specs.Rounds.{accepted_at, before_slot, message_said}
-use Rattle.bus_terms.specs.ScriptedStates.{lines_of}
-use Rattle.law_service.specs.Contenders.{AreContenders, AreTied, AreTiedAfter, Collide, HaveSameNeighbours}
-use Rattle.law_service.specs.Reach.{is_linked}
+use Rattle.std.proofs.Common.{◌≡◌, ◌≢◌, ◌++◌, ◌==◌, ℕ, List, [], ◌∷◌, true, false, None, inl, inr, is_some, codes, refl, sym, ◌∙◌, ap, subst, arith, ◌⊎◌}
+use Rattle.law_service.proofs.Words.{is_utf8, chars, encode, cases_eq, eqb-true, false≢true, ne_eqb, or_cases, Plan, least_passing, contended, network_line}
+use Rattle.law_service.proofs.Words.{IsScenario, scenario_after_words, scenario_line, ScenarioParts, put_line, script_line, step_line, draft_after_line, Core}
+use Rattle.law_service.proofs.Words.{empty_plan, plan_round, host_plan, StateOn, schedule_heard, before_frame, state_at, has, moment, node_before, slot_in}
+use Rattle.law_service.proofs.Words.{accepted_at, before_slot, message_said, lines_of, AreContenders, AreTied, AreTiedAfter, Collide, HaveSameNeighbours}
+use Rattle.law_service.proofs.Words.{is_linked}
 use Rattle.law_service.proofs.ComputedCores.{core_of, on_core}
 use Rattle.law_service.proofs.Collisions.{lost, stay_tied}
 use Rattle.law_service.proofs.LosslessSlots.{lose_nothing}

@@ -1,19 +1,7 @@
 -- The premises of the laws are met in a worked network: the first round of a line of three nodes.
 use Rattle.std.proofs.Common.{◌≡◌, ◌<◌, ℕ, zero, suc, [], false, Some, refl, arith}
-use Rattle.lwb_base.specs.Profile.{one}
-use Rattle.lwb_base.specs.Messages.{Plan, least_passing}
-use Rattle.scenario_text.specs.ScenarioParts.{ScenarioParts}
-use Rattle.bus_rules.specs.Cores.{empty_plan}
-use Rattle.bus_rules.specs.Granting.{plan_round}
-use Rattle.bus_rules.specs.HostPlans.{host_plan}
-use Rattle.bus_rules.specs.Slots.{RequestOf}
-use Rattle.bus_rules.specs.Streams.{schedule_heard}
-use Rattle.bus_terms.specs.Bus.{before_frame, state_at}
-use Rattle.bus_terms.specs.Distances.{walks}
-use Rattle.bus_terms.specs.Flooding.{moment}
-use Rattle.bus_terms.specs.Rounds.{before_slot, message_said}
-use Rattle.law_service.specs.Reach.{is_linked, HasNoLines, LosesNothing, IsWithin}
-use Rattle.bus_terms.specs.HostedRounds.{IsHosted, slot_in}
+use Rattle.law_service.proofs.Words.{one, Plan, least_passing, ScenarioParts, empty_plan, plan_round, host_plan, RequestOf, schedule_heard, before_frame}
+use Rattle.law_service.proofs.Words.{state_at, walks, moment, before_slot, message_said, is_linked, HasNoLines, LosesNothing, IsWithin, IsHosted, slot_in}
 use Rattle.law_service.proofs.LosslessSlots.{lose_nothing}
 use Rattle.law_service.proofs.WorkedReach.{three}
 

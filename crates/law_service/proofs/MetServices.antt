@@ -1,30 +1,11 @@
 -- The premises of the laws on requests, on the next round and on data are met in a line of three nodes: node 3 requests in the first round,
 -- that of frame 5, and sends its packet in the next.
-use Rattle.std.proofs.Common.{◌≡◌, ◌≢◌, ◌<◌, ◌≤◌, ℕ, zero, suc, [], ◌∷◌, true, false, Some, inl, inr, is_some}
-use Rattle.std.proofs.Common.{codes, refl, sym, ◌∙◌, subst, arith}
-use Rattle.std.specs.Str.{is_utf8, chars}
-use lib.Utf8.{encode}
-use Rattle.std.proofs.lemmas.Bool.{cases_eq, false≢true, leb-true, ne_eqb}
-use Rattle.lwb_base.specs.Messages.{Ask, least_passing}
-use Rattle.scenario_text.specs.Network.{network_line}
-use Rattle.scenario_text.specs.ScenarioGrammar.{IsScenario, scenario_after_words, scenario_line}
-use Rattle.scenario_text.specs.ScriptGrammar.{put_line, script_line, step_line}
-use Rattle.text_readers.specs.Reading.{draft_after_line}
-use Rattle.bus_rules.specs.Cores.{Core}
-use Rattle.bus_rules.specs.Granting.{count_of, plan_round}
-use Rattle.bus_rules.specs.HostPlans.{answers_to, host_plan}
-use Rattle.bus_rules.specs.Streams.{WaitingPacket, schedule_heard}
-use Rattle.bus_rules.specs.Tables.{is_full}
-use Rattle.bus_terms.specs.Bus.{before_frame, state_at}
-use Rattle.bus_terms.specs.Distances.{walks}
-use Rattle.bus_terms.specs.Flooding.{Accepts, moment}
-use Rattle.bus_terms.specs.HostedRounds.{node_before, slot_in, state_after_round}
-use Rattle.bus_terms.specs.Rounds.{before_slot, delivery_in_slot, message_said}
-use Rattle.bus_terms.specs.ScriptedStates.{lines_of}
-use Rattle.law_service.specs.DataService.{HasData}
-use Rattle.law_service.specs.FirstSlots.{FitsNextRound, PlansRound}
-use Rattle.law_service.specs.Reach.{IsWithin, LosesNothing, is_linked}
-use Rattle.law_service.specs.RequestService.{Acknowledges, KeepsRequest, ReachesHost}
+use Rattle.std.proofs.Common.{◌≡◌, ◌≢◌, ◌<◌, ◌≤◌, ℕ, zero, suc, [], ◌∷◌, true, false, Some, inl, inr, is_some, codes, refl, sym, ◌∙◌, subst, arith}
+use Rattle.law_service.proofs.Words.{is_utf8, chars, encode, cases_eq, false≢true, leb-true, ne_eqb, Ask, least_passing, network_line, IsScenario}
+use Rattle.law_service.proofs.Words.{scenario_after_words, scenario_line, put_line, script_line, step_line, draft_after_line, Core, count_of, plan_round}
+use Rattle.law_service.proofs.Words.{answers_to, host_plan, WaitingPacket, schedule_heard, is_full, before_frame, state_at, walks, Accepts, moment, node_before}
+use Rattle.law_service.proofs.Words.{slot_in, state_after_round, before_slot, delivery_in_slot, message_said, lines_of, HasData, FitsNextRound, PlansRound}
+use Rattle.law_service.proofs.Words.{IsWithin, LosesNothing, is_linked, Acknowledges, KeepsRequest, ReachesHost}
 use Rattle.law_service.proofs.ComputedCores.{core_of, on_core}
 use Rattle.law_service.proofs.DeliveredData.{delivered_within}
 use Rattle.law_service.proofs.FirstRounds.{new_granted}

@@ -1,19 +1,8 @@
 -- A node without script lines is off in every frame and every slot, so it says nothing.
 use Rattle.std.proofs.Common.{◌≡◌, ◌+◌, ℕ, zero, suc, List, [], false, Option, Some, None, fold, is_some, refl, ◌∙◌, ap}
-use Rattle.lwb_base.specs.Messages.{Plan}
-use Rattle.scenario_text.specs.ScenarioParts.{ScenarioParts}
-use Rattle.scenario_text.specs.declared.script.ScriptLine.{ScriptLine}
-use Rattle.bus_rules.specs.declared.part.Part.{Part}
-use Rattle.bus_rules.specs.Cores.{frame_ended}
-use Rattle.bus_rules.specs.Plans.{last_slot}
-use Rattle.bus_rules.specs.Slots.{Message, part_of}
-use Rattle.bus_rules.specs.States.{State, StateOff, at_core}
-use Rattle.bus_terms.specs.Bus.{before_frame, state_at}
-use Rattle.bus_terms.specs.HostedRounds.{node_before, slot_in}
-use Rattle.bus_terms.specs.Rounds.{accepted_at, after_round, before_slot, closed_slot_of, left_by, message_said, opened_at, rank_in, round_plan}
-use Rattle.bus_terms.specs.Rounds.{rounds, slot_at}
-use Rattle.scenario_text.specs.Setups.{setup_of}
-use Rattle.bus_terms.specs.ScriptedStates.{lines_of, state_after_line}
+use Rattle.law_service.proofs.Words.{Plan, ScenarioParts, ScriptLine, Part, frame_ended, last_slot, Message, part_of, State, StateOff, at_core, before_frame}
+use Rattle.law_service.proofs.Words.{state_at, node_before, slot_in, accepted_at, after_round, before_slot, closed_slot_of, left_by, message_said, opened_at}
+use Rattle.law_service.proofs.Words.{rank_in, round_plan, rounds, slot_at, setup_of, lines_of, state_after_line}
 
 module _ (s : ScenarioParts) (v : ℕ) (none : (f : ℕ) → lines_of s f v ≡ []) where
   left_off : (f : ℕ) (heard : Option Message) (x : State) (part : Part) (rank : ℕ) → x ≡ StateOff 0

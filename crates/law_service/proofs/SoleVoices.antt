@@ -1,18 +1,10 @@
 -- A slot without losses in which one node says something: each other node within reach accepts it, in the step of its distance.
-use Rattle.std.proofs.Common.{◌≡◌, ℕ, suc, ◌<◌, ◌≤◌, [], ◌∷◌, List, Bool, true, false, not, ◌&&◌, inl, inr, eq-eqb}
-use Rattle.std.proofs.Common.{Option, Some, is_some, filter, option_and_then, refl, sym, ◌∙◌, ap, arith, AllPairs}
-use Rattle.std.proofs.lemmas.Bool.{false≢true}
-use Rattle.link_trace.specs.Passes.{passes}
-use Rattle.scenario_text.specs.ScenarioParts.{ScenarioParts}
-use Rattle.bus_rules.specs.Slots.{Message}
-use Rattle.bus_terms.specs.Distances.{walks}
-use Rattle.bus_terms.specs.FloodOfText.{ids}
-use Rattle.bus_terms.specs.Flooding.{has, Accepts}
-use Rattle.bus_terms.specs.Rounds.{Slot, message_said, accepted_at}
+use Rattle.std.proofs.Common.{◌≡◌, ℕ, suc, ◌<◌, ◌≤◌, [], ◌∷◌, List, Bool, true, false, not, ◌&&◌, inl, inr, eq-eqb, Option, Some, is_some, filter}
+use Rattle.std.proofs.Common.{option_and_then, refl, sym, ◌∙◌, ap, arith, AllPairs}
 use Rattle.bus_terms.proofs.FirstHearings.{accepted_first}
 use Rattle.bus_terms.proofs.ReachByDistance.{accepts_at_distance}
-use Rattle.bus_terms.proofs.ReceivedByPaths.{one_at_most, in_filtered}
-use Rattle.law_service.specs.Reach.{is_linked, TakesPart, LosesNothing, IsWithin}
+use Rattle.law_service.proofs.Words.{false≢true, passes, ScenarioParts, Message, walks, ids, has, Accepts, Slot, message_said, accepted_at, one_at_most}
+use Rattle.law_service.proofs.Words.{in_filtered, is_linked, TakesPart, LosesNothing, IsWithin}
 
 -- who is at least a hop away is another
 pub is_another : (s : ScenarioParts) (x : Slot) (u k v : ℕ) → IsWithin s x u (suc k) v → v ≡ u → ⊥

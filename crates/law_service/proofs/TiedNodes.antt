@@ -1,12 +1,9 @@
 -- Tries, backoff and own slots of nodes whose ids are equal modulo 16.
 use Rattle.std.proofs.Common.{◌≡◌, ◌≤◌, ◌+◌, ◌-◌, ◌%◌, ◌^◌, ◌==◌, ◌||◌, ℕ, zero, suc, List, [], ◌∷◌, Bool, true, false, inl, inr, Option, Some, None}
 use Rattle.std.proofs.Common.{if◌then◌else◌, is_none, is_some, min, fold, refl, sym, ◌∙◌, ap, subst, arith}
-use Rattle.std.specs.List.{list_any}
-use Rattle.std.proofs.lemmas.Bool.{false≢true, cond_both, cond-false}
-use Rattle.lwb_base.specs.Messages.{Ask, Schedule, node_of}
-use Rattle.bus_rules.specs.Streams.{Streams, after_contention, tries_after, due_stream, is_host, heard_host, unbound, names, acknowledged}
-use Rattle.bus_rules.specs.Streams.{owner_named, schedule_heard}
-use Rattle.law_service.specs.Contenders.{AreTied, own_number, TiesShareSlots, ThreeSlotsPart, ContentionKeepsTies, SchedulesKeepTies}
+use Rattle.law_service.proofs.Words.{list_any, false≢true, cond_both, cond-false, Ask, Schedule, node_of, Streams, after_contention, tries_after, due_stream}
+use Rattle.law_service.proofs.Words.{is_host, heard_host, unbound, names, acknowledged, owner_named, schedule_heard, AreTied, own_number, TiesShareSlots}
+use Rattle.law_service.proofs.Words.{ThreeSlotsPart, ContentionKeepsTies, SchedulesKeepTies}
 
 pub share_slots : TiesShareSlots
 share_slots u v tries n same (inl is) =

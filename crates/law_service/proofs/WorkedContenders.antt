@@ -1,18 +1,8 @@
 -- Contenders in worked networks, computed from the definitions; and where a premise is taken away, one of them is received.
 use Rattle.std.proofs.Common.{◌≡◌, ◌==◌, ◌||◌, ◌&&◌, ℕ, [], ◌∷◌, Bool, Option, Some, None, if◌then◌else◌, refl}
-use Rattle.lwb_base.specs.Profile.{contended}
-use Rattle.lwb_base.specs.Messages.{least_passing}
-use Rattle.scenario_text.specs.ScenarioParts.{ScenarioParts}
-use Rattle.bus_rules.specs.declared.act.Act.TheVariants.{On, Declare, Put}
-use Rattle.bus_rules.specs.declared.delivery.Delivery.{Delivery}
-use Rattle.bus_rules.specs.Granting.{plan_round}
-use Rattle.bus_rules.specs.HostPlans.{host_plan}
-use Rattle.bus_rules.specs.Streams.{Streams, cleared, declared, after_put, after_contention, schedule_heard}
-use Rattle.bus_terms.specs.Bus.{before_frame, bus_deliveries}
-use Rattle.bus_terms.specs.Flooding.{Setting, moment, accepted}
-use Rattle.bus_terms.specs.Rounds.{before_slot}
-use Rattle.bus_terms.proofs.WorkedBuses.{node, link, at}
-use Rattle.law_service.specs.Contenders.{own_number}
+use Rattle.law_service.proofs.Words.{contended, least_passing, ScenarioParts, On, Declare, Put, Delivery, plan_round, host_plan, Streams, cleared, declared}
+use Rattle.law_service.proofs.Words.{after_put, after_contention, schedule_heard, before_frame, bus_deliveries, Setting, moment, accepted, before_slot, node}
+use Rattle.law_service.proofs.Words.{link, at, own_number}
 
 -- nodes 7 and 23 have the fourth of four contention slots, and of three the second and the third
 four_slots : (own_number 7 0 4 ≡ 4) × (own_number 23 0 4 ≡ 4) × (own_number 7 3 4 ≡ 3) × (own_number 23 3 4 ≡ 3)

@@ -1,8 +1,6 @@
 -- What a host grants for its next round from worked tables, computed from the definitions; and where not all fits, some wait.
 use Rattle.std.proofs.Common.{◌≡◌, ℕ, [], ◌∷◌, map, length, refl}
-use Rattle.std.specs.List.{range_with_len}
-use Rattle.bus_rules.specs.Granting.{count_of, owed_to, plan_round, total, turns}
-use Rattle.bus_rules.specs.Tables.{TableEntry, Table}
+use Rattle.law_service.proofs.Words.{range_with_len, count_of, owed_to, plan_round, total, turns, TableEntry, Table}
 
 -- streams that were accepted in frame 5, of one packet in this many seconds, or one a second
 abbrev stream_every : ℕ → ℕ → TableEntry

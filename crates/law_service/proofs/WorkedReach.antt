@@ -1,23 +1,8 @@
 -- Reach and deliveries in worked networks, computed from the definitions; and where a premise is taken away, nothing comes.
 use Rattle.std.proofs.Common.{◌≡◌, ℕ, List, [], ◌∷◌, Bool, true, false, ◌++◌, refl, map}
-use Rattle.lwb_base.specs.Profile.{one}
-use Rattle.lwb_base.specs.Messages.{least_passing}
 use Rattle.link_trace.specs.declared.lines.LinkLine.{LinkLine}
-use Rattle.link_trace.specs.declared.lines.LoseLine.{LoseLine}
-use Rattle.scenario_text.specs.ScenarioParts.{ScenarioParts}
-use Rattle.bus_rules.specs.declared.act.Act.TheVariants.{On, Declare, Put}
-use Rattle.scenario_text.specs.declared.script.ScriptLine.{ScriptLine}
-use Rattle.bus_rules.specs.declared.delivery.Delivery.{Delivery}
-use Rattle.bus_rules.specs.Streams.{schedule_heard}
-use Rattle.bus_rules.specs.Granting.{plan_round}
-use Rattle.bus_rules.specs.HostPlans.{host_plan}
-use Rattle.bus_terms.specs.Distances.{walks}
-use Rattle.bus_terms.specs.FloodOfText.{ids}
-use Rattle.bus_terms.specs.Flooding.{moment}
-use Rattle.bus_terms.specs.Rounds.{before_slot, round_deliveries}
-use Rattle.bus_terms.specs.Bus.{before_frame, state_at}
-use Rattle.bus_terms.proofs.WorkedBuses.{node, link, at}
-use Rattle.law_service.specs.Reach.{is_linked}
+use Rattle.law_service.proofs.Words.{one, least_passing, LoseLine, ScenarioParts, On, Declare, Put, ScriptLine, Delivery, schedule_heard, plan_round, host_plan}
+use Rattle.law_service.proofs.Words.{walks, ids, moment, before_slot, round_deliveries, before_frame, state_at, node, link, at, is_linked}
 
 -- links both ways between each node and the next
 abbrev chain : List ℕ → List LinkLine

@@ -1,17 +1,7 @@
 -- Requests in worked networks, computed from the definitions; and where a premise is taken away, none is acknowledged.
 use Rattle.std.proofs.Common.{◌≡◌, ℕ, [], ◌∷◌, List, ◌++◌, true, false, map, refl}
-use Rattle.std.specs.List.{range_with_len}
-use Rattle.lwb_base.specs.Messages.{Ask, least_passing}
-use Rattle.scenario_text.specs.ScenarioParts.{ScenarioParts}
-use Rattle.bus_rules.specs.Granting.{plan_round}
-use Rattle.bus_rules.specs.HostPlans.{host_plan, answers_to}
-use Rattle.bus_rules.specs.States.{State, StateOff, StateOn}
-use Rattle.bus_rules.specs.Streams.{schedule_heard}
-use Rattle.bus_rules.specs.Tables.{TableEntry, Table, is_full}
-use Rattle.bus_terms.specs.Flooding.{moment}
-use Rattle.bus_terms.specs.Rounds.{before_slot, rounds}
-use Rattle.bus_terms.specs.Bus.{before_frame, state_at}
-use Rattle.bus_terms.proofs.WorkedBuses.{link}
+use Rattle.law_service.proofs.Words.{range_with_len, Ask, least_passing, ScenarioParts, plan_round, host_plan, answers_to, State, StateOff, StateOn}
+use Rattle.law_service.proofs.Words.{schedule_heard, TableEntry, Table, is_full, moment, before_slot, rounds, before_frame, state_at, link}
 use Rattle.law_service.proofs.WorkedReach.{line, three}
 
 -- what the plan of a node acknowledges

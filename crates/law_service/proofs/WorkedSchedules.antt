@@ -1,19 +1,7 @@
 -- Who goes by the schedules of the first round in worked networks, computed from the definitions.
 use Rattle.std.proofs.Common.{◌≡◌, ℕ, [], ◌∷◌, List, Bool, true, false, Some, None, Option, refl}
-use Rattle.lwb_base.specs.Profile.{one}
-use Rattle.lwb_base.specs.Messages.{least_passing}
-use Rattle.link_trace.specs.declared.lines.LoseLine.{LoseLine}
-use Rattle.scenario_text.specs.ScenarioParts.{ScenarioParts}
-use Rattle.bus_rules.specs.Cores.{empty_plan}
-use Rattle.bus_rules.specs.Streams.{schedule_heard}
-use Rattle.bus_rules.specs.Granting.{plan_round}
-use Rattle.bus_rules.specs.HostPlans.{host_plan}
-use Rattle.bus_rules.specs.Tuning.{hosts_in, holds_in}
-use Rattle.bus_terms.specs.Flooding.{moment, accepted}
-use Rattle.bus_terms.specs.Rounds.{before_slot, rounds}
-use Rattle.bus_terms.specs.ScriptedStates.{is_on_and}
-use Rattle.bus_terms.specs.Bus.{before_frame, state_at}
-use Rattle.bus_terms.specs.HostedRounds.{slot_in}
+use Rattle.law_service.proofs.Words.{one, least_passing, LoseLine, ScenarioParts, empty_plan, schedule_heard, plan_round, host_plan, hosts_in, holds_in, moment}
+use Rattle.law_service.proofs.Words.{accepted, before_slot, rounds, is_on_and, before_frame, state_at, slot_in}
 use Rattle.law_service.proofs.WorkedReach.{line, three}
 
 -- node 1 hosts its first round in frame 5

@@ -1,38 +1,19 @@
 -- A stream that its node and the host have agreed to stays agreed, as long as a schedule names it often enough, and its node does not request it.
-use Rattle.std.proofs.Common.{◌≡◌, ◌≢◌, ◌<◌, ◌≤◌, ◌+◌, ◌-◌, ◌==◌, ◌&&◌, ℕ, zero, suc, List, [], ◌∷◌, Bool, true, false, not, inl, inr, Some, None}
-use Rattle.std.proofs.Common.{find, fold, if◌then◌else◌, is_none, length, nat_lt, refl, sym, ◌∙◌, ap, subst, arith}
-use Rattle.std.specs.List.{slice_index_or}
-use Rattle.std.specs.Prelude.{◌⊎◌, ◌||◌, Contains, slice_set}
-use Rattle.std.proofs.lemmas.Bool.{and_parts, cases_eq, cond_both, cond-true, eq-eqb, eqb-true, false≢true, ltb-true}
-use Rattle.lwb_base.proofs.Elements.{contains_cases, contains_head, contains_tail, not_in_none}
-use Rattle.lwb_base.specs.Messages.{Ask, Schedule, code, code_of, node_of, stream_of}
-use Rattle.bus_rules.specs.declared.part.Part.{Part}
-use Rattle.bus_rules.specs.declared.part.Part.TheVariants.{Opening, Data as DataSlot, Contention, Closing}
-use Rattle.bus_rules.specs.Cores.{Core, Setup}
-use Rattle.bus_rules.specs.Slots.{Opened, host_closes, hosts_now, is_own, opened_slot}
-use Rattle.bus_rules.specs.Slots.{silent}
-use Rattle.bus_rules.specs.Streams.{Stream, Streams, acknowledged, after_contention, due_stream, after_forgetting, forgotten, granted_stream}
-use Rattle.bus_rules.specs.Streams.{heard_host, is_host}
-use Rattle.bus_rules.specs.Streams.{named_in}
-use Rattle.bus_rules.specs.Streams.{names, no_stream, owner_named, request_is_due, requested, schedule_heard, stream_at, after_taking}
-use Rattle.bus_rules.specs.Streams.{has_due_request, with_stream, without_first}
+use Rattle.std.proofs.Common.{◌≡◌, ◌≢◌, ◌<◌, ◌≤◌, ◌+◌, ◌-◌, ◌==◌, ◌&&◌, ℕ, zero, suc, List, [], ◌∷◌, Bool, true, false, not, inl, inr, Some, None, find, fold}
+use Rattle.std.proofs.Common.{if◌then◌else◌, is_none, length, nat_lt, refl, sym, ◌∙◌, ap, subst, arith, ◌⊎◌, ◌||◌, Contains, slice_set}
+use Rattle.law_times.proofs.Words.{slice_index_or, and_parts, cases_eq, cond_both, cond-true, eq-eqb, eqb-true, false≢true, ltb-true, contains_cases}
+use Rattle.law_times.proofs.Words.{contains_head, contains_tail, not_in_none, Ask, Schedule, code, code_of, node_of, stream_of, Part, Opening, DataSlot}
+use Rattle.law_times.proofs.Words.{Contention, Closing, Core, Setup, Opened, host_closes, hosts_now, is_own, opened_slot, silent, Stream, Streams, acknowledged}
+use Rattle.law_times.proofs.Words.{after_contention, due_stream, after_forgetting, forgotten, granted_stream, heard_host, is_host, named_in, names, no_stream}
+use Rattle.law_times.proofs.Words.{owner_named, request_is_due, requested, schedule_heard, stream_at, after_taking, has_due_request, with_stream, without_first}
 use Rattle.bus_terms.proofs.KeptFields as fields
-use Rattle.law_times.proofs.NewStreams.{map_at}
+use Rattle.law_times.proofs.NewStreams.{map_at, exchanged}
 
 -- the node requests this interval, has agreed to it, and a schedule has named the stream in this frame or later
 pub record IsGood (interval low : ℕ) (z : Stream) : Type 0 where
   pub wish : z.wish ≡ interval
   pub agreed : z.agreed ≡ interval
   pub last : low ≤ z.last
-
-later_good : (interval low high : ℕ) (z : Stream) → low ≤ high → IsGood interval high z → IsGood interval low z
-later_good interval low high z less is = record { wish = is.wish; agreed = is.agreed; last = (let last = is.last in omega (arith, less, last)) }
-
-exchanged : (xs : List Stream) (k : ℕ) (y : Stream) (P : Stream → Type 0) → P (slice_index_or xs k no_stream) → P y
-    → P (slice_index_or (slice_set xs k y) k no_stream)
-exchanged [] k y P was new = was
-exchanged (z ∷ zs) zero y P was new = new
-exchanged (z ∷ zs) (suc k) y P was new = exchanged zs k y P was new
 
 set_at : (xs : List Stream) (k : ℕ) (y : Stream) → (slice_index_or xs k no_stream).wish ≢ 0 → slice_index_or (slice_set xs k y) k no_stream ≡ y
 set_at [] k y some = absurd (some refl)

@@ -1,30 +1,13 @@
 -- Tries and skips of a node are always as the rule leaves them: at most four tries, and no more skips than its id gives after them.
-use Rattle.std.proofs.Common.{◌≡◌, ◌≤◌, ◌-◌, ◌%◌, ◌^◌, ◌==◌, ℕ, zero, suc, List, [], ◌∷◌, Bool, true, false, Option, Some, None, if◌then◌else◌, fold}
-use Rattle.std.proofs.Common.{is_none, refl, ap, arith}
-use Rattle.std.proofs.lemmas.Bool.{cond_both}
-use Rattle.lwb_base.specs.Messages.{Ask, Schedule, node_of, stream_of}
-use Rattle.lwb_base.specs.Profile.{Numbers}
-use Rattle.scenario_text.specs.ScenarioParts.{ScenarioParts}
-use Rattle.scenario_text.specs.declared.script.ScriptLine.{ScriptLine}
-use Rattle.bus_rules.specs.declared.act.Act.{Act}
-use Rattle.bus_rules.specs.declared.act.Act.TheVariants.{On, Off, Declare, Leave, Put}
-use Rattle.bus_rules.specs.declared.part.Part.{Part}
-use Rattle.bus_rules.specs.declared.part.Part.TheVariants.{Opening, Data as DataSlot, Contention, Closing}
-use Rattle.bus_rules.specs.Cores.{Core, Setup, as_host, begins_host, closing_accepted, frame_ended, is_fresh, opening_accepted}
-use Rattle.bus_rules.specs.HostPlans.{Served, answers_to, host_plan, serve}
-use Rattle.bus_rules.specs.Slots.{DataOf, Message, RequestOf, ScheduleOf, closed_slot, host_closes, hosts_now, is_own, opened_slot, silent, slot_heard}
-use Rattle.bus_rules.specs.States.{State, StateOff, StateOn, at_core}
-use Rattle.bus_rules.specs.Streams.{Streams, acknowledged, after_contention, due_stream, after_forgetting, heard_host, is_host, names}
-use Rattle.bus_rules.specs.Streams.{owner_named, schedule_heard, streams_after_act}
-use Rattle.bus_rules.specs.Streams.{after_taking, tries_after, unbound, with_stream}
-use Rattle.bus_rules.specs.Tables.{Table}
-use Rattle.bus_rules.specs.Tuning.{next_tune, rank_of}
-use Rattle.bus_rules.proofs.Switches.{acts_keep}
-use Rattle.bus_terms.specs.Bus.{before_frame, state_at}
-use Rattle.bus_terms.specs.Rounds.{rounds}
-use Rattle.scenario_text.specs.Setups.{setup_of}
-use Rattle.bus_terms.specs.ScriptedStates.{lines_of, state_after_line, states_after_script}
-use Rattle.bus_terms.proofs.KeptInRounds.{rounds_keep}
+use Rattle.std.proofs.Common.{◌≡◌, ◌≤◌, ◌-◌, ◌%◌, ◌^◌, ◌==◌, ℕ, zero, suc, List, [], ◌∷◌, Bool, true, false, Option, Some, None, if◌then◌else◌, fold, is_none}
+use Rattle.std.proofs.Common.{refl, ap, arith}
+use Rattle.law_times.proofs.Words.{cond_both, Ask, Schedule, node_of, stream_of, Numbers, ScenarioParts, ScriptLine, Act, On, Off, Declare, Leave, Put, Part}
+use Rattle.law_times.proofs.Words.{Opening, DataSlot, Contention, Closing, Core, Setup, as_host, begins_host, closing_accepted, frame_ended, is_fresh}
+use Rattle.law_times.proofs.Words.{opening_accepted, Served, answers_to, host_plan, serve, DataOf, Message, RequestOf, ScheduleOf, closed_slot, host_closes}
+use Rattle.law_times.proofs.Words.{hosts_now, is_own, opened_slot, silent, slot_heard, State, StateOff, StateOn, at_core, Streams, acknowledged}
+use Rattle.law_times.proofs.Words.{after_contention, due_stream, after_forgetting, heard_host, is_host, names, owner_named, schedule_heard, streams_after_act}
+use Rattle.law_times.proofs.Words.{after_taking, tries_after, unbound, with_stream, Table, next_tune, rank_of, acts_keep, before_frame, state_at, rounds}
+use Rattle.law_times.proofs.Words.{setup_of, lines_of, state_after_line, states_after_script, rounds_keep}
 
 pub record IsRuled (node : ℕ) (x : Streams) : Type 0 where
   pub tries : x.tries ≤ 4

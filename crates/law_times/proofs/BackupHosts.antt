@@ -1,30 +1,15 @@
 -- Of two hosts that of rank 0 is gone: the round that falls out, a search for rank 0, one for rank 1, and the first round of the other.
-use Rattle.std.proofs.Common.{◌≡◌, ◌<◌, ◌≤◌, ◌+◌, ◌-◌, ◌%◌, ℕ, zero, suc, List, Bool, true, false, Some, inl, inr}
-use Rattle.std.proofs.Common.{length, refl, sym, ◌∙◌, ap, subst, arith}
-use Rattle.std.proofs.lemmas.Bool.{cases_eq, false≢true}
-use Rattle.lwb_base.specs.Messages.{Plan}
-use Rattle.scenario_text.specs.ScenarioGrammar.{IsScenario}
-use Rattle.scenario_text.specs.ScenarioParts.{ScenarioParts}
-use Rattle.scenario_text.specs.ScenarioFacts.{IsSoundScenario}
-use Rattle.scenario_text.proofs.SoundScenarios.{sound}
-use Rattle.bus_rules.specs.declared.tune.Tune.{Tune}
-use Rattle.bus_rules.specs.declared.tune.Tune.TheVariants.{Scan, Hold, Host}
-use Rattle.bus_rules.specs.Cores.{own_rank}
-use Rattle.bus_terms.specs.Bus.{state_at}
-use Rattle.bus_terms.specs.Flooding.{has}
-use Rattle.bus_terms.proofs.HostsOfRanks.{one_of_rank}
-use Rattle.law_times.specs.Failovers.{LosesHost, BackupsTakeOver, NodesFollow}
-use Rattle.law_times.specs.Reaches.{IsLossless}
-use Rattle.law_times.specs.ScriptedPower.{is_on_in}
-use Rattle.law_times.specs.Tunes.{AreMembers}
-use Rattle.law_times.proofs.Settings.{setting_tune, tune_of}
-use Rattle.law_times.proofs.QuietRounds.{hosts_round, set_to_host, by_setting, NobodyHosts, nobody_else}
-use Rattle.law_times.proofs.QuietFrames.{Goes, quiet_frame}
+use Rattle.std.proofs.Common.{◌≡◌, ◌<◌, ◌≤◌, ◌+◌, ◌-◌, ◌%◌, ℕ, zero, suc, List, Bool, true, false, Some, inl, inr, length, refl, sym, ◌∙◌, ap, subst, arith}
+use Rattle.law_times.proofs.Words.{cases_eq, false≢true, Plan, IsScenario, ScenarioParts, IsSoundScenario, sound, Tune, Scan, Hold, Host, own_rank, state_at}
+use Rattle.law_times.proofs.Words.{has, one_of_rank, LosesHost, BackupsTakeOver, NodesFollow, IsLossless, is_on_in, AreMembers}
 use Rattle.law_times.proofs.BootedNodes.{off_throughout}
-use Rattle.law_times.proofs.ReachedNodes.{in_round}
-use Rattle.law_times.proofs.TuneSteps.{goes_idle, goes_tuned, tune_goes, hold_falls, holds_on, quiet_step, scan_serves, scan_turns, scanning}
-use Rattle.law_times.proofs.KeptMembers.{Members, due_host, of_members, round_joins}
 use Rattle.law_times.proofs.FramesLeft.{hosts_on, goes_range}
+use Rattle.law_times.proofs.KeptMembers.{Members, due_host, of_members, round_joins}
+use Rattle.law_times.proofs.QuietFrames.{Goes, quiet_frame}
+use Rattle.law_times.proofs.QuietRounds.{hosts_round, set_to_host, by_setting, NobodyHosts, nobody_else}
+use Rattle.law_times.proofs.ReachedNodes.{in_round}
+use Rattle.law_times.proofs.Settings.{setting_tune, tune_of}
+use Rattle.law_times.proofs.TuneSteps.{goes_idle, goes_tuned, tune_goes, hold_falls, holds_on, quiet_step, scan_serves, scan_turns, scanning}
 
 module _ (s : ScenarioParts) (accepted : IsScenario s) (first second b d e : ℕ) (among : List ℕ) (loses : LosesHost s first second b d e among) where
   abbrev scenario : IsSoundScenario s

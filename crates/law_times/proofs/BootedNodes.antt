@@ -1,24 +1,11 @@
 -- The power of a node goes by the script; and a node that boots in a frame scans for rank 0 after its script lines.
-use Rattle.std.proofs.Common.{◌≡◌, ◌<◌, ◌≤◌, ◌+◌, ◌||◌, ℕ, zero, suc, List, [], ◌∷◌, Bool, true, false, Some}
-use Rattle.std.proofs.Common.{fold, refl, sym, ◌∙◌, ap, subst, arith}
-use Rattle.std.proofs.lemmas.Bool.{false≢true}
-use Rattle.std.specs.List.{list_any}
-use Rattle.scenario_text.specs.ScenarioParts.{ScenarioParts}
-use Rattle.scenario_text.specs.ScenarioFacts.{turned_by}
-use Rattle.scenario_text.specs.declared.script.ScriptLine.{ScriptLine}
-use Rattle.bus_rules.specs.declared.act.Act.{Act}
-use Rattle.bus_rules.specs.declared.act.Act.TheVariants.{On, Off, Declare, Leave, Put}
-use Rattle.bus_rules.specs.declared.tune.Tune.TheVariants.{Scan}
-use Rattle.bus_rules.specs.Cores.{no_plan}
-use Rattle.bus_rules.specs.States.{State, state_after_act}
-use Rattle.bus_rules.proofs.Switches.{acts_keep}
-use Rattle.bus_terms.specs.Bus.{before_frame, state_at}
-use Rattle.bus_terms.specs.Rounds.{rounds}
-use Rattle.bus_terms.specs.ScriptedStates.{lines_of, power, state_after_line, states_after_script}
+use Rattle.std.proofs.Common.{◌≡◌, ◌<◌, ◌≤◌, ◌+◌, ℕ, zero, suc, List, [], ◌∷◌, Bool, true, false, Some, fold, refl, sym, ◌∙◌, ap, subst, arith}
 use Rattle.bus_terms.proofs.PowerKept.{act_power, ended_power, rounds_power}
-use Rattle.law_times.specs.ScriptedPower.{power_before, power_in, power_after_line, is_on_in, turns_on, BootsIn, StaysOff}
-use Rattle.law_times.proofs.Settings.{setting, idle}
+use Rattle.law_times.proofs.Words.{false≢true, list_any, ScenarioParts, turned_by, ScriptLine, Act, On, Off, Declare, Leave, Put, Scan, no_plan, State}
+use Rattle.law_times.proofs.Words.{state_after_act, acts_keep, before_frame, state_at, rounds, lines_of, power, state_after_line, states_after_script}
+use Rattle.law_times.proofs.Words.{power_before, power_in, power_after_line, is_on_in, turns_on, BootsIn, StaysOff, or_parts}
 use Rattle.law_times.proofs.QuietFrames.{Goes, none_in_frame}
+use Rattle.law_times.proofs.Settings.{setting, idle}
 
 lines_power : (ls : List ScriptLine) (x : State) → power (fold state_after_line x ls) ≡ fold power_after_line (power x) ls
 lines_power [] x = refl
@@ -69,13 +56,9 @@ boots_scanning s b v boots =
 stays : (ls : List ScriptLine) (t : Bool × ℕ) → list_any (λ l. turns_on l.act) ls ≡ false → t.0 ≡ false → (fold power_after_line t ls).0 ≡ false
 stays [] t none is = is
 stays (l ∷ ls) t none is =
-    let both = neither (turns_on l.act) (list_any (λ l. turns_on l.act) ls) none in
+    let both = or_parts (turns_on l.act) (list_any (λ l. turns_on l.act) ls) none in
     stays ls (power_after_line t l) both.1 (one l.act t both.0 is)
   where
-    neither : (a b : Bool) → (a || b) ≡ false → (a ≡ false) × (b ≡ false)
-    neither true b none = absurd (false≢true (sym none))
-    neither false b none = (refl, none)
-
     one : (a : Act) (t : Bool × ℕ) → turns_on a ≡ false → t.0 ≡ false → (turned_by a t).0 ≡ false
     one On t not_on is = absurd (false≢true (sym not_on))
     one Off t not_on is = refl

@@ -1,37 +1,20 @@
 -- Two members that request in contention slots: in each round both go a turn on, until one of them requests alone or is acknowledged.
-use Rattle.std.proofs.Common.{◌≡◌, ◌≢◌, ◌<◌, ◌≤◌, ◌+◌, ◌-◌, ◌*◌, ℕ, zero, suc, List, Bool, true, false, inl, inr, Some, None, if◌then◌else◌, length, refl}
-use Rattle.std.proofs.Common.{sym, ◌∙◌, ap, subst, arith, is_some}
-use Rattle.std.specs.Prelude.{◌⊎◌}
-use Rattle.std.proofs.lemmas.Bool.{cases_eq, false≢true}
-use Rattle.lwb_base.specs.Messages.{Plan}
-use Rattle.scenario_text.specs.ScenarioGrammar.{IsScenario}
-use Rattle.scenario_text.specs.ScenarioParts.{ScenarioParts}
-use Rattle.scenario_text.specs.ScenarioFacts.{IsSoundScenario}
-use Rattle.scenario_text.proofs.SoundScenarios.{sound}
-use Rattle.bus_rules.specs.declared.tune.Tune.TheVariants.{Hold, Host}
-use Rattle.bus_rules.specs.Cores.{Core}
-use Rattle.bus_rules.specs.Plans.{last_slot}
-use Rattle.bus_rules.specs.States.{StateOn}
-use Rattle.bus_rules.specs.Streams.{is_host}
-use Rattle.bus_terms.specs.Bus.{state_at}
-use Rattle.bus_terms.specs.Flooding.{has}
-use Rattle.bus_terms.specs.HostedRounds.{IsHosted, slot_in}
-use Rattle.bus_terms.specs.Rounds.{message_said, rounds}
-use Rattle.law_times.specs.Contentions.{AreTwo, Asks, IsAnswered, IsHeardAlone, IsNamed, PartOnTheBus, PassesOver}
-use Rattle.law_service.specs.Contenders.{own_number}
-use Rattle.law_times.specs.ContentionTurns.{PartWithin}
+use Rattle.std.proofs.Common.{◌≡◌, ◌≢◌, ◌<◌, ◌≤◌, ◌+◌, ◌-◌, ◌*◌, ℕ, zero, suc, List, Bool, true, false, inl, inr, Some, None, if◌then◌else◌, length, refl, sym}
+use Rattle.std.proofs.Common.{◌∙◌, ap, subst, arith, is_some, ◌⊎◌}
+use Rattle.law_times.proofs.Words.{cases_eq, false≢true, Plan, IsScenario, ScenarioParts, IsSoundScenario, sound, Host, Core, last_slot, StateOn, is_host}
+use Rattle.law_times.proofs.Words.{state_at, has, IsHosted, slot_in, message_said, rounds, AreTwo, Asks, IsAnswered, IsHeardAlone, IsNamed, PartOnTheBus}
+use Rattle.law_times.proofs.Words.{PassesOver, own_number, PartWithin}
 use Rattle.law_times.proofs.BackoffRanges.{Ruled, ruled}
+use Rattle.law_times.proofs.Backoffs.{Backoff, backoff_of, later, spot, spot_by, turn, turned, asks}
 use Rattle.law_times.proofs.ContendingFrames.{Asking, HasBoot, next_boot}
-use Rattle.law_times.proofs.ContendingMembers.{goes_on, heard_alone, idle_asks, mine_few, named_or_not, next_plan}
-use Rattle.law_times.proofs.ContendingMembers.{planned_of_boot, planned_of_rank, says, slots_of}
-use Rattle.law_times.proofs.ContentionTurnsOfTwo.{Backoff, asks, backoff_of, later, spot, spot_by, turn, turned}
-use Rattle.law_times.proofs.KeptMembers.{Members, quiet, step}
+use Rattle.law_times.proofs.ContendingMembers.{goes_on, heard_alone, idle_asks, mine_few, named_or_not, says, slots_of}
+use Rattle.law_times.proofs.KeptMembers.{Members, quiet, step, to_members}
 use Rattle.law_times.proofs.KnownHosts.{Knows, knows}
 use Rattle.law_times.proofs.NewStreams.{new_due}
 use Rattle.law_times.proofs.PacketFrames.{hosted_now}
-use Rattle.law_times.proofs.SilentHosts.{host_silent}
-use Rattle.law_times.proofs.TuneSteps.{tuned_goes}
+use Rattle.law_times.proofs.PlannedRounds.{next_plan, planned_of_rank, planned_of_boot}
 use Rattle.law_times.proofs.Settings.{core_at, idle}
+use Rattle.law_times.proofs.SilentHosts.{host_silent}
 
 module _ (s : ScenarioParts) (accepted : IsScenario s) (rank host f e : ℕ) (among : List ℕ) (u v slots : ℕ)
     (two : AreTwo s rank host f e among u v slots) where
@@ -108,15 +91,10 @@ module _ (s : ScenarioParts) (accepted : IsScenario s) (rank host f e : ℕ) (am
 
       first_plan : (next.plan.rank ≡ rank) × (next.plan.boot ≡ two.boot)
       first_plan =
-          (let same = next_plan s accepted rank host f e among slots two.boot two.group two.lossless two.named
-          u two.first.core.boot two.first.stream two.there.0 two.guests.0 two.lines.0
-          x b d.members now after (omega (arith, soon)) d.first hosted d.plan.0 d.plan.1 d.unnamed.0.acks d.unnamed.0.owners next in (
-            ap (λ (p : Plan). p.rank) (sym same) ∙ planned_of_rank s accepted rank host f e among slots two.boot two.group two.lossless two.named
-                u two.first.core.boot two.first.stream two.there.0 two.guests.0 two.lines.0
-                x b d.members now after (omega (arith, soon)) d.first hosted d.plan.0 d.plan.1 d.unnamed.0.acks d.unnamed.0.owners,
-            ap (λ (p : Plan). p.boot) (sym same) ∙ planned_of_boot s accepted rank host f e among slots two.boot two.group two.lossless two.named
-                u two.first.core.boot two.first.stream two.there.0 two.guests.0 two.lines.0
-                x b d.members now after (omega (arith, soon)) d.first hosted d.plan.0 d.plan.1 d.unnamed.0.acks d.unnamed.0.owners d.boot,
+          (let same = next_plan s accepted rank host f e among two.group x d.members after (omega (arith, soon)) hosted next in (
+            ap (λ (p : Plan). p.rank) (sym same) ∙ planned_of_rank s accepted rank host f e among two.group x d.members after (omega (arith, soon)) hosted,
+            ap (λ (p : Plan). p.boot) (sym same)
+                ∙ planned_of_boot s accepted rank host f e among two.group x d.members after (omega (arith, soon)) hosted two.boot d.boot,
           ))
 
       both : PassesOver next.plan u two.first.core.boot → PassesOver next.plan v two.second.core.boot → Duel (suc x) (turn u b) (turn v c)
@@ -283,13 +261,7 @@ module _ (s : ScenarioParts) (accepted : IsScenario s) (rank host f e : ℕ) (am
   }
     where
       members : M f
-      members = record {
-        due = two.members.due;
-        range = two.members.range;
-        plan = two.members.plan;
-        hosts = tuned_goes s scenario f host (Host rank two.members.due) two.members.plan two.members.hosts;
-        hold = λ z there other. tuned_goes s scenario f z (Hold rank two.members.due) two.members.plan (two.members.hold z there other);
-      }
+      members = to_members s accepted rank host f e among two.group f two.members
 
 pub part_on_bus : (slots rounds : ℕ) → PartWithin slots rounds → PartOnTheBus slots rounds
 part_on_bus slots rounds within s accepted rank host f among u v two =

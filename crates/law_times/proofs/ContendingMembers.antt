@@ -1,46 +1,21 @@
 -- A member that asks in contention slots, from frame to frame, as long as nothing is lost and the host's plans pass it over.
-use Rattle.std.proofs.Common.{◌≡◌, ◌≢◌, ◌<◌, ◌≤◌, ◌+◌, ◌==◌, ℕ, suc, List, true, false, inl, inr, Option, Some, None, length, refl}
-use Rattle.std.proofs.Common.{sym, ◌∙◌, ap, subst, arith, is_some}
-use Rattle.std.specs.List.{list_any}
-use Rattle.std.specs.Prelude.{◌⊎◌}
-use Rattle.std.proofs.lemmas.Bool.{cases_Bool}
-use Rattle.lwb_base.specs.Messages.{Plan, node_of}
-use Rattle.scenario_text.specs.ScenarioGrammar.{IsScenario}
-use Rattle.scenario_text.specs.ScenarioParts.{ScenarioParts}
-use Rattle.scenario_text.specs.ScenarioFacts.{IsSoundScenario}
-use Rattle.scenario_text.proofs.SoundScenarios.{sound}
-use Rattle.bus_rules.specs.declared.tune.Tune.TheVariants.{Hold, Host}
-use Rattle.bus_rules.specs.Cores.{Core, is_member}
-use Rattle.bus_rules.specs.HostPlans.{HostPlan}
-use Rattle.bus_rules.specs.Plans.{last_slot, slots_named}
-use Rattle.bus_rules.specs.Slots.{Message, host_closes}
-use Rattle.bus_rules.specs.States.{State, StateOff, StateOn}
-use Rattle.bus_rules.specs.Streams.{names}
-use Rattle.bus_rules.specs.Tuning.{is_scan, rank_of}
-use Rattle.bus_rules.proofs.Ranks.{planned_rank}
-use Rattle.bus_terms.specs.Bus.{state_at}
-use Rattle.bus_terms.specs.Flooding.{has}
-use Rattle.bus_terms.specs.HostedRounds.{IsHosted, slot_in, state_after_round}
-use Rattle.bus_terms.specs.Rounds.{after_round, before_slot, message_said, rank_in, round_plan, rounds}
-use Rattle.scenario_text.specs.Setups.{setup_of}
-use Rattle.bus_terms.proofs.HostedRounds.{Hosting, has_planned, leads}
-use Rattle.bus_terms.proofs.HostsOfRanks.{IsRightfulState, due_rank, rightful}
-use Rattle.law_service.specs.Reach.{IsWithin, LosesNothing, TakesPart}
-use Rattle.law_service.proofs.AcceptedSchedules.{closings, openings}
-use Rattle.law_service.proofs.LosslessSlots.{lose_nothing}
-use Rattle.law_times.specs.Contentions.{IsHeardAlone, IsNamed, PassesOver, changes_wish}
-use Rattle.law_service.specs.Contenders.{own_number}
-use Rattle.law_times.specs.Reaches.{IsGroup, IsLossless, IsReached}
-use Rattle.law_times.specs.ScriptedPower.{has_line}
-use Rattle.law_times.proofs.ContendingFrames.{Asking, HasBoot, boot_in_slots, next_asks, planned_boot}
-use Rattle.law_times.proofs.ContendingRounds.{AsksCore, HasGoneOn, IsFreshAt, after_closing, after_opening, idle_round}
-use Rattle.law_times.proofs.ContendingRounds.{lead_last, own_few, plans, says_at, turn_request}
-use Rattle.law_times.proofs.ContentionTurnsOfTwo.{Backoff, asks, later, spot, turn}
-use Rattle.law_times.proofs.HostedFrames.{plan_gap, rounds_are}
-use Rattle.law_times.proofs.JoinedNodes.{host_next, next as next_round, no_lines, same_round}
+use Rattle.std.proofs.Common.{◌≡◌, ◌≢◌, ◌<◌, ◌≤◌, ◌+◌, ◌==◌, ℕ, suc, List, true, false, inl, inr, Option, Some, length, refl, sym, ◌∙◌, ap, subst, arith}
+use Rattle.std.proofs.Common.{is_some, ◌⊎◌}
+use Rattle.law_times.proofs.Words.{list_any, cases_Bool, Plan, node_of, IsScenario, ScenarioParts, IsSoundScenario, sound, Hold, Host, Core, last_slot}
+use Rattle.law_times.proofs.Words.{slots_named, Message, host_closes, State, StateOff, StateOn, names, is_scan, rank_of, state_at, has, IsHosted, slot_in}
+use Rattle.law_times.proofs.Words.{state_after_round, message_said, rank_in, setup_of, has_planned, leads, IsRightfulState, rightful, IsWithin, LosesNothing}
+use Rattle.law_times.proofs.Words.{TakesPart, closings, openings, lose_nothing, IsHeardAlone, IsNamed, PassesOver, changes_wish, own_number, IsGroup}
+use Rattle.law_times.proofs.Words.{IsLossless, IsReached, has_line}
+use Rattle.law_times.proofs.Backoffs.{Backoff, later, spot, turn, asks}
+use Rattle.law_times.proofs.ContendingFrames.{Asking, HasBoot, next_asks}
+use Rattle.law_times.proofs.ContendingRounds.{HasGoneOn, IsFreshAt, after_closing, after_opening, own_few, says_at, turn_request}
+use Rattle.law_times.proofs.HostedFrames.{rounds_are}
+use Rattle.law_times.proofs.JoinedNodes.{no_lines}
 use Rattle.law_times.proofs.KeptMembers.{Members}
-use Rattle.law_times.proofs.PacketFrames.{is_due, is_idle, member_tune}
-use Rattle.law_times.proofs.QuietFrames.{script_same}
+use Rattle.law_times.proofs.MemberSlots.{idle_rounds, lead_last}
+use Rattle.law_times.proofs.NewStreams.{AsksCore}
+use Rattle.law_times.proofs.PacketFrames.{is_due, member_tune}
+use Rattle.law_times.proofs.PlannedRounds.{next_plan, some_gap, planned_of_rank, planned_of_boot}
 use Rattle.law_times.proofs.ReachedNodes.{reached_in}
 use Rattle.law_times.proofs.SentPackets.{takes}
 use Rattle.law_times.proofs.Settings.{Setting, core_at, core_tune, idle, setting}
@@ -77,24 +52,10 @@ module _ (s : ScenarioParts) (accepted : IsScenario s) (rank host f e : ℕ) (am
         → Asking boot i rank host_boot b (state_at s (suc x) w)
     idle_asks x b after within m later asking =
         next_asks boot i rank host_boot b s f e x w c.0 rank m.due (group.stay w there) lines after within
-        (by_plan (round_plan s r x (state_at s x))) c.2 c.3
+        (idle_rounds s rank x w m.due c.0 c.1 c.2 later) c.2 c.3
       where
         c : (c : Core) × (state_at s x w ≡ StateOn c) × (c.tune ≡ Hold rank m.due) × AsksCore boot i rank host_boot b c
         c = core_of x b m asking
-
-        r : ℕ
-        r = rank_in (state_at s x w)
-
-        of_rank : r ≡ rank
-        of_rank = ap rank_in c.1 ∙ ap rank_of c.2
-
-        idles : is_member r x c.0 ≡ false
-        idles = ap (λ (n : ℕ). is_member n x c.0) of_rank ∙ is_idle rank x m.due (Hold rank m.due) (inr refl) later c.0 c.2
-
-        by_plan : (o : Option Plan) → after_round s r x (state_at s x) o w ≡ StateOn c.0
-        by_plan None = c.1
-        by_plan (Some p) =
-            idle_round s r x p w m.due c.0 c.1 (c.2 ∙ ap (λ (n : ℕ). Hold n m.due) (sym of_rank)) idles (last_slot p + 1) (omega arith)
 
     -- and one with a round
     module _ (x : ℕ) (b : Backoff) (m : M x) (now : m.due ≡ x) (after : f ≤ x) (soon : suc x ≤ e)
@@ -133,52 +94,15 @@ module _ (s : ScenarioParts) (accepted : IsScenario s) (rank host f e : ℕ) (am
           after_opening s rank x p host hosted w boot i host_boot b of_rank of_boot unnamed no_slots slots contend core.0 core.1 holds core.3 k.0
           (openings s accepted rank x p host hosted (nothing_lost 0) k.0 w k.1).accepts
 
-      abbrev pub planned : HostPlan
-      planned = plans s rank x p host hosted w boot i host_boot b of_rank of_boot unnamed no_slots slots contend
-
-      abbrev pub lead : Hosting rank x p (before_slot s rank x p (state_at s x) (last_slot p) host)
-      lead = lead_last s rank x p host hosted w boot i host_boot b of_rank of_boot unnamed no_slots slots contend
-
-      some_gap : 0 < planned.gap
-      some_gap = (plan_gap s.profile host lead.core.boot (rank_of lead.core.tune) x lead.core.kept lead.core.table lead.core.streams).0
-
-      pub planned_of_rank : planned.plan.rank ≡ rank
-      planned_of_rank =
-          planned_rank s.profile host lead.core.boot (rank_of lead.core.tune) x lead.core.kept lead.core.table lead.core.streams
-          ∙ due_rank rank x lead.core.tune lead.due
-
-      pub planned_of_boot : HasBoot host_boot (state_at s x host) → planned.plan.boot ≡ host_boot
-      planned_of_boot has =
-          planned_boot s.profile host lead.core.boot (rank_of lead.core.tune) x lead.core.kept lead.core.table lead.core.streams
-          ∙ subst (HasBoot host_boot) lead.on (boot_in_slots s x host_boot host has rank p (last_slot p))
-
-      -- the plan of the next round
-      host_rank : rank_in (state_at s x host) ≡ rank
-      host_rank =
-          (let c = core_at (state_at s x host) (idle (Host rank m.due) m.plan) m.hosts in ap rank_in c.1 ∙ ap (λ (k : Setting). rank_of k.tune) c.2)
-
-      pub next_plan : (n : M (suc x)) → planned.plan ≡ n.plan
-      next_plan n =
-          let coming = next_round s accepted rank x host hosted.due in
-          let after_it : rounds s x (state_at s x) host ≡ StateOn (host_closes (setup_of s host) x lead.core).core =
-          rounds_are s scenario host rank x p host_rank hosted.plan ∙ has_planned s rank x p host hosted lead in
-          let same = same_round rank n.due coming.due None None n.plan coming.plan (sym n.hosts
-          ∙ script_same s f e (suc x) host (idle (Host rank coming.due) coming.plan) (group.stay host group.led) (omega (arith, after)) soon
-          (host_next s accepted rank x host hosted.due)) in
-          ap plan_or (sym (ap setting after_it) ∙ coming.goes) ∙ sym same.1
-        where
-          plan_or : Option Setting → Plan
-          plan_or None = p
-          plan_or (Some k) = k.plan
-
       named : (n : M (suc x)) → (list_any (names w boot) n.plan.acks ≡ true) ⊎ (list_any (λ c. node_of c == w) n.plan.owners ≡ true)
           → IsNamed s rank x p host w boot
       named n is = record {
-        core = (host_closes (setup_of s host) x lead.core).core;
-        on = has_planned s rank x p host hosted lead;
+        core = (host_closes (setup_of s host) x (lead_last s rank x p host hosted).core).core;
+        on = has_planned s rank x p host hosted (lead_last s rank x p host hosted);
         named = elim is [
-          | inl acked ↦ inl (ap (λ (q : Plan). list_any (names w boot) q.acks) (next_plan n) ∙ acked)
-          | inr owns ↦ inr (ap (λ (q : Plan). list_any (λ c. node_of c == w) q.owners) (next_plan n) ∙ owns)
+          | inl acked ↦ inl (ap (λ (q : Plan). list_any (names w boot) q.acks) (next_plan s accepted rank host f e among group x m after soon hosted n) ∙ acked)
+          | inr owns ↦ inr (ap (λ (q : Plan). list_any (λ c. node_of c == w) q.owners)
+              (next_plan s accepted rank host f e among group x m after soon hosted n) ∙ owns)
         ];
       }
 
@@ -196,11 +120,13 @@ module _ (s : ScenarioParts) (accepted : IsScenario s) (rank host f e : ℕ) (am
           → list_any (λ c. node_of c == w) n.plan.owners ≡ false → Asking boot i rank host_boot (turn w b) (state_at s (suc x) w)
       goes_on n has acks owners =
           let k = near (last_slot p) (omega arith) in
-          let same = next_plan n in
+          let same = next_plan s accepted rank host f e among group x m after soon hosted n in
           let gone : HasGoneOn s rank x p host hosted w boot i host_boot b of_rank of_boot unnamed no_slots slots contend (state_after_round s rank x p w) =
           after_closing s rank x p host hosted w boot i host_boot b of_rank of_boot unnamed no_slots slots contend
           fresh k.0
-          (closings s accepted rank x p host hosted (nothing_lost (last_slot p)) k.0 w k.1).accepts some_gap planned_of_rank (planned_of_boot has)
+          (closings s accepted rank x p host hosted (nothing_lost (last_slot p)) k.0 w k.1).accepts
+          (some_gap s accepted rank host f e among group x m after soon hosted) (planned_of_rank s accepted rank host f e among group x m after soon hosted)
+          (planned_of_boot s accepted rank host f e among group x m after soon hosted host_boot has)
           (ap (λ (q : Plan). list_any (names w boot) q.acks) same ∙ acks) (ap (λ (q : Plan). list_any (λ c. node_of c == w) q.owners) same ∙ owners) in
           next_asks boot i rank host_boot (turn w b) s f e x w gone.core gone.tune.0 gone.tune.1 (group.stay w there) lines after soon
           (rounds_are s scenario w rank x p (ap rank_in core.1 ∙ ap rank_of holds) hosted.plan ∙ gone.on) gone.tune.2 gone.asks

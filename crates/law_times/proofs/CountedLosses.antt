@@ -1,35 +1,20 @@
 -- Over frames with and without losses members wait for each next round, and scan for four frames at most after a round with losses.
-use Rattle.std.proofs.Common.{◌≡◌, ◌≢◌, ◌<◌, ◌≤◌, ◌+◌, ◌-◌, ◌*◌, ◌==◌, ◌&&◌, ℕ, zero, suc, List, Bool, true, false, Some, inl, inr}
-use Rattle.std.proofs.Common.{if◌then◌else◌, not, refl, sym, ◌∙◌, ap, arith}
-use Rattle.std.specs.List.{list_any}
-use Rattle.std.specs.Prelude.{◌⊎◌}
-use Rattle.std.proofs.lemmas.Bool.{and_parts, cases_eq, cond-true, cond-false, cond_both, false≢true}
-use Rattle.lwb_base.specs.Messages.{Plan}
-use Rattle.scenario_text.specs.ScenarioGrammar.{IsScenario}
-use Rattle.scenario_text.specs.ScenarioParts.{ScenarioParts}
-use Rattle.bus_rules.specs.declared.tune.Tune.TheVariants.{Hold}
-use Rattle.bus_rules.specs.States.{State, StateOff, StateOn}
-use Rattle.bus_rules.specs.Tuning.{is_scan}
-use Rattle.bus_terms.specs.Bus.{state_at}
-use Rattle.bus_terms.specs.Flooding.{has}
-use Rattle.bus_terms.specs.ScriptedStates.{is_on_and}
-use Rattle.law_times.specs.Losses.{CostsFew, LossesCostFew, has_round, is_lossless, lossy_rounds, lossy_row, scanned}
-use Rattle.law_times.specs.Reaches.{IsLossless, IsGroup}
-use Rattle.law_times.proofs.Settings.{core_tune, setting, idle}
-use Rattle.law_times.proofs.QuietRounds.{set_to_host, by_setting}
-use Rattle.law_times.proofs.QuietFrames.{Goes}
+use Rattle.std.proofs.Common.{◌≡◌, ◌≢◌, ◌<◌, ◌≤◌, ◌+◌, ◌-◌, ◌*◌, ◌==◌, ◌&&◌, ℕ, zero, suc, List, Bool, true, false, Some, inl, inr, if◌then◌else◌, not, refl}
+use Rattle.std.proofs.Common.{sym, ◌∙◌, ap, arith, ◌⊎◌}
+use Rattle.law_times.proofs.Words.{list_any, and_parts, cases_eq, cond-true, cond-false, cond_both, false≢true, Plan, IsScenario, ScenarioParts, Hold, State}
+use Rattle.law_times.proofs.Words.{StateOff, StateOn, is_scan, state_at, has, is_on_and, CostsFew, LossesCostFew, has_round, is_lossless, lossy_rounds}
+use Rattle.law_times.proofs.Words.{lossy_row, scanned, IsLossless, IsGroup, not-true}
 use Rattle.law_times.proofs.KeptMembers.{Members, not_due, of_members, to_members}
+use Rattle.law_times.proofs.QuietFrames.{Goes}
+use Rattle.law_times.proofs.QuietRounds.{set_to_host, by_setting}
+use Rattle.law_times.proofs.Settings.{core_tune, setting, idle}
 use Rattle.law_times.proofs.WaitingNodes.{Waiting, Waits, due, lossless, lossy, members_wait, quiet, same_waiting, waiting_members}
 
 -- a frame without lines
 pub of_test : (s : ScenarioParts) (f : ℕ) → is_lossless s f ≡ true → IsLossless s f
 of_test s f is =
     let parts = and_parts (not (list_any (λ l. l.frame == f) s.trace.losses)) (not (list_any (λ l. l.frame == f) s.trace.cuts)) is in
-    record { losses = not_true (list_any (λ l. l.frame == f) s.trace.losses) parts.0; cuts = not_true (list_any (λ l. l.frame == f) s.trace.cuts) parts.1 }
-  where
-    not_true : (b : Bool) → not b ≡ true → b ≡ false
-    not_true true is = absurd (false≢true is)
-    not_true false is = refl
+    record { losses = not-true (list_any (λ l. l.frame == f) s.trace.losses) parts.0; cuts = not-true (list_any (λ l. l.frame == f) s.trace.cuts) parts.1 }
 
 -- a frame more in which v scans, or not
 scans_more : (s : ScenarioParts) (v f n : ℕ) → scanned s v f (suc n) ≤ scanned s v f n + 1

@@ -1,20 +1,8 @@
 -- Up to its closing slot a round changes nobody's tune: an opening leads nobody to another frame.
 use Rattle.std.proofs.Common.{◌≡◌, ◌≤◌, ◌==◌, ℕ, Bool, true, false, Option, Some, None, is_some, if◌then◌else◌, refl, sym, ◌∙◌, ap, subst}
-use Rattle.std.proofs.lemmas.Bool.{false≢true}
-use Rattle.lwb_base.specs.Messages.{Plan, Schedule}
-use Rattle.scenario_text.specs.ScenarioParts.{ScenarioParts}
-use Rattle.bus_rules.specs.declared.part.Part.{Part}
-use Rattle.bus_rules.specs.declared.part.Part.TheVariants.{Opening, Data as DataSlot, Contention, Closing}
-use Rattle.bus_rules.specs.declared.tune.Tune.{Tune}
-use Rattle.bus_rules.specs.Cores.{Core, Setup, opening_accepted, closing_accepted}
-use Rattle.bus_rules.specs.Plans.{last_slot, opening}
-use Rattle.bus_rules.specs.Slots.{Message, ScheduleOf, DataOf, RequestOf, opened_slot, closed_slot, hosts_now}
-use Rattle.bus_rules.proofs.Ranks.{same_schedule}
-use Rattle.bus_terms.specs.Bus.{state_at}
-use Rattle.bus_terms.specs.Rounds.{before_slot}
-use Rattle.scenario_text.specs.Setups.{setup_of}
-use Rattle.bus_terms.proofs.HostedRounds.{is_closing, before_closing}
-use Rattle.bus_terms.proofs.HostsOfRanks.{data_no_schedule, contention_no_schedule}
+use Rattle.law_times.proofs.Words.{false≢true, Plan, Schedule, ScenarioParts, Part, Opening, DataSlot, Contention, Closing, Tune, Core, Setup, opening_accepted}
+use Rattle.law_times.proofs.Words.{closing_accepted, last_slot, opening, Message, ScheduleOf, DataOf, RequestOf, opened_slot, closed_slot, hosts_now}
+use Rattle.law_times.proofs.Words.{same_schedule, state_at, before_slot, setup_of, is_closing, before_closing, data_no_schedule, contention_no_schedule}
 use Rattle.law_times.proofs.Settings.{tune_of}
 use Rattle.law_times.proofs.SlotInvariants.{keeps}
 

@@ -1,25 +1,14 @@
 -- The first round of a host of rank 0, and the nodes that join in it.
-use Rattle.std.proofs.Common.{◌≡◌, ◌<◌, ◌≤◌, ◌+◌, ◌-◌, ℕ, suc, true, Some, inl, inr}
-use Rattle.std.proofs.Common.{length, refl, ◌∙◌, ap, subst, arith}
-use Rattle.std.proofs.lemmas.Bool.{cases_eq}
-use Rattle.lwb_base.specs.Messages.{Plan}
-use Rattle.scenario_text.specs.ScenarioParts.{ScenarioParts}
-use Rattle.bus_rules.specs.declared.tune.Tune.{Tune}
-use Rattle.bus_rules.specs.declared.tune.Tune.TheVariants.{Scan, Host}
-use Rattle.bus_rules.specs.Cores.{own_rank, no_plan}
-use Rattle.bus_terms.specs.Bus.{state_at}
-use Rattle.bus_terms.specs.Flooding.{has}
-use Rattle.bus_terms.proofs.HostsOfRanks.{one_of_rank}
-use Rattle.law_times.specs.ScriptedPower.{StaysOn}
-use Rattle.law_times.specs.Tunes.{AreMembers}
-use Rattle.law_times.specs.FirstRounds.{IsUpBy, FirstRoundsCome, NodesJoin}
-use Rattle.law_times.proofs.Settings.{setting_tune, tune_of}
-use Rattle.law_times.proofs.QuietRounds.{hosts_round, set_to_host, by_setting, NobodyHosts, nobody_else}
-use Rattle.law_times.proofs.QuietFrames.{Goes}
+use Rattle.std.proofs.Common.{◌≡◌, ◌<◌, ◌≤◌, ◌+◌, ◌-◌, ℕ, suc, true, Some, inl, inr, length, refl, ◌∙◌, ap, subst, arith}
+use Rattle.law_times.proofs.Words.{cases_eq, Plan, ScenarioParts, Tune, Scan, Host, own_rank, no_plan, state_at, has, one_of_rank, StaysOn, AreMembers, IsUpBy}
+use Rattle.law_times.proofs.Words.{FirstRoundsCome, NodesJoin}
 use Rattle.law_times.proofs.BootedNodes.{boots_scanning}
-use Rattle.law_times.proofs.ReachedNodes.{in_round}
-use Rattle.law_times.proofs.TuneSteps.{goes_idle, goes_tuned, quiet_step, scan_serves, scanning}
 use Rattle.law_times.proofs.KeptMembers.{Members, due_host, members_stay, of_members, round_joins}
+use Rattle.law_times.proofs.QuietFrames.{Goes}
+use Rattle.law_times.proofs.QuietRounds.{hosts_round, set_to_host, by_setting, NobodyHosts, nobody_else}
+use Rattle.law_times.proofs.ReachedNodes.{in_round}
+use Rattle.law_times.proofs.Settings.{setting_tune, tune_of}
+use Rattle.law_times.proofs.TuneSteps.{goes_idle, goes_tuned, quiet_step, scan_serves, scanning}
 
 module _ (s : ScenarioParts) (host b e : ℕ) (first : own_rank host s.hosts ≡ Some 0) (stays : StaysOn s b e host)
     (boots : Goes s b host (Scan 0 0) no_plan) where

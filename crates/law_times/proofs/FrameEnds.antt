@@ -1,13 +1,8 @@
 -- The end of a frame at a node whose tune after the rounds is known.
 use Rattle.std.proofs.Common.{◌≡◌, ◌<◌, ◌≤◌, ◌+◌, ℕ, false, Option, Some, None, refl, ◌∙◌, ap, arith}
-use Rattle.lwb_base.specs.Messages.{Plan}
-use Rattle.bus_rules.specs.declared.tune.Tune.{Tune}
-use Rattle.bus_rules.specs.declared.tune.Tune.TheVariants.{Scan, Hold}
-use Rattle.bus_rules.specs.Cores.{Core, Setup, begins_host, frame_ended}
-use Rattle.bus_rules.specs.States.{State, StateOn, at_core}
-use Rattle.bus_rules.specs.Tuning.{next_tune}
-use Rattle.law_times.proofs.Settings.{Setting, idle, setting}
+use Rattle.law_times.proofs.Words.{Plan, Tune, Scan, Hold, Core, Setup, begins_host, frame_ended, State, StateOn, at_core, next_tune}
 use Rattle.law_times.proofs.QuietFrames.{ended, plan_of}
+use Rattle.law_times.proofs.Settings.{Setting, idle, setting}
 use Rattle.law_times.proofs.TuneSteps.{hold_falls, holds_on, scans_on}
 
 module _ (q : Setup) (f : ℕ) (x : State) (c : Core) (on : x ≡ StateOn c) where

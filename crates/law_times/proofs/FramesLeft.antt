@@ -1,27 +1,14 @@
 -- How many frames it takes until a host that hears nothing hosts, by its tune: a round that it holds falls out, and then it searches
 -- rank after rank.
-use Rattle.std.proofs.Common.{◌≡◌, ◌<◌, ◌≤◌, ◌+◌, ◌-◌, ◌*◌, ◌%◌, ◌==◌, ℕ, zero, suc, List, [], ◌∷◌, Bool, true, Option, Some, inl, inr}
-use Rattle.std.proofs.Common.{if◌then◌else◌}
-use Rattle.std.proofs.Common.{length, nat_le, get_or, refl, sym, ◌∙◌, ap, subst, arith}
-use Rattle.std.proofs.lemmas.Bool.{cases_lt, cond-true, cond-false, false≢true, le-leb, lt-leb, or_left, or_right}
-use Rattle.std.proofs.lemmas.List.Quantifiers.{position-Some}
-use Rattle.std.proofs.Math.Nat.{mod-eq_of_lt, mod_self}
-use Rattle.std.specs.List.{list_any}
-use Rattle.lwb_base.specs.Messages.{Plan}
-use Rattle.scenario_text.specs.ScenarioParts.{ScenarioParts}
-use Rattle.scenario_text.specs.ScenarioFacts.{IsSoundScenario}
-use Rattle.bus_rules.specs.declared.tune.Tune.{Tune}
-use Rattle.bus_rules.specs.declared.tune.Tune.TheVariants.{Scan, Hold, Host}
-use Rattle.bus_rules.specs.Cores.{own_rank}
-use Rattle.bus_rules.specs.States.{State, StateOff, StateOn}
-use Rattle.bus_terms.specs.Bus.{state_at}
-use Rattle.bus_terms.specs.Flooding.{has}
-use Rattle.law_times.specs.ScriptedPower.{is_on_in}
-use Rattle.law_times.proofs.Settings.{setting, idle, core_tune}
-use Rattle.law_times.proofs.QuietRounds.{hosts_round}
-use Rattle.law_times.proofs.QuietFrames.{Goes}
-use Rattle.bus_terms.specs.ScriptedStates.{power}
+use Rattle.std.proofs.Common.{◌≡◌, ◌<◌, ◌≤◌, ◌+◌, ◌-◌, ◌*◌, ◌%◌, ◌==◌, ℕ, zero, suc, List, [], ◌∷◌, Bool, true, Option, Some, inl, inr, if◌then◌else◌, length}
+use Rattle.std.proofs.Common.{nat_le, get_or, refl, sym, ◌∙◌, ap, subst, arith}
+use Rattle.law_times.proofs.Words.{cases_lt, cond-true, cond-false, false≢true, le-leb, lt-leb, or_left, or_right, position-Some, mod-eq_of_lt, mod_self}
+use Rattle.law_times.proofs.Words.{list_any, Plan, ScenarioParts, IsSoundScenario, Tune, Scan, Hold, Host, own_rank, State, StateOff, StateOn, state_at, has}
+use Rattle.law_times.proofs.Words.{is_on_in, power}
 use Rattle.law_times.proofs.BootedNodes.{power_is}
+use Rattle.law_times.proofs.QuietFrames.{Goes}
+use Rattle.law_times.proofs.QuietRounds.{hosts_round}
+use Rattle.law_times.proofs.Settings.{setting, idle, core_tune}
 use Rattle.law_times.proofs.TuneRanges.{HasStarted, Starts, started}
 
 -- how many ranks lie before this one, from rank q on

@@ -1,28 +1,14 @@
 -- The table of a host from frame to frame: before its round it stays, and by the round that it plans each entry of before has been granted
 -- at most the slots of that round more; others are new.
-use Rattle.std.proofs.Common.{◌≡◌, ◌<◌, ◌≤◌, ◌+◌, ◌==◌, ℕ, List, [], ◌∷◌, Bool, true, false, not, inl, inr, Option, Some, None}
-use Rattle.std.proofs.Common.{if◌then◌else◌, is_some, nat_le, nat_lt, fold, filter_map, map, sum_by, refl, sym, ◌∙◌, ap, subst, arith}
-use Rattle.std.specs.Prelude.{◌⊎◌, Contains}
-use Rattle.std.proofs.lemmas.Bool.{cond-true, le-leb, false≢true}
-use Rattle.lwb_base.proofs.Elements.{contains_cases, contains_head, contains_tail, filter_from, filtered, map_from, one_of}
-use Rattle.lwb_base.specs.Messages.{Ask, Plan, code, code_of}
-use Rattle.lwb_base.specs.Profile.{Numbers}
-use Rattle.scenario_text.specs.ScenarioParts.{ScenarioParts}
-use Rattle.bus_rules.specs.declared.part.Part.{Part}
-use Rattle.bus_rules.specs.declared.part.Part.TheVariants.{Opening, Data as DataSlot, Contention, Closing}
-use Rattle.bus_rules.specs.Cores.{Core, Setup, closing_accepted, opening_accepted}
-use Rattle.bus_rules.specs.Granting.{Grants, count_of, gap_of, given, grant, granted_by, grants_for, last_code, owed_to, plan_round, share_in}
-use Rattle.bus_rules.specs.HostPlans.{Answered, Served, answer, answers_to, host_plan, put_if, serve, served}
-use Rattle.bus_rules.specs.Plans.{last_slot}
-use Rattle.bus_rules.specs.Slots.{DataOf, Message, RequestOf, ScheduleOf, closed_slot, hosts_now, opened_slot, owner_heard, slot_heard}
-use Rattle.bus_rules.specs.States.{State, StateOff, StateOn}
-use Rattle.bus_rules.specs.Streams.{Streams, due_of, with_agreed}
-use Rattle.bus_rules.specs.Tables.{TableEntry, Table, after_request, entry_after_data, has_code, interval_of, is_full, missed, new_entry, with_entry, without}
-use Rattle.bus_terms.specs.Bus.{state_at}
-use Rattle.bus_terms.specs.Rounds.{before_slot}
-use Rattle.scenario_text.specs.Setups.{setup_of}
-use Rattle.bus_terms.proofs.HostedRounds.{before_closing, is_closing}
-use Rattle.law_service.proofs.GrantedSlots.{fitting_grants, round_gap}
+use Rattle.std.proofs.Common.{◌≡◌, ◌<◌, ◌≤◌, ◌+◌, ◌==◌, ℕ, List, [], ◌∷◌, Bool, true, false, not, inl, inr, Option, Some, None, if◌then◌else◌, is_some, nat_le}
+use Rattle.std.proofs.Common.{nat_lt, fold, filter_map, map, sum_by, refl, sym, ◌∙◌, ap, subst, arith, ◌⊎◌, Contains}
+use Rattle.law_times.proofs.Words.{cond-true, le-leb, false≢true, contains_cases, contains_head, contains_tail, filter_from, filtered, map_from, one_of, Ask}
+use Rattle.law_times.proofs.Words.{Plan, code, code_of, Numbers, ScenarioParts, Part, Opening, DataSlot, Contention, Closing, Core, Setup, closing_accepted}
+use Rattle.law_times.proofs.Words.{opening_accepted, Grants, count_of, gap_of, given, grant, granted_by, grants_for, last_code, owed_to, plan_round, share_in}
+use Rattle.law_times.proofs.Words.{Answered, Served, answer, answers_to, host_plan, put_if, serve, served, last_slot, DataOf, Message, RequestOf, ScheduleOf}
+use Rattle.law_times.proofs.Words.{closed_slot, hosts_now, opened_slot, owner_heard, slot_heard, State, StateOff, StateOn, Streams, due_of, with_agreed}
+use Rattle.law_times.proofs.Words.{TableEntry, Table, after_request, entry_after_data, has_code, interval_of, is_full, missed, new_entry, with_entry, without}
+use Rattle.law_times.proofs.Words.{state_at, before_slot, setup_of, before_closing, is_closing, fitting_grants, round_gap}
 use Rattle.law_times.proofs.PacedTables.{Paced, fits}
 use Rattle.law_times.proofs.SlotInvariants.{keeps}
 

@@ -1,37 +1,15 @@
 -- From frame to frame a host's table is what its last closing slot left, until its next round comes.
-use Rattle.std.proofs.Common.{◌≡◌, ◌<◌, ◌≤◌, ◌==◌, ◌&&◌, ℕ, suc, List, [], ◌∷◌, Bool, true, false, inl, inr, Option, Some, None, if◌then◌else◌}
-use Rattle.std.proofs.Common.{fold, nat_lt, refl, sym, ◌∙◌, ap, subst, arith}
-use Rattle.std.specs.Prelude.{◌⊎◌, Contains}
-use Rattle.std.proofs.lemmas.Bool.{cond-false, false≢true, ne_eqb}
-use Rattle.lwb_base.proofs.Elements.{not_in_none}
-use Rattle.lwb_base.specs.Messages.{Plan}
-use Rattle.scenario_text.specs.ScenarioParts.{ScenarioParts}
-use Rattle.scenario_text.specs.ScenarioFacts.{IsSoundScenario}
-use Rattle.scenario_text.specs.declared.script.ScriptLine.{ScriptLine}
-use Rattle.bus_rules.specs.declared.part.Part.{Part}
-use Rattle.bus_rules.specs.declared.part.Part.TheVariants.{Opening, Data as DataSlot, Contention, Closing}
-use Rattle.bus_rules.specs.declared.tune.Tune.{Tune}
-use Rattle.bus_rules.specs.declared.tune.Tune.TheVariants.{Scan, Hold, Host}
-use Rattle.bus_rules.specs.Cores.{Core, Setup, as_host, begins_host, closing_accepted, frame_ended, is_fresh, opening_accepted, own_rank}
-use Rattle.bus_rules.specs.Plans.{last_slot}
-use Rattle.bus_rules.specs.Slots.{DataOf, Message, RequestOf, ScheduleOf, closed_slot, host_closes, hosts_now, opened_slot, owner_heard, silent, slot_heard}
-use Rattle.bus_rules.specs.States.{State, StateOff, StateOn, at_core}
-use Rattle.bus_rules.specs.Tables.{TableEntry, Table}
-use Rattle.bus_rules.specs.Tuning.{hosts, hosts_in, next_tune, rank_of}
-use Rattle.bus_rules.proofs.Ranks.{host_now}
-use Rattle.bus_rules.proofs.Switches.{acts_keep}
-use Rattle.bus_terms.specs.Bus.{before_frame, state_at}
-use Rattle.bus_terms.specs.HostedRounds.{IsHosted}
-use Rattle.bus_terms.specs.Rounds.{before_slot, rank_in, rounds}
-use Rattle.scenario_text.specs.Setups.{setup_of}
-use Rattle.bus_terms.specs.ScriptedStates.{is_on_and, lines_of, state_after_line}
-use Rattle.bus_terms.proofs.HostedRounds.{Hosting, has_planned, leads}
-use Rattle.bus_terms.proofs.HostsOfRanks.{IsRightfulState, rightful}
-use Rattle.bus_terms.proofs.KeptInRounds.{rounds_keep}
-use Rattle.law_times.specs.Paces.{HasSlowStreams}
+use Rattle.std.proofs.Common.{◌≡◌, ◌<◌, ◌≤◌, ◌==◌, ℕ, suc, List, [], ◌∷◌, Bool, true, false, inl, inr, Option, Some, None, if◌then◌else◌, fold, nat_lt, refl}
+use Rattle.std.proofs.Common.{sym, ◌∙◌, ap, subst, arith, ◌⊎◌, Contains}
+use Rattle.law_times.proofs.Words.{cond-false, false≢true, not_in_none, Plan, ScenarioParts, IsSoundScenario, ScriptLine, Part, Opening, DataSlot, Contention}
+use Rattle.law_times.proofs.Words.{Closing, Tune, Scan, Hold, Host, Core, Setup, as_host, begins_host, closing_accepted, frame_ended, is_fresh}
+use Rattle.law_times.proofs.Words.{opening_accepted, own_rank, last_slot, DataOf, Message, RequestOf, ScheduleOf, closed_slot, host_closes, hosts_now}
+use Rattle.law_times.proofs.Words.{opened_slot, owner_heard, silent, slot_heard, State, StateOff, StateOn, at_core, TableEntry, Table, hosts, hosts_in}
+use Rattle.law_times.proofs.Words.{next_tune, rank_of, host_now, acts_keep, before_frame, state_at, IsHosted, before_slot, rank_in, rounds, setup_of, is_on_and}
+use Rattle.law_times.proofs.Words.{lines_of, state_after_line, Hosting, has_planned, leads, IsRightfulState, rightful, rounds_keep, HasSlowStreams}
 use Rattle.law_times.proofs.GrownTables.{Comes, IsGrown, IsOf, NewOr, asked_table, entries_at, plan_grows, tables_come}
 use Rattle.law_times.proofs.HostedFrames.{is_hosted, rounds_are}
-use Rattle.law_times.proofs.KeptMembers.{due_host}
+use Rattle.law_times.proofs.KeptMembers.{due_host, not_due}
 use Rattle.law_times.proofs.PacedHosts.{Keeps, KeepsPace, asked_paced, paced_now}
 use Rattle.law_times.proofs.PacedRuns.{at_slot}
 use Rattle.law_times.proofs.PacedTables.{Paced}
@@ -210,18 +188,11 @@ module _ (s : ScenarioParts) (scenario : IsSoundScenario s) (slow : HasSlowStrea
       keeps : KeepsTable f start (StateOn c)
       keeps = subst (KeepsTable f start) after (in_rounds s f v)
 
-      apart : (due == f) ≡ false
-      apart = ne_eqb due f (λ same. absurd (omega (arith, later, same)))
-
-      neither : (a b : Bool) → b ≡ false → (a && b) ≡ false
-      neither true b is = is
-      neither false b is = refl
-
       not_now : is_on_and (λ d. hosts_now f d) start ≡ false
-      not_now = ap (is_on_and (λ d. hosts_now f d)) on ∙ ap (λ (t : Tune). hosts_in (rank_of t) f t) tune ∙ neither (r == r) (due == f) apart
+      not_now = ap (is_on_and (λ d. hosts_now f d)) on ∙ ap (λ (t : Tune). hosts_in (rank_of t) f t) tune ∙ not_due r f due later
 
       no_round : hosts_round r f start ≡ false
-      no_round = ap (hosts_round r f) on ∙ ap (hosts_in r f) tune ∙ neither (r == r) (due == f) apart
+      no_round = ap (hosts_round r f) on ∙ ap (hosts_in r f) tune ∙ not_due r f due later
 
       at_rank : rank_in start ≡ r
       at_rank = ap rank_in on ∙ ap rank_of tune
@@ -280,19 +251,14 @@ module _ (s : ScenarioParts) (scenario : IsSoundScenario s) (slow : HasSlowStrea
     | inr from ↦ by_start from start refl
   ]
     where
+      guest : (from : Came (rounds s f (state_at s f) v) c) → is_on_and (λ d. hosts d.tune) start ≡ false → ⊥
+      guest from is =
+          let keeps = subst (KeepsTable f start) from.on (in_rounds s f v) in
+          false≢true (sym (keeps.1 is) ∙ ap hosts from.tune ∙ host)
+
       by_tune : (from : Came (rounds s f (state_at s f) v) c) (d : Core) → start ≡ StateOn d → (t : Tune) → d.tune ≡ t → HostBefore s f v c
-      by_tune from d at (Scan r w) tune = absurd (guest (ap hosts tune))
-        where
-          guest : hosts d.tune ≡ false → ⊥
-          guest is =
-              let keeps = subst (KeepsTable f start) from.on (in_rounds s f v) in
-              false≢true (sym (keeps.1 (ap (is_on_and (λ d. hosts d.tune)) at ∙ is)) ∙ ap hosts from.tune ∙ host)
-      by_tune from d at (Hold r n) tune = absurd (guest (ap hosts tune))
-        where
-          guest : hosts d.tune ≡ false → ⊥
-          guest is =
-              let keeps = subst (KeepsTable f start) from.on (in_rounds s f v) in
-              false≢true (sym (keeps.1 (ap (is_on_and (λ d. hosts d.tune)) at ∙ is)) ∙ ap hosts from.tune ∙ host)
+      by_tune from d at (Scan r w) tune = absurd (guest from (ap (is_on_and (λ d. hosts d.tune)) at ∙ ap hosts tune))
+      by_tune from d at (Hold r n) tune = absurd (guest from (ap (is_on_and (λ d. hosts d.tune)) at ∙ ap hosts tune))
       by_tune from d at (Host r due) tune = record {
         core = d;
         on = at;
@@ -306,9 +272,7 @@ module _ (s : ScenarioParts) (scenario : IsSoundScenario s) (slow : HasSlowStrea
       }
 
       by_start : (from : Came (rounds s f (state_at s f) v) c) (x : State) → start ≡ x → HostBefore s f v c
-      by_start from (StateOff boots) at =
-          (let keeps = subst (KeepsTable f start) from.on (in_rounds s f v) in
-          absurd (false≢true (sym (keeps.1 (ap (is_on_and (λ d. hosts d.tune)) at)) ∙ ap hosts from.tune ∙ host)))
+      by_start from (StateOff boots) at = absurd (guest from (ap (is_on_and (λ d. hosts d.tune)) at))
       by_start from (StateOn d) at = by_tune from d at d.tune refl
 
 -- in frame 0 no host has a stream

@@ -1,34 +1,14 @@
 -- A host whose round is due holds it, and has its next round one to four frames later; while it is on, it stays a host.
-use Rattle.std.proofs.Common.{◌≡◌, ◌<◌, ◌≤◌, ◌+◌, ◌==◌, ◌||◌, ℕ, List, [], ◌∷◌, Bool, true, false, Option, Some}
-use Rattle.std.proofs.Common.{get_or, length, option_and_then, refl, ◌∙◌, ap, subst, arith}
-use Rattle.std.specs.Option.{option_or}
-use Rattle.std.proofs.lemmas.Bool.{false≢true, eqb-true}
-use Rattle.std.proofs.lemmas.List.Quantifiers.{position-Some}
-use Rattle.lwb_base.specs.Messages.{Ask, Plan}
-use Rattle.lwb_base.specs.Profile.{Numbers}
-use Rattle.scenario_text.specs.ScenarioParts.{ScenarioParts}
-use Rattle.scenario_text.specs.ScenarioFacts.{IsSoundScenario}
+use Rattle.std.proofs.Common.{◌≡◌, ◌<◌, ◌≤◌, ◌+◌, ◌==◌, ◌||◌, ℕ, List, [], ◌∷◌, Bool, true, false, Option, Some, get_or, length, option_and_then, refl, ◌∙◌, ap}
+use Rattle.std.proofs.Common.{subst, arith}
 use Rattle.scenario_text.specs.FloodParts.{knows}
 use Rattle.scenario_text.specs.declared.lines.NodeLine.{NodeLine}
-use Rattle.bus_rules.specs.declared.tune.Tune.TheVariants.{Host}
-use Rattle.bus_rules.specs.Cores.{own_rank}
-use Rattle.bus_rules.specs.HostPlans.{answers_to, host_plan, served}
-use Rattle.bus_rules.specs.Plans.{last_slot}
-use Rattle.bus_rules.specs.States.{State, StateOff, StateOn}
-use Rattle.bus_rules.specs.Streams.{Streams}
-use Rattle.bus_rules.specs.Tables.{Table}
-use Rattle.bus_rules.specs.Tuning.{rank_of, hosts_in, holds_in}
-use Rattle.bus_terms.specs.Bus.{state_at}
-use Rattle.bus_terms.specs.FloodOfText.{ids}
-use Rattle.bus_terms.specs.Flooding.{has}
-use Rattle.bus_terms.specs.HostedRounds.{IsHosted, state_after_round}
-use Rattle.bus_terms.specs.Rounds.{after_round, first_node, plan_in, round_plan, rounds, rank_in}
-use Rattle.bus_terms.specs.ScriptedStates.{is_on_and}
-use Rattle.bus_terms.proofs.HostedRounds.{Hosting, found_only, leads, has_planned}
-use Rattle.bus_terms.proofs.HostsOfRanks.{due_rank, one_of_rank}
-use Rattle.law_service.proofs.GrantedSlots.{gap_range, round_gap}
-use Rattle.law_times.proofs.Settings.{setting}
+use Rattle.law_times.proofs.Words.{option_or, false≢true, eqb-true, position-Some, Ask, Plan, Numbers, ScenarioParts, IsSoundScenario, Host, own_rank}
+use Rattle.law_times.proofs.Words.{answers_to, host_plan, served, last_slot, State, StateOff, StateOn, Streams, Table, rank_of, hosts_in, holds_in, state_at}
+use Rattle.law_times.proofs.Words.{ids, has, IsHosted, state_after_round, after_round, first_node, plan_in, round_plan, rounds, rank_in, is_on_and, Hosting}
+use Rattle.law_times.proofs.Words.{found_only, leads, has_planned, due_rank, one_of_rank, gap_range, round_gap}
 use Rattle.law_times.proofs.QuietRounds.{hosts_round, host_is_own}
+use Rattle.law_times.proofs.Settings.{setting}
 
 -- a node of the scenario
 pub known_ids : (ns : List NodeLine) (v : ℕ) → knows ns v ≡ true → has (ids ns) v ≡ true

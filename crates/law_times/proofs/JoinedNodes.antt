@@ -1,34 +1,14 @@
 -- After a round in which nothing is lost each node that takes part within reach of the host holds its next round.
-use Rattle.std.proofs.Common.{◌≡◌, ◌==◌, ◌&&◌, ◌||◌, ℕ, suc, List, Bool, true, false, Option, Some, None}
-use Rattle.std.proofs.Common.{nat_lt, refl, sym, ◌∙◌, ap}
-use Rattle.std.proofs.lemmas.Bool.{false≢true, eqb-true, and_parts, cond-true, lt-ltb}
-use Rattle.lwb_base.specs.Messages.{Plan}
-use Rattle.link_trace.specs.declared.lines.LoseLine.{LoseLine}
-use Rattle.scenario_text.specs.ScenarioGrammar.{IsScenario}
-use Rattle.scenario_text.specs.ScenarioParts.{ScenarioParts}
-use Rattle.scenario_text.specs.ScenarioFacts.{IsSoundScenario}
-use Rattle.scenario_text.proofs.SoundScenarios.{sound}
-use Rattle.bus_rules.specs.declared.tune.Tune.{Tune}
-use Rattle.bus_rules.specs.declared.tune.Tune.TheVariants.{Scan, Hold, Host}
-use Rattle.bus_rules.specs.Plans.{last_slot}
-use Rattle.bus_rules.specs.States.{State, StateOff, StateOn}
-use Rattle.bus_rules.specs.Tuning.{rank_of}
-use Rattle.bus_terms.specs.Bus.{before_frame, state_at}
-use Rattle.bus_terms.specs.Flooding.{has}
-use Rattle.bus_terms.specs.HostedRounds.{IsHosted, slot_in}
-use Rattle.bus_terms.specs.Rounds.{rank_in, rounds}
-use Rattle.scenario_text.specs.Setups.{setup_of}
-use Rattle.bus_terms.proofs.HostsOfRanks.{due_rank}
-use Rattle.law_service.specs.Reach.{HasNoLines, LosesNothing}
+use Rattle.std.proofs.Common.{◌≡◌, ◌==◌, ◌&&◌, ◌||◌, ℕ, suc, List, Bool, true, false, Option, Some, None, nat_lt, refl, sym, ◌∙◌, ap}
 use Rattle.law_service.specs.ScheduleService.{AcceptsClosing}
-use Rattle.law_service.proofs.AcceptedSchedules.{closings}
-use Rattle.law_service.proofs.LosslessSlots.{lose_nothing, none_harder}
-use Rattle.law_times.specs.Reaches.{IsLossless, IsReached}
-use Rattle.law_times.proofs.Settings.{Setting, setting, idle, tune_of}
-use Rattle.law_times.proofs.QuietRounds.{hosts_round}
-use Rattle.law_times.proofs.QuietFrames.{ended}
+use Rattle.law_times.proofs.Words.{false≢true, eqb-true, and_parts, cond-true, lt-ltb, Plan, LoseLine, IsScenario, ScenarioParts, IsSoundScenario, sound, Tune}
+use Rattle.law_times.proofs.Words.{Scan, Hold, Host, last_slot, State, StateOff, StateOn, rank_of, before_frame, state_at, has, IsHosted, slot_in, rank_in}
+use Rattle.law_times.proofs.Words.{rounds, setup_of, due_rank, HasNoLines, LosesNothing, closings, lose_nothing, none_harder, IsLossless, IsReached}
 use Rattle.law_times.proofs.HostedFrames.{Planned, due_round, is_hosted, rounds_are}
+use Rattle.law_times.proofs.QuietFrames.{ended}
+use Rattle.law_times.proofs.QuietRounds.{hosts_round}
 use Rattle.law_times.proofs.ReachedNodes.{IsThere, in_round, reached_within}
+use Rattle.law_times.proofs.Settings.{Setting, setting, idle, tune_of}
 
 -- no line of the frame, so none of any of its slots
 pub no_lines : (s : ScenarioParts) (f j : ℕ) → IsLossless s f → HasNoLines s f j

@@ -1,22 +1,15 @@
 -- An entry of a host's table stays, by its code, its interval and the frame in which it was accepted: through requests of other streams, through
 -- what is granted, and through data slots of its own in which the host receives a packet.
-use Rattle.std.proofs.Common.{◌≡◌, ◌≢◌, ◌+◌, ◌==◌, ◌++◌, ℕ, List, [], ◌∷◌, Bool, true, false, not, inl, inr, Option, Some, None}
-use Rattle.std.proofs.Common.{if◌then◌else◌, fold, map, filter_map, nat_le, nat_lt, sum_by, refl, sym, ◌∙◌, ap, subst}
-use Rattle.std.specs.Prelude.{◌⊎◌, Contains}
-use Rattle.std.proofs.lemmas.Bool.{cond_both, cond-false, eq-eqb, eqb-true, false≢true, ne_eqb}
-use Rattle.lwb_base.proofs.Elements.{contains_cases, contains_head, contains_tail, in_filter, in_filtered, map_contains, not_in_none, one_of}
+use Rattle.std.proofs.Common.{◌≡◌, ◌≢◌, ◌+◌, ◌==◌, ◌++◌, ℕ, List, [], ◌∷◌, Bool, true, false, not, inl, inr, Option, Some, None, if◌then◌else◌, fold, map}
+use Rattle.std.proofs.Common.{filter_map, nat_le, nat_lt, sum_by, refl, sym, ◌∙◌, ap, subst, ◌⊎◌, Contains}
+use Rattle.lwb_base.proofs.Elements.{in_filtered}
 use Rattle.std.proofs.lemmas.List.Elements.{Contains-append_cases}
-use Rattle.lwb_base.specs.Messages.{Ask, code, code_of}
-use Rattle.lwb_base.specs.Profile.{Numbers}
-use Rattle.bus_rules.specs.declared.part.Part.{Part}
-use Rattle.bus_rules.specs.declared.part.Part.TheVariants.{Opening, Data as DataSlot, Contention, Closing}
-use Rattle.bus_rules.specs.Cores.{Core, Setup, closing_accepted, opening_accepted}
-use Rattle.bus_rules.specs.Granting.{Grants, gap_of, given, grant, granted_by, last_code, owed_to, plan_round, share_in}
-use Rattle.bus_rules.specs.HostPlans.{Answered, Served, answer, answers_to, host_plan, put_if, serve}
-use Rattle.bus_rules.specs.Slots.{DataOf, Message, RequestOf, ScheduleOf, closed_slot, hosts_now, opened_slot, owner_heard, slot_heard}
-use Rattle.bus_rules.specs.Streams.{Streams, due_of, with_agreed}
-use Rattle.bus_rules.specs.Tables.{TableEntry, Table, after_request, entry_after_data, has_code, interval_of, is_full, missed, new_entry, with_entry, without}
-use Rattle.bus_terms.proofs.HostedRounds.{is_closing}
+use Rattle.law_times.proofs.Words.{cond_both, cond-false, eq-eqb, eqb-true, false≢true, ne_eqb, contains_cases, contains_head, contains_tail, in_filter}
+use Rattle.law_times.proofs.Words.{map_contains, not_in_none, one_of, Ask, code, code_of, Numbers, Part, Opening, DataSlot, Contention, Closing, Core, Setup}
+use Rattle.law_times.proofs.Words.{closing_accepted, opening_accepted, Grants, gap_of, given, grant, granted_by, last_code, owed_to, plan_round, share_in}
+use Rattle.law_times.proofs.Words.{Answered, Served, answer, answers_to, host_plan, put_if, serve, DataOf, Message, RequestOf, ScheduleOf, closed_slot}
+use Rattle.law_times.proofs.Words.{hosts_now, opened_slot, owner_heard, slot_heard, Streams, due_of, with_agreed, TableEntry, Table, after_request}
+use Rattle.law_times.proofs.Words.{entry_after_data, has_code, interval_of, is_full, missed, new_entry, with_entry, without, is_closing}
 use Rattle.law_times.proofs.QueuedPackets.{is_slot_of}
 
 -- an entry of another code is put beside it

@@ -1,32 +1,16 @@
 -- Members of a rank stay members as long as nothing is lost: their next round comes by the host's closing schedule, and until it comes
 -- nobody hosts the rank.
-use Rattle.std.proofs.Common.{◌≡◌, ◌≢◌, ◌<◌, ◌≤◌, ◌+◌, ◌-◌, ◌==◌, ◌&&◌, ℕ, zero, suc, List, Bool, true, false, Some, inl, inr}
-use Rattle.std.proofs.Common.{length, refl, ◌∙◌, ap, subst, arith}
-use Rattle.std.proofs.lemmas.Bool.{cases_eq, eq-eqb, ne_eqb}
-use Rattle.lwb_base.specs.Messages.{Plan}
-use Rattle.scenario_text.specs.ScenarioGrammar.{IsScenario}
-use Rattle.scenario_text.specs.ScenarioParts.{ScenarioParts}
-use Rattle.scenario_text.specs.ScenarioFacts.{IsSoundScenario}
-use Rattle.scenario_text.proofs.SoundScenarios.{sound}
-use Rattle.bus_rules.specs.declared.tune.Tune.{Tune}
-use Rattle.bus_rules.specs.declared.tune.Tune.TheVariants.{Hold, Host}
-use Rattle.bus_rules.specs.Cores.{own_rank}
-use Rattle.bus_rules.specs.States.{State, StateOff, StateOn}
-use Rattle.bus_rules.specs.Tuning.{hosts as is_hosting, hosts_in, rank_of}
-use Rattle.bus_terms.specs.Bus.{state_at}
-use Rattle.bus_terms.specs.Flooding.{has}
-use Rattle.bus_terms.specs.Rounds.{rounds}
-use Rattle.scenario_text.specs.Setups.{setup_of}
-use Rattle.bus_terms.proofs.HostsOfRanks.{IsRightfulState, rightful}
-use Rattle.law_times.specs.Reaches.{IsLossless, IsGroup}
-use Rattle.law_times.specs.Tunes.{AreMembers}
-use Rattle.law_times.specs.FirstRounds.{MembersStay}
-use Rattle.law_times.proofs.Settings.{setting, idle, tune_of, setting_tune, core_tune}
-use Rattle.law_times.proofs.QuietRounds.{hosts_round, set_to_host, by_setting, NobodyHosts, nobody_else}
-use Rattle.law_times.proofs.QuietFrames.{Goes, quiet_frame, script_same}
+use Rattle.std.proofs.Common.{◌≡◌, ◌≢◌, ◌<◌, ◌≤◌, ◌+◌, ◌-◌, ◌==◌, ◌&&◌, ℕ, zero, suc, List, Bool, true, false, Some, inl, inr, length, refl, ◌∙◌, ap, subst}
+use Rattle.std.proofs.Common.{arith}
+use Rattle.law_times.proofs.Words.{cases_eq, eq-eqb, ne_eqb, Plan, IsScenario, ScenarioParts, IsSoundScenario, sound, Tune, Hold, Host, own_rank, State}
+use Rattle.law_times.proofs.Words.{StateOff, StateOn, is_hosting, hosts_in, rank_of, state_at, has, rounds, setup_of, IsRightfulState, rightful, IsLossless}
+use Rattle.law_times.proofs.Words.{IsGroup, AreMembers, MembersStay, Core}
 use Rattle.law_times.proofs.HostedFrames.{Planned}
-use Rattle.law_times.proofs.ReachedNodes.{IsThere, in_round}
 use Rattle.law_times.proofs.JoinedNodes.{next, host_next, joins}
+use Rattle.law_times.proofs.QuietFrames.{Goes, quiet_frame, script_same}
+use Rattle.law_times.proofs.QuietRounds.{hosts_round, set_to_host, by_setting, NobodyHosts, nobody_else}
+use Rattle.law_times.proofs.ReachedNodes.{IsThere, in_round}
+use Rattle.law_times.proofs.Settings.{setting, idle, tune_of, setting_tune, core_tune, core_at, Setting}
 use Rattle.law_times.proofs.TuneSteps.{holds_on, goes_idle, goes_tuned, tuned_goes}
 
 pub due_host : (rank f : ℕ) → hosts_in rank f (Host rank f) ≡ true
@@ -56,6 +40,12 @@ pub record Members (s : ScenarioParts) (rank f host : ℕ) (among : List ℕ) : 
   pub plan : Plan
   pub hosts : Goes s f host (Host rank due) plan
   pub hold : (v : ℕ) → has among v ≡ true → v ≢ host → Goes s f v (Hold rank due) plan
+
+pub host_core : (s : ScenarioParts) (rank f host : ℕ) (among : List ℕ) (m : Members s rank f host among)
+    → (d : Core) × (state_at s f host ≡ StateOn d) × (d.tune ≡ Host rank m.due) × (d.plan ≡ m.plan)
+host_core s rank f host among m =
+    let d = core_at (state_at s f host) (idle (Host rank m.due) m.plan) m.hosts in
+    (d.0, d.1, ap (λ (k : Setting). k.tune) d.2, ap (λ (k : Setting). k.plan) d.2)
 
 module _ (s : ScenarioParts) (accepted : IsScenario s) (rank host b e : ℕ) (among : List ℕ) (group : IsGroup s host b e among) where
   abbrev scenario : IsSoundScenario s
@@ -153,7 +143,7 @@ module _ (s : ScenarioParts) (accepted : IsScenario s) (rank host b e : ℕ) (am
     hold = λ v there other. goes_tuned s f v (Hold rank members.due) members.plan (members.hold v there other);
   }
 
-  pub to_members : (f : ℕ) → AreMembers s rank f host among → Members s rank f host among
+  abbrev pub to_members : (f : ℕ) → AreMembers s rank f host among → Members s rank f host among
   to_members f members = record {
     due = members.due;
     range = members.range;

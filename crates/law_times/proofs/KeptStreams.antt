@@ -1,54 +1,24 @@
 -- As long as nothing is lost and a packet waits, a host keeps the stream of a member in its table: each data slot of the stream carries a packet.
-use Rattle.std.proofs.Common.{◌≡◌, ◌≢◌, ◌<◌, ◌≤◌, ◌==◌, ◌&&◌, ◌||◌, ℕ, zero, suc, List, [], ◌∷◌, Bool, true, false, inl, inr, Option, Some, None}
-use Rattle.std.proofs.Common.{fold, is_some, option_and_then, option_map, slice_get, refl, sym, ◌∙◌, ap, subst, arith}
-use Rattle.std.specs.List.{list_any}
-use Rattle.std.specs.Prelude.{◌⊎◌, Contains}
-use Rattle.std.proofs.lemmas.Bool.{false≢true, ne_eqb}
-use Rattle.lwb_base.proofs.Elements.{contains_cases, not_in_none}
-use Rattle.lwb_base.specs.Messages.{Ask, Plan, code, code_of, node_of, stream_of}
-use Rattle.scenario_text.specs.ScenarioGrammar.{IsScenario}
-use Rattle.scenario_text.specs.ScenarioParts.{ScenarioParts}
-use Rattle.scenario_text.specs.ScenarioFacts.{IsSoundScenario}
-use Rattle.scenario_text.specs.declared.script.ScriptLine.{ScriptLine}
-use Rattle.scenario_text.proofs.SoundScenarios.{sound}
-use Rattle.bus_rules.specs.declared.act.Act.{Act}
-use Rattle.bus_rules.specs.declared.act.Act.TheVariants.{On, Off, Declare, Leave, Put}
-use Rattle.bus_rules.specs.declared.part.Part.{Part}
-use Rattle.bus_rules.specs.declared.tune.Tune.{Tune}
-use Rattle.bus_rules.specs.declared.tune.Tune.TheVariants.{Host}
-use Rattle.bus_rules.specs.Cores.{Core, Setup, frame_ended, is_member}
-use Rattle.bus_rules.specs.Plans.{last_slot}
-use Rattle.bus_rules.specs.declared.delivery.Delivery.{Delivery}
-use Rattle.bus_rules.specs.Slots.{Closed, Data, Message, delivery_of, Opened, RequestOf, closed_slot, host_closes, hosts_now, opened_slot, part_of}
-use Rattle.bus_rules.specs.States.{State, StateOff, StateOn, at_core, state_after_act}
-use Rattle.bus_rules.specs.Streams.{WaitingPacket, first_waiting, stream_at}
-use Rattle.bus_rules.specs.Tuning.{hosts_in, rank_of}
-use Rattle.bus_terms.specs.Bus.{before_frame, state_at}
-use Rattle.bus_terms.specs.Flooding.{accepted, has}
-use Rattle.bus_terms.specs.HostedRounds.{IsHosted, slot_in}
-use Rattle.bus_terms.specs.Rounds.{accepted_at, before_slot, closed_slot_of, delivery_in_slot, message_said, rank_in, rounds}
-use Rattle.scenario_text.specs.Setups.{setup_of}
-use Rattle.bus_terms.specs.ScriptedStates.{is_on_and, lines_of, state_after_line}
-use Rattle.bus_terms.proofs.HostedRounds.{Hosting, before_closing, has_planned, host_member, leads}
-use Rattle.bus_terms.proofs.KeptNone.{keeps_nothing, kept_of}
-use Rattle.law_service.specs.DataService.{HasData, delivery}
-use Rattle.law_service.specs.Reach.{IsWithin, LosesNothing, TakesPart}
-use Rattle.law_service.proofs.DeliveredData.{delivered_within}
-use Rattle.law_service.proofs.LosslessSlots.{lose_nothing}
-use Rattle.law_times.specs.Queues.{IsDelivered, StreamPacket}
-use Rattle.law_times.specs.Reaches.{IsGroup, IsLossless, IsReached}
-use Rattle.law_times.specs.ScriptedPower.{turns_off}
-use Rattle.law_times.proofs.ContendingRounds.{after_member}
+use Rattle.std.proofs.Common.{◌≡◌, ◌≢◌, ◌<◌, ◌≤◌, ℕ, zero, suc, List, [], ◌∷◌, true, false, inl, inr, Option, Some, None, is_some, option_and_then, option_map}
+use Rattle.std.proofs.Common.{slice_get, refl, sym, ◌∙◌, ap, subst, arith, ◌⊎◌, Contains}
+use Rattle.law_times.proofs.Words.{contains_cases, not_in_none, Ask, Plan, code, code_of, node_of, stream_of, IsScenario, ScenarioParts, IsSoundScenario, sound}
+use Rattle.law_times.proofs.Words.{Part, Tune, Host, Core, Setup, frame_ended, is_member, last_slot, Delivery, Closed, Data, Message, delivery_of, Opened}
+use Rattle.law_times.proofs.Words.{RequestOf, closed_slot, host_closes, hosts_now, opened_slot, part_of, State, StateOff, StateOn, at_core, WaitingPacket}
+use Rattle.law_times.proofs.Words.{first_waiting, stream_at, hosts_in, rank_of, state_at, accepted, has, IsHosted, slot_in, accepted_at, before_slot}
+use Rattle.law_times.proofs.Words.{closed_slot_of, delivery_in_slot, message_said, rank_in, rounds, setup_of, is_on_and, Hosting, before_closing, has_planned}
+use Rattle.law_times.proofs.Words.{host_member, leads, keeps_nothing, kept_of, HasData, delivery, IsWithin, LosesNothing, TakesPart, delivered_within}
+use Rattle.law_times.proofs.Words.{lose_nothing, IsDelivered, StreamPacket, IsGroup, IsLossless, IsReached, turns_off}
 use Rattle.law_times.proofs.GrownTables.{entries_at}
 use Rattle.law_times.proofs.HostFrames.{KeepsTable, in_rounds}
 use Rattle.law_times.proofs.HostedFrames.{rank_below, rounds_are}
 use Rattle.law_times.proofs.JoinedNodes.{no_lines}
+use Rattle.law_times.proofs.KeptCores.{OnWith, next_keeps}
 use Rattle.law_times.proofs.KeptEntries.{HasStream, kept_in_slot, plan_keeps, slot_keeps}
-use Rattle.law_times.proofs.KeptMembers.{Members, host_own}
+use Rattle.law_times.proofs.KeptMembers.{Members, host_own, not_due}
+use Rattle.law_times.proofs.MemberSlots.{after_member}
 use Rattle.law_times.proofs.PacketFrames.{IsMemberTune, hosted_now, is_due, member_tune}
 use Rattle.law_times.proofs.QueuedPackets.{Waits, is_slot_of, parts_of_code}
 use Rattle.law_times.proofs.QueuedRounds.{IsTurn, code_of_packet, longer, slots}
-use Rattle.law_times.proofs.QuietFrames.{none_in_frame}
 use Rattle.law_times.proofs.ReachedNodes.{reached_in}
 use Rattle.law_times.proofs.SentPackets.{delivers, member_at, slot_is, takes}
 use Rattle.law_times.proofs.Settings.{Setting, core_at, idle, setting, tune_of}
@@ -65,33 +35,7 @@ first_of_queue [] k y is = absurd (cc)
 first_of_queue (z ∷ zs) k y is = (z, refl)
 
 -- who hosts keeps its table to the next frame
-abbrev KeptTo : State → State → Type 0
-KeptTo y (StateOff boots) = ⊥
-KeptTo y (StateOn c) = c.table.entries ≡ entries_at y
-
-module _ (y : State) where
-  lines_keep : (ls : List ScriptLine) (x : State) → list_any (λ l. turns_off l.act) ls ≡ false → KeptTo y x → KeptTo y (fold state_after_line x ls)
-  lines_keep [] x stays kept = kept
-  lines_keep (l ∷ ls) x stays kept =
-      let both = neither (turns_off l.act) (list_any (λ l. turns_off l.act) ls) stays in
-      lines_keep ls (state_after_line x l) both.1 (act_keeps l.act x both.0 kept)
-    where
-      neither : (a b : Bool) → (a || b) ≡ false → (a ≡ false) × (b ≡ false)
-      neither true b none = absurd (false≢true (sym none))
-      neither false b none = (refl, none)
-
-      act_keeps : (a : Act) (x : State) → turns_off a ≡ false → KeptTo y x → KeptTo y (state_after_act a x)
-      act_keeps On (StateOff boots) stays kept = absurd kept
-      act_keeps On (StateOn c) stays kept = kept
-      act_keeps Off x stays kept = absurd (false≢true (sym stays))
-      act_keeps (Declare j n) (StateOff boots) stays kept = kept
-      act_keeps (Declare j n) (StateOn c) stays kept = kept
-      act_keeps (Leave j) (StateOff boots) stays kept = kept
-      act_keeps (Leave j) (StateOn c) stays kept = kept
-      act_keeps (Put j payload) (StateOff boots) stays kept = kept
-      act_keeps (Put j payload) (StateOn c) stays kept = kept
-
-end_keeps : (q : Setup) (f : ℕ) (c : Core) (r d : ℕ) → c.tune ≡ Host r d → KeptTo (StateOn c) (StateOn (frame_ended q f c))
+end_keeps : (q : Setup) (f : ℕ) (c : Core) (r d : ℕ) → c.tune ≡ Host r d → (frame_ended q f c).table.entries ≡ c.table.entries
 end_keeps q f c r d tune = subst (λ (k : Core). (frame_ended q f k).table.entries ≡ k.table.entries) (record_is c r d tune) refl
   where
     record_is : (c : Core) (r d : ℕ) → c.tune ≡ Host r d → record c { tune = Host r d } ≡ c
@@ -111,14 +55,16 @@ module _ (s : ScenarioParts) (accepted_text : IsScenario s) (rank host b e : ℕ
   -- from the rounds of a frame to the next frame
   pub next_table : (f r d : ℕ) (core : Core) → b ≤ f → suc f ≤ e → rounds s f (state_at s f) host ≡ StateOn core → core.tune ≡ Host r d
       → HasStream c interval since core.table.entries → Has (state_at s (suc f) host)
-  unfolding before_frame
   next_table f r d core after within on tune is =
       of_kept (state_at s (suc f) host)
-      (lines_keep (StateOn core) (lines_of s (suc f) host) (before_frame s (suc f) host)
-      (none_in_frame turns_off s b e host (suc f) (group.stay host group.led) (omega (arith, after)) within)
-      (subst (λ (x : State). KeptTo (StateOn core) (at_core (frame_ended (setup_of s host) f) x)) (sym on) (end_keeps (setup_of s host) f core r d tune)))
+      (next_keeps (λ k. k.table.entries ≡ core.table.entries) turns_off (λ a k same kept. kept) s b e host f (group.stay host group.led)
+      (group.stay host group.led) after within (subst (λ (x : State). Kept (at_core (frame_ended (setup_of s host) f) x)) (sym on)
+      (end_keeps (setup_of s host) f core r d tune)))
     where
-      of_kept : (x : State) → KeptTo (StateOn core) x → Has x
+      Kept : State → Type 0
+      Kept = OnWith (λ k. k.table.entries ≡ core.table.entries)
+
+      of_kept : (x : State) → Kept x → Has x
       of_kept (StateOff boots) kept = absurd kept
       of_kept (StateOn k) kept = subst (λ (l : List _). HasStream c interval since l) (sym kept) is
 
@@ -133,13 +79,9 @@ module _ (s : ScenarioParts) (accepted_text : IsScenario s) (rank host b e : ℕ
       kept : KeepsTable f (state_at s f host) (StateOn next)
       kept = subst (KeepsTable f (state_at s f host)) next_on (in_rounds s f host)
 
-      neither : (a b : Bool) → b ≡ false → (a && b) ≡ false
-      neither true b is = is
-      neither false b is = refl
-
       not_now : is_on_and (λ d. hosts_now f d) (state_at s f host) ≡ false
       not_now = ap (is_on_and (λ d. hosts_now f d)) on ∙ ap (λ (t : Tune). hosts_in (rank_of t) f t) tune
-          ∙ neither (r == r) (d == f) (ne_eqb d f (λ same. absurd (omega (arith, later, same))))
+          ∙ not_due r f d later
 
   -- and one with a round
   module _ (f : ℕ) (frame : f < s.frames) (lossless : IsLossless s f) (m : Members s rank f host among) (now : m.due ≡ f)

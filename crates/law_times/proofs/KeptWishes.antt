@@ -1,9 +1,7 @@
 -- The intervals that the streams of a node request: slots and schedules keep them, and the script alone changes them.
-use Rattle.std.proofs.Common.{◌≡◌, ℕ, zero, suc, List, [], ◌∷◌, refl}
-use Rattle.std.specs.List.{slice_index_or}
-use Rattle.std.specs.Prelude.{slice_set}
-use Rattle.lwb_base.specs.Messages.{Schedule}
-use Rattle.bus_rules.specs.Streams.{Stream, Streams, after_contention, no_stream, schedule_heard, stream_at, after_taking, unbound, with_agreed, without_first}
+use Rattle.std.proofs.Common.{◌≡◌, ℕ, zero, suc, List, [], ◌∷◌, refl, slice_set}
+use Rattle.law_times.proofs.Words.{slice_index_or, Schedule, Stream, Streams, after_contention, no_stream, schedule_heard, stream_at, after_taking, unbound}
+use Rattle.law_times.proofs.Words.{with_agreed, without_first}
 use Rattle.bus_terms.proofs.KeptFields as fields
 
 abbrev wish : Stream → ℕ

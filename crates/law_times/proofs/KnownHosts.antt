@@ -1,29 +1,12 @@
 -- Who holds a round knows the host of its plan.
-use Rattle.std.proofs.Common.{◌≡◌, ◌+◌, ◌%◌, ◌&&◌, ◌==◌, ℕ, zero, suc, List, [], ◌∷◌, Bool, true, false, Option, Some, None, if◌then◌else◌, fold}
-use Rattle.std.proofs.Common.{is_none, nat_lt, refl, sym, subst}
-use Rattle.std.proofs.lemmas.Bool.{cond_both, eq-eqb}
-use Rattle.lwb_base.specs.Messages.{Schedule, node_of, stream_of}
-use Rattle.scenario_text.specs.ScenarioParts.{ScenarioParts}
-use Rattle.scenario_text.specs.declared.script.ScriptLine.{ScriptLine}
-use Rattle.bus_rules.specs.declared.act.Act.{Act}
-use Rattle.bus_rules.specs.declared.act.Act.TheVariants.{On, Off, Declare, Leave, Put}
-use Rattle.bus_rules.specs.declared.part.Part.{Part}
-use Rattle.bus_rules.specs.declared.part.Part.TheVariants.{Opening, Data as DataSlot, Contention, Closing}
-use Rattle.bus_rules.specs.declared.tune.Tune.{Tune}
-use Rattle.bus_rules.specs.declared.tune.Tune.TheVariants.{Scan, Hold, Host}
-use Rattle.bus_rules.specs.Cores.{Core, Setup, as_host, begins_host, closing_accepted, frame_ended, is_fresh, opening_accepted}
-use Rattle.bus_rules.specs.Slots.{DataOf, Message, RequestOf, ScheduleOf, closed_slot, host_closes, hosts_now, is_own, opened_slot, silent, slot_heard}
-use Rattle.bus_rules.specs.States.{State, StateOff, StateOn, at_core}
-use Rattle.bus_rules.specs.Streams.{Streams, acknowledged, after_contention, due_stream, after_forgetting, heard_host, is_host, names}
-use Rattle.bus_rules.specs.Streams.{owner_named, schedule_heard, streams_after_act}
-use Rattle.bus_rules.specs.Streams.{after_taking, unbound}
-use Rattle.bus_rules.specs.Tuning.{is_rank, next_tune}
-use Rattle.bus_rules.proofs.Switches.{acts_keep}
-use Rattle.bus_terms.specs.Bus.{before_frame, state_at}
-use Rattle.bus_terms.specs.Rounds.{rounds}
-use Rattle.scenario_text.specs.Setups.{setup_of}
-use Rattle.bus_terms.specs.ScriptedStates.{lines_of, state_after_line, states_after_script}
-use Rattle.bus_terms.proofs.KeptInRounds.{rounds_keep}
+use Rattle.std.proofs.Common.{◌≡◌, ◌+◌, ◌%◌, ◌&&◌, ◌==◌, ℕ, zero, suc, List, [], ◌∷◌, Bool, true, false, Option, Some, None, if◌then◌else◌, fold, is_none}
+use Rattle.std.proofs.Common.{nat_lt, refl, sym, subst}
+use Rattle.law_times.proofs.Words.{cond_both, eq-eqb, Schedule, node_of, stream_of, ScenarioParts, ScriptLine, Act, On, Off, Declare, Leave, Put, Part, Opening}
+use Rattle.law_times.proofs.Words.{DataSlot, Contention, Closing, Tune, Scan, Hold, Host, Core, Setup, as_host, begins_host, closing_accepted, frame_ended}
+use Rattle.law_times.proofs.Words.{is_fresh, opening_accepted, DataOf, Message, RequestOf, ScheduleOf, closed_slot, host_closes, hosts_now, is_own, opened_slot}
+use Rattle.law_times.proofs.Words.{silent, slot_heard, State, StateOff, StateOn, at_core, Streams, acknowledged, after_contention, due_stream, after_forgetting}
+use Rattle.law_times.proofs.Words.{heard_host, is_host, names, owner_named, schedule_heard, streams_after_act, after_taking, unbound, is_rank, next_tune}
+use Rattle.law_times.proofs.Words.{acts_keep, before_frame, state_at, rounds, setup_of, lines_of, state_after_line, states_after_script, rounds_keep}
 
 fold_knows : {A : Type 0} (rank boot : ℕ) (g : Streams → A → Streams) → ((x : Streams) (a : A) → (g x a).host ≡ x.host) → (xs : List A) (x : Streams)
     → is_host x.host rank boot ≡ true → is_host (fold g x xs).host rank boot ≡ true

@@ -1,30 +1,16 @@
 -- The last host that is on hosts its rank within a bound, whatever is lost: nobody else says a schedule.
-use Rattle.std.proofs.Common.{◌≡◌, ◌<◌, ◌≤◌, ◌+◌, ◌-◌, ◌%◌, ℕ, zero, suc, Bool, true, false, Some, inl, inr}
-use Rattle.std.proofs.Common.{length, refl, sym, ◌∙◌, ap, subst, arith}
-use Rattle.std.proofs.lemmas.Bool.{cases_eq, cases_lt, false≢true}
-use Rattle.lwb_base.specs.Messages.{Plan}
-use Rattle.scenario_text.specs.ScenarioGrammar.{IsScenario}
-use Rattle.scenario_text.specs.ScenarioParts.{ScenarioParts}
-use Rattle.scenario_text.specs.ScenarioFacts.{IsSoundScenario}
-use Rattle.scenario_text.proofs.SoundScenarios.{sound}
-use Rattle.bus_rules.specs.declared.tune.Tune.{Tune}
-use Rattle.bus_rules.specs.declared.tune.Tune.TheVariants.{Scan, Hold, Host}
-use Rattle.bus_rules.specs.Cores.{own_rank}
-use Rattle.bus_rules.specs.Tuning.{hosts_in, next_tune, rank_of}
-use Rattle.bus_terms.specs.Bus.{state_at}
-use Rattle.bus_terms.proofs.KeptRanks.{hosted}
-use Rattle.law_times.specs.Failovers.{IsLastHost, HostsWithin, failover_bound}
-use Rattle.law_times.specs.ScriptedPower.{is_on_in, StaysOn}
-use Rattle.law_times.specs.Tunes.{Hosts}
-use Rattle.law_times.proofs.Settings.{idle}
-use Rattle.law_times.proofs.QuietRounds.{hosts_round, host_is_own, set_to_host, by_setting, NobodyHosts, nobody_else}
-use Rattle.law_times.proofs.QuietFrames.{Goes, goes_rank, quiet_frame, script_same}
+use Rattle.std.proofs.Common.{◌≡◌, ◌<◌, ◌≤◌, ◌+◌, ◌-◌, ◌%◌, ℕ, zero, suc, Bool, true, false, Some, inl, inr, length, refl, sym, ◌∙◌, ap, subst, arith}
+use Rattle.law_times.proofs.Words.{cases_eq, cases_lt, false≢true, Plan, IsScenario, ScenarioParts, IsSoundScenario, sound, Tune, Scan, Hold, Host, own_rank}
+use Rattle.law_times.proofs.Words.{hosts_in, next_tune, rank_of, state_at, hosted, IsLastHost, HostsWithin, failover_bound, is_on_in, StaysOn, Hosts}
 use Rattle.law_times.proofs.BootedNodes.{off_throughout}
+use Rattle.law_times.proofs.FramesLeft.{ranks_left, one_less, few_left, left_low, left, is_a_host, hosts_on, goes_on, goes_range}
 use Rattle.law_times.proofs.HostedFrames.{rank_below}
 use Rattle.law_times.proofs.JoinedNodes.{next, host_next}
 use Rattle.law_times.proofs.KeptMembers.{due_host, not_due, host_own}
+use Rattle.law_times.proofs.QuietFrames.{Goes, goes_rank, quiet_frame, script_same}
+use Rattle.law_times.proofs.QuietRounds.{hosts_round, host_is_own, set_to_host, by_setting, NobodyHosts, nobody_else}
+use Rattle.law_times.proofs.Settings.{idle}
 use Rattle.law_times.proofs.TuneSteps.{goes_idle, goes_tuned, hold_falls, holds_on, quiet_step, scan_serves, scan_turns, scans_on}
-use Rattle.law_times.proofs.FramesLeft.{ranks_left, one_less, few_left, left_low, left, is_a_host, hosts_on, goes_on, goes_range}
 
 -- a host that is on stays one
 module _ (s : ScenarioParts) (accepted : IsScenario s) (rank host b e : ℕ) (stays : StaysOn s b e host) where

@@ -1,237 +1,151 @@
 -- Within how many frames a packet that waits is delivered: by each round its stream has been granted what has come due, and each slot takes
 -- one of the packets before it.
-use Rattle.std.proofs.Common.{◌≡◌, ◌<◌, ◌≤◌, ◌+◌, ◌-◌, ◌*◌, ◌/◌, ℕ, zero, suc, List, true, inl, inr, refl, sym, ◌∙◌, ap, subst, arith}
-use Rattle.std.specs.Prelude.{Contains}
-use Rattle.std.proofs.Math.Nat.{mul-le-mul_left, mul-le-mul_right}
-use Rattle.std.proofs.lemmas.Bool.{cases_eq}
-use Rattle.std.proofs.lemmas.Nat.{le-div}
-use Rattle.lwb_base.specs.Messages.{Plan, code}
-use Rattle.scenario_text.specs.ScenarioGrammar.{IsScenario}
-use Rattle.scenario_text.specs.ScenarioParts.{ScenarioParts}
-use Rattle.scenario_text.specs.ScenarioFacts.{IsSoundScenario}
-use Rattle.scenario_text.proofs.SoundScenarios.{sound}
-use Rattle.bus_rules.specs.declared.tune.Tune.TheVariants.{Host}
-use Rattle.bus_rules.specs.Cores.{Core}
-use Rattle.bus_rules.specs.Granting.{count_of}
-use Rattle.bus_rules.specs.States.{StateOn}
-use Rattle.bus_rules.specs.Tables.{TableEntry}
-use Rattle.bus_rules.specs.Tuning.{hosts}
-use Rattle.bus_terms.specs.Bus.{state_at}
-use Rattle.law_times.specs.Paces.{HasEntry, HasSlowStreams, IsOnPace, latency_bound}
-use Rattle.law_times.specs.Queues.{AwaitsSlot, IsDelivered, PacketsComeWithin, StreamPacket}
+use Rattle.std.proofs.Common.{◌≡◌, ◌<◌, ◌≤◌, ◌+◌, ◌-◌, ◌*◌, ◌/◌, ℕ, zero, suc, List, true, inl, inr, refl, sym, ◌∙◌, ap, subst, arith, Contains}
+use Rattle.law_times.proofs.Words.{mul-le-mul_right, cases_eq, le-div, Plan, code, IsScenario, ScenarioParts, sound, Host, Core, count_of, StateOn, TableEntry}
+use Rattle.law_times.proofs.Words.{hosts, state_at, HasEntry, HasSlowStreams, IsOnPace, latency_bound, AwaitsSlot, IsDelivered, PacketsComeWithin, StreamPacket}
+use Rattle.law_times.proofs.CountedSlots.{some, counted}
 use Rattle.law_times.proofs.GrownTables.{IsGrown, NewOr}
-use Rattle.law_times.proofs.HostFrames.{HostBefore, host_before, none_at_first}
-use Rattle.law_times.proofs.KeptMembers.{Members, members_stay, quiet, step, to_members}
-use Rattle.law_times.proofs.LatentSlots.{come_due, keep_pace, some_seconds, spread}
-use Rattle.law_times.proofs.PacedTables.{more_due}
+use Rattle.law_times.proofs.HostFrames.{HostBefore, host_before}
+use Rattle.law_times.proofs.KeptMembers.{Members, members_stay, quiet, step, to_members, host_core}
+use Rattle.law_times.proofs.LatentSlots.{come_due, keep_pace, spread}
 use Rattle.law_times.proofs.PacketFrames.{due_frame, idle_frame, next_frame}
 use Rattle.law_times.proofs.QueuedPackets.{Waits, waits_queued}
 use Rattle.law_times.proofs.QueuedRounds.{code_of_packet}
-use Rattle.law_times.proofs.Settings.{Setting, core_at, idle}
 
--- the slots that a stream has been granted before frame f are those that had come due by then: what is granted more are slots of the next round
-pub record IsCounted (seconds f : ℕ) (owners : List ℕ) (e : TableEntry) : Type 0 where
-  pub accepted : e.accepted < f
-  pub few : e.granted ≤ count_of e.code owners + seconds * (f - 1 - e.accepted) / e.interval
+-- the members and the packet, from frame f to frame e
+module _ (s : ScenarioParts) (accepted : IsScenario s) (slow : HasSlowStreams s) (rank host f e : ℕ) (among : List ℕ) (w : StreamPacket) (ahead : ℕ)
+    (awaits : AwaitsSlot s rank host f e among w ahead) where
+  abbrev M : ℕ → Type 0
+  M x = Members s rank x host among
 
-module _ (s : ScenarioParts) (accepted : IsScenario s) (slow : HasSlowStreams s) where
-  abbrev scenario : IsSoundScenario s
-  scenario = sound s accepted
+  abbrev slots : {x : ℕ} → M x → ℕ
+  slots m = count_of (code_of_packet w) m.plan.owners
 
-  pub some : 0 < s.profile.seconds
-  some = some_seconds s.profile scenario.profile
+  abbrev Arrives : ℕ → Type 0
+  Arrives last = (g : ℕ) × (f ≤ g) × (g ≤ last) × IsDelivered s rank g among w
 
-  before_next : (f a i : ℕ) → 0 < i → s.profile.seconds * (f - 1 - a) / i ≤ s.profile.seconds * (suc f - 1 - a) / i
-  before_next f a i positive = more_due _ _ i positive (mul-le-mul_left s.profile.seconds (omega arith))
+  frame_of : (x : ℕ) → x ≤ e → x < s.frames
+  frame_of x within = (let ends = awaits.ends in omega (arith, within, ends))
 
-  pub counted : (f v : ℕ) (c : Core) → state_at s f v ≡ StateOn c → hosts c.tune ≡ true → (e : TableEntry) → Contains c.table.entries e
-      → IsCounted s.profile.seconds f c.plan.owners e
-  counted zero v c on host e there = absurd (none_at_first s v c on host e there)
-  counted (suc f) v c on host e there = by_due (counted f v)
-    where
-      last : HostBefore s f v c
-      last = host_before s scenario slow some f v c on host e there
-
-      paced : (x : TableEntry) → Contains last.core.table.entries x → IsOnPace s.profile.seconds last.due x
-      paced x among = keep_pace s accepted slow f v last.rank last.due last.core last.on last.tune x among
-
-      idle_still : IsCounted s.profile.seconds f last.core.plan.owners e → f < last.due → IsCounted s.profile.seconds (suc f) c.plan.owners e
-      idle_still before later =
-          let same = last.idle later in
-          let among : Contains last.core.table.entries e = subst (λ (l : List TableEntry). Contains l e) same.0 there in
-          let count : count_of e.code last.core.plan.owners ≡ count_of e.code c.plan.owners = ap (λ (p : Plan). count_of e.code p.owners) (sym same.1) in
-          let pace = (paced e among).slow in
-          let more = before_next f e.accepted e.interval (omega (arith, some, pace)) in
-          let early = before.accepted in
-          let few = before.few in
-          record { accepted = omega (arith, early); few = omega (arith, few, more, count) }
-
-      after_round : IsGrown f last.core.table.entries c.plan.owners e → last.due ≡ f → IsCounted s.profile.seconds (suc f) c.plan.owners e
-      after_round grown now = by_age grown.was
-        where
-          by_age : NewOr f last.core.table.entries grown.before → IsCounted s.profile.seconds (suc f) c.plan.owners e
-          by_age (inl new) =
-              let at = grown.accepted in
-              let granted = grown.granted in
-              record { accepted = omega (arith, at, new.0); few = omega (arith, granted, new.1) }
-          by_age (inr among) =
-              let pace = paced grown.before among in
-              let early = pace.accepted in
-              let at = grown.accepted in
-              let due : s.profile.seconds * (last.due - grown.before.accepted) / grown.before.interval
-              ≡ s.profile.seconds * (suc f - 1 - e.accepted) / e.interval =
-              ap (λ (d : ℕ). s.profile.seconds * (d - grown.before.accepted) / grown.before.interval) now
-              ∙ ap (λ (a : ℕ). s.profile.seconds * (f - a) / grown.before.interval) at
-              ∙ ap (λ (i : ℕ). s.profile.seconds * (f - e.accepted) / i) grown.interval
-              ∙ ap (λ (m : ℕ). s.profile.seconds * (m - e.accepted) / e.interval) (let same : f ≡ suc f - 1 = omega arith in same) in
-              let was = pace.granted in
-              let granted = grown.granted in
-              record { accepted = omega (arith, early, at, now); few = omega (arith, granted, was, due) }
-
-      by_due : ((d : Core) → state_at s f v ≡ StateOn d → hosts d.tune ≡ true → (x : TableEntry) → Contains d.table.entries x
-          → IsCounted s.profile.seconds f d.plan.owners x) → IsCounted s.profile.seconds (suc f) c.plan.owners e
-      by_due earlier = elim (cases_eq last.due f) [
-        | inl now ↦ after_round (last.grown now e there) now
-        | inr other ↦
-            (let low = last.low in
-            let later : f < last.due = omega (arith, low, other) in
-            let among : Contains last.core.table.entries e = subst (λ (l : List TableEntry). Contains l e) (last.idle later).0 there in
-            idle_still (earlier last.core last.on (ap hosts last.tune) e among) later)
+  -- by its plan the next round has a slot for it
+  in_next : (more x k : ℕ) → f ≤ x → (m : M x) → x + more ≡ m.due → m.due ≤ e → k < slots m → Waits w k (state_at s x w.node)
+      → IsDelivered s rank m.due among w
+  in_next zero x k after m at within less is =
+      let now : m.due ≡ x = omega (arith, at) in
+      elim (due_frame s accepted rank host f e among awaits.group w awaits.stream awaits.there awaits.stays x k
+      (frame_of x (omega (arith, within, now))) (awaits.lossless x after (omega (arith, within, now))) m now is) [
+        | inl delivered ↦ subst (λ (g : ℕ). IsDelivered s rank g among w) (sym now) delivered
+        | inr up ↦ (let moved = up.moved in absurd (omega (arith, moved, less)))
       ]
+  in_next (suc more) x k after m at within less is =
+      let later : x < m.due = omega (arith, at) in
+      let next = quiet s accepted rank host f e among awaits.group x after (omega (arith, later, within)) m later in
+      let still = idle_frame s accepted rank host f e among awaits.group w awaits.stream awaits.there awaits.stays x k after
+      (omega (arith, later, within)) m later is in
+      subst (λ (g : ℕ). IsDelivered s rank g among w) next.1
+      (in_next more (suc x) k (omega (arith, after)) next.0 (let same = next.1 in omega (arith, at, same)) (let same = next.1 in omega (arith, within, same))
+      (subst (λ (p : Plan). k < count_of (code_of_packet w) p.owners) (sym next.2) less) still)
 
-  -- the members and the packet, from frame f to frame e
-  module _ (rank host f e : ℕ) (among : List ℕ) (w : StreamPacket) (ahead : ℕ) (awaits : AwaitsSlot s rank host f e among w ahead) where
-    abbrev M : ℕ → Type 0
-    M x = Members s rank x host among
+  -- the host of members by its core
+  known_host : (x : ℕ) (m : M x) (c : Core) → state_at s x host ≡ StateOn c → (c.tune ≡ Host rank m.due) × (c.plan ≡ m.plan)
+  known_host x m c on =
+      let d = host_core s rank x host among m in
+      let same : StateOn c ≡ StateOn d.0 = sym on ∙ d.1 in
+      let core : c ≡ d.0 = cc in
+      (ap (λ (k : Core). k.tune) core ∙ d.2, ap (λ (k : Core). k.plan) core ∙ d.3)
 
-    abbrev slots : {x : ℕ} → M x → ℕ
-    slots m = count_of (code_of_packet w) m.plan.owners
+  same_due : (r d q n : ℕ) → Host r d ≡ Host q n → d ≡ n
+  same_due r d q n is = cc
 
-    abbrev Arrives : ℕ → Type 0
-    Arrives last = (g : ℕ) × (f ≤ g) × (g ≤ last) × IsDelivered s rank g among w
+  -- from an entry of the host's table in frame x on: where not more is to be granted than this, the packet arrives in time
+  module _ (bound last : ℕ) (within : last ≤ e) (target : TableEntry) (early : target.accepted < f) (of_packet : target.code ≡ code_of_packet w) where
+    pub record FromHere (x : ℕ) : Type 0 where
+      pub core : Core
+      pub on : state_at s x host ≡ StateOn core
+      pub host_tune : hosts core.tune ≡ true
+      pub entry : TableEntry
+      pub there : Contains core.table.entries entry
+      pub code_is : entry.code ≡ target.code
+      pub interval_is : entry.interval ≡ target.interval
+      pub accepted_is : entry.accepted ≡ target.accepted
+      pub arrives : (m : M x) (k : ℕ) → Waits w k (state_at s x w.node) → k + entry.granted ≤ bound + slots m → Arrives last
 
-    frame_of : (x : ℕ) → x ≤ e → x < s.frames
-    frame_of x within = (let ends = awaits.ends in omega (arith, within, ends))
+    back : (x : ℕ) → f ≤ x → suc x ≤ last → FromHere (suc x) → FromHere x
+    back x after soon here = elim (cases_eq before.due x) [ inl now ↦ in_round now (before.grown now here.entry here.there) | inr other ↦ quietly other ]
+      where
+        before : HostBefore s x host here.core
+        before = host_before s (sound s accepted) slow (some s accepted slow) x host here.core here.on here.host_tune here.entry here.there
 
-    -- by its plan the next round has a slot for it
-    in_next : (more x k : ℕ) → f ≤ x → (m : M x) → x + more ≡ m.due → m.due ≤ e → k < slots m → Waits w k (state_at s x w.node)
-        → IsDelivered s rank m.due among w
-    in_next zero x k after m at within less is =
-        let now : m.due ≡ x = omega (arith, at) in
-        elim (due_frame s accepted rank host f e among awaits.group w awaits.stream awaits.there awaits.stays x k
-        (frame_of x (omega (arith, within, now))) (awaits.lossless x after (omega (arith, within, now))) m now is) [
-          | inl delivered ↦ subst (λ (g : ℕ). IsDelivered s rank g among w) (sym now) delivered
-          | inr up ↦ (let moved = up.moved in absurd (omega (arith, moved, less)))
-        ]
-    in_next (suc more) x k after m at within less is =
-        let later : x < m.due = omega (arith, at) in
-        let next = quiet s accepted rank host f e among awaits.group x after (omega (arith, later, within)) m later in
-        let still = idle_frame s accepted rank host f e among awaits.group w awaits.stream awaits.there awaits.stays x k after
-        (omega (arith, later, within)) m later is in
-        subst (λ (g : ℕ). IsDelivered s rank g among w) next.1
-        (in_next more (suc x) k (omega (arith, after)) next.0 (let same = next.1 in omega (arith, at, same)) (let same = next.1 in omega (arith, within, same))
-        (subst (λ (p : Plan). k < count_of (code_of_packet w) p.owners) (sym next.2) less) still)
+        due_is : (m : M x) → before.due ≡ m.due
+        due_is m = same_due before.rank before.due rank m.due (sym before.tune ∙ (known_host x m before.core before.on).0)
 
-    -- the host of members by its core
-    host_core : (x : ℕ) (m : M x) (c : Core) → state_at s x host ≡ StateOn c → (c.tune ≡ Host rank m.due) × (c.plan ≡ m.plan)
-    host_core x m c on =
-        let d = core_at (state_at s x host) (idle (Host rank m.due) m.plan) m.hosts in
-        let same : StateOn c ≡ StateOn d.0 = sym on ∙ d.1 in
-        let core : c ≡ d.0 = cc in
-        (ap (λ (k : Core). k.tune) core ∙ ap (λ (k : Setting). k.tune) d.2, ap (λ (k : Core). k.plan) core ∙ ap (λ (k : Setting). k.plan) d.2)
+        quietly : (before.due ≡ x → ⊥) → FromHere x
+        quietly other = record {
+          core = before.core;
+          on = before.on;
+          host_tune = ap hosts before.tune;
+          entry = here.entry;
+          there = subst (λ (l : List TableEntry). Contains l here.entry) (before.idle later).0 here.there;
+          code_is = here.code_is;
+          interval_is = here.interval_is;
+          accepted_is = here.accepted_is;
+          arrives = λ m k is few. go m k is few;
+        }
+          where
+            later : x < before.due
+            later = (let low = before.low in omega (arith, low, other))
 
-    same_due : (r d q n : ℕ) → Host r d ≡ Host q n → d ≡ n
-    same_due r d q n is = cc
+            go : (m : M x) (k : ℕ) → Waits w k (state_at s x w.node) → k + here.entry.granted ≤ bound + slots m → Arrives last
+            go m k is few =
+                let due = due_is m in
+                let behind : x < m.due = omega (arith, later, due) in
+                let next = quiet s accepted rank host f e among awaits.group x after (omega (arith, soon, within)) m behind in
+                let still = idle_frame s accepted rank host f e among awaits.group w awaits.stream awaits.there awaits.stays x k after
+                (omega (arith, soon, within)) m behind is in
+                here.arrives next.0 k still
+                (subst (λ (p : Plan). k + here.entry.granted ≤ bound + count_of (code_of_packet w) p.owners) (sym next.2) few)
 
-    -- from an entry of the host's table in frame x on: where not more is to be granted than this, the packet arrives in time
-    module _ (bound last : ℕ) (within : last ≤ e) (target : TableEntry) (early : target.accepted < f) (of_packet : target.code ≡ code_of_packet w) where
-      pub record FromHere (x : ℕ) : Type 0 where
-        pub core : Core
-        pub on : state_at s x host ≡ StateOn core
-        pub host_tune : hosts core.tune ≡ true
-        pub entry : TableEntry
-        pub there : Contains core.table.entries entry
-        pub code_is : entry.code ≡ target.code
-        pub interval_is : entry.interval ≡ target.interval
-        pub accepted_is : entry.accepted ≡ target.accepted
-        pub arrives : (m : M x) (k : ℕ) → Waits w k (state_at s x w.node) → k + entry.granted ≤ bound + slots m → Arrives last
+        in_round : before.due ≡ x → IsGrown x before.core.table.entries here.core.plan.owners here.entry → FromHere x
+        in_round now grown = by_age grown.was
+          where
+            go : (m : M x) (k : ℕ) → Waits w k (state_at s x w.node) → k + grown.before.granted ≤ bound + slots m → Arrives last
+            go m k is few =
+                let due = due_is m in
+                let at : m.due ≡ x = omega (arith, due, now) in
+                let lossless = awaits.lossless x after (omega (arith, soon, within)) in
+                elim (due_frame s accepted rank host f e among awaits.group w awaits.stream awaits.there awaits.stays x k
+                (frame_of x (omega (arith, soon, within))) lossless m at is) [
+                  | inl delivered ↦ (x, after, omega (arith, soon), delivered)
+                  | inr up ↦
+                      (let next = step s accepted rank host f e among awaits.group x after (omega (arith, soon, within)) lossless m in
+                      let still = next_frame s accepted rank host f e among awaits.group w awaits.stream awaits.there awaits.stays x up.left after
+                      (omega (arith, soon, within)) up.waits in
+                      let moved = up.moved in
+                      let granted = grown.granted in
+                      let count : count_of here.entry.code here.core.plan.owners ≡ slots next =
+                      ap (λ (c : ℕ). count_of c here.core.plan.owners) (here.code_is ∙ of_packet)
+                      ∙ ap (λ (p : Plan). count_of (code_of_packet w) p.owners) (known_host (suc x) next here.core here.on).1 in
+                      here.arrives next up.left still (omega (arith, moved, granted, count, few)))
+                ]
 
-      back : (x : ℕ) → f ≤ x → suc x ≤ last → FromHere (suc x) → FromHere x
-      back x after soon here = elim (cases_eq before.due x) [ inl now ↦ in_round now (before.grown now here.entry here.there) | inr other ↦ quietly other ]
-        where
-          before : HostBefore s x host here.core
-          before = host_before s scenario slow some x host here.core here.on here.host_tune here.entry here.there
+            by_age : NewOr x before.core.table.entries grown.before → FromHere x
+            by_age (inl new) = (let at = grown.accepted in let same = here.accepted_is in absurd (omega (arith, new.0, at, same, early, after)))
+            by_age (inr among_then) = record {
+              core = before.core;
+              on = before.on;
+              host_tune = ap hosts before.tune;
+              entry = grown.before;
+              there = among_then;
+              code_is = grown.code ∙ here.code_is;
+              interval_is = grown.interval ∙ here.interval_is;
+              accepted_is = grown.accepted ∙ here.accepted_is;
+              arrives = go;
+            }
 
-          due_is : (m : M x) → before.due ≡ m.due
-          due_is m = same_due before.rank before.due rank m.due (sym before.tune ∙ (host_core x m before.core before.on).0)
-
-          quietly : (before.due ≡ x → ⊥) → FromHere x
-          quietly other = record {
-            core = before.core;
-            on = before.on;
-            host_tune = ap hosts before.tune;
-            entry = here.entry;
-            there = subst (λ (l : List TableEntry). Contains l here.entry) (before.idle later).0 here.there;
-            code_is = here.code_is;
-            interval_is = here.interval_is;
-            accepted_is = here.accepted_is;
-            arrives = λ m k is few. go m k is few;
-          }
-            where
-              later : x < before.due
-              later = (let low = before.low in omega (arith, low, other))
-
-              go : (m : M x) (k : ℕ) → Waits w k (state_at s x w.node) → k + here.entry.granted ≤ bound + slots m → Arrives last
-              go m k is few =
-                  let due = due_is m in
-                  let behind : x < m.due = omega (arith, later, due) in
-                  let next = quiet s accepted rank host f e among awaits.group x after (omega (arith, soon, within)) m behind in
-                  let still = idle_frame s accepted rank host f e among awaits.group w awaits.stream awaits.there awaits.stays x k after
-                  (omega (arith, soon, within)) m behind is in
-                  here.arrives next.0 k still
-                  (subst (λ (p : Plan). k + here.entry.granted ≤ bound + count_of (code_of_packet w) p.owners) (sym next.2) few)
-
-          in_round : before.due ≡ x → IsGrown x before.core.table.entries here.core.plan.owners here.entry → FromHere x
-          in_round now grown = by_age grown.was
-            where
-              go : (m : M x) (k : ℕ) → Waits w k (state_at s x w.node) → k + grown.before.granted ≤ bound + slots m → Arrives last
-              go m k is few =
-                  let due = due_is m in
-                  let at : m.due ≡ x = omega (arith, due, now) in
-                  let lossless = awaits.lossless x after (omega (arith, soon, within)) in
-                  elim (due_frame s accepted rank host f e among awaits.group w awaits.stream awaits.there awaits.stays x k
-                  (frame_of x (omega (arith, soon, within))) lossless m at is) [
-                    | inl delivered ↦ (x, after, omega (arith, soon), delivered)
-                    | inr up ↦
-                        (let next = step s accepted rank host f e among awaits.group x after (omega (arith, soon, within)) lossless m in
-                        let still = next_frame s accepted rank host f e among awaits.group w awaits.stream awaits.there awaits.stays x up.left after
-                        (omega (arith, soon, within)) up.waits in
-                        let moved = up.moved in
-                        let granted = grown.granted in
-                        let count : count_of here.entry.code here.core.plan.owners ≡ slots next =
-                        ap (λ (c : ℕ). count_of c here.core.plan.owners) (here.code_is ∙ of_packet)
-                        ∙ ap (λ (p : Plan). count_of (code_of_packet w) p.owners) (host_core (suc x) next here.core here.on).1 in
-                        here.arrives next up.left still (omega (arith, moved, granted, count, few)))
-                  ]
-
-              by_age : NewOr x before.core.table.entries grown.before → FromHere x
-              by_age (inl new) = (let at = grown.accepted in let same = here.accepted_is in absurd (omega (arith, new.0, at, same, early, after)))
-              by_age (inr among_then) = record {
-                core = before.core;
-                on = before.on;
-                host_tune = ap hosts before.tune;
-                entry = grown.before;
-                there = among_then;
-                code_is = grown.code ∙ here.code_is;
-                interval_is = grown.interval ∙ here.interval_is;
-                accepted_is = grown.accepted ∙ here.accepted_is;
-                arrives = go;
-              }
-
-      pub far_back : (n x : ℕ) → f ≤ x → n + x ≤ last → FromHere (n + x) → FromHere x
-      far_back zero x after soon here = subst FromHere (omega arith) here
-      far_back (suc n) x after soon here =
-          far_back n x after (omega (arith, soon)) (back (n + x) (omega (arith, after)) (omega (arith, soon)) (subst FromHere (omega arith) here))
+    pub far_back : (n x : ℕ) → f ≤ x → n + x ≤ last → FromHere (n + x) → FromHere x
+    far_back zero x after soon here = subst FromHere (omega arith) here
+    far_back (suc n) x after soon here =
+        far_back n x after (omega (arith, soon)) (back (n + x) (omega (arith, after)) (omega (arith, soon)) (subst FromHere (omega arith) here))
 
 -- each slot needs a frame at least
 pub some_frames : (queue interval seconds : ℕ) → 0 < queue → 0 < seconds → seconds ≤ interval → 1 ≤ (queue * interval + seconds - 1) / seconds
@@ -284,7 +198,7 @@ module _ (queue interval seconds : ℕ) (s : ScenarioParts) (accepted : IsScenar
 
   same_due_is : due ≡ members.due
   same_due_is = same_due s accepted slow rank host f end among w ahead awaits has_entry.rank due rank members.due
-      (sym has_entry.tune ∙ (host_core s accepted slow rank host f end among w ahead awaits x members has_entry.core has_entry.on).0)
+      (sym has_entry.tune ∙ (known_host s accepted slow rank host f end among w ahead awaits x members has_entry.core has_entry.on).0)
 
   abbrev before : ℕ
   before = sec * (f - 1 - e.accepted) / e.interval
@@ -328,8 +242,8 @@ module _ (queue interval seconds : ℕ) (s : ScenarioParts) (accepted : IsScenar
       comes m k is few =
           let due_now : m.due ≡ members.due =
           same_due s accepted slow rank host f end among w ahead awaits rank m.due rank members.due
-          (sym (host_core s accepted slow rank host f end among w ahead awaits x m has_entry.core has_entry.on).0
-          ∙ (host_core s accepted slow rank host f end among w ahead awaits x members has_entry.core has_entry.on).0) in
+          (sym (known_host s accepted slow rank host f end among w ahead awaits x m has_entry.core has_entry.on).0
+          ∙ (known_host s accepted slow rank host f end among w ahead awaits x members has_entry.core has_entry.on).0) in
           let range = m.range in
           let gap : ℕ = m.due - x in
           let least = more in
@@ -346,7 +260,7 @@ module _ (queue interval seconds : ℕ) (s : ScenarioParts) (accepted : IsScenar
       far_back s accepted slow rank host f end among w ahead awaits (ahead + before) members.due in_time e early of_packet n f (omega arith)
       (omega (arith, is, range)) (subst Here (sym is) there) in
       let m = to_members s accepted rank host f end among awaits.group f awaits.members in
-      let owners = (host_core s accepted slow rank host f end among w ahead awaits f m back.core back.on).1 in
+      let owners = (known_host s accepted slow rank host f end among w ahead awaits f m back.core back.on).1 in
       let counted_now = counted s accepted slow f host back.core back.on back.host_tune back.entry back.there in
       let few = counted_now.few in
       let count : count_of back.entry.code back.core.plan.owners ≡ count_of (code_of_packet w) m.plan.owners =

@@ -1,23 +1,9 @@
 -- What is owed always fits, and within how many frames a number of slots has come.
-use Rattle.std.proofs.Common.{◌≡◌, ◌<◌, ◌≤◌, ◌+◌, ◌-◌, ◌*◌, ◌/◌, ℕ, suc, List, [], ◌∷◌, true, inl, inr, sym, ◌∙◌, ap, subst, arith}
-use Rattle.std.specs.Prelude.{Contains}
-use Rattle.std.proofs.Math.Nat.{add-mul-div_right, lt-mul-div-succ, mul-le-mul_left, mul-suc}
-use Rattle.lwb_base.proofs.Elements.{contains_cases, not_in_none}
-use Rattle.lwb_base.specs.Profile.{IsProfile, Numbers}
-use Rattle.scenario_text.proofs.SoundScenarios.{sound}
-use Rattle.bus_rules.specs.declared.tune.Tune.{Tune}
-use Rattle.bus_rules.specs.Cores.{Core}
-use Rattle.bus_rules.specs.Granting.{gap_of, total}
-use Rattle.bus_rules.specs.Plans.{last_slot}
-use Rattle.bus_rules.specs.Tables.{TableEntry}
-use Rattle.bus_rules.specs.Tuning.{hosts_in}
-use Rattle.bus_terms.specs.HostedRounds.{node_before}
-use Rattle.bus_terms.proofs.HostedRounds.{leads}
-use Rattle.law_service.specs.FirstSlots.{table_at}
+use Rattle.std.proofs.Common.{◌≡◌, ◌<◌, ◌≤◌, ◌+◌, ◌-◌, ◌*◌, ◌/◌, ℕ, suc, List, [], ◌∷◌, true, inl, inr, sym, ◌∙◌, ap, subst, arith, Contains}
 use Rattle.law_service.proofs.FirstRounds.{due_is}
-use Rattle.law_service.proofs.GrantedSlots.{round_gap}
-use Rattle.law_service.proofs.LoneRequests.{same_core}
-use Rattle.law_times.specs.Paces.{IsOnPace, OwedAlwaysFits, SlotsComeWithin, StreamsKeepPace, latency_bound}
+use Rattle.law_times.proofs.Words.{add-mul-div_right, lt-mul-div-succ, mul-le-mul_left, mul-suc, contains_cases, not_in_none, IsProfile, Numbers, sound, Tune}
+use Rattle.law_times.proofs.Words.{Core, gap_of, total, last_slot, TableEntry, hosts_in, node_before, leads, table_at, round_gap, same_core, IsOnPace}
+use Rattle.law_times.proofs.Words.{OwedAlwaysFits, SlotsComeWithin, StreamsKeepPace, latency_bound}
 use Rattle.law_times.proofs.PacedHosts.{Keeps, KeepsPace, PacedBy, asked_paced, paced_now}
 use Rattle.law_times.proofs.PacedRuns.{at_frame, at_slot}
 use Rattle.law_times.proofs.PacedTables.{Each, Paced, fits, more_due}

@@ -1,32 +1,12 @@
 -- What a round leaves of a node that took part in it, whatever is lost: its tune, or the next round of its host.
-use Rattle.std.proofs.Common.{◌≡◌, ◌<◌, ◌≤◌, ◌+◌, ◌==◌, ℕ, Bool, true, false, Option, Some, None, if◌then◌else◌, inl, inr}
-use Rattle.std.proofs.Common.{is_some, refl, sym, ◌∙◌, ap, subst, arith, add-one}
-use Rattle.std.specs.Prelude.{◌⊎◌}
-use Rattle.std.proofs.lemmas.Bool.{false≢true, cond-false, ne_eqb}
-use Rattle.lwb_base.specs.Messages.{Plan, Schedule}
-use Rattle.scenario_text.specs.ScenarioGrammar.{IsScenario}
-use Rattle.scenario_text.specs.ScenarioParts.{ScenarioParts}
-use Rattle.scenario_text.specs.ScenarioFacts.{IsSoundScenario}
-use Rattle.scenario_text.proofs.SoundScenarios.{sound}
-use Rattle.bus_rules.specs.declared.part.Part.{Part}
-use Rattle.bus_rules.specs.declared.part.Part.TheVariants.{Closing}
-use Rattle.bus_rules.specs.declared.tune.Tune.{Tune}
-use Rattle.bus_rules.specs.declared.tune.Tune.TheVariants.{Hold, Host}
-use Rattle.bus_rules.specs.Cores.{Core, Setup, closing_accepted, is_member, opening_accepted, schedule_accepted}
-use Rattle.bus_rules.specs.HostPlans.{HostPlan, host_plan}
-use Rattle.bus_rules.specs.Plans.{last_slot}
-use Rattle.bus_rules.specs.Slots.{DataOf, Message, Opened, RequestOf, ScheduleOf, closed_slot, host_closes, hosts_now, opened_slot, part_of, silent}
-use Rattle.bus_rules.specs.States.{State, StateOff, StateOn}
-use Rattle.bus_rules.specs.Tuning.{hosts_in, rank_of}
-use Rattle.bus_rules.proofs.Ranks.{member_hosts, planned_rank, same_schedule}
-use Rattle.bus_terms.specs.Bus.{state_at}
-use Rattle.bus_terms.specs.HostedRounds.{IsHosted, slot_in}
-use Rattle.bus_terms.specs.Rounds.{accepted_at, before_slot, closed_slot_of, left_by, opened_at, rank_in, rounds}
-use Rattle.scenario_text.specs.Setups.{setup_of}
-use Rattle.bus_terms.specs.ScriptedStates.{is_on_and}
-use Rattle.bus_terms.proofs.HostedRounds.{Hosting, closing_last, closing_opens, has_planned, heard_from, leads, sole_host}
-use Rattle.bus_terms.proofs.HostsOfRanks.{due_rank}
-use Rattle.law_service.proofs.LoneRequests.{same_core}
+use Rattle.std.proofs.Common.{◌≡◌, ◌<◌, ◌≤◌, ◌+◌, ◌==◌, ℕ, Bool, true, false, Option, Some, None, if◌then◌else◌, inl, inr, is_some, refl, sym, ◌∙◌, ap, subst}
+use Rattle.std.proofs.Common.{arith, add-one, ◌⊎◌}
+use Rattle.law_times.proofs.Words.{false≢true, cond-false, ne_eqb, Plan, Schedule, IsScenario, ScenarioParts, IsSoundScenario, sound, Part, Closing, Tune, Hold}
+use Rattle.law_times.proofs.Words.{Host, Core, Setup, closing_accepted, is_member, opening_accepted, schedule_accepted, HostPlan, host_plan, last_slot, DataOf}
+use Rattle.law_times.proofs.Words.{Message, Opened, RequestOf, ScheduleOf, closed_slot, host_closes, hosts_now, opened_slot, part_of, silent, State, StateOff}
+use Rattle.law_times.proofs.Words.{StateOn, hosts_in, rank_of, member_hosts, planned_rank, same_schedule, state_at, IsHosted, slot_in, accepted_at, before_slot}
+use Rattle.law_times.proofs.Words.{closed_slot_of, left_by, opened_at, rank_in, rounds, setup_of, is_on_and, Hosting, closing_last, closing_opens, has_planned}
+use Rattle.law_times.proofs.Words.{heard_from, leads, sole_host, due_rank, same_core}
 use Rattle.law_times.proofs.EarlyTunes.{tunes_stay}
 use Rattle.law_times.proofs.HostedFrames.{is_hosted, plan_gap, rounds_are}
 use Rattle.law_times.proofs.JoinedNodes.{next, same_round, there_rank}

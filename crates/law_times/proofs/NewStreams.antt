@@ -1,18 +1,13 @@
 -- A stream that the host has not agreed to stays so, with its packets: by schedules that name nothing of its node, by contention slots, and by
 -- packets that are put.
 use Rattle.std.proofs.Common.{◌≡◌, ◌≢◌, ◌≤◌, ◌+◌, ◌-◌, ◌==◌, ◌&&◌, ◌||◌, ℕ, zero, suc, List, [], ◌∷◌, ◌++◌, Bool, true, false, not, inl, inr, Some}
-use Rattle.std.proofs.Common.{if◌then◌else◌, fold, is_none, is_some, length, map, nat_lt, refl, sym, ◌∙◌, ap, subst, arith}
-use Rattle.std.specs.List.{find, list_any, slice_index_or}
-use Rattle.std.specs.Prelude.{slice_set}
-use Rattle.std.proofs.lemmas.Bool.{cases_eq, cond_both, cond-true, cond-false, false≢true, ne_eqb, or_cases, eqb-true}
-use Rattle.lwb_base.specs.Messages.{Ask, Schedule, node_of}
-use Rattle.bus_rules.specs.Streams.{Stream, Streams, WaitingPacket, acknowledged, after_contention, due_stream, after_forgetting, forgotten}
-use Rattle.bus_rules.specs.Streams.{heard_host, is_host, names}
-use Rattle.bus_rules.specs.Streams.{no_stream, owner_named, after_put, put_to, queued, refuses, request_is_due, schedule_heard, stream_at, has_due_request}
-use Rattle.bus_terms.specs.Flooding.{has}
-use Rattle.law_times.specs.Contentions.{IsNew}
-use Rattle.law_times.proofs.ContentionTurnsOfTwo.{backoff_of, one_turn, turn}
+use Rattle.std.proofs.Common.{if◌then◌else◌, fold, is_none, is_some, length, map, nat_lt, refl, sym, ◌∙◌, ap, subst, arith, slice_set, Option}
+use Rattle.law_times.proofs.Words.{find, list_any, slice_index_or, cases_eq, cond_both, cond-true, cond-false, false≢true, ne_eqb, or_cases, eqb-true, Ask}
+use Rattle.law_times.proofs.Words.{Schedule, node_of, Stream, Streams, WaitingPacket, acknowledged, after_contention, due_stream, after_forgetting, forgotten}
+use Rattle.law_times.proofs.Words.{heard_host, is_host, names, no_stream, owner_named, after_put, put_to, queued, refuses, request_is_due, schedule_heard}
+use Rattle.law_times.proofs.Words.{stream_at, has_due_request, has, IsNew, or_parts, Core}
 use Rattle.bus_terms.proofs.KeptFields as fields
+use Rattle.law_times.proofs.Backoffs.{backoff_of, one_turn, turn, Backoff}
 
 -- its request is due
 found : (p : ℕ → Bool) (xs : List ℕ) (i : ℕ) → has xs i ≡ true → p i ≡ true → is_some (find p xs) ≡ true
@@ -65,22 +60,14 @@ same_streams x i = record { tries = refl; skips = refl; host = refl; new = λ ne
 acked_none : (node boot f : ℕ) (acks : List Ask) (x : Streams) → list_any (names node boot) acks ≡ false → fold (acknowledged node boot f) x acks ≡ x
 acked_none node boot f [] x none = refl
 acked_none node boot f (a ∷ acks) x none =
-    let both = neither (names node boot a) (list_any (names node boot) acks) none in
+    let both = or_parts (names node boot a) (list_any (names node boot) acks) none in
     ap (λ (y : Streams). fold (acknowledged node boot f) y acks) (cond-false (names node boot a) _ x both.0) ∙ acked_none node boot f acks x both.1
-  where
-    neither : (a b : Bool) → (a || b) ≡ false → (a ≡ false) × (b ≡ false)
-    neither true b none = absurd (false≢true (sym none))
-    neither false b none = (refl, none)
 
 owned_none : (node f : ℕ) (owners : List ℕ) (x : Streams) → list_any (λ c. node_of c == node) owners ≡ false → fold (owner_named node f) x owners ≡ x
 owned_none node f [] x none = refl
 owned_none node f (c ∷ owners) x none =
-    let both = neither (node_of c == node) (list_any (λ c. node_of c == node) owners) none in
+    let both = or_parts (node_of c == node) (list_any (λ c. node_of c == node) owners) none in
     ap (λ (y : Streams). fold (owner_named node f) y owners) (cond-false (node_of c == node) _ x both.0) ∙ owned_none node f owners x both.1
-  where
-    neither : (a b : Bool) → (a || b) ≡ false → (a ≡ false) × (b ≡ false)
-    neither true b none = absurd (false≢true (sym none))
-    neither false b none = (refl, none)
 
 heard_is : (node boot f : ℕ) (y : Schedule) (x : Streams) → is_host x.host y.plan.rank y.plan.boot ≡ true → list_any (names node boot) y.plan.acks ≡ false
     → list_any (λ c. node_of c == node) y.plan.owners ≡ false → schedule_heard node boot f y x ≡ (if y.gap == 0 then x else after_forgetting f x)
@@ -141,6 +128,13 @@ turned_new node x i new =
           (λ _. cond_both (x.skips == 0) _ _ (λ (z : Streams). z.host ≡ x.host) (λ _. refl) (λ _. refl)),
     )
 
+-- a stream itself, or the one that is put in its place
+pub exchanged : (xs : List Stream) (k : ℕ) (y : Stream) (P : Stream → Type 0) → P (slice_index_or xs k no_stream) → P y
+    → P (slice_index_or (slice_set xs k y) k no_stream)
+exchanged [] k y P was new = was
+exchanged (z ∷ zs) zero y P was new = new
+exchanged (z ∷ zs) (suc k) y P was new = exchanged zs k y P was new
+
 -- a packet that is put
 pub put_goes : (j : ℕ) (payload : List ℕ) (x : Streams) (i : ℕ) → GoesOn x (after_put j payload x) i
 put_goes j payload x i = record {
@@ -160,13 +154,6 @@ put_goes j payload x i = record {
   ];
 }
   where
-    -- the stream itself, or the one that is put in its place
-    exchanged : (xs : List Stream) (k : ℕ) (y : Stream) → (P : Stream → Type 0) → P (slice_index_or xs k no_stream) → P y
-        → P (slice_index_or (slice_set xs k y) k no_stream)
-    exchanged [] k y P was new = was
-    exchanged (z ∷ zs) zero y P was new = new
-    exchanged (z ∷ zs) (suc k) y P was new = exchanged zs k y P was new
-
     added : (y : Stream) → ((put_to payload y).wish ≡ y.wish) × ((put_to payload y).agreed ≡ y.agreed) × (y.queue ≢ [] → (put_to payload y).queue ≢ [])
     added y = cond_both (refuses y) y (queued payload y) (λ (z : Stream). (z.wish ≡ y.wish) × (z.agreed ≡ y.agreed) × (y.queue ≢ [] → z.queue ≢ []))
         (λ _. (refl, refl, λ some. some)) (λ _. (refl, refl, λ some. longer (record { seq = y.next; payload = payload }) y.queue))
@@ -184,3 +171,19 @@ put_goes j payload x i = record {
           agreed = exchanged x.all k (put_to payload (stream_at x k)) (λ z. z.agreed ≡ 0) new.agreed (more.1 ∙ new.agreed);
           waits = exchanged x.all k (put_to payload (stream_at x k)) (λ z. z.queue ≢ []) new.waits (more.2 new.waits);
         }
+
+-- a node in this boot, with a request due of this stream, and this backoff, that knows the host
+pub record AsksCore (boot i rank host_boot : ℕ) (b : Backoff) (c : Core) : Type 0 where
+  pub booted : c.boot ≡ boot
+  pub new : IsNew c.streams i
+  pub backoff : backoff_of c.streams ≡ b
+  pub knows : is_host c.streams.host rank host_boot ≡ true
+
+pub asks_on : (boot i rank host_boot : ℕ) (b : Backoff) (c d : Core) → d.boot ≡ c.boot → GoesOn c.streams d.streams i
+    → AsksCore boot i rank host_boot b c → AsksCore boot i rank host_boot b d
+asks_on boot i rank host_boot b c d same goes is = record {
+  booted = same ∙ is.booted;
+  new = goes.new is.new;
+  backoff = ap (λ (t : ℕ). (t, d.streams.skips)) goes.tries ∙ ap (λ (k : ℕ). (c.streams.tries, k)) goes.skips ∙ is.backoff;
+  knows = ap (λ (h : Option (ℕ × ℕ)). is_host h rank host_boot) goes.host ∙ is.knows;
+}

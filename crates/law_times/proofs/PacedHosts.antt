@@ -1,28 +1,13 @@
 -- Each host keeps its streams on pace, if no stream of the scenario asks for an interval below a frame: the requests that it keeps are
 -- as slow, and what it plans is on pace at its next round.
-use Rattle.std.proofs.Common.{◌≡◌, ◌<◌, ◌+◌, ◌*◌, ◌==◌, ℕ, List, [], ◌∷◌, ◌++◌, Bool, true, false, Option, Some, None, if◌then◌else◌}
-use Rattle.std.proofs.Common.{fold, nat_lt, option_map, refl, sym, subst}
-use Rattle.std.proofs.lemmas.Bool.{and_parts, cond_both, eqb-true, false≢true}
-use Rattle.lwb_base.specs.Messages.{Ask, node_of, stream_of}
-use Rattle.lwb_base.specs.Profile.{Numbers}
-use Rattle.bus_rules.specs.declared.part.Part.{Part}
-use Rattle.bus_rules.specs.declared.part.Part.TheVariants.{Opening, Data as DataSlot, Contention, Closing}
-use Rattle.bus_rules.specs.declared.tune.Tune.{Tune}
-use Rattle.bus_rules.specs.declared.tune.Tune.TheVariants.{Scan, Hold, Host}
-use Rattle.bus_rules.specs.Cores.{Core, Setup, as_host, begins_host, closing_accepted, frame_ended, is_fresh, opening_accepted}
-use Rattle.bus_rules.specs.Granting.{plan_round}
-use Rattle.bus_rules.specs.HostPlans.{Answered, Served, answer, answers_to, host_plan, put_if, serve, served}
-use Rattle.bus_rules.specs.Plans.{opening}
-use Rattle.bus_rules.specs.Slots.{DataOf, Message, RequestOf, ScheduleOf, closed_slot, host_closes, hosts_now, is_own, opened_slot, owner_heard, request_of}
-use Rattle.bus_rules.specs.Slots.{silent}
-use Rattle.bus_rules.specs.Slots.{slot_heard}
-use Rattle.bus_rules.specs.States.{State, StateOff, StateOn}
-use Rattle.bus_rules.specs.Streams.{Streams, request_is_due, requested, schedule_heard, stream_at, after_taking}
-use Rattle.bus_rules.specs.Streams.{with_agreed}
-use Rattle.bus_rules.specs.Tables.{TableEntry, Table, interval_of}
-use Rattle.bus_rules.specs.Tuning.{hosts_in, next_tune, rank_of}
-use Rattle.bus_terms.proofs.ContentionSlots.{only_data}
-use Rattle.law_service.proofs.GrantedSlots.{round_gap}
+use Rattle.std.proofs.Common.{◌≡◌, ◌<◌, ◌+◌, ◌*◌, ◌==◌, ℕ, List, [], ◌∷◌, ◌++◌, Bool, true, false, Option, Some, None, if◌then◌else◌, fold, nat_lt, option_map}
+use Rattle.std.proofs.Common.{refl, sym, subst}
+use Rattle.law_times.proofs.Words.{and_parts, cond_both, eqb-true, false≢true, Ask, node_of, stream_of, Numbers, Part, Opening, DataSlot, Contention, Closing}
+use Rattle.law_times.proofs.Words.{Tune, Scan, Hold, Host, Core, Setup, as_host, begins_host, closing_accepted, frame_ended, is_fresh, opening_accepted}
+use Rattle.law_times.proofs.Words.{plan_round, Answered, Served, answer, answers_to, host_plan, put_if, serve, served, opening, DataOf, Message, RequestOf}
+use Rattle.law_times.proofs.Words.{ScheduleOf, closed_slot, host_closes, hosts_now, is_own, opened_slot, owner_heard, request_of, silent, slot_heard, State}
+use Rattle.law_times.proofs.Words.{StateOff, StateOn, Streams, request_is_due, requested, schedule_heard, stream_at, after_taking, with_agreed, TableEntry}
+use Rattle.law_times.proofs.Words.{Table, interval_of, hosts_in, next_tune, rank_of, only_data, round_gap}
 use Rattle.law_times.proofs.KeptWishes.{agreed_keeps, contention_keeps, heard_keeps, taken_keeps, unbound_keeps}
 use Rattle.law_times.proofs.PacedTables.{IsSlow, Paced, after_asked, after_heard, after_missed, none_paced, planned}
 

@@ -1,27 +1,13 @@
 -- What a host keeps on pace stays so along a run: the script asks for no faster stream, and rounds and ends of frames keep it.
-use Rattle.std.proofs.Common.{◌≡◌, ◌<◌, ◌+◌, ◌&&◌, ◌||◌, ◌==◌, ℕ, zero, suc, List, [], ◌∷◌, Bool, true, false, if◌then◌else◌}
-use Rattle.std.proofs.Common.{inl, inr}
-use Rattle.std.proofs.Common.{filter, fold, refl, sym, ◌∙◌, ap}
-use Rattle.std.specs.List.{list_any}
-use Rattle.std.proofs.lemmas.Bool.{false≢true, ltb-false}
-use Rattle.lwb_base.specs.Messages.{Plan}
-use Rattle.scenario_text.specs.ScenarioParts.{ScenarioParts}
-use Rattle.scenario_text.specs.declared.script.ScriptLine.{ScriptLine}
-use Rattle.bus_rules.specs.declared.act.Act.{Act}
-use Rattle.bus_rules.specs.declared.act.Act.TheVariants.{On, Off, Declare, Leave, Put}
-use Rattle.bus_rules.specs.Cores.{Core, booted, frame_ended}
-use Rattle.bus_rules.specs.States.{State, StateOff, StateOn, at_core, state_after_act}
-use Rattle.bus_rules.specs.Streams.{Stream, cleared, emptied, put_to, queued, refuses, stream_at}
-use Rattle.bus_rules.specs.Streams.{wishes, with_stream}
-use Rattle.bus_terms.specs.Bus.{before_frame, state_at}
-use Rattle.bus_terms.specs.Rounds.{before_slot, rounds}
-use Rattle.scenario_text.specs.Setups.{setup_of}
-use Rattle.bus_terms.specs.ScriptedStates.{lines_of, state_after_line, states_after_script}
-use Rattle.bus_terms.proofs.KeptInRounds.{rounds_keep, slots_keep}
-use Rattle.law_times.specs.Paces.{HasSlowStreams, is_fast}
+use Rattle.std.proofs.Common.{◌≡◌, ◌<◌, ◌+◌, ◌&&◌, ◌||◌, ◌==◌, ℕ, zero, suc, List, [], ◌∷◌, Bool, true, false, if◌then◌else◌, inl, inr, filter, fold, refl, ◌∙◌}
+use Rattle.std.proofs.Common.{ap}
+use Rattle.law_times.proofs.Words.{list_any, ltb-false, Plan, ScenarioParts, ScriptLine, Act, On, Off, Declare, Leave, Put, Core, booted, frame_ended, State}
+use Rattle.law_times.proofs.Words.{StateOff, StateOn, at_core, state_after_act, Stream, cleared, emptied, put_to, queued, refuses, stream_at, wishes}
+use Rattle.law_times.proofs.Words.{with_stream, before_frame, state_at, before_slot, rounds, setup_of, lines_of, state_after_line, states_after_script}
+use Rattle.law_times.proofs.Words.{rounds_keep, slots_keep, HasSlowStreams, is_fast, or_parts}
 use Rattle.law_times.proofs.KeptWishes.{set_wish}
-use Rattle.law_times.proofs.PacedTables.{IsSlow}
 use Rattle.law_times.proofs.PacedHosts.{AsksSlowly, Keeps, KeepsPace, closes, ends, opens, says, slow_same}
+use Rattle.law_times.proofs.PacedTables.{IsSlow}
 
 -- script lines
 module _ (seconds : ℕ) where
@@ -64,21 +50,13 @@ module _ (seconds : ℕ) where
   lines : (ls : List ScriptLine) (x : State) → list_any (λ l. is_fast seconds l.act) ls ≡ false → Keeps seconds x → Keeps seconds (fold state_after_line x ls)
   lines [] x slow is = is
   lines (l ∷ ls) x slow is =
-      (let both = neither (is_fast seconds l.act) (list_any (λ l. is_fast seconds l.act) ls) slow in
+      (let both = or_parts (is_fast seconds l.act) (list_any (λ l. is_fast seconds l.act) ls) slow in
       lines ls (state_after_line x l) both.1 (acts l.act x both.0 is))
-    where
-      neither : (a b : Bool) → (a || b) ≡ false → (a ≡ false) × (b ≡ false)
-      neither true b none = absurd (false≢true (sym none))
-      neither false b none = (refl, none)
 
 none_kept : (p keep : ScriptLine → Bool) (ls : List ScriptLine) → list_any p ls ≡ false → list_any p (filter keep ls) ≡ false
 none_kept p keep [] none = refl
-none_kept p keep (l ∷ ls) none = by_test (keep l) (neither (p l) (list_any p ls) none) (none_kept p keep ls)
+none_kept p keep (l ∷ ls) none = by_test (keep l) (or_parts (p l) (list_any p ls) none) (none_kept p keep ls)
   where
-    neither : (a b : Bool) → (a || b) ≡ false → (a ≡ false) × (b ≡ false)
-    neither true b none = absurd (false≢true (sym none))
-    neither false b none = (refl, none)
-
     by_test : (b : Bool) → (p l ≡ false) × (list_any p ls ≡ false) → (list_any p ls ≡ false → list_any p (filter keep ls) ≡ false)
         → list_any p (if b then l ∷ filter keep ls else filter keep ls) ≡ false
     by_test true both rest = ap (λ (b : Bool). b || list_any p (filter keep ls)) both.0 ∙ rest both.1

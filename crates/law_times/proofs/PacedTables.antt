@@ -1,35 +1,22 @@
 -- Tables of a host whose streams keep pace: what requests, data slots and grants leave of them.
 use Rattle.std.proofs.Common.{◌≡◌, ◌≢◌, ◌<◌, ◌≤◌, ◌+◌, ◌-◌, ◌*◌, ◌/◌, ◌==◌, ◌&&◌, ℕ, suc, List, [], ◌∷◌, Bool, true, false, not, Option, Some, None, inl, inr}
-use Rattle.std.proofs.Common.{if◌then◌else◌, filter, filter_map, is_none, length, map, nat_le, nat_lt, sum_by, refl, sym, ◌∙◌, ap, subst, arith}
-use Rattle.std.specs.List.{cons_option}
-use Rattle.std.specs.Prelude.{◌⊎◌}
-use Rattle.std.proofs.Math.Nat.{div-eq_of_lt, div-lt_iff_lt-mul, div-mul-le_self, lt-div-mul-add, mul-le-mul_left, mul-suc}
-use Rattle.std.proofs.lemmas.Nat.{le-div}
-use Rattle.std.proofs.lemmas.List.{length-map}
-use Rattle.std.proofs.lemmas.Bool.{cases_eq, cases_lt, cond_both, eq-eqb, le-ltb, cond-true, cond-false, eqb-false, false≢true, le-leb, leb-true, ltb-true}
-use Rattle.std.proofs.lemmas.Bool.{ne_eqb}
-use Rattle.std.proofs.lemmas.List.Sums.{sum_by-cons}
-use Rattle.bus_rules.specs.Granting.{Grants, gap_of, given, grant, granted_by, grants_for, last_code, owed_to, plan_round, share_in, total}
-use Rattle.bus_rules.specs.Tables.{AreEntries, EntriesAreAbove, EntriesAscend, TableEntry, Table, after_request, entry_after_data, entry_of, has_code, is_full}
-use Rattle.bus_rules.specs.Tables.{missed, new_entry}
-use Rattle.bus_rules.specs.Tables.{with_entry, without}
-use Rattle.lwb_base.specs.Messages.{Ask, code_of}
+use Rattle.std.proofs.Common.{if◌then◌else◌, filter, filter_map, is_none, length, map, nat_le, nat_lt, sum_by, refl, sym, ◌∙◌, ap, subst, arith, ◌⊎◌}
 use Rattle.stream_table.proofs.Order.{ascends_map, ascends_with, none_above}
 use Rattle.stream_table.proofs.Changes.{grant_keeps, heard_kept, missed_kept, removed_kept}
-use Rattle.law_times.specs.Paces.{IsOnPace}
+use Rattle.law_times.proofs.Words.{cons_option, div-eq_of_lt, div-lt_iff_lt-mul, div-mul-le_self, lt-div-mul-add, mul-le-mul_left, mul-suc, le-div, length-map}
+use Rattle.law_times.proofs.Words.{cases_eq, cases_lt, cond_both, eq-eqb, le-ltb, cond-true, cond-false, eqb-false, false≢true, le-leb, leb-true, ltb-true}
+use Rattle.law_times.proofs.Words.{ne_eqb, sum_by-cons, Grants, gap_of, given, grant, granted_by, grants_for, last_code, owed_to, plan_round, share_in, total}
+use Rattle.law_times.proofs.Words.{AreEntries, EntriesAreAbove, EntriesAscend, TableEntry, Table, after_request, entry_after_data, entry_of, has_code, is_full}
+use Rattle.law_times.proofs.Words.{missed, new_entry, with_entry, without, Ask, code_of, IsOnPace}
 
 abbrev pub Each : (TableEntry → Type 0) → List TableEntry → Type 0
 Each P [] = Unit {0}
 Each P (e ∷ es) = P e × Each P es
 
-each_map : (P : TableEntry → Type 0) (f : TableEntry → TableEntry) → ((e : TableEntry) → P e → P (f e)) → (es : List TableEntry) → Each P es → Each P (map f es)
-each_map P f keeps [] all = tt
-each_map P f keeps (e ∷ es) all = (keeps e all.0, each_map P f keeps es all.1)
-
-each_map_to : (P Q : TableEntry → Type 0) (f : TableEntry → TableEntry) → ((e : TableEntry) → P e → Q (f e)) → (es : List TableEntry) → Each P es
+each_map : (P Q : TableEntry → Type 0) (f : TableEntry → TableEntry) → ((e : TableEntry) → P e → Q (f e)) → (es : List TableEntry) → Each P es
     → Each Q (map f es)
-each_map_to P Q f keeps [] all = tt
-each_map_to P Q f keeps (e ∷ es) all = (keeps e all.0, each_map_to P Q f keeps es all.1)
+each_map P Q f keeps [] all = tt
+each_map P Q f keeps (e ∷ es) all = (keeps e all.0, each_map P Q f keeps es all.1)
 
 each_filter : (P : TableEntry → Type 0) (test : TableEntry → Bool) (es : List TableEntry) → Each P es → Each P (filter test es)
 each_filter P test [] all = tt
@@ -174,7 +161,7 @@ module _ (seconds f : ℕ) (some : 0 < seconds) (t : Table) (paced : Paced secon
               (arith, same, few));
           ascends = ascends_map (grant owes) t.entries (grant_keeps owes) paced.entries.ascends;
         };
-        pace = each_map_to (IsOnPace seconds f) (IsOnPace seconds (f + gap)) (grant owes) grants t.entries paced.pace;
+        pace = each_map (IsOnPace seconds f) (IsOnPace seconds (f + gap)) (grant owes) grants t.entries paced.pace;
       })
 
 -- a request, in the frame in which the table is on pace
@@ -227,7 +214,7 @@ after_asked seconds f t a slow paced =
 pub after_heard : (seconds d c : ℕ) (es : List TableEntry) → Paced seconds d es → Paced seconds d (map (entry_after_data c) es)
 after_heard seconds d c es paced = record {
   entries = heard_kept es (map (entry_after_data c) es) c paced.entries refl;
-  pace = each_map (IsOnPace seconds d) (entry_after_data c) (λ e is. record { accepted = is.accepted; slow = is.slow; granted = is.granted }) es paced.pace;
+  pace = each_map (IsOnPace seconds d) (IsOnPace seconds d) (entry_after_data c) (λ e is. record { accepted = is.accepted; slow = is.slow; granted = is.granted }) es paced.pace;
 }
 
 pub after_missed : (seconds d c : ℕ) (es : List TableEntry) → Paced seconds d es → Paced seconds d (filter_map (missed c) es)

@@ -1,39 +1,17 @@
 -- A frame at a member with packets waiting, as long as nothing is lost: in the round of its rank each data slot of the stream takes one,
 -- and in any other frame all stay.
-use Rattle.std.proofs.Common.{◌≡◌, ◌<◌, ◌≤◌, ◌+◌, ◌==◌, ◌&&◌, ◌||◌, ℕ, suc, List, Bool, true, false, Option, Some, None, inl, inr}
-use Rattle.std.proofs.Common.{refl, sym, ◌∙◌, ap, subst, arith}
-use Rattle.std.specs.Prelude.{◌⊎◌}
-use Rattle.std.proofs.lemmas.Bool.{cases_eq, eq-eqb, ne_eqb}
-use Rattle.lwb_base.specs.Messages.{Plan}
-use Rattle.scenario_text.specs.ScenarioGrammar.{IsScenario}
-use Rattle.scenario_text.specs.ScenarioParts.{ScenarioParts}
-use Rattle.scenario_text.specs.ScenarioFacts.{IsSoundScenario}
-use Rattle.scenario_text.proofs.SoundScenarios.{sound}
-use Rattle.bus_rules.specs.declared.tune.Tune.{Tune}
-use Rattle.bus_rules.specs.declared.tune.Tune.TheVariants.{Hold, Host}
-use Rattle.bus_rules.specs.Cores.{Core, is_fresh, is_member}
-use Rattle.bus_rules.specs.Granting.{count_of}
-use Rattle.bus_rules.specs.Plans.{last_slot}
-use Rattle.bus_rules.specs.States.{State, StateOff, StateOn}
-use Rattle.bus_rules.specs.Tuning.{hosts_in, holds_in, rank_of, scans}
-use Rattle.bus_terms.specs.Bus.{before_frame, state_at}
-use Rattle.bus_terms.specs.Flooding.{has}
-use Rattle.bus_terms.specs.HostedRounds.{IsHosted, state_after_round}
-use Rattle.bus_terms.specs.Rounds.{after_round, rank_in, round_plan, rounds}
-use Rattle.scenario_text.specs.Setups.{setup_of}
-use Rattle.bus_terms.specs.ScriptedStates.{lines_of}
-use Rattle.bus_terms.proofs.HostedRounds.{Hosting, begins}
-use Rattle.law_service.proofs.LosslessSlots.{lose_nothing}
-use Rattle.law_times.specs.Queues.{IsDelivered, StreamPacket, leaves}
-use Rattle.law_times.specs.Reaches.{IsGroup, IsLossless}
-use Rattle.law_times.specs.ScriptedPower.{has_line, turns_off}
+use Rattle.std.proofs.Common.{◌≡◌, ◌<◌, ◌≤◌, ◌+◌, ◌==◌, ◌&&◌, ◌||◌, ℕ, suc, List, Bool, true, false, Option, Some, None, inl, inr, refl, sym, ◌∙◌, ap, subst}
+use Rattle.std.proofs.Common.{arith, ◌⊎◌}
+use Rattle.law_times.proofs.Words.{cases_eq, eq-eqb, ne_eqb, Plan, IsScenario, ScenarioParts, IsSoundScenario, sound, Tune, Hold, Host, Core, is_fresh}
+use Rattle.law_times.proofs.Words.{is_member, count_of, last_slot, State, StateOff, StateOn, hosts_in, holds_in, rank_of, scans, state_at, has, IsHosted}
+use Rattle.law_times.proofs.Words.{state_after_round, after_round, rank_in, round_plan, rounds, Hosting, begins, lose_nothing, IsDelivered, StreamPacket}
+use Rattle.law_times.proofs.Words.{leaves, IsGroup, IsLossless, has_line}
 use Rattle.law_times.proofs.HostedFrames.{is_hosted, rank_below, rounds_are}
 use Rattle.law_times.proofs.JoinedNodes.{no_lines}
 use Rattle.law_times.proofs.KeptMembers.{Members, due_host, host_own}
-use Rattle.law_times.proofs.QuietFrames.{none_in_frame}
-use Rattle.law_times.proofs.QuietRounds.{by_setting, hosts_round, set_to_host}
-use Rattle.law_times.proofs.QueuedPackets.{Waits, end_waits, lines_wait}
+use Rattle.law_times.proofs.QueuedPackets.{Waits, next_waits}
 use Rattle.law_times.proofs.QueuedRounds.{all_slots, closing_same, code_of_packet, round_idle, whole_round}
+use Rattle.law_times.proofs.QuietRounds.{by_setting, hosts_round, set_to_host}
 use Rattle.law_times.proofs.SentPackets.{delivers}
 use Rattle.law_times.proofs.Settings.{Setting, core_at, idle, setting_tune, tune_of}
 
@@ -52,39 +30,29 @@ member_tune s rank f host among m v there = elim (cases_eq v host) [
   | inr other ↦ (Hold rank m.due, setting_tune (state_at s f v) (Hold rank m.due) m.plan (m.hold v there other), inr refl)
 ]
 
+member_by : (rank f due : ℕ) (t : Tune) → IsMemberTune rank due t → (d : Core) → d.tune ≡ t → is_member rank f d ≡ (due == f)
+member_by rank f due t is d at = elim is [
+  | inl host ↦
+      ap (λ (t : Tune). hosts_in rank f t || holds_in rank f t || (scans rank t && is_fresh d)) (at ∙ host)
+      ∙ rw (eq-eqb rank rank refl) (as_host (due == f) (is_fresh d))
+  | inr hold ↦
+      ap (λ (t : Tune). hosts_in rank f t || holds_in rank f t || (scans rank t && is_fresh d)) (at ∙ hold)
+      ∙ rw (eq-eqb rank rank refl) (as_member (due == f) (is_fresh d))
+]
+  where
+    as_host : (b x : Bool) → (b || false || (false && x)) ≡ b
+    as_host true x = refl
+    as_host false x = refl
+
+    as_member : (b x : Bool) → (false || b || (false && x)) ≡ b
+    as_member true x = refl
+    as_member false x = refl
+
 pub is_due : (rank f due : ℕ) (t : Tune) → IsMemberTune rank due t → due ≡ f → (d : Core) → d.tune ≡ t → is_member rank f d ≡ true
-is_due rank f due t (inl host) now d is =
-    let at : d.tune ≡ Host rank due = is ∙ host in
-    ap (λ (t : Tune). hosts_in rank f t || holds_in rank f t || (scans rank t && is_fresh d)) at
-    ∙ ap (λ (b : Bool). b || false || (false && is_fresh d)) (both (rank == rank) (due == f) (eq-eqb rank rank refl) (eq-eqb due f now))
-  where
-    both : (a b : Bool) → a ≡ true → b ≡ true → (a && b) ≡ true
-    both a b first second = rw (first, second) refl
-is_due rank f due t (inr hold) now d is =
-    let at : d.tune ≡ Hold rank due = is ∙ hold in
-    ap (λ (t : Tune). hosts_in rank f t || holds_in rank f t || (scans rank t && is_fresh d)) at
-    ∙ ap (λ (b : Bool). false || b || (false && is_fresh d)) (both (rank == rank) (due == f) (eq-eqb rank rank refl) (eq-eqb due f now))
-  where
-    both : (a b : Bool) → a ≡ true → b ≡ true → (a && b) ≡ true
-    both a b first second = rw (first, second) refl
+is_due rank f due t member now d is = member_by rank f due t member d is ∙ eq-eqb due f now
 
 pub is_idle : (rank f due : ℕ) (t : Tune) → IsMemberTune rank due t → f < due → (d : Core) → d.tune ≡ t → is_member rank f d ≡ false
-is_idle rank f due t (inl host) later d is =
-    let at : d.tune ≡ Host rank due = is ∙ host in
-    ap (λ (t : Tune). hosts_in rank f t || holds_in rank f t || (scans rank t && is_fresh d)) at
-    ∙ ap (λ (b : Bool). b || false || (false && is_fresh d)) (neither (rank == rank) (due == f) (ne_eqb due f (λ same. absurd (omega (arith, later, same)))))
-  where
-    neither : (a b : Bool) → b ≡ false → (a && b) ≡ false
-    neither true b is = is
-    neither false b is = refl
-is_idle rank f due t (inr hold) later d is =
-    let at : d.tune ≡ Hold rank due = is ∙ hold in
-    ap (λ (t : Tune). hosts_in rank f t || holds_in rank f t || (scans rank t && is_fresh d)) at
-    ∙ ap (λ (b : Bool). false || b || (false && is_fresh d)) (neither (rank == rank) (due == f) (ne_eqb due f (λ same. absurd (omega (arith, later, same)))))
-  where
-    neither : (a b : Bool) → b ≡ false → (a && b) ≡ false
-    neither true b is = is
-    neither false b is = refl
+is_idle rank f due t member later d is = member_by rank f due t member d is ∙ ne_eqb due f (λ same. absurd (omega (arith, later, same)))
 
 rank_of_tune : (rank due : ℕ) (x : State) (t : Tune) → tune_of x ≡ Some t → IsMemberTune rank due t → rank_in x ≡ rank
 rank_of_tune rank due (StateOff boots) t is member = absurd (cc)
@@ -117,12 +85,7 @@ module _ (s : ScenarioParts) (accepted : IsScenario s) (rank host b e : ℕ) (am
 
   -- up to the script lines of the next frame
   pub next_frame : (f k : ℕ) → b ≤ f → suc f ≤ e → Waits w k (rounds s f (state_at s f) w.node) → Waits w k (state_at s (suc f) w.node)
-  unfolding before_frame
-  next_frame f k after within is =
-      lines_wait w k (lines_of s (suc f) w.node) (before_frame s (suc f) w.node)
-      (none_in_frame turns_off s b e w.node (suc f) (group.stay w.node there) (omega (arith, after)) within)
-      (none_in_frame (leaves w.stream) s b e w.node (suc f) stays (omega (arith, after)) within)
-      (end_waits w k (setup_of s w.node) f (rounds s f (state_at s f) w.node) is)
+  next_frame f k after within is = next_waits w k s b e f (group.stay w.node there) stays after within is
 
   -- a frame without a round of the rank
   pub idle_frame : (f k : ℕ) → b ≤ f → suc f ≤ e → (m : Members s rank f host among) → f < m.due → Waits w k (state_at s f w.node)

@@ -1,25 +1,14 @@
 -- The packets that wait at a node: its own data slots take the first of a queue, the script adds to the end, and nothing else changes it.
-use Rattle.std.proofs.Common.{◌≡◌, ◌≢◌, ◌≤◌, ◌==◌, ◌||◌, ℕ, zero, suc, List, [], ◌∷◌, ◌++◌, Bool, true, false}
-use Rattle.std.proofs.Common.{inl, inr, Option, Some, None, if◌then◌else◌, drop, fold, slice_get, refl, sym, ◌∙◌, ap, subst, arith}
-use Rattle.std.specs.List.{list_any, slice_index_or}
-use Rattle.std.specs.Prelude.{slice_set}
-use Rattle.std.proofs.lemmas.Bool.{cases_eq, cond_both, eqb-true, eq-eqb, eqb-false, false≢true}
-use Rattle.lwb_base.specs.Messages.{code, node_of, stream_of}
-use Rattle.scenario_text.specs.declared.script.ScriptLine.{ScriptLine}
-use Rattle.bus_rules.specs.declared.act.Act.{Act}
-use Rattle.bus_rules.specs.declared.act.Act.TheVariants.{On, Off, Declare, Leave, Put}
-use Rattle.bus_rules.specs.declared.part.Part.{Part}
-use Rattle.bus_rules.specs.declared.part.Part.TheVariants.{Opening, Data as DataSlot, Contention, Closing}
-use Rattle.bus_rules.specs.Cores.{Core, Setup, as_host, begins_host, closing_accepted, frame_ended, is_fresh, opening_accepted}
-use Rattle.bus_rules.specs.Slots.{DataOf, Message, RequestOf, ScheduleOf, closed_slot, host_closes, hosts_now, is_own, opened_slot, silent, slot_heard}
-use Rattle.bus_rules.specs.States.{State, StateOff, StateOn, at_core, state_after_act}
-use Rattle.bus_rules.specs.Streams.{Stream, WaitingPacket, after_contention, emptied, no_stream, put_to, queued, refuses, stream_at, after_taking}
-use Rattle.bus_rules.specs.Streams.{wishes, with_stream, without_first}
-use Rattle.bus_rules.specs.Tuning.{next_tune, rank_of}
-use Rattle.bus_terms.specs.ScriptedStates.{state_after_line}
-use Rattle.law_times.specs.Queues.{IsQueued, StreamPacket, leaves}
-use Rattle.law_times.specs.ScriptedPower.{turns_off}
+use Rattle.std.proofs.Common.{◌≡◌, ◌≢◌, ◌≤◌, ◌==◌, ℕ, zero, suc, List, [], ◌∷◌, ◌++◌, Bool, true, false, inl, inr, Option, Some, None, if◌then◌else◌, drop}
+use Rattle.std.proofs.Common.{slice_get, refl, sym, ◌∙◌, ap, subst, arith, slice_set}
+use Rattle.law_times.proofs.Words.{slice_index_or, cases_eq, cond_both, eqb-true, eq-eqb, eqb-false, false≢true, code, node_of, stream_of, Act, On, Off}
+use Rattle.law_times.proofs.Words.{Declare, Leave, Put, Part, Opening, DataSlot, Contention, Closing, Core, Setup, as_host, begins_host, closing_accepted}
+use Rattle.law_times.proofs.Words.{frame_ended, is_fresh, opening_accepted, DataOf, Message, RequestOf, ScheduleOf, closed_slot, host_closes, hosts_now, is_own}
+use Rattle.law_times.proofs.Words.{opened_slot, silent, slot_heard, State, StateOff, StateOn, at_core, Stream, WaitingPacket, after_contention, emptied}
+use Rattle.law_times.proofs.Words.{no_stream, put_to, queued, refuses, stream_at, after_taking, wishes, with_stream, without_first, next_tune, rank_of}
+use Rattle.law_times.proofs.Words.{IsQueued, StreamPacket, leaves, core_after_act, ScenarioParts, StaysOn, has_line, rounds, state_at, setup_of}
 use Rattle.bus_terms.proofs.KeptFields as fields
+use Rattle.law_times.proofs.KeptCores.{OnWith, next_keeps}
 
 abbrev pub queue : Stream → List WaitingPacket
 queue x = x.queue
@@ -28,12 +17,6 @@ queue x = x.queue
 pub record KeepsQueues (c d : Core) : Type 0 where
   pub boot : d.boot ≡ c.boot
   pub queues : (i : ℕ) → (stream_at d.streams i).queue ≡ (stream_at c.streams i).queue
-
-pub same_queues : (c : Core) → KeepsQueues c c
-same_queues c = record { boot = refl; queues = λ i. refl }
-
-pub queues_both : (a b c : Core) → KeepsQueues a b → KeepsQueues b c → KeepsQueues a c
-queues_both a b c first second = record { boot = second.boot ∙ first.boot; queues = λ i. second.queues i ∙ first.queues i }
 
 -- a data slot of this stream of a node
 abbrev pub is_slot_of : ℕ → Part → Bool
@@ -141,8 +124,7 @@ module _ (q : Setup) (f : ℕ) where
 
 -- the packet waits at a node in this state, behind so many others
 abbrev pub Waits : StreamPacket → ℕ → State → Type 0
-Waits w k (StateOff boots) = ⊥
-Waits w k (StateOn c) = (c.boot ≡ w.boot) × (slice_get (stream_at c.streams w.stream).queue k ≡ Some w.packet)
+Waits w k = OnWith (λ c. (c.boot ≡ w.boot) × (slice_get (stream_at c.streams w.stream).queue k ≡ Some w.packet))
 
 pub waits_queued : (w : StreamPacket) (k : ℕ) (x : State) → IsQueued x w k → Waits w k x
 waits_queued w k x is = subst (Waits w k) (sym is.on) (is.boot, is.place)
@@ -189,17 +171,13 @@ module _ (w : StreamPacket) (k : ℕ) where
       at_own (y ∷ ys) zero there new = new
       at_own (y ∷ ys) (suc i) there new = at_own ys i there new
 
-  act_waits : (a : Act) (x : State) → turns_off a ≡ false → leaves w.stream a ≡ false → Waits w k x → Waits w k (state_after_act a x)
-  act_waits On (StateOff boots) stays keeps is = absurd is
-  act_waits On (StateOn c) stays keeps is = is
-  act_waits Off x stays keeps is = absurd (false≢true (sym stays))
-  act_waits (Declare i interval) (StateOff boots) stays keeps is = is
-  act_waits (Declare i interval) (StateOn c) stays keeps is = exchanged c i (wishes interval (stream_at c.streams i)) (λ same there. there) is
-  act_waits (Leave i) (StateOff boots) stays keeps is = is
-  act_waits (Leave i) (StateOn c) stays keeps is =
+  act_waits : (a : Act) (c : Core) → leaves w.stream a ≡ false → Waits w k (StateOn c) → Waits w k (StateOn (core_after_act a c))
+  act_waits On c keeps is = is
+  act_waits Off c keeps is = is
+  act_waits (Declare i interval) c keeps is = exchanged c i (wishes interval (stream_at c.streams i)) (λ same there. there) is
+  act_waits (Leave i) c keeps is =
       exchanged c i (emptied (stream_at c.streams i)) (λ same there. absurd (false≢true (sym keeps ∙ eq-eqb i w.stream same))) is
-  act_waits (Put i payload) (StateOff boots) stays keeps is = is
-  act_waits (Put i payload) (StateOn c) stays keeps is = exchanged c i (put_to payload (stream_at c.streams i)) (λ same there. added there) is
+  act_waits (Put i payload) c keeps is = exchanged c i (put_to payload (stream_at c.streams i)) (λ same there. added there) is
     where
       added : slice_get (stream_at c.streams i).queue k ≡ Some w.packet → slice_get (put_to payload (stream_at c.streams i)).queue k ≡ Some w.packet
       added there =
@@ -207,19 +185,13 @@ module _ (w : StreamPacket) (k : ℕ) where
           (λ (y : Stream). slice_get y.queue k ≡ Some w.packet) (λ _. there)
           (λ _. still_there (stream_at c.streams i).queue _ k w.packet there)
 
-  pub lines_wait : (ls : List ScriptLine) (x : State) → list_any (λ l. turns_off l.act) ls ≡ false → list_any (λ l. leaves w.stream l.act) ls ≡ false
-      → Waits w k x → Waits w k (fold state_after_line x ls)
-  lines_wait [] x stays keeps is = is
-  lines_wait (l ∷ ls) x stays keeps is =
-      let on = neither (turns_off l.act) (list_any (λ l. turns_off l.act) ls) stays in
-      let kept = neither (leaves w.stream l.act) (list_any (λ l. leaves w.stream l.act) ls) keeps in
-      lines_wait ls (state_after_line x l) on.1 kept.1 (act_waits l.act x on.0 kept.0 is)
+  -- the end of a frame, and the script lines of the next one
+  pub next_waits : (s : ScenarioParts) (b e f : ℕ) → StaysOn s b e w.node → has_line (leaves w.stream) s b e w.node ≡ false → b ≤ f → suc f ≤ e
+      → Waits w k (rounds s f (state_at s f) w.node) → Waits w k (state_at s (suc f) w.node)
+  next_waits s b e f stays keeps after within is =
+      next_keeps (λ c. (c.boot ≡ w.boot) × (slice_get (stream_at c.streams w.stream).queue k ≡ Some w.packet)) (leaves w.stream) act_waits s b e w.node f
+      stays keeps after within (ended (rounds s f (state_at s f) w.node) is)
     where
-      neither : (a b : Bool) → (a || b) ≡ false → (a ≡ false) × (b ≡ false)
-      neither true b none = absurd (false≢true (sym none))
-      neither false b none = (refl, none)
-
-  -- the end of a frame
-  pub end_waits : (q : Setup) (f : ℕ) (x : State) → Waits w k x → Waits w k (at_core (frame_ended q f) x)
-  end_waits q f (StateOff boots) is = is
-  end_waits q f (StateOn c) is = waits_same c (frame_ended q f c) w k (ended_same q f c) is
+      ended : (x : State) → Waits w k x → Waits w k (at_core (frame_ended (setup_of s w.node) f) x)
+      ended (StateOff boots) is = is
+      ended (StateOn c) is = waits_same c (frame_ended (setup_of s w.node) f c) w k (ended_same (setup_of s w.node) f c) is

@@ -1,27 +1,10 @@
 -- A round at a member with packets waiting: each data slot of a stream takes the first of its queue.
-use Rattle.std.proofs.Common.{◌≡◌, ◌<◌, ◌≤◌, ◌+◌, ◌-◌, ◌==◌, ℕ, zero, suc, List, Bool, true, false, inl, inr, Option, Some, None, if◌then◌else◌}
-use Rattle.std.proofs.Common.{get_or, is_some, length, nat_le, nat_lt, slice_get, slice_index, take, refl, sym, ◌∙◌, ap, subst, arith}
-use Rattle.std.specs.Prelude.{◌⊎◌}
-use Rattle.std.proofs.lemmas.Bool.{cases_Bool, cond-true, cond-false, false≢true, le-leb, lt-leb, ne_eqb, eqb-true, eqb-false}
-use Rattle.std.proofs.lemmas.List.Sums.{count_by_more_no, count_by_more_yes}
-use Rattle.std.proofs.lemmas.List.{take_all}
-use Rattle.lwb_base.specs.Messages.{Plan, code}
-use Rattle.scenario_text.specs.ScenarioParts.{ScenarioParts}
-use Rattle.bus_rules.specs.declared.part.Part.{Part}
-use Rattle.bus_rules.specs.declared.part.Part.TheVariants.{Opening, Data as DataSlot, Contention, Closing}
-use Rattle.bus_rules.specs.declared.tune.Tune.{Tune}
-use Rattle.bus_rules.specs.Cores.{Core, is_member}
-use Rattle.bus_rules.specs.Granting.{count_of}
-use Rattle.bus_rules.specs.Plans.{last_slot}
-use Rattle.bus_rules.specs.Slots.{Message, closed_slot, opened_slot, part_of}
-use Rattle.bus_rules.specs.States.{State, StateOff, StateOn}
-use Rattle.bus_rules.specs.Streams.{WaitingPacket}
-use Rattle.bus_terms.specs.Bus.{state_at}
-use Rattle.bus_terms.specs.HostedRounds.{slot_in}
-use Rattle.bus_terms.specs.Rounds.{accepted_at, before_slot, closed_slot_of, left_by, opened_at}
-use Rattle.scenario_text.specs.Setups.{setup_of}
-use Rattle.bus_terms.proofs.HostedRounds.{closing_last}
-use Rattle.law_times.specs.Queues.{StreamPacket}
+use Rattle.std.proofs.Common.{◌≡◌, ◌<◌, ◌≤◌, ◌+◌, ◌-◌, ◌==◌, ℕ, zero, suc, List, Bool, true, false, inl, inr, Option, Some, None, if◌then◌else◌, get_or}
+use Rattle.std.proofs.Common.{is_some, length, nat_le, nat_lt, slice_get, slice_index, take, refl, sym, ◌∙◌, ap, subst, arith, ◌⊎◌}
+use Rattle.law_times.proofs.Words.{cases_Bool, cond-true, cond-false, false≢true, le-leb, lt-leb, ne_eqb, eqb-true, eqb-false, count_by_more_no}
+use Rattle.law_times.proofs.Words.{count_by_more_yes, take_all, Plan, code, ScenarioParts, Part, Opening, DataSlot, Contention, Closing, Tune, Core, is_member}
+use Rattle.law_times.proofs.Words.{count_of, last_slot, Message, closed_slot, opened_slot, part_of, State, StateOff, StateOn, WaitingPacket, state_at, slot_in}
+use Rattle.law_times.proofs.Words.{accepted_at, before_slot, closed_slot_of, left_by, opened_at, setup_of, closing_last, StreamPacket}
 use Rattle.law_times.proofs.EarlyTunes.{tunes_stay}
 use Rattle.law_times.proofs.QueuedPackets.{Waits, closed_same, is_slot_of, moves_up, opened_other, opened_own, waits_same}
 use Rattle.law_times.proofs.Settings.{tune_of}

@@ -1,25 +1,12 @@
 -- A frame in which nobody hosts the rank of a node changes its tune as if it had heard nothing, and its plan only where it becomes
 -- a host; and the script lines at the start of a frame change neither, where they do not switch it.
-use Rattle.std.proofs.Common.{◌≡◌, ◌<◌, ◌≤◌, ◌&&◌, ◌||◌, ◌==◌, ℕ, suc, List, [], ◌∷◌, Bool, true, false, Option, Some, None, if◌then◌else◌}
-use Rattle.std.proofs.Common.{is_some, nat_lt, nat_le, filter, fold, length, refl, sym, ◌∙◌, ap, subst}
-use Rattle.std.specs.List.{list_any}
-use Rattle.std.proofs.lemmas.Bool.{false≢true, eqb-true, lt-ltb, le-leb}
-use Rattle.lwb_base.specs.Messages.{Plan}
-use Rattle.lwb_base.specs.Profile.{Numbers}
-use Rattle.scenario_text.specs.ScenarioParts.{ScenarioParts}
-use Rattle.scenario_text.specs.declared.script.ScriptLine.{ScriptLine}
-use Rattle.bus_rules.specs.declared.act.Act.{Act}
-use Rattle.bus_rules.specs.declared.tune.Tune.{Tune}
-use Rattle.bus_rules.specs.Cores.{Core, Setup, as_host, begins_host, frame_ended, is_fresh, empty_plan, own_rank}
-use Rattle.bus_rules.specs.States.{State, StateOff, StateOn, at_core}
-use Rattle.bus_rules.specs.Tuning.{rank_of, next_tune}
-use Rattle.bus_terms.specs.Bus.{before_frame, state_at}
-use Rattle.bus_terms.specs.Rounds.{rounds, rank_in}
-use Rattle.scenario_text.specs.Setups.{setup_of}
-use Rattle.bus_terms.specs.ScriptedStates.{lines_of, state_after_line}
-use Rattle.law_times.specs.ScriptedPower.{turns_off, has_line, StaysOn}
-use Rattle.law_times.proofs.Settings.{Setting, setting, idle, of_core, act_same}
+use Rattle.std.proofs.Common.{◌≡◌, ◌<◌, ◌≤◌, ◌&&◌, ◌==◌, ℕ, suc, List, [], ◌∷◌, Bool, true, false, Option, Some, None, if◌then◌else◌, is_some, nat_lt, nat_le}
+use Rattle.std.proofs.Common.{filter, fold, length, refl, sym, ◌∙◌, ap, subst}
+use Rattle.law_times.proofs.Words.{list_any, false≢true, eqb-true, lt-ltb, le-leb, Plan, Numbers, ScenarioParts, ScriptLine, Act, Tune, Core, Setup, as_host}
+use Rattle.law_times.proofs.Words.{begins_host, frame_ended, is_fresh, empty_plan, own_rank, State, StateOff, StateOn, at_core, rank_of, next_tune}
+use Rattle.law_times.proofs.Words.{before_frame, state_at, rounds, rank_in, setup_of, lines_of, state_after_line, turns_off, has_line, StaysOn, or_parts}
 use Rattle.law_times.proofs.QuietRounds.{NobodyHosts, quiet_rounds}
+use Rattle.law_times.proofs.Settings.{Setting, setting, idle, of_core, act_same}
 
 -- at the start of frame f, after its script lines, v is on and idle, with this tune and plan
 abbrev pub Goes : ScenarioParts → ℕ → ℕ → Tune → Plan → Type 0
@@ -41,12 +28,8 @@ lines_same : (ls : List ScriptLine) (x : State) (k : Setting) → list_any (λ l
     → setting (fold state_after_line x ls) ≡ Some k
 lines_same [] x k none is = is
 lines_same (l ∷ ls) x k none is =
-    let both = neither (turns_off l.act) (list_any (λ l. turns_off l.act) ls) none in
+    let both = or_parts (turns_off l.act) (list_any (λ l. turns_off l.act) ls) none in
     lines_same ls (state_after_line x l) k both.1 (act_same l.act x k both.0 is)
-  where
-    neither : (a b : Bool) → (a || b) ≡ false → (a ≡ false) × (b ≡ false)
-    neither true b none = absurd (false≢true (sym none))
-    neither false b none = (refl, none)
 
 -- what no line of the script is at a node in some frames, no line of one of these frames is
 pub none_in_frame : (test : Act → Bool) (s : ScenarioParts) (b e v f : ℕ) → has_line test s b e v ≡ false → b < f → f ≤ e
@@ -71,13 +54,9 @@ none_in_frame test s b e v f none after within = by_script s.script none
     by_script [] none = refl
     by_script (l ∷ ls) none = by_test ((l.node == v) && (l.frame == f)) refl (test l.act) refl both.0 (by_script ls both.1)
       where
-        neither : (a b : Bool) → (a || b) ≡ false → (a ≡ false) × (b ≡ false)
-        neither true b none = absurd (false≢true (sym none))
-        neither false b none = (refl, none)
-
         both : (((l.node == v) && test l.act && nat_lt b l.frame && nat_le l.frame e) ≡ false)
             × (list_any (λ l. (l.node == v) && test l.act && nat_lt b l.frame && nat_le l.frame e) ls ≡ false)
-        both = neither _ _ none
+        both = or_parts _ _ none
 
         by_test : (here : Bool) → ((l.node == v) && (l.frame == f)) ≡ here → (is : Bool) → test l.act ≡ is
             → ((l.node == v) && test l.act && nat_lt b l.frame && nat_le l.frame e) ≡ false

@@ -1,19 +1,8 @@
 -- A round of a rank that nobody hosts in its frame leaves tune, plan and freshness of each node as they are.
 use Rattle.std.proofs.Common.{◌≡◌, ◌+◌, ◌≤◌, ℕ, Bool, true, false, Option, Some, None, is_some, refl, sym, ◌∙◌, ap, arith}
-use Rattle.std.proofs.lemmas.Bool.{false≢true}
-use Rattle.lwb_base.specs.Messages.{Plan}
-use Rattle.scenario_text.specs.ScenarioParts.{ScenarioParts}
-use Rattle.bus_rules.specs.Cores.{Core, is_member, own_rank}
-use Rattle.bus_rules.specs.Plans.{last_slot}
-use Rattle.bus_rules.specs.Slots.{Message, opened_slot, hosts_now}
-use Rattle.bus_rules.specs.States.{State, StateOff, StateOn}
-use Rattle.bus_rules.specs.Tuning.{hosts_in}
-use Rattle.bus_rules.proofs.Ranks.{member_hosts}
-use Rattle.bus_terms.specs.Bus.{state_at}
-use Rattle.bus_terms.specs.Rounds.{after_round, before_slot, round_of_rank, round_plan, rounds, rank_in}
-use Rattle.scenario_text.specs.Setups.{setup_of}
-use Rattle.bus_terms.specs.ScriptedStates.{is_on_and}
-use Rattle.bus_terms.proofs.HostsOfRanks.{IsRightfulState, rightful, one_of_rank, due_hosts, due_rank}
+use Rattle.law_times.proofs.Words.{false≢true, Plan, ScenarioParts, Core, is_member, own_rank, last_slot, Message, opened_slot, hosts_now, State, StateOff}
+use Rattle.law_times.proofs.Words.{StateOn, hosts_in, member_hosts, state_at, after_round, before_slot, round_of_rank, round_plan, rounds, rank_in, setup_of}
+use Rattle.law_times.proofs.Words.{is_on_and, IsRightfulState, rightful, one_of_rank, due_hosts, due_rank}
 use Rattle.law_times.proofs.Settings.{Setting, setting, IsOther, says_other, opened_same, closed_same}
 use Rattle.law_times.proofs.SlotInvariants.{keeps}
 

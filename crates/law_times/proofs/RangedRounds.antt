@@ -1,28 +1,12 @@
 -- In a round of frame f the next due frame of a node lies from f to four frames later, and who hosts a rank never holds it nor
 -- accepts a schedule of it.
-use Rattle.std.proofs.Common.{◌≡◌, ◌<◌, ◌≤◌, ◌+◌, ◌==◌, ℕ, Bool, true, false, inl, inr, Option, Some, None, if◌then◌else◌}
-use Rattle.std.proofs.Common.{is_some, refl, sym, ◌∙◌, ap, subst, arith}
-use Rattle.std.specs.Prelude.{◌⊎◌}
-use Rattle.std.proofs.lemmas.Bool.{false≢true, eqb-true}
-use Rattle.lwb_base.specs.Messages.{Plan, Schedule}
-use Rattle.scenario_text.specs.ScenarioParts.{ScenarioParts}
-use Rattle.bus_rules.specs.declared.part.Part.{Part}
-use Rattle.bus_rules.specs.declared.part.Part.TheVariants.{Opening, Data as DataSlot, Contention, Closing}
-use Rattle.bus_rules.specs.declared.tune.Tune.{Tune}
-use Rattle.bus_rules.specs.declared.tune.Tune.TheVariants.{Scan, Hold, Host}
-use Rattle.bus_rules.specs.Cores.{Core, Setup, is_member, own_rank, opening_accepted, closing_accepted}
-use Rattle.bus_rules.specs.HostPlans.{host_plan}
-use Rattle.bus_rules.specs.Plans.{last_slot, opening}
-use Rattle.bus_rules.specs.Slots.{Message, ScheduleOf, DataOf, RequestOf, opened_slot, closed_slot, hosts_now, host_closes, silent, slot_heard}
-use Rattle.bus_rules.specs.States.{State, StateOff, StateOn}
-use Rattle.bus_rules.specs.Tuning.{rank_of, scans}
-use Rattle.bus_rules.proofs.Ranks.{same_schedule, planned_rank, host_now}
-use Rattle.bus_terms.specs.Bus.{state_at}
-use Rattle.bus_terms.specs.Rounds.{after_round, before_slot, rounds, round_plan, rank_in}
-use Rattle.scenario_text.specs.Setups.{setup_of}
-use Rattle.bus_terms.specs.ScriptedStates.{is_on_and}
-use Rattle.bus_terms.proofs.HostsOfRanks.{IsRightful, one_of_rank, data_no_schedule, contention_no_schedule}
-use Rattle.bus_terms.proofs.KeptRanks.{member_of}
+use Rattle.std.proofs.Common.{◌≡◌, ◌<◌, ◌≤◌, ◌+◌, ◌==◌, ℕ, Bool, true, false, inl, inr, Option, Some, None, if◌then◌else◌, is_some, refl, sym, ◌∙◌, ap, subst}
+use Rattle.std.proofs.Common.{arith, ◌⊎◌}
+use Rattle.law_times.proofs.Words.{false≢true, eqb-true, Plan, Schedule, ScenarioParts, Part, Opening, DataSlot, Contention, Closing, Tune, Scan, Hold, Host}
+use Rattle.law_times.proofs.Words.{Core, Setup, is_member, own_rank, opening_accepted, closing_accepted, host_plan, last_slot, opening, Message, ScheduleOf}
+use Rattle.law_times.proofs.Words.{DataOf, RequestOf, opened_slot, closed_slot, hosts_now, host_closes, silent, slot_heard, State, StateOff, StateOn, rank_of}
+use Rattle.law_times.proofs.Words.{scans, same_schedule, planned_rank, host_now, state_at, after_round, before_slot, rounds, round_plan, rank_in, setup_of}
+use Rattle.law_times.proofs.Words.{is_on_and, IsRightful, one_of_rank, data_no_schedule, contention_no_schedule, member_of}
 use Rattle.law_times.proofs.HostedFrames.{plan_gap}
 use Rattle.law_times.proofs.SlotInvariants.{Told, keeps}
 

@@ -1,29 +1,10 @@
 -- Where a walk leads to a node, so does a shortest one; and a walk along some nodes is one along more.
 use Rattle.std.proofs.Common.{◌≡◌, ◌<◌, ◌≤◌, ◌+◌, ◌&&◌, ◌||◌, ℕ, zero, suc, List, Bool, true, false, Some, None, if◌then◌else◌, inl, inr, refl, sym, ◌∙◌, ap}
 use Rattle.std.proofs.Common.{subst, arith}
-use Rattle.std.proofs.lemmas.Bool.{false≢true, and_parts, cases_lt, eqb-true}
-use Rattle.lwb_base.specs.Messages.{Plan}
-use Rattle.scenario_text.specs.ScenarioParts.{ScenarioParts}
-use Rattle.bus_rules.specs.declared.part.Part.{Part}
-use Rattle.bus_rules.specs.declared.part.Part.TheVariants.{Closing}
-use Rattle.bus_rules.specs.declared.tune.Tune.{Tune}
-use Rattle.bus_rules.specs.Cores.{Core, is_fresh, is_member}
-use Rattle.bus_rules.specs.Plans.{last_slot}
-use Rattle.bus_rules.specs.Slots.{opened_slot}
-use Rattle.bus_rules.specs.States.{State, StateOff, StateOn}
-use Rattle.bus_rules.specs.Tuning.{hosts_in, holds_in, scans}
-use Rattle.bus_terms.specs.Bus.{state_at}
-use Rattle.bus_terms.specs.Distances.{walks, IsDistance}
-use Rattle.bus_terms.specs.FloodOfText.{ids}
-use Rattle.bus_terms.specs.Flooding.{has}
-use Rattle.bus_terms.specs.HostedRounds.{slot_in}
-use Rattle.bus_terms.specs.Rounds.{Slot, before_slot, opened_at, takes_part}
-use Rattle.scenario_text.specs.Setups.{setup_of}
-use Rattle.bus_terms.proofs.HostedRounds.{closing_last}
 use Rattle.bus_terms.proofs.OneInitiator.{witness, any_of}
-use Rattle.bus_terms.proofs.ReceivedByPaths.{in_filtered}
-use Rattle.law_service.specs.Reach.{is_linked, IsWithin, TakesPart}
-use Rattle.law_times.specs.Reaches.{IsReached}
+use Rattle.law_times.proofs.Words.{false≢true, and_parts, cases_lt, eqb-true, Plan, ScenarioParts, Part, Closing, Tune, Core, is_fresh, is_member, last_slot}
+use Rattle.law_times.proofs.Words.{opened_slot, State, StateOff, StateOn, hosts_in, holds_in, scans, state_at, walks, IsDistance, ids, has, slot_in, Slot}
+use Rattle.law_times.proofs.Words.{before_slot, opened_at, takes_part, setup_of, closing_last, in_filtered, is_linked, IsWithin, TakesPart, IsReached}
 use Rattle.law_times.proofs.EarlyTunes.{tunes_stay}
 use Rattle.law_times.proofs.Settings.{tune_of}
 

@@ -1,15 +1,7 @@
 -- Nodes that scan a rank for few enough frames are members after its next round in which nothing is lost.
-use Rattle.std.proofs.Common.{◌≡◌, ◌≤◌, ◌+◌, ◌-◌, ℕ, zero, suc, List, inl, inr, refl, sym, ◌∙◌, subst, arith}
-use Rattle.std.specs.Prelude.{◌⊎◌}
-use Rattle.scenario_text.specs.ScenarioGrammar.{IsScenario}
-use Rattle.scenario_text.specs.ScenarioParts.{ScenarioParts}
-use Rattle.scenario_text.specs.ScenarioFacts.{IsSoundScenario}
-use Rattle.scenario_text.proofs.SoundScenarios.{sound}
-use Rattle.bus_rules.specs.declared.tune.Tune.TheVariants.{Scan, Hold, Host}
-use Rattle.bus_terms.specs.Flooding.{has}
-use Rattle.law_times.specs.Losses.{AwaitRound, ScannersReturn}
-use Rattle.law_times.specs.Reaches.{IsGroup, IsLossless}
-use Rattle.law_times.specs.Tunes.{AreMembers, HasTune, IsTuned}
+use Rattle.std.proofs.Common.{◌≡◌, ◌≤◌, ◌+◌, ◌-◌, ℕ, zero, suc, List, inl, inr, refl, sym, ◌∙◌, subst, arith, ◌⊎◌}
+use Rattle.law_times.proofs.Words.{IsScenario, ScenarioParts, IsSoundScenario, sound, Scan, Hold, Host, has, AwaitRound, ScannersReturn, IsGroup, IsLossless}
+use Rattle.law_times.proofs.Words.{AreMembers, HasTune, IsTuned}
 use Rattle.law_times.proofs.FramesLeft.{goes_range}
 use Rattle.law_times.proofs.KeptMembers.{of_members}
 use Rattle.law_times.proofs.QuietFrames.{Goes}

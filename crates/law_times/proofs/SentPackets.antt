@@ -1,35 +1,11 @@
 -- A packet that is the first in its queue is delivered in a data slot of its stream in which nothing is lost.
-use Rattle.std.proofs.Common.{◌≡◌, ◌≢◌, ◌<◌, ◌≤◌, ◌+◌, ◌==◌, ℕ, suc, List, [], true, Option, Some, flat_map}
-use Rattle.std.proofs.Common.{length, refl, sym, ◌∙◌, ap, subst, arith}
-use Rattle.std.specs.Option.{option_map_or}
-use Rattle.std.specs.Prelude.{Contains}
-use Rattle.std.proofs.lemmas.Bool.{eqb-true, false≢true}
+use Rattle.std.proofs.Common.{◌≡◌, ◌≢◌, ◌<◌, ◌≤◌, ◌+◌, ◌==◌, ℕ, suc, List, [], true, Option, Some, flat_map, length, refl, sym, ◌∙◌, ap, subst, arith, Contains}
 use Rattle.lwb_base.proofs.NumbersOfRanges.{in_range}
-use Rattle.lwb_base.proofs.Elements.{in_filter, in_flat, some_of}
-use Rattle.lwb_base.specs.Messages.{Plan, code, node_of, stream_of}
-use Rattle.scenario_text.specs.ScenarioGrammar.{IsScenario}
-use Rattle.scenario_text.specs.ScenarioParts.{ScenarioParts}
-use Rattle.bus_rules.specs.declared.delivery.Delivery.{Delivery}
-use Rattle.bus_rules.specs.declared.part.Part.{Part}
-use Rattle.bus_rules.specs.declared.part.Part.TheVariants.{Opening, Data as DataSlot, Contention, Closing}
-use Rattle.bus_rules.specs.declared.tune.Tune.{Tune}
-use Rattle.bus_rules.specs.Cores.{Core, is_member}
-use Rattle.bus_rules.specs.Plans.{last_slot}
-use Rattle.bus_rules.specs.Slots.{Opened, part_of}
-use Rattle.bus_rules.specs.States.{State, StateOff, StateOn}
-use Rattle.bus_rules.specs.Streams.{first_waiting}
-use Rattle.bus_terms.specs.Bus.{bus_deliveries, frames_of, ranks_of, state_at}
-use Rattle.bus_terms.specs.FloodOfText.{ids}
-use Rattle.bus_terms.specs.Flooding.{has}
-use Rattle.bus_terms.specs.HostedRounds.{slot_in}
-use Rattle.bus_terms.specs.Rounds.{Slot, before_slot, delivery_in_slot, opened_at, round_deliveries, round_plan, slot_deliveries, slots_of, takes_part}
-use Rattle.bus_terms.proofs.ReceivedByPaths.{in_filtered}
-use Rattle.bus_terms.proofs.SaidByParts.{windowed}
-use Rattle.law_service.specs.DataService.{HasData, delivery}
-use Rattle.law_service.specs.Reach.{IsWithin, LosesNothing, TakesPart}
-use Rattle.law_service.proofs.DeliveredData.{delivered_within}
-use Rattle.law_times.specs.Queues.{IsDelivered, StreamPacket, delivery_to}
-use Rattle.law_times.specs.Reaches.{IsReached}
+use Rattle.law_times.proofs.Words.{option_map_or, eqb-true, false≢true, in_filter, in_flat, some_of, Plan, code, node_of, stream_of, IsScenario, ScenarioParts}
+use Rattle.law_times.proofs.Words.{Delivery, Part, Opening, DataSlot, Contention, Closing, Tune, Core, is_member, last_slot, Opened, part_of, State, StateOff}
+use Rattle.law_times.proofs.Words.{StateOn, first_waiting, bus_deliveries, frames_of, ranks_of, state_at, ids, has, slot_in, Slot, before_slot}
+use Rattle.law_times.proofs.Words.{delivery_in_slot, opened_at, round_deliveries, round_plan, slot_deliveries, slots_of, takes_part, in_filtered, windowed}
+use Rattle.law_times.proofs.Words.{HasData, delivery, IsWithin, LosesNothing, TakesPart, delivered_within, IsDelivered, StreamPacket, delivery_to, IsReached}
 use Rattle.law_times.proofs.EarlyTunes.{tunes_stay}
 use Rattle.law_times.proofs.QueuedPackets.{Waits, is_slot_of, parts_of_code}
 use Rattle.law_times.proofs.QueuedRounds.{IsTurn}

@@ -1,18 +1,8 @@
 -- What a node goes by: its tune, whether it is fresh, and its plan; and what leaves them as they are.
 use Rattle.std.proofs.Common.{◌≡◌, ℕ, Bool, true, false, Option, Some, None, if◌then◌else◌, refl, sym, ◌∙◌, ap}
-use Rattle.std.proofs.lemmas.Bool.{false≢true}
-use Rattle.lwb_base.specs.Messages.{Plan, Schedule}
-use Rattle.bus_rules.specs.declared.act.Act.{Act}
-use Rattle.bus_rules.specs.declared.act.Act.TheVariants.{On, Off, Declare, Leave, Put}
-use Rattle.bus_rules.specs.declared.part.Part.{Part}
-use Rattle.bus_rules.specs.declared.part.Part.TheVariants.{Opening, Data as DataSlot, Contention, Closing}
-use Rattle.bus_rules.specs.declared.tune.Tune.{Tune}
-use Rattle.bus_rules.specs.Cores.{Core, Setup}
-use Rattle.bus_rules.specs.Plans.{opening}
-use Rattle.bus_rules.specs.Slots.{Message, ScheduleOf, DataOf, RequestOf, opened_slot, closed_slot, hosts_now, host_closes, silent}
-use Rattle.bus_rules.specs.States.{State, StateOff, StateOn, state_after_act}
-use Rattle.bus_terms.proofs.HostsOfRanks.{data_no_schedule, contention_no_schedule}
-use Rattle.law_times.specs.ScriptedPower.{turns_off}
+use Rattle.law_times.proofs.Words.{false≢true, Plan, Schedule, Act, On, Off, Declare, Leave, Put, Part, Opening, DataSlot, Contention, Closing, Tune, Core}
+use Rattle.law_times.proofs.Words.{Setup, opening, Message, ScheduleOf, DataOf, RequestOf, opened_slot, closed_slot, hosts_now, host_closes, silent, State}
+use Rattle.law_times.proofs.Words.{StateOff, StateOn, state_after_act, data_no_schedule, contention_no_schedule, turns_off, is_on_and}
 
 pub record Setting : Type 0 where
   pub tune : Tune
@@ -103,3 +93,8 @@ act_same (Leave i) (StateOff boots) k stays is = absurd (cc)
 act_same (Leave i) (StateOn c) k stays is = is
 act_same (Put i payload) (StateOff boots) k stays is = absurd (cc)
 act_same (Put i payload) (StateOn c) k stays is = is
+
+-- in whatever tune a node is
+pub node_test : (g : Tune → Bool) (x : State) (t : Tune) (p : Plan) → setting x ≡ Some (idle t p) → is_on_and (λ c. g c.tune) x ≡ g t
+node_test g (StateOff boots) t p goes = absurd (cc)
+node_test g (StateOn c) t p goes = ap g (core_tune c t p goes)

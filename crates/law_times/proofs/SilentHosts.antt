@@ -1,26 +1,11 @@
 -- The host of a round is not fresh in it, so it says nothing in a contention slot.
-use Rattle.std.proofs.Common.{◌≡◌, ◌<◌, ◌≤◌, ◌-◌, ◌==◌, ℕ, Bool, true, false, Option, Some, None, if◌then◌else◌, is_some, length, nat_le, nat_lt}
-use Rattle.std.proofs.Common.{option_map, refl, sym, ◌∙◌, ap, subst, arith}
-use Rattle.std.proofs.lemmas.Bool.{cond-true, cond-false, false≢true, lt-leb, lt-ltb, ne_eqb}
-use Rattle.lwb_base.specs.Messages.{Plan, Schedule}
-use Rattle.scenario_text.specs.ScenarioParts.{ScenarioParts}
-use Rattle.scenario_text.specs.ScenarioFacts.{IsSoundScenario}
-use Rattle.bus_rules.specs.declared.part.Part.{Part}
-use Rattle.bus_rules.specs.declared.part.Part.TheVariants.{Opening, Data as DataSlot, Contention, Closing}
-use Rattle.bus_rules.specs.Cores.{Core, is_member, own_rank}
-use Rattle.bus_rules.specs.Plans.{last_slot}
-use Rattle.bus_rules.specs.Slots.{DataOf, Message, Opened, RequestOf, ScheduleOf, closed_slot, hosts_now, is_own, opened_slot, part_of, request_of}
-use Rattle.bus_rules.specs.States.{State, StateOff, StateOn}
-use Rattle.bus_rules.specs.Streams.{requested}
-use Rattle.bus_rules.proofs.Ranks.{host_now}
-use Rattle.bus_terms.specs.Bus.{state_at}
-use Rattle.bus_terms.specs.HostedRounds.{IsHosted, slot_in}
-use Rattle.bus_terms.specs.Rounds.{before_slot, message_said, opened_at}
-use Rattle.scenario_text.specs.Setups.{setup_of}
-use Rattle.bus_terms.proofs.HostedRounds.{Hosting, before_closing, host_member, is_closing, leads}
-use Rattle.bus_terms.proofs.KeptRanks.{member_of}
-use Rattle.bus_terms.proofs.HostsOfRanks.{IsRightful, one_of_rank}
-use Rattle.bus_terms.proofs.SaidByParts.{windowed}
+use Rattle.std.proofs.Common.{◌≡◌, ◌<◌, ◌≤◌, ◌-◌, ◌==◌, ℕ, Bool, true, false, Option, Some, None, if◌then◌else◌, is_some, length, nat_le, nat_lt, option_map}
+use Rattle.std.proofs.Common.{refl, sym, ◌∙◌, ap, subst, arith}
+use Rattle.law_times.proofs.Words.{cond-true, cond-false, false≢true, lt-leb, lt-ltb, ne_eqb, Plan, Schedule, ScenarioParts, IsSoundScenario, Part, Opening}
+use Rattle.law_times.proofs.Words.{DataSlot, Contention, Closing, Core, is_member, own_rank, last_slot, DataOf, Message, Opened, RequestOf, ScheduleOf}
+use Rattle.law_times.proofs.Words.{closed_slot, hosts_now, is_own, opened_slot, part_of, request_of, State, StateOff, StateOn, requested, host_now, state_at}
+use Rattle.law_times.proofs.Words.{IsHosted, slot_in, before_slot, message_said, opened_at, setup_of, Hosting, before_closing, host_member, is_closing, leads}
+use Rattle.law_times.proofs.Words.{member_of, IsRightful, one_of_rank, windowed}
 use Rattle.law_times.proofs.QuietRounds.{host_is_own}
 use Rattle.law_times.proofs.Settings.{says_other}
 use Rattle.law_times.proofs.SlotInvariants.{Told, keeps}

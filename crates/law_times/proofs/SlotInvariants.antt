@@ -1,25 +1,11 @@
 -- What each slot of a round keeps at each node holds before each slot. Of what a node says it is known that the node is a member,
 -- and of what a node accepts, that it scans the rank or is a member, and that another node said it.
-use Rattle.std.proofs.Common.{◌≡◌, ◌<◌, ◌≤◌, ℕ, zero, suc, Bool, true, false, Option, Some, None, is_some, if◌then◌else◌, option_and_then}
-use Rattle.std.proofs.Common.{refl, sym, ◌∙◌, ap, subst, arith}
-use Rattle.std.proofs.lemmas.Bool.{false≢true, and_parts}
-use Rattle.lwb_base.specs.Messages.{Plan}
-use Rattle.scenario_text.specs.ScenarioParts.{ScenarioParts}
-use Rattle.bus_rules.specs.declared.part.Part.{Part}
-use Rattle.bus_rules.specs.Slots.{Message, Opened, opened_slot, closed_slot, part_of, is_schedule_part}
-use Rattle.bus_rules.specs.Cores.{Core, is_member}
-use Rattle.bus_rules.specs.States.{State, StateOff, StateOn}
-use Rattle.bus_rules.specs.Tuning.{scans}
-use Rattle.bus_terms.specs.Bus.{state_at}
-use Rattle.bus_terms.specs.FloodOfText.{ids}
-use Rattle.bus_terms.specs.Flooding.{accepted, has, Accepts}
-use Rattle.bus_terms.specs.Rounds.{Slot, opened_at, message_said, accepted_at, closed_slot_of, left_by, before_slot, takes_part}
-use Rattle.scenario_text.specs.Setups.{setup_of}
-use Rattle.bus_terms.specs.HostedRounds.{slot_in}
-use Rattle.bus_terms.proofs.FirstHearings.{accepted_first}
-use Rattle.bus_terms.proofs.HostedRounds.{said_message}
-use Rattle.bus_terms.proofs.HostsOfRanks.{IsRightful, IsRightfulState, rightful_before}
-use Rattle.bus_terms.proofs.ReceivedByPaths.{in_filtered, of_filtered, in_whole}
+use Rattle.std.proofs.Common.{◌≡◌, ◌<◌, ◌≤◌, ℕ, zero, suc, Bool, true, false, Option, Some, None, is_some, if◌then◌else◌, option_and_then, refl, sym, ◌∙◌, ap}
+use Rattle.std.proofs.Common.{subst, arith}
+use Rattle.law_times.proofs.Words.{false≢true, and_parts, Plan, ScenarioParts, Part, Message, Opened, opened_slot, closed_slot, part_of, is_schedule_part, Core}
+use Rattle.law_times.proofs.Words.{is_member, State, StateOff, StateOn, scans, state_at, ids, accepted, has, Accepts, Slot, opened_at, message_said}
+use Rattle.law_times.proofs.Words.{accepted_at, closed_slot_of, left_by, before_slot, takes_part, setup_of, slot_in, accepted_first, said_message, IsRightful}
+use Rattle.law_times.proofs.Words.{IsRightfulState, rightful_before, in_filtered, of_filtered, in_whole}
 
 -- another node said it
 pub record Told (Q : ℕ → Part → Message → Type 0) (v : ℕ) (part : Part) (m : Message) : Type 0 where

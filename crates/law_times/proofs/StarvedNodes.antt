@@ -1,264 +1,29 @@
 -- The six nodes from frame 30 on: in each round none of them or two of them request, so nobody receives a request, and the host plans as before.
-use Rattle.std.proofs.Common.{◌≡◌, ◌≢◌, ◌<◌, ◌≤◌, ◌+◌, ◌-◌, ◌%◌, ◌==◌, ◌&&◌, ◌||◌, ℕ, zero, suc, List, [], ◌∷◌, Bool, true, false, inl, inr, Option, Some, None}
-use Rattle.std.proofs.Common.{count_by, fold, find, if◌then◌else◌, is_some, option_and_then, refl, sym, ◌∙◌}
-use Rattle.std.proofs.Common.{ap, subst, arith, cond}
-use Rattle.std.specs.List.{list_all, list_any}
-use Rattle.std.specs.Option.{option_or}
-use Rattle.std.specs.Prelude.{◌⊎◌}
-use Rattle.std.proofs.lemmas.Bool.{cases_Bool, cases_eq, eq-eqb, eqb-true, false≢true, le-leb, ne_eqb, or_cases, and_parts}
-use Rattle.std.proofs.lemmas.List.Sums.{sum_by-cons}
-use Rattle.lwb_base.specs.Messages.{Plan, node_of}
-use Rattle.scenario_text.specs.ScenarioGrammar.{IsScenario}
-use Rattle.scenario_text.specs.ScenarioParts.{ScenarioParts}
-use Rattle.scenario_text.specs.ScenarioFacts.{IsSoundScenario}
-use Rattle.scenario_text.specs.declared.script.ScriptLine.{ScriptLine}
-use Rattle.scenario_text.proofs.SoundScenarios.{sound}
-use Rattle.bus_rules.specs.declared.part.Part.TheVariants.{Opening, Contention}
-use Rattle.bus_rules.specs.declared.tune.Tune.{Tune}
-use Rattle.bus_rules.specs.declared.tune.Tune.TheVariants.{Scan, Hold, Host}
-use Rattle.bus_rules.specs.Cores.{Core, frame_ended, is_member}
-use Rattle.bus_rules.specs.Granting.{plan_round}
-use Rattle.bus_rules.specs.HostPlans.{host_plan}
-use Rattle.bus_rules.specs.Plans.{opening}
-use Rattle.bus_rules.specs.Slots.{host_closes}
-use Rattle.bus_rules.specs.States.{State, StateOff, StateOn, at_core}
-use Rattle.bus_rules.specs.Streams.{names}
-use Rattle.bus_rules.specs.Tuning.{hosts_in, holds_in}
-use Rattle.bus_terms.specs.Bus.{before_frame, state_at}
-use Rattle.bus_terms.specs.FloodOfText.{ids}
-use Rattle.bus_terms.specs.Flooding.{has, Hears}
-use Rattle.bus_terms.specs.HostedRounds.{IsHosted, slot_in}
-use Rattle.bus_terms.specs.Rounds.{Slot, after_round, before_slot, first_node, message_said, plan_in, rank_in, round_plan, rounds, takes_part}
-use Rattle.scenario_text.specs.Setups.{setup_of}
-use Rattle.bus_terms.specs.ScriptedStates.{is_on_and, lines_of, state_after_line}
-use Rattle.bus_terms.proofs.HostedRounds.{Hosting, accepts_none, has_planned, host_member, opening_said}
-use Rattle.bus_terms.proofs.ReceivedByPaths.{in_filtered, in_whole, of_filtered}
-use Rattle.law_service.specs.Reach.{LosesNothing, TakesPart, is_linked}
-use Rattle.law_service.proofs.LosslessSlots.{lose_nothing}
-use Rattle.law_times.specs.ContentionTurns.{Asker, asks_anew, asks_in, requests_after, six_askers}
-use Rattle.law_times.specs.SixNodes.{six_nodes, the_seven}
+use Rattle.std.proofs.Common.{◌≡◌, ◌≢◌, ◌<◌, ◌≤◌, ◌+◌, ◌-◌, ◌%◌, ◌==◌, ◌||◌, ℕ, zero, suc, List, [], Bool, true, false, inl, inr, Option, Some, None, fold}
+use Rattle.std.proofs.Common.{if◌then◌else◌, is_some, option_and_then, refl, sym, ◌∙◌, ap, subst, arith, Contains, not}
+use Rattle.law_service.proofs.SharedSlots.{deaf_slot, none_starts, two_start}
+use Rattle.law_times.proofs.Words.{list_all, list_any, option_or, cases_Bool, cases_eq, eqb-true, false≢true, ne_eqb, or_cases, Plan, node_of, IsScenario}
+use Rattle.law_times.proofs.Words.{ScenarioParts, IsSoundScenario, ScriptLine, sound, Opening, Contention, Tune, Hold, Host, Core, frame_ended, is_member}
+use Rattle.law_times.proofs.Words.{plan_round, host_plan, opening, host_closes, State, StateOn, at_core, names, hosts_in, holds_in, before_frame, state_at, ids}
+use Rattle.law_times.proofs.Words.{has, Hears, IsHosted, slot_in, Slot, after_round, before_slot, first_node, message_said, plan_in, rank_in, round_plan}
+use Rattle.law_times.proofs.Words.{rounds, takes_part, setup_of, is_on_and, lines_of, state_after_line, Hosting, accepts_none, has_planned, host_member}
+use Rattle.law_times.proofs.Words.{opening_said, in_filtered, in_whole, of_filtered, LosesNothing, TakesPart, is_linked, lose_nothing, Asker, asks_in}
+use Rattle.law_times.proofs.Words.{six_askers, six_nodes, the_seven, all_passes, the_six}
+use Rattle.law_times.proofs.Backoffs.{Backoff, spot, turned, asks}
+use Rattle.law_times.proofs.ComputedTests.{all_of, none_found}
 use Rattle.law_times.proofs.ContendingFrames.{Asking, HasBoot}
 use Rattle.law_times.proofs.ContendingMembers.{goes_on, idle_asks, part_takes, says, says_if}
-use Rattle.law_times.proofs.ContendingRounds.{after_member}
 use Rattle.law_times.proofs.ContentionTurnsOfSix.{six_never_part}
-use Rattle.law_times.proofs.ContentionTurnsOfTwo.{Backoff, asks, requests_by, spot, turn, turned}
 use Rattle.law_times.proofs.HostedFrames.{rounds_are}
-use Rattle.law_times.proofs.JoinedNodes.{no_lines as lines_of_slot}
+use Rattle.law_times.proofs.JoinedNodes.{no_lines as lines_of_slot, same_round}
 use Rattle.law_times.proofs.KeptMembers.{Members, due_host, not_due, quiet, step}
+use Rattle.law_times.proofs.MemberSlots.{after_member}
 use Rattle.law_times.proofs.PacketFrames.{hosted_now}
 use Rattle.law_times.proofs.QuietFrames.{Goes}
-use Rattle.law_times.proofs.Settings.{Setting, core_tune, idle, same_setting, setting}
-use Rattle.law_times.proofs.SharedSlots.{deaf_slot, none_starts, two_start}
+use Rattle.law_times.proofs.Settings.{idle, setting, node_test}
 use Rattle.law_times.proofs.SilentHosts.{host_silent}
-use Rattle.law_times.proofs.WorkedSix.{all_ask_in_30, all_linked, asks_so, bare_plan, each_of_seven, group, host_core}
-use Rattle.law_times.proofs.WorkedSix.{host_in_30, is_asking, members_in_30, no_lines, wishes}
-
--- one of the six
-abbrev pub In : Asker → List Asker → Type 0
-In a [] = ⊥
-In a (b ∷ bs) = (a ≡ b) ⊎ In a bs
-
-each_six : (P : Asker → Type 0) → P (record { node = 16; first = 0 }) → P (record { node = 17; first = 0 }) → P (record { node = 18; first = 0 })
-    → P (record { node = 19; first = 1 }) → P (record { node = 21; first = 5 }) → P (record { node = 27; first = 7 }) → (a : Asker) → In a six_askers → P a
-each_six P p q r s t u a there = elim there [
-  | inl same ↦ subst P (sym same) p
-  | inr more ↦ elim more [
-    | inl same ↦ subst P (sym same) q
-    | inr more ↦ elim more [
-      | inl same ↦ subst P (sym same) r
-      | inr more ↦ elim more [
-        | inl same ↦ subst P (sym same) s
-        | inr more ↦ elim more [
-          | inl same ↦ subst P (sym same) t
-          | inr more ↦ elim more [ inl same ↦ subst P (sym same) u | inr none ↦ absurd none ]
-        ]
-      ]
-    ]
-  ]
-]
-
--- what holds of all in a list
-all_of : (test : Asker → Bool) (xs : List Asker) → list_all test xs ≡ true → (a : Asker) → In a xs → test a ≡ true
-all_of test [] all a there = absurd there
-all_of test (x ∷ xs) all a there =
-    let both = and_parts (test x) (list_all test xs) all in
-    elim there [ inl same ↦ ap test same ∙ both.0 | inr more ↦ all_of test xs both.1 a more ]
-
-numbers_all : (test : ℕ → Bool) (xs : List ℕ) → list_all test xs ≡ true → (v : ℕ) → has xs v ≡ true → test v ≡ true
-numbers_all test [] all v there = absurd (false≢true there)
-numbers_all test (x ∷ xs) all v there =
-    let both = and_parts (test x) (list_all test xs) all in
-    elim (or_cases (x == v) (has xs v) there) [
-      | inl same ↦ ap test (sym (eqb-true x v same)) ∙ both.0
-      | inr more ↦ numbers_all test xs both.1 v more
-    ]
-
--- of askers with different ids, of whom not one alone passes a test, none does or two do
-abbrev Apart : List Asker → Type 0
-Apart [] = Unit {0}
-Apart (x ∷ xs) = ((b : Asker) → In b xs → x.node ≢ b.node) × Apart xs
-
-pub record Two (test : Asker → Bool) (xs : List Asker) : Type 0 where
-  pub first : Asker
-  pub second : Asker
-  pub there : In first xs × In second xs
-  pub differ : first.node ≢ second.node
-  pub both : (test first ≡ true) × (test second ≡ true)
-
-module _ (test : Asker → Bool) where
-  counted : (x : Asker) (xs : List Asker) → count_by test (x ∷ xs) ≡ cond {A = ℕ} (test x) 1 0 + count_by test xs
-  counted x xs = sum_by-cons (λ (a : Asker). cond (test a) 1 0) x xs
-
-  one_more : (x : Asker) (xs : List Asker) → test x ≡ true → count_by test (x ∷ xs) ≡ 1 + count_by test xs
-  one_more x xs is = counted x xs ∙ ap (λ (b : Bool). cond {A = ℕ} b 1 0 + count_by test xs) is
-
-  as_many : (x : Asker) (xs : List Asker) → test x ≡ false → count_by test (x ∷ xs) ≡ count_by test xs
-  as_many x xs not =
-      counted x xs ∙ ap (λ (b : Bool). cond {A = ℕ} b 1 0 + count_by test xs) not
-      ∙ (let same : cond {A = ℕ} false 1 0 + count_by test xs ≡ count_by test xs = omega arith in same)
-
-  found_one : (xs : List Asker) → count_by test xs ≢ 0 → (a : Asker) × In a xs × (test a ≡ true)
-  found_one [] some = absurd (some refl)
-  found_one (x ∷ xs) some = by_test (test x) refl (found_one xs)
-    where
-      by_test : (b : Bool) → test x ≡ b → (count_by test xs ≢ 0 → (a : Asker) × In a xs × (test a ≡ true)) → (a : Asker) × In a (x ∷ xs) × (test a ≡ true)
-      by_test true is more = (x, inl refl, is)
-      by_test false is more =
-          let later = more (λ none. some (as_many x xs is ∙ none)) in
-          (later.0, inr later.1, later.2)
-
-  found_two : (xs : List Asker) → Apart xs → count_by test xs ≢ 1 → ((a : Asker) → In a xs → test a ≡ false) ⊎ Two test xs
-  found_two [] apart other = inl (λ a there. absurd there)
-  found_two (x ∷ xs) apart other = by_test (test x) refl (found_two xs apart.1)
-    where
-      by_test : (b : Bool) → test x ≡ b → (count_by test xs ≢ 1 → ((a : Asker) → In a xs → test a ≡ false) ⊎ Two test xs)
-          → ((a : Asker) → In a (x ∷ xs) → test a ≡ false) ⊎ Two test (x ∷ xs)
-      by_test true is more =
-          let later = found_one xs (λ none. other (one_more x xs is ∙ ap (λ (n : ℕ). 1 + n) none)) in
-          inr (record { first = x; second = later.0; there = (inl refl, inr later.1); differ = apart.0 later.0 later.1; both = (is, later.2) })
-      by_test false is more =
-          elim (more (λ one. other (as_many x xs is ∙ one))) [
-            | inl none ↦ inl (λ a there. elim there [ inl same ↦ ap test same ∙ is | inr later ↦ none a later ])
-            | inr two ↦ inr (record {
-              first = two.first;
-              second = two.second;
-              there = (inr two.there.0, inr two.there.1);
-              differ = two.differ;
-              both = two.both;
-            })
-          ]
-
-six_apart : Apart six_askers
-six_apart = (
-  λ b there. each_five b there,
-  (
-    λ b there. elim there [
-      | inl same ↦ differ 17 18 b same (λ is. absurd (omega (arith, is)))
-      | inr more ↦ elim more [
-        | inl same ↦ differ 17 19 b same (λ is. absurd (omega (arith, is)))
-        | inr more ↦ elim more [
-          | inl same ↦ differ 17 21 b same (λ is. absurd (omega (arith, is)))
-          | inr more ↦ elim more [ inl same ↦ differ 17 27 b same (λ is. absurd (omega (arith, is))) | inr none ↦ absurd none ]
-        ]
-      ]
-    ],
-    (
-      λ b there. elim there [
-        | inl same ↦ differ 18 19 b same (λ is. absurd (omega (arith, is)))
-        | inr more ↦ elim more [
-          | inl same ↦ differ 18 21 b same (λ is. absurd (omega (arith, is)))
-          | inr more ↦ elim more [ inl same ↦ differ 18 27 b same (λ is. absurd (omega (arith, is))) | inr none ↦ absurd none ]
-        ]
-      ],
-      (
-        λ b there. elim there [
-          | inl same ↦ differ 19 21 b same (λ is. absurd (omega (arith, is)))
-          | inr more ↦ elim more [ inl same ↦ differ 19 27 b same (λ is. absurd (omega (arith, is))) | inr none ↦ absurd none ]
-        ],
-        (
-          λ b there. elim there [ inl same ↦ differ 21 27 b same (λ is. absurd (omega (arith, is))) | inr none ↦ absurd none ],
-          (
-            λ b there. absurd there,
-            tt,
-          ),
-        ),
-      ),
-    ),
-  ),
-)
-  where
-    differ : (u v : ℕ) {first : ℕ} (b : Asker) → b ≡ record { node = v; first = first } → u ≢ v → u ≢ b.node
-    differ u v b same other is = other (is ∙ ap (λ (a : Asker). a.node) same)
-
-    each_five : (b : Asker)
-        → In b (record { node = 17; first = 0 } ∷ record { node = 18; first = 0 } ∷ record { node = 19; first = 1 } ∷ record { node = 21; first = 5 }
-        ∷ record { node = 27; first = 7 } ∷ [])
-        → 16 ≢ b.node
-    each_five b there = elim there [
-      | inl same ↦ differ 16 17 b same (λ is. absurd (omega (arith, is)))
-      | inr more ↦ elim more [
-        | inl same ↦ differ 16 18 b same (λ is. absurd (omega (arith, is)))
-        | inr more ↦ elim more [
-          | inl same ↦ differ 16 19 b same (λ is. absurd (omega (arith, is)))
-          | inr more ↦ elim more [
-            | inl same ↦ differ 16 21 b same (λ is. absurd (omega (arith, is)))
-            | inr more ↦ elim more [ inl same ↦ differ 16 27 b same (λ is. absurd (omega (arith, is))) | inr none ↦ absurd none ]
-          ]
-        ]
-      ]
-    ]
-
--- the facts of one of the six
-pub record IsOneOfSix (a : Asker) : Type 0 where
-  pub there : has the_seven a.node ≡ true
-  pub guest : a.node ≢ 1
-  pub early : a.first ≤ 7
-
-pub one_of_six : (a : Asker) → In a six_askers → IsOneOfSix a
-one_of_six =
-    each_six IsOneOfSix (record { there = refl; guest = λ is. absurd (omega (arith, is)); early = omega arith })
-    (record { there = refl; guest = λ is. absurd (omega (arith, is)); early = omega arith })
-    (record { there = refl; guest = λ is. absurd (omega (arith, is)); early = omega arith })
-    (record { there = refl; guest = λ is. absurd (omega (arith, is)); early = omega arith })
-    (record { there = refl; guest = λ is. absurd (omega (arith, is)); early = omega arith })
-    (record { there = refl; guest = λ is. absurd (omega (arith, is)); early = omega arith })
-
--- tries and skips in a round
-abbrev pub backoff : Asker → ℕ → Backoff
-backoff a n = turned a.node (0, 0) (n - a.first)
-
-next_backoff : (a : Asker) (n : ℕ) → a.first ≤ n → turn a.node (backoff a n) ≡ backoff a (suc n)
-unfolding turned
-next_backoff a n early = ap (turned a.node (0, 0)) (let more : suc (n - a.first) ≡ suc n - a.first = omega (arith, early) in more)
-
-asks_by : (a : Asker) (n : ℕ) → a.first ≤ n → asks_in n a ≡ asks (backoff a n)
-asks_by a n early =
-    ap (λ (b : Bool). b && requests_after a.node asks_anew (n - a.first)) (le-leb a.first n early) ∙ requests_by a.node asks_anew refl (n - a.first)
-
--- in whatever tune a node is
-node_test : (g : Tune → Bool) (x : State) (t : Tune) (p : Plan) → setting x ≡ Some (idle t p) → is_on_and (λ c. g c.tune) x ≡ g t
-node_test g (StateOff boots) t p goes = absurd (cc)
-node_test g (StateOn c) t p goes = ap g (core_tune c t p goes)
-
-none_found : (test : ℕ → Bool) (xs : List ℕ) → ((v : ℕ) → has xs v ≡ true → test v ≡ false) → find test xs ≡ None
-none_found test [] none = refl
-none_found test (x ∷ xs) none =
-    ap (λ (b : Bool). if b then Some x else find test xs) (none x (here x xs)) ∙ none_found test xs (λ v there. none v (also x v xs there))
-  where
-    here : (x : ℕ) (xs : List ℕ) → has (x ∷ xs) x ≡ true
-    here x xs = ap (λ (b : Bool). b || has xs x) (eq-eqb x x refl)
-
-    also : (x v : ℕ) (xs : List ℕ) → has xs v ≡ true → has (x ∷ xs) v ≡ true
-    also x v xs there = by_test (x == v)
-      where
-        by_test : (b : Bool) → (b || has xs v) ≡ true
-        by_test true = refl
-        by_test false = there
-
-abbrev due_in : Tune → ℕ
-due_in (Scan r waited) = 0
-due_in (Hold r due) = due
-due_in (Host r due) = due
+use Rattle.law_times.proofs.SixAskers.{found_two, six_apart, asker_of, one_of_six, first_asker, backoff, next_backoff, asks_by, first_there}
+use Rattle.law_times.proofs.WorkedSix.{all_ask_in_30, all_linked, asks_so, bare_plan, group, host_core, host_in_30, is_asking, members_in_30, no_lines, wishes}
 
 module _ (frames : ℕ) (accepted : IsScenario (six_nodes frames)) where
   abbrev s : ScenarioParts
@@ -275,7 +40,7 @@ module _ (frames : ℕ) (accepted : IsScenario (six_nodes frames)) where
     pub range : (x ≤ due) × (due < x + 4)
     pub host : state_at s x 1 ≡ StateOn (host_core due)
     pub hold : (v : ℕ) → has the_seven v ≡ true → v ≢ 1 → Goes s x v (Hold 0 due) bare_plan
-    pub asks : (a : Asker) → In a six_askers → Asking 1 0 0 1 (backoff a round) (state_at s x a.node)
+    pub asks : (a : Asker) → Contains six_askers a → Asking 1 0 0 1 (backoff a round) (state_at s x a.node)
 
   abbrev members_of : (x : ℕ) → Starve x → Members s 0 x 1 the_seven
   members_of x is = record { due = is.due; range = is.range; plan = bare_plan; hosts = ap setting is.host; hold = is.hold }
@@ -289,7 +54,7 @@ module _ (frames : ℕ) (accepted : IsScenario (six_nodes frames)) where
     host = host_in_30 frames;
     hold = members_in_30 frames;
     asks = λ a there. asks_so (backoff a 7) (state_at s 30 a.node)
-        (all_of (λ a. is_asking (turned a.node (0, 0) (7 - a.first)) (state_at s 30 a.node)) six_askers (all_ask_in_30 frames) a there);
+        (all_passes (λ a. is_asking (turned a.node (0, 0) (7 - a.first)) (state_at s 30 a.node)) six_askers (all_ask_in_30 frames) a there);
   }
 
   -- the host from the rounds of a frame to the next frame
@@ -370,10 +135,10 @@ module _ (frames : ℕ) (accepted : IsScenario (six_nodes frames)) where
 
     takes : (v : ℕ) → has the_seven v ≡ true → TakesPart turn_slot v
     takes v there =
-        (let a : Asker = record { node = 16; first = 0 } in
-        let six = one_of_six a (inl refl) in
+        (let a = first_asker in
+        let six = one_of_six a first_there in
         part_takes s accepted 0 1 30 (suc x) the_seven 1 1 (group frames (suc x)) (λ g low high. no_lines frames g) refl a.node 1 0 six.there six.guest
-        (wishes frames (suc x) a.node six.there) x (backoff a is.round) m now after (omega arith) (is.asks a (inl refl)) hosted refl refl refl refl
+        (wishes frames (suc x) a.node six.there) x (backoff a is.round) m now after (omega arith) (is.asks a first_there) hosted refl refl refl refl
         1 (omega arith) v there)
 
     known : (v : ℕ) → TakesPart turn_slot v → has the_seven v ≡ true
@@ -385,8 +150,8 @@ module _ (frames : ℕ) (accepted : IsScenario (six_nodes frames)) where
     linked : (v w : ℕ) → has the_seven v ≡ true → has the_seven w ≡ true → w ≢ v → is_linked s v w ≡ true
     linked v w first second other =
         elim (or_cases (v == w) (is_linked s v w)
-        (numbers_all (λ w. (v == w) || is_linked s v w) the_seven
-        (numbers_all (λ u. list_all (λ w. (u == w) || is_linked s u w) the_seven) the_seven (all_linked frames) v first) w second)) [
+        (all_of (λ w. (v == w) || is_linked s v w) the_seven
+        (all_of (λ u. list_all (λ w. (u == w) || is_linked s u w) the_seven) the_seven (all_linked frames) v first) w second)) [
           | inl same ↦ absurd (other (sym (eqb-true v w same)))
           | inr is ↦ is
         ]
@@ -398,7 +163,7 @@ module _ (frames : ℕ) (accepted : IsScenario (six_nodes frames)) where
     Says v = is_some (message_said (turn_slot.window v)) ≡ true
 
     -- who says something, of the six
-    says_now : (a : Asker) → In a six_askers → asks_in is.round a ≡ true → Says a.node
+    says_now : (a : Asker) → Contains six_askers a → asks_in is.round a ≡ true → Says a.node
     says_now a there now_asks =
         (let six = one_of_six a there in
         let past = is.past in
@@ -409,7 +174,7 @@ module _ (frames : ℕ) (accepted : IsScenario (six_nodes frames)) where
         (wishes frames (suc x) a.node six.there) x (backoff a is.round) m now after (omega arith) (is.asks a there) hosted refl refl refl refl
         (sym (asks_by a is.round (omega (arith, past, early))) ∙ now_asks)))
 
-    quiet_now : (a : Asker) → In a six_askers → asks_in is.round a ≡ false → Says a.node → ⊥
+    quiet_now : (a : Asker) → Contains six_askers a → asks_in is.round a ≡ false → Says a.node → ⊥
     quiet_now a there none some =
         let six = one_of_six a there in
         let past = is.past in
@@ -445,29 +210,23 @@ module _ (frames : ℕ) (accepted : IsScenario (six_nodes frames)) where
             initiates two.first.node first.there (says_now two.first two.there.0 two.both.0),
             initiates two.second.node second.there (says_now two.second two.there.1 two.both.1),
           )
-          (λ w here not_first not_second. (
+          (λ w here not_first not_second x starts over. (
             passes two.first.node w (takes two.first.node first.there) here not_first,
             passes two.second.node w (takes two.second.node second.there) here not_second,
           )))
     ]
       where
-        not_one : (w : ℕ) → ((a : Asker) → In a six_askers → asks_in is.round a ≡ false) → has turn_slot.flood.initiators w ≡ false
+        not_one : (w : ℕ) → ((a : Asker) → Contains six_askers a → asks_in is.round a ≡ false) → has turn_slot.flood.initiators w ≡ false
         not_one w none = elim (cases_Bool (has turn_slot.flood.initiators w)) [
           | inr not ↦ not
           | inl starts ↦
               (let some = of_filtered (λ v. is_some (message_said (turn_slot.window v))) (ids s.nodes) w starts in
               let there = in_whole (λ v. is_some (message_said (turn_slot.window v))) (ids s.nodes) w starts in
-              absurd (each_of_seven (λ v. Says v → ⊥) host_quiet
-              (λ says. quiet_now (record { node = 16; first = 0 }) (inl refl) (none (record { node = 16; first = 0 }) (inl refl)) says)
-              (λ says. quiet_now (record { node = 17; first = 0 }) (inr (inl refl)) (none (record { node = 17; first = 0 }) (inr (inl refl))) says)
-              (λ says. quiet_now (record { node = 18; first = 0 }) (inr (inr (inl refl))) (none (record { node = 18; first = 0 }) (inr (inr (inl refl)))) says)
-              (λ says. quiet_now (record { node = 19; first = 1 }) (inr (inr (inr (inl refl))))
-              (none (record { node = 19; first = 1 }) (inr (inr (inr (inl refl))))) says)
-              (λ says. quiet_now (record { node = 21; first = 5 }) (inr (inr (inr (inr (inl refl)))))
-              (none (record { node = 21; first = 5 }) (inr (inr (inr (inr (inl refl)))))) says)
-              (λ says. quiet_now (record { node = 27; first = 7 }) (inr (inr (inr (inr (inr (inl refl))))))
-              (none (record { node = 27; first = 7 }) (inr (inr (inr (inr (inr (inl refl))))))) says)
-              w there some))
+              elim (or_cases (1 == w) (has the_six w) there) [
+                | inl same ↦ absurd (host_quiet (subst Says (sym (eqb-true 1 w same)) some))
+                | inr guest ↦
+                    (let a = asker_of six_askers w guest in absurd (quiet_now a.0 a.1 (none a.0 a.1) (subst Says (sym a.2) some)))
+              ])
         ]
 
     -- so the host stays as it is
@@ -500,18 +259,15 @@ module _ (frames : ℕ) (accepted : IsScenario (six_nodes frames)) where
     round_step =
         let next = step s accepted 0 1 30 (suc x) the_seven (group frames (suc x)) x after (omega arith) (no_lines frames x) m in
         let host = next_host x (x + 4) host_after in
-        let same : idle (Host 0 next.due) next.plan ≡ idle (Host 0 (x + 4)) bare_plan =
-        same_setting (idle (Host 0 next.due) next.plan) (idle (Host 0 (x + 4)) bare_plan) (sym next.hosts ∙ ap setting host) in
-        let due_is : next.due ≡ x + 4 = ap (λ (k : Setting). due_in k.tune) same in
-        let plan_is : next.plan ≡ bare_plan = ap (λ (k : Setting). k.plan) same in
+        let same = same_round 0 next.due (x + 4) None None next.plan bare_plan (sym next.hosts ∙ ap setting host) in
         record {
           round = suc is.round;
           past = (let past = is.past in omega (arith, past));
           due = x + 4;
           range = (omega arith, omega arith);
           host = host;
-          hold = λ v there other. subst (λ (d : ℕ). Goes s (suc x) v (Hold 0 d) bare_plan) due_is
-              (subst (λ (p : Plan). Goes s (suc x) v (Hold 0 next.due) p) plan_is (next.hold v there other));
+          hold = λ v there other. subst (λ (d : ℕ). Goes s (suc x) v (Hold 0 d) bare_plan) same.0
+              (subst (λ (p : Plan). Goes s (suc x) v (Hold 0 next.due) p) same.1 (next.hold v there other));
           asks = λ a there.
               (let six = one_of_six a there in
               let past = is.past in
@@ -519,7 +275,7 @@ module _ (frames : ℕ) (accepted : IsScenario (six_nodes frames)) where
               subst (λ (b : Backoff). Asking 1 0 0 1 b (state_at s (suc x) a.node)) (next_backoff a is.round (omega (arith, past, early)))
               (goes_on s accepted 0 1 30 (suc x) the_seven 1 1 (group frames (suc x)) (λ g low high. no_lines frames g) refl a.node 1 0 six.there six.guest
               (wishes frames (suc x) a.node six.there) x (backoff a is.round) m now after (omega arith) (is.asks a there) hosted refl refl refl refl
-              next (subst (HasBoot 1) (sym is.host) refl) (empty_acks next.plan plan_is a.node) (empty_owners next.plan plan_is a.node)));
+              next (subst (HasBoot 1) (sym is.host) refl) (empty_acks next.plan same.1 a.node) (empty_owners next.plan same.1 a.node)));
         }
       where
         empty_acks : (p : Plan) → p ≡ bare_plan → (w : ℕ) → list_any (names w 1) p.acks ≡ false

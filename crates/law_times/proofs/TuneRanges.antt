@@ -1,28 +1,16 @@
 -- At the start of each frame a node that is on is not fresh; the next due frame of who holds or hosts a rank is this one or one of the
 -- next three; and who scans its own rank has done so for fewer than five frames.
-use Rattle.std.proofs.Common.{◌≡◌, ◌<◌, ◌≤◌, ◌+◌, ◌%◌, ◌&&◌, ◌==◌, ℕ, zero, suc, List, [], ◌∷◌, Bool, true, false, inl, inr, Option, Some, None}
-use Rattle.std.proofs.Common.{is_some, nat_lt, fold, refl, sym, ◌∙◌, ap, subst, arith}
-use Rattle.std.proofs.lemmas.Bool.{false≢true, eq-eqb, ltb-true, cases_eq, cond_both, eqb-false}
-use Rattle.scenario_text.specs.ScenarioParts.{ScenarioParts}
-use Rattle.scenario_text.specs.ScenarioFacts.{IsSoundScenario}
-use Rattle.scenario_text.specs.declared.script.ScriptLine.{ScriptLine}
-use Rattle.bus_rules.specs.declared.act.Act.{Act}
-use Rattle.bus_rules.specs.declared.tune.Tune.{Tune}
-use Rattle.bus_rules.specs.declared.tune.Tune.TheVariants.{Scan, Hold, Host}
-use Rattle.bus_rules.specs.Cores.{Core, Setup, begins_host, frame_ended, is_fresh, own_rank}
-use Rattle.bus_rules.specs.Slots.{hosts_now}
-use Rattle.bus_rules.specs.States.{State, StateOff, StateOn, at_core, state_after_act}
-use Rattle.bus_rules.specs.Tuning.{hosts_in, is_rank, next_tune, rank_of}
-use Rattle.bus_rules.proofs.Switches.{acts_keep}
-use Rattle.bus_terms.specs.Bus.{before_frame, state_at}
-use Rattle.bus_terms.specs.Rounds.{rounds}
-use Rattle.scenario_text.specs.Setups.{setup_of}
-use Rattle.bus_terms.specs.ScriptedStates.{is_on_and, lines_of, state_after_line}
-use Rattle.law_times.proofs.Settings.{Setting, setting, of_core}
-use Rattle.law_times.proofs.QuietRounds.{hosts_round}
-use Rattle.law_times.proofs.QuietFrames.{host_tune, host_slot}
+use Rattle.std.proofs.Common.{◌≡◌, ◌<◌, ◌≤◌, ◌+◌, ◌%◌, ◌&&◌, ◌==◌, ℕ, zero, suc, List, [], ◌∷◌, Bool, true, false, inl, inr, Option, Some, None, is_some}
+use Rattle.std.proofs.Common.{nat_lt, fold, refl, sym, ◌∙◌, ap, subst, arith}
+use Rattle.law_times.proofs.Words.{false≢true, eq-eqb, ltb-true, cases_eq, cond_both, eqb-false, ScenarioParts, IsSoundScenario, ScriptLine, Act, Tune, Scan}
+use Rattle.law_times.proofs.Words.{Hold, Host, Core, Setup, begins_host, frame_ended, is_fresh, own_rank, hosts_now, State, StateOff, StateOn, at_core}
+use Rattle.law_times.proofs.Words.{state_after_act, hosts_in, is_rank, next_tune, rank_of, acts_keep, before_frame, state_at, rounds, setup_of, is_on_and}
+use Rattle.law_times.proofs.Words.{lines_of, state_after_line}
 use Rattle.law_times.proofs.HostedFrames.{Planned, due_round}
+use Rattle.law_times.proofs.QuietFrames.{host_tune, host_slot}
+use Rattle.law_times.proofs.QuietRounds.{hosts_round}
 use Rattle.law_times.proofs.RangedRounds.{IsInRange, InRange, rounds_in_range}
+use Rattle.law_times.proofs.Settings.{Setting, setting, of_core}
 
 -- the tune of a node that hosts this rank, if it does, at the start of frame f
 abbrev pub Starts : ℕ → Option ℕ → Tune → Type 0

@@ -1,31 +1,13 @@
 -- What a node that hears nothing does frame after frame: it scans on, serves its own rank, or goes on to the next.
-use Rattle.std.proofs.Common.{◌≡◌, ◌<◌, ◌≤◌, ◌+◌, ◌%◌, ◌&&◌, ◌==◌, ℕ, zero, suc, Bool, true, false, Option, Some}
-use Rattle.std.proofs.Common.{nat_lt, length, refl, ◌∙◌, ap, subst, arith}
-use Rattle.std.proofs.lemmas.Bool.{cond-true, cond-false, eq-eqb, ne_eqb, lt-ltb, le-ltb}
-use Rattle.lwb_base.specs.Messages.{Plan}
-use Rattle.scenario_text.specs.ScenarioParts.{ScenarioParts}
-use Rattle.scenario_text.specs.ScenarioFacts.{IsSoundScenario}
-use Rattle.bus_rules.specs.declared.tune.Tune.{Tune}
-use Rattle.bus_rules.specs.declared.tune.Tune.TheVariants.{Scan, Hold, Host}
-use Rattle.bus_rules.specs.Cores.{begins_host, own_rank}
-use Rattle.bus_rules.specs.Tuning.{hosts_in, is_rank, next_tune, rank_of}
-use Rattle.bus_rules.proofs.Ranks.{rank_is}
-use Rattle.bus_terms.specs.Bus.{state_at}
-use Rattle.law_times.specs.ScriptedPower.{StaysOn}
-use Rattle.law_times.specs.Tunes.{IsTuned, HasTune}
-use Rattle.law_times.proofs.Settings.{Setting, setting, idle, core_at}
-use Rattle.law_times.proofs.QuietRounds.{hosts_round, set_to_host, by_setting, NobodyHosts}
+use Rattle.std.proofs.Common.{◌≡◌, ◌<◌, ◌≤◌, ◌+◌, ◌%◌, ◌&&◌, ◌==◌, ℕ, zero, suc, Bool, true, false, Option, Some, nat_lt, length, refl, ◌∙◌, ap, subst, arith}
+use Rattle.law_times.proofs.Words.{cond-true, cond-false, eq-eqb, ne_eqb, lt-ltb, le-ltb, Plan, ScenarioParts, IsSoundScenario, Tune, Scan, Hold, Host}
+use Rattle.law_times.proofs.Words.{begins_host, own_rank, hosts_in, is_rank, next_tune, rank_of, rank_is, state_at, StaysOn, IsTuned, HasTune}
 use Rattle.law_times.proofs.QuietFrames.{Goes, after_quiet, plan_of, quiet_frame}
+use Rattle.law_times.proofs.QuietRounds.{hosts_round, set_to_host, by_setting, NobodyHosts}
+use Rattle.law_times.proofs.Settings.{Setting, setting, idle, core_at}
 use Rattle.law_times.proofs.TuneRanges.{HasStarted, started}
 
 -- the rules
-other_rank : (own : Option ℕ) (r : ℕ) → (own ≡ Some r → ⊥) → is_rank own r ≡ false
-other_rank own r other = by_test (is_rank own r) refl
-  where
-    by_test : (b : Bool) → is_rank own r ≡ b → is_rank own r ≡ false
-    by_test true is = absurd (other (rank_is own r is))
-    by_test false is = is
-
 serves_not : (own : Option ℕ) (r w : ℕ) → (own ≡ Some r → w + 1 < 5) → (is_rank own r && (w + 1 == 5)) ≡ false
 serves_not own r w early = by_test (is_rank own r) refl
   where

@@ -1,25 +1,12 @@
 -- The six nodes are never answered: in each frame the host has no stream and acknowledges nothing, and nothing is delivered.
 use Rattle.std.proofs.Common.{◌≡◌, ◌≤◌, ◌+◌, ◌-◌, ◌==◌, ◌&&◌, ℕ, List, [], ◌∷◌, ◌++◌, Bool, true, false, inl, inr, Option, Some, None, filter_map, flat_map}
 use Rattle.std.proofs.Common.{if◌then◌else◌, length, nat_le, nat_lt, option_and_then, option_map, refl, sym, ◌∙◌, ap, subst, arith}
-use Rattle.std.specs.Option.{option_map_or}
-use Rattle.std.proofs.lemmas.Bool.{and_parts, cases_eq, cases_lt, eq-eqb, false≢true, lt-leb, ne_eqb}
-use Rattle.scenario_text.specs.ScenarioGrammar.{IsScenario}
-use Rattle.scenario_text.specs.ScenarioParts.{ScenarioParts}
-use Rattle.bus_rules.specs.declared.delivery.Delivery.{Delivery}
-use Rattle.bus_rules.specs.declared.part.Part.{Part}
-use Rattle.bus_rules.specs.declared.part.Part.TheVariants.{Opening, Data as DataSlot, Contention, Closing}
-use Rattle.bus_rules.specs.Cores.{Core}
-use Rattle.bus_rules.specs.Slots.{Closed, Data, DataOf, Message, Opened, RequestOf, ScheduleOf, delivery_of, part_of}
-use Rattle.bus_rules.specs.States.{State, StateOff, StateOn}
-use Rattle.bus_rules.specs.Plans.{last_slot}
-use Rattle.bus_terms.specs.Bus.{bus_deliveries, frames_of, state_at}
-use Rattle.bus_terms.specs.FloodOfText.{ids}
-use Rattle.bus_terms.specs.Rounds.{accepted_at, before_slot, closed_slot_of, delivery_in_slot, round_deliveries, slot_at, slot_deliveries}
-use Rattle.bus_terms.specs.Rounds.{slots_of}
-use Rattle.scenario_text.specs.Setups.{setup_of}
-use Rattle.bus_terms.proofs.HostedRounds.{heard_from}
 use Rattle.bus_terms.proofs.NumbersSaid.{said_by}
-use Rattle.law_times.specs.SixNodes.{HasNoStream, NobodyIsAnswered, SixAreNeverAnswered, six_nodes}
+use Rattle.law_times.proofs.Words.{option_map_or, and_parts, cases_eq, cases_lt, eq-eqb, false≢true, lt-leb, ne_eqb, IsScenario, ScenarioParts, Delivery, Part}
+use Rattle.law_times.proofs.Words.{Opening, DataSlot, Contention, Closing, Core, Closed, Data, DataOf, Message, Opened, RequestOf, ScheduleOf, delivery_of}
+use Rattle.law_times.proofs.Words.{part_of, State, StateOff, StateOn, last_slot, bus_deliveries, frames_of, state_at, ids, accepted_at, before_slot}
+use Rattle.law_times.proofs.Words.{closed_slot_of, delivery_in_slot, round_deliveries, slot_at, slot_deliveries, slots_of, setup_of, heard_from, HasNoStream}
+use Rattle.law_times.proofs.Words.{NobodyIsAnswered, SixAreNeverAnswered, six_nodes}
 use Rattle.law_times.proofs.ComputedTests.{each_up_to}
 use Rattle.law_times.proofs.StarvedNodes.{Starve, hosted, no_round, starve}
 use Rattle.law_times.proofs.WorkedSix.{bare_at_first, bare_plan, host_core, is_bare, none_at_first, six_800}

@@ -1,34 +1,17 @@
 -- Nodes that wait for the next round of their host, over frames with and without losses: each holds it, or scans the rank and has
 -- done so for few enough frames.
-use Rattle.std.proofs.Common.{◌≡◌, ◌≢◌, ◌<◌, ◌≤◌, ◌+◌, ◌-◌, ℕ, suc, List, true, false, Some, inl, inr}
-use Rattle.std.proofs.Common.{length, refl, ◌∙◌, ap, subst, arith}
-use Rattle.std.specs.Prelude.{◌⊎◌}
-use Rattle.std.proofs.lemmas.Bool.{cases_eq, eq-eqb}
-use Rattle.lwb_base.specs.Messages.{Plan}
-use Rattle.scenario_text.specs.ScenarioGrammar.{IsScenario}
-use Rattle.scenario_text.specs.ScenarioParts.{ScenarioParts}
-use Rattle.scenario_text.specs.ScenarioFacts.{IsSoundScenario}
-use Rattle.scenario_text.proofs.SoundScenarios.{sound}
-use Rattle.bus_rules.specs.declared.tune.Tune.{Tune}
-use Rattle.bus_rules.specs.declared.tune.Tune.TheVariants.{Scan, Hold, Host}
-use Rattle.bus_rules.specs.Cores.{Core, frame_ended, own_rank}
-use Rattle.bus_rules.specs.States.{State, StateOff, StateOn, at_core}
-use Rattle.bus_rules.specs.Tuning.{hosts_in}
-use Rattle.bus_terms.specs.Bus.{before_frame, state_at}
-use Rattle.bus_terms.specs.Flooding.{has}
-use Rattle.bus_terms.specs.Rounds.{rounds}
-use Rattle.scenario_text.specs.Setups.{setup_of}
-use Rattle.bus_terms.proofs.HostsOfRanks.{one_of_rank}
-use Rattle.law_times.specs.Reaches.{IsLossless, IsGroup}
-use Rattle.law_times.proofs.Settings.{setting, idle, tune_of, setting_tune}
-use Rattle.law_times.proofs.QuietRounds.{hosts_round, set_to_host, by_setting, NobodyHosts, nobody_else}
-use Rattle.law_times.proofs.QuietFrames.{Goes, quiet_frame, script_same}
+use Rattle.std.proofs.Common.{◌≡◌, ◌≢◌, ◌<◌, ◌≤◌, ◌+◌, ◌-◌, ℕ, suc, List, true, false, Some, inl, inr, length, refl, ◌∙◌, ap, subst, arith, ◌⊎◌}
+use Rattle.law_times.proofs.Words.{cases_eq, eq-eqb, Plan, IsScenario, ScenarioParts, Tune, Scan, Hold, Host, Core, frame_ended, own_rank, State, StateOff}
+use Rattle.law_times.proofs.Words.{StateOn, at_core, hosts_in, before_frame, state_at, has, rounds, setup_of, one_of_rank, IsLossless, IsGroup}
 use Rattle.law_times.proofs.FrameEnds.{fallen_end, held_end, scan_end}
 use Rattle.law_times.proofs.HostedFrames.{Planned}
-use Rattle.law_times.proofs.ReachedNodes.{IsThere, in_round}
 use Rattle.law_times.proofs.JoinedNodes.{next, host_next}
 use Rattle.law_times.proofs.KeptMembers.{Members, due_host, host_own, not_due, round_joins}
 use Rattle.law_times.proofs.LossyRounds.{IsLeft, left_after}
+use Rattle.law_times.proofs.QuietFrames.{Goes, quiet_frame, script_same}
+use Rattle.law_times.proofs.QuietRounds.{hosts_round, set_to_host, by_setting, NobodyHosts, nobody_else}
+use Rattle.law_times.proofs.ReachedNodes.{IsThere, in_round}
+use Rattle.law_times.proofs.Settings.{setting, idle, tune_of, setting_tune}
 use Rattle.law_times.proofs.TuneSteps.{goes_idle, holds_on, quiet_step, scans_on}
 
 -- v holds the round of frame due, or scans, so that it will have scanned for at most this many frames when that round is over
@@ -77,9 +60,6 @@ waiting_members s rank host f among w = record {
     holds v (inr (k, p, goes, soon)) = absurd (omega (arith, soon))
 
 module _ (s : ScenarioParts) (accepted : IsScenario s) (rank host b e : ℕ) (among : List ℕ) (group : IsGroup s host b e among) where
-  abbrev scenario : IsSoundScenario s
-  scenario = sound s accepted
-
   module _ (f most : ℕ) (after : b ≤ f) (within : suc f ≤ e) (few : most ≤ 12) (waiting : Waiting s rank f host among most) where
     own : own_rank host s.hosts ≡ Some rank
     own = host_own s rank f host waiting.due waiting.plan waiting.hosts

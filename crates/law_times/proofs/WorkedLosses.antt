@@ -1,28 +1,14 @@
 -- Three rounds in a row that a member misses, and the one after which it is a member again; it has scanned for twelve frames by then.
-use Rattle.std.proofs.Common.{◌≡◌, ◌≢◌, ℕ, List, [], ◌∷◌, true, nat_le, refl, arith, subst, inr, ◌≤◌}
-use Rattle.std.specs.Prelude.{◌⊎◌}
-use Rattle.std.proofs.lemmas.Bool.{leb-true}
-use Rattle.lwb_base.specs.Messages.{least_passing, Plan}
-use Rattle.bus_rules.specs.declared.tune.Tune.TheVariants.{Scan, Hold, Host}
-use Rattle.bus_rules.specs.Granting.{plan_round}
-use Rattle.bus_rules.specs.HostPlans.{host_plan}
-use Rattle.bus_rules.specs.Streams.{schedule_heard}
-use Rattle.bus_terms.specs.Bus.{before_frame, state_at}
-use Rattle.bus_terms.specs.Distances.{walks}
-use Rattle.bus_terms.specs.Flooding.{has, moment}
-use Rattle.bus_terms.specs.FloodOfText.{ids}
-use Rattle.bus_terms.specs.Rounds.{before_slot}
-use Rattle.law_times.specs.Tunes.{HasTune, IsTuned, AreMembers}
-use Rattle.law_times.specs.FirstRounds.{Begins, IsUpBy}
-use Rattle.law_times.specs.Losses.{AwaitRound, CostsFew, lossy_rounds, lossy_row, scanned}
-use Rattle.law_times.specs.Reaches.{IsGroup, IsLossless, IsReached}
-use Rattle.law_times.specs.ScriptedPower.{StaysOn, power_before}
-use Rattle.law_times.proofs.ReturningNodes.{scanners_return}
-use Rattle.law_times.proofs.WorkedTimes.{has_tune, is_tuned, plan_of, each_of_two}
-use Rattle.law_times.proofs.ComputedTests.{all_up_to, each_up_to}
+use Rattle.std.proofs.Common.{◌≡◌, ◌≢◌, ℕ, List, [], ◌∷◌, true, nat_le, refl, arith, subst, inr, ◌≤◌, ◌⊎◌}
+use Rattle.law_times.proofs.Words.{leb-true, least_passing, Plan, Scan, Hold, Host, plan_round, host_plan, schedule_heard, before_frame, state_at, walks, has}
+use Rattle.law_times.proofs.Words.{moment, before_slot, HasTune, IsTuned, AreMembers, Begins, IsUpBy, AwaitRound, CostsFew, lossy_rounds, lossy_row, scanned}
+use Rattle.law_times.proofs.Words.{IsGroup, IsLossless, power_before}
+use Rattle.law_times.proofs.ComputedTests.{all_up_to, each_up_to, others_of}
 use Rattle.law_times.proofs.CountedLosses.{losses_cost_few}
 use Rattle.law_times.proofs.FirstRoundsOfHosts.{nodes_join}
+use Rattle.law_times.proofs.ReturningNodes.{scanners_return}
 use Rattle.law_times.proofs.WorkedNetworks.{three_lost, three_is_scenario}
+use Rattle.law_times.proofs.WorkedNodes.{group_of, has_tune, is_tuned, plan_of}
 
 abbrev both : List ℕ
 both = 1 ∷ 2 ∷ []
@@ -33,18 +19,12 @@ begins e = record { first = refl; boots = record { boots = omega arith; on = ref
 
 group : (b e : ℕ) → IsGroup three_lost 1 b e both
 unfolding walks
-group b e = record {
-  led = refl;
-  known = each_of_two (λ v. has (ids three_lost.nodes) v ≡ true) 1 2 refl refl;
-  stay = each_of_two (λ v. StaysOn three_lost b e v) 1 2 refl refl;
-  reached = each_of_two (λ v. v ≢ 1 → IsReached three_lost both 1 v) 1 2 (λ other. absurd (other refl))
-      (λ other. record { links = 1; few = omega arith; walk = refl });
-}
+group b e = group_of three_lost 1 b e (2 ∷ []) (λ v. 1) refl refl refl
 
 up : (v : ℕ) → has both v ≡ true → v ≢ 1 → IsUpBy three_lost 0 5 v
 unfolding power_before
-up = each_of_two (λ v. v ≢ 1 → IsUpBy three_lost 0 5 v) 1 2 (λ other. absurd (other refl))
-    (λ other. record { frame = 0; range = (omega arith, omega arith); boots = record { boots = omega arith; on = refl }; stays = refl })
+up = others_of (IsUpBy three_lost 0 5) 1 (2 ∷ [])
+    (record { frame = 0; range = (omega arith, omega arith); boots = record { boots = omega arith; on = refl }; stays = refl }, tt)
 
 in_frame_5 : IsLossless three_lost 5
 in_frame_5 = record { losses = refl; cuts = refl }
@@ -89,8 +69,8 @@ awaits : AwaitRound three_lost 0 18 21 1 both
 awaits = record {
   plan = plan_in_18;
   hosts = host_in_18;
-  wait = each_of_two (λ v. v ≢ 1 → IsTuned three_lost 18 v (Hold 0 21) plan_in_18 ⊎ ((w : ℕ) × (w ≤ 8) × HasTune three_lost 18 v (Scan 0 w))) 1 2
-      (λ other. absurd (other refl)) (λ other. inr (8, omega arith, scans_in_18));
+  wait = others_of (λ v. IsTuned three_lost 18 v (Hold 0 21) plan_in_18 ⊎ ((w : ℕ) × (w ≤ 8) × HasTune three_lost 18 v (Scan 0 w))) 1 (2 ∷ [])
+      (inr (8, omega arith, scans_in_18), tt);
 }
 
 returns : AreMembers three_lost 0 22 1 both

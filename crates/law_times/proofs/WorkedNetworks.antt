@@ -1,16 +1,7 @@
 -- Worked networks, by their texts: nodes in a line that boot one after another, and a host that fails.
 use Rattle.std.proofs.Common.{ℕ, [], ◌∷◌, ◌++◌, refl, codes}
-use Rattle.std.specs.Str.{is_utf8, chars}
-use lib.Utf8.{encode}
-use Rattle.lwb_base.specs.Profile.{one}
-use Rattle.scenario_text.specs.Network.{network_line}
-use Rattle.scenario_text.specs.ScenarioGrammar.{IsScenario, scenario_after_words, scenario_line}
-use Rattle.scenario_text.specs.ScenarioParts.{ScenarioParts}
-use Rattle.scenario_text.specs.ScriptGrammar.{script_line, step_line, put_line}
-use Rattle.text_readers.specs.Reading.{draft_after_line}
-use Rattle.link_trace.specs.declared.lines.LoseLine.{LoseLine}
-use Rattle.bus_rules.specs.declared.act.Act.TheVariants.{On, Declare, Put}
-use Rattle.bus_terms.proofs.WorkedBuses.{node, link, at, backup}
+use Rattle.law_times.proofs.Words.{is_utf8, chars, encode, one, network_line, IsScenario, scenario_after_words, scenario_line, ScenarioParts, script_line}
+use Rattle.law_times.proofs.Words.{step_line, put_line, draft_after_line, LoseLine, On, Declare, Put, node, link, at, backup}
 
 abbrev lost : LoseLine
 lost = record { frame = 4; slot = 0; step = 0; from = 1; to = 2 }

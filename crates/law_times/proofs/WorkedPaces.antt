@@ -1,27 +1,11 @@
 -- A stream with a slot in six seconds: two have come due by frame 9, and eight by frame 17.
-use Rattle.std.proofs.Common.{◌≡◌, ◌+◌, ◌≤◌, ℕ, List, [], ◌∷◌, Some, refl, sym, subst, arith, map}
-use Rattle.std.specs.Prelude.{Contains}
-use Rattle.std.specs.List.{range_with_len}
-use Rattle.lwb_base.proofs.Elements.{contains_head}
-use Rattle.lwb_base.specs.Messages.{least_passing, Plan}
-use Rattle.lwb_base.specs.Profile.{one}
-use Rattle.scenario_text.specs.ScenarioParts.{ScenarioParts}
-use Rattle.bus_rules.specs.declared.tune.Tune.TheVariants.{Host}
-use Rattle.bus_rules.specs.Granting.{plan_round, gap_of, total}
-use Rattle.bus_rules.specs.HostPlans.{host_plan}
-use Rattle.bus_rules.specs.States.{State, StateOff, StateOn}
-use Rattle.bus_rules.specs.Streams.{schedule_heard}
-use Rattle.bus_rules.specs.Tables.{TableEntry}
-use Rattle.bus_rules.specs.Cores.{Core, empty_plan}
-use Rattle.bus_terms.specs.Bus.{before_frame, state_at}
-use Rattle.bus_terms.specs.Flooding.{moment}
-use Rattle.bus_terms.specs.Rounds.{before_slot}
-use Rattle.bus_terms.specs.HostedRounds.{IsHosted, node_before, state_after_round}
-use Rattle.law_service.specs.FirstSlots.{FitsNextRound, PlansRound}
-use Rattle.law_service.proofs.ComputedCores.{core_of, on_core}
-use Rattle.law_times.specs.Paces.{IsOnPace, HasEntry, HasSlowStreams, latency_bound}
-use Rattle.law_times.proofs.LatentSlots.{keep_pace, owed_fits, slots_come}
+use Rattle.std.proofs.Common.{◌≡◌, ◌+◌, ◌≤◌, ℕ, List, [], ◌∷◌, Some, refl, sym, subst, arith, map, Contains}
+use Rattle.law_times.proofs.Words.{range_with_len, contains_head, least_passing, Plan, one, ScenarioParts, Host, plan_round, gap_of, total, host_plan, State}
+use Rattle.law_times.proofs.Words.{StateOff, StateOn, schedule_heard, TableEntry, Core, empty_plan, before_frame, state_at, moment, before_slot, IsHosted}
+use Rattle.law_times.proofs.Words.{node_before, state_after_round, FitsNextRound, PlansRound, core_of, on_core, IsOnPace, HasEntry, HasSlowStreams}
+use Rattle.law_times.proofs.Words.{latency_bound}
 use Rattle.law_times.proofs.GrownTables.{entries_at}
+use Rattle.law_times.proofs.LatentSlots.{keep_pace, owed_fits, slots_come}
 use Rattle.law_times.proofs.Settings.{tune_of}
 use Rattle.law_times.proofs.WorkedNetworks.{slow_stream, slow_is_scenario}
 

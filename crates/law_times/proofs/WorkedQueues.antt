@@ -1,42 +1,17 @@
 -- A stream with a slot in seventeen seconds, accepted in frame 5: the packet that waits at first in frame 6 is delivered in frame 13, the last
 -- that its bound allows.
-use Rattle.std.proofs.Common.{◌≡◌, ◌≢◌, ◌≤◌, ℕ, List, [], ◌∷◌, true, codes, refl, sym, ◌∙◌, ap, subst, arith}
-use Rattle.std.specs.Str.{is_utf8, chars}
-use lib.Utf8.{encode}
-use Rattle.std.specs.Prelude.{Contains}
-use Rattle.lwb_base.proofs.Elements.{one_of}
-use Rattle.lwb_base.specs.Messages.{Ask, Plan, least_passing}
-use Rattle.lwb_base.specs.Profile.{one}
-use Rattle.scenario_text.specs.Network.{network_line}
-use Rattle.scenario_text.specs.ScenarioGrammar.{IsScenario, scenario_after_words, scenario_line}
-use Rattle.scenario_text.specs.ScenarioParts.{ScenarioParts}
-use Rattle.scenario_text.specs.ScriptGrammar.{script_line, step_line, put_line}
-use Rattle.text_readers.specs.Reading.{draft_after_line}
-use Rattle.bus_rules.specs.declared.act.Act.TheVariants.{On, Declare, Put}
-use Rattle.bus_rules.specs.declared.delivery.Delivery.{Delivery}
-use Rattle.bus_rules.specs.Granting.{plan_round}
-use Rattle.bus_rules.specs.HostPlans.{host_plan}
-use Rattle.bus_rules.specs.States.{State}
-use Rattle.bus_rules.specs.Streams.{schedule_heard}
-use Rattle.bus_rules.specs.Tables.{TableEntry}
-use Rattle.bus_terms.specs.Bus.{before_frame, bus_deliveries, state_at}
-use Rattle.bus_terms.specs.Distances.{walks}
-use Rattle.bus_terms.specs.Flooding.{has, moment}
-use Rattle.bus_terms.specs.FloodOfText.{ids}
-use Rattle.bus_terms.specs.Rounds.{before_slot}
-use Rattle.bus_terms.proofs.WorkedBuses.{node, link, at}
-use Rattle.law_service.proofs.ComputedCores.{core_of}
-use Rattle.law_times.specs.FirstRounds.{Begins, IsUpBy}
-use Rattle.law_times.specs.Paces.{HasEntry, HasSlowStreams, latency_bound}
-use Rattle.law_times.specs.Queues.{AwaitsSlot, IsAgreed, IsDelivered, IsQueued, IsServed, StreamPacket}
-use Rattle.law_times.specs.Reaches.{IsGroup, IsReached}
-use Rattle.law_times.specs.ScriptedPower.{StaysOn, power_before}
-use Rattle.law_times.specs.Tunes.{AreMembers}
+use Rattle.std.proofs.Common.{◌≡◌, ◌≢◌, ◌≤◌, ℕ, List, [], ◌∷◌, true, codes, refl, sym, ◌∙◌, ap, subst, arith, Contains}
+use Rattle.law_times.proofs.Words.{is_utf8, chars, encode, one_of, Ask, Plan, least_passing, one, network_line, IsScenario, scenario_after_words, scenario_line}
+use Rattle.law_times.proofs.Words.{ScenarioParts, script_line, step_line, put_line, draft_after_line, On, Declare, Put, Delivery, plan_round, host_plan, State}
+use Rattle.law_times.proofs.Words.{schedule_heard, TableEntry, before_frame, bus_deliveries, state_at, walks, has, moment, before_slot, node, link, at, core_of}
+use Rattle.law_times.proofs.Words.{Begins, IsUpBy, HasEntry, HasSlowStreams, latency_bound, AwaitsSlot, IsAgreed, IsDelivered, IsQueued, IsServed, StreamPacket}
+use Rattle.law_times.proofs.Words.{IsGroup, power_before, AreMembers}
+use Rattle.law_times.proofs.AgreedPackets.{agreed_come}
+use Rattle.law_times.proofs.ComputedTests.{others_of}
 use Rattle.law_times.proofs.FirstRoundsOfHosts.{nodes_join}
 use Rattle.law_times.proofs.LatentPackets.{packets_come}
+use Rattle.law_times.proofs.WorkedNodes.{group_of, plan_of}
 use Rattle.law_times.proofs.WorkedPaces.{has_entry}
-use Rattle.law_times.proofs.WorkedTimes.{each_of_two, plan_of}
-use Rattle.law_times.proofs.AgreedPackets.{agreed_come}
 
 abbrev s : ScenarioParts
 s = record {
@@ -64,26 +39,14 @@ begins : (e : ℕ) → Begins s 1 0 e
 unfolding power_before
 begins e = record { first = refl; boots = record { boots = omega arith; on = refl }; stays = refl }
 
-reached : (u v : ℕ) → has both u ≡ true → has both v ≡ true → v ≢ u → IsReached s both u v
-unfolding walks
-reached u v first second other =
-    each_of_two (λ u. v ≢ u → IsReached s both u v) 1 2
-    (each_of_two (λ v. v ≢ 1 → IsReached s both 1 v) 1 2 (λ same. absurd (same refl)) (λ same. record { links = 1; few = omega arith; walk = refl }) v second)
-    (each_of_two (λ v. v ≢ 2 → IsReached s both 2 v) 1 2 (λ same. record { links = 1; few = omega arith; walk = refl }) (λ same. absurd (same refl)) v second)
-    u first other
-
 group : (b e : ℕ) → IsGroup s 1 b e both
-group b e = record {
-  led = refl;
-  known = each_of_two (λ v. has (ids s.nodes) v ≡ true) 1 2 refl refl;
-  stay = each_of_two (λ v. StaysOn s b e v) 1 2 refl refl;
-  reached = λ v there other. reached 1 v refl there other;
-}
+unfolding walks
+group b e = group_of s 1 b e (2 ∷ []) (λ v. 1) refl refl refl
 
 up : (v : ℕ) → has both v ≡ true → v ≢ 1 → IsUpBy s 0 5 v
 unfolding power_before
-up = each_of_two (λ v. v ≢ 1 → IsUpBy s 0 5 v) 1 2 (λ other. absurd (other refl))
-    (λ other. record { frame = 0; range = (omega arith, omega arith); boots = record { boots = omega arith; on = refl }; stays = refl })
+up = others_of (IsUpBy s 0 5) 1 (2 ∷ [])
+    (record { frame = 0; range = (omega arith, omega arith); boots = record { boots = omega arith; on = refl }; stays = refl }, tt)
 
 members : AreMembers s 0 6 1 both
 members =
@@ -156,9 +119,10 @@ agreed = record {
 }
 
 served : IsServed s 0 1 6 13 both members.plan packet first_entry
+unfolding walks
 served = record {
   guest = λ same. absurd (omega (arith, same));
-  reach = reached 2 1 refl refl (λ same. absurd (omega (arith, same)));
+  reach = record { links = 1; few = omega arith; walk = refl };
   keeps = refl;
   agreed = agreed;
 }

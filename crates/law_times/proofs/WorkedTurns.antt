@@ -1,8 +1,6 @@
 -- Two nodes, each after four tries, that skip as many slots and request in the same slots until the last round of the bound.
 use Rattle.std.proofs.Common.{◌≡◌, ◌≢◌, ◌≤◌, ◌-◌, ◌%◌, ◌+◌, ◌==◌, ℕ, zero, suc, Bool, true, false, Option, Some, None, refl, ap, arith}
-use Rattle.std.proofs.lemmas.Bool.{eqb-true, false≢true}
-use Rattle.bus_rules.specs.Streams.{Streams}
-use Rattle.law_times.specs.ContentionTurns.{IsBackingOff, PartWithin, after_turns, asks_anew, ids_apart, parting_bound, slot_after}
+use Rattle.law_times.proofs.Words.{eqb-true, false≢true, Streams, IsBackingOff, PartWithin, after_turns, asks_anew, ids_apart, parting_bound, slot_after}
 use Rattle.law_times.proofs.ComputedTests.{all_up_to, each_up_to}
 
 abbrev left : ℕ → Streams

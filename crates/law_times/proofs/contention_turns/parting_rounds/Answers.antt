@@ -1,6 +1,5 @@
 use Rattle.std.proofs.Common.{◌≡◌, ◌-◌, ℕ, sym, subst}
-use Rattle.law_times.specs.Contentions.{PartOnTheBus}
-use Rattle.law_times.specs.ContentionTurns.{PartWithin, parting_bound}
+use Rattle.law_times.proofs.Words.{PartOnTheBus, PartWithin, parting_bound}
 use Rattle.law_times.proofs.ContendersPart.{part_on_bus}
 use Rattle.law_times.proofs.ContentionTurnsOfTwo.{part_within}
 use Rattle.law_times.proofs.WorkedTurns.{not_within_less}

@@ -1,5 +1,5 @@
 use Rattle.std.proofs.Common.{rules, ◌≡◌, ◌+◌, ◌*◌, subst}
-use Rattle.law_times.specs.Failovers.{HostsWithin, failover_bound}
+use Rattle.law_times.proofs.Words.{HostsWithin, failover_bound}
 use Rattle.law_times.proofs.LastHosts.{last_hosts}
 use Rattle.law_times.proofs.failovers.failover_frames.Goals as goal
 

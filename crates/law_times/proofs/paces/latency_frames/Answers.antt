@@ -1,6 +1,5 @@
 use Rattle.std.proofs.Common.{rules, ◌≡◌, ◌+◌, ◌-◌, ◌*◌, ◌/◌, subst}
-use Rattle.law_times.specs.Paces.{SlotsComeWithin, latency_bound}
-use Rattle.law_times.specs.Queues.{AgreedPacketsComeWithin, PacketsComeWithin}
+use Rattle.law_times.proofs.Words.{SlotsComeWithin, latency_bound, AgreedPacketsComeWithin, PacketsComeWithin}
 use Rattle.law_times.proofs.AgreedPackets.{agreed_come}
 use Rattle.law_times.proofs.LatentPackets.{packets_come}
 use Rattle.law_times.proofs.LatentSlots.{slots_come}

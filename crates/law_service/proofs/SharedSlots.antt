@@ -1,15 +1,12 @@
--- A flood with no initiator, or with two that reach each node that takes part: nobody receives anything.
-use Rattle.std.proofs.Common.{◌≡◌, ◌≢◌, ◌+◌, ◌&&◌, ℕ, zero, suc, true, false, inl, inr, Option, Some, None}
-use Rattle.std.proofs.Common.{is_none, nat_lt, option_and_then, sym, ◌∙◌, ap}
-use Rattle.std.proofs.lemmas.Bool.{false≢true, and_parts, cond-true}
+-- A flood with no initiator, or with two that reach each node which one initiator reaches: nobody receives anything.
+use Rattle.std.proofs.Common.{◌≡◌, ◌≢◌, ◌+◌, ◌&&◌, ℕ, zero, suc, true, false, inl, inr, Option, Some, None, is_none, nat_lt, option_and_then, sym, ◌∙◌, ap}
 use Rattle.lwb_base.proofs.Options.{not_both, none_is}
-use Rattle.bus_terms.specs.Flooding.{Setting, Moment, STEPS, moment, has, offer, candidates, named, pick, may_hear, takes, hears, Hears}
-use Rattle.bus_terms.specs.Rounds.{Slot, accepted_at, message_said}
-use Rattle.bus_terms.proofs.Options.{only_from, in_filter, from_filter, heard_parts, sends_parts, named_parts}
-use Rattle.bus_terms.proofs.ReceivedInRounds.{accepted_none}
+use Rattle.law_service.proofs.Words.{false≢true, and_parts, cond-true, Setting, Moment, STEPS, moment, has, offer, candidates, named, pick, may_hear, takes}
+use Rattle.law_service.proofs.Words.{hears, Hears, Slot, accepted_at, message_said, only_from, in_filter, from_filter, heard_parts, sends_parts, named_parts}
+use Rattle.law_service.proofs.Words.{accepted_none}
 
 -- of two different packets that reach a node it takes none, but by a capture line
-one_or_none : (s : Setting) (m : Moment) (k w u v o : ℕ) → u ≢ v → has (candidates s m k w) u ≡ true → has (candidates s m k w) v ≡ true
+pub one_or_none : (s : Setting) (m : Moment) (k w u v o : ℕ) → u ≢ v → has (candidates s m k w) u ≡ true → has (candidates s m k w) v ≡ true
     → s.captured k w ≡ None → pick s m k w ≡ Some o → ⊥
 one_or_none s m k w u v o differ first second uncaptured picked = elim (only_from (candidates s m k w) (named s m k w) o picked) [
   | inl all ↦ differ (all.1 u first ∙ sym (all.1 v second))
@@ -65,7 +62,8 @@ module _ (s : Setting) (uncaptured : (k w : ℕ) → s.captured k w ≡ None) wh
   -- two of them
   pub two_start : (u v : ℕ) → u ≢ v → (has s.everyone u ≡ true) × (has s.everyone v ≡ true)
       → (has s.initiators u ≡ true) × (has s.initiators v ≡ true)
-      → ((w : ℕ) → has s.everyone w ≡ true → w ≢ u → w ≢ v → (s.passes 0 u w ≡ true) × (s.passes 0 v w ≡ true))
+      → ((w : ℕ) → has s.everyone w ≡ true → w ≢ u → w ≢ v → (x : ℕ) → has s.initiators x ≡ true → s.passes 0 x w ≡ true
+      → (s.passes 0 u w ≡ true) × (s.passes 0 v w ≡ true))
       → (k w o : ℕ) → Hears s w k o → ⊥
   two_start u v differ there both reach = nobody_hears first
     where
@@ -82,7 +80,8 @@ module _ (s : Setting) (uncaptured : (k w : ℕ) → s.captured k w ≡ None) wh
               not_both ((moment s 0).sends w) x resting.0 (ap (λ (y : ℕ). (moment s 0).sends y) same ∙ begins x initiates)
 
           over : (s.passes 0 u w ≡ true) × (s.passes 0 v w ≡ true)
-          over = reach w resting.1 (not_at u both.0) (not_at v both.1)
+          over = (let from = offered 0 w o heard in
+              reach w resting.1 (not_at u both.0) (not_at v both.1) from.0 (begun from.0 o from.2) from.1)
 
           reaches : (x : ℕ) → has s.everyone x ≡ true → has s.initiators x ≡ true → s.passes 0 x w ≡ true
               → has (candidates s (moment s 0) 0 w) x ≡ true
