@@ -39,8 +39,8 @@ has_no_end() {
 }
 
 # each_request STATUS INPUT WORD..: these words end with that status, and with 5 where a request for memory is refused, whichever it is.
-# A list that gets no room for twice its elements asks for what it needs alone. So a run may end as it would where one
-# request is refused, and then it has to end with 5 where those after it are refused too.
+# A list that is made of others first asks for room for all of them, and where that is refused for one at a time. So the run may
+# end as it would, and then it has to end with 5 where all later requests are refused too.
 each_request() {
     local whole=$1 input=$2 requests number status name
     shift 2
