@@ -1,12 +1,9 @@
 #!/usr/bin/env python3
 """Runs the built program on hostile input and counts what it does other than it should. Takes minutes, so it is no part of the gate.
 
-- mutated: texts made of the examples by flipped bytes, lines dropped, doubled and exchanged, and numbers at their bounds. Each
-  must be answered by status 0 with lines of its command's report, or by status 1 with one line that names a fault, and by the
-  same bytes and status by the program as the second compiler builds it. Nothing may crash, hang or write to standard error.
-- refused: each command on an example, with its first, second, third .. request for memory refused, one request a run, as
-  many as there are. Each must end with status 5 and nothing written, or with status 0 and the whole report; status 6 where
-  the words themselves could not be had.
+The input is texts made of the examples by flipped bytes, lines dropped, doubled and exchanged, and numbers at their bounds. Each
+must be answered by status 0 with lines of its command's report, or by status 1 with one line that names a fault, and by the
+same bytes and status by the program as the second compiler builds it. Nothing may crash, hang or write to standard error.
 
 Usage: tests/hostile.py PROGRAM [OTHER] [--texts N] [--seed N] [--jobs N]. PROGRAM and OTHER are one program by two compilers;
 without OTHER nothing is compared. The last line is 'N passed, M failed', and the status is 0 where M is 0.
@@ -17,10 +14,8 @@ import os
 import pathlib
 import random
 import re
-import shutil
 import subprocess
 import sys
-import tempfile
 
 TOP = pathlib.Path(__file__).resolve().parent.parent
 SECONDS = 60
@@ -108,10 +103,10 @@ def mutated(sources, draw):
     return word, text
 
 
-def answer(program, words, text, env=None):
+def answer(program, words, text):
     """The status of a run, what it wrote and what it said; status None where it hung."""
     try:
-        done = subprocess.run([program, *words], input=text, capture_output=True, timeout=SECONDS, env=env or {})
+        done = subprocess.run([program, *words], input=text, capture_output=True, timeout=SECONDS, env={})
     except subprocess.TimeoutExpired:
         return None, b"", b""
     return done.returncode, done.stdout, done.stderr
@@ -163,85 +158,6 @@ def try_mutations(program, other, sources, texts, seed, jobs):
     return reported + refused, len(wrong)
 
 
-# A library between the program and the C library's allocator, which refuses one request: the one whose number is in REFUSED.
-# It says nothing; where a run makes fewer requests, it ends as it would without.
-REFUSER = r"""
-#define _GNU_SOURCE
-#include <dlfcn.h>
-#include <errno.h>
-#include <fcntl.h>
-#include <stddef.h>
-#include <stdio.h>
-#include <stdlib.h>
-
-static long asked, refused = -1;
-
-static int refuses(void) {
-    if (refused < 0) {
-        const char *number = getenv("REFUSED");
-        refused = number ? atol(number) : 0;
-    }
-    return ++asked == refused;
-}
-
-/* At the end the number of requests is written to the file that ASKED names. */
-__attribute__((destructor)) static void tell(void) {
-    const char *name = getenv("ASKED");
-    int file = name ? open(name, O_WRONLY | O_CREAT | O_TRUNC, 0600) : -1;
-    if (file >= 0) dprintf(file, "%ld", asked);
-}
-
-#define REAL(name, type) static __typeof__(type) *real; if (!real) real = (__typeof__(type) *)dlsym(RTLD_NEXT, name)
-
-void *malloc(size_t size) {
-    REAL("malloc", void *(size_t));
-    if (refuses()) { errno = ENOMEM; return NULL; }
-    return real(size);
-}
-
-void *realloc(void *old, size_t size) {
-    REAL("realloc", void *(void *, size_t));
-    if (refuses()) { errno = ENOMEM; return NULL; }
-    return real(old, size);
-}
-
-int posix_memalign(void **result, size_t alignment, size_t size) {
-    REAL("posix_memalign", int(void **, size_t, size_t));
-    if (refuses()) return ENOMEM;
-    return real(result, alignment, size);
-}
-
-void *aligned_alloc(size_t alignment, size_t size) {
-    REAL("aligned_alloc", void *(size_t, size_t));
-    if (refuses()) { errno = ENOMEM; return NULL; }
-    return real(alignment, size);
-}
-"""
-
-
-def try_refusals(program, commands, folder):
-    source, library = folder / "refuser.c", folder / "refuser.so"
-    source.write_text(REFUSER)
-    subprocess.run(["cc", "-O1", "-shared", "-fPIC", "-o", library, source, "-ldl"], check=True)
-    passed, failed = 0, 0
-    count = folder / "asked"
-    for words, text in commands:
-        status, whole, _ = answer(program, words, text, {"LD_PRELOAD": str(library), "ASKED": str(count)})
-        requests = int(count.read_text())
-        statuses = {}
-        for number in range(1, requests + 1):
-            last, out, err = answer(program, words, text, {"LD_PRELOAD": str(library), "REFUSED": str(number)})
-            statuses[last] = statuses.get(last, 0) + 1
-            if not err and ((last == 0 and out == whole) or (last in (5, 6) and not out)):
-                passed += 1
-            else:
-                failed += 1
-                print(f"FAILED: {' '.join(words)} without its request {number}: status {last}, {out[:100]!r} {err[:100]!r}")
-        told = ", ".join(f"{statuses[one]} with status {one}" for one in sorted(statuses, key=str))
-        print(f"refused: {' '.join(words)}: {requests} requests, each refused in turn: {told}; status {status} with all of them")
-    return passed, failed
-
-
 def main():
     parser = argparse.ArgumentParser()
     parser.add_argument("program")
@@ -254,18 +170,7 @@ def main():
     other = given.other and os.path.abspath(given.other)
     usage = answer(program, [], b"")[1].decode()
     sources = examples(usage)
-    line = (TOP / "examples" / "packets-along-a-line.scenario").read_bytes()
-    flood = (TOP / "examples" / "three-in-a-line.flood").read_bytes()
-    streams = (TOP / "examples" / "one-slot-three-streams.deadlines").read_bytes()
-    commands = [([word], line) for word in ("run", "log", "bus") if word in usage]
-    commands += [(["flood"], flood), (["demo", "7", "2", "1"], b""), (["deadlines"], streams)]
-    folder = pathlib.Path(tempfile.mkdtemp())
-    try:
-        passed, failed = try_refusals(program, commands, folder)
-    finally:
-        shutil.rmtree(folder)
-    counts = try_mutations(program, other, sources, given.texts, given.seed, given.jobs)
-    passed, failed = passed + counts[0], failed + counts[1]
+    passed, failed = try_mutations(program, other, sources, given.texts, given.seed, given.jobs)
     print(f"{passed} passed, {failed} failed")
     return 1 if failed else 0
 

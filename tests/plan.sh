@@ -1,7 +1,7 @@
 #!/usr/bin/env bash
 # Runs the built program of a planner and says what it does other than it should: on a network that was worked out outside, on
-# networks whose losses are known, on words and texts that are rejected, and over streams that fail, with each status. What it writes of a scenario
-# without ratios is what `bus` of the first program writes.
+# networks whose losses are known, on words and texts that are rejected, over streams that fail, with each status, and with reads, writes
+# and requests for memory that fail. What it writes of a scenario without ratios is what `bus` of the first program writes.
 # The last line is 'N passed, M failed', and the status is 0 where M is 0.
 # Usage: tests/plan.sh PROGRAM FIRST [OTHER]. FIRST is the first program, and OTHER the planner's as the second compiler builds it.
 set -u
@@ -13,6 +13,7 @@ folder=$(mktemp -d) || exit 1
 trap 'rm -rf "$folder"' EXIT
 . "$top/tests/counting.sh"
 . "$top/tests/statuses.sh"
+. "$top/tests/counted_calls.sh"
 
 usage=$'usage: draw SEED | outcome SEED | fates SEED | sample FROM COUNT\n'
 base=$'sends 2\nnode 1 0\nnode 2 0\nhost 0 1\npair 1 2\n'
@@ -368,6 +369,16 @@ statuses() {
     with_little_memory outcome 7
 }
 
+# Each command, with the causes of its statuses.
+causes() {
+    local word line="$top/tests/worked/three-in-a-line.network"
+    for word in outcome fates draw; do
+        each_cause "$line" "$word" 7
+    done
+    each_cause "$line" sample 7 2
+    each_request 2 /dev/null outcome
+}
+
 # What the second compiler's program writes, to the byte.
 by_both() {
     local file word
@@ -380,6 +391,7 @@ by_both() {
     done
 }
 
+count_calls
 worked_network
 worked_fates
 fates_are_outcomes
@@ -394,6 +406,8 @@ horizons
 draw_horizons
 draw_lines
 statuses
+causes
+statuses_have_causes
 [ -n "$other" ] && by_both
 echo "$passed passed, $failed failed"
 [ "$failed" -eq 0 ]

@@ -2,7 +2,8 @@
 # Runs the built program and says what it does other than it should: on each example, whose report in examples/expected was
 # worked out from the rules; on texts that bench/made.py draws; over streams that fail, with each status (tests/statuses.sh), and on
 # the greatest sizes; built by the second compiler, on each example again; on worked scenarios, words that are no command, texts
-# that are rejected (tests/worked.sh) and recorded logs (tests/verdicts.sh); and by the front end ./foldcairn (tests/front_end.sh).
+# that are rejected (tests/worked.sh) and recorded logs (tests/verdicts.sh); with reads, writes and requests for memory that fail, each
+# in turn (tests/counted_calls.sh); and by the front end ./foldcairn (tests/front_end.sh).
 # The last line is 'N passed, M failed', and the status is 0 where M is 0.
 # Usage: tests/program.sh [PROGRAM [OTHER]]. OTHER is the same program as the second compiler builds it. By default they are
 # what the gate built, or they are built.
@@ -44,6 +45,7 @@ fi
 
 . "$top/tests/counting.sh"
 . "$top/tests/statuses.sh"
+. "$top/tests/counted_calls.sh"
 
 # reports WORD FILE EXPECTED: whether the program writes that of the file, by that word.
 reports() {
@@ -190,6 +192,24 @@ statuses() {
     says "a closed pipe: status $(cat "$folder/status"), not 4" [ "$(cat "$folder/status")" = 4 ]
 }
 
+# Each command, with the causes of its statuses. A scenario is checked with its log and without a line log.
+causes() {
+    local word
+    printf '%s' "$line" > "$folder/flood"
+    printf '%sframes 12\non 0 1\non 0 2\nstream 0 2 0 4\nput 0 2 0 aa\n' "$base" > "$folder/scenario"
+    { cat "$folder/scenario"; echo log; "$program" log < "$folder/scenario"; } > "$folder/check"
+    each_cause "$folder/flood" flood
+    for word in run log bus times return; do
+        each_cause "$folder/scenario" "$word"
+    done
+    each_cause "$folder/check" check
+    each_request 1 "$folder/scenario" check
+    each_cause "$top/examples/one-slot-three-streams.deadlines" deadlines
+    each_request 0 /dev/null demo 7 2 1
+    FAILED_WRITE=1 each_request 4 /dev/null demo 7 2 1
+    each_request 2 /dev/null floods
+}
+
 # Two texts and a demo as large as they may be, with ample memory: that memory suffices is said by no clause.
 greatest_sizes() {
     # Two thousand rates of one clock, which change nothing.
@@ -215,6 +235,7 @@ greatest_sizes() {
     demos "a demo of 64 nodes in 256 frames" $'deliveries 63103\ndrops 2223\nsent 6072967168\non 435905812220\n' 7 64 256
 }
 
+count_calls
 examples
 demos "a demo of two nodes" $'deliveries 0\ndrops 0\nsent 0\non 512000000\n' 7 2 1
 demos "a demo of the greatest seed" $'deliveries 0\ndrops 0\nsent 0\non 512000000\n' 9999999999999 2 1
@@ -236,6 +257,9 @@ greatest_sizes
 worked_texts
 . "$top/tests/verdicts.sh"
 checked_logs
+causes
+statuses_have_causes
+counts_no_more
 . "$top/tests/front_end.sh"
 front_end
 echo "$passed passed, $failed failed"

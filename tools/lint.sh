@@ -35,7 +35,7 @@ else
 fi
 
 # Those that other scripts read have the variables of these, and [ a -ot b ] is in all shells of Debian.
-fragments='tests/front_end.sh tests/install_debian.sh tests/statuses.sh tests/verdicts.sh tests/worked.sh'
+fragments='tests/counted_calls.sh tests/front_end.sh tests/install_debian.sh tests/statuses.sh tests/verdicts.sh tests/worked.sh'
 # shellcheck disable=SC2046
 run shellcheck -S warning -e SC3013 $(git ls-files '*.sh' foldcairn .ci/run | grep -vxF "$(printf '%s\n' $fragments)")
 # shellcheck disable=SC2086
