@@ -1,8 +1,7 @@
 #!/usr/bin/env python3
 """Finds lines of .rt and .antt files that are longer than 160 columns, and libraries in crates.txt that their crate does not cite.
 
-Usage: tools/tidy.py. What is known and not yet mended is listed in KNOWN_LINES and KNOWN_EDGES, and does not count; who mends it
-takes it out there. The status is 1 if there is something else. Only Python's standard library is used.
+Usage: tools/tidy.py. The lines that have to be longer are counted in KNOWN_LINES. The status is 1 if there is something else. Only Python's standard library is used.
 """
 import collections
 import pathlib
@@ -13,8 +12,6 @@ TOP = pathlib.Path(__file__).resolve().parent.parent
 COLUMNS = 160
 # How many longer lines a file has: this one is a name that the prover gives.
 KNOWN_LINES = {"crates/schedule_codec/proofs/decode/spelled/Answers.antt": 1}
-# A crate, and what it lists without need.
-KNOWN_EDGES = {("air_log", "stream_source")}
 
 
 def sources(crate):
@@ -50,7 +47,7 @@ def main():
                 found[f"longer than {COLUMNS} columns"] += [f"{name}:{number}" for number in longer]
         words = cited(paths)
         found["listed in crates.txt, and not cited"] += [f"{crate}: {library}" for library in libraries
-                                                         if library not in words and (crate, library) not in KNOWN_EDGES]
+                                                         if library not in words]
     for what, places in found.items():
         for place in places:
             print(f"{place}: {what}")
