@@ -28,6 +28,7 @@ pub mod ShownCourses
 pub mod AlarmsTaken
 pub mod DeviceChanges
 pub mod FramesOfCourses
+pub mod ListCuts
 pub mod FirstRoundLog
 pub mod ShortRuns
 pub mod DropsBelow
@@ -48,7 +49,6 @@ mod HearingsInAir
 mod HearingsOfCourses
 mod LeastDue
 mod LinesOfCourses
-mod ListCuts
 mod LogTextExamples
 mod OpenedByAlarm
 mod TimelyOrders
