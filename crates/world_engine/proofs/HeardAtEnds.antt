@@ -123,7 +123,7 @@ module _ (s : ScenarioParts) (clocks : ℕ → ℕ → ℕ) (sound : IsSoundScen
   sent_own =
       let trail = trails p sender here in
       let shows = trail.shows in
-      let same : own.made.sent ≡ sent_by old.air sender.node = ap (λ (e : Device). e.made.sent) (sym shows.is) ∙ shows.logged.sent in
+      let same : own.made.sent ≡ sent_by old.air sender.node = ap (λ (e : Device). e.made.sent) (sym shows.shows.is) ∙ shows.logged.sent in
       subst (λ (ys : List Sending). Contains ys x) same
       (own_here own.sending own.made.sent x (sends (setup_of s sender.node) own shows)
       (own_sent s sender.node (clocks sender.node) (heard_by old.air sender.node) t own trail.at))
@@ -176,11 +176,11 @@ module _ (s : ScenarioParts) (clocks : ℕ → ℕ → ℕ) (sound : IsSoundScen
       let trail = trails p sender here in
       let shows = trail.shows in
       let known = shows.known in
-      let id_is : shows.state.setup.id ≡ x.node = ap (λ (y : Setup). y.id) shows.setup ∙ sym sent_by_sender in
+      let id_is : shows.state.setup.id ≡ x.node = ap (λ (y : Setup). y.id) shows.shows.setup ∙ sym sent_by_sender in
       ap (λ (v : ℕ). sending_of_station (station_of old.medium v)) (sym id_is)
       ∙ ap sending_of_station known.there
       ∙ known.sending
-      ∙ ap (λ (d : Device). d.sending) shows.is
+      ∙ ap (λ (d : Device). d.sending) shows.shows.is
       ∙ sends (setup_of s sender.node) own shows
 
   -- the log stays in turn
