@@ -1,6 +1,6 @@
 -- A field after the ordered transmission of a device has started.
-use Rattle.std.proofs.Common.{◌≡◌, ◌≢◌, ℕ, ◌+◌, ◌≤◌, List, [], ◌∷◌, ◌++◌, set, length, Option, Some, None, if◌then◌else◌, is_none, option_to_list, reverse}
-use Rattle.std.proofs.Common.{refl, sym, ◌∙◌, ap, subst, arith, Contains, inl}
+use Rattle.std.proofs.Common.{◌≡◌, ℕ, ◌+◌, ◌≤◌, List, [], ◌∷◌, ◌++◌, set, length, Option, Some, None, if◌then◌else◌, is_none, option_to_list}
+use Rattle.std.proofs.Common.{refl, sym, ◌∙◌, ap, subst, arith, Contains}
 use Rattle.std.specs.Prelude.{slice_get}
 use Rattle.std.specs.Option.{option_map}
 use Rattle.std.proofs.lemmas.List.{append-nil, length-set}
@@ -21,7 +21,7 @@ use Rattle.radio_model.proofs.OneStation.{same_nodes, other_station}
 use Rattle.lwb_base.proofs.Elements.{map_contains, contains_at}
 use Rattle.lwb_base.proofs.Lists.{set_elsewhere}
 use Rattle.radio_model.proofs.Places.{Keeps, still_medium}
-use Rattle.event_calendar.specs.Orders.{Due, at, changed}
+use Rattle.event_calendar.specs.Orders.{Due, changed}
 use Rattle.event_calendar.specs.declared.class.Class.TheVariants.{SendingEnd, SendingStart}
 use Rattle.bus_rules.specs.Cores.{Setup}
 use Rattle.air_log.specs.Devices.{Device, Made, nothing_made}

@@ -27,7 +27,7 @@ use Rattle.air_log.specs.DeviceStates.{DeviceState, channel_of, tuning_of, one_m
 use Rattle.air_log.specs.DeviceChanges.{DeviceShows}
 use Rattle.air_log.specs.WindowLogs.{WindowLog}
 use Rattle.air_log.proofs.LoggedEntries.{sendings_sent, hearings_sent}
-use Rattle.world_engine.specs.Fields.{FieldState, FieldShows, IsField, IsLogged, entries_of, setup_of_device, id_of, setups_of, ids_of}
+use Rattle.world_engine.specs.Fields.{FieldState, FieldShows, IsField, IsLogged, entries_of, setup_of_device, id_of, ids_of}
 use Rattle.world_engine.specs.Fields.{due_of_device, rank_of_tuned}
 use Rattle.world_engine.specs.FieldSteps.{MediumGoesOn, AreSame, Acts}
 use Rattle.world_engine.proofs.ActsInTurn.{same_ids}

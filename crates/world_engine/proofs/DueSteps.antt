@@ -121,7 +121,7 @@ module _ {C : Type 0} {R : C → ℕ → ℕ} {s : ScenarioParts} {cs : List C} 
           (clocks_at_places R s due.sound cs due.count) y sending.1 sending.2 next_end all.0 all.1 run_end_of in
           let deaf = not_own s clocks due.sound lines by_trace
           (readings_at R cs) t p y sending.1 all.0 old old_due new new_due all.1 run_end_of.places run_end_of.trails sending.2 node.0 node.1
-          air.scene air.holds _ air.has in
+          air.scene air.holds air.has.in_turn after.air.has.in_turn in
           subst (λ (k : Class). IsDoneAs k new new_due) (sym is_end) (
             after,
             past s clocks due.sound drifts told t due.within SendingEnd p few new new_due after
@@ -130,7 +130,7 @@ module _ {C : Type 0} {R : C → ℕ → ℕ} {s : ScenarioParts} {cs : List C} 
             end_stays s clocks t y all.0 old.air new.air sending.1
                 (heard_at_end s clocks due.sound lines by_trace
                 (readings_at R cs) t p y sending.1 all.0 old old_due new new_due all.1 run_end_of.places run_end_of.trails sending.2 node.0 node.1
-                air.scene air.holds _ air.has),
+                air.scene air.holds air.has.in_turn after.air.has.in_turn),
           )
 
     -- alarms

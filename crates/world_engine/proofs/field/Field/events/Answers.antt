@@ -1,4 +1,4 @@
-use Rattle.std.proofs.Common.{◌≡◌, ◌<◌, ◌+◌, ◌*◌, suc, Some, subst, arith}
+use Rattle.std.proofs.Common.{◌≡◌, ◌+◌, ◌*◌, suc, Some, subst, arith}
 use Rattle.event_calendar.specs.Orders.{Order, IsNext}
 use Rattle.air_log.specs.Trails.{frame_start}
 use Rattle.air_log.specs.ClockLists.{clocks_by}
