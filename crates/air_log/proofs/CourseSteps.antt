@@ -11,30 +11,20 @@ use Rattle.air_log.specs.DeviceStates.{DeviceState, whole, with_tuned, one_more,
 use Rattle.air_log.specs.DeviceStates.{HappenedBy, IsSameNode}
 use Rattle.air_log.specs.AlarmRuns.{after_alarms, IsAlarmRun}
 use Rattle.air_log.specs.Trails.{alarmed}
-use Rattle.air_log.specs.DeviceChanges.{DeviceShows, DeviceIsShown, DeviceGoes, DeviceIsEnding, TakesAlarms}
+use Rattle.air_log.specs.DeviceChanges.{DeviceIsShown, DeviceGoes, DeviceIsEnding, TakesAlarms}
 use Rattle.air_log.proofs.AlarmsTaken.{all_taken}
+use Rattle.air_log.proofs.DeviceChanges.{node_shows}
 use Rattle.air_log.specs.WindowSums.{WindowSum, IsCounted}
 use Rattle.air_log.specs.Courses.{CourseState, made_in, CourseShows, CourseIsShown, Goes, HasListsOf, IsShownEnding}
-use Rattle.air_log.proofs.ShownCourses.{whole_shows, shows_as}
+use Rattle.air_log.proofs.ShownCourses.{shows_as}
 
 -- the device that a course shows
-pub device_in : (q : Setup) (t : ℕ) (c : CourseState) (d : Device) → (sh : CourseShows q t c d) → DeviceShows q t c.device (made_in c sh.windows) d
-device_in q t c d sh = record {
-  is = sh.is;
-  setup = sh.setup;
-  counted = sh.counted;
-  few = sh.few;
-  ended = sh.ended;
-  happened = sh.happened;
-  taken = sh.taken;
-}
-
 pub shown_in : (t : ℕ) (c : CourseState) → CourseIsShown t c → DeviceIsShown t c.device
 shown_in t c shown = record {
   setup = shown.setup;
   made = made_in c shown.shows.windows;
   device = shown.device;
-  shows = device_in shown.setup t c shown.device shown.shows;
+  shows = shown.shows.shows;
 }
 
 -- what its device goes through, with the lists of what that makes
@@ -44,17 +34,7 @@ course_after c after closed ds = record c { device = after; tuned = one_more clo
 pub course_goes : (t : ℕ) (change : Setup → Device → Device) (old : CourseState) (after : DeviceState) (closed : Option TunedEntry) (ds : List Delivery)
     → DeviceGoes t change old.device after closed ds → Goes t change old (course_after old after closed ds)
 course_goes t change old after closed ds goes = λ q d sh.
-    let next = goes.shows q (made_in old sh.windows) d (device_in q t old d sh) in
-    record {
-      windows = next.0;
-      is = next.1.is;
-      setup = next.1.setup;
-      counted = next.1.counted;
-      few = next.1.few;
-      ended = next.1.ended;
-      happened = next.1.happened;
-      taken = next.1.taken;
-    }
+    let next = goes.shows q (made_in old sh.windows) d sh.shows in record { windows = next.0; shows = next.1 }
 
 -- as code comes to it: a list of deliveries, and then a tuning in its list
 pub course_listed : (old : CourseState) (after : DeviceState) (closed : Option TunedEntry) (ds l : List Delivery) (new : CourseState)
@@ -75,15 +55,10 @@ begin_goes t old after x change comes happened node = λ q d sh.
     let made = made_in old sh.windows in
     record {
       windows = sh.windows;
-      is =
-          ap (whole after) (sym (sent_made x made)) ∙ sym (comes made) ∙ ap (λ (z : Setup). change z (whole old.device made)) sh.setup
-          ∙ ap (change q) sh.is;
-      setup = node.setup ∙ sh.setup;
-      counted = subst (λ (w : WindowSum). IsCounted q.profile q.sends sh.windows w) (sym node.windows) sh.counted;
-      few = sh.few;
-      ended = sh.ended;
-      happened = happened sh.happened;
-      taken = node.delivery ∙ sh.taken;
+      shows = node_shows q t old.device after made (record made { sent = made.sent ++ option_to_list x }) d (change q d) sh.shows node
+          (happened sh.shows.happened) refl sh.shows.ended
+          (ap (whole after) (sym (sent_made x made)) ∙ sym (comes made) ∙ ap (λ (z : Setup). change z (whole old.device made)) sh.shows.setup
+          ∙ ap (change q) sh.shows.is);
     }
 
 -- the tuning ends, and all that was kept back is in the list
@@ -96,11 +71,11 @@ close_tells t old closed first last new silent none windows is q d sh =
     let made = made_in old sh.windows in
     let end : CourseState = record old { device = closed; tuned = one_more last (one_more first old.tuned) } in
     let all : silenced q.id t d ≡ whole closed (with_tuned last (with_tuned first made)) =
-    ap (silenced q.id t) (sym sh.is) ∙ ap (λ (z : Setup). silenced z.id t (whole old.device made)) (sym sh.setup) ∙ silent made in
+    ap (silenced q.id t) (sym sh.shows.is) ∙ ap (λ (z : Setup). silenced z.id t (whole old.device made)) (sym sh.shows.setup) ∙ silent made in
     let tuned : one_more closed.closed (one_more last (one_more first old.tuned)) ≡ one_more last (one_more first old.tuned) =
     ap (λ (o : Option TunedEntry). one_more o (one_more last (one_more first old.tuned))) none in
     let counted : IsCounted q.profile q.sends sh.windows closed.windows =
-    subst (λ (w : WindowSum). IsCounted q.profile q.sends sh.windows w) (sym windows) sh.counted in
+    subst (λ (w : WindowSum). IsCounted q.profile q.sends sh.windows w) (sym windows) sh.shows.counted in
     let tells : HasListsOf q end (silenced q.id t d) = record {
       sent = ap (λ (x : Device). x.made.sent) all;
       tuned = ap (λ (x : Device). x.made.tuned) all ∙ tuned;
@@ -116,9 +91,11 @@ module _ (t : ℕ) (old : CourseState) (after : DeviceState) (happened : Happene
 
   middle_shows : (q : Setup) (d : Device) → (sh : CourseShows q t old d) → CourseShows q t middle (whole after (made_in old sh.windows))
   middle_shows q d sh =
-      whole_shows q t middle sh.windows (node.setup ∙ sh.setup)
-      (subst (λ (w : WindowSum). IsCounted q.profile q.sends sh.windows w) (sym node.windows) sh.counted) sh.few sh.ended (happened sh.happened)
-      (node.delivery ∙ sh.taken)
+      let made = made_in old sh.windows in
+      record {
+        windows = sh.windows;
+        shows = node_shows q t old.device after made made d (whole after made) sh.shows node (happened sh.shows.happened) refl sh.shows.ended refl;
+      }
 
   pub then_shown : CourseIsShown t old → CourseIsShown t middle
   then_shown shown = record { setup = shown.setup; device = _; shows = middle_shows shown.setup shown.device shown.shows }
@@ -129,8 +106,8 @@ module _ (t : ℕ) (old : CourseState) (after : DeviceState) (happened : Happene
   then_goes first second last comes goes = λ q d sh.
       let made = made_in old sh.windows in
       shows_as q t last (second q (whole after made)) (first q d) (goes q (whole after made) (middle_shows q d sh))
-      (ap (λ (z : Setup). second z (whole after made)) (sym sh.setup) ∙ sym (comes made) ∙ ap (first old.device.setup) sh.is
-      ∙ ap (λ (z : Setup). first z d) sh.setup)
+      (ap (λ (z : Setup). second z (whole after made)) (sym sh.shows.setup) ∙ sym (comes made) ∙ ap (first old.device.setup) sh.shows.is
+      ∙ ap (λ (z : Setup). first z d) sh.shows.setup)
 
 -- the alarms of a tick
 pub ending_in : (clock : ℕ → ℕ) (t : ℕ) (c : CourseState) → IsShownEnding clock t (λ q d. d) c → DeviceIsEnding clock t c.device
@@ -138,7 +115,7 @@ ending_in clock t c shown = record {
   setup = shown.setup;
   made = made_in c shown.shows.windows;
   device = shown.device;
-  shows = device_in shown.setup t c shown.device shown.shows;
+  shows = shown.shows.shows;
   ends = shown.ends;
 }
 
@@ -152,4 +129,4 @@ alarmed_goes clock t old after closed l takes seen new same is q d sh runs =
     let goes = course_goes t (λ q d. after_alarms clock q t takes.count d) old after closed ds takes.taken.goes q d in_old in
     shows_as q t new (after_alarms clock q t takes.count d) (alarmed clock q t d)
     (subst (λ (c : CourseState). CourseShows q t c (after_alarms clock q t takes.count d)) (course_listed old after closed ds l new takes.listed is) goes)
-    (all_taken clock t old.device after closed old.deliveries l takes q (made_in old in_old.windows) d (device_in q t old d in_old) runs)
+    (all_taken clock t old.device after closed old.deliveries l takes q (made_in old in_old.windows) d in_old.shows runs)

@@ -36,6 +36,20 @@ hands_none t old new same = record {
   still = λ keeps. subst (λ (o : Option TunedEntry). IfSome o (λ e. t ≤ e.end)) (sym same) keeps;
 }
 
+-- a device of the same node is shown, with what it has made by now
+pub node_shows : (q : Setup) (t : ℕ) (old new : DeviceState) (made more : Made) (d e : Device) → DeviceShows q t old made d → IsSameNode old new
+    → HappenedBy t new → more.windows ≡ made.windows → EndedBefore t more.tuned → whole new more ≡ e → DeviceShows q t new more e
+node_shows q t old new made more d e sh node happened windows ended is = record {
+  is = is;
+  setup = node.setup ∙ sh.setup;
+  counted = subst (λ (l : List WindowLog). IsCounted q.profile q.sends l new.windows) (sym windows)
+      (subst (λ (x : WindowSum). IsCounted q.profile q.sends made.windows x) (sym node.windows) sh.counted);
+  few = sh.few;
+  ended = ended;
+  happened = happened;
+  taken = node.delivery ∙ sh.taken;
+}
+
 nothing_more : (made : Made) → (record made { deliveries = made.deliveries ++ [] }) ≡ made
 nothing_more made = ap (λ (ds : List Delivery). record made { deliveries = ds }) (append-nil made.deliveries)
 
@@ -54,17 +68,10 @@ module _ (t : ℕ) (change : Setup → Device → Device) (old new : DeviceState
   step_goes step = record {
     shows = λ q made d sh. (
       made.windows,
-      record {
-        is =
-            ap (whole new) (nothing_more (with_tuned closed made)) ∙ sym (step.comes made sh.ended)
-            ∙ ap (λ (z : Setup). change z (whole old made)) sh.setup ∙ ap (change q) sh.is;
-        setup = step.node.setup ∙ sh.setup;
-        counted = subst (λ (x : WindowSum). IsCounted q.profile q.sends made.windows x) (sym step.node.windows) sh.counted;
-        few = sh.few;
-        ended = ended_more t closed made.tuned step.before sh.ended;
-        happened = step.happened sh.happened;
-        taken = step.node.delivery ∙ sh.taken;
-      },
+      node_shows q t old new made (made_more closed [] made.windows made) d (change q d) sh step.node (step.happened sh.happened) refl
+          (ended_more t closed made.tuned step.before sh.ended)
+          (ap (whole new) (nothing_more (with_tuned closed made)) ∙ sym (step.comes made sh.ended)
+          ∙ ap (λ (z : Setup). change z (whole old made)) sh.setup ∙ ap (change q) sh.is),
     );
     setup = step.node.setup;
     sending = step.sending;

@@ -142,9 +142,9 @@ module _ (clock : ℕ → ℕ) (s : ScenarioParts) (hs : List HeardEntry) (f : �
           let ahead = is_ahead s v clock rs sound drifts (t + 1) (omega (arith, less, in_run s f in_frames)) in
           let d = before_tick s v clock rs (t + 1) in
           no_earlier last.device (slice_get hs next) (frame_start s (f + 1)) (t + 1) (omega (arith, less))
-          (subst (λ (o : Option ℕ). IfSome o (λ x. t + 1 ≤ x)) (sym (ap (λ (x : Device). x.alarm) shows.is)) ahead.alarm)
-          (subst (λ (o : Option OrderedPacket). IfSome o (λ x. t + 1 ≤ x.tick)) (sym (ap (λ (x : Device). x.ordered) shows.is)) ahead.ordered)
-          (subst (λ (o : Option Sending). IfSome o (λ x. t + 1 ≤ x.end)) (sym (ap (λ (x : Device). x.sending) shows.is)) ahead.sending)
+          (subst (λ (o : Option ℕ). IfSome o (λ x. t + 1 ≤ x)) (sym (ap (λ (x : Device). x.alarm) shows.shows.is)) ahead.alarm)
+          (subst (λ (o : Option OrderedPacket). IfSome o (λ x. t + 1 ≤ x.tick)) (sym (ap (λ (x : Device). x.ordered) shows.shows.is)) ahead.ordered)
+          (subst (λ (o : Option Sending). IfSome o (λ x. t + 1 ≤ x.end)) (sym (ap (λ (x : Device). x.sending) shows.shows.is)) ahead.sending)
           (next_late (slice_get hs next) refl)
 
       pub later_by : (v : ℕ) × CourseShows (setup_of s v) (frame_start s f) old (at_frame s v clock rs f) → t + 1 ≤ u
@@ -187,9 +187,9 @@ module _ (clock : ℕ → ℕ) (s : ScenarioParts) (hs : List HeardEntry) (f : �
         quiet_until v shows =
             until_next s v clock rs (t + 1) u on (record {
               set = record {
-                alarm = subst (λ (o : Option ℕ). IfSome o (λ x. u ≤ x)) (ap (λ (x : Device). x.alarm) shows.is) least.alarm;
-                ordered = subst (λ (o : Option OrderedPacket). IfSome o (λ x. u ≤ x.tick)) (ap (λ (x : Device). x.ordered) shows.is) least.ordered;
-                sending = subst (λ (o : Option Sending). IfSome o (λ x. u ≤ x.end)) (ap (λ (x : Device). x.sending) shows.is) least.sending;
+                alarm = subst (λ (o : Option ℕ). IfSome o (λ x. u ≤ x)) (ap (λ (x : Device). x.alarm) shows.shows.is) least.alarm;
+                ordered = subst (λ (o : Option OrderedPacket). IfSome o (λ x. u ≤ x.tick)) (ap (λ (x : Device). x.ordered) shows.shows.is) least.ordered;
+                sending = subst (λ (o : Option Sending). IfSome o (λ x. u ≤ x.end)) (ap (λ (x : Device). x.sending) shows.shows.is) least.sending;
               };
               hearings = heard_apart;
               lines = λ l there own. elim (line_apart l) [ inl before ↦ inl before | inr behind ↦ inr (omega (arith, behind, least.within)) ];
@@ -212,9 +212,9 @@ module _ (clock : ℕ → ℕ) (s : ScenarioParts) (hs : List HeardEntry) (f : �
           within = least.within;
           cut = cut_next;
           power =
-              ap (λ (x : Device). seen_power x.power) (goes (setup_of s first.0) (told first.0) (shown_now first.0 first.1) (ends_now first.0)).is
+              ap (λ (x : Device). seen_power x.power) (goes (setup_of s first.0) (told first.0) (shown_now first.0 first.1) (ends_now first.0)).shows.is
               ∙ tick_power clock (setup_of s first.0) t rs (told first.0)
-              ∙ sym (ap (λ (x : Device). seen_power x.power) (shown_now first.0 first.1).is)
+              ∙ sym (ap (λ (x : Device). seen_power x.power) (shown_now first.0 first.1).shows.is)
               ∙ at.power;
           shows = λ v begins.
               let shows = shown_next v begins in

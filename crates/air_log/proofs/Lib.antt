@@ -29,6 +29,7 @@ pub mod ShownCourses
 pub mod AlarmsTaken
 pub mod DeviceChanges
 pub mod FramesOfCourses
+pub mod ListCuts
 pub mod FirstRoundLog
 pub mod ShortRuns
 pub mod DropsBelow
@@ -49,7 +50,6 @@ mod HearingsInAir
 mod HearingsOfCourses
 mod LeastDue
 mod LinesOfCourses
-mod ListCuts
 mod LogTextExamples
 mod OpenedByAlarm
 mod TimelyOrders

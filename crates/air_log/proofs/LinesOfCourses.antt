@@ -30,7 +30,7 @@ own_line clock t l q d = if l.node == q.id then device_after_line clock q t d l 
 
 -- the power that is shown
 power_shown : (q : Setup) (t : ℕ) (c : CourseState) (d : Device) → CourseShows q t c d → c.device.power ≡ d.power
-power_shown q t c d shows = ap (λ (x : Device). x.power) shows.is
+power_shown q t c d shows = ap (λ (x : Device). x.power) shows.shows.is
 
 module _ (clock : ℕ → ℕ) (s : ScenarioParts) (f : ℕ) where
   abbrev pub is_line : ℕ → ScriptLine → Bool
@@ -106,7 +106,7 @@ module _ (clock : ℕ → ℕ) (s : ScenarioParts) (sound : IsSoundScenario s) (
         let T = frame_start s f in
         let w = told.shown in
         let after : CourseShows w.setup T last (own_line clock T l w.setup w.device) = goes w.setup w.device w.shows in
-        let id : w.setup.id ≡ old.device.setup.id = ap (λ (q : Setup). q.id) (sym w.shows.setup ∙ told.setup) in
+        let id : w.setup.id ≡ old.device.setup.id = ap (λ (q : Setup). q.id) (sym w.shows.shows.setup ∙ told.setup) in
         let next : suc k ≡ k + 1 = omega arith in
         let more : take k s.script ++ l ∷ [] ≡ take (k + 1) s.script = one_more s.script k l at ∙ ap (λ (n : ℕ). take n s.script) next in
         record {
@@ -120,7 +120,7 @@ module _ (clock : ℕ → ℕ) (s : ScenarioParts) (sound : IsSoundScenario s) (
               else turned old.device.setup.id (false, 0) (take k s.script)) id
               ∙ sym (turned_more old.device.setup.id (false, 0) (take k s.script) l)
               ∙ ap (turned old.device.setup.id (false, 0)) more;
-          setup = after.setup ∙ sym w.shows.setup ∙ told.setup;
+          setup = after.shows.setup ∙ sym w.shows.shows.setup ∙ told.setup;
           shown = record { setup = w.setup; device = _; shows = after };
           goes = λ q d shows.
               let so = fold (device_after_line clock q T) d (filter (is_own q.id) (take k s.script)) in

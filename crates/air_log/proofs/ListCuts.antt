@@ -30,13 +30,13 @@ module _ {X : Type 0} where
   past (y ∷ xs) (suc j) is zero x at le = omega (arith, le)
   past (y ∷ xs) (suc j) is (suc i) x at le = past xs j is i x at (omega (arith, le))
 
-  behind_first : (xs : List X) (k : ℕ) (x : X) → Contains (drop k xs) x → (i : ℕ) × (k ≤ i) × (slice_get xs i ≡ Some x)
+  pub behind_first : (xs : List X) (k : ℕ) (x : X) → Contains (drop k xs) x → (i : ℕ) × (k ≤ i) × (slice_get xs i ≡ Some x)
   behind_first xs k x (j, below, at) =
       let long = length-drop k xs in
       let within : k + j < length xs = omega (arith, below, long) in
       (k + j, omega arith, slice_get-get_or xs (k + j) x within ∙ ap (λ (y : X). Some y) (sym (get_or-drop k xs j x) ∙ at))
 
-  among_first : (xs : List X) (k : ℕ) (x : X) → Contains (take k xs) x → (i : ℕ) × (i < k) × (slice_get xs i ≡ Some x)
+  pub among_first : (xs : List X) (k : ℕ) (x : X) → Contains (take k xs) x → (i : ℕ) × (i < k) × (slice_get xs i ≡ Some x)
   among_first xs k x (j, below, at) =
       let long = length-take k xs in
       let less : j < k = omega (arith, below, long) in

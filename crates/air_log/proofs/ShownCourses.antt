@@ -1,14 +1,12 @@
 -- When a course shows a device: by its state and what was made, at a later tick, and through changes in turn.
 use Rattle.std.proofs.Common.{◌≡◌, ℕ, ◌≤◌, List, [], ◌∷◌, Option, Some}
-use Rattle.std.proofs.Common.{None, IfSome, refl, subst, arith}
+use Rattle.std.proofs.Common.{None, IfSome, subst, arith}
 use Rattle.radio_model.specs.OnAir.{Tuning}
 use Rattle.bus_rules.specs.Cores.{Setup}
 use Rattle.air_log.specs.declared.entry.TunedEntry.{TunedEntry}
-use Rattle.air_log.specs.Devices.{Device, Listening}
-use Rattle.air_log.specs.DeviceStates.{DeviceState, whole}
-use Rattle.air_log.specs.DeviceStates.{EndedBefore, HappenedBy}
-use Rattle.air_log.specs.WindowLogs.{WindowLog}
-use Rattle.air_log.specs.WindowSums.{IsCounted}
+use Rattle.air_log.specs.Devices.{Device, Listening, Made}
+use Rattle.air_log.specs.DeviceStates.{DeviceState, EndedBefore, HappenedBy}
+use Rattle.air_log.specs.DeviceChanges.{DeviceShows}
 use Rattle.air_log.specs.Courses.{CourseState, made_in, CourseShows, CourseIsShown, Goes}
 
 -- a device is shown still
@@ -17,21 +15,6 @@ shown_still t change old new goes shown = record {
   setup = shown.setup;
   device = change shown.setup shown.device;
   shows = goes shown.setup shown.device shown.shows;
-}
-
--- what a device shows, by its state and by what was made
-pub whole_shows : (q : Setup) (t : ℕ) (c : CourseState) (windows : List WindowLog) → c.device.setup ≡ q
-    → IsCounted q.profile q.sends windows c.device.windows → q.sends ≤ 4 → EndedBefore t c.tuned → HappenedBy t c.device → c.device.delivery ≡ None
-    → CourseShows q t c (whole c.device (made_in c windows))
-whole_shows q t c windows setup counted few ended happened taken = record {
-  windows = windows;
-  is = refl;
-  setup = setup;
-  counted = counted;
-  few = few;
-  ended = ended;
-  happened = happened;
-  taken = taken;
 }
 
 -- a device of a trail by the one that is shown
@@ -47,7 +30,7 @@ pub ended_later : (t u : ℕ) (es : List Tuning) → t ≤ u → EndedBefore t e
 ended_later t u [] le ended = tt
 ended_later t u (e ∷ es) le ended = omega (arith, le, ended)
 
-pub happened_later : (t u : ℕ) (s : DeviceState) → t ≤ u → HappenedBy t s → HappenedBy u s
+happened_later : (t u : ℕ) (s : DeviceState) → t ≤ u → HappenedBy t s → HappenedBy u s
 happened_later t u s le happened = record { closed = closed s.closed happened.closed; listening = listening s.listening happened.listening }
   where
     closed : (o : Option TunedEntry) → IfSome o (λ e. e.end ≤ t) → IfSome o (λ e. e.end ≤ u)
@@ -58,16 +41,21 @@ happened_later t u s le happened = record { closed = closed s.closed happened.cl
     listening None h = tt
     listening (Some l) h = omega (arith, le, h)
 
-pub shows_later : (q : Setup) (t u : ℕ) (c : CourseState) (d : Device) → t ≤ u → CourseShows q t c d → CourseShows q u c d
-shows_later q t u c d le shows = record {
-  windows = shows.windows;
+pub device_later : (q : Setup) (t u : ℕ) (s : DeviceState) (made : Made) (d : Device) → t ≤ u → DeviceShows q t s made d → DeviceShows q u s made d
+device_later q t u s made d le shows = record {
   is = shows.is;
   setup = shows.setup;
   counted = shows.counted;
   few = shows.few;
-  ended = ended_later t u c.tuned le shows.ended;
-  happened = happened_later t u c.device le shows.happened;
+  ended = ended_later t u made.tuned le shows.ended;
+  happened = happened_later t u s le shows.happened;
   taken = shows.taken;
+}
+
+pub shows_later : (q : Setup) (t u : ℕ) (c : CourseState) (d : Device) → t ≤ u → CourseShows q t c d → CourseShows q u c d
+shows_later q t u c d le shows = record {
+  windows = shows.windows;
+  shows = device_later q t u c.device (made_in c shows.windows) d le shows.shows;
 }
 
 -- the same between courses that are known by equations

@@ -68,7 +68,7 @@ module _ (clock : ℕ → ℕ) (s : ScenarioParts) (v : ℕ) (hs : List HeardEnt
   pub tune_in : (f : ℕ) (c : CourseState) → f < s.frames → CourseShows (setup_of s v) (frame_start s f) c (at_frame s v clock rs f)
       → tune_of c.device.power ≡ tune f
   tune_in f c within shows =
-      ap (λ (x : Device). tune_of x.power) shows.is
+      ap (λ (x : Device). tune_of x.power) shows.shows.is
       ∙ sym (cond-true (nat_lt f s.frames) (tune_of (at_frame s v clock rs f).power) None (lt-ltb f s.frames within))
 
   first_start : 0 ≡ frame_start s 0
@@ -81,7 +81,7 @@ module _ (clock : ℕ → ℕ) (s : ScenarioParts) (v : ℕ) (hs : List HeardEnt
     lines = first_cut frame_of_line s.script;
     hearings = subst (λ (t : ℕ). IsSplitByKey end_of_reception hs 0 t) first_start (first_cut end_of_reception hs);
     shows = subst (λ (t : ℕ). CourseShows (setup_of s v) t c (before_tick s v clock rs t)) first_start shows;
-    power = ap (λ (x : Device). seen_power x.power) shows.is;
+    power = ap (λ (x : Device). seen_power x.power) shows.shows.is;
     tunes_are = refl;
     scanned_are = refl;
     few = omega arith;
@@ -108,7 +108,7 @@ module _ (clock : ℕ → ℕ) (s : ScenarioParts) (v : ℕ) (hs : List HeardEnt
       → HasListsOf (setup_of s v) last (trail s v clock (map reception_in hs))
       → (last.device.windows.earlier + last.device.windows.last) % 2 ^ 64 ≡ windows_charge s (trail s v clock (map reception_in hs))
   windows_are told c last shows power tells =
-      let seen = ap (λ (b : Bool × ℕ). b.1) (sym (ap (λ (x : Device). seen_power x.power) shows.is) ∙ power) in
+      let seen = ap (λ (b : Bool × ℕ). b.1) (sym (ap (λ (x : Device). seen_power x.power) shows.shows.is) ∙ power) in
       let less = few_boots told in
       charge_is clock s v (map reception_in hs) sound drifts (omega (arith, seen, less)) last.device.windows tells.counted
 

@@ -11,7 +11,8 @@ use Rattle.air_log.specs.declared.entry.HeardEntry.{HeardEntry}
 use Rattle.air_log.specs.Entries.{hearing_in}
 use Rattle.air_log.specs.AlarmRuns.{IsAlarmRun}
 use Rattle.air_log.specs.Devices.{Device, Made}
-use Rattle.air_log.specs.DeviceStates.{DeviceState, whole, EndedBefore, HappenedBy, tick_of_ordered}
+use Rattle.air_log.specs.DeviceChanges.{DeviceShows}
+use Rattle.air_log.specs.DeviceStates.{DeviceState, tick_of_ordered}
 use Rattle.air_log.specs.Trails.{Reception, device_after_receptions, device_after_end, alarmed, device_after_start}
 use Rattle.air_log.specs.WindowLogs.{WindowLog}
 use Rattle.air_log.specs.WindowSums.{IsCounted}
@@ -30,13 +31,7 @@ made_in c windows = record { sent = c.sent; tuned = c.tuned; deliveries = c.deli
 -- at tick t it is this device of a trail
 pub record CourseShows (q : Setup) (t : ℕ) (c : CourseState) (d : Device) : Type 0 where
   pub windows : List WindowLog
-  pub is : whole c.device (made_in c windows) ≡ d
-  pub setup : c.device.setup ≡ q
-  pub counted : IsCounted q.profile q.sends windows c.device.windows
-  pub few : q.sends ≤ 4
-  pub ended : EndedBefore t c.tuned
-  pub happened : HappenedBy t c.device
-  pub taken : c.device.delivery ≡ None
+  pub shows : DeviceShows q t c.device (made_in c windows) d
 
 -- its lists are what this device has made
 pub record HasListsOf (q : Setup) (c : CourseState) (d : Device) : Type 0 where

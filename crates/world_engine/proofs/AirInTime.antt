@@ -107,14 +107,14 @@ module _ (s : ScenarioParts) (t u : ℕ) (w : FieldState) (due : List Due) (a : 
 
     there : station_of w.medium q.id ≡ Some station
     unfolding station
-    there = ap (λ (x : Setup). station_of w.medium x.id) (sym shows.setup) ∙ shows.known.there
+    there = ap (λ (x : Setup). station_of w.medium x.id) (sym shows.shows.setup) ∙ shows.known.there
 
     found : Contains w.medium.stations station × (station.node ≡ q.id)
     found = found_in q.id w.medium.stations station there
 
     same : option_map rank_of_tuned station.tuned ≡ option_map channel_of d.listening
     unfolding station
-    same = shows.known.tuned ∙ ap (λ (x : Device). option_map channel_of x.listening) shows.is
+    same = shows.known.tuned ∙ ap (λ (x : Device). option_map channel_of x.listening) shows.shows.is
 
     past : Lit a q.id r k → ⊥
     past lit = omega (arith, lit.until, h.held.past lit.tuning lit.there, h.time.later, from)

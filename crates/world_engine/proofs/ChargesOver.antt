@@ -41,10 +41,10 @@ module _ (s : ScenarioParts) (clocks : ℕ → ℕ → ℕ) (w : FieldState) (du
       let v = n.node in
       let end = at_place s clocks w due closed running over p n at in
       let state = end.shows.state in
-      let windows : end.shows.made.windows ≡ (trail_in s clocks closed.air v).made.windows = ap (λ (d : Device). d.made.windows) end.shows.is
+      let windows : end.shows.made.windows ≡ (trail_in s clocks closed.air v).made.windows = ap (λ (d : Device). d.made.windows) end.shows.shows.is
       ∙ ap (λ (d : Device). d.made.windows) (sym end.is) in
       let counted : IsCounted s.profile s.sends (trail_in s clocks closed.air v).made.windows state.windows =
-      subst (λ (ws : List WindowLog). IsCounted s.profile s.sends ws state.windows) windows end.shows.counted in
+      subst (λ (ws : List WindowLog). IsCounted s.profile s.sends ws state.windows) windows end.shows.shows.counted in
       let power : (before_tick s v (clocks v) (heard_by closed.air v) (run_end s)).power ≡ end.device.power = ap (λ (d : Device). d.power) end.is in
       let boots = ap (λ (b : Bool × ℕ). b.1) (ap seen_power power ∙ running.script.power (setup_of s v) p end.device end.shows) in
       let few = sound.few_boots v in

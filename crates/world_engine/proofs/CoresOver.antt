@@ -66,11 +66,11 @@ module _ (s : ScenarioParts) (clocks : ℕ → ℕ → ℕ) (w : FieldState) (du
       (image_at power_of closed.devices w.devices p state over.powers end.shows.there) in
       let x : DeviceState = with_power.0 in
       let id : x.setup.id ≡ n.node = image_is id_of x (slice_get closed.devices p) state.setup.id with_power.1
-      (image_at id_of closed.devices w.devices p state (same_ids closed w over.setups) end.shows.there) ∙ ap (λ q. q.id) end.shows.setup in
+      (image_at id_of closed.devices w.devices p state (same_ids closed w over.setups) end.shows.there) ∙ ap (λ q. q.id) end.shows.shows.setup in
       let core : core_of (map core_in closed.devices) n.node ≡ Some (core_in x) = ap (core_of (map core_in closed.devices)) (sym id)
       ∙ found_at closed.devices distinct p x with_power.1 in
       let power : (trail_in s clocks closed.air n.node).power ≡ x.power = ap (λ (d : Device). d.power) end.is
-      ∙ sym (ap (λ (d : Device). d.power) end.shows.is) ∙ sym with_power.2 in
+      ∙ sym (ap (λ (d : Device). d.power) end.shows.shows.is) ∙ sym with_power.2 in
       let here : IsCoreAt x.core x.power = All-contains (λ (d : DeviceState). IsCoreAt d.core d.power) closed.devices x over.cores
       (at_contains closed.devices p x with_power.1) in
       subst (λ (o : Option NodeState). IsCoreOf o (trail_in s clocks closed.air n.node).power) (sym core)

@@ -10,7 +10,7 @@ use Rattle.air_log.specs.declared.charge.NodeCharge.{NodeCharge}
 use Rattle.air_log.specs.DeviceStates.{DeviceState}
 use Rattle.air_log.specs.WindowSums.{WindowSum}
 use Rattle.world_engine.specs.Counting.{scans_now, AreCountedOn, charge_for, AreCharges}
-use Rattle.world_engine.proofs.ShownPlaces.{there_now}
+use Rattle.world_engine.proofs.DevicePlaces.{at_set}
 
 -- the places below i have been counted once more if their devices scan
 pub record IsCountedUpto (devices : List DeviceState) (i : ℕ) (before now : List ℕ) : Type 0 where
@@ -51,7 +51,7 @@ module _ (devices : List DeviceState) (i : ℕ) (before now : List ℕ) (is : Is
           let is_e : d ≡ e = same_Some d e (sym here ∙ ap (slice_get devices) (sym same) ∙ at_e) in
           let is_k : n ≡ k = same_Some n k (sym (number_at n is_n) ∙ is.todo i (omega arith) ∙ ap (slice_get before) (sym same) ∙ at_k) in
           ap (slice_get (set now i (n + more))) same
-          ∙ there_now now i n (n + more) (number_at n is_n)
+          ∙ at_set now i (n + more) (slice_get_within now i n (number_at n is_n))
           ∙ ap (λ (m : ℕ). let o : Option ℕ = Some (n + m) in o) (is_more ∙ ap scans_now is_e)
           ∙ ap (λ (m : ℕ). let o : Option ℕ = Some (m + scans_now e) in o) is_k
       by p e k less at_e at_k (inr (inl lower)) = set_elsewhere now i p (n + more) (λ same. omega (arith, same, lower)) ∙ is.done p e k lower at_e at_k

@@ -149,7 +149,7 @@ module _ (s : ScenarioParts) (clocks : ℕ → ℕ → ℕ) where
         let v = n.node in
         let t = frame_start s f in
         let state : d ≡ on.shows.state = same d on.shows.state (sym there ∙ on.shows.there) in
-        let power : d.power ≡ on.device.power = ap (λ (x : DeviceState). x.power) state ∙ ap (λ (x : Device). x.power) on.shows.is in
+        let power : d.power ≡ on.device.power = ap (λ (x : DeviceState). x.power) state ∙ ap (λ (x : Device). x.power) on.shows.shows.is in
         let lines = ap (λ (ls : List ScriptLine).
         (fold (device_after_line (clocks v) (setup_of s v) t) (before_tick s v (clocks v) (heard_by w.air v) t) ls).power) (own_lines v) in
         ap tune_of (power ∙ ap (λ (x : Device). x.power) on.at ∙ lines)

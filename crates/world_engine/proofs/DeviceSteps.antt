@@ -1,11 +1,11 @@
 -- A step of the device at one place: what it is to the lists, to the devices at other places, and to the queue.
 use Rattle.std.proofs.Common.{◌≡◌, ◌≢◌, ℕ, ◌<◌, List, [], ◌∷◌, ◌++◌, map, filter, reverse, set, length, Option, Some, None, IfSome, option_map}
-use Rattle.std.proofs.Common.{◌==◌, if◌then◌else◌, refl, sym, ◌∙◌, ap, subst, inl, inr, eq-eqb}
+use Rattle.std.proofs.Common.{◌⊎◌, ◌==◌, if◌then◌else◌, refl, sym, ◌∙◌, ap, subst, inl, inr, eq-eqb}
 use Rattle.std.specs.Prelude.{Contains, All, AllPairs}
 use Rattle.std.specs.List.{slice_get}
 use Rattle.std.proofs.lemmas.Bool.{cond-true, cond-false, ne_eqb}
 use Rattle.std.proofs.lemmas.List.{append-nil, reverse-append}
-use Rattle.std.proofs.lemmas.List.Elements.{filter-append, filter_map-append, Contains-append_cases, All-set, All-head, All-tail, All-contains}
+use Rattle.std.proofs.lemmas.List.Elements.{filter-append, filter_map-append, Contains-append_cases, Contains-push_cases, All-set, All-head, All-tail, All-contains}
 use Rattle.lwb_base.specs.Profile.{Numbers}
 use Rattle.std.proofs.lemmas.Option.{slice_get-map, slice_get_within, get_or_from_slice_get}
 use Rattle.event_calendar.specs.Orders.{Due}
@@ -18,18 +18,22 @@ use Rattle.radio_model.specs.Stations.{MediumState, IsMedium, station_of, nodes_
 use Rattle.lwb_base.proofs.Elements.{contains_cases, not_in_none, contains_at}
 use Rattle.lwb_base.proofs.Lists.{set_elsewhere, map_stays}
 use Rattle.air_log.specs.declared.entry.Entry.{Entry}
+use Rattle.air_log.specs.declared.entry.Entry.TheVariants.{Sent}
 use Rattle.air_log.specs.declared.entry.TunedEntry.{TunedEntry}
 use Rattle.air_log.specs.Entries.{sending_in, hearing_in, tuning_in, sendings_of, hearings_of, tunings_of, node_of_entry}
 use Rattle.air_log.specs.Lawful.{sent_by, tuned_by}
 use Rattle.air_log.specs.Devices.{Device, Made}
 use Rattle.air_log.specs.DeviceStates.{DeviceState, channel_of, tuning_of, one_more}
-use Rattle.air_log.specs.DeviceChanges.{DeviceShows, made_more, DeviceGoes}
+use Rattle.air_log.specs.DeviceChanges.{DeviceShows}
 use Rattle.air_log.specs.WindowLogs.{WindowLog}
-use Rattle.world_engine.specs.Fields.{FieldState, FieldShows, IsField, IsLogged, entries_of, setup_of_device, id_of, setups_of, ids_of}
+use Rattle.air_log.proofs.LoggedEntries.{sendings_sent, hearings_sent}
+use Rattle.world_engine.specs.Fields.{FieldState, FieldShows, IsField, IsLogged, entries_of, setup_of_device, id_of, ids_of}
 use Rattle.world_engine.specs.Fields.{due_of_device, rank_of_tuned}
 use Rattle.world_engine.specs.FieldSteps.{MediumGoesOn, AreSame, Acts}
 use Rattle.world_engine.proofs.ActsInTurn.{same_ids}
 use Rattle.world_engine.proofs.DevicePlaces.{at_set, apart_at}
+use Rattle.world_engine.proofs.LoggedSendings.{sent_own, sent_other, tuned_beside_sent}
+use Rattle.world_engine.proofs.ShownPlaces.{shown_as}
 
 -- the log with the entry of a tuning more, if there is one
 pub hearings_tuned : (air : List Entry) (c : Option TunedEntry) → hearings_of (air ++ entries_of c) ≡ hearings_of air
@@ -101,64 +105,115 @@ pub record IsStationOf (m : MediumState) (d : DeviceState) : Type 0 where
   pub tuned : option_map rank_of_tuned station.tuned ≡ option_map channel_of d.listening
   pub sending : station.sending ≡ d.sending
 
--- the device that a field shows
-pub device_in : (s : Setup) (t : ℕ) (w : FieldState) (due : List Due) (p : ℕ) (d : Device) → (shows : FieldShows s t w due p d)
-    → DeviceShows s t shows.state shows.made d
-device_in s t w due p d shows = record {
-  is = shows.is;
-  setup = shows.setup;
-  counted = shows.counted;
-  few = shows.few;
-  ended = shows.ended;
-  happened = shows.happened;
-  taken = shows.taken;
+-- what the lists have more in a step is of node v: what it has made by that, and these transmissions
+pub record ListsGoOn (v : ℕ) (making : Made → Made) (begun : List Sending) (old new : FieldState) : Type 0 where
+  pub own : (made : Made) → IsLogged old v made → IsLogged new v (making made)
+  pub others : (u : ℕ) (made : Made) → u ≢ v → IsLogged old u made → IsLogged new u made
+  pub hearings : hearings_of new.air ≡ hearings_of old.air
+  pub sendings : sendings_of new.air ≡ sendings_of old.air ++ begun
+  pub entries : (e : Entry) → Contains new.air e → Contains old.air e ⊎ (node_of_entry e ≡ v)
+  pub deliverers : (d : Delivery) → Contains new.deliveries d → Contains old.deliveries d ⊎ (d.node ≡ v)
+
+abbrev pub listed : Option TunedEntry → List Delivery → Made → Made
+listed closed ds made = record made { tuned = one_more closed made.tuned; deliveries = made.deliveries ++ ds }
+
+-- a tuning of it, if there is one, and these deliveries
+pub lists_listed : (v : ℕ) (closed : Option TunedEntry) (ds : List Delivery) (old new : FieldState) → IfSome closed (λ e. e.node ≡ v)
+    → All (λ d. d.node ≡ v) ds → new.air ≡ old.air ++ entries_of closed → new.deliveries ≡ old.deliveries ++ ds
+    → ListsGoOn v (listed closed ds) [] old new
+lists_listed v closed ds old new own_tuning own_deliveries air deliveries = record {
+  own = λ made logged. record {
+    sent = logged.sent ∙ sym (ap (λ (l : List Entry). sent_by l v) air ∙ sent_same old.air v closed);
+    tuned = ap (λ (l : List Tuning). one_more closed l) logged.tuned
+        ∙ sym (ap (λ (l : List Entry). reverse (tuned_by l v)) air ∙ tuned_own old.air v closed own_tuning);
+    deliveries = ap (λ (l : List Delivery). l ++ ds) logged.deliveries
+        ∙ sym (ap (λ (l : List Delivery). delivered_by l v) deliveries ∙ delivered_own old.deliveries v ds own_deliveries);
+  };
+  others = λ u made other logged. record {
+    sent = logged.sent ∙ sym (ap (λ (l : List Entry). sent_by l u) air ∙ sent_same old.air u closed);
+    tuned = logged.tuned ∙ ap (λ (l : List Tuning). reverse l)
+        (sym (ap (λ (l : List Entry). tuned_by l u) air ∙ tuned_other old.air u v closed own_tuning other));
+    deliveries = logged.deliveries
+        ∙ sym (ap (λ (l : List Delivery). delivered_by l u) deliveries ∙ delivered_other old.deliveries u v ds own_deliveries other);
+  };
+  hearings = ap hearings_of air ∙ hearings_tuned old.air closed;
+  sendings = ap sendings_of air ∙ sendings_tuned old.air closed ∙ sym (append-nil (sendings_of old.air));
+  entries = λ e there. elim (Contains-append_cases old.air (entries_of closed) e (subst (λ (l : List Entry). Contains l e) air there)) [
+    | inl before ↦ inl before
+    | inr more ↦ inr (entries_own closed v e own_tuning more)
+  ];
+  deliverers = λ d there. elim (Contains-append_cases old.deliveries ds d (subst (λ (l : List Delivery). Contains l d) deliveries there)) [
+    | inl before ↦ inl before
+    | inr more ↦ inr (All-contains (λ (x : Delivery). x.node ≡ v) ds d own_deliveries more)
+  ];
 }
 
--- in a step at t the device at place p has become another of the same node; a tuning and deliveries of it are in the lists,
--- and these puts are lost
-pub record IsStepAt (t p : ℕ) (state after : DeviceState) (closed : Option TunedEntry) (ds : List Delivery) (lost : List DropLine)
+-- nothing
+pub lists_stay : (v : ℕ) (w : FieldState) (m : MediumState) (ds : List DeviceState)
+    → ListsGoOn v (λ made. made) [] w (record w { medium = m; devices = ds })
+lists_stay v w m ds = record {
+  own = λ made logged. record { sent = logged.sent; tuned = logged.tuned; deliveries = logged.deliveries };
+  others = λ u made other logged. record { sent = logged.sent; tuned = logged.tuned; deliveries = logged.deliveries };
+  hearings = refl;
+  sendings = sym (append-nil (sendings_of w.air));
+  entries = λ e there. inl there;
+  deliverers = λ d there. inl there;
+}
+
+-- a transmission of it
+pub lists_sent : (v : ℕ) (x : Sending) (w : FieldState) (m : MediumState) (ds : List DeviceState) → x.node ≡ v
+    → ListsGoOn v (λ made. record made { sent = made.sent ++ x ∷ [] }) (x ∷ []) w (record w { medium = m; devices = ds; air = w.air ++ Sent x ∷ [] })
+lists_sent v x w m ds own = record {
+  own = λ made logged. record {
+    sent = ap (λ (l : List Sending). l ++ x ∷ []) logged.sent ∙ sym (sent_own w.air x v own);
+    tuned = logged.tuned ∙ ap (λ (l : List Tuning). reverse l) (sym (tuned_beside_sent w.air x v));
+    deliveries = logged.deliveries;
+  };
+  others = λ u made other logged. record {
+    sent = logged.sent ∙ sym (sent_other w.air x u (λ same. other (sym same ∙ own)));
+    tuned = logged.tuned ∙ ap (λ (l : List Tuning). reverse l) (sym (tuned_beside_sent w.air x u));
+    deliveries = logged.deliveries;
+  };
+  hearings = hearings_sent w.air x;
+  sendings = sendings_sent w.air x;
+  entries = λ e there. elim (Contains-push_cases w.air (Sent x) e there) [ inl before ↦ inl before | inr is ↦ inr (ap node_of_entry (sym is) ∙ own) ];
+  deliverers = λ d there. inl there;
+}
+
+-- in a step at t the device at place p has become another of the same node: the lists, the medium and the queue go on with it,
+-- these transmissions begin, and these puts are lost
+pub record IsStepAt (t p : ℕ) (state after : DeviceState) (making : Made → Made) (begun : List Sending) (lost : List DropLine)
     (old : FieldState) (old_due : List Due) (new : FieldState) (new_due : List Due) : Type 0 where
   pub here : slice_get old.devices p ≡ Some state
   pub setup : after.setup ≡ state.setup
   pub devices : new.devices ≡ set old.devices p after
-  pub air : new.air ≡ old.air ++ entries_of closed
-  pub deliveries : new.deliveries ≡ old.deliveries ++ ds
+  pub lists : ListsGoOn state.setup.id making begun old new
   pub drops : new.drops ≡ old.drops ++ lost
-  pub own_tuning : IfSome closed (λ e. e.node ≡ state.setup.id)
-  pub own_deliveries : All (λ d. d.node ≡ state.setup.id) ds
-  pub medium : MediumGoesOn t old.medium new.medium []
+  pub medium : MediumGoesOn t old.medium new.medium begun
   pub station : IsStationOf new.medium after
   pub stations : (u : ℕ) → u ≢ state.setup.id → station_of new.medium u ≡ station_of old.medium u
   pub due : slice_get new_due p ≡ Some (due_of_device after)
   pub dues : (q : ℕ) → q ≢ p → slice_get new_due q ≡ slice_get old_due q
   pub places : length new_due ≡ length old_due
 
-module _ (t p : ℕ) (state after : DeviceState) (closed : Option TunedEntry) (ds : List Delivery) (lost : List DropLine) (old new : FieldState)
-    (old_due new_due : List Due)
-    (is : IsStepAt t p state after closed ds lost old old_due new new_due) where
-  within : p < length old.devices
-  within = slice_get_within old.devices p state is.here
-
-  same_setups : setups_of new ≡ setups_of old
-  same_setups = ap (λ (l : List DeviceState). map setup_of_device l) is.devices ∙ map_stays setup_of_device old.devices p state after is.here is.setup
-
+module _ {t p : ℕ} {state after : DeviceState} {making : Made → Made} {begun : List Sending} {lost : List DropLine} {old new : FieldState}
+    {old_due new_due : List Due}
+    (is : IsStepAt t p state after making begun lost old old_due new new_due) where
   stands_in : Contains (ids_of old) state.setup.id
   stands_in = contains_at (ids_of old) p state.setup.id (slice_get-map id_of old.devices p ∙ ap (λ (o : Option DeviceState). option_map id_of o) is.here)
 
-  pub step_same : AreSame old old_due new new_due
+  step_same : AreSame old old_due new new_due
   step_same = record {
-    setups = same_setups;
+    setups = ap (λ (l : List DeviceState). map setup_of_device l) is.devices ∙ map_stays setup_of_device old.devices p state after is.here is.setup;
     places = is.places;
-    entries = λ e there. elim (Contains-append_cases old.air (entries_of closed) e (subst (λ (l : List Entry). Contains l e) is.air there)) [
+    entries = λ e there. elim (is.lists.entries e there) [
       | inl before ↦ inl before
-      | inr more ↦ inr (subst (λ (v : ℕ). Contains (ids_of old) v) (sym (entries_own closed state.setup.id e is.own_tuning more)) stands_in)
+      | inr own ↦ inr (subst (λ (v : ℕ). Contains (ids_of old) v) (sym own) stands_in)
     ];
-    deliverers = λ d there. elim
-        (Contains-append_cases old.deliveries ds d (subst (λ (l : List Delivery). Contains l d) is.deliveries there)) [
-          | inl before ↦ inl before
-          | inr more ↦ inr (subst (λ (v : ℕ). Contains (ids_of old) v)
-              (sym (All-contains (λ (x : Delivery). x.node ≡ state.setup.id) ds d is.own_deliveries more)) stands_in)
-        ];
+    deliverers = λ d there. elim (is.lists.deliverers d there) [
+      | inl before ↦ inl before
+      | inr own ↦ inr (subst (λ (v : ℕ). Contains (ids_of old) v) (sym own) stands_in)
+    ];
   }
 
   other_id : IsField old → (q : ℕ) → q ≢ p → (d : DeviceState) → slice_get old.devices q ≡ Some d → d.setup.id ≢ state.setup.id
@@ -168,38 +223,16 @@ module _ (t p : ℕ) (state after : DeviceState) (closed : Option TunedEntry) (d
       (slice_get-map id_of old.devices q ∙ ap (λ (o : Option DeviceState). option_map id_of o) there)
       (slice_get-map id_of old.devices p ∙ ap (λ (o : Option DeviceState). option_map id_of o) is.here)
 
-  logged_other : (u : ℕ) (made : Made) → u ≢ state.setup.id → IsLogged old u made → IsLogged new u made
-  logged_other u made other logged = record {
-    sent = logged.sent ∙ sym (ap (λ (l : List Entry). sent_by l u) is.air ∙ sent_same old.air u closed);
-    tuned = logged.tuned ∙ ap (λ (l : List Tuning). reverse l)
-        (sym (ap (λ (l : List Entry). tuned_by l u) is.air ∙ tuned_other old.air u state.setup.id closed is.own_tuning other));
-    deliveries = logged.deliveries
-        ∙ sym (ap (λ (l : List Delivery). delivered_by l u) is.deliveries ∙ delivered_other old.deliveries u state.setup.id ds is.own_deliveries other);
-  }
-
-  logged_own : (windows : List WindowLog) (made : Made) → IsLogged old state.setup.id made → IsLogged new state.setup.id (made_more closed ds windows made)
-  logged_own windows made logged =
-      let v = state.setup.id in
-      record {
-        sent = logged.sent ∙ sym (ap (λ (l : List Entry). sent_by l v) is.air ∙ sent_same old.air v closed);
-        tuned = ap (λ (l : List Tuning). one_more closed l) logged.tuned
-            ∙ sym (ap (λ (l : List Entry). reverse (tuned_by l v)) is.air ∙ tuned_own old.air v closed is.own_tuning);
-        deliveries = ap (λ (l : List Delivery). l ++ ds) logged.deliveries
-            ∙ sym (ap (λ (l : List Delivery). delivered_by l v) is.deliveries ∙ delivered_own old.deliveries v ds is.own_deliveries);
-      }
-
-  pub shown_other : IsField old → (q : ℕ) → q ≢ p → (s : Setup) (d : Device) → FieldShows s t old old_due q d → FieldShows s t new new_due q d
+  shown_other : IsField old → (q : ℕ) → q ≢ p → (s : Setup) (d : Device) → FieldShows s t old old_due q d → FieldShows s t new new_due q d
   shown_other field q other s d shows =
       let apart : shows.state.setup.id ≢ state.setup.id = other_id field q other shows.state shows.there in
-      let apart_s : s.id ≢ state.setup.id = λ same. apart (ap (λ (x : Setup). x.id) shows.setup ∙ same) in
       let known = shows.known in
       record {
         state = shows.state;
         there = ap (λ (l : List DeviceState). slice_get l q) is.devices ∙ set_elsewhere old.devices p q after other ∙ shows.there;
-        setup = shows.setup;
         made = shows.made;
-        is = shows.is;
-        logged = logged_other s.id shows.made apart_s shows.logged;
+        shows = shows.shows;
+        logged = is.lists.others s.id shows.made (λ same. apart (ap (λ (x : Setup). x.id) shows.shows.setup ∙ same)) shows.logged;
         known = record {
           station = known.station;
           there = is.stations shows.state.setup.id apart ∙ known.there;
@@ -207,49 +240,33 @@ module _ (t p : ℕ) (state after : DeviceState) (closed : Option TunedEntry) (d
           sending = known.sending;
           set = is.dues q other ∙ known.set;
         };
-        counted = shows.counted;
-        few = shows.few;
-        ended = shows.ended;
-        happened = shows.happened;
-        taken = shows.taken;
       }
 
-  -- the device at the place is the one from which the step goes out
-  pub same_state : (s : Setup) (d : Device) → (shows : FieldShows s t old old_due p d) → shows.state ≡ state
-  same_state s d shows = same (sym shows.there ∙ is.here)
-    where
-      same : {x y : DeviceState} → (let o : Option DeviceState = Some x in o ≡ Some y) → x ≡ y
-      same e = cc
-
-  module _ (change : Setup → Device → Device) (goes : DeviceGoes t change state after closed ds) where
-    pub shown_own : (s : Setup) (d : Device) → FieldShows s t old old_due p d → FieldShows s t new new_due p (change s d)
+  module _ (change : Setup → Device → Device) (goes : (s : Setup) (made : Made) (d : Device) → DeviceShows s t state made d
+      → (windows : List WindowLog) × DeviceShows s t after (record (making made) { windows = windows }) (change s d)) where
+    shown_own : (s : Setup) (d : Device) → FieldShows s t old old_due p d → FieldShows s t new new_due p (change s d)
     shown_own s d shows =
-        let next = goes.shows s shows.made d (subst (λ (x : DeviceState). DeviceShows s t x shows.made d) (same_state s d shows)
-        (device_in s t old old_due p d shows)) in
-        let own : s.id ≡ state.setup.id = ap (λ (x : Setup). x.id) (sym next.1.setup ∙ is.setup) in
+        let at = shown_as s t old old_due p d state is.here shows in
+        let next = goes s at.made d at.shows in
+        let own : s.id ≡ state.setup.id = ap (λ (x : Setup). x.id) (sym at.shows.setup) in
+        let logged = subst (λ (v : ℕ). IsLogged new v (making at.made)) (sym own)
+        (is.lists.own at.made (subst (λ (v : ℕ). IsLogged old v at.made) own at.logged)) in
         record {
           state = after;
-          there = ap (λ (l : List DeviceState). slice_get l p) is.devices ∙ at_set old.devices p after within;
-          setup = next.1.setup;
-          made = made_more closed ds next.0 shows.made;
-          is = next.1.is;
-          logged = subst (λ (v : ℕ). IsLogged new v (made_more closed ds next.0 shows.made)) (sym own)
-              (logged_own next.0 shows.made (subst (λ (v : ℕ). IsLogged old v shows.made) own shows.logged));
+          there = ap (λ (l : List DeviceState). slice_get l p) is.devices ∙ at_set old.devices p after (slice_get_within old.devices p state is.here);
+          made = record (making at.made) { windows = next.0 };
+          shows = next.1;
+          logged = record { sent = logged.sent; tuned = logged.tuned; deliveries = logged.deliveries };
           known = record { station = is.station.station; there = is.station.there; tuned = is.station.tuned; sending = is.station.sending; set = is.due };
-          counted = next.1.counted;
-          few = next.1.few;
-          ended = next.1.ended;
-          happened = next.1.happened;
-          taken = next.1.taken;
         }
 
     -- so the field acts by what the device does
-    pub acts_at : IsField old → Acts t p change [] lost old old_due new new_due
+    pub acts_at : IsField old → Acts t p change begun lost old old_due new new_due
     acts_at field = record {
       own = shown_own;
       others = shown_other field;
-      hearings = ap hearings_of is.air ∙ hearings_tuned old.air closed;
-      sendings = ap sendings_of is.air ∙ sendings_tuned old.air closed ∙ sym (append-nil (sendings_of old.air));
+      hearings = is.lists.hearings;
+      sendings = is.lists.sendings;
       drops = is.drops;
       air = is.medium;
       same = step_same;

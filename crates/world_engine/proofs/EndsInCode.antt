@@ -3,7 +3,7 @@ use Rattle.std.proofs.Common.{◌≡◌, ℕ, ◌<◌, ◌↔◌, List, set, get
 use Rattle.std.proofs.Common.{arith, Contains, ◌==◌, eq-eqb}
 use Rattle.std.specs.Prelude.{All, AllPairs, slice_get}
 use Rattle.std.proofs.lemmas.Bool.{cond-true}
-use Rattle.std.proofs.lemmas.Option.{slice_get_read}
+use Rattle.std.proofs.lemmas.Option.{slice_get_read, same_Some}
 use Rattle.link_trace.specs.Passes.{Lines}
 use Rattle.radio_model.specs.declared.sending.Sending.{Sending}
 use Rattle.radio_model.specs.Hearing.{Scene, HearsInScene}
@@ -20,19 +20,12 @@ use Rattle.world_engine.proofs.ShownPlaces.{shown_as}
 use Rattle.world_engine.proofs.EndedSendings.{IsEnding, over, over_is_field, one_sending, sends_only, set_there}
 use Rattle.world_engine.proofs.EndsOfSendings.{HasEnded}
 
--- one device is at a place
-one_there : (ds : List DeviceState) (p : ℕ) (a b : DeviceState) → slice_get ds p ≡ Some a → slice_get ds p ≡ Some b → a ≡ b
-one_there ds p a b at_a at_b = of_some (sym at_a ∙ at_b)
-  where
-    of_some : (let o : Option DeviceState = Some a in o ≡ Some b) → a ≡ b
-    of_some is = cc
-
 -- the device says that its transmission ends
 says_end : (t : ℕ) (sending r : Option Sending) (x : Sending) → sending ≡ Some x → x.end ≡ t → r ≡ ending_at t sending → r ≡ Some x
 says_end t sending r x runs until is = is ∙ ap (ending_at t) runs ∙ cond-true (x.end == t) (Some x) None (eq-eqb x.end t until)
 
 -- the field with another medium and another device
-abbrev changed_field : FieldState → MediumState → List DeviceState → FieldState
+abbrev pub changed_field : FieldState → MediumState → List DeviceState → FieldState
 changed_field w medium devices = record w { medium = medium; devices = devices }
 
 as_over : (t i p u : ℕ) (w : FieldState) (m : MediumState) (st new : DeviceState) → i ≡ p → u ≡ st.setup.id
@@ -49,30 +42,36 @@ as_asked {lines} {clocks} {t} {p} {x} {y} {hearers} {w} {given} {new} {due} {new
     subst (λ (v : FieldState). EndsSending lines clocks t p y hearers v due new new_due) seen
     (subst (λ (z : Sending). EndsSending lines clocks t p z hearers w due new new_due) is ends)
 
--- what is asked of the call
-module _ {t p : ℕ} {w given : FieldState} {due : List Due} (seen : w ≡ given) (field : IsField w) (within : p < length given.devices)
-    (shown : (q : ℕ) → q < length given.devices → FieldIsShown t given due q) (time : IsTime given.medium t)
-    (ends : (s : Setup) (d : Device) → FieldShows s t given due p d → Ends given.medium s.id t) where
+-- what is asked of the call, of a field that contracts see as another
+pub record IsAsked (t p : ℕ) (w given : FieldState) (due : List Due) : Type 0 where
+  pub seen : w ≡ given
+  pub field : IsField w
+  pub within : p < length given.devices
+  pub shown : (q : ℕ) → q < length given.devices → FieldIsShown t given due q
+  pub time : IsTime given.medium t
+  pub ends : (s : Setup) (d : Device) → FieldShows s t given due p d → Ends given.medium s.id t
+
+module _ {t p : ℕ} {w given : FieldState} {due : List Due} (asked : IsAsked t p w given due) where
   -- of a device that is read at the place
   is_ending : (i : ℕ) (st : DeviceState) → i ≡ p → st ≡ get_or w.devices i st → (x : Sending) × IsEnding t p w due st x
   is_ending i st place is =
       let back : (q : ℕ) → q < length w.devices → FieldIsShown t w due q =
-      subst (λ (v : FieldState). (q : ℕ) → q < length v.devices → FieldIsShown t v due q) (sym seen) shown in
-      let below : p < length w.devices = subst (λ (v : FieldState). p < length v.devices) (sym seen) within in
+      subst (λ (v : FieldState). (q : ℕ) → q < length v.devices → FieldIsShown t v due q) (sym asked.seen) asked.shown in
+      let below : p < length w.devices = subst (λ (v : FieldState). p < length v.devices) (sym asked.seen) asked.within in
       let there : slice_get w.devices p ≡ Some st = subst (λ (k : ℕ). slice_get w.devices k ≡ Some st) place
       (slice_get_read w.devices (length w.devices) i st refl (omega (arith, below, place)) is) in
       let at = back p below in
       let sh = shown_as at.setup t w due p at.device st there at.shows in
       let own : Ends w.medium st.setup.id t =
-      subst (λ (u : Setup). Ends w.medium u.id t) (sym sh.setup)
-      ((subst (λ (v : FieldState). (s : Setup) (d : Device) → FieldShows s t v due p d → Ends v.medium s.id t) (sym seen) ends) at.setup at.device
+      subst (λ (u : Setup). Ends w.medium u.id t) (sym sh.shows.setup)
+      ((subst (λ (v : FieldState). (s : Setup) (d : Device) → FieldShows s t v due p d → Ends v.medium s.id t) (sym asked.seen) asked.ends) at.setup at.device
       at.shows) in (
         own.sending,
         record {
-          field = field;
+          field = asked.field;
           here = there;
           shown = back;
-          time = subst (λ (v : FieldState). IsTime v.medium t) (sym seen) time;
+          time = subst (λ (v : FieldState). IsTime v.medium t) (sym asked.seen) asked.time;
           ends = own;
           own = own.runs;
           runs = sym sh.known.sending ∙ ap sending_of_station (sym sh.known.there) ∙ own.runs;
@@ -86,7 +85,7 @@ module _ {t p : ℕ} {w given : FieldState} {due : List Due} (seen : w ≡ given
 
   -- the queue has its place
   pub place_due : {i : ℕ} {st : DeviceState} → i ≡ p → st ≡ get_or w.devices i st → p < length due
-  place_due {i} {st} place is = let e = is_ending i st place is in set_there t p w due st e.0 e.1
+  place_due {i} {st} place is = set_there (is_ending i st place is).1
 
   -- some transmission ends at the device
   pub some_ends : {i : ℕ} {st : DeviceState} {r : Option Sending} → i ≡ p → st ≡ get_or w.devices i st → r ≡ ending_at t st.sending
@@ -100,7 +99,7 @@ module _ {t p : ℕ} {w given : FieldState} {due : List Due} (seen : w ≡ given
       (medium : m ≡ medium_after_change t u station_after_end w.medium) where
     node_of : u ≡ st.setup.id
     node_of = node ∙ ap (λ (d : DeviceState). d.setup.id)
-        (one_there w.devices p first st (is_ending i first place_i is_first).1.here (is_ending j st place_j is).1.here)
+        (same_Some first st (sym (is_ending i first place_i is_first).1.here ∙ (is_ending j st place_j is).1.here))
 
     ending : IsEnding t p w due st x
     ending =
@@ -113,11 +112,11 @@ module _ {t p : ℕ} {w given : FieldState} {due : List Due} (seen : w ≡ given
         (silent ∙ ap (λ (o : Option Sending). record st { sending = if is_some o then None else st.sending }) some)
 
     pub ended_field : IsField (changed_field w m (set w.devices j new))
-    ended_field = subst IsField (sym is_over) (over_is_field t p w due st x ending)
+    ended_field = subst IsField (sym is_over) (over_is_field ending)
 
     -- whatever trail the device is of, it sends x
     pub sends_that : (y : Sending) → DeviceSends t given due p y → x ≡ y
-    sends_that y sends = sym (sends_only t p w due st x ending y (subst (λ (v : FieldState). DeviceSends t v due p y) (sym seen) sends))
+    sends_that y sends = sym (sends_only ending y (subst (λ (v : FieldState). DeviceSends t v due p y) (sym asked.seen) sends))
 
     pub has_ended : {lines : Lines} {ps : List (ℕ × ℕ)} {mid_due : List Due} → All (λ r. r.1 ≡ u) ps → AllPairs (λ r s. r.0 < s.0) ps
         → ((a : Scene) (y : Sending) → Holds w.medium a → a.lines ≡ lines → sending_of_station (station_of w.medium u) ≡ Some y → (v : ℕ)

@@ -75,7 +75,7 @@ module _ {lines : Lines} {t p u : ℕ} {w : FieldState} {due : List Due} {st : D
   acts =
       subst (λ (q : List Due). Acts t p (λ s d. record d { sending = None }) [] [] w due mid q) (sym it.is_due)
       (subst (λ (v : FieldState). Acts t p (λ s d. record d { sending = None }) [] [] w due v (changed due p SendingEnd None)) (sym it.is_over)
-      (sending_is_over t p w due st x it.ending
+      (sending_is_over it.ending
       (subst (λ (v : FieldState). (a : Scene) → Holds w.medium a → Holds v.medium a) it.is_over it.keeps)))
 
   ids : ids_of mid ≡ ids_of w
@@ -131,7 +131,7 @@ module _ {lines : Lines} {t p u : ℕ} {w : FieldState} {due : List Due} {st : D
 
     -- the id at a place
     id_shown : (q : ℕ) (s : Setup) (d : Device) → FieldShows s t w due q d → id_at (ids_of mid) q ≡ s.id
-    id_shown q s d shows = ap (λ (l : List ℕ). id_at l q) ids ∙ id_there w q shows.state shows.there ∙ ap (λ (k : Setup). k.id) shows.setup
+    id_shown q s d shows = ap (λ (l : List ℕ). id_at l q) ids ∙ id_there w q shows.state shows.there ∙ ap (λ (k : Setup). k.id) shows.shows.setup
 
     hears_there : (a : Scene) → Holds w.medium a → a.lines ≡ lines → (q : ℕ) (s : Setup) (d : Device) → FieldShows s t w due q d → Contains heard.0 q
         → HearsInScene (as_it_stands w.medium t a) s.id x
@@ -144,7 +144,7 @@ module _ {lines : Lines} {t p u : ℕ} {w : FieldState} {due : List Due} {st : D
         → HearsInScene (as_it_stands w.medium t a) s.id x → Contains heard.0 q
     is_hearer a held same q s d shows hears =
         let is = id_shown q s d shows in
-        let in_ids : Contains (ids_of w) s.id = subst (λ (n : ℕ). Contains (ids_of w) n) (ap (λ (k : Setup). k.id) shows.setup)
+        let in_ids : Contains (ids_of w) s.id = subst (λ (n : ℕ). Contains (ids_of w) n) (ap (λ (k : Setup). k.id) shows.shows.setup)
         (map_contains id_of w.devices shows.state (contains_at w.devices q shows.state shows.there)) in
         let node : Contains (nodes_of w.medium) s.id = subst (λ (l : List ℕ). Contains l s.id) it.ending.field.nodes in_ids in
         let at = place_there (ids_of mid) (map first ps) heard.0 heard.1 s.id

@@ -196,9 +196,9 @@ pub all_closed : (t i : ℕ) (old : FieldState) (due : List Due) (new : FieldSta
 all_closed t i old due new is end = record {
   own = λ p s d shows.
       let below = slice_get_within old.devices p shows.state shows.there in
-      let logged : IsLogged old shows.state.setup.id shows.made = subst (λ (u : Setup). IsLogged old u.id shows.made) (sym shows.setup) shows.logged in
-      subst (λ (x : Device). IsLogged new s.id (silenced s.id t x).made) shows.is
-      (subst (λ (u : Setup). IsLogged new u.id (silenced u.id t (whole shows.state shows.made)).made) shows.setup
+      let logged : IsLogged old shows.state.setup.id shows.made = subst (λ (u : Setup). IsLogged old u.id shows.made) (sym shows.shows.setup) shows.logged in
+      subst (λ (x : Device). IsLogged new s.id (silenced s.id t x).made) shows.shows.is
+      (subst (λ (u : Setup). IsLogged new u.id (silenced u.id t (whole shows.state shows.made)).made) shows.shows.setup
       (is.done p shows.state shows.made (omega arith) shows.there logged));
   hearings = is.hearings;
   sendings = is.sendings;

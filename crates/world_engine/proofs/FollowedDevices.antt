@@ -12,6 +12,7 @@ use Rattle.bus_rules.specs.Cores.{Setup}
 use Rattle.bus_rules.specs.declared.delivery.Delivery.{Delivery}
 use Rattle.bus_rules.specs.declared.delivery.DropLine.{DropLine}
 use Rattle.radio_model.specs.declared.sending.Sending.{Sending}
+use Rattle.radio_model.specs.declared.station.Station.{Station}
 use Rattle.radio_model.specs.Stations.{MediumState, nodes_of, station_of}
 use Rattle.scenario_text.specs.declared.script.ScriptLine.{ScriptLine}
 use Rattle.air_log.specs.declared.entry.Entry.{Entry}
@@ -24,15 +25,15 @@ use Rattle.air_log.specs.ScriptedDevices.{device_after_act}
 use Rattle.air_log.specs.Trails.{alarmed}
 use Rattle.air_log.specs.Drops.{drop_of_line}
 use Rattle.air_log.specs.DeviceStates.{DeviceState, settings_of}
-use Rattle.air_log.specs.DeviceChanges.{DeviceGoes, TakesAlarms}
+use Rattle.air_log.specs.DeviceChanges.{DeviceGoes, Delivers, TakesAlarms}
 use Rattle.air_log.proofs.AlarmsTaken.{all_taken}
-use Rattle.world_engine.specs.Fields.{FieldState, FieldShows, FieldIsShown, IsField, entries_of, due_of_device, ids_of, id_of}
+use Rattle.world_engine.specs.Fields.{FieldState, FieldShows, IsField, IsKnownDevice, entries_of, due_of_device, ids_of, id_of, rank_of_tuned}
 use Rattle.world_engine.specs.FieldSteps.{MediumGoesOn, Acts, TakesLine}
 use Rattle.world_engine.specs.Following.{Retunes, Resets, Follows}
-use Rattle.world_engine.proofs.ActsInTurn.{acts_as}
+use Rattle.world_engine.proofs.ActsInTurn.{acts_as, acts_seen}
 use Rattle.world_engine.proofs.DevicePlaces.{at_set}
-use Rattle.world_engine.proofs.DeviceSteps.{IsStepAt, acts_at}
-use Rattle.world_engine.proofs.StepsInCode.{state_here, state_known, state_shows}
+use Rattle.world_engine.proofs.DeviceSteps.{IsStepAt, listed, lists_listed, acts_at}
+use Rattle.world_engine.proofs.StepsInCode.{IsRead, state_here, state_known, state_shows}
 
 -- the device that is read at an index, and its node
 pub device_at : (w : FieldState) (p i : ℕ) (state : DeviceState) → i ≡ p → p < length w.devices → state ≡ get_or w.devices i state
@@ -73,85 +74,79 @@ follows_so t p before now node state closed old seen new m old_due between new_d
     subst (λ (w : FieldState). Follows t p before state closed w old_due new new_due) same
     (subst (λ (w : FieldState). Follows t p before state closed old old_due w new_due) (sym is) follows)
 
-module _ (t p : ℕ) (old : FieldState) (old_due : List Due) (shown : FieldIsShown t old old_due p) (i : ℕ) (at : i ≡ p) (state : DeviceState)
-    (is : state ≡ get_or old.devices i state) (field : IsField old) (after : DeviceState) (closed : Option TunedEntry) (l : List Delivery)
-    (before : Settings) (is_before : before ≡ settings_of state) where
-  -- the field as the device has changed, before it is followed
-  abbrev pub mid : FieldState
-  mid = record old { devices = set old.devices i after; deliveries = l }
+-- a device that was read has changed, and what follows it has been done
+module _ {t p : ℕ} {old seen : FieldState} {due : List Due} {i : ℕ} {state : DeviceState} (read : IsRead t p old seen due i state) (after : DeviceState) where
+  pub after_there : slice_get (set old.devices i after) p ≡ Some after
+  after_there = ap (λ (n : ℕ). slice_get (set old.devices n after) p) read.at
+      ∙ at_set old.devices p after (slice_get_within old.devices p state (state_here read))
 
-  pub after_there : slice_get mid.devices p ≡ Some after
-  after_there =
-      ap (λ (n : ℕ). slice_get (set old.devices n after) p) at
-      ∙ at_set old.devices p after (slice_get_within old.devices p state (state_here t p old old_due shown i at state is))
+  pub mid_within : p < length (set old.devices i after)
+  mid_within = slice_get_within (set old.devices i after) p after after_there
 
-  pub mid_within : p < length mid.devices
-  mid_within = slice_get_within mid.devices p after after_there
+module _ {t p : ℕ} {old seen : FieldState} {due : List Due} {i : ℕ} {state after : DeviceState} {before : Settings} {closed : Option TunedEntry}
+    {l : List Delivery} {new : FieldState} {new_due : List Due} (read : IsRead t p old seen due i state) (is_before : before ≡ settings_of state)
+    (follows : Follows t p before after closed (record old { devices = set old.devices i after; deliveries = l }) due new new_due) where
+  module _ {change : Setup → Device → Device} (delivers : Delivers t change state after closed old.deliveries l) where
+    abbrev goes : DeviceGoes t change state after closed delivers.0
+    goes = delivers.2
 
-  module _ (new : FieldState) (new_due : List Due) (follows : Follows t p before after closed mid old_due new new_due) (lost : List DropLine) where
-    abbrev pub last : FieldState
-    last = record new { drops = new.drops ++ lost }
+    followed_losing : (lost : List DropLine) → Acts t p change [] lost seen due (record new { drops = new.drops ++ lost }) new_due
+    followed_losing lost = acts_seen read.same (acts_at step change (λ s made d sh. goes.shows s made d sh) read.field)
+      where
+        known : IsKnownDevice old due p state
+        known = state_known read
 
-    module _ (ds : List Delivery) (listed : l ≡ old.deliveries ++ ds) (change : Setup → Device → Device)
-        (goes : DeviceGoes t change state after closed ds) where
-      step : IsStepAt t p state after closed ds lost old old_due last new_due
-      step =
-          let known = state_known t p old old_due shown i at state is in
-          let own = follows.medium.own known.station (ap (λ (s : Setup). station_of old.medium s.id) goes.setup ∙ known.there)
-          (known.tuned ∙ ap (λ (s : Settings). s.channel) (sym is_before)) in
-          record {
-            here = state_here t p old old_due shown i at state is;
-            setup = goes.setup;
-            devices = ap (λ (w : FieldState). w.devices) follows.rest ∙ ap (λ (n : ℕ). set old.devices n after) at;
-            air = ap (λ (w : FieldState). w.air) follows.rest;
-            deliveries = ap (λ (w : FieldState). w.deliveries) follows.rest ∙ listed;
-            drops = ap (λ (w : FieldState). w.drops ++ lost) follows.rest;
-            own_tuning = goes.own_tuning;
-            own_deliveries = goes.own_deliveries;
-            medium = follows.medium.goes_on;
-            station = record { station = own.0; there = own.1; tuned = own.2; sending = own.3 ∙ known.sending ∙ sym goes.sending };
-            stations = λ u other. follows.medium.others u (λ same. other (same ∙ ap (λ (s : Setup). s.id) goes.setup));
-            due =
-                follows.start.own _ (follows.alarm.own (due_of_device state) known.set (ap (λ (s : Settings). s.alarm) (sym is_before)))
-                (ap (λ (s : Settings). s.sending) (sym is_before))
-                ∙ ap (λ (x : Option Sending). Some (record (due_of_device after) { sending_end = option_map sending_end x })) (sym goes.sending);
-            dues = λ q other. follows.start.others q other ∙ follows.alarm.others q other;
-            places = follows.start.places ∙ follows.alarm.places;
-          }
+        own : (y : Station) × (station_of new.medium after.setup.id ≡ Some y) × (option_map rank_of_tuned y.tuned ≡ (settings_of after).channel)
+            × (y.sending ≡ known.station.sending)
+        own =
+            follows.medium.own known.station (ap (λ (s : Setup). station_of old.medium s.id) goes.setup ∙ known.there)
+            (known.tuned ∙ ap (λ (s : Settings). s.channel) (sym is_before))
 
-      pub followed_losing : Acts t p change [] lost old old_due last new_due
-      followed_losing = acts_at t p state after closed ds lost old last old_due new_due step change goes field
+        step : IsStepAt t p state after (listed closed delivers.0) [] lost old due (record new { drops = new.drops ++ lost }) new_due
+        step = record {
+          here = state_here read;
+          setup = goes.setup;
+          devices = ap (λ (w : FieldState). w.devices) follows.rest ∙ ap (λ (n : ℕ). set old.devices n after) read.at;
+          lists = lists_listed state.setup.id closed delivers.0 old (record new { drops = new.drops ++ lost }) goes.own_tuning goes.own_deliveries
+              (ap (λ (w : FieldState). w.air) follows.rest) (ap (λ (w : FieldState). w.deliveries) follows.rest ∙ delivers.1);
+          drops = ap (λ (w : FieldState). w.drops ++ lost) follows.rest;
+          medium = follows.medium.goes_on;
+          station = record { station = own.0; there = own.1; tuned = own.2; sending = own.3 ∙ known.sending ∙ sym goes.sending };
+          stations = λ u other. follows.medium.others u (λ same. other (same ∙ ap (λ (s : Setup). s.id) goes.setup));
+          due =
+              follows.start.own _ (follows.alarm.own (due_of_device state) known.set (ap (λ (s : Settings). s.alarm) (sym is_before)))
+              (ap (λ (s : Settings). s.sending) (sym is_before))
+              ∙ ap (λ (x : Option Sending). Some (record (due_of_device after) { sending_end = option_map sending_end x })) (sym goes.sending);
+          dues = λ q other. follows.start.others q other ∙ follows.alarm.others q other;
+          places = follows.start.places ∙ follows.alarm.places;
+        }
 
-  module _ (new : FieldState) (new_due : List Due) (follows : Follows t p before after closed mid old_due new new_due) where
-    pub followed : (ds : List Delivery) → l ≡ old.deliveries ++ ds → (change : Setup → Device → Device) → DeviceGoes t change state after closed ds
-        → Acts t p change [] [] old old_due new new_due
-    followed ds listed change goes =
-        subst (λ (drops : List DropLine). Acts t p change [] [] old old_due (record new { drops = drops }) new_due) (append-nil new.drops)
-        (followed_losing new new_due follows [] ds listed change goes)
+    pub followed : Acts t p change [] [] seen due new new_due
+    followed = subst (λ (drops : List DropLine). Acts t p change [] [] seen due (record new { drops = drops }) new_due) (append-nil new.drops)
+        (followed_losing [])
 
-    -- the alarms of the tick
-    pub alarms_followed : (clock : ℕ → ℕ) → TakesAlarms clock t state after closed old.deliveries l
-        → ((s : Setup) (d : Device) → FieldShows s t old old_due p d → IsAlarmRun clock s t d (alarmed clock s t d))
-        → Acts t p (λ s d. alarmed clock s t d) [] [] old old_due new new_due
-    alarms_followed clock takes runs =
-        acts_as t p (λ s d. after_alarms clock s t takes.count d) (λ s d. alarmed clock s t d) [] [] old new old_due new_due
-        (λ s d shows.
-        all_taken clock t state after closed old.deliveries l takes s shows.made d (state_shows t p old old_due shown i at state is s d shows) (runs s d shows))
-        (followed takes.deliveries takes.listed (λ s d. after_alarms clock s t takes.count d) takes.taken.goes)
+  -- the alarms of the tick
+  pub alarms_followed : {clock : ℕ → ℕ} → TakesAlarms clock t state after closed old.deliveries l
+      → ((s : Setup) (d : Device) → FieldShows s t seen due p d → IsAlarmRun clock s t d (alarmed clock s t d))
+      → Acts t p (λ s d. alarmed clock s t d) [] [] seen due new new_due
+  alarms_followed {clock} takes runs =
+      acts_as t p (λ s d. after_alarms clock s t takes.count d) (λ s d. alarmed clock s t d) [] [] seen new due new_due
+      (λ s d shows. all_taken clock t state after closed old.deliveries l takes s shows.made d (state_shows read s d shows) (runs s d shows))
+      (followed {change = λ s d. after_alarms clock s t takes.count d} (takes.deliveries, takes.listed, takes.taken.goes))
 
-    -- a line of the script
-    pub line_followed : (clock : ℕ → ℕ) (line : ScriptLine) (lost : Option DropLine) (ds : List Delivery) → l ≡ old.deliveries ++ ds
-        → DeviceGoes t (λ s d. device_after_act clock s t d line.act d.power) state after closed ds
-        → lost ≡ drop_of_line (record line { node = state.setup.id }) state.power
-        → ((s : Setup) (d : Device) → FieldShows s t old old_due p d → line.node ≡ s.id)
-        → TakesLine clock line t p line.act old old_due (record new { drops = new.drops ++ option_to_list lost }) new_due
-    line_followed clock line lost ds listed goes is_lost own = (
-      option_to_list lost,
-      followed_losing new new_due follows (option_to_list lost) ds listed (λ s d. device_after_act clock s t d line.act d.power) goes,
-      λ s d shows.
-          let sh = state_shows t p old old_due shown i at state is s d shows in
-          ap (λ (o : Option DropLine). option_to_list o) is_lost
-          ∙ ap (λ (v : ℕ). option_to_list (drop_of_line (record line { node = v }) state.power))
-          (ap (λ (u : Setup). u.id) sh.setup ∙ sym (own s d shows))
-          ∙ ap (λ (x : Device). option_to_list (drop_of_line line x.power)) sh.is,
-    )
+  -- a line of the script
+  pub line_followed : (clock : ℕ → ℕ) (line : ScriptLine) (lost : Option DropLine)
+      → Delivers t (λ s d. device_after_act clock s t d line.act d.power) state after closed old.deliveries l
+      → lost ≡ drop_of_line (record line { node = state.setup.id }) state.power
+      → ((s : Setup) (d : Device) → FieldShows s t seen due p d → line.node ≡ s.id)
+      → TakesLine clock line t p line.act seen due (record new { drops = new.drops ++ option_to_list lost }) new_due
+  line_followed clock line lost delivers is_lost own = (
+    option_to_list lost,
+    followed_losing {change = λ s d. device_after_act clock s t d line.act d.power} delivers (option_to_list lost),
+    λ s d shows.
+        let sh = state_shows read s d shows in
+        ap (λ (o : Option DropLine). option_to_list o) is_lost
+        ∙ ap (λ (v : ℕ). option_to_list (drop_of_line (record line { node = v }) state.power))
+        (ap (λ (u : Setup). u.id) sh.setup ∙ sym (own s d shows))
+        ∙ ap (λ (x : Device). option_to_list (drop_of_line line x.power)) sh.is,
+  )

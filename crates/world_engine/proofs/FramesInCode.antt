@@ -1,10 +1,8 @@
 -- The frames of a run, one after another.
-use Rattle.std.proofs.Common.{◌≡◌, ℕ, ◌+◌, ◌<◌, ◌^◌, List, [], ◌∷◌, length, replicate, filter, nat_lt, refl, sym, ap, subst, ◌∙◌, arith, lt-ltb}
-use Rattle.std.specs.Prelude.{Contains, All}
-use Rattle.std.proofs.lemmas.Bool.{cond-true}
+use Rattle.std.proofs.Common.{◌≡◌, ℕ, ◌+◌, ◌<◌, ◌^◌, List, [], length, replicate, sym, ap, subst, ◌∙◌, arith}
+use Rattle.std.specs.Prelude.{All}
 use Rattle.std.proofs.lemmas.List.{length-map}
 use Rattle.std.proofs.lemmas.List.Elements.{All-contains}
-use Rattle.lwb_base.proofs.Elements.{contains_head, contains_tail}
 use Rattle.scenario_text.specs.ScenarioParts.{ScenarioParts}
 use Rattle.scenario_text.specs.ScenarioFacts.{IsSoundScenario, IsScriptLine}
 use Rattle.scenario_text.specs.declared.script.ScriptLine.{ScriptLine}
@@ -20,7 +18,7 @@ use Rattle.world_engine.specs.declared.idle.Idle.{Idle}
 use Rattle.world_engine.proofs.CountedScans.{none_scanned, few_scans, scans_stay, scanned_on}
 use Rattle.world_engine.proofs.NextMoments.{starts_up}
 use Rattle.world_engine.proofs.PlacedNodes.{as_many_devices}
-use Rattle.world_engine.proofs.ScriptCuts.{told_at_cut, first_cut}
+use Rattle.world_engine.proofs.ScriptCuts.{told_all, told_at_cut, first_cut}
 
 -- the run is at the beginning of frame f, line k of the script is the first that is not yet given, it is counted in how many
 -- frames each node scans, and listed where nodes are idle
@@ -41,17 +39,11 @@ first_frame s clocks w due places scanned idle many are none run = record {
 }
 
 -- before the end of the last frame all lines are given
-told_all : (s : ScenarioParts) (f : ℕ) (ls : List ScriptLine) → ((l : ScriptLine) → Contains ls l → l.frame < f) → filter (λ l. nat_lt l.frame f) ls ≡ ls
-told_all s f [] early = refl
-told_all s f (l ∷ ls) early =
-    cond-true (nat_lt l.frame f) (l ∷ filter (λ k. nat_lt k.frame f) ls) (filter (λ k. nat_lt k.frame f) ls) (lt-ltb l.frame f (early l (contains_head l ls)))
-    ∙ ap (λ (rest : List ScriptLine). l ∷ rest) (told_all s f ls (λ k there. early k (contains_tail l ls k there)))
-
 pub last_frame : (s : ScenarioParts) (clocks : ℕ → ℕ → ℕ) (sound : IsSoundScenario s) (k f : ℕ) (scanned : List ℕ) (idle : List Idle) (w : FieldState)
     (due : List Due) → f ≡ s.frames → IsAtFrame s clocks k f scanned idle w due → IsRunning s clocks s.script (run_end s) Before w due
 last_frame s clocks sound k f scanned idle w due last at =
     subst (λ (told : List ScriptLine). IsRunning s clocks told (frame_start s s.frames) Before w due)
-    (told_all s s.frames s.script (λ l there. (All-contains (IsScriptLine s) s.script l sound.script there).in_run))
+    (told_all s.frames s.script (λ l there. (All-contains (IsScriptLine s) s.script l sound.script there).in_run))
     (subst (λ (g : ℕ). IsRunning s clocks (told_before s g) (frame_start s g) Before w due) last at.run)
 
 -- a frame: its lines, after which the places are counted whose nodes scan, and its events

@@ -1,11 +1,11 @@
 -- Who has received what, when a transmission ends: each hearer this transmission, after all that it received, and no other node.
-use Rattle.std.proofs.Common.{◌≡◌, ◌≢◌, ℕ, ◌<◌, ◌≤◌, List, [], ◌∷◌, ◌++◌, map, filter, length, get_or, Bool, true, false, ◌==◌, ◌&&◌, Some, None, Option}
-use Rattle.std.proofs.Common.{option_map, Contains, ◌⊎◌, inl, inr, refl, sym, ◌∙◌, ap, subst, arith, eqb-true, ltb-true, append-nil}
+use Rattle.std.proofs.Common.{◌≡◌, ◌≢◌, ℕ, ◌<◌, ◌≤◌, List, [], ◌∷◌, ◌++◌, map, filter, length, get_or, Bool, false, ◌==◌, Some, None, Option}
+use Rattle.std.proofs.Common.{option_map, Contains, ◌⊎◌, inl, inr, refl, sym, ◌∙◌, ap, subst, arith, eqb-true, append-nil}
 use Rattle.std.specs.Prelude.{slice_get, slice_index_or}
-use Rattle.std.proofs.lemmas.Bool.{cases_eq, le-ltb, or_from, or_cases, and_parts, false_from_ne_true}
+use Rattle.std.proofs.lemmas.Bool.{cases_eq}
 use Rattle.std.proofs.lemmas.List.{length-map, map-append}
 use Rattle.std.proofs.lemmas.List.Elements.{filter-append, All-contains}
-use Rattle.std.proofs.lemmas.List.Kept.{AllPairs-cons, AllPairs-filter}
+use Rattle.std.proofs.lemmas.List.Kept.{AllPairs-filter}
 use Rattle.std.proofs.lemmas.Option.{slice_get-map, slice_get_cases, get_or_from_slice_get, same_Some}
 use Rattle.link_trace.specs.Passes.{Lines}
 use Rattle.event_calendar.specs.declared.class.Class.TheVariants.{SendingEnd}
@@ -14,7 +14,6 @@ use Rattle.radio_model.specs.declared.sending.Sending.{Sending}
 use Rattle.radio_model.specs.OnAir.{Hearing}
 use Rattle.radio_model.specs.Hearing.{Scene, HearsInScene}
 use Rattle.radio_model.specs.Holding.{as_it_stands}
-use Rattle.radio_model.specs.Stations.{sending_of_station, station_of}
 use Rattle.scenario_text.specs.ScenarioParts.{ScenarioParts}
 use Rattle.scenario_text.specs.ScenarioFacts.{IsSoundScenario}
 use Rattle.scenario_text.specs.declared.lines.NodeLine.{NodeLine}
@@ -24,19 +23,19 @@ use Rattle.air_log.specs.Devices.{Device}
 use Rattle.scenario_text.specs.Setups.{setup_of}
 use Rattle.air_log.specs.Trails.{Reception, device_after_script, device_after_receptions, before_tick}
 use Rattle.air_log.specs.Lawful.{reception_comes_before, AreInTurn, reception_of, hearings_by, heard_by, sent_by}
-use Rattle.lwb_base.proofs.Elements.{map_from, filtered, pairs_append}
+use Rattle.lwb_base.proofs.Elements.{filtered}
 use Rattle.air_log.proofs.InTurn.{heard_in_turn}
 use Rattle.air_log.proofs.KeptByEvents.{in_end}
 use Rattle.air_log.specs.DeviceStates.{DeviceState}
 use Rattle.world_engine.specs.Fields.{FieldState, ids_of, id_of, setup_of_device}
 use Rattle.world_engine.specs.FieldSteps.{EndsSending, DeviceSends, hearing_at}
 use Rattle.world_engine.specs.Moments.{At, IsAtMoment}
-use Rattle.world_engine.specs.Running.{HasPlaces, setup_by, Runs, HoldsScene, HasHearings}
+use Rattle.world_engine.specs.Running.{HasPlaces, setup_by, HoldsScene}
 use Rattle.air_log.proofs.OwnSendings.{IsOwn, SendsOwn, own_heard, kept_own}
 use Rattle.world_engine.proofs.KeptDrops.{HeardOn}
 use Rattle.world_engine.proofs.TrailsGoOn.{OnTrails, ids_apart}
 use Rattle.world_engine.proofs.TrailsAtEnds.{IsHeardAt, reception}
-use Rattle.world_engine.proofs.OneHearing.{all_from, hearing, of, none_of, one_of, search_id}
+use Rattle.world_engine.proofs.OneHearing.{hearing, of, none_of, one_of, search_id}
 
 -- the ids of a field are those of the nodes at their places
 pub id_at : (s : ScenarioParts) (w : FieldState) (due : List Due) → HasPlaces s w due → (q : ℕ) (n : NodeLine) → slice_get s.nodes q ≡ Some n
@@ -79,42 +78,13 @@ own_here None xs x is own = absurd (none_some is)
     none_some eq = cc
 own_here (Some y) xs x is own = subst (Contains xs) (same_Some y x is) own
 
--- x does not come before itself, whoever receives it
-same_turn : (g h : Hearing) → g.sending ≡ h.sending → reception_comes_before h g ≡ false
-same_turn g h same =
-    or_from _ _
-    (le-ltb h.sending.end g.sending.end (omega (arith, ap (λ (x : Sending). x.end) same)))
-    (not_both (h.sending.end == g.sending.end) _ (le-ltb h.sending.node g.sending.node (omega (arith, ap (λ (x : Sending). x.node) same))))
-  where
-    not_both : (a b : Bool) → b ≡ false → (a && b) ≡ false
-    not_both true b is = is
-    not_both false b is = refl
-
--- of two one at most comes before the other
-turn_once : (g h : Hearing) → reception_comes_before g h ≡ true → reception_comes_before h g ≡ false
-turn_once g h before =
-    false_from_ne_true (reception_comes_before h g) (λ after. by (parts g h before) (parts h g after))
-  where
-    parts : (a b : Hearing) → reception_comes_before a b ≡ true
-        → (a.sending.end < b.sending.end) ⊎ ((a.sending.end ≡ b.sending.end) × (a.sending.node < b.sending.node))
-    parts a b is = elim (or_cases _ _ is) [
-      | inl less ↦ inl (ltb-true a.sending.end b.sending.end less)
-      | inr tied ↦ (let both = and_parts _ _ tied in inr (eqb-true a.sending.end b.sending.end both.0, ltb-true a.sending.node b.sending.node both.1))
-    ]
-
-    by : (g.sending.end < h.sending.end) ⊎ ((g.sending.end ≡ h.sending.end) × (g.sending.node < h.sending.node))
-        → (h.sending.end < g.sending.end) ⊎ ((h.sending.end ≡ g.sending.end) × (h.sending.node < g.sending.node)) → ⊥
-    by (inl a) (inl b) = omega (arith, a, b)
-    by (inl a) (inr b) = omega (arith, a, b.0)
-    by (inr a) (inl b) = omega (arith, a.0, b)
-    by (inr a) (inr b) = omega (arith, a.1, b.1)
-
 module _ (s : ScenarioParts) (clocks : ℕ → ℕ → ℕ) (sound : IsSoundScenario s) (lines : Lines) (by_trace : lines ≡ s.trace) (at_places : ℕ → ℕ → ℕ)
     (t p : ℕ) (x : Sending) (now : x.end ≡ t) (hearers : List ℕ)
     (old : FieldState) (old_due : List Due) (new : FieldState) (new_due : List Due) (ends : EndsSending lines at_places t p x hearers old old_due new new_due)
     (places : HasPlaces s old old_due) (trails : OnTrails s clocks t (At SendingEnd) old old_due) (sends : DeviceSends t old old_due p x) (sender : NodeLine)
     (here : slice_get s.nodes p ≡ Some sender)
-    (a : Scene) (holds : HoldsScene s t old old_due a) (over : ℕ) (has : HasHearings over t old a) where
+    (a : Scene) (holds : HoldsScene s t old old_due a) (in_turn_before : AreInTurn (hearings_of old.air))
+    (in_turn_after : AreInTurn (hearings_of new.air)) where
   -- the sender
   abbrev own : Device
   own = (trails p sender here).device
@@ -123,16 +93,13 @@ module _ (s : ScenarioParts) (clocks : ℕ → ℕ → ℕ) (sound : IsSoundScen
   sent_own =
       let trail = trails p sender here in
       let shows = trail.shows in
-      let same : own.made.sent ≡ sent_by old.air sender.node = ap (λ (e : Device). e.made.sent) (sym shows.is) ∙ shows.logged.sent in
+      let same : own.made.sent ≡ sent_by old.air sender.node = ap (λ (e : Device). e.made.sent) (sym shows.shows.is) ∙ shows.logged.sent in
       subst (λ (ys : List Sending). Contains ys x) same
       (own_here own.sending own.made.sent x (sends (setup_of s sender.node) own shows)
       (own_sent s sender.node (clocks sender.node) (heard_by old.air sender.node) t own trail.at))
 
   in_log : Contains (sendings_of old.air) x
   in_log = (filtered (λ (y : Sending). y.node == sender.node) (sendings_of old.air) x sent_own).0
-
-  pub sent_by_sender : x.node ≡ sender.node
-  sent_by_sender = eqb-true x.node sender.node (filtered (λ (y : Sending). y.node == sender.node) (sendings_of old.air) x sent_own).1
 
   hears : (q : ℕ) (n : NodeLine) → slice_get s.nodes q ≡ Some n → Contains hearers q → HearsInScene (as_it_stands old.medium t a) n.node x
   hears q n there is =
@@ -170,46 +137,11 @@ module _ (s : ScenarioParts) (clocks : ℕ → ℕ → ℕ) (sound : IsSoundScen
           let m = hearer_node z at_z in
           absurd (ids_apart s sound y z n.0 m.0 other n.1 m.1 (sym (id_at s old old_due places y n.0 n.1) ∙ same ∙ id_at s old old_due places z m.0 m.1))
 
-  -- x runs on the air
-  runs : Runs old.medium x
-  runs =
-      let trail = trails p sender here in
-      let shows = trail.shows in
-      let known = shows.known in
-      let id_is : shows.state.setup.id ≡ x.node = ap (λ (y : Setup). y.id) shows.setup ∙ sym sent_by_sender in
-      ap (λ (v : ℕ). sending_of_station (station_of old.medium v)) (sym id_is)
-      ∙ ap sending_of_station known.there
-      ∙ known.sending
-      ∙ ap (λ (d : Device). d.sending) shows.is
-      ∙ sends (setup_of s sender.node) own shows
-
-  -- the log stays in turn
-  pub in_turn_after : AreInTurn (hearings_of new.air)
-  in_turn_after =
-      subst AreInTurn (sym ends.hearings)
-      (pairs_append (λ g h. reception_comes_before h g ≡ false) (hearings_of old.air) (map (hearing_at old x) hearers) has.in_turn (all_same hearers) across)
-    where
-      of_x : (qs : List ℕ) (h : Hearing) → Contains (map (hearing_at old x) qs) h → h.sending ≡ x
-      of_x qs h there = let q = map_from (hearing_at old x) qs h there in ap (λ (g : Hearing). g.sending) (sym q.2)
-
-      all_same : (qs : List ℕ) → AreInTurn (map (hearing_at old x) qs)
-      all_same [] = λ i j d less within. absurd (omega (arith, within))
-      all_same (q ∷ qs) =
-          AllPairs-cons (λ g h. reception_comes_before h g ≡ false) (hearing_at old x q) (map (hearing_at old x) qs)
-          (all_from (λ h. reception_comes_before h (hearing_at old x q) ≡ false) (map (hearing_at old x) qs)
-          (λ h there. same_turn (hearing_at old x q) h (sym (of_x qs h there))))
-          (all_same qs)
-
-      across : (g h : Hearing) → Contains (hearings_of old.air) g → Contains (map (hearing_at old x) hearers) h → reception_comes_before h g ≡ false
-      across g h before there =
-          let later : reception_comes_before g (record { node = x.node; sending = x }) ≡ true = has.next g x before runs in
-          turn_once g h (subst (λ (y : Sending). reception_comes_before g (record { node = h.node; sending = y }) ≡ true) (sym (of_x hearers h there)) later)
-
   heard_with : (v : ℕ) (hs : List Hearing) → filter (of id x v) (map (hearing_at old x) hearers) ≡ hs
       → heard_by new.air v ≡ heard_by old.air v ++ map reception_of hs
   heard_with v hs is =
       let of_v : Hearing → Bool = λ h. h.node == v in
-      let turn_old : AreInTurn (hearings_by old.air v) = AllPairs-filter (λ g h. reception_comes_before h g ≡ false) of_v (hearings_of old.air) has.in_turn in
+      let turn_old : AreInTurn (hearings_by old.air v) = AllPairs-filter (λ g h. reception_comes_before h g ≡ false) of_v (hearings_of old.air) in_turn_before in
       let turn_new : AreInTurn (hearings_by new.air v) = AllPairs-filter (λ g h. reception_comes_before h g ≡ false) of_v (hearings_of new.air) in_turn_after in
       heard_in_turn new.air v turn_new
       ∙ ap (map reception_of)

@@ -1,5 +1,5 @@
 -- Devices are notified one after another that they received a transmission.
-use Rattle.std.proofs.Common.{◌≡◌, ◌≢◌, ℕ, List, [], ◌∷◌, ◌++◌, map, get_or, Some, None, refl, sym, ◌∙◌, ap, subst, Contains, inl, inr}
+use Rattle.std.proofs.Common.{◌≡◌, ◌≢◌, ℕ, List, [], ◌∷◌, ◌++◌, map, reverse, get_or, Some, None, refl, sym, ◌∙◌, ap, subst, Contains, inl, inr}
 use Rattle.std.specs.Prelude.{slice_get}
 use Rattle.std.proofs.lemmas.List.{append-nil, append_assoc, map-append, get_or-map}
 use Rattle.std.proofs.lemmas.List.Elements.{Contains-push, Contains-push_cases, Contains-append_left}
@@ -20,7 +20,6 @@ use Rattle.world_engine.specs.FieldSteps.{Acts, hearing_at, told_of_hearing}
 use Rattle.world_engine.specs.FieldHearings.{AllHear}
 use Rattle.world_engine.proofs.GoesOn.{goes_on_nothing, goes_on_then, same_ids, same_nothing, same_then}
 use Rattle.world_engine.proofs.LoggedSendings.{sent_beside_heard, tuned_beside_heard, entry_more}
-use Rattle.world_engine.proofs.ShownPlaces.{still_shown}
 
 -- the id at a place
 pub id_there : (w : FieldState) (p : ℕ) (st : DeviceState) → slice_get w.devices p ≡ Some st → get_or (ids_of w) p 0 ≡ st.setup.id
@@ -33,14 +32,19 @@ logged u x w = record w { air = w.air ++ heard_entry u x ∷ [] }
 pub shown_when_logged : (t q u : ℕ) (x : Sending) (w : FieldState) (due : List Due) (s : Setup) (d : Device) → FieldShows s t w due q d
     → FieldShows s t (logged u x w) due q d
 shown_when_logged t q u x w due s d shows =
-    still_shown t q w due (logged u x w) due s d (record {
-      device = refl;
-      sent = sent_beside_heard w.air u x s.id;
-      tuned = tuned_beside_heard w.air u x s.id;
-      deliveries = refl;
-      station = refl;
-      due = refl;
-    }) shows
+    let known = shows.known in
+    record {
+      state = shows.state;
+      there = shows.there;
+      made = shows.made;
+      shows = shows.shows;
+      logged = record {
+        sent = shows.logged.sent ∙ sym (sent_beside_heard w.air u x s.id);
+        tuned = shows.logged.tuned ∙ ap reverse (sym (tuned_beside_heard w.air u x s.id));
+        deliveries = shows.logged.deliveries;
+      };
+      known = record { station = known.station; there = known.there; tuned = known.tuned; sending = known.sending; set = known.set };
+    }
 
 pub is_shown_when_logged : (t q u : ℕ) (x : Sending) (w : FieldState) (due : List Due) → FieldIsShown t w due q → FieldIsShown t (logged u x w) due q
 is_shown_when_logged t q u x w due shown = record {

@@ -23,9 +23,8 @@ first p = p.0
 pub some_there : (hs : List (ℕ × ℕ)) (i : ℕ) (o : Option (ℕ × ℕ)) → o ≡ slice_get hs i → i < length hs → IsSome o
 some_there hs i o is below = subst (λ (p : Option (ℕ × ℕ)). IsSome p) (sym (is ∙ slice_get-get_or hs i (0, 0) below)) refl
 
-module _ (clocks : ℕ → ℕ → ℕ) (x : Sending) (hs : List (ℕ × ℕ)) (i : ℕ) (h : ℕ × ℕ) (here : slice_get hs i ≡ Some h) (old now : FieldState)
-    (old_due now_due : List Due)
-    (heard : HeardBy clocks x (map first (take i hs)) old old_due now now_due) where
+module _ (hs : List (ℕ × ℕ)) (i : ℕ) {h : ℕ × ℕ} (here : slice_get hs i ≡ Some h) {clocks : ℕ → ℕ → ℕ} {x : Sending} {old now : FieldState}
+    {old_due now_due : List Due} (heard : HeardBy clocks x (map first (take i hs)) old old_due now now_due) where
   ids : ids_of now ≡ ids_of old
   ids = same_ids old now old_due now_due heard.2.same
 
@@ -51,10 +50,10 @@ module _ (clocks : ℕ → ℕ → ℕ) (x : Sending) (hs : List (ℕ × ℕ)) (
         new_node hs i h ascend (slice_get_within hs i h here)
         (subst (λ (n : ℕ). Contains (map first (take i hs)) n) id (node_there (ids_of old) (map first (take i hs)) heard.0 heard.1 p there))
 
-    pub heard_next : AllPairs (λ p q. p.0 < q.0) hs → (clock : ℕ → ℕ) → clock ≡ clocks p → (new : FieldState) (new_due : List Due)
+    pub heard_next : AllPairs (λ p q. p.0 < q.0) hs → {clock : ℕ → ℕ} → clock ≡ clocks p → {new : FieldState} {new_due : List Due}
         → AllHear (λ q. clock) x.end x (p ∷ []) now now_due new new_due
         → HeardBy clocks x (map first (take (i + 1) hs)) old old_due new new_due
-    heard_next ascend clock reads new new_due hears =
+    heard_next ascend {clock} reads {new} {new_due} hears =
         let at = get_or_from_slice_get hs i h h here in
         let more : map first (take (i + 1) hs) ≡ map first (take i hs) ++ h.0 ∷ [] = map_more first hs i h (slice_get_within hs i h here)
         ∙ ap (λ (p : ℕ × ℕ). map first (take i hs) ++ p.0 ∷ []) at in (

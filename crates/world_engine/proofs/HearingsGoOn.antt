@@ -269,7 +269,7 @@ pub shown_lasts : (q : Setup) (t : ℕ) (w : FieldState) (due : List Due) (p : �
 shown_lasts q t w due p d field shows = profile_lasts q.profile (subst IsProfile (sym numbers) field.medium.profile)
   where
     numbers : q.profile ≡ w.medium.numbers
-    numbers = ap (λ (x : Setup). x.profile) (sym shows.setup)
+    numbers = ap (λ (x : Setup). x.profile) (sym shows.shows.setup)
         ∙ All-contains (λ (x : DeviceState). x.setup.profile ≡ w.medium.numbers) w.devices shows.state field.numbers
         (p, within, get_or_from_slice_get w.devices p shows.state shows.state shows.there)
       where

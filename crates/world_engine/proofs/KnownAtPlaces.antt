@@ -87,8 +87,8 @@ pub ends_at_place : (t : ℕ) (w : FieldState) (due : List Due) (p : ℕ) (a : S
     → (q : Setup) (d : Device) → FieldShows q t w due p d → Ends w.medium q.id t
 ends_at_place t w due p a holds x now sends q d shows =
     let known = shows.known in
-    let runs : known.station.sending ≡ Some x = known.sending ∙ ap (λ (e : Device). e.sending) shows.is ∙ sends q d shows in
-    let station : station_of w.medium q.id ≡ Some known.station = ap (λ (y : Setup). station_of w.medium y.id) (sym shows.setup) ∙ known.there in
+    let runs : known.station.sending ≡ Some x = known.sending ∙ ap (λ (e : Device). e.sending) shows.shows.is ∙ sends q d shows in
+    let station : station_of w.medium q.id ≡ Some known.station = ap (λ (y : Setup). station_of w.medium y.id) (sym shows.shows.setup) ∙ known.there in
     let orderly = holds.orderly known.station (found (is_station_of q.id) w.medium.stations known.station station) in
     let last : Contains (option_to_list known.station.sending) x =
     subst (λ (o : Option Sending). Contains (option_to_list o) x) (sym runs) (contains_head x []) in

@@ -57,15 +57,28 @@ module _ (s : ScenarioParts) (w : FieldState) (due : List Due) (places : HasPlac
       let here : slice_get (ids_of w) p ≡ Some (id_of d.0) = slice_get-map id_of w.devices p ∙ ap (option_map id_of) d.1 in
       same_Some _ _ (sym at ∙ here) ∙ ap id_by (setup_at_place s w due places p n d.0 there d.1)
 
-module _ {C : Type 0} (R : C → ℕ → ℕ) (s : ScenarioParts) (sound : IsSoundScenario s) (cs : List C) (count : length cs ≡ length s.nodes)
-    (t : ℕ) (line : ScriptLine) (told : List ScriptLine) (next : IsNextLine s t told line)
-    (old : FieldState) (old_due : List Due) (run : IsRunning s (clocks_by R s.nodes cs) told t (InLines told) old old_due) where
+-- this line of the script is the next that a run over these clocks gives
+pub record IsGiven {C : Type 0} (R : C → ℕ → ℕ) (s : ScenarioParts) (cs : List C) (t : ℕ) (line : ScriptLine) (told : List ScriptLine)
+    (old : FieldState) (old_due : List Due) : Type 0 where
+  pub sound : IsSoundScenario s
+  pub count : length cs ≡ length s.nodes
+  pub next : IsNextLine s t told line
+  pub run : IsRunning s (clocks_by R s.nodes cs) told t (InLines told) old old_due
+
+module _ {C : Type 0} {R : C → ℕ → ℕ} {s : ScenarioParts} {cs : List C} {t : ℕ} {line : ScriptLine} {told : List ScriptLine} {old : FieldState}
+    {old_due : List Due} (given : IsGiven R s cs t line told old old_due) where
+  abbrev run : IsRunning s (clocks_by R s.nodes cs) told t (InLines told) old old_due
+  run = given.run
+
+  abbrev next : IsNextLine s t told line
+  next = given.next
+
   in_script : Contains s.script line
   in_script = subst (λ (ls : List ScriptLine). Contains ls line) (sym next.is)
       (Contains-append_right told (line ∷ next.rest) line (contains_head line next.rest))
 
   is_line : IsScriptLine s line
-  is_line = All-contains (IsScriptLine s) s.script line sound.script in_script
+  is_line = All-contains (IsScriptLine s) s.script line given.sound.script in_script
 
   -- the node of the line has a device
   pub has_device : Contains (ids_of old) line.node
@@ -75,14 +88,14 @@ module _ {C : Type 0} (R : C → ℕ → ℕ) (s : ScenarioParts) (sound : IsSou
   early =
       let up : line.frame * s.profile.frame ≤ s.frames * s.profile.frame = mul-le-mul_right s.profile.frame (omega (arith, is_line.in_run)) in
       let now = next.now in
-      early_in_run s t sound (omega (arith, up, now))
+      early_in_run s t given.sound (omega (arith, up, now))
 
   module _ (p : ℕ) (place : slice_get (ids_of old) p ≡ Some line.node) where
     inside : p < length old.devices
     inside = id_within s old old_due run.places p line.node place
 
     pub in_clocks : p < length cs
-    in_clocks = let long = as_many_devices s old old_due run.places in omega (arith, inside, long, count)
+    in_clocks = let long = as_many_devices s old old_due run.places in omega (arith, inside, long, given.count)
 
     node : (n : NodeLine) × (slice_get s.nodes p ≡ Some n)
     node = node_of_place s old old_due run.places p inside
@@ -97,16 +110,16 @@ module _ {C : Type 0} (R : C → ℕ → ℕ) (s : ScenarioParts) (sound : IsSou
     to_node = line_node s (clocks_by R s.nodes cs) t (InLines told) old old_due run.places run.trails p node.0 node.1 line own
 
     pub in_range : (q : Setup) (d : Device) → FieldShows q t old old_due p d → IsAct q.profile line.act
-    in_range = line_range s (clocks_by R s.nodes cs) t (InLines told) old old_due run.places run.trails p node.0 node.1 line own sound in_script
+    in_range = line_range s (clocks_by R s.nodes cs) t (InLines told) old old_due run.places run.trails p node.0 node.1 line own given.sound in_script
 
     pub boots : (q : Setup) (d : Device) → FieldShows q t old old_due p d → line.act ≡ On → CanBoot d.power
-    boots q d shows = can_boot s (clocks_by R s.nodes cs) sound told next.rest line next.is t old old_due run.script p q d shows (to_node q d shows)
+    boots q d shows = can_boot s (clocks_by R s.nodes cs) given.sound told next.rest line next.is t old old_due run.script p q d shows (to_node q d shows)
 
-    pub line_done : (c : C) → slice_get cs p ≡ Some c → (new : FieldState) (new_due : List Due) → TakesLine (R c) line t p line.act old old_due new new_due
+    pub line_done : {c : C} → slice_get cs p ≡ Some c → {new : FieldState} {new_due : List Due} → TakesLine (R c) line t p line.act old old_due new new_due
         → IsRunning s (clocks_by R s.nodes cs) (told ++ line ∷ []) t (InLines (told ++ line ∷ [])) new new_due
         × TrailsStay s (clocks_by R s.nodes cs) t old.air new.air
-    line_done c clock new new_due all = (
-      line_goes_on s (clocks_by R s.nodes cs) sound told t p node.0 node.1 old old_due new new_due (R c)
-          (own_clock R s sound cs count p c clock) line own next.now all.0 all.1 all.2 run,
+    line_done {c} clock {new} {new_due} all = (
+      line_goes_on s (clocks_by R s.nodes cs) given.sound told t p node.0 node.1 old old_due new new_due (R c)
+          (own_clock R s given.sound cs given.count p c clock) line own next.now all.0 all.1 all.2 run,
       acts_stay s (clocks_by R s.nodes cs) t p (λ x d. device_after_act (R c) x t d line.act d.power) [] all.0 old old_due new new_due all.1,
     )

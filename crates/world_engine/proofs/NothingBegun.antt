@@ -1,29 +1,28 @@
 -- A field after the ordered transmission of a device has not started.
-use Rattle.std.proofs.Common.{◌≡◌, ℕ, ◌<◌, List, [], set, length, Option, Some, None, refl, sym, ◌∙◌, ap, subst, inl}
+use Rattle.std.proofs.Common.{◌≡◌, ℕ, List, [], set, Option, Some, None, refl, sym, ◌∙◌, ap}
 use Rattle.std.specs.Prelude.{slice_get}
 use Rattle.std.specs.Option.{option_map}
 use Rattle.std.proofs.lemmas.List.{append-nil, length-set}
-use Rattle.std.proofs.lemmas.Option.{slice_get_within, get_or_from_slice_get}
-use Rattle.lwb_base.proofs.Lists.{set_elsewhere, map_stays}
+use Rattle.std.proofs.lemmas.Option.{get_or_from_slice_get}
+use Rattle.lwb_base.proofs.Lists.{set_elsewhere}
 use Rattle.radio_model.specs.declared.sending.Sending.{Sending}
 use Rattle.radio_model.specs.Stations.{IsTime, station_of}
-use Rattle.radio_model.proofs.Agreement.{agree_same}
 use Rattle.event_calendar.specs.Orders.{Due, at, changed, nothing_due}
 use Rattle.event_calendar.specs.declared.class.Class.TheVariants.{SendingStart}
 use Rattle.bus_rules.specs.Cores.{Setup}
-use Rattle.air_log.specs.Devices.{Device, OrderedPacket, Made, nothing_made}
-use Rattle.air_log.specs.Trails.{device_after_start, sendings_starting}
-use Rattle.air_log.specs.Entries.{sendings_of}
-use Rattle.air_log.specs.DeviceStates.{DeviceState, whole, with_sent, HappenedBy, IsSameNode}
-use Rattle.world_engine.specs.Fields.{FieldState, IsField, IsKnownDevice, FieldShows, FieldIsShown, due_of_device, setup_of_device}
-use Rattle.air_log.specs.DeviceStates.{channel_of}
-use Rattle.air_log.specs.WindowSums.{WindowSum, IsCounted}
-use Rattle.world_engine.specs.FieldSteps.{Acts}
-use Rattle.world_engine.proofs.ShownPlaces.{there_now, still_field, still_shown, shown_as}
-use Rattle.world_engine.proofs.BegunDevices.{silent_with}
-use Rattle.world_engine.proofs.DueChanges.{due_changed}
 use Rattle.air_log.specs.Courses.{sending_end}
-use Rattle.air_log.specs.DeviceStates.{tick_of_ordered}
+use Rattle.air_log.specs.Devices.{Device, OrderedPacket, Made, nothing_made}
+use Rattle.air_log.specs.DeviceChanges.{DeviceShows}
+use Rattle.air_log.specs.DeviceStates.{DeviceState, whole, with_sent, EndedBefore, HappenedBy, IsSameNode, channel_of, tick_of_ordered}
+use Rattle.air_log.specs.Trails.{device_after_start, sendings_starting}
+use Rattle.air_log.proofs.DeviceChanges.{node_shows}
+use Rattle.world_engine.specs.Fields.{FieldState, IsField, IsKnownDevice, FieldShows, FieldIsShown, due_of_device}
+use Rattle.world_engine.specs.FieldSteps.{Acts}
+use Rattle.world_engine.proofs.BegunDevices.{silent_with}
+use Rattle.world_engine.proofs.DeviceSteps.{IsStepAt, lists_stay, acts_at, field_stays}
+use Rattle.world_engine.proofs.DueChanges.{due_changed}
+use Rattle.world_engine.proofs.GoesOn.{goes_on_nothing}
+use Rattle.world_engine.proofs.ShownPlaces.{shown_as}
 
 -- what the start at a device comes to
 abbrev pub Begins : ℕ → ℕ → FieldState → List Due → FieldState → List Due → Type 0
@@ -35,17 +34,35 @@ Begins t p old old_due new new_due =
 abbrev pub due_by : Option Sending → Option ℕ → Option OrderedPacket → Due
 due_by sending alarm ordered = record { sending_end = option_map sending_end sending; alarm = alarm; sending_start = option_map tick_of_ordered ordered }
 
-module _ (t p : ℕ) (w : FieldState) (field : IsField w) (due : List Due) (st new : DeviceState) (here : slice_get w.devices p ≡ Some st)
-    (node : IsSameNode st new) (keeps_time : (now : ℕ) → HappenedBy now st → HappenedBy now new) (stands : at due p SendingStart ≡ Some t)
-    (shown : FieldIsShown t w due p) (time : IsTime w.medium t) where
+-- at t, at which its order stands, the device at place p becomes another
+pub record IsStarting (t p : ℕ) (w : FieldState) (due : List Due) (st new : DeviceState) : Type 0 where
+  pub field : IsField w
+  pub here : slice_get w.devices p ≡ Some st
+  pub node : IsSameNode st new
+  pub keeps_time : (now : ℕ) → HappenedBy now st → HappenedBy now new
+  pub stands : at due p SendingStart ≡ Some t
+  pub shown : FieldIsShown t w due p
+  pub time : IsTime w.medium t
+
+module _ {t p : ℕ} {w : FieldState} {due : List Due} {st new : DeviceState} (start : IsStarting t p w due st new) where
   pub known : IsKnownDevice w due p st
-  known = (shown_as shown.setup t w due p shown.device st here shown.shows).known
+  known = (shown_as start.shown.setup t w due p start.shown.device st start.here start.shown.shows).known
 
   pub ordered : option_map tick_of_ordered st.ordered ≡ Some t
-  ordered = ap (λ (d : Due). d.sending_start) (sym (get_or_from_slice_get due p (due_of_device st) nothing_due known.set)) ∙ stands
+  ordered = ap (λ (d : Due). d.sending_start) (sym (get_or_from_slice_get due p (due_of_device st) nothing_due known.set)) ∙ start.stands
 
-  below : p < length due
-  below = slice_get_within due p (due_of_device st) known.set
+  -- what it is shown as after it, with what it has made by then
+  pub start_shows : (s : Setup) (made more : Made) (d : Device) → DeviceShows s t st made d → more.windows ≡ made.windows → EndedBefore t more.tuned
+      → device_after_start st.setup t (whole st made) ≡ whole new more → DeviceShows s t new more (device_after_start s t d)
+  start_shows s made more d sh windows ended is =
+      node_shows s t st new made more d (device_after_start s t d) sh start.node (start.keeps_time t sh.happened) windows ended
+      (sym is ∙ ap (λ (u : Setup). device_after_start u t (whole st made)) sh.setup ∙ ap (device_after_start s t) sh.is)
+
+  pub begun_are : (xs : List Sending) → ((made : Made) → sendings_starting st.setup t (whole st made) ≡ xs)
+      → (s : Setup) (d : Device) → FieldShows s t w due p d → xs ≡ sendings_starting s t d
+  begun_are xs are s d shows =
+      let sh = shown_as s t w due p d st start.here shows in
+      sym (ap (λ (u : Setup). sendings_starting u t d) (sym sh.shows.setup) ∙ ap (sendings_starting st.setup t) (sym sh.shows.is) ∙ are sh.made)
 
   -- where nothing starts
   module _ (is : (made : Made) → device_after_start st.setup t (whole st made) ≡ whole new (with_sent None made)) where
@@ -58,70 +75,33 @@ module _ (t p : ℕ) (w : FieldState) (field : IsField w) (due : List Due) (st n
     silent_now : whole new nothing_made ≡ record (whole st nothing_made) { ordered = None }
     silent_now = sym (is nothing_made) ∙ (silent_with t st new ordered is nothing_made).is
 
-    silent_set : slice_get silent_due p ≡ Some (due_of_device new)
-    silent_set =
-        due_changed due p SendingStart None (due_of_device st) known.set
-        ∙ ap (λ (d : Device). let o : Option Due = Some (due_by d.sending d.alarm d.ordered) in o) (sym silent_now)
-
-    silent_own : (s : Setup) (d : Device) → FieldShows s t w due p d → FieldShows s t silent_field silent_due p (device_after_start s t d)
-    silent_own s d shows =
-        let sh = shown_as s t w due p d st here shows in
-        record {
-          state = new;
-          there = there_now w.devices p st new here;
-          setup = node.setup ∙ sh.setup;
-          made = sh.made;
-          is = sym (is sh.made) ∙ ap (λ (u : Setup). device_after_start u t (whole st sh.made)) sh.setup ∙ ap (device_after_start s t) sh.is;
-          logged = record { sent = sh.logged.sent; tuned = sh.logged.tuned; deliveries = sh.logged.deliveries };
-          known = record {
-            station = known.station;
-            there = ap (λ (u : Setup). station_of w.medium u.id) node.setup ∙ known.there;
-            tuned = known.tuned ∙ ap (λ (e : Device). option_map channel_of e.listening) (sym silent_now);
-            sending = known.sending ∙ ap (λ (e : Device). e.sending) (sym silent_now);
-            set = silent_set;
-          };
-          counted = subst (λ (x : WindowSum). IsCounted s.profile s.sends sh.made.windows x) (sym node.windows) sh.counted;
-          few = sh.few;
-          ended = sh.ended;
-          happened = keeps_time t sh.happened;
-          taken = node.delivery ∙ sh.taken;
-        }
+    step : IsStepAt t p st new (λ made. made) [] [] w due silent_field silent_due
+    step = record {
+      here = start.here;
+      setup = start.node.setup;
+      devices = refl;
+      lists = lists_stay st.setup.id w w.medium (set w.devices p new);
+      drops = sym (append-nil w.drops);
+      medium = goes_on_nothing t w.medium start.time;
+      station = record {
+        station = known.station;
+        there = ap (λ (u : Setup). station_of w.medium u.id) start.node.setup ∙ known.there;
+        tuned = known.tuned ∙ ap (λ (e : Device). option_map channel_of e.listening) (sym silent_now);
+        sending = known.sending ∙ ap (λ (e : Device). e.sending) (sym silent_now);
+      };
+      stations = λ u other. refl;
+      due = due_changed due p SendingStart None (due_of_device st) known.set
+          ∙ ap (λ (d : Device). let o : Option Due = Some (due_by d.sending d.alarm d.ordered) in o) (sym silent_now);
+      dues = λ q other. set_elsewhere due p q _ other;
+      places = length-set due p _;
+    }
 
     pub not_begun : Begins t p w due silent_field silent_due
     not_begun = (
       [],
-      record {
-        own = silent_own;
-        others = λ q other s d shows. still_shown t q w due silent_field silent_due s d (record {
-          device = set_elsewhere w.devices p q new other;
-          sent = refl;
-          tuned = refl;
-          deliveries = refl;
-          station = refl;
-          due = set_elsewhere due p q _ other;
-        }) shows;
-        hearings = refl;
-        sendings = sym (append-nil (sendings_of w.air));
-        drops = sym (append-nil w.drops);
-        air = record {
-          scene = λ a held. (a, record { held = held; lines = refl; sendings = sym (append-nil a.sendings); before = agree_same t _ });
-          time = time;
-          nodes = refl;
-          numbers = refl;
-          still = λ is. is;
-        };
-        same = record {
-          setups = map_stays setup_of_device w.devices p st new here node.setup;
-          places = length-set due p _;
-          entries = λ e there. inl there;
-          deliverers = λ d there. inl there;
-        };
-      },
-      λ s d shows.
-          let sh = shown_as s t w due p d st here shows in
-          sym (ap (λ (u : Setup). sendings_starting u t d) (sym sh.setup) ∙ ap (sendings_starting st.setup t) (sym sh.is)
-          ∙ (silent_with t st new ordered is sh.made).starting),
+      acts_at step (λ s d. device_after_start s t d) (λ s made d sh. (made.windows, start_shows s made made d sh refl sh.ended (is made))) start.field,
+      begun_are [] (λ made. (silent_with t st new ordered is made).starting),
     )
 
     pub silent_is_field : IsField silent_field
-    silent_is_field = still_field w w.medium p st new w.air w.deliveries w.drops field field.medium refl refl here node.setup
+    silent_is_field = field_stays p w silent_field st new start.field start.here start.node.setup refl start.field.medium refl refl

@@ -28,7 +28,7 @@ module _ (s : ScenarioParts) (clocks : ℕ → ℕ → ℕ) (w : FieldState) (du
   left_at : (p : ℕ) (n : NodeLine) → slice_get s.nodes p ≡ Some n → slice_get due p ≡ Some (standing_at s clocks closed.air n)
   left_at p n there =
       let end = at_place s clocks w due closed running over p n there in
-      let same : standing_at s clocks closed.air n ≡ due_of_device end.shows.state = ap standing end.is ∙ sym (ap standing end.shows.is) in
+      let same : standing_at s clocks closed.air n ≡ due_of_device end.shows.state = ap standing end.is ∙ sym (ap standing end.shows.shows.is) in
       end.shows.known.set ∙ ap (λ (d : Due). Some d) (sym same)
 
   pub orders_over : due ≡ orders_left s clocks closed.air

@@ -24,34 +24,43 @@ use Rattle.world_engine.proofs.ScenesGoOn.{IsMoved, same_ids, sending_at, on_air
 use Rattle.world_engine.proofs.HearingsGoOn.{runs_at}
 use Rattle.world_engine.proofs.HearingOrder.{one_place}
 
-module _ (s : ScenarioParts) (lines : Lines) (clocks : ℕ → ℕ → ℕ) (t p : ℕ) (x : Sending) (hearers : List ℕ) (old : FieldState) (old_due : List Due)
-    (new : FieldState) (new_due : List Due)
-    (ends : EndsSending lines clocks t p x hearers old old_due new new_due) (within : p < length old.devices) (field : IsField old)
-    (all : AreTuned t old old_due)
-    (sends : DeviceSends t old old_due p x) (now : x.end ≡ t) (trace : lines ≡ s.trace) (a : Scene) (h : HoldsScene s t old old_due a) where
+-- the transmission x of the device at place p ends at t, and this scene is held before
+pub record IsAtEnd (s : ScenarioParts) (lines : Lines) (clocks : ℕ → ℕ → ℕ) (t p : ℕ) (x : Sending) (hearers : List ℕ) (old : FieldState)
+    (old_due : List Due) (new : FieldState) (new_due : List Due) (a : Scene) : Type 0 where
+  pub ends : EndsSending lines clocks t p x hearers old old_due new new_due
+  pub within : p < length old.devices
+  pub field : IsField old
+  pub all : AreTuned t old old_due
+  pub sends : DeviceSends t old old_due p x
+  pub now : x.end ≡ t
+  pub trace : lines ≡ s.trace
+  pub holds : HoldsScene s t old old_due a
+
+module _ {s : ScenarioParts} {lines : Lines} {clocks : ℕ → ℕ → ℕ} {t p : ℕ} {x : Sending} {hearers : List ℕ} {old : FieldState} {old_due : List Due}
+    {new : FieldState} {new_due : List Due} {a : Scene} (at_end : IsAtEnd s lines clocks t p x hearers old old_due new new_due a) where
   -- the sender
   abbrev sender : IsTunedAt t old old_due p
-  sender = all p within
+  sender = at_end.all p at_end.within
 
-  x_sent : (all p within).device.sending ≡ Some x
-  x_sent = sends (all p within).setup (all p within).device (all p within).shows
+  x_sent : (at_end.all p at_end.within).device.sending ≡ Some x
+  x_sent = at_end.sends (at_end.all p at_end.within).setup (at_end.all p at_end.within).device (at_end.all p at_end.within).shows
 
-  pub own_node : x.node ≡ (all p within).setup.id
+  pub own_node : x.node ≡ (at_end.all p at_end.within).setup.id
   own_node =
       let at = sending_at old.medium sender.setup.id x (shown_sending sender.setup t old old_due p sender.device sender.shows ∙ x_sent) in
-      ((h.held.orderly at.station at.there).own x (on_air_there at.station x at.sends)).node ∙ at.node
+      ((at_end.holds.held.orderly at.station at.there).own x (on_air_there at.station x at.sends)).node ∙ at.node
 
   pub x_runs : Runs old.medium x
   x_runs = (runs_at sender.setup t old old_due p sender.device sender.shows x (sym own_node)).1 x_sent
 
   pub x_logged : Contains (sendings_of old.air) x
-  x_logged = runs_sent s t old old_due a h x x_runs
+  x_logged = runs_sent s t old old_due a at_end.holds x x_runs
 
   x_lasts : x.start < x.end
-  x_lasts = (h.begun x x_logged).0
+  x_lasts = (at_end.holds.begun x x_logged).0
 
   pub rule : (q : ℕ) (u : Setup) (d : Device) → FieldShows u t old old_due q d → Contains hearers q ↔ HearsInScene (as_it_stands old.medium t a) u.id x
-  rule q u d shows = ends.heard a h.held (h.lines ∙ sym trace) q u d shows
+  rule q u d shows = at_end.ends.heard a at_end.holds.held (at_end.holds.lines ∙ sym at_end.trace) q u d shows
 
   -- it does not receive itself, and no hearer sends up to this tick
   pub sender_hears_not : Contains hearers p → ⊥
@@ -79,7 +88,7 @@ module _ (s : ScenarioParts) (lines : Lines) (clocks : ℕ → ℕ → ℕ) (t p
       before = sender.device;
       after = _;
       was = sender.shows;
-      is = ends.sender sender_hears_not sender.setup sender.device sender.shows;
+      is = at_end.ends.sender sender_hears_not sender.setup sender.device sender.shows;
       stays = told_of_end_stays (clocks p) sender.setup t sender.device sender.by x;
     };
     fate = inl (refl, told_of_end_sending (clocks p) sender.setup t x sender.device);
@@ -87,7 +96,7 @@ module _ (s : ScenarioParts) (lines : Lines) (clocks : ℕ → ℕ → ℕ) (t p
 
   pub at_other : (r : ℕ) → r < length old.devices → r ≢ p → EndsAt r
   at_other r inside other =
-      let at = all r inside in
+      let at = at_end.all r inside in
       elim (is_hearing r) [
         | inl there ↦ record {
           moved = record {
@@ -95,7 +104,7 @@ module _ (s : ScenarioParts) (lines : Lines) (clocks : ℕ → ℕ → ℕ) (t p
             before = at.device;
             after = _;
             was = at.shows;
-            is = ends.hearer r there other at.setup at.device at.shows;
+            is = at_end.ends.hearer r there other at.setup at.device at.shows;
             stays = told_of_hearing_stays (clocks r) at.setup t at.device at.by x;
           };
           fate = inr (other, told_of_hearing_sending (clocks r) at.setup t x at.device);
@@ -106,7 +115,7 @@ module _ (s : ScenarioParts) (lines : Lines) (clocks : ℕ → ℕ → ℕ) (t p
             before = at.device;
             after = at.device;
             was = at.shows;
-            is = ends.others r not other at.setup at.device at.shows;
+            is = at_end.ends.others r not other at.setup at.device at.shows;
             stays = stays_same t at.device.made.tuned at.device.listening at.by;
           };
           fate = inr (other, refl);
@@ -117,10 +126,10 @@ module _ (s : ScenarioParts) (lines : Lines) (clocks : ℕ → ℕ → ℕ) (t p
   ends_at r inside = elim (cases_eq r p) [ inl same ↦ subst EndsAt (sym same) at_sender | inr other ↦ at_other r inside other ]
 
   pub ids : ids_of new ≡ ids_of old
-  ids = same_ids old new ends.same.setups
+  ids = same_ids old new at_end.ends.same.setups
 
   pub ascending : AllPairs (λ a b. a < b) (ids_of old)
-  ascending = subst (AllPairs (λ a b. a < b)) (sym field.nodes) field.medium.nodes.ascending
+  ascending = subst (AllPairs (λ a b. a < b)) (sym at_end.field.nodes) at_end.field.medium.nodes.ascending
 
   -- the place of a sender
   pub record SenderAt (y : Sending) : Type 0 where
@@ -150,7 +159,7 @@ module _ (s : ScenarioParts) (lines : Lines) (clocks : ℕ → ℕ → ℕ) (t p
 
   pub still_runs : (y : Sending) → Runs new.medium y → StillRuns y
   still_runs y ran =
-      let of = sender_at y (subst (λ (l : List ℕ). Contains l y.node) ids (runs_node new (ids ∙ field.nodes ∙ sym ends.air.nodes) y ran)) in
+      let of = sender_at y (subst (λ (l : List ℕ). Contains l y.node) ids (runs_node new (ids ∙ at_end.field.nodes ∙ sym at_end.ends.air.nodes) y ran)) in
       let m = of.at.moved in
       let is : m.after.sending ≡ Some y = (runs_at m.setup t new new_due of.place m.after m.is y of.node).0 ran in
       elim of.at.fate [
@@ -173,11 +182,11 @@ module _ (s : ScenarioParts) (lines : Lines) (clocks : ℕ → ℕ → ℕ) (t p
 
   pub runs_on : (y : Sending) → x ≢ y → Runs old.medium y → Runs new.medium y
   runs_on y differ ran =
-      let of = sender_at y (runs_node old field.nodes y ran) in
+      let of = sender_at y (runs_node old at_end.field.nodes y ran) in
       let m = of.at.moved in
       let was : m.before.sending ≡ Some y = (runs_at m.setup t old old_due of.place m.before m.was y of.node).0 ran in
       (runs_at m.setup t new new_due of.place m.after m.is y of.node).1 (elim of.at.fate [
         | inl own ↦ absurd
-            (differ (same_Some x y (sym (sends m.setup m.before (subst (λ (r : ℕ). FieldShows m.setup t old old_due r m.before) own.0 m.was)) ∙ was)))
+            (differ (same_Some x y (sym (at_end.sends m.setup m.before (subst (λ (r : ℕ). FieldShows m.setup t old old_due r m.before) own.0 m.was)) ∙ was)))
         | inr other ↦ other.1 ∙ was
       ])

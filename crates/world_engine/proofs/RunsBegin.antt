@@ -89,20 +89,22 @@ module _ (s : ScenarioParts) (clocks : ℕ → ℕ → ℕ) (sound : IsSoundScen
   shown_first p n at = record {
     state = first_device s n;
     there = device_at p n at;
-    setup = refl;
     made = nothing_made;
-    is = refl;
+    shows = record {
+      is = refl;
+      setup = refl;
+      counted = record { profile = refl; sends = refl; counts = record { earlier = refl; last = refl; by_alarm = refl }; small = tt };
+      few = sound.few_sends;
+      ended = tt;
+      happened = record { closed = tt; listening = tt };
+      taken = refl;
+    };
     logged = record {
       sent = ap (λ (air : List Entry). sent_by air n.node) (sym first.air);
       tuned = ap (λ (air : List Entry). reverse (tuned_by air n.node)) (sym first.air);
       deliveries = ap (filter (λ d. d.node == n.node)) (sym first.deliveries);
     };
     known = record { station = fresh n.node p; there = station_at p n at; tuned = refl; sending = refl; set = due_at_first p n at };
-    counted = record { profile = refl; sends = refl; counts = record { earlier = refl; last = refl; by_alarm = refl }; small = tt };
-    few = sound.few_sends;
-    ended = tt;
-    happened = record { closed = tt; listening = tt };
-    taken = refl;
   }
 
   on_trail : (p : ℕ) (n : NodeLine) → slice_get s.nodes p ≡ Some n → IsOnTrail s clocks 0 Before w due p n.node
@@ -112,7 +114,7 @@ module _ (s : ScenarioParts) (clocks : ℕ → ℕ → ℕ) (sound : IsSoundScen
   power_first q p d shows =
       let there : slice_get (map (first_device s) s.nodes) p ≡ Some shows.state = ap (λ (l : List DeviceState). slice_get l p) (sym first.devices)
       ∙ shows.there in
-      ap seen_power (ap (λ (x : Device). x.power) (sym shows.is)) ∙ off s.nodes p shows.state there
+      ap seen_power (ap (λ (x : Device). x.power) (sym shows.shows.is)) ∙ off s.nodes p shows.state there
     where
       off : (ns : List NodeLine) (i : ℕ) (x : DeviceState) → slice_get (map (first_device s) ns) i ≡ Some x → seen_power x.power ≡ (false, 0)
       off [] i x at = absurd (none-some _ at)

@@ -60,8 +60,7 @@ pub air_after_end : (s : ScenarioParts) (clocks : ℕ → ℕ → ℕ) (told : L
     → (hearers : List ℕ) (new : FieldState) (new_due : List Due) → EndsSending lines at_places t p x hearers old old_due new new_due
     → IsOnAir s (suc t) t new new_due
 air_after_end s clocks told t old old_due run field lines by_trace at_places p within least x now sends hearers new new_due ends =
-    end_on_air s lines at_places t p x hearers old old_due new new_due ends within field
-    (all_tuned s clocks told t (At SendingEnd) old old_due run field) sends now by_trace least run.air
+    end_on_air ends within field (all_tuned s clocks told t (At SendingEnd) old old_due run field) sends now by_trace least run.air
 
 -- the end of the run
 pub hearing_followed : (s : ScenarioParts) (clocks : ℕ → ℕ → ℕ) (told : List ScriptLine) (w : FieldState) (due : List Due)

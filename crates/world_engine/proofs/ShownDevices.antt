@@ -10,42 +10,24 @@ use Rattle.radio_model.specs.declared.sending.Sending.{Sending}
 use Rattle.scenario_text.specs.ScenarioParts.{ScenarioParts}
 use Rattle.scenario_text.specs.declared.lines.NodeLine.{NodeLine}
 use Rattle.bus_rules.specs.Cores.{Setup}
-use Rattle.air_log.specs.declared.entry.TunedEntry.{TunedEntry}
-use Rattle.air_log.specs.Devices.{Device, Listening, OrderedPacket}
+use Rattle.air_log.specs.Devices.{Device, OrderedPacket}
 use Rattle.scenario_text.specs.Setups.{setup_of}
 use Rattle.air_log.specs.Ahead.{IsAhead}
 use Rattle.air_log.specs.DeviceStates.{DeviceState}
-use Rattle.air_log.proofs.ShownCourses.{ended_later}
+use Rattle.air_log.proofs.ShownCourses.{device_later}
 use Rattle.world_engine.specs.Fields.{FieldState, FieldShows, due_of_device, setup_of_device}
 use Rattle.world_engine.specs.Running.{HasPlaces, setup_by}
 use Rattle.world_engine.specs.Runs.{standing}
 use Rattle.world_engine.proofs.TickPoints.{IsOver}
 
-closed_by : (t u : ℕ) (e : Option TunedEntry) → t ≤ u → IfSome e (λ x. x.end ≤ t) → IfSome e (λ x. x.end ≤ u)
-closed_by t u None up is = tt
-closed_by t u (Some e) up is = omega (arith, up, is)
-
-listening_by : (t u : ℕ) (l : Option Listening) → t ≤ u → IfSome l (λ x. x.since ≤ t) → IfSome l (λ x. x.since ≤ u)
-listening_by t u None up is = tt
-listening_by t u (Some l) up is = omega (arith, up, is)
-
 pub shows_later : (q : Setup) (t u : ℕ) (w : FieldState) (due : List Due) (p : ℕ) (d : Device) → t ≤ u → FieldShows q t w due p d → FieldShows q u w due p d
 shows_later q t u w due p d up shows = record {
   state = shows.state;
   there = shows.there;
-  setup = shows.setup;
   made = shows.made;
-  is = shows.is;
+  shows = device_later q t u shows.state shows.made d up shows.shows;
   logged = shows.logged;
   known = shows.known;
-  counted = shows.counted;
-  few = shows.few;
-  ended = ended_later t u shows.made.tuned up shows.ended;
-  happened = record {
-    closed = closed_by t u shows.state.closed up shows.happened.closed;
-    listening = listening_by t u shows.state.listening up shows.happened.listening;
-  };
-  taken = shows.taken;
 }
 
 -- the place tells the state
@@ -54,13 +36,14 @@ module _ (q r : Setup) (t u : ℕ) (w : FieldState) (due : List Due) (p : ℕ) (
   same_state = same_Some x.state y.state (sym x.there ∙ y.there)
 
   pub same_power : d.power ≡ e.power
-  same_power = ap (λ (z : Device). z.power) (sym x.is) ∙ ap (λ (z : DeviceState). z.power) same_state ∙ ap (λ (z : Device). z.power) y.is
+  same_power = ap (λ (z : Device). z.power) (sym x.shows.is) ∙ ap (λ (z : DeviceState). z.power) same_state ∙ ap (λ (z : Device). z.power) y.shows.is
 
   pub same_alarm : d.alarm ≡ e.alarm
-  same_alarm = ap (λ (z : Device). z.alarm) (sym x.is) ∙ ap (λ (z : DeviceState). z.alarm) same_state ∙ ap (λ (z : Device). z.alarm) y.is
+  same_alarm = ap (λ (z : Device). z.alarm) (sym x.shows.is) ∙ ap (λ (z : DeviceState). z.alarm) same_state ∙ ap (λ (z : Device). z.alarm) y.shows.is
 
   pub same_sending : d.sending ≡ e.sending
-  same_sending = ap (λ (z : Device). z.sending) (sym x.is) ∙ ap (λ (z : DeviceState). z.sending) same_state ∙ ap (λ (z : Device). z.sending) y.is
+  same_sending =
+      ap (λ (z : Device). z.sending) (sym x.shows.is) ∙ ap (λ (z : DeviceState). z.sending) same_state ∙ ap (λ (z : Device). z.sending) y.shows.is
 
 -- the place is that of a node of the scenario
 pub node_there : (s : ScenarioParts) (q : Setup) (t : ℕ) (w : FieldState) (due : List Due) (p : ℕ) (d : Device) → HasPlaces s w due → FieldShows q t w due p d
@@ -71,7 +54,7 @@ node_there s q t w due p d places shows =
     ∙ ap (λ (xs : List Setup). slice_get xs p) (sym places.setups)
     ∙ slice_get-map setup_of_device w.devices p
     ∙ ap (option_map setup_of_device) shows.there
-    ∙ ap (λ (x : Setup). Some x) shows.setup)
+    ∙ ap (λ (x : Setup). Some x) shows.shows.setup)
   where
     by : (o : Option NodeLine) → slice_get s.nodes p ≡ o → option_map (setup_by s) o ≡ Some q
         → (n : NodeLine) × (slice_get s.nodes p ≡ Some n) × (q ≡ setup_of s n.node)
@@ -86,7 +69,7 @@ module _ (q : Setup) (t : ℕ) (w : FieldState) (due : List Due) (p : ℕ) (d : 
   pub stands_at : (c : Class) → at due p c ≡ tick_of c (standing d)
   stands_at c =
       ap (tick_of c) (get_or_from_slice_get due p (due_of_device shows.state) nothing_due shows.known.set)
-      ∙ ap (λ (e : Device). tick_of c (standing e)) shows.is
+      ∙ ap (λ (e : Device). tick_of c (standing e)) shows.shows.is
 
   if_some : {X : Type 0} (P : X → Type 0) (o : Option X) → ((x : X) → o ≡ Some x → P x) → IfSome o P
   if_some P None each = tt

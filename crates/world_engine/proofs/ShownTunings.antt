@@ -39,22 +39,22 @@ module _ (q : Setup) (t : ℕ) (w : FieldState) (due : List Due) (p : ℕ) (d : 
   shown_within = slice_get_within w.devices p is.state is.there
 
   pub shown_id : slice_get (ids_of w) p ≡ Some q.id
-  shown_id = mapped id_of w.devices p is.state is.there ∙ ap (λ (s : Setup). Some s.id) is.setup
+  shown_id = mapped id_of w.devices p is.state is.there ∙ ap (λ (s : Setup). Some s.id) is.shows.setup
 
   -- what it sends runs on the air
   pub shown_sending : sending_of_station (station_of w.medium q.id) ≡ d.sending
   shown_sending =
-      ap (λ (s : Setup). sending_of_station (station_of w.medium s.id)) (sym is.setup)
-      ∙ ap sending_of_station is.known.there ∙ is.known.sending ∙ ap (λ (x : Device). x.sending) is.is
+      ap (λ (s : Setup). sending_of_station (station_of w.medium s.id)) (sym is.shows.setup)
+      ∙ ap sending_of_station is.known.there ∙ is.known.sending ∙ ap (λ (x : Device). x.sending) is.shows.is
 
   -- and its end is in the queue
   pub shown_end : (y : Sending) → d.sending ≡ Some y → at due p SendingEnd ≡ Some y.end
   shown_end y sends =
       ap (λ (x : Due). x.sending_end) (get_or_from_slice_get due p (due_of_device is.state) nothing_due is.known.set)
-      ∙ ap (λ (x : Device). option_map sending_end x.sending) is.is ∙ ap (option_map sending_end) sends
+      ∙ ap (λ (x : Device). option_map sending_end x.sending) is.shows.is ∙ ap (option_map sending_end) sends
 
   shown_tuned : d.made.tuned ≡ one_more is.state.closed (reverse (tuned_by w.air q.id))
-  shown_tuned = ap (λ (x : Device). x.made.tuned) (sym is.is) ∙ ap (one_more is.state.closed) is.logged.tuned
+  shown_tuned = ap (λ (x : Device). x.made.tuned) (sym is.shows.is) ∙ ap (one_more is.state.closed) is.logged.tuned
 
 -- two that are shown at one place are the same, but for what the log has not
 pub record AreAlike (q r : Setup) (d e : Device) : Type 0 where
@@ -67,14 +67,14 @@ pub alike : (q r : Setup) (t u : ℕ) (w : FieldState) (due : List Due) (p : ℕ
     → AreAlike q r d e
 alike q r t u w due p d e a b =
     let state : a.state ≡ b.state = same_Some a.state b.state (sym a.there ∙ b.there) in
-    let setup : q ≡ r = sym a.setup ∙ ap (λ (s : DeviceState). s.setup) state ∙ b.setup in
+    let setup : q ≡ r = sym a.shows.setup ∙ ap (λ (s : DeviceState). s.setup) state ∙ b.shows.setup in
     record {
       setup = setup;
       tuned =
           shown_tuned q t w due p d a ∙ ap (λ (s : DeviceState). one_more s.closed (reverse (tuned_by w.air q.id))) state
           ∙ ap (λ (s : Setup). one_more b.state.closed (reverse (tuned_by w.air s.id))) setup ∙ sym (shown_tuned r u w due p e b);
-      listening = ap (λ (x : Device). x.listening) (sym a.is) ∙ ap (λ (s : DeviceState). s.listening) state ∙ ap (λ (x : Device). x.listening) b.is;
-      sending = ap (λ (x : Device). x.sending) (sym a.is) ∙ ap (λ (s : DeviceState). s.sending) state ∙ ap (λ (x : Device). x.sending) b.is;
+      listening = ap (λ (x : Device). x.listening) (sym a.shows.is) ∙ ap (λ (s : DeviceState). s.listening) state ∙ ap (λ (x : Device). x.listening) b.shows.is;
+      sending = ap (λ (x : Device). x.sending) (sym a.shows.is) ∙ ap (λ (s : DeviceState). s.sending) state ∙ ap (λ (x : Device). x.sending) b.shows.is;
     }
 
 pub tuned_alike : (q r : Setup) (d e : Device) → AreAlike q r d e → (c k : ℕ) → WasTuned d c k → WasTuned e c k

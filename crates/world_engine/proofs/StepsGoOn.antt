@@ -92,20 +92,21 @@ module _ (s : ScenarioParts) (clocks : ℕ → ℕ → ℕ) (sound : IsSoundScen
   end_goes_on lines by_trace at_places own_clocks x now sends next hearers ends run =
       let places = places_after (At SendingEnd) [] run ends.same ends.air in
       let air = run.air in
+      let air_now = air_after_end s clocks told t old old_due run run.places.field lines by_trace at_places p
+      (inside (At SendingEnd) run) next x now sends hearers new new_due ends in
       let deaf =
       not_own s clocks sound lines by_trace at_places t p x now hearers old old_due new new_due ends run.places run.trails sends n here air.scene air.holds
-      (suc t) air.has in
+      air.has.in_turn air_now.has.in_turn in
       let heard =
       heard_at_end s clocks sound lines by_trace at_places t p x now hearers old old_due new new_due ends run.places run.trails sends n here
-      air.scene air.holds (suc t) air.has in
+      air.scene air.holds air.has.in_turn air_now.has.in_turn in
       let heard_on =
       heard_on_at_end s clocks sound lines by_trace at_places t p x now hearers old old_due new new_due ends run.places run.trails sends n here
-      air.scene air.holds (suc t) air.has in
+      air.scene air.holds air.has.in_turn air_now.has.in_turn in
       record {
         places = places;
         trails = end_trails s clocks lines at_places own_clocks t p x now hearers old old_due new new_due ends sends deaf heard run.trails;
-        air = air_after_end s clocks told t old old_due run run.places.field lines by_trace at_places p
-            (inside (At SendingEnd) run) next x now sends hearers new new_due ends;
+        air = air_now;
         script = end_told_of s clocks told t
             (At SendingEnd) old old_due run.trails run.script new new_due places lines at_places p x hearers ends deaf heard_on;
       }

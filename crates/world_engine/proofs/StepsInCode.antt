@@ -9,41 +9,52 @@ use Rattle.air_log.specs.Devices.{Device}
 use Rattle.air_log.specs.DeviceStates.{DeviceState}
 use Rattle.air_log.specs.DeviceChanges.{DeviceShows, DeviceIsShown}
 use Rattle.world_engine.specs.Fields.{FieldState, FieldShows, FieldIsShown, IsField, IsKnownDevice, due_of_device}
-use Rattle.world_engine.proofs.DeviceSteps.{device_in, field_stays}
+use Rattle.world_engine.proofs.DeviceSteps.{field_stays}
 
-module _ (t p : ℕ) (old : FieldState) (old_due : List Due) (shown : FieldIsShown t old old_due p) (i : ℕ) (at : i ≡ p) (state : DeviceState)
-    (is : state ≡ get_or old.devices i state) where
-  abbrev shows : FieldShows shown.setup t old old_due p shown.device
-  shows = shown.shows
+-- code has read this device at an index, which is that of a place, and contracts see the field as another
+pub record IsRead (t p : ℕ) (old seen : FieldState) (due : List Due) (i : ℕ) (state : DeviceState) : Type 0 where
+  pub same : old ≡ seen
+  pub shown : FieldIsShown t seen due p
+  pub at : i ≡ p
+  pub is : state ≡ get_or old.devices i state
+  pub field : IsField old
 
+module _ {t p : ℕ} {old seen : FieldState} {due : List Due} {i : ℕ} {state : DeviceState} (read : IsRead t p old seen due i state) where
   -- whatever trail it is of
-  pub same_as_shown : (s : Setup) (d : Device) → (there : FieldShows s t old old_due p d) → there.state ≡ state
-  same_as_shown s d there = sym (get_or_from_slice_get old.devices p there.state state there.there)
-      ∙ ap (λ (n : ℕ). get_or old.devices n state) (sym at) ∙ sym is
+  same_as_shown : (s : Setup) (d : Device) → (there : FieldShows s t seen due p d) → there.state ≡ state
+  same_as_shown s d there =
+      sym (get_or_from_slice_get seen.devices p there.state state there.there) ∙ ap (λ (w : FieldState). get_or w.devices p state) (sym read.same)
+      ∙ ap (λ (n : ℕ). get_or old.devices n state) (sym read.at) ∙ sym read.is
 
-  same : shows.state ≡ state
-  same = same_as_shown shown.setup shown.device shows
+  same : read.shown.shows.state ≡ state
+  same = same_as_shown read.shown.setup read.shown.device read.shown.shows
 
   -- of the device that the index gives
   pub state_here : slice_get old.devices p ≡ Some state
-  state_here = shows.there ∙ ap (λ (d : DeviceState). Some d) same
+  state_here = ap (λ (w : FieldState). slice_get w.devices p) read.same ∙ read.shown.shows.there ∙ ap (λ (d : DeviceState). Some d) same
 
-  pub state_known : IsKnownDevice old old_due p state
-  state_known = subst (λ (d : DeviceState). IsKnownDevice old old_due p d) same shows.known
+  pub state_known : IsKnownDevice old due p state
+  state_known =
+      subst (λ (w : FieldState). IsKnownDevice w due p state) (sym read.same) (subst (λ (d : DeviceState). IsKnownDevice seen due p d) same read.shown.shows.known)
 
   -- as the device of some trail
-  pub state_shows : (s : Setup) (d : Device) → (there : FieldShows s t old old_due p d) → DeviceShows s t state there.made d
-  state_shows s d there = subst (λ (x : DeviceState). DeviceShows s t x there.made d) (same_as_shown s d there) (device_in s t old old_due p d there)
+  pub state_shows : (s : Setup) (d : Device) → (there : FieldShows s t seen due p d) → DeviceShows s t state there.made d
+  state_shows s d there = subst (λ (x : DeviceState). DeviceShows s t x there.made d) (same_as_shown s d there) there.shows
 
   pub state_shown : DeviceIsShown t state
-  state_shown = record { setup = shown.setup; made = shows.made; device = shown.device; shows = state_shows shown.setup shown.device shows }
+  state_shown = record {
+    setup = read.shown.setup;
+    made = read.shown.shows.made;
+    device = read.shown.device;
+    shows = state_shows read.shown.setup read.shown.device read.shown.shows;
+  }
 
-  pub in_queue : p < length old_due
-  in_queue = slice_get_within old_due p (due_of_device state) state_known.set
+  pub in_queue : p < length due
+  in_queue = slice_get_within due p (due_of_device state) state_known.set
 
   -- the field after it, where the medium stays
-  pub field_as_was : IsField old → (after : DeviceState) → after.setup ≡ state.setup → (deliveries : List Delivery)
+  pub field_as_was : (after : DeviceState) → after.setup ≡ state.setup → (deliveries : List Delivery)
       → IsField (record old { devices = set old.devices i after; deliveries = deliveries })
-  field_as_was field after setup deliveries =
-      field_stays p old (record old { devices = set old.devices i after; deliveries = deliveries }) state after field state_here setup
-      (ap (λ (n : ℕ). set old.devices n after) at) field.medium refl refl
+  field_as_was after setup deliveries =
+      field_stays p old (record old { devices = set old.devices i after; deliveries = deliveries }) state after read.field state_here setup
+      (ap (λ (n : ℕ). set old.devices n after) read.at) read.field.medium refl refl

@@ -60,7 +60,7 @@ module _ (s : ScenarioParts) (clocks : ℕ → ℕ → ℕ) (lines : Lines) (at_
   own_sent : (q : ℕ) (n : NodeLine) (d : Device) → slice_get s.nodes q ≡ Some n → Contains hearers q → FieldShows (setup_of s n.node) t old old_due q d
       → (y : Sending) → Contains d.made.sent y → y.end ≡ t → ⊥
   own_sent q n d there hears shows y sent is =
-      let same : d.made.sent ≡ sent_by old.air n.node = ap (λ (e : Device). e.made.sent) (sym shows.is) ∙ shows.logged.sent in
+      let same : d.made.sent ≡ sent_by old.air n.node = ap (λ (e : Device). e.made.sent) (sym shows.shows.is) ∙ shows.logged.sent in
       air.free q n there hears y (subst (λ (ys : List Sending). Contains ys y) same sent) (is ∙ sym now)
 
   hearer_trail : (q : ℕ) (n : NodeLine) → slice_get s.nodes q ≡ Some n → Contains hearers q → q ≢ p → Old q n.node → New q n.node

@@ -1,5 +1,5 @@
 -- The devices of a run by place, the air that they share, and what is in the lists so far.
-use Rattle.std.specs.Prelude.{◌≡◌, ℕ, ◌≤◌, List, [], ◌∷◌, map, filter, reverse, slice_get, All, ◌==◌, Some, None}
+use Rattle.std.specs.Prelude.{◌≡◌, ℕ, List, [], ◌∷◌, map, filter, reverse, slice_get, All, ◌==◌, Some, None}
 use Rattle.std.specs.declared.option.Option.{Option}
 use Rattle.std.specs.Option.{option_map}
 use Rattle.radio_model.specs.declared.station.Station.{Station}
@@ -14,8 +14,9 @@ use Rattle.air_log.specs.declared.entry.Entry.TheVariants.{Tuned}
 use Rattle.air_log.specs.declared.entry.TunedEntry.{TunedEntry}
 use Rattle.air_log.specs.Devices.{Device, Power, Made}
 use Rattle.air_log.specs.Lawful.{sent_by, tuned_by}
-use Rattle.air_log.specs.DeviceStates.{DeviceState, whole, EndedBefore, HappenedBy, channel_of, tick_of_ordered}
-use Rattle.air_log.specs.WindowSums.{WindowSum, IsCounted}
+use Rattle.air_log.specs.DeviceChanges.{DeviceShows}
+use Rattle.air_log.specs.DeviceStates.{DeviceState, channel_of, tick_of_ordered}
+use Rattle.air_log.specs.WindowSums.{WindowSum}
 use Rattle.air_log.specs.Courses.{sending_end}
 
 -- deliveries and drops are in the order in which they were made
@@ -84,16 +85,10 @@ pub record IsKnownDevice (w : FieldState) (due : List Due) (p : ℕ) (d : Device
 pub record FieldShows (s : Setup) (t : ℕ) (w : FieldState) (due : List Due) (p : ℕ) (d : Device) : Type 0 where
   pub state : DeviceState
   pub there : slice_get w.devices p ≡ Some state
-  pub setup : state.setup ≡ s
   pub made : Made
-  pub is : whole state made ≡ d
+  pub shows : DeviceShows s t state made d
   pub logged : IsLogged w s.id made
   pub known : IsKnownDevice w due p state
-  pub counted : IsCounted s.profile s.sends made.windows state.windows
-  pub few : s.sends ≤ 4
-  pub ended : EndedBefore t made.tuned
-  pub happened : HappenedBy t state
-  pub taken : state.delivery ≡ None
 
 -- the device at the place is that of some trail
 pub record FieldIsShown (t : ℕ) (w : FieldState) (due : List Due) (p : ℕ) : Type 0 where

@@ -1,9 +1,11 @@
 -- How far a run has come in its script and in its queue.
-use Rattle.std.specs.Prelude.{◌≡◌, ℕ, ◌+◌, ◌*◌, ◌<◌, ◌≤◌, List, ◌∷◌, ◌++◌, filter, length, slice_get, nat_lt, Some}
+use Rattle.std.specs.Prelude.{◌≡◌, ℕ, ◌+◌, ◌*◌, ◌<◌, ◌≤◌, List, ◌∷◌, ◌++◌, filter, length, nat_lt}
 use Rattle.event_calendar.specs.declared.class.Class.{Class}
 use Rattle.event_calendar.specs.Orders.{Due, Order, Stands, rank}
 use Rattle.scenario_text.specs.ScenarioParts.{ScenarioParts}
 use Rattle.scenario_text.specs.declared.script.ScriptLine.{ScriptLine}
+use Rattle.scenario_text.specs.AddedLines.{frame_of_line}
+use Rattle.air_log.specs.Courses.{IsSplitByKey}
 use Rattle.air_log.specs.Trails.{frame_start}
 
 -- the lines of the script of frames before f
@@ -13,8 +15,7 @@ told_before s f = filter (λ l. nat_lt l.frame f) s.script
 -- the first k lines of the script are those of frames before f
 pub record CountsScriptLinesBefore (s : ScenarioParts) (k f : ℕ) : Type 0 where
   pub within : k ≤ length s.script
-  pub before : (i : ℕ) (l : ScriptLine) → slice_get s.script i ≡ Some l → i < k → l.frame < f
-  pub behind : (i : ℕ) (l : ScriptLine) → slice_get s.script i ≡ Some l → k ≤ i → f ≤ l.frame
+  pub cut : IsSplitByKey frame_of_line s.script k f
 
 -- the line is after these lines of the script, and is given at tick t
 pub record IsNextLine (s : ScenarioParts) (t : ℕ) (told : List ScriptLine) (l : ScriptLine) : Type 0 where

@@ -2,7 +2,7 @@
 
 ghost use Rattle.std.specs.Prelude.{◌≡◌, ◌<◌, ◌≤◌, ◌+◌, ℕ, List, [], ◌∷◌, ◌++◌, Some, IfOk, OnOk, length};
 ghost use Rattle.event_calendar.specs.Orders.{IsNext};
-ghost use Rattle.event_calendar.specs.declared.class.Class.TheVariants.{SendingEnd as EndOf, Alarm as AlarmOf, SendingStart as StartOf};
+ghost use Rattle.event_calendar.specs.declared.class.Class.TheVariants.{SendingEnd as EndOf};
 ghost use Rattle.scenario_text.specs.ScenarioFacts.{IsSoundScenario};
 ghost use Rattle.scenario_text.specs.declared.script.ScriptLine.{ScriptLine as LineOf};
 ghost use Rattle.air_log.specs.Trails.{run_end, frame_start};
@@ -169,79 +169,9 @@ impl Field {
     {
         let (t, class, place) = due;
         match class {
-            Class::SendingEnd => self.end_due(orders, s, clocks, t, place, radio),
-            Class::Alarm => self.alarm_due(orders, s, clocks, t, place, radio),
-            Class::SendingStart => self.start_due(orders, s, clocks, t, place),
+            Class::SendingEnd => self.end(orders, s.trace(), clocks, place, t, radio),
+            Class::Alarm => self.alarm(orders, &clocks[usize::from(place)], place, t, radio),
+            Class::SendingStart => self.begin(orders, place, t),
         }
-    }
-
-    // The transmission of the device at the place ends at tick t.
-    fn end_due<C: DriftClock, Q: Orders>(
-        &mut self,
-        orders: &mut Q,
-        s: &Scenario,
-        clocks: &[C],
-        t: u64,
-        place: u8,
-        radio: &mut EventRadio,
-    ) -> Result<(), Memory>
-        requires sound { IsSoundScenario s.now }
-        requires clocks { length clocks.now ≡ length s.now.nodes }
-        requires within { t < run_end s.now }
-        requires next { IsNext (Q.map orders.old) (Some (t, EndOf, place)) }
-        requires running { (told : List LineOf) × IsRunning s.now (clocks_by C.readings s.now.nodes clocks.now) told t (At EndOf) self.old (Q.map orders.old) }
-        ensures { (told : List LineOf) → IsRunning s.now (clocks_by C.readings s.now.nodes clocks.now) told t (At EndOf) self.old (Q.map orders.old)
-            → OnOk result (IsRunning s.now (clocks_by C.readings s.now.nodes clocks.now) told t (At EndOf) self.new (Q.map orders.new)
-            × AllComeLater t EndOf place (Q.map orders.new) × TrailsStay s.now (clocks_by C.readings s.now.nodes clocks.now) t self.old.air self.new.air) }
-    {
-        self.end(orders, s.trace(), clocks, place, t, radio)?;
-        Ok(())
-    }
-
-    // The alarm of the device at the place is due at tick t.
-    fn alarm_due<C: DriftClock, Q: Orders>(
-        &mut self,
-        orders: &mut Q,
-        s: &Scenario,
-        clocks: &[C],
-        t: u64,
-        place: u8,
-        radio: &mut EventRadio,
-    ) -> Result<(), Memory>
-        requires sound { IsSoundScenario s.now }
-        requires clocks { length clocks.now ≡ length s.now.nodes }
-        requires within { t < run_end s.now }
-        requires next { IsNext (Q.map orders.old) (Some (t, AlarmOf, place)) }
-        requires running { (told : List LineOf)
-            × IsRunning s.now (clocks_by C.readings s.now.nodes clocks.now) told t (At AlarmOf) self.old (Q.map orders.old) }
-        ensures { (told : List LineOf) → IsRunning s.now (clocks_by C.readings s.now.nodes clocks.now) told t (At AlarmOf) self.old (Q.map orders.old)
-            → OnOk result (IsRunning s.now (clocks_by C.readings s.now.nodes clocks.now) told t (At AlarmOf) self.new (Q.map orders.new)
-            × AllComeLater t AlarmOf place (Q.map orders.new) × TrailsStay s.now (clocks_by C.readings s.now.nodes clocks.now) t self.old.air self.new.air) }
-    {
-        self.alarm(orders, &clocks[usize::from(place)], place, t, radio)?;
-        Ok(())
-    }
-
-    // What the device at the place is to send starts at tick t.
-    fn start_due<C: DriftClock, Q: Orders>(
-        &mut self,
-        orders: &mut Q,
-        s: &Scenario,
-        clocks: &[C],
-        t: u64,
-        place: u8,
-    ) -> Result<(), Memory>
-        requires sound { IsSoundScenario s.now }
-        requires clocks { length clocks.now ≡ length s.now.nodes }
-        requires within { t < run_end s.now }
-        requires next { IsNext (Q.map orders.old) (Some (t, StartOf, place)) }
-        requires running { (told : List LineOf)
-            × IsRunning s.now (clocks_by C.readings s.now.nodes clocks.now) told t (At StartOf) self.old (Q.map orders.old) }
-        ensures { (told : List LineOf) → IsRunning s.now (clocks_by C.readings s.now.nodes clocks.now) told t (At StartOf) self.old (Q.map orders.old)
-            → OnOk result (IsRunning s.now (clocks_by C.readings s.now.nodes clocks.now) told t (At StartOf) self.new (Q.map orders.new)
-            × AllComeLater t StartOf place (Q.map orders.new) × TrailsStay s.now (clocks_by C.readings s.now.nodes clocks.now) t self.old.air self.new.air) }
-    {
-        self.begin(orders, place, t)?;
-        Ok(())
     }
 }

@@ -29,12 +29,12 @@ pub lines-requires-clause-shown : goal.lines-requires-clause-shown
 lines-requires-clause-shown g c = record { setup = _; device = _; shows = c.loop-frame.invariant.shows }
 
 pub lines-requires-clause-profile : goal.lines-requires-clause-profile
-lines-requires-clause-profile g c = ap (λ (q : Setup). q.profile) c.loop-frame.invariant.shows.setup
+lines-requires-clause-profile g c = ap (λ (q : Setup). q.profile) c.loop-frame.invariant.shows.shows.setup
 
 pub lines-requires-clause-power : goal.lines-requires-clause-power
 lines-requires-clause-power g c =
     let i = c.loop-frame.invariant in
-    i.power ∙ ap (λ (q : Setup). turned q.id (false, 0) (take c.loop-frame.told c.args.s.now.script)) (sym i.shows.setup)
+    i.power ∙ ap (λ (q : Setup). turned q.id (false, 0) (take c.loop-frame.told c.args.s.now.script)) (sym i.shows.shows.setup)
 
 pub frame-requires-clause-sound : goal.frame-requires-clause-sound
 frame-requires-clause-sound g c = sound c.args.s.now c.profile.ensures.said
@@ -83,7 +83,7 @@ loop-frame-preserved g c =
           (at_frame s c.args.node clock (map reception_in xs) l.frame)) (sym value) lined));
       power =
           c.in_ok-next.ensures.power ∙ c.in_ok-told.ensures.power
-          ∙ ap (λ (q : Setup). turned q.id (false, 0) (take c.in_ok-told.told s.script)) l.invariant.shows.setup;
+          ∙ ap (λ (q : Setup). turned q.id (false, 0) (take c.in_ok-told.told s.script)) l.invariant.shows.shows.setup;
       tunes_are = c.in_ok-scanned.ensures.tunes ∙ tunes_more clock s c.args.node hs l.frame l.tunes.items _ l.invariant.tunes_are tune;
       scanned_are =
           ap (λ (n : ℕ). l.scanned + n) c.in_ok-scanned.ensures.scans ∙ scanned_more clock s c.args.node hs l.frame l.scanned _ l.invariant.scanned_are tune;
