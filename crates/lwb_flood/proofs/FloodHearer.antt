@@ -14,19 +14,17 @@ use Rattle.glossy_relay.specs.declared.flood.Reply.TheVariants.{Relay, Keep, Ign
 use Rattle.scenario_text.specs.FloodParts.{FloodParts}
 use Rattle.radio_model.specs.declared.sending.Sending.{Sending}
 use Rattle.radio_model.specs.OnAir.{Hearing}
-use Rattle.air_log.specs.Entries.{sendings_of, HasHeardEntry}
+use Rattle.air_log.specs.Entries.{HasHeardEntry}
 use Rattle.air_log.specs.NodeEvents.{Event, Heard, sending_of_event, EventsInOrder, flood_after_events, EventOccasion, event_occasions}
-use Rattle.air_log.specs.FloodLaw.{CLOSING, first_flood}
+use Rattle.air_log.specs.FloodLaw.{first_flood}
 use Rattle.lwb_flood.specs.declared.member.Act.{Act}
 use Rattle.lwb_flood.specs.declared.member.Act.TheVariants.{Listens, Waits}
 use Rattle.lwb_flood.specs.declared.member.Member.{Member}
-use Rattle.lwb_flood.specs.FloodLog.{HasClocks}
 use Rattle.lwb_flood.specs.FloodWorlds.{World, act_by, hearing_by, world_after_reception}
 use Rattle.lwb_flood.proofs.EventOrder.{after_all_append}
 use Rattle.lwb_flood.proofs.EventsInLog.{heard_event}
 use Rattle.lwb_flood.proofs.FloodReplies.{fitting, ignored, left_as, taken_as, relays, keeps}
-use Rattle.lwb_flood.proofs.FloodSoFar.{events_in, running, tuned_by, sending_by, InStep, HasCause, Stands, IsAnswered, IsMember, Runs, IsDue}
-use Rattle.lwb_flood.proofs.FloodSoFar.{IsFloodSoFar}
+use Rattle.lwb_flood.proofs.FloodSoFar.{events_in, running, tuned_by, sending_by, InStep, HasCause, Stands, IsAnswered, IsMember}
 use Rattle.lwb_flood.proofs.HearingKept.{heard_in_range, stands_on}
 use Rattle.lwb_flood.proofs.HearingLogged.{Receives, ends_more, listens, unmoved, just, sent_on, idle}
 use Rattle.lwb_flood.proofs.WorldLists.{events_heard_own, occasion_more, occasion_kept, occasion_cases, in_order_push}
@@ -34,9 +32,6 @@ use Rattle.lwb_flood.specs.TwoNodes.{packet_of}
 
 module _ {f : FloodParts} {clocks : ℕ → ℕ → ℕ} {v : ℕ} {x : Sending} {todo : List Hearing} {leaving : List ℕ} {w : World}
     (g : Receives f clocks v x todo leaving w) where
-  abbrev hearing : Hearing
-  hearing = record { node = v; sending = x }
-
   abbrev next : World
   next = world_after_reception (clocks v) x v w
 

@@ -1,7 +1,6 @@
 -- With a reception more what was sent, heard and tuned is right, and so are the nodes that do not receive.
-use Rattle.std.proofs.Common.{◌≡◌, ◌≢◌, ℕ, ◌^◌, ◌<◌, ◌≤◌, ◌⊎◌, List, ◌∷◌, map, true, false, inl, inr, refl, sym, ◌∙◌, ap, subst, arith}
+use Rattle.std.proofs.Common.{◌≡◌, ◌≢◌, ℕ, ◌^◌, ◌≤◌, ◌⊎◌, List, ◌∷◌, true, inl, inr, refl, sym, ◌∙◌, ap, subst, arith}
 use Rattle.std.specs.Prelude.{Contains, AllPairs}
-use Rattle.glossy_relay.specs.Relaying.{fits}
 use Rattle.scenario_text.specs.FloodParts.{FloodParts, knows}
 use Rattle.radio_model.specs.declared.sending.Sending.{Sending}
 use Rattle.radio_model.specs.OnAir.{Hearing, Tuning}
@@ -10,16 +9,14 @@ use Rattle.radio_model.specs.Holding.{as_it_stands}
 use Rattle.lwb_base.proofs.Elements.{in_filter, contains_head, contains_tail, contains_cases}
 use Rattle.air_log.specs.Entries.{hearing_in, sendings_of, tunings_of, HasHeardEntry, heard_entry}
 use Rattle.air_log.specs.NodeEvents.{Event, EventOccasion, event_occasions, own_ends}
-use Rattle.air_log.specs.FloodLaw.{START, CLOSING, first_packet, first_flood, tuning_by, sending_at}
+use Rattle.air_log.specs.FloodLaw.{START, first_packet, first_flood, tuning_by, sending_at}
 use Rattle.lwb_flood.specs.declared.member.Act.{Act}
 use Rattle.lwb_flood.specs.declared.member.Act.TheVariants.{Listens, Waits, Sends, Off}
 use Rattle.lwb_flood.specs.declared.member.Member.{Member}
-use Rattle.lwb_flood.specs.FloodLog.{HasClocks}
-use Rattle.lwb_flood.specs.FloodWorlds.{World, node_of_member, world_after_reception}
-use Rattle.lwb_flood.proofs.FloodSoFar.{scene, standing, events_in, Stands, IsMember, Runs, IsSettled, IsSent, WasHeard, IsDue, WasTuned}
-use Rattle.lwb_flood.proofs.FloodSoFar.{WaitsToBegin, IsFloodSoFar}
+use Rattle.lwb_flood.specs.FloodWorlds.{World, world_after_reception}
+use Rattle.lwb_flood.proofs.FloodSoFar.{standing, events_in, Stands, IsMember, IsSettled, IsSent, WasHeard, IsDue, WasTuned}
+use Rattle.lwb_flood.proofs.FloodSoFar.{WaitsToBegin}
 use Rattle.lwb_flood.proofs.WorldLists.{events_heard_other, pairs_push}
-use Rattle.scenario_text.proofs.Known.{known_there}
 use Rattle.lwb_flood.proofs.FloodReplies.{heard_runs_back}
 use Rattle.lwb_flood.proofs.SendingCauses.{cause_more}
 use Rattle.lwb_flood.proofs.HearingLogged.{Receives, heard_on, heard_new, occasions_on, ends_same, runs_on, just, by_rule, same_tunings, same_scene}
@@ -135,9 +132,6 @@ module _ {f : FloodParts} {clocks : ℕ → ℕ → ℕ} {v : ℕ} {x : Sending}
   -- what is asked for
   pub heard_in_range : x.end ≤ 2 ^ 45
   heard_in_range = let now : x.end ≡ w.medium.now = (just g).now in omega arith
-
-  pub heard_here : Contains (map node_of_member w.members) v
-  heard_here = subst (λ (l : List ℕ). Contains l v) (sym g.so.nodes) (known_there f.nodes v (by_rule g).0)
 
   -- how each node is
   module _ (m : Member) (past more : List Event)
