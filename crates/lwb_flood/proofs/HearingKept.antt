@@ -76,7 +76,9 @@ module _ {f : FloodParts} {clocks : ℕ → ℕ → ℕ} {v : ℕ} {x : Sending}
   pub each_heard : (u : ℕ) (y : Sending) → HasHeardEntry next.air u y → WasHeard f next u y
   each_heard u y there =
       elim (heard_cases g u y there) [
-        | inl old ↦ let h = g.so.heard u y old in record { known = h.known; sent = sent_on g y h.sent; over = λ r. h.over (heard_runs_back (clocks v) x v w y r) }
+        | inl old ↦
+            let h = g.so.heard u y old in
+            record { known = h.known; sent = sent_on g y h.sent; over = λ r. h.over (heard_runs_back (clocks v) x v w y r) }
         | inr new ↦ subst (λ (h : Hearing). WasHeard f next h.node h.sending) new (record {
           known = (by_rule g).0;
           sent = sent_on g x (just g).sent;

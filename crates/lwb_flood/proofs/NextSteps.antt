@@ -19,7 +19,8 @@ use Rattle.lwb_flood.proofs.EventOrder.{after_all_append, order_head}
 use Rattle.lwb_flood.proofs.SendingTimes.{counter_is, same_origin, occasion_event, same_sending}
 use Rattle.lwb_flood.proofs.Stations.{of_parts, spell, station, quiet_state, ended_state, heard_state}
 use Rattle.lwb_flood.proofs.StepHearings.{heard_by_rule, origin_at, counter_sent, silent_in, begun_of, hearing_from}
-use Rattle.lwb_flood.proofs.StepOccasions.{parts_of, relay_of, heard_once, event_once, no_later_step, current, occasion_now, hears_is, in_rest, of_rest, rest_in_order, heard_event}
+use Rattle.lwb_flood.proofs.StepOccasions.{parts_of, relay_of, heard_once, event_once, no_later_step, current}
+use Rattle.lwb_flood.proofs.StepOccasions.{occasion_now, hears_is, in_rest, of_rest, rest_in_order, heard_event}
 use Rattle.lwb_flood.proofs.StepsOnAir.{SentIn, Turn, IsAt}
 
 module _ {r : Run} {Tuned : ℕ → Sending → Type 0} (f : FloodRun r Tuned) {k : ℕ} (few : k ≤ 11) {m : Moment} (at : IsAt r k m) where
@@ -36,7 +37,8 @@ module _ {r : Run} {Tuned : ℕ → Sending → Type 0} (f : FloodRun r Tuned) {
         | inl is ↦ is
         | inr some ↦ (let z = at.sent v some.0 some.1 in
             let step = counter_sent f few at v some.0 z in
-            let more = none (Ended z.sending) (in_rest f few at v t (Ended z.sending) ((f.times.ended_events v z.sending here).1 (z.sent, z.node)) (omega arith)) in
+            let ended = (f.times.ended_events v z.sending here).1 (z.sent, z.node) in
+            let more = none (Ended z.sending) (in_rest f few at v t (Ended z.sending) ended (omega arith)) in
             absurd (omega arith))
       ]
 
