@@ -16,24 +16,16 @@ use Rattle.lwb_base.proofs.Orders.{rising}
 use Rattle.link_trace.specs.Masks.{IsMask, IsMaskUpto}
 
 either : (a b : Bool) → max (one_if a) (one_if b) ≡ one_if (a || b)
-either true true = refl
-either true false = refl
-either false true = refl
-either false false = refl
+either a b = grind (arith, nat_tests)
 
 without : (a b : Bool) → min (one_if a) (1 - one_if b) ≡ one_if (a && not b)
-without true true = refl
-without true false = refl
-without false true = refl
-without false false = refl
+without a b = grind (arith, nat_tests)
 
 spread : (n a b : Bool) → ((n && a) || (n && b)) ≡ (n && (a || b))
-spread true a b = refl
-spread false a b = refl
+spread n a b = grind (arith, nat_tests)
 
 less : (n a b : Bool) → ((n && a) && not (n && b)) ≡ (n && (a && not b))
-less true a b = refl
-less false a b = refl
+less n a b = grind (arith, nat_tests)
 
 nothing : (b : Bool) → one_if (b && false) ≡ 0
 nothing true = refl

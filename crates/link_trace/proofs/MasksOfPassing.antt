@@ -1,5 +1,6 @@
 -- The masks of the links of a node on one side, less those that are lost and the nodes that are cut off, tell which links pass.
-use Rattle.std.proofs.Common.{◌≡◌, ℕ, ◌^◌, ◌<◌, ◌≤◌, List, [], Bool, true, false, not, ◌&&◌, ◌==◌, length, bit_and, w64, refl, sym, ◌∙◌, ap}
+use Rattle.std.proofs.Common.{◌≡◌, ℕ, ◌^◌, ◌<◌, ◌≤◌, List, [], Bool, true, false, not, ◌&&◌, ◌==◌, length, bit_and, w64, refl, sym, ◌∙◌, ap, arith}
+use Rattle.std.proofs.lemmas.Bool.Decides.{nat_tests}
 use Rattle.std.specs.Int.{bit_not}
 use Rattle.std.specs.List.{filter, list_any}
 use Rattle.lwb_base.specs.declared.limits.TheConstants.{MOST_NODES}
@@ -15,11 +16,7 @@ use Rattle.link_trace.proofs.MaskBits.{empty_mask, same_tests, removed}
 use Rattle.link_trace.proofs.Together.{one_of_these}
 
 swapped : (x c d : Bool) → (x && c && d) ≡ (x && d && c)
-swapped false c d = refl
-swapped true true true = refl
-swapped true true false = refl
-swapped true false true = refl
-swapped true false false = refl
+swapped x c d = grind (arith, nat_tests)
 
 -- which links pass, with the node itself last
 tells_passing : (t : Lines) (f j k : ℕ) (side : Side) (v : ℕ)
@@ -67,9 +64,7 @@ module _ (s : Traced) (f j k : ℕ) (side : Side) (a : ℕ) (a_is : IsMask (λ v
           ∙ ap (λ (ls : List CutLine). list_any (λ (l : CutLine). l.node == own_of side) ls) (sym found_is) ∙ is
 
       nothing : (x d : Bool) → d ≡ true → false ≡ (x && not d)
-      nothing true true is = refl
-      nothing false true is = refl
-      nothing x false is = cc
+      nothing x d is = grind (arith, nat_tests)
 
       each : (v : ℕ) → false ≡ passing v
       each v = nothing (linked v && not (lost v) && not (cut_off s.lines.cuts f j k v)) (cut_off s.lines.cuts f j k (own_of side)) cut
@@ -109,9 +104,7 @@ module _ (s : Traced) (f j k : ℕ) (side : Side) (a : ℕ) (a_is : IsMask (λ v
         cut_is v = ap (λ (ls : List CutLine). list_any (λ (l : CutLine). l.node == v) ls) found_is ∙ one_of_these f j k v s.lines.cuts
 
         left : (x d : Bool) → d ≡ false → x ≡ (x && not d)
-        left true false is = refl
-        left false false is = refl
-        left x true is = cc
+        left x d is = grind (arith, nat_tests)
 
         each : (v : ℕ) → (linked v && not (lost v) && not (cut v)) ≡ passing v
         each v =

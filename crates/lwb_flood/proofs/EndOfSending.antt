@@ -131,43 +131,49 @@ on_ok (Ok x) P Q to is = to is
 on_ok (Err e) P Q to is = is
 
 -- what the code has of the world when its node has ended the transmission
-module _ (inside old : World) (view : inside ≡ old) (x : Sending) (lines : Lines) (ps : List (ℕ × ℕ)) (medium : MediumState) (members : List Member)
-    (state : medium ≡ medium_after_change x.end x.node station_after_end inside.medium) (changed : members ≡ with_change x.node after_own inside.members)
-    (sender : All (λ p. p.1 ≡ x.node) ps) (ascend : AllPairs (λ p q. p.0 < q.0) ps)
-    (clause : (a : Scene) → Holds inside.medium a → a.lines ≡ lines → (v : ℕ) → Contains ps (v, x.node)
-    ↔ (Contains (nodes_of inside.medium) v × HearsInScene (as_it_stands inside.medium x.end a) v x)) where
+pub record HasEnded (inside old : World) (x : Sending) (lines : Lines) (ps : List (ℕ × ℕ)) (medium : MediumState) (members : List Member) : Type 0 where
+  pub view : inside ≡ old
+  pub state : medium ≡ medium_after_change x.end x.node station_after_end inside.medium
+  pub changed : members ≡ with_change x.node after_own inside.members
+  pub sender : All (λ p. p.1 ≡ x.node) ps
+  pub ascend : AllPairs (λ p q. p.0 < q.0) ps
+  pub clause : (a : Scene) → Holds inside.medium a → a.lines ≡ lines → (v : ℕ) → Contains ps (v, x.node)
+      ↔ (Contains (nodes_of inside.medium) v × HearsInScene (as_it_stands inside.medium x.end a) v x)
+
+module _ {inside old : World} {x : Sending} {lines : Lines} {ps : List (ℕ × ℕ)} {medium : MediumState} {members : List Member}
+    (e : HasEnded inside old x lines ps medium members) where
   abbrev pub mid : World
   mid = record { medium = medium; members = members; air = inside.air }
 
   pub mid_is : mid ≡ own_ended x old
   mid_is =
-      ap (λ (m : MediumState). record { medium = m; members = members; air = inside.air }) state
-      ∙ ap (λ (l : List Member). record { medium = medium_after_change x.end x.node station_after_end inside.medium; members = l; air = inside.air }) changed
-      ∙ ap (own_ended x) view
+      ap (λ (m : MediumState). record { medium = m; members = members; air = inside.air }) e.state
+      ∙ ap (λ (l : List Member). record { medium = medium_after_change x.end x.node station_after_end inside.medium; members = l; air = inside.air }) e.changed
+      ∙ ap (own_ended x) e.view
 
   pub mid_nodes : nodes_of medium ≡ nodes_of old.medium
-  mid_nodes = ap nodes_of state ∙ same_nodes inside.medium x.end x.node station_after_end finished_keeps.node ∙ ap (λ (w : World). nodes_of w.medium) view
+  mid_nodes = ap nodes_of e.state ∙ same_nodes inside.medium x.end x.node station_after_end finished_keeps.node ∙ ap (λ (w : World). nodes_of w.medium) e.view
 
   pub mid_node : Contains (nodes_of old.medium) x.node → Contains (nodes_of medium) x.node
   mid_node there = subst (λ (l : List ℕ). Contains l x.node) (sym mid_nodes) there
 
   pub mid_time : IsTime old.medium x.end → IsTime medium x.end
-  mid_time is = subst (λ (m : MediumState). IsTime m x.end) (sym state)
-      (time_after inside.medium x.node x.end (subst (λ (w : World). IsTime w.medium x.end) (sym view) is))
+  mid_time is = subst (λ (m : MediumState). IsTime m x.end) (sym e.state)
+      (time_after inside.medium x.node x.end (subst (λ (w : World). IsTime w.medium x.end) (sym e.view) is))
 
   pub mid_known : ((a : Scene) × Holds old.medium a × (a.lines ≡ lines)) → (nodes : List ℕ) → nodes ≡ nodes_of old.medium → All (λ p. Contains nodes p.0) ps
   mid_known held nodes same =
-      let h : Holds inside.medium held.0 = subst (λ (w : World). Holds w.medium held.0) (sym view) held.1 in
-      let to : nodes ≡ nodes_of inside.medium = same ∙ ap (λ (w : World). nodes_of w.medium) (sym view) in
+      let h : Holds inside.medium held.0 = subst (λ (w : World). Holds w.medium held.0) (sym e.view) held.1 in
+      let to : nodes ≡ nodes_of inside.medium = same ∙ ap (λ (w : World). nodes_of w.medium) (sym e.view) in
       subst (λ (l : List ℕ). All (λ p. Contains l p.0) ps) (sym to)
-      (hearers_known x inside.medium ps sender (as_it_stands inside.medium x.end held.0) (clause held.0 h held.2))
+      (hearers_known x inside.medium ps e.sender (as_it_stands inside.medium x.end held.0) (e.clause held.0 h held.2))
 
   pub mid_heard : IsHeardBy lines x old (map (λ p. p.0) ps)
-  mid_heard = subst (λ (w : World). IsHeardBy lines x w (map (λ p. p.0) ps)) view (heard_by lines x inside ps sender ascend clause)
+  mid_heard = subst (λ (w : World). IsHeardBy lines x w (map (λ p. p.0) ps)) e.view (heard_by lines x inside ps e.sender e.ascend e.clause)
 
   module _ (after : After) (last : after ≡ (if is_last x.node inside.members then Off else More)) where
     last_old : after ≡ (if is_last x.node old.members then Off else More)
-    last_old = last ∙ ap (λ (w : World). if is_last x.node w.members then Off else More) view
+    last_old = last ∙ ap (λ (w : World). if is_last x.node w.members then Off else More) e.view
 
     pub is_ended_more : after ≡ More → mid ≡ world_after_end x old
     is_ended_more is = mid_is ∙ ended_more x old after last_old is

@@ -14,7 +14,7 @@ use Rattle.lwb_flood.proofs.SendingTimes.{message_is}
 use Rattle.lwb_flood.proofs.Stations.{spell, station}
 use Rattle.lwb_flood.proofs.StepsOnAir.{IsAt}
 
-module _ (r : Run) (Tuned : ℕ → Sending → Type 0) (f : FloodRun r Tuned) (k : ℕ) (few : k ≤ 11) (m : Moment) (at : IsAt r k m) where
+module _ {r : Run} {Tuned : ℕ → Sending → Type 0} (f : FloodRun r Tuned) {k : ℕ} (few : k ≤ 11) {m : Moment} (at : IsAt r k m) where
   abbrev s : Setting
   s = r.setting
 

@@ -4,7 +4,7 @@ use Rattle.std.proofs.Common.{◌==◌, if◌then◌else◌, inl, inr, refl, sym
 use Rattle.std.specs.Prelude.{Contains, AllPairs}
 use Rattle.std.specs.List.{list_any}
 use Rattle.std.proofs.lemmas.Bool.{cond_both, and_parts, and_from, false≢true}
-use Rattle.std.proofs.lemmas.List.{take_more, get_or_past, append-nil, get_or-map, length-map}
+use Rattle.std.proofs.lemmas.List.{take_more, get_or_past, append-nil}
 use Rattle.tick_clock.specs.Clocks.{Near}
 use Rattle.lwb_packets.specs.declared.kind.Kind.TheVariants.{Payload}
 use Rattle.glossy_relay.specs.FloodState.{FloodState, listening, initiating}
@@ -13,12 +13,12 @@ use Rattle.scenario_text.specs.FloodParts.{FloodParts}
 use Rattle.bus_terms.specs.FloodOfText.{ids}
 use Rattle.radio_model.specs.declared.sending.Sending.{Sending}
 use Rattle.radio_model.specs.declared.station.Station.{Station}
-use Rattle.radio_model.specs.Stations.{MediumState, IsMedium, IsTime, medium_after_change, station_changed_at, station_after_tuning, nodes_of}
+use Rattle.radio_model.specs.Stations.{MediumState, IsMedium, IsTime, medium_after_change, station_changed_at, station_after_tuning}
 use Rattle.radio_model.specs.OnAir.{Hearing}
 use Rattle.air_log.specs.Entries.{sendings_of}
 use Rattle.air_log.specs.NodeEvents.{Event, Heard, Ended, flood_after_event as after_event, flood_after_events, own_ends}
 use Rattle.air_log.specs.FloodLaw.{FloodLaw, CLOSING, first_packet, first_flood}
-use Rattle.lwb_base.proofs.Elements.{not_in_none, contains_head, contains_tail, contains_cases, map_contains, map_from, Distinct, any_of, some_of}
+use Rattle.lwb_base.proofs.Elements.{not_in_none, contains_head, contains_tail, contains_cases, map_from, Distinct, any_of, some_of}
 use Rattle.lwb_base.proofs.Truths.{same_truth}
 use Rattle.lwb_flood.specs.declared.member.Act.{Act}
 use Rattle.lwb_flood.specs.declared.member.Act.TheVariants.{Listens, Waits, Sends, Off}
@@ -55,9 +55,6 @@ pub closed_nodes : (us : List ℕ) (w : World) → map node_of_member (closed_al
 closed_nodes us w = closed_stays (λ (z : World). map node_of_member z.members ≡ map node_of_member w.members)
     (λ v z is. nodes_kept v (member_with_act Off) (λ m. refl) z.members ∙ is) us w refl
 
-pub closed_shape : (us : List ℕ) (w : World) → IsShape w → IsShape (closed_all us w)
-closed_shape us w is = closed_stays IsShape (λ v z shape. gone_shape z shape v CLOSING) us w is
-
 gone_time : (m : MediumState) (v : ℕ) → IsTime m CLOSING → IsTime (medium_after_change CLOSING v (station_after_tuning None CLOSING) m) CLOSING
 gone_time m v is = record {
   later = omega arith;
@@ -89,31 +86,6 @@ closed_at w is i m below at =
     ap (λ (b : Bool). if b then w else gone m.node CLOSING w)
     (stays_is w.members (ascend_distinct (map node_of_member w.members) (subst (AllPairs (λ a b. a < b)) (sym is.nodes) is.medium.nodes.ascending)) m
     (i, below, sym at))
-
--- a loop over the members by place: the world before the turn of the member at place i
-module _ (w : World) (is : IsShape w) (i : ℕ) (z : World) (so_far : z ≡ closed_all (take i (map node_of_member w.members)) w) (m : Member)
-    (below : i < length z.members) (at : m ≡ get_or z.members i m) where
-  nodes_still : map node_of_member z.members ≡ map node_of_member w.members
-  nodes_still = ap (λ (x : World). map node_of_member x.members) so_far ∙ closed_nodes (take i (map node_of_member w.members)) w
-
-  shape_still : IsShape z
-  shape_still = subst IsShape (sym so_far) (closed_shape (take i (map node_of_member w.members)) w is)
-
-  node_is : m.node ≡ get_or (map node_of_member w.members) i m.node
-  node_is = ap node_of_member at ∙ sym (get_or-map node_of_member z.members i m m.node below) ∙ ap (λ (l : List ℕ). get_or l i m.node) nodes_still
-
-  inside : i < length (map node_of_member w.members)
-  inside = omega (arith, below, length-map z.members node_of_member, ap (λ (l : List ℕ). length l) nodes_still)
-
-  pub turn_closes : (if is_off m.act then z else gone m.node CLOSING z) ≡ closed_all (take (i + 1) (map node_of_member w.members)) w
-  turn_closes = sym (closed_at z shape_still i m below at) ∙ ap (world_closed_at m.node) so_far
-      ∙ sym (closed_more (map node_of_member w.members) i m.node w inside node_is)
-
-  pub turn_node : Contains (nodes_of z.medium) m.node
-  turn_node = subst (λ (l : List ℕ). Contains l m.node) shape_still.nodes (map_contains node_of_member z.members m (i, below, sym at))
-
-  pub turn_time : IsTime w.medium CLOSING → IsTime z.medium CLOSING
-  turn_time time = subst (λ (x : World). IsTime x.medium CLOSING) (sym so_far) (closed_time (take i (map node_of_member w.members)) w time)
 
 off_is : (a : Act) → is_off a ≡ true → a ≡ Off
 off_is Listens is = absurd (false≢true is)

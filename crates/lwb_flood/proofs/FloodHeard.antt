@@ -13,30 +13,30 @@ use Rattle.lwb_flood.proofs.FloodHearer.{here}
 use Rattle.lwb_flood.proofs.FloodReplies.{heard_runs_back}
 use Rattle.lwb_flood.proofs.FloodSoFar.{IsMember, Runs, IsFloodSoFar}
 use Rattle.lwb_flood.proofs.HearingKept.{each_heard, each_due, each_tuning, begins_on, once_more, elsewhere, each_sent}
-use Rattle.lwb_flood.proofs.HearingLogged.{same_scene}
+use Rattle.lwb_flood.proofs.HearingLogged.{Receives, same_scene}
 use Rattle.lwb_flood.proofs.WorldLists.{each_changed, nodes_kept}
 
-module _ (f : FloodParts) (clocks : ℕ → ℕ → ℕ) (is : HasClocks f clocks) (v : ℕ) (x : Sending) (todo : List Hearing) (leaving : List ℕ) (w : World)
-    (so : IsFloodSoFar f clocks (record { node = v; sending = x } ∷ todo) leaving w) (early : w.medium.now < CLOSING) (over : Runs w x → ⊥) where
+module _ {f : FloodParts} {clocks : ℕ → ℕ → ℕ} {v : ℕ} {x : Sending} {todo : List Hearing} {leaving : List ℕ} {w : World}
+    (g : Receives f clocks v x todo leaving w) where
   abbrev next : World
   next = world_after_reception (clocks v) x v w
 
   pub heard_keeps : IsFloodSoFar f clocks todo leaving (world_after_reception (clocks v) x v w)
   heard_keeps = record {
-    nodes = nodes_kept v (hearing_by (clocks v) x) (λ m. refl) w.members ∙ so.nodes;
-    stations = so.stations;
-    numbers = so.numbers;
-    since = so.since;
-    holds = subst (λ (a : Scene). Holds w.medium a) (sym (same_scene f clocks is v x todo leaving w so early over)) so.holds;
-    each = each_changed v (hearing_by (clocks v) x) w.members (IsMember f clocks leaving next) (here f clocks is v x todo leaving w so early over)
-        (elsewhere f clocks is v x todo leaving w so early over);
-    sent = each_sent f clocks is v x todo leaving w so early over;
-    heard = each_heard f clocks is v x todo leaving w so early over;
-    due_now = each_due f clocks is v x todo leaving w so early over;
-    due_once = so.due_once.1;
-    tunings = each_tuning f clocks is v x todo leaving w so early over;
-    once = once_more f clocks is v x todo leaving w so early over;
-    begins = begins_on f clocks is v x todo leaving w so early over;
+    nodes = nodes_kept v (hearing_by (clocks v) x) (λ m. refl) w.members ∙ g.so.nodes;
+    stations = g.so.stations;
+    numbers = g.so.numbers;
+    since = g.so.since;
+    holds = subst (λ (a : Scene). Holds w.medium a) (sym (same_scene g)) g.so.holds;
+    each = each_changed v (hearing_by (clocks v) x) w.members (IsMember f clocks leaving next) (here g)
+        (elsewhere g);
+    sent = each_sent g;
+    heard = each_heard g;
+    due_now = each_due g;
+    due_once = g.so.due_once.1;
+    tunings = each_tuning g;
+    once = once_more g;
+    begins = begins_on g;
   }
 
 -- when some nodes have received it, and others are yet to receive it
@@ -48,7 +48,8 @@ module _ (f : FloodParts) (clocks : ℕ → ℕ → ℕ) (is : HasClocks f clock
       → IsFloodSoFar f clocks (heard_at vs) leaving (heard_by_all clocks x us w)
   heard_by_some [] vs w so early over = so
   heard_by_some (u ∷ us) vs w so early over =
-      heard_by_some us vs (world_after_reception (clocks u) x u w) (heard_keeps f clocks is u x (heard_at (us ++ vs)) leaving w so early over) early
+      let g : Receives f clocks u x (heard_at (us ++ vs)) leaving w = record { has = is; so = so; early = early; over = over } in
+      heard_by_some us vs (world_after_reception (clocks u) x u w) (heard_keeps g) early
       (λ r. over (heard_runs_back (clocks u) x u w x r))
 
   pub heard_by_all_keeps : (vs : List ℕ) (w : World) → IsFloodSoFar f clocks (heard_at vs) leaving w → w.medium.now < CLOSING → (Runs w x → ⊥)

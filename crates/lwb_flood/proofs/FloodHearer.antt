@@ -14,46 +14,31 @@ use Rattle.glossy_relay.specs.declared.flood.Reply.TheVariants.{Relay, Keep, Ign
 use Rattle.scenario_text.specs.FloodParts.{FloodParts}
 use Rattle.radio_model.specs.declared.sending.Sending.{Sending}
 use Rattle.radio_model.specs.OnAir.{Hearing}
-use Rattle.air_log.specs.Entries.{sendings_of, HasHeardEntry}
+use Rattle.air_log.specs.Entries.{HasHeardEntry}
 use Rattle.air_log.specs.NodeEvents.{Event, Heard, sending_of_event, EventsInOrder, flood_after_events, EventOccasion, event_occasions}
-use Rattle.air_log.specs.FloodLaw.{CLOSING, first_flood}
+use Rattle.air_log.specs.FloodLaw.{first_flood}
 use Rattle.lwb_flood.specs.declared.member.Act.{Act}
 use Rattle.lwb_flood.specs.declared.member.Act.TheVariants.{Listens, Waits}
 use Rattle.lwb_flood.specs.declared.member.Member.{Member}
-use Rattle.lwb_flood.specs.FloodLog.{HasClocks}
 use Rattle.lwb_flood.specs.FloodWorlds.{World, act_by, hearing_by, world_after_reception}
 use Rattle.lwb_flood.proofs.EventOrder.{after_all_append}
 use Rattle.lwb_flood.proofs.EventsInLog.{heard_event}
 use Rattle.lwb_flood.proofs.FloodReplies.{fitting, ignored, left_as, taken_as, relays, keeps}
-use Rattle.lwb_flood.proofs.FloodSoFar.{events_in, running, tuned_by, sending_by, InStep, HasCause, Stands, IsAnswered, IsMember, Runs, IsDue}
-use Rattle.lwb_flood.proofs.FloodSoFar.{IsFloodSoFar}
+use Rattle.lwb_flood.proofs.FloodSoFar.{events_in, running, tuned_by, sending_by, InStep, HasCause, Stands, IsAnswered, IsMember}
 use Rattle.lwb_flood.proofs.HearingKept.{heard_in_range, stands_on}
-use Rattle.lwb_flood.proofs.HearingLogged.{ends_more, listens, unmoved}
+use Rattle.lwb_flood.proofs.HearingLogged.{Receives, ends_more, listens, unmoved, just, sent_on, idle}
 use Rattle.lwb_flood.proofs.WorldLists.{events_heard_own, occasion_more, occasion_kept, occasion_cases, in_order_push}
-use Rattle.lwb_flood.proofs.HearingLogged as HearingLogged
 use Rattle.lwb_flood.specs.TwoNodes.{packet_of}
 
-module _ (f : FloodParts) (clocks : ℕ → ℕ → ℕ) (is : HasClocks f clocks) (v : ℕ) (x : Sending) (todo : List Hearing) (leaving : List ℕ) (w : World)
-    (so : IsFloodSoFar f clocks (record { node = v; sending = x } ∷ todo) leaving w) (early : w.medium.now < CLOSING) (over : Runs w x → ⊥) where
-  abbrev hearing : Hearing
-  hearing = record { node = v; sending = x }
-
+module _ {f : FloodParts} {clocks : ℕ → ℕ → ℕ} {v : ℕ} {x : Sending} {todo : List Hearing} {leaving : List ℕ} {w : World}
+    (g : Receives f clocks v x todo leaving w) where
   abbrev next : World
   next = world_after_reception (clocks v) x v w
-
-  abbrev just : IsDue w hearing
-  just = HearingLogged.just f clocks is v x todo leaving w so early over
-
-  abbrev sent_on : (y : Sending) → Contains (sendings_of w.air) y → Contains (sendings_of next.air) y
-  sent_on = HearingLogged.sent_on f clocks is v x todo leaving w so early over
-
-  abbrev idle : (m : Member) → Contains w.members m → m.node ≡ v → running m.act ≡ []
-  idle = HearingLogged.idle f clocks is v x todo leaving w so early over
 
   -- the node that receives
   module _ (m : Member) (there : Contains w.members m) (at : m.node ≡ v) where
     old : IsMember f clocks leaving w m
-    old = so.each m there
+    old = g.so.each m there
 
     abbrev first : FloodState
     first = first_flood f m.node
@@ -62,29 +47,29 @@ module _ (f : FloodParts) (clocks : ℕ → ℕ → ℕ) (is : HasClocks f clock
     more = old.past ++ Heard x ∷ []
 
     past_is : events_in w.air m.node ≡ old.past
-    past_is = old.happened ∙ ap (λ (l : List Event). old.past ++ l) (idle m there at) ∙ append-nil old.past
+    past_is = old.happened ∙ ap (λ (l : List Event). old.past ++ l) (idle g m there at) ∙ append-nil old.past
 
     more_is : events_in next.air m.node ≡ more
     more_is = events_heard_own w.air v x m.node (sym at) ∙ ap (λ (l : List Event). l ++ Heard x ∷ []) past_is
 
     past_ordered : EventsInOrder old.past
-    past_ordered = subst (λ (l : List Event). EventsInOrder l) (ap (λ (l : List Event). old.past ++ l) (idle m there at) ∙ append-nil old.past) old.in_order
+    past_ordered = subst (λ (l : List Event). EventsInOrder l) (ap (λ (l : List Event). old.past ++ l) (idle g m there at) ∙ append-nil old.past) old.in_order
 
     not_twice : (d : Event) → Contains old.past d → d ≢ Heard x
     not_twice d in_past same =
-        just.new (subst (λ (u : ℕ). HasHeardEntry w.air u x) at
+        (just g).new (subst (λ (u : ℕ). HasHeardEntry w.air u x) at
         (heard_event w.air m.node x
         (subst (λ (l : List Event). Contains l (Heard x)) (sym past_is) (subst (λ (e : Event). Contains old.past e) same in_past))))
 
     more_ordered : EventsInOrder more
     more_ordered = in_order_push old.past (Heard x) past_ordered
-        (λ d in_past. (let by = old.over d in_past in let now : x.end ≡ w.medium.now = just.now in omega arith, not_twice d in_past))
+        (λ d in_past. (let by = old.over d in_past in let now : x.end ≡ w.medium.now = (just g).now in omega arith, not_twice d in_past))
 
     more_over : (e : Event) → Contains more e → (sending_of_event e).end ≤ w.medium.now
     more_over e in_more =
         elim (Contains-push_cases old.past (Heard x) e in_more) [
           | inl earlier ↦ old.over e earlier
-          | inr is ↦ subst (λ (d : Event). (sending_of_event d).end ≤ w.medium.now) is (let now : x.end ≡ w.medium.now = just.now in omega arith)
+          | inr is ↦ subst (λ (d : Event). (sending_of_event d).end ≤ w.medium.now) is (let now : x.end ≡ w.medium.now = (just g).now in omega arith)
         ]
 
     more_kept : (o : EventOccasion) → Contains (event_occasions first old.past) o → Contains (event_occasions first more) o
@@ -116,14 +101,14 @@ module _ (f : FloodParts) (clocks : ℕ → ℕ → ℕ) (is : HasClocks f clock
       tuned = old.tuned;
       sends = old.sends;
       past = more;
-      happened = more_is ∙ sym (ap (λ (l : List Event). more ++ l) (idle m there at) ∙ append-nil more);
-      in_order = subst (λ (l : List Event). EventsInOrder l) (sym (ap (λ (l : List Event). more ++ l) (idle m there at) ∙ append-nil more)) more_ordered;
+      happened = more_is ∙ sym (ap (λ (l : List Event). more ++ l) (idle g m there at) ∙ append-nil more);
+      in_order = subst (λ (l : List Event). EventsInOrder l) (sym (ap (λ (l : List Event). more ++ l) (idle g m there at) ∙ append-nil more)) more_ordered;
       over = more_over;
       flood = sym (left_as m.flood x.packet not) ∙ flood_more;
-      stands = stands_on f clocks is v x todo leaving w so early over m old.past more more_kept
-          (ends_more f clocks is v x todo leaving w so early over old.past) m.act old.stands;
+      stands = stands_on g m old.past more more_kept
+          (ends_more g old.past) m.act old.stands;
       answered = λ h s p occasion answer. elim (occasion_cases first old.past (Heard x) (record { before = s; event = Heard h }) occasion) [
-        | inl earlier ↦ elim (old.answered h s p earlier answer) [ inl sent ↦ inl (sent_on _ sent) | inr waits ↦ inr waits ]
+        | inl earlier ↦ elim (old.answered h s p earlier answer) [ inl sent ↦ inl (sent_on g _ sent) | inr waits ↦ inr waits ]
         | inr now ↦ absurd (no_relay p (sym (ignored m.flood x.packet not) ∙ reply_now h s (Relay p) now answer))
       ];
     }
@@ -146,7 +131,7 @@ module _ (f : FloodParts) (clocks : ℕ → ℕ → ℕ) (is : HasClocks f clock
       answered h s p occasion answer =
           elim (occasion_cases first old.past (Heard x) (record { before = s; event = Heard h }) occasion) [
             | inl earlier ↦ elim (old.answered h s p earlier answer) [
-              | inl sent ↦ inl (sent_on _ sent)
+              | inl sent ↦ inl (sent_on g _ sent)
               | inr waits ↦ absurd (not_waiting _ p (sym act ∙ waits))
             ]
             | inr now ↦ inr (is_next ∙ answers p (reply_now h s (Relay p) now answer)
@@ -175,7 +160,7 @@ module _ (f : FloodParts) (clocks : ℕ → ℕ → ℕ) (is : HasClocks f clock
     -- the flood takes it
     module _ (fit : fits m.flood x.packet ≡ true) where
       act : m.act ≡ Listens
-      act = listens f clocks is v x todo leaving w so early over m there fit
+      act = listens g m there fit
 
       ready : (m.flood.sent < m.flood.limit) × (m.flood.waiting ≡ false)
       ready = fitting m.flood x.packet fit
@@ -204,11 +189,11 @@ module _ (f : FloodParts) (clocks : ℕ → ℕ → ℕ) (is : HasClocks f clock
       tick = due (clocks m.node) (clocks m.node x.end + 12288)
 
       turned : Near tick (x.end + 12288) 1
-      turned = turn (clocks m.node) 12288 x.end (is.drift m.node old.known) (omega arith) (omega arith)
-          (heard_in_range f clocks is v x todo leaving w so early over)
+      turned = turn (clocks m.node) 12288 x.end (g.has.drift m.node old.known) (omega arith) (omega arith)
+          (heard_in_range g)
 
       step_now : InStep f x.start x.packet
-      step_now = (so.sent x just.sent).step
+      step_now = (g.so.sent x (just g).sent).step
 
       counter_now : counter_of x.packet ≡ step_now.step
       counter_now = ap counter_of step_now.is
@@ -218,7 +203,7 @@ module _ (f : FloodParts) (clocks : ℕ → ℕ → ℕ) (is : HasClocks f clock
 
       lasted : x.end ≡ x.start + 32768
       lasted =
-          let last : x.end ≡ x.start + (length x.packet + 8) * 2048 = ap (λ (z : Sending). z.end) (so.sent x just.sent).lasts in
+          let last : x.end ≡ x.start + (length x.packet + 8) * 2048 = ap (λ (z : Sending). z.end) (g.so.sent x (just g).sent).lasts in
           let size : length x.packet ≡ 8 = ap (λ (p : List ℕ). length p) step_now.is in
           omega (arith, last, size)
 
@@ -256,7 +241,7 @@ module _ (f : FloodParts) (clocks : ℕ → ℕ → ℕ) (is : HasClocks f clock
           (record {
             waits = waiting_is ∙ less;
             left = still_left;
-            later = (let by = turned in let now : x.end ≡ w.medium.now = just.now in omega arith);
+            later = (let by = turned in let now : x.end ≡ w.medium.now = (just g).now in omega arith);
             step = next_step less;
             cause = answers_now less;
           })
@@ -272,5 +257,5 @@ module _ (f : FloodParts) (clocks : ℕ → ℕ → ℕ) (is : HasClocks f clock
     here =
         elim (cases_Bool (fits m.flood x.packet)) [
           | inl fit ↦ taking fit
-          | inr not ↦ subst (λ (n : Member). IsMember f clocks leaving next n) (sym (unmoved f clocks is v x todo leaving w so early over m not)) (stays not)
+          | inr not ↦ subst (λ (n : Member). IsMember f clocks leaving next n) (sym (unmoved g m not)) (stays not)
         ]

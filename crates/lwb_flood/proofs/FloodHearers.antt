@@ -106,10 +106,14 @@ readings_there {C} R (d ∷ cs) (u ∷ us) (suc i) v c long distinct below at is
     ∙ sym (cond-false (u == v) (R d) (readings_of_node R cs us v) (ne_eqb u v (λ same. distinct.0 (i, omega arith, is u ∙ sym same))))
 
 -- in the loop over those who receive
-module _ (clocks : ℕ → ℕ → ℕ) (x : Sending) (vs : List ℕ) (first now inside : World) (ms : List Member) (so : now ≡ heard_by_all clocks x vs first)
-    (view : inside ≡ now) (slice : ms ≡ inside.members) where
+pub record IsAmidst (clocks : ℕ → ℕ → ℕ) (x : Sending) (vs : List ℕ) (first now inside : World) (ms : List Member) : Type 0 where
+  pub so : now ≡ heard_by_all clocks x vs first
+  pub view : inside ≡ now
+  pub slice : ms ≡ inside.members
+
+module _ {clocks : ℕ → ℕ → ℕ} {x : Sending} {vs : List ℕ} {first now inside : World} {ms : List Member} (l : IsAmidst clocks x vs first now inside ms) where
   pub loop_nodes : map node_of_member ms ≡ map node_of_member first.members
-  loop_nodes = ap (map node_of_member) slice ∙ ap (λ (w : World). map node_of_member w.members) (view ∙ so) ∙ heard_nodes clocks x vs first
+  loop_nodes = ap (map node_of_member) l.slice ∙ ap (λ (w : World). map node_of_member w.members) (l.view ∙ l.so) ∙ heard_nodes clocks x vs first
 
   pub loop_long : length ms ≡ length first.members
   loop_long = sym (length-map ms node_of_member) ∙ ap length loop_nodes ∙ length-map first.members node_of_member
@@ -122,8 +126,8 @@ module _ (clocks : ℕ → ℕ → ℕ) (x : Sending) (vs : List ℕ) (first now
         let there : Contains (nodes_of first.medium) p.0 =
         subst (λ (q : ℕ × ℕ). Contains (nodes_of first.medium) q.0) (get_or_from_slice_get ps i p p at) (known i p within) in
         let same : nodes_of first.medium ≡ map node_of_member ms = ap nodes_of (sym (heard_medium clocks x vs first))
-        ∙ ap (λ (w : World). nodes_of w.medium) (sym (view ∙ so)) ∙ sym nodes ∙ ap (map node_of_member) (sym slice) in
-        subst (λ (l : List ℕ). Contains l p.0) same there
+        ∙ ap (λ (w : World). nodes_of w.medium) (sym (l.view ∙ l.so)) ∙ sym nodes ∙ ap (map node_of_member) (sym l.slice) in
+        subst (λ (us : List ℕ). Contains us p.0) same there
 
     pub first_more : (clock : ℕ → ℕ) (new : World) → clock ≡ clocks p.0 → new ≡ world_after_reception clock x p.0 now → vs ≡ map (λ q. q.0) (take i ps)
         → new ≡ heard_by_all clocks x (map (λ q. q.0) (take (i + 1) ps)) first
@@ -131,37 +135,36 @@ module _ (clocks : ℕ → ℕ → ℕ) (x : Sending) (vs : List ℕ) (first now
         let within : i < length ps = slice_get_within ps i p at in
         let more : map (λ (q : ℕ × ℕ). q.0) (take (i + 1) ps) ≡ vs ++ p.0 ∷ [] = map_more (λ (q : ℕ × ℕ). q.0) ps i p within
         ∙ ap (λ (q : ℕ × ℕ). map (λ (r : ℕ × ℕ). r.0) (take i ps) ++ q.0 ∷ []) (get_or_from_slice_get ps i p p at)
-        ∙ ap (λ (l : List ℕ). l ++ p.0 ∷ []) (sym vs_is) in
-        new_is ∙ ap (λ (k : ℕ → ℕ). world_after_reception k x p.0 now) clock_is ∙ ap (world_after_reception (clocks p.0) x p.0) so
+        ∙ ap (λ (us : List ℕ). us ++ p.0 ∷ []) (sym vs_is) in
+        new_is ∙ ap (λ (k : ℕ → ℕ). world_after_reception k x p.0 now) clock_is ∙ ap (world_after_reception (clocks p.0) x p.0) l.so
         ∙ sym (heard_push clocks x vs p.0 first)
-        ∙ ap (λ (l : List ℕ). heard_by_all clocks x l first) (sym more)
+        ∙ ap (λ (us : List ℕ). heard_by_all clocks x us first) (sym more)
 
 node_there : (ms : List Member) (i v : ℕ) → i < length ms → ((d : Member) → (get_or ms i d).node ≡ v) → (d : ℕ) → get_or (map node_of_member ms) i d ≡ v
 node_there [] i v below there d = absurd (omega arith)
 node_there (m ∷ ms) zero v below there d = there m
 node_there (m ∷ ms) (suc i) v below there d = node_there ms i v (omega arith) there d
 
-module _ {C : Type 0} (R : C → ℕ → ℕ) (cs : List C) (x : Sending) (vs : List ℕ) (first now inside : World) (ms : List Member)
-    (so : now ≡ heard_by_all (readings_of_node R cs (map node_of_member first.members)) x vs first) (view : inside ≡ now) (slice : ms ≡ inside.members)
-    (shape : IsShape inside) (long : length cs ≡ length first.members)
-    (place v : ℕ) (below : place < length ms) (there : (d : Member) → (get_or ms place d).node ≡ v) where
+module _ {C : Type 0} (R : C → ℕ → ℕ) (cs : List C) {x : Sending} {vs : List ℕ} {first now inside : World} {ms : List Member}
+    (l : IsAmidst (readings_of_node R cs (map node_of_member first.members)) x vs first now inside ms) (shape : IsShape inside)
+    (long : length cs ≡ length first.members) (place v : ℕ) (below : place < length ms) (there : (d : Member) → (get_or ms place d).node ≡ v) where
   abbrev clocks : ℕ → ℕ → ℕ
   clocks = readings_of_node R cs (map node_of_member first.members)
 
   pub place_below : place < length cs
-  place_below = omega (arith, loop_long clocks x vs first now inside ms so view slice)
+  place_below = omega (arith, loop_long l)
 
   pub clock_there : (c : C) → c ≡ get_or cs place c → R c ≡ clocks v
   clock_there c at =
-      let same : map node_of_member ms ≡ map node_of_member first.members = loop_nodes clocks x vs first now inside ms so view slice in
+      let same : map node_of_member ms ≡ map node_of_member first.members = loop_nodes l in
       let apart : Distinct (map node_of_member first.members) =
-      subst Distinct (sym shape.nodes ∙ ap (map node_of_member) (sym slice) ∙ same) (ascend_distinct (nodes_of inside.medium) shape.medium.nodes.ascending) in
+      subst Distinct (sym shape.nodes ∙ ap (map node_of_member) (sym l.slice) ∙ same) (ascend_distinct (nodes_of inside.medium) shape.medium.nodes.ascending) in
       readings_there R cs (map node_of_member first.members) place v c (long ∙ sym (length-map first.members node_of_member)) apart
-      (omega (arith, loop_long clocks x vs first now inside ms so view slice, length-map first.members node_of_member)) at
-      (λ d. subst (λ (l : List ℕ). get_or l place d ≡ v) same (node_there ms place v below there d))
+      (omega (arith, loop_long l, length-map first.members node_of_member)) at
+      (λ d. subst (λ (us : List ℕ). get_or us place d ≡ v) same (node_there ms place v below there d))
 
   pub node_now : (d : Member) → (get_or now.members place d).node ≡ v
-  node_now d = subst (λ (l : List Member). (get_or l place d).node ≡ v) (slice ∙ ap (λ (w : World). w.members) view) (there d)
+  node_now d = subst (λ (ns : List Member). (get_or ns place d).node ≡ v) (l.slice ∙ ap (λ (w : World). w.members) l.view) (there d)
 
 pub some_member : (ms : List Member) (i : ℕ) → i < length ms → Member
 some_member [] i below = absurd (omega arith)

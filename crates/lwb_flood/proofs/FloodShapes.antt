@@ -45,12 +45,6 @@ module _ (inside old new : World) (is : IsShape inside) (view : inside ≡ old) 
   pub gone_stays : (v t : ℕ) → new ≡ gone v t old → IsShape new
   gone_stays v t same = subst IsShape (sym same) (gone_shape old (subst IsShape view is) v t)
 
-  pub own_ended_stays : (x : Sending) → new ≡ own_ended x old → IsShape new
-  own_ended_stays x same = subst IsShape (sym same) (own_ended_shape old (subst IsShape view is) x)
-
-  pub heard_stays : (clock : ℕ → ℕ) (x : Sending) (v : ℕ) → new ≡ world_after_reception clock x v old → IsShape new
-  heard_stays clock x v same = subst IsShape (sym same) (heard_shape old (subst IsShape view is) clock x v)
-
 pub hearing_shape : (inside : World) → IsShape inside → (clock : ℕ → ℕ) (x : Sending) (v : ℕ) (members : List Member) (air : List Entry)
     → members ≡ with_change v (hearing_by clock x) inside.members
     → IsShape (record { medium = inside.medium; members = members; air = air })

@@ -5,12 +5,17 @@ use Rattle.link_trace.specs.Passes.{Lines}
 use Rattle.radio_model.specs.declared.sending.Sending.{Sending}
 use Rattle.radio_model.specs.Stations.{nodes_of}
 use Rattle.lwb_base.proofs.Elements.{map_contains}
+use Rattle.lwb_flood.specs.declared.flood_world.FloodWorld.TheInside.{Inside}
 use Rattle.lwb_flood.specs.declared.member.Act.TheVariants.{Sends}
 use Rattle.lwb_flood.specs.declared.member.Member.{Member}
 use Rattle.lwb_flood.specs.FloodWorlds.{World, IsShape, node_of_member, CanStep, CanEnd}
 
 pub can_sends : (lines : Lines) (w : World) (m : Member) (x : Sending) → m.act ≡ Sends x → CanStep lines w m m.act → CanEnd lines w m x
 can_sends lines w m x is can = subst (CanStep lines w m) is can
+
+-- what the code keeps of a world
+abbrev pub seen : Inside → World
+seen w = record { medium = w.medium; members = w.members.items; air = w.air }
 
 module _ (inside old : World) (shape : IsShape inside) (view : inside ≡ old) (place : ℕ) (m : Member) (below : place < length old.members)
     (at : m ≡ get_or inside.members place m) where

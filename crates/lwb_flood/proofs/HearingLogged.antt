@@ -27,8 +27,15 @@ use Rattle.lwb_flood.proofs.WorldLists.{changed_there, same_there, events_heard_
 use Rattle.air_log.proofs.LoggedEntries.{sendings_heard, hearings_heard, tunings_heard}
 use Rattle.lwb_flood.proofs.FloodReplies.{fitting, ignored, left_as}
 
-module _ (f : FloodParts) (clocks : ℕ → ℕ → ℕ) (is : HasClocks f clocks) (v : ℕ) (x : Sending) (todo : List Hearing) (leaving : List ℕ) (w : World)
-    (so : IsFloodSoFar f clocks (record { node = v; sending = x } ∷ todo) leaving w) (early : w.medium.now < CLOSING) (over : Runs w x → ⊥) where
+-- node v receives x, which has just ended, before those that are yet to receive
+pub record Receives (f : FloodParts) (clocks : ℕ → ℕ → ℕ) (v : ℕ) (x : Sending) (todo : List Hearing) (leaving : List ℕ) (w : World) : Type 0 where
+  pub has : HasClocks f clocks
+  pub so : IsFloodSoFar f clocks (record { node = v; sending = x } ∷ todo) leaving w
+  pub early : w.medium.now < CLOSING
+  pub over : Runs w x → ⊥
+
+module _ {f : FloodParts} {clocks : ℕ → ℕ → ℕ} {v : ℕ} {x : Sending} {todo : List Hearing} {leaving : List ℕ} {w : World}
+    (g : Receives f clocks v x todo leaving w) where
   abbrev hearing : Hearing
   hearing = record { node = v; sending = x }
 
@@ -36,10 +43,10 @@ module _ (f : FloodParts) (clocks : ℕ → ℕ → ℕ) (is : HasClocks f clock
   next = world_after_reception (clocks v) x v w
 
   pub just : IsDue w hearing
-  just = so.due_now hearing (contains_head hearing todo)
+  just = g.so.due_now hearing (contains_head hearing todo)
 
   settled : IsSettled f (hearing ∷ todo) w x
-  settled = elim (so.sent x just.sent).fate [ inl runs ↦ absurd (over runs) | inr done ↦ done ]
+  settled = elim (g.so.sent x just.sent).fate [ inl runs ↦ absurd (g.over runs) | inr done ↦ done ]
 
   pub by_rule : (knows f.nodes v ≡ true) × HearsInScene (standing f w) v x
   by_rule = (settled.heard v).0 (inr (contains_head hearing todo))
@@ -101,9 +108,9 @@ module _ (f : FloodParts) (clocks : ℕ → ℕ → ℕ) (is : HasClocks f clock
   -- who is about what
   not_sending : (m : Member) → Contains w.members m → m.node ≡ v → (y : Sending) → m.act ≡ Sends y → ⊥
   not_sending m there at y act =
-      let s : IsSending w m y = subst (λ (a : Act). Stands f clocks w leaving (so.each m there).past m a) act (so.each m there).stands in
+      let s : IsSending w m y = subst (λ (a : Act). Stands f clocks w leaving (g.so.each m there).past m a) act (g.so.each m there).stands in
       let node : y.node ≡ v = ap (λ (z : Sending). z.node) s.own ∙ at in
-      let last : x.end ≡ x.start + (length x.packet + 8) * 2048 = ap (λ (z : Sending). z.end) (so.sent x just.sent).lasts in
+      let last : x.end ≡ x.start + (length x.packet + 8) * 2048 = ap (λ (z : Sending). z.end) (g.so.sent x just.sent).lasts in
       let now : x.end ≡ w.medium.now = just.now in
       let later : w.medium.now ≤ y.end = s.later in
       by_rule.1.silent y s.sent node (record { before = omega arith; after = just.begun y s.sent })
@@ -119,12 +126,12 @@ module _ (f : FloodParts) (clocks : ℕ → ℕ → ℕ) (is : HasClocks f clock
 
   -- what fits comes to a node that listens
   pub listens : (m : Member) → Contains w.members m → fits m.flood x.packet ≡ true → m.act ≡ Listens
-  listens m there fit = by_act m.act refl (so.each m there).stands
+  listens m there fit = by_act m.act refl (g.so.each m there).stands
     where
       ready : (m.flood.sent < m.flood.limit) × (m.flood.waiting ≡ false)
       ready = fitting m.flood x.packet fit
 
-      by_act : (a : Act) → m.act ≡ a → Stands f clocks w leaving (so.each m there).past m a → m.act ≡ Listens
+      by_act : (a : Act) → m.act ≡ a → Stands f clocks w leaving (g.so.each m there).past m a → m.act ≡ Listens
       by_act Listens act stands = act
       by_act (Waits t p) act stands = absurd (true≢false (sym stands.waits ∙ ready.1))
       by_act (Sends y) act stands = absurd (true≢false (sym stands.waits ∙ ready.1))

@@ -86,8 +86,8 @@ module _ (f : FloodParts) (clocks : ℕ → ℕ → ℕ) (air : List Entry) (is 
       let m = moment s k in
       let at : IsAt r k m = at_step r (Tuned f clocks air is law) (log_run f clocks air is law) k (omega arith) in
       let h : HearsIn r (Tuned f clocks air is law) v x = ((log_run f clocks air is law).hears v x here).0 there in
-      let quiet = silent_in r (Tuned f clocks air is law) (log_run f clocks air is law) k few m at v x h step in
-      let less = few_sent r (Tuned f clocks air is law) (log_run f clocks air is law) k few m at v x here h step in
+      let quiet = silent_in (log_run f clocks air is law) few at v x h step in
+      let less = few_sent (log_run f clocks air is law) few at v x here h step in
       let sends : m.sends x.node ≡ Some f.start = at.sends x f.start h.sent (start_begins f clocks air is law)
       (p.1 ∙ ap (λ (i : ℕ). packet r f.start i) step) in
       let passes : s.passes k x.node v ≡ true = subst (λ (i : ℕ). s.passes i x.node v ≡ true) step h.arrives in

@@ -51,9 +51,6 @@ not_before_after a b is =
           inr (sym same, starts_after a.1 b.1 (and_false (a.0 == b.0) _ both.1 (eq-eqb a.0 b.0 same)))
     ]
 
-none_of : {m : ℕ × Bool} → (let o : Option (ℕ × Bool) = None in o ≡ Some m) → ⊥
-none_of is = cc
-
 at_last : (ms : List Member) (i : ℕ) (P : Option (ℕ × Bool) → Type 0) (m : Option (ℕ × Bool)) → ((d : Member) → moment_of (get_or ms i d).act ≡ m) → P m
     → ((k : ℕ) (d : Member) → k < i → P (moment_of (get_or ms k d).act)) → (k : ℕ) (d : Member) → k < i + 1 → P (moment_of (get_or ms k d).act)
 at_last ms i P m at last all k d less =

@@ -19,32 +19,16 @@ use Rattle.lwb_flood.proofs.EventOrder.{after_all_append, order_head}
 use Rattle.lwb_flood.proofs.SendingTimes.{counter_is, same_origin, occasion_event, same_sending}
 use Rattle.lwb_flood.proofs.Stations.{of_parts, spell, station, quiet_state, ended_state, heard_state}
 use Rattle.lwb_flood.proofs.StepHearings.{heard_by_rule, origin_at, counter_sent, silent_in, begun_of, hearing_from}
-use Rattle.lwb_flood.proofs.StepOccasions.{parts_of, relay_of, heard_once, event_once, no_later_step, current, occasion_now}
+use Rattle.lwb_flood.proofs.StepOccasions.{parts_of, relay_of, heard_once, event_once, no_later_step, current}
+use Rattle.lwb_flood.proofs.StepOccasions.{occasion_now, hears_is, in_rest, of_rest, rest_in_order, heard_event}
 use Rattle.lwb_flood.proofs.StepsOnAir.{SentIn, Turn, IsAt}
-use Rattle.lwb_flood.proofs.StepOccasions as StepOccasions
 
-module _ (r : Run) (Tuned : ℕ → Sending → Type 0) (f : FloodRun r Tuned) (k : ℕ) (few : k ≤ 11) (m : Moment) (at : IsAt r k m) where
+module _ {r : Run} {Tuned : ℕ → Sending → Type 0} (f : FloodRun r Tuned) {k : ℕ} (few : k ≤ 11) {m : Moment} (at : IsAt r k m) where
   abbrev s : Setting
   s = r.setting
 
   abbrev m' : Moment
   m' = next s k m
-
-  abbrev hears_is : (v o : ℕ) (x : Sending) → IsParticipant r v → HearsIn r Tuned v x → counter x ≡ k → initiates r o → x.packet ≡ packet r o k
-      → hears s m k v ≡ (if fits (station r m v) x.packet then Some o else None)
-  hears_is = StepOccasions.hears_is r Tuned f k few m at
-
-  abbrev in_rest : (v : ℕ) (t : Turn r k v m) (e : Event) → Contains (r.events v) e → k ≤ counter (sending_of_event e) → Contains t.rest e
-  in_rest = StepOccasions.in_rest r Tuned f k few m at
-
-  abbrev of_rest : (v : ℕ) (t : Turn r k v m) (e : Event) → Contains t.rest e → Contains (r.events v) e
-  of_rest = StepOccasions.of_rest r Tuned f k few m at
-
-  abbrev rest_in_order : (v : ℕ) → IsParticipant r v → (t : Turn r k v m) → EventsInOrder t.rest
-  rest_in_order = StepOccasions.rest_in_order r Tuned f k few m at
-
-  abbrev heard_event : (v : ℕ) (x : Sending) → IsParticipant r v → HearsIn r Tuned v x → Contains (r.events v) (Heard x)
-  heard_event = StepOccasions.heard_event r Tuned f k few m at
 
   -- nothing happens at v in this step
   quiet_sends : (v : ℕ) → IsParticipant r v → (t : Turn r k v m) → ((e : Event) → Contains t.rest e → k < counter (sending_of_event e)) → m.sends v ≡ None
@@ -52,8 +36,9 @@ module _ (r : Run) (Tuned : ℕ → Sending → Type 0) (f : FloodRun r Tuned) (
       elim (inspect (m.sends v)) [
         | inl is ↦ is
         | inr some ↦ (let z = at.sent v some.0 some.1 in
-            let step = counter_sent r Tuned f k few m at v some.0 z in
-            let more = none (Ended z.sending) (in_rest v t (Ended z.sending) ((f.times.ended_events v z.sending here).1 (z.sent, z.node)) (omega arith)) in
+            let step = counter_sent f few at v some.0 z in
+            let ended = (f.times.ended_events v z.sending here).1 (z.sent, z.node) in
+            let more = none (Ended z.sending) (in_rest f few at v t (Ended z.sending) ended (omega arith)) in
             absurd (omega arith))
       ]
 
@@ -62,9 +47,9 @@ module _ (r : Run) (Tuned : ℕ → Sending → Type 0) (f : FloodRun r Tuned) (
       elim (inspect (hears s m k v)) [
         | inl is ↦ is
         | inr some ↦ (let p = parts_of r k v some.0 m some.1 in
-            let z = hearing_from r Tuned f k few m at v some.0 here p.picked p.quiet p.few in
+            let z = hearing_from f few at v some.0 here p.picked p.quiet p.few in
             let step = z.step in
-            let more = none (Heard z.sending) (in_rest v t (Heard z.sending) (heard_event v z.sending here z.hears) (omega arith)) in
+            let more = none (Heard z.sending) (in_rest f few at v t (Heard z.sending) (heard_event f few at v z.sending here z.hears) (omega arith)) in
             absurd (omega arith))
       ]
 
@@ -97,9 +82,9 @@ module _ (r : Run) (Tuned : ℕ → Sending → Type 0) (f : FloodRun r Tuned) (
 
   after_hearing : (v : ℕ) (x : Sending) → IsParticipant r v → HearsIn r Tuned v x → counter x ≡ k → after_heard (station r m v) x.packet ≡ station r m' v
   after_hearing v x here h step =
-      let quiet = silent_in r Tuned f k few m at v x h step in
-      let o = origin_at r Tuned f k few m at x h.sent step in
-      let got = hears_is v o.0 x here h step o.1 o.2 in
+      let quiet = silent_in f few at v x h step in
+      let o = origin_at f few at x h.sent step in
+      let got = hears_is f few at v o.0 x here h step o.1 o.2 in
       ap (λ (w : Option ℕ). after_heard (now_at v w) x.packet) quiet
       ∙ heard_state r.kind s.limit r.slot (has s.initiators v) (r.message v) (spell r) (m.times v) k x.packet o.0 (m.heard v) o.2 step
       ∙ ap (λ (w : Option ℕ). then_at v None (if fits (now_at v w) x.packet then Some o.0 else None)) (sym quiet)
@@ -110,7 +95,7 @@ module _ (r : Run) (Tuned : ℕ → Sending → Type 0) (f : FloodRun r Tuned) (
       → flood_after_event (station r m v) e ≡ station r m' v → Turn r (suc k) v m'
   next_after v here t e es is step becomes =
       let whole : r.events v ≡ (t.before ++ e ∷ []) ++ es = t.whole ∙ ap (λ (l : List Event). t.before ++ l) is ∙ sym (append_assoc t.before (e ∷ []) es) in
-      let ordered = subst (λ (l : List Event). EventsInOrder l) is (rest_in_order v here t) in
+      let ordered = subst (λ (l : List Event). EventsInOrder l) is (rest_in_order f few at v here t) in
       record {
         before = t.before ++ e ∷ [];
         rest = es;
@@ -136,7 +121,7 @@ module _ (r : Run) (Tuned : ℕ → Sending → Type 0) (f : FloodRun r Tuned) (
             | inl more ↦ more
             | inr less ↦ (let above = t.later d in_d in
                 absurd ((order_head e es ordered d there).1
-                (event_once r Tuned f k few m at v here e d (of_rest v t e (in_t e (contains_head e es))) (of_rest v t d in_d) step (omega arith))))
+                (event_once f few at v here e d (of_rest f few at v t e (in_t e (contains_head e es))) (of_rest f few at v t d in_d) step (omega arith))))
           ]
 
   next_quiet : (v : ℕ) → IsParticipant r v → (t : Turn r k v m) → ((e : Event) → Contains t.rest e → k < counter (sending_of_event e)) → Turn r (suc k) v m'
@@ -152,12 +137,12 @@ module _ (r : Run) (Tuned : ℕ → Sending → Type 0) (f : FloodRun r Tuned) (
   next_event : (v : ℕ) → IsParticipant r v → (t : Turn r k v m) (e : Event) (es : List Event) → t.rest ≡ e ∷ es → counter (sending_of_event e) ≡ k
       → Turn r (suc k) v m'
   next_event v here t (Heard x) es is step =
-      let there = of_rest v t (Heard x) (subst (λ (l : List Event). Contains l (Heard x)) (sym is) (contains_head (Heard x) es)) in
+      let there = of_rest f few at v t (Heard x) (subst (λ (l : List Event). Contains l (Heard x)) (sym is) (contains_head (Heard x) es)) in
       next_after v here t (Heard x) es is step (after_hearing v x here (heard_by_rule r Tuned f v x here there) step)
   next_event v here t (Ended x) es is step =
-      let there = of_rest v t (Ended x) (subst (λ (l : List Event). Contains l (Ended x)) (sym is) (contains_head (Ended x) es)) in
+      let there = of_rest f few at v t (Ended x) (subst (λ (l : List Event). Contains l (Ended x)) (sym is) (contains_head (Ended x) es)) in
       let z = (f.times.ended_events v x here).0 there in
-      let o = origin_at r Tuned f k few m at x z.0 step in
+      let o = origin_at f few at x z.0 step in
       next_after v here t (Ended x) es is step (after_ended v o.0 (subst (λ (w : ℕ). m.sends w ≡ Some o.0) z.1 (at.sends x o.0 z.0 o.1 o.2)))
 
   next_turn : (v : ℕ) → IsParticipant r v → (t : Turn r k v m) (rest : List Event) → t.rest ≡ rest → Turn r (suc k) v m'
@@ -172,14 +157,14 @@ module _ (r : Run) (Tuned : ℕ → Sending → Type 0) (f : FloodRun r Tuned) (
       in_t d there = subst (λ (l : List Event). Contains l d) (sym is) there
 
       ordered : EventsInOrder (e ∷ es)
-      ordered = subst (λ (l : List Event). EventsInOrder l) is (rest_in_order v here t)
+      ordered = subst (λ (l : List Event). EventsInOrder l) is (rest_in_order f few at v here t)
 
       all_more : k < counter (sending_of_event e) → (d : Event) → Contains (e ∷ es) d → k < counter (sending_of_event d)
       all_more more d there =
           elim (contains_cases e es d there) [
             | inl same ↦ subst (λ (i : Event). k < counter (sending_of_event i)) same more
-            | inr later ↦ (let below = no_later_step r Tuned f k few m at v here e d (of_rest v t e (in_t e (contains_head e es)))
-                (of_rest v t d (in_t d there)) (order_head e es ordered d later).0 in omega arith)
+            | inr later ↦ (let below = no_later_step f few at v here e d (of_rest f few at v t e (in_t e (contains_head e es)))
+                (of_rest f few at v t d (in_t d there)) (order_head e es ordered d later).0 in omega arith)
           ]
 
   -- a transmission of the next step, by its reception
@@ -197,7 +182,7 @@ module _ (r : Run) (Tuned : ℕ → Sending → Type 0) (f : FloodRun r Tuned) (
       let raised : counter x ≡ counter y + 1 = ap (λ (p : List ℕ). slice_index p 2) parts.2
       ∙ counter_set y.packet (counter y + 1) (fitting_long c.flood y.packet parts.0) in
       let at_y : counter y ≡ k = omega (arith, raised) in
-      let now : c.flood ≡ station r m v = current r Tuned f k few m at v both.0 (record { before = c.flood; event = Heard y }) c.occasion at_y in
+      let now : c.flood ≡ station r m v = current f few at v both.0 (record { before = c.flood; event = Heard y }) c.occasion at_y in
       let less = parts.1 in (
         both.0,
         (
@@ -216,10 +201,10 @@ module _ (r : Run) (Tuned : ℕ → Sending → Type 0) (f : FloodRun r Tuned) (
   next_sends x o sent begun is =
       let n = next_sending x sent (counter_is r f.times o (suc k) x begun is) in
       let y = n.1.0 in
-      let p = origin_at r Tuned f k few m at y n.1.1.sent n.1.2 in
+      let p = origin_at f few at y n.1.1.sent n.1.2 in
       let next_packet : x.packet ≡ packet r p.0 (k + 1) = n.1.5 ∙ ap (λ (q : List ℕ). slice_set q 2 (k + 1)) p.2 ∙ set-set (r.message p.0) 2 k (k + 1) in
       let same : p.0 ≡ o = same_origin r f.times p.0 o (k + 1) (suc k) p.1 begun (sym next_packet ∙ is) in
-      let got = hears_is x.node p.0 y n.0 n.1.1 n.1.2 p.1 p.2 in
+      let got = hears_is f few at x.node p.0 y n.0 n.1.1 n.1.2 p.1 p.2 in
       cond-true (nat_lt (k + 1) STEPS) (hears s m k x.node) None (let less = n.1.4 in lt-ltb (k + 1) 12 (omega arith)) ∙ got
       ∙ cond-true (fits (station r m x.node) y.packet) (Some p.0) None n.1.3 ∙ ap (λ (i : ℕ). Some i) same
 
@@ -229,13 +214,13 @@ module _ (r : Run) (Tuned : ℕ → Sending → Type 0) (f : FloodRun r Tuned) (
       let next_less : k + 1 < 12 = ltb-true (k + 1) 12 parts.0 in
       let less : k < 11 = omega arith in
       let p = parts_of r k v o m parts.1 in
-      let z = hearing_from r Tuned f k few m at v o p.here p.picked p.quiet p.few in
+      let z = hearing_from f few at v o p.here p.picked p.quiet p.few in
       let y = z.sending in
-      let got = hears_is v o y p.here z.hears z.step z.initiator z.packet in
+      let got = hears_is f few at v o y p.here z.hears z.step z.initiator z.packet in
       let fitting : fits (station r m v) y.packet ≡ true = fit_of (fits (station r m v) y.packet) (sym got ∙ parts.1) in
       let answer = relay_of (station r m v) y.packet fitting (subst (λ (i : ℕ). i < 11) (sym z.step) less) in
       let x : Sending = sending_of_run r v (r.relay_start v y.end) (slice_set y.packet 2 (counter y + 1)) in
-      let there = occasion_now r Tuned f k few m at v y p.here (heard_event v y p.here z.hears) z.step in
+      let there = occasion_now f few at v y p.here (heard_event f few at v y p.here z.hears) z.step in
       let sent : Contains r.sendings x = f.times.relayed v (r.relay_start v y.end) (slice_set y.packet 2 (counter y + 1)) p.here (record {
         heard = y;
         flood = station r m v;
@@ -261,7 +246,7 @@ module _ (r : Run) (Tuned : ℕ → Sending → Type 0) (f : FloodRun r Tuned) (
       let n = next_sending x sent_x at_x in
       let q = next_sending y sent_y at_y in
       let heard : HearsIn r Tuned x.node q.1.0 = subst (λ (v : ℕ). HearsIn r Tuned v q.1.0) (sym node) q.1.1 in
-      let same : n.1.0 ≡ q.1.0 = heard_once r Tuned f k few m at x.node n.1.0 q.1.0 n.1.1 heard n.1.2 q.1.2 in
+      let same : n.1.0 ≡ q.1.0 = heard_once f few at x.node n.1.0 q.1.0 n.1.1 heard n.1.2 q.1.2 in
       let start : x.start ≡ y.start = n.1.6 ∙ ap (λ (z : Sending). r.relay_start x.node z.end) same ∙ ap (λ (v : ℕ). r.relay_start v (q.1.0.end)) node
       ∙ sym q.1.6 in
       let packets : x.packet ≡ y.packet = n.1.5 ∙ ap (λ (z : Sending). slice_set z.packet 2 (k + 1)) same ∙ sym q.1.5 in
@@ -271,7 +256,7 @@ module _ (r : Run) (Tuned : ℕ → Sending → Type 0) (f : FloodRun r Tuned) (
   next_heard v h is = by_cases (m.heard v) (hears s m k v) (λ i. at.heard v i) (λ o. new o) is
     where
       new : (o : ℕ) → hears s m k v ≡ Some o → initiates r o × (initiates r v → o ≡ v)
-      new o is = let p = parts_of r k v o m is in (begun_of r Tuned f k few m at v o p.picked, λ begun. sym (p.own begun))
+      new o is = let p = parts_of r k v o m is in (begun_of f few at v o p.picked, λ begun. sym (p.own begun))
 
       by_cases : (old : Option (ℕ × ℕ)) (now : Option ℕ) → ((i : ℕ × ℕ) → old ≡ Some i → initiates r i.0 × (initiates r v → i.0 ≡ v))
           → ((o : ℕ) → now ≡ Some o → initiates r o × (initiates r v → o ≡ v))

@@ -1,33 +1,30 @@
 -- A node goes off: the log with its tuning, and what the medium holds and asks for.
-use Rattle.std.proofs.Common.{◌≡◌, ◌≢◌, ℕ, ◌+◌, ◌-◌, ◌*◌, ◌<◌, ◌≤◌, ◌⊎◌, List, [], ◌∷◌, ◌++◌, nat_lt, Option, Some, None, IfSome, option_to_list, sym, ◌∙◌, ap}
-use Rattle.std.proofs.Common.{subst, arith, length, get_or, lt-ltb}
+use Rattle.std.proofs.Common.{◌≡◌, ◌≢◌, ℕ, ◌-◌, ◌<◌, ◌≤◌, ◌⊎◌, List, [], ◌∷◌, ◌++◌, nat_lt, Option, Some, None, IfSome, option_to_list, sym, ◌∙◌, ap}
+use Rattle.std.proofs.Common.{subst, get_or, lt-ltb}
 use Rattle.std.specs.Prelude.{Contains}
 use Rattle.std.proofs.lemmas.Bool.{cond_both, cond-true}
 use Rattle.std.proofs.lemmas.List.Elements.{Contains-push, Contains-append_left}
-use Rattle.tick_clock.specs.Clocks.{Near}
 use Rattle.scenario_text.specs.FloodParts.{FloodParts}
 use Rattle.radio_model.specs.declared.sending.Sending.{Sending}
 use Rattle.radio_model.specs.declared.station.Station.{Station}
 use Rattle.radio_model.specs.declared.station.Tuned.{Tuned as TunedTo}
 use Rattle.radio_model.specs.OnAir.{Hearing, Tuning}
 use Rattle.radio_model.specs.Hearing.{Scene}
-use Rattle.radio_model.specs.Stations.{IsMedium, IsTime, station_of, id_of_station as station_node}
+use Rattle.radio_model.specs.Stations.{IsMedium, station_of}
 use Rattle.radio_model.specs.Holding.{Holds, ended_tuning, tuned_of, after_tuning}
-use Rattle.radio_model.proofs.OneCall.{found_member}
 use Rattle.radio_model.proofs.AfterTuning.{holds_after_tuning}
 use Rattle.air_log.specs.Entries.{sendings_of, tunings_of, HasHeardEntry}
 use Rattle.air_log.specs.NodeEvents.{own_ends}
 use Rattle.air_log.specs.FloodLaw.{OPENING, CLOSING}
-use Rattle.lwb_base.proofs.Elements.{map_contains, map_from, Distinct}
+use Rattle.lwb_base.proofs.Elements.{Distinct}
 use Rattle.lwb_flood.specs.declared.member.Act.{Act}
-use Rattle.lwb_flood.specs.declared.member.Act.TheVariants.{Listens, Waits, Sends, Off}
+use Rattle.lwb_flood.specs.declared.member.Act.TheVariants.{Listens, Sends, Off}
 use Rattle.lwb_flood.specs.declared.member.Member.{Member}
 use Rattle.lwb_flood.specs.FloodLog.{HasClocks}
 use Rattle.lwb_flood.specs.FloodWorlds.{World, node_of_member, moment_of, member_with_act, gone, after_own, own_ended, is_last, world_after_end}
 use Rattle.lwb_flood.proofs.LogEntries.{ids_distinct}
-use Rattle.lwb_flood.proofs.FloodSoFar.{scene, events_in, tuned_by, sending_by, IsSending, Stands, IsMember, Runs, IsFloodSoFar}
+use Rattle.lwb_flood.proofs.FloodSoFar.{scene, events_in, tuned_by, IsSending, Stands, IsMember, Runs, IsFloodSoFar}
 use Rattle.lwb_flood.proofs.WorldLists.{one_of_mark, each_changed, same_there, sendings_tuned, hearings_tuned, tunings_tuned}
-use Rattle.lwb_flood.proofs.EventsInLog.{end_within, ended_event}
 
 -- what runs has run before
 pub gone_runs_back : (v t : ℕ) (w : World) (y : Sending) → Runs (gone v t w) y → Runs w y
@@ -129,41 +126,3 @@ module _ (f : FloodParts) (clocks : ℕ → ℕ → ℕ) (is : HasClocks f clock
 
   pub still_holds : Holds next.medium (scene f next)
   still_holds = subst (λ (a : Scene). Holds next.medium a) next_scene (holds_after_tuning w.medium medium (scene f w) so.holds m.node None t later)
-
-  -- what the call of the medium asks for
-  ends_early : (y : Sending) → Contains (sendings_of w.air) y → y.end ≤ CLOSING
-  ends_early y known =
-      let s = so.sent y known in
-      let step = s.step in
-      let near : Near y.start (1344064000 + step.step * 45056) step.step = step.near in
-      let small : step.step ≤ 11 = step.small in
-      let last : y.end ≡ y.start + (length y.packet + 8) * 2048 = ap (λ (z : Sending). z.end) s.lasts in
-      let size : length y.packet ≡ 8 = ap (λ (p : List ℕ). length p) step.is in
-      omega (arith, near, small, last, size)
-
-  in_range : t ≤ CLOSING
-  in_range =
-      let within = end_within (events_in w.air m.node) (f.sends - 1) CLOSING CLOSING (omega arith)
-      (λ y known. ends_early y (ended_event w.air m.node y known)) in
-      omega (arith, within, end_is)
-
-  pub gone_in_time : IsTime w.medium t
-  gone_in_time = record { later = later; small = (let by = in_range in omega arith); running = running_on }
-    where
-      by_act : (a : Act) (y : Sending) → sending_by a ≡ Some y → IfSome (moment_of a) (λ l. t ≤ l.0) → t ≤ y.end
-      by_act Listens y is_sent first = absurd (cc)
-      by_act (Waits s p) y is_sent first = absurd (cc)
-      by_act (Sends x) y is_sent first = let same : x ≡ y = cc in subst (λ (z : Sending). t ≤ z.end) same first
-      by_act Off y is_sent first = absurd (cc)
-
-      same_station : (s r : Station) → Some s ≡ Some r → s ≡ r
-      same_station s r same = cc
-
-      running_on : (st : Station) (y : Sending) → Contains w.medium.stations st → st.sending ≡ Some y → t ≤ y.end
-      running_on st y in_it runs =
-          let n = map_from node_of_member w.members st.node
-          (subst (λ (l : List ℕ). Contains l st.node) (so.stations ∙ sym so.nodes) (map_contains station_node w.medium.stations st in_it)) in
-          let each = so.each n.0 n.1 in
-          let same : each.station ≡ st = same_station each.station st
-          (sym each.found ∙ ap (λ (u : ℕ). station_of w.medium u) n.2 ∙ found_member w.medium.stations st medium.nodes.ascending in_it) in
-          by_act n.0.act y (sym each.sends ∙ ap (λ (s : Station). s.sending) same ∙ runs) (none_before n.0 n.1)

@@ -1,5 +1,5 @@
 -- A transmission ends: what runs then, what the medium holds, and who receives it.
-use Rattle.std.proofs.Common.{◌≡◌, ◌≢◌, ℕ, ◌+◌, ◌^◌, ◌≤◌, ◌⊎◌, ◌↔◌, List, [], ◌∷◌, map, Some, Bool, true, false, if◌then◌else◌, inl, inr, refl, sym, ◌∙◌, ap}
+use Rattle.std.proofs.Common.{◌≡◌, ◌≢◌, ℕ, ◌+◌, ◌^◌, ◌≤◌, ◌⊎◌, ◌↔◌, List, [], ◌∷◌, map, Some, Bool, true, false, inl, inr, refl, sym, ◌∙◌, ap}
 use Rattle.std.proofs.Common.{subst, arith, length}
 use Rattle.std.specs.Prelude.{Contains}
 use Rattle.std.specs.Option.{IfSome}
@@ -23,7 +23,7 @@ use Rattle.lwb_flood.specs.declared.member.Act.{Act}
 use Rattle.lwb_flood.specs.declared.member.Act.TheVariants.{Sends}
 use Rattle.lwb_flood.specs.declared.member.Member.{Member}
 use Rattle.lwb_flood.specs.FloodLog.{HasClocks}
-use Rattle.lwb_flood.specs.FloodWorlds.{World, moment_of, NotAfter, ActsNext, after_own, is_last, own_ended}
+use Rattle.lwb_flood.specs.FloodWorlds.{World, moment_of, NotAfter, ActsNext, after_own, own_ended}
 use Rattle.lwb_flood.proofs.ActsTold.{same_sends, sends_by, listens_differ}
 use Rattle.lwb_flood.proofs.FloodSoFar.{scene, standing, sending_by, IsSending, Stands, IsMember, Runs, IsSettled, IsSent, IsDue, IsFloodSoFar}
 use Rattle.scenario_text.proofs.Known.{known_there}
@@ -50,9 +50,6 @@ module _ (f : FloodParts) (clocks : ℕ → ℕ → ℕ) (has : HasClocks f cloc
     (m : Member) (there : Contains w.members m) (x : Sending) (act : m.act ≡ Sends x) (next : ActsNext w.members m) where
   abbrev behind : World
   behind = own_ended x w
-
-  abbrev leaving : List ℕ
-  leaving = if is_last x.node w.members then x.node ∷ [] else []
 
   pub is : IsMember f clocks [] w m
   is = so.each m there

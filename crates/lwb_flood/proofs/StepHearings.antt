@@ -39,7 +39,7 @@ pub heard_by_rule : (r : Run) (Tuned : ℕ → Sending → Type 0) → FloodRun 
     → Contains (r.events v) (Heard y) → HearsIn r Tuned v y
 heard_by_rule r Tuned f v y here there = (f.hears v y here).0 ((f.times.heard_events v y here).0 there)
 
-module _ (r : Run) (Tuned : ℕ → Sending → Type 0) (f : FloodRun r Tuned) (k : ℕ) (few : k ≤ 11) (m : Moment) (at : IsAt r k m) where
+module _ {r : Run} {Tuned : ℕ → Sending → Type 0} (f : FloodRun r Tuned) {k : ℕ} (few : k ≤ 11) {m : Moment} (at : IsAt r k m) where
   abbrev s : Setting
   s = r.setting
 

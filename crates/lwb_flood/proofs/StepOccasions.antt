@@ -8,7 +8,7 @@ use Rattle.std.proofs.lemmas.Option.{same_Some}
 use Rattle.glossy_relay.specs.FloodState.{FloodState}
 use Rattle.glossy_relay.specs.Relaying.{fits, reply_to, counter_of}
 use Rattle.glossy_relay.specs.declared.flood.Reply.TheVariants.{Relay}
-use Rattle.bus_terms.specs.Flooding.{Setting, Moment, has, pick, agrees, may_hear, hears, next}
+use Rattle.bus_terms.specs.Flooding.{Setting, Moment, has, pick, agrees, may_hear, hears}
 use Rattle.radio_model.specs.declared.sending.Sending.{Sending}
 use Rattle.air_log.specs.NodeEvents.{Event, Heard, Ended, sending_of_event, flood_after_event, flood_after_events, EventOccasion, event_occasions}
 use Rattle.air_log.specs.NodeEvents.{EventsInOrder}
@@ -60,36 +60,33 @@ relay_of w p fitting less = rw (fitting, lt-ltb (counter_of p) 11 less) refl
 heard_same : (x y : Sending) → Heard x ≡ Heard y → x ≡ y
 heard_same x y is = ap sending_of_event is
 
-module _ (r : Run) (Tuned : ℕ → Sending → Type 0) (f : FloodRun r Tuned) (k : ℕ) (few : k ≤ 11) (m : Moment) (at : IsAt r k m) where
+module _ {r : Run} {Tuned : ℕ → Sending → Type 0} (f : FloodRun r Tuned) {k : ℕ} (few : k ≤ 11) {m : Moment} (at : IsAt r k m) where
   abbrev s : Setting
   s = r.setting
-
-  abbrev m' : Moment
-  m' = next s k m
 
   -- v receives by steps what it received on the air, if and only if it fits
   pub hears_is : (v o : ℕ) (x : Sending) → IsParticipant r v → HearsIn r Tuned v x → counter x ≡ k → initiates r o → x.packet ≡ packet r o k
       → hears s m k v ≡ (if fits (station r m v) x.packet then Some o else None)
   hears_is v o x here h step begun is =
-      let quiet = silent_in r Tuned f k few m at v x h step in
-      let less = few_sent r Tuned f k few m at v x here h step in
-      let got = picked r Tuned f k few m at v x o h step begun is in
-      let want : fits (station r m v) x.packet ≡ wanted r Tuned f k few m at v o = ap (λ (p : List ℕ). fits (station r m v) p) is
-      ∙ fits_is r Tuned f k few m at v o begun quiet less in
+      let quiet = silent_in f few at v x h step in
+      let less = few_sent f few at v x here h step in
+      let got = picked f few at v x o h step begun is in
+      let want : fits (station r m v) x.packet ≡ wanted f few at v o = ap (λ (p : List ℕ). fits (station r m v) p) is
+      ∙ fits_is f few at v o begun quiet less in
       hears_from s m k v o (fits (station r m v) x.packet) here quiet less got (sym want)
 
   -- a node has one event of a step at most
   pub heard_once : (v : ℕ) (x y : Sending) → HearsIn r Tuned v x → HearsIn r Tuned v y → counter x ≡ k → counter y ≡ k → x ≡ y
   heard_once v x y h g at_x at_y =
-      let p = origin_at r Tuned f k few m at x h.sent at_x in
-      let q = origin_at r Tuned f k few m at y g.sent at_y in
+      let p = origin_at f few at x h.sent at_x in
+      let q = origin_at f few at y g.sent at_y in
       let same : p.0 ≡ q.0 = same_Some p.0 q.0
-      (sym (picked r Tuned f k few m at v x p.0 h at_x p.1 p.2) ∙ picked r Tuned f k few m at v y q.0 g at_y q.1 q.2) in
+      (sym (picked f few at v x p.0 h at_x p.1 p.2) ∙ picked f few at v y q.0 g at_y q.1 q.2) in
       let packets : x.packet ≡ y.packet = p.2 ∙ ap (λ (i : ℕ). packet r i k) same ∙ sym q.2 in
       let passes_x : s.passes k x.node v ≡ true = subst (λ (i : ℕ). s.passes i x.node v ≡ true) at_x h.arrives in
       let passes_y : s.passes k y.node v ≡ true = subst (λ (i : ℕ). s.passes i y.node v ≡ true) at_y g.arrives in
-      let first = h.first y (rival r Tuned f k few m at v x y h.sent g.sent at_x at_y passes_y) (sym packets) in
-      let second = g.first x (rival r Tuned f k few m at v y x g.sent h.sent at_y at_x passes_x) packets in
+      let first = h.first y (rival f few at v x y h.sent g.sent at_x at_y passes_y) (sym packets) in
+      let second = g.first x (rival f few at v y x g.sent h.sent at_y at_x passes_x) packets in
       let start : x.start ≡ y.start = omega arith in
       let node : x.node ≡ y.node = omega arith in
       same_sending r f.times x y h.sent g.sent node start packets

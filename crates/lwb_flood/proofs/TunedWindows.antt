@@ -61,9 +61,6 @@ module _ (r : Run) (Tuned : ℕ → Sending → Type 0) (v opening closing : ℕ
   pub tuned_in_window : TunedByCount r Tuned v
   tuned_in_window x before rest sent time cut silent = (there, back)
     where
-      limit : ℕ
-      limit = r.setting.limit
-
       number : (flood_after_events (flood_at_beginning r v) before).sent ≡ length (own_ends before)
       number = (let n = sent_among (flood_at_beginning r v) before in omega (arith, n))
 

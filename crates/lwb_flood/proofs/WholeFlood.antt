@@ -100,7 +100,7 @@ module _ (r : Run) (Tuned : ℕ → Sending → Type 0) (f : FloodRun r Tuned) w
   pub at_step : (k : ℕ) → k ≤ 12 → IsAt r k (moment s k)
   unfolding moment
   at_step zero few = first_at
-  at_step (suc k) few = step_on r Tuned f k (omega arith) (moment s k) (at_step k (omega arith))
+  at_step (suc k) few = step_on f {k = k} (omega arith) (at_step k (omega arith))
 
   -- transmissions
   sends_on_air : (v k o : ℕ) → initiates r o → k ≤ 11 → SendsOnAir r v k o ↔ Sends s v k o
@@ -126,7 +126,7 @@ module _ (r : Run) (Tuned : ℕ → Sending → Type 0) (f : FloodRun r Tuned) w
       let h = heard_by_rule r Tuned f v x here in_x in
       let g = heard_by_rule r Tuned f v y here in_y in
       let few = (timed r f.times x h.sent).few in
-      heard_once r Tuned f (counter x) few (moment s (counter x)) (at_step (counter x) (omega arith)) v x y h g refl (sym step)
+      heard_once f few (at_step (counter x) (omega arith)) v x y h g refl (sym step)
 
   hears_on_air : (v k o : ℕ) → IsParticipant r v → initiates r o → k ≤ 11 → HearsOnAir r v k o ↔ Hears s v k o
   hears_on_air v k o here begun few = (there, back)
@@ -141,12 +141,12 @@ module _ (r : Run) (Tuned : ℕ → Sending → Type 0) (f : FloodRun r Tuned) w
           occasion_event (flood_at_beginning r v) (r.events v) (record { before = h.flood; event = Heard x }) h.occasion in
           let air = heard_by_rule r Tuned f v x here event in
           let step = counter_is r f.times o k x begun h.packet in
-          let now : h.flood ≡ station r (moment s k) v = current r Tuned f k few (moment s k) at v here (record {
+          let now : h.flood ≡ station r (moment s k) v = current f few at v here (record {
             before = h.flood;
             event = Heard x;
           }) h.occasion step in
           let fitting : fits (station r (moment s k) v) x.packet ≡ true = subst (λ (w : FloodState). fits w x.packet ≡ true) now h.fitting in
-          hears_is r Tuned f k few (moment s k) at v o x here air step begun h.packet
+          hears_is f few at v o x here air step begun h.packet
           ∙ cond-true (fits (station r (moment s k) v) x.packet) (Some o) None fitting
 
       fit_of : (b : Bool) → (if b then Some o else None) ≡ Some o → b ≡ true
@@ -156,13 +156,13 @@ module _ (r : Run) (Tuned : ℕ → Sending → Type 0) (f : FloodRun r Tuned) w
       back : Hears s v k o → HearsOnAir r v k o
       back is =
           let p = parts_of r k v o (moment s k) is in
-          let z = hearing_from r Tuned f k few (moment s k) at v o here p.picked p.quiet p.few in
-          let got = hears_is r Tuned f k few (moment s k) at v o z.sending here z.hears z.step begun z.packet in
+          let z = hearing_from f few at v o here p.picked p.quiet p.few in
+          let got = hears_is f few at v o z.sending here z.hears z.step begun z.packet in
           record {
             sending = z.sending;
             flood = station r (moment s k) v;
-            occasion = occasion_now r Tuned f k few (moment s k) at v z.sending here
-                (heard_event r Tuned f k few (moment s k) at v z.sending here z.hears) z.step;
+            occasion = occasion_now f few at v z.sending here
+                (heard_event f few at v z.sending here z.hears) z.step;
             fitting = fit_of (fits (station r (moment s k) v) z.sending.packet) (sym got ∙ is);
             packet = z.packet;
           }

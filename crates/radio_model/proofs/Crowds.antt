@@ -1,7 +1,8 @@
 -- What rivals bring by masks: of none, of one, and of two lists of them.
-use Rattle.std.proofs.Common.{◌≡◌, ◌≢◌, ℕ, List, [], ◌∷◌, ◌++◌, get_or, Bool, true, false, not, ◌&&◌, ◌||◌, ◌==◌, if◌then◌else◌, Option}
+use Rattle.std.proofs.Common.{arith, ◌≡◌, ◌≢◌, ℕ, List, [], ◌∷◌, ◌++◌, get_or, Bool, true, false, not, ◌&&◌, ◌||◌, ◌==◌, if◌then◌else◌, Option}
 use Rattle.std.proofs.Common.{Some, None, option_to_list, filter_map, bit_or, eq-eqb, refl, sym, ◌∙◌, ap, subst}
-use Rattle.std.proofs.lemmas.Bool.{and_parts, eqb-true, false≢true, false_from_ne_true}
+use Rattle.std.proofs.lemmas.Bool.Decides.{nat_tests}
+use Rattle.std.proofs.lemmas.Bool.{and_parts, eqb-true, false_from_ne_true}
 use Rattle.std.proofs.lemmas.List.Folds.{list_any-append}
 use Rattle.std.specs.List.{list_any, cons_option}
 use Rattle.lwb_base.specs.Profile.{Numbers}
@@ -30,8 +31,7 @@ with_false true = refl
 with_false false = refl
 
 three : (a b c : Bool) → ((a && (b && c)) || false) ≡ (((a && b) && c) || false)
-three true b c = refl
-three false b c = refl
+three a b c = grind (arith, nat_tests)
 
 of_sender : (b : Bool) (s r : Rival) → (if b then Some s else None) ≡ Some r → r.node ≡ s.node
 of_sender true s r is = let same : s ≡ r = cc in ap (λ (w : Rival). w.node) (sym same)
@@ -100,9 +100,7 @@ same_any {X} {Y} f t u (x ∷ xs) same = step (f x) refl (same_any f t u xs same
     step (Some y) is rest = ap (λ (b : Bool). b || list_any t (filter_map f xs)) (same x y is) ∙ ap (λ (b : Bool). u y || b) rest
 
 with_so : (a b : Bool) → b ≡ true → a ≡ (a && b)
-with_so true true is = refl
-with_so false true is = refl
-with_so a false is = absurd (false≢true is)
+with_so a b is = grind (arith, nat_tests)
 
 -- what comes from a node comes of the transmissions of its station
 module _ (lines : Lines) (p : Numbers) (x : Sending) (st : Station) (v named : ℕ) where

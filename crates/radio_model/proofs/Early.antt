@@ -1,8 +1,9 @@
 -- What comes early by its mark brings the packet of x out of time, and nothing else.
-use Rattle.std.proofs.Common.{◌≡◌, ℕ, ◌+◌, ◌-◌, ◌<◌, ◌≤◌, List, length, get_or, true, false, not, ◌&&◌, ◌||◌, ◌==◌}
-use Rattle.std.proofs.Common.{nat_lt, nat_le, Some, None, sym, ◌∙◌, ap, arith, inl, inr, ◌⊎◌, Contains}
-use Rattle.std.proofs.lemmas.Bool.{cases_lt, and_parts, and_from, or_cases, or_left, or_right, eqb-true, eq-eqb, ltb-true, leb-true, le-leb, both_ways}
-use Rattle.std.proofs.lemmas.Bool.{cond-true, false_from_ne_true, not-true}
+use Rattle.std.proofs.Common.{◌≡◌, ℕ, ◌-◌, ◌<◌, ◌≤◌, List, length, get_or, true, false, not, ◌&&◌, ◌||◌, ◌==◌}
+use Rattle.std.proofs.Common.{nat_lt, Some, None, sym, ◌∙◌, ap, arith, inl, inr, ◌⊎◌, Contains}
+use Rattle.std.proofs.lemmas.Bool.Decides.{nat_tests}
+use Rattle.std.proofs.lemmas.Bool.{and_parts, and_from, or_cases, eqb-true, eq-eqb, ltb-true}
+use Rattle.std.proofs.lemmas.Bool.{cond-true, false_from_ne_true}
 use Rattle.std.specs.List.{list_any}
 use Rattle.std.proofs.lemmas.List.{get_or_default}
 use Rattle.lwb_base.specs.Profile.{Numbers}
@@ -11,7 +12,7 @@ use Rattle.link_trace.specs.Passes.{Lines}
 use Rattle.link_trace.proofs.MaskBits.{empty_mask, same_tests}
 use Rattle.radio_model.specs.Hearing.{Meets}
 use Rattle.radio_model.specs.Stations.{on_air, overlaps}
-use Rattle.radio_model.specs.Marks.{IsMark, IsAlike, IsNewest, is_same, is_aside, comes_early}
+use Rattle.radio_model.specs.Marks.{IsMark, IsAlike, IsNewest, is_aside, comes_early}
 use Rattle.radio_model.specs.Meetings.{IsInOneFrame, key_of, comes_in_time, reaches, differs, spoils, passes_at, rival_to, rivals_in, IsCrowd}
 use Rattle.radio_model.specs.declared.mark.Mark.{Mark}
 use Rattle.radio_model.specs.declared.mark.Origin.{Origin}
@@ -19,10 +20,10 @@ use Rattle.radio_model.specs.declared.rivals.Key.{Key}
 use Rattle.radio_model.specs.declared.rivals.Rival.{Rival}
 use Rattle.radio_model.specs.declared.sending.Sending.{Sending}
 use Rattle.radio_model.specs.declared.station.Station.{Station}
-use Rattle.radio_model.proofs.Alike.{origin_from}
-use Rattle.lwb_base.proofs.Elements.{some_of, any_of, filter_from, in_filter}
+use Rattle.radio_model.proofs.Alike.{all_same, newest_rival, one_key, origin_from}
+use Rattle.lwb_base.proofs.Elements.{some_of, any_of, in_filter}
 use Rattle.lwb_base.proofs.Truths.{same_truth}
-use Rattle.radio_model.proofs.RivalFacts.{rival, of_test, meets_true, meets_from, same_from, before_true}
+use Rattle.radio_model.proofs.RivalFacts.{rival, meets_from, same_from, before_true}
 
 module _ (p : Numbers) (x : Sending) (st : Station) (mk : Mark) (origin : Origin) (opens : ℕ) (is : IsMark (on_air st) mk) (alike : IsAlike
     (on_air st) st.node mk origin x) (starts : IsInOneFrame p.frame x.start opens)
@@ -35,35 +36,19 @@ module _ (p : Numbers) (x : Sending) (st : Station) (mk : Mark) (origin : Origin
     first : (nat_lt mk.start x.start || ((mk.start == x.start) && nat_lt st.node x.node)) ≡ true
 
   told : Told
-  told =
-      let four = and_parts (nat_le mk.before x.start && is_same mk.origin origin && (mk.rank == x.rank)) (nat_le opens mk.start &&
-      (nat_lt mk.start x.start || ((mk.start == x.start) && nat_lt st.node x.node))) so in
-      let three = and_parts (nat_le mk.before x.start && is_same mk.origin origin) ((mk.rank == x.rank)) four.0 in
-      let two = and_parts (nat_le mk.before x.start) (is_same mk.origin origin) three.0 in
-      let last = and_parts (nat_le opens mk.start) (nat_lt mk.start x.start || ((mk.start == x.start) && nat_lt st.node x.node)) four.1 in
-      record {
-        before = leb-true mk.before x.start two.0;
-        origin_is = origin_from mk.origin origin two.1;
-        rank_is = eqb-true mk.rank x.rank three.1;
-        opened = leb-true opens mk.start last.0;
-        first = last.1;
-      }
+  told = let is = so in record {
+    before = grind (arith, nat_tests);
+    origin_is = origin_from mk.origin origin (grind (arith, nat_tests));
+    rank_is = grind (arith, nat_tests);
+    opened = grind (arith, nat_tests);
+    first = grind (arith, nat_tests);
+  }
 
   runs : x.start < mk.end
-  runs = elim (cases_lt x.start mk.end) [
-    | inl less ↦ less
-    | inr over ↦ absurd (both_ways (is_aside x.start x.end mk) apart (or_left (nat_le mk.end x.start) (nat_le mk.before x.start && nat_le x.end mk.start)
-        (le-leb mk.end x.start over)))
-  ]
+  runs = let aside = apart in grind (arith, nat_tests)
 
   begins : mk.start < x.end
-  begins = elim (cases_lt mk.start x.end) [
-    | inl less ↦ less
-    | inr behind ↦
-        absurd (both_ways (is_aside x.start x.end mk) apart
-        (or_right (nat_le mk.end x.start) (nat_le mk.before x.start && nat_le x.end mk.start) (and_from (nat_le mk.before x.start) (nat_le x.end mk.start)
-        (le-leb mk.before x.start told.before) (le-leb x.end mk.start behind))))
-  ]
+  begins = let aside = apart in let before = told.before in grind (arith, nat_tests)
 
   -- it comes before x
   is_first : (mk.start < x.start) ⊎ ((mk.start ≡ x.start) × (st.node < x.node))
@@ -99,9 +84,7 @@ module _ (p : Numbers) (x : Sending) (st : Station) (mk : Mark) (origin : Origin
         rank_is = rank;
         meets = met;
         packet_is = packet;
-        key_is =
-            ap (λ (f : ℕ). let k : Key = record { frame = f; slot = get_or y.packet 1 0; counter = get_or y.packet 2 0 } in k) frame
-            ∙ ap (λ (bytes : List ℕ). let k : Key = record { frame = (key_of p x).frame; slot = get_or bytes 1 0; counter = get_or bytes 2 0 } in k) packet;
+        key_is = one_key p x y frame packet;
         late = false_from_ne_true (comes_in_time p x y) (λ timely.
             let by = (before_true p x y timely).0 in
             elim is_first [
@@ -109,16 +92,6 @@ module _ (p : Numbers) (x : Sending) (st : Station) (mk : Mark) (origin : Origin
               | inr both ↦ omega (arith, both.1, by.node (sym (start ∙ both.0)), own.0)
             ]);
       }
-
-  -- a transmission of this station that overlaps x is the newest
-  is_newest : (y : Sending) → Contains (on_air st) y → Meets x y → IsNewest (on_air st) y
-  is_newest y (k, below, at) met = elim (cases_lt (k + 1) (length (on_air st))) [
-    | inl earlier ↦
-        let over = is.earlier k y earlier in
-        let late = met.before in
-        absurd (omega (arith, over, ap (λ (z : Sending). z.end) at, late, told.before))
-    | inr last ↦ record { place = k; last = omega arith; there = at }
-  ]
 
   record Known (r : Rival) : Type 0 where
     same_is : r.same ≡ true
@@ -128,15 +101,13 @@ module _ (p : Numbers) (x : Sending) (st : Station) (mk : Mark) (origin : Origin
 
   known : (r : Rival) → Contains (rivals_in p x st) r → Known r
   known r there =
-      let y = filter_from (rival_to p x st) (on_air st) r there in
-      let test = of_test p x ((y.0.rank == x.rank) && overlaps x y.0) (rival p x st y.0) r y.2 in
-      let met = meets_true x y.0 (and_parts (y.0.rank == x.rank) (overlaps x y.0) test.0).1 in
-      let s = same_as y.0 (is_newest y.0 y.1 met) in
+      let c = newest_rival p x st mk is told.before r there in
+      let s = same_as c.sending c.newest in
       record {
-        same_is = ap (λ (w : Rival). w.same) (sym test.1) ∙ same_from y.0 x s.packet_is;
-        late = ap (λ (w : Rival). w.in_time) (sym test.1) ∙ s.late;
-        key_is = ap (λ (w : Rival). w.key) (sym test.1) ∙ s.key_is;
-        node_is = ap (λ (w : Rival). w.node) (sym test.1);
+        same_is = ap (λ (w : Rival). w.same) (sym c.is) ∙ same_from c.sending x s.packet_is;
+        late = ap (λ (w : Rival). w.in_time) (sym c.is) ∙ s.late;
+        key_is = ap (λ (w : Rival). w.key) (sym c.is) ∙ s.key_is;
+        node_is = ap (λ (w : Rival). w.node) (sym c.is);
       }
 
   newest_one : (y : Sending) × IsNewest (on_air st) y
@@ -154,13 +125,6 @@ module _ (p : Numbers) (x : Sending) (st : Station) (mk : Mark) (origin : Origin
       in_filter (rival_to p x st) (on_air st) y (rival p x st y) (newest_one.1.place, omega (arith, last), newest_one.1.there)
       (cond-true ((y.rank == x.rank) && overlaps x y) (Some (rival p x st y)) None (and_from (y.rank == x.rank) (overlaps x y)
       (eq-eqb y.rank x.rank s.rank_is) (meets_from x y s.meets)))
-
-  none_differs : (lines : Lines) (v : ℕ) → false ≡ list_any (differs lines v) (rivals_in p x st)
-  none_differs lines v =
-      sym (false_from_ne_true (list_any (differs lines v) (rivals_in p x st)) (λ some.
-      let r = some_of (differs lines v) (rivals_in p x st) some in
-      let parts = and_parts (reaches lines v r.0) (not r.0.same) r.2 in
-      both_ways r.0.same (not-true r.0.same parts.1) (known r.0 r.1).same_is))
 
   at_key : (lines : Lines) (v : ℕ) (r : Rival) → Known r → reaches lines v r ≡ passes_at lines (key_of p x) st.node v
   at_key lines v r k = ap (λ (q : Key). passes_at lines q r.node v) k.key_is ∙ ap (λ (n : ℕ). passes_at lines (key_of p x) n v) k.node_is
@@ -182,7 +146,8 @@ module _ (p : Numbers) (x : Sending) (st : Station) (mk : Mark) (origin : Origin
   pub early_comes : (lines : Lines) (nodes : List ℕ) (reach : ℕ) → IsMask (λ v. passes_at lines (key_of p x) st.node v) nodes reach
       → IsCrowd lines nodes (rivals_in p x st) (record { mixed = 0; spoiled = reach })
   early_comes lines nodes reach reach_is = record {
-    mixed = same_tests nodes (λ v. false) (λ v. list_any (differs lines v) (rivals_in p x st)) 0 (none_differs lines) (empty_mask nodes);
+    mixed = same_tests nodes (λ v. false) (λ v. list_any (differs lines v) (rivals_in p x st)) 0
+        (λ v. sym (all_same lines v (rivals_in p x st) (λ r there. (known r there).same_is))) (empty_mask nodes);
     spoiled = same_tests nodes (λ v. passes_at lines (key_of p x) st.node v) (λ v. list_any (spoils lines v) (rivals_in p x st)) reach
         (reaching lines) reach_is;
   }

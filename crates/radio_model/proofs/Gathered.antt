@@ -1,6 +1,7 @@
 -- What stations bring to nodes, gathered bit by bit: of one station more, and of all but those from which nothing comes.
 use Rattle.std.proofs.Common.{◌≡◌, ◌≢◌, ℕ, ◌<◌, ◌≤◌, ◌-◌, ◌⊎◌, inl, inr, max, min, [], List, length, get_or, Bool, true, false, not, ◌&&◌, ◌+◌}
 use Rattle.std.proofs.Common.{nat_lt, if◌then◌else◌, bit_and, bit_or, All, refl, sym, ◌∙◌, ap, subst, arith}
+use Rattle.std.proofs.lemmas.Bool.Decides.{nat_tests}
 use Rattle.std.proofs.lemmas.Bool.{cases_eq, lt-ltb, both_ways, false_from_ne_true}
 use Rattle.std.proofs.lemmas.Nat.Bits.{bit_at_or, bit_at_and, bit_at-lt}
 use Rattle.std.specs.Int.{bit_at}
@@ -26,15 +27,10 @@ use Rattle.radio_model.proofs.Close.{close_same, close_harmless}
 use Rattle.radio_model.proofs.RestOfPlaces.{InOrder, bit_cases}
 
 set_so : (b c : Bool) → ◌≡◌ {A = ℕ} (if b && c then 1 else 0) 1 → c ≡ true
-set_so true true is = refl
-set_so true false is = absurd (omega (arith, is))
-set_so false c is = absurd (omega (arith, is))
+set_so b c is = grind (arith, nat_tests)
 
 unset_so : (b c : Bool) → b ≡ true → ◌≡◌ {A = ℕ} (if b && c then 1 else 0) 0 → c ≡ false
-unset_so true true inside is = absurd (omega (arith, is))
-unset_so true false inside is = refl
-unset_so false true inside is = sym inside
-unset_so false false inside is = refl
+unset_so b c inside is = grind (arith, nat_tests)
 
 -- what a bit of a mask tells
 module _ (nodes : List ℕ) (test : ℕ → Bool) (mask : ℕ) (is : IsMask test nodes mask) (i : ℕ) where

@@ -1,5 +1,5 @@
 -- Who receives, of the stations at places that are looked at one after the other.
-use Rattle.std.proofs.Common.{◌≡◌, ◌≢◌, ℕ, zero, suc, ◌-◌, ◌<◌, ◌≤◌, inl, inr, min, List, [], ◌∷◌, ◌++◌, length, get_or, Bool, true, false, ◌==◌, if◌then◌else◌}
+use Rattle.std.proofs.Common.{◌≡◌, ◌≢◌, ℕ, suc, ◌-◌, ◌<◌, ◌≤◌, inl, inr, min, List, [], ◌∷◌, ◌++◌, length, get_or, Bool, true, false, ◌==◌, if◌then◌else◌}
 use Rattle.std.proofs.Common.{Option, Some, None, option_to_list, filter_map, refl, sym, ◌∙◌, ap, arith, length-append, append-nil, nat_lt, ◌&&◌}
 use Rattle.std.proofs.lemmas.Bool.{cond-false, cases_lt, le-ltb, false≢true, true≢false}
 use Rattle.std.proofs.lemmas.List.{append_assoc}
@@ -29,14 +29,10 @@ of_node nodes test mask k is one = elim (cases_lt k (length nodes)) [
 
 -- a place that is reached and not spoiled, and one that is not
 pub left_one : (r s : ℕ) → r < 2 → s < 2 → min r (1 - s) ≡ 1 → (r ≡ 1) × (s ≡ 0)
-left_one zero s r_small s_small is = absurd (omega arith)
-left_one (suc r) zero r_small s_small is = (omega arith, refl)
-left_one (suc r) (suc s) r_small s_small is = absurd (omega arith)
+left_one r s r_small s_small is = (omega arith, omega arith)
 
 pub left_none : (r s : ℕ) → r < 2 → s < 2 → min r (1 - s) ≡ 0 → r ≡ 1 → s ≡ 1
-left_none r zero r_small s_small is one = absurd (omega arith)
-left_none r (suc zero) r_small s_small is one = refl
-left_none r (suc (suc s)) r_small s_small is one = absurd (omega arith)
+left_none r s r_small s_small is one = omega arith
 
 pub left_bits : (a b left k : ℕ) → ((i : ℕ) → i < 64 → bit_at left i ≡ min (bit_at a i) (1 - bit_at b i)) → ((i : ℕ) → 64 ≤ i → bit_at left i ≡ 0)
     → bit_at left k ≡ 1 → (bit_at a k ≡ 1) × (bit_at b k ≡ 0)

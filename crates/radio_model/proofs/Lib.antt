@@ -20,6 +20,7 @@ pub mod SendingOrder
 -- for this crate alone
 pub mod RivalLists
 pub mod PlacedStations
+pub mod ChangeAtPlace
 pub mod Crowds
 pub mod Marked
 pub mod Alike

@@ -1,7 +1,8 @@
 -- Who receives: nodes that x reaches, that are ready for it, and to which its packet does not come out of time.
 use Rattle.std.proofs.Common.{◌≡◌, ℕ, ◌<◌, ◌≤◌, ◌-◌, min, inl, inr, List, [], length, get_or, Bool, true, false, not, ◌&&◌, ◌||◌, ◌==◌, filter_map, All}
-use Rattle.std.proofs.Common.{refl, sym, ◌∙◌, ap, arith}
-use Rattle.std.proofs.lemmas.Bool.{false≢true, cond-false}
+use Rattle.std.proofs.Common.{sym, ◌∙◌, ap, arith}
+use Rattle.std.proofs.lemmas.Bool.Decides.{nat_tests}
+use Rattle.std.proofs.lemmas.Bool.{cond-false}
 use Rattle.std.proofs.lemmas.Nat.Bits.{bit_at-lt}
 use Rattle.std.specs.Int.{bit_at}
 use Rattle.std.specs.List.{list_any}
@@ -21,27 +22,16 @@ use Rattle.radio_model.proofs.HeardInTurn.{of_node, left_bits, left_one, left_no
 use Rattle.radio_model.proofs.RestOfPlaces.{InOrder, bit_cases}
 
 unreached : (r s c o e : Bool) → r ≡ false → (r && not s && c && not o && e) ≡ false
-unreached false s c o e is = refl
-unreached true s c o e is = absurd (false≢true (sym is))
+unreached r s c o e is = grind (arith, nat_tests)
 
 spoiled : (r s c o e : Bool) → s ≡ true → (r && not s && c && not o && e) ≡ false
-spoiled false s c o e is = refl
-spoiled true true c o e is = refl
-spoiled true false c o e is = absurd (false≢true is)
+spoiled r s c o e is = grind (arith, nat_tests)
 
 unready : (r s c o e : Bool) → (c && not o) ≡ false → (r && not s && c && not o && e) ≡ false
-unready false s c o e is = refl
-unready true true c o e is = refl
-unready true false false o e is = refl
-unready true false true true e is = refl
-unready true false true false e is = absurd (false≢true (sym is))
+unready r s c o e is = grind (arith, nat_tests)
 
 taken : (r s c o e : Bool) → r ≡ true → s ≡ false → (c && not o) ≡ true → e ≡ (r && not s && c && not o && e)
-taken false s c o e reached clean is = absurd (false≢true reached)
-taken true true c o e reached clean is = absurd (false≢true (sym clean))
-taken true false false o e reached clean is = absurd (false≢true is)
-taken true false true true e reached clean is = absurd (false≢true is)
-taken true false true false e reached clean is = refl
+taken r s c o e reached clean is = grind (arith, nat_tests)
 
 bit_says : (n : ℕ) (b : Bool) → n < 2 → (n ≡ 0 → b ≡ false) → (n ≡ 1 → b ≡ true) → (n == 1) ≡ b
 bit_says n b small none one = elim (bit_cases n small) [

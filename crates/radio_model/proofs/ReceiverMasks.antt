@@ -1,6 +1,7 @@
 -- Masks of the nodes that receive a transmission.
 use Rattle.std.proofs.Common.{◌≡◌, ℕ, ◌<◌, ◌↔◌, List, Bool, take, drop, bit_or, ◌+◌, subst, Contains, AllPairs, Ok, Err}
 use Rattle.std.proofs.Common.{inl, inr, true, false, not, ◌&&◌, ◌||◌, ◌==◌, ap, length, get_or, nat_lt, refl, sym, ◌∙◌, arith}
+use Rattle.std.proofs.lemmas.Bool.Decides.{nat_tests}
 use Rattle.std.proofs.lemmas.Bool.{lt-ltb, false≢true, eqb-true, eq-eqb, cases_order, cases_lt}
 use Rattle.std.proofs.lemmas.List.Sorted.{searched}
 use Rattle.std.specs.List.Sorted.{IsBinarySearchResult}
@@ -21,31 +22,15 @@ set_if : (b : Bool) (n : ℕ) → n ≡ one_if b → (n ≡ 1) ↔ (b ≡ true)
 set_if true n is = (λ one. refl, λ so. is)
 set_if false n is = (λ one. absurd (omega (arith, is, one)), λ so. absurd (false≢true so))
 
-with_true : (b : Bool) → b ≡ (b && true)
-with_true true = refl
-with_true false = refl
-
-with_false : (b : Bool) → false ≡ (b && false)
-with_false true = refl
-with_false false = refl
-
 -- what the first k settle stays
 any_more : (test : Sending → Bool) (near : List Sending) (k : ℕ) → list_any test near ≡ (list_any test (take k near) || list_any test (drop k near))
 any_more test near k = ap (list_any test) (sym (take-append-drop k near)) ∙ list_any-append test (take k near) (drop k near)
 
 none_left : (n a b c l m : Bool) → one_if (n && (a && not b && not l)) ≡ 0 → one_if (n && (a && not (b || c) && not (l || m))) ≡ 0
-none_left false a b c l m so = refl
-none_left true false b c l m so = refl
-none_left true true true c l m so = refl
-none_left true true false true l m so = refl
-none_left true true false false true m so = refl
-none_left true true false false false m so = absurd (omega (arith, so))
+none_left n a b c l m so = grind (arith, nat_tests)
 
 pub unless_lost : (free mixed chosen : Bool) → (free && not (mixed && not chosen)) ≡ (free && (not mixed || chosen))
-unless_lost free true true = refl
-unless_lost free true false = refl
-unless_lost free false true = refl
-unless_lost free false false = refl
+unless_lost free mixed chosen = grind (arith, nat_tests)
 
 module _ (nodes : List ℕ) where
   -- the bit of a node says whether the test holds of it
@@ -86,13 +71,6 @@ module _ (nodes : List ℕ) where
   pub shut : (b : Bool) (test : ℕ → Bool) → b ≡ false → IsMask (λ v. b && test v) nodes 0
   shut b test not_so = same_tests nodes (λ v. false) (λ v. b && test v) 0 (λ v. rw not_so refl) (empty_mask nodes)
 
-  -- the same with the test after that of the nodes
-  pub opened_after : (b : Bool) (test : ℕ → Bool) (mask : ℕ) → b ≡ true → IsMask test nodes mask → IsMask (λ v. test v && b) nodes mask
-  opened_after b test mask so is = same_tests nodes test (λ v. test v && b) mask (λ v. rw so (with_true (test v))) is
-
-  pub shut_after : (b : Bool) (test : ℕ → Bool) → b ≡ false → IsMask (λ v. test v && b) nodes 0
-  shut_after b test not_so = same_tests nodes (λ v. false) (λ v. test v && b) 0 (λ v. rw not_so (with_false (test v))) (empty_mask nodes)
-
   -- where the first k leave no node
   pub left_by_none : (kept : ℕ → Bool) (busy late : ℕ → Sending → Bool) (near : List Sending) (k mask : ℕ) → mask ≡ 0
       → IsMask (λ v. kept v && not (list_any (busy v) (take k near)) && not (list_any (late v) (take k near))) nodes mask
@@ -110,9 +88,7 @@ module _ (nodes : List ℕ) where
       (sym (is i) ∙ ap (λ (n : ℕ). bit_at n i) none ∙ bit_at-zero i))
     where
       unset : (a b c : Bool) → one_if (a && b) ≡ 0 → one_if (a && (b && c)) ≡ 0
-      unset false b c so = refl
-      unset true false c so = refl
-      unset true true c so = absurd (omega (arith, so))
+      unset a b c so = grind (arith, nat_tests)
 
 -- what a search for a node says of a mask
 module _ (nodes : List ℕ) (ascending : AllPairs (λ a b. a < b) nodes) (v mask i : ℕ) where

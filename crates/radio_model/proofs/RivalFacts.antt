@@ -1,7 +1,8 @@
 -- What the medium works out of a transmission that overlaps another one is what the rule of reception asks.
-use Rattle.std.proofs.Common.{◌≡◌, ◌+◌, ◌≤◌, inl, inr, List, Bool, true, false, not, ◌&&◌, ◌||◌, ◌==◌, nat_lt}
-use Rattle.std.proofs.Common.{nat_le, if◌then◌else◌, Some, None, refl, arith, eq-eqb, Contains}
-use Rattle.std.proofs.lemmas.Bool.{and_parts, and_from, or_cases, or_left, or_right, eqb-true, ltb-true, lt-ltb, leb-true, le-leb, cases_lt, cond-true}
+use Rattle.std.proofs.Common.{◌≡◌, ◌+◌, ◌≤◌, List, Bool, true, false, ◌&&◌, ◌==◌, nat_lt}
+use Rattle.std.proofs.Common.{if◌then◌else◌, Some, None, refl, arith, eq-eqb, Contains}
+use Rattle.std.proofs.lemmas.Bool.Decides.{nat_tests}
+use Rattle.std.proofs.lemmas.Bool.{and_parts, and_from, eqb-true, ltb-true, cond-true}
 use Rattle.std.proofs.lemmas.Slice.Eq.{bytes_eq-Decides}
 use Rattle.std.specs.Str.{bytes_eq}
 use Rattle.lwb_base.specs.Profile.{Numbers}
@@ -18,7 +19,7 @@ meets_true x y is = let both = and_parts (nat_lt x.start y.end) (nat_lt y.start 
     record { before = ltb-true x.start y.end both.0; after = ltb-true y.start x.end both.1 }
 
 pub meets_from : (x y : Sending) → Meets x y → overlaps x y ≡ true
-meets_from x y m = and_from (nat_lt x.start y.end) (nat_lt y.start x.end) (lt-ltb x.start y.end m.before) (lt-ltb y.start x.end m.after)
+meets_from x y m = let before = m.before in let after = m.after in grind (arith, nat_tests)
 
 pub same_true : (y x : Sending) → bytes_eq y.packet x.packet ≡ true → y.packet ≡ x.packet
 same_true y x = (bytes_eq-Decides y.packet x.packet).0
@@ -27,28 +28,10 @@ pub same_from : (y x : Sending) → y.packet ≡ x.packet → bytes_eq y.packet 
 same_from y x = (bytes_eq-Decides y.packet x.packet).1
 
 pub before_true : (p : Numbers) (x y : Sending) → comes_in_time p x y ≡ true → Before x y × (y.start ≤ x.start + p.delta)
-before_true p x y is =
-    let both = and_parts (nat_lt x.start y.start || ((x.start == y.start) && nat_le x.node y.node)) (nat_le y.start (x.start + p.delta)) is in (
-      elim (or_cases (nat_lt x.start y.start) ((x.start == y.start) && nat_le x.node y.node) both.0) [
-        | inl less ↦ let l = ltb-true x.start y.start less in record { start = omega arith; node = λ same. absurd (omega arith) }
-        | inr at ↦ let two = and_parts (x.start == y.start) (nat_le x.node y.node) at in let e = eqb-true x.start y.start two.0 in
-            record { start = omega arith; node = λ same. leb-true x.node y.node two.1 }
-      ],
-      leb-true y.start (x.start + p.delta) both.1,
-    )
+before_true p x y is = (record { start = grind (arith, nat_tests); node = λ same. grind (arith, nat_tests) }, grind (arith, nat_tests))
 
 pub before_from : (p : Numbers) (x y : Sending) → Before x y → y.start ≤ x.start + p.delta → comes_in_time p x y ≡ true
-before_from p x y b close =
-    and_from (nat_lt x.start y.start || ((x.start == y.start) && nat_le x.node y.node)) (nat_le y.start (x.start + p.delta))
-    (elim (cases_lt x.start y.start) [
-      | inl less ↦ or_left (nat_lt x.start y.start) ((x.start == y.start) && nat_le x.node y.node) (lt-ltb x.start y.start less)
-      | inr not ↦
-          let by = b.start in
-          let at : x.start ≡ y.start = omega arith in
-          or_right (nat_lt x.start y.start) ((x.start == y.start) && nat_le x.node y.node)
-          (and_from (x.start == y.start) (nat_le x.node y.node) (eq-eqb x.start y.start at) (le-leb x.node y.node (b.node at)))
-    ])
-    (le-leb y.start (x.start + p.delta) close)
+before_from p x y b close = let start = b.start in let node = b.node in grind (arith, nat_tests)
 
 module _ (p : Numbers) (x : Sending) where
   abbrev pub rival : Station → Sending → Rival

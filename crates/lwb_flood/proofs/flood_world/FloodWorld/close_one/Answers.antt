@@ -3,17 +3,13 @@ use Rattle.std.proofs.lemmas.List.{get_or_default}
 use Rattle.lwb_flood.specs.declared.member.Member.{Member}
 use Rattle.lwb_flood.specs.FloodWorlds.{IsShape, gone, world_closed_at}
 use Rattle.lwb_flood.proofs.EndOfSending.{on_ok}
-use Rattle.lwb_flood.proofs.FloodSteps.{node_at, at_old}
+use Rattle.lwb_flood.proofs.FloodSteps.{node_at, at_old, seen}
 use Rattle.lwb_flood.proofs.FloodClosing.{closed_at}
 use Rattle.lwb_flood.proofs.flood_world.FloodWorld.close_one.Goals as goal
 
 pub leave-requires-clause-node : goal.leave-requires-clause-node
 leave-requires-clause-node c =
-    node_at (record {
-      medium = c.self.inside.medium;
-      members = c.self.inside.members.items;
-      air = c.self.inside.air;
-    }) c.args.self.now c.self.invariant c.self.view_is c.args.place c.index.result.now c.requires.place c.index.ensures
+    node_at (seen c.self.inside) c.args.self.now c.self.invariant c.self.view_is c.args.place c.index.result.now c.requires.place c.index.ensures
 
 pub returns : goal.returns
 returns c =
@@ -22,17 +18,9 @@ returns c =
     let m = c.index.result.now in
     let n = c.index-2.result.now in
     let at_m : m ≡ get_or w.members c.args.place m =
-    at_old (record {
-      medium = c.self.inside.medium;
-      members = c.self.inside.members.items;
-      air = c.self.inside.air;
-    }) w c.self.invariant c.self.view_is c.args.place m c.requires.place c.index.ensures in
+    at_old (seen c.self.inside) w c.self.invariant c.self.view_is c.args.place m c.requires.place c.index.ensures in
     let at_n : n ≡ get_or w.members c.args.place n =
-    at_old (record {
-      medium = c.self.inside.medium;
-      members = c.self.inside.members.items;
-      air = c.self.inside.air;
-    }) w c.self.invariant c.self.view_is c.args.place n c.requires.place c.index-2.ensures in
+    at_old (seen c.self.inside) w c.self.invariant c.self.view_is c.args.place n c.requires.place c.index-2.ensures in
     let shape : IsShape w = subst IsShape c.self.view_is c.self.invariant in
     let of_n : m.node ≡ n.node = ap (λ (k : Member). k.node) (at_m ∙ get_or_default w.members c.args.place m n c.requires.place ∙ sym at_n) in
     let of_d : n.node ≡ (get_or w.members c.args.place d).node =
