@@ -4,11 +4,12 @@ use Rattle.std.proofs.Common.{sym, ◌∙◌, ap, arith, ◌⊎◌}
 use Rattle.law_times.proofs.Words.{list_any, and_parts, cases_eq, cond-true, cond-false, cond_both, false≢true, Plan, IsScenario, ScenarioParts, Hold, State}
 use Rattle.law_times.proofs.Words.{StateOff, StateOn, is_scan, state_at, has, is_on_and, CostsFew, LossesCostFew, has_round, is_lossless, lossy_rounds}
 use Rattle.law_times.proofs.Words.{lossy_row, scanned, IsLossless, IsGroup, not-true}
-use Rattle.law_times.proofs.KeptMembers.{Members, not_due, of_members, to_members}
+use Rattle.law_times.proofs.KeptMembers.{Members, not_due, of_members, to_members, Waiting, Waits, waiting_due, waiting_joins, members_wait, waiting_quiet}
+use Rattle.law_times.proofs.KeptMembers.{waiting_members}
 use Rattle.law_times.proofs.QuietFrames.{Goes}
 use Rattle.law_times.proofs.QuietRounds.{set_to_host, by_setting}
 use Rattle.law_times.proofs.Settings.{core_tune, setting, idle}
-use Rattle.law_times.proofs.WaitingNodes.{Waiting, Waits, due, lossless, lossy, members_wait, quiet, same_waiting, waiting_members}
+use Rattle.law_times.proofs.WaitingNodes.{lossy, same_waiting}
 
 -- a frame without lines
 pub of_test : (s : ScenarioParts) (f : ℕ) → is_lossless s f ≡ true → IsLossless s f
@@ -125,7 +126,9 @@ module _ (s : ScenarioParts) (accepted : IsScenario s) (rank host f e : ℕ) (am
           later = (let range = t.waiting.range in omega (arith, range, other))
 
           one : (w : Waiting s rank (suc (n + f)) host among (4 * row n)) × (w.due ≡ t.waiting.due)
-          one = quiet s accepted rank host f e among group (n + f) (4 * row n) (omega arith) (omega (arith, within)) (omega (arith, few_before)) t.waiting later
+          one = (let next = waiting_quiet s accepted rank host f e among group (n + f) (4 * row n) (omega arith) (omega (arith, within))
+              (omega (arith, few_before)) t.waiting later in
+              (next.0, next.1))
 
           idles : has_round s rank host (n + f) ≡ false
           idles = by_setting rank (n + f) (state_at s (n + f) host) ∙ ap (set_to_host rank (n + f)) t.waiting.hosts ∙ not_due rank (n + f) t.waiting.due later
@@ -147,7 +150,8 @@ module _ (s : ScenarioParts) (accepted : IsScenario s) (rank host f e : ℕ) (am
       }
         where
           has : has_round s rank host (n + f) ≡ true
-          has = due s accepted rank host f e among group (n + f) (4 * row n) (omega arith) (omega (arith, within)) (omega (arith, few_before)) t.waiting now
+          has = waiting_due s accepted rank host f e among group (n + f) (4 * row n) (omega arith) (omega (arith, within))
+              (omega (arith, few_before)) t.waiting now
 
           none : row (suc n) ≡ 0
           none = clean_row s rank host f n has clean
@@ -158,7 +162,8 @@ module _ (s : ScenarioParts) (accepted : IsScenario s) (rank host f e : ℕ) (am
           one : Waiting s rank (suc (n + f)) host among 0
           one =
               members_wait s rank host (suc (n + f)) among
-              (lossless s accepted rank host f e among group (n + f) (4 * row n) (omega arith) (omega (arith, within)) (omega (arith, few_before)) t.waiting now
+              (waiting_joins s accepted rank host f e among group (n + f) (4 * row n) (omega arith) (omega (arith, within))
+              (omega (arith, few_before)) t.waiting now
               (of_test s (n + f) clean))
       in_round now false lost = record {
         waiting = next_one.0;
@@ -167,7 +172,8 @@ module _ (s : ScenarioParts) (accepted : IsScenario s) (rank host f e : ℕ) (am
       }
         where
           has : has_round s rank host (n + f) ≡ true
-          has = due s accepted rank host f e among group (n + f) (4 * row n) (omega arith) (omega (arith, within)) (omega (arith, few_before)) t.waiting now
+          has = waiting_due s accepted rank host f e among group (n + f) (4 * row n) (omega arith) (omega (arith, within))
+              (omega (arith, few_before)) t.waiting now
 
           longer : row (suc n) ≡ row n + 1
           longer = longer_row s rank host f n has lost

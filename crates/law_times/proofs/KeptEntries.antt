@@ -9,7 +9,7 @@ use Rattle.law_times.proofs.Words.{map_contains, not_in_none, one_of, Ask, code,
 use Rattle.law_times.proofs.Words.{closing_accepted, opening_accepted, Grants, gap_of, given, grant, granted_by, last_code, owed_to, plan_round, share_in}
 use Rattle.law_times.proofs.Words.{Answered, Served, answer, answers_to, host_plan, put_if, serve, DataOf, Message, RequestOf, ScheduleOf, closed_slot}
 use Rattle.law_times.proofs.Words.{hosts_now, opened_slot, owner_heard, slot_heard, Streams, due_of, with_agreed, TableEntry, Table, after_request}
-use Rattle.law_times.proofs.Words.{entry_after_data, has_code, interval_of, is_full, missed, new_entry, with_entry, without, is_closing}
+use Rattle.law_times.proofs.Words.{entry_after_data, has_code, interval_of, is_full, missed, new_entry, with_entry, without, is_closing, Schedule}
 use Rattle.law_times.proofs.QueuedPackets.{is_slot_of}
 
 -- an entry of another code is put beside it
@@ -139,6 +139,11 @@ module _ (c i a : ℕ) where
           same_is : (n : ℕ) → (n == n) ≡ true
           same_is n = eq-eqb n n refl
 
+  accepted_keeps : (q : Setup) (f : ℕ) (y : Schedule) (t : Bool) (d : Core) → HasIn d
+      → HasIn (if t then opening_accepted q.id f y d else closing_accepted q.id f y d)
+  accepted_keeps q f y true d is = is
+  accepted_keeps q f y false d is = is
+
   -- one slot at the host, before the closing slot
   pub slot_keeps : (q : Setup) (f : ℕ) (part : Part) (d : Core) (heard : Option Message) (b : Bool) → is_closing part ≡ false
       → (is_slot_of c part ≡ true → heard ≡ None → ⊥) → HasIn d → HasIn (closed_slot q f part b (opened_slot q f part d).core heard).core
@@ -146,48 +151,28 @@ module _ (c i a : ℕ) where
   slot_keeps q f Opening d None b early own is = is
   slot_keeps q f Opening d (Some (DataOf x)) b early own is = is
   slot_keeps q f Opening d (Some (RequestOf x)) b early own is = is
-  slot_keeps q f Opening d (Some (ScheduleOf y)) b early own is = by_gap (y.gap == 0)
-    where
-      by_gap : (t : Bool) → HasIn (if t then opening_accepted q.id f y d else closing_accepted q.id f y d)
-      by_gap true = is
-      by_gap false = is
+  slot_keeps q f Opening d (Some (ScheduleOf y)) b early own is = accepted_keeps q f y (y.gap == 0) d is
   slot_keeps q f (DataSlot owner) d None b early own is =
       slot_heard_keeps f (DataSlot owner) b (opened_slot q f (DataSlot owner) d).core (λ mine none. own mine refl) is
   slot_keeps q f (DataSlot owner) d (Some (DataOf x)) b early own is =
       slot_heard_keeps f (DataSlot owner) true (opened_slot q f (DataSlot owner) d).core (λ mine none. false≢true (sym none)) is
   slot_keeps q f (DataSlot owner) d (Some (RequestOf x)) b early own is = is
-  slot_keeps q f (DataSlot owner) d (Some (ScheduleOf y)) b early own is = by_gap (y.gap == 0)
-    where
-      by_gap : (t : Bool) → HasIn (if t then opening_accepted q.id f y (opened_slot q f (DataSlot owner) d).core
-          else closing_accepted q.id f y (opened_slot q f (DataSlot owner) d).core)
-      by_gap true = is
-      by_gap false = is
+  slot_keeps q f (DataSlot owner) d (Some (ScheduleOf y)) b early own is = accepted_keeps q f y (y.gap == 0) (opened_slot q f (DataSlot owner) d).core is
   slot_keeps q f (Contention k) d None b early own is = is
   slot_keeps q f (Contention k) d (Some (DataOf x)) b early own is = is
   slot_keeps q f (Contention k) d (Some (RequestOf x)) b early own is = is
-  slot_keeps q f (Contention k) d (Some (ScheduleOf y)) b early own is = by_gap (y.gap == 0)
-    where
-      by_gap : (t : Bool) → HasIn (if t then opening_accepted q.id f y (opened_slot q f (Contention k) d).core
-          else closing_accepted q.id f y (opened_slot q f (Contention k) d).core)
-      by_gap true = is
-      by_gap false = is
+  slot_keeps q f (Contention k) d (Some (ScheduleOf y)) b early own is = accepted_keeps q f y (y.gap == 0) (opened_slot q f (Contention k) d).core is
+
+heard_kept : (f : ℕ) (part : Part) (b : Bool) (c : Core) → (slot_heard f part b c).kept ≡ c.kept
+heard_kept f Opening b c = refl
+heard_kept f (DataSlot owner) b c = refl
+heard_kept f (Contention k) b c = refl
+heard_kept f Closing b c = refl
 
 closed_kept : (q : Setup) (f : ℕ) (part : Part) (d o : Core) (heard : Option Message) (b : Bool) → o.kept ≡ d.kept → (r : Ask)
     → Contains (closed_slot q f part b o heard).core.kept r → Contains d.kept r ⊎ (heard ≡ Some (RequestOf r))
-closed_kept q f part d o None b same r there = inl (quiet part b there)
-  where
-    quiet : (part : Part) (b : Bool) → Contains (slot_heard f part b o).kept r → Contains d.kept r
-    quiet Opening b there = subst (λ (l : List Ask). Contains l r) same there
-    quiet (DataSlot owner) b there = subst (λ (l : List Ask). Contains l r) same there
-    quiet (Contention k) b there = subst (λ (l : List Ask). Contains l r) same there
-    quiet Closing b there = subst (λ (l : List Ask). Contains l r) same there
-closed_kept q f part d o (Some (DataOf x)) b same r there = inl (quiet part there)
-  where
-    quiet : (part : Part) → Contains (slot_heard f part true o).kept r → Contains d.kept r
-    quiet Opening there = subst (λ (l : List Ask). Contains l r) same there
-    quiet (DataSlot owner) there = subst (λ (l : List Ask). Contains l r) same there
-    quiet (Contention k) there = subst (λ (l : List Ask). Contains l r) same there
-    quiet Closing there = subst (λ (l : List Ask). Contains l r) same there
+closed_kept q f part d o None b same r there = inl (subst (λ (l : List Ask). Contains l r) (heard_kept f part b o ∙ same) there)
+closed_kept q f part d o (Some (DataOf x)) b same r there = inl (subst (λ (l : List Ask). Contains l r) (heard_kept f part true o ∙ same) there)
 closed_kept q f part d o (Some (RequestOf x)) b same r there = by_host (hosts_now f o) there
   where
     by_host : (t : Bool) → Contains (if t then o.kept ++ x ∷ [] else o.kept) r → Contains d.kept r ⊎ (Some (RequestOf x) ≡ Some (RequestOf r))

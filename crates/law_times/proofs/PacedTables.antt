@@ -214,7 +214,8 @@ after_asked seconds f t a slow paced =
 pub after_heard : (seconds d c : ℕ) (es : List TableEntry) → Paced seconds d es → Paced seconds d (map (entry_after_data c) es)
 after_heard seconds d c es paced = record {
   entries = heard_kept es (map (entry_after_data c) es) c paced.entries refl;
-  pace = each_map (IsOnPace seconds d) (IsOnPace seconds d) (entry_after_data c) (λ e is. record { accepted = is.accepted; slow = is.slow; granted = is.granted }) es paced.pace;
+  pace = each_map (IsOnPace seconds d) (IsOnPace seconds d) (entry_after_data c)
+      (λ e is. record { accepted = is.accepted; slow = is.slow; granted = is.granted }) es paced.pace;
 }
 
 pub after_missed : (seconds d c : ℕ) (es : List TableEntry) → Paced seconds d es → Paced seconds d (filter_map (missed c) es)

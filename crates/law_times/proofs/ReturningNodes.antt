@@ -3,10 +3,10 @@ use Rattle.std.proofs.Common.{◌≡◌, ◌≤◌, ◌+◌, ◌-◌, ℕ, zero,
 use Rattle.law_times.proofs.Words.{IsScenario, ScenarioParts, IsSoundScenario, sound, Scan, Hold, Host, has, AwaitRound, ScannersReturn, IsGroup, IsLossless}
 use Rattle.law_times.proofs.Words.{AreMembers, HasTune, IsTuned}
 use Rattle.law_times.proofs.FramesLeft.{goes_range}
-use Rattle.law_times.proofs.KeptMembers.{of_members}
+use Rattle.law_times.proofs.KeptMembers.{of_members, Waiting, Waits, waiting_joins, waiting_quiet}
 use Rattle.law_times.proofs.QuietFrames.{Goes}
 use Rattle.law_times.proofs.TuneSteps.{tune_goes, tuned_goes}
-use Rattle.law_times.proofs.WaitingNodes.{Waiting, Waits, lossless, quiet, same_waiting}
+use Rattle.law_times.proofs.WaitingNodes.{same_waiting}
 
 module _ (s : ScenarioParts) (accepted : IsScenario s) (rank host f due e : ℕ) (among : List ℕ) (group : IsGroup s host f e among)
     (await : AwaitRound s rank f due host among) where
@@ -45,7 +45,7 @@ module _ (s : ScenarioParts) (accepted : IsScenario s) (rank host f due e : ℕ)
   until (suc n) early within =
       let before = until n (omega (arith, early)) (omega (arith, within)) in
       let due_is = before.1 in
-      let one = quiet s accepted rank host f e among group (n + f) 12 (omega arith) (omega (arith, within)) (omega arith) before.0
+      let one = waiting_quiet s accepted rank host f e among group (n + f) 12 (omega arith) (omega (arith, within)) (omega arith) before.0
       (omega (arith, due_is, early)) in
       let same = same_waiting s rank host among (suc (n + f)) (suc n + f) 12 12 (omega arith) refl one.0 in
       (same.0, same.1 ∙ one.1 ∙ before.1)
@@ -56,6 +56,6 @@ scanners_return s accepted rank host f due e among group await within none =
     let n : ℕ = due - f in
     let at : n + f ≡ due = omega (arith, is) in
     let last = until s accepted rank host f due e among group await n (omega (arith, at)) (omega (arith, at, within)) in
-    let joined = lossless s accepted rank host f e among group (n + f) 12 (omega arith) (omega (arith, at, within)) (omega arith) last.0 (last.1 ∙ sym at)
+    let joined = waiting_joins s accepted rank host f e among group (n + f) 12 (omega arith) (omega (arith, at, within)) (omega arith) last.0 (last.1 ∙ sym at)
     (subst (IsLossless s) (sym at) none) in
     subst (λ (g : ℕ). AreMembers s rank g host among) (omega (arith, at)) (of_members s accepted rank host f e among group (suc (n + f)) joined)
