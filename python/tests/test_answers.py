@@ -2,6 +2,8 @@
 
 from __future__ import annotations
 
+import cProfile
+
 import pandas as pd
 import pytest
 from networks import FAILOVER, LINE
@@ -112,6 +114,14 @@ def test_an_answer_is_worked_out_once_for_a_log(monkeypatch: pytest.MonkeyPatch)
     inner(log)
     # Its openings and closings, each by frame and rank.
     assert once == calls.count(("frame", "rank")) - once == 2
+
+
+@pytest.mark.no_cover
+def test_a_summary_of_a_small_run_takes_few_calls() -> None:
+    """Of functions, whose number no load of the machine changes: it was 640,000, most of them for joins of tables with a few rows."""
+    profile = cProfile.Profile()
+    profile.runcall(planning.summary, results.log(FAILOVER))
+    assert sum(entry.callcount for entry in profile.getstats()) < 400_000
 
 
 def _counting(call, calls: list[object]):  # type: ignore[no-untyped-def]
