@@ -2,6 +2,8 @@
 
 from __future__ import annotations
 
+import cProfile
+
 import pandas as pd
 import pytest
 from networks import FAILOVER, LINE
@@ -59,6 +61,17 @@ def test_a_table_without_rows_has_the_types_of_one_with_rows(
         assert {column: dtype for column, dtype in types(table).items() if with_rows.get(column, dtype) != dtype} == {}, name
 
 
+def test_an_index_has_the_type_of_one_with_rows(full: dict[str, pd.DataFrame], empty: dict[str, pd.DataFrame]) -> None:
+    for name, table in empty.items():
+        assert table.index.dtype == full[name].index.dtype or len(full[name]) == 0 and table.index.dtype == "int64", name
+
+
+@pytest.mark.parametrize("name", [name for name in planning.__all__ if "seconds" in (getattr(planning, name).__doc__ or "")])
+def test_each_answer_says_by_which_clock_its_times_are(name: str) -> None:
+    told = " ".join((getattr(planning, name).__doc__ or "").split())
+    assert "true time" in told or "by plan" in told
+
+
 def test_an_index_has_one_type_and_totals_are_calls_of_their_own() -> None:
     log = results.log(FAILOVER)
     assert planning.radio_time(log).index.tolist() == [1, 2, 3]
@@ -101,6 +114,14 @@ def test_an_answer_is_worked_out_once_for_a_log(monkeypatch: pytest.MonkeyPatch)
     inner(log)
     # Its openings and closings, each by frame and rank.
     assert once == calls.count(("frame", "rank")) - once == 2
+
+
+@pytest.mark.no_cover
+def test_a_summary_of_a_small_run_takes_few_calls() -> None:
+    """Of functions, whose number no load of the machine changes: it was 640,000, most of them for joins of tables with a few rows."""
+    profile = cProfile.Profile()
+    profile.runcall(planning.summary, results.log(FAILOVER))
+    assert sum(entry.callcount for entry in profile.getstats()) < 400_000
 
 
 def _counting(call, calls: list[object]):  # type: ignore[no-untyped-def]

@@ -153,6 +153,8 @@ def test_the_list_of_commands_has_whole_sentences(capsys):
         main(["--help"])
     listed = " ".join(capsys.readouterr().out.split())
     assert "a track for each node, for ui.perfetto.dev or chrome://tracing" in listed
+    # A `%` is none of argparse's.
+    assert "intervals of 95 % and quantiles over the seeds compare" in listed and "{" not in listed
     assert commands.first_sentence("Of 3.5 s. And more.") == "Of 3.5 s"
     assert commands.first_sentence("One alone.") == "One alone"
 

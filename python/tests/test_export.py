@@ -12,7 +12,7 @@ from pathlib import Path
 
 import pytest
 from hypothesis import given, strategies as st
-from networks import CONTENDERS, FAILOVER, LINE
+from networks import CONTENDERS, FAILOVER, LINE, log_of
 
 from conftest import EXAMPLES
 from foldcairn import export, packets, results
@@ -77,27 +77,32 @@ def test_nanoseconds(ticks: int) -> None:
     assert export.nanoseconds(ticks) == ticks * 15_625 // 1_000
 
 
-@needs_tshark
-def test_tshark_reads_channels_slots_and_true_times_without_the_dissector(crowded: results.Log, tmp_path: Path) -> None:
-    path = tmp_path / "run.pcap"
+TIMES = ("frame.time_epoch", "wpan-tap.ch_num", "wpan-tap.sof_ts", "wpan-tap.eof_ts", "wpan-tap.timeslot_length")
+KINDS = ("frame.protocols", "_ws.malformed", "_ws.expert", "_ws.col.Info", "data.data")
+
+
+@pytest.fixture(scope="module")
+def plain(crowded: results.Log, tmp_path_factory: pytest.TempPathFactory) -> list[list[str]]:
+    """What tshark reads of a whole run without the dissector, once: it takes half a second to begin."""
+    path = tmp_path_factory.mktemp("plain") / "run.pcap"
     assert export.pcap(crowded, path) == len(crowded.transmissions)
-    fields = ("frame.time_epoch", "wpan-tap.ch_num", "wpan-tap.sof_ts", "wpan-tap.eof_ts", "wpan-tap.timeslot_length")
-    rows = tshark(path, *fields)
-    assert len(rows) == len(crowded.transmissions)
-    for row, sent in zip(rows, crowded.transmissions.itertuples()):
+    return tshark(path, *TIMES, *KINDS)
+
+
+@needs_tshark
+def test_tshark_reads_channels_slots_and_true_times_without_the_dissector(crowded: results.Log, plain: list[list[str]]) -> None:
+    assert len(plain) == len(crowded.transmissions)
+    for row, sent in zip(plain, crowded.transmissions.itertuples()):
         start, end = sent.start_ticks * 125 // 8, sent.end_ticks * 125 // 8
         assert row[0] == f"{start // 10**9}.{start % 10**9:09}"
-        assert row[1:] == ["11", str(start), str(end), "56000"]
+        assert row[1:5] == ["11", str(start), str(end), "56000"]
 
 
 @needs_tshark
-def test_nothing_is_malformed_without_the_dissector(crowded: results.Log, tmp_path: Path) -> None:
+def test_nothing_is_malformed_without_the_dissector(crowded: results.Log, plain: list[list[str]]) -> None:
     """Packets of the bus are no frames of IEEE 802.15.4, and were taken for those of other protocols."""
-    path = tmp_path / "run.pcap"
-    export.pcap(crowded, path)
-    rows = tshark(path, "frame.protocols", "_ws.malformed", "_ws.expert", "_ws.col.Info", "data.data")
-    assert {tuple(row[:4]) for row in rows} == {("wpan-tap:data", "", "", "Multipurpose")}
-    assert rows[0][4] == (b"FOLD" + data_of(crowded, 0)).hex()
+    assert {tuple(row[5:9]) for row in plain} == {("wpan-tap:data", "", "", "Multipurpose")}
+    assert plain[0][9] == (b"FOLD" + data_of(crowded, 0)).hex()
 
 
 def data_of(log: results.Log, place: int) -> bytes:
@@ -108,16 +113,21 @@ def data_of(log: results.Log, place: int) -> bytes:
 
 
 @needs_tshark
-@pytest.mark.parametrize("name", ["LINE", "CONTENDERS", "FAILOVER", "crowded"])
-def test_tshark_reads_all_fields_with_the_dissector(name: str, crowded: results.Log, tmp_path: Path) -> None:
-    log = crowded if name == "crowded" else results.log({"LINE": LINE, "CONTENDERS": CONTENDERS, "FAILOVER": FAILOVER}[name])
-    path = tmp_path / "run.pcap"
-    export.pcap(log, path)
+def test_tshark_reads_all_fields_with_the_dissector(crowded: results.Log, tmp_path: Path) -> None:
+    """Of several runs, one after the other in one capture."""
+    logs = [*map(log_of, (LINE, CONTENDERS, FAILOVER)), crowded]
+    captures = []
+    for log in logs:
+        export.pcap(log, tmp_path / "run.pcap")
+        captures.append((tmp_path / "run.pcap").read_bytes())
+    path = tmp_path / "all.pcap"
+    path.write_bytes(captures[0] + b"".join(one[24:] for one in captures[1:]))
     common = ("frame.time_epoch", "node", "rank", "ticks", "kind", "slot", "step", "channel")
     of_kind = ("origin", "boot", "stream", "number", "payload", "interval", "gap", "host_boot", "contention_slots", "acknowledged", "owner")
     rows = tshark(path, SCRIPT, *(one if "." in one else f"foldcairn.{one}" for one in (*common, *of_kind)))
-    assert len(rows) == len(log.transmissions)
-    for row, sent in zip(rows, log.transmissions.itertuples()):
+    sent_in_all = [sent for log in logs for sent in log.transmissions.itertuples()]
+    assert len(rows) == len(sent_in_all)
+    for row, sent in zip(rows, sent_in_all):
         start = sent.start_ticks * 125 // 8
         time = f"{start // 10**9}.{start % 10**9:09}"
         ours = [sent.node, sent.rank, sent.start_ticks, sent.kind, sent.slot, sent.step, 11 + sent.rank]

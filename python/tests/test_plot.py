@@ -364,7 +364,7 @@ def test_no_node_hides_another(tmp_path: Path) -> None:
 
 
 def test_the_same_picture_gives_the_same_bytes(failover: results.Log, tmp_path: Path) -> None:
-    for ending, part in (("svg", {}), ("png", {"frame": 9})):
+    for ending, part in (("svg", {"end_seconds": 48.0}), ("png", {"frame": 9})):
         files = [plot.save(plot.timeline(failover, **part), tmp_path / f"{name}.{ending}").read_bytes() for name in ("one", "two")]
         assert files[0] == files[1]
     text = (tmp_path / "one.svg").read_text()

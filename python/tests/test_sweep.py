@@ -14,7 +14,7 @@ import pandas
 import pytest
 
 from conftest import EXAMPLES
-from foldcairn import kept, losses, program, sweep
+from foldcairn import counts, kept, losses, planning, program, sweep
 from foldcairn.scenario import On, Scenario, grid, line
 
 LINE = EXAMPLES / "packets-along-a-line.scenario"
@@ -183,6 +183,39 @@ def test_ratios_and_seeds_are_part_of_the_question(tmp_path):
     keys = {sweep.kept.digest(sweep._content(one)) for one in (drawing(0.5), drawing(0.6), drawing(0.5, 2), drawing(0.5).scenario)}
     assert len(keys) == 4
     assert sweep._content(drawing(0.5)) == sweep._content(drawing(0.5))
+
+
+def of_line(drawing=None, **more) -> Scenario | losses.Drawing:
+    made = Scenario.read(LINE)
+    for name, value in more.items():
+        setattr(made, name, value)
+    return drawing(made, 1) if drawing else made
+
+
+def test_receivers_and_kinds_of_drawings_are_part_of_the_question(tmp_path):
+    """What is meant for whom, and what is measured, are in no text."""
+    found = []
+    for given in ({}, {"receivers": [1]}, {"keep_alive": {(3, 0)}}, {"drawing": losses.Outcome}, {"drawing": counts.Sampled}, {}):
+        with ThreadPoolExecutor(1) as threads:
+            build = partial(of_line, **given)
+            table = sweep.sweep(lambda: build(), [{}], planning.summary, executor=threads, results=tmp_path, progress=False)
+        found.append(("hosts" in table, "sent" in table))
+    assert len(list(tmp_path.iterdir())) == 5
+    # A log has the hosts, and counts have what became of packets.
+    assert found == [(True, False), (True, False), (True, False), (False, False), (False, True), (True, False)]
+
+
+def test_a_measure_by_all_of_what_it_holds():
+    """Of large arrays and tables `repr` has the ends alone."""
+    arrays = [numpy.arange(5_000) for _ in range(3)]
+    arrays[1][2_500] = -1
+    names = [kept.spelled(partial(deliveries_alone, array)) for array in arrays]
+    assert names[0] == names[2] != names[1]
+    names = [kept.spelled(partial(deliveries_alone, pandas.DataFrame({"x": array}))) for array in arrays]
+    assert names[0] == names[2] != names[1]
+    assert kept.spelled(partial(deliveries_alone, Path("a"))) == kept.spelled(partial(deliveries_alone, "a"))
+    with open(LINE) as what_has_no_content:
+        assert kept.spelled(partial(deliveries_alone, what_has_no_content))
 
 
 def test_plain_parameters_have_one_name():

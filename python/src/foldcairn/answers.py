@@ -66,7 +66,7 @@ def _is_hashable(key: Hashable) -> bool:
 def typed(table: pd.DataFrame) -> pd.DataFrame:
     """The table with its ids and counts as int64, also in its index, and its times and ratios as float64.
 
-    pandas gives columns without rows, and those of joins, other types.
+    pandas gives columns and indices without rows, and those of joins, other types.
     """
     types = {}
     for name, dtype in table.dtypes.items():
@@ -82,4 +82,6 @@ def typed(table: pd.DataFrame) -> pd.DataFrame:
         )
     elif table.index.name in WHOLE:
         table.index = table.index.astype("int64")
+    elif table.empty and table.index.name is None:
+        table = table.reset_index(drop=True)
     return table

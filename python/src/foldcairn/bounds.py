@@ -57,8 +57,8 @@ def bounds(network: Scenario | Report, by: str = "network") -> pd.DataFrame:
     of            the node, the nodes or the streams that it is of
     packets       of latencies: the place of the packet among those of its stream that wait, 1 of the one that is sent next; 0 of
                   other bounds. Streams of which the same holds share three rows, by the longest of their intervals
-    frames        the bound, and `seconds` in seconds
-    by_seconds    when that is over at the latest, from the start of the run, where the script says when it begins
+    frames        the bound, and `seconds` in seconds: frames by plan, each of its whole length
+    by_seconds    when that is over at the latest by plan, from the start of the run, where the script says when it begins
     holds         whether all that the bound needs holds of the scenario as written
     premise       what it needs, and where that does not hold, what is in the way
     proof         the function of the crate `law_times` that proves it, of any scenario of which the premises hold

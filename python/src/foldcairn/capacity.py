@@ -44,8 +44,8 @@ def capacity(
     a node has four streams. So many are served if in each run, one for each of the `seeds`, this holds from `start_seconds` on (half
     of the run without it), when all should have been accepted: as many packets of each further stream are delivered as the part
     `ratio` of those that it puts, but for one, and those of the network's own streams together are no fewer than without the
-    further ones, up to two hundredths. So queues that filled before may still drain. `receivers` are in the forms of
-    `foldcairn.receivers`.
+    further ones, up to two hundredths. So queues that filled before may still drain. Times are by plan, in seconds from the start of
+    the run. `receivers` are in the forms of `foldcairn.receivers`.
     Take a network without failures: what is lost for want of a host is not lost for want of room.
 
     streams, streams_left    how many streams are requested at a time at most, and how many more a host has room for, of 32
@@ -129,7 +129,7 @@ class _Search:
                 cases = [{"further": count, "seed": seed} for seed in self.seeds]
                 table = sweep.sweep(
                     self.build, cases, self.measure, executor=executor, results=results, progress=False,
-                    name=f"capacity {self.measure.args!r} {self.scenario.receivers!r}",
+                    name=f"capacity {self.measure.args!r}",
                 )  # fmt: skip
                 bar.update()
                 if (table["status"] != "ok").any():

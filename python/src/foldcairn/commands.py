@@ -29,7 +29,8 @@ class Failed(Exception):
 
 def add(commands: Commands, name: str, run: Callable[[argparse.Namespace], int], about: str) -> argparse.ArgumentParser:
     """Adds a command; in the list of commands it has the first sentence of what it is about."""
-    parser = commands.add_parser(name, help=first_sentence(about), description=about)
+    # argparse fills in what follows a `%` in a help text, and in a description only `%(prog)`.
+    parser = commands.add_parser(name, help=first_sentence(about).replace("%", "%%"), description=about)
     parser.set_defaults(run=run)
     return parser
 

@@ -136,7 +136,7 @@ def _runs(
     cases = [{"plan": name, "seed": seed} for name in plans for seed in seeds]
     told = sweep.sweep(
         functools.partial(_built, dict(plans)), cases, functools.partial(_numbers, receivers), executor=executor, results=results,
-        progress=progress, name=f"compare {receivers!r} {[network.receivers for network in plans.values()]!r}",
+        progress=progress, name=f"compare {receivers!r}",
     )  # fmt: skip
     if (told["status"] != "ok").any():
         wrong = told[told["status"] != "ok"].iloc[0]

@@ -13,7 +13,7 @@ import pandas as pd
 
 from . import arguments, fates as _fates, power
 from .answers import report_answer
-from .receivers import Receivers, meant, of_streams, stream_index
+from .receivers import Meant, Receivers, meant, of_streams, stream_index
 from .results import PACKET, Log, Report, slot_seconds
 
 FATES = (
@@ -127,7 +127,7 @@ def delivery_ratio(
     `by` is "stream" (a row for each source and stream that is requested or gets packets), "node" (a row for each receiving node),
     "pair" (a row for each source, stream and receiving node) or "all" (one row). `receivers` says for whom packets are meant, in
     the forms of `foldcairn.receivers`: "hosts" is whichever host serves. Only packets that were put from `start_seconds` on and
-    before `end_seconds` (the end of the run) count.
+    before `end_seconds` (the end of the run) count: both are true time, in seconds from the start of the run.
 
     All counts are of pairs of a packet and a receiver of it.
     put, sent          the packets that were put, and those of them that their node transmitted
@@ -165,10 +165,19 @@ def _within(log: Report, table: pd.DataFrame, start_seconds: float, end_seconds:
 
 
 def _pairs(log: Report, receivers: Receivers) -> pd.DataFrame:
-    """A row for each packet that was put and each node that it is meant for, with what became of it there."""
+    """A row for each packet that was put and each node that it is meant for, with what became of it there. What was worked out last is
+    kept: several answers ask for the same."""
+    whom = meant(log.scenario, receivers)
+    kept: tuple[object, pd.DataFrame] | None = log.__dict__.get("_pairs")
+    if kept is None or kept[0] != whom.by_stream:
+        kept = log.__dict__["_pairs"] = (whom.by_stream, _worked_out(log, whom))
+    return kept[1]
+
+
+def _worked_out(log: Report, whom: Meant) -> pd.DataFrame:
     table = packets(log).rename(columns={_times(log)[0]: "sent_seconds"})
     table = table.loc[~table["keep_alive"], [*PACKET, "put_seconds", "sent_frame", "sent_seconds", "rank"]]
-    pairs = meant(log.scenario, receivers).pairs(log, table.reset_index(drop=True))
+    pairs = whom.pairs(log, table.reset_index(drop=True))
     got = _arrivals(log)[[*PACKET, "node", "delivered_seconds"]]
     pairs = pairs.merge(got.astype({name: "int64" for name in (*PACKET, "node")}), how="left", on=[*PACKET, "node"])
     pairs["delivered"] = pairs["delivered_seconds"].notna()
@@ -200,7 +209,8 @@ def deadline(
     never     those that were not delivered by the end of the run
     share     `in_time` as a part of `due`, 0 to 1; missing where none is due
 
-    Latencies are from the start of the frame of the put (see `latencies`), so a real packet has up to a frame more time. Raises
+    Times are true time, or by plan where there is no log (see `latencies`). Latencies are from the start of the frame of the put, so a
+    real packet has up to a frame more time. Raises
     `ArgumentError` where the deadline is not above 0, and what `delivery_ratio` raises.
     """
     keys = _keys(by, *_KEYS)
@@ -219,7 +229,8 @@ def deadline(
 def latencies(log: Report, *, receivers: Receivers = None) -> pd.DataFrame:
     """A row for each delivery at a node that the packet is meant for (`receivers`): the packet, the `node`, `put_seconds` (the
     start of the frame of the put), `delivered_seconds` (when the node had received it, see `results.Log`), and `latency_seconds`,
-    the second less the first. A packet that came up within the frame of its put waited less, by up to a frame.
+    the second less the first. A packet that came up within the frame of its put waited less, by up to a frame. Times are true time, in
+    seconds from the start of the run.
 
     A report without a log has `planned_seconds` and `planned_latency_seconds` in place of the last two: `planned_seconds` is the start
     of the slot by plan, at most 56 ms before the node has the packet by a clock without drift."""
@@ -244,8 +255,8 @@ def latency(log: Report, by: str = "stream", *, receivers: Receivers = None, sta
             end_seconds: float | None = None) -> pd.DataFrame:  # fmt: skip
     """The time from put to delivery in seconds, by "stream", by receiving "node", or over "all": `deliveries` (their count),
     `min`, `median`, `p90`, `p99` and `max`. Only packets that were put from `start_seconds` on and before `end_seconds` count.
-    A stream, or a receiver, that has no delivery is a row with 0 of them, and its times are missing. Without a log they are by plan, as
-    in `latencies`.
+    A stream, or a receiver, that has no delivery is a row with 0 of them, and its times are missing. Times are true time, or by plan
+    where there is no log, as in `latencies`.
 
     It is the latency of what was delivered: `fates` says how many packets never came, `deadline` which part came in time, and
     `latencies` has each delivery. Raises what `delivery_ratio` raises.

@@ -19,7 +19,7 @@ from .answers import report_answer
 from .arguments import ArgumentError
 from .events import Leave, Off, On, Put, Stream
 from .power import script
-from .results import PACKET, Log, Report, ReturnReport
+from .results import PACKET, Log, Report, ReturnReport, plain_rows
 from .scenario import Scenario
 
 # A stream has room for so many packets that wait.
@@ -64,16 +64,14 @@ def _can_be_asked() -> bool:
 def _agree(report: Report, table: pd.DataFrame) -> bool:
     """Whether these fates are those of the report, by its deliveries, its drops, and, in a log, its transmissions."""
 
-    def counts(packets: pd.DataFrame) -> list[tuple[int, ...]]:
-        return sorted(packets[[*PACKET, "deliveries"]].itertuples(index=False, name=None))
-
-    if counts(_delivered(report)) != counts(table[table["deliveries"] > 0]) or len(report.drops) != (table["became"] == "dropped").sum():
+    told, delivered = plain_rows(table, *PACKET, "became", "deliveries"), Counter(plain_rows(report.deliveries, *PACKET))
+    dropped = sum(became == "dropped" for *_, became, _ in told)
+    if delivered != {tuple(packet): count for *packet, _, count in told if count} or len(report.drops) != dropped:
         return False
     if not isinstance(report, Log):
         return True
-    sent = [*PACKET, "sent_frame", "sent_slot"]
-    ours, theirs = (set(packets[sent].itertuples(index=False, name=None)) for packets in (_sent(report), table[table["became"] == "sent"]))
-    return ours == theirs
+    sent = set(plain_rows(table[table["became"] == "sent"], *PACKET, "sent_frame", "sent_slot"))
+    return set(plain_rows(_sent(report), *PACKET, "sent_frame", "sent_slot")) == sent
 
 
 def _delivered(report: Report) -> pd.DataFrame:

@@ -107,7 +107,7 @@ def _word(cut: Cut | None) -> str:
 
 def _question(scenario: Scenario, receivers: Receivers, cut: Cut | None, without: Sequence[int | None]) -> many.Question:
     """What is asked of each seed with a cut: the measure, where each of some nodes (or none) is neither a source nor a receiver."""
-    about = f"importance {receivers!r} {without} {scenario.receivers!r} {sorted(scenario.keep_alive)}"
+    about = f"importance {receivers!r} {without}"
     return many.Question(_without(scenario, cut), functools.partial(_ratios, receivers, without, _word(cut)), about)
 
 

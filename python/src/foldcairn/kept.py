@@ -1,8 +1,8 @@
 """Results that are kept in a folder, by a key of all that they depend on.
 
-A key is made of content: the text of a scenario and its ratios, the measure, the program and the version of this package. So
-what is kept is never the answer to another question: a file that changed, another measure or another program has other keys.
-Tested, not proved.
+A key is made of content: the text of a scenario with its ratios and receivers, the measure, the program and the version of this
+package. So what is kept is never the answer to another question: a file that changed, another measure or another program has other
+keys. Tested, not proved.
 """
 
 from __future__ import annotations
@@ -12,11 +12,15 @@ import hashlib
 import inspect
 import json
 import os
+import pickle
 from collections.abc import Callable, Mapping
 from pathlib import Path
-from typing import Any
+from typing import TYPE_CHECKING, Any
 
 from . import files, program
+
+if TYPE_CHECKING:
+    from .scenario import Scenario
 
 
 def digest(*parts: object) -> str:
@@ -26,6 +30,12 @@ def digest(*parts: object) -> str:
     """
     spelled = json.dumps(parts, sort_keys=True, default=plain)
     return hashlib.blake2b(spelled.encode(), digest_size=16).hexdigest()
+
+
+def content(scenario: Scenario) -> list[object]:
+    """All of a scenario that an answer about it depends on, for `digest`: its text with its ratios, and what the text has not: for whom
+    packets are meant, which streams are kept alive, and what reading tables left in doubt."""
+    return [scenario.network_text(warn=False), repr(scenario.receivers), sorted(scenario.keep_alive), list(scenario.remarks)]
 
 
 def plain(value: Any) -> Any:
@@ -60,7 +70,19 @@ def spelled(function: Callable[..., Any]) -> str:
 
 def _held(values: Any) -> list[str]:
     """What a function holds, each value as a text."""
-    return [spelled(value) if callable(value) else repr(value) for value in values]
+    return [spelled(value) if callable(value) else _whole(value) for value in values]
+
+
+def _whole(value: Any) -> str:
+    """All of a value: `repr` leaves out the middle of a large array or table."""
+    try:
+        return digest(value)
+    except TypeError:
+        pass
+    try:
+        return pickle.dumps(value).hex()
+    except (pickle.PicklingError, TypeError, AttributeError):
+        return repr(value)
 
 
 class Store:

@@ -157,7 +157,8 @@ def summary(run: Report | Counts | Scenario | str, *, receivers: Receivers = Non
     outage_seconds                 the longest outage at a change of hosts, or to the end of the run
     no_host_from_seconds           from when on no host serves to the end of the run
     duty_cycle, duty_cycle_in_rounds   the means over the nodes that had power
-    What there is not is not a number (NaN). Raises what `results.log` and `delivery_ratio` raise.
+    Times are true time, in seconds from the start of the run, but for those that are said to be by plan. What there is not is not a
+    number (NaN). Raises what `results.log` and `delivery_ratio` raise.
     """
     if isinstance(run, Counts):
         return _sample.summary(run, receivers)

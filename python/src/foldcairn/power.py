@@ -22,10 +22,9 @@ def script(scenario: Scenario) -> list[ScriptLine]:
 def boots(scenario: Scenario) -> pd.DataFrame:
     """When each node has power: a row for each boot with `node`, `boot` (from 1 on), `on_seconds` and `off_seconds`, in
     seconds from the start of the run; what has power to the end goes off with the run."""
-    table = pd.DataFrame(frames_with_power(scenario), columns=["node", "boot", "on_seconds", "off_seconds"])
-    for name in ("on_seconds", "off_seconds"):
-        table[name] = table[name].astype("float64") * scenario.frame_seconds
-    return table.astype({"node": "int64", "boot": "int64"}).sort_values(["node", "boot"], ignore_index=True)
+    rows = np.array(sorted(frames_with_power(scenario)), dtype="int64").reshape(-1, 4)
+    seconds = rows[:, 2:] * float(scenario.frame_seconds)
+    return pd.DataFrame({"node": rows[:, 0], "boot": rows[:, 1], "on_seconds": seconds[:, 0], "off_seconds": seconds[:, 1]})
 
 
 def frames_with_power(scenario: Scenario) -> list[list[int]]:
@@ -54,8 +53,8 @@ def powered(scenario: Scenario) -> pd.DataFrame:
     """Whether each node has power in each frame, after the script lines of that frame: a column for each node by ascending
     ids, a row for each frame."""
     nodes = sorted(scenario.nodes)
-    table = pd.DataFrame(np.zeros((scenario.frames, len(nodes)), bool), columns=nodes)
-    for row in boots(scenario).itertuples():
-        start, end = (int(seconds) // scenario.frame_seconds for seconds in (row.on_seconds, row.off_seconds))
-        table.loc[start : end - 1, row.node] = True
-    return table
+    place = {node: number for number, node in enumerate(nodes)}
+    table = np.zeros((scenario.frames, len(nodes)), bool)
+    for node, _, start, end in frames_with_power(scenario):
+        table[start:end, place[node]] = True
+    return pd.DataFrame(table, columns=nodes)

@@ -120,7 +120,7 @@ def radio_time(
     `tunings`) and their sum `on`. With `shares` the purposes are parts of `on`, 0 to 1.
 
     `by` is "node" (a row for each node, which is the index) or "all" (one row). The node's own transmissions are part of these
-    times. Over the whole run `on` is the ON of the node's `energy` line.
+    times. Over the whole run `on` is the ON of the node's `energy` line. Times are true time, in seconds from the start of the run.
     Raises `ArgumentError` where `by` is another word, or the time is no part of the run.
     """
     arguments.one_of("by", by, ("node", "all"))
@@ -147,9 +147,10 @@ def duty_cycle(log: Report, *, start_seconds: float = 0.0, end_seconds: float | 
     searching_seconds    how long it searched (see `tunings`)
     duty_cycle           `on_seconds` as a part of `powered_seconds`, 0 to 1; missing without power
     duty_cycle_in_rounds   the same without searching: what a node needs that never loses its host
-    Of a report without a log it is of the whole run alone. By `run` the radio's time is exact, and what is not planned for rounds counts
-    as searching. By `bus` or `outcome` it is at most what is given: each window as planned, and each frame in which the node
-    searches from its start to its end. Raises `ArgumentError` where the time is no part of the run, or a report has no log of it.
+    Times are true time, in seconds from the start of the run. Of a report without a log it is of the whole run alone. By `run` the
+    radio's time is exact, and what is not planned for rounds counts as searching. By `bus` or `outcome` times are by plan, and at most
+    what is given: each window as planned, and each frame in which the node searches from its start to its end. Raises `ArgumentError`
+    where the time is no part of the run, or a report has no log of it.
     """
     start, end = arguments.window(start_seconds, end_seconds, log.scenario.seconds)
     table = pd.DataFrame(index=pd.Index(sorted(log.scenario.nodes), name="node"))

@@ -20,7 +20,7 @@ from dataclasses import dataclass, field, replace
 from functools import cached_property
 from io import BytesIO
 from pathlib import Path
-from typing import BinaryIO, TypeAlias
+from typing import Any, BinaryIO, TypeAlias
 
 import numpy as np
 import pandas as pd
@@ -151,7 +151,7 @@ class Log(Report):
         """The transmissions that begin a flood (step 0), with `frame` and the other fields of their packets."""
         begun = self.transmissions[self.transmissions["step"] == 0].reset_index(drop=True)
         begun["frame"] = (begun["start_ticks"] // lines.frame_ticks(self.scenario.profile)).astype("int64")
-        return begun.join(self.packets.drop(columns=["kind", "slot", "step"]), on="packet")
+        return begun.join(self.packets.drop(columns=["kind", "slot", "step"]), on="packet").reset_index(drop=True)
 
 
 @dataclass(frozen=True)
@@ -455,3 +455,8 @@ def _place_of(source: Numbers, boot: Numbers, stream: Numbers, number: Numbers) 
 def slot_seconds(profile: int, frame: pd.Series, slot: pd.Series) -> pd.Series:
     """When a slot starts by plan, in seconds from the start of the run."""
     return frame * float(lines.frame_seconds(profile)) + ROUND_SECONDS + slot * (lines.slot_ticks(profile) / TICKS_A_SECOND)
+
+
+def plain_rows(table: pd.DataFrame, *names: str) -> list[tuple[Any, ...]]:
+    """The rows of a table with these columns, as plain values. Most tables have few rows, and pandas takes a millisecond for each join."""
+    return list(zip(*(table[name].tolist() for name in names)))

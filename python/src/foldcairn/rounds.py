@@ -7,18 +7,28 @@ schedules carry. All times are seconds of true time from the start of the run.
 
 from __future__ import annotations
 
+from bisect import bisect_right
+from operator import itemgetter
+from typing import Any, NamedTuple, TypeAlias
+
 import numpy as np
 import pandas as pd
+from numpy.typing import NDArray
 
 from . import lines, power
 from .answers import answer
 from .events import Stream
-from .results import TICKS_A_SECOND, Log
+from .results import TICKS_A_SECOND, Log, plain_rows
 
 # The guard time: an initiator transmits this long after its window opens, so the opening of a round this long after its start.
 GUARD_TICKS = 64_000
 TERM = ["rank", "host_boot"]
 STREAM = ["node", "boot", "stream"]
+# The values of `STREAM`, or of `TERM` and `STREAM`.
+Key: TypeAlias = tuple[int, ...]
+_NEVER = float("nan")
+# More than any rank, and than any boot.
+_RANKS, _BOOTS = 16, 256
 
 
 @answer
@@ -51,11 +61,29 @@ def rounds(log: Log) -> pd.DataFrame:
     return table.reset_index().sort_values(keys, ignore_index=True)
 
 
+class Term(NamedTuple):
+    """The host of a term, when its first and its last round start, and how many there are."""
+
+    host: int
+    first_seconds: float
+    last_seconds: float
+    rounds: int
+
+
+def terms(log: Log) -> dict[tuple[int, int], Term]:
+    """The terms of hosts by rank and boot, in the order of their first rounds."""
+    found: dict[tuple[int, int], Term] = {}
+    for rank, boot, host, start in sorted(plain_rows(rounds(log), *TERM, "host", "start_seconds"), key=itemgetter(3)):
+        one = found.get((rank, boot), Term(host, start, start, 0))
+        found[rank, boot] = one._replace(last_seconds=start, rounds=one.rounds + 1)
+    return found
+
+
 @answer
 def joins(log: Log) -> pd.DataFrame:
     """When each node joined each term of a host: a row for each node, boot and term, and one with no term for a boot that
     never joined. Where a closing slot loses nothing, every node within 12 hops that takes part receives it: that is proved of
-    the rules (docs/GUARANTEES.md, "Where nothing is lost").
+    the rules (docs/GUARANTEES.md, "Where nothing is lost"). Times are true time, in seconds from the start of the run.
 
     node, boot           the node and which of its boots
     on_seconds           when that boot began
@@ -67,34 +95,69 @@ def joins(log: Log) -> pd.DataFrame:
                          or "another host" (the boot had joined a term before)
     """
     hosts = log.scenario.hosts
-    opened = rounds(log)
-    own = opened.groupby(TERM, as_index=False).agg(node=("host", "first"), joined_seconds=("start_seconds", "min"))
-    # The relays of its own schedules reach a host again, and change nothing there.
-    heard = log.receptions[log.receptions["kind"] == "closing"]
-    heard = heard[heard["node"] != heard["rank"].map(hosts)]
-    heard = heard.join(log.packets["host_boot"], on="packet").rename(columns={"end_seconds": "joined_seconds"})
-    columns = ["node", *TERM, "joined_seconds"]
-    table = pd.concat([own[columns], heard[columns]], ignore_index=True).astype({name: "int64" for name in columns[:3]})
-    boots = power.boots_of(log)
-    table = boots.merge(table, how="left", on="node")
-    inside = (table["joined_seconds"] > table["on_seconds"]) & (table["joined_seconds"] <= table["off_seconds"])
-    first = table[inside].groupby(["node", "boot", *TERM], as_index=False)["joined_seconds"].min()
-    table = boots[["node", "boot", "on_seconds"]].merge(first, how="left", on=["node", "boot"])
-    table["host"] = table["rank"].map(hosts)
-    for name in ("rank", "host", "host_boot"):
-        table[name] = table[name].fillna(-1).astype("int64")
+    own = {term: (one.host, one.first_seconds) for term, one in terms(log).items()}
+    heard = _closings_received(log)
+    rows: list[tuple[int, int, float, int, int, int, float]] = []
+    for node, boot, on_seconds, off_seconds in _boots(log):
+        joined = [(seconds, *term) for term, (host, seconds) in own.items() if host == node and on_seconds < seconds <= off_seconds]
+        joined += _first_of_each(heard.get(node), on_seconds, off_seconds)
+        rows += [(node, boot, on_seconds, rank, hosts.get(rank, -1), host_boot, seconds) for seconds, rank, host_boot in sorted(joined)]
+        if not joined:
+            rows.append((node, boot, on_seconds, -1, -1, -1, float("nan")))
+    rows.sort(key=lambda row: (np.isnan(row[-1]), 0.0 if np.isnan(row[-1]) else row[-1], row[0]))
+    table = pd.DataFrame(rows, columns=["node", "boot", "on_seconds", "rank", "host", "host_boot", "joined_seconds"])
     table["waited_seconds"] = table["joined_seconds"] - table["on_seconds"]
-    table = table.sort_values(["joined_seconds", "node"], ignore_index=True)
-    later = table.groupby(["node", "boot"]).cumcount() > 0
-    start = np.select([later, table["boot"] > 1], ["another host", "power cycle"], "first start")
-    table["start"] = pd.Categorical(start, categories=["first start", "power cycle", "another host"])
-    return table[["node", "boot", "on_seconds", "rank", "host", "host_boot", "joined_seconds", "waited_seconds", "start"]]
+    table["start"] = pd.Categorical(_starts(rows), categories=["first start", "power cycle", "another host"])
+    return table
+
+
+def _boots(log: Log) -> list[tuple[int, int, float, float]]:
+    """Node, boot, and when that begins and ends, of each boot in order."""
+    rows = plain_rows(power.boots_of(log), "node", "boot", "on_seconds", "off_seconds")
+    return [(node, boot, on_seconds, off_seconds) for node, boot, on_seconds, off_seconds in rows]
+
+
+def _closings_received(log: Log) -> dict[int, tuple[NDArray[np.float64], NDArray[np.int64]]]:
+    """When each node had received closing schedules of others, and the term of each as one number."""
+    table = log.receptions
+    closing = (table["kind"] == "closing").to_numpy()
+    # The relays of its own schedules reach a host again, and change nothing there.
+    host = np.array([log.scenario.hosts.get(rank, -1) for rank in range(_RANKS)])
+    node, rank = table["node"].to_numpy()[closing], table["rank"].to_numpy()[closing]
+    packet = table["packet"].cat
+    boots = log.packets["host_boot"].to_numpy()[log.packets.index.get_indexer(packet.categories)]
+    term = rank * _BOOTS + boots[packet.codes.to_numpy()[closing]]
+    seconds = table["end_seconds"].to_numpy()[closing]
+    other = node != host[rank]
+    return {one: (seconds[ours], term[ours]) for one in np.unique(node[other]).tolist() for ours in [other & (node == one)]}
+
+
+def _first_of_each(
+    heard: tuple[NDArray[np.float64], NDArray[np.int64]] | None, on_seconds: float, off_seconds: float
+) -> list[tuple[float, int, int]]:  # fmt: skip
+    """When a boot had received the first closing schedule of each term, with the term."""
+    if heard is None:
+        return []
+    seconds, term = heard
+    inside = (seconds > on_seconds) & (seconds <= off_seconds)
+    seconds, term = seconds[inside], term[inside]
+    return [(float(seconds[term == one].min()), one // _BOOTS, one % _BOOTS) for one in np.unique(term).tolist()]
+
+
+def _starts(rows: list[tuple[int, int, float, int, int, int, float]]) -> list[str]:
+    """Of each row, by time, whether its boot is the first, a later one, or had joined a term before."""
+    seen: set[tuple[int, int]] = set()
+    found = []
+    for node, boot, *_ in rows:
+        found.append("another host" if (node, boot) in seen else "power cycle" if boot > 1 else "first start")
+        seen.add((node, boot))
+    return found
 
 
 @answer
 def streams(log: Log) -> pd.DataFrame:
     """When each stream got its slots: a row for each term of a host and each stream that was requested by a `stream` line
-    while its node had power and before the term's last round.
+    while its node had power and before the term's last round. Times are true time, in seconds from the start of the run.
 
     rank, host, host_boot    the term
     node, boot, stream       the stream of that boot of the node
@@ -102,77 +165,79 @@ def streams(log: Log) -> pd.DataFrame:
     requests                 how many requests its node transmitted in the rounds of the term (a host asks itself, without any)
     requested_seconds        when it transmitted the first of them
     accepted_seconds         when the host first acknowledged one; for a stream of the host itself, when it first planned a slot
-    first_slot_seconds       when the stream's first data slot in the term started by plan
+    first_slot_seconds       when the stream's first data slot in the term starts by the host's clock, in true time
     slots, packets           how many data slots it had in the term, and in how many of them a packet was sent
     A lone request in a slot without losses within 12 hops of the host is acknowledged in the same round unless the host's table
     is full: that is proved of the rules (docs/GUARANTEES.md, "Where nothing is lost").
     Times are missing where it never came to it. After a restart of its node a stream may still own slots that its earlier boot
     was granted; they count for the boot that has power then.
     """
-    opened = rounds(log)
-    terms = opened.groupby(TERM, as_index=False).agg(
-        host=("host", "first"), first_seconds=("start_seconds", "min"), last_seconds=("start_seconds", "max")
-    )
-    table = terms.merge(_configured(log), how="cross")
-    table = table[(table["configured_seconds"] <= table["last_seconds"]) & (table["off_seconds"] > table["first_seconds"])]
-    keys = [*TERM, *STREAM]
-    for part in (_requested(log, opened), _accepted(log), _planned_by_hosts(log), _slots(log)):
-        table = table.merge(part.astype({key: "int64" for key in keys}), how="left", on=keys)
-    own = table["host"] == table["node"]
-    table["accepted_seconds"] = table["accepted_seconds"].where(~own, table["planned_seconds"])
-    for name in ("requests", "slots", "packets"):
-        table[name] = table[name].fillna(0).astype("int64")
+    requested, accepted, planned, slots = _requested(log), _accepted(log), _planned_by_hosts(log), _slots(log)
+    rows = []
+    for term, one in sorted(terms(log).items()):
+        for stream, (configured, off) in sorted(_configured(log).items()):
+            if configured > one.last_seconds or off <= one.first_seconds:
+                continue
+            key = (*term, *stream)
+            count, first = requested.get(key, (0, _NEVER))
+            since = planned.get(key, _NEVER) if one.host == stream[0] else accepted.get(key, _NEVER)
+            rows.append((term[0], one.host, term[1], *stream, configured, count, first, since, *slots.get(key, (_NEVER, 0, 0))))
     columns = ["rank", "host", "host_boot", *STREAM, "configured_seconds", "requests", "requested_seconds", "accepted_seconds",
                "first_slot_seconds", "slots", "packets"]  # fmt: skip
-    return table[columns].sort_values(["rank", "host_boot", "accepted_seconds", "node"], ignore_index=True)
+    rows.sort(key=lambda row: (row[0], row[2], np.isnan(row[9]), 0.0 if np.isnan(row[9]) else row[9], row[3]))
+    return pd.DataFrame(rows, columns=columns)
 
 
-def _configured(log: Log) -> pd.DataFrame:
-    """The streams that a `stream` line of a node with power gives, by boot."""
-    boots = power.boots_of(log)
-    rows = [
-        (line.node, line.stream, line.frame * float(log.scenario.frame_seconds))
-        for line in power.script(log.scenario)
-        if isinstance(line, Stream)
-    ]
-    configured = pd.DataFrame(rows, columns=["node", "stream", "configured_seconds"])
-    configured = configured.astype({"node": "int64", "stream": "int64"})
-    table = boots.astype({"node": "int64", "boot": "int64"}).merge(configured, on="node")
-    table = table[(table["configured_seconds"] >= table["on_seconds"]) & (table["configured_seconds"] < table["off_seconds"])]
-    return table.groupby(STREAM, as_index=False).agg({"configured_seconds": "min", "off_seconds": "max"})
+def _configured(log: Log) -> dict[Key, tuple[float, float]]:
+    """The streams that a `stream` line of a node with power gives, by boot: since when, and when the boot ends."""
+    found: dict[Key, tuple[float, float]] = {}
+    boots = _boots(log)
+    for line in power.script(log.scenario):
+        if isinstance(line, Stream):
+            seconds = line.frame * float(log.scenario.frame_seconds)
+            for node, boot, on_seconds, off_seconds in boots:
+                if node == line.node and on_seconds <= seconds < off_seconds:
+                    found.setdefault((node, boot, line.stream), (seconds, off_seconds))
+    return found
 
 
-def _requested(log: Log, opened: pd.DataFrame) -> pd.DataFrame:
+def _requested(log: Log) -> dict[Key, tuple[int, float]]:
+    """How often each stream was requested in the rounds of each term, and when first."""
+    host_boots = {(frame, rank): boot for frame, rank, boot in plain_rows(rounds(log), "frame", "rank", "host_boot")}
+    found: dict[Key, tuple[int, float]] = {}
     asked = log.initiations[(log.initiations["kind"] == "request") & (log.initiations["interval"] > 0)]
-    asked = asked.drop(columns="host_boot").merge(opened[["frame", *TERM]], on=["frame", "rank"])
-    return asked.groupby([*TERM, *STREAM], as_index=False).agg(
-        requests=("start_seconds", "size"), requested_seconds=("start_seconds", "min")
-    )
+    for frame, rank, node, boot, stream, seconds in plain_rows(asked, "frame", "rank", *STREAM, "start_seconds"):
+        if (frame, rank) in host_boots:
+            key = (rank, host_boots[frame, rank], node, boot, stream)
+            count, first = found.get(key, (0, seconds))
+            found[key] = count + 1, min(first, seconds)
+    return found
 
 
-def _accepted(log: Log) -> pd.DataFrame:
+def _closings(log: Log) -> list[tuple[Any, ...]]:
+    """Rank, boot of the host, host, start and packet of each closing schedule that a host sent, in order."""
     closings = log.initiations[log.initiations["kind"] == "closing"]
-    rows = [
-        (closing.rank, closing.host_boot, one.node, one.boot, one.stream, closing.start_seconds)
-        for closing in closings.itertuples()
-        for one in closing.decoded.acknowledgements
-        if one.interval
-    ]
-    table = pd.DataFrame(rows, columns=[*TERM, *STREAM, "accepted_seconds"])
-    return table.groupby([*TERM, *STREAM], as_index=False)["accepted_seconds"].min()
+    return plain_rows(closings, "rank", "host_boot", "node", "start_seconds", "decoded")
 
 
-def _planned_by_hosts(log: Log) -> pd.DataFrame:
+def _accepted(log: Log) -> dict[Key, float]:
+    """When each stream was first acknowledged in each term."""
+    found: dict[Key, float] = {}
+    for rank, host_boot, _, seconds, packet in _closings(log):
+        for one in packet.acknowledgements:
+            if one.interval:
+                found.setdefault((rank, host_boot, one.node, one.boot, one.stream), seconds)
+    return found
+
+
+def _planned_by_hosts(log: Log) -> dict[Key, float]:
     """When a host first planned a slot for a stream of its own."""
-    closings = log.initiations[log.initiations["kind"] == "closing"]
-    rows = [
-        (closing.rank, closing.host_boot, closing.node, closing.host_boot, owner.stream, closing.start_seconds)
-        for closing in closings.itertuples()
-        for owner in closing.decoded.owners
-        if owner.node == closing.node
-    ]
-    table = pd.DataFrame(rows, columns=[*TERM, *STREAM, "planned_seconds"])
-    return table.groupby([*TERM, *STREAM], as_index=False)["planned_seconds"].min()
+    found: dict[Key, float] = {}
+    for rank, host_boot, node, seconds, packet in _closings(log):
+        for owner in packet.owners:
+            if owner.node == node:
+                found.setdefault((rank, host_boot, node, host_boot, owner.stream), seconds)
+    return found
 
 
 @answer
@@ -181,27 +246,31 @@ def data_slots(log: Log) -> pd.DataFrame:
     it by `node`, `boot` (the boot that had power then, or the last before) and `stream`, `slot_seconds`, when it starts by the
     host's clock, in true time, and whether a packet was `sent` in it."""
     openings = log.initiations[log.initiations["kind"] == "opening"]
+    data = log.initiations[log.initiations["kind"] == "data"]
+    sent = set(plain_rows(data, "frame", "rank", "slot"))
+    begun: dict[int, tuple[list[float], list[int]]] = {}
+    for node, boot, on_seconds, _ in _boots(log):
+        times, boots = begun.setdefault(node, ([], []))
+        times.append(on_seconds)
+        boots.append(boot)
     slot_seconds = lines.slot_ticks(log.scenario.profile) / TICKS_A_SECOND
-    rows = [
-        (opening.frame, opening.rank, opening.host_boot, slot, owner.node, owner.stream,
-         opening.start_seconds - GUARD_TICKS / TICKS_A_SECOND + slot * slot_seconds)
-        for opening in openings.itertuples()
-        for slot, owner in enumerate(opening.decoded.owners, 1)
-    ]  # fmt: skip
-    table = pd.DataFrame(rows, columns=["frame", *TERM, "slot", "node", "stream", "slot_seconds"])
-    table = table.astype({"node": "int64", "slot_seconds": "float64"}).sort_values("slot_seconds")
-    boots = power.boots_of(log).sort_values("on_seconds")
-    table = pd.merge_asof(
-        table, boots[["node", "boot", "on_seconds"]], left_on="slot_seconds", right_on="on_seconds", by="node"
-    ).drop(columns="on_seconds")
-    data = log.initiations.loc[log.initiations["kind"] == "data", ["frame", "rank", "slot"]].assign(sent=True)
-    keys = ["frame", "rank", "slot"]
-    table = table.merge(data.astype({key: "int64" for key in keys}), how="left", on=keys)
-    table["sent"] = table["sent"].notna()
-    return table.sort_values(keys, ignore_index=True)
+    rows = []
+    for frame, rank, host_boot, start, packet in plain_rows(openings, "frame", "rank", "host_boot", "start_seconds", "decoded"):
+        for slot, owner in enumerate(packet.owners, 1):
+            seconds = start - GUARD_TICKS / TICKS_A_SECOND + slot * slot_seconds
+            times, boots = begun.get(owner.node, ([], []))
+            place = bisect_right(times, seconds)
+            boot = boots[place - 1] if place else 0
+            rows.append((frame, rank, host_boot, slot, owner.node, owner.stream, seconds, boot, (frame, rank, slot) in sent))
+    rows.sort(key=lambda row: (row[0], row[1], row[3]))
+    columns = ["frame", *TERM, "slot", "node", "stream", "slot_seconds", "boot", "sent"]
+    return pd.DataFrame(rows, columns=columns).astype({"sent": "bool"})
 
 
-def _slots(log: Log) -> pd.DataFrame:
-    return data_slots(log).groupby([*TERM, *STREAM], as_index=False).agg(
-        first_slot_seconds=("slot_seconds", "min"), slots=("slot", "size"), packets=("sent", "sum")
-    )
+def _slots(log: Log) -> dict[Key, tuple[float, int, int]]:
+    """Of each stream in each term when its first data slot was, how many it had, and in how many a packet was sent."""
+    found: dict[Key, tuple[float, int, int]] = {}
+    for *key, seconds, sent in plain_rows(data_slots(log), *TERM, *STREAM, "slot_seconds", "sent"):
+        first, count, packets = found.get(tuple(key), (seconds, 0, 0))
+        found[tuple(key)] = min(first, seconds), count + 1, packets + sent
+    return found

@@ -232,7 +232,7 @@ def sample(
     progress: bool | TextIO = True,
 ) -> Sample:
     """How the answers about a network spread over seeds: each seed draws the losses anew from the reception ratios (`prr`, `ratios`), and
-    the run may be as long as for `results.outcome`. `Sample` says what it has.
+    the run may be as long as for `results.outcome`. `Sample` says what it has. Times are by plan, in seconds.
 
     receivers   for whom packets are meant, in the forms of `foldcairn.receivers`. The program counts what arrives at which node, and not
                 which host served then. So for "hosts", where there are several, and for streams with `keep_alive`, each seed is asked

@@ -26,7 +26,7 @@ _PIECE = 8
 @dataclass(frozen=True)
 class Question:
     """What is asked of each seed of a network: `measure` is called in the process of a worker, and `about` names it, with all that it
-    depends on beside the network's text and the program."""
+    depends on beside the network and the program."""
 
     scenario: Scenario
     measure: Measure
@@ -34,7 +34,7 @@ class Question:
 
     def key(self) -> str:
         """A name for the question by all that its answers depend on but the seed."""
-        return kept.digest(self.about, self.scenario.network_text(warn=False), program.versions())
+        return kept.digest(self.about, kept.content(self.scenario), program.versions())
 
 
 def checked(seeds: Any) -> list[int]:

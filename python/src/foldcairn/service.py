@@ -6,6 +6,9 @@ All times are seconds of true time from the start of the run; `rounds` says what
 
 from __future__ import annotations
 
+import itertools
+from collections import Counter
+from collections.abc import Iterator, Mapping
 from typing import Any
 
 import numpy as np
@@ -13,13 +16,13 @@ import pandas as pd
 
 from . import arguments, fates, power, radio
 from .answers import answer
-from .results import Log
-from .rounds import TERM, joins, rounds, streams
+from .results import Log, plain_rows
+from .rounds import TERM, Term, joins, rounds, streams, terms
 
 
 @answer
 def hosts(log: Log, by: str = "term") -> pd.DataFrame:
-    """Which host serves when: a row for each term, by its first round.
+    """Which host serves when: a row for each term, by its first round. Times are true time, in seconds from the start of the run.
 
     rank, host, host_boot          the term
     first_seconds, last_seconds    when its first and its last round start
@@ -38,63 +41,57 @@ def hosts(log: Log, by: str = "term") -> pd.DataFrame:
     `end_seconds` and `seconds`. Raises `ArgumentError` where `by` is another word.
     """
     arguments.one_of("by", by, ("term", "at once"))
-    table = _terms(log)
-    together = _at_once(table, log.scenario.frame_seconds)
+    opened = terms(log)
+    together = _at_once(opened, log.scenario.frame_seconds)
     if by == "at once":
         return together
-    joined, asked = _of_the_first_start(log, table, joins(log)), _of_the_first_start(log, table, streams(log))
-    table = table.join(joins(log).groupby(TERM).agg(joined=("node", "nunique"), nodes=("node", frozenset)), on=TERM)
-    table = table.join(joined.groupby(TERM).agg(last_joined=("joined_seconds", "max")), on=TERM)
-    table = table.join(streams(log).groupby(TERM).agg(streams=("node", "size"), accepted=("accepted_seconds", "count")), on=TERM)
-    table = table.join(
-        asked.groupby(TERM).agg(
-            first_streams=("node", "size"), first_accepted=("accepted_seconds", "count"), last_accepted=("accepted_seconds", "max")
-        ),
-        on=TERM,
-    )
-    for name in ("joined", "streams", "accepted"):
-        table[name] = table[name].fillna(0).astype("int64")
-    everyone = [_powered_all_through(log, row.first_seconds, row.last_seconds) <= row.nodes for row in table.itertuples()]
-    table["all_joined_seconds"] = table["last_joined"].where(everyone)
-    table["all_accepted_seconds"] = table["last_accepted"].where(table["first_accepted"] == table["first_streams"])
-    both = [
-        (together[[f"{one}rank", f"{one}host_boot"]] == [row.rank, row.host_boot]).all(axis=1) for row in table.itertuples() for one in ("", "other_")
-    ]
-    at_once = [together.loc[one | other, "seconds"].sum() for one, other in zip(both[::2], both[1::2])]
-    table["at_once_seconds"] = np.array(at_once, dtype="float64")
+    joined, asked = _by_term(log, opened, joins(log), "joined_seconds"), _by_term(log, opened, streams(log), "accepted_seconds")
+    at_once = plain_rows(together, "rank", "host_boot", "other_rank", "other_host_boot", "seconds")
+    rows = []
+    for (rank, boot), one in opened.items():
+        members, requests = joined.get((rank, boot), []), asked.get((rank, boot), [])
+        nodes = {node for node, _, _ in members}
+        everyone = _powered_all_through(log, one.first_seconds, one.last_seconds) <= nodes
+        rows.append((
+            rank, one.host, boot, one.first_seconds, one.last_seconds, one.rounds, len(nodes), _last(members) if everyone else np.nan,
+            len(requests), sum(not np.isnan(seconds) for _, _, seconds in requests), _last(requests),
+            sum((seconds for *both, seconds in at_once if [rank, boot] in (both[:2], both[2:])), 0.0),
+        ))  # fmt: skip
     columns = ["rank", "host", "host_boot", "first_seconds", "last_seconds", "rounds", "joined", "all_joined_seconds", "streams",
                "accepted", "all_accepted_seconds", "at_once_seconds"]  # fmt: skip
-    return table[columns]
+    return pd.DataFrame(rows, columns=columns)
 
 
-@answer
-def _terms(log: Log) -> pd.DataFrame:
-    """The terms of hosts with their first and last rounds, in order."""
-    table = rounds(log).groupby(TERM, as_index=False).agg(
-        host=("host", "first"), rounds=("frame", "size"),
-        first_seconds=("start_seconds", "min"), last_seconds=("start_seconds", "max"),
-    )  # fmt: skip
-    return table.sort_values("first_seconds", ignore_index=True)
+# A node, whether its boot is no power cycle within the term, and when it joined or was accepted.
+_Member = tuple[int, bool, float]
 
 
-def _of_the_first_start(log: Log, terms: pd.DataFrame, table: pd.DataFrame) -> pd.DataFrame:
-    """The rows of a table of nodes, boots and terms whose boots are no power cycle within their term."""
-    boots = power.boots_of(log)[["node", "boot", "on_seconds"]].rename(columns={"on_seconds": "power_seconds"})
-    table = table.merge(boots, on=["node", "boot"])
-    table = table.merge(terms[[*TERM, "first_seconds"]].astype({name: "int64" for name in TERM}), on=TERM)
-    return table[(table["boot"] == 1) | (table["power_seconds"] <= table["first_seconds"])]
+def _by_term(log: Log, opened: Mapping[tuple[int, int], Term], table: pd.DataFrame, name: str) -> dict[tuple[int, int], list[_Member]]:
+    """The rows of a table of nodes, boots and terms by their terms."""
+    power_seconds = {(node, boot): seconds for node, boot, seconds in plain_rows(power.boots_of(log), "node", "boot", "on_seconds")}
+    found: dict[tuple[int, int], list[_Member]] = {}
+    for rank, host_boot, node, boot, seconds in plain_rows(table, *TERM, "node", "boot", name):
+        if one := opened.get((rank, host_boot)):
+            first = boot == 1 or power_seconds[node, boot] <= one.first_seconds
+            found.setdefault((rank, host_boot), []).append((node, first, seconds))
+    return found
 
 
-def _at_once(terms: pd.DataFrame, frame_seconds: int) -> pd.DataFrame:
+def _last(members: list[_Member]) -> float:
+    """The last time of those that are no power cycles; missing where there is none, or one has none."""
+    times = [seconds for _, first, seconds in members if first]
+    return max(times) if times and not np.isnan(times).any() else np.nan
+
+
+def _at_once(opened: Mapping[tuple[int, int], Term], frame_seconds: int) -> pd.DataFrame:
     """The times in which two terms overlap. A host serves from its first round to the frame after its last one."""
     rows = []
-    listed = list(terms.itertuples())
-    for number, one in enumerate(listed):
-        for other in listed[number + 1 :]:
-            start = max(one.first_seconds, other.first_seconds)
-            end = min(one.last_seconds, other.last_seconds) + frame_seconds
-            if one.rank != other.rank and max(one.first_seconds, other.first_seconds) <= min(one.last_seconds, other.last_seconds):
-                rows.append((*one[1:4], *other[1:4], start, end, end - start))
+    for (term, one), (other_term, other) in itertools.combinations(opened.items(), 2):
+        start = max(one.first_seconds, other.first_seconds)
+        last = min(one.last_seconds, other.last_seconds)
+        if term[0] != other_term[0] and start <= last:
+            end = last + frame_seconds
+            rows.append((*term, one.host, *other_term, other.host, start, end, end - start))
     names = ["rank", "host_boot", "host", "other_rank", "other_host_boot", "other_host", "start_seconds", "end_seconds", "seconds"]
     table = pd.DataFrame(rows, columns=names)
     return table.astype({**{name: "int64" for name in names[:6]}, **{name: "float64" for name in names[6:]}})
@@ -102,7 +99,8 @@ def _at_once(terms: pd.DataFrame, frame_seconds: int) -> pd.DataFrame:
 
 @answer
 def power_cycles(log: Log) -> pd.DataFrame:
-    """How long a node took to be back after its power had been off: a row for each boot but the first of each node, by time.
+    """How long a node took to be back after its power had been off: a row for each boot but the first of each node, by time. Times
+    are true time, in seconds from the start of the run.
 
     node, boot           the node and which of its boots
     off_seconds          when its power went off before
@@ -122,8 +120,8 @@ def power_cycles(log: Log) -> pd.DataFrame:
 
 
 def _powered_all_through(log: Log, start_seconds: float, end_seconds: float) -> set[int]:
-    boots = power.boots_of(log)
-    return set(boots.loc[(boots["on_seconds"] <= start_seconds) & (boots["off_seconds"] >= end_seconds), "node"])
+    boots = plain_rows(power.boots_of(log), "node", "on_seconds", "off_seconds")
+    return {node for node, on_seconds, off_seconds in boots if on_seconds <= start_seconds and off_seconds >= end_seconds}
 
 
 @answer
@@ -138,52 +136,62 @@ def contention(log: Log, by: str = "host") -> pd.DataFrame:
     requests        requests that were sent; relays don't count
     acknowledgements   requests that closing schedules acknowledge
     success         acknowledgements as a part of the requests, 0 to 1; missing where there was no request
-    By slot there are `frame`, `rank`, `slot`, `slot_seconds` (when the first request started) and the ids of the `nodes`.
+    By slot there are `frame`, `rank`, `slot`, `slot_seconds` (when the first request started, in seconds of true time from the start of
+    the run) and the ids of the `nodes`.
 
     Raises `ArgumentError` where `by` is another word.
     """
     arguments.one_of("by", by, ("host", "node", "slot"))
-    opened = rounds(log)
-    asked = log.initiations[log.initiations["kind"] == "request"].drop(columns="host_boot")
-    asked = asked.merge(opened[["frame", *TERM]], on=["frame", "rank"], how="left").fillna({"host_boot": -1})
-    place = ["frame", "rank", "slot"]
-    asked["collided"] = asked.groupby(place)["origin"].transform("size") > 1
-    acknowledged = _acknowledged(log)
-    if by == "node":
-        table = asked.groupby(["origin", "boot"], as_index=False).agg(requests=("slot", "size"), collided=("collided", "sum"))
-        table = table.rename(columns={"origin": "node"})
-        return _with_success(table, acknowledged.groupby(["node", "boot"]).size(), ["node", "boot"])
-    used = asked.groupby([*place, "host_boot"], as_index=False).agg(
-        slot_seconds=("start_seconds", "min"), nodes=("origin", lambda ids: tuple(sorted(ids))), requests=("origin", "size")
-    )
-    used["collided"] = used["requests"] > 1
+    slots = _used_slots(log)
+    acknowledged = Counter(_acknowledged(log, by))
+    rows: list[tuple[Any, ...]] = []
     if by == "slot":
-        return used.drop(columns="host_boot").astype({"nodes": "object"})
-    table = opened.groupby(TERM, as_index=False).agg(
-        host=("host", "first"), first=("start_seconds", "min"), rounds=("frame", "size"), slots=("contention_slots", "sum")
-    )
-    counts = used.groupby(TERM).agg(used=("slot", "size"), collided=("collided", "sum"), requests=("requests", "sum"))
-    table = table.sort_values("first", ignore_index=True).drop(columns="first").join(counts, on=TERM)
-    return _with_success(table, acknowledged.groupby(TERM).size(), TERM)
+        rows = [(*place, min(starts), nodes, len(nodes), len(nodes) > 1) for place, (nodes, starts, _) in slots.items()]
+        return pd.DataFrame(rows, columns=["frame", "rank", "slot", "slot_seconds", "nodes", "requests", "collided"]).astype({"collided": "bool"})
+    if by == "node":
+        boots = Counter(boot for _, _, boots in slots.values() for boot in boots)
+        collided = Counter(boot for nodes, _, boots in slots.values() if len(nodes) > 1 for boot in boots)
+        rows = [(*boot, count, collided[boot], acknowledged[boot]) for boot, count in sorted(boots.items())]
+        return _with_success(pd.DataFrame(rows, columns=["node", "boot", "requests", "collided", "acknowledgements"]))
+    of_term = {(frame, rank): boot for frame, rank, boot in plain_rows(rounds(log), "frame", "rank", "host_boot")}
+    there = Counter[tuple[int, int]]()
+    for rank, boot, count in plain_rows(rounds(log), *TERM, "contention_slots"):
+        there[rank, boot] += count
+    for term, one in terms(log).items():
+        used = [nodes for (frame, rank, _), (nodes, _, _) in slots.items() if (rank, of_term.get((frame, rank))) == term]
+        requests, several = sum(map(len, used)), sum(len(nodes) > 1 for nodes in used)
+        rows.append((*term, one.host, one.rounds, there[term], len(used), several, requests, acknowledged[term]))
+    columns = [*TERM, "host", "rounds", "slots", "used", "collided", "requests", "acknowledgements"]
+    return _with_success(pd.DataFrame(rows, columns=columns))
 
 
-def _acknowledged(log: Log) -> pd.DataFrame:
+# The nodes that sent a request in a slot, when they started, and their boots.
+_Used = tuple[tuple[int, ...], list[float], list[tuple[int, int]]]
+
+
+def _used_slots(log: Log) -> dict[tuple[int, int, int], _Used]:
+    """The contention slots in which requests were sent, by frame, rank and slot."""
+    asked = log.initiations[log.initiations["kind"] == "request"]
+    found: dict[tuple[int, int, int], list[tuple[int, int, float]]] = {}
+    for frame, rank, slot, node, boot, seconds in plain_rows(asked, "frame", "rank", "slot", "origin", "boot", "start_seconds"):
+        found.setdefault((frame, rank, slot), []).append((node, boot, seconds))
+    return {
+        place: (tuple(sorted(node for node, _, _ in sent)), [seconds for _, _, seconds in sent], [(node, boot) for node, boot, _ in sent])
+        for place, sent in sorted(found.items())
+    }
+
+
+def _acknowledged(log: Log, by: str) -> Iterator[tuple[int, int]]:
+    """Of each acknowledgement the node and its boot, or the term."""
     closings = log.initiations[log.initiations["kind"] == "closing"]
-    rows = [
-        (closing.rank, closing.host_boot, one.node, one.boot)
-        for closing in closings.itertuples()
-        for one in closing.decoded.acknowledgements
-    ]
-    return pd.DataFrame(rows, columns=[*TERM, "node", "boot"]).astype("int64")
+    for rank, host_boot, packet in plain_rows(closings, *TERM, "decoded"):
+        for one in packet.acknowledgements:
+            yield (one.node, one.boot) if by == "node" else (rank, host_boot)
 
 
-def _with_success(table: pd.DataFrame, acknowledgements: pd.Series, keys: list[str]) -> pd.DataFrame:
-    table = table.join(acknowledgements.rename("acknowledgements"), on=keys)
-    for name in ("used", "collided", "requests", "acknowledgements"):
-        if name in table:
-            table[name] = table[name].fillna(0).astype("int64")
-    table["success"] = table["acknowledgements"] / table["requests"].where(table["requests"] > 0)
-    return table
+def _with_success(table: pd.DataFrame) -> pd.DataFrame:
+    table = table.astype({"acknowledgements": "int64", "requests": "int64"})
+    return table.assign(success=table["acknowledgements"] / table["requests"].where(table["requests"] > 0))
 
 
 HOST, OWN_POWER, NO_PACKET = "host", "own power", "no packet"
@@ -191,7 +199,7 @@ HOST, OWN_POWER, NO_PACKET = "host", "own power", "no packet"
 
 @answer
 def outages(log: Log, by: str = "host") -> pd.DataFrame:
-    """How long the network was without service.
+    """How long the network was without service. Times are true time, in seconds from the start of the run.
 
     By "host": a row for each term but the first, by its first round, and one without `to_host` if nobody serves at the end.
     from_host, to_host       the host of the term that began before it, and its own host; -1 if none takes over
@@ -277,8 +285,8 @@ def no_host_from(log: Log) -> float:
 
 def _changes(log: Log) -> pd.DataFrame:
     """A row for each term but the first, with the term before it, and one for the end if nobody serves then."""
-    table = _terms(log).rename(columns={"first_seconds": "first_round_seconds", "host": "to_host"})
-    table = table[[*TERM, "to_host", "first_round_seconds"]]
+    rows = [(*term, one.host, one.first_seconds) for term, one in terms(log).items()]
+    table = pd.DataFrame(rows, columns=[*TERM, "to_host", "first_round_seconds"])
     silent = not np.isnan(no_host_from(log))
     if silent:
         table.loc[len(table)] = [-1, -1, -1, np.nan]

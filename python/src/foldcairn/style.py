@@ -86,7 +86,8 @@ def heading(drawn: Axes, title: str, note: str | None = None, *, above: float = 
     """A title this many points above the axes, with a note in pale letters below it."""
     if note:
         drawn.annotate(note, (0, 1), (0, above), xycoords="axes fraction", textcoords="offset points", fontsize=8.5, color=PALE)
-    drawn.set_title(title, pad=above + (16.0 if note else 0.0))
+    # Without `y` matplotlib looks at all scales again, each time that it draws, for what a title might cover.
+    drawn.set_title(title, y=1.0, pad=above + (16.0 if note else 0.0))
 
 
 def key(drawn: Axes, columns: int, below: float = 0.5, more: Sequence[Artist] = ()) -> None:

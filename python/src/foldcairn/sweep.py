@@ -114,9 +114,10 @@ def sweep(
     progress   a bar on standard error or on the stream that is given, a line a minute where that is no terminal; False: none
     name       a name for the measure, by which results are kept instead of by its name and source
 
-    A result is kept by its parameters, the text of the scenario with its ratios, the measure by its name and source, the
-    program's checksum and the version of this package (`kept`). So each case is built again, and it is measured only where that
-    gives another key; what the measure calls or reads elsewhere is no part of it, so give it another `name` after a change there.
+    A result is kept by its parameters, the text of the scenario with its ratios, its receivers, the kind and seed of a drawing, the
+    measure by its name and source, the program's checksum and the version of this package (`kept`). So each case is built again, and
+    it is measured only where that gives another key; what the measure calls or reads elsewhere is no part of it, so give it another
+    `name` after a change there.
 
     `status` is `ok`, or the name of an exception, and then `message` says what it says. A case whose text is rejected, or whose
     losses don't fit a text, keeps that; one that ended otherwise, as for lack of memory, is made again by the next call. The
@@ -185,11 +186,12 @@ class _Job:
 
 
 def _content(built: Scenario | str | Drawing) -> list[object]:
-    """All that a scenario's result depends on: its text with its ratios, and the seed of its losses."""
+    """All that a result depends on: the scenario, and of a drawing also its seed and its kind, which says what is measured."""
     if isinstance(built, str):
         return [built]
-    scenario = built.scenario if isinstance(built, Drawing) else built
-    return [scenario.network_text(warn=False), built.seed if isinstance(built, Drawing) else None]
+    if isinstance(built, Drawing):
+        return [*kept.content(built.scenario), type(built).__qualname__, built.seed]
+    return kept.content(built)
 
 
 def _names(cases: Sequence[Case]) -> list[str]:

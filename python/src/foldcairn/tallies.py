@@ -75,7 +75,7 @@ def question(scenario: Scenario, receivers: Receivers, deadline: float | None) -
     """What is asked of each seed. Raises `ArgumentError` where nothing is put in the scenario."""
     if not any(isinstance(event, Put) for event in scenario.script):
         raise arguments.ArgumentError("nothing is put in this network, so nothing can be delivered; give it packets by `put` or `every`")
-    about = f"sample {receivers!r} {scenario.receivers!r} {sorted(scenario.keep_alive)} {deadline!r}"
+    about = f"sample {receivers!r} {deadline!r}"
     return Question(scenario, functools.partial(_tally, receivers, deadline), about)
 
 
