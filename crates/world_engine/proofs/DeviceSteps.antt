@@ -5,7 +5,8 @@ use Rattle.std.specs.Prelude.{Contains, All, AllPairs}
 use Rattle.std.specs.List.{slice_get}
 use Rattle.std.proofs.lemmas.Bool.{cond-true, cond-false, ne_eqb}
 use Rattle.std.proofs.lemmas.List.{append-nil, reverse-append}
-use Rattle.std.proofs.lemmas.List.Elements.{filter-append, filter_map-append, Contains-append_cases, Contains-push_cases, All-set, All-head, All-tail, All-contains}
+use Rattle.std.proofs.lemmas.List.Elements.{filter-append, filter_map-append, Contains-append_cases, Contains-push_cases}
+use Rattle.std.proofs.lemmas.List.Elements.{All-set, All-head, All-tail, All-contains}
 use Rattle.lwb_base.specs.Profile.{Numbers}
 use Rattle.std.proofs.lemmas.Option.{slice_get-map, slice_get_within, get_or_from_slice_get}
 use Rattle.event_calendar.specs.Orders.{Due}

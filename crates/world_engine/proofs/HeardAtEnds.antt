@@ -141,7 +141,8 @@ module _ (s : ScenarioParts) (clocks : ℕ → ℕ → ℕ) (sound : IsSoundScen
       → heard_by new.air v ≡ heard_by old.air v ++ map reception_of hs
   heard_with v hs is =
       let of_v : Hearing → Bool = λ h. h.node == v in
-      let turn_old : AreInTurn (hearings_by old.air v) = AllPairs-filter (λ g h. reception_comes_before h g ≡ false) of_v (hearings_of old.air) in_turn_before in
+      let turn_old : AreInTurn (hearings_by old.air v) =
+      AllPairs-filter (λ g h. reception_comes_before h g ≡ false) of_v (hearings_of old.air) in_turn_before in
       let turn_new : AreInTurn (hearings_by new.air v) = AllPairs-filter (λ g h. reception_comes_before h g ≡ false) of_v (hearings_of new.air) in_turn_after in
       heard_in_turn new.air v turn_new
       ∙ ap (map reception_of)

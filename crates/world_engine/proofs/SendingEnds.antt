@@ -24,7 +24,8 @@ use Rattle.world_engine.proofs.ScenesGoOn.{IsMoved, next, is_next, scene_after}
 use Rattle.world_engine.proofs.AirInTime.{heard_alike}
 use Rattle.world_engine.proofs.HearingOrder.{IsEarlier, earlier, comes_if, not_both, not_before, ids_ascend}
 use Rattle.air_log.proofs.SameSendings.{which_sending}
-use Rattle.world_engine.proofs.PlacesAtEnds.{IsAtEnd, StillRuns, ends_at, place_of, place_of_x, apart, x_runs, x_logged, rule, ids, ascending, still_runs, was_running}
+use Rattle.world_engine.proofs.PlacesAtEnds.{IsAtEnd, StillRuns, ends_at, place_of, place_of_x, apart, x_runs, x_logged, rule, ids, ascending}
+use Rattle.world_engine.proofs.PlacesAtEnds.{still_runs, was_running}
 use Rattle.world_engine.proofs.PlacesAtEnds.{runs_on}
 
 module _ {s : ScenarioParts} {lines : Lines} {clocks : ℕ → ℕ → ℕ} {t p : ℕ} {x : Sending} {hearers : List ℕ} {old : FieldState} {old_due : List Due}
@@ -100,7 +101,8 @@ module _ {s : ScenarioParts} {lines : Lines} {clocks : ℕ → ℕ → ℕ} {t p
         let place = place_in old v there in
         let at = at_end.all place.place place.within in
         let same : at.setup.id ≡ v = same_Some at.setup.id v (sym (shown_id at.setup t old old_due place.place at.device at.shows) ∙ place.id) in
-        let hearer = (rule at_end place.place at.setup at.device at.shows).1 (subst (λ (u : ℕ). HearsInScene (as_it_stands old.medium t a) u x) (sym same) hears) in
+        let hearer = (rule at_end place.place at.setup at.device at.shows).1
+        (subst (λ (u : ℕ). HearsInScene (as_it_stands old.medium t a) u x) (sym same) hears) in
         subst (Contains fresh) (ap (λ (u : ℕ). heard_at u) (id_at place.place place.within ∙ same)) (map_contains (hearing_at old x) hearers place.place hearer)
       where
         heard_at : ℕ → Hearing

@@ -35,7 +35,8 @@ module _ {t p : ℕ} {old seen : FieldState} {due : List Due} {i : ℕ} {state :
 
   pub state_known : IsKnownDevice old due p state
   state_known =
-      subst (λ (w : FieldState). IsKnownDevice w due p state) (sym read.same) (subst (λ (d : DeviceState). IsKnownDevice seen due p d) same read.shown.shows.known)
+      subst (λ (w : FieldState). IsKnownDevice w due p state) (sym read.same)
+      (subst (λ (d : DeviceState). IsKnownDevice seen due p d) same read.shown.shows.known)
 
   -- as the device of some trail
   pub state_shows : (s : Setup) (d : Device) → (there : FieldShows s t seen due p d) → DeviceShows s t state there.made d

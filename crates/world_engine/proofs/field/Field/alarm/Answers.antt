@@ -29,11 +29,13 @@ take_alarms-requires-clause-ends g c =
 
 pub invariant_of-self : goal.invariant_of-self
 invariant_of-self g c =
-    field_as_was (read g (goal.at.invariant_of-self g c).After-settings-before) c.take_alarms.new.self c.take_alarms.ensures.setup c.take_alarms.new.deliveries.items
+    field_as_was (read g (goal.at.invariant_of-self g c).After-settings-before) c.take_alarms.new.self c.take_alarms.ensures.setup
+    c.take_alarms.new.deliveries.items
 
 pub invariant_of-self-2 : goal.invariant_of-self-2
 invariant_of-self-2 g c =
-    field_as_was (read g (goal.at.invariant_of-self-2 g c).After-settings-before) c.take_alarms.new.self c.take_alarms.ensures.setup c.take_alarms.new.deliveries.items
+    field_as_was (read g (goal.at.invariant_of-self-2 g c).After-settings-before) c.take_alarms.new.self c.take_alarms.ensures.setup
+    c.take_alarms.new.deliveries.items
 
 pub follow-requires-clause-within : goal.follow-requires-clause-within
 follow-requires-clause-within g c = mid_within (read g (goal.at.follow-requires-clause-within g c).After-settings-before) c.take_alarms.new.self

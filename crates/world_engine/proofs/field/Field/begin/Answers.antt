@@ -57,7 +57,8 @@ invariant_of-self g c = let back = goal.at.invariant_of-self g c in silent_is_fi
 pub returns-then-not-start : goal.returns-then-not-start
 returns-then-not-start g c =
     let back = goal.at.returns-then-not-start g c in
-    as_given c.self.view_is c.from.ensures (c.clear.ensures ∙ ap (λ (k : ℕ). changed (g.Q.Orders.map c.args.orders.now) k SendingStart None) (sym c.from.ensures))
+    as_given c.self.view_is c.from.ensures
+    (c.clear.ensures ∙ ap (λ (k : ℕ). changed (g.Q.Orders.map c.args.orders.now) k SendingStart None) (sym c.from.ensures))
     (not_begun (starting g back.After-start) (silent g back.Then-not-start))
 
 pub start-requires-2-clause-node : goal.start-requires-2-clause-node

@@ -70,7 +70,8 @@ hear_all-requires-clause-time g c = time_at_end (let back = goal.at.hear_all-req
 
 pub tell-requires-clause-shown : goal.tell-requires-clause-shown
 tell-requires-clause-shown g c =
-    sender_shown (let back = goal.at.tell-requires-clause-shown g c in ended g back.In-Some (asked g back.After-node-node)) (readings_at g.C.DriftClock.readings c.args.clocks.now) c.in_ok-hear_all.ensures
+    sender_shown (let back = goal.at.tell-requires-clause-shown g c in ended g back.In-Some (asked g back.After-node-node))
+    (readings_at g.C.DriftClock.readings c.args.clocks.now) c.in_ok-hear_all.ensures
 
 pub returns : goal.returns
 returns g c =

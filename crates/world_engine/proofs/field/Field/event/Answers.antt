@@ -1,5 +1,6 @@
 use Rattle.std.proofs.lemmas.Result.{on_ok_weaker}
-use Rattle.world_engine.proofs.DueSteps.{IsDue, early, shown, inside, clock_there, trace_sealed, sending, ends, end_done, alarms_over, alarm_done, start_stands, start_done}
+use Rattle.world_engine.proofs.DueSteps.{IsDue, early, shown, inside, clock_there, trace_sealed, sending, ends, end_done, alarms_over, alarm_done}
+use Rattle.world_engine.proofs.DueSteps.{start_stands, start_done}
 use Rattle.world_engine.proofs.field.Field.event.Given.{Over}
 use Rattle.world_engine.proofs.field.Field.event.Goals as goal
 use Rattle.world_engine.proofs.field.Field.event.Goals.{Start}

@@ -5,7 +5,8 @@ use Rattle.world_engine.proofs.field.Field.line.Goals as goal
 use Rattle.world_engine.proofs.field.Field.line.Goals.{Start}
 
 given : (g : Over) (c : Start g)
-    → IsGiven g.C.DriftClock.readings c.args.s.now c.args.clocks.now c.args.t c.args.line.now c.requires.next.0 c.args.self.now (g.Q.Orders.map c.args.orders.now)
+    → IsGiven g.C.DriftClock.readings c.args.s.now c.args.clocks.now c.args.t c.args.line.now c.requires.next.0 c.args.self.now
+    (g.Q.Orders.map c.args.orders.now)
 given g c = record { sound = c.requires.sound; count = c.requires.clocks; next = c.requires.next.1; run = c.requires.next.2 }
 
 pub place_of-place-requires : goal.place_of-place-requires

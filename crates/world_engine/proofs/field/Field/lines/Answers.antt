@@ -18,7 +18,8 @@ drifts g s cs = all_drift g.C.DriftClock.readings g.met.C.DriftClock.keeps_drift
 -- the line that is read, and that none is
 line_there : (g : Over) (c : In-Some g) → slice_get c.args.s.now.script c.loop-line.told ≡ Some c.in-Some.line.now
 line_there g c =
-    read_at c.args.s.now.script c.script.result.now c.loop-line.told c.in-Some.line.now c.script.ensures.value c.in-Some.ensures.lookup.0 c.in-Some.ensures.lookup.1
+    read_at c.args.s.now.script c.script.result.now c.loop-line.told c.in-Some.line.now c.script.ensures.value c.in-Some.ensures.lookup.0
+    c.in-Some.ensures.lookup.1
 
 none_there : (g : Over) (c : In_default g) → slice_get c.args.s.now.script c.loop-line.told ≡ None
 none_there g c = read_past c.args.s.now.script c.script.result.now c.loop-line.told c.script.ensures.value c.in_default.ensures.lookup.0
