@@ -1,7 +1,8 @@
 #!/usr/bin/env python3
 """Finds lines of .rt and .antt files that are longer than 160 columns, and libraries in crates.txt that their crate does not cite.
 
-Usage: tools/tidy.py. The lines that have to be longer are counted in KNOWN_LINES. The status is 1 if there is something else. Only Python's standard library is used.
+Usage: tools/tidy.py. Lines that have to be longer are counted in KNOWN_LINES. The status is 1 if there is something else.
+Only Python's standard library is used.
 """
 import collections
 import pathlib
