@@ -1,8 +1,9 @@
 -- The receptions of the worked first round are those of the rule of the air.
 use Rattle.std.proofs.Common.{◌≡◌, ◌≢◌, ℕ, ◌+◌, ◌<◌, ◌≤◌, List, [], ◌∷◌, ◌++◌, Bool, true, false, not, ◌==◌, ◌&&◌, ◌||◌, nat_lt, nat_le, get_or, Contains}
-use Rattle.std.proofs.Common.{All, AllPairs, refl, sym, ◌∙◌, ap, subst, arith, inl, inr, ◌⊎◌, true≢false, eqb-true, ltb-true, lt-ltb}
+use Rattle.std.proofs.Common.{length, All, AllPairs, refl, sym, ◌∙◌, ap, subst, arith, inl, inr, ◌⊎◌, true≢false, eqb-true, ltb-true, lt-ltb}
 use Rattle.std.specs.List.{list_all, list_any}
-use Rattle.std.proofs.lemmas.Bool.{and_parts, and_from, leb-true, le-leb}
+use Rattle.std.proofs.lemmas.Bool.{and_parts, and_from, leb-true, le-leb, eqb-false, not-true}
+use Rattle.std.proofs.lemmas.List.{get_or_default}
 use Rattle.std.proofs.lemmas.List.Elements.{All-nil, All-cons}
 use Rattle.std.proofs.lemmas.List.Kept.{AllPairs-cons}
 use Rattle.radio_model.specs.declared.sending.Sending.{Sending}
@@ -92,88 +93,45 @@ hears_it h good = record {
   chosen = inl (λ y rival. ap (λ (w : Sending). w.packet) (sym (meets_self sent_in_round round_in_turn h.sending y good.sent rival.sent rival.meets)));
 }
 
+-- a tuning of its node that lasts all through it
+abbrev spans : Tuning → Hearing → Bool
+spans e h =
+    ((e.node == h.node) && (e.rank == h.sending.rank))
+    && ((nat_le e.start h.sending.start && nat_le h.sending.end e.end) && (not (h.sending.node == h.node) && nat_lt h.sending.end (run_end first_round)))
+
+-- by the place of the tuning
+good : (k : ℕ) (h : Hearing) → Contains sent_in_round h.sending → k < length tuned_in_round → spans (get_or tuned_in_round k none) h ≡ true
+    → Arrives scene h.node h.sending → IsGood h
+good k h sent below is arrives =
+    let e = get_or tuned_in_round k none in
+    let parts = and_parts _ _ is in
+    let same = and_parts _ _ parts.0 in
+    let times = and_parts _ _ parts.1 in
+    let long = and_parts _ _ times.0 in
+    let rest = and_parts _ _ times.1 in
+    record {
+      sent = sent;
+      tuning = e;
+      there = (k, below, get_or_default tuned_in_round k e none below);
+      node = eqb-true e.node h.node same.0;
+      rank = eqb-true e.rank h.sending.rank same.1;
+      since = leb-true e.start h.sending.start long.0;
+      until = leb-true h.sending.end e.end long.1;
+      other = eqb-false h.sending.node h.node (not-true _ rest.0);
+      arrives = arrives;
+      in_run = ltb-true h.sending.end (run_end first_round) rest.1;
+    }
+
 all_good : Each IsGood heard_in_round
 all_good = (
-  record {
-    sent = (0, omega arith, refl);
-    tuning = get_or tuned_in_round 6 none;
-    there = (6, omega arith, refl);
-    node = refl;
-    rank = refl;
-    since = omega arith;
-    until = omega arith;
-    other = omega arith;
-    arrives = refl;
-    in_run = omega arith;
-  },
+  good 6 _ (0, omega arith, refl) (omega arith) refl refl,
   (
-    record {
-      sent = (1, omega arith, refl);
-      tuning = get_or tuned_in_round 2 none;
-      there = (2, omega arith, refl);
-      node = refl;
-      rank = refl;
-      since = omega arith;
-      until = omega arith;
-      other = omega arith;
-      arrives = refl;
-      in_run = omega arith;
-    },
+    good 2 _ (1, omega arith, refl) (omega arith) refl refl,
     (
-      record {
-        sent = (2, omega arith, refl);
-        tuning = get_or tuned_in_round 6 none;
-        there = (6, omega arith, refl);
-        node = refl;
-        rank = refl;
-        since = omega arith;
-        until = omega arith;
-        other = omega arith;
-        arrives = refl;
-        in_run = omega arith;
-      },
+      good 6 _ (2, omega arith, refl) (omega arith) refl refl,
       (
-        record {
-          sent = (4, omega arith, refl);
-          tuning = get_or tuned_in_round 4 none;
-          there = (4, omega arith, refl);
-          node = refl;
-          rank = refl;
-          since = omega arith;
-          until = omega arith;
-          other = omega arith;
-          arrives = refl;
-          in_run = omega arith;
-        },
-        (
-          record {
-            sent = (5, omega arith, refl);
-            tuning = get_or tuned_in_round 0 none;
-            there = (0, omega arith, refl);
-            node = refl;
-            rank = refl;
-            since = omega arith;
-            until = omega arith;
-            other = omega arith;
-            arrives = refl;
-            in_run = omega arith;
-          },
-          (
-            record {
-              sent = (6, omega arith, refl);
-              tuning = get_or tuned_in_round 4 none;
-              there = (4, omega arith, refl);
-              node = refl;
-              rank = refl;
-              since = omega arith;
-              until = omega arith;
-              other = omega arith;
-              arrives = refl;
-              in_run = omega arith;
-            },
-            tt,
-          ),
-        ),
+        good 4 _ (4, omega arith, refl) (omega arith) refl refl,
+        (good 0 _ (5, omega arith, refl) (omega arith) refl refl, (good 4 _ (6, omega arith, refl) (omega arith) refl refl, tt)),
       ),
     ),
   ),
