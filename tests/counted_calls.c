@@ -5,8 +5,9 @@
  *   REFUSED_REQUEST=N   the Nth request for memory is refused
  *   REFUSED_FROM=N      so are the Nth and all after it
  *   FAILED_READ=N       the Nth read fails, and all after it
+ *   SHORT_READS=N       a read gives N bytes at most
  *   FAILED_WRITE=N      the Nth write fails, and all after it
- *   SHORT_WRITES=1      a write takes one byte at most
+ *   SHORT_WRITES=N      a write takes N bytes at most
  *   COUNTED_CALLS=FILE  when the program ends by itself, a line is added to FILE: its status, the numbers of requests, of those that were
  *                       refused, 1 if the last request was one of them (else 0), reads, failed reads, writes, failed writes, and its words
  *
@@ -27,7 +28,7 @@ extern void *__libc_realloc(void *, size_t);
 extern void *__libc_memalign(size_t, size_t);
 
 static long requests, refused, last_refused, reads, failed_reads, writes, failed_writes;
-static long refused_request, refused_from, failed_read, failed_write, short_writes;
+static long refused_request, refused_from, failed_read, short_reads, failed_write, short_writes;
 static int word_count;
 static char **words;
 
@@ -57,6 +58,7 @@ __attribute__((constructor)) static void begin(int argc, char **argv) {
     refused_request = number_of("REFUSED_REQUEST");
     refused_from = number_of("REFUSED_FROM");
     failed_read = number_of("FAILED_READ");
+    short_reads = number_of("SHORT_READS");
     failed_write = number_of("FAILED_WRITE");
     short_writes = number_of("SHORT_WRITES");
     on_exit(tell, NULL);
@@ -101,13 +103,18 @@ int posix_memalign(void **block, size_t alignment, size_t size) {
     return *block == NULL ? ENOMEM : 0;
 }
 
+/* How much of a piece passes where this much does at most, or all of it where no such number is given. */
+static size_t passing(size_t size, long most) {
+    return most > 0 && size > (size_t)most ? (size_t)most : size;
+}
+
 ssize_t read(int file, void *room, size_t size) {
     ssize_t count = -1;
     reads++;
     if (failed_read > 0 && reads >= failed_read)
         errno = EIO;
     else
-        count = syscall(SYS_read, file, room, size);
+        count = syscall(SYS_read, file, room, passing(size, short_reads));
     failed_reads += count < 0;
     return count;
 }
@@ -118,7 +125,7 @@ ssize_t write(int file, const void *piece, size_t size) {
     if (failed_write > 0 && writes >= failed_write)
         errno = EIO;
     else
-        count = syscall(SYS_write, file, piece, short_writes && size > 1 ? 1 : size);
+        count = syscall(SYS_write, file, piece, passing(size, short_writes));
     failed_writes += count < 0 || (count == 0 && size > 0);
     return count;
 }

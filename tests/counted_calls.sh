@@ -79,6 +79,34 @@ each_cause() {
     FAILED_WRITE=2 SHORT_WRITES=1 each_request 4 "$folder/rejected" "$@"
 }
 
+# each_call TEXT WORD: the command reads this text a byte a call, and writes seven bytes a call. Where a read fails, whichever it is, nothing
+# is written; where a write fails, what went out before it is a beginning of the report.
+each_call() {
+    local text=$1 word=$2 size call
+    [ -n "$counts_calls" ] || return
+    "$uncounted" "$word" < "$text" > "$folder/whole"
+    SHORT_READS=1 SHORT_WRITES=7 counted "$word" < "$text" > "$folder/out"
+    status=$?
+    says "$word in short calls: status $status, not 0" [ "$status" -eq 0 ]
+    says "$word in short calls: other output" cmp -s "$folder/out" "$folder/whole"
+    size=$(stat -c %s "$text")
+    # The last call says that the text has ended.
+    for ((call = 1; call <= size + 1; call++)); do
+        SHORT_READS=1 FAILED_READ=$call counted "$word" < "$text" > "$folder/out"
+        status=$?
+        says "$word without read $call: status $status, not 3" [ "$status" -eq 3 ]
+        says "$word without read $call: some output" [ ! -s "$folder/out" ]
+    done
+    size=$(stat -c %s "$folder/whole")
+    for ((call = 1; 7 * (call - 1) < size; call++)); do
+        SHORT_WRITES=7 FAILED_WRITE=$call counted "$word" < "$text" > "$folder/out"
+        status=$?
+        head -c "$((7 * (call - 1)))" "$folder/whole" > "$folder/part"
+        says "$word without write $call: status $status, not 4" [ "$status" -eq 4 ]
+        says "$word without write $call: other output before it" cmp -s "$folder/out" "$folder/part"
+    done
+}
+
 # statuses_have_causes: of all runs so far that were counted, 3 came exactly where a read failed, 4 where a write did, and 5 where the
 # last request for memory was refused.
 statuses_have_causes() {

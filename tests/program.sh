@@ -192,6 +192,42 @@ statuses() {
     says "a closed pipe: status $(cat "$folder/status"), not 4" [ "$(cat "$folder/status")" = 4 ]
 }
 
+# Each beginning of a scenario, read a byte at a time: whole lines and a part of the next one. A line that is cut within its words is a
+# fault, and without its first six lines a scenario lacks what it must have. Where the costs are not worked out, their line only begins so.
+cut_texts() {
+    local lines line part read_lines code wanted before="" whole=0 cut report
+    report=$'deliver 9 0 1 1 2 1 0 0 aa\ncost 1 450560 9681408 5\ncost 2 450560 9551872 6\n'
+    [ -n "$counts_calls" ] || return
+    mapfile -t lines < "$folder/scenario"
+    for line in "${lines[@]}"; do
+        for ((cut = 0; cut <= ${#line}; cut++)); do
+            part=${line:0:cut}
+            read_lines=$((whole + (cut > 0)))
+            code=1
+            # Cut after one digit, the line of the frames is a line still.
+            if [ "$cut" -gt 0 ] && [ "$part" != "$line" ] && [ "$part" != "frames 1" ]; then
+                wanted="fault line $read_lines: BadWord"$'\n'
+            elif [ "$read_lines" -lt 6 ]; then
+                wanted="fault line $((read_lines + 1)): Missing"$'\n'
+            elif [ "$read_lines" -eq 6 ]; then
+                # No line switches a node on.
+                code=0 wanted=$'cost 1 0 0 0\ncost 2 0 0 0\n'
+            elif [ "$read_lines" -lt "${#lines[@]}" ]; then
+                code=0 wanted="cost 1 "
+            else
+                code=0 wanted=$report
+            fi
+            printf '%s%s' "$before" "$part" > "$folder/in"
+            SHORT_READS=1 counted bus < "$folder/in" > "$folder/whole"
+            status=$?
+            head -c "${#wanted}" "$folder/whole" > "$folder/out"
+            ends "a scenario of $whole lines and $cut bytes" "$code" "$wanted"
+        done
+        before+=$line$'\n'
+        whole=$((whole + 1))
+    done
+}
+
 # Each command, with the causes of its statuses. A scenario is checked with its log and without a line log.
 causes() {
     local word
@@ -208,6 +244,9 @@ causes() {
     each_request 0 /dev/null demo 7 2 1
     FAILED_WRITE=1 each_request 4 /dev/null demo 7 2 1
     each_request 2 /dev/null floods
+    cut_texts
+    each_call "$folder/scenario" run
+    each_call "$folder/flood" flood
 }
 
 # Two texts and a demo as large as they may be, with ample memory: that memory suffices is said by no clause.
