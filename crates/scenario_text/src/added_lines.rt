@@ -3,6 +3,8 @@
 ghost use Rattle.std.specs.Prelude.{◌≡◌, ◌≤◌, ◌<◌, ◌+◌, ◌++◌, true, false, length, All, AllPairs, IfOk, OnOk, IfSome, IfNone, IsPermutation};
 ghost use Rattle.lwb_base.specs.declared.limits.TheConstants.{MOST_SCRIPT_LINES};
 ghost use Rattle.scenario_text.specs.AddedLines.{IsMerged, IsWithScript, HasRoom};
+ghost use Rattle.scenario_text.specs.Canonical.{IsSaid};
+ghost use Rattle.scenario_text.specs.FloodParts.{IsSealed};
 ghost use Rattle.scenario_text.specs.PartsInOrder.{script_lines};
 ghost use Rattle.bus_rules.specs.States.{payload_of};
 ghost use Rattle.scenario_text.specs.ScenarioFacts.{IsScriptLine};
@@ -12,6 +14,7 @@ ghost use Rattle.scenario_text.specs.ScenarioParts.{ScenarioParts};
 use crate::boots::has_few_boots;
 use crate::known_nodes::ids;
 use crate::{Scenario, ScriptLine};
+use link_trace::Trace;
 use lwb_base::{MOST_SCRIPT_LINES, Memory};
 use std::alloc::Global;
 
@@ -38,9 +41,16 @@ pub fn with_script(
     if !has_few_boots(&script) {
         return Ok(None);
     }
-    let mut trace = s.trace().unsealed_copy(alloc)?;
-    trace.seal(&ids(alloc, s.nodes())?)?;
-    Ok(Some(Scenario::of_parts(
+    Ok(Some(with_own_script(alloc, s, script)?))
+}
+
+// The scenario with this script in place of its own.
+fn with_own_script(alloc: Global, s: &Scenario, script: Vec<ScriptLine>) -> Result<Scenario, Memory>
+    requires { IsSaid (record s.now { script = script.items }) }
+    ensures { IfOk result (λ t. t ≡ record s.now { script = script.items }) }
+{
+    let trace = sealed_trace(alloc, s)?;
+    Ok(Scenario::of_parts(
         &s.profile(),
         s.frames(),
         s.sends(),
@@ -49,7 +59,17 @@ pub fn with_script(
         Vec::from_slice(alloc, s.hosts())?,
         trace,
         script,
-    )))
+    ))
+}
+
+// A copy of its trace.
+fn sealed_trace(alloc: Global, s: &Scenario) -> Result<Trace, Memory>
+    ensures { IfOk result (λ t. (t.lines ≡ s.now.trace) × IsSealed t s.now.nodes) }
+{
+    let nodes = ids(alloc, s.nodes())?;
+    let mut trace = s.trace().unsealed_copy(alloc)?;
+    trace.seal(&nodes)?;
+    Ok(trace)
 }
 
 // How many lines of the script may be next to the other script lines of the scenario.

@@ -9,7 +9,7 @@ use crate::network_line::NetworkLine;
 use text_readers::{is, one_number, three_numbers, word};
 
 /// A line of a flood text, with its numbers as written.
-#[derive(Clone, Copy, Debug, PartialEq, Eq)]
+#[derive(Clone, Copy)]
 pub enum FloodLine {
     /// A line that scenarios have too.
     InNetwork(NetworkLine),

@@ -10,7 +10,7 @@ use crate::FaultKind;
 use text_readers::{is, number, one_number, signed_number, two_numbers, word};
 
 /// A line that both texts have, with its numbers as written.
-#[derive(Clone, Copy, Debug, PartialEq, Eq)]
+#[derive(Clone, Copy)]
 pub enum NetworkLine {
     /// How often a node sends at most.
     Sends {

@@ -42,18 +42,11 @@ returns-then-not-has_few_boots-clause-none c =
     c.if-not-has_few_boots.ensures.many refl
     (subst (λ (ls : List ScriptLine). (v : ℕ) → (turned v (false, 0) ls).1 ≤ 200) (sym c.deref.ensures.value) few)
 
-pub seal-requires : goal.seal-requires
-seal-requires c =
-    let s = c.args.s.now in
-    let is : IsInOrder s = in_order_said s c.nodes.ensures.said in
-    nodes_seal s.nodes c.deref-2.result.now (pairs_climb (λ a b. a.node < b.node) s.nodes is.nodes_ascend) is.node_count.0 is.node_count.1
-    (c.deref-2.ensures.value ∙ c.in_ok-ids.ensures ∙ ap (map (λ (n : NodeLine). n.node)) c.nodes.ensures.value)
-
-pub of_parts-requires-clause-said : goal.of_parts-requires-clause-said
-of_parts-requires-clause-said c =
+pub with_own_script-requires : goal.with_own_script-requires
+with_own_script-requires c =
     let s = c.args.s.now in
     let sc = c.in_ok-script.script.items in
-    let is : IsInOrder s = in_order_said s c.nodes.ensures.said in
+    let is : IsInOrder s = in_order_said s c.script.ensures.said in
     let merged : IsMerged s.script c.args.added.now sc =
     subst (λ (old : List ScriptLine). IsMerged old c.args.added.now sc) c.script.ensures.value c.in_ok-script.ensures.merged in
     let shuffled : IsPermutation (s.script ++ c.args.added.now) sc =
@@ -64,12 +57,6 @@ of_parts-requires-clause-said c =
     omega (arith, few, room, c.len.ensures, c.deref.ensures.len, ap length c.deref.ensures.value) in
     let boots : (v : ℕ) → (turned v (false, 0) sc).1 ≤ 200 =
     subst (λ (ls : List ScriptLine). (v : ℕ) → (turned v (false, 0) ls).1 ≤ 200) c.deref.ensures.value (c.if-not-has_few_boots.ensures.few refl) in
-    subst IsSaid (sym (
-    same_parts s c.profile.result c.frames.result c.sends.result c.in_ok-from_slice.field-0.items c.in_ok-from_slice-2.field-0.items
-    c.in_ok-from_slice-3.field-0.items c.seal.new.self.lines sc c.profile.ensures.value c.frames.ensures.value c.sends.ensures
-    (c.in_ok-from_slice.ensures.items ∙ c.nodes-2.ensures.value) (c.in_ok-from_slice-2.ensures.items ∙ c.rates.ensures)
-    (c.in_ok-from_slice-3.ensures.items ∙ c.hosts.ensures.value)
-    (ap (λ (t : Traced). t.lines) c.in_ok-seal.ensures.sealed ∙ ap (λ (t : Traced). t.lines) c.in_ok-trace.ensures ∙ c.trace.ensures.value)))
-    (said_in_order (record s { script = sc })
+    said_in_order (record s { script = sc })
     (still_in_order s c.args.added.now sc is shuffled c.requires.in_range merged.ascends c.in_ok-script.ensures.bytes
-    (record { lines = lines; boots = boots })))
+    (record { lines = lines; boots = boots }))
