@@ -234,7 +234,8 @@ crate_pages() {
     done
 }
 
-# What pages name is to be there. Three names that are not are found: of a file, of a function, and of a lemma in a crate.
+# What pages name is to be there. Six names that are not are found: of a file with and without its folder, of a function, of a
+# module in a crate and of one by its path, and of a clause.
 names() {
     if ! command -v python3 > "$folder/written"; then
         return
@@ -247,10 +248,11 @@ names() {
     fi
     mkdir -p "$folder/names"
     # shellcheck disable=SC2016 # A page's text.
-    printf 'See `lwb_base/src/gone.rt` or `gone_for_ever`. There are `read_all` and `trails` in `lwb_base`.\n' > "$folder/names/README.md"
+    printf 'See `lwb_base/src/gone.rt` or `gone_for_ever`. There are `read_all` and `trails` in `lwb_base`. By clause `recording_radio` of\n`gone.rt`, `lwb_base::goner` goes.\n' \
+        > "$folder/names/README.md"
     if python3 "$top/tools/names.py" "$folder/names/README.md" > "$folder/written"; then
         counts_failure "tools/names.py finds nothing"
-    elif [ "$(wc -l < "$folder/written")" -eq 4 ]; then
+    elif [ "$(wc -l < "$folder/written")" -eq 7 ]; then
         counts_pass
     else
         counts_failure "tools/names.py finds something else"

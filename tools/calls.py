@@ -15,7 +15,7 @@ HEAD = """# Every public call
 
 Each function that a crate exports, with its contract word for word, as `tools/calls.py` reads it off the sources: `needs` is the condition under which a caller may call it, and all else is what it promises to return, when it rejects, and what it leaves of what it was given to change. A clause has a name where the contract gives it one. Each call returns under its condition, with no undefined behaviour, no overflow and no index out of bounds, which the check proves of every function.
 
-What a call answers in addition to its value: None or an error, whose cause is among its promises (of `named_host` alone it is open), or `memory`, out of memory, the only one without a cause, which may come from any call that allocates. `by the trait` is there if the contract is that of the trait's method. Promises on what is left of a value that the call may change speak of `.new`, and of what it was before as `.old`; those on it alone are in the last column, with what the answer says of it.
+What a call answers in addition to its value: None or an error, whose cause is among its promises, or `memory`, out of memory, the only one without a cause, which may come from any call that allocates. `by the trait` is there if the contract is that of the trait's method. Promises on what is left of a value that the call may change speak of `.new`, and of what it was before as `.old`; those on it alone are in the last column, with what the answer says of it.
 
 """
 

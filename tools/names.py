@@ -6,9 +6,11 @@ crate. CHANGELOG.md may name what is gone. What is looked for:
 
 - a path below a folder of the repository, of a crate, or of each crate (`crates/air_log/specs/Safe.antt`, `link_trace/specs/Order`,
   `src/limits.rt`, also with braces for several names);
-- a name of several words (`parse_log`, `Device::begin`, `EachPair`), which is to be a word of code or the name of a file;
+- a name (`parse_log`, `Device::begin`, `Air`), each part of which is to be a word of code or the name of a file; two digits are a byte;
 - names of which a crate is said, as in '`admit` and `rounds` in `deadline_plan`', which are to be in that crate;
-- the clauses that the README.md of a crate names, as in 'clauses `twice`, `there`', and the files in tables headed 'file of `..`';
+- a name of a source alone (`limits.rt`), which some file is to have;
+- clauses, as in 'clauses `twice`, `there`', which the crate is to have where its README.md names them, and else some crate;
+- the files in tables headed 'file of `..`';
 - the number of a constant, in a row of a table that begins with both.
 
 The status is 1 if something is missing. Only Python's standard library is used.
@@ -30,6 +32,8 @@ FOLDERS = ("crates", "docs", "examples", "python", "tests", "tools", "bench", "s
 SUFFIXES = ("", ".rt", ".antt", ".py", ".sh")
 # Words that stand for a name, so that no file has them.
 STAND_INS = re.compile(r"NAME|CRATE|MODULE|FUNCTION")
+# What pages name of the toolchain's own library.
+OF_TOOLCHAIN = {"Allocator", "allocate"}
 
 
 @functools.cache
@@ -71,6 +75,16 @@ def known():
 @functools.cache
 def clauses_of(crate):
     return {clause for name in tracked() if name.startswith(f"crates/{crate}/src/") for clause in re.findall(r"\bensures (\w+)", code_of(name))}
+
+
+@functools.cache
+def all_clauses():
+    return set().union(*(clauses_of(crate) for crate in crates()))
+
+
+@functools.cache
+def file_names():
+    return {pathlib.PurePath(name).name for name in tracked()}
 
 
 @functools.cache
@@ -119,11 +133,14 @@ def is_there(path):
 
 
 def names_in(span):
-    """The names of several words in a span that is one name, a call, or a path of modules."""
-    if not re.fullmatch(r"[\w:.]+(?:\(.*\))?", span):
+    """The names in a span that is one name, a call, or a path of modules. Of a path by dots, as `foldcairn.radio`, those of several
+    words."""
+    if not re.fullmatch(r"[\w:.]+(?:\(.*\))?", span) or re.fullmatch(r"[0-9a-f]{2}|\d+", span):
         return []
-    parts = re.split(r"::|\.", re.sub(r"\(.*", "", span))
-    return [part for part in parts if re.fullmatch(r"[a-z0-9]+(?:_[a-z0-9]+)+|(?:[A-Z][a-z0-9]+){2,}", part)]
+    name = re.sub(r"\(.*", "", span)
+    if re.fullmatch(r"[A-Za-z_]\w*(?:::[A-Za-z_]\w*)*", name):
+        return [part for part in name.split("::") if part not in OF_TOOLCHAIN]
+    return [part for part in re.split(r"::|\.", name) if re.fullmatch(r"[a-z0-9]+(?:_[a-z0-9]+)+|(?:[A-Z][a-z0-9]+){2,}", part)]
 
 
 def prose(text):
@@ -143,6 +160,8 @@ def missing_in(line, crate):
             yield from (f"no file {path}" for path in expanded(span) if not is_there(path))
         else:
             yield from (f"no {name}" for name in names_in(span) if name not in known())
+            if re.fullmatch(r"\w+\.(?:rt|antt|edit)", span) and span not in file_names():
+                yield f"no file {span}"
     for constant, number in NUMBER_OF.findall(line):
         if constants().get(constant) != int(number.replace(",", "")):
             yield f"{constant} is {constants().get(constant)}, not {number}"
@@ -151,8 +170,9 @@ def missing_in(line, crate):
             for span in SPAN.findall(spans):
                 parts = re.findall(r"\w+", span.split("(")[0]) if re.fullmatch(r"[\w:./]+(?:\(.*\))?", span) else []
                 yield from (f"no {part} in {owner}" for part in parts if part not in words_of(owner))
-    for one, more in CLAUSES.findall(line) if crate else []:
-        yield from (f"no clause {span} in {crate}" for span in SPAN.findall(one + more) if re.fullmatch(r"\w+", span) and span not in clauses_of(crate))
+    for one, more in CLAUSES.findall(line):
+        spans = [span for span in SPAN.findall(one + more) if re.fullmatch(r"\w+", span)]
+        yield from (f"no clause {span} in {crate or 'any crate'}" for span in spans if span not in (clauses_of(crate) if crate else all_clauses()))
 
 
 def missing(page):

@@ -29,7 +29,7 @@ pub(crate) fn add_entry(nodes: &[NodeLine], air: &mut Air, words: &[&[u8]]) -> R
     }
 }
 
-// A node transmits. A packet that is misspelled comes before a number that is.
+// Adds a transmission. A misspelled packet is reported before a misspelled number.
 #[tactic(auto, unfolding(crate::specs::LogGrammar::sent_log_line))]
 fn add_sent(nodes: &[NodeLine], air: &mut Air, words: &[&[u8]]) -> Result<(), Refusal>
     ensures { let ws = map (λ w. w.now) words.now in Reads result air.new (entries_after_line nodes.now air.old ws (sent_log_line ws)) }
@@ -85,7 +85,7 @@ fn add_tuned(nodes: &[NodeLine], air: &mut Air, words: &[&[u8]]) -> Result<(), R
     Ok(())
 }
 
-// The words before the last, and the last. No words have none before an empty one.
+// The words before the last, and the last. If there are no words, the last is empty.
 fn packet_last<'a, 'b>(words: &'b [&'a [u8]]) -> (&'b [&'a [u8]], &'a [u8])
     ensures front { map (λ w. w.now) result.0.now ≡ front (map (λ w. w.now) words.now) }
     ensures last { result.1.now ≡ last_word (map (λ w. w.now) words.now) }

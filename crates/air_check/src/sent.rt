@@ -22,7 +22,7 @@ pub fn ids(alloc: Global, s: &Scenario) -> Result<Vec<NodeId>, Memory>
     Ok(s.nodes().iter().map(|n| n.node).collect(alloc)?)
 }
 
-/// The transmissions of a log by start, then sender, over the trail of the scenario, whose nodes these are. `Err` means out of
+/// The transmissions of a log by start, then sender, over the trace of the scenario, whose nodes these are. `Err` means out of
 /// memory.
 pub fn transmissions_of(
     alloc: Global,

@@ -59,7 +59,8 @@ pub record Begins (x : Sending) : Type 0 where
   pub first : counter_of_sending x ≡ 0
   pub no_request : is_request x.packet ≡ false
 
--- one initiator: at most one transmission begins the flood of a slot, and a schedule is begun by the host of its channel
+-- one initiator: at most one transmission that is no request begins the flood of a slot, so at most one node initiates data in
+-- a data slot; and a schedule is begun by the host of its channel
 pub record OneInitiator (s : ScenarioParts) (air : List Entry) : Type 0 where
   pub one : AllPairs (λ x y. SameSlot s.profile x y → Begins x → Begins y → ⊥) (sendings_of air)
   pub host : (x : Sending) → Contains (sendings_of air) x

@@ -92,7 +92,7 @@ impl Course {
         Ok(count)
     }
 
-    // What it tells with these tunes, once it has come to its end.
+    // The trail with these tunes, once the run has come to its end.
     fn told(self, scanned: u32, tunes: Vec<Option<Tune>>) -> Trail
         ensures { result ≡ record {
           sent = self.sent;

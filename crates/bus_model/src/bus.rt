@@ -57,8 +57,8 @@ impl Bus {
         Bus::run_over(alloc, s, s.trace())
     }
 
-    /// The run of the scenario over links that stand in place of its own trace, and are sealed with its nodes. `Err` means out
-    /// of memory.
+    /// The run of the scenario over these links instead of its own trace. They are sealed with its nodes. `Err` means out of
+    /// memory.
     pub fn run_over<M: Links>(alloc: Global, s: &Scenario, links: &M) -> Result<Bus, Memory>
         requires { IsSealed (traced (M.lines links.now) (M.nodes links.now)) s.now.nodes }
         ensures { IfOk result (IsBusRun (over s.now (M.lines links.now))) }

@@ -57,7 +57,8 @@ data_opened node owner c =
       message = if node_of owner == node then option_map (data_of node c i) (first_waiting c.streams i) else None;
     }
 
--- contention slot i: a fresh node whose own it is requests, if a request is due and it skips no more slots
+-- contention slot i: a node that has this round's schedule and owns the slot requests, if a request is due and it has no slots
+-- to skip
 abbrev pub is_own : Option ℕ → ℕ → Bool
 is_own None i = false
 is_own (Some own) i = own == i

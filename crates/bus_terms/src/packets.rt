@@ -47,7 +47,7 @@ pub enum Fate {
     Cleared {
         frame: u32,
     },
-    /// It was sent in this frame and slot, and so many nodes delivered it.
+    /// It was sent in this frame and slot, and this number of nodes delivered it.
     Sent {
         frame: u32,
         slot: u8,

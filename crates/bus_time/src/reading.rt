@@ -12,7 +12,8 @@ use air_log::{Air, Entry, HeardEntry, SentEntry};
 use lwb_base::{Memory, Profile};
 use std::alloc::Global;
 
-// The words on the frame in which they were received, those on a later frame, and the transmissions in the order of the log.
+// The schedules for the round of their own frame, those for a round of a later frame, and the transmissions that are stamped,
+// in the order of the log.
 #[derive(Drop)]
 pub(crate) struct Reading {
     pub(crate) present: Words,

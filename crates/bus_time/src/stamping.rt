@@ -52,7 +52,7 @@ pub fn stamps(alloc: Global, s: &Scenario, air: &Air) -> Result<Vec<Stamp>, Memo
     Ok(stamps)
 }
 
-// The word by which data is stamped that its node sent without hosting.
+// The schedule by which data is stamped, if its sender does not host.
 fn word_for(reading: &Reading, begun: &Beginning) -> Word
     requires { (s : ScenarioParts) × (clocks : ℕ → ℕ → ℕ) × (air : List Entry) × (x : Sending)
         × MayStamp s clocks reading.now.present reading.now.ahead begun.now air x × (sender_hosts s clocks air x ≡ false) }
@@ -75,7 +75,7 @@ fn word_for(reading: &Reading, begun: &Beginning) -> Word
     }
 }
 
-// The zero of the round that a schedule gives whose reception ended at this reading of the clock.
+// The zero of a round by a schedule whose reception ended at this reading of the clock.
 fn zero_by(profile: &Profile, word: &Word, local: u64) -> u64
     requires { local < 2 ^ 46 }
     ensures value { result ≡ heard_zero profile.now (local - airtime profile.now word.now.length) word.now.counter word.now.length word.now.slot }

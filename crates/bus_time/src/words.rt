@@ -1,4 +1,4 @@
-//! What nodes received of their rounds: of each round the first word.
+//! The schedules that nodes received of their rounds: for each round the first one.
 
 ghost use Rattle.std.specs.Prelude.{◌≡◌, ◌++◌, ◌∷◌, [], List, OnOk, None, true};
 ghost use Rattle.bus_time.specs.Words.{Note, AreFirsts, IsFirstWord, word_comes_before};
@@ -17,8 +17,8 @@ pub(crate) struct Round {
     pub(crate) frame: u64,
 }
 
-// A schedule that a node received: how many frames before the round that it tells of, until which tick, in which slot, with
-// which counter and of how many bytes.
+// A schedule that a node received: how many frames before its round, the tick at which the reception ended, the slot, the
+// counter and the number of bytes.
 #[derive(Clone, Copy)]
 pub(crate) struct Word {
     pub(crate) ahead: u8,
@@ -28,7 +28,7 @@ pub(crate) struct Word {
     pub(crate) length: u8,
 }
 
-// For each round the schedule of its latest frame, and of several the one that ends first.
+// For each round the schedule of the latest frame. Of several in one frame it is the one that ended first.
 #[derive(Drop)]
 pub(crate) struct Words {
     first: HashMap<Round, Word>,

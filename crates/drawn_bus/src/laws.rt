@@ -28,7 +28,7 @@ pub fn kept_losses_give_the_same_bus()
 {}
 
 /// The kept losses are those that are found flood by flood on the drawn bus: no test of lines tells the two apart (`lines`). So
-/// what is found beside a bus that runs is enough for the same bus (`enough`).
+/// the losses that are found while the bus runs are enough for the same bus (`enough`).
 pub fn floods_have_the_kept_losses()
     ensures lines { (s : ScenarioParts) (ratios : List RatioLine) (seed : ℕ) (test : LoseLine → Bool)
         → list_any test (losses_of_bus s (drawn_scenario s ratios seed)) ≡ list_any test (kept_losses s ratios seed) }

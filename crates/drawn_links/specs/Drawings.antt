@@ -18,7 +18,7 @@ pub record Drawing : Type 0 where
 abbrev pub lines_of : Drawing → Lines
 lines_of d = drawn d.trace.lines d.ratios d.seed d.frames
 
--- coins are thrown in step k of slot j of frame f, of so many frames
+-- coins are thrown in step k of slot j of frame f, of this many frames
 abbrev pub has_coins : ℕ → ℕ → ℕ → ℕ → Bool
 has_coins frames f j k = nat_lt f frames && (nat_lt j SLOTS && nat_lt k FLOOD_STEPS)
 

@@ -9,7 +9,7 @@ use rand_core::SeedableRng;
 use rand_core::utils::NextWord;
 use rand_xoshiro::SplitMix64;
 
-// By so much the generator's state moves on from one output to the next.
+// How far the generator's state moves on from one output to the next.
 const STATE_STEP: u64 = 0x9e37_79b9_7f4a_7c15;
 
 /// The state of the generator from which the coins of the seed are thrown.

@@ -154,7 +154,7 @@ impl<'a> Links for DrawnLinks<'a> {
     }
 }
 
-// Whether coins are thrown in that step, of so many frames.
+// Whether coins are thrown in that step, in a run of this many frames.
 fn has_coins(frames: u32, frame: u32, slot: u8, step: u8) -> bool
     ensures { result ≡ throws_coins frames frame slot step }
 {

@@ -58,7 +58,8 @@ impl Account {
         Ok(Account { lines })
     }
 
-    /// The same by what was counted while the run went on: what the listening of each node came to, by ascending ids.
+    /// The same, by what was counted during the run: what the windows of each node come to and in how many frames it scanned,
+    /// by ascending ids.
     pub fn of_run(
         alloc: Global,
         s: &Scenario,

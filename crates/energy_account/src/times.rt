@@ -10,7 +10,8 @@ use lwb_base::{Memory, NodeId, PLACES_BY_ID};
 use std::alloc::Global;
 use std::marker::Model;
 
-// By the id of the node. That nobody sends or is tuned for 2^64 ticks is a law of valid logs, so on the way sums may wrap.
+// Times in ticks of 1/64 µs, at the place of each node's id. Sums may wrap on the way: by a law of valid logs no node sends or
+// is tuned for 2^64 ticks.
 #[derive(Drop)]
 pub(crate) struct Times {
     sent: Vec<u64>,
@@ -30,7 +31,7 @@ impl Model for Times {
 }
 
 impl Times {
-    // Of the Sent and the Tuned entries of a log.
+    // The times that the `Sent` and the `Tuned` entries of a log sum up to.
     pub(crate) fn of(alloc: Global, air: &Air) -> Result<Times, Memory>
         ensures times { IfOk result (λ t. HasTimes air.now t) }
         ensures early { IfOk result (λ t. All EndsEarly air.now) }

@@ -11,7 +11,7 @@ use Rattle.host_return.specs.declared.transmissions.Search.{Search}
 abbrev pub AreSent : List Entry → Search → Type 0
 AreSent air t = HoldSame (sendings_of air) t.sent.sent
 
--- the nodes are those of the scenario, and the transmissions are in order over its trail
+-- the nodes are those of the scenario, and the transmissions are in order over its trace
 pub record IsSearchable (s : ScenarioParts) (t : Search) : Type 0 where
   pub said : IsScenario s
   pub ids : t.nodes.items ≡ map (λ n. n.node) s.nodes

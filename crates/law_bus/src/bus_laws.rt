@@ -7,27 +7,27 @@ ghost use Rattle.law_bus.specs.AllSlots.{AllSlotsLaw};
 ghost use Rattle.law_bus.specs.ScannedFrames.{ScansLaw};
 ghost use Rattle.law_bus.specs.BusRuns.{LawfulRunsAreTheBus};
 
-/// In each slot of each round who sends with a counter, and who has accepted with it when its window closes, is on the air
-/// who does so in that step of the bus's flood.
+/// In each slot of each round the nodes that send with a counter on the air are those that send in this step of the bus's
+/// flood. The nodes that have accepted with it when their windows close are those that accept in this step.
 pub fn slots_are_floods_of_the_bus()
     ensures { SlotLaw }
 {}
 
-/// Nothing else is on the air: each transmission is the message of an initiator of a slot of the bus, with a counter, and its
-/// node sends it in the step of that counter in the flood of the slot.
+/// Nothing else is on the air: each transmission has the message of an initiator in a slot of the bus, and a counter. On the
+/// bus its node sends this message in the step of that counter.
 pub fn nothing_else_is_sent()
     ensures { SentLaw }
 {}
 
-/// After the script lines of each frame each node is the bus's: off after as many boots, or on with the same boot, tune,
-/// plan, streams, queues and table.
+/// After the script lines of each frame each node matches the bus: it is off after as many boots, or on with the same boot,
+/// tune, plan, streams, queues and table.
 pub fn frames_begin_as_on_the_bus()
     ensures { RunLaw }
 {}
 
-/// So it is before each slot of each round, and the flood of each slot gives by radio what it gives on the bus (`slots`). A
-/// node has the windows that open by an alarm which it has on the bus (`windows`), and the cores round each window are those of
-/// the bus before and after its slot (`cores`).
+/// The nodes match the bus before each slot of each round too, and the flood of the slot gives by radio what it gives on the
+/// bus (`slots`). A node opens a window by its alarm in just the slots in which it has a window on the bus (`windows`). Its
+/// core before and after each window is that of the bus before and after the slot (`cores`).
 pub fn slots_go_as_on_the_bus()
     ensures slots { AllSlotsLaw }
     ensures windows { WindowsLaw }

@@ -2,8 +2,8 @@
 
 ghost use Rattle.law_terms.specs.SlotSteps.{FirstSlotLaw, SlotStepLaw, RoundEndLaw};
 
-/// Where the nodes are the bus's after the script lines of a frame, they are so before slot 0 of each of its rounds:
-/// who takes part awaits it, and goes by the plan of the round.
+/// If the nodes match the bus after the script lines of a frame, they match it before slot 0 of each round of the frame: each
+/// node that takes part awaits this slot, with the plan of the round.
 pub fn rounds_begin_as_the_bus()
     ensures { FirstSlotLaw }
 {}
@@ -14,7 +14,8 @@ pub fn slots_follow_as_on_the_bus()
     ensures { SlotStepLaw }
 {}
 
-/// And after the last slot: who had a window in it is as that has left it, and every other node as the frame found it.
+/// If they match it before the last slot, the round of the bus ends as theirs does: a node with a window in this slot is as the
+/// window left it, and every other node as it was after the script lines of the frame.
 pub fn rounds_end_as_on_the_bus()
     ensures { RoundEndLaw }
 {}

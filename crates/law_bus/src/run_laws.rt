@@ -1,5 +1,5 @@
-//! A valid (`Lawful`) run as a whole, each law a function that does nothing and has the law as its contract. They are based on
-//! what the flood of a slot gives where the nodes are the bus's before it.
+//! A valid (`Lawful`) run as a whole, each law a function that does nothing and has the law as its contract. They need the law
+//! on the flood of a slot before which the nodes match the bus.
 
 ghost use Rattle.law_terms.specs.SlotSteps.{SlotHeardLaw};
 ghost use Rattle.law_terms.specs.SlotLaws.{CoresLaw, WindowsLaw};
@@ -7,19 +7,20 @@ ghost use Rattle.law_terms.specs.RunLaws.{AnyClocksLaw, DeliveriesLaw, DropsLaw,
 ghost use Rattle.law_bus.specs.AllSlots.{AllSlotsLaw};
 ghost use Rattle.law_bus.specs.ScannedFrames.{ScansLaw};
 
-/// After the script lines of each frame each node is the bus's: off after as many boots, or on with the same boot,
+/// After the script lines of each frame each node matches the bus: it is off after as many boots, or on with the same boot,
 /// tune, plan, streams, queues and table.
 pub fn runs_are_the_bus()
     ensures { SlotHeardLaw → RunLaw }
 {}
 
-/// So it is before each slot of each round, and the flood of each slot gives by radio what it gives on the bus.
+/// The nodes match the bus before each slot of each round too, and the flood of the slot gives by radio what it gives on the
+/// bus.
 pub fn slots_are_the_bus()
     ensures { SlotHeardLaw → AllSlotsLaw }
 {}
 
-/// A node has the windows that open by an alarm which it has on the bus (`windows`), and the cores round each window
-/// are those of the bus before and after its slot (`cores`).
+/// A node opens a window by its alarm in just the slots in which it has a window on the bus (`windows`). Its core before and
+/// after each window is that of the bus before and after the slot (`cores`).
 pub fn windows_are_those_of_the_bus()
     ensures windows { SlotHeardLaw → WindowsLaw }
     ensures cores { SlotHeardLaw → CoresLaw }

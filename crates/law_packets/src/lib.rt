@@ -1,5 +1,5 @@
-//! What became of the packets on the bus, whole: laws on the bus as it is defined. They say that counts of packets add up,
-//! and that the packets that were sent, with their receivers, are the deliveries.
+//! What becomes of every packet on the bus: laws on the bus as it is defined. They say that counts of packets add up, and that
+//! the packets that were sent, with their receivers, are the deliveries.
 //!
 //! Each law is the contract of a function that does nothing.
 #![tactic(auto)]

@@ -11,14 +11,14 @@ pub fn rows_suffice()
     ensures { RowsSuffice }
 {}
 
-/// Where the invariant holds before a tick, what a node takes as received at it was sent in a flood of the true frame, on the
-/// channel to which the node is tuned.
+/// If the invariant holds before a tick, what a node receives in this tick was sent in a flood of the frame of true time, on
+/// the channel to which the node is tuned.
 pub fn what_is_heard_is_of_a_flood()
     ensures { HeardInFloods }
 {}
 
-/// And the node is in its ranges where it takes a reception (`hearings`) or its alarm is due (`alarms`), and as it enters each
-/// phase of the tick (`phases`).
+/// The numbers of the node are then in their ranges when it takes a reception (`hearings`), when its alarm is due (`alarms`),
+/// and when it enters each phase of the tick (`phases`).
 pub fn nodes_of_a_run_stay_in_range()
     ensures hearings { WellAtHearings }
     ensures alarms { WellAtAlarms }

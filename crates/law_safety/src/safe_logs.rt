@@ -3,9 +3,10 @@
 ghost use Rattle.law_safety.specs.Invariant.{HoldsThroughout, HeedfulLogsAreSafe, LawfulLogsAreSafe};
 ghost use Rattle.law_safety.specs.Endings.{LogsInOrderAreSafe};
 
-/// Where the invariant holds at the end of a run, its log is safe: a transmission lies in one frame, none meets one of another
-/// frame, slot or step of its channel, those of a slot differ in the counter alone unless both are requests, one node at most
-/// begins the flood of a slot, and who neither hosts nor received a schedule that allows it begins none.
+/// If the invariant holds at the end of a run, its log is safe. Each transmission lies in one frame, and overlaps none of
+/// another frame, slot or step of its channel. Two of one slot differ in the counter alone, unless both are requests. At most
+/// one node begins the flood of a slot, requests aside. A node begins one only if it hosts, or has received a schedule that
+/// allows it.
 pub fn logs_in_order_are_safe()
     ensures { LogsInOrderAreSafe }
 {}

@@ -3,8 +3,8 @@
 
 ghost use Rattle.law_safety.specs.SlotLaws.{OneFloodInASlot, OnePlanIsSent};
 
-/// Where the invariant holds at the end of a run, at most one plan was sent for a rank and a frame, by closings and
-/// openings of whatever frames and boots of its host.
+/// If the invariant holds at the end of a run, at most one plan was sent for a rank and a frame: all closing and opening
+/// schedules of its host that name the frame have this plan, whatever their frames and boots.
 pub fn one_plan_is_sent_for_a_round()
     ensures { OnePlanIsSent }
 {}

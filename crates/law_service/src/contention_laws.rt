@@ -11,9 +11,9 @@ pub fn ids_equal_modulo_16_share_slots()
     ensures parted { ThreeSlotsPart }
 {}
 
-/// Two nodes whose ids are equal modulo 16, with equal tries and equal backoff, have both equal again after a contention slot
-/// of their own in which both have a request due (`contention`), and after a schedule that acknowledges neither, from a host
-/// that both know or neither does (`schedules`).
+/// Take two nodes with ids that are equal modulo 16, and with equal tries and equal backoff. These are equal again after a
+/// contention slot of their own in which both have a request due (`contention`). So they are after a schedule that acknowledges
+/// neither, from a host that both know or neither knows (`schedules`).
 pub fn ties_are_kept()
     ensures contention { ContentionKeepsTies }
     ensures schedules { SchedulesKeepTies }

@@ -21,7 +21,7 @@ pub record IsBackingOff (node : ℕ) (x : Streams) : Type 0 where
   pub tries : x.tries ≤ 4
   pub skips : x.skips ≤ node % 2 ^ x.tries
 
--- in which of so many contention slots it does so, if it does
+-- in which of this many contention slots it does so, if it does
 abbrev pub slot_after : ℕ → ℕ → Streams → ℕ → Option ℕ
 slot_after slots node x n = if requests_after node x n then Some (own_number node (after_turns node x n).tries slots) else None
 
@@ -29,7 +29,7 @@ slot_after slots node x n = if requests_after node x n then Some (own_number nod
 abbrev pub ids_apart : ℕ → ℕ
 ids_apart slots = if slots == 3 then 48 else 16
 
--- within so many rounds, with so many contention slots in each, one of two such nodes alone requests, or both do so in different slots
+-- within this many rounds, with this many contention slots in each, one of two such nodes alone requests, or both do so in different slots
 abbrev pub PartWithin : ℕ → ℕ → Type 0
 PartWithin slots rounds =
     (u v : ℕ) (x y : Streams) → u % ids_apart slots ≢ v % ids_apart slots → IsBackingOff u x → IsBackingOff v y
@@ -61,7 +61,7 @@ six_askers =
 abbrev pub SixNeverPart : Type 0
 SixNeverPart = (n : ℕ) → count_by (asks_in n) six_askers ≢ 1
 
--- a node that has tried four times, with so many slots of its own to skip, and whether it requests in a round
+-- a node that has tried four times, with this many slots of its own to skip, and whether it requests in a round
 pub record Waiter : Type 0 where
   pub node : ℕ
   pub skips : ℕ

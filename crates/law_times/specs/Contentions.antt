@@ -51,7 +51,7 @@ pub record PassesOver (p : Plan) (node boot : ℕ) : Type 0 where
   pub acks : list_any (names node boot) p.acks ≡ false
   pub owners : list_any (λ c. node_of c == node) p.owners ≡ false
 
--- two such members, up to frame e, in which nothing is lost, and with so many contention slots in each round; the host's plan in frame f
+-- two such members, up to frame e, in which nothing is lost, and with this many contention slots in each round; the host's plan in frame f
 -- passes over both
 pub record AreTwo (s : ScenarioParts) (rank host f e : ℕ) (among : List ℕ) (u v slots : ℕ) : Type 0 where
   pub group : IsGroup s host f e among
@@ -92,7 +92,7 @@ pub record IsAnswered (s : ScenarioParts) (rank f host u v : ℕ) : Type 0 where
   pub answer : (IsNamed s rank f plan host u boots.0 ⊎ IsNamed s rank f plan host v boots.1)
       ⊎ (IsHeardAlone s rank f plan host u ⊎ IsHeardAlone s rank f plan host v)
 
--- within so many rounds one of them is
+-- within this many rounds one of them is
 abbrev pub PartOnTheBus : ℕ → ℕ → Type 0
 PartOnTheBus slots rounds =
     (s : ScenarioParts) → IsScenario s → (rank host f : ℕ) (among : List ℕ) (u v : ℕ) → AreTwo s rank host f (f + GREATEST_GAP * rounds) among u v slots

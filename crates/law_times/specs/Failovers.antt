@@ -21,7 +21,7 @@ pub record IsLastHost (s : ScenarioParts) (rank host b e : ℕ) : Type 0 where
 abbrev pub failover_bound : ℕ → ℕ
 failover_bound hosts = GREATEST_GAP + SEARCH_FRAMES * (hosts - 1) + QUIET_FRAMES
 
--- it hosts its rank from then on, whatever is lost, in a network of so many hosts
+-- it hosts its rank from then on, whatever is lost, in a network of this many hosts
 abbrev pub HostsWithin : ℕ → ℕ → Type 0
 HostsWithin hosts frames =
     (s : ScenarioParts) → IsScenario s → length s.hosts ≡ hosts → (rank host b e : ℕ) → IsLastHost s rank host b e
@@ -40,7 +40,7 @@ pub record LosesHost (s : ScenarioParts) (first second b d e : ℕ) (among : Lis
 abbrev pub takeover_bound : ℕ
 takeover_bound = 1 + SEARCH_FRAMES + QUIET_FRAMES
 
--- that host has its first round so many frames after the one that fell out, whatever is lost
+-- that host has its first round this many frames after the one that fell out, whatever is lost
 abbrev pub BackupsTakeOver : ℕ → Type 0
 BackupsTakeOver frames =
     (s : ScenarioParts) → IsScenario s → (first second b d e : ℕ) (among : List ℕ) → LosesHost s first second b d e among → d + frames ≤ e

@@ -16,7 +16,7 @@ pub record Begins (s : ScenarioParts) (host b e : ℕ) : Type 0 where
   pub boots : BootsIn s b host
   pub stays : StaysOn s b e host
 
--- it has its first round so many frames later, whatever is lost
+-- it has its first round this many frames later, whatever is lost
 abbrev pub FirstRoundsCome : ℕ → Type 0
 FirstRoundsCome frames =
     (s : ScenarioParts) → IsScenario s → (host b : ℕ) → Begins s host b (b + frames) → HasTune s (b + frames) host (Host 0 (b + frames))

@@ -50,7 +50,7 @@ unfoldable pub scanned : ScenarioParts → ℕ → ℕ → ℕ → ℕ
 scanned s v f zero = 0
 scanned s v f (suc n) = scanned s v f n + (if is_on_and (λ c. is_scan c.tune) (state_at s (n + f) v) then 1 else 0)
 
--- of members each scans for at most so many frames for each round with losses, as long as no more than three of these follow one
+-- of members each scans for at most this many frames for each round with losses, as long as no more than three of these follow one
 -- another; and after a round without losses they are members
 pub record CostsFew (frames : ℕ) (s : ScenarioParts) (rank f host : ℕ) (among : List ℕ) (n : ℕ) : Type 0 where
   pub few : (v : ℕ) → has among v ≡ true → v ≢ host → scanned s v f n ≤ frames * lossy_rounds s rank host f n

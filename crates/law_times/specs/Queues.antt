@@ -25,7 +25,7 @@ pub record StreamPacket : Type 0 where
   pub stream : ℕ
   pub packet : WaitingPacket
 
--- a node in this state has it waiting, behind so many others of its stream
+-- a node in this state has it waiting, after this many others of its stream
 pub record IsQueued (x : State) (w : StreamPacket) (ahead : ℕ) : Type 0 where
   pub core : Core
   pub on : x ≡ StateOn core
@@ -94,7 +94,7 @@ pub record IsServed (s : ScenarioParts) (rank host f e : ℕ) (among : List ℕ)
   pub keeps : has_line (resets w.stream) s f e w.node ≡ false
   pub agreed : IsAgreed s rank host f plan w entry
 
--- one of the first packets that wait is delivered within so many frames, if its stream is agreed and has been accepted before frame f: the
+-- one of the first packets that wait is delivered within this many frames, if its stream is agreed and has been accepted before frame f: the
 -- host then keeps it
 abbrev pub AgreedPacketsComeWithin : ℕ → ℕ → ℕ → ℕ → Type 0
 AgreedPacketsComeWithin queue interval seconds frames =
@@ -103,7 +103,7 @@ AgreedPacketsComeWithin queue interval seconds frames =
     → (due : ℕ) (e : TableEntry) → HasEntry s host f due e → e.code ≡ code w.node w.stream → e.interval ≡ interval → e.accepted < f
     → IsServed s rank host f (f + frames) among awaits.members.plan w e → (g : ℕ) × (f ≤ g) × (g ≤ f + frames) × IsDelivered s rank g among w
 
--- one of the first packets that wait is delivered within so many frames, if its host accepted the stream, with this interval, before
+-- one of the first packets that wait is delivered within this many frames, if its host accepted the stream, with this interval, before
 -- frame f, and still has it, not accepted anew, GREATEST_GAP - 1 frames before the last of them
 abbrev pub PacketsComeWithin : ℕ → ℕ → ℕ → ℕ → Type 0
 PacketsComeWithin queue interval seconds frames =

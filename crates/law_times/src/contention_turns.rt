@@ -5,8 +5,7 @@ ghost use Rattle.law_times.specs.Contentions.{PartOnTheBus};
 ghost use Rattle.law_times.specs.SixNodes.{SixAreNeverAnswered};
 ghost use Rattle.law_times.specs.ContentionTurns.{PartWithin, SixNeverPart, SixOfThreeNeverPart, ids_apart, parting_bound};
 
-/// The number by which the ids of two nodes have to differ modulo for them to part, with this number of contention slots in each
-/// round, 1 to 4.
+/// Two nodes part if their ids differ modulo this number, by the number of contention slots in each round, 1 to 4.
 pub fn ids_apart(slots: u8) -> u8
     ensures { result ≡ ids_apart slots }
 {

@@ -7,7 +7,7 @@ ghost use Rattle.law_times.specs.Failovers.{BackupsTakeOver, HostsWithin, NodesF
 use lwb_base::{GREATEST_GAP, QUIET_FRAMES, SEARCH_FRAMES};
 
 /// The frames within which a host hosts its rank once it is the last host that is on, in a network of this many hosts, 1 to 4:
-/// whatever is lost, and from whatever it goes by then.
+/// whatever is lost, and whatever it listened to before.
 pub fn failover_frames(hosts: u8) -> u32
     requires { (1 ≤ hosts) × (hosts ≤ MOST_RANKS) }
     ensures value { result ≡ failover_bound hosts }
@@ -18,9 +18,9 @@ pub fn failover_frames(hosts: u8) -> u32
         + u32::from(QUIET_FRAMES)
 }
 
-/// The frames from the round that falls out to the first of the other host, where of two hosts that of rank 0 is gone and all others hold
-/// its round: whatever is lost (`host`). If nothing is lost in the frame of that round, all others within reach of it are members after
-/// it (`nodes`).
+/// Of two hosts that of rank 0 goes off, while the other nodes are synchronized to its next round. These are the frames from
+/// that round, which falls out, to the first round of the other host: whatever is lost (`host`). If nothing is lost in the
+/// frame of this first round, all others within reach of the host are members after it (`nodes`).
 pub fn takeover_frames() -> u8
     ensures value { result ≡ takeover_bound }
     ensures host { BackupsTakeOver result }

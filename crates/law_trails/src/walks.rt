@@ -22,8 +22,8 @@ pub fn what_each_step_keeps_holds_throughout()
     ensures run { (P : ℕ → ℕ → Phase → Device → Bool) → HoldsInRun (λ v t phase d. P v t phase d ≡ true) }
 {}
 
-/// Orders do what they say, and nothing else but to the tunings that ended: the last that speaks of the radio decides to
-/// which channel it is tuned, the last `alarm` when that is due, and the last `send at` what is ordered.
+/// Orders change what they name, and of the rest only the tunings that ended. The last order for the radio decides to which
+/// channel it is tuned, the last `alarm` when the alarm is due, and the last `send at` which transmission is ordered.
 pub fn orders_do_what_they_say()
     ensures { (clock : ℕ → ℕ) (v t : ℕ) (os : List Order) (d : Device)
         → HasObeyed clock t os d (fold (obeyed clock v t) d os) }

@@ -3,9 +3,9 @@
 ghost use Rattle.law_terms.specs.FrameCourses.{CoursesLaw};
 ghost use Rattle.law_windows.specs.FramePlaces.{PlacesLaw, StrangersLaw};
 
-/// Each node of a valid (`Lawful`) run goes through each frame so: off throughout, or from the script lines at the start of the
-/// frame to its windows, slot by slot, and on to the end of the frame, where its core is what the last of them left, with the
-/// frame ended.
+/// In each frame of a valid (`Lawful`) run each node is either off throughout, or goes from the script lines at the start of
+/// the frame through its windows, slot by slot, to the end of the frame. There its core is what the last window left, changed
+/// as the end of a frame changes it.
 pub fn nodes_go_through_frames_window_by_window()
     ensures { CoursesLaw }
 {}

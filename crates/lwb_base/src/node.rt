@@ -23,7 +23,7 @@ impl Model for NodeId {
 }
 
 impl NodeId {
-    /// None exactly outside 1 to `GREATEST_ID`.
+    /// Returns `None` if and only if the id is outside 1 to `GREATEST_ID`.
     pub fn new(id: u8) -> Option<NodeId>
         ensures { SomeIff result ((1 ≤ id) × (id ≤ GREATEST_ID)) id }
     {

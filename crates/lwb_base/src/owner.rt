@@ -36,7 +36,7 @@ impl Owner {
         }
     }
 
-    /// None exactly outside 4 to 803.
+    /// Returns `None` if and only if the code is outside 4 to 803.
     pub fn from_code(code: u16) -> Option<Owner>
         ensures { SomeIff result ((4 ≤ code) × (code ≤ 803)) code }
     {

@@ -16,8 +16,8 @@ ghost use Rattle.lwb_flood.specs.FloodBySteps.{IsFloodBySteps};
 ghost use Rattle.lwb_flood.specs.Windows.{IsListeningWindow, IsSlotFlood};
 ghost use Rattle.lwb_flood.specs.TwoNodes.{two_node_run, two_tuned};
 
-/// What nodes do in one flood on the air is the flood by steps, for any number of initiators: where nodes are tuned by
-/// the tunings of a scene, and where they are tuned by any test.
+/// What nodes do in one flood on the air is the flood by steps, for any number of initiators: with nodes tuned by the tunings
+/// of a scene (`scene`), or as any test says (`test`).
 pub fn air_floods_by_steps()
     ensures scene { (a : Scene) (r : Run) → FloodRun r (TunedThrough a) → IsFloodBySteps r }
     ensures test { (r : Run) (tuned : ℕ → Sending → Bool) → FloodRun r (λ v x. tuned v x ≡ true) → IsFloodBySteps r }
@@ -31,13 +31,14 @@ pub fn sendings_are_counted()
         → AllPairs (λ x y. x ≢ y) r.sendings → AllPairs (λ u v. u ≢ v) r.setting.everyone → length r.sendings ≡ sendings r.setting }
 {}
 
-/// Among all that is on the air, a node receives a transmission of a run that is a part of it by the rule of that run.
+/// If a run is a part of what is on the air, its nodes receive its transmissions by the rule of the run alone.
 pub fn runs_hear_by_the_rule_of_the_air()
     ensures { (a : Scene) (r : Run) → IsPart a r → (v : ℕ) (x : Sending) → IsParticipant r v → Contains r.sendings x
         → HearsInScene a v x ↔ HearsIn r (TunedThrough a) v x }
 {}
 
-/// The numbers of a profile leave the room that a run asks for, and a packet of any kind is spelled with each counter.
+/// The numbers of a profile have the margins that a run needs (`numbers`), and the packet of any kind may have each counter
+/// (`spelled`).
 pub fn premises_are_met()
     ensures numbers { (p : Numbers) (b : Budget) → Fits p b → (n q : ℕ) → 7 ≤ n → q ≤ b.contenders
         → (q + 23 < p.turn) × (q + 22 < airtime p n) × (22 ≤ p.delta) }
@@ -45,8 +46,8 @@ pub fn premises_are_met()
         → is_spelling kind (slice_set p 2 k) ≡ true }
 {}
 
-/// A node that is tuned from its window's opening until it goes off is tuned through what does not overlap a transmission of
-/// its own if and only if it has sent less often than its limit.
+/// Take a node that is tuned from the time its window opens until it goes off, and a transmission that overlaps none of its
+/// own. The node is tuned all through it if and only if it has sent less often than its limit.
 pub fn windows_give_tuning()
     ensures scene { (a : Scene) (r : Run) (v opening closing : ℕ)
         → ((x : Sending) → Contains r.sendings x → x.start < x.end) → IsListeningWindow r (TunedThrough a) v opening closing
@@ -68,7 +69,7 @@ pub fn slots_are_runs()
         → IsSlotFlood p b n clocks r (λ v x. tuned v x ≡ true) → FloodRun r (λ v x. tuned v x ≡ true) }
 {}
 
-/// The record is met: by a run in which one node relays what another initiates.
+/// Worked example: a run in which one node relays what another initiates meets the record.
 pub fn two_nodes_are_a_run()
     ensures { FloodRun two_node_run (λ v x. two_tuned v x ≡ true) }
 {}

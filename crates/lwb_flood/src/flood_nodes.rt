@@ -1,4 +1,4 @@
-//! What the nodes of a flood are about, by their places.
+//! What the nodes of a flood are doing, by their places.
 
 ghost use Rattle.std.specs.Prelude.{◌≡◌, ◌<◌, ◌≤◌, ◌^◌, All, Contains, AllPairs, length, map, slice_index_or, true, if◌then◌else◌};
 ghost use Rattle.radio_model.specs.declared.sending.Sending.{Sending};
@@ -12,7 +12,7 @@ use lwb_base::NodeId;
 use radio_model::sending::Sending;
 use tick_clock::{DriftClock, turn_bounds};
 
-// What the node is about from now on.
+// Sets what the node does from now on.
 pub(crate) fn set_act(members: &mut Vec<Member>, node: NodeId, act: Act)
     requires node { Contains (map node_of_member members.old.items) node }
     requires ascend { AllPairs (λ a b. a < b) (map node_of_member members.old.items) }

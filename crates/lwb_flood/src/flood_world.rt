@@ -28,7 +28,7 @@ use tick_clock::DriftClock;
 // The true tick at which the nodes tune in.
 const OPENING: u64 = 1_344_000_000;
 
-// The true tick at which those nodes go off that have transmissions left.
+// The true tick at which the nodes go off that have not sent as often as they may.
 const CLOSING: u64 = 1_346_096_000;
 
 // One flood as it runs: the medium, the nodes by ascending ids, and the log.
@@ -218,7 +218,7 @@ impl FloodWorld {
     }
 }
 
-// What a node is about to do: when, and whether it is to start a transmission; else one ends.
+// When a node does something next, and whether it starts a transmission then (`true`) or ends one.
 fn moment(act: &Act) -> Option<(u64, bool)>
     ensures { result ≡ moment_of act.now }
 {
@@ -229,7 +229,7 @@ fn moment(act: &Act) -> Option<(u64, bool)>
     }
 }
 
-// What comes first of what was first, with its place, and what the node at place i is about to do.
+// The earlier of the first so far, with its place, and what the node at place i does next.
 fn sooner(next: Option<(usize, u64, bool)>, i: usize, act: &Act) -> Option<(usize, u64, bool)>
     ensures { result ≡ sooner_of next i (moment_of act.now) }
 {

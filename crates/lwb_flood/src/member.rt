@@ -7,7 +7,7 @@ use glossy_relay::Flood;
 use lwb_base::{NodeId, Packet};
 use radio_model::sending::Sending;
 
-// What a node of a flood is about.
+// What a node of a flood is doing.
 #[derive(Drop)]
 pub(crate) enum Act {
     // It is tuned in and has nothing to send.

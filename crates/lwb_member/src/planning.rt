@@ -107,7 +107,8 @@ fn as_acks(answers: &[Kept]) -> Acks
     acks
 }
 
-// The host's own streams, ascending: what is agreed is what the table has, and a request that is then due is put to it.
+// The host's own streams, ascending: each takes over the interval that the table has granted it, and if a request is due then,
+// the request is put to the table.
 pub(crate) fn serve_own(
     table: &mut Table,
     streams: &mut Streams,

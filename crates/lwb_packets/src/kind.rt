@@ -16,7 +16,7 @@ pub enum Kind {
     Request,
 }
 
-/// The kind that byte 0 names: 1 and 4 a schedule, 2 data, 3 a request. None exactly for another byte.
+/// The kind that byte 0 names: 1 and 4 a schedule, 2 data, 3 a request. Returns `None` if and only if it is another byte.
 pub fn kind_of(packet: &Packet) -> Option<Kind>
     ensures { result ≡ kind_in packet.now }
 {

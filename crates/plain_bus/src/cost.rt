@@ -13,8 +13,8 @@ use std::marker::Model;
 pub struct Cost {
     /// How long it sends.
     pub sent: u64,
-    /// What the windows count that it has in rounds: each until the end of its last transmission, if the node sent as often as
-    /// it may, and else until the window closes.
+    /// What its windows in rounds count: each until the end of its last transmission, if the node sent as often as it may, and
+    /// else until the window closes.
     pub windows: u64,
     /// The number of frames in which it scans for a host, after the script lines.
     pub scanned: u32,

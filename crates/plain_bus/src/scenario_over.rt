@@ -1,4 +1,4 @@
-//! A scenario over links that stand in place of its own trace.
+//! A scenario over links that replace its own trace.
 
 ghost use Rattle.std.specs.Prelude.{◌≡◌};
 ghost use Rattle.bus_terms.specs.OverLines.{over, IsOverScenario};
@@ -10,8 +10,8 @@ use lwb_base::{NodeId, Profile};
 use scenario_text::{NodeLine, Scenario, ScriptLine};
 use std::marker::Model;
 
-/// A scenario over links that stand in place of its own trace, and are sealed with its nodes. Contracts see what the scenario
-/// says, with the lines of the links for its trace.
+/// A scenario over links that replace its own trace, and are sealed with its nodes. Contracts see what the scenario says, with
+/// the lines of the links for its trace.
 #[derive(Drop)]
 pub struct ScenarioOver<'a, M: Links> {
     scenario: &'a Scenario,

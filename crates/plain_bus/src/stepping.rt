@@ -83,7 +83,7 @@ impl Stations {
     }
 }
 
-// A node that does not send goes after a step in which it received this origin.
+// Takes a node that does not send past a step in which it received this origin.
 fn receive(station: &mut Station, step: u8, origin: NodeId)
     requires step { step ≤ 11 }
     requires rests { station.old.sends ≡ None }
@@ -97,7 +97,7 @@ fn receive(station: &mut Station, step: u8, origin: NodeId)
     }
 }
 
-// A node goes after a step in which this origin alone is sent, and reaches the nodes of the mask.
+// Takes a node past a step in which this origin alone is sent, and reaches the nodes of the mask.
 fn pass(station: &mut Station, flood: &Flood, step: u8, place: u8, reached: u64, origin: NodeId)
     requires step { step ≤ 11 }
     requires place { place < 64 }
@@ -114,7 +114,7 @@ fn pass(station: &mut Station, flood: &Flood, step: u8, place: u8, reached: u64,
 }
 
 impl Stations {
-    // All nodes go after a step in which this origin alone is sent.
+    // Takes all nodes past a step in which this origin alone is sent.
     fn pass_all<M: Links>(&mut self, links: &M, flood: &Flood, step: u8, origin: NodeId)
         requires step { step ≤ 11 }
         requires sealed { length self.old.each.items ≡ length (M.nodes links.now) }
@@ -139,8 +139,8 @@ impl Stations {
         self.senders = senders;
     }
 
-    /// All nodes go after a step: they stay as they are where nobody sends in it. One initiator alone has its origin sent
-    /// and no other.
+    /// Takes all nodes past a step. If nobody sends in it, they stay as they are. In a flood of one initiator no other origin
+    /// is sent.
     pub fn go_on<M: Links>(&mut self, links: &M, flood: &Flood, step: u8)
         requires step { step ≤ 11 }
         requires sealed { length self.old.each.items ≡ length (M.nodes links.now) }
@@ -209,7 +209,7 @@ fn initiator(flood: &Flood, place: u8, node: NodeId) -> Station
     }
 }
 
-/// A flood that went by.
+/// A flood that has ended.
 #[derive(Drop)]
 pub struct FloodEnd {
     /// All nodes after it.

@@ -32,7 +32,7 @@ pub struct Window {
 }
 
 impl Window {
-    // Of a node that has nothing to do with the slot.
+    // The window of a node that has nothing to do with the slot.
     fn shut() -> Window
         ensures { seen_window result ≡ record { is_open = false; takes_part = false; initiates = false; message = None } }
     {
@@ -46,7 +46,7 @@ impl Window {
 }
 
 impl Window {
-    // Of a member that says this.
+    // The window of a member that says this.
     fn saying(packet: Packet) -> Window
         ensures is_open { result.is_open ≡ true }
         ensures takes_part { result.takes_part ≡ true }
@@ -149,7 +149,8 @@ impl BusNode {
 
     /// The slot of this part and number closes in the round of this rank and frame, which is at most `LAST_FRAME`: the node
     /// initiated in it, accepted this, or neither. What it delivers, if something. A host accepts no schedule, and no more
-    /// requests than its round has contention slots: of what it may not accept nothing comes, and nothing of it changes.
+    /// requests than its round has contention slots. If it is given one that it may not accept, it delivers nothing and stays
+    /// as it was.
     pub fn close(
         &mut self,
         rank: Rank,

@@ -11,6 +11,6 @@ use Rattle.fate_report.specs.SampleLines.{sample_text}
 abbrev pub seed_text : ScenarioParts → List RatioLine → ℕ → List ℕ
 seed_text s ratios seed = line_text (numbered (codes "seed") (seed ∷ [])) ++ sample_text (drawn_scenario s ratios seed)
 
--- of so many seeds, from one on
+-- of this many seeds, from this one on
 abbrev pub seeds_text : ScenarioParts → List RatioLine → ℕ → ℕ → List ℕ
 seeds_text s ratios from count = flat_map (seed_text s ratios) (range_with_len from count)

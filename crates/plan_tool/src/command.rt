@@ -15,7 +15,7 @@ pub enum Command {
     Outcome { seed: u64 },
     /// What became of each packet that the script puts, on that bus with those losses.
     Fates { seed: u64 },
-    /// What became of the packets for each of so many seeds, from one on.
+    /// What became of the packets for each seed of a sample: the first one and their number.
     Sample { from: u64, count: u64 },
 }
 

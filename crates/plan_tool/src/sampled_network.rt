@@ -3,7 +3,7 @@
 use drawn_links::Ratios;
 use scenario_text::Scenario;
 
-/// A scenario with its reception ratios, and so many seeds from one on.
+/// A scenario with its reception ratios, and the seeds of a sample: the first one and their number.
 #[derive(Drop)]
 pub struct SampledNetwork {
     pub scenario: Scenario,

@@ -58,7 +58,7 @@ fn where_so(so: bool, mask: u64) -> u64
     if so { mask } else { 0 }
 }
 
-// What y of this station brings while x comes.
+// What y, of this station, does to x while x is on the air: to which nodes it comes, and whether in time.
 fn brought_with<M: Links>(
     links: &M,
     profile: &Profile,

@@ -107,8 +107,8 @@ pub struct Disturbed {
     pub mixed: u64,
 }
 
-// What those do to x that are near it, where x comes to these nodes. None where none of these nodes is left: each of them
-// transmits itself, or the packet of x comes to it at another time.
+// What the transmissions near x do to it at these nodes, which x reaches. Returns `None` if none of the nodes can receive x:
+// each of them transmits itself, or the packet of x comes to it at another time.
 fn disturbance(
     profile: &Profile,
     near: &[Sending],

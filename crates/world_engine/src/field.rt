@@ -89,7 +89,7 @@ impl Field {
         self.follow(orders, place, t, before, closed)
     }
 
-    // The ordered transmission of the device at the place, which is at tick t, starts if it can.
+    // The transmission that the device at the place has ordered for tick t starts, if it can.
     pub(crate) fn begin<Q: Orders>(
         &mut self,
         orders: &mut Q,

@@ -1,5 +1,5 @@
 //! What runs a scenario: its nodes over one radio medium in true time, each with a clock of its own. It promises a valid
-//! (`Lawful`) log, and what its nodes delivered, lost and became; what follows from such a log is said above.
+//! (`Lawful`) log, and what its nodes delivered, lost and became; `lwb_world` says what follows from such a log.
 #![tactic(auto)]
 
 mod deliveries;
