@@ -138,7 +138,7 @@ def promised(clauses, wanted):
 
 # What a call may leave in any state, since nothing depends on it: who runs scenarios keeps what it likes, and a buffer that is lent
 # is cleared by the call that takes it next.
-FREE = {("Runner::run", "self"), ("follow_returns", "runner")} | {(f"Device::{name}", "radio") for name in ("notify", "take_alarms", "act")}
+FREE = {("Runner::run", "self"), ("follow_returns", "runner"), ("follow_listed", "runner")} | {(f"Device::{name}", "radio") for name in ("notify", "take_alarms", "act")}
 
 
 def open_ends(name, arguments, result, clauses, by):

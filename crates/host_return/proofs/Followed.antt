@@ -16,6 +16,7 @@ use Rattle.air_log.specs.Safe.{Safe}
 use Rattle.law_safety.proofs.SafeRuns.{lawful_logs_are_safe}
 use Rattle.host_return.specs.Candidates.{IsNextReturn}
 use Rattle.host_return.specs.Courses.{IsFollowed, IsOneMore}
+use Rattle.host_return.specs.Probes.{idle_of}
 use Rattle.host_return.specs.Returned.{Becomes, GoesBack, ReturnsEnd, Sixteen, ReturnedParts, counts_in, IsReturned}
 use Rattle.host_return.specs.declared.follow.Course.{Course}
 use Rattle.host_return.specs.declared.returned.Return.{Return}
@@ -34,13 +35,14 @@ copy_has_room s said none =
 
 -- at first there is no return
 pub nothing_yet : (read : ScenarioParts) (c : Course) → c.scenario ≡ read → c.returns.items ≡ [] → Lawful read (scenario_clock read) c.air
-    → IsScenario read → IsFollowed read c
-nothing_yet read c same none lawful said = record {
+    → IsScenario read → c.idle.items ≡ idle_of read c.air → IsFollowed read c
+nothing_yet read c same none lawful said idle = record {
   becomes = subst (λ (rs : List Return). Becomes read (reverse rs) c.scenario) (sym none) same;
   few = omega (arith, ap length none);
   lawful = subst (λ (s : ScenarioParts). Lawful s (scenario_clock s) c.air) (sym same) lawful;
   frames = sym (ap (λ (s : ScenarioParts). s.frames) same);
   said = subst IsScenario (sym same) said;
+  idle = subst (λ (s : ScenarioParts). c.idle.items ≡ idle_of s c.air) (sym same) idle;
 }
 
 pub one_more : (read : ScenarioParts) (old new : Course) → length old.returns.items < 16 → IsFollowed read old → IsOneMore read old new → IsFollowed read new
@@ -61,6 +63,7 @@ one_more read old new less was more =
       lawful = more.lawful;
       frames = was.frames ∙ sym (ap (λ (s : ScenarioParts). s.frames) more.added.parts);
       said = more.said;
+      idle = more.idle;
     }
 
 -- what is handed on at the end

@@ -5,6 +5,7 @@ mod IdleCounted
 mod IdleInOrder
 mod IdleInRuns
 mod IdleRead
+mod IdleTrails
 mod NodesProbing
 mod OneReturned
 mod ProbedStill

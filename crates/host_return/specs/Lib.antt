@@ -7,3 +7,4 @@ pub mod Transmissions
 pub mod Wishes
 pub mod Courses
 pub mod OneReturned
+pub mod TrailsInOrder

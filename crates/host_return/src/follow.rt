@@ -11,6 +11,7 @@ ghost use Rattle.host_return.specs.Probes.{idle_of};
 ghost use Rattle.host_return.specs.Returned.{ReturnsEnd, IsReturned, counts_in};
 
 use crate::candidates::next_return;
+use crate::finders::{ByList, ByTrails, FindsIdle};
 use crate::probes::counts_of;
 use crate::restart::lines_of;
 use crate::{ListsIdle, Return, Returned, Runner};
@@ -23,7 +24,7 @@ use world_engine::Idle;
 /// Follows the returns of a scenario, at most 16: in each run it takes the least candidate by frame and then node, and runs the
 /// scenario again with the script lines of that return. What the runner keeps is of the last run. The only error is out of
 /// memory; after it the runner may hold anything.
-pub fn follow_returns<R: ListsIdle>(
+pub fn follow_returns<R: Runner>(
     alloc: Global,
     s: &Scenario,
     runner: &mut R,
@@ -34,31 +35,69 @@ pub fn follow_returns<R: ListsIdle>(
     ensures quiet { IfOk result AllQuiet }
     ensures kept { IfOk result (λ x. R.kept runner.new x.scenario x.air) }
 {
-    let mut course = Course::first(alloc, s, runner)?;
-    while course.returns.len() < 16 {
-        if !course.go_back(alloc, s, runner)? {
-            return course.finish(alloc, runner);
-        }
-    }
-    course.finish(alloc, runner)
+    follow(alloc, s, runner, &ByTrails)
 }
 
-// The scenario with the lines of the returns so far, and a run of it.
+/// The same by a runner that lists where nodes were idle in its last run. Trails are not computed.
+pub fn follow_listed<R: ListsIdle>(
+    alloc: Global,
+    s: &Scenario,
+    runner: &mut R,
+) -> Result<Returned, Memory>
+    ensures returned { IfOk result (IsReturned s.now) }
+    ensures safe { IfOk result (λ x. Safe x.scenario (scenario_clock x.scenario) x.air) }
+    ensures probed { IfOk result AllProbed }
+    ensures quiet { IfOk result AllQuiet }
+    ensures kept { IfOk result (λ x. R.kept runner.new x.scenario x.air) }
+{
+    follow(alloc, s, runner, &ByList)
+}
+
+// The same, where `finder` finds where nodes were idle.
+fn follow<R: Runner, F: FindsIdle<R>>(
+    alloc: Global,
+    s: &Scenario,
+    runner: &mut R,
+    finder: &F,
+) -> Result<Returned, Memory>
+    ensures returned { IfOk result (IsReturned s.now) }
+    ensures safe { IfOk result (λ x. Safe x.scenario (scenario_clock x.scenario) x.air) }
+    ensures probed { IfOk result AllProbed }
+    ensures quiet { IfOk result AllQuiet }
+    ensures kept { IfOk result (λ x. R.kept runner.new x.scenario x.air) }
+{
+    let mut course = Course::first(alloc, s, runner, finder)?;
+    while course.returns.len() < 16 {
+        if !course.go_back(alloc, s, runner, finder)? {
+            return course.finish(alloc);
+        }
+    }
+    course.finish(alloc)
+}
+
+// The scenario with the lines of the returns so far, a run of it, and where nodes were idle in that run.
 #[derive(Drop)]
 struct Course {
     scenario: Scenario,
     air: Air,
     returns: Vec<Return>,
+    idle: Vec<Idle>,
 }
 
 impl Course {
     // The scenario as it was read, with no return.
-    fn first<R: Runner>(alloc: Global, read: &Scenario, runner: &mut R) -> Result<Course, Memory>
+    fn first<R: Runner, F: FindsIdle<R>>(
+        alloc: Global,
+        read: &Scenario,
+        runner: &mut R,
+        finder: &F,
+    ) -> Result<Course, Memory>
         ensures followed { IfOk result (IsFollowed read.now) }
         ensures none { IfOk result (λ c. c.returns.items ≡ []) }
         ensures kept { IfOk result (λ c. R.kept runner.new c.scenario c.air) }
     {
         let air = runner.run(alloc, read)?;
+        let idle = finder.idle(alloc, runner, read, &air)?;
         let Some(scenario) = with_script(alloc, read, &[])? else {
             unreachable!();
         };
@@ -66,28 +105,29 @@ impl Course {
             scenario,
             air,
             returns: Vec::new(alloc),
+            idle,
         })
     }
 
     // Takes one return more. It is `false` where there is none, or no room for its lines.
-    fn go_back<R: ListsIdle>(
+    fn go_back<R: Runner, F: FindsIdle<R>>(
         &mut self,
         alloc: Global,
         read: &Scenario,
         runner: &mut R,
+        finder: &F,
     ) -> Result<bool, Memory>
         requires lawful { Lawful self.old.scenario (scenario_clock self.old.scenario) self.old.air }
         requires frames { read.now.frames ≡ self.old.scenario.frames }
         requires said { IsScenario self.old.scenario }
-        requires kept { R.kept runner.old self.old.scenario self.old.air }
+        requires idle { self.old.idle.items ≡ idle_of self.old.scenario self.old.air }
         ensures more { result ≡ Ok true → IsOneMore read.now self.old self.new }
         ensures end { result ≡ Ok false → (self.new ≡ self.old) × ReturnsEnd read.now self.old.scenario self.old.air self.old.returns.items }
         ensures kept { result ≡ Ok true → R.kept runner.new self.new.scenario self.new.air }
         ensures no_run { result ≡ Ok false → runner.new ≡ runner.old }
     {
-        let idle = self.idle(alloc, runner)?;
         let s = &self.scenario;
-        let Some(r) = next_return(alloc, read, s, &self.air, &idle, &self.returns)? else {
+        let Some(r) = next_return(alloc, read, s, &self.air, &self.idle, &self.returns)? else {
             return Ok(false);
         };
         let lines = lines_of(alloc, s, &r)?;
@@ -95,28 +135,17 @@ impl Course {
             return Ok(false);
         };
         let air = runner.run(alloc, &scenario)?;
+        let idle = finder.idle(alloc, runner, &scenario, &air)?;
         self.returns.push(r)?;
+        self.idle = idle;
         self.air = air;
         self.scenario = scenario;
         Ok(true)
     }
 
-    // Where nodes are idle in this run, as the runner lists it.
-    fn idle<R: ListsIdle>(&self, alloc: Global, runner: &R) -> Result<Vec<Idle>, Memory>
-        requires kept { R.kept runner.now self.now.scenario self.now.air }
-        ensures { IfOk result (λ idle. idle.items ≡ idle_of self.now.scenario self.now.air) }
-    {
-        let mut idle = Vec::new(alloc);
-        while let Some((frame, node, rank)) = runner.idle(idle.len()) {
-            idle.push(Idle { frame, node, rank })?;
-        }
-        Ok(idle)
-    }
-
     // What came of it, with the counts of its run.
-    fn finish<R: ListsIdle>(self, alloc: Global, runner: &R) -> Result<Returned, Memory>
-        requires lawful { Lawful self.scenario (scenario_clock self.scenario) self.air }
-        requires kept { R.kept runner.now self.scenario self.air }
+    fn finish(self, alloc: Global) -> Result<Returned, Memory>
+        requires idle { self.idle.items ≡ idle_of self.scenario self.air }
         ensures { IfOk result (λ x. x ≡ record {
           scenario = self.scenario;
           returns = self.returns.items;
@@ -124,8 +153,7 @@ impl Course {
           counts = counts_in self.scenario self.air;
         }) }
     {
-        let idle = self.idle(alloc, runner)?;
-        let counts = counts_of(alloc, &self.scenario, &idle)?;
+        let counts = counts_of(alloc, &self.scenario, &self.idle)?;
         let Course {
             scenario,
             air,

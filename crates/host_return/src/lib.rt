@@ -2,7 +2,9 @@
 #![tactic(auto)]
 
 mod candidates;
+mod finders;
 mod follow;
+mod idle_trails;
 pub mod laws;
 mod probes;
 mod restart;
@@ -10,6 +12,6 @@ mod returned;
 mod runner;
 mod transmissions;
 
-pub use follow::follow_returns;
+pub use follow::{follow_listed, follow_returns};
 pub use returned::{Return, Returned};
 pub use runner::{ListsIdle, Runner};

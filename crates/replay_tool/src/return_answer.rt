@@ -17,7 +17,7 @@ use crate::return_lines::{write_probes, write_returns};
 use air_log::{Air, NodeCharge};
 use bus_report::write_report_lines;
 use bus_rules::{Delivery, DropLine};
-use host_return::{ListsIdle, Returned, Runner, follow_returns};
+use host_return::{ListsIdle, Returned, Runner, follow_listed};
 use lwb_base::{Memory, NodeId, Rank};
 use lwb_world::{RunParts, world_after};
 use scenario_text::{ParseFault, Scenario, parse};
@@ -36,7 +36,7 @@ pub fn return_answer(alloc: Global, bytes: &[u8]) -> Result<Answer, Memory>
         Err(ParseFault::Memory) => return Err(Memory),
     };
     let mut worlds = Worlds::new(alloc);
-    let returned = follow_returns(alloc, &scenario, &mut worlds)?;
+    let returned = follow_listed(alloc, &scenario, &mut worlds)?;
     let report = return_report(alloc, &returned, &worlds)?;
     Ok(Answer::Report(report, returned.into_air()))
 }

@@ -14,6 +14,8 @@ mod queue_tests;
 #[cfg(test)]
 mod run_tests;
 #[cfg(test)]
+mod runner_tests;
+#[cfg(test)]
 mod texts;
 #[cfg(test)]
 mod trail_tests;

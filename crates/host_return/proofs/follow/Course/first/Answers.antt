@@ -15,8 +15,8 @@ returns-clause-followed g c =
     let s = c.args.read.now in
     let same : c.in-Some.scenario ≡ s = same_scenario s c.in-Some.scenario c.in_ok-scenario.ensures.said
     (subst (λ (o : Option ScenarioParts). IfSome o (λ t. IsWithScript s [] t × HasRoom t)) c.in-Some.is c.in_ok-scenario.ensures.some).0 in
-    nothing_yet s (record { scenario = c.in-Some.scenario; air = c.in_ok-air.air; returns = c.new.result }) same c.new.ensures.items
-    c.in_ok-air.ensures.lawful c.in_ok-scenario.ensures.said
+    nothing_yet s (record { scenario = c.in-Some.scenario; air = c.in_ok-air.air; returns = c.new.result; idle = c.in_ok-idle.idle }) same c.new.ensures.items
+    c.in_ok-air.ensures.lawful c.in_ok-scenario.ensures.said c.in_ok-idle.ensures
 
 pub returns-clause-kept : goal.returns-clause-kept
 returns-clause-kept g c =

@@ -53,7 +53,8 @@ returns-clause-more g c =
       room = both.1;
       said = subst (λ (o : Option ScenarioParts). IfSome o IsScenario) c.in-Some-2.is c.in_ok-scenario.ensures.still_said;
       lawful = c.in_ok-air.ensures.lawful;
+      idle = c.in_ok-idle.ensures;
     }
 
 pub next_return-requires-clause-idle : goal.next_return-requires-clause-idle
-next_return-requires-clause-idle g c = c.deref.ensures.value ∙ c.in_ok-idle.ensures
+next_return-requires-clause-idle g c = c.deref.ensures.value ∙ c.requires.idle

@@ -1,7 +1,7 @@
 use Rattle.std.proofs.Common.{◌-◌, length}
 use Rattle.host_return.specs.Courses.{IsFollowed}
 use Rattle.host_return.proofs.ProbedStill.{AreProbed}
-use Rattle.host_return.proofs.follow.follow_returns.Given as goal
+use Rattle.host_return.proofs.follow.follow.Given as goal
 
 abbrev pub invariant-loop-course : goal.invariant-loop-course
 invariant-loop-course g l =

@@ -1,17 +1,17 @@
-use Rattle.std.proofs.Common.{◌<◌, Bool, Ok, length, sym, ap, subst, arith, rules}
+use Rattle.std.proofs.Common.{◌≡◌, ◌<◌, Bool, Ok, length, sym, ap, subst, arith, rules}
 use Rattle.std.proofs.lemmas.List.{length_push}
 use Rattle.scenario_text.proofs.SoundScenarios.{sound}
 use Rattle.scenario_clocks.specs.StatedClocks.{scenario_clock}
-use Rattle.air_log.specs.Lawful.{Lawful}
 use Rattle.air_log.specs.Safe.{Safe}
 use Rattle.host_return.specs.AfterReturns.{AllProbed, AllQuiet}
 use Rattle.host_return.specs.Courses.{IsOneMore}
+use Rattle.host_return.specs.Probes.{idle_of}
 use Rattle.host_return.specs.Returned.{IsReturned}
 use Rattle.host_return.specs.declared.follow.Course.{Course}
 use Rattle.host_return.proofs.Followed.{one_more, ended_early, parts_of, sixteen, handed, run_is_safe}
 use Rattle.host_return.proofs.ProbedStill.{AreProbed, none_probed, still_are}
 use Rattle.host_return.proofs.QuietReturns.{all_quiet}
-use Rattle.host_return.proofs.follow.follow_returns.Goals as goal
+use Rattle.host_return.proofs.follow.follow.Goals as goal
 
 pub loop-course-init : goal.loop-course-init
 loop-course-init g c =
@@ -43,18 +43,10 @@ loop-course-smaller g c =
     let more : IsOneMore c.args.s.now old c.go_back.new.self = c.in_ok-go_back.ensures.more (ap (λ (b : Bool). Ok b) c.if-not-branch.false) in
     omega (arith, less, ap length more.returns, length_push old.returns.items more.last)
 
-pub finish-requires-clause-lawful : goal.finish-requires-clause-lawful
-finish-requires-clause-lawful g c =
+pub finish-requires-clause-idle : goal.finish-requires-clause-idle
+finish-requires-clause-idle g c =
     let end = c.in_ok-go_back.ensures.end (ap (λ (b : Bool). Ok b) c.if-not-branch.true) in
-    subst (λ (k : Course). Lawful k.scenario (scenario_clock k.scenario) k.air) (sym end.0) c.loop-course.invariant.0.lawful
-
-pub finish-requires-clause-kept : goal.finish-requires-clause-kept
-finish-requires-clause-kept g c =
-    let new = c.go_back.new.self in
-    let no_more = ap (λ (b : Bool). Ok b) c.if-not-branch.true in
-    let end = c.in_ok-go_back.ensures.end no_more in
-    subst (λ (r : g.row.R.Denot). g.R.Runner.kept r new.scenario new.air) (sym (c.in_ok-go_back.ensures.no_run no_more))
-    (subst (λ (k : Course). g.R.Runner.kept c.loop-course.runner k.scenario k.air) (sym end.0) c.loop-course.invariant.2)
+    subst (λ (k : Course). k.idle.items ≡ idle_of k.scenario k.air) (sym end.0) c.loop-course.invariant.0.idle
 
 pub returns-then-not-branch : goal.returns-then-not-branch
 returns-then-not-branch g c =
