@@ -29,7 +29,7 @@ chosen_of f h (x ∷ xs) = ap (cons_option (h (f x))) (chosen_of f h xs)
 told_at : {X : Type 0} (F : ℕ → Option X) (n f : ℕ) → f < n → option_flatten (slice_get (map F (range_with_len 0 n)) f) ≡ F f
 told_at F n f less =
     ap option_flatten (slice_get-get_or (map F (range_with_len 0 n)) f (F f) (omega (arith, less, length-map-range_with_len F 0 n)))
-    ∙ get_or-map-range_with_len F 0 n f f (F f) less refl
+    ∙ get_or-map-range_with_len F 0 n f f (F f) less (omega arith)
 
 module _ (s : ScenarioParts) (air : List Entry) where
   frame_told : (f : ℕ) → f < s.frames → filter_map (idle_told f) (map (trail_in s air) s.nodes) ≡ idle_in s (scenario_clock s) air f

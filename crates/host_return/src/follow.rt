@@ -145,7 +145,7 @@ impl Course {
 
     // What came of it, with the counts of its run.
     fn finish(self, alloc: Global) -> Result<Returned, Memory>
-        requires idle { self.idle.items ≡ idle_of self.scenario self.air }
+        requires { self.idle.items ≡ idle_of self.scenario self.air }
         ensures { IfOk result (λ x. x ≡ record {
           scenario = self.scenario;
           returns = self.returns.items;

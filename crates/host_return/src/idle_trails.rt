@@ -1,6 +1,6 @@
 //! Where nodes are idle, by their trails over a log.
 
-ghost use Rattle.std.specs.Prelude.{◌≡◌, ◌++◌, OnOk, IfOk, map, filter_map, option_to_list};
+ghost use Rattle.std.specs.Prelude.{◌≡◌, ◌++◌, OnOk, IfOk, Some, map, filter_map, option_to_list};
 ghost use Rattle.air_log.specs.declared.entry.Entry.{Entry as EntryOf};
 ghost use Rattle.host_return.specs.Probes.{idle_of};
 ghost use Rattle.host_return.specs.TrailsInOrder.{idle_told, trail_in};
@@ -70,7 +70,7 @@ fn push_some(idle: &mut Vec<Idle>, one: Option<Idle>) -> Result<(), Memory>
 fn idle_node(one: &NodeTrail, frame: u32) -> Option<Idle>
     ensures { result ≡ idle_told frame one.now }
 {
-    let rank = idle_rank(one.trail.tune_at(frame), frame)?;
+    let rank = idle_rank(one.trail.tune_at(frame)?, frame)?;
     Some(Idle {
         frame,
         node: one.node,
@@ -79,16 +79,16 @@ fn idle_node(one: &NodeTrail, frame: u32) -> Option<Idle>
 }
 
 // The rank that is hosted with this tune, where a node is idle with it in the frame.
-fn idle_rank(tune: Option<Tune>, frame: u32) -> Option<Rank>
-    ensures { result ≡ idle_with frame tune }
+fn idle_rank(tune: Tune, frame: u32) -> Option<Rank>
+    ensures { result ≡ idle_with frame (Some tune) }
 {
     match tune {
-        Some(Tune::Host(rank, due)) => {
+        Tune::Host(rank, due) => {
             if rank.number() == 0 || due <= frame {
                 return None;
             }
             Some(rank)
         }
-        Some(Tune::Scan(_, _) | Tune::Hold(_, _)) | None => None,
+        Tune::Scan(_, _) | Tune::Hold(_, _) => None,
     }
 }

@@ -43,8 +43,8 @@ loop-course-smaller g c =
     let more : IsOneMore c.args.s.now old c.go_back.new.self = c.in_ok-go_back.ensures.more (ap (λ (b : Bool). Ok b) c.if-not-branch.false) in
     omega (arith, less, ap length more.returns, length_push old.returns.items more.last)
 
-pub finish-requires-clause-idle : goal.finish-requires-clause-idle
-finish-requires-clause-idle g c =
+pub finish-requires : goal.finish-requires
+finish-requires g c =
     let end = c.in_ok-go_back.ensures.end (ap (λ (b : Bool). Ok b) c.if-not-branch.true) in
     subst (λ (k : Course). k.idle.items ≡ idle_of k.scenario k.air) (sym end.0) c.loop-course.invariant.0.idle
 
