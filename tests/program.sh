@@ -74,7 +74,7 @@ by_both() {
     for file in "$top"/examples/*.flood "$top"/{examples,tests/worked}/*.scenario "$top"/examples/*.deadlines; do
         name=$(basename "$file")
         words=${name##*.}
-        [ "$words" = scenario ] && words="run log bus"
+        [ "$words" = scenario ] && words="run log bus times return"
         for word in $words; do
             "$program" "$word" < "$file" > "$folder/out"
             status=$?
