@@ -122,7 +122,7 @@ module _ {t p : ℕ} {w : FieldState} {due : List Due} {st : DeviceState} {x : S
       (λ s made d sh. (
         made.windows,
         node_shows s t st (record st { busy_until = None }) made made d (record d { sending = None }) sh
-            (record { setup = refl; delivery = refl; windows = refl }) (record { closed = sh.happened.closed; listening = sh.happened.listening }) refl sh.ended refl
-            (ap (λ (e : Device). record e { sending = None }) sh.is),
+            (record { setup = refl; delivery = refl; windows = refl }) (record { closed = sh.happened.closed; listening = sh.happened.listening })
+            refl sh.ended refl (ap (λ (e : Device). record e { sending = None }) sh.is),
       ))
       ending.field
