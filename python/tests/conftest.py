@@ -6,6 +6,7 @@ stored.
 
 from __future__ import annotations
 
+import gc
 import os
 import warnings
 from collections.abc import Callable, Iterator
@@ -14,15 +15,12 @@ from pathlib import Path
 
 import pytest
 from browser import Browser
-from gate import pytest_configure, pytest_runtest_protocol, pytest_sessionfinish, pytest_terminal_summary
+from gate import pytest_configure, pytest_sessionfinish, pytest_terminal_summary
 from hypothesis import HealthCheck, settings
-from measured import pytest_collection_finish
-
-from foldcairn import executors
+from measured import pytest_collection, pytest_runtestloop
 
 __all__ = [
-    "EXAMPLES", "REPOSITORY", "pytest_collection_finish", "pytest_configure", "pytest_runtest_protocol", "pytest_sessionfinish",
-    "pytest_terminal_summary",
+    "EXAMPLES", "REPOSITORY", "pytest_collection", "pytest_configure", "pytest_runtestloop", "pytest_sessionfinish", "pytest_terminal_summary",
 ]  # fmt: skip
 
 REPOSITORY = Path(__file__).resolve().parents[2]
@@ -40,6 +38,13 @@ settings.register_profile("foldcairn", deadline=None, derandomize=True, suppress
 settings.load_profile("foldcairn")
 
 
+def pytest_collection_finish() -> None:
+    """What is imported by now stays, so it is never looked through for what could go; and that is done more rarely."""
+    gc.collect()
+    gc.freeze()
+    gc.set_threshold(10_000, 20, 20)
+
+
 @pytest.fixture(autouse=True)
 def _quiet() -> None:
     """Warnings are tested where they are meant."""
@@ -50,6 +55,8 @@ def _quiet() -> None:
 def _threads(request: pytest.FixtureRequest, monkeypatch: pytest.MonkeyPatch) -> None:
     """Threads where no executor is given, since a process for each processor costs more than most tests; a test with the mark
     `processes` has processes."""
+    from foldcairn import executors
+
     if request.node.get_closest_marker("processes") is None:
         monkeypatch.setattr(executors, "ProcessPoolExecutor", lambda: ThreadPoolExecutor(2))
 

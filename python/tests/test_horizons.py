@@ -71,7 +71,6 @@ def test_longer_runs_than_any() -> None:
         results.log(Scenario.from_graph(line(64), 360, hosts=[1]))
 
 
-@pytest.mark.no_cover
 def test_answers_of_64_nodes_over_five_hours() -> None:
     network = Scenario.from_graph(grid(8, 8, diagonals=True), 4_096, hosts=[1, 36], profile=2).sinks("hosts")
     for link in sorted(network.links):
@@ -99,7 +98,6 @@ def test_answers_of_64_nodes_over_five_hours() -> None:
             call(report)
 
 
-@pytest.mark.no_cover
 @pytest.mark.parametrize("seed", range(2))
 def test_answers_without_a_log_are_those_of_the_log(seed: int) -> None:
     network = drawn(seed)

@@ -12,9 +12,6 @@ from conftest import EXAMPLES
 from foldcairn import delivery, fates, planning, radio, results
 from foldcairn.scenario import Scenario
 
-# Much work, on lines that the other tests measure.
-pytestmark = pytest.mark.no_cover
-
 # By how much the radio's time in a window may differ from what is planned for it, in ticks, in profile 1 and 2.
 NEAR = {1: 44_960, 2: 58_300}
 

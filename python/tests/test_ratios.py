@@ -170,7 +170,6 @@ def turns(made: Scenario, link: tuple[int, int]) -> numpy.ndarray:
     return pandas.Series(changes).reindex(range(made.frames), method="ffill").fillna(1.0).to_numpy()
 
 
-@pytest.mark.no_cover
 @pytest.mark.parametrize(("ratio", "bad", "pair"), [(0.7, 0.1, (0.1, 0.9)), (0.6, None, (0.0, 0.8)), (0.9, None, (0.6, 1.0))])
 def test_bursts_have_their_means(ratio, bad, pair) -> None:
     """The mean ratio, and the mean lengths of good and bad times, to four standard errors; a good time has 60 s, a bad one 20 s."""

@@ -286,7 +286,6 @@ print(len(log.deliveries), len(log.transmissions), len(log.receptions), len(log.
 """
 
 
-@pytest.mark.no_cover
 def test_a_log_of_48_megabytes(tmp_path: Path) -> None:
     """20 MB/s of processor time, and at the peak at most 1.7 times its size and 140 MB, which are mostly Python and its libraries: 2.7
     times the size of a log of 140 MB. The counts are those that grep counts."""
