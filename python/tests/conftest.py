@@ -10,7 +10,8 @@ import gc
 import os
 import warnings
 from collections.abc import Callable, Iterator
-from concurrent.futures import ThreadPoolExecutor
+from concurrent.futures import ProcessPoolExecutor, ThreadPoolExecutor
+from functools import partial
 from pathlib import Path
 
 import pytest
@@ -54,11 +55,13 @@ def _quiet() -> None:
 @pytest.fixture(autouse=True)
 def _threads(request: pytest.FixtureRequest, monkeypatch: pytest.MonkeyPatch) -> None:
     """Threads where no executor is given, since a process for each processor costs more than most tests; a test with the mark
-    `processes` has processes."""
+    `processes` has two processes."""
     from foldcairn import executors
 
     if request.node.get_closest_marker("processes") is None:
         monkeypatch.setattr(executors, "ProcessPoolExecutor", lambda: ThreadPoolExecutor(2))
+    else:
+        monkeypatch.setattr(executors, "ProcessPoolExecutor", partial(ProcessPoolExecutor, 2))
 
 
 @pytest.fixture

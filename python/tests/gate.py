@@ -1,7 +1,8 @@
 """What the gate asks of a run of the tests: with CI=true no test is skipped. At its end a run says how much processor time it took.
 
 With CI=true it says so loudly where that is above `MOST`, and does not fail: the same tests take up to twice as long on another machine,
-or on one whose cores are shared, so a failure would say more of the machine than of the tests.
+or on one whose cores and caches others use too, so a failure would say more of the machine than of the tests. What it says is below
+`MOST` also on four cores with four times as much to do.
 """
 
 from __future__ import annotations

@@ -223,7 +223,7 @@ def test_losses_at_captures_and_cuts(seed, of_host, way):
     assert bus(drawn) == reported
 
 
-@pytest.mark.parametrize("seed", range(24, 50))
+@pytest.mark.parametrize("seed", range(24, 36))
 def test_both_ways_of_drawing_deliver_the_same(seed):
     """Each may write losses that the other leaves out, as where all packets of a collision are lost; both write losses of the coins
     alone. The networks of the seeds before are those of `test_drawn_losses_make_the_run_of_all_losses`, which says it of each way."""
