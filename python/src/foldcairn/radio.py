@@ -128,7 +128,8 @@ def radio_time(
     seconds = _clipped(table, *arguments.window(start_seconds, end_seconds, log.scenario.seconds))
     nodes = sorted(log.scenario.nodes)
     cell = np.searchsorted(nodes, table["node"].to_numpy()) * len(PURPOSES) + table["purpose"].cat.codes.to_numpy()
-    spent = np.bincount(cell, seconds.to_numpy(), len(nodes) * len(PURPOSES)).reshape(len(nodes), -1)
+    # Without any time numpy counts by whole numbers.
+    spent = np.bincount(cell, seconds.to_numpy(), len(nodes) * len(PURPOSES)).reshape(len(nodes), -1).astype("float64")
     table = pd.DataFrame(spent, pd.Index(nodes, name="node"), list(PURPOSES))
     table["on"] = table.sum(axis=1)
     if by == "all":
