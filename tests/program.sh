@@ -74,7 +74,7 @@ by_both() {
     for file in "$top"/examples/*.flood "$top"/{examples,tests/worked}/*.scenario "$top"/examples/*.deadlines; do
         name=$(basename "$file")
         words=${name##*.}
-        [ "$words" = scenario ] && words="run log bus"
+        [ "$words" = scenario ] && words="run log bus times return"
         for word in $words; do
             "$program" "$word" < "$file" > "$folder/out"
             status=$?
@@ -133,35 +133,6 @@ words_and_texts() {
     "$program" flood < "$folder/longest" > "$folder/out"
     status=$?
     ends "as many bytes as may come" 0 $'accept 2 0\naccept 3 1\nsent 6\n'
-}
-
-# A packet is sent at the nominal time of its slot by what its sender received, and so is its stamp, whatever its clock is.
-stamps() {
-    local packet=$'frames 12\non 0 1\non 0 2\nstream 0 2 0 4\nput 0 2 0 aa\n'
-    run_on "${base/node 2 0/node 2 9000}$packet" times
-    ends "a stamp over an offset" 0 $'stamp 9 0 1 2 0 0 2370176000\n'
-    run_on "${base}rate 2 0 20"$'\n'"$packet" times
-    ends "a stamp by a fast clock" 0 $'stamp 9 0 1 2 0 0 2370176000\n'
-}
-
-# run of a text, but for the energy lines.
-delivered() {
-    run_on "$1" "$2"
-    sed -i '/^energy /d' "$folder/out"
-}
-
-# Node 1 hosts again from frame 36 on. Node 2 hears it as it probes, and goes back; `run` leaves both apart.
-returns() {
-    local two=$'deliver 9 0 1 2 3 1 0 0 aa\ndeliver 31 1 1 2 3 1 0 1 bb\n'
-    local packet=$'frames 12\non 0 1\non 0 2\nstream 0 2 0 4\nput 0 2 0 aa\n'
-    local back=$base$'node 3 0\nhost 1 2\npair 1 3\npair 2 3\nframes 58\non 0 1\non 0 2\non 0 3\nstream 0 3 0 4\nput 0 3 0 aa\n'
-    back+=$'off 6 1\nput 20 3 0 bb\non 31 1\nput 40 3 0 cc\n'
-    delivered "$back" return
-    ends "a backup host that goes back" 0 $'return 36 2 0\nprobe 2 7\n'"$two"$'deliver 56 0 1 1 3 1 0 2 cc\ndeliver 56 0 1 2 3 1 0 2 cc\n'
-    delivered "$back" run
-    ends "two hosts apart" 0 "$two"$'deliver 43 1 1 2 3 1 0 2 cc\n'
-    run_on "$base$packet" return
-    ends "no return" 0 $'deliver 9 0 1 1 2 1 0 0 aa\nenergy 1 450560 9681408 5 1238481408\nenergy 2 450560 9551872 6 1353800192\n'
 }
 
 # Each status, and 3 and 4 with a stream that fails alone. A fault line and a usage line are written too.
@@ -287,8 +258,6 @@ else
     echo "left out: the texts that bench/made.py draws, since there is no python3" >&2
 fi
 words_and_texts
-stamps
-returns
 statuses
 greatest_sizes
 [ -n "$other" ] && by_both

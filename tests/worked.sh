@@ -1,12 +1,22 @@
 #!/usr/bin/env bash
-# What the program writes of worked texts: of the scenarios in tests/worked, whose reports and deliveries were worked out from
-# the rules; of words that are no command, texts that are rejected and streams with deadlines; and of texts of many nodes. For
-# tests/program.sh, which has says, ends, run_on, line, base and usage.
+# What the program writes of worked texts: of the scenarios in tests/worked, whose reports, deliveries, stamps and returns were worked
+# out from the rules; of words that are no command, texts that are rejected and streams with deadlines; of texts of many nodes and
+# returns at the limits; and of drawn scenarios, whose stamps tests/stamps.py makes by their definition. For tests/program.sh, which
+# has says, ends, run_on, line, base and usage.
 
 worked=$top/tests/worked
 
+# Whether what was written last begins as the file wanted.
+begins() {
+    cmp -s -n "$(stat -c %s "$folder/wanted")" "$folder/out" "$folder/wanted"
+}
+
 # has NAME WORD KIND: whether what the program writes of a worked scenario by that word, so far as it is of this kind, is what
-# was worked out: deliver and drop lines alone, or some lines of it.
+# was worked out: deliver and drop lines alone, some lines of it, or all lines before those of the energy.
+#
+# Stamps: over clocks that read the true time, slot j of the round of frame f starts at f * FRAME + LEAD + j * SLOT + LISTEN. A sender
+# starts where its clock first reads the time of its slot by the zero that its schedule gave it, and its stamp is by that same
+# zero: so the stamp is that sum too, whatever the clock, or 1 more where a fast clock steps over the reading.
 has() {
     local name=$1 word=$2 kind=$3
     "$program" "$word" < "$worked/$name.scenario" > "$folder/out"
@@ -21,6 +31,10 @@ has() {
             grep -xFf "$worked/expected/$name.$kind" "$folder/out" > "$folder/lines"
             says "$word of $name: lines are missing" cmp -s "$folder/lines" "$worked/expected/$name.$kind"
             ;;
+        return-start)
+            { cat "$worked/expected/$name.$kind"; printf 'energy 1 '; } > "$folder/wanted"
+            says "$word of $name: other lines before the energy" begins
+            ;;
         *) says "$word of $name: other lines" cmp -s "$folder/out" "$worked/expected/$name.$kind" ;;
     esac
 }
@@ -34,6 +48,9 @@ worked_scenarios() {
             *.bus-report) has "${name%.*}" bus bus-report ;;
             *.log) has "${name%.*}" log log ;;
             *.log-lines) has "${name%.*}" log log-lines ;;
+            *.times) has "${name%.*}" times times ;;
+            *.return) has "${name%.*}" return return ;;
+            *.return-start) has "${name%.*}" return return-start ;;
             *.deliveries)
                 has "${name%.*}" run deliveries
                 has "${name%.*}" bus deliveries
@@ -137,6 +154,9 @@ rejected_texts() {
     rejects "a scenario that lacks lines before its log" check 3 Missing $'sends 2\nnode 1 0\nlog\nsents\n'
     rejects "a scenario with a fault before its log" check 2 BadWord $'sends 2\nsents\nlog\nsents\n'
     rejects "a line log with a second word" check 2 BadWord $'sends 2\n  log 1\nlog\n'
+    for word in times return; do
+        rejects "a line without its number" $word 2 BadWord $'frames 2\nsends\n'
+    done
 }
 
 # again COUNT LINE: the line so often.
@@ -214,7 +234,7 @@ many_nodes() {
     } > "$folder/wanted"
     "$program" log < "$folder/in" > "$folder/out"
     says "a log of fifty nodes: status $?, not 0" [ $? -eq 0 ]
-    says "a log of fifty nodes: other lines" cmp -s -n "$(stat -c %s "$folder/wanted")" "$folder/out" "$folder/wanted"
+    says "a log of fifty nodes: other lines" begins
     echo "put 46 50 0 b" >> "$folder/in"
     "$program" run < "$folder/in" > "$folder/out"
     status=$?
@@ -230,6 +250,71 @@ many_nodes() {
     ends "a flood of 64 nodes" 0 "$(seq -f 'accept %.0f 0' 2 64)"$'\nsent 256\n'
 }
 
+# returns NAME TEXT: whether what return writes of the file in begins with that text.
+returns() {
+    "$program" return < "$folder/in" > "$folder/out"
+    says "return of $1: status $?, not 0" [ $? -eq 0 ]
+    printf '%s' "$2" > "$folder/wanted"
+    says "return of $1: it begins otherwise" begins
+}
+
+# The text in which a backup host goes back, with the lines of the standard input below that of its frames.
+goes_back_with() {
+    sed '/^frames /r /dev/stdin' "$worked/backup-host-goes-back.scenario" > "$folder/in"
+}
+
+# A return of node 2 is one more boot of it and has two script lines, and with a 201st boot, or more than 20,000 script lines, the text
+# would be rejected. Then node 2 stays a host, and is idle in 23 frames: all from 27 to 57 but those of its eight rounds. The text
+# without more has nine script lines, and node 2 is on already in its line `on 0 2`. The rates change nothing.
+last_returns() {
+    local two=$'deliver 9 0 1 2 3 1 0 0 aa\ndeliver 31 1 1 2 3 1 0 1 bb\n'
+    goes_back_with < <(echo "on 0 2"; again 198 $'off 0 2\non 0 2')
+    returns "a backup host that boots 199 times" \
+        $'return 36 2 0\nprobe 2 7\n'"$two"$'deliver 56 0 1 1 3 1 0 2 cc\ndeliver 56 0 1 2 3 1 0 2 cc\nenergy 1 '
+    goes_back_with < <(echo "on 0 2"; again 199 $'off 0 2\non 0 2')
+    returns "a backup host that boots 200 times" $'probe 2 23\n'"$two"$'deliver 43 1 1 2 3 1 0 2 cc\nenergy 1 '
+    goes_back_with < <(seq -f 'rate 1 %.0f 0' 0 19988)
+    returns "a text of 19,998 script lines" $'return 36 2 0\nprobe 2 7\n'
+    goes_back_with < <(seq -f 'rate 1 %.0f 0' 0 19989)
+    returns "a text of 19,999 script lines" $'probe 2 23\n'
+}
+
+# Node 1 goes off five frames after each of its first rounds, in frames 5, 33, 61 and so on, and comes on 18 frames later. Node 2
+# comes to two of its rounds, scans for 12 frames and then for 5, and hosts 26 frames after each first round.
+#
+# In each of 16 times node 2 is idle in two frames, and receives node 1 in the second of them, the 28th after the first round of
+# node 1 before. In the last time it stays a host, from frame 479 on, and is idle in the 15 frames from 480 on without a round.
+sixteen_returns() {
+    local first
+    {
+        printf 'sends 1\nnode 1 0\nnode 2 0\nhost 0 1\nhost 1 2\npair 1 2\nframes 500\non 0 1\non 0 2\n'
+        for ((first = 5; first < 5 + 28 * 17; first += 28)); do
+            printf 'off %d 1\non %d 1\n' $((first + 5)) $((first + 23))
+        done
+    } > "$folder/in"
+    returns "seventeen failovers" "$(seq -f 'return %.0f 2 0' 33 28 453)"$'\nprobe 2 47\nenergy 1 '
+}
+
+# Of drawn scenarios times writes what tests/stamps.py makes of their logs by the definition of stamps, packet by packet.
+stamps_by_definition() {
+    local seed count=0
+    if ! command -v python3 > /dev/null; then
+        echo "left out: the stamps by their definition, since there is no python3" >&2
+        return
+    fi
+    for ((seed = 0; seed < 24; seed++)); do
+        python3 "$top/bench/made.py" $seed $((2 + seed % 6)) 60 > "$folder/in"
+        "$program" log < "$folder/in" > "$folder/log"
+        "$program" times < "$folder/in" > "$folder/out"
+        says "times of drawn text $seed: status $?, not 0" [ $? -eq 0 ]
+        python3 "$top/tests/stamps.py" "$folder/in" "$folder/log" > "$folder/wanted"
+        says "stamps of drawn text $seed: status $?, not 0" [ $? -eq 0 ]
+        says "times of drawn text $seed: not as defined" cmp -s "$folder/out" "$folder/wanted"
+        count=$((count + $(stat -c %s "$folder/wanted")))
+    done
+    says "stamps of drawn texts: $count bytes, not more than 10,000" [ "$count" -gt 10000 ]
+}
+
 worked_texts() {
     worked_scenarios
     bus_against_run
@@ -240,4 +325,7 @@ worked_texts() {
     too_many
     streams_with_deadlines
     many_nodes
+    last_returns
+    sixteen_returns
+    stamps_by_definition
 }

@@ -6,23 +6,22 @@ stored.
 
 from __future__ import annotations
 
+import gc
 import os
 import warnings
 from collections.abc import Callable, Iterator
-from concurrent.futures import ThreadPoolExecutor
+from concurrent.futures import ProcessPoolExecutor, ThreadPoolExecutor
+from functools import partial
 from pathlib import Path
 
 import pytest
 from browser import Browser
-from gate import pytest_configure, pytest_runtest_protocol, pytest_sessionfinish, pytest_terminal_summary
+from gate import pytest_configure, pytest_sessionfinish, pytest_terminal_summary
 from hypothesis import HealthCheck, settings
-from measured import pytest_collection_finish
-
-from foldcairn import executors
+from measured import pytest_collection, pytest_runtestloop
 
 __all__ = [
-    "EXAMPLES", "REPOSITORY", "pytest_collection_finish", "pytest_configure", "pytest_runtest_protocol", "pytest_sessionfinish",
-    "pytest_terminal_summary",
+    "EXAMPLES", "REPOSITORY", "pytest_collection", "pytest_configure", "pytest_runtestloop", "pytest_sessionfinish", "pytest_terminal_summary",
 ]  # fmt: skip
 
 REPOSITORY = Path(__file__).resolve().parents[2]
@@ -40,6 +39,13 @@ settings.register_profile("foldcairn", deadline=None, derandomize=True, suppress
 settings.load_profile("foldcairn")
 
 
+def pytest_collection_finish() -> None:
+    """What is imported by now stays, so it is never looked through for what could go; and that is done more rarely."""
+    gc.collect()
+    gc.freeze()
+    gc.set_threshold(10_000, 20, 20)
+
+
 @pytest.fixture(autouse=True)
 def _quiet() -> None:
     """Warnings are tested where they are meant."""
@@ -49,9 +55,13 @@ def _quiet() -> None:
 @pytest.fixture(autouse=True)
 def _threads(request: pytest.FixtureRequest, monkeypatch: pytest.MonkeyPatch) -> None:
     """Threads where no executor is given, since a process for each processor costs more than most tests; a test with the mark
-    `processes` has processes."""
+    `processes` has two processes."""
+    from foldcairn import executors
+
     if request.node.get_closest_marker("processes") is None:
         monkeypatch.setattr(executors, "ProcessPoolExecutor", lambda: ThreadPoolExecutor(2))
+    else:
+        monkeypatch.setattr(executors, "ProcessPoolExecutor", partial(ProcessPoolExecutor, 2))
 
 
 @pytest.fixture

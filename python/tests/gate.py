@@ -1,16 +1,13 @@
 """What the gate asks of a run of the tests: with CI=true no test is skipped. At its end a run says how much processor time it took.
 
 With CI=true it says so loudly where that is above `MOST`, and does not fail: the same tests take up to twice as long on another machine,
-or on one whose cores are shared, so a failure would say more of the machine than of the tests.
-
-A test with the mark `no_cover` isn't measured for coverage, nor are the fixtures that it is the first to need: for tests of much
-work whose lines others have measured. To measure costs some two fifths more time.
+or on one whose cores and caches others use too, so a failure would say more of the machine than of the tests. What it says is below
+`MOST` also on four cores with four times as much to do.
 """
 
 from __future__ import annotations
 
 import os
-from collections.abc import Iterator
 
 import pytest
 
@@ -21,21 +18,8 @@ MOST = 180
 
 
 def pytest_configure(config: pytest.Config) -> None:
-    """The marks are known also where pytest-cov isn't there."""
-    config.addinivalue_line("markers", "no_cover: not measured for coverage")
+    """The mark is known."""
     config.addinivalue_line("markers", "processes: with processes where no executor is given, in place of threads")
-
-
-@pytest.hookimpl(hookwrapper=True)
-def pytest_runtest_protocol(item: pytest.Item) -> Iterator[None]:
-    """Measures no coverage from the first fixture of a test with the mark to the last."""
-    plugin = item.config.pluginmanager.get_plugin("_cov")
-    measured = plugin is not None and plugin.cov_controller is not None and item.get_closest_marker("no_cover") is not None
-    if measured:
-        plugin.cov_controller.pause()
-    yield
-    if measured:
-        plugin.cov_controller.resume()
 
 
 def pytest_sessionfinish(session: pytest.Session) -> None:

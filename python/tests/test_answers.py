@@ -116,7 +116,6 @@ def test_an_answer_is_worked_out_once_for_a_log(monkeypatch: pytest.MonkeyPatch)
     assert once == calls.count(("frame", "rank")) - once == 2
 
 
-@pytest.mark.no_cover
 def test_a_summary_of_a_small_run_takes_few_calls() -> None:
     """Of functions, whose number no load of the machine changes: it was 640,000, most of them for joins of tables with a few rows."""
     profile = cProfile.Profile()

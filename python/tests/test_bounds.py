@@ -222,7 +222,6 @@ def told(name: str, slack: list[int], unit: str = "frames") -> None:
     print(f"{name}: {len(slack)} cases, nearest miss {min(slack)} {unit}, the middle one {sorted(slack)[len(slack) // 2]}")
 
 
-@pytest.mark.no_cover
 def test_first_rounds_members_and_latencies_against_runs() -> None:
     joined, late = [], []
     for seed in range(SCENARIOS):
@@ -270,7 +269,6 @@ def latencies(made: Scenario, delivered: list[list[int]]) -> list[int]:
     return slack
 
 
-@pytest.mark.no_cover
 def test_rounds_with_losses_against_runs() -> None:
     slack = []
     for seed in range(SCENARIOS):
@@ -294,7 +292,6 @@ def test_rounds_with_losses_against_runs() -> None:
     told("scanning", slack)
 
 
-@pytest.mark.no_cover
 @pytest.mark.parametrize("hosts", [2, 3, 4])
 def test_failovers_against_runs(hosts: int) -> None:
     """Whatever is lost: all links lose what the coins say, and hosts restart before."""
@@ -332,7 +329,6 @@ def until(made: Scenario, frames: int) -> Scenario:
     return cut
 
 
-@pytest.mark.no_cover
 def test_takeovers_against_runs() -> None:
     slack = []
     for seed in range(SCENARIOS):
@@ -358,7 +354,6 @@ def test_takeovers_against_runs() -> None:
     told("takeover", slack)
 
 
-@pytest.mark.no_cover
 def test_two_contenders_against_runs() -> None:
     slack = []
     for seed in range(SCENARIOS):

@@ -62,7 +62,6 @@ def pairs() -> list[tuple[pd.DataFrame, pd.DataFrame, results.Log]]:
     return found
 
 
-@pytest.mark.no_cover
 def test_the_program_says_of_each_packet_what_the_log_says(pairs) -> None:
     for by_program, by_log, log in pairs:
         pd.testing.assert_frame_equal(by_program, by_log)
@@ -70,7 +69,6 @@ def test_the_program_says_of_each_packet_what_the_log_says(pairs) -> None:
         assert (by_program["became"] == "dropped").sum() == len(log.drops)
 
 
-@pytest.mark.no_cover
 def test_the_scenarios_have_packets_of_every_fate(pairs) -> None:
     met = pd.concat([planning.packets(log)["fate"] for _, _, log in pairs[::3]]).astype(str).value_counts()
     assert set(met.index) == set(delivery.FATES) and met.min() >= 5

@@ -207,7 +207,7 @@ def near_texts(draw):
     return "\n".join(rows) + "\n"
 
 
-@settings(max_examples=300)
+@settings(max_examples=200)
 @given(near_texts())
 def test_whatever_is_refused_is_explained(text):
     try:

@@ -8,7 +8,7 @@ import numpy as np
 import pandas as pd
 import pytest
 from networks import FAILOVER
-from test_planning_random import drawn
+from test_planning_random import drawn, log_of_drawn
 
 from foldcairn import cautions, outcome, planning, program, results
 from foldcairn.arguments import ArgumentError
@@ -71,7 +71,6 @@ def test_longer_runs_than_any() -> None:
         results.log(Scenario.from_graph(line(64), 360, hosts=[1]))
 
 
-@pytest.mark.no_cover
 def test_answers_of_64_nodes_over_five_hours() -> None:
     network = Scenario.from_graph(grid(8, 8, diagonals=True), 4_096, hosts=[1, 36], profile=2).sinks("hosts")
     for link in sorted(network.links):
@@ -99,11 +98,10 @@ def test_answers_of_64_nodes_over_five_hours() -> None:
             call(report)
 
 
-@pytest.mark.no_cover
 @pytest.mark.parametrize("seed", range(2))
 def test_answers_without_a_log_are_those_of_the_log(seed: int) -> None:
     network = drawn(seed)
-    log, report, run = results.log(network), results.bus(network), results.run(network)
+    log, report, run = log_of_drawn(seed), results.bus(network), results.run(network)
     for by in ("stream", "node", "pair", "all"):
         for receivers in (None, "hosts", [2, 3]):
             with_log, without = (planning.delivery_ratio(one, by, receivers=receivers) for one in (log, report))

@@ -54,7 +54,6 @@ def test_several_chances_by_holm() -> None:
     assert intervals.adjusted([]) == []
 
 
-@pytest.mark.no_cover
 def test_links_that_change_nothing_are_rarely_called_important() -> None:
     """Four seeds and two errors call 13.9 % of all links important by chance: 40 links give some in nearly each table."""
     chance = np.random.default_rng(1)

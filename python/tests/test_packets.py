@@ -115,13 +115,13 @@ def schedules(draw: strategies.DrawFn) -> Schedule:
     )  # fmt: skip
 
 
-@settings(max_examples=150, deadline=None)
+@settings(max_examples=100, deadline=None)
 @given(schedules())
 def test_schedules_are_read_as_they_are_written(value: Schedule) -> None:
     assert packets.decode(packets.encode(value)) == value
 
 
-@settings(max_examples=150, deadline=None)
+@settings(max_examples=100, deadline=None)
 @given(strategies.binary(max_size=30))
 def test_bytes_are_a_packet_or_an_error_that_says_why(data: bytes) -> None:
     try:

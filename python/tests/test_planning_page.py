@@ -14,9 +14,6 @@ from conftest import REPOSITORY
 
 from foldcairn import executors, planning
 
-# Much work, on lines that the other tests measure.
-pytestmark = pytest.mark.no_cover
-
 PAGE = REPOSITORY / "docs" / "PLANNING.md"
 
 

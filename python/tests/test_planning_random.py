@@ -4,6 +4,7 @@ from __future__ import annotations
 
 import random
 import re
+from functools import cache
 
 import numpy as np
 import pytest
@@ -11,9 +12,6 @@ from conftest import EXAMPLES
 
 from foldcairn import delivery, fates, planning, radio, results
 from foldcairn.scenario import Scenario
-
-# Much work, on lines that the other tests measure.
-pytestmark = pytest.mark.no_cover
 
 # By how much the radio's time in a window may differ from what is planned for it, in ticks, in profile 1 and 2.
 NEAR = {1: 44_960, 2: 58_300}
@@ -54,9 +52,15 @@ def drawn(seed: int) -> Scenario:
     return made
 
 
+@cache
+def log_of_drawn(seed: int) -> results.Log:
+    """The log of such a network, with what has been worked out of it: once for all tests."""
+    return results.log(drawn(seed).text(warn=False))
+
+
 @pytest.fixture(scope="module", params=range(2))
 def log(request: pytest.FixtureRequest) -> results.Log:
-    return results.log(drawn(request.param).text(warn=False))
+    return log_of_drawn(request.param)
 
 
 def test_packets_that_were_sent_are_those_that_were_put(log: results.Log) -> None:

@@ -170,7 +170,6 @@ def test_a_timeline_of_one_slot_shows_the_steps() -> None:
     assert covered(figure) == []
 
 
-@pytest.mark.no_cover
 @pytest.mark.parametrize("window", ["run", "round", "slot"])
 def test_words_do_not_cover_each_other_at_64_nodes(large: results.Log, window: str) -> None:
     slots = timing.slots(large)
@@ -193,7 +192,6 @@ def test_a_timeline_as_a_part_of_another_figure(failover: results.Log) -> None:
     assert [axes.get_legend() for axes in figure.axes] == [None, None] and covered(figure) == []
 
 
-@pytest.mark.no_cover
 def test_a_timeline_of_450_frames() -> None:
     made = Scenario.from_graph(grid(4, 4), 450, hosts=[1]).every(4, 16, interval=4)
     figure = plot.timeline(results.log(made))
@@ -242,7 +240,6 @@ def test_a_map_without_ratios() -> None:
     assert len(drawn) == 3 and "The half of a line next to a node shows the link to that node." in words(figure)
 
 
-@pytest.mark.no_cover
 def test_a_map_of_64_nodes_can_be_read() -> None:
     made = Scenario.from_graph(random_geometric(64, 0.2, 3), 10, hosts=[1])
     figure = plot.topology(made)
@@ -393,7 +390,6 @@ def test_the_commands(tmp_path: Path, capsys: pytest.CaptureFixture[str]) -> Non
     assert "the window from 9999" in capsys.readouterr().err
 
 
-@pytest.mark.no_cover
 def test_labels_of_hosts_cover_nothing() -> None:
     """Neither a node nor a line, in the middle of a grid with lines to all sides."""
     made = Scenario.from_graph(grid(5, 5, diagonals=True), 4, hosts=[3, 13])

@@ -27,9 +27,6 @@ from conftest import REPOSITORY
 from foldcairn import meanings, page, planning, plot, report
 from foldcairn.scenario import Scenario
 
-# Much work, on lines that the tests of single answers, of pages and of plans measure.
-pytestmark = pytest.mark.no_cover
-
 needs_chromium = pytest.mark.skipif(
     CHROMIUM is None, reason="chromium is missing; tools/setup-python.sh --optional installs it (apt-get install chromium)"
 )

@@ -164,19 +164,19 @@ def test_drawn_losses_of_ratios_over_time() -> None:
 # Links that are good and bad by turns.
 
 
-def turns(made: Scenario, link: tuple[int, int]) -> numpy.ndarray:
-    """The ratio of a link in each frame."""
-    changes = {one.frame: one.prr for one in made.ratio_lines() if (one.sender, one.receiver) == link}
-    return pandas.Series(changes).reindex(range(made.frames), method="ffill").fillna(1.0).to_numpy()
+def turns(made: Scenario) -> numpy.ndarray:
+    """The ratio of each link in each frame."""
+    changes = pandas.DataFrame([(one.frame, (one.sender, one.receiver), one.prr) for one in made.ratio_lines()], columns=["frame", "link", "prr"])
+    return changes.pivot(index="link", columns="frame", values="prr").reindex(columns=range(made.frames)).ffill(axis=1).fillna(1.0).to_numpy()
 
 
-@pytest.mark.no_cover
 @pytest.mark.parametrize(("ratio", "bad", "pair"), [(0.7, 0.1, (0.1, 0.9)), (0.6, None, (0.0, 0.8)), (0.9, None, (0.6, 1.0))])
 def test_bursts_have_their_means(ratio, bad, pair) -> None:
     """The mean ratio, and the mean lengths of good and bad times, to four standard errors; a good time has 60 s, a bad one 20 s."""
     network = Scenario.from_graph(line(21), 4_096 // 7, hosts=[1])
     made = losses.bursts(network, 11, good_seconds=60, bad_seconds=20, ratio=ratio, bad=bad)
-    ratios = numpy.array([turns(made, link) for link in sorted(network.links)])
+    ratios = turns(made)
+    assert len(ratios) == len(network.links)
     assert numpy.allclose(sorted(set(ratios.ravel())), pair)
     good = ratios == ratios.max()
     for state, mean in ((good, 60), (~good, 20)):

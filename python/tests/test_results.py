@@ -252,19 +252,26 @@ def test_a_kept_log_that_is_cut() -> None:
         ("drop 1 2", "a `drop` line has other words"),
         ("drop 1 2 3 4", "a `drop` line has other words"),
         ("drop 1 x 3", "a `drop` line has other words"),
+        ("drop 1  3", "a `drop` line has other words"),
+        ("dropped 1 2 3", "a `drop` line has other words than frame, node, stream: it begins with 'dropped'"),
         ("", "unknown line"),
     ],
 )
-def test_lines_of_another_version(line: str, why: str) -> None:
-    with pytest.raises(columns.UnknownLine, match=why):
-        results.read_log(BytesIO(f"{line}\n".encode()), LINE)
+def test_lines_of_another_version(line: str, why: str, monkeypatch: pytest.MonkeyPatch) -> None:
+    """Few lines, which are read word by word, and the same as pandas reads many."""
+    for few in (columns._FEW_BYTES, 0):
+        monkeypatch.setattr(columns, "_FEW_BYTES", few)
+        with pytest.raises(columns.UnknownLine, match=why):
+            results.read_log(BytesIO(f"{line}\n".encode()), LINE)
 
 
 def test_blocks_may_end_anywhere_in_a_line(monkeypatch: pytest.MonkeyPatch) -> None:
     output = program.execute(["log"], CONTENDERS)
     whole = results.read_log(BytesIO(output), CONTENDERS)
-    for size in (150, 1_000):
+    # Few lines are read word by word, and many by pandas.
+    for size, few in ((150, columns._FEW_BYTES), (1_000, 0), (1 << 24, 0)):
         monkeypatch.setattr(columns, "_BLOCK_BYTES", size)
+        monkeypatch.setattr(columns, "_FEW_BYTES", few)
         parts = results.read_log(BytesIO(output), CONTENDERS)
         for name in ("deliveries", "drops", "energy", "transmissions", "receptions", "tunings"):
             assert getattr(parts, name).astype(str).equals(getattr(whole, name).astype(str))
@@ -286,7 +293,6 @@ print(len(log.deliveries), len(log.transmissions), len(log.receptions), len(log.
 """
 
 
-@pytest.mark.no_cover
 def test_a_log_of_48_megabytes(tmp_path: Path) -> None:
     """20 MB/s of processor time, and at the peak at most 1.7 times its size and 140 MB, which are mostly Python and its libraries: 2.7
     times the size of a log of 140 MB. The counts are those that grep counts."""

@@ -268,7 +268,6 @@ def test_a_sample_that_is_stopped_goes_on(runs: list[tuple[int, int]], tmp_path:
         assert found.runs.equals(planning.sample(network, range(8), executor=threads, progress=False).runs)
 
 
-@pytest.mark.no_cover
 def test_all_executors_give_the_same(pool: Executor) -> None:
     network = Scenario.read(WORKED)
     found = planning.sample(network, range(20), executor=pool, progress=False).runs
@@ -297,7 +296,6 @@ def test_a_pool_that_breaks_down_keeps_what_it_has(tmp_path: Path, monkeypatch: 
         seeds.answers(asked, [9], executor=processes, progress=False)
 
 
-@pytest.mark.no_cover
 def test_a_worker_of_dask_that_is_killed(tmp_path: Path, fake: Callable[[str], Path], monkeypatch: pytest.MonkeyPatch) -> None:
     """A scheduler and two workers over loopback, one of them a process of its own, which is killed in the middle: nothing is lost, and
     nothing is there twice. Nobody starts another one in its place, since that takes seconds."""

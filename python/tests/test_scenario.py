@@ -38,7 +38,7 @@ def test_an_example_and_its_canonical_text_run_alike(path):
     assert program.execute(["log"], text) == program.execute(["log"], path.read_bytes())
 
 
-@settings(max_examples=60)
+@settings(max_examples=40)
 @given(scenarios())
 def test_the_program_accepts_what_text_writes_and_read_gives_it_back(scenario):
     text = scenario.text(warn=False)

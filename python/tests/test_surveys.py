@@ -102,7 +102,6 @@ def test_all_tables_have_the_names(named: results.Log) -> None:
     assert planning.importance(named.scenario, candidates=[("stairs", "pump")], seeds=[1], progress=False)["other"].tolist() == ["pump"]
 
 
-@pytest.mark.no_cover
 def test_all_pictures_have_the_names(named: results.Log) -> None:
     def words(figure) -> set[str]:
         figure.draw_without_rendering()
@@ -158,7 +157,6 @@ def test_a_text_keeps_the_names(named: results.Log) -> None:
     assert Scenario.read("#: name 9 x\n#: name 3\n#: name x y\n" + text).labels == named.scenario.labels
 
 
-@pytest.mark.no_cover
 def test_names_on_the_command_line(named: results.Log, tmp_path: Path, monkeypatch: pytest.MonkeyPatch, capsys: pytest.CaptureFixture[str]) -> None:
     """By the text that a scenario writes, or by the table of places."""
     monkeypatch.chdir(tmp_path)

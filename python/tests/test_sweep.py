@@ -52,7 +52,6 @@ def test_the_cases_of_a_grid_and_of_a_folder():
     assert [Path(case["file"]).name for case in sweep.files(EXAMPLES, "three*")] == ["three-in-a-line.flood"]
 
 
-@pytest.mark.no_cover
 @pytest.mark.processes
 def test_a_table_in_the_order_of_its_cases():
     table = sweep.sweep(network, sweep.grid(interval=[16, 4, 8]), progress=False)
@@ -90,7 +89,6 @@ class Counted:
         return len(Path(self.log).read_text().split()) if Path(self.log).exists() else 0
 
 
-@pytest.mark.no_cover
 @pytest.mark.processes
 def test_going_on_where_it_was_stopped(tmp_path):
     measure, results = Counted(tmp_path / "log"), tmp_path / "results"
@@ -308,7 +306,6 @@ def test_the_table_has_versions():
     assert set(program.versions()) == {"package", "planner", "program"} and len(program.versions()["program"]) == 64
 
 
-@pytest.mark.no_cover
 @pytest.mark.processes
 def test_all_executors_give_the_same_table():
     cases = sweep.grid(interval=[4, 8], seed=[1, 2, 3])

@@ -25,7 +25,7 @@ silent_goes t old new is =
       windows = ap (λ (s : DeviceState). s.windows) is;
     })
     (set_happened t old new (ap (λ (s : DeviceState). s.closed) is) (ap (λ (s : DeviceState). s.listening) is))
-    (ap (λ (s : DeviceState). s.sending) is) (ap (λ (s : DeviceState). s.closed) is)
+    (ap (λ (s : DeviceState). s.busy_until) is) (ap (λ (s : DeviceState). s.closed) is)
 
 module _ (clock : ℕ → ℕ) (t : ℕ) where
   pub none_taken : (s : DeviceState) → AreTaken clock t 0 s s None []

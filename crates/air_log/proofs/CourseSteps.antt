@@ -1,6 +1,7 @@
 -- What a device goes through is what its course does.
 use Rattle.std.proofs.Common.{◌≡◌, ℕ, List, ◌++◌, Option, Some}
-use Rattle.std.proofs.Common.{None, option_to_list, refl, sym, ◌∙◌, ap, subst}
+use Rattle.std.proofs.Common.{None, option_map, option_to_list, refl, sym, ◌∙◌, ap, subst}
+use Rattle.std.specs.Option.{option_or}
 use Rattle.std.proofs.lemmas.List.{append-nil}
 use Rattle.radio_model.specs.declared.sending.Sending.{Sending}
 use Rattle.bus_rules.specs.Cores.{Setup}
@@ -8,14 +9,16 @@ use Rattle.bus_rules.specs.declared.delivery.Delivery.{Delivery}
 use Rattle.air_log.specs.declared.entry.TunedEntry.{TunedEntry}
 use Rattle.air_log.specs.Devices.{Device, Made, silenced}
 use Rattle.air_log.specs.DeviceStates.{DeviceState, whole, with_tuned, one_more, with_sent}
-use Rattle.air_log.specs.DeviceStates.{HappenedBy, IsSameNode}
+use Rattle.air_log.specs.DeviceStates.{HappenedBy, IsSameNode, RunsUntil, sending_end}
 use Rattle.air_log.specs.AlarmRuns.{after_alarms, IsAlarmRun}
 use Rattle.air_log.specs.Trails.{alarmed}
 use Rattle.air_log.specs.DeviceChanges.{DeviceIsShown, DeviceGoes, DeviceIsEnding, TakesAlarms}
 use Rattle.air_log.proofs.AlarmsTaken.{all_taken}
 use Rattle.air_log.proofs.DeviceChanges.{node_shows}
+use Rattle.air_log.specs.WindowLogs.{WindowLog}
 use Rattle.air_log.specs.WindowSums.{WindowSum, IsCounted}
 use Rattle.air_log.specs.Courses.{CourseState, made_in, CourseShows, CourseIsShown, Goes, HasListsOf, IsShownEnding}
+use Rattle.air_log.proofs.RunningSendings.{runs_still, runs_on}
 use Rattle.air_log.proofs.ShownCourses.{shows_as}
 
 -- the device that a course shows
@@ -48,16 +51,19 @@ sent_made None made = ap (λ (xs : List Sending). record made { sent = xs }) (sy
 sent_made (Some x) made = refl
 
 pub begin_goes : (t : ℕ) (old : CourseState) (after : DeviceState) (x : Option Sending) (change : Setup → Device → Device)
-    → ((made : Made) → change old.device.setup (whole old.device made) ≡ whole after (with_sent x made))
+    → ((made : Made) → RunsUntil old.device.busy_until made.sent → change old.device.setup (whole old.device made) ≡ whole after (with_sent x made))
+    → after.busy_until ≡ option_or (option_map sending_end x) old.device.busy_until
     → (HappenedBy t old.device → HappenedBy t after) → IsSameNode old.device after
     → Goes t change old (record old { device = after; sent = old.sent ++ option_to_list x })
-begin_goes t old after x change comes happened node = λ q d sh.
+begin_goes t old after x change comes until happened node = λ q d sh.
     let made = made_in old sh.windows in
     record {
       windows = sh.windows;
       shows = node_shows q t old.device after made (record made { sent = made.sent ++ option_to_list x }) d (change q d) sh.shows node
           (happened sh.shows.happened) refl sh.shows.ended
-          (ap (whole after) (sym (sent_made x made)) ∙ sym (comes made) ∙ ap (λ (z : Setup). change z (whole old.device made)) sh.shows.setup
+          (runs_still (option_or (option_map sending_end x) old.device.busy_until) after.busy_until (made.sent ++ option_to_list x)
+          (made.sent ++ option_to_list x) until refl (runs_on old.device.busy_until made.sent x sh.shows.runs))
+          (ap (whole after) (sym (sent_made x made)) ∙ sym (comes made sh.shows.runs) ∙ ap (λ (z : Setup). change z (whole old.device made)) sh.shows.setup
           ∙ ap (change q) sh.shows.is);
     }
 
@@ -85,7 +91,8 @@ close_tells t old closed first last new silent none windows is q d sh =
     subst (λ (c : CourseState). HasListsOf q c (silenced q.id t d)) (sym is) tells
 
 -- the device changes, and the rest of the change follows
-module _ (t : ℕ) (old : CourseState) (after : DeviceState) (happened : HappenedBy t old.device → HappenedBy t after) (node : IsSameNode old.device after) where
+module _ (t : ℕ) (old : CourseState) (after : DeviceState) (happened : HappenedBy t old.device → HappenedBy t after) (node : IsSameNode old.device after)
+    (runs : RunsUntil after.busy_until old.sent) where
   abbrev pub middle : CourseState
   middle = record old { device = after }
 
@@ -94,19 +101,22 @@ module _ (t : ℕ) (old : CourseState) (after : DeviceState) (happened : Happene
       let made = made_in old sh.windows in
       record {
         windows = sh.windows;
-        shows = node_shows q t old.device after made made d (whole after made) sh.shows node (happened sh.shows.happened) refl sh.shows.ended refl;
+        shows = node_shows q t old.device after made made d (whole after made) sh.shows node (happened sh.shows.happened) refl sh.shows.ended runs
+            refl;
       }
 
   pub then_shown : CourseIsShown t old → CourseIsShown t middle
   then_shown shown = record { setup = shown.setup; device = _; shows = middle_shows shown.setup shown.device shown.shows }
 
   pub then_goes : (first second : Setup → Device → Device) (last : CourseState)
-      → ((made : Made) → first old.device.setup (whole old.device made) ≡ second old.device.setup (whole after made)) → Goes t second middle last
+      → ((windows : List WindowLog) → RunsUntil old.device.busy_until old.sent
+      → first old.device.setup (whole old.device (made_in old windows)) ≡ second old.device.setup (whole after (made_in old windows)))
+      → Goes t second middle last
       → Goes t first old last
   then_goes first second last comes goes = λ q d sh.
       let made = made_in old sh.windows in
       shows_as q t last (second q (whole after made)) (first q d) (goes q (whole after made) (middle_shows q d sh))
-      (ap (λ (z : Setup). second z (whole after made)) (sym sh.shows.setup) ∙ sym (comes made) ∙ ap (first old.device.setup) sh.shows.is
+      (ap (λ (z : Setup). second z (whole after made)) (sym sh.shows.setup) ∙ sym (comes sh.windows sh.shows.runs) ∙ ap (first old.device.setup) sh.shows.is
       ∙ ap (λ (z : Setup). first z d) sh.shows.setup)
 
 -- the alarms of a tick

@@ -9,10 +9,11 @@ use Rattle.bus_rules.specs.Cores.{Setup}
 use Rattle.bus_rules.specs.declared.delivery.Delivery.{Delivery}
 use Rattle.air_log.specs.declared.entry.TunedEntry.{TunedEntry}
 use Rattle.air_log.specs.Devices.{Device, Listening, Made}
-use Rattle.air_log.specs.DeviceStates.{DeviceState, whole, with_tuned, one_more, EndedBefore, HappenedBy, HandsOut, IsSameNode}
+use Rattle.air_log.specs.DeviceStates.{DeviceState, whole, with_tuned, one_more, EndedBefore, HappenedBy, HandsOut, IsSameNode, RunsUntil}
 use Rattle.air_log.specs.DeviceChanges.{DeviceShows, DeviceIsShown, made_more, DeviceGoes}
 use Rattle.air_log.specs.WindowLogs.{WindowLog}
 use Rattle.air_log.specs.WindowSums.{WindowSum, IsCounted}
+use Rattle.air_log.proofs.RunningSendings.{runs_still}
 
 -- tunings that are handed out have ended
 pub ended_more : (t : ℕ) (closed : Option TunedEntry) (es : List Tuning) → IfSome closed (λ e. e.end < t) → EndedBefore t es
@@ -38,9 +39,11 @@ hands_none t old new same = record {
 
 -- a device of the same node is shown, with what it has made by now
 pub node_shows : (q : Setup) (t : ℕ) (old new : DeviceState) (made more : Made) (d e : Device) → DeviceShows q t old made d → IsSameNode old new
-    → HappenedBy t new → more.windows ≡ made.windows → EndedBefore t more.tuned → whole new more ≡ e → DeviceShows q t new more e
-node_shows q t old new made more d e sh node happened windows ended is = record {
+    → HappenedBy t new → more.windows ≡ made.windows → EndedBefore t more.tuned → RunsUntil new.busy_until more.sent → whole new more ≡ e
+    → DeviceShows q t new more e
+node_shows q t old new made more d e sh node happened windows ended runs is = record {
   is = is;
+  runs = runs;
   setup = node.setup ∙ sh.setup;
   counted = subst (λ (l : List WindowLog). IsCounted q.profile q.sends l new.windows) (sym windows)
       (subst (λ (x : WindowSum). IsCounted q.profile q.sends made.windows x) (sym node.windows) sh.counted);
@@ -59,7 +62,7 @@ module _ (t : ℕ) (change : Setup → Device → Device) (old new : DeviceState
     pub comes : (made : Made) → EndedBefore t made.tuned → change old.setup (whole old made) ≡ whole new (with_tuned closed made)
     pub node : IsSameNode old new
     pub happened : HappenedBy t old → HappenedBy t new
-    pub sending : new.sending ≡ old.sending
+    pub busy : new.busy_until ≡ old.busy_until
     pub before : IfSome closed (λ e. e.end < t)
     pub own : IfSome closed (λ e. e.node ≡ old.setup.id)
     pub hands : HandsOut t old closed new
@@ -69,12 +72,12 @@ module _ (t : ℕ) (change : Setup → Device → Device) (old new : DeviceState
     shows = λ q made d sh. (
       made.windows,
       node_shows q t old new made (made_more closed [] made.windows made) d (change q d) sh step.node (step.happened sh.happened) refl
-          (ended_more t closed made.tuned step.before sh.ended)
+          (ended_more t closed made.tuned step.before sh.ended) (runs_still old.busy_until new.busy_until made.sent made.sent step.busy refl sh.runs)
           (ap (whole new) (nothing_more (with_tuned closed made)) ∙ sym (step.comes made sh.ended)
           ∙ ap (λ (z : Setup). change z (whole old made)) sh.setup ∙ ap (change q) sh.is),
     );
     setup = step.node.setup;
-    sending = step.sending;
+    busy = step.busy;
     hands = step.hands;
     own_tuning = step.own;
     own_deliveries = All-nil (λ x. x.node ≡ old.setup.id);
@@ -83,12 +86,12 @@ module _ (t : ℕ) (change : Setup → Device → Device) (old new : DeviceState
 -- a step by which no tuning ends
 pub set_goes : (t : ℕ) (change : Setup → Device → Device) (old new : DeviceState)
     → ((made : Made) → change old.setup (whole old made) ≡ whole new made) → IsSameNode old new → (HappenedBy t old → HappenedBy t new)
-    → new.sending ≡ old.sending → new.closed ≡ old.closed → DeviceGoes t change old new None []
-set_goes t change old new comes node happened sending closed = step_goes t change old new None (record {
+    → new.busy_until ≡ old.busy_until → new.closed ≡ old.closed → DeviceGoes t change old new None []
+set_goes t change old new comes node happened busy closed = step_goes t change old new None (record {
   comes = λ made ended. comes made;
   node = node;
   happened = happened;
-  sending = sending;
+  busy = busy;
   before = tt;
   own = tt;
   hands = hands_none t old new closed;
@@ -133,7 +136,7 @@ module _ (t : ℕ) (f g : Setup → Device → Device) (a b c : DeviceState) (x 
         let second = two.shows q (made_more x ds first.0 made) (f q d) first.1 in
         (second.0, subst (λ (m : Made). DeviceShows q t c m (g q (f q d))) (joined first.0 second.0 made) second.1);
     setup = two.setup ∙ one.setup;
-    sending = two.sending ∙ one.sending;
+    busy = two.busy ∙ one.busy;
     hands = hands_then t a b c x y one.hands two.hands;
     own_tuning =
         own_either a.setup.id x y one.own_tuning
@@ -151,7 +154,7 @@ goes_as t f g a b x ds same goes = record {
       let next = goes.shows q made d sh in
       (next.0, subst (λ (e : Device). DeviceShows q t b (made_more x ds next.0 made) e) (same q made d sh) next.1);
   setup = goes.setup;
-  sending = goes.sending;
+  busy = goes.busy;
   hands = goes.hands;
   own_tuning = goes.own_tuning;
   own_deliveries = goes.own_deliveries;

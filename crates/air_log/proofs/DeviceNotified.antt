@@ -17,17 +17,18 @@ use Rattle.air_log.specs.DeviceChanges.{DeviceShows, DeviceIsShown, made_more, D
 use Rattle.air_log.specs.WindowLogs.{WindowLog, is_alarm}
 use Rattle.air_log.specs.WindowSums.{WindowSum, power_has_window, sent_with, noted}
 use Rattle.air_log.proofs.CountedEvents.{counted_then}
+use Rattle.air_log.proofs.RunningSendings.{runs_still}
 
 -- what a row leaves as it was
 record IsKept (old new : DeviceState) : Type 0 where
   setup : new.setup ≡ old.setup
-  sending : new.sending ≡ old.sending
+  busy : new.busy_until ≡ old.busy_until
   closed : new.closed ≡ old.closed
   listening : new.listening ≡ old.listening
 
 kept_by_row : (s : DeviceState) (r : Option Stepped) → IsKept s (state_after_row s r)
-kept_by_row s None = record { setup = refl; sending = refl; closed = refl; listening = refl }
-kept_by_row s (Some r) = record { setup = refl; sending = refl; closed = refl; listening = refl }
+kept_by_row s None = record { setup = refl; busy = refl; closed = refl; listening = refl }
+kept_by_row s (Some r) = record { setup = refl; busy = refl; closed = refl; listening = refl }
 
 made_is : (t : ℕ) (e : Event) (ended : Option Sending) (power : Power) (r : Option Stepped) (made : Made)
     → made_by t e ended power r made
@@ -81,6 +82,8 @@ module _ (clock : ℕ → ℕ) (t : ℕ) (e : Event) (ended : Option Sending) (o
       → DeviceShows q t mid (making made) (whole mid (making made))
   event_shows less q made d sh = record {
     is = refl;
+    runs = runs_still old.busy_until mid.busy_until made.sent (making made).sent kept.busy
+        (ap (λ (m : Made). m.sent) (made_is t e ended old.power row made)) sh.runs;
     setup = kept.setup ∙ sh.setup;
     counted = counted_then clock t e ended old q.profile q.sends sh.few old.windows old.setup old.power made refl sh.counted less;
     few = sh.few;
@@ -130,7 +133,7 @@ module _ (clock : ℕ → ℕ) (t : ℕ) (e : Event) (ended : Option Sending) (o
                 (subst (λ (x : Device). DeviceShows q t new (made_more closed [] next.0 (making made)) x) (same q made d sh) next.1),
           );
       setup = goes.setup ∙ kept.setup;
-      sending = goes.sending ∙ kept.sending;
+      busy = goes.busy ∙ kept.busy;
       hands = record {
         once = goes.hands.once;
         none = λ keeps. goes.hands.none (subst (λ (o : Option TunedEntry). IfSome o (λ x. t ≤ x.end)) (sym kept.closed) keeps);

@@ -22,7 +22,7 @@ module _ (clock : ℕ → ℕ) (t : ℕ) (old mid : DeviceState) (taken : old.de
         delivery = ap (λ (s : DeviceState). s.delivery) changed ∙ sym taken;
         windows = ap (λ (s : DeviceState). s.windows) changed;
       })
-      happened (ap (λ (s : DeviceState). s.sending) changed) (ap (λ (s : DeviceState). s.closed) changed)
+      happened (ap (λ (s : DeviceState). s.busy_until) changed) (ap (λ (s : DeviceState). s.closed) changed)
 
   pub boot_shown : DeviceIsShown t old → DeviceIsShown t mid
   boot_shown = shown_still t (λ q d. record d { power = mid.power }) old mid None [] turned_goes

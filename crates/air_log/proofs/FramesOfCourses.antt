@@ -14,6 +14,7 @@ use Rattle.scenario_text.specs.declared.script.ScriptLine.{ScriptLine}
 use Rattle.air_log.specs.declared.entry.HeardEntry.{HeardEntry}
 use Rattle.lwb_base.specs.declared.event.Event.TheVariants.{Heard, Sent}
 use Rattle.air_log.specs.Devices.{Device, OrderedPacket, event, seen_power}
+use Rattle.air_log.proofs.RunningSendings.{of_end, of_running}
 use Rattle.air_log.proofs.KeptPower.{event_power, alarmed_power, begun_power}
 use Rattle.air_log.specs.ScriptedDevices.{device_after_line}
 use Rattle.scenario_text.specs.Setups.{setup_of}
@@ -144,7 +145,8 @@ module _ (clock : ℕ → ℕ) (s : ScenarioParts) (hs : List HeardEntry) (f : �
           no_earlier last.device (slice_get hs next) (frame_start s (f + 1)) (t + 1) (omega (arith, less))
           (subst (λ (o : Option ℕ). IfSome o (λ x. t + 1 ≤ x)) (sym (ap (λ (x : Device). x.alarm) shows.shows.is)) ahead.alarm)
           (subst (λ (o : Option OrderedPacket). IfSome o (λ x. t + 1 ≤ x.tick)) (sym (ap (λ (x : Device). x.ordered) shows.shows.is)) ahead.ordered)
-          (subst (λ (o : Option Sending). IfSome o (λ x. t + 1 ≤ x.end)) (sym (ap (λ (x : Device). x.sending) shows.shows.is)) ahead.sending)
+          (of_end (λ n. t + 1 ≤ n) last.device.busy_until last.sent shows.shows.runs
+          (subst (λ (o : Option Sending). IfSome o (λ x. t + 1 ≤ x.end)) (sym (ap (λ (x : Device). x.sending) shows.shows.is)) ahead.sending))
           (next_late (slice_get hs next) refl)
 
       pub later_by : (v : ℕ) × CourseShows (setup_of s v) (frame_start s f) old (at_frame s v clock rs f) → t + 1 ≤ u
@@ -189,7 +191,8 @@ module _ (clock : ℕ → ℕ) (s : ScenarioParts) (hs : List HeardEntry) (f : �
               set = record {
                 alarm = subst (λ (o : Option ℕ). IfSome o (λ x. u ≤ x)) (ap (λ (x : Device). x.alarm) shows.shows.is) least.alarm;
                 ordered = subst (λ (o : Option OrderedPacket). IfSome o (λ x. u ≤ x.tick)) (ap (λ (x : Device). x.ordered) shows.shows.is) least.ordered;
-                sending = subst (λ (o : Option Sending). IfSome o (λ x. u ≤ x.end)) (ap (λ (x : Device). x.sending) shows.shows.is) least.sending;
+                sending = subst (λ (o : Option Sending). IfSome o (λ x. u ≤ x.end)) (ap (λ (x : Device). x.sending) shows.shows.is)
+                    (of_running (λ n. u ≤ n) last.device.busy_until last.sent shows.shows.runs least.busy);
               };
               hearings = heard_apart;
               lines = λ l there own. elim (line_apart l) [ inl before ↦ inl before | inr behind ↦ inr (omega (arith, behind, least.within)) ];

@@ -18,6 +18,7 @@ pub mod TrailTunings
 pub mod SendingsKept
 pub mod SendingsApart
 pub mod OwnSendings
+pub mod RunningSendings
 pub mod TunedBefore
 pub mod KeptPower
 pub mod ComputedTrails

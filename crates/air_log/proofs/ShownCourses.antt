@@ -44,6 +44,7 @@ happened_later t u s le happened = record { closed = closed s.closed happened.cl
 pub device_later : (q : Setup) (t u : ℕ) (s : DeviceState) (made : Made) (d : Device) → t ≤ u → DeviceShows q t s made d → DeviceShows q u s made d
 device_later q t u s made d le shows = record {
   is = shows.is;
+  runs = shows.runs;
   setup = shows.setup;
   counted = shows.counted;
   few = shows.few;

@@ -82,14 +82,10 @@ abbrev pub least_of : ℕ → Option ℕ → ℕ
 least_of t None = t
 least_of t (Some u) = min t u
 
-abbrev pub sending_end : Sending → ℕ
-sending_end x = x.end
-
 -- the least of what is set at a device, the end of the next reception and another tick
 abbrev pub least_due : DeviceState → Option HeardEntry → ℕ → ℕ
 least_due d h until =
-    least_of (least_of (least_of (least_of until d.alarm) (option_map tick_of_ordered d.ordered)) (option_map sending_end d.sending))
-    (option_map end_of_reception h)
+    least_of (least_of (least_of (least_of until d.alarm) (option_map tick_of_ordered d.ordered)) d.busy_until) (option_map end_of_reception h)
 
 -- what comes before the alarms of a tick, after its script lines, and with its alarms and its start
 abbrev pub before_alarms_in : (ℕ → ℕ) → Setup → ℕ → List Reception → Device → Device

@@ -7,7 +7,7 @@ use Rattle.bus_rules.specs.Cores.{Setup}
 use Rattle.air_log.specs.declared.entry.TunedEntry.{TunedEntry}
 use Rattle.air_log.specs.AlarmRuns.{after_alarms, IsAlarmRun}
 use Rattle.air_log.specs.Devices.{Device, Made}
-use Rattle.air_log.specs.DeviceStates.{DeviceState, whole, one_more, EndedBefore, HappenedBy, HandsOut}
+use Rattle.air_log.specs.DeviceStates.{DeviceState, whole, one_more, EndedBefore, HappenedBy, HandsOut, RunsUntil}
 use Rattle.air_log.specs.Trails.{alarm_is_due, alarmed}
 use Rattle.air_log.specs.WindowLogs.{WindowLog}
 use Rattle.air_log.specs.WindowSums.{IsCounted}
@@ -15,6 +15,7 @@ use Rattle.air_log.specs.WindowSums.{IsCounted}
 -- at tick t the device, with all that it has made, is this one of a trail
 pub record DeviceShows (q : Setup) (t : ℕ) (s : DeviceState) (made : Made) (d : Device) : Type 0 where
   pub is : whole s made ≡ d
+  pub runs : RunsUntil s.busy_until made.sent
   pub setup : s.setup ≡ q
   pub counted : IsCounted q.profile q.sends made.windows s.windows
   pub few : q.sends ≤ 4
@@ -39,7 +40,7 @@ pub record DeviceGoes (t : ℕ) (change : Setup → Device → Device) (old new 
   pub shows : (q : Setup) (made : Made) (d : Device) → DeviceShows q t old made d
       → (windows : List WindowLog) × DeviceShows q t new (made_more closed ds windows made) (change q d)
   pub setup : new.setup ≡ old.setup
-  pub sending : new.sending ≡ old.sending
+  pub busy : new.busy_until ≡ old.busy_until
   pub hands : HandsOut t old closed new
   pub own_tuning : IfSome closed (λ e. e.node ≡ old.setup.id)
   pub own_deliveries : All (λ x. x.node ≡ old.setup.id) ds

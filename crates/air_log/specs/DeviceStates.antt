@@ -1,5 +1,6 @@
 -- A device as code keeps it, and what it makes known of itself step by step.
-use Rattle.std.specs.Prelude.{◌≡◌, ℕ, ◌^◌, ◌<◌, ◌≤◌, List, [], ◌∷◌, ◌++◌, true, ◌==◌, if◌then◌else◌, Some, None, is_some, option_to_list, ⊤}
+use Rattle.std.specs.Prelude.{◌≡◌, ℕ, ◌^◌, ◌<◌, ◌≤◌, ◌-◌, List, [], ◌∷◌, ◌++◌, Bool, true, false, ◌==◌, Some, None, is_some, option_to_list, ⊤}
+use Rattle.std.specs.Prelude.{length, slice_get}
 use Rattle.std.specs.declared.option.Option.{Option}
 use Rattle.std.specs.Option.{IfSome, option_map}
 use Rattle.lwb_base.specs.declared.limits.TheConstants.{MOST_BOOTS}
@@ -21,7 +22,7 @@ use Rattle.air_log.specs.declared.settings.Settings.{Settings}
 use Rattle.air_log.specs.Devices.{Device, Power, PowerOff, PowerOn, Listening, OrderedPacket, Made, delivery_by, event}
 
 -- core: the node, also where its power is off; closed: the tuning that ended last, as long as its entry is not in the log;
--- delivery: that of the last step; windows: what its windows count so far
+-- busy_until: the tick at which its running transmission ends; delivery: that of the last step; windows: what its windows count so far
 pub record DeviceState : Type 0 where
   pub setup : Setup
   pub core : Node
@@ -30,7 +31,7 @@ pub record DeviceState : Type 0 where
   pub closed : Option TunedEntry
   pub alarm : Option ℕ
   pub ordered : Option OrderedPacket
-  pub sending : Option Sending
+  pub busy_until : Option ℕ
   pub delivery : Option Delivery
   pub windows : WindowSum
 
@@ -43,6 +44,18 @@ tick_of_ordered o = o.tick
 -- what is set at it
 abbrev pub settings_of : DeviceState → Settings
 settings_of s = record { channel = option_map channel_of s.listening; alarm = s.alarm; sending = option_map tick_of_ordered s.ordered }
+
+abbrev pub sending_end : Sending → ℕ
+sending_end x = x.end
+
+-- the running transmission is the last that was made, if one runs
+abbrev pub running : Option ℕ → List Sending → Option Sending
+running None sent = None
+running (Some end) sent = slice_get sent (length sent - 1)
+
+-- it runs until this tick, and if none does, none runs
+abbrev pub RunsUntil : Option ℕ → List Sending → Type 0
+RunsUntil end sent = option_map sending_end (running end sent) ≡ end
 
 abbrev pub tuning_of : TunedEntry → Tuning
 tuning_of e = record { rank = e.rank; node = e.node; start = e.start; end = e.end }
@@ -62,7 +75,7 @@ whole s made = record {
   listening = s.listening;
   alarm = s.alarm;
   ordered = s.ordered;
-  sending = s.sending;
+  sending = running s.busy_until made.sent;
   made = with_tuned s.closed made;
 }
 
@@ -92,7 +105,7 @@ pub record HandsOut (t : ℕ) (old : DeviceState) (closed : Option TunedEntry) (
   pub none : KeepsBack t old → closed ≡ None
   pub still : KeepsBack t old → KeepsBack t new
 
--- the same node with the delivery of the same step, the same transmission and the same windows
+-- the same node with the delivery of the same step and the same windows
 pub record IsSameNode (old new : DeviceState) : Type 0 where
   pub setup : new.setup ≡ old.setup
   pub delivery : new.delivery ≡ old.delivery
@@ -137,14 +150,10 @@ abbrev pub with_sent : Option Sending → Made → Made
 with_sent None made = made
 with_sent (Some x) made = record made { sent = made.sent ++ x ∷ [] }
 
--- the packet that is to be sent at this tick, and the transmission that ends at it
-abbrev pub packet_due : ℕ → Option OrderedPacket → Option (List ℕ)
-packet_due t None = None
-packet_due t (Some o) = if o.tick == t then Some o.packet else None
-
-abbrev pub ending_at : ℕ → Option Sending → Option Sending
-ending_at t None = None
-ending_at t (Some x) = if x.end == t then Some x else None
+-- what runs until a tick ends at this one
+abbrev pub ends_now : ℕ → Option ℕ → Bool
+ends_now t None = false
+ends_now t (Some end) = end == t
 
 -- a transmission that ended at tick t is an event
 abbrev pub told_of : (ℕ → ℕ) → Setup → ℕ → Option Sending → Device → Device

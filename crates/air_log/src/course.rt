@@ -93,15 +93,18 @@ impl Course {
         requires early { t ≤ 2 ^ 45 }
         ensures { OnOk result (Goes t (λ q d. ended_at (C.readings clock.now) q t d) self.old self.new) }
     {
-        let Some(x) = self.device.end_sending(t) else {
+        if !self.device.end_sending(t) {
             return Ok(());
-        };
+        }
         let event = Event::Sent;
         let notice = Notice {
             event: &event,
-            ended: Some(&x),
+            ended: self.sent.last(),
         };
-        self.tell(clock, t, &notice)
+        let closed = self
+            .device
+            .notify(clock, t, &notice, &mut self.radio, &mut self.deliveries)?;
+        self.log_tuning(closed)
     }
 
     // The transmission that starts at tick t, if one does.
@@ -110,7 +113,7 @@ impl Course {
         requires early { t ≤ 2 ^ 45 }
         ensures { OnOk result (Goes t (λ q d. begun_at q t d) self.old self.new) }
     {
-        let sending = self.device.begin(t);
+        let sending = self.device.start(t);
         self.log_sending(sending)
     }
 

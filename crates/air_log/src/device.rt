@@ -17,7 +17,6 @@ use crate::{Settings, TunedEntry};
 use bus_rules::Tune;
 use lwb_base::{Memory, NodeId, Packet, Profile, Rank};
 use node_core::{Node, Place};
-use radio_model::sending::Sending;
 use std::alloc::Global;
 use std::marker::Model;
 
@@ -56,9 +55,9 @@ impl Model for Ordered {
 }
 
 /// The node of a trail (`Trail`), for what runs nodes in true time: a node core with its power, its radio, its one alarm, its
-/// one ordered transmission, its running transmission and what its windows count. All times are true ticks of 1/64 µs, and those
-/// of orders are by the node's clock. A tuning that ended is kept back as long as it may go on, and handed out after that: in one
-/// tick at most one is.
+/// one ordered transmission, the tick at which its running transmission ends and what its windows count. All times are true ticks
+/// of 1/64 µs, and those of orders are by the node's clock. A transmission is handed out as it starts. A tuning that ended is kept
+/// back as long as it may go on, and handed out after that: in one tick at most one is.
 ///
 /// Contracts see its state, and say what each call does to it by the trail: `whole` is the device of the trail, where what it
 /// has made so far is in the log.
@@ -73,7 +72,8 @@ pub struct Device {
     pub(crate) closed: Option<TunedEntry>,
     pub(crate) alarm: Option<u64>,
     pub(crate) ordered: Option<Ordered>,
-    pub(crate) sending: Option<Sending>,
+    // The tick at which its running transmission ends.
+    pub(crate) busy_until: Option<u64>,
     pub(crate) windows: WindowSum,
 }
 
@@ -91,7 +91,7 @@ impl Model for Device {
       closed = d.closed;
       alarm = d.alarm;
       ordered = d.ordered;
-      sending = d.sending;
+      busy_until = d.busy_until;
       delivery = d.core.delivery;
       windows = d.windows;
     } };
@@ -114,6 +114,7 @@ impl Device {
         ensures setup { IfOk result
             (λ d. d.setup ≡ record { profile = profile.now; id = node; own = own_rank node hosts.now; ranks = length hosts.now; sends = n }) }
         ensures rest { IfOk result (λ d. whole d nothing_made ≡ at_rest) }
+        ensures idle { IfOk result (λ d. d.busy_until ≡ None) }
         ensures delivery { IfOk result (λ d. d.delivery ≡ None) }
         ensures core { IfOk result (λ d. d.core ≡ rebooted 1) }
         ensures windows { IfOk result
@@ -129,7 +130,7 @@ impl Device {
             closed: None,
             alarm: None,
             ordered: None,
-            sending: None,
+            busy_until: None,
             windows: WindowSum::new(profile, n),
         })
     }

@@ -122,7 +122,7 @@ impl Device {
         ensures time { HappenedBy t self.new }
         ensures node { IsSameNode self.old self.new }
         ensures core { self.new.core ≡ self.old.core }
-        ensures sending { self.new.sending ≡ self.old.sending }
+        ensures busy { self.new.busy_until ≡ self.old.busy_until }
         ensures hands { HandsOut t self.old result self.new }
     {
         if self.listens_to(rank) {
@@ -142,7 +142,7 @@ impl Device {
         ensures time { HappenedBy t self.old → HappenedBy t self.new }
         ensures node { IsSameNode self.old self.new }
         ensures core { self.new.core ≡ self.old.core }
-        ensures sending { self.new.sending ≡ self.old.sending }
+        ensures busy { self.new.busy_until ≡ self.old.busy_until }
         ensures hands { HandsOut t self.old result self.new }
     {
         let Some(listening) = self.listening else {
@@ -179,7 +179,7 @@ impl Device {
         ensures time { HappenedBy t self.new }
         ensures node { IsSameNode self.old self.new }
         ensures core { self.new.core ≡ self.old.core }
-        ensures sending { self.new.sending ≡ self.old.sending }
+        ensures busy { self.new.busy_until ≡ self.old.busy_until }
         ensures keeps { KeepsBack t self.old → KeepsBack t self.new }
     {
         let closed = self.closed;

@@ -101,7 +101,7 @@ impl Device {
         ensures time { HappenedBy t self.old → HappenedBy t self.new }
         ensures node { IsSameNode self.old self.new }
         ensures core { self.new.core ≡ self.old.core }
-        ensures sending { self.new.sending ≡ self.old.sending }
+        ensures busy { self.new.busy_until ≡ self.old.busy_until }
         ensures hands { HandsOut t self.old result self.new }
     {
         if !self.on {
@@ -123,7 +123,7 @@ impl Device {
         ensures lost { result ≡ drop_of_line (record { frame = frame; node = self.old.setup.id; act = act.now }) self.old.power }
         ensures time { (now : ℕ) → HappenedBy now self.old → HappenedBy now self.new }
         ensures node { IsSameNode self.old self.new }
-        ensures sending { self.new.sending ≡ self.old.sending }
+        ensures busy { self.new.busy_until ≡ self.old.busy_until }
         ensures closed { self.new.closed ≡ self.old.closed }
         ensures off { power_is_on self.old.power ≡ false → self.new ≡ self.old }
     {

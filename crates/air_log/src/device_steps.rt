@@ -1,15 +1,16 @@
 //! The parts of a tick at a device.
 
-ghost use Rattle.std.specs.Prelude.{◌≡◌, ◌≤◌, ◌^◌, ℕ, Some, None, true, is_some, IsSome, option_copied, Option, All, if◌then◌else◌, fold};
+ghost use Rattle.std.specs.Prelude.{◌≡◌, ◌≤◌, ◌^◌, ℕ, None, is_some, option_map, Option, All, if◌then◌else◌, fold};
+ghost use Rattle.std.specs.Option.{option_or};
 ghost use Rattle.radio_model.specs.declared.sending.Sending.{Sending};
 ghost use Rattle.node_core.specs.Rows.{orders_by};
 ghost use Rattle.lwb_base.specs.Orders.{Gives};
 ghost use Rattle.air_log.specs.Devices.{Made, obeyed, event as event_at};
 ghost use Rattle.air_log.specs.Trails.{alarm_is_due, device_after_start, device_after_end};
-ghost use Rattle.air_log.specs.DeviceStates.{whole, IsSameNode, row_of, state_after_row, made_by, with_sent, ending_at, told_of, HappenedBy};
-ghost use Rattle.air_log.specs.DeviceStates.{IsTimely};
+ghost use Rattle.air_log.specs.DeviceStates.{whole, IsSameNode, row_of, state_after_row, made_by, with_sent, told_of, HappenedBy};
+ghost use Rattle.air_log.specs.DeviceStates.{IsTimely, RunsUntil, running, sending_end, ends_now};
 
-use crate::device::Device;
+use crate::device::{Device, Ordered};
 use bus_rules::Delivery;
 use lwb_base::{Event, Packet, Radio};
 use radio_model::sending::Sending;
@@ -71,73 +72,52 @@ impl Device {
         due
     }
 
-    // The transmission that starts at tick t. Returns `None` if and only if none does: nothing is ordered for this tick, the
-    // radio is off, or the node still sends.
-    pub(crate) fn begin(&mut self, t: u64) -> Option<Sending>
+    /// The transmission that starts at tick t. Returns `None` if and only if none does: nothing is ordered for this tick, the radio
+    /// is off, or the node still sends.
+    pub fn start(&mut self, t: u64) -> Option<Sending>
         requires early { t ≤ 2 ^ 45 }
-        ensures whole { (made : Made) → device_after_start self.old.setup t (whole self.old made) ≡ whole self.new (with_sent result made) }
+        ensures whole { (made : Made) → RunsUntil self.old.busy_until made.sent
+            → device_after_start self.old.setup t (whole self.old made) ≡ whole self.new (with_sent result made) }
+        ensures until { self.new.busy_until ≡ option_or (option_map sending_end result) self.old.busy_until }
         ensures time { (now : ℕ) → HappenedBy now self.old → HappenedBy now self.new }
         ensures node { IsSameNode self.old self.new }
         ensures core { self.new.core ≡ self.old.core }
     {
-        if !self.start(t) {
+        match &self.ordered {
+            Some(ordered) if ordered.tick == t => (),
+            Some(_) | None => return None,
+        }
+        let Ordered { packet, .. } = self.ordered.take()?;
+        let listening = self.listening?;
+        if self.busy_until.is_some() {
             return None;
         }
-        let x = self.sending()?;
-        Some(x.copy())
+        let end = t + self.profile.airtime(packet.length());
+        self.busy_until = Some(end);
+        Some(Sending {
+            rank: listening.rank,
+            node: self.node,
+            start: t,
+            end,
+            packet,
+        })
     }
 
-    /// As `begin`, but the transmission is left in the device, where `sending` finds it: a packet is long. Returns `false` if and
-    /// only if none starts.
-    pub fn start(&mut self, t: u64) -> bool
-        requires early { t ≤ 2 ^ 45 }
-        ensures whole { (made : Made) → device_after_start self.old.setup t (whole self.old made)
-            ≡ whole self.new (with_sent (if result then self.new.sending else None) made) }
-        ensures stands { result ≡ true → IsSome self.new.sending }
-        ensures time { (now : ℕ) → HappenedBy now self.old → HappenedBy now self.new }
-        ensures node { IsSameNode self.old self.new }
-        ensures core { self.new.core ≡ self.old.core }
+    /// Whether its running transmission ends at tick t, of which the node has to be notified. It runs no more then.
+    pub fn end_sending(&mut self, t: u64) -> bool
+        ensures ended { result ≡ ends_now t self.old.busy_until }
+        ensures after { self.new ≡ record self.old { busy_until = if result then None else self.old.busy_until } }
+        ensures whole { (clock : ℕ → ℕ) (made : Made) → RunsUntil self.old.busy_until made.sent
+            → device_after_end clock self.old.setup t (whole self.old made)
+            ≡ told_of clock self.old.setup t (if result then running self.old.busy_until made.sent else None) (whole self.new made) }
     {
-        let listening = self.listening;
-        let sends = self.sending.is_some();
-        let ordered = match &self.ordered {
-            Some(ordered) if ordered.tick == t => ordered,
-            Some(_) | None => return false,
+        let ends = match self.busy_until {
+            Some(end) => end == t,
+            None => false,
         };
-        let starts = match listening {
-            Some(listening) if !sends => {
-                self.sending = Some(Sending {
-                    rank: listening.rank,
-                    node: self.node,
-                    start: t,
-                    end: t + self.profile.airtime(ordered.packet.length()),
-                    packet: ordered.packet.copy(),
-                });
-                true
-            }
-            Some(_) | None => false,
-        };
-        self.ordered = None;
-        starts
-    }
-
-    /// The own transmission that has started and not ended, if there is one.
-    pub fn sending(&self) -> Option<&Sending>
-        ensures { option_copied result ≡ self.now.sending }
-    {
-        self.sending.as_ref()
-    }
-
-    /// The own transmission that ends at tick t, of which the node has to be notified. Returns `None` if and only if none does.
-    pub fn end_sending(&mut self, t: u64) -> Option<Sending>
-        ensures ended { result ≡ ending_at t self.old.sending }
-        ensures after { self.new ≡ record self.old { sending = if is_some result then None else self.old.sending } }
-        ensures whole { (clock : ℕ → ℕ) (made : Made)
-            → device_after_end clock self.old.setup t (whole self.old made) ≡ told_of clock self.old.setup t result (whole self.new made) }
-    {
-        match &self.sending {
-            Some(x) if x.end == t => self.sending.take(),
-            Some(_) | None => None,
+        if ends {
+            self.busy_until = None;
         }
+        ends
     }
 }

@@ -259,10 +259,7 @@ impl Course {
             Some(ordered) => due.min(ordered.tick),
             None => due,
         };
-        let due = match &self.device.sending {
-            Some(sending) => due.min(sending.end),
-            None => due,
-        };
+        let due = earlier(due, self.device.busy_until);
         match heard.get(next) {
             Some(hearing) => due.min(hearing.end),
             None => due,

@@ -36,9 +36,6 @@ abbrev round_of : Note → Round
 round_of n = n.0
 
 module _ (notes : List Note) (round : Round) (word : Word) where
-  more : List Note
-  more = notes ++ (round, word) ∷ []
-
   there_now : Contains (notes ++ (round, word) ∷ []) (round, word)
   there_now = Contains-push notes (round, word)
 

@@ -1,11 +1,9 @@
 -- A stamp has one reference, but for the sender of its schedule, and logs of the same entries have the same ones.
-use Rattle.std.proofs.Common.{◌≡◌, ℕ, ◌+◌, ◌-◌, ◌*◌, ◌<◌, ◌≤◌, inl, inr, List, Contains, length, Some, refl, sym, ◌∙◌, ap, subst, arith}
+use Rattle.std.proofs.Common.{◌≡◌, ℕ, ◌+◌, ◌-◌, ◌*◌, ◌≤◌, inl, inr, List, Contains, length, Some, refl, sym, ◌∙◌, ap, subst, arith}
 use Rattle.lwb_base.specs.Profile.{Numbers, airtime}
 use Rattle.lwb_base.specs.Messages.{Ask, Schedule}
 use Rattle.lwb_packets.specs.Body.{body}
-use Rattle.time_reference.specs.Budgets.{budget_of}
 use Rattle.time_reference.specs.Reference.{heard_zero}
-use Rattle.time_reference.proofs.BudgetRoom.{packets_last}
 use Rattle.bus_rules.specs.Slots.{ScheduleOf, RequestOf}
 use Rattle.lwb_member.specs.Said.{message_of}
 use Rattle.node_core.specs.Nodes.{zero_from}
@@ -15,10 +13,10 @@ use Rattle.scenario_text.specs.ScenarioParts.{ScenarioParts}
 use Rattle.air_log.specs.declared.entry.Entry.{Entry}
 use Rattle.air_log.specs.Entries.{sendings_of, HasHeardEntry}
 use Rattle.air_log.specs.Safe.{SameStep}
+use Rattle.law_trails.proofs.SentInTrails.{takes_time}
 use Rattle.law_safety.specs.Endings.{EndsInOrder}
 use Rattle.law_safety.specs.FloodSendings.{IsOfFlood}
 use Rattle.law_safety.proofs.FloodPackets.{same_length, says_as_origin}
-use Rattle.law_safety.proofs.RunFacts.{run_fits}
 use Rattle.law_safety.proofs.RunSendings.{of_flood}
 use Rattle.law_safety.proofs.SafeSteps.{no_overlap}
 use Rattle.law_safety.proofs.SlotFloods.{one_flood}
@@ -122,21 +120,11 @@ module _ (s : ScenarioParts) (clocks : ℕ → ℕ → ℕ) (air : List Entry) (
   k_sent : Contains (sendings_of air) k
   k_sent = sent s clocks air whole x begun e k also told_too.0 told_too.1
 
-  lasts : (z : Sending) → Contains (sendings_of air) z → z.start < z.end
-  lasts z there =
-      let flooded = of_flood s clocks air whole z there in
-      let p = s.profile in
-      let long = packets_last p (budget_of p) (run_fits s whole.run.driven.sound) (length z.packet) in
-      let least = long.2 in
-      let more = long.3 flooded.some in
-      let end = flooded.lasts in
-      omega (arith, least, more, end)
-
   meets : Meets h k
   meets =
       let end = (alike s air x d e h k is also).end in
-      let h_lasts = lasts h h_sent in
-      let k_lasts = lasts k k_sent in
+      let h_lasts = takes_time s clocks air whole.run.heedful.trails whole.run.driven.sound h h_sent in
+      let k_lasts = takes_time s clocks air whole.run.heedful.trails whole.run.driven.sound k k_sent in
       record { before = omega (arith, end, h_lasts); after = omega (arith, end, k_lasts) }
 
   step : SameStep s.profile h k

@@ -1,13 +1,10 @@
 -- Schedules that a node receives as it probes their channel.
-use Rattle.std.proofs.Common.{◌≡◌, ℕ, ◌+◌, ◌*◌, ◌<◌, ◌≤◌, ◌^◌, List, [], ◌∷◌, ◌++◌, zero, suc, take, get_or, length, length-take}
+use Rattle.std.proofs.Common.{◌≡◌, ℕ, ◌+◌, ◌<◌, ◌≤◌, List, [], ◌∷◌, ◌++◌, zero, suc, take, get_or, length, length-take}
 use Rattle.std.proofs.Common.{inl, inr, Contains, AllPairs, refl, sym, ◌∙◌, ap, subst, arith}
 use Rattle.std.proofs.lemmas.Bool.{cases_lt}
 use Rattle.std.proofs.lemmas.List.{take_more, get_or-take, get_or_default}
 use Rattle.std.proofs.lemmas.List.Elements.{Contains-append_cases}
-use Rattle.std.proofs.Math.Nat.{mul-le-mul_right}
-use Rattle.scenario_text.specs.ScenarioGrammar.{IsScenario}
 use Rattle.scenario_text.specs.ScenarioParts.{ScenarioParts}
-use Rattle.scenario_text.proofs.SoundScenarios.{sound}
 use Rattle.radio_model.specs.Hearing.{Before, TunedThrough}
 use Rattle.radio_model.specs.OnAir.{Tuning}
 use Rattle.radio_model.specs.Reaches.{HoldSame}
@@ -17,7 +14,6 @@ use Rattle.air_log.specs.declared.entry.Entry.{Entry}
 use Rattle.air_log.specs.Entries.{sendings_of, tunings_of}
 use Rattle.air_log.specs.HearsAir.{scene_of}
 use Rattle.air_log.specs.Trails.{frame_start}
-use Rattle.air_log.proofs.ShortRuns.{short_run}
 use Rattle.host_return.specs.Probes.{Brings, IsOfFrame, with_probe}
 
 -- it is tuned there all the time
@@ -40,12 +36,6 @@ tuned_through s air f v rank x channel starts ends t after before =
 pub same_sent : (s : ScenarioParts) (air : List Entry) (f v rank : ℕ) (sent : List Sending) → HoldSame (sendings_of air) sent
     → HoldSame (scene_of s.profile s.trace (with_probe s air f v rank)).sendings sent
 same_sent s air f v rank sent same = record { into = same.into; back = same.back }
-
-pub early_start : (s : ScenarioParts) (f : ℕ) → IsScenario s → f ≤ s.frames → f * s.profile.frame < 2 ^ 64
-early_start s f said few =
-    let most = mul-le-mul_right s.profile.frame few in
-    let short = short_run s (sound s said) in
-    omega (arith, most, short)
 
 -- none of the first is one, and the next is none
 pub none_more : (B : Sending → Type 0) (some : List Sending) (i : ℕ) (x : Sending) → i < length some → x ≡ get_or some i x

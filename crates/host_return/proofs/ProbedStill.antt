@@ -12,7 +12,7 @@ use Rattle.radio_model.proofs.Members.{not_in_none}
 use Rattle.air_log.specs.declared.entry.Entry.{Entry}
 use Rattle.air_log.specs.Lawful.{Lawful}
 use Rattle.air_log.specs.Trails.{frame_start}
-use Rattle.law_one_log.proofs.SameBefore.{Twins, with_lines, turned}
+use Rattle.law_one_log.proofs.SameBefore.{Twins, turned}
 use Rattle.host_return.specs.Candidates.{IsCandidate, return_comes_before, is_listed}
 use Rattle.host_return.specs.Courses.{IsOneMore}
 use Rattle.host_return.specs.Probes.{Probed}
@@ -53,9 +53,6 @@ module _ (read : ScenarioParts) (old new : Course) (sound : IsSoundScenario old.
     (lawful : Lawful old.scenario (scenario_clock old.scenario) old.air) (more : IsOneMore read old new) where
   abbrev s : ScenarioParts
   s = old.scenario
-
-  abbrev t : ScenarioParts
-  t = with_lines old.scenario new.scenario.script
 
   abbrev g : ℕ
   g = more.last.frame + 1

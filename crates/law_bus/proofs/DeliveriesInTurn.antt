@@ -1,7 +1,7 @@
 -- The deliveries of the bus are by frame, rank, slot and node, and no two deliveries of a run are of one place.
 use Rattle.std.proofs.Common.{◌≡◌, ℕ, ◌+◌, ◌<◌, List, [], ◌∷◌, true, Some, None, Option, option_map, option_to_list, inl, inr, Contains, flat_map, length, refl}
 use Rattle.std.proofs.Common.{sym, ◌∙◌, ap, subst, arith}
-use Rattle.std.specs.Option.{IfSome, option_map_or}
+use Rattle.std.specs.Option.{option_map_or}
 use Rattle.std.specs.List.{AllByRecursion}
 use Rattle.std.proofs.lemmas.List.Elements.{Contains-append_cases}
 use Rattle.lwb_base.specs.Messages.{Plan}
@@ -23,8 +23,7 @@ use Rattle.lwb_base.proofs.Elements.{contains_cases, contains_head, contains_tai
 use Rattle.lwb_base.proofs.Lists.{each_more}
 use Rattle.law_windows.specs.OpenWindows.{CloseBeforeNext, HasClosedBy}
 use Rattle.law_windows.specs.WindowDeliveries.{delivery_at_closing, delivered_by, delivered_in}
-use Rattle.law_windows.specs.WindowTimes.{ClosesInTime, IsInTime}
-use Rattle.law_windows.proofs.WindowFacts.{close_in_time, one_a_slot, open_in_time, windows_apart}
+use Rattle.law_windows.proofs.WindowFacts.{closes_later, one_a_slot, windows_apart}
 use Rattle.bus_terms.specs.FloodOfText.{ids}
 use Rattle.bus_terms.specs.Rounds.{delivery_in_slot, round_deliveries, round_plan, slot_deliveries, slots_of}
 use Rattle.bus_terms.specs.Bus.{bus_deliveries, frames_of, ranks_of, state_at}
@@ -193,17 +192,6 @@ module _ (s : ScenarioParts) (clocks : ℕ → ℕ → ℕ) (air : List Entry) (
     abbrev logs : List WindowLog
     logs = (trail_in s clocks air v).made.windows
 
-    -- a window closes after its opening
-    not_itself : (x : WindowLog) → Contains logs x → HasClosedBy x.opened x → ⊥
-    not_itself x there by =
-        let timed : IsInTime s clocks air v x = open_in_time s clocks air (run s clocks air lawful) v known (run_end s) (omega arith) x there in
-        let closes : ClosesInTime s clocks air v x by.closing =
-        subst (λ (o : Option Closing). IfSome o (ClosesInTime s clocks air v x)) by.is
-        (close_in_time s clocks air (run s clocks air lawful) v known (run_end s) (omega arith) x there) in
-        let early = timed.early in
-        let before = by.by in
-        omega (arith, closes, early, before)
-
     others : (ws : List WindowLog) → ((x : WindowLog) → Contains ws x → Contains logs x) → CloseBeforeNext ws → Climbs OtherSlot ws
     others [] all apart = tt
     others (x ∷ xs) all apart = (
@@ -212,7 +200,8 @@ module _ (s : ScenarioParts) (clocks : ℕ → ℕ → ℕ) (air : List Entry) (
           let same : x ≡ y = one_a_slot s clocks air (run s clocks air lawful) v known
           (run_end s) (omega arith) x y here (all y (contains_tail x xs y there))
           (record { rank = rank; frame = frame; slot = slot }) in
-          not_itself x here (subst (λ (z : WindowLog). HasClosedBy x.opened z) (sym same) (apart.0 y there))),
+          closes_later s clocks air (run s clocks air lawful) v known (run_end s) (omega arith) x here
+          (subst (λ (z : WindowLog). HasClosedBy x.opened z) (sym same) (apart.0 y there))),
       others xs (λ y there. all y (contains_tail x xs y there)) apart.1,
     )
 

@@ -15,9 +15,6 @@ takes_by rank f t fresh = hosts_in rank f t || holds_in rank f t || (scans rank 
 abbrev pub leads_by : ℕ → ℕ → Tune → Bool
 leads_by rank f t = hosts_in rank f t || holds_in rank f t
 
-either_test : (a b : Bool) → a ≡ true → b ≡ true → (a && b) ≡ true
-either_test a b first second = rw (first, second) refl
-
 -- who leads a round is a member
 pub leads_member : (rank f : ℕ) (t : Tune) (fresh : Bool) → leads_by rank f t ≡ true → takes_by rank f t fresh ≡ true
 leads_member rank f (Scan r w) fresh is = absurd (true≢false (sym is))

@@ -1,5 +1,5 @@
 -- Each window of a node, and each of its transmissions, lies in a slot of the bus's round of its rank.
-use Rattle.std.proofs.Common.{◌≡◌, ℕ, ◌<◌, List, [], ◌∷◌, true, Some, Option, Contains, IfSome, refl, sym, ◌∙◌, ap, subst, arith}
+use Rattle.std.proofs.Common.{◌≡◌, ℕ, ◌<◌, List, [], ◌∷◌, true, Some, Contains, refl, sym, ◌∙◌, ap, subst, arith}
 use Rattle.lwb_base.specs.Messages.{Plan}
 use Rattle.bus_rules.specs.States.{State}
 use Rattle.scenario_text.specs.ScenarioParts.{ScenarioParts}
@@ -10,11 +10,11 @@ use Rattle.air_log.specs.declared.entry.Entry.{Entry}
 use Rattle.air_log.specs.Devices.{state_of_power}
 use Rattle.air_log.specs.Lawful.{trail_in}
 use Rattle.air_log.specs.Trails.{run_end}
-use Rattle.air_log.specs.WindowLogs.{WindowLog, Closing}
+use Rattle.air_log.specs.WindowLogs.{WindowLog}
 use Rattle.lwb_base.proofs.Elements.{Distinct, contains_head, contains_tail}
-use Rattle.law_windows.specs.OpenWindows.{CloseBeforeNext, HasClosedBy}
-use Rattle.law_windows.specs.WindowTimes.{IsOfSlot, IsInTime, ClosesInTime}
-use Rattle.law_windows.proofs.WindowFacts.{close_in_time, open_in_time, sends_as_called, windows_apart}
+use Rattle.law_windows.specs.OpenWindows.{CloseBeforeNext}
+use Rattle.law_windows.specs.WindowTimes.{IsOfSlot}
+use Rattle.law_windows.proofs.WindowFacts.{closes_later, sends_as_called, windows_apart}
 use Rattle.bus_terms.specs.Bus.{state_at}
 use Rattle.bus_terms.specs.Rounds.{rank_in, round_plan}
 use Rattle.law_terms.specs.LawfulRuns.{IsLawfulRun}
@@ -95,20 +95,10 @@ module _ (heards : SlotHeardLaw) (s : ScenarioParts) (clocks : ℕ → ℕ → �
       from.of_slot.channel ∙ rank_same from.window from.there in_run ∙ ap (rank_at s v) (sym from.of_slot.frame)
 
   -- no window is there twice
-  not_itself : (w : WindowLog) → Contains logs w → HasClosedBy w.opened w → ⊥
-  not_itself w there by =
-      let timed : IsInTime s clocks air v w = open_in_time s clocks air (run s clocks air lawful) v known (run_end s) (omega arith) w there in
-      let closes : ClosesInTime s clocks air v w by.closing =
-      subst (λ (o : Option Closing). IfSome o (ClosesInTime s clocks air v w)) by.is
-      (close_in_time s clocks air (run s clocks air lawful) v known (run_end s) (omega arith) w there) in
-      let early = timed.early in
-      let before = by.by in
-      omega (arith, closes, early, before)
-
   apart_distinct : (ws : List WindowLog) → ((w : WindowLog) → Contains ws w → Contains logs w) → CloseBeforeNext ws → Distinct ws
   apart_distinct [] all apart = tt
   apart_distinct (w ∷ ws) all apart = (
-    λ again. not_itself w (all w (contains_head w ws)) (apart.0 w again),
+    λ again. closes_later s clocks air (run s clocks air lawful) v known (run_end s) (omega arith) w (all w (contains_head w ws)) (apart.0 w again),
     apart_distinct ws (λ y there. all y (contains_tail w ws y there)) apart.1,
   )
 

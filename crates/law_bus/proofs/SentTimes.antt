@@ -23,11 +23,9 @@ use Rattle.law_trails.proofs.SentInTrails.{sent_below, sent_lasts}
 use Rattle.bus_terms.specs.Bus.{bus_cost}
 use Rattle.bus_terms.specs.Costs.{slot_sent}
 use Rattle.bus_terms.specs.Flooding.{steps}
-use Rattle.bus_terms.specs.Rounds.{Slot}
 use Rattle.lwb_flood.specs.FloodRun.{Run}
 use Rattle.lwb_flood.specs.FloodBySteps.{IsFloodBySteps}
 use Rattle.law_terms.specs.LawfulRuns.{IsLawfulRun}
-use Rattle.bus_terms.specs.HostedRounds.{slot_in}
 use Rattle.law_terms.specs.SlotLaws.{IsRound}
 use Rattle.law_terms.specs.SlotRuns.{IsRunOf, RunsLaw}
 use Rattle.law_terms.specs.SlotSteps.{SlotHeardLaw}
@@ -72,9 +70,6 @@ module _ (runs : RunsLaw) (s : ScenarioParts) (clocks : ℕ → ℕ → ℕ) (ai
   module _ (f j : ℕ) (p : Plan) (in_run : f < s.frames) (plan : plan_at s v f ≡ Some p) (within : j ≤ last_slot p) where
     abbrev rank : ℕ
     rank = rank_at s v f
-
-    abbrev x : Slot
-    x = slot_in s rank f p j
 
     round : IsRound s rank f p
     round = round_here heards s clocks air lawful v known f p in_run plan

@@ -13,7 +13,7 @@ use Rattle.air_log.specs.Lawful.{trail_in}
 use Rattle.air_log.specs.Trails.{run_end}
 use Rattle.air_log.specs.WindowLogs.{WindowLog, Closing}
 use Rattle.law_safety.specs.SetAlarms.{rank_at}
-use Rattle.law_windows.specs.WindowRows.{IsOpened, OpensByAlarm, OpensBy, ClosesAs}
+use Rattle.law_windows.specs.WindowRows.{IsOpened, OpensBy, ClosesAs}
 use Rattle.law_windows.proofs.WindowFacts.{open_by_rows, close_by_rows}
 use Rattle.law_terms.specs.LawfulRuns.{IsLawfulRun}
 use Rattle.law_terms.specs.FrameCourses.{IsWindowIn}
@@ -108,9 +108,6 @@ module _ (s : ScenarioParts) (clocks : ℕ → ℕ → ℕ) (air : List Entry) (
     module _ (j v : ℕ) (w : WindowLog) (here : Of j v w) (alarm : w.by_alarm ≡ true) where
       pub as_member : OfMember s clocks air v (run_end s) w
       as_member = of_kind v w true here.there alarm
-
-      pub opens : OpensByAlarm s clocks v w
-      opens = opens_by v w true here.there alarm
 
       pub frame_is : w.before.frame ≡ f
       frame_is = (opened_by v w here.there).frame_before ∙ here.frame

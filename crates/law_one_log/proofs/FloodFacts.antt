@@ -1,17 +1,15 @@
 -- What is known of the log of one flood: the packets and the times of its transmissions, and what made a node relay.
-use Rattle.std.proofs.Common.{◌≡◌, ℕ, ◌+◌, ◌*◌, ◌≤◌, List, Contains, length, true, sym, ◌∙◌, ap, subst, arith}
+use Rattle.std.proofs.Common.{◌≡◌, ℕ, ◌+◌, ◌*◌, ◌≤◌, List, Contains, true, sym, ◌∙◌, ap, subst, arith}
 use Rattle.std.specs.Prelude.{slice_set, slice_index}
-use Rattle.std.proofs.lemmas.List.{length-set}
 use Rattle.tick_clock.specs.Clocks.{Near}
 use Rattle.glossy_relay.proofs.CountedPackets.{counter_set, fitting_long, relayed_parts}
 use Rattle.radio_model.specs.declared.sending.Sending.{Sending}
 use Rattle.radio_model.specs.Hearing.{Meets}
-use Rattle.lwb_base.proofs.Elements.{contains_head, contains_tail, contains_cases}
 use Rattle.scenario_text.specs.FloodParts.{FloodParts, knows}
 use Rattle.air_log.specs.declared.entry.Entry.{Entry}
 use Rattle.air_log.specs.Entries.{sendings_of, HasHeardEntry}
 use Rattle.air_log.specs.FloodLaw.{FloodLaw, IsRelay, Lasts, first_packet, first_flood, sending_at}
-use Rattle.air_log.specs.NodeEvents.{Heard, flood_after_event}
+use Rattle.air_log.specs.NodeEvents.{Heard}
 use Rattle.lwb_flood.specs.FloodBySteps.{IsFloodBySteps}
 use Rattle.lwb_flood.specs.FloodLog.{run_of}
 use Rattle.lwb_flood.proofs.SendingTimes.{occasion_event}
@@ -40,13 +38,6 @@ module _ (f : FloodParts) (clocks : ℕ → ℕ → ℕ) (air : List Entry) (law
       let s = steps.spelled x there in
       let few = s.2 in
       (omega (arith, few, at), subst (λ (i : ℕ). Near x.start (1344064000 + i * 45056) i) at s.4)
-
-  pub lasting : (x : Sending) → Contains (sendings_of air) x → (x.rank ≡ 0) × (x.end ≡ x.start + 32768)
-  lasting x there =
-      let last = law.lasts x there in
-      let long : length x.packet ≡ 8 = ap (λ (p : List ℕ). length p) (packet_is x there) ∙ length-set (first_packet f.start) 2 (counter x) in
-      let end : x.end ≡ x.start + (length x.packet + 8) * 2048 = ap (λ (y : Sending). y.end) last in
-      (ap (λ (y : Sending). y.rank) last, omega (arith, end, long))
 
   pub known : (x : Sending) → Contains (sendings_of air) x → knows f.nodes x.node ≡ true
   known x there = law.known _ (sent_there air x there)

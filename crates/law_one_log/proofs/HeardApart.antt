@@ -11,13 +11,13 @@ use Rattle.air_log.specs.Devices.{Listening}
 use Rattle.air_log.specs.Entries.{hearings_of}
 use Rattle.air_log.specs.HearsAir.{scene_of, HearsAir}
 use Rattle.air_log.specs.Safe.{Safe, SameStep}
-use Rattle.law_trails.proofs.SentInTrails.{sent_lasts}
+use Rattle.law_trails.proofs.SentInTrails.{sent_lasts, takes_time}
 use Rattle.law_trails.proofs.TunedInTrails.{tuned_listens}
 use Rattle.law_trails.specs.OnePacket.{reception_at as hearing}
 use Rattle.law_safety.proofs.SafeRuns.{lawful_logs_are_safe}
 use Rattle.law_terms.specs.LawfulRuns.{IsLawfulRun}
 use Rattle.law_one_log.proofs.EntriesApart.{HearingsApart, Other}
-use Rattle.law_one_log.proofs.OfTrails.{lasts, one_of_node}
+use Rattle.law_one_log.proofs.OfTrails.{one_of_node}
 
 -- a packet is on the air longer than the steps of those that reach a node at once may lie apart
 outlasts : (p : Numbers) → IsProfile p → (n : ℕ) → p.delta < airtime p n
@@ -40,10 +40,10 @@ module _ (s : ScenarioParts) (clocks : ℕ → ℕ → ℕ) (air : List Entry) (
   -- two that a node receives and that start together
   module _ (v : ℕ) (x y : Sending) (hears : HearsAir s.profile s.trace air v x) (also : HearsAir s.profile s.trace air v y) (start : x.start ≡ y.start) where
     x_lasts : x.start < x.end
-    x_lasts = lasts s clocks air run.sound run.lawful x hears.sent
+    x_lasts = takes_time s clocks air run.lawful.trails run.sound x hears.sent
 
     y_lasts : y.start < y.end
-    y_lasts = lasts s clocks air run.sound run.lawful y also.sent
+    y_lasts = takes_time s clocks air run.lawful.trails run.sound y also.sent
 
     -- it was tuned to one channel as they started
     channel : x.rank ≡ y.rank

@@ -1,6 +1,6 @@
 -- What the trails tell of the entries of a log: transmissions and tunings of one node start apart, and its transmissions do
 -- not meet.
-use Rattle.std.proofs.Common.{◌≡◌, ℕ, ◌<◌, ◌≤◌, ◌⊎◌, inl, inr, List, [], Bool, true, false, ◌==◌, if◌then◌else◌, length, Contains, AllPairs}
+use Rattle.std.proofs.Common.{◌≡◌, ℕ, ◌<◌, ◌≤◌, ◌⊎◌, inl, inr, List, [], Bool, true, false, ◌==◌, if◌then◌else◌, Contains, AllPairs}
 use Rattle.std.proofs.Common.{refl, sym, ◌∙◌, ap, arith}
 use Rattle.std.proofs.lemmas.Bool.{eqb-true}
 use Rattle.std.proofs.lemmas.List.Kept.{AllPairs-filter}
@@ -15,11 +15,10 @@ use Rattle.air_log.specs.Entries.{sendings_of, hearings_of, tunings_of}
 use Rattle.air_log.specs.Lawful.{Lawful, heard_by, hearings_by, sent_by, tuned_by}
 use Rattle.air_log.specs.Trails.{run_end, trail}
 use Rattle.lwb_base.proofs.Elements.{filtered, weaker_pairs}
-use Rattle.air_log.proofs.SendingsKept.{profile_lasts}
 use Rattle.air_log.proofs.StrictOrders.{Apart, in_other_order}
 use Rattle.air_log.proofs.TrailSendings.{in_order}
 use Rattle.air_log.proofs.TrailTunings.{each_tuned, tuned_in_turn}
-use Rattle.law_trails.proofs.SentInTrails.{sent_known, sent_lasts, sent_below}
+use Rattle.law_trails.proofs.SentInTrails.{sent_known, sent_lasts, sent_below, takes_time}
 use Rattle.air_log.proofs.SendingsApart.{sendings_apart}
 use Rattle.law_one_log.proofs.SameElements.{which_first}
 use Rattle.law_one_log.proofs.KeptApart.{of_all_nodes}
@@ -58,12 +57,6 @@ module _ (s : ScenarioParts) (clocks : ℕ → ℕ → ℕ) (air : List Entry) (
           )
       by_known v false = none_apart (Apart tuned_start)
 
-  pub lasts : (x : Sending) → Contains (sendings_of air) x → x.start < x.end
-  lasts x there =
-      let long = (sent_lasts s clocks air lawful.trails x there).1 in
-      let some = profile_lasts s.profile sound.profile (length x.packet) in
-      omega (arith, long, some)
-
   -- two transmissions of a node
   pub not_together : (x y : Sending) → Contains (sendings_of air) x → Contains (sendings_of air) y → x.node ≡ y.node
       → (x ≡ y) ⊎ ((x.end ≤ y.start) ⊎ (y.end ≤ x.start))
@@ -97,8 +90,8 @@ module _ (s : ScenarioParts) (clocks : ℕ → ℕ → ℕ) (air : List Entry) (
       let second = filtered mine (hearings_of air) h also in
       let sent = heard_sent g first.0 in
       let sent_too = heard_sent h second.0 in
-      let long = lasts g.sending sent in
-      let long_too = lasts h.sending sent_too in
+      let long = takes_time s clocks air lawful.trails sound g.sending sent in
+      let long_too = takes_time s clocks air lawful.trails sound h.sending sent_too in
       let same : g.sending ≡ h.sending = one_of_node g.sending h.sending sent sent_too node (omega (arith, end, long)) (omega (arith, end, long_too)) in
       let hearer : g.node ≡ h.node = eqb-true g.node v first.1 ∙ sym (eqb-true h.node v second.1) in
       differ (ap (λ (n : ℕ). hearing n g.sending) hearer ∙ ap (hearing h.node) same))

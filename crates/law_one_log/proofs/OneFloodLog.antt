@@ -22,7 +22,8 @@ use Rattle.lwb_flood.specs.FloodLog.{HasClocks, HasSentEntry, HasHeard, run_of}
 use Rattle.lwb_flood.specs.FloodRun.{counter}
 use Rattle.law_one_log.specs.OneLog.{OneFloodLogLaw}
 use Rattle.law_one_log.proofs.EntriesApart.{also_there}
-use Rattle.law_one_log.proofs.FloodFacts.{packet_at, same_sending, packet_is, timed, lasting, known, cause, meets}
+use Rattle.lwb_flood.proofs.LogEntries.{lasting}
+use Rattle.law_one_log.proofs.FloodFacts.{packet_at, same_sending, packet_is, timed, known, cause, meets}
 use Rattle.law_one_log.proofs.SameElements.{same_elements}
 
 -- what a sends in step k, b sends
@@ -87,8 +88,8 @@ module _ (steps : StepsLaw) (sends : SendsLaw) (hears : HearsLaw) (f : FloodPart
         let h_there = from h at_too hears_h.sent in
         let g_timed = timed f clocks a law in_a g hears_g.sent k at in
         let h_timed = timed f clocks a law in_a h h_there k at_too in
-        let g_lasts = lasting f clocks a law in_a g hears_g.sent in
-        let h_lasts = lasting f clocks a law in_a h h_there in
+        let g_lasts = lasting f clocks a law g hears_g.sent in
+        let h_lasts = lasting f clocks a law h h_there in
         let packet : h.packet ≡ g.packet =
         packet_is f clocks a law in_a h h_there
         ∙ ap (packet_at f) (at_too ∙ sym at)
@@ -177,8 +178,8 @@ module _ (steps : StepsLaw) (sends : SendsLaw) (hears : HearsLaw) (f : FloodPart
             let own = ((law.happened v here).sendings x).0 there in
             let own_too = ((law.happened v here).sendings y).0 also in
             let in_steps = steps f clocks a is law in
-            let x_lasts = (lasting f clocks a law in_steps x own.0).1 in
-            let y_lasts = (lasting f clocks a law in_steps y own_too.0).1 in
+            let x_lasts = (lasting f clocks a law x own.0).1 in
+            let y_lasts = (lasting f clocks a law y own_too.0).1 in
             let x_timed = timed f clocks a law in_steps x own.0 (counter x) refl in
             let y_timed = timed f clocks a law in_steps y own_too.0 (counter y) refl in
             let x_low = x_timed.1.below in

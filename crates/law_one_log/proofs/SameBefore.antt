@@ -1,6 +1,6 @@
 -- Tick by tick: two valid logs over the same clocks have the same receptions, as long as their scenarios, which differ in
 -- nothing but the script, have the same script lines.
-use Rattle.std.proofs.Common.{◌≡◌, ℕ, zero, suc, ◌<◌, ◌≤◌, inl, inr, List, [], ◌∷◌, Bool, true, false, ◌==◌, nat_lt, cond, if◌then◌else◌}
+use Rattle.std.proofs.Common.{◌≡◌, ℕ, zero, suc, ◌<◌, ◌≤◌, inl, inr, List, Bool, true, ◌==◌, nat_lt, if◌then◌else◌}
 use Rattle.std.proofs.Common.{None, map, filter, fold, Contains, AllPairs, refl, sym, ◌∙◌, ap, subst, arith, ltb-true}
 use Rattle.std.proofs.lemmas.Bool.{cases_lt}
 use Rattle.std.proofs.lemmas.List.Kept.{AllPairs-filter}
@@ -28,10 +28,11 @@ use Rattle.lwb_base.proofs.Lists.{filter_map_of}
 use Rattle.air_log.proofs.QuietTicks.{prefix, prefix_run}
 use Rattle.air_log.proofs.TunedBefore.{TunedAt}
 use Rattle.law_trails.specs.TrailLinks.{device_in}
-use Rattle.law_trails.proofs.SentInTrails.{sent_known, sent_lasts, sent_below}
+use Rattle.law_trails.proofs.TunedInTrails.{tuned_there}
+use Rattle.law_trails.proofs.SentInTrails.{sent_known, sent_lasts, sent_below, takes_time}
 use Rattle.law_one_log.proofs.InTurn.{InTurn, by_end_moves, by_end_in_turn, same_in_turn}
-use Rattle.law_one_log.proofs.OfTrails.{lasts, heard_apart}
-use Rattle.law_one_log.proofs.TunedBack.{tuned_there, tuned_here, by_device, by_log}
+use Rattle.law_one_log.proofs.OfTrails.{heard_apart}
+use Rattle.law_one_log.proofs.TunedBack.{tuned_here, by_device, by_log}
 
 -- what a has received before tick t, b has
 abbrev pub HeardToo : List Entry → List Entry → ℕ → Type 0
@@ -179,7 +180,7 @@ module _ (p : ScenarioParts) (clocks : ℕ → ℕ → ℕ) (until : ℕ) where
     ends_now : (t : ℕ) → t ≤ run_end p → t ≤ until → HeardAlike a b t → (v : ℕ) (x : Sending) → x.end ≡ t → HasHeardEntry a v x → HasHeardEntry b v x
     ends_now t within soon alike v x now there =
         let hears = (twins.of_a.hearing.heard v x).0 there in
-        let long = lasts (with_lines p xs) clocks a twins.first twins.of_a x hears.1.sent in
+        let long = takes_time (with_lines p xs) clocks a twins.of_a.trails twins.first x hears.1.sent in
         let same = agree x.end (omega (arith, within, now)) (omega (arith, soon, now)) (alike_earlier a b x.end t (omega (arith, now)) alike) in
         (twins.of_b.hearing.heard v x).1 (hears.0, (settled (scene_of p.profile p.trace a) (scene_of p.profile p.trace b) v x long same).0 hears.1)
 

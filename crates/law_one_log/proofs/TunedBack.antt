@@ -1,7 +1,7 @@
 -- Up to a tick a log has its nodes tuned as the devices of their trails were before that tick.
-use Rattle.std.proofs.Common.{◌≡◌, ℕ, zero, suc, ◌<◌, ◌≤◌, ◌↔◌, inl, inr, List, Bool, true, ◌==◌, None, Contains, sym, subst, arith}
-use Rattle.std.proofs.lemmas.Bool.{cases_lt, eq-eqb, eqb-true}
-use Rattle.std.proofs.lemmas.List.Sorted.{Contains-permutation, IsPermutation-sym}
+use Rattle.std.proofs.Common.{◌≡◌, ℕ, zero, suc, ◌<◌, ◌≤◌, ◌↔◌, inl, inr, List, true, ◌==◌, None, Contains, sym, subst, arith}
+use Rattle.std.proofs.lemmas.Bool.{cases_lt, eqb-true}
+use Rattle.std.proofs.lemmas.List.Sorted.{Contains-permutation}
 use Rattle.radio_model.specs.OnAir.{Tuning}
 use Rattle.radio_model.specs.Hearing.{IsTuned}
 use Rattle.scenario_text.specs.ScenarioParts.{ScenarioParts}
@@ -9,12 +9,12 @@ use Rattle.scenario_text.specs.FloodParts.{knows}
 use Rattle.air_log.specs.declared.entry.Entry.{Entry}
 use Rattle.air_log.specs.Entries.{tunings_of}
 use Rattle.air_log.specs.HearsAir.{scene_of}
-use Rattle.air_log.specs.Lawful.{FollowsTrails, heard_by, tuned_by}
+use Rattle.air_log.specs.Lawful.{FollowsTrails, heard_by}
 use Rattle.air_log.specs.Trails.{Reception, run_end, before_tick, trail}
-use Rattle.lwb_base.proofs.Elements.{in_filtered, filtered}
+use Rattle.lwb_base.proofs.Elements.{filtered}
 use Rattle.air_log.proofs.TunedBefore.{TunedAt, silenced_stays, tick_by}
-use Rattle.law_trails.proofs.SentInTrails.{if_holds, holds_if}
-use Rattle.law_trails.proofs.TunedInTrails.{Tuned, step_stays}
+use Rattle.law_trails.proofs.SentInTrails.{holds_if}
+use Rattle.law_trails.proofs.TunedInTrails.{Tuned, step_stays, tuned_there}
 
 module _ (s : ScenarioParts) (v : ℕ) (clock : ℕ → ℕ) (hs : List Reception) where
   back : (t u : ℕ) → t ≤ u → (r k : ℕ) → k < t → Tuned s v clock hs u r k ↔ Tuned s v clock hs t r k
@@ -41,15 +41,6 @@ module _ (s : ScenarioParts) (v : ℕ) (clock : ℕ → ℕ) (hs : List Receptio
       (λ is. earlier.0 (end.0 is), λ is. end.1 (earlier.1 is))
 
 module _ (s : ScenarioParts) (clocks : ℕ → ℕ → ℕ) (air : List Entry) (follows : FollowsTrails s clocks air) where
-  mine : ℕ → Tuning → Bool
-  mine v e = e.node == v
-
-  pub tuned_there : (v : ℕ) (e : Tuning) → Contains (tunings_of air) e → e.node ≡ v
-      → (knows s.nodes v ≡ true) × Contains (trail s v (clocks v) (heard_by air v)).made.tuned e
-  tuned_there v e there node =
-      let own : Contains (tuned_by air v) e = in_filtered (λ (d : Tuning). d.node == v) (tunings_of air) e there (eq-eqb e.node v node) in
-      if_holds (knows s.nodes v) (trail s v (clocks v) (heard_by air v)).made.tuned e (Contains-permutation _ _ e (IsPermutation-sym _ _ (follows.tuned v)) own)
-
   pub tuned_here : (v : ℕ) → knows s.nodes v ≡ true → (e : Tuning) → Contains (trail s v (clocks v) (heard_by air v)).made.tuned e
       → Contains (tunings_of air) e × (e.node ≡ v)
   tuned_here v known e there =
@@ -60,7 +51,7 @@ module _ (s : ScenarioParts) (clocks : ℕ → ℕ → ℕ) (air : List Entry) (
   module _ (v r k t : ℕ) (below : k < t) (within : t ≤ run_end s) where
     pub by_device : IsTuned (scene_of s.profile s.trace air) v r k → (knows s.nodes v ≡ true) × Tuned s v (clocks v) (heard_by air v) t r k
     by_device is =
-        let there = tuned_there v is.tuning is.there is.node in (
+        let there = tuned_there s clocks air follows v is.tuning is.there is.node in (
           there.0,
           (in_trail s v (clocks v) (heard_by air v) t r k below within).0
               (inl (is.tuning, there.1, record { rank = is.rank; since = is.since; until = is.until })),

@@ -27,7 +27,7 @@ use Rattle.law_safety.specs.BegunFloods.{HasBegun, BegunAt}
 use Rattle.law_safety.specs.KnownPlans.{InRound, PlanAt}
 use Rattle.law_safety.specs.NodesInOrder.{IsOn}
 use Rattle.law_safety.specs.Rows.{AtTick}
-use Rattle.law_safety.proofs.RunFacts.{run_fits, host_clock, frame_ends, frame_in_run}
+use Rattle.law_safety.proofs.RunFacts.{run_fits, host_clock, frame_ends}
 
 module _ (s : ScenarioParts) (clocks : ℕ → ℕ → ℕ) (air : List Entry) (v t : ℕ) where
   -- the clauses of a node that awaits slot j, whose alarm is due
@@ -157,9 +157,6 @@ module _ (s : ScenarioParts) (clocks : ℕ → ℕ → ℕ) (air : List Entry) (
           absurd (omega (arith, ends, begins))
           )
     ]
-
-    pub early : n.frame ≤ 4095
-    early = subst (λ (f : ℕ). f ≤ 4095) (sym frame_now) (frame_in_run s at.run.driven.sound t at.in_run)
 
     -- the ticks for which a start and the closing are set
     sums : AreSums p n.zero j

@@ -1,5 +1,5 @@
 -- At the first tick of a frame every node rests: what is set lies in the frame before, or after.
-use Rattle.std.proofs.Common.{◌≡◌, ℕ, ◌/◌, ◌<◌, ◌≤◌, ◌⊎◌, inl, inr, ◌∙◌, ap, arith}
+use Rattle.std.proofs.Common.{◌≡◌, ℕ, ◌+◌, ◌/◌, ◌<◌, ◌≤◌, ◌⊎◌, inl, inr, ◌∙◌, ap, arith}
 use Rattle.std.proofs.Math.Nat.{mul-le-mul_right}
 use Rattle.std.proofs.lemmas.Bool.{cases_lt}
 use Rattle.lwb_base.specs.declared.limits.TheConstants.{MOST_FRAMES}
@@ -41,6 +41,14 @@ rests_still n d Scanning rests radio = radio.1
 rests_still n d AwaitFrame rests radio = radio.1
 rests_still n d (AwaitSlot j) rests radio = radio.1
 rests_still n d (InWindow j w) rests radio = absurd rests
+
+-- a node counts the true frame or the next
+pub counts_near : (s : ScenarioParts) (clocks : ℕ → ℕ → ℕ) (v t : ℕ) (n : Node) → InFrame s clocks v t n
+    → (t / s.profile.frame ≤ n.frame) × (n.frame ≤ t / s.profile.frame + 1)
+counts_near s clocks v t n is = elim is.at [
+  | inl now ↦ (omega (arith, now), omega (arith, now))
+  | inr over ↦ (let next = over.frame in (omega (arith, next), omega (arith, next)))
+]
 
 module _ (s : ScenarioParts) (clocks : ℕ → ℕ → ℕ) (v t : ℕ) (n : Node) (start : frame_start s (t / s.profile.frame) ≡ t) where
   -- the frame of a node that does not rest began before

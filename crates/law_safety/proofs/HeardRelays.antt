@@ -1,8 +1,6 @@
 -- What a node makes of what it receives in a slot: the relay is over before its window closes.
-use Rattle.std.proofs.Common.{◌≡◌, ℕ, suc, ◌+◌, ◌*◌, ◌/◌, ◌<◌, ◌≤◌, List, length, length-set, Contains, inr, sym, ◌∙◌, ap, subst, arith}
+use Rattle.std.proofs.Common.{◌≡◌, ℕ, suc, ◌+◌, ◌/◌, ◌<◌, List, length, length-set, Contains, inr, sym, ◌∙◌, ap, subst, arith}
 use Rattle.std.specs.Prelude.{slice_index}
-use Rattle.std.proofs.Math.Nat.{mul-le-mul_right}
-use Rattle.lwb_base.specs.declared.limits.TheConstants.{MOST_FRAMES}
 use Rattle.lwb_base.specs.Profile.{airtime}
 use Rattle.tick_clock.specs.Clocks.{IsClock, due}
 use Rattle.time_reference.specs.Budgets.{budget_of}
@@ -25,7 +23,7 @@ use Rattle.law_safety.specs.SetAlarms.{rank_at, tick_by}
 use Rattle.law_safety.specs.OrderedSendings.{HeardIn, HasOrder}
 use Rattle.law_safety.specs.KnownInRows.{IsHeardNow}
 use Rattle.law_safety.specs.Rows.{AtTick}
-use Rattle.law_safety.proofs.RunFacts.{run_fits, frame_in_run, frame_ends}
+use Rattle.law_safety.proofs.RunFacts.{run_fits, tick_in_run}
 use Rattle.law_safety.proofs.FloodTimes.{host_drifts, origin_drifts, zero_good, slot_in_round, in_flood, packet_short, frame_of_run}
 
 module _ (s : ScenarioParts) (clocks : ℕ → ℕ → ℕ) (air : List Entry) (v t : ℕ) (at : AtTick s clocks air v t) (h : Reception) (d : Device)
@@ -38,13 +36,6 @@ module _ (s : ScenarioParts) (clocks : ℕ → ℕ → ℕ) (air : List Entry) (
 
   pub it_lasts : t ≡ now.sending.start + airtime s.profile (length now.sending.packet)
   it_lasts = sym now.end ∙ now.of_flood.lasts
-
-  pub tick_in_run : t ≤ MOST_FRAMES * s.profile.frame
-  tick_in_run =
-      let few = frame_in_run s at.run.driven.sound t at.in_run in
-      let early : t / s.profile.frame + 1 ≤ MOST_FRAMES = omega (arith, few) in
-      let frames = mul-le-mul_right s.profile.frame early in
-      omega (arith, frames, frame_ends s at.run.driven.sound t)
 
   -- the relay that is ordered of it
   abbrev pub relay_order : OrderedPacket
@@ -126,7 +117,8 @@ module _ (s : ScenarioParts) (clocks : ℕ → ℕ → ℕ) (air : List Entry) (
             few = few;
             packet = ap relay_of now.packet;
             at =
-                relay_is s.profile (budget_of s.profile) (run_fits s at.run.driven.sound) (clocks v) own_drifts t tick_in_run
+                relay_is s.profile (budget_of s.profile) (run_fits s at.run.driven.sound) (clocks v) own_drifts t
+                (tick_in_run s at.run.driven.sound t at.in_run)
                 ∙ ap (λ (e : ℕ). due (clocks v) (clocks v e + s.profile.turn)) (sym now.end);
           });
         }

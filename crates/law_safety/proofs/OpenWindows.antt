@@ -13,6 +13,7 @@ use Rattle.node_core.specs.Nodes.{Node}
 use Rattle.air_log.specs.declared.entry.Entry.{Entry}
 use Rattle.air_log.specs.Devices.{Device, Power, PowerOff, PowerOn, OrderedPacket, listens_to}
 use Rattle.law_trails.specs.Phases.{Start}
+use Rattle.law_trails.specs.Walks.{CannotSend}
 use Rattle.law_safety.specs.CountedFrames.{IsResting}
 use Rattle.law_safety.specs.SetAlarms.{rank_at}
 use Rattle.law_safety.specs.TunedNodes.{Either}
@@ -96,3 +97,12 @@ module _ (s : ScenarioParts) (clocks : ℕ → ℕ → ℕ) (air : List Entry) (
 
   pub where_ordered : IsFine s clocks air v t Start d → IsAbout s clocks air v t d o
   where_ordered fine = by_power d.power refl fine.node.by_power
+
+  -- and its start is not missed: the radio is on, and nothing is being sent
+  pub not_missed : {A : Type 0} → IsFine s clocks air v t Start d → CannotSend d → A
+  not_missed fine cannot =
+      let about = where_ordered fine in
+      elim cannot [
+        | inl off ↦ absurd (true≢false (sym about.listens ∙ ap (listens_to (rank_at about.node)) off))
+        | inr other ↦ absurd (about.silent other.0 other.1)
+      ]

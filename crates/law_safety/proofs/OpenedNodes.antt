@@ -60,9 +60,6 @@ module _ (s : ScenarioParts) (clocks : ℕ → ℕ → ℕ) (air : List Entry) (
   is_set = let id = known_id s at.run.driven.sound v at.known in set s at.run.driven.sound v id.0 id.1
 
   module _ (d : Device) (n : Node) (j : ℕ) (is : Awaits s clocks air v t d n j) where
-    abbrev part : Part
-    part = part_of n.core.plan j
-
     abbrev pub left : Opened
     left = opened_slot (setup_of s v) n.frame (part_of n.core.plan j) n.core
 

@@ -1,6 +1,6 @@
 -- The start of the ordered transmission: it begins its flood as it may, or follows what its node received.
 use Rattle.std.proofs.Common.{◌≡◌, ℕ, suc, ◌+◌, ◌/◌, ◌<◌, ◌≤◌, ◌⊎◌, inl, inr, List, [], ◌∷◌, ◌++◌, length, Bool, if◌then◌else◌, Some, None, Option, Contains}
-use Rattle.std.proofs.Common.{refl, sym, ◌∙◌, ap, subst, arith, true≢false}
+use Rattle.std.proofs.Common.{refl, sym, ◌∙◌, ap, subst, arith}
 use Rattle.std.specs.Option.{IfSome}
 use Rattle.std.specs.Prelude.{slice_index}
 use Rattle.std.proofs.lemmas.Bool.{eq-eqb, eqb-true}
@@ -40,7 +40,7 @@ use Rattle.law_safety.specs.NodesInOrder.{IsOn, InOrderBy, WindowAt}
 use Rattle.law_safety.specs.QuietHosts.{HostsInOrder, IsOrderedBy, LifeHasSchedule}
 use Rattle.law_safety.specs.Rows.{IsFine, AtTick, BeginningRow, MissedStartRow}
 use Rattle.law_safety.proofs.WellSteps.{well_in_phases}
-use Rattle.law_safety.proofs.OpenWindows.{IsAbout, where_ordered}
+use Rattle.law_safety.proofs.OpenWindows.{IsAbout, not_missed, where_ordered}
 use Rattle.law_safety.proofs.StartedSendings.{begins_flood, follows_flood}
 
 module _ (s : ScenarioParts) (clocks : ℕ → ℕ → ℕ) (air : List Entry) (v t : ℕ) where
@@ -254,11 +254,6 @@ pub beginning_row : BeginningRow
 beginning_row s clocks air v t at d o l here enters ordered now tuned free =
     fine_then s clocks air v t d o here.holds ordered (where_ordered s clocks air v t d o ordered here.holds) at enters now l tuned free
 
--- what is ordered starts: the radio is on, and nothing is being sent
+-- what is ordered starts
 pub missed_start_row : MissedStartRow
-missed_start_row s clocks air v t at d o here enters ordered now cannot =
-    let about = where_ordered s clocks air v t d o ordered here.holds in
-    elim cannot [
-      | inl off ↦ absurd (true≢false (sym about.listens ∙ ap (listens_to (rank_at about.node)) off))
-      | inr other ↦ absurd (about.silent other.0 other.1)
-    ]
+missed_start_row s clocks air v t at d o here enters ordered now cannot = not_missed s clocks air v t d o ordered here.holds cannot

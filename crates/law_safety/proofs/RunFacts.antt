@@ -1,11 +1,12 @@
 -- What a run says of its clocks, ranks and frames.
 use Rattle.std.proofs.Common.{◌≡◌, ℕ, ◌+◌, ◌-◌, ◌*◌, ◌/◌, ◌<◌, ◌≤◌, true, length, ◌∙◌, ap, arith, inl, inr}
 use Rattle.std.specs.Prelude.{slice_index}
-use Rattle.std.proofs.Math.Nat.{div-mul-le_self}
+use Rattle.std.proofs.Math.Nat.{div-mul-le_self, mul-le-mul_right}
 use Rattle.std.proofs.lemmas.Nat.{div-mul-add, div_below, le-div}
 use Rattle.std.proofs.lemmas.Bool.{cases_lt}
 use Rattle.std.proofs.lemmas.List.Elements.{All-contains, recursion_from_All}
 use Rattle.std.proofs.lemmas.Option.{slice_get-get_or, slice_get_within, get_or_from_slice_get}
+use Rattle.lwb_base.specs.declared.limits.TheConstants.{MOST_FRAMES}
 use Rattle.tick_clock.specs.Clocks.{IsClock}
 use Rattle.time_reference.specs.Budgets.{Fits, budget_of}
 use Rattle.scenario_text.specs.ScenarioParts.{ScenarioParts}
@@ -23,9 +24,6 @@ pub host_known : (s : ScenarioParts) → IsSoundScenario s → (rank v : ℕ) �
 host_known s sound rank v is =
     All-contains (λ (h : ℕ). knows s.nodes h ≡ true) s.hosts v sound.hosts_known
     (rank, slice_get_within s.hosts rank v is, get_or_from_slice_get s.hosts rank v v is)
-
-pub rank_below : (s : ScenarioParts) (rank v : ℕ) → IsHostOf s rank v → rank < length s.hosts
-rank_below s rank v is = slice_get_within s.hosts rank v is
 
 pub host_is : (s : ScenarioParts) (rank v : ℕ) → IsHostOf s rank v → slice_index s.hosts rank ≡ v
 host_is s rank v is = get_or_from_slice_get s.hosts rank v 0 is
@@ -81,3 +79,6 @@ module _ (s : ScenarioParts) (sound : IsSoundScenario s) where
       let few = sound.few_frames in
       let below : t / s.profile.frame < s.frames = frame_below s.frames t in_run in
       omega (arith, few, below)
+
+  pub tick_in_run : (t : ℕ) → t < run_end s → t ≤ MOST_FRAMES * s.profile.frame
+  tick_in_run t in_run = let frames = mul-le-mul_right s.profile.frame sound.few_frames in omega (arith, frames, in_run)

@@ -1,7 +1,6 @@
 -- What starts is of its flood: it begins it, or is a turnaround after what its node received.
 use Rattle.std.proofs.Common.{◌≡◌, ℕ, suc, ◌+◌, ◌*◌, ◌/◌, ◌<◌, ◌≤◌, List, length, Bool, Contains, refl, sym, ◌∙◌, ap, subst, arith}
 use Rattle.std.specs.Prelude.{slice_index}
-use Rattle.std.proofs.Math.Nat.{mul-le-mul_right}
 use Rattle.std.proofs.lemmas.List.{length-set}
 use Rattle.lwb_base.specs.declared.limits.TheConstants.{MOST_FRAMES}
 use Rattle.lwb_base.specs.Profile.{airtime, step}
@@ -29,7 +28,7 @@ use Rattle.law_safety.specs.Beginnings.{MayBegin}
 use Rattle.law_safety.specs.OrderedSendings.{IsFirst, IsRelay}
 use Rattle.law_safety.specs.FloodSendings.{IsOfFlood}
 use Rattle.law_safety.specs.Rows.{AtTick}
-use Rattle.law_safety.proofs.RunFacts.{run_fits}
+use Rattle.law_safety.proofs.RunFacts.{run_fits, tick_in_run}
 
 module _ (s : ScenarioParts) (clocks : ℕ → ℕ → ℕ) (air : List Entry) (v t : ℕ) (at : AtTick s clocks air v t) (n : Node) (j : ℕ) (o : OrderedPacket)
     (now : o.tick ≡ t) (rank : ℕ) (rank_is : rank ≡ rank_at n) (below : rank_at n < length s.hosts) (frame_now : t / s.profile.frame ≡ n.frame) where
@@ -68,12 +67,6 @@ module _ (s : ScenarioParts) (clocks : ℕ → ℕ → ℕ) (air : List Entry) (
         near = subst (λ (k : ℕ). Near t (t + k * step s.profile (length x.packet)) k) (sym zero) (record { below = omega arith; above = omega arith });
       }
 
-  in_ticks : t ≤ MOST_FRAMES * s.profile.frame
-  in_ticks =
-      let few = mul-le-mul_right s.profile.frame at.run.driven.sound.few_frames in
-      let in_run = at.in_run in
-      omega (arith, few, in_run)
-
   -- a relay is of the flood of what its node received
   pub follows_flood : IsRelay s clocks air v (suc t) n j o → IsOfFlood s clocks air x
   follows_flood relay =
@@ -84,7 +77,7 @@ module _ (s : ScenarioParts) (clocks : ℕ → ℕ → ℕ) (air : List Entry) (
       let fits = run_fits s at.run.driven.sound in
       let clock = at.run.driven.drift v at.known in
       let by = relay.in_slot.by in
-      let within : y.end ≤ MOST_FRAMES * p.frame = (let ticks = in_ticks in omega (arith, by, ticks)) in
+      let within : y.end ≤ MOST_FRAMES * p.frame = (let ticks = tick_in_run s at.run.driven.sound t at.in_run in omega (arith, by, ticks)) in
       let ends : relay_tick p (clocks v) y.end ≡ t = relay_is p budget fits (clocks v) clock y.end within ∙ sym relay.at ∙ now in
       let later : y.end < relay_tick p (clocks v) y.end = relay_after p budget fits (clocks v) clock y.end within in
       let was = (at.run.heedful.heard v y relay.in_slot.there).sent in

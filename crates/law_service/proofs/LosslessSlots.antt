@@ -1,23 +1,15 @@
 -- A slot that no line of the trace touches loses nothing.
 use Rattle.std.proofs.Common.{◌≡◌, ◌==◌, ◌&&◌, ◌||◌, ℕ, List, [], ◌∷◌, Bool, true, false, not, refl, sym, ◌∙◌, nat_lt, nat_le}
 use Rattle.link_trace.specs.declared.lines.CutLine.{CutLine}
-use Rattle.law_service.proofs.Words.{list_any, false≢true, is_loss, cuts_by, LoseLine, SlotsWithoutLinesLoseNothing}
+use Rattle.law_service.proofs.Words.{list_any, false≢true, or_from, or_parts, is_loss, cuts_by, LoseLine, SlotsWithoutLinesLoseNothing}
 
 -- where a test fails of all, so does one that is harder to pass
 pub none_harder : {X : Type 0} (p q : X → Bool) → ((x : X) → q x ≡ true → p x ≡ true) → (xs : List X) → list_any p xs ≡ false → list_any q xs ≡ false
 none_harder p q harder [] none = refl
 none_harder p q harder (x ∷ xs) none =
-    let both = neither (p x) (list_any p xs) none in
-    also (q x) (list_any q xs) (by_test (q x) refl both.0) (none_harder p q harder xs both.1)
+    let both = or_parts (p x) (list_any p xs) none in
+    or_from (q x) (list_any q xs) (by_test (q x) refl both.0) (none_harder p q harder xs both.1)
   where
-    neither : (a b : Bool) → (a || b) ≡ false → (a ≡ false) × (b ≡ false)
-    neither true b none = absurd (false≢true (sym none))
-    neither false b none = (refl, none)
-
-    also : (a b : Bool) → a ≡ false → b ≡ false → (a || b) ≡ false
-    also true b first second = absurd (false≢true (sym first))
-    also false b first second = second
-
     by_test : (t : Bool) → q x ≡ t → p x ≡ false → q x ≡ false
     by_test true is not_p = absurd (false≢true (sym not_p ∙ harder x is))
     by_test false is not_p = is

@@ -1,9 +1,9 @@
 -- Tries, backoff and own slots of nodes whose ids are equal modulo 16.
-use Rattle.std.proofs.Common.{◌≡◌, ◌≤◌, ◌+◌, ◌-◌, ◌%◌, ◌^◌, ◌==◌, ◌||◌, ℕ, zero, suc, List, [], ◌∷◌, Bool, true, false, inl, inr, Option, Some, None}
+use Rattle.std.proofs.Common.{◌≡◌, ◌≤◌, ◌+◌, ◌-◌, ◌%◌, ◌^◌, ◌==◌, ℕ, zero, suc, List, [], ◌∷◌, Bool, true, false, inl, inr, Option, Some, None}
 use Rattle.std.proofs.Common.{if◌then◌else◌, is_none, is_some, min, fold, refl, sym, ◌∙◌, ap, subst, arith}
 use Rattle.law_service.proofs.Words.{list_any, false≢true, cond_both, cond-false, Ask, Schedule, node_of, Streams, after_contention, tries_after, due_stream}
 use Rattle.law_service.proofs.Words.{is_host, heard_host, unbound, names, acknowledged, owner_named, schedule_heard, AreTied, own_number, TiesShareSlots}
-use Rattle.law_service.proofs.Words.{ThreeSlotsPart, ContentionKeepsTies, SchedulesKeepTies}
+use Rattle.law_service.proofs.Words.{or_parts, ThreeSlotsPart, ContentionKeepsTies, SchedulesKeepTies}
 
 pub share_slots : TiesShareSlots
 share_slots u v tries n same (inl is) =
@@ -66,13 +66,9 @@ answers_none : (node boot f : ℕ) (acks : List Ask) (x : Streams) (t k : ℕ) �
     → HasTries (fold (acknowledged node boot f) x acks) t k
 answers_none node boot f [] x t k none is = is
 answers_none node boot f (a ∷ acks) x t k none is =
-    let both = neither (names node boot a) (list_any (names node boot) acks) none in
+    let both = or_parts (names node boot a) (list_any (names node boot) acks) none in
     answers_none node boot f acks (acknowledged node boot f x a) t k both.1
     (cond_both (names node boot a) _ x (λ (y : Streams). HasTries y t k) (λ named. absurd (false≢true (sym both.0 ∙ named))) (λ _. is))
-  where
-    neither : (p q : Bool) → (p || q) ≡ false → (p ≡ false) × (q ≡ false)
-    neither true q none = absurd (false≢true (sym none))
-    neither false q none = (refl, none)
 
 owners_keep : (node f : ℕ) (owners : List ℕ) (x : Streams) (t k : ℕ) → HasTries x t k → HasTries (fold (owner_named node f) x owners) t k
 owners_keep node f [] x t k is = is

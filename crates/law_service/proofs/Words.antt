@@ -1,7 +1,8 @@
 -- The words of the crates below, and of this crate, that most of its proofs name, passed on from one place. Declares nothing.
 pub use Rattle.std.specs.List.{list_any, range_with_len}
 unfoldable pub use Rattle.std.specs.Str.{chars, is_utf8}
-pub use Rattle.std.proofs.lemmas.Bool.{and_parts, cases_eq, cond-false, cond-true, cond_both, eqb-true, false≢true, le-leb, leb-true, ne_eqb, or_cases}
+pub use Rattle.std.proofs.lemmas.Bool.{and_parts, cases_eq, cond-false, cond-true, cond_both, eqb-true, false≢true, le-leb, leb-true}
+pub use Rattle.std.proofs.lemmas.Bool.{ne_eqb, or_cases, or_from, or_parts}
 pub use Rattle.std.proofs.lemmas.Grind.{fold-append}
 unfoldable pub use lib.Utf8.{encode}
 pub use Rattle.lwb_base.specs.Messages.{Ask, Plan, Schedule, code, code_of, node_of, stream_of}

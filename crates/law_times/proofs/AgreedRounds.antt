@@ -2,13 +2,13 @@
 use Rattle.std.proofs.Common.{◌≡◌, ◌≢◌, ◌<◌, ◌≤◌, ◌+◌, ◌-◌, ◌==◌, ℕ, zero, suc, Bool, true, false, Option, Some, None, if◌then◌else◌, length, nat_le, nat_lt}
 use Rattle.std.proofs.Common.{option_map, refl, sym, ◌∙◌, ap, subst, arith, Contains}
 use Rattle.law_times.proofs.Words.{cond_both, eqb-false, ltb-true, Ask, Plan, Schedule, code, code_of, ScenarioParts, Act, On, Off, Declare, Leave, Put, Part}
-use Rattle.law_times.proofs.Words.{Opening, DataSlot, Contention, Closing, Tune, Hold, Core, Setup, as_host, begins_host, closing_accepted, frame_ended}
-use Rattle.law_times.proofs.Words.{is_fresh, opening_accepted, HostPlan, last_slot, opening, RequestOf, ScheduleOf, host_closes, hosts_now, is_own, opened_slot}
+use Rattle.law_times.proofs.Words.{Opening, DataSlot, Contention, Closing, Tune, Hold, Core, Setup, closing_accepted, frame_ended}
+use Rattle.law_times.proofs.Words.{opening_accepted, HostPlan, last_slot, opening, RequestOf, ScheduleOf, host_closes, hosts_now, is_own, opened_slot}
 use Rattle.law_times.proofs.Words.{part_of, request_of, silent, State, StateOn, at_core, Streams, emptied, is_host, put_to, queued, refuses, requested}
-use Rattle.law_times.proofs.Words.{stream_at, wishes, hosts_in, next_tune, rank_of, state_at, Accepts, IsHosted, slot_in, state_after_round, before_slot}
+use Rattle.law_times.proofs.Words.{stream_at, wishes, hosts_in, rank_of, state_at, Accepts, IsHosted, slot_in, state_after_round, before_slot}
 use Rattle.law_times.proofs.Words.{message_said, rounds, setup_of, only_data, requests, said_message, resets, StaysOn, has_line, core_after_act}
 use Rattle.law_times.proofs.AgreedStreams.{Good, IsGood, asks_other, heard_good, heard_names, opened_good, with_good}
-use Rattle.law_times.proofs.KeptCores.{OnWith, next_keeps}
+use Rattle.law_times.proofs.KeptCores.{OnWith, holder_ends, next_keeps}
 use Rattle.law_times.proofs.KnownHosts.{heard_knows}
 use Rattle.law_times.proofs.MemberSlots.{after_first, after_last, after_window, plain_part, plans, said_last}
 
@@ -165,13 +165,7 @@ module _ (u i interval : ℕ) (few : i ≤ 3) (positive : 0 < interval) (low : �
 
   end_good : (q : Setup) (f : ℕ) (c : Core) (r d : ℕ) → c.tune ≡ Hold r d → GoodState (StateOn c) → GoodState (StateOn (frame_ended q f c))
   end_good q f c r d hold is =
-      subst (λ (o : Option ℕ). GoodState (StateOn (as_host q.profile o ended))) (sym none) is
-    where
-      ended : Core
-      ended = record c { tune = next_tune c.tune f (is_fresh c) q.own q.ranks; own_slot = None }
-
-      none : begins_host c.tune (next_tune c.tune f (is_fresh c) q.own q.ranks) ≡ None
-      none = ap (λ (t : Tune). begins_host t (next_tune c.tune f (is_fresh c) q.own q.ranks)) hold
+      subst (λ (e : Core). GoodState (StateOn e)) (sym (holder_ends q f c r d hold)) is
 
   pub next_good : (s : ScenarioParts) (first e f : ℕ) (c : Core) (r d : ℕ) → StaysOn s first e u → has_line (resets i) s first e u ≡ false
       → first ≤ f → suc f ≤ e → rounds s f (state_at s f) u ≡ StateOn c → c.tune ≡ Hold r d → GoodState (StateOn c)

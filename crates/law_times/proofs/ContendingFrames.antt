@@ -1,11 +1,11 @@
 -- From frame to frame a member asks on, and its host keeps its boot.
-use Rattle.std.proofs.Common.{◌≡◌, ◌≤◌, ℕ, suc, List, false, Option, None, refl, sym, ◌∙◌, ap, subst}
+use Rattle.std.proofs.Common.{◌≡◌, ◌≤◌, ℕ, suc, List, false, None, refl, sym, ◌∙◌, subst}
 use Rattle.bus_terms.proofs.NumbersKept.{closed_core, opened_core}
-use Rattle.law_times.proofs.Words.{false≢true, Ask, Plan, Numbers, ScenarioParts, Act, On, Off, Declare, Leave, Put, Tune, Hold, Core, Setup, as_host}
-use Rattle.law_times.proofs.Words.{begins_host, frame_ended, is_fresh, host_plan, State, StateOff, StateOn, at_core, Streams, after_put, Table, next_tune}
+use Rattle.law_times.proofs.Words.{false≢true, Ask, Plan, Numbers, ScenarioParts, Act, On, Off, Declare, Leave, Put, Hold, Core, Setup}
+use Rattle.law_times.proofs.Words.{frame_ended, is_fresh, host_plan, State, StateOff, StateOn, at_core, Streams, after_put, Table, next_tune}
 use Rattle.law_times.proofs.Words.{state_at, before_slot, rounds, setup_of, rounds_keep, slots_keep, changes_wish, StaysOn, has_line, turns_off, core_after_act}
 use Rattle.law_times.proofs.Backoffs.{Backoff}
-use Rattle.law_times.proofs.KeptCores.{OnWith, next_keeps}
+use Rattle.law_times.proofs.KeptCores.{OnWith, holder_ends, next_keeps}
 use Rattle.law_times.proofs.NewStreams.{put_goes, same_streams, AsksCore, asks_on}
 use Rattle.law_times.proofs.QueuedPackets.{ended_same}
 
@@ -21,18 +21,13 @@ module _ (boot i rank host_boot : ℕ) (b : Backoff) where
   act_asks (Put j payload) c keeps is =
       asks_on boot i rank host_boot b c (record c { streams = after_put j payload c.streams }) refl (put_goes j payload c.streams i) is
 
-  -- who holds a rank, or has just lost its round, begins no rank of its own
+  -- at the end of a frame
   end_asks : (q : Setup) (f : ℕ) (c : Core) (r d : ℕ) → c.tune ≡ Hold r d → AsksCore boot i rank host_boot b c
       → AsksCore boot i rank host_boot b (frame_ended q f c)
   end_asks q f c r d hold is =
-      subst (λ (o : Option ℕ). AsksCore boot i rank host_boot b (as_host q.profile o ended)) (sym none)
-      (asks_on boot i rank host_boot b c ended refl (same_streams c.streams i) is)
-    where
-      ended : Core
-      ended = record c { tune = next_tune c.tune f (is_fresh c) q.own q.ranks; own_slot = None }
-
-      none : begins_host c.tune (next_tune c.tune f (is_fresh c) q.own q.ranks) ≡ None
-      none = ap (λ (t : Tune). begins_host t (next_tune c.tune f (is_fresh c) q.own q.ranks)) hold
+      subst (AsksCore boot i rank host_boot b) (sym (holder_ends q f c r d hold))
+      (asks_on boot i rank host_boot b c (record c { tune = next_tune c.tune f (is_fresh c) q.own q.ranks; own_slot = None }) refl
+      (same_streams c.streams i) is)
 
   pub next_asks : (s : ScenarioParts) (first e f u : ℕ) (c : Core) (r d : ℕ) → StaysOn s first e u → has_line changes_wish s first e u ≡ false
       → first ≤ f → suc f ≤ e → rounds s f (state_at s f) u ≡ StateOn c → c.tune ≡ Hold r d → AsksCore boot i rank host_boot b c

@@ -94,7 +94,7 @@ lines_come y (l ∷ ls) x came =
 
 ended_came : (q : Setup) (f : ℕ) (y : State) → CameFrom y (at_core (frame_ended q f) y)
 ended_came q f (StateOff boots) = tt
-ended_came q f (StateOn c) = by_tune c.tune refl
+ended_came q f (StateOn c) = of_tune c.tune refl
   where
     turned : Tune → Core
     turned t = record c { tune = t; own_slot = None }
@@ -109,18 +109,11 @@ ended_came q f (StateOn c) = by_tune c.tune refl
     by_due r d true = λ host. absurd (false≢true host)
     by_due r d false = λ host. absurd (false≢true host)
 
-    by_tune : (t : Tune) → c.tune ≡ t → CameFrom (StateOn c)
-        (StateOn (as_host q.profile (begins_host c.tune (next_tune c.tune f (is_fresh c) q.own q.ranks))
-        (turned (next_tune c.tune f (is_fresh c) q.own q.ranks))))
-    by_tune t at = subst (λ (u : Tune). CameFrom (StateOn c)
-        (StateOn (as_host q.profile (begins_host u (next_tune u f (is_fresh c) q.own q.ranks)) (turned (next_tune u f (is_fresh c) q.own q.ranks)))))
-        (sym at) (of_tune t at)
-      where
-        of_tune : (u : Tune) → c.tune ≡ u → CameFrom (StateOn c)
-            (StateOn (as_host q.profile (begins_host u (next_tune u f (is_fresh c) q.own q.ranks)) (turned (next_tune u f (is_fresh c) q.own q.ranks))))
-        of_tune (Host r d) is = λ host. inr (record { core = c; on = refl; tune = is; table = refl; plan = refl })
-        of_tune (Hold r d) is = by_due r d (nat_lt f d)
-        of_tune (Scan r w) is = by_scan r w (next_tune (Scan r w) f (is_fresh c) q.own q.ranks)
+    of_tune : (u : Tune) → c.tune ≡ u → CameFrom (StateOn c)
+        (StateOn (as_host q.profile (begins_host u (next_tune u f (is_fresh c) q.own q.ranks)) (turned (next_tune u f (is_fresh c) q.own q.ranks))))
+    of_tune (Host r d) is = λ host. inr (record { core = c; on = refl; tune = is; table = refl; plan = refl })
+    of_tune (Hold r d) is = by_due r d (nat_lt f d)
+    of_tune (Scan r w) is = by_scan r w (next_tune (Scan r w) f (is_fresh c) q.own q.ranks)
 
 came : (s : ScenarioParts) (f v : ℕ) → CameFrom (rounds s f (state_at s f) v) (state_at s (suc f) v)
 unfolding before_frame

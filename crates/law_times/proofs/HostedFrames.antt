@@ -38,6 +38,11 @@ plan_gap n node boot rank f kept t x =
     let range = gap_range n.seconds f t.entries in
     (omega (arith, is, range), omega (arith, is, range))
 
+-- who hosts a round is of its rank
+pub rank_hosted : (rank f : ℕ) (x : State) → hosts_round rank f x ≡ true → rank_in x ≡ rank
+rank_hosted rank f (StateOff boots) now = absurd (false≢true now)
+rank_hosted rank f (StateOn c) now = due_rank rank f c.tune now
+
 -- the host after its round, and its next due frame
 pub record Planned (x : State) (rank f : ℕ) : Type 0 where
   pub due : ℕ
@@ -83,7 +88,7 @@ module _ (s : ScenarioParts) (scenario : IsSoundScenario s) where
       let plan = host_plan s.profile host c.boot (rank_of c.tune) f c.kept c.table c.streams in
       let gap = plan_gap s.profile host c.boot (rank_of c.tune) f c.kept c.table c.streams in
       let of_rank : rank_of c.tune ≡ rank = due_rank rank f c.tune lead.due in
-      let is = rounds_are host rank f p.0 (rank_hosted (state_at s f host) due) p.1.plan ∙ has_planned s rank f p.0 host p.1 lead in
+      let is = rounds_are host rank f p.0 (rank_hosted rank f (state_at s f host) due) p.1.plan ∙ has_planned s rank f p.0 host p.1 lead in
       record {
         due = f + plan.gap;
         later = omega (arith, gap);
@@ -92,7 +97,3 @@ module _ (s : ScenarioParts) (scenario : IsSoundScenario s) where
         plan = plan.plan;
         goes = ap setting is ∙ ap (λ (r : ℕ). Some (record { tune = Host r (f + plan.gap); own_slot = c.own_slot; plan = plan.plan })) of_rank;
       }
-    where
-      rank_hosted : (x : State) → hosts_round rank f x ≡ true → rank_in x ≡ rank
-      rank_hosted (StateOff boots) now = absurd (false≢true now)
-      rank_hosted (StateOn c) now = due_rank rank f c.tune now

@@ -1,10 +1,10 @@
 -- After a round in which nothing is lost each node that takes part within reach of the host holds its next round.
 use Rattle.std.proofs.Common.{◌≡◌, ◌==◌, ◌&&◌, ◌||◌, ℕ, suc, List, Bool, true, false, Option, Some, None, nat_lt, refl, sym, ◌∙◌, ap}
 use Rattle.law_service.specs.ScheduleService.{AcceptsClosing}
-use Rattle.law_times.proofs.Words.{false≢true, eqb-true, and_parts, cond-true, lt-ltb, Plan, LoseLine, IsScenario, ScenarioParts, IsSoundScenario, sound, Tune}
+use Rattle.law_times.proofs.Words.{eqb-true, and_parts, cond-true, lt-ltb, Plan, LoseLine, IsScenario, ScenarioParts, IsSoundScenario, sound, Tune}
 use Rattle.law_times.proofs.Words.{Scan, Hold, Host, last_slot, State, StateOff, StateOn, rank_of, before_frame, state_at, has, IsHosted, slot_in, rank_in}
-use Rattle.law_times.proofs.Words.{rounds, setup_of, due_rank, HasNoLines, LosesNothing, closings, lose_nothing, none_harder, IsLossless, IsReached}
-use Rattle.law_times.proofs.HostedFrames.{Planned, due_round, is_hosted, rounds_are}
+use Rattle.law_times.proofs.Words.{rounds, setup_of, HasNoLines, LosesNothing, closings, lose_nothing, none_harder, IsLossless, IsReached}
+use Rattle.law_times.proofs.HostedFrames.{Planned, due_round, is_hosted, rounds_are, rank_hosted}
 use Rattle.law_times.proofs.QuietFrames.{ended}
 use Rattle.law_times.proofs.QuietRounds.{hosts_round}
 use Rattle.law_times.proofs.ReachedNodes.{IsThere, in_round, reached_within}
@@ -86,7 +86,7 @@ module _ (s : ScenarioParts) (accepted : IsScenario s) (rank f host : ℕ) (due 
         ∙ ap (λ (t : Tune). Some (record { tune = t; own_slot = taken.holding.own_slot; plan = taken.holding.plan })) taken.holds in
         let hosts : setting (rounds s f (state_at s f) host)
         ≡ Some (record { tune = Host rank taken.due; own_slot = taken.hosting.own_slot; plan = taken.hosting.plan }) =
-        ap setting (rounds_are s scenario host rank f p (host_rank (state_at s f host) due) hosted.plan ∙ taken.host_on)
+        ap setting (rounds_are s scenario host rank f p (rank_hosted rank f (state_at s f host) due) hosted.plan ∙ taken.host_on)
         ∙ ap (λ (t : Tune). Some (record { tune = t; own_slot = taken.hosting.own_slot; plan = taken.hosting.plan })) taken.hosts in
         let same = same_round rank taken.due next.due taken.hosting.own_slot next.own_slot taken.hosting.plan next.plan (sym hosts ∙ next.goes) in
         let end = ended (setup_of s v) f (rounds s f (state_at s f) v)
@@ -94,7 +94,3 @@ module _ (s : ScenarioParts) (accepted : IsScenario s) (rank f host : ℕ) (due 
         end.1 ∙ ap (λ (t : Tune). Some (idle t taken.holding.plan))
         (cond-true (nat_lt f taken.due) (Hold rank taken.due) (Scan rank 0) (lt-ltb f taken.due taken.later))
         ∙ ap (λ (d : ℕ). Some (idle (Hold rank d) taken.holding.plan)) same.0 ∙ ap (λ (q : Plan). Some (idle (Hold rank next.due) q)) (taken.plan ∙ same.1)
-      where
-        host_rank : (x : State) → hosts_round rank f x ≡ true → rank_in x ≡ rank
-        host_rank (StateOff boots) now = absurd (false≢true now)
-        host_rank (StateOn c) now = due_rank rank f c.tune now

@@ -1,6 +1,7 @@
 -- What is known of the core of a node that is on, from the end of a frame to the next frame: the script lines in between change its streams alone.
-use Rattle.std.proofs.Common.{◌≡◌, ◌≤◌, ℕ, suc, List, [], ◌∷◌, Bool, false, fold, sym, arith}
+use Rattle.std.proofs.Common.{◌≡◌, ◌≤◌, ℕ, suc, List, [], ◌∷◌, Bool, false, None, fold, sym, ap, arith}
 use Rattle.law_times.proofs.Words.{list_any, false≢true, or_parts, ScenarioParts, ScriptLine, setup_of, Act, On, Off, Declare, Leave, Put, Core, frame_ended}
+use Rattle.law_times.proofs.Words.{Setup, Tune, Hold, as_host, begins_host, is_fresh, next_tune}
 use Rattle.law_times.proofs.Words.{State, StateOff, StateOn, at_core, core_after_act, state_after_act, state_at, before_frame, rounds, lines_of}
 use Rattle.law_times.proofs.Words.{state_after_line, StaysOn, has_line, turns_off}
 use Rattle.law_times.proofs.QuietFrames.{none_in_frame}
@@ -33,3 +34,10 @@ module _ (P : Core → Type 0) (changes : Act → Bool) (keeps : (a : Act) (c : 
   next_keeps s b e v f stays same after within is =
       lines_keep (lines_of s (suc f) v) (before_frame s (suc f) v) (none_in_frame turns_off s b e v (suc f) stays (omega (arith, after)) within)
       (none_in_frame changes s b e v (suc f) same (omega (arith, after)) within) is
+
+-- who holds a rank, or has just lost its round, begins no rank of its own
+pub holder_ends : (q : Setup) (f : ℕ) (c : Core) (r d : ℕ) → c.tune ≡ Hold r d
+    → frame_ended q f c ≡ record c { tune = next_tune c.tune f (is_fresh c) q.own q.ranks; own_slot = None }
+holder_ends q f c r d hold =
+    ap (λ (t : Tune). as_host q.profile (begins_host t (next_tune c.tune f (is_fresh c) q.own q.ranks))
+    (record c { tune = next_tune c.tune f (is_fresh c) q.own q.ranks; own_slot = None })) hold

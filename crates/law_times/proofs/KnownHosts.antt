@@ -78,7 +78,7 @@ module _ (q : Setup) (f : ℕ) where
 
   ends : (x : State) → Knows x → Knows (at_core (frame_ended q f) x)
   ends (StateOff boots) knows = knows
-  ends (StateOn c) knows = by_tune c.tune refl
+  ends (StateOn c) knows = of_tune c.tune refl
     where
       turned : Tune → Core
       turned t = record c { tune = t; own_slot = None }
@@ -96,17 +96,11 @@ module _ (q : Setup) (f : ℕ) where
       by_due r d is true = λ n e hold. knows r d is
       by_due r d is false = λ n e hold. absurd (cc)
 
-      by_tune : (t : Tune) → c.tune ≡ t → Knows (StateOn
-          (as_host q.profile (begins_host c.tune (next_tune c.tune f (is_fresh c) q.own q.ranks)) (turned (next_tune c.tune f (is_fresh c) q.own q.ranks))))
-      by_tune t at = subst (λ (u : Tune). Knows (StateOn
-          (as_host q.profile (begins_host u (next_tune u f (is_fresh c) q.own q.ranks)) (turned (next_tune u f (is_fresh c) q.own q.ranks))))) (sym at)
-          (of_tune t at)
-        where
-          of_tune : (u : Tune) → c.tune ≡ u → Knows (StateOn
-              (as_host q.profile (begins_host u (next_tune u f (is_fresh c) q.own q.ranks)) (turned (next_tune u f (is_fresh c) q.own q.ranks))))
-          of_tune (Host r d) is = λ n e hold. absurd (cc)
-          of_tune (Hold r d) is = by_due r d is (nat_lt f d)
-          of_tune (Scan r w) is = by_scan r w (is_fresh c) (is_rank q.own r && (w + 1 == 5)) (w + 1 == 12)
+      of_tune : (u : Tune) → c.tune ≡ u → Knows (StateOn
+          (as_host q.profile (begins_host u (next_tune u f (is_fresh c) q.own q.ranks)) (turned (next_tune u f (is_fresh c) q.own q.ranks))))
+      of_tune (Host r d) is = λ n e hold. absurd (cc)
+      of_tune (Hold r d) is = by_due r d is (nat_lt f d)
+      of_tune (Scan r w) is = by_scan r w (is_fresh c) (is_rank q.own r && (w + 1 == 5)) (w + 1 == 12)
 
 act_knows : (a : Act) (c : Core) → (streams_after_act a c.streams).host ≡ c.streams.host
 act_knows On c = refl

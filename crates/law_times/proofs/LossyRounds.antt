@@ -5,10 +5,10 @@ use Rattle.law_times.proofs.Words.{false≢true, cond-false, ne_eqb, Plan, Sched
 use Rattle.law_times.proofs.Words.{Host, Core, Setup, closing_accepted, is_member, opening_accepted, schedule_accepted, HostPlan, host_plan, last_slot, DataOf}
 use Rattle.law_times.proofs.Words.{Message, Opened, RequestOf, ScheduleOf, closed_slot, host_closes, hosts_now, opened_slot, part_of, silent, State, StateOff}
 use Rattle.law_times.proofs.Words.{StateOn, hosts_in, rank_of, member_hosts, planned_rank, same_schedule, state_at, IsHosted, slot_in, accepted_at, before_slot}
-use Rattle.law_times.proofs.Words.{closed_slot_of, left_by, opened_at, rank_in, rounds, setup_of, is_on_and, Hosting, closing_last, closing_opens, has_planned}
+use Rattle.law_times.proofs.Words.{closed_slot_of, left_by, opened_at, rounds, setup_of, is_on_and, Hosting, closing_last, closing_opens, has_planned}
 use Rattle.law_times.proofs.Words.{heard_from, leads, sole_host, due_rank, same_core}
 use Rattle.law_times.proofs.EarlyTunes.{tunes_stay}
-use Rattle.law_times.proofs.HostedFrames.{is_hosted, plan_gap, rounds_are}
+use Rattle.law_times.proofs.HostedFrames.{is_hosted, plan_gap, rounds_are, rank_hosted}
 use Rattle.law_times.proofs.JoinedNodes.{next, same_round, there_rank}
 use Rattle.law_times.proofs.QuietRounds.{hosts_round}
 use Rattle.law_times.proofs.ReachedNodes.{IsThere}
@@ -110,13 +110,9 @@ module _ (s : ScenarioParts) (accepted : IsScenario s) (rank f host : ℕ) (due 
       let planned = next s accepted rank f host due in
       let hosts : setting (rounds s f (state_at s f) host)
       ≡ Some (record { tune = Host rank (f + plan.gap); own_slot = lead.core.own_slot; plan = plan.plan }) =
-      ap setting (rounds_are s scenario host rank f p (host_rank (state_at s f host) due) hosted.plan ∙ has_planned s rank f p host hosted lead)
+      ap setting (rounds_are s scenario host rank f p (rank_hosted rank f (state_at s f host) due) hosted.plan ∙ has_planned s rank f p host hosted lead)
       ∙ ap (λ (r : ℕ). Some (record { tune = Host r (f + plan.gap); own_slot = lead.core.own_slot; plan = plan.plan })) own in
       same_round rank (f + plan.gap) planned.due lead.core.own_slot planned.own_slot plan.plan planned.plan (sym hosts ∙ planned.goes)
-    where
-      host_rank : (x : State) → hosts_round rank f x ≡ true → rank_in x ≡ rank
-      host_rank (StateOff boots) now = absurd (false≢true now)
-      host_rank (StateOn c) now = due_rank rank f c.tune now
 
   abbrev after : ℕ → State
   after v =

@@ -35,11 +35,6 @@ AsksSlowly seconds (ScheduleOf y) = Unit {0}
 AsksSlowly seconds (DataOf d) = Unit {0}
 AsksSlowly seconds (RequestOf a) = IsSlow seconds a.interval
 
-none_by : (seconds : ℕ) (t : Tune) → PacedBy seconds t []
-none_by seconds (Host r d) = none_paced seconds d
-none_by seconds (Hold r d) = tt
-none_by seconds (Scan r w) = tt
-
 pub slow_same : (seconds m n : ℕ) → m ≡ n → IsSlow seconds n → IsSlow seconds m
 slow_same seconds m n same is = subst (IsSlow seconds) (sym same) is
 

@@ -10,7 +10,7 @@ use Rattle.lwb_base.specs.Profile.{one}
 use Rattle.time_reference.specs.Budgets.{budget_one}
 use Rattle.time_reference.specs.Zeros.{Ref, nominal, start_tick}
 use Rattle.law_trails.specs.OnePacket.{drifting}
-use Rattle.law_trails.proofs.DriftingClocks.{fast_due, fast_dues, slow, slow_due, slow_dues, tame_fast, tame_slow, host_clock, member_clock}
+use Rattle.law_trails.proofs.DriftingClocks.{fast_due, fast_dues, slow, tame_fast, tame_slow, host_clock, member_clock}
 
 abbrev slow_or_true : ℕ → ℕ → ℕ
 slow_or_true v = if 2 == v then segment_reading 0 ((0, negsuc 19) ∷ []) else λ t. t
@@ -25,9 +25,6 @@ clocks_drift v =
 -- the ticks at which they come to a number
 pub host_due_at : (x : ℕ) → due (drifting 1) x ≡ fast_due x
 host_due_at x = ap (λ (clock : ℕ → ℕ). due clock x) host_clock ∙ fast_dues x
-
-pub member_due_at : (x : ℕ) → due (drifting 2) x ≡ slow_due x
-member_due_at x = ap (λ (clock : ℕ → ℕ). due clock x) member_clock ∙ slow_dues x
 
 -- a reference by what the clock of node 2 reads when the host starts the schedule
 ref_by : (z f c j : ℕ) → 1 ≤ c → c ≤ f → f ≤ c + 4 → c ≤ 4095 → j ≤ 42

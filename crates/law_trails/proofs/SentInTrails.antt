@@ -7,6 +7,7 @@ use Rattle.std.proofs.lemmas.List.Sorted.{Contains-permutation, IsPermutation-sy
 use Rattle.lwb_base.specs.Profile.{airtime}
 use Rattle.radio_model.specs.declared.sending.Sending.{Sending}
 use Rattle.scenario_text.specs.ScenarioParts.{ScenarioParts}
+use Rattle.scenario_text.specs.ScenarioFacts.{IsSoundScenario}
 use Rattle.scenario_text.specs.FloodParts.{knows}
 use Rattle.air_log.specs.declared.entry.Entry.{Entry}
 use Rattle.air_log.specs.Entries.{sendings_of}
@@ -16,6 +17,7 @@ use Rattle.air_log.specs.TrailEntries.{IsSentBefore}
 use Rattle.scenario_text.specs.Setups.{setup_of}
 use Rattle.air_log.specs.Trails.{Reception, run_end, begun_by, starts, sending_from, before_start, before_tick}
 use Rattle.air_log.proofs.KeptByEvents.{in_tick}
+use Rattle.air_log.proofs.SendingsKept.{profile_lasts}
 use Rattle.air_log.proofs.TrailSendings.{kept_sent, at_tick}
 use Rattle.lwb_base.proofs.Elements.{not_in_none, in_filtered, filtered}
 use Rattle.law_trails.specs.TrailLinks.{IsSentBelow, device_in}
@@ -109,6 +111,13 @@ module _ (s : ScenarioParts) (clocks : ℕ → ℕ → ℕ) (air : List Entry) (
       let all = (at_tick s v (clocks v) (heard_by air v) (run_end s)).0 in
       let own = All-contains (IsSentBefore s v (run_end s)) (device_in s clocks air v (run_end s)).made.sent x all (in_trail v x there refl).1 in
       (own.before, own.lasts)
+
+  -- and it takes some time
+  pub takes_time : IsSoundScenario s → (x : Sending) → Contains (sendings_of air) x → x.start < x.end
+  takes_time sound x there =
+      let lasts = (sent_lasts x there).1 in
+      let some = profile_lasts s.profile sound.profile (length x.packet) in
+      omega (arith, lasts, some)
 
   pub sent_below : (v : ℕ) → knows s.nodes v ≡ true → (t : ℕ) → t ≤ run_end s → (x : Sending) → IsSentBelow air v t x
       ↔ Contains (device_in s clocks air v t).made.sent x

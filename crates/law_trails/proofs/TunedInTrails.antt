@@ -70,7 +70,7 @@ module _ (s : ScenarioParts) (v : ℕ) (clock : ℕ → ℕ) (hs : List Receptio
       listens e.rank k below ((off.same e.rank k below).0 (inl (e, there, record { rank = refl; since = from; until = until })))
 
 module _ (s : ScenarioParts) (clocks : ℕ → ℕ → ℕ) (air : List Entry) (follows : FollowsTrails s clocks air) where
-  tuned_there : (v : ℕ) (e : Tuning) → Contains (tunings_of air) e → e.node ≡ v
+  pub tuned_there : (v : ℕ) (e : Tuning) → Contains (tunings_of air) e → e.node ≡ v
       → (knows s.nodes v ≡ true) × Contains (trail s v (clocks v) (heard_by air v)).made.tuned e
   tuned_there v e there node =
       let own : Contains (tuned_by air v) e = in_filtered (λ (y : Tuning). y.node == v) (tunings_of air) e there (eq-eqb e.node v node) in

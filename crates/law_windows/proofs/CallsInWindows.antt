@@ -1,10 +1,8 @@
 -- Each step keeps that a node sends what its windows call for.
-use Rattle.std.proofs.Common.{◌≡◌, ℕ, suc, ◌+◌, ◌*◌, ◌/◌, ◌≤◌, inl, inr, List, [], ◌∷◌, ◌++◌, Bool, true, false, ◌||◌, if◌then◌else◌, nat_lt, Some, None}
+use Rattle.std.proofs.Common.{◌≡◌, ℕ, suc, ◌+◌, ◌≤◌, inl, inr, List, [], ◌∷◌, ◌++◌, Bool, true, false, ◌||◌, if◌then◌else◌, nat_lt, Some, None}
 use Rattle.std.proofs.Common.{Option, is_some, fold, max, refl, sym, ◌∙◌, ap, subst, arith, true≢false, eqb-true}
 use Rattle.std.specs.Option.{IfSome}
-use Rattle.std.proofs.Math.Nat.{mul-le-mul_right}
 use Rattle.std.proofs.lemmas.Bool.{and_parts, not-true}
-use Rattle.lwb_base.specs.declared.limits.TheConstants.{MOST_FRAMES}
 use Rattle.lwb_base.specs.Messages.{Schedule}
 use Rattle.lwb_packets.specs.declared.kind.Kind as Kind
 use Rattle.tick_clock.specs.Clocks.{IsClock, due}
@@ -42,7 +40,7 @@ use Rattle.law_safety.specs.SetAlarms.{AlarmFor, rank_at, tick_by}
 use Rattle.law_safety.specs.StillDevices.{IsStill}
 use Rattle.law_safety.specs.NodesInOrder.{IsOn, InOpenWindow, WindowAt}
 use Rattle.law_safety.specs.Rows.{IsFine, AtTick}
-use Rattle.law_safety.proofs.RunFacts.{run_fits, frame_in_run, frame_ends}
+use Rattle.law_safety.proofs.RunFacts.{run_fits, tick_in_run}
 use Rattle.law_safety.proofs.AwaitedSlots.{Awaits, awaits, starts_then}
 use Rattle.law_safety.proofs.OpenWindows.{IsAbout, where_ordered}
 use Rattle.law_windows.specs.OpenWindows.{AreClosed, IsOpenFirst, StandAt, StandBy}
@@ -85,15 +83,9 @@ module _ (s : ScenarioParts) (clocks : ℕ → ℕ → ℕ) (air : List Entry) (
   own_drifts : IsClock (clocks v)
   own_drifts = at.run.driven.drift v at.known
 
-  tick_in_run : t ≤ MOST_FRAMES * s.profile.frame
-  tick_in_run =
-      let few = frame_in_run s at.run.driven.sound t at.in_run in
-      let early : t / s.profile.frame + 1 ≤ MOST_FRAMES = omega (arith, few) in
-      let frames = mul-le-mul_right s.profile.frame early in
-      omega (arith, frames, frame_ends s at.run.driven.sound t)
-
   relay_at : max (due (clocks v) (stopped (clocks v t + s.profile.turn))) t ≡ due (clocks v) (clocks v t + s.profile.turn)
-  relay_at = relay_is s.profile (budget_of s.profile) (run_fits s at.run.driven.sound) (clocks v) own_drifts t tick_in_run
+  relay_at = relay_is s.profile (budget_of s.profile) (run_fits s at.run.driven.sound) (clocks v) own_drifts t
+      (tick_in_run s at.run.driven.sound t at.in_run)
 
   with_none : (logs : List WindowLog) (o : Option OrderedPacket) (x : Option Sending) (sent : List Sending) → o ≡ None → R logs o x sent → R logs None x sent
   with_none logs o x sent none has = subst (λ (p : Option OrderedPacket). R logs p x sent) none has

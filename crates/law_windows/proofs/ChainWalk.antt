@@ -40,11 +40,10 @@ use Rattle.law_windows.proofs.AcceptedRanks.{closed_rank, accepted_rank}
 use Rattle.law_windows.proofs.ChainedWindows.{IsFree, resting_free, awaiting_free, free_awaits, frame_free, followed_on, followed_off, chained_still}
 use Rattle.law_windows.proofs.ChainedWindows.{chained_more}
 use Rattle.law_windows.proofs.ChainedWindows.{next_kept, chained_on}
-use Rattle.law_windows.proofs.OpenedByRows.{IsOfRows, rows_steps}
+use Rattle.law_windows.proofs.OpenedByRows.{IsOfRows, Rows, rows_steps}
 use Rattle.law_windows.proofs.PlacesWithout.{awaiting, after_frame, unchanged}
 use Rattle.law_windows.proofs.RowsOfWindows.{open_first, begun_after, joined_after, gone_on_after, closed_after}
 use Rattle.law_windows.proofs.WindowWalk.{P, keeps, on_in, fine_before, waits, windows_before, at_tick}
-use Rattle.law_windows.proofs.UnchangedNodes.{Rows}
 
 module _ (s : ScenarioParts) (clocks : ℕ → ℕ → ℕ) (air : List Entry) (v : ℕ) where
   abbrev S : Setup

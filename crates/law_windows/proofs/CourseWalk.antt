@@ -32,9 +32,6 @@ use Rattle.law_windows.proofs.CourseSteps.{at_line, closes_in, comes_on, ends_fr
 use Rattle.law_windows.proofs.LinkedWindows.{GoOn, HasAdded, IsUnderWay, StandsIn}
 
 module _ (s : ScenarioParts) (clocks : ℕ → ℕ → ℕ) (air : List Entry) (v : ℕ) where
-  abbrev Own : ℕ → ℕ → WindowLog → Type 0
-  Own now taken w = IsOwn s clocks air v w
-
   abbrev pub All : ℕ → Phase → Device → Type 0
   All t phase d = P s clocks air v (λ now taken w. IsOwn s clocks air v w) t phase d × IsUnderWay s clocks air v t phase d
 

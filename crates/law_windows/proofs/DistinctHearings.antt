@@ -13,6 +13,7 @@ use Rattle.air_log.specs.Devices.{Listening}
 use Rattle.air_log.specs.Lawful.{Lawful, reception_comes_before, put_in, by_end, reception_of, hearings_by, heard_by}
 use Rattle.air_log.specs.Trails.{Reception, ending_at}
 use Rattle.lwb_base.proofs.Elements.{Distinct, not_in_none, contains_head, contains_tail, contains_cases, distinct_from_pairs, map_from, filtered}
+use Rattle.air_log.proofs.SameSendings.{same_sending}
 use Rattle.air_log.proofs.SendingsKept.{profile_lasts}
 use Rattle.law_trails.specs.Obeying.{channel_if_on}
 use Rattle.law_trails.specs.TrailLinks.{ListensSince, device_in}
@@ -119,17 +120,6 @@ module _ (s : ScenarioParts) (clocks : ℕ → ℕ → ℕ) (air : List Entry) (
       let start : x.start ≡ y.start = (let from = one.start in let to = two.start in omega (arith, from, to)) in
       let node : x.node ≡ y.node = (let from = one.node start in let to = two.node (sym start) in omega (arith, from, to)) in
       same_sending x y rank node start same packet
-    where
-      same_sending : (x y : Sending) → x.rank ≡ y.rank → x.node ≡ y.node → x.start ≡ y.start → x.end ≡ y.end → x.packet ≡ y.packet → x ≡ y
-      same_sending x y rank node start end packet =
-          ap (λ (r : ℕ). of_parts r x.node x.start x.end x.packet) rank
-          ∙ ap (λ (u : ℕ). of_parts y.rank u x.start x.end x.packet) node
-          ∙ ap (λ (k : ℕ). of_parts y.rank y.node k x.end x.packet) start
-          ∙ ap (λ (k : ℕ). of_parts y.rank y.node y.start k x.packet) end
-          ∙ ap (λ (p : List ℕ). of_parts y.rank y.node y.start y.end p) packet
-        where
-          of_parts : ℕ → ℕ → ℕ → ℕ → List ℕ → Sending
-          of_parts rank node start end packet = record { rank = rank; node = node; start = start; end = end; packet = packet }
 
   -- so no reception is there twice
   pub distinct_receptions : (t : ℕ) → Distinct (ending_at t (heard_by air v))

@@ -39,9 +39,6 @@ module _ (s : ScenarioParts) (clocks : ℕ → ℕ → ℕ) (v : ℕ) where
     pub slot_still : (y : Sending) → IsOfSlot s x y → IsOfSlot s later y
     slot_still y is = record { channel = is.channel; frame = is.frame; slot = is.slot }
 
-    pub slot_before : (y : Sending) → IsOfSlot s later y → IsOfSlot s x y
-    slot_before y is = record { channel = is.channel; frame = is.frame; slot = is.slot }
-
     pub sent_still : (sent : List Sending) (tick : ℕ) (packet : List ℕ) → IsSent s clocks v sent x tick packet → IsSent s clocks v sent later tick packet
     sent_still sent tick packet is = record {
       sending = is.sending;

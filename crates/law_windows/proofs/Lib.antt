@@ -35,6 +35,7 @@ mod ListEnds
 mod KeptCalls
 mod AnsweredCalls
 mod CallsInWindows
+mod KnownThroughout
 mod UnchangedNodes
 mod FirstWindows
 mod ScannerWalk

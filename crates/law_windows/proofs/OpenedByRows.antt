@@ -109,3 +109,7 @@ module _ (s : ScenarioParts) (clocks : ℕ → ℕ → ℕ) (v : ℕ) where
       closes = closes_as n j w x is;
     };
   }
+
+-- as what is known of windows in each tick
+abbrev pub Rows : ScenarioParts → (ℕ → ℕ → ℕ) → ℕ → ℕ → ℕ → WindowLog → Type 0
+Rows s clocks v now taken w = IsOfRows s clocks v w

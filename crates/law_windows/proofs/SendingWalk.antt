@@ -1,5 +1,5 @@
 -- What each step keeps of what a node sends in its windows is known throughout a run.
-use Rattle.std.proofs.Common.{◌≡◌, ℕ, zero, suc, ◌+◌, ◌<◌, ◌≤◌, List, [], true, inl, inr, Some, None, Option, refl, sym, ◌∙◌, ap, subst, arith, true≢false}
+use Rattle.std.proofs.Common.{◌≡◌, ℕ, zero, suc, ◌+◌, ◌<◌, ◌≤◌, List, [], true, Some, None, Option, refl, sym, ◌∙◌, subst, arith, true≢false}
 use Rattle.lwb_base.specs.declared.event.Event.TheVariants.{Boot, Alarm, Heard, Sent}
 use Rattle.glossy_relay.specs.Relaying.{after_sent}
 use Rattle.radio_model.specs.declared.sending.Sending.{Sending}
@@ -14,25 +14,24 @@ use Rattle.scenario_text.specs.FloodParts.{knows}
 use Rattle.scenario_text.specs.declared.script.ScriptLine.{ScriptLine}
 use Rattle.air_log.specs.declared.entry.Entry.{Entry}
 use Rattle.air_log.specs.WindowLogs.{WindowLog}
-use Rattle.air_log.specs.Devices.{Device, Power, PowerOff, PowerOn, OrderedPacket, listens_to}
+use Rattle.air_log.specs.Devices.{Device, Power, PowerOff, PowerOn, OrderedPacket}
 use Rattle.air_log.specs.ScriptedDevices.{device_after_on}
 use Rattle.air_log.specs.Lawful.{heard_by}
 use Rattle.scenario_text.specs.Setups.{setup_of}
 use Rattle.air_log.specs.Trails.{run_end, before_tick}
 use Rattle.law_trails.specs.Phases.{Phase, Lines, Hearings, End, Alarms, Start, Over, IsNextLineOf}
-use Rattle.law_trails.specs.Walks.{Now, Keeps, AwaitsFrame, CannotSend, HasNoWindow, NoWindow, device_after_row}
+use Rattle.law_trails.specs.Walks.{Now, Keeps, AwaitsFrame, HasNoWindow, NoWindow, device_after_row}
 use Rattle.law_trails.specs.TrailLinks.{device_in}
 use Rattle.law_trails.proofs.RowsLeave.{joining_leaves, hearing_leaves, sent_leaves, frame_alarm_leaves, opening_leaves, closing_leaves}
 use Rattle.law_trails.proofs.RowsOfDevices.{row_obeyed, switched_on_is}
 use Rattle.law_trails.proofs.WalkOfRun.{holds_in_tick}
 use Rattle.law_safety.specs.StillDevices.{IsStill}
-use Rattle.law_safety.specs.SetAlarms.{rank_at}
 use Rattle.law_safety.specs.RadiosOn.{RadioFor}
 use Rattle.law_safety.specs.Invariant.{IsObedientRun}
 use Rattle.law_safety.specs.NodesInOrder.{InOrderBy}
 use Rattle.law_safety.specs.Rows.{IsFine, AtTick, AllRows}
 use Rattle.law_safety.proofs.HeardNow.{heard_in_floods}
-use Rattle.law_safety.proofs.OpenWindows.{where_ordered}
+use Rattle.law_safety.proofs.OpenWindows.{not_missed}
 use Rattle.law_windows.specs.OpenWindows.{AreClosed, StandAt, StandBy}
 use Rattle.law_windows.specs.WindowFloods.{WindowHasFlood}
 use Rattle.law_windows.proofs.WindowFloods.{flood_steps}
@@ -122,15 +121,6 @@ module _ (s : ScenarioParts) (clocks : ℕ → ℕ → ℕ) (air : List Entry) (
   silent_by t d (PowerOff boots) none is = is.0.still.sending
   silent_by t d (PowerOn n) none is = (still_at n d n.stage none is.radio.at).sending
 
-  -- what is ordered is not missed
-  cannot_miss : {A : Type 0} (t : ℕ) (d : Device) (o : OrderedPacket) → IsFine s clocks air v t Start d → d.ordered ≡ Some o → CannotSend d → A
-  cannot_miss t d o holds order cannot =
-      let about = where_ordered s clocks air v t d o order holds in
-      elim cannot [
-        | inl off ↦ absurd (true≢false (sym about.listens ∙ ap (listens_to (rank_at about.node)) off))
-        | inr other ↦ absurd (about.silent other.0 other.1)
-      ]
-
   keeps_all : (t : ℕ) → AtTick s clocks air v t → AllRows → HasWindows s v (WindowHasFlood (setup_of s v)) t (device_in s clocks air v t)
       → KeepsSendings s clocks air v R t
       → Keeps All s v (clocks v) (heard_by air v) t
@@ -214,7 +204,7 @@ module _ (s : ScenarioParts) (clocks : ℕ → ℕ → ℕ) (air : List Entry) (
         );
         missed_start = λ d o here enters order due cannot. (
           k.missed_start d o (base t Start d here) enters order due cannot,
-          cannot_miss t d o here.holds.0.0 order cannot,
+          not_missed s clocks air v t d o order here.holds.0.0 cannot,
         );
         onwards = λ phase d here enters known. (k.onwards phase d (base t phase d here) enters known, here.holds.1);
         passing = λ d here is. (k.passing d (base t Over d here) is, here.holds.1);

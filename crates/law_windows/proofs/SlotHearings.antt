@@ -1,5 +1,5 @@
 -- Whatever a node receives in the slot of a window ends after the opening, or is the schedule by which the window opens.
-use Rattle.std.proofs.Common.{◌≡◌, ℕ, ◌<◌, ◌≤◌, ◌⊎◌, inl, inr, List, Bool, true, false, Some, Contains, refl, sym, ◌∙◌, ap, subst, arith, length}
+use Rattle.std.proofs.Common.{◌≡◌, ℕ, ◌<◌, ◌≤◌, ◌⊎◌, inl, inr, List, Bool, true, false, Some, Contains, refl, sym, ◌∙◌, ap, subst, arith}
 use Rattle.std.specs.Prelude.{slice_index, slice_set}
 use Rattle.std.proofs.lemmas.Bool.{cases_lt}
 use Rattle.std.proofs.lemmas.List.{set-set}
@@ -18,8 +18,7 @@ use Rattle.air_log.specs.Safe.{SameSlot, SameStep}
 use Rattle.air_log.specs.Trails.{run_end}
 use Rattle.air_log.specs.WindowLogs.{WindowLog, Happening, HeardAt}
 use Rattle.law_trails.specs.TrailLinks.{device_in}
-use Rattle.air_log.proofs.SendingsKept.{profile_lasts}
-use Rattle.law_trails.proofs.SentInTrails.{sent_lasts}
+use Rattle.law_trails.proofs.SentInTrails.{takes_time}
 use Rattle.law_safety.specs.Invariant.{IsObedientRun}
 use Rattle.law_safety.proofs.InvariantHolds.{ends_in_order}
 use Rattle.law_safety.specs.Endings.{EndsInOrder}
@@ -42,12 +41,6 @@ module _ (s : ScenarioParts) (clocks : ℕ → ℕ → ℕ) (air : List Entry) (
 
   whole : EndsInOrder s clocks air
   whole = ends_in_order s clocks air run
-
-  lasts : (x : Sending) → Contains (sendings_of air) x → x.start < x.end
-  lasts x sent =
-      let is = (sent_lasts s clocks air run.heedful.trails x sent).1 in
-      let some = profile_lasts s.profile run.driven.sound.profile (length x.packet) in
-      omega (arith, is, some)
 
   module _ (scans : w.by_alarm ≡ false) where
     opens : OpensByHearing s clocks v w
@@ -105,7 +98,8 @@ module _ (s : ScenarioParts) (clocks : ℕ → ℕ → ℕ) (air : List Entry) (
     as_it_opens x is of_slot now =
         let mine = (run.heedful.heard v x is).sent in
         let meets : Meets x was.heard = (
-        let ends = was.end in let one = lasts x mine in let other = lasts was.heard sent in
+        let ends = was.end in let one = takes_time s clocks air run.heedful.trails run.driven.sound x mine in
+        let other = takes_time s clocks air run.heedful.trails run.driven.sound was.heard sent in
         record { before = omega (arith, ends, now, one); after = omega (arith, ends, now, other) }
         ) in
         let step : SameStep s.profile x was.heard = no_overlap s clocks air whole x was.heard mine sent (of_slot.channel ∙ sym was.channel) meets in
@@ -128,7 +122,7 @@ module _ (s : ScenarioParts) (clocks : ℕ → ℕ → ℕ) (air : List Entry) (
       by_test true alarm =
           let mine = (run.heedful.heard v x is).sent in
           let starts = (slot_covered s clocks air run v known (run_end s) within w there x mine of_slot).1 alarm in
-          let long = lasts x mine in
+          let long = takes_time s clocks air run.heedful.trails run.driven.sound x mine in
           inl (omega (arith, starts, long))
       by_test false scans =
           let since = none_before scans x is of_slot in

@@ -113,7 +113,7 @@ module _ (rows : AllRows) (s : ScenarioParts) (clocks : ℕ → ℕ → ℕ) (ai
           omega (arith, starts, begun)
 
       -- one of an earlier slot has ended before the window opens
-      ends_before : (by : Bool) → OpensInTime s clocks air v by w → slot_of_sending x < w.slot → x.end < w.opened
+      pub ends_before : (by : Bool) → OpensInTime s clocks air v by w → slot_of_sending x < w.slot → x.end < w.opened
       ends_before true opens less =
           let before = relays_before_next_opens p b fits host first (clocks v) flood.zero w.after.zero w.frame host_is_clock first_drifts own_drifts
           (slot_of_sending x) w.slot (length x.packet) less

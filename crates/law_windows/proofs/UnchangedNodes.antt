@@ -1,65 +1,38 @@
 -- A node stays as its frame has found it until its first window of the frame.
-use Rattle.std.proofs.Common.{◌≡◌, ℕ, suc, ◌+◌, ◌/◌, ◌≤◌, inl, inr, List, Bool, true, false, ◌==◌, if◌then◌else◌, min, None}
-use Rattle.std.proofs.Common.{Option, Contains, sym, ◌∙◌, ap, subst, arith}
+use Rattle.std.proofs.Common.{◌≡◌, ℕ, suc, ◌+◌, ◌/◌, inl, inr, List, Bool, true, false, ◌==◌, if◌then◌else◌, min}
+use Rattle.std.proofs.Common.{sym, ◌∙◌, ap, subst, arith}
 use Rattle.std.proofs.lemmas.Bool.{cases_lt}
-use Rattle.lwb_base.specs.declared.event.Event.{Event}
-use Rattle.lwb_base.specs.declared.event.Event.TheVariants.{Alarm}
-use Rattle.radio_model.specs.declared.sending.Sending.{Sending}
 use Rattle.bus_rules.specs.declared.tune.Tune.{Tune}
 use Rattle.bus_rules.specs.declared.tune.Tune.TheVariants.{Scan, Hold, Host}
 use Rattle.bus_rules.specs.Cores.{Setup, frame_ended}
 use Rattle.node_core.specs.declared.stage.Stage.{Stage}
 use Rattle.node_core.specs.declared.stage.Stage.TheVariants.{Idle, Scanning, AwaitFrame, AwaitSlot, InWindow}
 use Rattle.node_core.specs.Nodes.{Node}
-use Rattle.node_core.specs.Rows.{Stepped, boots, frame_alarms, stage_for}
+use Rattle.node_core.specs.Rows.{boots, frame_alarms, stage_for}
 use Rattle.scenario_text.specs.ScenarioParts.{ScenarioParts}
 use Rattle.scenario_text.specs.declared.script.ScriptLine.{ScriptLine}
 use Rattle.air_log.specs.declared.entry.Entry.{Entry}
-use Rattle.air_log.specs.WindowLogs.{WindowLog}
 use Rattle.air_log.specs.Devices.{Device, Power, PowerOff, PowerOn}
 use Rattle.air_log.specs.Lawful.{heard_by}
 use Rattle.scenario_text.specs.Setups.{setup_of}
 use Rattle.air_log.specs.Trails.{frame_start, at_frame, device_after_script, before_tick}
-use Rattle.law_trails.specs.Phases.{Phase, Lines, Hearings, End, Alarms, Start, Over, IsNextLineOf, next_phase, device_at}
-use Rattle.law_trails.specs.Walks.{Now, device_after_row}
-use Rattle.law_trails.proofs.RowsOfDevices.{row_power}
+use Rattle.law_trails.specs.Phases.{Phase, Lines, Hearings, End, Alarms, Start, Over, next_phase, device_at}
 use Rattle.law_safety.specs.CountedFrames.{InFrame}
 use Rattle.law_safety.specs.Rows.{AtTick}
-use Rattle.law_safety.proofs.FrameStarts.{line_starts}
+use Rattle.law_safety.proofs.FrameStarts.{counts_near, line_starts}
 use Rattle.law_safety.proofs.RunFacts.{frame_is, frame_begins, frame_ends, frame_in_run}
-use Rattle.law_windows.specs.WindowStarts.{ComesFirst, UnchangedAt, UnchangedBy, UnchangedIn}
-use Rattle.law_windows.proofs.WindowWalk.{P}
-use Rattle.law_windows.proofs.OpenedByRows.{IsOfRows}
-
-abbrev pub Rows : ScenarioParts → (ℕ → ℕ → ℕ) → ℕ → ℕ → ℕ → WindowLog → Type 0
-Rows s clocks v now taken w = IsOfRows s clocks v w
+use Rattle.law_windows.specs.WindowStarts.{UnchangedAt, UnchangedBy, UnchangedIn}
 
 module _ (s : ScenarioParts) (clocks : ℕ → ℕ → ℕ) (air : List Entry) (v : ℕ) where
   abbrev S : Setup
   S = setup_of s v
 
-  abbrev Firsts : List WindowLog → Type 0
-  Firsts logs = (w : WindowLog) → Contains logs w → ComesFirst s clocks air v w
-
   abbrev Unchanged : ℕ → Phase → Device → Type 0
   Unchanged t phase d = UnchangedIn s clocks air v t phase d.power
 
-  abbrev All : ℕ → Phase → Device → Type 0
-  All t phase d = P s clocks air v (Rows s clocks v) t phase d × Unchanged t phase d × Firsts d.made.windows
-
-  pub base : (t : ℕ) (phase : Phase) (d : Device) → Now All s t phase d → Now (P s clocks air v (Rows s clocks v)) s t phase d
-  base t phase d now = record { in_run = now.in_run; known = now.known; holds = now.holds.0 }
-
   -- no line is given within a frame
-  pub at_lines : (t : ℕ) → AtTick s clocks air v t → (d : Device) (l : ScriptLine) → IsNextLineOf s v (clocks v) (heard_by air v) t l d → (p : Power)
-      → UnchangedIn s clocks air v t Lines p
-  at_lines t at d l next p began = absurd (let start = line_starts s at.run.driven.sound t l next.now in omega (arith, began, start))
-
-  -- after a row whose node is at another place
-  pub row_leaves : (t : ℕ) (e : Event) (x : Option Sending) (d : Device) (n : Node) (r : Stepped)
-      → UnchangedAt s clocks air v (t / s.profile.frame) r.node r.node.stage
-      → UnchangedBy s clocks air v (t / s.profile.frame) (device_after_row (clocks v) (setup_of s v) t e x d n r).power
-  row_leaves t e x d n r is = subst (UnchangedBy s clocks air v (t / s.profile.frame)) (sym (row_power (clocks v) S t e x d n r)) is
+  pub at_lines : (t : ℕ) → AtTick s clocks air v t → (l : ScriptLine) → frame_start s l.frame ≡ t → (p : Power) → UnchangedIn s clocks air v t Lines p
+  at_lines t at l now p began = absurd (let start = line_starts s at.run.driven.sound t l now in omega (arith, began, start))
 
   -- the next frame is not this one
   next_frame : (f : ℕ) (n : Node) (tune : Tune) → (n.frame ≡ f → ⊥) → UnchangedAt s clocks air v f n (stage_for tune n.frame)
@@ -75,21 +48,15 @@ module _ (s : ScenarioParts) (clocks : ℕ → ℕ → ℕ) (air : List Entry) (
       by_test true = λ first same. absurd (other same)
       by_test false = tt
 
-  pub ends_frame : (t : ℕ) → AtTick s clocks air v t → (d : Device) (n : Node) → InFrame s clocks v t n
-      → UnchangedBy s clocks air v (t / s.profile.frame)
-      (device_after_row (clocks v) (setup_of s v) t Alarm None (record d { alarm = None }) n (frame_alarms (setup_of s v) n)).power
-  ends_frame t at d n frame =
+  pub ends_frame : (t : ℕ) → AtTick s clocks air v t → (n : Node) → InFrame s clocks v t n
+      → UnchangedBy s clocks air v (t / s.profile.frame) (PowerOn (frame_alarms (setup_of s v) n).node)
+  ends_frame t at n frame =
       let r = frame_alarms S n in
       let core = frame_ended S n.frame n.core in
       let early = frame_in_run s at.run.driven.sound t at.in_run in
-      let from : t / s.profile.frame ≤ n.frame = elim frame.at [ inl now ↦ omega (arith, now) | inr over ↦ (let next = over.frame in omega (arith, next)) ] in
-      let until : n.frame ≤ t / s.profile.frame + 1 = elim frame.at [
-        | inl now ↦ omega (arith, now)
-        | inr over ↦ (let next = over.frame in omega (arith, next))
-      ] in
-      row_leaves t Alarm None (record d { alarm = None }) n r
-      (next_frame (t / s.profile.frame) r.node core.tune
-      (λ same. (let counted : min (n.frame + 1) 16777215 ≡ t / s.profile.frame = same in omega (arith, counted, from, until, early))))
+      let counts = counts_near s clocks v t n frame in
+      next_frame (t / s.profile.frame) r.node core.tune
+      (λ same. (let counted : min (n.frame + 1) 16777215 ≡ t / s.profile.frame = same in omega (arith, counted, counts.0, counts.1, early)))
 
   -- a window closes
   pub closes : (f : ℕ) (m : Node) (j : ℕ) (b : Bool) → UnchangedAt s clocks air v f m (if b then AwaitSlot (j + 1) else AwaitFrame)
@@ -129,8 +96,8 @@ module _ (s : ScenarioParts) (clocks : ℕ → ℕ → ℕ) (air : List Entry) (
   goes_on t at Over d is enters = is
 
   -- and to the next tick
-  pub passes : (t : ℕ) → AtTick s clocks air v t → (d : Device) → Unchanged t Over d → Unchanged (suc t) Lines d
-  passes t at d is began =
+  pub passes : (t : ℕ) → AtTick s clocks air v t → (p : Power) → UnchangedIn s clocks air v t Over p → UnchangedIn s clocks air v (suc t) Lines p
+  passes t at p is began =
       let ends = frame_ends s at.run.driven.sound (suc t) in
       let same : t / s.profile.frame ≡ suc t / s.profile.frame = frame_is s (suc t / s.profile.frame) t (omega (arith, began)) (omega (arith, ends)) in
-      subst (λ (f : ℕ). UnchangedBy s clocks air v f d.power) same is
+      subst (λ (f : ℕ). UnchangedBy s clocks air v f p) same is

@@ -1,6 +1,6 @@
 -- The events of each window.
-use Rattle.std.proofs.Common.{◌≡◌, ◌≢◌, ℕ, zero, suc, ◌<◌, ◌≤◌, inl, inr, List, [], ◌∷◌, true, Some, None, Option, is_some, Contains, AllPairs, fold, map}
-use Rattle.std.proofs.Common.{length, get_or, refl, sym, ◌∙◌, ap, subst, arith, true≢false}
+use Rattle.std.proofs.Common.{◌≡◌, ◌≢◌, ℕ, ◌<◌, ◌≤◌, inl, inr, List, [], ◌∷◌, true, Some, None, Option, is_some, Contains, AllPairs, fold, map}
+use Rattle.std.proofs.Common.{length, refl, sym, ◌∙◌, ap, subst, arith, true≢false}
 use Rattle.std.specs.Option.{IfSome}
 use Rattle.lwb_base.specs.Profile.{airtime}
 use Rattle.glossy_relay.specs.FloodState.{FloodState}
@@ -28,6 +28,7 @@ use Rattle.law_windows.specs.WindowEvents.{happening_of, WindowHasEvents}
 use Rattle.law_windows.specs.WindowFloods.{after_happening, flood_at_first}
 use Rattle.law_windows.specs.WindowHistory.{tick_of_happening, WasThen, HasHappened}
 use Rattle.law_windows.specs.WindowLaws.{WindowsHaveEvents}
+use Rattle.air_log.proofs.SameSendings.{same_sending}
 use Rattle.law_trails.proofs.HeedfulLogs.{lawful_is_heedful}
 use Rattle.law_windows.specs.WindowTimes.{IsOfSlot, ClosesInTime, closing_of}
 use Rattle.law_windows.proofs.ClosedByFrame.{closed_at_end}
@@ -37,11 +38,6 @@ use Rattle.law_windows.proofs.SlotHearings.{since_or_happened}
 use Rattle.law_windows.proofs.WindowFacts.{close_in_time, slots_apart, slot_covered, floods_of_windows, history_on_air, hearings_happen, one_a_slot}
 use Rattle.law_windows.proofs.WindowFacts.{sends_as_called}
 use Rattle.law_windows.proofs.WindowWalk.{windows_before}
-
-at_place : {X : Type 0} (xs : List X) (k : ℕ) (d e : X) → k < length xs → get_or xs k e ≡ get_or xs k d
-at_place [] k d e less = absurd (omega arith)
-at_place (x ∷ xs) zero d e less = refl
-at_place (x ∷ xs) (suc k) d e less = at_place xs k d e (omega arith)
 
 module _ (s : ScenarioParts) (air : List Entry) (v : ℕ) (w : WindowLog) where
   abbrev event_of : (e : Happening) → WasThen s air v w e → Event
@@ -119,9 +115,6 @@ module _ (s : ScenarioParts) (air : List Entry) (v : ℕ) (w : WindowLog) where
 module _ (s : ScenarioParts) (clocks : ℕ → ℕ → ℕ) (air : List Entry) (run : IsObedientRun s clocks air) (lawful : Lawful s clocks air) (v : ℕ)
     (known : knows s.nodes v ≡ true)
     (w : WindowLog) (there : Contains (device_in s clocks air v (run_end s)).made.windows w) where
-  abbrev t : ℕ
-  t = run_end s
-
   within : run_end s ≤ run_end s
   within = omega arith
 
@@ -199,17 +192,6 @@ module _ (s : ScenarioParts) (clocks : ℕ → ℕ → ℕ) (air : List Entry) (
       let one = find (HeardAt x.end x.packet) happens in
       as_heard x is one.0 one.1 one.2
 
-  abbrev of_parts : ℕ → ℕ → ℕ → ℕ → List ℕ → Sending
-  of_parts rank node start end packet = record { rank = rank; node = node; start = start; end = end; packet = packet }
-
-  same_sent : (x y : Sending) → x.rank ≡ y.rank → x.node ≡ y.node → x.start ≡ y.start → x.end ≡ y.end → x.packet ≡ y.packet → x ≡ y
-  same_sent x y rank node start end packet =
-      ap (λ (r : ℕ). of_parts r x.node x.start x.end x.packet) rank
-      ∙ ap (λ (u : ℕ). of_parts y.rank u x.start x.end x.packet) node
-      ∙ ap (λ (k : ℕ). of_parts y.rank y.node k x.end x.packet) start
-      ∙ ap (λ (k : ℕ). of_parts y.rank y.node y.start k x.packet) end
-      ∙ ap (λ (p : List ℕ). of_parts y.rank y.node y.start y.end p) packet
-
   as_ended : (x : Sending) → Contains (sendings_of air) x → x.node ≡ v → IsOfSlot s w x → (d : Event) → Contains events d
       → happening_of d ≡ SentAt x.end x.packet → Contains events (Ended x)
   as_ended x sent node of_slot (Heard y) in_it same = let not_same : HeardAt y.end y.packet ≡ SentAt x.end x.packet = same in absurd cc
@@ -220,7 +202,7 @@ module _ (s : ScenarioParts) (clocks : ℕ → ℕ → ℕ) (air : List Entry) (
       let x_lasts = (sent_lasts s clocks air run.heedful.trails x sent).1 in
       let y_lasts = (sent_lasts s clocks air run.heedful.trails y is.0).1 in
       let start : y.start ≡ x.start = (let long = ap (λ (q : List ℕ). airtime s.profile (length q)) packet in omega (arith, x_lasts, y_lasts, end, long)) in
-      subst (λ (z : Sending). Contains events (Ended z)) (same_sent y x (is.2.channel ∙ sym of_slot.channel) (is.1 ∙ sym node) start end packet) in_it
+      subst (λ (z : Sending). Contains events (Ended z)) (same_sending y x (is.2.channel ∙ sym of_slot.channel) (is.1 ∙ sym node) start end packet) in_it
 
   ended_all : (x : Sending) → Contains (sendings_of air) x → x.node ≡ v → IsOfSlot s w x → Contains events (Ended x)
   ended_all x sent node of_slot =

@@ -1,5 +1,16 @@
 -- The laws of all windows, by the walk.
+use Rattle.std.proofs.Common.{◌≡◌, ℕ, ◌<◌, ◌≤◌, List, true, Option, Contains, IfSome, subst, arith}
+use Rattle.scenario_text.specs.ScenarioParts.{ScenarioParts}
+use Rattle.scenario_text.specs.FloodParts.{knows}
+use Rattle.radio_model.specs.declared.sending.Sending.{Sending}
+use Rattle.radio_model.specs.Hearing.{frame_of_sending, slot_of_sending}
+use Rattle.air_log.specs.declared.entry.Entry.{Entry}
+use Rattle.air_log.specs.Entries.{sendings_of}
+use Rattle.air_log.specs.Trails.{run_end}
+use Rattle.air_log.specs.WindowLogs.{WindowLog, Closing}
 use Rattle.lwb_base.proofs.Elements.{not_in_none}
+use Rattle.law_trails.specs.TrailLinks.{device_in}
+use Rattle.law_safety.specs.Invariant.{IsObedientRun}
 use Rattle.law_safety.proofs.InvariantHolds.{all_rows}
 use Rattle.law_windows.specs.WindowLaws.{DeliveriesAreOfWindows, WindowsCloseByRows, WindowsCloseInTime, WindowsOpenByRows, WindowsOpenInTime}
 use Rattle.law_windows.specs.WindowLaws.{WindowsStandByPower}
@@ -8,7 +19,9 @@ use Rattle.law_windows.specs.WindowLaws.{NodesSendAsCalled, HearingsHappen, Roun
 use Rattle.law_windows.proofs.OpenedByRows.{IsOfRows, rows_steps}
 use Rattle.law_windows.proofs.TimedWindows.{IsTimed, times_steps}
 use Rattle.scenario_text.specs.Setups.{setup_of}
+use Rattle.law_windows.specs.OpenWindows.{HasClosedBy}
 use Rattle.law_windows.specs.WindowFloods.{WindowHasFlood}
+use Rattle.law_windows.specs.WindowTimes.{ClosesInTime}
 use Rattle.law_windows.proofs.WindowFloods.{flood_steps}
 use Rattle.law_windows.proofs.WindowHistory.{IsHistory, history_steps}
 use Rattle.law_windows.specs.WindowCalls.{SendsAsCalled}
@@ -19,7 +32,7 @@ use Rattle.law_windows.proofs.HeardThroughout.{heard_steps}
 use Rattle.law_windows.proofs.ChainWalk.{chained_before}
 use Rattle.law_windows.proofs.WindowRadios.{tuned_in_windows}
 use Rattle.law_windows.proofs.OneWindow.{one_window}
-use Rattle.law_windows.proofs.SlotTimes.{ends_in_slot_of, lies_in_window}
+use Rattle.law_windows.proofs.SlotTimes.{ends_before, ends_in_slot_of, lies_in_window}
 use Rattle.law_windows.proofs.WindowWalk.{windows_before}
 
 pub open_by_rows : WindowsOpenByRows
@@ -54,6 +67,16 @@ pub deliveries_of_windows : DeliveriesAreOfWindows
 deliveries_of_windows s clocks air run v known t within =
     (windows_before s clocks air v (λ now taken w. IsOfRows s clocks v w) all_rows run known (λ u at. rows_steps s clocks v air u) t within).delivered
 
+-- a window closes after it has opened
+pub closes_later : (s : ScenarioParts) (clocks : ℕ → ℕ → ℕ) (air : List Entry) (run : IsObedientRun s clocks air) (v : ℕ)
+    → knows s.nodes v ≡ true → (t : ℕ) → t ≤ run_end s → (w : WindowLog) → Contains (device_in s clocks air v t).made.windows w → HasClosedBy w.opened w → ⊥
+closes_later s clocks air run v known t within w there by =
+    let timed = open_in_time s clocks air run v known t within w there in
+    let closes = subst (λ (o : Option Closing). IfSome o (ClosesInTime s clocks air v w)) by.is (close_in_time s clocks air run v known t within w there) in
+    let early = timed.early in
+    let before = by.by in
+    omega (arith, closes, early, before)
+
 pub slots_apart : SlotsKeepApart
 slots_apart s clocks air run v known t within w there =
     ends_in_slot_of all_rows s clocks air run v known w (open_by_rows s clocks air run v known t within w there)
@@ -63,6 +86,15 @@ pub slot_covered : WindowsCoverTheirSlot
 slot_covered s clocks air run v known t within w there =
     lies_in_window all_rows s clocks air run v known w (open_by_rows s clocks air run v known t within w there)
     (open_in_time s clocks air run v known t within w there)
+
+-- a transmission of an earlier slot of the round has ended before the window opens
+pub ends_before_opening : (s : ScenarioParts) (clocks : ℕ → ℕ → ℕ) (air : List Entry) (run : IsObedientRun s clocks air) (v : ℕ)
+    → knows s.nodes v ≡ true → (t : ℕ) → t ≤ run_end s → (w : WindowLog) → Contains (device_in s clocks air v t).made.windows w
+    → (x : Sending) → Contains (sendings_of air) x → x.rank ≡ w.rank → frame_of_sending s.profile x ≡ w.frame → slot_of_sending x < w.slot → x.end < w.opened
+ends_before_opening s clocks air run v known t within w there x sent channel frame earlier =
+    let timed = open_in_time s clocks air run v known t within w there in
+    ends_before all_rows s clocks air run v known w (open_by_rows s clocks air run v known t within w there) timed x sent channel frame
+    w.by_alarm timed.by earlier
 
 pub floods_of_windows : FloodsAreHistory
 floods_of_windows s clocks air run v known t within w there =

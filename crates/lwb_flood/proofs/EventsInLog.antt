@@ -1,15 +1,15 @@
 -- The events of a node are in the log.
-use Rattle.std.proofs.Common.{◌≡◌, ℕ, ◌≤◌, List, [], ◌∷◌, Bool, true, false, Option, Some, None, ◌==◌, if◌then◌else◌, refl, ◌∙◌, ap, get_or, zero, suc}
+use Rattle.std.proofs.Common.{◌≡◌, ℕ, List, Bool, true, false, Option, Some, None, ◌==◌, if◌then◌else◌, refl, ◌∙◌, ap}
 use Rattle.std.proofs.Common.{eqb-true}
 use Rattle.std.specs.Prelude.{Contains}
 use Rattle.std.proofs.lemmas.Bool.{eqb-true}
 use Rattle.radio_model.specs.declared.sending.Sending.{Sending}
 use Rattle.radio_model.specs.OnAir.{Hearing}
-use Rattle.lwb_base.proofs.Elements.{in_filter, contains_head, contains_tail, filter_from}
+use Rattle.lwb_base.proofs.Elements.{in_filter, filter_from}
 use Rattle.air_log.specs.declared.entry.Entry.{Entry}
 use Rattle.air_log.specs.declared.entry.Entry.TheVariants.{Sent, Heard as HeardOf, Tuned}
 use Rattle.air_log.specs.Entries.{hearing_in, sendings_of, HasHeardEntry, sending_in}
-use Rattle.air_log.specs.NodeEvents.{Event, Heard, Ended, own_ends}
+use Rattle.air_log.specs.NodeEvents.{Heard, Ended}
 use Rattle.lwb_flood.proofs.FloodSoFar.{event_in, events_in}
 
 -- the receptions of a node are in the log
@@ -68,11 +68,3 @@ pub ended_event : (air : List Entry) (u : ℕ) (y : Sending) → Contains (event
 ended_event air u y there =
     let e = filter_from (event_in u) air (Ended y) there in
     in_filter sending_in air e.0 y e.1 (event_sending u e.0 y e.2)
-
--- the end at a place is within what all are
-pub end_within : (es : List Event) (i other bound : ℕ) → other ≤ bound → ((y : Sending) → Contains es (Ended y) → y.end ≤ bound)
-    → get_or (own_ends es) i other ≤ bound
-end_within [] i other bound small all = small
-end_within (Heard x ∷ es) i other bound small all = end_within es i other bound small (λ y there. all y (contains_tail (Heard x) es (Ended y) there))
-end_within (Ended x ∷ es) zero other bound small all = all x (contains_head (Ended x) es)
-end_within (Ended x ∷ es) (suc i) other bound small all = end_within es i other bound small (λ y there. all y (contains_tail (Ended x) es (Ended y) there))

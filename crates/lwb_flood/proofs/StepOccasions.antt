@@ -57,9 +57,6 @@ hears_from s m k v o b here quiet less is want = rw (here, quiet, lt-ltb (m.time
 pub relay_of : (w : FloodState) (p : List ℕ) → fits w p ≡ true → counter_of p < 11 → reply_to w p ≡ Relay (slice_set p 2 (counter_of p + 1))
 relay_of w p fitting less = rw (fitting, lt-ltb (counter_of p) 11 less) refl
 
-heard_same : (x y : Sending) → Heard x ≡ Heard y → x ≡ y
-heard_same x y is = ap sending_of_event is
-
 module _ {r : Run} {Tuned : ℕ → Sending → Type 0} (f : FloodRun r Tuned) {k : ℕ} (few : k ≤ 11) {m : Moment} (at : IsAt r k m) where
   abbrev s : Setting
   s = r.setting

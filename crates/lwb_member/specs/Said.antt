@@ -1,10 +1,10 @@
 -- What is said in a slot, and its bytes.
-use Rattle.std.specs.Prelude.{◌≡◌, ℕ, true, ◌+◌, ◌*◌, ◌≤◌, List, length, if◌then◌else◌, slice_index, drop, Some, option_map}
+use Rattle.std.specs.Prelude.{◌≡◌, ℕ, true, ◌+◌, ◌*◌, ◌≤◌, List, length, if◌then◌else◌, slice_index, drop, Some, option_map, ⊤}
 use Rattle.std.specs.declared.option.Option.{Option}
 use Rattle.lwb_base.specs.declared.limits.TheConstants.{GREATEST_ID}
 use Rattle.lwb_base.specs.Messages.{Ask, Plan}
-use Rattle.lwb_packets.specs.DataPackets.{is_data, data_spelling, InRange as IsData}
-use Rattle.lwb_packets.specs.Requests.{is_request, request_spelling, InRange as IsRequest}
+use Rattle.lwb_packets.specs.DataPackets.{is_data, data_spelling, InRange as IsData, SpellsData}
+use Rattle.lwb_packets.specs.Requests.{is_request, request_spelling, InRange as IsRequest, SpellsRequest}
 use Rattle.lwb_packets.specs.declared.data_packet.DataPacket.{DataPacket}
 use Rattle.lwb_packets.specs.declared.request.Request as Requested
 use Rattle.lwb_packets.specs.declared.kind.Kind.{Kind}
@@ -72,6 +72,12 @@ message_of p =
     if is_data p then Some (DataOf (data_in p))
     else if is_request p then Some (RequestOf (request_in p))
     else option_map ScheduleOf (schedule_of p)
+
+-- a data packet or a request was read with all that its bytes say, the slot and the counter too, which a message leaves out
+abbrev pub IsReadFrom : List ℕ → Heard → Type 0
+IsReadFrom p (Schedule s) = ⊤
+IsReadFrom p (Data d) = SpellsData p d
+IsReadFrom p (Request r) = SpellsRequest p r
 
 -- a packet of this kind, as its initiator sends it
 pub record IsInitialPacket (kind : Kind) (p : List ℕ) : Type 0 where

@@ -4,7 +4,7 @@ ghost use Rattle.std.specs.Prelude.{◌≡◌, IfSome};
 ghost use Rattle.std.specs.Option.{option_map};
 ghost use Rattle.glossy_relay.specs.Relaying.{slot_of};
 ghost use Rattle.lwb_member.specs.Members.{IsHeardInRange, StandsIn};
-ghost use Rattle.lwb_member.specs.Said.{meaning, message_of};
+ghost use Rattle.lwb_member.specs.Said.{meaning, message_of, IsReadFrom};
 
 use lwb_base::Packet;
 use lwb_packets::{DataPacket, Request, decode_payload, decode_request};
@@ -25,6 +25,7 @@ pub enum Heard {
 #[tactic(auto, using(crate::proofs::Meanings::says_data, crate::proofs::Meanings::says_request))]
 pub fn message_in(p: &Packet) -> Option<Heard>
     ensures value { option_map meaning result ≡ message_of p.now }
+    ensures read { IfSome result (IsReadFrom p.now) }
     ensures ranges { IfSome result IsHeardInRange }
     ensures place { IfSome result (StandsIn (slot_of p.now)) }
 {

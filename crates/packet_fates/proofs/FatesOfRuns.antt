@@ -87,18 +87,6 @@ sent_fate sent deliveries o x cleared t n is found counted =
     ∙ ap (λ (u : Option SentPacket). fate_by u cleared (length (filter (λ (d : Delivery). is_packet x (packet_delivered d)) deliveries))) (sym found)
     ∙ ap (λ (u : Option PacketId). fate_in sent deliveries u cleared) (sym is)
 
--- of a packet that was not
-pub other_fate : (sent : List SentPacket) (deliveries : List Delivery) (o : Option PacketId) (x : PacketId) (cleared : Option ℕ) → o ≡ Some x
-    → find (λ t. is_packet x t.packet) sent ≡ None → fate_by None cleared 0 ≡ fate_in sent deliveries o cleared
-other_fate sent deliveries o x cleared is none =
-    of_none cleared (length (filter (λ (d : Delivery). is_packet x (packet_delivered d)) deliveries))
-    ∙ ap (λ (u : Option SentPacket). fate_by u cleared (length (filter (λ (d : Delivery). is_packet x (packet_delivered d)) deliveries))) (sym none)
-    ∙ ap (λ (u : Option PacketId). fate_in sent deliveries u cleared) (sym is)
-  where
-    of_none : (c : Option ℕ) (n : ℕ) → fate_by None c 0 ≡ fate_by None c n
-    of_none None n = refl
-    of_none (Some f) n = refl
-
 -- ---- a list of puts beside the frames in which their queues are emptied
 module _ (sent : List SentPacket) (deliveries : List Delivery) (puts : List PutLine) (frames : List (Option ℕ)) (i : ℕ) where
   pub fates_more : (p : PutLine) (fate : Fate) (fates : List PutFate) → i < min (length puts) (length frames) → p ≡ get_or puts i p

@@ -1,18 +1,12 @@
 -- The order of packets is total, and tells all packets apart.
 use Rattle.std.proofs.Common.{◌≡◌, ◌==◌, refl, ◌∙◌, ap}
-use Rattle.std.specs.Cmp.{IsTotalOrder, both_tied, nat_cmp_total, on_total, then_total, unsigned_ties}
+use Rattle.std.specs.Cmp.{both_tied, unsigned_ties}
 use Rattle.std.specs.Ordering.{is_eq, nat_cmp, ordering_then}
 use Rattle.std.specs.declared.cmp.Ordering.{Ordering}
 use Rattle.std.specs.declared.cmp.Ordering.TheVariants.{Less, Equal, Greater}
 use Rattle.bus_terms.specs.Fates.{is_packet}
 use Rattle.bus_terms.specs.declared.packets.PacketId.{PacketId}
 use Rattle.packet_fates.specs.PacketOrder.{packet_cmp}
-
-pub packet_total : IsTotalOrder packet_cmp
-packet_total =
-    then_total (on_total (λ (x : PacketId). x.node) nat_cmp_total)
-    (then_total (on_total (λ (x : PacketId). x.boot) nat_cmp_total)
-    (then_total (on_total (λ (x : PacketId). x.stream) nat_cmp_total) (on_total (λ (x : PacketId). x.seq) nat_cmp_total)))
 
 -- `&&` nests to the left and the order to the right
 pub then_nested : (a b c : Ordering) → ordering_then (ordering_then a b) c ≡ ordering_then a (ordering_then b c)

@@ -1,30 +1,17 @@
 -- What is known of the queues that are emptied next, with one line more above.
-use Rattle.std.proofs.Common.{◌≡◌, ◌==◌, ◌&&◌, ℕ, List, ◌∷◌, Bool, true, false, cond, if◌then◌else◌, Option, Some, None, filter, find, not, option_map, refl}
+use Rattle.std.proofs.Common.{◌≡◌, ◌==◌, ◌&&◌, ℕ, List, Bool, true, false, cond, if◌then◌else◌, Option, Some, None, filter, not, refl}
 use Rattle.std.proofs.Common.{sym, ◌∙◌, ap}
 use Rattle.std.proofs.lemmas.Bool.{and_parts, eqb-true}
 use Rattle.std.proofs.lemmas.Map.Entries.{lookup-filter-keys}
 use Rattle.std.specs.BTreeMap.{BTreeMap, get, is_at}
-use Rattle.std.specs.Cmp.{IsTotalOrder, both_tied, nat_cmp_total, nat_eq_equiv, on_total, then_total, unsigned_tied, unsigned_ties}
+use Rattle.std.specs.Cmp.{both_tied, nat_eq_equiv, unsigned_tied, unsigned_ties}
 use Rattle.std.specs.Map.{lookup}
 use Rattle.std.specs.Ordering.{nat_cmp}
 use Rattle.std.specs.Option.{option_or}
-use Rattle.scenario_text.specs.declared.script.ScriptLine.{ScriptLine}
 use Rattle.packet_fates.specs.declared.emptyings.Emptyings.{Emptyings}
-use Rattle.packet_fates.specs.Clearings.{AreNext, cleared_in, empties_queue, next_emptying, queue_cmp}
-
-pub next_after : (l : ScriptLine) (below : List ScriptLine) (before after : Emptyings) → AreNext below before
-    → ((v i : ℕ) → next_emptying after v i ≡ (if empties_queue v i l then Some l.frame else next_emptying before v i)) → AreNext (l ∷ below) after
-next_after l below before after are noted v i = noted v i ∙ by_test (empties_queue v i l) (are v i)
-  where
-    by_test : (b : Bool) → next_emptying before v i ≡ cleared_in v i below
-        → cond b (Some l.frame) (next_emptying before v i) ≡ option_map (λ (x : ScriptLine). x.frame) (cond b (Some l) (find (empties_queue v i) below))
-    by_test true is = refl
-    by_test false is = is
+use Rattle.packet_fates.specs.Clearings.{next_emptying, queue_cmp}
 
 -- ---- one queue, and those of one node
-
-queue_total : IsTotalOrder queue_cmp
-queue_total = then_total (on_total (λ (q : ℕ × ℕ). q.0) nat_cmp_total) (on_total (λ (q : ℕ × ℕ). q.1) nat_cmp_total)
 
 pub at_queue : (n m v i : ℕ) → is_at (queue_cmp (n, m)) (v, i) ≡ ((n == v) && (m == i))
 at_queue n m v i = sym (both_tied (n == v) (m == i) (nat_cmp n v) (nat_cmp m i) (unsigned_ties n v) (unsigned_ties m i))

@@ -1,5 +1,5 @@
 -- A command line of a word and its numbers.
-use Rattle.std.proofs.Common.{◌≡◌, ℕ, ◌<◌, ◌^◌, List, [], ◌∷◌, Option, Some, None, length, map, get_or, ◌↔◌, String, string_bytes, codes}
+use Rattle.std.proofs.Common.{◌≡◌, ℕ, ◌<◌, ◌^◌, List, [], ◌∷◌, Option, Some, length, map, get_or, ◌↔◌, String, string_bytes, codes}
 use Rattle.std.proofs.Common.{decimal, refl, sym, ◌∙◌, ap, arith}
 use Rattle.std.specs.declared.alloc.Global.{Global}
 use Rattle.std.proofs.lemmas.Fmt.{decimal_injective}
@@ -30,32 +30,6 @@ two_same p q = rw (p, q) refl
 
 pub three_same : {w x a y b z : List ℕ} → w ≡ x → a ≡ y → b ≡ z → w ∷ a ∷ b ∷ [] ≡ x ∷ y ∷ z ∷ []
 three_same p q r = rw (p, q, r) refl
-
--- the number that a word spells, if it does
-abbrev pub IsNumberOf : List ℕ → Option ℕ → Type 0
-IsNumberOf word found = (n : ℕ) → (found ≡ Some n) ↔ ((word ≡ decimal n) × (n < 10 ^ 13))
-
-no_number : (word : List ℕ) (found : Option ℕ) → found ≡ None → IsNumberOf word found → (n : ℕ) → word ≡ decimal n → n < 10 ^ 13 → ⊥
-no_number word found none is n spells few = let some = sym none ∙ (is n).1 (spells, few) in absurd (cc)
-
-module _ (word seed : List ℕ) (found : Option ℕ) (none : found ≡ None) (is : IsNumberOf seed found) where
-  pub no_seed : (c : Command) → Spell (word ∷ seed ∷ []) c → ⊥
-  no_seed (Draw n) asks = no_number seed found none is n (ap (λ (l : List (List ℕ)). get_or l 1 []) asks.0) asks.1
-  no_seed (Outcome n) asks = no_number seed found none is n (ap (λ (l : List (List ℕ)). get_or l 1 []) asks.0) asks.1
-  no_seed (Fates n) asks = no_number seed found none is n (ap (λ (l : List (List ℕ)). get_or l 1 []) asks.0) asks.1
-  no_seed (Sample f n) asks = omega (arith, ap length asks.0)
-
-  pub no_first : (count : List ℕ) (c : Command) → Spell (word ∷ seed ∷ count ∷ []) c → ⊥
-  no_first count (Draw n) asks = omega (arith, ap length asks.0)
-  no_first count (Outcome n) asks = omega (arith, ap length asks.0)
-  no_first count (Fates n) asks = omega (arith, ap length asks.0)
-  no_first count (Sample f n) asks = no_number seed found none is f (ap (λ (l : List (List ℕ)). get_or l 1 []) asks.0) asks.1
-
-  pub no_second : (from : List ℕ) (c : Command) → Spell (word ∷ from ∷ seed ∷ []) c → ⊥
-  no_second from (Draw n) asks = omega (arith, ap length asks.0)
-  no_second from (Outcome n) asks = omega (arith, ap length asks.0)
-  no_second from (Fates n) asks = omega (arith, ap length asks.0)
-  no_second from (Sample f n) asks = no_number seed found none is n (ap (λ (l : List (List ℕ)). get_or l 2 []) asks.0) asks.2
 
 -- neither two words nor three
 pub no_command : (words : List (String Global)) → (length words ≡ 2 → ⊥) → (length words ≡ 3 → ⊥) → (c : Command) → Asks words c → ⊥

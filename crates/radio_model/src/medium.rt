@@ -1,6 +1,6 @@
 //! The radio medium that all nodes share.
 
-ghost use Rattle.std.specs.Prelude.{◌≡◌, ◌≤◌, ◌<◌, ◌^◌, ℕ, IfOk, IfSome, All, AllPairs, Contains, ◌↔◌, length, List, slice_index, Some};
+ghost use Rattle.std.specs.Prelude.{◌≡◌, ◌≤◌, ◌<◌, ◌^◌, ℕ, IfOk, IfSome, All, AllPairs, Contains, ◌↔◌, length, List, slice_index, Some, option_copied};
 ghost use Rattle.lwb_base.specs.declared.limits.TheConstants.{MOST_NODES, PLACES_BY_ID};
 ghost use Rattle.link_trace.specs.Masks.{AreNodes};
 ghost use Rattle.link_trace.specs.Passes.{Lines};
@@ -18,6 +18,7 @@ use crate::listeners::listeners;
 use crate::mark::{Mark, origin_of, raise};
 use crate::recent::Recent;
 use crate::rivals::{Key, frame_start};
+use crate::sending::Sending;
 use crate::station::Station;
 use link_trace::Links;
 use lwb_base::{Memory, NodeId, PLACES_BY_ID, Packet, Profile, Rank};
@@ -128,6 +129,16 @@ impl Medium {
         self.recent = self.recent.next(starts, place as u8, t, end);
         self.time = t;
         starts
+    }
+
+    /// What the node sends. Returns `None` if and only if it sends nothing.
+    pub fn sending(&self, node: NodeId) -> Option<&Sending>
+        requires { Contains (nodes_of self.now) node }
+        ensures { option_copied result ≡ sending_of_station (station_of self.now node) }
+    {
+        let place = place_of(&self.places, node);
+        let station = &self.stations[place];
+        station.sending.as_ref()
     }
 
     /// The node's transmission ends at t: who receives it now, including a node whose tuning ends at this very tick. Which

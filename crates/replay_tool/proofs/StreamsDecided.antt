@@ -1,7 +1,7 @@
 -- Streams that are decided one after the other.
 use Rattle.std.proofs.Common.{◌≡◌, ℕ, ◌+◌, ◌<◌, ◌≤◌, List, [], ◌∷◌, ◌++◌, Bool, true, false, ◌==◌, ◌||◌, length, take, get_or, Ok, refl, sym, ◌∙◌, ap, subst}
 use Rattle.std.proofs.Common.{arith}
-use Rattle.std.proofs.lemmas.Bool.{false≢true}
+use Rattle.std.proofs.lemmas.Bool.{false≢true, or_parts}
 use Rattle.std.proofs.lemmas.List.{length-append, take_more}
 use Rattle.deadline_plan.specs.Admission.{PlanOfDeadlines, has_stream_of, IsAdmission, after_admit}
 use Rattle.deadline_plan.specs.declared.admission.Admit.{Admit}
@@ -61,10 +61,6 @@ pub new_after : (ss : List DeadlineStream) (i : ℕ) (s : DeadlineStream) (q : P
     → has_stream_of (after_admit q s (Ok a)).streams owner ≡ false
 new_after ss i s q a below at new owner none =
     let more : take (i + 1) ss ≡ take i ss ++ s ∷ [] = take_more ss i s below ∙ ap (λ (x : DeadlineStream). take i ss ++ x ∷ []) (sym at) in
-    let neither = neither_of (has_stream_of (take i ss) owner) (s.owner == owner)
+    let neither = or_parts (has_stream_of (take i ss) owner) (s.owner == owner)
     (sym (has_more (take i ss) s owner) ∙ ap (λ (l : List DeadlineStream). has_stream_of l owner) (sym more) ∙ none) in
     not_admitted q s a owner (new owner neither.0) neither.1
-  where
-    neither_of : (a b : Bool) → (a || b) ≡ false → (a ≡ false) × (b ≡ false)
-    neither_of true b is = absurd (false≢true (sym is))
-    neither_of false b is = (refl, is)

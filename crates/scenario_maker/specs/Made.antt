@@ -3,7 +3,7 @@
 use Rattle.std.specs.Prelude.{ℕ, ◌+◌, ◌-◌, ◌*◌, ◌/◌, ◌%◌, ◌≤◌, pos, ◌-ℤ◌, List, [], ◌∷◌, ◌++◌, map, filter, Bool, ◌==◌, ◌&&◌, ◌||◌, nat_le, if◌then◌else◌}
 use Rattle.std.specs.List.{fold, flat_map, list_any, range_with_len}
 use Rattle.lwb_base.specs.Profile.{one}
-use Rattle.lwb_base.specs.declared.limits.TheConstants.{DRIFT_BOUND, FLOOD_STEPS, MOST_FRAMES}
+use Rattle.lwb_base.specs.declared.limits.TheConstants.{DRIFT_BOUND, FLOOD_STEPS, MOST_FRAMES, MOST_NODES}
 use Rattle.link_trace.specs.Order.{by_link, by_loss, with_line}
 use Rattle.link_trace.specs.Passes.{is_link, is_loss}
 use Rattle.link_trace.specs.declared.lines.LinkLine.{LinkLine}
@@ -19,7 +19,7 @@ use Rattle.scenario_text.specs.declared.script.ScriptLine.{ScriptLine}
 
 -- a made scenario has 2 to 64 nodes and 1 to 4,096 frames, and can be run with a log
 pub record IsSize (n frames : ℕ) : Type 0 where
-  pub nodes : (2 ≤ n) × (n ≤ 64)
+  pub nodes : (2 ≤ n) × (n ≤ MOST_NODES)
   pub some_frames : (1 ≤ frames) × (frames ≤ MOST_FRAMES)
   pub product : n * frames ≤ RUN_NODE_FRAMES
 

@@ -4,7 +4,7 @@ use Rattle.std.specs.Prelude.{Some, None, Option, is_none, length, drop, codes, 
 use Rattle.std.specs.List.{list_all, list_any, flat_map}
 use Rattle.std.specs.Str.{bytes_eq}
 use Rattle.std.specs.Option.{option_map_or}
-use Rattle.lwb_base.specs.declared.limits.TheConstants.{DRIFT_BOUND, GREATEST_ID, MOST_SCRIPT_LINES}
+use Rattle.lwb_base.specs.declared.limits.TheConstants.{DRIFT_BOUND, GREATEST_ID, MOST_NODES, MOST_SCRIPT_LINES}
 use Rattle.link_trace.specs.Order.{with_line as in_order_with, by_link, by_loss, by_cut, by_capture}
 use Rattle.link_trace.specs.Passes.{Lines, is_link, is_loss, is_cut, is_capture}
 use Rattle.link_trace.specs.Sealed.{no_lines}
@@ -111,7 +111,7 @@ has_script_room n = nat_lt n.scripted MOST_SCRIPT_LINES
 -- there are not too many nodes or script lines yet
 abbrev pub has_room : DraftedNetwork → NetworkLine → Bool
 has_room n (Sends x) = true
-has_room n (Node i o) = nat_lt (length n.nodes) 64
+has_room n (Node i o) = nat_lt (length n.nodes) MOST_NODES
 has_room n (Rate i t slow p) = has_script_room n
 has_room n (Link u v) = true
 has_room n (Pair u v) = true

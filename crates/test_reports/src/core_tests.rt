@@ -3,7 +3,7 @@
 ghost use Rattle.std.specs.Prelude.{◌≡◌, IfOk, OnOk};
 ghost use Rattle.lwb_base.specs.Profile.{one};
 
-use crate::calls::log_of;
+use crate::calls::run_log;
 use air_log::{Air, Entry, HeardEntry, SentEntry};
 use lwb_base::{Event, NodeId, Order, Packet, Payload, Profile, Rank, RecordingRadio};
 use node_core::Node;
@@ -239,7 +239,7 @@ fn give_packet(driven: &mut Driven) -> Result<(), Fail>
 #[test]
 fn host_orders_what_the_log_has(rt: HostRuntime) -> Result<(), Fail> {
     let alloc = rt.alloc();
-    let air = log_of(alloc, &["run"], ONE_PACKET.concat(alloc)?.as_str())?;
+    let air = run_log(alloc, ONE_PACKET)?;
     let mut host = booted(alloc, 1)?;
     assert!(rt; orders_what_the_log_has(alloc, &mut host, &air, 1)?);
     Ok(())
@@ -248,7 +248,7 @@ fn host_orders_what_the_log_has(rt: HostRuntime) -> Result<(), Fail> {
 #[test]
 fn sender_orders_what_the_log_has(rt: HostRuntime) -> Result<(), Fail> {
     let alloc = rt.alloc();
-    let air = log_of(alloc, &["run"], ONE_PACKET.concat(alloc)?.as_str())?;
+    let air = run_log(alloc, ONE_PACKET)?;
     let mut sender = booted(alloc, 2)?;
     give_packet(&mut sender)?;
     assert!(rt; orders_what_the_log_has(alloc, &mut sender, &air, 2)?);

@@ -2,7 +2,7 @@
 
 ghost use Rattle.std.specs.Prelude.{◌≡◌, IfOk, length};
 
-use crate::calls::log_of;
+use crate::calls::flood_log;
 use air_log::{Air, Entry};
 use bus_rules::FloodResult;
 use lwb_base::INPUT_LIMIT;
@@ -90,7 +90,7 @@ fn floods_over_every_choice_of_clocks(rt: HostRuntime) -> Result<(), Fail> {
 fn log_with(alloc: Global, rate: &str) -> Result<Air, Fail> {
     let mut text = String::from_str(alloc, THREE_IN_A_LINE)?;
     text.push_str(rate)?;
-    log_of(alloc, &["flood"], text.as_str())
+    flood_log(alloc, text.as_str())
 }
 
 // The node, the start and the end of each transmission of a log.

@@ -1,5 +1,5 @@
 //! Tests of whole runs and floods as the commands make them: what runs log, and node cores and queues of orders that a test drives
-//! itself. They are a crate of their own, so that `replay_tool` is proved once. What the program writes of whole texts, and over
+//! itself. They are a crate of their own, so that what they use is proved once. What the program writes of whole texts, and over
 //! streams that fail, is tested on the built program (tests/program.sh).
 #![tactic(auto)]
 

@@ -1,6 +1,6 @@
 //! What each node does in a worked run, by its log: the trail and the account.
 
-use crate::calls::log_of;
+use crate::calls::run_log;
 use crate::texts::FIRST_ROUND;
 use air_log::{Air, Trail, trail_of};
 use bus_rules::Tune;
@@ -96,7 +96,7 @@ fn has_trail(
 fn trails_of_a_first_round(rt: HostRuntime) -> Result<(), Fail> {
     let alloc = rt.alloc();
     let s = scenario(alloc, FIRST_ROUND)?;
-    let air = log_of(alloc, &["run"], FIRST_ROUND.concat(alloc)?.as_str())?;
+    let air = run_log(alloc, FIRST_ROUND)?;
     assert!(rt; has_trail(alloc, &s, &air, 0, &HOST)?);
     assert!(rt; has_trail(alloc, &s, &air, 1, &RELAY)?);
     Ok(())

@@ -1,18 +1,9 @@
 //! Whole texts of worked examples.
 
-use crate::parts::{OF_NODE_2, ONE_HOST, THREE_ON, TWO_NODES, TWO_ON};
+use crate::parts::{OF_NODE_2, ONE_HOST, TWO_NODES, TWO_ON};
 
 /// One packet of node 2, which is delivered in frame 9.
 pub const ONE_PACKET: &[&str] = &[TWO_NODES, ONE_HOST, "frames 12\n", TWO_ON, OF_NODE_2];
-
-/// Two nodes that request at once, in two contention slots of the second profile. The host acknowledges both in frame 5.
-pub const TWO_CONTENTION_SLOTS: &[&str] = &[
-    "profile 2\ncontend 2\nnode 1 0\nnode 2 0\nnode 3 256000\n",
-    ONE_HOST,
-    "pair 1 3\nframes 12\n",
-    THREE_ON,
-    "stream 0 2 0 5\nstream 0 3 0 5\nput 0 2 0 aa\nput 0 3 0 bb\n",
-];
 
 /// As many frames as there may be, over clocks that drift apart as fast as they may, and a packet near the end.
 pub const LONGEST_RUN: &[&str] = &[

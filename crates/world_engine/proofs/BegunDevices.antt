@@ -10,7 +10,7 @@ use Rattle.bus_rules.specs.Cores.{Setup}
 use Rattle.air_log.specs.Devices.{Device, Listening, OrderedPacket, Made}
 use Rattle.air_log.specs.Trails.{device_after_start, begun_by, starts, sending_from, sendings_starting, starting_by}
 use Rattle.air_log.specs.DeviceStates.{DeviceState, whole, with_sent}
-use Rattle.air_log.specs.DeviceStates.{tick_of_ordered}
+use Rattle.air_log.specs.DeviceStates.{tick_of_ordered, RunsUntil}
 
 -- an order that is due is gone
 abbrev pub unordered : Device → Device
@@ -90,30 +90,30 @@ ordered_then (Some q) t is = (q, refl, let same : q.tick ≡ t = cc in same)
 -- what is known of a start that has the device's answer r
 module _ (t : ℕ) (st new : DeviceState) (ordered : option_map tick_of_ordered st.ordered ≡ Some t) where
   abbrev answers : Option Sending → Type 0
-  answers r = (made : Made) → device_after_start st.setup t (whole st made) ≡ whole new (with_sent r made)
+  answers r = (made : Made) → RunsUntil st.busy_until made.sent → device_after_start st.setup t (whole st made) ≡ whole new (with_sent r made)
 
   order : (q : OrderedPacket) × (st.ordered ≡ Some q) × (q.tick ≡ t)
   order = ordered_then st.ordered t ordered
 
-  nothing_sent : answers None → (made : Made) → (x : Sending) → BeginsToSend st.setup t (whole st made) x → ⊥
-  nothing_sent is made x begins =
-      let same : made.sent ++ x ∷ [] ≡ made.sent = ap (λ (d : Device). d.made.sent) (sym begins.is ∙ is made) in
+  nothing_sent : answers None → (made : Made) → RunsUntil st.busy_until made.sent → (x : Sending) → BeginsToSend st.setup t (whole st made) x → ⊥
+  nothing_sent is made runs x begins =
+      let same : made.sent ++ x ∷ [] ≡ made.sent = ap (λ (d : Device). d.made.sent) (sym begins.is ∙ is made runs) in
       absurd (omega (arith, ap length same, length-append made.sent (x ∷ [])))
 
-  pub silent_with : answers None → (made : Made) → StaysSilent st.setup t (whole st made)
-  silent_with is made = elim (begins_or_not st.setup t (whole st made) order.0 order.1 order.2) [
+  pub silent_with : answers None → (made : Made) → RunsUntil st.busy_until made.sent → StaysSilent st.setup t (whole st made)
+  silent_with is made runs = elim (begins_or_not st.setup t (whole st made) order.0 order.1 order.2) [
     | inl silent ↦ silent
-    | inr begins ↦ absurd (nothing_sent is made begins.0 begins.1)
+    | inr begins ↦ absurd (nothing_sent is made runs begins.0 begins.1)
   ]
 
-  pub begins_with : (x : Sending) → answers (Some x) → (made : Made) → BeginsToSend st.setup t (whole st made) x
-  begins_with x is made =
+  pub begins_with : (x : Sending) → answers (Some x) → (made : Made) → RunsUntil st.busy_until made.sent → BeginsToSend st.setup t (whole st made) x
+  begins_with x is made runs =
       elim (begins_or_not st.setup t (whole st made) order.0 order.1 order.2) [
         | inl silent ↦
-            let same : made.sent ≡ made.sent ++ x ∷ [] = ap (λ (d : Device). d.made.sent) (sym silent.is ∙ is made) in
+            let same : made.sent ≡ made.sent ++ x ∷ [] = ap (λ (d : Device). d.made.sent) (sym silent.is ∙ is made runs) in
             absurd (omega (arith, ap length same, length-append made.sent (x ∷ [])))
         | inr begins ↦
-            let same : made.sent ++ begins.0 ∷ [] ≡ made.sent ++ x ∷ [] = ap (λ (d : Device). d.made.sent) (sym begins.1.is ∙ is made) in
+            let same : made.sent ++ begins.0 ∷ [] ≡ made.sent ++ x ∷ [] = ap (λ (d : Device). d.made.sent) (sym begins.1.is ∙ is made runs) in
             subst (λ (y : Sending). BeginsToSend st.setup t (whole st made) y) (last_same made.sent begins.0 x same) begins.1
       ]
     where

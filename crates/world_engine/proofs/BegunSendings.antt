@@ -24,19 +24,23 @@ use Rattle.radio_model.proofs.Places.{Keeps, still_medium}
 use Rattle.event_calendar.specs.Orders.{Due, changed}
 use Rattle.event_calendar.specs.declared.class.Class.TheVariants.{SendingEnd, SendingStart}
 use Rattle.bus_rules.specs.Cores.{Setup}
-use Rattle.air_log.specs.Devices.{Device, Made, nothing_made}
+use Rattle.air_log.specs.Devices.{Device, Made}
 use Rattle.air_log.specs.Trails.{device_after_start}
 use Rattle.air_log.specs.declared.entry.Entry.TheVariants.{Sent}
 use Rattle.air_log.specs.declared.entry.Entry.{Entry}
 use Rattle.radio_model.proofs.ChangedStations.{node_of_station, station_changed}
-use Rattle.air_log.specs.DeviceStates.{DeviceState, whole, with_sent}
+use Rattle.air_log.specs.DeviceStates.{DeviceState, whole, with_sent, running, RunsUntil}
+use Rattle.air_log.specs.Lawful.{sent_by}
+use Rattle.air_log.proofs.RunningSendings.{last_made, runs_on, runs_still}
 use Rattle.world_engine.specs.Fields.{FieldState, IsField, due_of_device, id_of, ids_of, rank_of_tuned}
 use Rattle.air_log.specs.DeviceStates.{channel_of}
 use Rattle.world_engine.specs.FieldSteps.{MediumGoesOn}
 use Rattle.world_engine.proofs.BegunDevices.{BeginsToSend, sends_now, begins_with}
 use Rattle.world_engine.proofs.DeviceSteps.{IsStepAt, lists_sent, acts_at, field_stays}
 use Rattle.world_engine.proofs.DueChanges.{due_changed}
-use Rattle.world_engine.proofs.NothingBegun.{Begins, IsStarting, due_by, known, ordered, start_shows, begun_are}
+use Rattle.world_engine.proofs.LoggedSendings.{sent_own}
+use Rattle.world_engine.proofs.NothingBegun.{Begins, IsStarting, due_by, shows, known, made_before, runs_before, ordered, start_shows, begun_are}
+use Rattle.world_engine.proofs.ShownPlaces.{station_sends}
 
 -- a transmission is told by its parts
 same_sending : (x : Sending) (rank node start end : ℕ) → rank ≡ x.rank → node ≡ x.node → start ≡ x.start → end ≡ x.end
@@ -48,7 +52,9 @@ same_sending x rank node start end is_rank is_node is_start is_end =
 
 module _ {t p : ℕ} {w : FieldState} {due : List Due} {st new : DeviceState} (start : IsStarting t p w due st new) where
   -- where x starts
-  module _ (x : Sending) (is : (made : Made) → device_after_start st.setup t (whole st made) ≡ whole new (with_sent (Some x) made)) where
+  module _ (x : Sending)
+      (is : (made : Made) → RunsUntil st.busy_until made.sent → device_after_start st.setup t (whole st made) ≡ whole new (with_sent (Some x) made))
+      (until : new.busy_until ≡ Some x.end) where
     abbrev station : Station
     station = (known start).station
 
@@ -68,16 +74,20 @@ module _ {t p : ℕ} {w : FieldState} {due : List Due} {st new : DeviceState} (s
     abbrev begun_due : List Due
     begun_due = changed (changed due p SendingStart None) p SendingEnd (Some x.end)
 
-    starts : BeginsToSend st.setup t (whole st nothing_made) x
-    starts = begins_with t st new (ordered start) x is nothing_made
+    abbrev made : Made
+    made = made_before start
 
-    begun_now : whole new (with_sent (Some x) nothing_made) ≡ sends_now x (whole st nothing_made)
-    begun_now = sym (is nothing_made) ∙ starts.is
+    starts : BeginsToSend st.setup t (whole st made) x
+    starts = begins_with t st new (ordered start) x is made (runs_before start)
+
+    begun_now : whole new (with_sent (Some x) made) ≡ sends_now x (whole st made)
+    begun_now = sym (is made (runs_before start)) ∙ starts.is
 
     begun_set : slice_get begun_due p ≡ Some (due_of_device new)
     begun_set =
         due_changed (changed due p SendingStart None) p SendingEnd (Some x.end) _ (due_changed due p SendingStart None (due_of_device st) (known start).set)
-        ∙ ap (λ (d : Device). let o : Option Due = Some (due_by d.sending d.alarm d.ordered) in o) (sym begun_now)
+        ∙ ap (λ (d : Device). let o : Option Due = Some (due_by (Some x.end) d.alarm d.ordered) in o) (sym begun_now)
+        ∙ ap (λ (end : Option ℕ). let o : Option Due = Some (due_by end new.alarm new.ordered) in o) (sym until)
 
     -- the station
     own_node : station.node ≡ x.node
@@ -101,11 +111,20 @@ module _ {t p : ℕ} {w : FieldState} {due : List Due} {st new : DeviceState} (s
         ((known start).tuned ∙ ap (option_map channel_of) starts.listens ∙ ap (λ (r : ℕ). let o : Option ℕ = Some r in o) (sym starts.rank))
 
     station_silent : station.sending ≡ None
-    station_silent = (known start).sending ∙ starts.silent
+    station_silent =
+        station_sends start.shown.setup t w due p start.shown.device (shows start) ∙ ap (λ (e : Device). e.sending) (sym (shows start).shows.is) ∙ starts.silent
 
-    station_sends : (change station).sending ≡ Some x
-    station_sends = ap (λ (o : Option Sending). current_or_next o
+    sends_x : (change station).sending ≡ Some x
+    sends_x = ap (λ (o : Option Sending). current_or_next o
         (next_sending w.medium.numbers t x.packet station.node station.tuned)) station_silent ∙ next
+
+    -- what runs of its transmissions in the log
+    runs_now : running new.busy_until (sent_by begun_field.air new.setup.id) ≡ Some x
+    runs_now =
+        ap (λ (o : Option ℕ). running o (sent_by begun_field.air new.setup.id)) until
+        ∙ ap (λ (u : Setup). running (Some x.end) (sent_by begun_field.air u.id)) start.node.setup
+        ∙ ap (running (Some x.end)) (sent_own w.air x st.setup.id starts.node)
+        ∙ last_made (sent_by w.air st.setup.id) x
 
     station_of_x : station_of w.medium x.node ≡ Some station
     station_of_x = ap (station_of w.medium) starts.node ∙ (known start).there
@@ -139,7 +158,7 @@ module _ {t p : ℕ} {w : FieldState} {due : List Due} {st new : DeviceState} (s
             let found : station_of w.medium x.node ≡ Some s = ap (station_of w.medium) (sym own)
             ∙ found_member w.medium.stations s start.field.medium.nodes.ascending there in
             let same : station ≡ s = same_Some station s (sym station_of_x ∙ found) in
-            let is_y : x ≡ y = same_Some x y (sym station_sends ∙ ap (λ (k : Station). (change k).sending) same ∙ runs) in
+            let is_y : x ≡ y = same_Some x y (sym sends_x ∙ ap (λ (k : Station). (change k).sending) same ∙ runs) in
             omega (arith, starts.end, ap (λ (z : Sending). z.end) is_y)
 
     begun_goes_on : (held : (a : Scene) → Holds w.medium a → Holds begun_field.medium (after_starting w.medium x.node t x.packet a))
@@ -173,7 +192,7 @@ module _ {t p : ℕ} {w : FieldState} {due : List Due} {st new : DeviceState} (s
         station = change station;
         there = ap (λ (u : Setup). station_of begun_field.medium u.id) start.node.setup ∙ ap (station_of begun_field.medium) (sym starts.node) ∙ station_now;
         tuned = (known start).tuned ∙ ap (λ (e : Device). option_map channel_of e.listening) (sym begun_now);
-        sending = station_sends ∙ ap (λ (e : Device). e.sending) (sym begun_now);
+        sending = sends_x ∙ sym runs_now;
       };
       stations = λ u other. other_station w.medium t x.node change
           keeps.node u (λ same. other (same ∙ starts.node));
@@ -187,8 +206,13 @@ module _ {t p : ℕ} {w : FieldState} {due : List Due} {st new : DeviceState} (s
     begins_here held = (
       x ∷ [],
       acts_at (step held) (λ s d. device_after_start s t d)
-          (λ s made d sh. (made.windows, start_shows start s made (record made { sent = made.sent ++ x ∷ [] }) d sh refl sh.ended (is made))) start.field,
-      begun_are start (x ∷ []) (λ made. (begins_with t st new (ordered start) x is made).starting),
+          (λ s made d sh. (
+            made.windows,
+            start_shows start s made (record made { sent = made.sent ++ x ∷ [] }) d sh refl sh.ended
+                (runs_still (Some x.end) new.busy_until (made.sent ++ x ∷ []) (made.sent ++ x ∷ []) until refl
+                (runs_on st.busy_until made.sent (Some x) sh.runs)) (is made sh.runs),
+          )) start.field,
+      begun_are start (x ∷ []) (λ made runs. (begins_with t st new (ordered start) x is made runs).starting),
     )
 
     -- with the medium and the log as the code has them

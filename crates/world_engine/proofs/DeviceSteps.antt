@@ -24,7 +24,7 @@ use Rattle.air_log.specs.declared.entry.TunedEntry.{TunedEntry}
 use Rattle.air_log.specs.Entries.{sending_in, hearing_in, tuning_in, sendings_of, hearings_of, tunings_of, node_of_entry}
 use Rattle.air_log.specs.Lawful.{sent_by, tuned_by}
 use Rattle.air_log.specs.Devices.{Device, Made}
-use Rattle.air_log.specs.DeviceStates.{DeviceState, channel_of, tuning_of, one_more}
+use Rattle.air_log.specs.DeviceStates.{DeviceState, channel_of, tuning_of, one_more, running}
 use Rattle.air_log.specs.DeviceChanges.{DeviceShows}
 use Rattle.air_log.specs.WindowLogs.{WindowLog}
 use Rattle.air_log.proofs.LoggedEntries.{sendings_sent, hearings_sent}
@@ -99,12 +99,12 @@ delivered_other ds u v es own other =
     ∙ ap (λ (l : List Delivery). delivered_by ds u ++ l) (none_other u v es own other)
     ∙ append-nil (delivered_by ds u)
 
--- what the medium keeps of a device that is on this channel, or off, and sends this
-pub record IsStationOf (m : MediumState) (d : DeviceState) : Type 0 where
+-- what the medium keeps of a device that is on this channel, or off, and sends what runs of its transmissions in the log
+pub record IsStationOf (m : MediumState) (air : List Entry) (d : DeviceState) : Type 0 where
   pub station : Station
   pub there : station_of m d.setup.id ≡ Some station
   pub tuned : option_map rank_of_tuned station.tuned ≡ option_map channel_of d.listening
-  pub sending : station.sending ≡ d.sending
+  pub sending : station.sending ≡ running d.busy_until (sent_by air d.setup.id)
 
 -- what the lists have more in a step is of node v: what it has made by that, and these transmissions
 pub record ListsGoOn (v : ℕ) (making : Made → Made) (begun : List Sending) (old new : FieldState) : Type 0 where
@@ -191,7 +191,7 @@ pub record IsStepAt (t p : ℕ) (state after : DeviceState) (making : Made → M
   pub lists : ListsGoOn state.setup.id making begun old new
   pub drops : new.drops ≡ old.drops ++ lost
   pub medium : MediumGoesOn t old.medium new.medium begun
-  pub station : IsStationOf new.medium after
+  pub station : IsStationOf new.medium new.air after
   pub stations : (u : ℕ) → u ≢ state.setup.id → station_of new.medium u ≡ station_of old.medium u
   pub due : slice_get new_due p ≡ Some (due_of_device after)
   pub dues : (q : ℕ) → q ≢ p → slice_get new_due q ≡ slice_get old_due q
@@ -228,17 +228,22 @@ module _ {t p : ℕ} {state after : DeviceState} {making : Made → Made} {begun
   shown_other field q other s d shows =
       let apart : shows.state.setup.id ≢ state.setup.id = other_id field q other shows.state shows.there in
       let known = shows.known in
+      let logged : IsLogged new s.id shows.made =
+      is.lists.others s.id shows.made (λ same. apart (ap (λ (x : Setup). x.id) shows.shows.setup ∙ same)) shows.logged in
+      let sent : sent_by old.air shows.state.setup.id ≡ sent_by new.air shows.state.setup.id =
+      ap (λ (x : Setup). sent_by old.air x.id) shows.shows.setup ∙ sym shows.logged.sent ∙ logged.sent
+      ∙ ap (λ (x : Setup). sent_by new.air x.id) (sym shows.shows.setup) in
       record {
         state = shows.state;
         there = ap (λ (l : List DeviceState). slice_get l q) is.devices ∙ set_elsewhere old.devices p q after other ∙ shows.there;
         made = shows.made;
         shows = shows.shows;
-        logged = is.lists.others s.id shows.made (λ same. apart (ap (λ (x : Setup). x.id) shows.shows.setup ∙ same)) shows.logged;
+        logged = logged;
         known = record {
           station = known.station;
           there = is.stations shows.state.setup.id apart ∙ known.there;
           tuned = known.tuned;
-          sending = known.sending;
+          sending = known.sending ∙ ap (running shows.state.busy_until) sent;
           set = is.dues q other ∙ known.set;
         };
       }

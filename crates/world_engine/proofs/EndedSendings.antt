@@ -1,6 +1,7 @@
 -- A field in which the transmission of a device is over, but nobody is notified yet.
 use Rattle.std.proofs.Common.{◌≡◌, ℕ, ◌<◌, ◌≤◌, [], set, length, Option, Some, None, List, refl, sym, ◌∙◌, ap, arith}
 use Rattle.std.specs.Prelude.{slice_get}
+use Rattle.std.specs.Option.{option_map}
 use Rattle.std.proofs.lemmas.List.{append-nil, length-set}
 use Rattle.std.proofs.lemmas.Option.{slice_get_within, none-some, same_Some}
 use Rattle.lwb_base.proofs.Lists.{set_elsewhere}
@@ -18,12 +19,12 @@ use Rattle.event_calendar.specs.Orders.{Due, changed}
 use Rattle.event_calendar.specs.declared.class.Class.TheVariants.{SendingEnd}
 use Rattle.air_log.specs.Devices.{Device}
 use Rattle.radio_model.proofs.ChangedStations.{station_changed}
-use Rattle.air_log.specs.DeviceStates.{DeviceState}
+use Rattle.air_log.specs.DeviceStates.{DeviceState, running, sending_end}
 use Rattle.air_log.proofs.DeviceChanges.{node_shows}
 use Rattle.world_engine.specs.Fields.{FieldState, IsField, IsKnownDevice, FieldIsShown, due_of_device}
 use Rattle.world_engine.specs.FieldSteps.{Acts, DeviceSends}
 use Rattle.world_engine.proofs.DeviceSteps.{IsStepAt, lists_stay, acts_at, field_stays}
-use Rattle.world_engine.proofs.ShownPlaces.{shown_as}
+use Rattle.world_engine.proofs.ShownPlaces.{shown_as, station_sends}
 use Rattle.world_engine.proofs.DueChanges.{due_changed}
 
 -- the transmission x of the device st at place p ends at t
@@ -34,11 +35,10 @@ pub record IsEnding (t p : ℕ) (w : FieldState) (due : List Due) (st : DeviceSt
   pub time : IsTime w.medium t
   pub ends : Ends w.medium st.setup.id t
   pub own : sending_of_station (station_of w.medium st.setup.id) ≡ Some x
-  pub runs : st.sending ≡ Some x
   pub until : x.end ≡ t
 
 abbrev pub over : ℕ → ℕ → DeviceState → FieldState → FieldState
-over t p st w = record w { medium = medium_after_change t st.setup.id station_after_end w.medium; devices = set w.devices p (record st { sending = None }) }
+over t p st w = record w { medium = medium_after_change t st.setup.id station_after_end w.medium; devices = set w.devices p (record st { busy_until = None }) }
 
 pub one_sending : (r : Option Sending) (x y : Sending) → r ≡ Some x → r ≡ Some y → x ≡ y
 one_sending r x y is_x is_y = same_Some x y (sym is_x ∙ is_y)
@@ -57,7 +57,16 @@ module _ {t p : ℕ} {w : FieldState} {due : List Due} {st : DeviceState} {x : S
   pub sends_only : (y : Sending) → DeviceSends t w due p y → y ≡ x
   sends_only y sends =
       let sh = shown_as at_place.setup t w due p at_place.device st ending.here at_place.shows in
-      one_sending st.sending y x (ap (λ (d : Device). d.sending) sh.shows.is ∙ sends at_place.setup at_place.device at_place.shows) ending.runs
+      one_sending sh.known.station.sending y x (station_sends at_place.setup t w due p at_place.device sh
+      ∙ sends at_place.setup at_place.device at_place.shows) (ap sending_of_station (sym sh.known.there) ∙ ending.own)
+
+  -- and is to end now
+  pub ends_at : st.busy_until ≡ Some t
+  ends_at =
+      let sh = shown_as at_place.setup t w due p at_place.device st ending.here at_place.shows in
+      let runs : running st.busy_until sh.made.sent ≡ Some x = ap (λ (d : Device). d.sending) sh.shows.is
+      ∙ sym (station_sends at_place.setup t w due p at_place.device sh) ∙ ap sending_of_station (sym sh.known.there) ∙ ending.own in
+      sym sh.shows.runs ∙ ap (option_map sending_end) runs ∙ ap (λ (n : ℕ). let o : Option ℕ = Some n in o) ending.until
 
   pub set_there : p < length due
   set_there = slice_get_within due p (due_of_device st) known.set
@@ -75,12 +84,12 @@ module _ {t p : ℕ} {w : FieldState} {due : List Due} {st : DeviceState} {x : S
 
   pub over_is_field : IsField (over t p st w)
   over_is_field =
-      field_stays p w (over t p st w) st (record st { sending = None }) ending.field ending.here refl refl
+      field_stays p w (over t p st w) st (record st { busy_until = None }) ending.field ending.here refl refl
       (still_medium station_after_end finished_keeps st.setup.id t w.medium ending.field.medium)
       (same_nodes w.medium t st.setup.id station_after_end finished_keeps.node) refl
 
   step : ((a : Scene) → Holds w.medium a → Holds (over t p st w).medium a)
-      → IsStepAt t p st (record st { sending = None }) (λ made. made) [] [] w due (over t p st w) over_due
+      → IsStepAt t p st (record st { busy_until = None }) (λ made. made) [] [] w due (over t p st w) over_due
   step held = record {
     here = ending.here;
     setup = refl;
@@ -112,8 +121,8 @@ module _ {t p : ℕ} {w : FieldState} {due : List Due} {st : DeviceState} {x : S
   sending_is_over held = acts_at (step held) (λ s d. record d { sending = None })
       (λ s made d sh. (
         made.windows,
-        node_shows s t st (record st { sending = None }) made made d (record d { sending = None }) sh (record { setup = refl; delivery = refl; windows = refl })
-            (record { closed = sh.happened.closed; listening = sh.happened.listening }) refl sh.ended
-            (ap (λ (e : Device). record e { sending = None }) sh.is),
+        node_shows s t st (record st { busy_until = None }) made made d (record d { sending = None }) sh
+            (record { setup = refl; delivery = refl; windows = refl }) (record { closed = sh.happened.closed; listening = sh.happened.listening })
+            refl sh.ended refl (ap (λ (e : Device). record e { sending = None }) sh.is),
       ))
       ending.field

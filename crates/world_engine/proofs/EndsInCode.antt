@@ -1,8 +1,7 @@
 -- The end of a transmission, as code comes to it: from indices into the devices, and from what each call leaves.
-use Rattle.std.proofs.Common.{◌≡◌, ℕ, ◌<◌, ◌↔◌, List, set, get_or, length, Option, Some, None, is_some, if◌then◌else◌, refl, sym, ◌∙◌, ap, subst}
-use Rattle.std.proofs.Common.{arith, Contains, ◌==◌, eq-eqb}
+use Rattle.std.proofs.Common.{◌≡◌, ℕ, ◌<◌, ◌↔◌, List, set, get_or, length, Option, Some, None, Bool, true, if◌then◌else◌, refl, sym, ◌∙◌, ap, subst}
+use Rattle.std.proofs.Common.{arith, Contains, eq-eqb}
 use Rattle.std.specs.Prelude.{All, AllPairs, slice_get}
-use Rattle.std.proofs.lemmas.Bool.{cond-true}
 use Rattle.std.proofs.lemmas.Option.{slice_get_read, same_Some}
 use Rattle.link_trace.specs.Passes.{Lines}
 use Rattle.radio_model.specs.declared.sending.Sending.{Sending}
@@ -13,23 +12,20 @@ use Rattle.event_calendar.specs.Orders.{Due, changed}
 use Rattle.event_calendar.specs.declared.class.Class.TheVariants.{SendingEnd}
 use Rattle.bus_rules.specs.Cores.{Setup}
 use Rattle.air_log.specs.Devices.{Device}
-use Rattle.air_log.specs.DeviceStates.{DeviceState, ending_at}
+use Rattle.air_log.specs.DeviceStates.{DeviceState, ends_now}
 use Rattle.world_engine.specs.Fields.{FieldState, IsField, FieldShows, FieldIsShown}
 use Rattle.world_engine.specs.FieldSteps.{EndsSending, DeviceSends}
 use Rattle.world_engine.proofs.ShownPlaces.{shown_as}
-use Rattle.world_engine.proofs.EndedSendings.{IsEnding, over, over_is_field, one_sending, sends_only, set_there}
+use Rattle.world_engine.proofs.EndedSendings.{IsEnding, over, over_is_field, one_sending, sends_only, ends_at, set_there}
 use Rattle.world_engine.proofs.EndsOfSendings.{HasEnded}
-
--- the device says that its transmission ends
-says_end : (t : ℕ) (sending r : Option Sending) (x : Sending) → sending ≡ Some x → x.end ≡ t → r ≡ ending_at t sending → r ≡ Some x
-says_end t sending r x runs until is = is ∙ ap (ending_at t) runs ∙ cond-true (x.end == t) (Some x) None (eq-eqb x.end t until)
+use Rattle.world_engine.proofs.FollowedDevices.{node_in_medium}
 
 -- the field with another medium and another device
 abbrev pub changed_field : FieldState → MediumState → List DeviceState → FieldState
 changed_field w medium devices = record w { medium = medium; devices = devices }
 
 as_over : (t i p u : ℕ) (w : FieldState) (m : MediumState) (st new : DeviceState) → i ≡ p → u ≡ st.setup.id
-    → m ≡ medium_after_change t u station_after_end w.medium → new ≡ record st { sending = None } → changed_field w m (set w.devices i new) ≡ over t p st w
+    → m ≡ medium_after_change t u station_after_end w.medium → new ≡ record st { busy_until = None } → changed_field w m (set w.devices i new) ≡ over t p st w
 as_over t i p u w m st new place node medium device =
     ap (λ (k : MediumState). changed_field w k (set w.devices i new)) (medium ∙ ap (λ (v : ℕ). medium_after_change t v station_after_end w.medium) node)
     ∙ ap (λ (l : List DeviceState). changed_field w (medium_after_change t st.setup.id station_after_end w.medium) l)
@@ -74,7 +70,6 @@ module _ {t p : ℕ} {w given : FieldState} {due : List Due} (asked : IsAsked t 
           time = subst (λ (v : FieldState). IsTime v.medium t) (sym asked.seen) asked.time;
           ends = own;
           own = own.runs;
-          runs = sym sh.known.sending ∙ ap sending_of_station (sym sh.known.there) ∙ own.runs;
           until = own.until;
         },
       )
@@ -87,15 +82,21 @@ module _ {t p : ℕ} {w given : FieldState} {due : List Due} (asked : IsAsked t 
   pub place_due : {i : ℕ} {st : DeviceState} → i ≡ p → st ≡ get_or w.devices i st → p < length due
   place_due {i} {st} place is = set_there (is_ending i st place is).1
 
-  -- some transmission ends at the device
-  pub some_ends : {i : ℕ} {st : DeviceState} {r : Option Sending} → i ≡ p → st ≡ get_or w.devices i st → r ≡ ending_at t st.sending
-      → (x : Sending) × (r ≡ Some x)
-  some_ends {i} {st} {r} place is ended = let e = is_ending i st place is in (e.0, says_end t st.sending r e.0 e.1.runs e.1.until ended)
+  -- and knows of its transmission
+  pub some_ends : {i u : ℕ} {st : DeviceState} {r : Option Sending} → i ≡ p → st ≡ get_or w.devices i st → u ≡ st.setup.id
+      → r ≡ sending_of_station (station_of w.medium u) → (x : Sending) × (r ≡ Some x)
+  some_ends {i} {u} {st} {r} place is node sends =
+      let e = is_ending i st place is in (e.0, sends ∙ ap (λ (v : ℕ). sending_of_station (station_of w.medium v)) node ∙ e.1.own)
+
+  pub node_there : {i u : ℕ} {st : DeviceState} → i ≡ p → st ≡ get_or w.devices i st → u ≡ st.setup.id → Contains (nodes_of w.medium) u
+  node_there {i} {u} {st} place is node =
+      subst (λ (v : ℕ). Contains (nodes_of w.medium) v) (sym node) (node_in_medium w p st asked.field (is_ending i st place is).1.here)
 
   -- the device is read for its node, and once more for its end
-  module _ {u i j : ℕ} {first st new : DeviceState} {r : Option Sending} {x : Sending} {m : MediumState} (place_i : i ≡ p)
-      (is_first : first ≡ get_or w.devices i first) (node : u ≡ first.setup.id) (place_j : j ≡ p) (is : st ≡ get_or w.devices j st)
-      (ended : r ≡ ending_at t st.sending) (silent : new ≡ record st { sending = if is_some r then None else st.sending }) (some : r ≡ Some x)
+  module _ {u i j : ℕ} {first st new : DeviceState} {r : Bool} {x : Sending} {m : MediumState} (place_i : i ≡ p)
+      (is_first : first ≡ get_or w.devices i first) (node : u ≡ first.setup.id) (sends : sending_of_station (station_of w.medium u) ≡ Some x)
+      (place_j : j ≡ p) (is : st ≡ get_or w.devices j st)
+      (ended : r ≡ ends_now t st.busy_until) (silent : new ≡ record st { busy_until = if r then None else st.busy_until })
       (medium : m ≡ medium_after_change t u station_after_end w.medium) where
     node_of : u ≡ st.setup.id
     node_of = node ∙ ap (λ (d : DeviceState). d.setup.id)
@@ -105,18 +106,22 @@ module _ {t p : ℕ} {w given : FieldState} {due : List Due} (asked : IsAsked t 
     ending =
         let e = is_ending j st place_j is in
         subst (λ (y : Sending). IsEnding t p w due st y)
-        (one_sending r e.0 x (says_end t st.sending r e.0 e.1.runs e.1.until ended) some) e.1
+        (one_sending (sending_of_station (station_of w.medium st.setup.id)) e.0 x e.1.own
+        (ap (λ (v : ℕ). sending_of_station (station_of w.medium v)) (sym node_of) ∙ sends)) e.1
+
+    says_so : r ≡ true
+    says_so = ended ∙ ap (ends_now t) (ends_at ending) ∙ eq-eqb t t refl
 
     is_over : changed_field w m (set w.devices j new) ≡ over t p st w
     is_over = as_over t j p u w m st new place_j node_of medium
-        (silent ∙ ap (λ (o : Option Sending). record st { sending = if is_some o then None else st.sending }) some)
+        (silent ∙ ap (λ (b : Bool). record st { busy_until = if b then None else st.busy_until }) says_so)
 
     pub ended_field : IsField (changed_field w m (set w.devices j new))
     ended_field = subst IsField (sym is_over) (over_is_field ending)
 
     -- whatever trail the device is of, it sends x
     pub sends_that : (y : Sending) → DeviceSends t given due p y → x ≡ y
-    sends_that y sends = sym (sends_only ending y (subst (λ (v : FieldState). DeviceSends t v due p y) (sym asked.seen) sends))
+    sends_that y that = sym (sends_only ending y (subst (λ (v : FieldState). DeviceSends t v due p y) (sym asked.seen) that))
 
     pub has_ended : {lines : Lines} {ps : List (ℕ × ℕ)} {mid_due : List Due} → All (λ r. r.1 ≡ u) ps → AllPairs (λ r s. r.0 < s.0) ps
         → ((a : Scene) (y : Sending) → Holds w.medium a → a.lines ≡ lines → sending_of_station (station_of w.medium u) ≡ Some y → (v : ℕ)
@@ -124,10 +129,9 @@ module _ {t p : ℕ} {w given : FieldState} {due : List Due} (asked : IsAsked t 
         → mid_due ≡ changed due p SendingEnd None → ((a : Scene) → Holds w.medium a → Holds m a)
         → HasEnded lines t p u w due st x ps (changed_field w m (set w.devices j new)) mid_due
     has_ended sender ascending hearers is_due keeps =
-        let own : sending_of_station (station_of w.medium u) ≡ Some x = ap (λ (n : ℕ). sending_of_station (station_of w.medium n)) node_of ∙ ending.own in
         record {
           ending = ending;
-          hearers = record { sender = sender; ascending = ascending; hear = λ a held same. hearers a x held same own };
+          hearers = record { sender = sender; ascending = ascending; hear = λ a held same. hearers a x held same sends };
           is_over = is_over;
           is_due = is_due;
           keeps = keeps;

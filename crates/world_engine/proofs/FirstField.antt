@@ -27,13 +27,12 @@ none_closed (Some x) is = cc
 
 -- a device that is made for a node
 pub new_device : (s : ScenarioParts) (n : NodeLine) (d : DeviceState) → d.setup ≡ setup_of s n.node → whole d nothing_made ≡ at_rest
-    → d.delivery ≡ None → d.core ≡ rebooted 1 → d.windows ≡ nothing_counted s → d ≡ first_device s n
-new_device s n d setup rest delivery core windows =
+    → d.busy_until ≡ None → d.delivery ≡ None → d.core ≡ rebooted 1 → d.windows ≡ nothing_counted s → d ≡ first_device s n
+new_device s n d setup rest idle delivery core windows =
     let power = ap (λ (x : Device). x.power) rest in
     let listening = ap (λ (x : Device). x.listening) rest in
     let alarm = ap (λ (x : Device). x.alarm) rest in
     let ordered = ap (λ (x : Device). x.ordered) rest in
-    let sending = ap (λ (x : Device). x.sending) rest in
     let closed : d.closed ≡ None = none_closed d.closed (ap (λ (x : Device). x.made.tuned) rest) in
     search rules
 

@@ -11,7 +11,6 @@ use Rattle.lwb_base.proofs.Elements.{contains_at}
 use Rattle.bus_rules.specs.Cores.{Setup}
 use Rattle.bus_rules.specs.declared.delivery.Delivery.{Delivery}
 use Rattle.bus_rules.specs.declared.delivery.DropLine.{DropLine}
-use Rattle.radio_model.specs.declared.sending.Sending.{Sending}
 use Rattle.radio_model.specs.declared.station.Station.{Station}
 use Rattle.radio_model.specs.Stations.{MediumState, nodes_of, station_of}
 use Rattle.scenario_text.specs.declared.script.ScriptLine.{ScriptLine}
@@ -19,12 +18,12 @@ use Rattle.air_log.specs.declared.entry.Entry.{Entry}
 use Rattle.air_log.specs.declared.entry.TunedEntry.{TunedEntry}
 use Rattle.air_log.specs.declared.settings.Settings.{Settings}
 use Rattle.air_log.specs.AlarmRuns.{after_alarms, IsAlarmRun}
-use Rattle.air_log.specs.Courses.{sending_end}
 use Rattle.air_log.specs.Devices.{Device}
 use Rattle.air_log.specs.ScriptedDevices.{device_after_act}
 use Rattle.air_log.specs.Trails.{alarmed}
 use Rattle.air_log.specs.Drops.{drop_of_line}
-use Rattle.air_log.specs.DeviceStates.{DeviceState, settings_of}
+use Rattle.air_log.specs.DeviceStates.{DeviceState, settings_of, running}
+use Rattle.air_log.specs.Lawful.{sent_by}
 use Rattle.air_log.specs.DeviceChanges.{DeviceGoes, Delivers, TakesAlarms}
 use Rattle.air_log.proofs.AlarmsTaken.{all_taken}
 use Rattle.world_engine.specs.Fields.{FieldState, FieldShows, IsField, IsKnownDevice, entries_of, due_of_device, ids_of, id_of, rank_of_tuned}
@@ -32,7 +31,7 @@ use Rattle.world_engine.specs.FieldSteps.{MediumGoesOn, Acts, TakesLine}
 use Rattle.world_engine.specs.Following.{Retunes, Resets, Follows}
 use Rattle.world_engine.proofs.ActsInTurn.{acts_as, acts_seen}
 use Rattle.world_engine.proofs.DevicePlaces.{at_set}
-use Rattle.world_engine.proofs.DeviceSteps.{IsStepAt, listed, lists_listed, acts_at}
+use Rattle.world_engine.proofs.DeviceSteps.{IsStepAt, listed, lists_listed, acts_at, sent_same}
 use Rattle.world_engine.proofs.StepsInCode.{IsRead, state_here, state_known, state_shows}
 
 -- the device that is read at an index, and its node
@@ -111,12 +110,20 @@ module _ {t p : ℕ} {old seen : FieldState} {due : List Due} {i : ℕ} {state a
               (ap (λ (w : FieldState). w.air) follows.rest) (ap (λ (w : FieldState). w.deliveries) follows.rest ∙ delivers.1);
           drops = ap (λ (w : FieldState). w.drops ++ lost) follows.rest;
           medium = follows.medium.goes_on;
-          station = record { station = own.0; there = own.1; tuned = own.2; sending = own.3 ∙ known.sending ∙ sym goes.sending };
+          station = record {
+            station = own.0;
+            there = own.1;
+            tuned = own.2;
+            sending = own.3 ∙ known.sending ∙ ap (λ (o : Option ℕ). running o (sent_by old.air state.setup.id)) (sym goes.busy)
+                ∙ ap (λ (s : Setup). running after.busy_until (sent_by old.air s.id)) (sym goes.setup)
+                ∙ ap (running after.busy_until) (sym (ap (λ (w : FieldState). sent_by w.air after.setup.id) follows.rest
+                ∙ sent_same old.air after.setup.id closed));
+          };
           stations = λ u other. follows.medium.others u (λ same. other (same ∙ ap (λ (s : Setup). s.id) goes.setup));
           due =
               follows.start.own _ (follows.alarm.own (due_of_device state) known.set (ap (λ (s : Settings). s.alarm) (sym is_before)))
               (ap (λ (s : Settings). s.sending) (sym is_before))
-              ∙ ap (λ (x : Option Sending). Some (record (due_of_device after) { sending_end = option_map sending_end x })) (sym goes.sending);
+              ∙ ap (λ (o : Option ℕ). let queued : Option Due = Some (record (due_of_device after) { sending_end = o }) in queued) (sym goes.busy);
           dues = λ q other. follows.start.others q other ∙ follows.alarm.others q other;
           places = follows.start.places ∙ follows.alarm.places;
         }

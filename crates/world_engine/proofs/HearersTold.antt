@@ -14,7 +14,7 @@ use Rattle.air_log.specs.Entries.{hearings_of, sendings_of, heard_entry}
 use Rattle.air_log.specs.Devices.{Device, event}
 use Rattle.lwb_base.proofs.Elements.{not_in_none, contains_head, contains_cases, map_contains, contains_at, among_or_not}
 use Rattle.air_log.proofs.LoggedEntries.{sendings_heard, hearings_heard}
-use Rattle.air_log.specs.DeviceStates.{DeviceState}
+use Rattle.air_log.specs.DeviceStates.{DeviceState, running}
 use Rattle.world_engine.specs.Fields.{FieldState, FieldShows, FieldIsShown, id_of, ids_of}
 use Rattle.world_engine.specs.FieldSteps.{Acts, hearing_at, told_of_hearing}
 use Rattle.world_engine.specs.FieldHearings.{AllHear}
@@ -43,7 +43,13 @@ shown_when_logged t q u x w due s d shows =
         tuned = shows.logged.tuned ∙ ap reverse (sym (tuned_beside_heard w.air u x s.id));
         deliveries = shows.logged.deliveries;
       };
-      known = record { station = known.station; there = known.there; tuned = known.tuned; sending = known.sending; set = known.set };
+      known = record {
+        station = known.station;
+        there = known.there;
+        tuned = known.tuned;
+        sending = known.sending ∙ ap (running shows.state.busy_until) (sym (sent_beside_heard w.air u x shows.state.setup.id));
+        set = known.set;
+      };
     }
 
 pub is_shown_when_logged : (t q u : ℕ) (x : Sending) (w : FieldState) (due : List Due) → FieldIsShown t w due q → FieldIsShown t (logged u x w) due q

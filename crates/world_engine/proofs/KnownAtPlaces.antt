@@ -22,11 +22,12 @@ use Rattle.scenario_text.specs.Setups.{setup_of}
 use Rattle.lwb_base.proofs.Elements.{contains_head, contains_tail}
 use Rattle.air_log.proofs.KeptPower.{few_before}
 use Rattle.air_log.specs.DeviceStates.{CanBoot}
-use Rattle.air_log.specs.Courses.{sending_end}
+use Rattle.air_log.specs.DeviceStates.{sending_end}
 use Rattle.world_engine.specs.Fields.{FieldState, FieldShows, FieldIsShown}
 use Rattle.world_engine.specs.FieldSteps.{DeviceSends}
 use Rattle.world_engine.specs.Moments.{TickMoment}
 use Rattle.world_engine.specs.Running.{HasPlaces, HasTakenLines}
+use Rattle.world_engine.proofs.ShownPlaces.{station_sends}
 use Rattle.world_engine.proofs.ShownDevices.{node_there, same_sending, stands_at}
 use Rattle.world_engine.proofs.TrailsGoOn.{OnTrails}
 use Rattle.world_engine.proofs.HeardAtEnds.{node_within}
@@ -87,7 +88,7 @@ pub ends_at_place : (t : ℕ) (w : FieldState) (due : List Due) (p : ℕ) (a : S
     → (q : Setup) (d : Device) → FieldShows q t w due p d → Ends w.medium q.id t
 ends_at_place t w due p a holds x now sends q d shows =
     let known = shows.known in
-    let runs : known.station.sending ≡ Some x = known.sending ∙ ap (λ (e : Device). e.sending) shows.shows.is ∙ sends q d shows in
+    let runs : known.station.sending ≡ Some x = station_sends q t w due p d shows ∙ sends q d shows in
     let station : station_of w.medium q.id ≡ Some known.station = ap (λ (y : Setup). station_of w.medium y.id) (sym shows.shows.setup) ∙ known.there in
     let orderly = holds.orderly known.station (found (is_station_of q.id) w.medium.stations known.station station) in
     let last : Contains (option_to_list known.station.sending) x =

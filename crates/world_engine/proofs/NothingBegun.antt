@@ -10,12 +10,13 @@ use Rattle.radio_model.specs.Stations.{IsTime, station_of}
 use Rattle.event_calendar.specs.Orders.{Due, at, changed, nothing_due}
 use Rattle.event_calendar.specs.declared.class.Class.TheVariants.{SendingStart}
 use Rattle.bus_rules.specs.Cores.{Setup}
-use Rattle.air_log.specs.Courses.{sending_end}
-use Rattle.air_log.specs.Devices.{Device, OrderedPacket, Made, nothing_made}
+use Rattle.air_log.specs.Devices.{Device, OrderedPacket, Made}
 use Rattle.air_log.specs.DeviceChanges.{DeviceShows}
-use Rattle.air_log.specs.DeviceStates.{DeviceState, whole, with_sent, EndedBefore, HappenedBy, IsSameNode, channel_of, tick_of_ordered}
+use Rattle.air_log.specs.DeviceStates.{DeviceState, whole, with_sent, EndedBefore, HappenedBy, IsSameNode, channel_of, tick_of_ordered, running, RunsUntil}
+use Rattle.air_log.specs.Lawful.{sent_by}
 use Rattle.air_log.specs.Trails.{device_after_start, sendings_starting}
 use Rattle.air_log.proofs.DeviceChanges.{node_shows}
+use Rattle.air_log.proofs.RunningSendings.{runs_still}
 use Rattle.world_engine.specs.Fields.{FieldState, IsField, IsKnownDevice, FieldShows, FieldIsShown, due_of_device}
 use Rattle.world_engine.specs.FieldSteps.{Acts}
 use Rattle.world_engine.proofs.BegunDevices.{silent_with}
@@ -31,8 +32,8 @@ Begins t p old old_due new new_due =
     × ((s : Setup) (d : Device) → FieldShows s t old old_due p d → x ≡ sendings_starting s t d)
 
 -- what a device has in the queue
-abbrev pub due_by : Option Sending → Option ℕ → Option OrderedPacket → Due
-due_by sending alarm ordered = record { sending_end = option_map sending_end sending; alarm = alarm; sending_start = option_map tick_of_ordered ordered }
+abbrev pub due_by : Option ℕ → Option ℕ → Option OrderedPacket → Due
+due_by end alarm ordered = record { sending_end = end; alarm = alarm; sending_start = option_map tick_of_ordered ordered }
 
 -- at t, at which its order stands, the device at place p becomes another
 pub record IsStarting (t p : ℕ) (w : FieldState) (due : List Due) (st new : DeviceState) : Type 0 where
@@ -45,35 +46,47 @@ pub record IsStarting (t p : ℕ) (w : FieldState) (due : List Due) (st new : De
   pub time : IsTime w.medium t
 
 module _ {t p : ℕ} {w : FieldState} {due : List Due} {st new : DeviceState} (start : IsStarting t p w due st new) where
-  pub known : IsKnownDevice w due p st
-  known = (shown_as start.shown.setup t w due p start.shown.device st start.here start.shown.shows).known
+  abbrev pub shows : FieldShows start.shown.setup t w due p start.shown.device
+  shows = shown_as start.shown.setup t w due p start.shown.device st start.here start.shown.shows
+
+  abbrev pub known : IsKnownDevice w due p st
+  known = shows.known
+
+  -- what it has made by then
+  abbrev pub made_before : Made
+  made_before = shows.made
+
+  pub runs_before : RunsUntil st.busy_until made_before.sent
+  runs_before = shows.shows.runs
 
   pub ordered : option_map tick_of_ordered st.ordered ≡ Some t
   ordered = ap (λ (d : Due). d.sending_start) (sym (get_or_from_slice_get due p (due_of_device st) nothing_due known.set)) ∙ start.stands
 
   -- what it is shown as after it, with what it has made by then
   pub start_shows : (s : Setup) (made more : Made) (d : Device) → DeviceShows s t st made d → more.windows ≡ made.windows → EndedBefore t more.tuned
-      → device_after_start st.setup t (whole st made) ≡ whole new more → DeviceShows s t new more (device_after_start s t d)
-  start_shows s made more d sh windows ended is =
-      node_shows s t st new made more d (device_after_start s t d) sh start.node (start.keeps_time t sh.happened) windows ended
+      → RunsUntil new.busy_until more.sent → device_after_start st.setup t (whole st made) ≡ whole new more
+      → DeviceShows s t new more (device_after_start s t d)
+  start_shows s made more d sh windows ended runs is =
+      node_shows s t st new made more d (device_after_start s t d) sh start.node (start.keeps_time t sh.happened) windows ended runs
       (sym is ∙ ap (λ (u : Setup). device_after_start u t (whole st made)) sh.setup ∙ ap (device_after_start s t) sh.is)
 
-  pub begun_are : (xs : List Sending) → ((made : Made) → sendings_starting st.setup t (whole st made) ≡ xs)
+  pub begun_are : (xs : List Sending) → ((made : Made) → RunsUntil st.busy_until made.sent → sendings_starting st.setup t (whole st made) ≡ xs)
       → (s : Setup) (d : Device) → FieldShows s t w due p d → xs ≡ sendings_starting s t d
   begun_are xs are s d shows =
       let sh = shown_as s t w due p d st start.here shows in
-      sym (ap (λ (u : Setup). sendings_starting u t d) (sym sh.shows.setup) ∙ ap (sendings_starting st.setup t) (sym sh.shows.is) ∙ are sh.made)
+      sym (ap (λ (u : Setup). sendings_starting u t d) (sym sh.shows.setup) ∙ ap (sendings_starting st.setup t) (sym sh.shows.is) ∙ are sh.made sh.shows.runs)
 
   -- where nothing starts
-  module _ (is : (made : Made) → device_after_start st.setup t (whole st made) ≡ whole new (with_sent None made)) where
+  module _ (is : (made : Made) → RunsUntil st.busy_until made.sent → device_after_start st.setup t (whole st made) ≡ whole new (with_sent None made))
+      (until : new.busy_until ≡ st.busy_until) where
     abbrev silent_field : FieldState
     silent_field = record w { devices = set w.devices p new }
 
     abbrev silent_due : List Due
     silent_due = changed due p SendingStart None
 
-    silent_now : whole new nothing_made ≡ record (whole st nothing_made) { ordered = None }
-    silent_now = sym (is nothing_made) ∙ (silent_with t st new ordered is nothing_made).is
+    silent_now : whole new made_before ≡ record (whole st made_before) { ordered = None }
+    silent_now = sym (is made_before runs_before) ∙ (silent_with t st new ordered is made_before runs_before).is
 
     step : IsStepAt t p st new (λ made. made) [] [] w due silent_field silent_due
     step = record {
@@ -87,11 +100,13 @@ module _ {t p : ℕ} {w : FieldState} {due : List Due} {st new : DeviceState} (s
         station = known.station;
         there = ap (λ (u : Setup). station_of w.medium u.id) start.node.setup ∙ known.there;
         tuned = known.tuned ∙ ap (λ (e : Device). option_map channel_of e.listening) (sym silent_now);
-        sending = known.sending ∙ ap (λ (e : Device). e.sending) (sym silent_now);
+        sending = known.sending ∙ ap (λ (o : Option ℕ). running o (sent_by w.air st.setup.id)) (sym until)
+            ∙ ap (λ (u : Setup). running new.busy_until (sent_by w.air u.id)) (sym start.node.setup);
       };
       stations = λ u other. refl;
       due = due_changed due p SendingStart None (due_of_device st) known.set
-          ∙ ap (λ (d : Device). let o : Option Due = Some (due_by d.sending d.alarm d.ordered) in o) (sym silent_now);
+          ∙ ap (λ (d : Device). let o : Option Due = Some (due_by st.busy_until d.alarm d.ordered) in o) (sym silent_now)
+          ∙ ap (λ (end : Option ℕ). let o : Option Due = Some (due_by end new.alarm new.ordered) in o) (sym until);
       dues = λ q other. set_elsewhere due p q _ other;
       places = length-set due p _;
     }
@@ -99,8 +114,12 @@ module _ {t p : ℕ} {w : FieldState} {due : List Due} {st new : DeviceState} (s
     pub not_begun : Begins t p w due silent_field silent_due
     not_begun = (
       [],
-      acts_at step (λ s d. device_after_start s t d) (λ s made d sh. (made.windows, start_shows s made made d sh refl sh.ended (is made))) start.field,
-      begun_are [] (λ made. (silent_with t st new ordered is made).starting),
+      acts_at step (λ s d. device_after_start s t d) (λ s made d sh. (
+        made.windows,
+        start_shows s made made d sh refl sh.ended
+            (runs_still st.busy_until new.busy_until made.sent made.sent until refl sh.runs) (is made sh.runs),
+      )) start.field,
+      begun_are [] (λ made runs. (silent_with t st new ordered is made runs).starting),
     )
 
     pub silent_is_field : IsField silent_field

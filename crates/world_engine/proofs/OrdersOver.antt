@@ -11,6 +11,7 @@ use Rattle.world_engine.specs.Moments.{Before}
 use Rattle.world_engine.specs.Running.{IsRunning}
 use Rattle.world_engine.specs.Runs.{standing, standing_at, orders_left}
 use Rattle.world_engine.proofs.NodePlaces.{same_some}
+use Rattle.world_engine.proofs.ShownPlaces.{due_stands}
 use Rattle.world_engine.proofs.TrailsOver.{at_place}
 
 -- a list that has at each place what a map gives
@@ -28,7 +29,8 @@ module _ (s : ScenarioParts) (clocks : ℕ → ℕ → ℕ) (w : FieldState) (du
   left_at : (p : ℕ) (n : NodeLine) → slice_get s.nodes p ≡ Some n → slice_get due p ≡ Some (standing_at s clocks closed.air n)
   left_at p n there =
       let end = at_place s clocks w due closed running over p n there in
-      let same : standing_at s clocks closed.air n ≡ due_of_device end.shows.state = ap standing end.is ∙ sym (ap standing end.shows.shows.is) in
+      let stands = due_stands _ _ w due p _ end.shows in
+      let same : standing_at s clocks closed.air n ≡ due_of_device end.shows.state = ap standing end.is ∙ sym stands in
       end.shows.known.set ∙ ap (λ (d : Due). Some d) (sym same)
 
   pub orders_over : due ≡ orders_left s clocks closed.air

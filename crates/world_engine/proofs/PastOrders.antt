@@ -34,7 +34,7 @@ use Rattle.world_engine.proofs.ToldDevices.{told_of_hearing_sending, told_of_end
 use Rattle.world_engine.proofs.ShownDevices.{stands_at}
 use Rattle.world_engine.proofs.TrailsGoOn.{AreClocks}
 use Rattle.world_engine.proofs.TickPoints.{alarm_at}
-use Rattle.air_log.specs.Courses.{sending_end}
+use Rattle.air_log.specs.DeviceStates.{sending_end}
 use Rattle.air_log.specs.DeviceStates.{tick_of_ordered as start_of}
 
 -- what is of the class at the tick is at later places

@@ -92,6 +92,7 @@ module _ (s : ScenarioParts) (clocks : ℕ → ℕ → ℕ) (sound : IsSoundScen
     made = nothing_made;
     shows = record {
       is = refl;
+      runs = refl;
       setup = refl;
       counted = record { profile = refl; sends = refl; counts = record { earlier = refl; last = refl; by_alarm = refl }; small = tt };
       few = sound.few_sends;

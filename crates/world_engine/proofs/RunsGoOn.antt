@@ -1,9 +1,8 @@
 -- A run goes on: each step, and the time between two steps, leaves what holds of a run.
 use Rattle.std.proofs.Common.{◌≡◌, ℕ, suc, ◌<◌, ◌≤◌, ◌^◌, List, ◌++◌, map, nat_lt, ◌==◌, false, Some, inl, inr, ◌⊎◌, sym, ap, subst, ◌∙◌, arith}
 use Rattle.std.specs.Prelude.{Contains, slice_get}
-use Rattle.std.specs.Option.{option_map}
 use Rattle.std.proofs.lemmas.Bool.{cases_lt, ltb-true}
-use Rattle.std.proofs.lemmas.Option.{same_Some, get_or_from_slice_get}
+use Rattle.std.proofs.lemmas.Option.{same_Some}
 use Rattle.std.proofs.lemmas.List.Kept.{AllPairs-filter}
 use Rattle.scenario_text.specs.ScenarioParts.{ScenarioParts}
 use Rattle.scenario_text.specs.ScenarioFacts.{IsSoundScenario}
@@ -16,16 +15,15 @@ use Rattle.radio_model.specs.Stations.{IsTime, id_of_station, station_of}
 use Rattle.radio_model.proofs.OneCall.{found_member}
 use Rattle.event_calendar.specs.declared.class.Class.{Class}
 use Rattle.event_calendar.specs.declared.class.Class.TheVariants.{SendingEnd}
-use Rattle.event_calendar.specs.Orders.{Due, Order, IsNext, at, nothing_due}
+use Rattle.event_calendar.specs.Orders.{Due, Order, IsNext, at}
 use Rattle.bus_rules.specs.Cores.{Setup}
 use Rattle.air_log.specs.Entries.{hearings_of}
 use Rattle.air_log.specs.Lawful.{AreInTurn, reception_comes_before, reception_of, hearings_by, heard_by}
 use Rattle.air_log.specs.Trails.{Reception, run_end, frame_start}
 use Rattle.air_log.proofs.InTurn.{heard_in_turn}
 use Rattle.air_log.proofs.AlarmLoop.{early_in_run}
-use Rattle.air_log.specs.Courses.{sending_end}
 use Rattle.lwb_base.proofs.Elements.{map_contains, map_from, filtered}
-use Rattle.world_engine.specs.Fields.{FieldState, ids_of, due_of_device}
+use Rattle.world_engine.specs.Fields.{FieldState, ids_of}
 use Rattle.world_engine.specs.Moments.{TickMoment, Before, InLines, At, over_by}
 use Rattle.world_engine.specs.Running.{IsRunning, IsOnAir, HasTakenLines}
 use Rattle.world_engine.specs.Frames.{told_before}
@@ -34,7 +32,8 @@ use Rattle.world_engine.proofs.NextMoments.{NoneBefore, none_before_next, within
 use Rattle.world_engine.proofs.NextMoments.{order_not_past, order_not_earlier, same_tick_trails, later_tick_trails, to_frame_trails}
 use Rattle.world_engine.proofs.PlacedNodes.{node_of_place}
 use Rattle.world_engine.proofs.RunPlaces.{place_of_order}
-use Rattle.world_engine.proofs.ShownTunings.{AreTuned, trails_tuned, place_in, shown_id}
+use Rattle.world_engine.proofs.ShownPlaces.{station_sends}
+use Rattle.world_engine.proofs.ShownTunings.{AreTuned, trails_tuned, place_in, shown_id, shown_end}
 use Rattle.world_engine.proofs.TimePasses.{HeardBefore}
 use Rattle.world_engine.proofs.ToldSoFar.{told_later}
 use Rattle.world_engine.proofs.TrailsGoOn.{AreClocks}
@@ -64,10 +63,9 @@ module _ (s : ScenarioParts) (clocks : ℕ → ℕ → ℕ) (told : List ScriptL
           let here : station_of w.medium st.node ≡ Some shows.known.station = ap (station_of w.medium) (sym same_id)
           ∙ ap (λ (x : Setup). station_of w.medium x.id) (sym shows.shows.setup) ∙ shows.known.there in
           let same : shows.known.station ≡ st = same_Some _ _ (sym here ∙ found_member w.medium.stations st field.medium.nodes.ascending there) in
-          let runs : shows.state.sending ≡ Some y = sym shows.known.sending ∙ ap (λ (z : Station). z.sending) same ∙ sends in
-          let set : at due place.place SendingEnd ≡ Some y.end =
-          ap (λ (d : Due). d.sending_end) (get_or_from_slice_get due place.place (due_of_device shows.state) nothing_due shows.known.set)
-          ∙ ap (option_map sending_end) runs in
+          let runs : tuned.device.sending ≡ Some y =
+          sym (station_sends tuned.setup t w due place.place tuned.device shows) ∙ ap (λ (z : Station). z.sending) same ∙ sends in
+          let set : at due place.place SendingEnd ≡ Some y.end = shown_end tuned.setup t w due place.place tuned.device shows y runs in
           none place.place SendingEnd y.end set
 
   -- all that was received is over

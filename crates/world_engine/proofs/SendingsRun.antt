@@ -13,7 +13,7 @@ use Rattle.air_log.proofs.HearingMore.{earlier_stays, heard_now}
 use Rattle.world_engine.specs.FieldSteps.{told_of_end}
 use Rattle.world_engine.specs.Moments.{At, IsAtMoment, device_at_point}
 use Rattle.air_log.proofs.OwnSendings.{IsOwn, own_heard, still_sent, none_ends}
-use Rattle.air_log.specs.Courses.{sending_end}
+use Rattle.air_log.specs.DeviceStates.{sending_end}
 use Rattle.world_engine.proofs.TickPoints.{IsOver, ends_nothing, end_at}
 
 told_as_ended : (clock : ℕ → ℕ) (s : Setup) (t : ℕ) (d : Device) (x : Sending) (y : Option Sending) → y ≡ Some x → x.end ≡ t

@@ -13,11 +13,13 @@ use Rattle.bus_rules.specs.Cores.{Setup}
 use Rattle.air_log.specs.Devices.{Device, OrderedPacket}
 use Rattle.scenario_text.specs.Setups.{setup_of}
 use Rattle.air_log.specs.Ahead.{IsAhead}
-use Rattle.air_log.specs.DeviceStates.{DeviceState}
+use Rattle.air_log.specs.DeviceStates.{DeviceState, running}
+use Rattle.air_log.specs.Lawful.{sent_by}
 use Rattle.air_log.proofs.ShownCourses.{device_later}
 use Rattle.world_engine.specs.Fields.{FieldState, FieldShows, due_of_device, setup_of_device}
 use Rattle.world_engine.specs.Running.{HasPlaces, setup_by}
 use Rattle.world_engine.specs.Runs.{standing}
+use Rattle.world_engine.proofs.ShownPlaces.{runs_logged, due_stands}
 use Rattle.world_engine.proofs.TickPoints.{IsOver}
 
 pub shows_later : (q : Setup) (t u : ℕ) (w : FieldState) (due : List Due) (p : ℕ) (d : Device) → t ≤ u → FieldShows q t w due p d → FieldShows q u w due p d
@@ -43,7 +45,7 @@ module _ (q r : Setup) (t u : ℕ) (w : FieldState) (due : List Due) (p : ℕ) (
 
   pub same_sending : d.sending ≡ e.sending
   same_sending =
-      ap (λ (z : Device). z.sending) (sym x.shows.is) ∙ ap (λ (z : DeviceState). z.sending) same_state ∙ ap (λ (z : Device). z.sending) y.shows.is
+      sym (runs_logged q t w due p d x) ∙ ap (λ (z : DeviceState). running z.busy_until (sent_by w.air z.setup.id)) same_state ∙ runs_logged r u w due p e y
 
 -- the place is that of a node of the scenario
 pub node_there : (s : ScenarioParts) (q : Setup) (t : ℕ) (w : FieldState) (due : List Due) (p : ℕ) (d : Device) → HasPlaces s w due → FieldShows q t w due p d
@@ -69,7 +71,7 @@ module _ (q : Setup) (t : ℕ) (w : FieldState) (due : List Due) (p : ℕ) (d : 
   pub stands_at : (c : Class) → at due p c ≡ tick_of c (standing d)
   stands_at c =
       ap (tick_of c) (get_or_from_slice_get due p (due_of_device shows.state) nothing_due shows.known.set)
-      ∙ ap (λ (e : Device). tick_of c (standing e)) shows.shows.is
+      ∙ ap (tick_of c) (due_stands q t w due p d shows)
 
   if_some : {X : Type 0} (P : X → Type 0) (o : Option X) → ((x : X) → o ≡ Some x → P x) → IfSome o P
   if_some P None each = tt

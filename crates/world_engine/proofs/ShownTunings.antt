@@ -13,16 +13,16 @@ use Rattle.event_calendar.specs.declared.class.Class.TheVariants.{SendingEnd}
 use Rattle.bus_rules.specs.Cores.{Setup}
 use Rattle.air_log.specs.Devices.{Device, Listening}
 use Rattle.scenario_text.specs.Setups.{setup_of}
-use Rattle.air_log.specs.Lawful.{tuned_by, heard_by}
-use Rattle.air_log.specs.DeviceStates.{DeviceState, one_more}
+use Rattle.air_log.specs.Lawful.{sent_by, tuned_by, heard_by}
+use Rattle.air_log.specs.DeviceStates.{DeviceState, one_more, running, sending_end}
 use Rattle.world_engine.specs.Fields.{FieldState, FieldShows, ids_of, setup_of_device, id_of, due_of_device}
 use Rattle.world_engine.specs.Moments.{TickMoment}
 use Rattle.world_engine.specs.Running.{HasPlaces, IsOnTrail, setup_by}
 use Rattle.air_log.specs.TunedTimes.{WasTuned}
 use Rattle.air_log.proofs.TunedBefore.{TunedAt, HasTunedBy, by_later}
-use Rattle.air_log.specs.Courses.{sending_end}
 use Rattle.world_engine.proofs.TunedMoments.{moment_by}
 use Rattle.world_engine.proofs.ShownDevices.{shows_later}
+use Rattle.world_engine.proofs.ShownPlaces.{runs_logged, station_sends, due_stands}
 
 pub mapped : {X Y : Type 0} (f : X → Y) (xs : List X) (p : ℕ) (x : X) → slice_get xs p ≡ Some x → slice_get (map f xs) p ≡ Some (f x)
 mapped f [] p x is = cc
@@ -45,13 +45,13 @@ module _ (q : Setup) (t : ℕ) (w : FieldState) (due : List Due) (p : ℕ) (d : 
   pub shown_sending : sending_of_station (station_of w.medium q.id) ≡ d.sending
   shown_sending =
       ap (λ (s : Setup). sending_of_station (station_of w.medium s.id)) (sym is.shows.setup)
-      ∙ ap sending_of_station is.known.there ∙ is.known.sending ∙ ap (λ (x : Device). x.sending) is.shows.is
+      ∙ ap sending_of_station is.known.there ∙ station_sends q t w due p d is
 
   -- and its end is in the queue
   pub shown_end : (y : Sending) → d.sending ≡ Some y → at due p SendingEnd ≡ Some y.end
   shown_end y sends =
       ap (λ (x : Due). x.sending_end) (get_or_from_slice_get due p (due_of_device is.state) nothing_due is.known.set)
-      ∙ ap (λ (x : Device). option_map sending_end x.sending) is.shows.is ∙ ap (option_map sending_end) sends
+      ∙ ap (λ (x : Due). x.sending_end) (due_stands q t w due p d is) ∙ ap (option_map sending_end) sends
 
   shown_tuned : d.made.tuned ≡ one_more is.state.closed (reverse (tuned_by w.air q.id))
   shown_tuned = ap (λ (x : Device). x.made.tuned) (sym is.shows.is) ∙ ap (one_more is.state.closed) is.logged.tuned
@@ -74,7 +74,8 @@ alike q r t u w due p d e a b =
           shown_tuned q t w due p d a ∙ ap (λ (s : DeviceState). one_more s.closed (reverse (tuned_by w.air q.id))) state
           ∙ ap (λ (s : Setup). one_more b.state.closed (reverse (tuned_by w.air s.id))) setup ∙ sym (shown_tuned r u w due p e b);
       listening = ap (λ (x : Device). x.listening) (sym a.shows.is) ∙ ap (λ (s : DeviceState). s.listening) state ∙ ap (λ (x : Device). x.listening) b.shows.is;
-      sending = ap (λ (x : Device). x.sending) (sym a.shows.is) ∙ ap (λ (s : DeviceState). s.sending) state ∙ ap (λ (x : Device). x.sending) b.shows.is;
+      sending = sym (runs_logged q t w due p d a) ∙ ap (λ (s : DeviceState). running s.busy_until (sent_by w.air s.setup.id)) state
+          ∙ runs_logged r u w due p e b;
     }
 
 pub tuned_alike : (q r : Setup) (d e : Device) → AreAlike q r d e → (c k : ℕ) → WasTuned d c k → WasTuned e c k

@@ -26,7 +26,7 @@ use Rattle.world_engine.specs.Moments.{At, IsAtMoment, after_point}
 use Rattle.world_engine.specs.Runs.{standing}
 use Rattle.air_log.proofs.OwnSendings.{none_ends, none_ends_later}
 use Rattle.air_log.proofs.QuietTicks.{no_end, no_start, no_alarm}
-use Rattle.air_log.specs.Courses.{sending_end}
+use Rattle.air_log.specs.DeviceStates.{sending_end}
 use Rattle.air_log.specs.DeviceStates.{tick_of_ordered as start_of}
 
 -- no order of the class is at the tick

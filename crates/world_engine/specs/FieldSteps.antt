@@ -158,7 +158,7 @@ first_device s n = record {
   closed = None;
   alarm = None;
   ordered = None;
-  sending = None;
+  busy_until = None;
   delivery = None;
   windows = nothing_counted s;
 }

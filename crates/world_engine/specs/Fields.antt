@@ -15,9 +15,8 @@ use Rattle.air_log.specs.declared.entry.TunedEntry.{TunedEntry}
 use Rattle.air_log.specs.Devices.{Device, Power, Made}
 use Rattle.air_log.specs.Lawful.{sent_by, tuned_by}
 use Rattle.air_log.specs.DeviceChanges.{DeviceShows}
-use Rattle.air_log.specs.DeviceStates.{DeviceState, channel_of, tick_of_ordered}
+use Rattle.air_log.specs.DeviceStates.{DeviceState, channel_of, tick_of_ordered, running}
 use Rattle.air_log.specs.WindowSums.{WindowSum}
-use Rattle.air_log.specs.Courses.{sending_end}
 
 -- deliveries and drops are in the order in which they were made
 pub record FieldState : Type 0 where
@@ -62,7 +61,7 @@ entries_of (Some e) = Tuned e ∷ []
 
 -- what is in the queue for a device
 abbrev pub due_of_device : DeviceState → Due
-due_of_device d = record { sending_end = option_map sending_end d.sending; alarm = d.alarm; sending_start = option_map tick_of_ordered d.ordered }
+due_of_device d = record { sending_end = d.busy_until; alarm = d.alarm; sending_start = option_map tick_of_ordered d.ordered }
 
 -- what v has made, but for windows, is what the lists have of it
 pub record IsLogged (w : FieldState) (v : ℕ) (made : Made) : Type 0 where
@@ -78,7 +77,7 @@ pub record IsKnownDevice (w : FieldState) (due : List Due) (p : ℕ) (d : Device
   pub station : Station
   pub there : station_of w.medium d.setup.id ≡ Some station
   pub tuned : option_map rank_of_tuned station.tuned ≡ option_map channel_of d.listening
-  pub sending : station.sending ≡ d.sending
+  pub sending : station.sending ≡ running d.busy_until (sent_by w.air d.setup.id)
   pub set : slice_get due p ≡ Some (due_of_device d)
 
 -- at tick t the device at the place, with all that it has made, is this one of a trail

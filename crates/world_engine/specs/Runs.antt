@@ -16,8 +16,7 @@ use Rattle.air_log.specs.Devices.{Device, Power, PowerOff, PowerOn}
 use Rattle.air_log.specs.Lawful.{Lawful, trail_in}
 use Rattle.air_log.specs.Deliveries.{deliveries_of}
 use Rattle.air_log.specs.Drops.{drops_of}
-use Rattle.air_log.specs.Courses.{sending_end}
-use Rattle.air_log.specs.DeviceStates.{tick_of_ordered}
+use Rattle.air_log.specs.DeviceStates.{tick_of_ordered, sending_end}
 
 -- the core of each node of the scenario that is on at the end is in the state in which its trail leaves it
 abbrev pub IsCoreOf : Option NodeState → Power → Type 0

@@ -105,15 +105,12 @@ impl Field {
     {
         orders.clear(place, Class::SendingStart);
         let device = &mut self.devices[usize::from(place)];
-        if !device.start(t) {
+        let Some(x) = device.start(t) else {
             return Ok(());
-        }
-        let Some(x) = device.sending() else {
-            unreachable!()
         };
         orders.set(place, Class::SendingEnd, x.end);
         self.medium.start(x.node, t, &x.packet);
-        self.air.push(Entry::Sent(x.copy()))
+        self.air.push(Entry::Sent(x))
     }
 
     // A tuning that has ended, if there is one.

@@ -45,11 +45,13 @@ impl Field {
             (Q.map orders.old) self.new (Q.map orders.new)) }
     {
         let node = self.devices[usize::from(place)].node();
+        let Some(x) = self.medium.sending(node) else {
+            unreachable!()
+        };
+        let x = x.copy();
         let hearers = self.medium.end(links, node, t);
         orders.clear(place, Class::SendingEnd);
-        let Some(x) = self.devices[usize::from(place)].end_sending(t) else {
-            return Ok(());
-        };
+        self.devices[usize::from(place)].end_sending(t);
         self.hear_all(orders, clocks, &hearers, &x, radio)?;
         let event = Event::Sent;
         let notice = Notice {

@@ -53,7 +53,8 @@ def delivery(
         for (row, place), ratio in np.ndenumerate(ratios):
             if not np.isnan(ratio):
                 ink = style.ink_on(image.cmap(ratio))
-                drawn.text(place, row, words[row][place], ha="center", va="center", fontsize=7, color=ink)
+                # Within the axes nothing has to make room for it, and matplotlib need not measure it again and again.
+                drawn.text(place, row, words[row][place], ha="center", va="center", fontsize=7, color=ink, in_layout=False)
         if axes is None:
             bar = figure.colorbar(image, ax=drawn, fraction=0.03, pad=0.01)
             bar.ax.yaxis.set_major_formatter(PercentFormatter(1))

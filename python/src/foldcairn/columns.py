@@ -1,7 +1,7 @@
 """Reads the lines that the program writes into columns, at tens of megabytes a second and in bounded memory.
 
 The bytes are read in blocks of whole lines. A block is parted by the first words of its lines, with numpy, and the lines of
-one word are read by pandas. Tested, not proved.
+one word are read by pandas, or word by word where they are few. Tested, not proved.
 """
 
 from __future__ import annotations
@@ -21,6 +21,8 @@ Columns = Mapping[str, str]
 
 _BLOCK_BYTES = 1 << 24
 _LINE_FEED, _SPACE = 10, 32
+# Up to so many bytes it takes pandas longer to begin than to read them word by word.
+_FEW_BYTES = 1 << 13
 # So many bytes of a line tell which word it begins with.
 _HEAD_BYTES = 3
 # The place of a word that is none of a table's.
@@ -91,19 +93,44 @@ def _head(word: str) -> int:
 
 
 def _read_lines(text: bytes, word: str, columns: Columns) -> pd.DataFrame:
-    types = {"word": "category", **columns}
     try:
-        table = pd.read_csv(BytesIO(text), sep=" ", header=None, names=list(types), dtype=types, na_filter=False, index_col=False)
-    except (ValueError, pd.errors.ParserError) as error:
+        return _few_lines(text, word, columns) if len(text) <= _FEW_BYTES else _many_lines(text, word, columns)
+    except (ValueError, OverflowError, pd.errors.ParserError) as error:
         raise UnknownLine(f"a `{word}` line has other words than {', '.join(columns)}: {error}") from error
-    first = table.pop("word")
-    if list(first.cat.categories) != [word]:
-        raise UnknownLine(f"a line begins with {first.cat.categories[0]!r} in place of {word!r}")
+
+
+def _many_lines(text: bytes, word: str, columns: Columns) -> pd.DataFrame:
+    types = {"word": "category", **columns}
+    table = pd.read_csv(BytesIO(text), sep=" ", header=None, names=list(types), dtype=types, na_filter=False, index_col=False)
+    if other := set(table.pop("word").cat.categories) - {word}:
+        raise ValueError(f"it begins with {min(other)!r}")
     return table
+
+
+def _few_lines(text: bytes, word: str, columns: Columns) -> pd.DataFrame:
+    first, *parts = _by_column(text.decode(), len(columns) + 1)
+    if other := set(first) - {word}:
+        raise ValueError(f"it begins with {min(other)!r}")
+    return pd.DataFrame(
+        {
+            name: pd.Categorical(part) if dtype == "category" else np.array(list(map(int, part)), dtype)
+            for (name, dtype), part in zip(columns.items(), parts)
+        }
+    )
+
+
+def _by_column(text: str, count: int) -> list[list[str]]:
+    """The words of lines that have so many words each, by their place in a line."""
+    words = text.split()
+    if len(words) != count * text.count("\n"):
+        raise ValueError("there are too few words")
+    return [words[place::count] for place in range(count)]
 
 
 def _joined(parts: list[pd.DataFrame], columns: Columns) -> pd.DataFrame:
     """The parts one below the other, column by column, so that no more than one column is there twice."""
+    if len(parts) == 1:
+        return parts[0]
     whole = {}
     for name, dtype in columns.items():
         pieces = [part.pop(name) for part in parts]

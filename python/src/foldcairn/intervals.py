@@ -29,9 +29,7 @@ def of_mean(values: ArrayLike, confidence: float = 0.95) -> tuple[float, float, 
     mean = float(known.mean())
     if len(known) < 2:
         return mean, float("nan"), float("nan")
-    from scipy import stats
-
-    half = float(stats.t.ppf((1 + share) / 2, len(known) - 1) * known.std(ddof=1) / len(known) ** 0.5)
+    half = float(_errors((1 + share) / 2, len(known) - 1) * known.std(ddof=1) / len(known) ** 0.5)
     return mean, mean - half, mean + half
 
 
@@ -48,17 +46,17 @@ def over_seeds(values: ArrayLike, confidence: float = 0.95, *, bounds: tuple[flo
     Seeds that are all the same give an interval without width, which says nothing of what is rarer than one seed. Raises
     `ArgumentError` where the confidence is not between 0 and 1.
     """
-    from scipy import stats
-
     part = arguments.real("confidence", confidence, 0, 1, above=0)
     table = pd.DataFrame(np.asarray(values, dtype=np.float64))
     seeds, mean, error = table.count(), table.mean(), table.sem()
-    half = stats.t.ppf((1 + part) / 2, seeds - 1) * error
+    half = _errors((1 + part) / 2, seeds.to_numpy() - 1) * error
     low, high = (mean - half).clip(*bounds), (mean + half).clip(*bounds)
     found = {"seeds": seeds.astype("int64"), "mean": mean, "error": error, "low": low, "high": high}
-    for name, quantile in (("least", 0.0), ("p5", 0.05), ("p50", 0.5), ("p95", 0.95), ("greatest", 1.0)):
-        found[name] = table.quantile(quantile)
-    return pd.DataFrame(found)
+    spread = table.quantile(list(_QUANTILES.values()))
+    return pd.DataFrame({**found, **{name: spread.loc[quantile] for name, quantile in _QUANTILES.items()}})
+
+
+_QUANTILES = {"least": 0.0, "p5": 0.05, "p50": 0.5, "p95": 0.95, "greatest": 1.0}
 
 
 def chance(changes: ArrayLike) -> float:
@@ -69,10 +67,11 @@ def chance(changes: ArrayLike) -> float:
         return float("nan")
     if np.ptp(known) == 0:
         return float(known[0] == 0)
-    from scipy import stats
+    # The functions of `scipy.stats` call these, and to load it takes longer than most answers.
+    from scipy import special
 
     errors = float(known.mean() / (known.std(ddof=1) / len(known) ** 0.5))
-    return float(2 * stats.t.sf(abs(errors), len(known) - 1))
+    return float(2 * special.stdtr(len(known) - 1, -abs(errors)))
 
 
 def adjusted(chances: Iterable[float]) -> list[float]:
@@ -104,6 +103,14 @@ def means(table: pd.DataFrame, by: str | Sequence[str], columns: Sequence[str], 
             found[name], found[f"{name}_low"], found[f"{name}_high"] = of_mean(part[name].astype("float64"), confidence)
         rows.append(found)
     return pd.DataFrame(rows)
+
+
+def _errors(part: float, freedom: ArrayLike) -> Any:
+    """Below how many standard errors this part of Student's distribution lies; not a number without a degree of freedom."""
+    from scipy import special
+
+    degrees = np.asarray(freedom, dtype=np.float64)
+    return special.stdtrit(np.where(degrees > 0, degrees, np.nan), part)
 
 
 def _known(values: ArrayLike) -> NDArray[np.float64]:

@@ -210,7 +210,7 @@ def _draw_links(
         back = paints.get((receiver, sender))
         if back is None:
             arrow = {"arrowstyle": "-|>", "color": paint, "shrinkB": 11, "linewidth": 1.2}
-            drawn.annotate("", end, start, arrowprops=arrow, zorder=1)
+            drawn.annotate("", end, start, arrowprops=arrow, zorder=1, in_layout=False)
         if back is None or back == paint and sender < receiver:
             shown[paint].append([start, end])
         elif back != paint:
@@ -254,7 +254,7 @@ def _draw_nodes(
         )  # fmt: skip
         ink = style.PALE if node in down else style.ink_on(colour)
         if len(scenario.name(node)) <= _NAME_INSIDE:
-            drawn.text(x, y, scenario.name(node), color=ink, ha="center", va="center", fontsize=0.45 * size, zorder=4)
+            drawn.text(x, y, scenario.name(node), color=ink, ha="center", va="center", fontsize=0.45 * size, zorder=4, in_layout=False)
     _node_key(drawn, ranks, away, down, set(laid))
 
 
@@ -277,25 +277,33 @@ def _draw_names(drawn: Axes, scenario: Scenario, laid: Mapping[int, Place], down
             words[node] = scenario.name(node) + (f" ({words[node]})" if node in words else "")
     if not words:
         return
-    drawn.get_figure().draw_without_rendering()
+    _lay_out(drawn)
     points = 72.0 / drawn.get_figure().dpi
     at = {node: np.array(drawn.transData.transform(place)) * points for node, place in laid.items()}
     half = _marker(laid) / 2
     taken = [(x - half, y - half, x + half, y + half) for x, y in at.values()]
-    lines = [(at[one], at[other]) for one, other in scenario.links]
+    spots = _along([(at[one], at[other]) for one, other in scenario.links])
     for node, text in words.items():
         wide, tall = 4.4 * len(text) + 4, 10.0
-        left, low = _beside(at[node], half + 2.5, wide, tall, taken, lines)
+        left, low = _beside(at[node], half + 2.5, wide, tall, taken, spots)
         taken.append((left, low, left + wide, low + tall))
         offset = (left + wide / 2 - at[node][0], low + tall / 2 - at[node][1])
         drawn.annotate(text, laid[node], offset, textcoords="offset points", fontsize=8, ha="center", va="center", zorder=5,
                        bbox={"facecolor": style.GROUND, "edgecolor": "none", "pad": 0.6, "alpha": 0.8})  # fmt: skip
 
 
+def _lay_out(drawn: Axes) -> None:
+    """Puts the axes where they are drawn, without drawing anything."""
+    figure = drawn.get_figure()
+    engine = figure.get_layout_engine()
+    if engine is not None:
+        engine.execute(figure)
+    drawn.apply_aspect()
+
+
 def _beside(
-    at: NDArray[np.float64], away: float, wide: float, tall: float, taken: Sequence[tuple[float, float, float, float]],
-    lines: Sequence[tuple[NDArray[np.float64], NDArray[np.float64]]],
-) -> tuple[float, float]:  # fmt: skip
+    at: NDArray[np.float64], away: float, wide: float, tall: float, taken: Sequence[tuple[float, float, float, float]], spots: NDArray[np.float64]
+) -> tuple[float, float]:
     """The lower left corner of a box of this size next to a node that covers least of what is taken, and then of the lines."""
     best, least = (float(at[0]), float(at[1])), np.inf
     for ring in (0.0, 8.0, 16.0):
@@ -306,7 +314,7 @@ def _beside(
             rise = up * gap if abs(up) != 0.5 else 5 * up
             low = at[1] + rise + (0 if up > 0 else -tall if up < 0 else -tall / 2)
             box = (left, low, left + wide, low + tall)
-            cost = 1e3 * sum(_common(box, other) for other in taken) + 8.0 * _crossed(box, lines) + ring
+            cost = 1e3 * sum(_common(box, other) for other in taken) + 8.0 * _crossed(box, spots) + ring
             if cost < least - 1e-9:
                 best, least = (float(left), float(low)), cost
     return best
@@ -319,15 +327,18 @@ def _common(one: tuple[float, ...], other: tuple[float, ...]) -> float:
     return max(0.0, wide) * max(0.0, tall)
 
 
-def _crossed(box: tuple[float, ...], lines: Sequence[tuple[NDArray[np.float64], NDArray[np.float64]]]) -> int:
+def _along(lines: Sequence[tuple[NDArray[np.float64], NDArray[np.float64]]]) -> NDArray[np.float64]:
+    """Points along each of the lines: by line, point, and x and y."""
+    ends = np.array(lines, dtype=np.float64).reshape(-1, 2, 1, 2)
+    found: NDArray[np.float64] = ends[:, 0] + np.linspace(0, 1, 60)[:, None] * (ends[:, 1] - ends[:, 0])
+    return found
+
+
+def _crossed(box: tuple[float, ...], spots: NDArray[np.float64]) -> int:
     """How many of the lines go through a box, by points along them."""
-    parts = np.linspace(0, 1, 60)[:, None]
-    count = 0
-    for start, end in lines:
-        spots = start + parts * (end - start)
-        inside = (spots[:, 0] > box[0]) & (spots[:, 0] < box[2]) & (spots[:, 1] > box[1]) & (spots[:, 1] < box[3])
-        count += bool(inside.any())
-    return count
+    x, y = spots[..., 0], spots[..., 1]
+    inside = (x > box[0]) & (x < box[2]) & (y > box[1]) & (y < box[3])
+    return int(inside.any(axis=1).sum())
 
 
 def _node_key(

@@ -85,9 +85,11 @@ class Sample:
         days, days_in_rounds   the shortest battery life of any node (`battery_life`, whose words may be given)
         """
         runs = self._runs(battery).drop(columns="seed") if battery else self.runs.drop(columns="seed")
-        shares = [name for name in runs if name.startswith(("ratio", "within", "duty")) or name in _FATES]
-        parts = [self._table("all", {name: runs[[name]].to_numpy()}, share=name in shares) for name in runs]
-        return self._told(pd.concat(parts, ignore_index=True))
+        shares = {name for name in runs if name.startswith(("ratio", "within", "duty")) or name in _FATES}
+        tables = [
+            self._table("all", {name: runs[[name]].to_numpy() for name in runs if (name in shares) == share}, share) for share in (True, False)
+        ]
+        return self._told(pd.concat(tables).set_index("quantity").loc[list(runs)].reset_index())
 
     def delivery_ratio(self, by: str = "stream") -> pd.DataFrame:
         """The part, 0 to 1, of what was put that was delivered, of pairs of a packet and a receiver that it is meant for: `ratio_of_put`.
@@ -209,10 +211,11 @@ class Sample:
     def _table(self, rows: str, parts: dict[str, Numbers], share: bool = False) -> pd.DataFrame:
         """A row for each column of the arrays and each quantity, the quantities of one next to each other."""
         keys = self._tallies.rows[rows]
-        tables = [pd.concat([keys, intervals.over_seeds(part, bounds=(0.0, 1.0 if share else np.inf))], axis=1) for part in parts.values()]
-        for name, table in zip(parts, tables):
-            table.insert(len(keys.columns), "quantity", name)
-        return pd.concat(tables).sort_index(kind="stable").reset_index(drop=True)
+        spread = intervals.over_seeds(np.hstack(list(parts.values())), bounds=(0.0, 1.0 if share else np.inf))
+        place = np.tile(np.arange(len(keys)), len(parts))
+        table = pd.concat([keys.iloc[place].reset_index(drop=True), spread], axis=1)
+        table.insert(len(keys.columns), "quantity", np.repeat(list(parts), len(keys)))
+        return table.iloc[np.argsort(place, kind="stable")].reset_index(drop=True)
 
     def _told(self, table: pd.DataFrame) -> pd.DataFrame:
         """The table with the names of nodes, and where it comes from."""

@@ -48,6 +48,11 @@ def _shown(value: Any) -> str:
     return (value.hex() or "-") if isinstance(value, bytes) else str(value)
 
 
+def _line(word: str, values: Sequence[Any]) -> str:
+    """A line as a text has it, with values that it may not have."""
+    return " ".join([word, *map(_shown, values)])
+
+
 def _real(name: str, value: Any, low: float | None = None, *, above: float | None = None) -> float:
     """As `arguments.real`, with a `ScenarioError`."""
     try:
@@ -115,7 +120,7 @@ class Scenario:
             (what,) = lines.fields("run")[word]
             # Without a `contend` line there are 0.
             if word != "contend" or value != 0:
-                setattr(self, word, self._taken(f"{word} {_shown(value)}", value, what))
+                setattr(self, word, self._taken(word, [value], value, what))
         if self.contend and self.profile == 1:
             raise ScenarioError("`contend` needs profile 2: profile 1 has one contention slot")
         self.check_ratios()
@@ -181,33 +186,36 @@ class Scenario:
     def _require(self, word: str, *values: Any) -> tuple[Any, ...]:
         """The values of a line of this word, as whole numbers and bytes; raises `ScenarioError` where it may not have them."""
         fields = lines.fields("outcome", self._context())[word]
-        shown = " ".join([word, *map(_shown, values)])
-        taken: tuple[Any, ...] = tuple(self._taken(shown, value, what) for value, what in zip(values, fields, strict=True))
+        taken: tuple[Any, ...] = tuple(
+            # Nearly all values are whole numbers in their range.
+            value if type(value) is int and what.low <= value <= what.high else self._taken(word, values, value, what)
+            for value, what in zip(values, fields, strict=True)
+        )
         ids = [value for value, what in zip(taken, fields) if what.kind == "id"]
         for node in ids:
             if node not in self.nodes:
-                raise ScenarioError(f"`{shown}`: node {node} is not given; nodes come before all that names them")
+                raise ScenarioError(f"`{_line(word, values)}`: node {node} is not given; nodes come before all that names them")
         if len(ids) == 2 and ids[0] == ids[1]:
-            raise ScenarioError(f"`{shown}`: the two ids must differ")
+            raise ScenarioError(f"`{_line(word, values)}`: the two ids must differ")
         return taken
 
     def _numbers(self, word: str, *values: Any) -> tuple[int, ...]:
         """The values of a line without a payload."""
         return self._require(word, *values)
 
-    def _taken(self, shown: str, value: Any, what: Field) -> int | bytes:
-        """The value of a field; raises `ScenarioError` where it is out of its range."""
+    def _taken(self, word: str, values: Sequence[Any], value: Any, what: Field) -> int | bytes:
+        """The value of a field, one of the values of a line; raises `ScenarioError` where it is out of its range."""
         if isinstance(value, bytes):
             if len(value) > what.high:
-                raise ScenarioError(f"`{shown}`: {what.range_in_words()} in profile {self.profile}")
+                raise ScenarioError(f"`{_line(word, values)}`: {what.range_in_words()} in profile {self.profile}")
             return value
         number = arguments.index(value)
         if number is None:
             in_words = what.range_in_words().replace(", is from", ", is a whole number from")
-            raise ScenarioError(f"`{shown}`: {value!r}, {in_words}{arguments.instead(value)}")
+            raise ScenarioError(f"`{_line(word, values)}`: {value!r}, {in_words}{arguments.instead(value)}")
         if not what.low <= number <= what.high:
             advice = what.advice if number > what.high else ""
-            raise ScenarioError(f"`{shown}`: {number}, {what.range_in_words()}{advice}")
+            raise ScenarioError(f"`{_line(word, values)}`: {number}, {what.range_in_words()}{advice}")
         return number
 
     # Building.

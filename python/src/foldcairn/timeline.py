@@ -95,6 +95,8 @@ def _times(drawn: Axes, scenario: Scenario, start: float, end: float) -> None:
         frames = frames[(frames >= start / length) & (frames <= end / length)]
         above.set_xticks(frames, [f"{frame:g}" for frame in frames])
         above.set_xlabel("start of frame", fontsize=8.5)
+        # It has no title, and matplotlib need not look for a place for it: what `y` says for other axes (see `style.heading`).
+        above._autotitlepos = False
         above.tick_params(length=0, labelsize=8.5)
         above.spines["top"].set_visible(False)
         drawn.vlines(length * frames, 0, 1, transform=drawn.get_xaxis_transform(), color=style.FAINT, linewidth=0.5, zorder=0.6)
@@ -122,7 +124,8 @@ def _bars(
     corners = np.stack([start, low, end, low, end, high, start, high], axis=1).reshape(-1, 4, 2)
     closed = np.concatenate([corners, corners[:, :1]], axis=1)
     shape = PathPatch(Path.make_compound_path_from_polys(closed), facecolor=colour, linewidth=0, label=label, zorder=zorder)
-    drawn.add_patch(shape)
+    # As a patch it would be looked through for the limits of the axes, which are set.
+    drawn.add_artist(shape)
 
 
 def _cut(table: pd.DataFrame, row: dict[int, int], start: float, end: float) -> pd.DataFrame:
@@ -173,7 +176,7 @@ def _steps(drawn: Axes, table: pd.DataFrame, row: dict[int, int], point: float) 
     """The relay counter of each packet in its bar, where it has room."""
     for one in table[table["end_seconds"] - table["start_seconds"] > 9 * point].itertuples():
         middle = (one.start_seconds + one.end_seconds) / 2
-        drawn.text(middle, row[one.node], str(one.step), color=style.ON_DARK, fontsize=7, ha="center", va="center", zorder=5)
+        drawn.text(middle, row[one.node], str(one.step), color=style.ON_DARK, fontsize=7, ha="center", va="center", zorder=5, in_layout=False)
 
 
 def _slot_lines(drawn: Axes, log: Log, rows: int, start: float, end: float) -> float:

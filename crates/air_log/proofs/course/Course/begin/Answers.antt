@@ -9,8 +9,9 @@ use Rattle.air_log.proofs.course.Course.begin.Goals as goal
 pub returns : goal.returns
 returns c =
     let old = course_of c.self.inside in
-    let x = c.begin-sending in
+    let x = c.start-sending in
     on_ok_weaker c.log_sending.result (λ logged.
     goes_seen c.args.t (λ q d. device_after_start q c.args.t d) old c.args.self.now _ c.log_sending.new.self c.self.view_is (sym logged)
-    (begin_goes c.args.t old x.new.self x.result (λ q d. device_after_start q c.args.t d) x.ensures.whole (x.ensures.time c.args.t) x.ensures.node))
+    (begin_goes c.args.t old x.new.self x.result (λ q d. device_after_start q c.args.t d) x.ensures.whole x.ensures.until (x.ensures.time c.args.t)
+    x.ensures.node))
     c.log_sending.ensures

@@ -1,46 +1,90 @@
-use Rattle.std.proofs.Common.{Option, Some, refl, sym, ◌∙◌, ap, subst}
+use Rattle.std.proofs.Common.{◌≡◌, ◌-◌, ℕ, List, length, Bool, true, Option, None, if◌then◌else◌, refl, sym, ◌∙◌, ap, subst}
+use Rattle.std.specs.Prelude.{option_copied, is_some}
+use Rattle.std.specs.List.{slice_get}
 use Rattle.std.proofs.lemmas.Result.{on_ok_weaker}
 use Rattle.lwb_base.specs.declared.event.Event.TheVariants.{Sent}
 use Rattle.radio_model.specs.declared.sending.Sending.{Sending}
-use Rattle.air_log.specs.Devices.{event}
+use Rattle.bus_rules.specs.Cores.{Setup}
+use Rattle.air_log.specs.Devices.{Device, event}
 use Rattle.air_log.specs.Trails.{device_after_end}
-use Rattle.air_log.specs.DeviceStates.{DeviceState, whole, told_of}
-use Rattle.air_log.specs.Courses.{CourseIsShown}
+use Rattle.air_log.specs.DeviceStates.{DeviceState, HappenedBy, IsSameNode, RunsUntil, whole, told_of, running, ends_now}
+use Rattle.air_log.specs.Courses.{CourseState, CourseIsShown, made_in}
 use Rattle.air_log.specs.CourseParts.{course_of}
 use Rattle.air_log.proofs.DeviceChanges.{set_happened}
+use Rattle.air_log.proofs.RunningSendings.{last_there, ended_last, told_last}
 use Rattle.air_log.proofs.ShownCourses.{goes_seen}
-use Rattle.air_log.proofs.CourseSteps.{then_shown, then_goes}
+use Rattle.air_log.proofs.CourseSteps.{shown_in, then_shown, then_goes, middle, course_goes, course_listed}
+use Rattle.air_log.proofs.course.Course.end_sending.Given.{Over}
 use Rattle.air_log.proofs.course.Course.end_sending.Goals as goal
+use Rattle.air_log.proofs.course.Course.end_sending.Goals.{After-last}
 
-pub tell-requires-clause-shown : goal.tell-requires-clause-shown
-tell-requires-clause-shown g c =
+-- the device runs nothing any more
+module _ (t : ℕ) (old : CourseState) (x : DeviceState) (r : Bool) (now : r ≡ true)
+    (is : x ≡ record (old.device) { busy_until = if r then None else old.device.busy_until }) where
+  pub ended : x ≡ record (old.device) { busy_until = None }
+  ended = is ∙ ap (λ (b : Bool). record (old.device) { busy_until = if b then None else old.device.busy_until }) now
+
+  pub happened : HappenedBy t old.device → HappenedBy t x
+  happened = set_happened t old.device x (ap (λ (s : DeviceState). s.closed) ended) (ap (λ (s : DeviceState). s.listening) ended)
+
+  pub node : IsSameNode old.device x
+  node = record {
+    setup = ap (λ (s : DeviceState). s.setup) ended;
+    delivery = ap (λ (s : DeviceState). s.delivery) ended;
+    windows = ap (λ (s : DeviceState). s.windows) ended;
+  }
+
+  pub runs : RunsUntil x.busy_until old.sent
+  runs = subst (λ (o : Option ℕ). RunsUntil o old.sent) (sym (ap (λ (s : DeviceState). s.busy_until) ended)) refl
+
+pub notify-requires-clause-shown : goal.notify-requires-clause-shown
+notify-requires-clause-shown g c =
     let old = course_of c.self.inside in
-    let x = c.end_sending.new.self in
-    let is = c.end_sending.ensures.after in
-    then_shown c.args.t old x (set_happened c.args.t old.device x (ap (λ (s : DeviceState). s.closed) is) (ap (λ (s : DeviceState). s.listening) is))
-    (record {
-      setup = ap (λ (s : DeviceState). s.setup) is;
-      delivery = ap (λ (s : DeviceState). s.delivery) is;
-      windows = ap (λ (s : DeviceState). s.windows) is;
-    })
-    (subst (CourseIsShown c.args.t) (sym c.self.view_is) c.requires.shown)
+    let t = c.args.t in
+    let x = c.end_sending in
+    let now = c.if-not-end_sending.false in
+    let h = happened t old x.new.self x.result now x.ensures.after in
+    let n = node t old x.new.self x.result now x.ensures.after in
+    let r = runs t old x.new.self x.result now x.ensures.after in
+    shown_in t (middle t old x.new.self h n r) (then_shown t old x.new.self h n r (subst (CourseIsShown t) (sym c.self.view_is) c.requires.shown))
+
+-- the last transmission, as code reads it
+last_is : (g : Over) (c : After-last g) → option_copied c.last.result ≡ slice_get c.self.inside.sent.items (length c.self.inside.sent.items - 1)
+last_is g c = c.last.ensures.value ∙ ap (λ (l : List Sending). slice_get l (length l - 1)) c.deref.ensures.value
+
+due : (g : Over) (c : After-last g) → ends_now c.args.t c.self.inside.device.busy_until ≡ true
+due g c = sym c.end_sending.ensures.ended ∙ c.if-not-end_sending.false
+
+some : (g : Over) (c : After-last g) → RunsUntil c.self.inside.device.busy_until c.self.inside.sent.items → is_some (option_copied c.last.result) ≡ true
+some g c runs = ap is_some (last_is g c) ∙ last_there c.args.t c.self.inside.device.busy_until c.self.inside.sent.items runs (due g c)
 
 pub returns : goal.returns
 returns g c =
     let clock = g.C.DriftClock.readings c.args.clock.now in
     let t = c.args.t in
     let old = course_of c.self.inside in
-    let x = c.end_sending.new.self in
-    let is = c.end_sending.ensures.after in
-    on_ok_weaker c.tell.result (λ told.
-    goes_seen t (λ q d. device_after_end clock q t d) old c.args.self.now c.tell.new.self c.tell.new.self c.self.view_is refl
-    (then_goes t old x (set_happened t old.device x (ap (λ (s : DeviceState). s.closed) is) (ap (λ (s : DeviceState). s.listening) is))
-    (record {
-      setup = ap (λ (s : DeviceState). s.setup) is;
-      delivery = ap (λ (s : DeviceState). s.delivery) is;
-      windows = ap (λ (s : DeviceState). s.windows) is;
-    })
-    (λ q d. device_after_end clock q t d) (λ q d. event clock q t Sent (Some c.in-Some.x) d) c.tell.new.self
-    (λ made. c.end_sending.ensures.whole clock made ∙ ap (λ (o : Option Sending). told_of clock old.device.setup t o (whole x made)) c.in-Some.is)
-    told))
-    c.tell.ensures
+    let x = c.end_sending in
+    let now = c.if-not-end_sending.false in
+    let last = option_copied c.last.result in
+    let at = (goal.at.returns g c).After-last in
+    let h = happened t old x.new.self x.result now x.ensures.after in
+    let n = node t old x.new.self x.result now x.ensures.after in
+    let r = runs t old x.new.self x.result now x.ensures.after in
+    let mid = middle t old x.new.self h n r in
+    let event_is : Setup → Device → Device = λ q d. event clock q t Sent last d in
+    let told = c.in_ok-closed.ensures.goes in
+    let closed = c.in_ok-closed.closed in
+    on_ok_weaker c.log_tuning.result (λ logged.
+    goes_seen t (λ q d. device_after_end clock q t d) old c.args.self.now c.log_tuning.new.self c.log_tuning.new.self c.self.view_is refl
+    (then_goes t old x.new.self h n r (λ q d. device_after_end clock q t d) event_is c.log_tuning.new.self
+    (λ windows runs.
+    let first = made_in old windows in
+    x.ensures.whole clock first runs
+    ∙ ap (λ (b : Bool). told_of clock old.device.setup t (if b then running old.device.busy_until old.sent else None) (whole x.new.self first)) now
+    ∙ ap (λ (o : Option Sending). told_of clock old.device.setup t o (whole x.new.self first))
+    (ended_last t old.device.busy_until old.sent (due g at) ∙ sym (last_is g at))
+    ∙ told_last clock old.device.setup t last (whole x.new.self first) (some g at runs))
+    (goes_seen t event_is mid mid _ c.log_tuning.new.self refl
+    (course_listed mid c.notify.new.self closed told.0 c.notify.new.deliveries.items c.log_tuning.new.self told.1 logged)
+    (course_goes t event_is mid c.notify.new.self closed told.0 told.2))))
+    c.log_tuning.ensures

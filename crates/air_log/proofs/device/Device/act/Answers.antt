@@ -32,7 +32,7 @@ returns-in-Some-Off-clause-goes g c =
         comes = λ made ended. ap (λ (a : Act). device_after_act clock old.setup t (whole old made) a old.power) act ∙ x.ensures.whole clock made;
         node = x.ensures.node;
         happened = x.ensures.time;
-        sending = x.ensures.sending;
+        busy = x.ensures.busy;
         before = x.ensures.before;
         own = x.ensures.own;
         hands = x.ensures.hands;
@@ -47,5 +47,5 @@ returns-in-None-clause-goes g c =
       [],
       sym (append-nil c.args.deliveries.now.items),
       set_goes t (λ q d. device_after_act clock q t d c.args.line.now.act d.power) c.args.self.now x.new.self (x.ensures.whole clock t) x.ensures.node
-          (x.ensures.time t) x.ensures.sending x.ensures.closed,
+          (x.ensures.time t) x.ensures.busy x.ensures.closed,
     )

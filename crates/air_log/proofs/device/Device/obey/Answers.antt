@@ -15,7 +15,7 @@ returns-in-Listen g c =
           ∙ x.ensures.whole clock made ended;
       node = x.ensures.node;
       happened = λ happened. x.ensures.time;
-      sending = x.ensures.sending;
+      busy = x.ensures.busy;
       before = x.ensures.before;
       own = x.ensures.own;
       hands = x.ensures.hands;
@@ -31,7 +31,7 @@ returns-in-Off g c =
           ∙ x.ensures.whole made;
       node = x.ensures.node;
       happened = x.ensures.time;
-      sending = x.ensures.sending;
+      busy = x.ensures.busy;
       before = x.ensures.before;
       own = x.ensures.own;
       hands = x.ensures.hands;
