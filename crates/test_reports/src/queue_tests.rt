@@ -60,17 +60,24 @@ fn ends_of_sendings(alloc: Global, air: &Air) -> Result<Vec<u64>, Fail> {
     Ok(ends)
 }
 
+// The log of the run of a scenario over such a queue, and the queue. It is a function of its own, since a world takes long to prove
+// at each place where a test may end.
+fn noted_run(alloc: Global, s: &Scenario) -> Result<(Air, Noting), Memory> {
+    let mut queue = empty_queue(alloc, s)?;
+    let mut world = stated_world(alloc, s)?;
+    world.run_with(alloc, &mut queue)?;
+    Ok((world.into_air(), queue))
+}
+
 #[test]
 fn calendar_and_noting_queue(rt: HostRuntime) -> Result<(), Fail> {
     let alloc = rt.alloc();
     let s = scenario(alloc, ONE_PACKET)?;
-    let mut world = stated_world(alloc, &s)?;
-    let mut queue = empty_queue(alloc, &s)?;
-    world.run_with(alloc, &mut queue)?;
+    let (air, queue) = noted_run(alloc, &s)?;
     assert!(rt; queue.noted_all);
     let mut noted = queue.ends;
     noted.sort()?;
-    let mut ends = ends_of_sendings(alloc, world.air())?;
+    let mut ends = ends_of_sendings(alloc, &air)?;
     ends.sort()?;
     assert!(rt; ends.len() > 0);
     assert_eq!(rt; noted.as_slice(), ends.as_slice());

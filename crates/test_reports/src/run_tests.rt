@@ -2,30 +2,37 @@
 
 use crate::texts::FIRST_ROUND;
 use bus_rules::Tune;
-use lwb_base::{NodeId, Rank};
+use lwb_base::{Memory, NodeId, Rank};
 use lwb_world::{World, world_after};
 use node_core::Place;
+use scenario_text::Scenario;
+use std::alloc::Global;
 use std::test::Fail;
 use test_texts::scenario;
 use tick_clock::SegmentClock;
 
-// Whether the node awaits the end of a frame, and what it scans, holds or hosts.
-fn tune_at_rest(world: &World<'_, SegmentClock>, id: u8) -> Result<Tune, Fail> {
-    let id = NodeId::new(id).ok_or("id")?;
-    let node = world.node(id).ok_or("node")?;
+// What the node scans, holds or hosts, if it awaits the end of a frame.
+fn tune_at_rest(world: &World<'_, SegmentClock>, id: u8) -> Option<Tune> {
+    let node = world.node(NodeId::new(id)?)?;
     if node.place() != Place::AwaitFrame {
-        return Err("place")?;
+        return None;
     }
-    Ok(node.tune())
+    Some(node.tune())
+}
+
+// That of the two nodes at the end of a run.
+fn tunes_at_rest(alloc: Global, s: &Scenario) -> Result<(Option<Tune>, Option<Tune>), Memory> {
+    let world = world_after(alloc, s)?;
+    Ok((tune_at_rest(&world, 1), tune_at_rest(&world, 2)))
 }
 
 #[test]
 fn nodes_after_a_first_round(rt: HostRuntime) -> Result<(), Fail> {
     let alloc = rt.alloc();
-    let s = scenario(alloc, FIRST_ROUND)?;
-    let world = world_after(alloc, &s)?;
     let rank = Rank::new(0).ok_or("rank")?;
-    assert!(rt; tune_at_rest(&world, 1)? == Tune::Host(rank, 9));
-    assert!(rt; tune_at_rest(&world, 2)? == Tune::Hold(rank, 9));
+    let s = scenario(alloc, FIRST_ROUND)?;
+    let (host, member) = tunes_at_rest(alloc, &s)?;
+    assert!(rt; host == Some(Tune::Host(rank, 9)));
+    assert!(rt; member == Some(Tune::Hold(rank, 9)));
     Ok(())
 }

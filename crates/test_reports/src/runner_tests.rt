@@ -28,19 +28,30 @@ impl Runner for Logs {
 // last of them a schedule of node 1 would reach it.
 const BACK: &[&str] = &[THREE_NODES, TWO_HOSTS, "frames 38\n", FAILOVER, "on 31 1\n"];
 
+// The returns of a scenario, and in how many frames a node has probed.
+fn returns_and_probes(
+    alloc: Global,
+    s: &Scenario,
+    node: NodeId,
+) -> Result<(Vec<Return>, u32), Memory> {
+    let returned = follow_returns(alloc, s, &mut Logs)?;
+    let returns = Vec::from_slice(alloc, returned.returns())?;
+    Ok((returns, returned.probes(node)))
+}
+
 #[test]
 fn a_backup_host_goes_back(rt: HostRuntime) -> Result<(), Fail> {
     let alloc = rt.alloc();
-    let s = scenario(alloc, BACK)?;
-    let returned = follow_returns(alloc, &s, &mut Logs)?;
     let node = NodeId::new(2).ok_or("id")?;
     let rank = Rank::new(0).ok_or("rank")?;
+    let s = scenario(alloc, BACK)?;
+    let (returns, probes) = returns_and_probes(alloc, &s, node)?;
     let back = [Return {
         frame: 36,
         node,
         rank,
     }];
-    assert_eq!(rt; returned.returns(), back.as_slice());
-    assert_eq!(rt; returned.probes(node), 7);
+    assert_eq!(rt; returns.as_slice(), back.as_slice());
+    assert_eq!(rt; probes, 7);
     Ok(())
 }
