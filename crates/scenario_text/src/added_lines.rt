@@ -12,7 +12,8 @@ ghost use Rattle.scenario_text.specs.ScenarioGrammar.{IsScenario};
 ghost use Rattle.scenario_text.specs.ScenarioParts.{ScenarioParts};
 
 use crate::boots::has_few_boots;
-use crate::known_nodes::ids;
+use crate::network::Network;
+use crate::sealing::seal;
 use crate::{Scenario, ScriptLine};
 use link_trace::Trace;
 use lwb_base::{MOST_SCRIPT_LINES, Memory};
@@ -49,26 +50,32 @@ fn with_own_script(alloc: Global, s: &Scenario, script: Vec<ScriptLine>) -> Resu
     requires { IsSaid (record s.now { script = script.items }) }
     ensures { IfOk result (λ t. t ≡ record s.now { script = script.items }) }
 {
+    let network = network_of(alloc, s)?;
+    let hosts = Vec::from_slice(alloc, s.hosts())?;
+    Ok(Scenario::of_network(s.profile(), s.frames(), network, hosts, script))
+}
+
+// A copy of its network.
+fn network_of(alloc: Global, s: &Scenario) -> Result<Network, Memory>
+    ensures { IfOk result (λ n. n ≡ record { sends = s.now.sends; nodes = s.now.nodes; rates = s.now.rates; trace = s.now.trace }) }
+{
+    let nodes = Vec::from_slice(alloc, s.nodes())?;
+    let rates = Vec::from_slice(alloc, s.rates())?;
     let trace = sealed_trace(alloc, s)?;
-    Ok(Scenario::of_parts(
-        &s.profile(),
-        s.frames(),
-        s.sends(),
-        Vec::from_slice(alloc, s.nodes())?,
-        Vec::from_slice(alloc, s.rates())?,
-        Vec::from_slice(alloc, s.hosts())?,
+    Ok(Network {
+        sends: s.sends(),
+        nodes,
+        rates,
         trace,
-        script,
-    ))
+    })
 }
 
 // A copy of its trace.
 fn sealed_trace(alloc: Global, s: &Scenario) -> Result<Trace, Memory>
     ensures { IfOk result (λ t. (t.lines ≡ s.now.trace) × IsSealed t s.now.nodes) }
 {
-    let nodes = ids(alloc, s.nodes())?;
     let mut trace = s.trace().unsealed_copy(alloc)?;
-    trace.seal(&nodes)?;
+    seal(alloc, &mut trace, s.nodes())?;
     Ok(trace)
 }
 

@@ -1,20 +1,20 @@
 //! What the lines of a flood text say so far.
 
 ghost use Rattle.std.specs.Prelude.{◌≡◌, IfOk, OnOk};
-ghost use Rattle.text_readers.specs.Faults.{Refuses, RefusesBy};
+ghost use Rattle.text_readers.specs.Faults.{Refuses};
 ghost use Rattle.scenario_text.specs.FloodGrammar.{no_flood, rule_fault, with_flood_line, flood_after_words, flood_of_parts};
 ghost use Rattle.scenario_text.specs.FloodDrafts.{IsFloodDraft};
 ghost use Rattle.scenario_text.specs.Network.{network_parts};
 ghost use Rattle.scenario_text.specs.declared.flood_line.FloodLine.TheVariants.{Lose, Start};
 
 use crate::flood_line::FloodLine;
-use crate::known_nodes::{are_two_ids, is_id};
+use crate::known_nodes::is_id;
 use crate::network_draft::NetworkDraft;
 use crate::{FaultKind, FloodText};
 use lwb_base::{LAST_STEP, Memory, NodeId};
 use std::alloc::Global;
 use std::marker::Model;
-use text_readers::{Draft, Refusal, refuse_unless};
+use text_readers::{Draft, Refusal};
 
 /// What the lines of a flood text say so far.
 #[derive(Drop)]
@@ -59,7 +59,7 @@ impl FloodDraft {
         match line {
             FloodLine::InNetwork(line) => self.network.add(1_048_576_000_000, line),
             FloodLine::Lose { step, from, to } => self.add_loss(step, from, to),
-            FloodLine::Start { id } => Ok(self.add_start(id)?),
+            FloodLine::Start { id } => self.add_start(id),
         }
     }
 
@@ -67,24 +67,26 @@ impl FloodDraft {
         ensures fault { Refuses result (rule_fault self.old (Lose step from to)) }
         ensures added { OnOk result (self.new ≡ with_flood_line self.old (Lose step from to)) }
     {
-        refuse_unless(
-            step <= u64::from(LAST_STEP) && are_two_ids(from, to),
-            FaultKind::Range,
-        )?;
-        let (from, to) = self
-            .network
-            .two_nodes(from, to)
-            .ok_or(FaultKind::UnknownNode)?;
+        if step > u64::from(LAST_STEP) {
+            return Err(Refusal::Fault(FaultKind::Range));
+        }
+        let (from, to) = self.network.ends(from, to)?;
         self.network.lose(5, 1, step as u8, from, to)
     }
 
-    fn add_start(&mut self, id: u64) -> Result<(), FaultKind>
-        ensures fault { RefusesBy result (rule_fault self.old (Start id)) }
+    fn add_start(&mut self, id: u64) -> Result<(), Refusal>
+        ensures fault { Refuses result (rule_fault self.old (Start id)) }
         ensures added { OnOk result (self.new ≡ with_flood_line self.old (Start id)) }
     {
-        refuse_unless(is_id(id), FaultKind::Range)?;
-        let node = self.network.node(id).ok_or(FaultKind::UnknownNode)?;
-        refuse_unless(self.start.is_none(), FaultKind::Twice)?;
+        if !is_id(id) {
+            return Err(Refusal::Fault(FaultKind::Range));
+        }
+        let Some(node) = self.network.node(id) else {
+            return Err(Refusal::Fault(FaultKind::UnknownNode));
+        };
+        if self.start.is_some() {
+            return Err(Refusal::Fault(FaultKind::Twice));
+        }
         self.start = Some(node);
         Ok(())
     }
@@ -95,12 +97,13 @@ impl FloodDraft {
         ensures { IfOk result (λ f. f ≡ flood_of_parts (network_parts self.network self.network.sends) self.start) }
     {
         let FloodDraft { network, start } = self;
-        let Some(network) = network.finish(alloc)? else {
+        let Some(sends) = network.whole_sends() else {
             return Ok(None);
         };
         let Some(start) = start else {
             return Ok(None);
         };
+        let network = network.finish(alloc, sends)?;
         Ok(Some(FloodText::of_network(network, start)))
     }
 }

@@ -25,6 +25,7 @@ mod scenario_draft;
 mod scenario_line;
 mod script;
 mod script_writers;
+mod sealing;
 mod written_act;
 
 pub use added_lines::with_script;

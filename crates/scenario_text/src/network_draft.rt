@@ -1,24 +1,27 @@
 //! What the lines that floods and scenarios have in common say so far.
 
-ghost use Rattle.std.specs.Prelude.{◌≡◌, ◌≢◌, ◌&&◌, not, if◌then◌else◌, [], ◌∷◌, Ok, Some, None, true, IfOk, OnOk};
+ghost use Rattle.std.specs.Prelude.{◌≡◌, ◌≢◌, ◌≤◌, ◌&&◌, not, if◌then◌else◌, [], ◌∷◌, Ok, Some, None, true, IfOk, OnOk, IfSome, IfNone, length, nat_lt};
+ghost use Rattle.std.specs.Option.{option_map_or};
 ghost use Rattle.scenario_text.specs.FloodDrafts.{IsNetwork};
 ghost use Rattle.scenario_text.specs.FloodParts.{knows as knows_of};
 ghost use Rattle.scenario_text.specs.Network.{no_network, network_parts, network_fault, has_link, has_loss, has_cut, has_capture, has_script_room};
+ghost use Rattle.scenario_text.specs.Network.{are_ends, last_rate, rates_by_node};
 ghost use Rattle.scenario_text.specs.Network.{with_network_line, with_node, with_link_to, with_loss_at, with_cut_at, with_capture_at, with_script_line};
 ghost use Rattle.text_readers.specs.Faults.{first_fault, Refuses, RefusesBy};
-ghost use Rattle.text_readers.specs.declared.fault.FaultKind.TheVariants.{Twice, TooMany};
+ghost use Rattle.text_readers.specs.declared.fault.FaultKind.TheVariants.{Range, UnknownNode, Order, Twice, TooMany};
 ghost use Rattle.scenario_text.specs.declared.network_line.NetworkLine.TheVariants.{Sends, Node, Rate, Link, Pair};
 
-use crate::known_nodes::{are_two_ids, count_below, ids, is_id, known, node_id, two_nodes};
+use crate::known_nodes::{are_two_ids, count_below, is_id, known, node_id, two_nodes};
 use crate::network::Network;
 use crate::network_line::NetworkLine;
 use crate::rates::{by_node, is_later, ppm};
+use crate::sealing::seal;
 use crate::{FaultKind, NodeLine, RateLine};
 use link_trace::Trace;
 use lwb_base::{DRIFT_BOUND, MOST_NODES, MOST_RANKS, MOST_SCRIPT_LINES, Memory, NodeId};
 use std::alloc::Global;
 use std::marker::Model;
-use text_readers::{Refusal, refuse_unless};
+use text_readers::Refusal;
 
 /// What the lines that both texts have say so far. The rates are in the order of the text.
 #[derive(Drop)]
@@ -58,7 +61,7 @@ impl NetworkDraft {
         ensures added { OnOk result (self.new ≡ with_network_line self.old line) }
     {
         match line {
-            NetworkLine::Sends { count } => Ok(self.add_sends(count)?),
+            NetworkLine::Sends { count } => self.add_sends(count),
             NetworkLine::Node { id, offset } => self.add_node(id, offset),
             NetworkLine::Rate {
                 id,
@@ -71,33 +74,46 @@ impl NetworkDraft {
         }
     }
 
-    /// What the lines say: how often a node sends, the nodes by id, their rates by node and tick, and the trace. Returns `None`
-    /// if and only if the number of transmissions or a second node is missing.
-    pub fn finish(self, alloc: Global) -> Result<Option<Network>, Memory>
-        requires { IsNetwork self }
-        ensures { IfOk result (λ p. p ≡ network_parts self self.sends) }
+    /// How often a node sends, if that is said and there are two nodes.
+    pub fn whole_sends(&self) -> Option<u8>
+        ensures some { IfSome result (λ n. (self.now.sends ≡ Some n) × (2 ≤ length self.now.nodes)) }
+        ensures none { IfNone result (network_parts self.now self.now.sends ≡ None) }
     {
+        let sends = self.sends?;
+        if self.nodes.len() < 2 {
+            None
+        } else {
+            Some(sends)
+        }
+    }
+
+    /// How many nodes there are.
+    pub fn count(&self) -> usize
+        ensures { result ≡ length self.now.nodes }
+    {
+        self.nodes.len()
+    }
+
+    /// What the lines say of two nodes or more that send that often: the nodes by id, their rates by node and tick, and the trace.
+    pub fn finish(mut self, alloc: Global, sends: u8) -> Result<Network, Memory>
+        requires sound { IsNetwork self }
+        requires two { 2 ≤ length self.nodes }
+        ensures { IfOk result (λ p. p ≡ record { sends = sends; nodes = self.nodes; rates = rates_by_node self.nodes self.rates; trace = self.trace }) }
+    {
+        self.rates = by_node(alloc, &self.nodes, &self.rates)?;
+        seal(alloc, &mut self.trace, &self.nodes)?;
         let NetworkDraft {
-            sends,
             nodes,
             rates,
-            mut trace,
+            trace,
             ..
         } = self;
-        let Some(sends) = sends else {
-            return Ok(None);
-        };
-        if nodes.len() < 2 {
-            return Ok(None);
-        }
-        let rates = by_node(alloc, &nodes, &rates)?;
-        trace.seal(&ids(alloc, &nodes)?)?;
-        Ok(Some(Network {
+        Ok(Network {
             sends,
             nodes,
             rates,
             trace,
-        }))
+        })
     }
 
     /// The node of that id, if it has a line.
@@ -107,11 +123,20 @@ impl NetworkDraft {
         known(&self.nodes, id)
     }
 
-    /// Two nodes, by their ids, if both have lines.
-    pub fn two_nodes(&self, from: u64, to: u64) -> Option<(NodeId, NodeId)>
-        ensures { result ≡ (if knows_of self.now.nodes from && knows_of self.now.nodes to then Some (from, to) else None) }
+    /// The two ends of a link, by their ids. `Range` unless these are ids that differ, and else `UnknownNode` unless both have
+    /// lines.
+    pub fn ends(&self, from: u64, to: u64) -> Result<(NodeId, NodeId), FaultKind>
+        ensures fault { RefusesBy result (first_fault ((are_ends from to, Range)
+            ∷ (knows_of self.now.nodes from && knows_of self.now.nodes to, UnknownNode) ∷ [])) }
+        ensures value { IfOk result (λ ends. ends ≡ (from, to)) }
     {
-        two_nodes(&self.nodes, from, to)
+        if !are_two_ids(from, to) {
+            return Err(FaultKind::Range);
+        }
+        match two_nodes(&self.nodes, from, to) {
+            Some(ends) => Ok(ends),
+            None => Err(FaultKind::UnknownNode),
+        }
     }
 
     /// Goes on by a script line that loses a link in one step.
@@ -128,8 +153,7 @@ impl NetworkDraft {
         ensures added { OnOk result (self.new ≡ with_script_line self.old (with_loss_at frame slot step from to self.old.trace)) }
     {
         let is_new = lose(&mut self.trace, frame, slot, step, from, to)?;
-        refuse_unless(is_new, FaultKind::Twice)?;
-        Ok(self.count_script_line()?)
+        self.count_new_line(is_new)
     }
 
     /// Goes on by a script line that cuts a node off from one step on.
@@ -139,8 +163,7 @@ impl NetworkDraft {
         ensures added { OnOk result (self.new ≡ with_script_line self.old (with_cut_at frame slot step node self.old.trace)) }
     {
         let is_new = cut(&mut self.trace, frame, slot, step, node)?;
-        refuse_unless(is_new, FaultKind::Twice)?;
-        Ok(self.count_script_line()?)
+        self.count_new_line(is_new)
     }
 
     /// Goes on by a script line that names the sender from which a node receives in one step where several meet.
@@ -157,26 +180,42 @@ impl NetworkDraft {
         ensures added { OnOk result (self.new ≡ with_script_line self.old (with_capture_at frame slot step at from self.old.trace)) }
     {
         let is_new = capture(&mut self.trace, frame, slot, step, at, from)?;
-        refuse_unless(is_new, FaultKind::Twice)?;
-        Ok(self.count_script_line()?)
+        self.count_new_line(is_new)
+    }
+
+    // One script line more, if it is new and there is room.
+    fn count_new_line(&mut self, is_new: bool) -> Result<(), Refusal>
+        ensures fault { Refuses result (first_fault ((is_new, Twice) ∷ (has_script_room self.old, TooMany) ∷ [])) }
+        ensures added { OnOk result (self.new ≡ with_script_line self.old self.old.trace) }
+    {
+        if !is_new {
+            return Err(Refusal::Fault(FaultKind::Twice));
+        }
+        self.count_script_line()
     }
 
     /// One script line more, if there is room.
-    pub fn count_script_line(&mut self) -> Result<(), FaultKind>
-        ensures fault { RefusesBy result (first_fault ((has_script_room self.old, TooMany) ∷ [])) }
+    pub fn count_script_line(&mut self) -> Result<(), Refusal>
+        ensures fault { Refuses result (first_fault ((has_script_room self.old, TooMany) ∷ [])) }
         ensures added { OnOk result (self.new ≡ with_script_line self.old self.old.trace) }
     {
-        refuse_unless(self.scripted < MOST_SCRIPT_LINES as u32, FaultKind::TooMany)?;
+        if self.scripted >= MOST_SCRIPT_LINES as u32 {
+            return Err(Refusal::Fault(FaultKind::TooMany));
+        }
         self.scripted += 1;
         Ok(())
     }
 
-    fn add_sends(&mut self, count: u64) -> Result<(), FaultKind>
-        ensures fault { RefusesBy result (network_fault 0 self.old (Sends count)) }
+    fn add_sends(&mut self, count: u64) -> Result<(), Refusal>
+        ensures fault { Refuses result (network_fault 0 self.old (Sends count)) }
         ensures added { OnOk result (self.new ≡ with_network_line self.old (Sends count)) }
     {
-        refuse_unless(1 <= count && count <= MOST_RANKS as u64, FaultKind::Range)?;
-        refuse_unless(self.sends.is_none(), FaultKind::Twice)?;
+        if count < 1 || count > MOST_RANKS as u64 {
+            return Err(Refusal::Fault(FaultKind::Range));
+        }
+        if self.sends.is_some() {
+            return Err(Refusal::Fault(FaultKind::Twice));
+        }
         self.sends = Some(count as u8);
         Ok(())
     }
@@ -185,13 +224,30 @@ impl NetworkDraft {
         ensures fault { Refuses result (network_fault 0 self.old (Node id offset)) }
         ensures added { OnOk result (self.new ≡ with_network_line self.old (Node id offset)) }
     {
-        let node = node_id(id).ok_or(FaultKind::Range)?;
-        refuse_unless(offset <= 256_000, FaultKind::Range)?;
-        refuse_unless(known(&self.nodes, id).is_none(), FaultKind::Twice)?;
-        refuse_unless(self.nodes.len() < MOST_NODES, FaultKind::TooMany)?;
+        let node = self.new_node(id, offset)?;
         let place = count_below(&self.nodes, node);
         self.nodes.insert(place, NodeLine { node, offset })?;
         Ok(())
+    }
+
+    // The node that a line adds.
+    fn new_node(&self, id: u64, offset: u64) -> Result<NodeId, FaultKind>
+        ensures fault { RefusesBy result (network_fault 0 self.now (Node id offset)) }
+        ensures value { IfOk result (λ node. node ≡ id) }
+    {
+        let Some(node) = node_id(id) else {
+            return Err(FaultKind::Range);
+        };
+        if offset > 256_000 {
+            return Err(FaultKind::Range);
+        }
+        if known(&self.nodes, id).is_some() {
+            return Err(FaultKind::Twice);
+        }
+        if self.nodes.len() >= MOST_NODES {
+            return Err(FaultKind::TooMany);
+        }
+        Ok(node)
     }
 
     fn add_rate(
@@ -205,12 +261,10 @@ impl NetworkDraft {
         ensures fault { Refuses result (network_fault last_tick self.old (Rate id tick slow parts)) }
         ensures added { OnOk result (self.new ≡ with_network_line self.old (Rate id tick slow parts)) }
     {
-        refuse_unless(
-            is_id(id) && tick <= last_tick && parts <= u64::from(DRIFT_BOUND),
-            FaultKind::Range,
-        )?;
-        let node = known(&self.nodes, id).ok_or(FaultKind::UnknownNode)?;
-        refuse_unless(is_later(&self.rates, node, tick), FaultKind::Order)?;
+        if !is_id(id) || tick > last_tick || parts > u64::from(DRIFT_BOUND) {
+            return Err(Refusal::Fault(FaultKind::Range));
+        }
+        let node = self.node_of_rate(id, tick)?;
         self.count_script_line()?;
         let ppm = ppm(slow, parts as u8);
         self.rates.push(RateLine {
@@ -221,26 +275,46 @@ impl NetworkDraft {
         Ok(())
     }
 
+    // The node whose clock changes its rate at that tick.
+    fn node_of_rate(&self, id: u64, tick: u64) -> Result<NodeId, FaultKind>
+        ensures fault { RefusesBy result (first_fault ((knows_of self.now.nodes id, UnknownNode)
+            ∷ (option_map_or (λ r. nat_lt r.from tick) (last_rate self.now.rates id) true, Order) ∷ [])) }
+        ensures value { IfOk result (λ node. node ≡ id) }
+    {
+        let Some(node) = known(&self.nodes, id) else {
+            return Err(FaultKind::UnknownNode);
+        };
+        if is_later(&self.rates, node, tick) {
+            Ok(node)
+        } else {
+            Err(FaultKind::Order)
+        }
+    }
+
     fn add_link(&mut self, from: u64, to: u64) -> Result<(), Refusal>
         ensures fault { Refuses result (network_fault 0 self.old (Link from to)) }
         ensures added { OnOk result (self.new ≡ with_network_line self.old (Link from to)) }
     {
-        refuse_unless(are_two_ids(from, to), FaultKind::Range)?;
-        let (from, to) = two_nodes(&self.nodes, from, to).ok_or(FaultKind::UnknownNode)?;
+        let (from, to) = self.ends(from, to)?;
         let is_new = link(&mut self.trace, from, to)?;
-        Ok(refuse_unless(is_new, FaultKind::Twice)?)
+        if is_new {
+            Ok(())
+        } else {
+            Err(Refusal::Fault(FaultKind::Twice))
+        }
     }
 
     fn add_pair(&mut self, one_end: u64, other_end: u64) -> Result<(), Refusal>
         ensures fault { Refuses result (network_fault 0 self.old (Pair one_end other_end)) }
         ensures added { OnOk result (self.new ≡ with_network_line self.old (Pair one_end other_end)) }
     {
-        refuse_unless(are_two_ids(one_end, other_end), FaultKind::Range)?;
-        let (one, other) = two_nodes(&self.nodes, one_end, other_end).ok_or(
-            FaultKind::UnknownNode,
-        )?;
+        let (one, other) = self.ends(one_end, other_end)?;
         let is_new = pair(&mut self.trace, one, other)?;
-        Ok(refuse_unless(is_new, FaultKind::Twice)?)
+        if is_new {
+            Ok(())
+        } else {
+            Err(Refusal::Fault(FaultKind::Twice))
+        }
     }
 }
 

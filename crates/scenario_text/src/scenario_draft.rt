@@ -1,8 +1,9 @@
 //! What the lines of a scenario say so far.
 
-ghost use Rattle.std.specs.Prelude.{◌≡◌, ◌==◌, if◌then◌else◌, Ok, Some, None, OnOk};
+ghost use Rattle.std.specs.Prelude.{◌≡◌, ◌≤◌, ◌==◌, if◌then◌else◌, Ok, Err, Some, None, IsOk, IfOk, IfErr, OnOk, length};
 ghost use Rattle.std.specs.List.{list_any};
 ghost use Rattle.text_readers.specs.Faults.{Refuses, RefusesBy, Finishes};
+ghost use Rattle.scenario_text.specs.Network.{rates_by_node};
 ghost use Rattle.scenario_text.specs.ScenarioDrafts.{IsScenarioDraft};
 ghost use Rattle.scenario_text.specs.ScenarioGrammar.{IsScenario, no_scenario, line_fault, line_added, with_scenario_line};
 ghost use Rattle.scenario_text.specs.ScenarioGrammar.{scenario_after_words, last_tick as last_tick_of, is_frame, whole_within};
@@ -20,7 +21,7 @@ use crate::{FaultKind, ScriptLine};
 use lwb_base::{MOST_FRAMES, NodeId, PLACES_BY_ID, Profile};
 use std::alloc::Global;
 use std::marker::Model;
-use text_readers::{Draft, Refusal, refuse_unless};
+use text_readers::{Draft, Refusal};
 
 /// What the lines of a scenario say so far.
 #[derive(Drop)]
@@ -101,9 +102,9 @@ impl ScenarioDraft {
     {
         match line {
             ScenarioLine::InNetwork(line) => self.network.add(last_tick(&self.profile), line),
-            ScenarioLine::Profile { number } => Ok(self.add_profile(number)?),
-            ScenarioLine::Contend { slots } => Ok(self.add_contend(slots)?),
-            ScenarioLine::Frames { count } => Ok(self.add_frames(count)?),
+            ScenarioLine::Profile { number } => self.add_profile(number),
+            ScenarioLine::Contend { slots } => self.add_contend(slots),
+            ScenarioLine::Frames { count } => self.add_frames(count),
             ScenarioLine::Host { rank, id } => self.add_host(rank, id),
             ScenarioLine::Script { frame, id, act } => self.add_act(frame, id, act),
             ScenarioLine::Lose {
@@ -136,35 +137,58 @@ impl ScenarioDraft {
         requires sound { IsScenarioDraft self }
         ensures { Finishes result (whole_within most self) }
     {
+        let (sends, frames) = self.whole_numbers(most)?;
         let ScenarioDraft {
             network,
             profile,
-            frames,
             hosts,
             script,
             ..
         } = self;
-        let Some(network) = network.finish(alloc)? else {
-            return Err(Refusal::Fault(FaultKind::Missing));
-        };
-        let Some(frames) = frames else {
-            return Err(Refusal::Fault(FaultKind::Missing));
-        };
-        if hosts.is_empty() {
-            return Err(Refusal::Fault(FaultKind::Missing));
-        }
-        if network.nodes.len().saturating_mul(frames as usize) > most as usize {
-            return Err(Refusal::Fault(FaultKind::TooBig));
-        }
+        let network = network.finish(alloc, sends)?;
         Ok(Scenario::of_network(profile, frames, network, hosts, script))
     }
 
-    fn add_profile(&mut self, profile: u64) -> Result<(), FaultKind>
-        ensures fault { RefusesBy result (line_fault self.old (ProfileLine profile)) }
+    // How often a node sends, and the number of frames, unless something is missing or too big.
+    fn whole_numbers(&self, most: u32) -> Result<(u8, u32), FaultKind>
+        ensures fault { IfErr result (λ k. whole_within most self.now ≡ Err k) }
+        ensures two { IsOk result → 2 ≤ length self.now.network.nodes }
+        ensures value { IfOk result (λ n. whole_within most self.now ≡ Ok (record {
+          profile = self.now.profile;
+          frames = n.1;
+          sends = n.0;
+          nodes = self.now.network.nodes;
+          rates = rates_by_node self.now.network.nodes self.now.network.rates;
+          hosts = self.now.hosts;
+          trace = self.now.network.trace;
+          script = self.now.script;
+        })) }
+    {
+        let Some(sends) = self.network.whole_sends() else {
+            return Err(FaultKind::Missing);
+        };
+        let Some(frames) = self.frames else {
+            return Err(FaultKind::Missing);
+        };
+        if self.hosts.is_empty() {
+            return Err(FaultKind::Missing);
+        }
+        if self.network.count().saturating_mul(frames as usize) > most as usize {
+            return Err(FaultKind::TooBig);
+        }
+        Ok((sends, frames))
+    }
+
+    fn add_profile(&mut self, profile: u64) -> Result<(), Refusal>
+        ensures fault { Refuses result (line_fault self.old (ProfileLine profile)) }
         ensures added { OnOk result (self.new ≡ line_added self.old (ProfileLine profile)) }
     {
-        refuse_unless(1 <= profile && profile <= 2, FaultKind::Range)?;
-        refuse_unless(self.first, FaultKind::Order)?;
+        if profile < 1 || profile > 2 {
+            return Err(Refusal::Fault(FaultKind::Range));
+        }
+        if !self.first {
+            return Err(Refusal::Fault(FaultKind::Order));
+        }
         self.profile = if profile == 2 {
             Profile::two()
         } else {
@@ -173,25 +197,30 @@ impl ScenarioDraft {
         Ok(())
     }
 
-    fn add_contend(&mut self, slots: u64) -> Result<(), FaultKind>
-        ensures fault { RefusesBy result (line_fault self.old (Contend slots)) }
+    fn add_contend(&mut self, slots: u64) -> Result<(), Refusal>
+        ensures fault { Refuses result (line_fault self.old (Contend slots)) }
         ensures added { OnOk result (self.new ≡ line_added self.old (Contend slots)) }
     {
-        refuse_unless(1 <= slots && slots <= 4, FaultKind::Range)?;
-        refuse_unless(self.after_two, FaultKind::Order)?;
+        if slots < 1 || slots > 4 {
+            return Err(Refusal::Fault(FaultKind::Range));
+        }
+        if !self.after_two {
+            return Err(Refusal::Fault(FaultKind::Order));
+        }
         self.profile = Profile::contended(slots as u8);
         Ok(())
     }
 
-    fn add_frames(&mut self, frames: u64) -> Result<(), FaultKind>
-        ensures fault { RefusesBy result (line_fault self.old (Frames frames)) }
+    fn add_frames(&mut self, frames: u64) -> Result<(), Refusal>
+        ensures fault { Refuses result (line_fault self.old (Frames frames)) }
         ensures added { OnOk result (self.new ≡ line_added self.old (Frames frames)) }
     {
-        refuse_unless(
-            1 <= frames && frames <= MOST_FRAMES as u64,
-            FaultKind::Range,
-        )?;
-        refuse_unless(self.frames.is_none(), FaultKind::Twice)?;
+        if frames < 1 || frames > MOST_FRAMES as u64 {
+            return Err(Refusal::Fault(FaultKind::Range));
+        }
+        if self.frames.is_some() {
+            return Err(Refusal::Fault(FaultKind::Twice));
+        }
         self.frames = Some(frames as u32);
         Ok(())
     }
@@ -200,16 +229,30 @@ impl ScenarioDraft {
         ensures fault { Refuses result (line_fault self.old (Host rank id)) }
         ensures added { OnOk result (self.new ≡ line_added self.old (Host rank id)) }
     {
-        refuse_unless(rank <= 3 && is_id(id), FaultKind::Range)?;
-        let node = self.network.node(id).ok_or(FaultKind::UnknownNode)?;
-        let count = self.hosts.len() as u64;
-        refuse_unless(rank <= count, FaultKind::Order)?;
-        refuse_unless(
-            rank == count && !is_host(&self.hosts, node),
-            FaultKind::Twice,
-        )?;
+        let node = self.new_host(rank, id)?;
         self.hosts.push(node)?;
         Ok(())
+    }
+
+    // The node that becomes the host of that rank.
+    fn new_host(&self, rank: u64, id: u64) -> Result<NodeId, FaultKind>
+        ensures fault { RefusesBy result (line_fault self.now (Host rank id)) }
+        ensures value { IfOk result (λ node. node ≡ id) }
+    {
+        if rank > 3 || !is_id(id) {
+            return Err(FaultKind::Range);
+        }
+        let Some(node) = self.network.node(id) else {
+            return Err(FaultKind::UnknownNode);
+        };
+        let count = self.hosts.len() as u64;
+        if rank > count {
+            return Err(FaultKind::Order);
+        }
+        if rank < count || is_host(&self.hosts, node) {
+            return Err(FaultKind::Twice);
+        }
+        Ok(node)
     }
 
     // The frame of that number, which is below the number of frames once that is known.

@@ -10,7 +10,7 @@ use crate::payloads::{is_payload, payload};
 use crate::scenario_line::{ScenarioLine, step_line};
 use crate::{Act, FaultKind};
 use lwb_base::{Payload, Profile};
-use text_readers::{four_numbers, is, number, refuse_unless, three_numbers, two_numbers, word};
+use text_readers::{four_numbers, is, number, three_numbers, two_numbers, word};
 
 /// What a node has to do, with its numbers as written.
 #[derive(Drop)]
@@ -46,23 +46,25 @@ impl WrittenAct {
             WrittenAct::On => Ok(Act::On),
             WrittenAct::Off => Ok(Act::Off),
             WrittenAct::Stream { stream, interval } => {
-                refuse_unless(
-                    stream <= 3 && 1 <= interval && interval <= 120,
-                    FaultKind::Range,
-                )?;
+                if stream > 3 || interval < 1 || interval > 120 {
+                    return Err(FaultKind::Range);
+                }
                 Ok(Act::Declare(stream as u8, interval as u8))
             }
             WrittenAct::Leave { stream } => {
-                refuse_unless(stream <= 3, FaultKind::Range)?;
+                if stream > 3 {
+                    return Err(FaultKind::Range);
+                }
                 Ok(Act::Leave(stream as u8))
             }
             WrittenAct::Put { stream, payload } => {
-                let payload = payload.ok_or(FaultKind::Range)?;
+                let Some(payload) = payload else {
+                    return Err(FaultKind::Range);
+                };
                 let longest = usize::from(profile.payload_max());
-                refuse_unless(
-                    stream <= 3 && payload.bytes().len() <= longest,
-                    FaultKind::Range,
-                )?;
+                if stream > 3 || payload.bytes().len() > longest {
+                    return Err(FaultKind::Range);
+                }
                 Ok(Act::Put(stream as u8, payload))
             }
         }
@@ -107,7 +109,9 @@ fn put_line(words: &[&[u8]]) -> Result<ScenarioLine, FaultKind>
         result ≡ spelled (put_line_of ws) (λ l. scenario_numbers l ws) }
 {
     let hex = word(words, 4);
-    refuse_unless(is_payload(hex), FaultKind::BadWord)?;
+    if !is_payload(hex) {
+        return Err(FaultKind::BadWord);
+    }
     let [_, frame, id, stream, _] = words else {
         return Err(FaultKind::BadWord);
     };

@@ -16,7 +16,7 @@ use crate::known_nodes::is_id;
 use crate::written_act::WrittenAct;
 use crate::{Act, FaultKind, ScriptLine};
 use lwb_base::{MOST_BOOTS, NodeId};
-use text_readers::{Refusal, refuse_unless};
+use text_readers::Refusal;
 
 impl ScenarioDraft {
     // A node is given something to do.
@@ -26,7 +26,9 @@ impl ScenarioDraft {
     {
         let act = act.in_range(&self.profile)?;
         let (frame, node) = self.told_node(frame, id)?;
-        refuse_unless(self.may_take(node, &act), FaultKind::TooMany)?;
+        if !self.may_take(node, &act) {
+            return Err(Refusal::Fault(FaultKind::TooMany));
+        }
         self.switch(node, &act);
         self.push_act(frame, node, act)
     }
@@ -37,10 +39,18 @@ impl ScenarioDraft {
             ∷ (knows self.now.network.nodes id, UnknownNode) ∷ (in_script_order self.now frame, Order) ∷ [])) }
         ensures value { IfOk result (λ told. told ≡ (frame, id)) }
     {
-        let frame = self.frame(frame).ok_or(FaultKind::Range)?;
-        refuse_unless(is_id(id), FaultKind::Range)?;
-        let node = self.network.node(id).ok_or(FaultKind::UnknownNode)?;
-        refuse_unless(self.is_in_order(frame), FaultKind::Order)?;
+        let Some(frame) = self.frame(frame) else {
+            return Err(FaultKind::Range);
+        };
+        if !is_id(id) {
+            return Err(FaultKind::Range);
+        }
+        let Some(node) = self.network.node(id) else {
+            return Err(FaultKind::UnknownNode);
+        };
+        if !self.is_in_order(frame) {
+            return Err(FaultKind::Order);
+        }
         Ok((frame, node))
     }
 
