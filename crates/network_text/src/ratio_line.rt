@@ -18,7 +18,7 @@ use link_trace::{LinkLine, Trace};
 use lwb_base::NodeId;
 use scenario_text::Scenario;
 use scenario_text::known_nodes::{are_two_ids, two_nodes};
-use text_readers::{FaultKind, Refusal, four_numbers, is, refuse_unless, word};
+use text_readers::{FaultKind, Refusal, four_numbers, is, word};
 
 /// Adds the ratio that the words of a line say, or gives the fault of the line.
 #[tactic(auto, unfolding(crate::specs::NetworkGrammar::ratios_after_words))]
@@ -37,7 +37,9 @@ pub fn add_ratio(s: &Scenario, ratios: &mut Ratios, words: &[&[u8]]) -> Result<(
 fn ratio_numbers(words: &[&[u8]]) -> Result<(u64, u64, u64, u64), FaultKind>
     ensures { let ws = map (λ w. w.now) words.now in result ≡ spelled (ratio_numbers_of ws) (λ _. list_all is_number (drop 1 ws)) }
 {
-    refuse_unless(is(word(words, 0), b"ratio"), FaultKind::BadWord)?;
+    if !is(word(words, 0), b"ratio") {
+        return Err(FaultKind::BadWord);
+    }
     four_numbers(words)
 }
 
@@ -57,16 +59,24 @@ fn ratio_line(
     ensures to { IfOk result (λ l. list_any (λ v. v == l.to) ratios.now.nodes ≡ true) }
     ensures later { IfOk result (λ l. IfSome (last_frame ratios.now.lines l.from l.to) (λ f. f < l.frame)) }
 {
-    refuse_unless(is_in_range(s, frame, from, to, ratio), FaultKind::Range)?;
-    let (from, to) = ends(s, ratios, from, to).ok_or(FaultKind::UnknownNode)?;
+    if !is_in_range(s, frame, from, to, ratio) {
+        return Err(FaultKind::Range);
+    }
+    let Some((from, to)) = ends(s, ratios, from, to) else {
+        return Err(FaultKind::UnknownNode);
+    };
     let line = RatioLine {
         frame: frame as u32,
         from,
         to,
         ratio: ratio as u32,
     };
-    refuse_unless(is_in_order(s, ratios, &line), FaultKind::Order)?;
-    refuse_unless(ratios.len() < MOST_RATIO_LINES as usize, FaultKind::TooMany)?;
+    if !is_in_order(s, ratios, &line) {
+        return Err(FaultKind::Order);
+    }
+    if ratios.len() >= MOST_RATIO_LINES as usize {
+        return Err(FaultKind::TooMany);
+    }
     Ok(line)
 }
 

@@ -12,9 +12,7 @@ use lwb_base::Memory;
 use scenario_text::known_nodes::ids;
 use scenario_text::{ParseFault, Scenario};
 use std::alloc::Global;
-use text_readers::{
-    FaultKind, Refusal, first_line, is_skipped, is_text, refuse_unless, split_into,
-};
+use text_readers::{FaultKind, Refusal, first_line, is_skipped, is_text, split_into};
 
 /// Reads lines `ratio FRAME FROM TO RATIO`, of fewer than 2^31 bytes, for the links of a scenario. Empty lines and comments are
 /// skipped. `before` is the number of lines above.
@@ -77,6 +75,8 @@ fn read_line<'a>(
     if is_skipped(words) {
         return Ok(());
     }
-    refuse_unless(is_text(line), FaultKind::NotUtf8)?;
+    if !is_text(line) {
+        return Err(Refusal::Fault(FaultKind::NotUtf8));
+    }
     add_ratio(s, ratios, words)
 }
