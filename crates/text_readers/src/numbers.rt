@@ -10,7 +10,6 @@ ghost use Rattle.text_readers.specs.Words.{has_minus as has_minus_of, magnitude 
 ghost use Rattle.text_readers.specs.declared.fault.FaultKind.TheVariants.{BadNumber};
 
 use crate::FaultKind;
-use crate::fault::refuse_unless;
 
 // The value of the digits. None where another character is among them.
 fn value(digits: &[u8]) -> Option<u64>
@@ -57,7 +56,9 @@ pub fn signed_number(word: &[u8]) -> Result<(bool, u64), FaultKind>
 {
     let minus = has_minus(word);
     let size = number(magnitude(word))?;
-    refuse_unless(!(minus && size == 0), FaultKind::BadNumber)?;
+    if minus && size == 0 {
+        return Err(FaultKind::BadNumber);
+    }
     Ok((minus, size))
 }
 

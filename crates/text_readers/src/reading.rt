@@ -6,7 +6,7 @@ ghost use Rattle.text_readers.specs.Faults.{draft_after_lines};
 ghost use Rattle.text_readers.specs.Reading.{draft_after_line, Reads, Drafts};
 
 use crate::draft::Draft;
-use crate::fault::{Refusal, refuse_unless};
+use crate::fault::Refusal;
 use crate::words::{first_line, is_skipped, is_text, split_into};
 use crate::{FaultKind, ParseFault};
 use std::alloc::Global;
@@ -48,6 +48,8 @@ fn read_line<'a, D: Draft>(
     if is_skipped(words) {
         return Ok(());
     }
-    refuse_unless(is_text(line), FaultKind::NotUtf8)?;
+    if !is_text(line) {
+        return Err(Refusal::Fault(FaultKind::NotUtf8));
+    }
     draft.read(words)
 }
