@@ -1,7 +1,9 @@
 //! What the lines of a plan's text say so far.
 
-ghost use Rattle.std.specs.Prelude.{◌≡◌, OnOk};
-ghost use Rattle.text_readers.specs.Faults.{Refuses, RefusesBy};
+ghost use Rattle.std.specs.Prelude.{◌≡◌, OnOk, IfSome, is_some};
+ghost use Rattle.lwb_base.specs.Messages.{code};
+ghost use Rattle.text_readers.specs.Faults.{Refuses};
+ghost use Rattle.deadline_plan.specs.Jobs.{IsDeadlineStream};
 ghost use Rattle.deadline_plan.specs.DeadlineText.{empty_plan_draft, deadline_rule_fault, with_deadline_line, plan_after_words};
 ghost use Rattle.lwb_packets.specs.Ranges.{between as between_of};
 ghost use Rattle.deadline_plan.specs.DeadlineText.{plan_of_parts, are_in_range as are_in_range_of};
@@ -13,7 +15,7 @@ use crate::{DeadlineStream, DeadlineText};
 use lwb_base::{DATA_SLOTS, GREATEST_ID, NodeId, Owner};
 use std::alloc::Global;
 use std::marker::Model;
-use text_readers::{Draft, FaultKind, Refusal, refuse_unless};
+use text_readers::{Draft, FaultKind, Refusal};
 
 /// What the lines of a text say so far.
 #[derive(Drop)]
@@ -60,8 +62,8 @@ impl DeadlineDraft {
         ensures added { OnOk result (self.new ≡ with_deadline_line self.old line) }
     {
         match line {
-            DeadlineLine::Slots { count } => Ok(self.add_slots(count)?),
-            DeadlineLine::Frames { count } => Ok(self.add_frames(count)?),
+            DeadlineLine::Slots { count } => self.add_slots(count),
+            DeadlineLine::Frames { count } => self.add_frames(count),
             DeadlineLine::Stream {
                 node,
                 stream,
@@ -72,22 +74,30 @@ impl DeadlineDraft {
         }
     }
 
-    fn add_slots(&mut self, count: u64) -> Result<(), FaultKind>
-        ensures fault { RefusesBy result (deadline_rule_fault self.old (Slots count)) }
+    fn add_slots(&mut self, count: u64) -> Result<(), Refusal>
+        ensures fault { Refuses result (deadline_rule_fault self.old (Slots count)) }
         ensures added { OnOk result (self.new ≡ with_deadline_line self.old (Slots count)) }
     {
-        refuse_unless(between(1, u64::from(DATA_SLOTS), count), FaultKind::Range)?;
-        refuse_unless(self.slots.is_none(), FaultKind::Twice)?;
+        if !between(1, u64::from(DATA_SLOTS), count) {
+            return Err(Refusal::Fault(FaultKind::Range));
+        }
+        if self.slots.is_some() {
+            return Err(Refusal::Fault(FaultKind::Twice));
+        }
         self.slots = Some(count as u8);
         Ok(())
     }
 
-    fn add_frames(&mut self, count: u64) -> Result<(), FaultKind>
-        ensures fault { RefusesBy result (deadline_rule_fault self.old (Frames count)) }
+    fn add_frames(&mut self, count: u64) -> Result<(), Refusal>
+        ensures fault { Refuses result (deadline_rule_fault self.old (Frames count)) }
         ensures added { OnOk result (self.new ≡ with_deadline_line self.old (Frames count)) }
     {
-        refuse_unless(between(1, 1_024, count), FaultKind::Range)?;
-        refuse_unless(self.frames.is_none(), FaultKind::Twice)?;
+        if !between(1, 1_024, count) {
+            return Err(Refusal::Fault(FaultKind::Range));
+        }
+        if self.frames.is_some() {
+            return Err(Refusal::Fault(FaultKind::Twice));
+        }
         self.frames = Some(count as u32);
         Ok(())
     }
@@ -103,18 +113,15 @@ impl DeadlineDraft {
         ensures fault { Refuses result (deadline_rule_fault self.old (Stream node stream start period deadline)) }
         ensures added { OnOk result (self.new ≡ with_deadline_line self.old (Stream node stream start period deadline)) }
     {
-        let is_in_range = are_in_range(node, stream, start, period, deadline);
-        refuse_unless(is_in_range, FaultKind::Range)?;
-        let id = NodeId::new(node as u8).ok_or(FaultKind::Range)?;
-        let owner = Owner::new(id, stream as u8);
-        refuse_unless(!has_owner(&self.streams, owner), FaultKind::Twice)?;
-        refuse_unless(self.streams.len() < 32, FaultKind::TooMany)?;
-        let line = DeadlineStream {
-            owner,
-            start: start as u32,
-            period: period as u8,
-            deadline: deadline as u8,
+        let Some(line) = stream_in_range(node, stream, start, period, deadline) else {
+            return Err(Refusal::Fault(FaultKind::Range));
         };
+        if has_owner(&self.streams, line.owner) {
+            return Err(Refusal::Fault(FaultKind::Twice));
+        }
+        if self.streams.len() >= 32 {
+            return Err(Refusal::Fault(FaultKind::TooMany));
+        }
         self.streams.push(line)?;
         Ok(())
     }
@@ -142,6 +149,30 @@ fn between(low: u64, high: u64, n: u64) -> bool
     ensures { result ≡ between_of low high n }
 {
     low <= n && n <= high
+}
+
+// The stream of these numbers, if they are in range.
+fn stream_in_range(
+    node: u64,
+    stream: u64,
+    start: u64,
+    period: u64,
+    deadline: u64,
+) -> Option<DeadlineStream>
+    ensures some { IfSome result (λ s. s ≡ record { owner = code node stream; start = start; period = period; deadline = deadline }) }
+    ensures range { is_some result ≡ are_in_range_of node stream start period deadline }
+    ensures sound { IfSome result IsDeadlineStream }
+{
+    if !are_in_range(node, stream, start, period, deadline) {
+        return None;
+    }
+    let id = NodeId::new(node as u8)?;
+    Some(DeadlineStream {
+        owner: Owner::new(id, stream as u8),
+        start: start as u32,
+        period: period as u8,
+        deadline: deadline as u8,
+    })
 }
 
 fn are_in_range(node: u64, stream: u64, start: u64, period: u64, deadline: u64) -> bool

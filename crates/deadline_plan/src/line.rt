@@ -9,7 +9,7 @@ ghost use Rattle.deadline_plan.specs.DeadlineText.{deadline_line};
 use text_readers::{FaultKind, five_numbers, is, one_number, word};
 
 /// A line of the text, with its numbers as written.
-#[derive(Clone, Copy, Debug, PartialEq, Eq)]
+#[derive(Clone, Copy)]
 pub enum DeadlineLine {
     /// How many slots a frame has.
     Slots {

@@ -10,7 +10,7 @@ use lwb_base::Memory;
 use std::alloc::Global;
 
 /// A pair of frames from whose first on more jobs are released, and end by its second, than there are slots between.
-#[derive(Clone, Copy, Debug, PartialEq, Eq)]
+#[derive(Clone, Copy)]
 pub struct Overload {
     pub from: u32,
     pub until: u32,
