@@ -1,6 +1,7 @@
 //! The run of a whole scenario on the ideal single-hop bus.
 
-ghost use Rattle.std.specs.Prelude.{◌≡◌, IfOk, IfSome, IfNone, Some, None, false, if◌then◌else◌};
+ghost use Rattle.std.specs.Prelude.{◌≡◌, ◌<◌, IfOk, IfSome, IfNone, Some, None, false, filter_map, if◌then◌else◌, length};
+ghost use Rattle.std.specs.List.{AllPairs};
 ghost use Rattle.bus_terms.specs.Bus.{bus_cost};
 ghost use Rattle.bus_terms.specs.Flooding.{has};
 ghost use Rattle.bus_terms.specs.OverLines.{over};
@@ -8,6 +9,7 @@ ghost use Rattle.plain_bus.specs.FloodMasks.{traced};
 ghost use Rattle.scenario_text.specs.FloodParts.{knows, IsSealed};
 ghost use Rattle.scenario_text.specs.ScenarioParts.{ScenarioParts};
 ghost use Rattle.bus_model.specs.BusRuns.{IsBusRun, IsCounted};
+ghost use Rattle.bus_model.specs.DroppedPuts.{drop_of};
 
 use crate::RunningBus;
 use crate::drops::drops_of;
@@ -24,7 +26,10 @@ use std::marker::Model;
 /// queued, and what it costs each node.
 #[derive(Drop)]
 pub struct Bus {
-    net: Network,
+    ids: Vec<NodeId>,
+    costs: Vec<Cost>,
+    deliveries: Vec<Delivery>,
+    sent: Vec<SentPacket>,
     puts: Vec<PutLine>,
     drops: Vec<DropLine>,
 }
@@ -38,15 +43,15 @@ impl Model for Bus {
     ghost use Rattle.std.specs.List.{AllPairs};
 
     ghost view = { λ b. record {
-      ids = b.net.ids;
-      costs = b.net.costs;
-      deliveries = b.net.deliveries;
+      ids = b.ids.items;
+      costs = b.costs.items;
+      deliveries = b.deliveries.items;
       drops = b.drops.items;
       puts = b.puts.items;
-      sent = b.net.sent;
+      sent = b.sent.items;
     } };
 
-    ghost invariant = { λ b. AllPairs (λ u v. u < v) b.net.ids × (length b.net.costs ≡ length b.net.ids) };
+    ghost invariant = { λ b. AllPairs (λ u v. u < v) b.ids.items × (length b.costs.items ≡ length b.ids.items) };
 }
 
 impl Bus {
@@ -68,10 +73,37 @@ impl Bus {
         for frame in 0..scenario.frames() {
             run.run_frame(alloc, &scenario, frame)?;
         }
+        Bus::left_by(alloc, run)
+    }
+
+    // What is left of the bus after its last frame.
+    fn left_by(alloc: Global, run: RunningBus) -> Result<Bus, Memory>
+        requires ascending { AllPairs (λ u v. u < v) run.net.ids }
+        requires costs { length run.net.costs ≡ length run.net.ids }
+        ensures { IfOk result (λ b. b ≡ record {
+          ids = run.net.ids;
+          costs = run.net.costs;
+          deliveries = run.net.deliveries;
+          drops = filter_map drop_of run.puts.items;
+          puts = run.puts.items;
+          sent = run.net.sent;
+        }) }
+    {
         let drops = drops_of(alloc, &run.puts)?;
+        let RunningBus { net, puts, .. } = run;
+        let Network {
+            ids,
+            costs,
+            deliveries,
+            sent,
+            ..
+        } = net;
         Ok(Bus {
-            net: run.net,
-            puts: run.puts,
+            ids,
+            costs,
+            deliveries,
+            sent,
+            puts,
             drops,
         })
     }
@@ -82,9 +114,8 @@ impl Bus {
         ensures some { IfSome result (IsCounted self.now node) }
         ensures none { IfNone result (has self.now.ids node ≡ false) }
     {
-        let net = &self.net;
-        match place_of(&net.ids, node) {
-            Some(place) => Some(net.costs[place]),
+        match place_of(&self.ids, node) {
+            Some(place) => Some(self.costs[place]),
             None => None,
         }
     }
@@ -93,8 +124,7 @@ impl Bus {
     pub fn deliveries(&self) -> &[Delivery]
         ensures { result.now ≡ self.now.deliveries }
     {
-        let net = &self.net;
-        &net.deliveries
+        &self.deliveries
     }
 
     /// What the script put, in its order.
@@ -108,8 +138,7 @@ impl Bus {
     pub fn sent(&self) -> &[SentPacket]
         ensures { result.now ≡ self.now.sent }
     {
-        let net = &self.net;
-        &net.sent
+        &self.sent
     }
 
     /// The packets that were lost before they were queued, in the order of the script.
