@@ -1,5 +1,6 @@
 -- The verdict is that a log is valid where it is.
-use Rattle.std.proofs.Common.{◌≡◌, ℕ, List, ◌↔◌, subst}
+use Rattle.std.proofs.Common.{◌≡◌, ℕ, List, ◌↔◌, Result, Ok, Err, IfOk, subst}
+use Rattle.lwb_base.specs.declared.outside.Memory.{Memory}
 use Rattle.radio_model.specs.declared.sending.Sending.{Sending}
 use Rattle.scenario_text.specs.ScenarioParts.{ScenarioParts}
 use Rattle.air_log.specs.declared.entry.Entry.{Entry}
@@ -28,3 +29,7 @@ module _ (s : ScenarioParts) (clocks : ℕ → ℕ → ℕ) (air : List Entry) w
     λ same. subst (λ (w : Verdict). IsVerdict s clocks air w) same is,
     λ lawful. one_verdict s clocks air v Lawful is lawful,
   )
+
+  pub lawful_of : (r : Result Verdict Memory) → IfOk r (IsVerdict s clocks air) → IfOk r (λ v. (v ≡ Lawful) ↔ LawfulLog s clocks air)
+  lawful_of (Ok v) is = lawful_where v is
+  lawful_of (Err e) is = tt

@@ -3,7 +3,7 @@
 use lwb_base::NodeId;
 
 /// What is wrong first with a log, if anything is. The four exclude each other: `laws::a_log_has_one_verdict`.
-#[derive(Clone, Copy, Debug, PartialEq, Eq)]
+#[derive(Clone, Copy)]
 pub enum Verdict {
     /// The log is valid: each node did what its trail says over what it received, and each reception is there, once,
     /// that the rules of the medium give.
