@@ -1,8 +1,28 @@
-use Rattle.std.proofs.Common.{◌≡◌, ◌++◌, ◌∷◌, [], Contains, inl, get_or, ap, sym, subst, ◌∙◌, Bool, List, true, false}
+use Rattle.std.proofs.Common.{◌≡◌, ◌<◌, ◌*◌, ◌++◌, ◌∷◌, [], AllPairs, Contains, inl, get_or, length, ap, sym, subst, ◌∙◌, Bool, List, true, false}
+use Rattle.lwb_base.specs.declared.limits.TheConstants.{PLACES_BY_ID}
+use Rattle.radio_model.specs.Hearing.{Before}
 use Rattle.radio_model.specs.OnAir.{Sending}
 use Rattle.air_log.specs.Courses.{hearing_of}
 use Rattle.air_check.specs.Flags.{AreFlags, IsGivenAndMissing}
 use Rattle.air_check.proofs.wrong.take_in.Goals as goal
+
+pub place_of-requires : goal.place_of-requires
+place_of-requires c = subst (AllPairs Before) (sym c.deref.ensures.value) c.requires.searchable.in_order
+
+pub is_due-requires-clause-searchable : goal.is_due-requires-clause-searchable
+is_due-requires-clause-searchable c = c.requires.searchable
+
+pub is_due-requires-clause-size : goal.is_due-requires-clause-size
+is_due-requires-clause-size c = ap length c.deref-2.ensures.value ∙ c.requires.size
+
+pub is_due-requires-clause-place : goal.is_due-requires-clause-place
+is_due-requires-clause-place c = subst (λ (xs : List Sending). c.in-Some.k < length xs) c.deref.ensures.value c.in-Some.ensures.some.0
+
+pub receive-requires-clause-in_order : goal.receive-requires-clause-in_order
+receive-requires-clause-in_order c = subst (AllPairs Before) (sym c.deref-3.ensures.value) c.requires.searchable.in_order
+
+pub receive-requires-clause-size : goal.receive-requires-clause-size
+receive-requires-clause-size c = c.requires.size ∙ ap (λ (xs : List Sending). length xs * PLACES_BY_ID) (sym c.deref-3.ensures.value)
 
 pub returns-in_default : goal.returns-in_default
 returns-in_default c =
