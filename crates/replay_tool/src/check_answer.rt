@@ -1,6 +1,8 @@
 //! The answer to the text of a scenario and a log.
 
-ghost use Rattle.std.specs.Prelude.{◌≡◌, ◌<◌, ◌^◌, IfOk, length, string_bytes};
+ghost use Rattle.std.specs.Prelude.{◌≡◌, ◌<◌, ◌^◌, ℕ, List, IfOk, Ok, length, string_bytes};
+ghost use Rattle.scenario_text.specs.ScenarioGrammar.{IsScenario};
+ghost use Rattle.air_check.specs.CheckedText.{checked_text};
 ghost use Rattle.replay_tool.specs.Answers.{Answers};
 ghost use Rattle.replay_tool.specs.CheckReport.{verdict_line as verdict_line_of};
 ghost use Rattle.replay_tool.specs.declared.command.Command.TheVariants as asked;
@@ -9,6 +11,7 @@ use crate::answer::{Answer, fault_answer};
 use air_check::{LogFault, Verdict, check, parse_checked};
 use air_log::Air;
 use lwb_base::Memory;
+use scenario_text::Scenario;
 use std::alloc::{AllocError, Global};
 use text_writers::write_line;
 
@@ -18,12 +21,19 @@ pub fn check_answer(alloc: Global, bytes: &[u8]) -> Result<Answer, Memory>
     requires { length bytes.now < 2 ^ 31 }
     ensures { IfOk result (λ a. Answers asked.Check bytes.now a) }
 {
-    let (scenario, log) = match parse_checked(alloc, bytes) {
-        Ok(text) => text,
-        Err(LogFault::Line(line, kind)) => return fault_answer(alloc, line, kind),
-        Err(LogFault::Memory) => return Err(Memory),
-    };
-    let verdict = check(alloc, &scenario, &log)?;
+    match parse_checked(alloc, bytes) {
+        Ok((scenario, log)) => verdict_on(alloc, &scenario, &log),
+        Err(LogFault::Line(line, kind)) => fault_answer(alloc, line, kind),
+        Err(LogFault::Memory) => Err(Memory),
+    }
+}
+
+// The same of a scenario and a log.
+fn verdict_on(alloc: Global, s: &Scenario, log: &Air) -> Result<Answer, Memory>
+    requires { IsScenario s.now }
+    ensures { (b : List ℕ) → checked_text b ≡ Ok (s.now, log.now) → IfOk result (λ a. Answers asked.Check b a) }
+{
+    let verdict = check(alloc, s, log)?;
     let report = verdict_line(alloc, verdict)?;
     Ok(Answer::Report(report, Air::new(alloc)))
 }

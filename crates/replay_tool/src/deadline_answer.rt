@@ -1,8 +1,12 @@
 //! The answer to the text of a plan with deadlines.
 
-ghost use Rattle.std.specs.Prelude.{◌≡◌, ◌<◌, ◌^◌, [], IfOk, length, map};
+ghost use Rattle.std.specs.Prelude.{◌≡◌, ◌<◌, ◌^◌, [], ℕ, List, IfOk, Ok, length, map, string_bytes};
+ghost use Rattle.deadline_plan.specs.DeadlineText.{plan_of};
+ghost use Rattle.deadline_plan.specs.Admission.{grants_of, rounds_of};
+ghost use Rattle.deadline_plan.specs.Grants.{AreGrantedInTime};
+ghost use Rattle.deadline_plan.specs.Jobs.{jobs};
 ghost use Rattle.replay_tool.specs.Answers.{Answers};
-ghost use Rattle.replay_tool.specs.DeadlineReport.{Decided, Differ, no_streams, stream_of_answer};
+ghost use Rattle.replay_tool.specs.DeadlineReport.{Decided, Differ, deadline_lines, no_streams, stream_of_answer};
 ghost use Rattle.replay_tool.specs.declared.command.Command.TheVariants as asked;
 
 use crate::answer::{Answer, fault_answer};
@@ -19,15 +23,35 @@ pub fn deadline_answer(alloc: Global, bytes: &[u8]) -> Result<Answer, Memory>
     requires { length bytes.now < 2 ^ 31 }
     ensures { IfOk result (λ a. Answers asked.Deadlines bytes.now a) }
 {
-    let text = match parse_deadlines(alloc, bytes) {
-        Ok(text) => text,
-        Err(ParseFault::Line(line, kind)) => return fault_answer(alloc, line, kind),
-        Err(ParseFault::Memory) => return Err(Memory),
-    };
-    let (answers, plan) = admitted(alloc, &text)?;
-    let rounds = plan.rounds(alloc)?;
-    let report = deadline_report(alloc, &answers, &rounds)?;
+    match parse_deadlines(alloc, bytes) {
+        Ok(text) => deadlines_of(alloc, &text),
+        Err(ParseFault::Line(line, kind)) => fault_answer(alloc, line, kind),
+        Err(ParseFault::Memory) => Err(Memory),
+    }
+}
+
+// The same of the text.
+fn deadlines_of(alloc: Global, text: &DeadlineText) -> Result<Answer, Memory>
+    requires { Differ text.now.streams }
+    ensures { (b : List ℕ) → plan_of b ≡ Ok text.now → IfOk result (λ a. Answers asked.Deadlines b a) }
+{
+    let (answers, plan) = admitted(alloc, text)?;
+    let report = report_of(alloc, &answers, &plan)?;
     Ok(Answer::Report(report, Air::new(alloc)))
+}
+
+// The report of these answers, and of the rounds of the plan.
+fn report_of(
+    alloc: Global,
+    answers: &[(DeadlineStream, Admit)],
+    plan: &Deadlines,
+) -> Result<String, Memory>
+    ensures lines { IfOk result (λ text. string_bytes text ≡ deadline_lines answers.now (rounds_of plan.now)) }
+    ensures kept { AreGrantedInTime (jobs plan.now.frames plan.now.streams) (grants_of plan.now) }
+{
+    let rounds = plan.rounds(alloc)?;
+    let report = deadline_report(alloc, answers, &rounds)?;
+    Ok(report)
 }
 
 // What becomes of each stream of a text, and the plan of those that are admitted.

@@ -1,15 +1,16 @@
 //! The answer to the command `demo`.
 
-ghost use Rattle.std.specs.Prelude.{ℕ, List, IfOk};
-ghost use Rattle.scenario_maker.specs.Made.{IsSize};
+ghost use Rattle.std.specs.Prelude.{◌≡◌, ℕ, List, IfOk};
+ghost use Rattle.scenario_maker.specs.Made.{IsSize, made as made_scenario};
 ghost use Rattle.replay_tool.specs.Answers.{Answers};
 ghost use Rattle.replay_tool.specs.declared.command.Command.TheVariants as asked;
 
 use crate::answer::Answer;
+use crate::scenario_run::run_of;
 use crate::summary::summary;
 use lwb_base::Memory;
-use lwb_world::world_after;
 use scenario_maker::made;
+use scenario_text::Scenario;
 use std::alloc::Global;
 
 /// The summary of the run of a made scenario.
@@ -18,12 +19,14 @@ pub fn demo_answer(alloc: Global, seed: u64, nodes: u8, frames: u32) -> Result<A
     ensures { (b : List ℕ) → IfOk result (λ a. Answers (asked.Demo seed nodes frames) b a) }
 {
     let scenario = made(alloc, seed, nodes, frames)?;
-    let world = world_after(alloc, &scenario)?;
-    let text = summary(
-        alloc,
-        world.deliveries().len(),
-        world.drops().len(),
-        world.air(),
-    )?;
-    Ok(Answer::Report(text, world.into_air()))
+    summary_of(alloc, &scenario)
+}
+
+// The same of the scenario.
+fn summary_of(alloc: Global, s: &Scenario) -> Result<Answer, Memory>
+    ensures { (seed nodes frames : ℕ) (b : List ℕ) → s.now ≡ made_scenario seed nodes frames → IfOk result (λ a. Answers (asked.Demo seed nodes frames) b a) }
+{
+    let run = run_of(alloc, s)?;
+    let text = summary(alloc, run.deliveries.len(), run.drops.len(), &run.air)?;
+    Ok(Answer::Report(text, run.air))
 }

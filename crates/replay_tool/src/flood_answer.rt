@@ -1,10 +1,13 @@
 //! The answer to the text of a flood.
 
-ghost use Rattle.std.specs.Prelude.{◌≡◌, ◌<◌, ◌^◌, IfOk, length};
+ghost use Rattle.std.specs.Prelude.{◌≡◌, ◌<◌, ◌^◌, ℕ, List, IfOk, Ok, length, string_bytes};
+ghost use Rattle.scenario_text.specs.FloodGrammar.{flood_of as flood_read};
 ghost use Rattle.scenario_clocks.specs.StatedClocks.{stated_clock};
 ghost use Rattle.air_log.specs.FloodLaw.{FloodLaw};
+ghost use Rattle.bus_terms.specs.FloodOfText.{outcome};
 ghost use Rattle.lwb_flood.specs.FloodLog.{HasClocks};
 ghost use Rattle.replay_tool.specs.Answers.{Answers};
+ghost use Rattle.replay_tool.specs.FloodReport.{flood_report as flood_lines};
 ghost use Rattle.replay_tool.specs.declared.command.Command.TheVariants as asked;
 
 use crate::answer::{Answer, fault_answer};
@@ -21,15 +24,31 @@ pub fn flood_answer(alloc: Global, bytes: &[u8]) -> Result<Answer, Memory>
     requires { length bytes.now < 2 ^ 31 }
     ensures { IfOk result (λ a. Answers asked.Flood bytes.now a) }
 {
-    let text = match parse_flood(alloc, bytes) {
-        Ok(text) => text,
-        Err(ParseFault::Line(line, kind)) => return fault_answer(alloc, line, kind),
-        Err(ParseFault::Memory) => return Err(Memory),
-    };
-    let air = stated_air(alloc, &text)?;
-    let result = outcome_of(alloc, &text, &air)?;
-    let report = flood_report(alloc, &result)?;
+    match parse_flood(alloc, bytes) {
+        Ok(text) => flood_of(alloc, &text),
+        Err(ParseFault::Line(line, kind)) => fault_answer(alloc, line, kind),
+        Err(ParseFault::Memory) => Err(Memory),
+    }
+}
+
+// The same of the text.
+fn flood_of(alloc: Global, f: &FloodText) -> Result<Answer, Memory>
+    ensures { (b : List ℕ) → flood_read b ≡ Ok f.now → IfOk result (λ a. Answers asked.Flood b a) }
+{
+    let air = stated_air(alloc, f)?;
+    let report = report_of(alloc, f, &air)?;
     Ok(Answer::Report(report, air))
+}
+
+// The report of the flood that has this log.
+fn report_of(alloc: Global, f: &FloodText, air: &Air) -> Result<String, Memory>
+    requires law { FloodLaw f.now (stated_clock f.now) air.now }
+    requires clocks { HasClocks f.now (stated_clock f.now) }
+    ensures { IfOk result (λ text. string_bytes text ≡ flood_lines (outcome f.now)) }
+{
+    let result = outcome_of(alloc, f, air)?;
+    let report = flood_report(alloc, &result)?;
+    Ok(report)
 }
 
 // The log of the flood over the clocks that the text states.

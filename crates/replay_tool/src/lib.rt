@@ -14,6 +14,7 @@ mod report;
 mod return_answer;
 mod return_lines;
 mod run_answer;
+mod scenario_run;
 mod summary;
 mod times_answer;
 mod top_call;

@@ -1,10 +1,10 @@
 //! The answer to the command `return`.
 
-ghost use Rattle.std.specs.Prelude.{◌≡◌, ◌<◌, ◌^◌, IfOk, length, string_bytes};
+ghost use Rattle.std.specs.Prelude.{◌≡◌, ◌<◌, ◌^◌, ℕ, List, IfOk, Ok, length, string_bytes};
 ghost use Rattle.bus_terms.specs.Bus.{bus_deliveries, bus_drops};
 ghost use Rattle.host_return.specs.Returned.{IsReturned};
 ghost use Rattle.scenario_clocks.specs.StatedClocks.{scenario_clock};
-ghost use Rattle.scenario_text.specs.ScenarioGrammar.{IsScenario};
+ghost use Rattle.scenario_text.specs.ScenarioGrammar.{IsScenario, scenario_of};
 ghost use Rattle.scenario_text.specs.ScenarioParts.{ScenarioParts};
 ghost use Rattle.replay_tool.specs.Answers.{Answers};
 ghost use Rattle.replay_tool.specs.ReturnReport.{return_report as report_of};
@@ -14,12 +14,13 @@ ghost use Rattle.replay_tool.specs.declared.command.Command.TheVariants as asked
 use crate::answer::{Answer, fault_answer};
 use crate::energy_lines::write_energies;
 use crate::return_lines::{write_probes, write_returns};
+use crate::scenario_run::run_of;
 use air_log::{Air, NodeCharge};
 use bus_report::write_report_lines;
 use bus_rules::{Delivery, DropLine};
 use host_return::{ListsIdle, Returned, Runner, follow_listed};
 use lwb_base::{Memory, NodeId, Rank};
-use lwb_world::{RunParts, world_after};
+use lwb_world::RunParts;
 use scenario_text::{ParseFault, Scenario, parse};
 use std::alloc::Global;
 use world_engine::Idle;
@@ -30,13 +31,19 @@ pub fn return_answer(alloc: Global, bytes: &[u8]) -> Result<Answer, Memory>
     requires { length bytes.now < 2 ^ 31 }
     ensures { IfOk result (λ a. Answers asked.Return bytes.now a) }
 {
-    let scenario = match parse(alloc, bytes) {
-        Ok(scenario) => scenario,
-        Err(ParseFault::Line(line, kind)) => return fault_answer(alloc, line, kind),
-        Err(ParseFault::Memory) => return Err(Memory),
-    };
+    match parse(alloc, bytes) {
+        Ok(scenario) => return_of(alloc, &scenario),
+        Err(ParseFault::Line(line, kind)) => fault_answer(alloc, line, kind),
+        Err(ParseFault::Memory) => Err(Memory),
+    }
+}
+
+// The same of the scenario.
+fn return_of(alloc: Global, s: &Scenario) -> Result<Answer, Memory>
+    ensures { (b : List ℕ) → scenario_of b ≡ Ok s.now → IfOk result (λ a. Answers asked.Return b a) }
+{
     let mut worlds = Worlds::new(alloc);
-    let returned = follow_listed(alloc, &scenario, &mut worlds)?;
+    let returned = follow_listed(alloc, s, &mut worlds)?;
     let report = return_report(alloc, &returned, &worlds)?;
     Ok(Answer::Report(report, returned.into_air()))
 }
@@ -66,14 +73,13 @@ impl Runner for Worlds {
     ghost kept = { λ w s air. KeepsRun w s air };
 
     fn run(&mut self, alloc: Global, s: &Scenario) -> Result<Air, Memory> {
-        let world = world_after(alloc, s)?;
         let RunParts {
             air,
             deliveries,
             drops,
             charges,
             idle,
-        } = world.into_parts();
+        } = run_of(alloc, s)?;
         self.deliveries = deliveries;
         self.drops = drops;
         self.charges = charges;

@@ -1,15 +1,16 @@
 //! The answer to the command `times`.
 
-ghost use Rattle.std.specs.Prelude.{◌≡◌, ◌<◌, ◌^◌, ◌++◌, IfOk, OnOk, flat_map, length, string_bytes};
+ghost use Rattle.std.specs.Prelude.{◌≡◌, ◌<◌, ◌^◌, ◌++◌, ℕ, List, IfOk, Ok, OnOk, flat_map, length, string_bytes};
+ghost use Rattle.scenario_text.specs.ScenarioGrammar.{scenario_of};
 ghost use Rattle.replay_tool.specs.Answers.{Answers};
 ghost use Rattle.replay_tool.specs.TimesReport.{stamp_line};
 ghost use Rattle.replay_tool.specs.declared.command.Command.TheVariants as asked;
 
 use crate::answer::{Answer, fault_answer};
+use crate::scenario_run::run_of;
 use bus_time::{Stamp, stamps};
 use lwb_base::Memory;
-use lwb_world::world_after;
-use scenario_text::{ParseFault, parse};
+use scenario_text::{ParseFault, Scenario, parse};
 use std::alloc::{AllocError, Global};
 use text_writers::{write_line, write_lines};
 
@@ -19,16 +20,29 @@ pub fn times_answer(alloc: Global, bytes: &[u8]) -> Result<Answer, Memory>
     requires { length bytes.now < 2 ^ 31 }
     ensures { IfOk result (λ a. Answers asked.Times bytes.now a) }
 {
-    let scenario = match parse(alloc, bytes) {
-        Ok(scenario) => scenario,
-        Err(ParseFault::Line(line, kind)) => return fault_answer(alloc, line, kind),
-        Err(ParseFault::Memory) => return Err(Memory),
-    };
-    let world = world_after(alloc, &scenario)?;
-    let stamps = stamps(alloc, &scenario, world.air())?;
-    let mut report = String::new(alloc);
-    write_stamps(&mut report, &stamps)?;
-    Ok(Answer::Report(report, world.into_air()))
+    match parse(alloc, bytes) {
+        Ok(scenario) => times_of(alloc, &scenario),
+        Err(ParseFault::Line(line, kind)) => fault_answer(alloc, line, kind),
+        Err(ParseFault::Memory) => Err(Memory),
+    }
+}
+
+// The same of a run of the scenario.
+fn times_of(alloc: Global, s: &Scenario) -> Result<Answer, Memory>
+    ensures { (b : List ℕ) → scenario_of b ≡ Ok s.now → IfOk result (λ a. Answers asked.Times b a) }
+{
+    let run = run_of(alloc, s)?;
+    let stamps = stamps(alloc, s, &run.air)?;
+    let report = stamp_lines(alloc, &stamps)?;
+    Ok(Answer::Report(report, run.air))
+}
+
+fn stamp_lines(alloc: Global, stamps: &[Stamp]) -> Result<String, AllocError>
+    ensures { IfOk result (λ text. string_bytes text ≡ flat_map stamp_line stamps.now) }
+{
+    let mut text = String::new(alloc);
+    write_stamps(&mut text, stamps)?;
+    Ok(text)
 }
 
 fn write_stamps(text: &mut String, stamps: &[Stamp]) -> Result<(), AllocError>
