@@ -1,12 +1,11 @@
 -- Where nodes are idle, by their trails.
-use Rattle.std.proofs.Common.{◌≡◌, ℕ, ◌<◌, List, [], ◌∷◌, filter_map, length, map, Option, Some, refl, sym, ◌∙◌, ap, arith}
+use Rattle.std.proofs.Common.{◌≡◌, ℕ, ◌<◌, List, [], ◌∷◌, filter_map, map, Option, refl, ◌∙◌, ap, arith}
 use Rattle.std.specs.Prelude.{slice_get, flat_map}
 use Rattle.std.specs.List.{cons_option, range_with_len}
 use Rattle.std.specs.Option.{option_flatten}
 use Rattle.std.proofs.lemmas.List.FromFn.{length-map-range_with_len, get_or-map-range_with_len}
 use Rattle.std.proofs.lemmas.Option.{slice_get-get_or}
 use Rattle.lwb_base.proofs.Elements.{filter_same}
-use Rattle.bus_rules.specs.declared.tune.Tune.{Tune}
 use Rattle.scenario_text.specs.ScenarioParts.{ScenarioParts}
 use Rattle.scenario_text.specs.declared.lines.NodeLine.{NodeLine}
 use Rattle.scenario_clocks.specs.StatedClocks.{scenario_clock}
@@ -14,7 +13,6 @@ use Rattle.air_log.specs.declared.entry.Entry.{Entry}
 use Rattle.air_log.specs.Lawful.{heard_by}
 use Rattle.air_log.specs.Trails.{tune_at}
 use Rattle.world_engine.specs.Idling.{idle_as, idle_at, idle_in}
-use Rattle.world_engine.specs.declared.idle.Idle.{Idle}
 use Rattle.world_engine.proofs.IdleNodes.{frames_alike}
 use Rattle.host_return.specs.Probes.{idle_of}
 use Rattle.host_return.specs.TrailsInOrder.{trail_in, idle_told}

@@ -1,6 +1,6 @@
 //! Runs a scenario again and again, with one return more each time.
 
-ghost use Rattle.std.specs.Prelude.{◌≡◌, [], true, false, Ok, IfOk};
+ghost use Rattle.std.specs.Prelude.{◌≡◌, [], true, false, Ok, IfOk, OnOk};
 ghost use Rattle.scenario_text.specs.ScenarioGrammar.{IsScenario};
 ghost use Rattle.scenario_clocks.specs.StatedClocks.{scenario_clock};
 ghost use Rattle.air_log.specs.Lawful.{Lawful};
@@ -13,7 +13,7 @@ ghost use Rattle.host_return.specs.Returned.{ReturnsEnd, IsReturned, counts_in};
 use crate::candidates::next_return;
 use crate::finders::{ByList, ByTrails, FindsIdle};
 use crate::probes::counts_of;
-use crate::restart::lines_of;
+use crate::restart::with_return;
 use crate::{ListsIdle, Return, Returned, Runner};
 use air_log::Air;
 use lwb_base::Memory;
@@ -130,17 +130,34 @@ impl Course {
         let Some(r) = next_return(alloc, read, s, &self.air, &self.idle, &self.returns)? else {
             return Ok(false);
         };
-        let lines = lines_of(alloc, s, &r)?;
-        let Some(scenario) = with_script(alloc, s, &lines)? else {
+        let Some(scenario) = with_return(alloc, s, &r)? else {
             return Ok(false);
         };
+        self.returns.push(r)?;
+        self.run(alloc, scenario, runner, finder)?;
+        Ok(true)
+    }
+
+    // Runs this scenario, which takes the place of the last one.
+    fn run<R: Runner, F: FindsIdle<R>>(
+        &mut self,
+        alloc: Global,
+        scenario: Scenario,
+        runner: &mut R,
+        finder: &F,
+    ) -> Result<(), Memory>
+        ensures scenario { OnOk result (self.new.scenario ≡ scenario) }
+        ensures returns { OnOk result (self.new.returns.items ≡ self.old.returns.items) }
+        ensures lawful { OnOk result (Lawful self.new.scenario (scenario_clock self.new.scenario) self.new.air) }
+        ensures idle { OnOk result (self.new.idle.items ≡ idle_of self.new.scenario self.new.air) }
+        ensures kept { OnOk result (R.kept runner.new self.new.scenario self.new.air) }
+    {
         let air = runner.run(alloc, &scenario)?;
         let idle = finder.idle(alloc, runner, &scenario, &air)?;
-        self.returns.push(r)?;
         self.idle = idle;
         self.air = air;
         self.scenario = scenario;
-        Ok(true)
+        Ok(())
     }
 
     // What came of it, with the counts of its run.

@@ -1,20 +1,23 @@
 //! The script lines by which a backup host restarts, with its streams.
 
-ghost use Rattle.std.specs.Prelude.{◌≡◌, ◌+◌, ◌<◌, ◌≤◌, ◌++◌, List, true, IfOk, OnOk, All, AllPairs};
+ghost use Rattle.std.specs.Prelude.{◌≡◌, ◌+◌, ◌<◌, ◌≤◌, ◌++◌, List, true, IfOk, IfSome, IfNone, OnOk, All, AllPairs};
+ghost use Rattle.scenario_text.specs.AddedLines.{IsWithScript, HasRoom};
 ghost use Rattle.scenario_text.specs.FloodParts.{knows};
 ghost use Rattle.scenario_text.specs.ScenarioFacts.{IsScriptLine};
+ghost use Rattle.scenario_text.specs.ScenarioGrammar.{IsScenario};
 ghost use Rattle.air_log.specs.declared.entry.Entry.{Entry as EntryOf};
 ghost use Rattle.host_return.specs.Restarts.{declared_again, restart, lines_of_going_back as lines_of_return};
+ghost use Rattle.host_return.specs.Returned.{NoRoom};
 ghost use Rattle.host_return.specs.Wishes.{told, told_by};
 
 use crate::Return;
 use bus_rules::Switch;
 use lwb_base::{Memory, NodeId};
-use scenario_text::{Act, Scenario, ScriptLine};
+use scenario_text::{Act, Scenario, ScriptLine, with_script};
 use std::alloc::Global;
 
-/// The script lines of a return: in the next frame the node goes off and on, and declares the intervals that its streams requested.
-pub(crate) fn lines_of(alloc: Global, s: &Scenario, r: &Return) -> Result<Vec<ScriptLine>, Memory>
+// The script lines of a return: in the next frame the node goes off and on, and declares the intervals that its streams requested.
+fn lines_of(alloc: Global, s: &Scenario, r: &Return) -> Result<Vec<ScriptLine>, Memory>
     requires in_run { r.now.frame + 1 < s.now.frames }
     requires known { knows s.now.nodes r.now.node ≡ true }
     ensures lines { IfOk result (λ lines. (air : List EntryOf) → lines.items ≡ lines_of_return s.now air r.now) }
@@ -24,6 +27,23 @@ pub(crate) fn lines_of(alloc: Global, s: &Scenario, r: &Return) -> Result<Vec<Sc
     let script = s.script();
     let lines = restart_lines(alloc, script, r.frame + 1, r.node)?;
     Ok(lines)
+}
+
+/// The scenario with the script lines of a return. Returns `None` if and only if there is no room for them.
+pub(crate) fn with_return(
+    alloc: Global,
+    s: &Scenario,
+    r: &Return,
+) -> Result<Option<Scenario>, Memory>
+    requires in_run { r.now.frame + 1 < s.now.frames }
+    requires known { knows s.now.nodes r.now.node ≡ true }
+    ensures some { (air : List EntryOf)
+        → IfOk result (λ o. IfSome o (λ t. IsWithScript s.now (lines_of_return s.now air r.now) t × HasRoom t)) }
+    ensures said { IfOk result (λ o. IfSome o IsScenario) }
+    ensures none { (air : List EntryOf) → IfOk result (λ o. IfNone o (NoRoom s.now air r.now)) }
+{
+    let lines = lines_of(alloc, s, r)?;
+    with_script(alloc, s, &lines)
 }
 
 fn restart_lines(

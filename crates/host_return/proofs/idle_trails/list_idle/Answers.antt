@@ -1,4 +1,4 @@
-use Rattle.std.proofs.Common.{◌≡◌, ◌++◌, List, Option, filter_map, option_to_list, take, sym, ◌∙◌, ap, arith}
+use Rattle.std.proofs.Common.{◌++◌, List, Option, filter_map, option_to_list, take, sym, ◌∙◌, ap, arith}
 use Rattle.std.proofs.lemmas.List.{append_assoc, take_all}
 use Rattle.lwb_base.proofs.Lists.{filter_map_more}
 use Rattle.world_engine.specs.declared.idle.Idle.{Idle}
