@@ -1,14 +1,18 @@
 //! The answer to the command `outcome`.
 
 ghost use Rattle.std.specs.Prelude.{◌≡◌, ◌<◌, ◌^◌, IfOk, length, map, string_bytes};
+ghost use Rattle.link_trace.specs.Passes.{Lines};
 ghost use Rattle.scenario_text.specs.FloodParts.{node_id};
+ghost use Rattle.bus_model.specs.BusRuns.{IsBusRun};
 ghost use Rattle.bus_report.specs.BusReport.{bus_report};
+ghost use Rattle.bus_terms.specs.OverLines.{over};
 ghost use Rattle.drawn_bus.specs.DrawnScenarios.{drawn_scenario};
 ghost use Rattle.plan_tool.specs.TextsDue.{Answers};
 ghost use Rattle.plan_tool.specs.declared.command.Command.TheVariants as asked;
 
 use crate::answer::{Answer, fault_answer};
 use crate::drawn_run::drawn_run;
+use bus_model::Bus;
 use bus_report::{report_lines, write_costs};
 use drawn_links::Ratios;
 use lwb_base::Memory;
@@ -44,7 +48,14 @@ fn outcome_report(
     ensures { IfOk result (λ text. string_bytes text ≡ bus_report (drawn_scenario scenario.now ratios.now.lines seed)) }
 {
     let bus = drawn_run(alloc, scenario, ratios, seed)?;
+    run_report(alloc, scenario, &bus)
+}
+
+// The report of a run of the scenario over some links.
+fn run_report(alloc: Global, scenario: &Scenario, bus: &Bus) -> Result<String, Memory>
+    ensures { (t : Lines) → IsBusRun (over scenario.now t) bus.now → IfOk result (λ text. string_bytes text ≡ bus_report (over scenario.now t)) }
+{
     let mut report = report_lines(alloc, bus.deliveries(), bus.drops())?;
-    write_costs(&mut report, scenario.nodes(), &bus)?;
+    write_costs(&mut report, scenario.nodes(), bus)?;
     Ok(report)
 }

@@ -1,11 +1,19 @@
 //! What became of the packets by one seed.
 
-ghost use Rattle.std.specs.Prelude.{◌≡◌, IfOk, map, string_bytes};
+ghost use Rattle.std.specs.Prelude.{◌≡◌, ◌<◌, ◌^◌, ◌++◌, ◌∷◌, [], IfOk, OnOk, codes, flat_map, length, map, string_bytes};
+ghost use Rattle.text_writers.specs.Lines.{line_text, numbered};
+ghost use Rattle.link_trace.specs.Passes.{Lines};
 ghost use Rattle.scenario_text.specs.FloodParts.{node_id};
+ghost use Rattle.scenario_text.specs.ScenarioParts.{ScenarioParts};
+ghost use Rattle.bus_model.specs.BusRuns.{IsBusRun};
+ghost use Rattle.bus_terms.specs.Fates.{latency_counts as latency_counts_of, stream_counts as stream_counts_of};
+ghost use Rattle.bus_terms.specs.OverLines.{IsOverScenario, over};
+ghost use Rattle.fate_report.specs.SampleLines.{counts_line, latency_line, sample_text};
 ghost use Rattle.plan_tool.specs.SeedTexts.{seed_text as seed_text_of};
 
 use crate::drawn_run::drawn_run;
 use crate::run_fates::run_fates;
+use bus_model::Bus;
 use bus_report::write_costs;
 use drawn_links::Ratios;
 use fate_report::{write_counts, write_latencies};
@@ -27,13 +35,49 @@ pub fn seed_text(
     ensures { IfOk result (λ text. string_bytes text ≡ seed_text_of scenario.now ratios.now.lines seed) }
 {
     let bus = drawn_run(alloc, scenario, ratios, seed)?;
-    let became = run_fates(alloc, scenario, &bus)?;
-    let counts = stream_counts(alloc, scenario.nodes(), &became)?;
-    let latencies = latency_counts(alloc, bus.puts(), bus.deliveries())?;
+    run_text(alloc, scenario, &bus, seed)
+}
+
+// The same by the run of the scenario with those losses.
+fn run_text(alloc: Global, scenario: &Scenario, bus: &Bus, seed: u64) -> Result<String, Memory>
+    requires few { length bus.now.deliveries < 2 ^ 32 }
+    requires run { (t : Lines) × IsBusRun (over scenario.now t) bus.now }
+    ensures { (t : Lines) → IsBusRun (over scenario.now t) bus.now
+        → IfOk result (λ text. string_bytes text ≡ line_text (numbered (codes "seed") (seed ∷ [])) ++ sample_text (over scenario.now t)) }
+{
     let mut text = String::new(alloc);
     write_line(&mut text, "seed", &[seed])?;
-    write_counts(&mut text, &counts)?;
-    write_latencies(&mut text, &latencies)?;
-    write_costs(&mut text, scenario.nodes(), &bus)?;
+    write_streams(alloc, &mut text, scenario, bus)?;
+    write_times(alloc, &mut text, bus)?;
+    write_costs(&mut text, scenario.nodes(), bus)?;
     Ok(text)
+}
+
+// What became of the packets of each stream.
+fn write_streams(
+    alloc: Global,
+    text: &mut String,
+    scenario: &Scenario,
+    bus: &Bus,
+) -> Result<(), Memory>
+    requires few { length bus.now.deliveries < 2 ^ 32 }
+    requires run { (t : Lines) × IsBusRun (over scenario.now t) bus.now }
+    ensures { (t : Lines) → IsBusRun (over scenario.now t) bus.now
+        → OnOk result (string_bytes text.new ≡ string_bytes text.old ++ flat_map counts_line (stream_counts_of (over scenario.now t))) }
+{
+    let became = run_fates(alloc, scenario, bus)?;
+    let counts = stream_counts(alloc, scenario.nodes(), &became)?;
+    write_counts(text, &counts)?;
+    Ok(())
+}
+
+// How long the packets took.
+fn write_times(alloc: Global, text: &mut String, bus: &Bus) -> Result<(), Memory>
+    requires few { length bus.now.deliveries < 2 ^ 32 }
+    ensures { (d : ScenarioParts) → IsOverScenario d → IsBusRun d bus.now
+        → OnOk result (string_bytes text.new ≡ string_bytes text.old ++ flat_map latency_line (latency_counts_of d)) }
+{
+    let latencies = latency_counts(alloc, bus.puts(), bus.deliveries())?;
+    write_latencies(text, &latencies)?;
+    Ok(())
 }

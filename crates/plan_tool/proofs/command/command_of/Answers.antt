@@ -1,7 +1,7 @@
 use Rattle.std.proofs.Common.{◌≡◌, ◌∷◌, [], ◌↔◌, List, ℕ, Some, map, string_bytes, sym, ◌∙◌, arith, subst}
 use Rattle.plan_tool.specs.Commands.{Spell}
 use Rattle.plan_tool.specs.declared.command.Command.{Command}
-use Rattle.plan_tool.proofs.PlanWords.{no_command, two_words, two_same, three_words, three_same}
+use Rattle.plan_tool.proofs.PlanWords.{two_words, two_same, three_words, three_same}
 use Rattle.plan_tool.proofs.command.command_of.Goals as goal
 
 pub returns-in-len2 : goal.returns-in-len2

@@ -1,11 +1,11 @@
-use Rattle.std.proofs.Common.{◌≡◌, ◌+◌, ◌<◌, ◌^◌, inl, inr, refl, sym, ◌∙◌, subst, arith, map, string_bytes, List, ℕ}
+use Rattle.std.proofs.Common.{inl, inr, refl, sym, subst, arith, string_bytes, List, ℕ}
 use Rattle.command_line.specs.Streams.{too_long}
 use Rattle.command_line.proofs.WholeInputs.{part_due}
 use Rattle.plan_tool.specs.SeedTexts.{seeds_text}
 use Rattle.plan_tool.specs.TextsDue.{Answers, IsFaultLine, ReportDue, FaultDue, SomeDue}
 use Rattle.plan_tool.specs.Reports.{IsReport}
 use Rattle.plan_tool.specs.declared.answer.Answer.TheVariants.{Seeds}
-use Rattle.plan_tool.proofs.Due.{one_command, complete_part, complete_report, complete_fault, sample_asked, seeds_due}
+use Rattle.plan_tool.proofs.Due.{one_command, complete_part, sample_asked, seeds_due}
 use Rattle.plan_tool.proofs.plan_top_call.plan_top.Given.{Over}
 use Rattle.plan_tool.proofs.plan_top_call.plan_top.Goals as goal
 

@@ -1,5 +1,4 @@
-use Rattle.std.proofs.Common.{◌≡◌, ◌<◌, ◌^◌, List, length, sym, ◌∙◌, subst}
-use Rattle.bus_model.specs.BusRuns.{IsBusRun}
+use Rattle.std.proofs.Common.{◌<◌, ◌^◌, List, length, sym, ◌∙◌, subst}
 use Rattle.bus_rules.specs.declared.delivery.Delivery.{Delivery}
 use Rattle.plan_tool.proofs.run_fates.run_fates.Goals as goal
 

@@ -1,6 +1,6 @@
-use Rattle.std.proofs.Common.{◌≡◌, ◌+◌, ℕ, inl, inr, arith, subst, sym}
+use Rattle.std.proofs.Common.{◌≡◌, ◌+◌, inl, inr, arith, subst, sym}
 use Rattle.std.specs.Io.KnownBytes.{Appends}
-use Rattle.std.proofs.KnownBytes.{Appends-nil, Appends-trans}
+use Rattle.std.proofs.KnownBytes.{Appends-trans}
 use Rattle.plan_tool.specs.SeedTexts.{seed_text, seeds_text}
 use Rattle.plan_tool.proofs.SeedsInTurn.{part_after, seeds_after, seeds_at, seeds_more}
 use Rattle.plan_tool.proofs.seeds_call.write_seeds.Goals as goal
