@@ -6,5 +6,5 @@ use time_reference::Reference;
 #[test]
 fn reference_from_counter_three(rt: HostRuntime) {
     let heard = Reference::from_heard(&Profile::one(), 1_344_211_456, 3, 10, 0);
-    assert_eq!(rt; heard.zero(), 1_344_000_000);
+    assert!(rt; heard.zero() == 1_344_000_000);
 }
