@@ -5,7 +5,7 @@ ghost use Rattle.std.specs.Prelude.{◌≤◌, length};
 use drawn_links::DrawnLinks;
 use link_trace::Links;
 use network_text::parse_network;
-use std::test::Fail;
+use std::alloc::Global;
 
 const NETWORK: &[u8; 191] = b"\
 frames 30
@@ -44,19 +44,29 @@ fn masks(links: &DrawnLinks, frame: u32, slot: u8, step: u8) -> ([u64; 3], [u64;
     (from, to)
 }
 
-#[test]
-fn links_lose_by_the_coins_that_were_worked_out_elsewhere(rt: HostRuntime) -> Result<(), Fail> {
-    let Ok((scenario, ratios)) = parse_network(rt.alloc(), NETWORK) else {
-        return Err("network")?;
+// Whether links lose by the coins.
+fn lose_by_coins(links: &DrawnLinks) -> bool
+    requires { 3 ≤ length links.now.trace.nodes }
+{
+    masks(links, 5, 0, 1) == ([0, 1, 0], [2, 0, 0])
+        && masks(links, 5, 2, 2) == ([2, 0, 2], [0, 5, 0])
+        && masks(links, 9, 2, 3) == ([2, 5, 0], [2, 1, 2])
+        && masks(links, 30, 0, 1) == ([2, 5, 2], [2, 5, 2])
+}
+
+// Whether those of the network do.
+fn network_loses_by_coins(alloc: Global) -> Option<bool> {
+    let Ok((scenario, ratios)) = parse_network(alloc, NETWORK) else {
+        return None;
     };
-    assert!(rt; ratios.len() == 4);
-    if ratios.nodes().len() < 3 {
-        return Err("nodes")?;
+    if ratios.len() != 4 || ratios.nodes().len() < 3 {
+        return None;
     }
     let links = DrawnLinks::new(scenario.trace(), &ratios, 7, scenario.frames());
-    assert!(rt; masks(&links, 5, 0, 1) == ([0, 1, 0], [2, 0, 0]));
-    assert!(rt; masks(&links, 5, 2, 2) == ([2, 0, 2], [0, 5, 0]));
-    assert!(rt; masks(&links, 9, 2, 3) == ([2, 5, 0], [2, 1, 2]));
-    assert!(rt; masks(&links, 30, 0, 1) == ([2, 5, 2], [2, 5, 2]));
-    Ok(())
+    Some(lose_by_coins(&links))
+}
+
+#[test]
+fn links_lose_by_the_coins_that_were_worked_out_elsewhere(rt: HostRuntime) {
+    assert!(rt; network_loses_by_coins(rt.alloc()) == Some(true));
 }
