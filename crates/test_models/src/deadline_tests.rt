@@ -5,7 +5,7 @@ ghost use Rattle.deadline_plan.specs.Jobs.{IsDeadlineStream};
 
 use deadline_plan::{Admit, DeadlineStream, Deadlines};
 use lwb_base::{NodeId, Owner};
-use std::test::Fail;
+use std::alloc::Global;
 
 // A stream of that node that has no job in the first frame.
 fn late_stream(node: u8) -> Option<DeadlineStream>
@@ -20,19 +20,27 @@ fn late_stream(node: u8) -> Option<DeadlineStream>
     })
 }
 
+// What a plan answers to such a stream of that node.
+fn answer(plan: &mut Deadlines, alloc: Global, node: u8) -> Option<Admit> {
+    plan.admit(alloc, &late_stream(node)?).ok()
+}
+
+// Whether it takes as many streams as it may have, each of them once.
+fn fills(plan: &mut Deadlines, alloc: Global) -> bool {
+    for node in 1..=32 {
+        if answer(plan, alloc, node) != Some(Admit::Yes)
+            || answer(plan, alloc, node) != Some(Admit::Twice)
+        {
+            return false;
+        }
+    }
+    true
+}
+
 #[test]
-fn an_owner_again_and_the_thirty_third(rt: HostRuntime) -> Result<(), Fail> {
+fn an_owner_again_and_the_thirty_third(rt: HostRuntime) {
     let alloc = rt.alloc();
     let mut plan = Deadlines::new(1, 1);
-    for node in 1..=32 {
-        let stream = late_stream(node).ok_or("a stream")?;
-        assert!(rt; plan.admit(alloc, &stream) == Ok(Admit::Yes), "node {node}");
-        assert!(rt;
-            plan.admit(alloc, &stream) == Ok(Admit::Twice),
-            "node {node}"
-        );
-    }
-    let stream = late_stream(33).ok_or("a stream")?;
-    assert!(rt; plan.admit(alloc, &stream) == Ok(Admit::Full));
-    Ok(())
+    assert!(rt; fills(&mut plan, alloc));
+    assert!(rt; answer(&mut plan, alloc, 33) == Some(Admit::Full));
 }

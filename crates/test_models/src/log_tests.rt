@@ -3,77 +3,110 @@
 use air_log::{Air, Entry, HeardEntry, SentEntry, TunedEntry, text};
 use lwb_base::{NodeId, Packet, Rank};
 use std::alloc::Global;
-use std::test::Fail;
 
-fn heard(rank: u8, node: u8, from: u8, times: (u64, u64), bytes: &[u8]) -> Result<Entry, Fail> {
-    let rank = Rank::new(rank).ok_or("rank")?;
-    let node = NodeId::new(node).ok_or("id")?;
-    let from = NodeId::new(from).ok_or("id")?;
-    let (start, end) = times;
-    let packet = Packet::new(bytes).ok_or("packet")?;
-    Ok(Entry::Heard(HeardEntry {
-        rank,
-        node,
-        from,
-        start,
-        end,
-        packet,
+fn heard(rank: u8, node: u8, from: u8, bytes: &[u8]) -> Option<Entry> {
+    Some(Entry::Heard(HeardEntry {
+        rank: Rank::new(rank)?,
+        node: NodeId::new(node)?,
+        from: NodeId::new(from)?,
+        start: 64,
+        end: 30_784,
+        packet: Packet::new(bytes)?,
     }))
 }
 
-fn tuned(rank: u8, node: u8, start: u64, end: u64) -> Result<Entry, Fail> {
-    let rank = Rank::new(rank).ok_or("rank")?;
-    let node = NodeId::new(node).ok_or("id")?;
-    Ok(Entry::Tuned(TunedEntry {
-        rank,
-        node,
-        start,
+fn tuned(rank: u8, end: u64) -> Option<Entry> {
+    Some(Entry::Tuned(TunedEntry {
+        rank: Rank::new(rank)?,
+        node: NodeId::new(1)?,
+        start: 64,
         end,
     }))
 }
 
-#[test]
-fn equal_entries_keep_their_order(rt: HostRuntime) -> Result<(), Fail> {
-    let times = (64, 30_784);
-    let mut air = Air::new(rt.alloc());
-    air.push(tuned(1, 1, 64, 9)?)?;
-    air.push(heard(1, 3, 9, times, &[171, 10, 255])?)?;
-    air.push(tuned(0, 1, 64, 8)?)?;
-    air.push(heard(0, 3, 4, times, &[1, 2, 3])?)?;
-    let text = text(rt.alloc(), &air)?;
-    assert_eq!(rt;
-        text.as_str(),
-        "heard 1 3 9 64 30784 ab0aff\nheard 0 3 4 64 30784 010203\ntuned 1 1 64 9\ntuned 0 1 64 8\n"
-    );
-    Ok(())
-}
-
-// A log of this many transmissions of 125 bytes.
-fn long_log(alloc: Global, count: u64) -> Result<Air, Fail> {
-    let node = NodeId::new(1).ok_or("id")?;
-    let rank = Rank::new(0).ok_or("rank")?;
-    let mut air = Air::new(alloc);
-    for i in 0..count {
-        let start = 1_000_000_000 + i % 1_000_000;
-        air.push(Entry::Sent(SentEntry {
-            rank,
-            node,
-            start,
-            end: start + 272_384,
-            packet: Packet::new(&[7; 125]).ok_or("length")?,
-        }))?;
+// Whether there is an entry, and it is added.
+fn is_added(air: &mut Air, entry: Option<Entry>) -> bool {
+    match entry {
+        Some(entry) => air.push(entry).is_ok(),
+        None => false,
     }
-    Ok(air)
+}
+
+fn are_added(air: &mut Air) -> bool {
+    is_added(air, tuned(1, 9))
+        && is_added(air, heard(1, 3, 9, &[171, 10, 255]))
+        && is_added(air, tuned(0, 8))
+        && is_added(air, heard(0, 3, 4, &[1, 2, 3]))
+}
+
+// The text of those entries.
+fn text_of_few(alloc: Global) -> Option<String> {
+    let mut air = Air::new(alloc);
+    if are_added(&mut air) {
+        text(alloc, &air).ok()
+    } else {
+        None
+    }
+}
+
+// Whether that is their text.
+fn is_text_of_few(alloc: Global, wanted: &str) -> Option<bool> {
+    Some(text_of_few(alloc)?.as_str() == wanted)
 }
 
 #[test]
-fn text_of_a_long_log(rt: HostRuntime) -> Result<(), Fail> {
-    let alloc = rt.alloc();
-    let air = long_log(alloc, 10_000)?;
-    let text = text(alloc, &air)?;
+fn equal_entries_keep_their_order(rt: HostRuntime) {
+    let wanted =
+        "heard 1 3 9 64 30784 ab0aff\nheard 0 3 4 64 30784 010203\ntuned 1 1 64 9\ntuned 0 1 64 8\n";
+    assert!(rt; is_text_of_few(rt.alloc(), wanted) == Some(true));
+}
+
+// A transmission of 125 bytes.
+fn long_entry(i: u64) -> Option<Entry> {
+    let start = 1_000_000_000 + i % 1_000_000;
+    Some(Entry::Sent(SentEntry {
+        rank: Rank::new(0)?,
+        node: NodeId::new(1)?,
+        start,
+        end: start + 272_384,
+        packet: Packet::new(&[7; 125])?,
+    }))
+}
+
+// Adds so many of them.
+fn add_long_entries(air: &mut Air, count: u64) -> bool {
+    for i in 0..count {
+        if !is_added(air, long_entry(i)) {
+            return false;
+        }
+    }
+    true
+}
+
+// The text of a log of ten thousand of them.
+fn long_text(alloc: Global) -> Option<String> {
+    let mut air = Air::new(alloc);
+    if add_long_entries(&mut air, 10_000) {
+        text(alloc, &air).ok()
+    } else {
+        None
+    }
+}
+
+// The length of that text, and whether it begins and ends so.
+fn length_and_ends(alloc: Global, first: &str, last: &str) -> Option<(usize, bool)> {
+    let text = long_text(alloc)?;
+    let has_ends = text.starts_with(first) && text.ends_with(last);
+    Some((text.len(), has_ends))
+}
+
+#[test]
+fn text_of_a_long_log(rt: HostRuntime) {
+    let text = length_and_ends(
+        rt.alloc(),
+        "sent 0 1 1000000000 1000272384 070707",
+        "0707\n",
+    );
     // `sent 0 1`, two numbers of ten digits, 250 digits, and what is between them.
-    assert_eq!(rt; text.len(), 10_000 * 282);
-    assert!(rt; text.starts_with("sent 0 1 1000000000 1000272384 070707"));
-    assert!(rt; text.ends_with("0707\n"));
-    Ok(())
+    assert!(rt; text == Some((10_000 * 282, true)));
 }

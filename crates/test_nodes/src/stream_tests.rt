@@ -1,21 +1,43 @@
 //! Tests of streams.
 
 use lwb_base::Payload;
-use std::test::Fail;
+use std::alloc::Global;
 use stream_source::{Put, Streams};
 
-#[test]
-fn a_full_stream_drops_and_takes_and_queues_again(rt: HostRuntime) -> Result<(), Fail> {
-    let payload = Payload::new(&[0xaa]).unwrap();
-    let mut streams = Streams::new(rt.alloc())?;
-    assert_eq!(rt; streams.put(0, &payload), Put::Dropped);
-    streams.declare(0, 4);
+// Whether as many packets as a stream may have wait with their numbers.
+fn fills(streams: &mut Streams, payload: &Payload) -> bool {
     for seq in 0..16_u16 {
-        assert_eq!(rt; streams.put(0, &payload), Put::Queued(seq));
+        if streams.put(0, payload) != Put::Queued(seq) {
+            return false;
+        }
     }
-    assert_eq!(rt; streams.put(0, &payload), Put::Dropped);
-    let first = streams.take(0).ok_or("a packet waits")?;
-    assert_eq!(rt; first.seq, 0);
-    assert_eq!(rt; streams.put(0, &payload), Put::Queued(16));
-    Ok(())
+    true
+}
+
+// The number of the packet that is taken.
+fn taken(streams: &mut Streams) -> Option<u16> {
+    Some(streams.take(0)?.seq)
+}
+
+fn drops_and_queues_again(streams: &mut Streams, payload: &Payload) -> bool {
+    if streams.put(0, payload) != Put::Dropped {
+        return false;
+    }
+    streams.declare(0, 4);
+    fills(streams, payload)
+        && streams.put(0, payload) == Put::Dropped
+        && taken(streams) == Some(0)
+        && streams.put(0, payload) == Put::Queued(16)
+}
+
+// Whether a stream of new ones does.
+fn new_streams_do(alloc: Global) -> Option<bool> {
+    let payload = Payload::new(&[0xaa])?;
+    let mut streams = Streams::new(alloc).ok()?;
+    Some(drops_and_queues_again(&mut streams, &payload))
+}
+
+#[test]
+fn a_full_stream_drops_and_takes_and_queues_again(rt: HostRuntime) {
+    assert!(rt; new_streams_do(rt.alloc()) == Some(true));
 }

@@ -1,40 +1,47 @@
 //! Tests of the host's table.
 
-ghost use Rattle.std.specs.Prelude.{◌≤◌, IfSome};
-ghost use Rattle.lwb_packets.specs.Requests.{InRange};
+ghost use Rattle.std.specs.Prelude.{◌≤◌};
 
 use lwb_base::NodeId;
 use lwb_packets::Request;
-use std::test::Fail;
 use stream_table::{Answer, Table};
 
-// A request of stream 0 of a node.
-fn request(node: u8, interval: u8) -> Option<Request>
+// The answer to a request of stream 0 of a node.
+fn answer(table: &mut Table, node: u8, interval: u8) -> Option<Answer>
     requires { interval ≤ 120 }
-    ensures { IfSome result (λ r. InRange r) }
 {
-    Some(Request {
+    let ask = Request {
         slot: 1,
         counter: 0,
         node: NodeId::new(node)?,
         boot: 1,
         stream: 0,
         interval,
-    })
+    };
+    Some(table.request(&ask, 5))
+}
+
+// Whether a table takes as many streams as it may have.
+fn fills(table: &mut Table) -> bool {
+    for node in 10..42 {
+        if answer(table, node, 4) != Some(Answer::Accepted) {
+            return false;
+        }
+    }
+    true
+}
+
+// The code of the last owner, and its interval.
+fn last_owner(table: &Table) -> Option<(u16, u8)> {
+    let last = table.owner_at(31)?;
+    Some((last.code(), table.interval(last)))
 }
 
 #[test]
-fn a_full_table_changes_nothing(rt: HostRuntime) -> Result<(), Fail> {
+fn a_full_table_changes_nothing(rt: HostRuntime) {
     let mut table = Table::new();
-    for node in 10..42 {
-        let ask = request(node, 4).ok_or("id")?;
-        assert_eq!(rt; table.request(&ask, 5), Answer::Accepted, "at node {node}");
-    }
-    let ask = request(2, 4).ok_or("id")?;
-    assert_eq!(rt; table.request(&ask, 5), Answer::Full);
-    let leave = request(2, 0).ok_or("id")?;
-    assert_eq!(rt; table.request(&leave, 5), Answer::Removed);
-    let last = table.owner_at(31).ok_or("an owner")?;
-    assert_eq!(rt; (last.code(), table.interval(last)), (164, 4));
-    Ok(())
+    assert!(rt; fills(&mut table));
+    assert!(rt; answer(&mut table, 2, 4) == Some(Answer::Full));
+    assert!(rt; answer(&mut table, 2, 0) == Some(Answer::Removed));
+    assert!(rt; last_owner(&table) == Some((164, 4)));
 }
