@@ -1,10 +1,8 @@
 //! Transmissions of a log that were moved manually.
 
-use crate::safe::{Clause, frame_at};
+use crate::safe::frame_at;
 use air_log::SentEntry;
 use lwb_base::{NodeId, Packet, Profile};
-use std::alloc::Global;
-use std::test::Fail;
 
 /// What is done to a transmission.
 #[derive(Clone, Copy)]
@@ -21,20 +19,19 @@ pub enum Move {
     By(u8),
 }
 
-/// A transmission by its node, the frame of its start, and the slot and counter of its packet; what is done to it, and the
-/// clause that this breaks.
+/// A transmission by its node, the frame of its start, and the slot and counter of its packet; and what is done to it.
+#[derive(Clone, Copy)]
 pub struct MovedEntry {
     pub frame: u64,
     pub slot: u8,
     pub counter: u8,
     pub node: u8,
     pub done: Move,
-    pub breaks: Clause,
 }
 
 impl MovedEntry {
-    /// Whether the transmission is the one that is moved.
-    pub fn is(&self, p: &Profile, x: &SentEntry) -> bool {
+    // Whether the transmission is the one that is moved.
+    fn is(&self, p: &Profile, x: &SentEntry) -> bool {
         x.node.number() == self.node
             && x.packet.slot() == self.slot
             && x.packet.counter() == self.counter
@@ -51,41 +48,47 @@ fn with_byte(packet: &Packet, place: usize, byte: u8) -> Option<Packet> {
     Packet::new(room)
 }
 
-/// The transmission after the move.
-pub fn after(x: &SentEntry, done: Move) -> Option<SentEntry> {
-    let mut moved = x.copy();
+// Moves a transmission.
+fn change(x: &mut SentEntry, done: Move) -> Option<()> {
     match done {
         Move::Later(ticks) => {
-            moved.start = x.start.checked_add(ticks)?;
-            moved.end = x.end.checked_add(ticks)?;
+            x.start = x.start.checked_add(ticks)?;
+            x.end = x.end.checked_add(ticks)?;
         }
         Move::Earlier(ticks) => {
-            moved.start = x.start.checked_sub(ticks)?;
-            moved.end = x.end.checked_sub(ticks)?;
+            x.start = x.start.checked_sub(ticks)?;
+            x.end = x.end.checked_sub(ticks)?;
         }
-        Move::Longer(ticks) => moved.end = x.end.checked_add(ticks)?,
-        Move::Byte(place, byte) => moved.packet = with_byte(&x.packet, place, byte)?,
-        Move::By(id) => moved.node = NodeId::new(id)?,
+        Move::Longer(ticks) => x.end = x.end.checked_add(ticks)?,
+        Move::Byte(place, byte) => x.packet = with_byte(&x.packet, place, byte)?,
+        Move::By(id) => x.node = NodeId::new(id)?,
     }
-    Some(moved)
+    Some(())
 }
 
-/// All transmissions with the one that is moved as it is then, and how many were moved.
-pub fn moved(
-    alloc: Global,
+// Adds a transmission, after it is moved.
+fn add_moved(kept: &mut Vec<SentEntry>, x: &SentEntry, done: Move) -> Option<()> {
+    let mut entry = x.copy();
+    change(&mut entry, done)?;
+    kept.push(entry).ok()
+}
+
+/// Adds all transmissions, with the one that is moved as it is then, and says how many were moved. None if it can't be moved so,
+/// or memory is out.
+pub fn add_all(
+    kept: &mut Vec<SentEntry>,
     p: &Profile,
     sent: &[SentEntry],
     row: &MovedEntry,
-) -> Result<(Vec<SentEntry>, u32), Fail> {
-    let mut kept = Vec::new(alloc);
+) -> Option<u32> {
     let mut count = 0u32;
     for x in sent {
         if row.is(p, x) {
-            kept.push(after(x, row.done).ok_or("move")?)?;
+            add_moved(kept, x, row.done)?;
             count = count.saturating_add(1);
         } else {
-            kept.push(x.copy())?;
+            kept.push(x.copy()).ok()?;
         }
     }
-    Ok((kept, count))
+    Some(count)
 }

@@ -7,12 +7,11 @@ use lwb_world::World;
 use scenario_text::{NodeLine, Scenario};
 use std::alloc::{AllocError, Global};
 use std::fmt::Write;
-use std::test::Fail;
 use text_writers::write_payload;
 use tick_clock::JumpClock;
 
 /// Which of the clocks gain; the others lose.
-#[derive(Clone, Copy, Debug, PartialEq, Eq)]
+#[derive(Clone, Copy)]
 pub enum Speeds {
     AllFast,
     AllSlow,
@@ -20,8 +19,6 @@ pub enum Speeds {
 }
 
 impl Speeds {
-    pub const ALL: [Speeds; 3] = [Speeds::AllFast, Speeds::AllSlow, Speeds::Alternating];
-
     // Whether the clock of the node at this place gains.
     fn is_fast(self, place: usize) -> bool {
         match self {
@@ -32,40 +29,55 @@ impl Speeds {
     }
 }
 
-fn jump_clocks(alloc: Global, nodes: &[NodeLine], speeds: Speeds) -> Result<Vec<JumpClock>, Fail> {
+fn jump_clocks(alloc: Global, nodes: &[NodeLine], speeds: Speeds) -> Option<Vec<JumpClock>> {
     let mut clocks = Vec::new(alloc);
     for (place, line) in nodes.iter().enumerate() {
         if line.offset > 256_000 {
-            return Err("offset")?;
+            return None;
         }
-        clocks.push(JumpClock::new(line.offset, speeds.is_fast(place)))?;
+        clocks
+            .push(JumpClock::new(line.offset, speeds.is_fast(place)))
+            .ok()?;
     }
-    Ok(clocks)
+    Some(clocks)
 }
 
-/// The world of a scenario after its run over jump clocks with the offsets that it states.
-pub fn world_after(
-    alloc: Global,
-    s: &Scenario,
-    speeds: Speeds,
-) -> Result<World<'_, JumpClock>, Fail> {
+// The world of a scenario after its run over jump clocks with the offsets that it states.
+fn world_after(alloc: Global, s: &Scenario, speeds: Speeds) -> Option<World<'_, JumpClock>> {
     let clocks = jump_clocks(alloc, s.nodes(), speeds)?;
     if clocks.len() != s.nodes().len() {
-        return Err("clocks")?;
+        return None;
     }
-    let mut world = World::new(alloc, s, clocks)?;
-    world.run(alloc)?;
-    Ok(world)
+    let mut world = World::new(alloc, s, clocks).ok()?;
+    world.run(alloc).ok()?;
+    Some(world)
 }
 
-/// The trails of all nodes over the log of such a run, by ascending ids.
-pub fn trails(alloc: Global, s: &Scenario, air: &Air, speeds: Speeds) -> Result<Vec<Trail>, Fail> {
+/// The log of such a run, unless memory is out.
+pub fn log_after(alloc: Global, s: &Scenario, speeds: Speeds) -> Option<Air> {
+    Some(world_after(alloc, s, speeds)?.into_air())
+}
+
+fn add_trails(
+    trails: &mut Vec<Trail>,
+    alloc: Global,
+    s: &Scenario,
+    air: &Air,
+    clocks: &[JumpClock],
+) -> Option<()> {
+    for (line, clock) in s.nodes().iter().zip(clocks) {
+        let trail = trail_of(alloc, s, air, line.node, clock).ok()?;
+        trails.push(trail).ok()?;
+    }
+    Some(())
+}
+
+/// The trails of all nodes over the log of such a run, by ascending ids, unless memory is out.
+pub fn trails(alloc: Global, s: &Scenario, air: &Air, speeds: Speeds) -> Option<Vec<Trail>> {
     let clocks = jump_clocks(alloc, s.nodes(), speeds)?;
     let mut trails = Vec::new(alloc);
-    for (line, clock) in s.nodes().iter().zip(clocks.as_slice()) {
-        trails.push(trail_of(alloc, s, air, line.node, clock)?)?;
-    }
-    Ok(trails)
+    add_trails(&mut trails, alloc, s, air, &clocks)?;
+    Some(trails)
 }
 
 fn write_delivery(text: &mut String, d: &Delivery) -> Result<(), AllocError> {
@@ -96,25 +108,29 @@ fn lines(alloc: Global, deliveries: &[Delivery], drops: &[DropLine]) -> Result<S
     Ok(text)
 }
 
-/// The lines on the deliveries and drops of a run over jump clocks.
-pub fn run_lines(alloc: Global, s: &Scenario, speeds: Speeds) -> Result<String, Fail> {
+// The lines on the deliveries and drops of a run over jump clocks.
+fn run_lines(alloc: Global, s: &Scenario, speeds: Speeds) -> Option<String> {
     let world = world_after(alloc, s, speeds)?;
-    Ok(lines(alloc, world.deliveries(), world.drops())?)
+    lines(alloc, world.deliveries(), world.drops()).ok()
 }
 
-/// The same on the bus.
-pub fn bus_lines(alloc: Global, s: &Scenario) -> Result<String, Fail> {
-    let bus = Bus::run(alloc, s)?;
-    Ok(lines(alloc, bus.deliveries(), bus.drops())?)
+/// The same on the bus, unless memory is out.
+pub fn bus_lines(alloc: Global, s: &Scenario) -> Option<String> {
+    let bus = Bus::run(alloc, s).ok()?;
+    lines(alloc, bus.deliveries(), bus.drops()).ok()
 }
 
-/// The first of these kinds of clocks over which a run's lines are others than the bus's.
-pub fn differing(alloc: Global, s: &Scenario) -> Result<Option<Speeds>, Fail> {
-    let wanted = bus_lines(alloc, s)?;
-    for speeds in Speeds::ALL {
-        if run_lines(alloc, s, speeds)?.as_str() != wanted.as_str() {
-            return Ok(Some(speeds));
-        }
+// Whether a run has these lines.
+fn has_lines(alloc: Global, s: &Scenario, speeds: Speeds, wanted: &str) -> bool {
+    match run_lines(alloc, s, speeds) {
+        Some(lines) => lines.as_str() == wanted,
+        None => false,
     }
-    Ok(None)
+}
+
+/// Whether a run over each of these kinds of clocks has these lines.
+pub fn all_have_lines(alloc: Global, s: &Scenario, wanted: &str) -> bool {
+    has_lines(alloc, s, Speeds::AllFast, wanted)
+        && has_lines(alloc, s, Speeds::AllSlow, wanted)
+        && has_lines(alloc, s, Speeds::Alternating, wanted)
 }

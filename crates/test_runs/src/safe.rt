@@ -1,6 +1,6 @@
 //! Which transmissions are safe, tried plainly on each pair of them.
 
-use air_log::{HeardEntry, SentEntry, Trail};
+use air_log::{Air, Entry, HeardEntry, SentEntry, Trail};
 use bus_rules::Tune;
 use lwb_base::Profile;
 use lwb_packets::{decode_payload, decode_request, same_body};
@@ -8,7 +8,7 @@ use scenario_text::{Act, Scenario};
 use schedule_codec::{Schedule, read};
 
 /// What a log has to keep.
-#[derive(Clone, Copy, Debug, PartialEq, Eq)]
+#[derive(Clone, Copy)]
 pub enum Clause {
     /// A transmission ends before the next frame starts.
     WithinOneFrame,
@@ -26,27 +26,13 @@ pub enum Clause {
 }
 
 impl Clause {
-    pub const ALL: [Clause; 6] = [
-        Clause::WithinOneFrame,
-        Clause::NoOverlap,
-        Clause::SameButForCounter,
-        Clause::OneInitiator,
-        Clause::HostSchedules,
-        Clause::Silence,
-    ];
-
-    /// Whether each transmission, and each pair of them, keeps it. The trails are those of all nodes, by ascending ids.
-    pub fn holds(
-        self,
-        s: &Scenario,
-        sent: &[SentEntry],
-        heard: &[HeardEntry],
-        trails: &[Trail],
-    ) -> bool {
+    /// Whether each transmission, and each pair of them, keeps it. What was received is read off the log. The trails are those of
+    /// all nodes, by ascending ids.
+    pub fn holds(self, s: &Scenario, sent: &[SentEntry], air: &Air, trails: &[Trail]) -> bool {
         let p = s.profile();
         for (i, x) in sent.iter().enumerate() {
             let earlier = &sent[..i];
-            if !self.holds_of_one(s, heard, trails, x)
+            if !self.holds_of_one(s, air, trails, x)
                 || !earlier.iter().all(|y| self.holds_of_two(&p, x, y))
             {
                 return false;
@@ -55,17 +41,11 @@ impl Clause {
         true
     }
 
-    fn holds_of_one(
-        self,
-        s: &Scenario,
-        heard: &[HeardEntry],
-        trails: &[Trail],
-        x: &SentEntry,
-    ) -> bool {
+    fn holds_of_one(self, s: &Scenario, air: &Air, trails: &[Trail], x: &SentEntry) -> bool {
         match self {
             Clause::WithinOneFrame => ends_in_its_frame(&s.profile(), x),
             Clause::HostSchedules => host_schedules(s, x),
-            Clause::Silence => may_begin(s, x, heard, trails),
+            Clause::Silence => may_begin(s, x, air, trails),
             Clause::NoOverlap | Clause::SameButForCounter | Clause::OneInitiator => true,
         }
     }
@@ -132,11 +112,23 @@ fn host_schedules(s: &Scenario, x: &SentEntry) -> bool {
     x.packet.counter() != 0 || read(&x.packet).is_none() || is_hosts(s, x)
 }
 
-fn may_begin(s: &Scenario, x: &SentEntry, heard: &[HeardEntry], trails: &[Trail]) -> bool {
+fn may_begin(s: &Scenario, x: &SentEntry, air: &Air, trails: &[Trail]) -> bool {
     x.packet.counter() != 0
         || read(&x.packet).is_some()
         || hosts(s, x, trails)
-        || heard.iter().any(|h| gives_word(s, h, x))
+        || has_word(s, air, x)
+}
+
+// Whether the sender received anywhere that it may.
+fn has_word(s: &Scenario, air: &Air, x: &SentEntry) -> bool {
+    for i in 0..air.len() {
+        if let Some(Entry::Heard(h)) = air.at(i)
+            && gives_word(s, h, x)
+        {
+            return true;
+        }
+    }
+    false
 }
 
 // Whether the sender hosts by its trail, in the frame in which it sends.

@@ -1,9 +1,9 @@
 //! Logs of worked scenarios are safe, and some that were changed manually are not.
 
-use crate::moves::{Move, MovedEntry, moved};
-use crate::runs::{Speeds, trails, world_after};
+use crate::moves::{Move, MovedEntry, add_all};
+use crate::runs::{Speeds, log_after, trails};
 use crate::safe::Clause;
-use air_log::{Air, Entry, HeardEntry, SentEntry, Trail};
+use air_log::{Air, Entry, SentEntry, Trail};
 use scenario_text::Scenario;
 use std::alloc::{AllocError, Global};
 use std::test::Fail;
@@ -40,6 +40,14 @@ const COLLECTION_LINE: &[&str] = &[
     "on 0 4\nstream 0 4 0 10\nput 0 4 0 aa\nput 8 4 0 bb\n",
 ];
 
+/// A log, its transmissions, and the trails of all nodes over it.
+#[derive(Drop)]
+struct Logged {
+    air: Air,
+    sent: Vec<SentEntry>,
+    trails: Vec<Trail>,
+}
+
 fn sendings(alloc: Global, air: &Air) -> Result<Vec<SentEntry>, AllocError> {
     let mut sent = Vec::new(alloc);
     for i in 0..air.len() {
@@ -50,58 +58,44 @@ fn sendings(alloc: Global, air: &Air) -> Result<Vec<SentEntry>, AllocError> {
     Ok(sent)
 }
 
-fn copied_hearing(h: &HeardEntry) -> HeardEntry {
-    HeardEntry {
-        rank: h.rank,
-        node: h.node,
-        from: h.from,
-        start: h.start,
-        end: h.end,
-        packet: h.packet.copy(),
+// The log of a run, unless memory is out.
+fn log_of(alloc: Global, s: &Scenario, speeds: Speeds) -> Option<Logged> {
+    let air = log_after(alloc, s, speeds)?;
+    let sent = sendings(alloc, &air).ok()?;
+    let trails = trails(alloc, s, &air, speeds)?;
+    Some(Logged { air, sent, trails })
+}
+
+fn keeps(s: &Scenario, log: &Logged, clause: Clause) -> bool {
+    clause.holds(s, &log.sent, &log.air, &log.trails)
+}
+
+fn keeps_all(s: &Scenario, log: &Logged) -> bool {
+    keeps(s, log, Clause::WithinOneFrame)
+        && keeps(s, log, Clause::NoOverlap)
+        && keeps(s, log, Clause::SameButForCounter)
+        && keeps(s, log, Clause::OneInitiator)
+        && keeps(s, log, Clause::HostSchedules)
+        && keeps(s, log, Clause::Silence)
+}
+
+fn is_safe_over(alloc: Global, s: &Scenario, speeds: Speeds) -> bool {
+    match log_of(alloc, s, speeds) {
+        Some(log) => keeps_all(s, &log),
+        None => false,
     }
 }
 
-fn hearings(alloc: Global, air: &Air) -> Result<Vec<HeardEntry>, AllocError> {
-    let mut heard = Vec::new(alloc);
-    for i in 0..air.len() {
-        if let Some(Entry::Heard(h)) = air.at(i) {
-            heard.push(copied_hearing(h))?;
-        }
-    }
-    Ok(heard)
-}
-
-fn first_broken(
-    s: &Scenario,
-    sent: &[SentEntry],
-    heard: &[HeardEntry],
-    trails: &[Trail],
-) -> Option<Clause> {
-    for clause in Clause::ALL {
-        if !clause.holds(s, sent, heard, trails) {
-            return Some(clause);
-        }
-    }
-    None
-}
-
-fn broken_over(alloc: Global, s: &Scenario, speeds: Speeds) -> Result<Option<Clause>, Fail> {
-    let world = world_after(alloc, s, speeds)?;
-    let sent = sendings(alloc, world.air())?;
-    let heard = hearings(alloc, world.air())?;
-    let trails = trails(alloc, s, world.air(), speeds)?;
-    Ok(first_broken(s, &sent, &heard, &trails))
+fn is_safe_over_all(alloc: Global, s: &Scenario) -> bool {
+    is_safe_over(alloc, s, Speeds::AllFast)
+        && is_safe_over(alloc, s, Speeds::AllSlow)
+        && is_safe_over(alloc, s, Speeds::Alternating)
 }
 
 // Whether the logs of a scenario are safe over all kinds of clocks.
 fn is_safe(alloc: Global, parts: &[&str]) -> Result<bool, Fail> {
     let s = scenario(alloc, parts)?;
-    for speeds in Speeds::ALL {
-        if broken_over(alloc, &s, speeds)?.is_some() {
-            return Ok(false);
-        }
-    }
-    Ok(true)
+    Ok(is_safe_over_all(alloc, &s))
 }
 
 #[test]
@@ -121,75 +115,46 @@ const SLOT: u64 = 2_112_000;
 
 const FRAME: u64 = 256_000_000;
 
-// Of two contenders: in frame 13 node 2 has slot 1, in which it sends, and node 3 asks for a stream.
-const MOVES: [MovedEntry; 6] = [
-    MovedEntry {
-        frame: 13,
-        slot: 1,
-        counter: 0,
-        node: 2,
-        done: Move::Earlier(SLOT),
-        breaks: Clause::NoOverlap,
-    },
-    MovedEntry {
-        frame: 13,
-        slot: 0,
-        counter: 1,
-        node: 2,
-        done: Move::Later(SLOT),
-        breaks: Clause::SameButForCounter,
-    },
-    MovedEntry {
-        frame: 13,
-        slot: 1,
-        counter: 1,
-        node: 1,
-        done: Move::Byte(2, 0),
-        breaks: Clause::OneInitiator,
-    },
-    MovedEntry {
-        frame: 13,
-        slot: 0,
-        counter: 0,
-        node: 1,
-        done: Move::By(2),
-        breaks: Clause::HostSchedules,
-    },
-    MovedEntry {
-        frame: 13,
-        slot: 1,
-        counter: 0,
-        node: 2,
-        done: Move::Later(FRAME),
-        breaks: Clause::Silence,
-    },
-    MovedEntry {
-        frame: 13,
-        slot: 1,
-        counter: 0,
-        node: 2,
-        done: Move::Longer(FRAME),
-        breaks: Clause::WithinOneFrame,
-    },
-];
+// How many transmissions of the log of a scenario are moved, and whether it still keeps a clause then.
+fn moved(alloc: Global, s: &Scenario, row: &MovedEntry, clause: Clause) -> Option<(u32, bool)> {
+    let log = log_of(alloc, s, Speeds::Alternating)?;
+    let mut sent = Vec::new(alloc);
+    let count = add_all(&mut sent, &s.profile(), &log.sent, row)?;
+    Some((count, clause.holds(s, &sent, &log.air, &log.trails)))
+}
 
+// Whether one transmission of two contenders is moved, which breaks a clause.
+fn breaks(alloc: Global, row: &MovedEntry, clause: Clause) -> Result<bool, Fail> {
+    let s = scenario(alloc, TWO_CONTENDERS)?;
+    Ok(moved(alloc, &s, row, clause) == Some((1, false)))
+}
+
+// A transmission of a node in frame 13, by the slot and counter of its packet.
+fn at_13(node: u8, slot: u8, counter: u8, done: Move) -> MovedEntry {
+    MovedEntry {
+        frame: 13,
+        slot,
+        counter,
+        node,
+        done,
+    }
+}
+
+// Of two contenders: in frame 13 node 2 has slot 1, in which it sends, and node 3 asks for a stream.
 #[test]
 fn logs_with_one_entry_moved(rt: HostRuntime) -> Result<(), Fail> {
     let alloc = rt.alloc();
-    let s = scenario(alloc, TWO_CONTENDERS)?;
-    let p = s.profile();
-    let world = world_after(alloc, &s, Speeds::Alternating)?;
-    let sent = sendings(alloc, world.air())?;
-    let heard = hearings(alloc, world.air())?;
-    let trails = trails(alloc, &s, world.air(), Speeds::Alternating)?;
-    for row in &MOVES {
-        let clause = row.breaks;
-        let (changed, count) = moved(alloc, &p, &sent, row)?;
-        assert_eq!(rt; count, 1, "for {clause:?}");
-        assert!(rt;
-            !clause.holds(&s, &changed, &heard, &trails),
-            "for {clause:?}"
-        );
-    }
+    let row = at_13(2, 1, 0, Move::Earlier(SLOT));
+    assert!(rt; breaks(alloc, &row, Clause::NoOverlap)?);
+    let row = at_13(2, 0, 1, Move::Later(SLOT));
+    assert!(rt; breaks(alloc, &row, Clause::SameButForCounter)?);
+    let row = at_13(1, 1, 1, Move::Byte(2, 0));
+    assert!(rt; breaks(alloc, &row, Clause::OneInitiator)?);
+    let row = at_13(1, 0, 0, Move::By(2));
+    assert!(rt; breaks(alloc, &row, Clause::HostSchedules)?);
+    let row = at_13(2, 1, 0, Move::Later(FRAME));
+    assert!(rt; breaks(alloc, &row, Clause::Silence)?);
+    let row = at_13(2, 1, 0, Move::Longer(FRAME));
+    assert!(rt; breaks(alloc, &row, Clause::WithinOneFrame)?);
     Ok(())
 }
