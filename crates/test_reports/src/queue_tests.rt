@@ -8,7 +8,7 @@ use event_calendar::{Calendar, Class, Orders};
 use lwb_base::Memory;
 use lwb_world::stated_world;
 use scenario_text::Scenario;
-use std::alloc::Global;
+use std::alloc::{AllocError, Global};
 use std::test::Fail;
 use test_texts::{ONE_PACKET, scenario};
 
@@ -50,7 +50,7 @@ fn empty_queue(alloc: Global, s: &Scenario) -> Result<Noting, Memory>
     })
 }
 
-fn ends_of_sendings(alloc: Global, air: &Air) -> Result<Vec<u64>, Fail> {
+fn ends_of_sendings(alloc: Global, air: &Air) -> Result<Vec<u64>, AllocError> {
     let mut ends = Vec::new(alloc);
     for i in 0..air.len() {
         if let Some(Entry::Sent(sent)) = air.at(i) {
@@ -69,17 +69,26 @@ fn noted_run(alloc: Global, s: &Scenario) -> Result<(Air, Noting), Memory> {
     Ok((world.into_air(), queue))
 }
 
+// Whether both are the same ticks, in any order, and there are some.
+fn are_same(noted: &mut Vec<u64>, ends: &mut Vec<u64>) -> Result<bool, AllocError> {
+    noted.sort()?;
+    ends.sort()?;
+    Ok(ends.len() > 0 && noted.as_slice() == ends.as_slice())
+}
+
+// Whether such a queue notes the ends of all transmissions.
+fn notes_all(alloc: Global, s: &Scenario) -> Result<bool, Fail> {
+    let (air, queue) = noted_run(alloc, s)?;
+    let is_whole = queue.noted_all;
+    let mut noted = queue.ends;
+    let mut ends = ends_of_sendings(alloc, &air)?;
+    Ok(is_whole && are_same(&mut noted, &mut ends)?)
+}
+
 #[test]
 fn calendar_and_noting_queue(rt: HostRuntime) -> Result<(), Fail> {
     let alloc = rt.alloc();
     let s = scenario(alloc, ONE_PACKET)?;
-    let (air, queue) = noted_run(alloc, &s)?;
-    assert!(rt; queue.noted_all);
-    let mut noted = queue.ends;
-    noted.sort()?;
-    let mut ends = ends_of_sendings(alloc, &air)?;
-    ends.sort()?;
-    assert!(rt; ends.len() > 0);
-    assert_eq!(rt; noted.as_slice(), ends.as_slice());
+    assert!(rt; notes_all(alloc, &s)?);
     Ok(())
 }

@@ -5,7 +5,7 @@ use crate::texts::FIRST_ROUND;
 use air_log::{Air, Trail, trail_of};
 use bus_rules::Tune;
 use energy_account::{Account, Energy};
-use lwb_base::NodeId;
+use lwb_base::{Memory, NodeId};
 use lwb_world::{clocks_of, world_after};
 use scenario_text::Scenario;
 use std::alloc::Global;
@@ -48,20 +48,34 @@ const RELAY: Row = Row {
     hosts: false,
 };
 
-fn sent(alloc: Global, trail: &Trail) -> Result<Vec<(u64, u64)>, Fail> {
-    let mut sent = Vec::new(alloc);
-    for x in trail.sent() {
-        sent.push((x.start, x.end))?;
+// Whether this is the first transmission.
+fn has_sent(trail: &Trail, first: (u64, u64)) -> bool {
+    match trail.sent().first() {
+        Some(x) => (x.start, x.end) == first,
+        None => false,
     }
-    Ok(sent)
 }
 
-fn tuned(alloc: Global, trail: &Trail) -> Result<Vec<(u64, u64)>, Fail> {
-    let mut tuned = Vec::new(alloc);
-    for x in trail.tuned() {
-        tuned.push((x.start, x.end))?;
+// Whether these are the first times at which the node is tuned.
+fn has_tuned(trail: &Trail, first: &[(u64, u64)]) -> bool {
+    for (i, times) in first.iter().enumerate() {
+        match trail.tuned().get(i) {
+            Some(x) if (x.start, x.end) == *times => {}
+            _ => return false,
+        }
     }
-    Ok(tuned)
+    true
+}
+
+// Whether a trail has what the row says, and no deliveries.
+fn is_of_row(trail: &Trail, row: &Row) -> bool {
+    let hosts = matches!(trail.tune_at(5), Some(Tune::Host(_, _)));
+    trail.windows() == row.energy.windows
+        && trail.scanned() == row.energy.scanned
+        && has_sent(trail, row.first_sent)
+        && has_tuned(trail, row.first_tuned)
+        && trail.deliveries().is_empty()
+        && hosts == row.hosts
 }
 
 // The trail of a node, which has this place among those of the scenario.
@@ -72,7 +86,7 @@ fn trail_at(alloc: Global, s: &Scenario, air: &Air, place: usize) -> Result<Trai
     Ok(trail_of(alloc, s, air, line.node, clock)?)
 }
 
-// Whether the trail of the node at this place among those of the scenario has what the row says, and no deliveries.
+// Whether the trail of the node at this place among those of the scenario is as the row says.
 fn has_trail(
     alloc: Global,
     s: &Scenario,
@@ -81,15 +95,7 @@ fn has_trail(
     row: &Row,
 ) -> Result<bool, Fail> {
     let trail = trail_at(alloc, s, air, place)?;
-    let hosts = matches!(trail.tune_at(5), Some(Tune::Host(_, _)));
-    Ok(
-        trail.windows() == row.energy.windows
-            && trail.scanned() == row.energy.scanned
-            && sent(alloc, &trail)?.starts_with(&[row.first_sent])
-            && tuned(alloc, &trail)?.starts_with(row.first_tuned)
-            && trail.deliveries().is_empty()
-            && hosts == row.hosts,
-    )
+    Ok(is_of_row(&trail, row))
 }
 
 #[test]
@@ -103,18 +109,24 @@ fn trails_of_a_first_round(rt: HostRuntime) -> Result<(), Fail> {
 }
 
 // Whether the account has for its node what the row says.
-fn is_charged(account: &Account, row: &Row) -> Result<bool, Fail> {
-    let node = NodeId::new(row.id).ok_or("id")?;
-    Ok(account.line(node) == Some(row.energy))
+fn is_charged(account: &Account, row: &Row) -> bool {
+    match NodeId::new(row.id) {
+        Some(node) => account.line(node) == Some(row.energy),
+        None => false,
+    }
+}
+
+// Whether that of a run has for both nodes what their rows say.
+fn are_charged(alloc: Global, s: &Scenario) -> Result<bool, Memory> {
+    let world = world_after(alloc, s)?;
+    let account = Account::of(alloc, s, world.air())?;
+    Ok(is_charged(&account, &HOST) && is_charged(&account, &RELAY))
 }
 
 #[test]
 fn account_of_a_first_round(rt: HostRuntime) -> Result<(), Fail> {
     let alloc = rt.alloc();
     let s = scenario(alloc, FIRST_ROUND)?;
-    let world = world_after(alloc, &s)?;
-    let account = Account::of(alloc, &s, world.air())?;
-    assert!(rt; is_charged(&account, &HOST)?);
-    assert!(rt; is_charged(&account, &RELAY)?);
+    assert!(rt; are_charged(alloc, &s)?);
     Ok(())
 }
