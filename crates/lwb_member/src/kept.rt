@@ -1,5 +1,6 @@
 //! A request that a host keeps until it plans.
 
+ghost use Rattle.std.specs.Prelude.{◌≡◌};
 ghost use Rattle.lwb_base.specs.Messages.{code_of};
 
 use lwb_base::NodeId;
@@ -24,7 +25,9 @@ impl Model for Kept {
 }
 
 impl Default for Kept {
-    fn default() -> Kept {
+    fn default() -> Kept
+        ensures { result ≡ record { node = 1; boot = 1; stream = 0; interval = 0 } }
+    {
         Kept {
             ask: Ack {
                 node: NodeId::new(1).unwrap(),

@@ -49,7 +49,9 @@ pub(crate) struct Place {
 }
 
 impl Default for Place {
-    fn default() -> Place {
+    fn default() -> Place
+        ensures { result ≡ record { node = 1; boot = 1; stream = 0; interval = 0 } }
+    {
         Place {
             ack: Ack {
                 node: NodeId::new(1).unwrap(),

@@ -38,9 +38,11 @@ impl Model for TableEntry {
     ghost inverse = { λ e. record { owner = e.code; boot = e.boot; interval = e.interval; accepted = e.accepted; granted = e.granted; unheard = e.unheard } };
 }
 
-// What is in a place of the table that is not used.
+// What is in a place of the table that is not used: stream 0 of node 1, whose owner's code is 4.
 impl Default for TableEntry {
-    fn default() -> TableEntry {
+    fn default() -> TableEntry
+        ensures { result ≡ record { code = 4; boot = 1; interval = 1; accepted = 0; granted = 0; unheard = 0 } }
+    {
         TableEntry::new(Owner::new(NodeId::new(1).unwrap(), 0), 1, 1, 0)
     }
 }
