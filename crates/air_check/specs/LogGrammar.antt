@@ -1,5 +1,6 @@
 -- The lines of a recorded log: what they say, and the first line that is rejected.
 use Rattle.std.specs.Prelude.{ℕ, ◌+◌, ◌-◌, ◌%◌, List, [], ◌∷◌, ◌++◌, Bool, ◌&&◌, ◌||◌, ◌==◌, nat_lt, nat_le, if◌then◌else◌, Some, None, Option, option_map}
+use Rattle.lwb_base.specs.declared.limits.TheConstants.{LAST_RANK}
 use Rattle.std.specs.Prelude.{Ok, Err, Result, length, take, drop, codes}
 use Rattle.std.specs.Char.{is_ascii_hexdigit}
 use Rattle.std.specs.List.{list_all}
@@ -87,15 +88,15 @@ log_numbers (Tuned r v a b) ws = list_all is_number (drop 1 ws)
 -- the entry of a line whose numbers and packet are in their ranges: it ends after its start
 abbrev pub sent_of : ℕ → ℕ → ℕ → ℕ → Option (List ℕ) → Option Sending
 sent_of r v a b None = None
-sent_of r v a b (Some p) = if nat_le r 3 && (is_id v && nat_lt a b) then Some (record { rank = r; node = v; start = a; end = b; packet = p }) else None
+sent_of r v a b (Some p) = if nat_le r LAST_RANK && (is_id v && nat_lt a b) then Some (record { rank = r; node = v; start = a; end = b; packet = p }) else None
 
 abbrev pub heard_of : ℕ → ℕ → ℕ → ℕ → ℕ → Option (List ℕ) → Option HeardEntry
 heard_of r v u a b None = None
 heard_of r v u a b (Some p) =
-    if nat_le r 3 && (is_id v && (is_id u && nat_lt a b)) then Some (record { rank = r; node = v; from = u; start = a; end = b; packet = p }) else None
+    if nat_le r LAST_RANK && (is_id v && (is_id u && nat_lt a b)) then Some (record { rank = r; node = v; from = u; start = a; end = b; packet = p }) else None
 
 abbrev pub tuned_entry_of : ℕ → ℕ → ℕ → ℕ → Option TunedEntry
-tuned_entry_of r v a b = if nat_le r 3 && (is_id v && nat_lt a b) then Some (record { rank = r; node = v; start = a; end = b }) else None
+tuned_entry_of r v a b = if nat_le r LAST_RANK && (is_id v && nat_lt a b) then Some (record { rank = r; node = v; start = a; end = b }) else None
 
 abbrev pub entry_of_line : LogLine → Option Entry
 entry_of_line (Sent r v a b p) = option_map entry.Sent (sent_of r v a b p)

@@ -1,6 +1,7 @@
 //! The numbers of a line of a log, as those of an entry.
 
 ghost use Rattle.std.specs.Prelude.{◌≡◌, ◌&&◌, nat_le, nat_lt, if◌then◌else◌, Some, None};
+ghost use Rattle.lwb_base.specs.declared.limits.TheConstants.{LAST_RANK};
 ghost use Rattle.scenario_text.specs.FloodParts.{knows as knows_of};
 ghost use Rattle.scenario_text.specs.Network.{is_id};
 ghost use Rattle.air_check.specs.LogGrammar.{heard_of};
@@ -11,7 +12,7 @@ use scenario_text::NodeLine;
 
 /// The channel and the node. None where a number is out of its range, or the end isn't above the start.
 pub(crate) fn placed(rank: u64, node: u64, start: u64, end: u64) -> Option<(Rank, NodeId)>
-    ensures { result ≡ (if nat_le rank 3 && (is_id node && nat_lt start end) then Some (rank, node) else None) }
+    ensures { result ≡ (if nat_le rank LAST_RANK && (is_id node && nat_lt start end) then Some (rank, node) else None) }
 {
     let rank = channel(rank)?;
     let node = node_id(node)?;
@@ -50,7 +51,7 @@ pub(crate) fn heard_entry(
 }
 
 fn channel(rank: u64) -> Option<Rank>
-    ensures { result ≡ (if nat_le rank 3 then Some rank else None) }
+    ensures { result ≡ (if nat_le rank LAST_RANK then Some rank else None) }
 {
     Rank::new(u8::try_from(rank).ok()?)
 }

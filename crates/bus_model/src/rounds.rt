@@ -2,7 +2,7 @@
 
 ghost use Rattle.std.specs.Prelude.{◌≡◌, ◌≤◌, ◌+◌, ◌*◌, ◌++◌, ◌==◌, ℕ, List, OnOk, filter_map, flat_map, map, length, if◌then◌else◌};
 ghost use Rattle.lwb_base.specs.Messages.{Plan};
-ghost use Rattle.lwb_base.specs.declared.limits.TheConstants.{LAST_FRAME};
+ghost use Rattle.lwb_base.specs.declared.limits.TheConstants.{LAST_FRAME, LAST_RANK, MOST_RANKS};
 ghost use Rattle.bus_rules.specs.Plans.{last_slot};
 ghost use Rattle.bus_rules.specs.States.{State};
 ghost use Rattle.bus_terms.specs.Bus.{Cost as CostOf};
@@ -54,16 +54,16 @@ pub fn run_rounds<M: Links>(
     Ok(())
 }
 
-// The number of ranks, 1 to 4.
+// The number of ranks, at least 1.
 fn hosts_of<M: Links>(s: &ScenarioOver<'_, M>) -> u8
     ensures value { result ≡ length s.now.hosts }
-    ensures few { result ≤ 4 }
+    ensures few { result ≤ MOST_RANKS }
 {
     s.hosts().len() as u8
 }
 
 fn rank_at(rank: u8) -> Rank
-    requires { rank ≤ 3 }
+    requires { rank ≤ LAST_RANK }
     ensures { result ≡ rank }
 {
     Rank::new(rank).unwrap()

@@ -1,5 +1,5 @@
 -- The ratios of each link, from the first line to one more.
-use Rattle.std.proofs.Common.{◌≡◌, ◌≢◌, ℕ, ◌-◌, ◌<◌, ◌≤◌, List, [], ◌∷◌, ◌++◌, Bool, true, false, ◌&&◌, ◌==◌}
+use Rattle.std.proofs.Common.{◌≡◌, ◌≢◌, ℕ, ◌*◌, ◌-◌, ◌<◌, ◌≤◌, List, [], ◌∷◌, ◌++◌, Bool, true, false, ◌&&◌, ◌==◌}
 use Rattle.std.proofs.Common.{length, get_or, map, filter, reverse, set, replicate}
 use Rattle.std.proofs.Common.{AllPairs, Option, Some, None, option_map, IfSome, Result, Ok, Err, cond, inl, inr, refl, sym, ◌∙◌, ap, subst, arith, nat_le}
 use Rattle.std.proofs.lemmas.Bool.{cases_lt, cases_eq, false≢true, eq-eqb, ne_eqb}
@@ -37,13 +37,13 @@ is_found xs x (Err i) up known parted =
         ]
 
 -- no lines yet
-pub no_lines : (nodes : List ℕ) → length nodes ≤ MOST_NODES → AllPairs (λ a b. a < b) nodes → AreRatioParts nodes [] (replicate 4096 [])
+pub no_lines : (nodes : List ℕ) → length nodes ≤ MOST_NODES → AllPairs (λ a b. a < b) nodes → AreRatioParts nodes [] (replicate (MOST_NODES * MOST_NODES) [])
 no_lines nodes few up =
     let none : List RatioStep = [] in
     record {
       few = few;
       ascending = up;
-      places = length-replicate 4096 none;
+      places = length-replicate (MOST_NODES * MOST_NODES) none;
       each = λ from to from_inside to_inside. get_or-replicate 4096 (link_place from to) none none (omega arith);
     }
 

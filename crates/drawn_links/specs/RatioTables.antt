@@ -31,14 +31,14 @@ ratio_by steps f = option_map (λ (s : RatioStep). s.ratio) (find (λ (s : Ratio
 abbrev pub last_frame : List RatioLine → ℕ → ℕ → Option ℕ
 last_frame lines u v = option_map (λ (l : RatioLine). l.frame) (find (is_of_link u v) (reverse lines))
 
--- 64 links to each place, by the place from which they come
+-- `MOST_NODES` links to each place, by the place from which they come
 abbrev pub link_place : ℕ → ℕ → ℕ
-link_place from to = 64 * to + from
+link_place from to = MOST_NODES * to + from
 
 -- the links between the nodes have what the lines say of them
 pub record AreRatioParts (nodes : List ℕ) (lines : List RatioLine) (links : List (List RatioStep)) : Type 0 where
   pub few : length nodes ≤ MOST_NODES
   pub ascending : AllPairs (λ a b. a < b) nodes
-  pub places : length links ≡ 4096
+  pub places : length links ≡ MOST_NODES * MOST_NODES
   pub each : (from to : ℕ) → from < length nodes → to < length nodes
       → slice_index_or links (link_place from to) [] ≡ steps_of lines (slice_index nodes from) (slice_index nodes to)

@@ -1,6 +1,6 @@
 //! The reception ratios of the links of a network.
 
-ghost use Rattle.std.specs.Prelude.{◌≡◌, ◌==◌, ◌<◌, ◌∷◌, ◌++◌, [], true, false, length, slice_index, replicate, ◌≤◌, IfOk, IfSome, IfNone, OnOk, OnErr};
+ghost use Rattle.std.specs.Prelude.{◌≡◌, ◌*◌, ◌==◌, ◌<◌, ◌∷◌, ◌++◌, [], true, false, length, slice_index, replicate, ◌≤◌, IfOk, IfSome, IfNone, OnOk, OnErr};
 ghost use Rattle.std.specs.List.{list_any, AllPairs};
 ghost use Rattle.lwb_base.specs.declared.limits.TheConstants.{MOST_NODES};
 ghost use Rattle.link_trace.specs.Masks.{AreNodes};
@@ -10,14 +10,14 @@ ghost use Rattle.drawn_links.specs.RatioTables.{last_frame as last_frame_of, lin
 use crate::RatioLine;
 use crate::link_ratios::LinkRatios;
 use crate::ratio_step::RatioStep;
-use lwb_base::{Memory, NodeId};
+use lwb_base::{MOST_NODES, Memory, NodeId};
 use std::alloc::Global;
 use std::marker::Model;
 
-// For each two of 64 places.
-const LINK_PLACES: usize = 4096;
+// For each two places.
+const LINK_PLACES: usize = MOST_NODES * MOST_NODES;
 
-/// The reception ratios of the links between the nodes of a network, at most 64, each from some frame on. Nodes are also named by
+/// The reception ratios of the links between the nodes of a network, at most `MOST_NODES`, each from some frame on. Nodes are also named by
 /// their places, counted from 0 in the order of their ids. Contracts see the nodes, and the lines in the order in which they came.
 #[derive(Drop)]
 pub struct Ratios {
@@ -37,7 +37,7 @@ impl Model for Ratios {
 }
 
 impl Ratios {
-    /// No ratios, between these nodes: 1 to 64 ascending ids.
+    /// No ratios, between these nodes: 1 to `MOST_NODES` ascending ids.
     pub fn new(alloc: Global, nodes: &[NodeId]) -> Result<Ratios, Memory>
         requires { AreNodes nodes.now }
         ensures { IfOk result (λ r. r ≡ record { nodes = nodes.now; lines = [] }) }
@@ -126,7 +126,7 @@ impl Ratios {
 fn link_place(from: u8, to: u8) -> usize
     ensures { result ≡ link_place_of from to }
 {
-    64 * usize::from(to) + usize::from(from)
+    MOST_NODES * usize::from(to) + usize::from(from)
 }
 
 // The place of one of the nodes.
@@ -140,9 +140,9 @@ fn place_of(nodes: &[NodeId], node: NodeId) -> u8
     nodes.binary_search(&node).unwrap() as u8
 }
 
-// No ratios for each two of 64 places.
+// No ratios for each two places.
 fn no_ratios(alloc: Global) -> Result<Vec<LinkRatios>, Memory>
-    ensures { IfOk result (λ links. links.items ≡ replicate 4096 []) }
+    ensures { IfOk result (λ links. links.items ≡ replicate (MOST_NODES * MOST_NODES) []) }
 {
     let mut links = Vec::new(alloc);
     for _ in 0..LINK_PLACES {

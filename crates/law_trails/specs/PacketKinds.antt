@@ -2,7 +2,7 @@
 use Rattle.std.specs.Prelude.{◌≡◌, ⊤, ℕ, ◌≤◌, true, List, length, Some}
 use Rattle.lwb_base.specs.Profile.{Numbers}
 use Rattle.lwb_base.specs.Messages.{Schedule}
-use Rattle.lwb_base.specs.declared.limits.TheConstants.{DATA_SLOTS, GREATEST_GAP, LAST_STEP}
+use Rattle.lwb_base.specs.declared.limits.TheConstants.{DATA_SLOTS, GREATEST_GAP, LAST_RANK, LAST_STEP}
 use Rattle.lwb_packets.specs.declared.kind.Kind as Kind
 use Rattle.glossy_relay.specs.FloodState.{kind_named}
 use Rattle.glossy_relay.specs.Relaying.{is_spelling, slot_of, counter_of}
@@ -32,7 +32,7 @@ pub record SaysOfKind (kind : Kind.Kind) (p : List ℕ) : Type 0 where
 -- the ranges of a schedule that is in this slot: an opening opens its round, and a closing has a data slot or a
 -- contention slot before it
 pub record IsInSlot (slot : ℕ) (x : Schedule) : Type 0 where
-  pub rank : x.plan.rank ≤ 3
+  pub rank : x.plan.rank ≤ LAST_RANK
   pub gap : x.gap ≤ GREATEST_GAP
   pub owners : length x.plan.owners ≤ DATA_SLOTS
   pub opening : x.gap ≡ 0 → slot ≡ 0

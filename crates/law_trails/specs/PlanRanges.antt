@@ -3,7 +3,7 @@ use Rattle.std.specs.Prelude.{◌≡◌, ℕ, ◌≤◌, true, length}
 use Rattle.std.specs.List.{list_all}
 use Rattle.lwb_base.specs.Messages.{Plan}
 use Rattle.lwb_base.specs.Profile.{Numbers}
-use Rattle.lwb_base.specs.declared.limits.TheConstants.{GREATEST_GAP, MOST_BOOTS}
+use Rattle.lwb_base.specs.declared.limits.TheConstants.{GREATEST_GAP, LAST_RANK, MOST_BOOTS}
 use Rattle.schedule_codec.specs.AckLists.{are_acks, ask_in_range}
 use Rattle.schedule_codec.specs.OwnerLists.{are_owners}
 use Rattle.schedule_codec.specs.Spelling.{most_acks}
@@ -13,7 +13,7 @@ use Rattle.law_trails.specs.TableRanges.{IsTable}
 
 -- all that a schedule asks of its plan but a boot above 0, which no plan has before the first is received
 pub record IsWholePlan (p : Plan) : Type 0 where
-  pub rank : p.rank ≤ 3
+  pub rank : p.rank ≤ LAST_RANK
   pub boot : p.boot ≤ MOST_BOOTS
   pub contend : p.contend ≤ 4
   pub few : length p.acks ≤ most_acks p.contend

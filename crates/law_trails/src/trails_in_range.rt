@@ -2,7 +2,7 @@
 
 ghost use Rattle.std.specs.Prelude.{◌≡◌, ◌≤◌, ℕ, suc, true, Contains, List, length};
 ghost use Rattle.std.specs.List.{list_all};
-ghost use Rattle.lwb_base.specs.declared.limits.TheConstants.{GREATEST_ID};
+ghost use Rattle.lwb_base.specs.declared.limits.TheConstants.{GREATEST_ID, LAST_RANK};
 ghost use Rattle.lwb_base.specs.Profile.{IsProfile, Numbers};
 ghost use Rattle.lwb_base.specs.Messages.{Ask, Schedule};
 ghost use Rattle.lwb_base.specs.declared.event.Event.{Event};
@@ -59,7 +59,7 @@ pub fn streams_stay_in_range()
 /// leaves a table and streams in their ranges. Its owners ascend, at most `DATA_SLOTS` of them.
 pub fn host_plans_can_be_written()
     ensures { (p : Numbers) (node boot rank frame : ℕ) (kept : List Ask) (t : Table) (s : Streams) → IsProfile p
-        → 1 ≤ node → node ≤ GREATEST_ID → IsBoot boot → rank ≤ 3
+        → 1 ≤ node → node ≤ GREATEST_ID → IsBoot boot → rank ≤ LAST_RANK
         → length kept ≤ slots_named p.contend → list_all ask_in_range kept ≡ true
         → IsTable t → AreStreams p s → IsHostPlan p rank boot (host_plan p node boot rank frame kept t s) }
 {}

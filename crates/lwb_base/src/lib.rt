@@ -24,8 +24,8 @@ mod write;
 pub use event::Event;
 pub use limits::{
     DATA_SLOTS, DRIFT_BOUND, DRIFT_PERIOD, FLOOD_STEPS, GREATEST_GAP, GREATEST_ID, LAST_FRAME,
-    LAST_STEP, MOST_BOOTS, MOST_FRAMES, MOST_NODES, MOST_OWNERS, MOST_RANKS, MOST_SCRIPT_LINES,
-    PLACES_BY_ID, QUIET_FRAMES, SEARCH_FRAMES, limits_have_their_numbers,
+    LAST_RANK, LAST_STEP, MOST_BOOTS, MOST_FRAMES, MOST_NODES, MOST_OWNERS, MOST_RANKS,
+    MOST_SCRIPT_LINES, PLACES_BY_ID, QUIET_FRAMES, SEARCH_FRAMES, limits_have_their_numbers,
 };
 pub use local_clock::LocalClock;
 pub use memory_sink::MemorySink;

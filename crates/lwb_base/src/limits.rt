@@ -2,7 +2,7 @@
 
 ghost use Rattle.std.specs.Prelude.{◌≡◌};
 ghost use Rattle.lwb_base.specs.declared.limits.TheConstants.{DATA_SLOTS, DRIFT_BOUND, DRIFT_PERIOD, FLOOD_STEPS, GREATEST_GAP};
-ghost use Rattle.lwb_base.specs.declared.limits.TheConstants.{GREATEST_ID, LAST_FRAME, LAST_STEP, MOST_BOOTS, MOST_FRAMES, MOST_NODES};
+ghost use Rattle.lwb_base.specs.declared.limits.TheConstants.{GREATEST_ID, LAST_FRAME, LAST_RANK, LAST_STEP, MOST_BOOTS, MOST_FRAMES, MOST_NODES};
 ghost use Rattle.lwb_base.specs.declared.limits.TheConstants.{MOST_OWNERS, MOST_RANKS, MOST_SCRIPT_LINES, PLACES_BY_ID, QUIET_FRAMES};
 ghost use Rattle.lwb_base.specs.declared.limits.TheConstants.{SEARCH_FRAMES};
 ghost use Rattle.lwb_base.specs.declared.read.TheConstants.{INPUT_LIMIT};
@@ -55,6 +55,9 @@ pub const MOST_FRAMES: u32 = 4_096;
 /// The most hosts of a network, and so the most ranks. Ranks are counted from 0.
 pub const MOST_RANKS: u8 = 4;
 
+/// The last rank, ranks being counted from 0.
+pub const LAST_RANK: u8 = MOST_RANKS - 1;
+
 /// The most script lines of a scenario: its rates, losses, cuts and captures are counted too.
 pub const MOST_SCRIPT_LINES: usize = 20_000;
 
@@ -76,6 +79,7 @@ pub fn limits_have_their_numbers()
     ensures nodes { MOST_NODES ≡ 64 }
     ensures frames { MOST_FRAMES ≡ 4096 }
     ensures ranks { MOST_RANKS ≡ 4 }
+    ensures rank { LAST_RANK ≡ 3 }
     ensures lines { MOST_SCRIPT_LINES ≡ 20000 }
     ensures input { INPUT_LIMIT ≡ 4194304 }
 {}

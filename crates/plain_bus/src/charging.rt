@@ -21,14 +21,14 @@ use crate::station::Station;
 use crate::stepping::FloodEnd;
 use crate::window::Window;
 use arrayvec::ArrayVec;
-use lwb_base::{NodeId, Rank};
+use lwb_base::{MOST_NODES, NodeId, Rank};
 use lwb_member::message_in;
 
 // What was sent in a slot: how long what each node says is, in bytes, and in which steps each sent.
 #[derive(Drop)]
 struct SlotSends {
-    lengths: ArrayVec<u8, 64>,
-    steps: [Steps; 64],
+    lengths: ArrayVec<u8, MOST_NODES>,
+    steps: [Steps; MOST_NODES],
 }
 
 /// A slot of the round of this rank costs the nodes that take part in its rounds, by their windows and the flood.
@@ -145,7 +145,7 @@ fn length_at(ids: &[NodeId], lengths: &[u8], node: NodeId) -> u8
 }
 
 // The lengths of what is said in the windows, and 0 where nothing is.
-fn lengths_of(windows: &[Window]) -> ArrayVec<u8, 64>
+fn lengths_of(windows: &[Window]) -> ArrayVec<u8, MOST_NODES>
     requires { length windows.now ≤ MOST_NODES }
     ensures { result.items ≡ map (λ w. said_bytes (seen_window w)) windows.now }
 {

@@ -3,7 +3,7 @@
 ghost use Rattle.std.specs.Prelude.{◌≡◌, ◌<◌, ◌==◌, ◌∷◌, [], ◌++◌, length, None};
 
 use arrayvec::ArrayVec;
-use lwb_base::NodeId;
+use lwb_base::{MOST_NODES, NodeId};
 
 /// A flood: its slot of a frame, how often a node sends at most, and masks of the nodes, which the links are sealed with:
 /// of those that initiate, and of all that take part.
@@ -48,6 +48,6 @@ impl Default for Station {
 /// All nodes at the beginning of a step, and the mask of those that send in it.
 #[derive(Drop)]
 pub struct Stations {
-    pub each: ArrayVec<Station, 64>,
+    pub each: ArrayVec<Station, MOST_NODES>,
     pub senders: u64,
 }

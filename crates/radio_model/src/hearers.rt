@@ -4,7 +4,7 @@ ghost use Rattle.std.specs.Prelude.{◌≡◌, ◌+◌, ◌≤◌, ◌<◌, ◌^
 ghost use Rattle.lwb_base.specs.declared.limits.TheConstants.{MOST_NODES};
 
 use arrayvec::ArrayVec;
-use lwb_base::NodeId;
+use lwb_base::{MOST_NODES, NodeId};
 use std::marker::Model;
 
 /// A receiver and its sender.
@@ -26,11 +26,11 @@ impl Default for Pair {
     }
 }
 
-/// Who receives one transmission: pairs of a receiver and its sender, at most 64, by receiver ascending. Contracts see the
+/// Who receives one transmission: pairs of a receiver and its sender, at most `MOST_NODES`, by receiver ascending. Contracts see the
 /// list.
 #[derive(Drop)]
 pub struct Hearers {
-    pairs: ArrayVec<Pair, 64>,
+    pairs: ArrayVec<Pair, MOST_NODES>,
 }
 
 impl Model for Hearers {
@@ -64,7 +64,7 @@ impl Hearers {
     /// The number of receivers.
     pub fn count(&self) -> u8
         ensures value { result ≡ length self.now }
-        ensures range { result ≤ 64 }
+        ensures range { result ≤ MOST_NODES }
     {
         self.pairs.len() as u8
     }

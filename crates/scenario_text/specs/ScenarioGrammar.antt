@@ -7,7 +7,7 @@ use Rattle.std.specs.Option.{option_map_or}
 use Rattle.std.specs.Str.Lines.{lines}
 use Rattle.lwb_base.specs.Profile.{Numbers, one, contended}
 use Rattle.lwb_base.specs.Messages.{greatest_slot}
-use Rattle.lwb_base.specs.declared.limits.TheConstants.{LAST_STEP, MOST_BOOTS, MOST_FRAMES, PLACES_BY_ID}
+use Rattle.lwb_base.specs.declared.limits.TheConstants.{LAST_RANK, LAST_STEP, MOST_BOOTS, MOST_FRAMES, PLACES_BY_ID}
 use Rattle.link_trace.specs.Passes.{Lines}
 use Rattle.scenario_text.specs.FloodParts.{knows}
 use Rattle.scenario_text.specs.ScenarioParts.{ScenarioParts}
@@ -91,7 +91,7 @@ line_in_range d (InNetwork l) = numbers_in_range (last_tick d.profile) l
 line_in_range d (Profile p) = nat_le 1 p && nat_le p 2
 line_in_range d (Contend c) = nat_le 1 c && nat_le c 4
 line_in_range d (Frames f) = nat_le 1 f && nat_le f MOST_FRAMES
-line_in_range d (Host r i) = nat_le r 3 && is_id i
+line_in_range d (Host r i) = nat_le r LAST_RANK && is_id i
 line_in_range d (Script f i a) = is_frame d.frames f && is_id i && act_in_range d.profile a
 line_in_range d (Lose f j k u v) = is_step d f j k && are_ends u v
 line_in_range d (Cut f j k i) = is_step d f j k && is_id i

@@ -18,7 +18,7 @@ use crate::network_draft::NetworkDraft;
 use crate::scenario::Scenario;
 use crate::scenario_line::ScenarioLine;
 use crate::{FaultKind, ScriptLine};
-use lwb_base::{MOST_FRAMES, NodeId, PLACES_BY_ID, Profile};
+use lwb_base::{LAST_RANK, MOST_FRAMES, NodeId, PLACES_BY_ID, Profile};
 use std::alloc::Global;
 use std::marker::Model;
 use text_readers::{Draft, Refusal};
@@ -239,7 +239,7 @@ impl ScenarioDraft {
         ensures fault { RefusesBy result (line_fault self.now (Host rank id)) }
         ensures value { IfOk result (λ node. node ≡ id) }
     {
-        if rank > 3 || !is_id(id) {
+        if rank > u64::from(LAST_RANK) || !is_id(id) {
             return Err(FaultKind::Range);
         }
         let Some(node) = self.network.node(id) else {
