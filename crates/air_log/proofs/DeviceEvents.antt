@@ -1,6 +1,5 @@
--- What an event keeps of a node, that its orders are timely, and what a tuning that is handed out keeps of the log.
+-- What an event keeps of a node, and that its orders are timely.
 use Rattle.std.proofs.Common.{◌≡◌, ℕ, ◌^◌, ◌<◌, Bool, true, false, Some, None, Option, sym, ap, subst, ◌∙◌, All}
-use Rattle.std.specs.Option.{IfSome}
 use Rattle.std.proofs.lemmas.List.Elements.{All-nil}
 use Rattle.lwb_base.specs.declared.event.Event.{Event}
 use Rattle.lwb_base.specs.Orders.{Told}
@@ -9,9 +8,7 @@ use Rattle.node_core.specs.Nodes.{Node, NodeState}
 use Rattle.node_core.specs.Rows.{Stepped, row}
 use Rattle.node_core.specs.Rows.{orders_by}
 use Rattle.node_core.specs.Standing.{GoesThroughRow}
-use Rattle.air_log.specs.declared.entry.TunedEntry.{TunedEntry}
-use Rattle.air_log.specs.Devices.{Made}
-use Rattle.air_log.specs.DeviceStates.{with_tuned, EndedBefore, IsTimely, row_at}
+use Rattle.air_log.specs.DeviceStates.{IsTimely, row_at}
 use Rattle.air_log.specs.DeviceShapes.{power_with}
 use Rattle.node_core.proofs.KeptBoots.{KeepsBoot}
 use Rattle.air_log.proofs.TimelyOrders.{IsOfTime, timely}
@@ -37,8 +34,3 @@ pub timely_orders : (clock : ℕ → ℕ) (t : ℕ) (e : Event) (s : Setup) (on 
     → All IsTimely (orders_by (row_at clock t e s (power_with on boots n)))
 timely_orders clock t e s false boots n small early = All-nil IsTimely
 timely_orders clock t e s true boots n small early = orders_of_time (row s n (clock t) e) (timely s n small (clock t) e early)
-
--- an entry more that ended before
-pub ended_with : (t : ℕ) (e : Option TunedEntry) (made : Made) → IfSome e (λ x. x.end < t) → EndedBefore t made.tuned → EndedBefore t (with_tuned e made).tuned
-ended_with t None made before ended = ended
-ended_with t (Some x) made before ended = before

@@ -1,5 +1,5 @@
 -- What an event is to a device: the row changes it and what is made, and then its orders are obeyed.
-use Rattle.std.proofs.Common.{◌≡◌, ℕ, ◌≤◌, ◌^◌, List, [], ◌++◌, All, Bool, fold, Option, Some, None, IfSome, option_to_list, refl, sym, ◌∙◌, ap, subst, arith}
+use Rattle.std.proofs.Common.{◌≡◌, ℕ, ◌≤◌, ◌^◌, List, [], ◌++◌, All, Bool, fold, Option, Some, None, option_to_list, refl, sym, ◌∙◌, ap, subst, arith}
 use Rattle.std.proofs.lemmas.List.{append-nil}
 use Rattle.std.proofs.lemmas.List.Elements.{All-cons, All-nil}
 use Rattle.lwb_base.specs.declared.event.Event.{Event}
@@ -9,10 +9,10 @@ use Rattle.bus_rules.specs.declared.delivery.Delivery.{Delivery}
 use Rattle.node_core.specs.Nodes.{Node}
 use Rattle.node_core.specs.Rows.{Stepped, orders_by}
 use Rattle.node_core.proofs.NamedDeliveries.{IsTo, DeliversTo, delivers_to}
-use Rattle.air_log.specs.declared.entry.TunedEntry.{TunedEntry}
-use Rattle.air_log.specs.Devices.{Device, Listening, Made, Power, PowerOff, PowerOn, obeyed, event}
-use Rattle.air_log.specs.DeviceStates.{DeviceState, whole, EndedBefore, row_at, row_of, state_after_row, made_by}
+use Rattle.air_log.specs.Devices.{Device, Made, Power, PowerOff, PowerOn, obeyed, event}
+use Rattle.air_log.specs.DeviceStates.{DeviceState, whole, row_at, row_of, state_after_row, made_by}
 use Rattle.air_log.specs.DeviceStates.{state_after_event}
+use Rattle.air_log.specs.Tunings.{Tunings, retuned}
 use Rattle.air_log.specs.DeviceChanges.{DeviceShows, DeviceIsShown, made_more, DeviceGoes}
 use Rattle.air_log.specs.WindowLogs.{WindowLog, is_alarm}
 use Rattle.air_log.specs.WindowSums.{WindowSum, power_has_window, sent_with, noted}
@@ -23,12 +23,11 @@ use Rattle.air_log.proofs.RunningSendings.{runs_still}
 record IsKept (old new : DeviceState) : Type 0 where
   setup : new.setup ≡ old.setup
   busy : new.busy_until ≡ old.busy_until
-  closed : new.closed ≡ old.closed
-  listening : new.listening ≡ old.listening
+  channel : new.channel ≡ old.channel
 
 kept_by_row : (s : DeviceState) (r : Option Stepped) → IsKept s (state_after_row s r)
-kept_by_row s None = record { setup = refl; busy = refl; closed = refl; listening = refl }
-kept_by_row s (Some r) = record { setup = refl; busy = refl; closed = refl; listening = refl }
+kept_by_row s None = record { setup = refl; busy = refl; channel = refl }
+kept_by_row s (Some r) = record { setup = refl; busy = refl; channel = refl }
 
 made_is : (t : ℕ) (e : Event) (ended : Option Sending) (power : Power) (r : Option Stepped) (made : Made)
     → made_by t e ended power r made
@@ -78,69 +77,61 @@ module _ (clock : ℕ → ℕ) (t : ℕ) (e : Event) (ended : Option Sending) (o
   kept = kept_by_row old row
 
   -- the device after the row
-  event_shows : mid.windows.last ≤ 2 ^ 28 → (q : Setup) (made : Made) (d : Device) → DeviceShows q t old made d
-      → DeviceShows q t mid (making made) (whole mid (making made))
-  event_shows less q made d sh = record {
+  event_shows : mid.windows.last ≤ 2 ^ 28 → (q : Setup) (x : Tunings) (made : Made) (d : Device) → DeviceShows q t old x made d
+      → DeviceShows q t mid x (making made) (whole mid x (making made))
+  event_shows less q x made d sh = record {
     is = refl;
     runs = runs_still old.busy_until mid.busy_until made.sent (making made).sent kept.busy
         (ap (λ (m : Made). m.sent) (made_is t e ended old.power row made)) sh.runs;
     setup = kept.setup ∙ sh.setup;
     counted = counted_then clock t e ended old q.profile q.sends sh.few old.windows old.setup old.power made refl sh.counted less;
     few = sh.few;
-    ended = subst (EndedBefore t) (ap (λ (m : Made). m.tuned) (sym (made_is t e ended old.power row made))) sh.ended;
-    happened = record {
-      closed = subst (λ (o : Option TunedEntry). IfSome o (λ x. x.end ≤ t)) (sym kept.closed) sh.happened.closed;
-      listening = subst (λ (o : Option Listening). IfSome o (λ x. x.since ≤ t)) (sym kept.listening) sh.happened.listening;
-    };
+    channel = sh.channel ∙ sym kept.channel;
+    tuned = sh.tuned;
     taken = refl;
   }
 
   pub event_shown : mid.windows.last ≤ 2 ^ 28 → DeviceIsShown t old → DeviceIsShown t mid
   event_shown less shown = record {
     setup = shown.setup;
+    tunings = shown.tunings;
     made = making shown.made;
-    device = whole mid (making shown.made);
-    shows = event_shows less shown.setup shown.made shown.device shown.shows;
+    device = whole mid shown.tunings (making shown.made);
+    shows = event_shows less shown.setup shown.tunings shown.made shown.device shown.shows;
   }
 
   pub event_setup : mid.setup ≡ old.setup
   event_setup = kept.setup
 
-  listed : old.delivery ≡ None → (closed : Option TunedEntry) (w : List WindowLog) (made : Made)
-      → made_more closed [] w (making made) ≡ made_more closed delivers w made
-  listed taken closed w made =
-      ap (made_more closed [] w) (made_is t e ended old.power row made)
-      ∙ ap (λ (l : List Delivery). made_more closed [] w (record made { deliveries = l })) (delivered clock t e ended old taken old.setup old.power made)
-      ∙ ap (λ (l : List Delivery). record (made_more closed delivers w made) { deliveries = l }) (append-nil (made.deliveries ++ delivers))
+  listed : old.delivery ≡ None → (w : List WindowLog) (made : Made) → made_more [] w (making made) ≡ made_more delivers w made
+  listed taken w made =
+      ap (made_more [] w) (made_is t e ended old.power row made)
+      ∙ ap (λ (l : List Delivery). made_more [] w (record made { deliveries = l })) (delivered clock t e ended old taken old.setup old.power made)
+      ∙ ap (λ (l : List Delivery). record (made_more delivers w made) { deliveries = l }) (append-nil (made.deliveries ++ delivers))
 
   -- with its orders obeyed
   module _ (less : mid.windows.last ≤ 2 ^ 28) (taken : old.delivery ≡ None)
-      (comes : (made : Made) → event clock old.setup t e ended (whole old made)
-      ≡ fold (obeyed clock old.setup.id t) (whole (state_after_row old row) (making made)) (orders_by row))
-      (new : DeviceState) (closed : Option TunedEntry) (goes : DeviceGoes t (λ q d. fold (obeyed clock q.id t) d (orders_by row)) mid new closed []) where
-    same : (q : Setup) (made : Made) (d : Device) → DeviceShows q t old made d
-        → fold (obeyed clock q.id t) (whole mid (making made)) (orders_by row) ≡ event clock q t e ended d
-    same q made d sh =
-        ap (λ (z : Setup). fold (obeyed clock z.id t) (whole mid (making made)) (orders_by row)) (sym sh.setup) ∙ sym (comes made)
+      (comes : (x : Tunings) (made : Made) → event clock old.setup t e ended (whole old x made)
+      ≡ fold (obeyed clock old.setup.id t) (whole (state_after_row old row) x (making made)) (orders_by row))
+      (new : DeviceState) (goes : DeviceGoes t (λ q d. fold (obeyed clock q.id t) d (orders_by row)) mid new []) where
+    same : (q : Setup) (x : Tunings) (made : Made) (d : Device) → DeviceShows q t old x made d
+        → fold (obeyed clock q.id t) (whole mid x (making made)) (orders_by row) ≡ event clock q t e ended d
+    same q x made d sh =
+        ap (λ (z : Setup). fold (obeyed clock z.id t) (whole mid x (making made)) (orders_by row)) (sym sh.setup) ∙ sym (comes x made)
         ∙ ap (event clock old.setup t e ended) sh.is ∙ ap (λ (z : Setup). event clock z t e ended d) sh.setup
 
-    pub event_goes : DeviceGoes t (λ q d. event clock q t e ended d) old new closed delivers
+    pub event_goes : DeviceGoes t (λ q d. event clock q t e ended d) old new delivers
     event_goes = record {
-      shows = λ q made d sh.
-          let next = goes.shows q (making made) (whole mid (making made)) (event_shows less q made d sh) in (
+      shows = λ q x made d sh.
+          let next = goes.shows q x (making made) (whole mid x (making made)) (event_shows less q x made d sh) in
+          let tuned = retuned q.id t new.channel x in (
             next.0,
-            subst (λ (m : Made). DeviceShows q t new m (event clock q t e ended d)) (listed taken closed next.0 made)
-                (subst (λ (x : Device). DeviceShows q t new (made_more closed [] next.0 (making made)) x) (same q made d sh) next.1),
+            subst (λ (m : Made). DeviceShows q t new tuned m (event clock q t e ended d)) (listed taken next.0 made)
+                (subst (λ (y : Device). DeviceShows q t new tuned (made_more [] next.0 (making made)) y) (same q x made d sh) next.1),
           );
       setup = goes.setup ∙ kept.setup;
       busy = goes.busy ∙ kept.busy;
-      hands = record {
-        once = goes.hands.once;
-        none = λ keeps. goes.hands.none (subst (λ (o : Option TunedEntry). IfSome o (λ x. t ≤ x.end)) (sym kept.closed) keeps);
-        still = λ keeps. goes.hands.still (subst (λ (o : Option TunedEntry). IfSome o (λ x. t ≤ x.end)) (sym kept.closed) keeps);
-      };
-      own_tuning = subst (λ (s : Setup). IfSome closed (λ x. x.node ≡ s.id)) kept.setup goes.own_tuning;
-      own_deliveries = all_named old.setup.id (state_after_row old row).delivery (delivery_named clock t e ended old taken old.setup old.power);
+      own = all_named old.setup.id (state_after_row old row).delivery (delivery_named clock t e ended old taken old.setup old.power);
     }
 
 -- the device after an event, as code comes to it: one part after another

@@ -28,12 +28,14 @@ pub mod EventKinds
 pub mod EventPower
 pub mod ShownCourses
 pub mod AlarmsTaken
+pub mod KeptTunings
 pub mod DeviceChanges
 pub mod FramesOfCourses
 pub mod ListCuts
 pub mod FirstRoundLog
 pub mod ShortRuns
 pub mod DropsBelow
+pub mod IdleFrames
 -- for this crate alone
 pub mod SmallCores
 mod DeviceEvents

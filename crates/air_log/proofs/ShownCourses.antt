@@ -1,13 +1,12 @@
 -- When a course shows a device: by its state and what was made, at a later tick, and through changes in turn.
-use Rattle.std.proofs.Common.{◌≡◌, ℕ, ◌≤◌, List, [], ◌∷◌, Option, Some}
-use Rattle.std.proofs.Common.{None, IfSome, subst, arith}
-use Rattle.radio_model.specs.OnAir.{Tuning}
+use Rattle.std.proofs.Common.{◌≡◌, ℕ, ◌≤◌, subst}
 use Rattle.bus_rules.specs.Cores.{Setup}
-use Rattle.air_log.specs.declared.entry.TunedEntry.{TunedEntry}
-use Rattle.air_log.specs.Devices.{Device, Listening, Made}
-use Rattle.air_log.specs.DeviceStates.{DeviceState, EndedBefore, HappenedBy}
+use Rattle.air_log.specs.Devices.{Device, Made}
+use Rattle.air_log.specs.DeviceStates.{DeviceState}
+use Rattle.air_log.specs.Tunings.{Tunings, tunings_with}
 use Rattle.air_log.specs.DeviceChanges.{DeviceShows}
 use Rattle.air_log.specs.Courses.{CourseState, made_in, CourseShows, CourseIsShown, Goes}
+use Rattle.air_log.proofs.KeptTunings.{ended_later, by_channel_later}
 
 -- a device is shown still
 pub shown_still : (t : ℕ) (change : Setup → Device → Device) (old new : CourseState) → Goes t change old new → CourseIsShown t old → CourseIsShown t new
@@ -26,37 +25,24 @@ pub goes_as : (t : ℕ) (change other : Setup → Device → Device) (old new : 
 goes_as t change other old new same goes = λ q d shows. shows_as q t new (change q d) (other q d) (goes q d shows) (same q d shows)
 
 -- a later tick
-pub ended_later : (t u : ℕ) (es : List Tuning) → t ≤ u → EndedBefore t es → EndedBefore u es
-ended_later t u [] le ended = tt
-ended_later t u (e ∷ es) le ended = omega (arith, le, ended)
-
-happened_later : (t u : ℕ) (s : DeviceState) → t ≤ u → HappenedBy t s → HappenedBy u s
-happened_later t u s le happened = record { closed = closed s.closed happened.closed; listening = listening s.listening happened.listening }
-  where
-    closed : (o : Option TunedEntry) → IfSome o (λ e. e.end ≤ t) → IfSome o (λ e. e.end ≤ u)
-    closed None h = tt
-    closed (Some e) h = omega (arith, le, h)
-
-    listening : (o : Option Listening) → IfSome o (λ l. l.since ≤ t) → IfSome o (λ l. l.since ≤ u)
-    listening None h = tt
-    listening (Some l) h = omega (arith, le, h)
-
-pub device_later : (q : Setup) (t u : ℕ) (s : DeviceState) (made : Made) (d : Device) → t ≤ u → DeviceShows q t s made d → DeviceShows q u s made d
-device_later q t u s made d le shows = record {
+pub device_later : (q : Setup) (t u : ℕ) (s : DeviceState) (x : Tunings) (made : Made) (d : Device) → t ≤ u → DeviceShows q t s x made d
+    → DeviceShows q u s x made d
+device_later q t u s x made d le shows = record {
   is = shows.is;
   runs = shows.runs;
   setup = shows.setup;
   counted = shows.counted;
   few = shows.few;
-  ended = ended_later t u made.tuned le shows.ended;
-  happened = happened_later t u s le shows.happened;
+  channel = shows.channel;
+  tuned = by_channel_later q.id t u x le shows.tuned;
   taken = shows.taken;
 }
 
 pub shows_later : (q : Setup) (t u : ℕ) (c : CourseState) (d : Device) → t ≤ u → CourseShows q t c d → CourseShows q u c d
 shows_later q t u c d le shows = record {
   windows = shows.windows;
-  shows = device_later q t u c.device (made_in c shows.windows) d le shows.shows;
+  shows = device_later q t u c.device (tunings_with q.id c.tuning c.tuned) (made_in c shows.windows) d le shows.shows;
+  ended = ended_later t u c.tuned le shows.ended;
 }
 
 -- the same between courses that are known by equations

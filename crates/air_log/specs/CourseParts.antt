@@ -5,4 +5,10 @@ use Rattle.air_log.specs.Courses.{CourseState}
 use Rattle.air_log.specs.DeviceStates.{tuning_of}
 
 abbrev pub course_of : Inside → CourseState
-course_of c = record { device = c.device; sent = c.sent.items; tuned = reverse (map tuning_of c.tuned.items); deliveries = c.deliveries.items }
+course_of c = record {
+  device = c.device;
+  tuning = c.tuning;
+  sent = c.sent.items;
+  tuned = reverse (map tuning_of c.tuned.items);
+  deliveries = c.deliveries.items;
+}

@@ -4,6 +4,7 @@ use Rattle.std.specs.declared.option.Option.{Option}
 use Rattle.radio_model.specs.declared.sending.Sending.{Sending}
 use Rattle.std.specs.Option.{option_map}
 use Rattle.radio_model.specs.OnAir.{Hearing, Tuning}
+use Rattle.radio_model.specs.declared.tuning.RadioTuning.{RadioTuning}
 use Rattle.bus_rules.specs.declared.delivery.Delivery.{Delivery}
 use Rattle.bus_rules.specs.Cores.{Setup}
 use Rattle.air_log.specs.declared.entry.Entry.{Entry}
@@ -13,13 +14,15 @@ use Rattle.air_log.specs.AlarmRuns.{IsAlarmRun}
 use Rattle.air_log.specs.Devices.{Device, Made}
 use Rattle.air_log.specs.DeviceChanges.{DeviceShows}
 use Rattle.air_log.specs.DeviceStates.{DeviceState, tick_of_ordered}
+use Rattle.air_log.specs.Tunings.{tunings_with, EndedBefore}
 use Rattle.air_log.specs.Trails.{Reception, device_after_receptions, device_after_end, alarmed, device_after_start}
 use Rattle.air_log.specs.WindowLogs.{WindowLog}
 use Rattle.air_log.specs.WindowSums.{IsCounted}
 
--- tunings are with the last first
+-- tuning: that of the radio; tuned: the tunings that are in the list, the last first
 pub record CourseState : Type 0 where
   pub device : DeviceState
+  pub tuning : RadioTuning
   pub sent : List Sending
   pub tuned : List Tuning
   pub deliveries : List Delivery
@@ -31,7 +34,8 @@ made_in c windows = record { sent = c.sent; tuned = c.tuned; deliveries = c.deli
 -- at tick t it is this device of a trail
 pub record CourseShows (q : Setup) (t : ℕ) (c : CourseState) (d : Device) : Type 0 where
   pub windows : List WindowLog
-  pub shows : DeviceShows q t c.device (made_in c windows) d
+  pub shows : DeviceShows q t c.device (tunings_with q.id c.tuning c.tuned) (made_in c windows) d
+  pub ended : EndedBefore t c.tuned
 
 -- its lists are what this device has made
 pub record HasListsOf (q : Setup) (c : CourseState) (d : Device) : Type 0 where

@@ -1,22 +1,15 @@
 -- What holds of a device at all times, and what it is seen as.
 use Rattle.std.specs.Prelude.{◌≡◌, ℕ, ◌^◌, ◌<◌, Bool, true, false}
-use Rattle.std.specs.declared.option.Option.{Option}
-use Rattle.std.specs.Option.{IfSome}
 use Rattle.lwb_base.specs.Profile.{Numbers}
 use Rattle.node_core.specs.Nodes.{NodeState, Node}
-use Rattle.air_log.specs.declared.entry.TunedEntry.{TunedEntry}
-use Rattle.air_log.specs.Devices.{Power, PowerOff, PowerOn, Listening}
-use Rattle.air_log.specs.DeviceStates.{IsKeptBack}
+use Rattle.air_log.specs.Devices.{Power, PowerOff, PowerOn}
 
 abbrev pub power_with : Bool → ℕ → Node → Power
 power_with false boots n = PowerOff boots
 power_with true boots n = PowerOn n
 
-pub record IsDevice (node : ℕ) (profile : Numbers) (core : NodeState) (on : Bool) (boots : ℕ) (closed : Option TunedEntry)
-    (listening : Option Listening) : Type 0 where
+pub record IsDevice (node : ℕ) (profile : Numbers) (core : NodeState) (on : Bool) (boots : ℕ) : Type 0 where
   pub id : node ≡ core.setup.id
   pub numbers : profile ≡ core.setup.profile
   pub boot : on ≡ true → core.node.core.boot ≡ boots
   pub early : core.node.zero < 2 ^ 47
-  pub kept : IsKeptBack closed listening
-  pub own : IfSome closed (λ e. e.node ≡ node)

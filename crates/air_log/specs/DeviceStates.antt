@@ -1,8 +1,8 @@
 -- A device as code keeps it, and what it makes known of itself step by step.
-use Rattle.std.specs.Prelude.{◌≡◌, ℕ, ◌^◌, ◌<◌, ◌≤◌, ◌-◌, List, [], ◌∷◌, ◌++◌, Bool, true, false, ◌==◌, Some, None, is_some, option_to_list, ⊤}
+use Rattle.std.specs.Prelude.{◌≡◌, ℕ, ◌^◌, ◌<◌, ◌-◌, List, [], ◌∷◌, ◌++◌, Bool, false, ◌==◌, Some, None, option_to_list, ⊤}
 use Rattle.std.specs.Prelude.{length, slice_get}
 use Rattle.std.specs.declared.option.Option.{Option}
-use Rattle.std.specs.Option.{IfSome, option_map}
+use Rattle.std.specs.Option.{option_map}
 use Rattle.lwb_base.specs.declared.limits.TheConstants.{MOST_BOOTS}
 use Rattle.lwb_base.specs.declared.event.Event.{Event}
 use Rattle.lwb_base.specs.declared.event.Event.TheVariants.{Sent}
@@ -19,31 +19,28 @@ use Rattle.air_log.specs.declared.entry.TunedEntry.{TunedEntry}
 use Rattle.air_log.specs.WindowLogs.{windows_after, is_alarm}
 use Rattle.air_log.specs.WindowSums.{WindowSum, power_has_window, sent_with, noted}
 use Rattle.air_log.specs.declared.settings.Settings.{Settings}
-use Rattle.air_log.specs.Devices.{Device, Power, PowerOff, PowerOn, Listening, OrderedPacket, Made, delivery_by, event}
+use Rattle.air_log.specs.Devices.{Device, Power, PowerOff, PowerOn, OrderedPacket, Made, delivery_by, event}
+use Rattle.air_log.specs.Tunings.{Tunings}
 
--- core: the node, also where its power is off; closed: the tuning that ended last, as long as its entry is not in the log;
--- busy_until: the tick at which its running transmission ends; delivery: that of the last step; windows: what its windows count so far
+-- core: the node, also where its power is off; channel: that of its radio; busy_until: the tick at which its running transmission
+-- ends; delivery: that of the last step; windows: what its windows count so far
 pub record DeviceState : Type 0 where
   pub setup : Setup
   pub core : Node
   pub power : Power
-  pub listening : Option Listening
-  pub closed : Option TunedEntry
+  pub channel : Option ℕ
   pub alarm : Option ℕ
   pub ordered : Option OrderedPacket
   pub busy_until : Option ℕ
   pub delivery : Option Delivery
   pub windows : WindowSum
 
-abbrev pub channel_of : Listening → ℕ
-channel_of l = l.rank
-
 abbrev pub tick_of_ordered : OrderedPacket → ℕ
 tick_of_ordered o = o.tick
 
 -- what is set at it
 abbrev pub settings_of : DeviceState → Settings
-settings_of s = record { channel = option_map channel_of s.listening; alarm = s.alarm; sending = option_map tick_of_ordered s.ordered }
+settings_of s = record { channel = s.channel; alarm = s.alarm; sending = option_map tick_of_ordered s.ordered }
 
 abbrev pub sending_end : Sending → ℕ
 sending_end x = x.end
@@ -60,50 +57,16 @@ RunsUntil end sent = option_map sending_end (running end sent) ≡ end
 abbrev pub tuning_of : TunedEntry → Tuning
 tuning_of e = record { rank = e.rank; node = e.node; start = e.start; end = e.end }
 
--- tunings with one more, if there is one
-abbrev pub one_more : Option TunedEntry → List Tuning → List Tuning
-one_more None es = es
-one_more (Some e) es = tuning_of e ∷ es
-
-abbrev pub with_tuned : Option TunedEntry → Made → Made
-with_tuned e made = record made { tuned = one_more e made.tuned }
-
--- the device, where what is in the log of its making is this
-abbrev pub whole : DeviceState → Made → Device
-whole s made = record {
+-- the device of a trail, where its tunings are these, and the rest of what it has made is this
+abbrev pub whole : DeviceState → Tunings → Made → Device
+whole s x made = record {
   power = s.power;
-  listening = s.listening;
+  listening = x.listening;
   alarm = s.alarm;
   ordered = s.ordered;
   sending = running s.busy_until made.sent;
-  made = with_tuned s.closed made;
+  made = record made { tuned = x.ended };
 }
-
--- the last tuning in the log ended before this tick, so it does not go on at it
-abbrev pub EndedBefore : ℕ → List Tuning → Type 0
-EndedBefore t [] = ⊤
-EndedBefore t (e ∷ es) = e.end < t
-
--- what a device knows of its tunings happened by this tick
-pub record HappenedBy (t : ℕ) (s : DeviceState) : Type 0 where
-  pub closed : IfSome s.closed (λ e. e.end ≤ t)
-  pub listening : IfSome s.listening (λ l. l.since ≤ t)
-
--- the tuning that is kept back is not empty, and ended by the time at which the present one began
-abbrev pub IsKeptBack : Option TunedEntry → Option Listening → Type 0
-IsKeptBack None l = ⊤
-IsKeptBack (Some e) None = e.start < e.end
-IsKeptBack (Some e) (Some l) = (e.start < e.end) × (e.end ≤ l.since)
-
--- nothing that it keeps back ended before this tick
-abbrev pub KeepsBack : ℕ → DeviceState → Type 0
-KeepsBack t s = IfSome s.closed (λ e. t ≤ e.end)
-
--- at tick t it hands out no tuning but one that it kept back from before, and so one at most
-pub record HandsOut (t : ℕ) (old : DeviceState) (closed : Option TunedEntry) (new : DeviceState) : Type 0 where
-  pub once : is_some closed ≡ true → KeepsBack t new
-  pub none : KeepsBack t old → closed ≡ None
-  pub still : KeepsBack t old → KeepsBack t new
 
 -- the same node with the delivery of the same step and the same windows
 pub record IsSameNode (old new : DeviceState) : Type 0 where

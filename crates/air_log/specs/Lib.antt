@@ -22,8 +22,10 @@ pub mod Safe
 pub mod Deliveries
 pub mod Drops
 pub mod TunedTimes
+pub mod Idling
 -- the clocks over which a log is valid
 pub use Rattle.scenario_clocks.specs.ClockLists
+pub mod Tunings
 pub mod DeviceStates
 pub mod DeviceShapes
 pub mod TrailsTold

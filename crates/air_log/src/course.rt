@@ -9,7 +9,9 @@ ghost use Rattle.air_log.specs.Devices.{Device as DeviceOf, at_rest, event as ev
 ghost use Rattle.air_log.specs.ScriptedDevices.{device_after_line};
 ghost use Rattle.scenario_text.specs.Setups.{setup_of};
 ghost use Rattle.air_log.specs.Trails.{alarmed, device_after_start as begun_at, device_after_end as ended_at};
-ghost use Rattle.air_log.specs.DeviceStates.{CanBoot, one_more};
+ghost use Rattle.air_log.specs.DeviceStates.{CanBoot};
+ghost use Rattle.air_log.specs.Tunings.{one_more};
+ghost use Rattle.radio_model.specs.Stations.{tuning_after, over_after};
 ghost use Rattle.air_log.specs.Courses.{CourseShows, HasListsOf, CourseIsShown, Goes, IsShownEnding};
 
 use crate::device::Device;
@@ -17,15 +19,18 @@ use crate::{EventRadio, Notice, TunedEntry};
 use bus_rules::Delivery;
 use lwb_base::{Event, Memory, NodeId};
 use radio_model::sending::Sending;
+use radio_model::tuning::{Past, RadioTuning};
 use scenario_text::{Scenario, ScriptLine};
 use std::alloc::Global;
 use std::marker::Model;
 use tick_clock::DriftClock;
 
-// The device of a trail, what it has made so far, each in the order in which it was made, and the buffer of its radio.
+// The device of a trail, what its radio is tuned to, what it has made so far, each in the order in which it was made, and the
+// buffer of its radio.
 #[derive(Drop)]
 pub(crate) struct Course {
     pub(crate) device: Device,
+    pub(crate) tuning: RadioTuning,
     pub(crate) sent: Vec<Sending>,
     pub(crate) tuned: Vec<TunedEntry>,
     pub(crate) deliveries: Vec<Delivery>,
@@ -49,6 +54,7 @@ impl Course {
         let profile = s.profile();
         Ok(Course {
             device: Device::new(alloc, &profile, node, s.hosts(), s.sends())?,
+            tuning: RadioTuning::none(),
             sent: Vec::new(alloc),
             tuned: Vec::new(alloc),
             deliveries: Vec::new(alloc),
@@ -67,10 +73,9 @@ impl Course {
         requires early { t ≤ 2 ^ 45 }
         ensures { OnOk result (Goes t (λ q d. event_at (C.readings clock.now) q t notice.now.event.now (option_copied notice.now.ended) d) self.old self.new) }
     {
-        let closed = self
-            .device
+        self.device
             .notify(clock, t, notice, &mut self.radio, &mut self.deliveries)?;
-        self.log_tuning(closed)
+        self.follow(t)
     }
 
     // The alarms that are due at tick t, one after another.
@@ -81,10 +86,9 @@ impl Course {
             → IsAlarmRun (C.readings clock.now) q t d (alarmed (C.readings clock.now) q t d)
             → CourseShows q t self.new (alarmed (C.readings clock.now) q t d)) }
     {
-        let closed = self
-            .device
+        self.device
             .take_alarms(clock, t, &mut self.radio, &mut self.deliveries)?;
-        self.log_tuning(closed)
+        self.follow(t)
     }
 
     // The transmission that ends at tick t, if one does.
@@ -101,10 +105,9 @@ impl Course {
             event: &event,
             ended: self.sent.last(),
         };
-        let closed = self
-            .device
+        self.device
             .notify(clock, t, &notice, &mut self.radio, &mut self.deliveries)?;
-        self.log_tuning(closed)
+        self.follow(t)
     }
 
     // The transmission that starts at tick t, if one does.
@@ -130,27 +133,37 @@ impl Course {
         requires boots { line.now.act ≡ OnOf → CanBoot self.old.device.power }
         ensures { OnOk result (Goes t (λ q d. device_after_line (C.readings clock.now) q t d line.now) self.old self.new) }
     {
-        let (closed, _) = self
-            .device
+        self.device
             .act(clock, t, line, &mut self.radio, &mut self.deliveries)?;
-        self.log_tuning(closed)
+        self.follow(t)
     }
 
     // At tick t its tuning ends, and all its tunings are in the list.
     pub(crate) fn close(&mut self, t: u64) -> Result<(), Memory>
         ensures { OnOk result ((q : Setup) (d : DeviceOf) → CourseShows q t self.old d → HasListsOf q self.new (silenced q.id t d)) }
     {
-        let (first, last) = self.device.close(t);
-        self.log_tuning(first)?;
-        self.log_tuning(last)
+        let over = self.tuning.tune(None, t);
+        self.log_tuning(over)?;
+        self.log_tuning(self.tuning.last)
     }
 
-    // A tuning that has ended, if there is one.
-    fn log_tuning(&mut self, closed: Option<TunedEntry>) -> Result<(), Memory>
-        ensures { OnOk result (self.new ≡ record self.old { tuned = one_more closed self.old.tuned }) }
+    // The radio is tuned to what the device has set at tick t. A tuning that goes on no more by this is in the list.
+    fn follow(&mut self, t: u64) -> Result<(), Memory>
+        ensures { OnOk result (self.new ≡ record self.old {
+          tuning = tuning_after self.old.device.channel t self.old.tuning;
+          tuned = one_more self.old.device.setup.id (over_after self.old.device.channel t self.old.tuning) self.old.tuned;
+        }) }
     {
-        if let Some(entry) = closed {
-            self.tuned.push(entry)?;
+        let over = self.tuning.tune(self.device.settings().channel, t);
+        self.log_tuning(over)
+    }
+
+    // A tuning that goes on no more, if there is one.
+    fn log_tuning(&mut self, over: Option<Past>) -> Result<(), Memory>
+        ensures { OnOk result (self.new ≡ record self.old { tuned = one_more self.old.device.setup.id over self.old.tuned }) }
+    {
+        if let Some(past) = over {
+            self.tuned.push(TunedEntry::of(self.device.node(), past))?;
         }
         Ok(())
     }

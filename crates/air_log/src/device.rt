@@ -1,6 +1,6 @@
 //! The node of a trail: a node core with its radio and its alarm.
 
-ghost use Rattle.std.specs.Prelude.{◌≡◌, ◌<◌, ◌≤◌, ◌^◌, ◌+◌, ◌%◌, ℕ, false, IfOk, IfSome, Some, None, length, max};
+ghost use Rattle.std.specs.Prelude.{◌≡◌, ◌<◌, ◌≤◌, ◌^◌, ◌+◌, ◌%◌, ℕ, [], false, IfOk, IfSome, Some, None, length, max};
 ghost use Rattle.lwb_base.specs.declared.limits.TheConstants.{MOST_RANKS};
 ghost use Rattle.bus_rules.specs.Cores.{own_rank};
 ghost use Rattle.node_core.specs.Nodes.{rebooted};
@@ -12,30 +12,13 @@ ghost use Rattle.air_log.specs.Charges.{scans_with};
 ghost use Rattle.air_log.specs.WindowSums.{stage_has_window, power_has_window};
 ghost use Rattle.air_log.specs.DeviceStates.{whole, IsCoreAt, core_in, settings_of};
 
+use crate::Settings;
 use crate::window_sum::WindowSum;
-use crate::{Settings, TunedEntry};
 use bus_rules::Tune;
 use lwb_base::{Memory, NodeId, Packet, Profile, Rank};
 use node_core::{Node, Place};
 use std::alloc::Global;
 use std::marker::Model;
-
-// The radio is on at the channel of a rank since a tick.
-#[derive(Clone, Copy)]
-pub(crate) struct Listening {
-    pub(crate) rank: Rank,
-    pub(crate) since: u64,
-}
-
-impl Model for Listening {
-    ghost use Rattle.air_log.specs.Devices.{Listening as ListeningOf};
-
-    ghost Value = { ListeningOf };
-
-    ghost view = { λ l. record { rank = l.rank; since = l.since } };
-
-    ghost inverse = { λ l. record { rank = l.rank; since = l.since } };
-}
 
 // A packet that is to be sent at a tick.
 #[derive(Drop)]
@@ -54,13 +37,14 @@ impl Model for Ordered {
     ghost inverse = { λ o. record { tick = o.tick; packet = o.packet } };
 }
 
-/// The node of a trail (`Trail`), for what runs nodes in true time: a node core with its power, its radio, its one alarm, its
-/// one ordered transmission, the tick at which its running transmission ends and what its windows count. All times are true ticks
-/// of 1/64 µs, and those of orders are by the node's clock. A transmission is handed out as it starts. A tuning that ended is kept
-/// back as long as it may go on, and handed out after that: in one tick at most one is.
+/// The node of a trail (`Trail`), for what runs nodes in true time: a node core with its power, the channel of its radio, its one
+/// alarm, its one ordered transmission, the tick at which its running transmission ends and what its windows count. All times are
+/// true ticks of 1/64 µs, and those of orders are by the node's clock. A transmission is handed out as it starts. Since when its
+/// radio is on, and its tunings that ended, whoever runs it has from its channel after each call: of all channels of a tick only
+/// the last one counts.
 ///
-/// Contracts see its state, and say what each call does to it by the trail: `whole` is the device of the trail, where what it
-/// has made so far is in the log.
+/// Contracts see its state, and say what each call does to it by the trail: `whole` is the device of the trail, where its tunings
+/// and all else that it has made are elsewhere.
 #[derive(Drop)]
 pub struct Device {
     pub(crate) node: NodeId,
@@ -68,8 +52,7 @@ pub struct Device {
     pub(crate) core: Node,
     pub(crate) on: bool,
     pub(crate) boots: u8,
-    pub(crate) listening: Option<Listening>,
-    pub(crate) closed: Option<TunedEntry>,
+    pub(crate) channel: Option<Rank>,
     pub(crate) alarm: Option<u64>,
     pub(crate) ordered: Option<Ordered>,
     // The tick at which its running transmission ends.
@@ -87,8 +70,7 @@ impl Model for Device {
       setup = d.core.setup;
       core = d.core.node;
       power = power_with d.on d.boots d.core.node;
-      listening = d.listening;
-      closed = d.closed;
+      channel = d.channel;
       alarm = d.alarm;
       ordered = d.ordered;
       busy_until = d.busy_until;
@@ -96,7 +78,7 @@ impl Model for Device {
       windows = d.windows;
     } };
 
-    ghost invariant = { λ d. IsDevice d.node d.profile d.core d.on d.boots d.closed d.listening };
+    ghost invariant = { λ d. IsDevice d.node d.profile d.core d.on d.boots };
 }
 
 impl Device {
@@ -113,8 +95,9 @@ impl Device {
         requires sends { (1 ≤ n) × (n ≤ 4) }
         ensures setup { IfOk result
             (λ d. d.setup ≡ record { profile = profile.now; id = node; own = own_rank node hosts.now; ranks = length hosts.now; sends = n }) }
-        ensures rest { IfOk result (λ d. whole d nothing_made ≡ at_rest) }
+        ensures rest { IfOk result (λ d. whole d (record { listening = None; ended = [] }) nothing_made ≡ at_rest) }
         ensures idle { IfOk result (λ d. d.busy_until ≡ None) }
+        ensures channel { IfOk result (λ d. d.channel ≡ None) }
         ensures delivery { IfOk result (λ d. d.delivery ≡ None) }
         ensures core { IfOk result (λ d. d.core ≡ rebooted 1) }
         ensures windows { IfOk result
@@ -126,8 +109,7 @@ impl Device {
             core: Node::new(alloc, profile, node, hosts, n)?,
             on: false,
             boots: 0,
-            listening: None,
-            closed: None,
+            channel: None,
             alarm: None,
             ordered: None,
             busy_until: None,
@@ -137,7 +119,8 @@ impl Device {
 
     /// The id of its node.
     pub fn node(&self) -> NodeId
-        ensures { result ≡ self.now.setup.id }
+        ensures id { result ≡ self.now.setup.id }
+        ensures core { IsCoreAt self.now.core self.now.power }
     {
         self.node
     }
@@ -179,10 +162,7 @@ impl Device {
         ensures { result ≡ settings_of self.now }
     {
         Settings {
-            channel: match self.listening {
-                Some(listening) => Some(listening.rank),
-                None => None,
-            },
+            channel: self.channel,
             alarm: self.alarm,
             sending: match &self.ordered {
                 Some(ordered) => Some(ordered.tick),

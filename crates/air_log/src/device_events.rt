@@ -1,21 +1,20 @@
 //! What a device is notified of, and what it does then.
 
-ghost use Rattle.std.specs.Prelude.{◌≡◌, ◌≤◌, ◌++◌, ◌^◌, IfOk, OnOk, option_copied, option_to_list};
+ghost use Rattle.std.specs.Prelude.{◌≡◌, ◌≤◌, ◌++◌, ◌^◌, OnOk, option_copied, option_to_list};
 ghost use Rattle.air_log.specs.Devices.{event as event_at};
 ghost use Rattle.air_log.specs.DeviceChanges.{DeviceIsShown, Delivers, DeviceIsEnding, TakesAlarms};
 ghost use Rattle.air_log.specs.WindowLogs.{is_alarm};
 ghost use Rattle.air_log.specs.WindowSums.{power_has_window, noted};
 
 use crate::device::Device;
-use crate::{EventRadio, Notice, TunedEntry};
+use crate::{EventRadio, Notice};
 use bus_rules::Delivery;
 use lwb_base::{Event, Memory, Packet};
 use tick_clock::DriftClock;
 
 impl Device {
     /// It is notified of an event at tick t, and what it orders is done. What the radio kept before is cleared first; it is passed
-    /// to reuse its buffer, which takes long to make. A tuning that does not go on any more is handed out, and what it delivers
-    /// goes to the list. At a node that is off nothing happens.
+    /// to reuse its buffer, which takes long to make. What it delivers goes to the list. At a node that is off nothing happens.
     pub fn notify<C: DriftClock>(
         &mut self,
         clock: &C,
@@ -23,11 +22,11 @@ impl Device {
         notice: &Notice<'_, '_>,
         radio: &mut EventRadio,
         deliveries: &mut Vec<Delivery>,
-    ) -> Result<Option<TunedEntry>, Memory>
+    ) -> Result<(), Memory>
         requires shown { DeviceIsShown t self.old }
         requires early { t ≤ 2 ^ 45 }
-        ensures goes { IfOk result
-            (λ closed. Delivers t (λ q d. event_at (C.readings clock.now) q t notice.now.event.now (option_copied notice.now.ended) d) self.old self.new closed
+        ensures goes { OnOk result
+            (Delivers t (λ q d. event_at (C.readings clock.now) q t notice.now.event.now (option_copied notice.now.ended) d) self.old self.new
             deliveries.old.items deliveries.new.items) }
         ensures setup { self.new.setup ≡ self.old.setup }
     {
@@ -37,7 +36,8 @@ impl Device {
         self.react(clock, t, notice.event, radio);
         self.count(before, by_alarm, notice.sent());
         self.log_delivery(deliveries)?;
-        Ok(self.obey_all(clock, t, radio))
+        self.obey_all(clock, t, radio);
+        Ok(())
     }
 
     /// The alarms that are due at tick t, one after another, each as an event.
@@ -47,10 +47,10 @@ impl Device {
         t: u64,
         radio: &mut EventRadio,
         deliveries: &mut Vec<Delivery>,
-    ) -> Result<Option<TunedEntry>, Memory>
+    ) -> Result<(), Memory>
         requires ends { DeviceIsEnding (C.readings clock.now) t self.old }
         requires early { t ≤ 2 ^ 45 }
-        ensures goes { IfOk result (λ closed. TakesAlarms (C.readings clock.now) t self.old self.new closed deliveries.old.items deliveries.new.items) }
+        ensures goes { OnOk result (TakesAlarms (C.readings clock.now) t self.old self.new deliveries.old.items deliveries.new.items) }
         ensures setup { self.new.setup ≡ self.old.setup }
     {
         let event = Event::Alarm;
@@ -58,14 +58,12 @@ impl Device {
             event: &event,
             ended: None,
         };
-        let mut closed = None;
         // The proof bounds the loop; the language needs a limit.
         for _ in 0..u64::MAX {
             if !self.take_alarm(t) {
-                return Ok(closed);
+                return Ok(());
             }
-            let one = self.notify(clock, t, &notice, radio, deliveries)?;
-            closed = closed.or(one);
+            self.notify(clock, t, &notice, radio, deliveries)?;
         }
         unreachable!()
     }

@@ -7,7 +7,8 @@ ghost use Rattle.node_core.specs.Rows.{orders_by};
 ghost use Rattle.lwb_base.specs.Orders.{Gives};
 ghost use Rattle.air_log.specs.Devices.{Made, obeyed, event as event_at};
 ghost use Rattle.air_log.specs.Trails.{alarm_is_due, device_after_start, device_after_end};
-ghost use Rattle.air_log.specs.DeviceStates.{whole, IsSameNode, row_of, state_after_row, made_by, with_sent, told_of, HappenedBy};
+ghost use Rattle.air_log.specs.DeviceStates.{whole, IsSameNode, row_of, state_after_row, made_by, with_sent, told_of};
+ghost use Rattle.air_log.specs.Tunings.{Tunings, channel_in};
 ghost use Rattle.air_log.specs.DeviceStates.{IsTimely, RunsUntil, running, sending_end, ends_now};
 
 use crate::device::{Device, Ordered};
@@ -30,12 +31,12 @@ impl Device {
         ensures after { self.new ≡ state_after_row self.old (row_of (C.readings clock.now) t event.now self.old) }
         ensures orders { Gives (R.told radio.old) (R.told radio.new) (orders_by (row_of (C.readings clock.now) t event.now self.old)) }
         ensures timely { All IsTimely (orders_by (row_of (C.readings clock.now) t event.now self.old)) }
-        ensures whole { (made : Made) (ended : Option Sending)
-            → event_at (C.readings clock.now) self.old.setup t event.now ended (whole self.old made)
+        ensures whole { (x : Tunings) (made : Made) (ended : Option Sending)
+            → event_at (C.readings clock.now) self.old.setup t event.now ended (whole self.old x made)
             ≡ fold (obeyed (C.readings clock.now) self.old.setup.id t)
-            (whole self.new (made_by t event.now ended self.old.power (row_of (C.readings clock.now) t event.now self.old) made))
+            (whole self.new x (made_by t event.now ended self.old.power (row_of (C.readings clock.now) t event.now self.old) made))
             (orders_by (row_of (C.readings clock.now) t event.now self.old)) }
-        ensures time { (now : ℕ) → HappenedBy now self.old → HappenedBy now self.new }
+        ensures channel { self.new.channel ≡ self.old.channel }
     {
         if self.on {
             self.core.handle(&At::new(clock, t), radio, event);
@@ -76,10 +77,10 @@ impl Device {
     /// is off, or the node still sends.
     pub fn start(&mut self, t: u64) -> Option<Sending>
         requires early { t ≤ 2 ^ 45 }
-        ensures whole { (made : Made) → RunsUntil self.old.busy_until made.sent
-            → device_after_start self.old.setup t (whole self.old made) ≡ whole self.new (with_sent result made) }
+        ensures whole { (x : Tunings) (made : Made) → RunsUntil self.old.busy_until made.sent → channel_in x ≡ self.old.channel
+            → device_after_start self.old.setup t (whole self.old x made) ≡ whole self.new x (with_sent result made) }
         ensures until { self.new.busy_until ≡ option_or (option_map sending_end result) self.old.busy_until }
-        ensures time { (now : ℕ) → HappenedBy now self.old → HappenedBy now self.new }
+        ensures channel { self.new.channel ≡ self.old.channel }
         ensures node { IsSameNode self.old self.new }
         ensures core { self.new.core ≡ self.old.core }
     {
@@ -88,14 +89,14 @@ impl Device {
             Some(_) | None => return None,
         }
         let Ordered { packet, .. } = self.ordered.take()?;
-        let listening = self.listening?;
+        let rank = self.channel?;
         if self.busy_until.is_some() {
             return None;
         }
         let end = t + self.profile.airtime(packet.length());
         self.busy_until = Some(end);
         Some(Sending {
-            rank: listening.rank,
+            rank,
             node: self.node,
             start: t,
             end,
@@ -107,9 +108,9 @@ impl Device {
     pub fn end_sending(&mut self, t: u64) -> bool
         ensures ended { result ≡ ends_now t self.old.busy_until }
         ensures after { self.new ≡ record self.old { busy_until = if result then None else self.old.busy_until } }
-        ensures whole { (clock : ℕ → ℕ) (made : Made) → RunsUntil self.old.busy_until made.sent
-            → device_after_end clock self.old.setup t (whole self.old made)
-            ≡ told_of clock self.old.setup t (if result then running self.old.busy_until made.sent else None) (whole self.new made) }
+        ensures whole { (clock : ℕ → ℕ) (x : Tunings) (made : Made) → RunsUntil self.old.busy_until made.sent
+            → device_after_end clock self.old.setup t (whole self.old x made)
+            ≡ told_of clock self.old.setup t (if result then running self.old.busy_until made.sent else None) (whole self.new x made) }
     {
         let ends = match self.busy_until {
             Some(end) => end == t,

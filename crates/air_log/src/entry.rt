@@ -1,6 +1,9 @@
 //! The entries of a log: transmissions, receptions and tunings.
 
+ghost use Rattle.std.specs.Prelude.{◌≡◌};
+
 use lwb_base::{NodeId, Packet, Rank};
+use radio_model::tuning::Past;
 
 /// A node sent a packet: the entry is the transmission.
 pub use radio_model::sending::Sending as SentEntry;
@@ -31,4 +34,18 @@ pub struct TunedEntry {
     pub node: NodeId,
     pub start: u64,
     pub end: u64,
+}
+
+impl TunedEntry {
+    /// The entry of a node's tuning that ended.
+    pub fn of(node: NodeId, past: Past) -> TunedEntry
+        ensures { result ≡ record { rank = past.rank; node = node; start = past.since; end = past.until } }
+    {
+        TunedEntry {
+            rank: past.rank,
+            node,
+            start: past.since,
+            end: past.until,
+        }
+    }
 }

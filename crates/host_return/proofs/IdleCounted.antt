@@ -19,9 +19,9 @@ use Rattle.scenario_text.proofs.SoundScenarios.{sound}
 use Rattle.scenario_text.specs.declared.lines.NodeLine.{NodeLine}
 use Rattle.scenario_clocks.specs.StatedClocks.{scenario_clock}
 use Rattle.air_log.specs.declared.entry.Entry.{Entry}
-use Rattle.world_engine.specs.Idling.{idle_with, idle_node, idle_at, idle_in, idle_before}
-use Rattle.world_engine.specs.declared.idle.Idle.{Idle}
-use Rattle.world_engine.proofs.IdleNodes.{frames_more}
+use Rattle.air_log.specs.Idling.{idle_with, idle_node, idle_at, idle_in, idle_before}
+use Rattle.air_log.specs.declared.idle.Idle.{Idle}
+use Rattle.air_log.proofs.IdleFrames.{frames_more}
 use Rattle.host_return.specs.Probes.{probed_with, probed_rank, probes, idle_of}
 use Rattle.host_return.specs.Returned.{counts_in}
 use Rattle.host_return.proofs.IdleInRuns.{tune_in}

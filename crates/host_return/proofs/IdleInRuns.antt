@@ -16,8 +16,8 @@ use Rattle.scenario_clocks.specs.StatedClocks.{scenario_clock}
 use Rattle.air_log.specs.declared.entry.Entry.{Entry}
 use Rattle.air_log.specs.Lawful.{heard_by}
 use Rattle.air_log.specs.Trails.{tune_at}
-use Rattle.world_engine.specs.Idling.{idle_node, idle_as, idle_at, idle_in}
-use Rattle.world_engine.specs.declared.idle.Idle.{Idle}
+use Rattle.air_log.specs.Idling.{idle_node, idle_as, idle_at, idle_in}
+use Rattle.air_log.specs.declared.idle.Idle.{Idle}
 use Rattle.host_return.specs.Probes.{probed_with, probed_rank, probed_from, idle_of, IsIdleIn}
 
 module _ (f v : ℕ) where

@@ -12,8 +12,8 @@ use Rattle.scenario_clocks.specs.StatedClocks.{scenario_clock}
 use Rattle.air_log.specs.declared.entry.Entry.{Entry}
 use Rattle.air_log.specs.Lawful.{heard_by}
 use Rattle.air_log.specs.Trails.{tune_at}
-use Rattle.world_engine.specs.Idling.{idle_as, idle_at, idle_in}
-use Rattle.world_engine.proofs.IdleNodes.{frames_alike}
+use Rattle.air_log.specs.Idling.{idle_as, idle_at, idle_in}
+use Rattle.air_log.proofs.IdleFrames.{frames_alike}
 use Rattle.host_return.specs.Probes.{idle_of}
 use Rattle.host_return.specs.TrailsInOrder.{trail_in, idle_told}
 use Rattle.host_return.specs.declared.idle_trails.NodeTrail.{NodeTrail}

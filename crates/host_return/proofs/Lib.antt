@@ -4,7 +4,6 @@ mod Heard
 mod IdleCounted
 mod IdleInOrder
 mod IdleInRuns
-mod IdleRead
 mod IdleTrails
 mod NodesProbing
 mod OneReturned

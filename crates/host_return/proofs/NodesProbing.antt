@@ -9,7 +9,7 @@ use Rattle.scenario_text.specs.ScenarioFacts.{IsSoundScenario}
 use Rattle.scenario_text.specs.ScenarioParts.{ScenarioParts}
 use Rattle.radio_model.specs.declared.sending.Sending.{Sending}
 use Rattle.air_log.specs.declared.entry.Entry.{Entry}
-use Rattle.world_engine.specs.declared.idle.Idle.{Idle}
+use Rattle.air_log.specs.declared.idle.Idle.{Idle}
 use Rattle.host_return.specs.Candidates.{return_comes_before, is_listed}
 use Rattle.host_return.specs.Probes.{Brings, probed_rank, idle_of}
 use Rattle.host_return.specs.declared.returned.Return.{Return}

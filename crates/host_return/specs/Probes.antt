@@ -14,8 +14,8 @@ use Rattle.air_log.specs.HearsAir.{HearsAir}
 use Rattle.air_log.specs.Lawful.{heard_by}
 use Rattle.air_log.specs.Trails.{frame_start, tune_at}
 use Rattle.scenario_text.specs.FloodParts.{knows}
-use Rattle.world_engine.specs.Idling.{all_idle}
-use Rattle.world_engine.specs.declared.idle.Idle.{Idle}
+use Rattle.air_log.specs.Idling.{all_idle}
+use Rattle.air_log.specs.declared.idle.Idle.{Idle}
 
 -- the rank that a node with this tune probes in frame f: it is idle where it hosts a rank r above 0 and its next round is in
 -- a later frame, and then it probes rank f mod r
@@ -32,10 +32,6 @@ probed_rank s air f v = probed_with f (tune_at s v (scenario_clock s v) (heard_b
 -- where nodes are idle, by frame and then node
 abbrev pub idle_of : ScenarioParts → List Entry → List Idle
 idle_of s air = all_idle s (scenario_clock s) air
-
--- the frame, the node, and the rank that it hosts
-abbrev pub idle_parts : Idle → ℕ × ℕ × ℕ
-idle_parts i = (i.frame, i.node, i.rank)
 
 -- the rank that the host of a rank probes in frame f, where it is idle
 abbrev pub probed_from : ℕ → ℕ → Option ℕ

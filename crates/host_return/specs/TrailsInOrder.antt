@@ -7,8 +7,8 @@ use Rattle.scenario_clocks.specs.StatedClocks.{scenario_clock}
 use Rattle.air_log.specs.declared.entry.Entry.{Entry}
 use Rattle.air_log.specs.Lawful.{heard_by}
 use Rattle.air_log.specs.TrailsTold.{trail_told}
-use Rattle.world_engine.specs.Idling.{idle_as}
-use Rattle.world_engine.specs.declared.idle.Idle.{Idle}
+use Rattle.air_log.specs.Idling.{idle_as}
+use Rattle.air_log.specs.declared.idle.Idle.{Idle}
 use Rattle.host_return.specs.declared.idle_trails.NodeTrail.{NodeTrail}
 
 -- the trail of this node, over the clock that the scenario states

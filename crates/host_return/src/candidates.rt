@@ -14,11 +14,10 @@ ghost use Rattle.host_return.specs.declared.returned.Return.{Return as ReturnOf}
 use crate::Return;
 use crate::probes::probed_rank;
 use crate::transmissions::Search;
-use air_log::Air;
+use air_log::{Air, Idle};
 use lwb_base::{Memory, NodeId};
 use scenario_text::{Act, Scenario, ScriptLine};
 use std::alloc::Global;
-use world_engine::Idle;
 
 /// The least candidate in a run of `s`, by frame and then node, that isn't listed yet, by where nodes are idle in this run.
 /// `read` is the scenario that was read.

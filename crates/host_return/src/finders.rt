@@ -5,11 +5,10 @@ ghost use Rattle.host_return.specs.Probes.{idle_of};
 
 use crate::idle_trails::idle_by_trails;
 use crate::{ListsIdle, Runner};
-use air_log::Air;
+use air_log::{Air, Idle};
 use lwb_base::Memory;
 use scenario_text::Scenario;
 use std::alloc::Global;
-use world_engine::Idle;
 
 /// Finds where nodes were idle in the last run of a runner.
 pub(crate) trait FindsIdle<R: Runner> {
@@ -30,11 +29,7 @@ impl<R: ListsIdle> FindsIdle<R> for ByList {
         s: &Scenario,
         air: &Air,
     ) -> Result<Vec<Idle>, Memory> {
-        let mut idle = Vec::new(alloc);
-        while let Some((frame, node, rank)) = runner.idle(idle.len()) {
-            idle.push(Idle { frame, node, rank })?;
-        }
-        Ok(idle)
+        Ok(Vec::from_slice(alloc, runner.idle())?)
     }
 }
 

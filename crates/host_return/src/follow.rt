@@ -15,11 +15,10 @@ use crate::finders::{ByList, ByTrails, FindsIdle};
 use crate::probes::counts_of;
 use crate::restart::with_return;
 use crate::{ListsIdle, Return, Returned, Runner};
-use air_log::Air;
+use air_log::{Air, Idle};
 use lwb_base::Memory;
 use scenario_text::{Scenario, with_script};
 use std::alloc::Global;
-use world_engine::Idle;
 
 /// Follows the returns of a scenario, at most 16: in each run it takes the least candidate by frame and then node, and runs the
 /// scenario again with the script lines of that return. What the runner keeps is of the last run. The only error is out of

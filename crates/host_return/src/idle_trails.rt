@@ -1,18 +1,15 @@
 //! Where nodes are idle, by their trails over a log.
 
-ghost use Rattle.std.specs.Prelude.{◌≡◌, ◌++◌, OnOk, IfOk, Some, map, filter_map, option_to_list};
+ghost use Rattle.std.specs.Prelude.{◌≡◌, ◌++◌, OnOk, IfOk, map, filter_map, option_to_list};
 ghost use Rattle.air_log.specs.declared.entry.Entry.{Entry as EntryOf};
 ghost use Rattle.host_return.specs.Probes.{idle_of};
 ghost use Rattle.host_return.specs.TrailsInOrder.{idle_told, trail_in};
-ghost use Rattle.world_engine.specs.Idling.{idle_with};
 
-use air_log::{Air, Trail, trail_of};
-use bus_rules::Tune;
-use lwb_base::{Memory, NodeId, Rank};
+use air_log::{Air, Idle, Trail, trail_of};
+use lwb_base::{Memory, NodeId};
 use scenario_clocks::stated_clocks;
 use scenario_text::Scenario;
 use std::alloc::Global;
-use world_engine::Idle;
 
 /// Where nodes are idle in a run of `s` over the clocks that it states, by frame and then node.
 pub(crate) fn idle_by_trails(alloc: Global, s: &Scenario, air: &Air) -> Result<Vec<Idle>, Memory>
@@ -70,25 +67,5 @@ fn push_some(idle: &mut Vec<Idle>, one: Option<Idle>) -> Result<(), Memory>
 fn idle_node(one: &NodeTrail, frame: u32) -> Option<Idle>
     ensures { result ≡ idle_told frame one.now }
 {
-    let rank = idle_rank(one.trail.tune_at(frame)?, frame)?;
-    Some(Idle {
-        frame,
-        node: one.node,
-        rank,
-    })
-}
-
-// The rank that is hosted with this tune, where a node is idle with it in the frame.
-fn idle_rank(tune: Tune, frame: u32) -> Option<Rank>
-    ensures { result ≡ idle_with frame (Some tune) }
-{
-    match tune {
-        Tune::Host(rank, due) => {
-            if rank.number() == 0 || due <= frame {
-                return None;
-            }
-            Some(rank)
-        }
-        Tune::Scan(_, _) | Tune::Hold(_, _) => None,
-    }
+    Idle::with_tune(frame, one.node, one.trail.tune_at(frame))
 }

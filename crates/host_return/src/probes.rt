@@ -5,10 +5,10 @@ ghost use Rattle.air_log.specs.declared.entry.Entry.{Entry as EntryOf};
 ghost use Rattle.host_return.specs.Probes.{idle_of, probed_from};
 ghost use Rattle.host_return.specs.Returned.{counts_in};
 
+use air_log::Idle;
 use lwb_base::{Memory, NodeId, Rank};
 use scenario_text::Scenario;
 use std::alloc::Global;
-use world_engine::Idle;
 
 /// The rank that a node probes where it is idle.
 pub(crate) fn probed_rank(idle: &Idle) -> Option<Rank>

@@ -1,15 +1,14 @@
 //! Whatever runs scenarios.
 
-ghost use Rattle.std.specs.Prelude.{◌≡◌, List, IfOk, slice_get};
-ghost use Rattle.std.specs.Option.{option_map};
+ghost use Rattle.std.specs.Prelude.{◌≡◌, List, IfOk};
 ghost use Rattle.scenario_text.specs.ScenarioParts.{ScenarioParts};
 ghost use Rattle.scenario_clocks.specs.StatedClocks.{scenario_clock};
 ghost use Rattle.air_log.specs.Lawful.{Lawful};
 ghost use Rattle.air_log.specs.declared.entry.Entry.{Entry as EntryOf};
-ghost use Rattle.host_return.specs.Probes.{idle_of, idle_parts};
+ghost use Rattle.host_return.specs.Probes.{idle_of};
 
-use air_log::Air;
-use lwb_base::{Memory, NodeId, Rank};
+use air_log::{Air, Idle};
+use lwb_base::Memory;
 use scenario_text::Scenario;
 use std::alloc::Global;
 
@@ -27,7 +26,7 @@ pub trait Runner {
 
 /// A runner that has listed where nodes were idle in its last run, by frame and then node. Such a node probes a lower rank.
 pub trait ListsIdle: Runner {
-    /// The frame, the node, and the rank that it hosts, at that place of the list. `None` past its end.
-    fn idle(&self, place: usize) -> Option<(u32, NodeId, Rank)>
-        ensures { (s : ScenarioParts) (air : List EntryOf) → Self.kept self.now s air → result ≡ option_map idle_parts (slice_get (idle_of s air) place) };
+    /// That list.
+    fn idle(&self) -> &[Idle]
+        ensures { (s : ScenarioParts) (air : List EntryOf) → Self.kept self.now s air → result.now ≡ idle_of s air };
 }

@@ -12,7 +12,7 @@ use Rattle.scenario_text.specs.FloodParts.{FloodParts}
 use Rattle.scenario_text.specs.declared.lines.NodeLine.{NodeLine}
 use Rattle.bus_terms.specs.FloodOfText.{ids}
 use Rattle.radio_model.specs.declared.station.Station.{Station}
-use Rattle.radio_model.specs.declared.station.Tuned.{Tuned as TunedTo}
+use Rattle.radio_model.specs.declared.tuning.Tuned.{Tuned as TunedTo}
 use Rattle.radio_model.specs.OnAir.{Tuning}
 use Rattle.radio_model.specs.Hearing.{Scene}
 use Rattle.radio_model.specs.Stations.{MediumState, IsMedium, station_of, id_of_station as station_node, station_after_tuning, first_state}
@@ -43,20 +43,20 @@ from_opening = Some (record { rank = 0; since = OPENING })
 -- a station before it is tuned in, and after it
 record IsNew (us : List ℕ) (st : Station) : Type 0 where
   pub node : Contains us st.node
-  pub tuned : st.tuned ≡ None
-  pub last : st.last ≡ None
+  pub tuned : st.tuning.now ≡ None
+  pub last : st.tuning.last ≡ None
 
 abbrev IsTunedIn : List ℕ → Station → Type 0
-IsTunedIn us st = IsNew us st ⊎ (st.tuned ≡ from_opening)
+IsTunedIn us st = IsNew us st ⊎ (st.tuning.now ≡ from_opening)
 
 abbrev AreTunedIn : List ℕ → MediumState → Type 0
 AreTunedIn us m = (st : Station) → Contains m.stations st → IsTunedIn us st
 
-fresh_untuned : (us : List ℕ) (k : ℕ) (vs : List ℕ) (st : Station) → Contains (stations_from k vs) st → (st.tuned ≡ None) × (st.last ≡ None)
+fresh_untuned : (us : List ℕ) (k : ℕ) (vs : List ℕ) (st : Station) → Contains (stations_from k vs) st → (st.tuning.now ≡ None) × (st.tuning.last ≡ None)
 fresh_untuned us k [] st there = absurd (not_in_none st there)
 fresh_untuned us k (v ∷ vs) st there =
     elim (contains_cases (fresh v k) (stations_from (k + 1) vs) st there) [
-      | inl is ↦ (ap (λ (s : Station). s.tuned) (sym is), ap (λ (s : Station). s.last) (sym is))
+      | inl is ↦ (ap (λ (s : Station). s.tuning.now) (sym is), ap (λ (s : Station). s.tuning.last) (sym is))
       | inr later ↦ fresh_untuned us (k + 1) vs st later
     ]
 
@@ -71,14 +71,14 @@ first_tuned p vs st there =
 
 -- a station that is tuned in
 module _ (us : List ℕ) (st : Station) where
-  new_tuned : IsNew us st → (station_after_tuning (Some 0) OPENING st).tuned ≡ from_opening
+  new_tuned : IsNew us st → (station_after_tuning (Some 0) OPENING st).tuning.now ≡ from_opening
   new_tuned new = tuned_anew 0 OPENING st new.tuned new.last
 
-  is_tuned : IsTunedIn us st → (station_after_tuning (Some 0) OPENING st).tuned ≡ from_opening
+  is_tuned : IsTunedIn us st → (station_after_tuning (Some 0) OPENING st).tuning.now ≡ from_opening
   is_tuned (inl new) = new_tuned new
   is_tuned (inr is) = tuned_still 0 OPENING OPENING st is ∙ is
 
-  closes_none : IsTunedIn us st → (v : ℕ) → ended_tuning v (Some 0) OPENING st.tuned ≡ None
+  closes_none : IsTunedIn us st → (v : ℕ) → ended_tuning v (Some 0) OPENING st.tuning.now ≡ None
   closes_none (inl new) v = ap (λ (o : Option TunedTo). ended_tuning v (Some 0) OPENING o) new.tuned
   closes_none (inr is) v = ap (λ (o : Option TunedTo). ended_tuning v (Some 0) OPENING o) is
 
@@ -164,7 +164,7 @@ module _ (f : FloodParts) (clocks : ℕ → ℕ → ℕ) (has : HasClocks f cloc
   both = opened_ready (ids f.nodes) first (first_is_medium one (ids f.nodes) (inl refl) are) (omega arith) (first_tuned one (ids f.nodes))
       (nothing_yet one f.trace) (holds_at_first one (ids f.nodes) (inl refl) are f.trace)
 
-  all_tuned : (st : Station) → Contains w.medium.stations st → st.tuned ≡ from_opening
+  all_tuned : (st : Station) → Contains w.medium.stations st → st.tuning.now ≡ from_opening
   all_tuned st there = elim (both.0 st there) [ inl new ↦ absurd (not_in_none st.node new.node) | inr is ↦ is ]
 
   -- how each node is
@@ -183,7 +183,7 @@ module _ (f : FloodParts) (clocks : ℕ → ℕ → ℕ) (has : HasClocks f cloc
     known = known_of f.nodes n.node in_ids;
     station = st.0;
     found = ap (station_of w.medium) (sym st.2) ∙ found_member w.medium.stations st.0 (subst AreNodes (sym opening.nodes) are).ascending st.1;
-    tuned = cond_both (f.start == n.node) (Waits START (first_packet f.start)) Listens (λ (a : Act). st.0.tuned ≡ tuned_by a)
+    tuned = cond_both (f.start == n.node) (Waits START (first_packet f.start)) Listens (λ (a : Act). st.0.tuning.now ≡ tuned_by a)
         (λ _. all_tuned st.0 st.1) (λ _. all_tuned st.0 st.1);
     sends = cond_both (f.start == n.node) (Waits START (first_packet f.start)) Listens (λ (a : Act). st.0.sending ≡ sending_by a)
         (λ _. opening.silent st.0 st.1) (λ _. opening.silent st.0 st.1);

@@ -17,7 +17,7 @@ use Rattle.radio_model.specs.OnAir.{Hearing, Tuning}
 use Rattle.radio_model.specs.Hearing.{Scene, HearsInScene}
 use Rattle.radio_model.specs.Stations.{nodes_of, station_of, id_of_station as station_node}
 use Rattle.radio_model.specs.Holding.{lasting, lasting_at}
-use Rattle.radio_model.specs.declared.station.Tuned.{Tuned as TunedTo}
+use Rattle.radio_model.specs.declared.tuning.Tuned.{Tuned as TunedTo}
 use Rattle.lwb_base.proofs.Elements.{in_filter, not_in_none, contains_head, contains_tail, map_contains, map_from, filter_from}
 use Rattle.radio_model.proofs.OneCall.{found_member}
 use Rattle.air_log.specs.declared.entry.Entry.{Entry}
@@ -67,7 +67,7 @@ ended_node (HeardOf h) v x is =
 ended_node (Tuned t) v x is = absurd (cc)
 
 -- no tuning lasts
-no_lasting : (t : ℕ) (xs : List Station) → ((st : Station) → Contains xs st → st.tuned ≡ None) → filter_map (lasting_at t) xs ≡ []
+no_lasting : (t : ℕ) (xs : List Station) → ((st : Station) → Contains xs st → st.tuning.now ≡ None) → filter_map (lasting_at t) xs ≡ []
 no_lasting t [] none = refl
 no_lasting t (st ∷ xs) none =
     ap (λ (o : Option TunedTo). cons_option (lasting st.node o t) (filter_map (lasting_at t) xs)) (none st (contains_head st xs))
@@ -89,14 +89,14 @@ module _ (f : FloodParts) (clocks : ℕ → ℕ → ℕ) (has : HasClocks f cloc
   nothing_runs x r = sends_off x (sym r.act ∙ off r.member r.there)
 
   -- what is is the log
-  untuned : (st : Station) → Contains w.medium.stations st → st.tuned ≡ None
+  untuned : (st : Station) → Contains w.medium.stations st → st.tuning.now ≡ None
   untuned st there =
       let m = map_from node_of_member w.members st.node
       (subst (λ (l : List ℕ). Contains l st.node) (so.stations ∙ sym so.nodes) (map_contains station_node w.medium.stations st there)) in
       let each = so.each m.0 m.1 in
       let same : each.station ≡ st = same_Some each.station st
       (sym each.found ∙ ap (station_of w.medium) m.2 ∙ found_member w.medium.stations st ascending there) in
-      ap (λ (s : Station). s.tuned) (sym same) ∙ each.tuned ∙ ap tuned_by (off m.0 m.1)
+      ap (λ (s : Station). s.tuning.now) (sym same) ∙ each.tuned ∙ ap tuned_by (off m.0 m.1)
     where
       ascending : AllPairs (λ a b. a < b) (nodes_of w.medium)
       ascending = (subst AreNodes (sym so.stations) (sound_nodes f has.sound)).ascending

@@ -10,7 +10,7 @@ use Rattle.scenario_text.specs.FloodParts.{FloodParts, knows}
 use Rattle.bus_terms.specs.FloodOfText.{ids}
 use Rattle.radio_model.specs.declared.sending.Sending.{Sending}
 use Rattle.radio_model.specs.declared.station.Station.{Station}
-use Rattle.radio_model.specs.declared.station.Tuned.{Tuned as TunedTo}
+use Rattle.radio_model.specs.declared.tuning.Tuned.{Tuned as TunedTo}
 use Rattle.radio_model.specs.OnAir.{Hearing, Tuning}
 use Rattle.radio_model.specs.Hearing.{Scene, HearsInScene}
 use Rattle.radio_model.specs.Stations.{nodes_of, station_of}
@@ -132,7 +132,7 @@ pub record IsMember (f : FloodParts) (clocks : ℕ → ℕ → ℕ) (leaving : L
   pub known : knows f.nodes m.node ≡ true
   pub station : Station
   pub found : station_of w.medium m.node ≡ Some station
-  pub tuned : station.tuned ≡ tuned_by m.act
+  pub tuned : station.tuning.now ≡ tuned_by m.act
   pub sends : station.sending ≡ sending_by m.act
   pub past : List Event
   pub happened : events_in w.air m.node ≡ past ++ running m.act

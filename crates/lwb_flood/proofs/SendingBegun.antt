@@ -12,7 +12,7 @@ use Rattle.tick_clock.specs.Clocks.{due}
 use Rattle.scenario_text.specs.FloodParts.{FloodParts}
 use Rattle.radio_model.specs.declared.sending.Sending.{Sending}
 use Rattle.radio_model.specs.declared.station.Station.{Station}
-use Rattle.radio_model.specs.declared.station.Tuned.{Tuned as TunedTo}
+use Rattle.radio_model.specs.declared.tuning.Tuned.{Tuned as TunedTo}
 use Rattle.radio_model.specs.OnAir.{Hearing, Tuning}
 use Rattle.radio_model.specs.Hearing.{Scene}
 use Rattle.radio_model.specs.Stations.{IsMedium, IsTime, station_of, station_after_start, current_or_next, next_sending}
@@ -44,13 +44,13 @@ next_is p t packet u v tuned numbers is node =
     ap (next_sending p t packet u) is ∙ ap (λ (n : ℕ). next_sending p t packet n (Some (record { rank = 0; since = OPENING }))) node
     ∙ ap (λ (q : Numbers). next_sending q t packet v (Some (record { rank = 0; since = OPENING }))) numbers
 
-begun_is : (p : Numbers) (t : ℕ) (packet : List ℕ) (st : Station) (y : Sending) → st.sending ≡ None → next_sending p t packet st.node st.tuned ≡ Some y
+begun_is : (p : Numbers) (t : ℕ) (packet : List ℕ) (st : Station) (y : Sending) → st.sending ≡ None → next_sending p t packet st.node st.tuning.now ≡ Some y
     → starts p t packet (Some st) ≡ Some y
-begun_is p t packet st y silent is = ap (λ (s : Option Sending). if is_none s then next_sending p t packet st.node st.tuned else None) silent ∙ is
+begun_is p t packet st y silent is = ap (λ (s : Option Sending). if is_none s then next_sending p t packet st.node st.tuning.now else None) silent ∙ is
 
 pub started_is : (p : Numbers) (t : ℕ) (packet : List ℕ) (st : Station) (y : Sending) → st.sending ≡ None
-    → next_sending p t packet st.node st.tuned ≡ Some y → (station_after_start p t packet st).sending ≡ Some y
-started_is p t packet st y silent is = ap (λ (s : Option Sending). current_or_next s (next_sending p t packet st.node st.tuned)) silent ∙ is
+    → next_sending p t packet st.node st.tuning.now ≡ Some y → (station_after_start p t packet st).sending ≡ Some y
+started_is p t packet st y silent is = ap (λ (s : Option Sending). current_or_next s (next_sending p t packet st.node st.tuning.now)) silent ∙ is
 
 module _ (f : FloodParts) (clocks : ℕ → ℕ → ℕ) (has : HasClocks f clocks) (w : World) (medium : IsMedium w.medium) (so : IsFloodSoFar f clocks [] [] w)
     (m : Member) (there : Contains w.members m) (t : ℕ) (packet : List ℕ) (act : m.act ≡ Waits t packet) (next : ActsNext w.members m) where
@@ -175,11 +175,11 @@ module _ (f : FloodParts) (clocks : ℕ → ℕ → ℕ) (has : HasClocks f cloc
   pub silent : is.station.sending ≡ None
   silent = is.sends ∙ ap sending_by act
 
-  pub tuned : is.station.tuned ≡ Some (record { rank = 0; since = OPENING })
+  pub tuned : is.station.tuning.now ≡ Some (record { rank = 0; since = OPENING })
   tuned = is.tuned ∙ ap tuned_by act
 
-  pub its_next : next_sending w.medium.numbers t packet is.station.node is.station.tuned ≡ Some x
-  its_next = next_is w.medium.numbers t packet is.station.node m.node is.station.tuned so.numbers tuned
+  pub its_next : next_sending w.medium.numbers t packet is.station.node is.station.tuning.now ≡ Some x
+  its_next = next_is w.medium.numbers t packet is.station.node m.node is.station.tuning.now so.numbers tuned
       (station_there f clocks has [] [] w medium so m there is.station is.found).1
 
   call_starts : starts w.medium.numbers t packet (station_of w.medium m.node) ≡ Some x

@@ -13,7 +13,7 @@ use Rattle.air_log.specs.declared.entry.Entry.{Entry}
 use Rattle.air_log.specs.NodeCharges.{charges_in}
 use Rattle.lwb_world.specs.Runs.{IsRun}
 use Rattle.lwb_world.specs.Worlds.{HasRun}
-use Rattle.world_engine.specs.Idling.{all_idle}
+use Rattle.air_log.specs.Idling.{all_idle}
 use Rattle.world_engine.specs.Worlds.{WorldState, new_world, core_of}
 
 -- a run over clocks is one over any that read the same

@@ -1,7 +1,7 @@
 -- A run of a world as its callers see it.
 use Rattle.std.specs.Prelude.{◌≡◌, ℕ, map, true}
 use Rattle.air_log.specs.NodeCharges.{charges_in}
-use Rattle.world_engine.specs.Idling.{all_idle}
+use Rattle.air_log.specs.Idling.{all_idle}
 use Rattle.world_engine.specs.Running.{setup_by}
 use Rattle.world_engine.specs.Worlds.{WorldState, core_of, core_setup}
 use Rattle.lwb_world.specs.Runs.{IsRun}

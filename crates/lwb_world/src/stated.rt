@@ -5,7 +5,7 @@ ghost use Rattle.tick_clock.specs.ClockReadings.{segment_clock_reads};
 ghost use Rattle.scenario_clocks.specs.ClockLists.{clocks_by};
 ghost use Rattle.scenario_clocks.specs.StatedClocks.{scenario_clock};
 ghost use Rattle.air_log.specs.NodeCharges.{charges_in};
-ghost use Rattle.world_engine.specs.Idling.{all_idle};
+ghost use Rattle.air_log.specs.Idling.{all_idle};
 ghost use Rattle.world_engine.specs.Worlds.{new_world, core_of};
 ghost use Rattle.lwb_world.specs.Runs.{IsRun};
 

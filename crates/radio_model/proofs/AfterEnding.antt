@@ -135,7 +135,7 @@ module _ (p : Numbers) (now t : ℕ) (st : Station) (room : st.ended.capacity �
     own = λ y there. is.own y (air_back y there);
     in_turn = subst (InTurn 0) (sym (air_less st.ended st.sending)) (turn_drop (forgotten st.ended st.sending) 0 (on_air st) is.in_turn);
     over = over_by_now st.sending refl later;
-    tunings = order_later now t st.tuned st.last later is.tunings;
+    tunings = order_later now t st.tuning.now st.tuning.last later is.tunings;
   }
 
 module _ (m : MediumState) (is : IsMedium m) (a : Scene) (h : Holds m a) (v t : ℕ) (later : m.now ≤ t) (sends : Ends m v t) where
@@ -153,10 +153,10 @@ module _ (m : MediumState) (is : IsMedium m) (a : Scene) (h : Holds m a) (v t : 
       some_same w z is = cc
 
   abbrev now_tells : Station → Type 0
-  now_tells s = Tells (Lit a s.node) s.tuned s.last t
+  now_tells s = Tells (Lit a s.node) s.tuning.now s.tuning.last t
 
   still : (st : Station) → Contains m.stations st → now_tells st
-  still st there = tells_later (Lit a st.node) st.tuned st.last m.now t later (tells_by m a is.nodes.ascending st there m.now (h.tuned st there))
+  still st there = tells_later (Lit a st.node) st.tuning.now st.tuning.last m.now t later (tells_by m a is.nodes.ascending st there m.now (h.tuned st there))
 
   abbrev held : Station → Type 0
   held s = (y : Sending) → Contains (on_air s) y → Contains a.sendings y
@@ -177,7 +177,7 @@ module _ (m : MediumState) (is : IsMedium m) (a : Scene) (h : Holds m a) (v t : 
     orderly = each_after m is station_after_end finished_keeps v t (IsOrderly m.numbers t)
         (λ st there node. orderly_finished m.numbers m.now t st (room_of st there) (h.orderly st there) (ends_of st there node) later)
         (λ st there other. orderly_later m.numbers m.now t st st later (h.orderly st there) refl refl refl
-        (order_later m.now t st.tuned st.last later (h.orderly st there).tunings));
+        (order_later m.now t st.tuning.now st.tuning.last later (h.orderly st there).tunings));
     known = λ y there. elim (h.known y there) [
       | inl kept ↦ elim (stays kept.station kept.there y kept.kept) [
         | inl on ↦

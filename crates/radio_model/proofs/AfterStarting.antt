@@ -9,7 +9,7 @@ use Rattle.radio_model.specs.Hearing.{Scene}
 use Rattle.radio_model.specs.Stations.{MediumState, IsMedium, nodes_of, id_of_station, station_of, on_air, station_after_start, current_or_next, next_sending}
 use Rattle.radio_model.specs.Stations.{medium_after_change, station_changed_at}
 use Rattle.radio_model.specs.Holding.{Holds, IsKept, IsOrderly, IsOwn, InTurn, sending_at_start, after_starting}
-use Rattle.radio_model.specs.declared.station.Tuned.{Tuned}
+use Rattle.radio_model.specs.declared.tuning.Tuned.{Tuned}
 use Rattle.radio_model.specs.declared.station.Station.{Station}
 use Rattle.lwb_base.proofs.Elements.{in_option, of_option, map_from, contains_head, contains_tail}
 use Rattle.radio_model.proofs.Changes.{started_keeps}
@@ -35,7 +35,7 @@ module _ (p : Numbers) (t : ℕ) (packet : List ℕ) (short : 3 ≤ length packe
   next st = sending_at_start p t packet (Some st)
 
   air_more : (st : Station) → on_air (station_after_start p t packet st) ≡ on_air st ++ option_to_list (next st)
-  air_more st = with_next st.ended.items st.sending (next_sending p t packet st.node st.tuned)
+  air_more st = with_next st.ended.items st.sending (next_sending p t packet st.node st.tuning.now)
 
   next_is : (v : ℕ) (s : Option Sending) (tuned : Option Tuned) (y : Sending) → (if is_none s then next_sending p t packet v tuned else None) ≡ Some y
       → (s ≡ None) × IsOwn p v y × (y.start ≡ t)
@@ -53,17 +53,17 @@ module _ (p : Numbers) (t : ℕ) (packet : List ℕ) (short : 3 ≤ length packe
   orderly_started now st later is = record {
     own = λ y there. elim (Contains-append_cases (on_air st) (option_to_list (next st)) y (subst (λ (l : List Sending). Contains l y) (air_more st) there)) [
       | inl old ↦ is.own y old
-      | inr new ↦ (next_is st.node st.sending st.tuned y (in_option (next st) y new)).1
+      | inr new ↦ (next_is st.node st.sending st.tuning.now y (in_option (next st) y new)).1
     ];
     in_turn = subst (InTurn 0) (sym (air_more st)) (turn (next st) refl);
     over = λ y there. let by = is.over y there in omega arith;
-    tunings = order_later now t st.tuned st.last later is.tunings;
+    tunings = order_later now t st.tuning.now st.tuning.last later is.tunings;
   }
     where
       turn : (n : Option Sending) → next st ≡ n → InTurn 0 (on_air st ++ option_to_list n)
       turn None same = subst (InTurn 0) (sym (append-nil (on_air st))) is.in_turn
       turn (Some x) same =
-          let w = next_is st.node st.sending st.tuned x same in
+          let w = next_is st.node st.sending st.tuning.now x same in
           let silent : on_air st ≡ st.ended.items = ap (λ (s : Option Sending). st.ended.items ++ option_to_list s) w.0 ∙ append-nil st.ended.items in
           let start = w.2 in
           in_turn_push 0 (on_air st) x is.in_turn (omega arith)
@@ -84,16 +84,16 @@ module _ (m : MediumState) (is : IsMedium m) (a : Scene) (h : Holds m a) (v : �
   new_of st there node = ap (sending_at_start m.numbers t packet) (of_v st there node)
 
   abbrev now_tells : Station → Type 0
-  now_tells s = Tells (Lit (record a { sendings = a.sendings ++ option_to_list new }) s.node) s.tuned s.last t
+  now_tells s = Tells (Lit (record a { sendings = a.sendings ++ option_to_list new }) s.node) s.tuning.now s.tuning.last t
 
   still : (st : Station) → Contains m.stations st → now_tells st
   still st there =
-      tells_same (Lit a st.node) (Lit (record a { sendings = a.sendings ++ option_to_list new }) st.node) st.tuned st.last t
+      tells_same (Lit a st.node) (Lit (record a { sendings = a.sendings ++ option_to_list new }) st.node) st.tuning.now st.tuning.last t
       (λ c k. (
         lit_moves a (record a { sendings = a.sendings ++ option_to_list new }) st.node c k refl,
         lit_moves (record a { sendings = a.sendings ++ option_to_list new }) a st.node c k refl,
       ))
-      (tells_later (Lit a st.node) st.tuned st.last m.now t later (tells_by m a is.nodes.ascending st there m.now (h.tuned st there)))
+      (tells_later (Lit a st.node) st.tuning.now st.tuning.last m.now t later (tells_by m a is.nodes.ascending st there m.now (h.tuned st there)))
 
   air_grows : (st : Station) (y : Sending) → Contains (on_air st) y → Contains (on_air (station_changed_at v change st)) y
   air_grows st y there =
@@ -137,7 +137,7 @@ module _ (m : MediumState) (is : IsMedium m) (a : Scene) (h : Holds m a) (v : �
         orderly = each_after m is change keeps v t (IsOrderly m.numbers t)
             (λ st there node. orderly_started m.numbers t packet short long m.now st later (h.orderly st there))
             (λ st there other. orderly_later m.numbers m.now t st st later (h.orderly st there) refl refl refl
-            (order_later m.now t st.tuned st.last later (h.orderly st there).tunings));
+            (order_later m.now t st.tuning.now st.tuning.last later (h.orderly st there).tunings));
         known = λ y there. elim (Contains-append_cases a.sendings (option_to_list new) y there) [
           | inl old ↦ elim (h.known y old) [
             | inl kept ↦ inl (record {

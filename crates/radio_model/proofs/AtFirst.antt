@@ -45,9 +45,9 @@ module _ (p : Numbers) (nodes : List ℕ) (profile : IsProfile p) (are : AreNode
         (λ all. absurd (no_tuning s early (all s (omega arith) early)), λ so. absurd (none_covers st there c s t so));
   }
     where
-      none_lit : (st : Station) → Contains m.stations st → (c k : ℕ) → IsTuned (nothing_yet p lines) st.node c k ⊎ Goes st.tuned c k → ⊥
+      none_lit : (st : Station) → Contains m.stations st → (c k : ℕ) → IsTuned (nothing_yet p lines) st.node c k ⊎ Goes st.tuning.now c k → ⊥
       none_lit st there c k (inl is) = not_in_none is.tuning is.there
-      none_lit st there c k (inr goes) = each_fresh (λ (s : Station). Goes s.tuned c k → ⊥) (λ v i g. g) st there goes
+      none_lit st there c k (inr goes) = each_fresh (λ (s : Station). Goes s.tuning.now c k → ⊥) (λ v i g. g) st there goes
 
       none_covers : (st : Station) → Contains m.stations st → (c s t : ℕ) → covers st c s t ≡ true → ⊥
       none_covers st there c s t = each_fresh (λ (q : Station). covers q c s t ≡ true → ⊥) (λ v i so. false≢true so) st there

@@ -14,7 +14,7 @@ use Rattle.radio_model.specs.declared.mark.Mark.{Mark}
 use Rattle.radio_model.specs.declared.mark.Origin.{Origin}
 use Rattle.radio_model.specs.declared.sending.Sending.{Sending}
 use Rattle.radio_model.specs.declared.station.Station.{Station}
-use Rattle.radio_model.specs.declared.station.Tuned.{Tuned}
+use Rattle.radio_model.specs.declared.tuning.Tuned.{Tuned}
 use Rattle.radio_model.proofs.Marked.{mark_pushed, marks_changed, marks_stay}
 use Rattle.radio_model.proofs.Origins.{pushed_is_newest, newest_pushed, stands_then, alike_kept}
 
@@ -176,12 +176,12 @@ module _ (p : Numbers) (now t end : ℕ) (packet : List ℕ) (sts : List Station
   was_marked : (e : Mark) → IsMark (on_air old) (get_or mks i e)
   was_marked e = subst (λ (s : Station). IsMark (on_air s) (get_or mks i e)) (sym at) (are.each i old e below)
 
-  on_air_is : on_air new ≡ old.ended.items ++ option_to_list (current_or_next old.sending (next_sending p t packet old.node old.tuned))
+  on_air_is : on_air new ≡ old.ended.items ++ option_to_list (current_or_next old.sending (next_sending p t packet old.node old.tuning.now))
   on_air_is = ap on_air is_started
 
-  pub after_start : (o : Option ℕ) → o ≡ begins_on old.tuned old.sending → AreMarks (set sts i new) (raised o) × AreAlike t (set sts i new) (raised o)
+  pub after_start : (o : Option ℕ) → o ≡ begins_on old.tuning.now old.sending → AreMarks (set sts i new) (raised o) × AreAlike t (set sts i new) (raised o)
   after_start (Some rank) is =
-      let can = can_start old.tuned old.sending rank is in
+      let can = can_start old.tuning.now old.sending rank is in
       let u = can.0 in
       let x : Sending = record { rank = rank; node = old.node; start = t; end = t + airtime p (length packet); packet = packet } in
       let silent : on_air old ≡ old.ended.items = ap (λ (o : Option Sending). old.ended.items ++ option_to_list o) can.2 ∙ append-nil old.ended.items in
@@ -205,7 +205,7 @@ module _ (p : Numbers) (now t end : ℕ) (packet : List ℕ) (sts : List Station
       )
   after_start None is =
       let same : on_air new ≡ on_air old = on_air_is ∙ ap (λ (o : Option Sending). old.ended.items ++ option_to_list o)
-      (can't_start old.tuned old.sending p t packet old.node is) in (
+      (can't_start old.tuning.now old.sending p t packet old.node is) in (
         marks_stay sts mks i new are (λ e. subst (λ (l : List Sending). IsMark l (get_or mks i e)) (sym same) (was_marked e)),
         alike_kept now t sts mks i old new below at node (λ y newest. subst (λ (l : List Sending). IsNewest l y) same newest)
             (λ y newest. subst (λ (l : List Sending). IsNewest l y) (sym same) newest) later alike,

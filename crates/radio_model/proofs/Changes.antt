@@ -3,18 +3,21 @@ use Rattle.std.proofs.Common.{◌≡◌, ℕ, List, Option, Some, None, refl}
 use Rattle.std.proofs.lemmas.Bool.{cond_both}
 use Rattle.lwb_base.specs.Profile.{Numbers}
 use Rattle.circular_buffer.specs.Buffer.{Buffer}
-use Rattle.radio_model.specs.Stations.{station_after_tuning, tuned_in, tuned_out, is_tuned_to, station_after_start, station_after_end, with_ended}
+use Rattle.radio_model.specs.Stations.{station_after_tuning, tuning_in, tuning_out, is_tuned_to, station_after_start, station_after_end, with_ended}
 use Rattle.radio_model.specs.declared.sending.Sending.{Sending}
-use Rattle.radio_model.specs.declared.station.Station.{Station}
+use Rattle.radio_model.specs.declared.tuning.RadioTuning.{RadioTuning}
 use Rattle.radio_model.proofs.Places.{Keeps}
 
 pub retuned_keeps : (rank : Option ℕ) (t : ℕ) → Keeps (station_after_tuning rank t)
 retuned_keeps None t = record { node = λ st. refl; place = λ st. refl; room = λ st. refl }
 retuned_keeps (Some r) t = record {
-  node = λ st. cond_both (is_tuned_to st.tuned r) st (tuned_in r t (tuned_out t st)) (λ (s : Station). s.node ≡ st.node) (λ _. refl) (λ _. refl);
-  place = λ st. cond_both (is_tuned_to st.tuned r) st (tuned_in r t (tuned_out t st)) (λ (s : Station). s.place ≡ st.place) (λ _. refl) (λ _. refl);
+  node = λ st. cond_both (is_tuned_to st.tuning.now r) st.tuning (tuning_in r t (tuning_out t st.tuning))
+      (λ (x : RadioTuning). (record st { tuning = x }).node ≡ st.node) (λ _. refl) (λ _. refl);
+  place = λ st. cond_both (is_tuned_to st.tuning.now r) st.tuning (tuning_in r t (tuning_out t st.tuning))
+      (λ (x : RadioTuning). (record st { tuning = x }).place ≡ st.place) (λ _. refl) (λ _. refl);
   room =
-      λ st. cond_both (is_tuned_to st.tuned r) st (tuned_in r t (tuned_out t st)) (λ (s : Station). s.ended.capacity ≡ st.ended.capacity) (λ _. refl)
+      λ st. cond_both (is_tuned_to st.tuning.now r) st.tuning (tuning_in r t (tuning_out t st.tuning))
+      (λ (x : RadioTuning). (record st { tuning = x }).ended.capacity ≡ st.ended.capacity) (λ _. refl)
       (λ _. refl);
 }
 

@@ -10,11 +10,12 @@ use Rattle.std.proofs.lemmas.Option.{slice_get-get_or, get_or_from_slice_get, sl
 use Rattle.std.specs.List.{cons_option, list_any, slice_get}
 use Rattle.circular_buffer.specs.Buffer.{Buffer}
 use Rattle.lwb_base.specs.Profile.{Numbers}
-use Rattle.radio_model.specs.Stations.{overlaps, station_after_tuning, tuned_in, tuned_out, is_tuned_to, station_after_end, fresh, stations_from}
+use Rattle.radio_model.specs.Stations.{overlaps, station_after_tuning, tuning_in, tuning_out, is_tuned_to, station_after_end, fresh, stations_from}
 use Rattle.radio_model.specs.Ages.{IsAged, ByEnd}
 use Rattle.radio_model.specs.Meetings.{rival_to}
 use Rattle.radio_model.specs.declared.sending.Sending.{Sending}
 use Rattle.radio_model.specs.declared.station.Station.{Station}
+use Rattle.radio_model.specs.declared.tuning.RadioTuning.{RadioTuning}
 use Rattle.lwb_base.proofs.Elements.{any_of}
 
 pub none_kept : {X Y : Type 0} (f : X → Option Y) (xs : List X) → All (λ (x : X). f x ≡ None) xs → filter_map f xs ≡ []
@@ -122,7 +123,8 @@ aged_same now t i sts old new later all below at same =
 pub retuned_ended : (rank : Option ℕ) (t : ℕ) (st : Station) → (station_after_tuning rank t st).ended ≡ st.ended
 retuned_ended None t st = refl
 retuned_ended (Some r) t st =
-    cond_both (is_tuned_to st.tuned r) st (tuned_in r t (tuned_out t st)) (λ (s : Station). s.ended ≡ st.ended) (λ _. refl) (λ _. refl)
+    cond_both (is_tuned_to st.tuning.now r) st.tuning (tuning_in r t (tuning_out t st.tuning))
+    (λ (x : RadioTuning). (record st { tuning = x }).ended ≡ st.ended) (λ _. refl) (λ _. refl)
 
 aged_none : IsAged 0 []
 aged_none = record { over = λ j e none. absurd (omega arith); by_end = λ a b e less none. absurd (omega arith) }

@@ -8,7 +8,7 @@ use Rattle.std.proofs.lemmas.List.Folds.{list_any_none}
 use Rattle.std.proofs.Math.Seq.{get_or-append_seam}
 use Rattle.std.specs.List.{list_any}
 use Rattle.lwb_base.specs.Profile.{Numbers}
-use Rattle.radio_model.specs.Stations.{id_of_station, on_air, overlaps, station_after_tuning, tuned_in, tuned_out, is_tuned_to, station_after_end}
+use Rattle.radio_model.specs.Stations.{id_of_station, on_air, overlaps, station_after_tuning, tuning_in, tuning_out, is_tuned_to, station_after_end}
 use Rattle.radio_model.specs.Stations.{stations_from}
 use Rattle.radio_model.specs.Ages.{IsAged}
 use Rattle.radio_model.specs.Marks.{IsMark, AreMarks, is_aside, next_mark}
@@ -17,6 +17,7 @@ use Rattle.radio_model.specs.declared.mark.Mark.{Mark}
 use Rattle.radio_model.specs.declared.mark.Origin.{Origin}
 use Rattle.radio_model.specs.declared.sending.Sending.{Sending}
 use Rattle.radio_model.specs.declared.station.Station.{Station}
+use Rattle.radio_model.specs.declared.tuning.RadioTuning.{RadioTuning}
 use Rattle.radio_model.proofs.EndedSendings.{none_kept, first_false}
 use Rattle.radio_model.proofs.Places.{nodes_from}
 
@@ -139,7 +140,8 @@ marks_stay sts mks i new are is = record {
 pub retuned_on_air : (rank : Option ℕ) (t : ℕ) (st : Station) → on_air (station_after_tuning rank t st) ≡ on_air st
 retuned_on_air None t st = refl
 retuned_on_air (Some r) t st =
-    cond_both (is_tuned_to st.tuned r) st (tuned_in r t (tuned_out t st)) (λ (s : Station). on_air s ≡ on_air st) (λ _. refl) (λ _. refl)
+    cond_both (is_tuned_to st.tuning.now r) st.tuning (tuning_in r t (tuning_out t st.tuning))
+    (λ (x : RadioTuning). on_air (record st { tuning = x }) ≡ on_air st) (λ _. refl) (λ _. refl)
 
 -- at first nothing was sent, which any mark that ends at 0 fits
 none_marked : (mk : Mark) → mk.end ≤ 0 → IsMark [] mk

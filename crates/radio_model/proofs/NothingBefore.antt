@@ -10,7 +10,7 @@ use Rattle.radio_model.specs.Hearing.{Scene, IsTuned}
 use Rattle.radio_model.specs.Stations.{MediumState, id_of_station, nodes_of, is_station_of, station_of, station_after_tuning, station_after_start}
 use Rattle.radio_model.specs.Stations.{station_after_end, next_sending, station_changed_at, medium_after_change}
 use Rattle.radio_model.specs.Holding.{Agree, Holds, lasting_at, as_it_stands, ended_tuning, tuned_of, sending_at_start, after_tuning, after_starting}
-use Rattle.radio_model.specs.declared.station.Tuned.{Tuned}
+use Rattle.radio_model.specs.declared.tuning.Tuned.{Tuned}
 use Rattle.radio_model.specs.declared.station.Station.{Station}
 use Rattle.lwb_base.proofs.Elements.{in_option, contains_head, contains_tail, map_contains, map_from}
 use Rattle.radio_model.proofs.OneStation.{node_stays}
@@ -66,7 +66,8 @@ begins_at p t packet None y = none
     none : (let e : Option Sending = None in e ≡ Some y) → y.start ≡ t
     none same = cc
 begins_at p t packet (Some st) y =
-    cond_both (is_none st.sending) (next_sending p t packet st.node st.tuned) None (λ (e : Option Sending). e ≡ Some y → y.start ≡ t) (λ _. next st.tuned)
+    cond_both (is_none st.sending) (next_sending p t packet st.node st.tuning.now) None (λ (e : Option Sending). e ≡ Some y → y.start ≡ t)
+    (λ _. next st.tuning.now)
     (λ _ same. none same)
   where
     none : (let e : Option Sending = None in e ≡ Some y) → y.start ≡ t
@@ -127,19 +128,21 @@ module _ (m : MediumState) (ascend : AllPairs (λ a b. a < b) (nodes_of m)) (a :
     abbrev scene : Scene
     scene = with_tuning a ending
 
-    here : (st : Station) → Contains m.stations st → st.node ≡ v → SameBefore a scene v t st.tuned (change st).tuned
+    here : (st : Station) → Contains m.stations st → st.node ≡ v → SameBefore a scene v t st.tuning.now (change st).tuning.now
     here st there node =
-        let at : ending ≡ ended_tuning v rank t st.tuned =
+        let at : ending ≡ ended_tuning v rank t st.tuning.now =
         ap (λ (o : Option Station). ended_tuning v rank t (tuned_of o)) (ap (station_of m) (sym node) ∙ found_member m.stations st ascend there) in
-        let old : Tells (Lit a v) st.tuned st.last m.now =
-        subst (λ (n : ℕ). Tells (Lit a n) st.tuned st.last m.now) node (tells_by m a ascend st there m.now (h.tuned st there)) in
-        subst (λ (e : Option Tuning). SameBefore a (with_tuning a e) v t st.tuned (change st).tuned) (sym at)
+        let old : Tells (Lit a v) st.tuning.now st.tuning.last m.now =
+        subst (λ (n : ℕ). Tells (Lit a n) st.tuning.now st.tuning.last m.now) node (tells_by m a ascend st there m.now (h.tuned st there)) in
+        subst (λ (e : Option Tuning). SameBefore a (with_tuning a e) v t st.tuning.now (change st).tuning.now) (sym at)
         (same_after a v m.now t later (λ c k. past_lit m a h v c k) rank st (h.orderly st there).tunings old)
 
-    each : (st : Station) → Contains m.stations st → SameBefore a scene st.node t st.tuned (station_changed_at v change st).tuned
+    each : (st : Station) → Contains m.stations st → SameBefore a scene st.node t st.tuning.now (station_changed_at v change st).tuning.now
     each st there =
-        cond_both (st.node == v) (change st) st (λ (s : Station). SameBefore a scene st.node t st.tuned s.tuned)
-        (λ same. let node = eqb-true st.node v same in subst (λ (n : ℕ). SameBefore a scene n t st.tuned (change st).tuned) (sym node) (here st there node))
+        cond_both (st.node == v) (change st) st (λ (s : Station). SameBefore a scene st.node t st.tuning.now s.tuning.now)
+        (λ same.
+        let node = eqb-true st.node v same in
+        subst (λ (n : ℕ). SameBefore a scene n t st.tuning.now (change st).tuning.now) (sym node) (here st there node))
         (λ not c k early.
         let other = lit_other a ending v st.node c k (λ y is. (closed_is v rank t (tuned_of (station_of m v)) y is).node) (eqb-false st.node v not) in (
           λ is. elim is [ inl p ↦ inl (other.0 p) | inr goes ↦ inr goes ],
@@ -162,7 +165,8 @@ module _ (m : MediumState) (ascend : AllPairs (λ a b. a < b) (nodes_of m)) (a :
         ]
 
     -- what a station before the call has lit
-    was : (st : Station) (u c k : ℕ) → Contains m.stations st → st.node ≡ u → k < t → (Lit scene st.node c k ⊎ Goes (station_changed_at v change st).tuned c k)
+    was : (st : Station) (u c k : ℕ) → Contains m.stations st → st.node ≡ u → k < t
+        → (Lit scene st.node c k ⊎ Goes (station_changed_at v change st).tuning.now c k)
         → IsTuned (as_it_stands m t a) u c k
     was st u c k there node early is =
         elim ((each st there c k early).1 is) [
@@ -188,7 +192,7 @@ module _ (m : MediumState) (ascend : AllPairs (λ a b. a < b) (nodes_of m)) (a :
           | inr l ↦
               let w = map_from (station_changed_at v change) m.stations l.station l.there in
               let node : w.0.node ≡ u = sym (node_stays change v (retuned_keeps rank t).node w.0) ∙ ap id_of_station w.2 ∙ l.node in
-              was w.0 u c k w.1 node early (inr (subst (λ (s : Station). Goes s.tuned c k) (sym w.2) l.goes))
+              was w.0 u c k w.1 node early (inr (subst (λ (s : Station). Goes s.tuning.now c k) (sym w.2) l.goes))
         ]
 
     pub by_tuning : Agree t (as_it_stands m t a) (as_it_stands behind t (after_tuning m v rank t a))

@@ -32,13 +32,13 @@ module _ (m : MediumState) (a : Scene) (ascend : AllPairs (λ a b. a < b) (map i
   abbrev pub Tuned_right : ℕ → Type 0
   Tuned_right now = (channel start t : ℕ) → now ≤ t → start < t → TunedFrom (as_it_stands m t a) st.node channel start t ↔ (covers st channel start t ≡ true)
 
-  pub tells_by : (now : ℕ) → Tuned_right now → Tells (Lit a st.node) st.tuned st.last now
+  pub tells_by : (now : ℕ) → Tuned_right now → Tells (Lit a st.node) st.tuning.now st.tuning.last now
   tells_by now right c s t later early = (
     λ all. (right c s t later early).0 (λ k low high. (stands m a st t c k ascend there high).1 (all k low high)),
     λ is k low high. (stands m a st t c k ascend there high).0 ((right c s t later early).1 is k low high),
   )
 
-  pub right_by : (now : ℕ) → Tells (Lit a st.node) st.tuned st.last now → Tuned_right now
+  pub right_by : (now : ℕ) → Tells (Lit a st.node) st.tuning.now st.tuning.last now → Tuned_right now
   right_by now tells c s t later early = (
     λ all. (tells c s t later early).0 (λ k low high. (stands m a st t c k ascend there high).0 (all k low high)),
     λ is k low high. (stands m a st t c k ascend there high).1 ((tells c s t later early).1 is k low high),

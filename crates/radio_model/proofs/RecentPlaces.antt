@@ -14,7 +14,7 @@ use Rattle.radio_model.specs.Marks.{AreMarks, no_mark, next_mark, next_marks}
 use Rattle.radio_model.specs.Recent.{AreRecent, AreAmong, IsRecentAfter, no_recent}
 use Rattle.radio_model.specs.declared.mark.Mark.{Mark}
 use Rattle.radio_model.specs.declared.mark.Origin.{Origin}
-use Rattle.radio_model.specs.declared.station.Tuned.{Tuned}
+use Rattle.radio_model.specs.declared.tuning.Tuned.{Tuned}
 use Rattle.radio_model.specs.declared.recent.Recent.{Recent}
 use Rattle.radio_model.specs.declared.sending.Sending.{Sending}
 use Rattle.radio_model.specs.declared.station.Station.{Station}
@@ -142,10 +142,10 @@ pub recent_after_start : (p : Numbers) (now t end : ℕ) (packet : List ℕ) (st
     → new ≡ station_after_start p t packet old → now ≤ t → AreMarks sts mks
     → ((k : ℕ) (d : Station) (y : Sending) → k < length sts → (get_or sts k d).sending ≡ Some y
     → t ≤ y.end) → AreRecent now sts mks r
-    → (o : Option ℕ) → o ≡ begins_on old.tuned old.sending → (is_some o ≡ true → IsRecentAfter i t end r s) → (is_some o ≡ false → s ≡ r)
+    → (o : Option ℕ) → o ≡ begins_on old.tuning.now old.sending → (is_some o ≡ true → IsRecentAfter i t end r s) → (is_some o ≡ false → s ≡ r)
     → AreRecent t (set sts i new) (next_marks o t end origin i mks no_mark) s
 recent_after_start p now t end packet sts mks i old new origin r s below at is_started later marks still are (Some rank) is next stays =
-    let can = can_start old.tuned old.sending rank is in
+    let can = can_start old.tuning.now old.sending rank is in
     let u = can.0 in
     let x : Sending = record { rank = u.rank; node = old.node; start = t; end = t + airtime p (length packet); packet = packet } in
     let sends : new.sending ≡ Some x =
@@ -156,7 +156,7 @@ recent_after_start p now t end packet sts mks i old new origin r s below at is_s
 recent_after_start p now t end packet sts mks i old new origin r s below at is_started later marks still are None is next stays =
     subst (AreRecent t (set sts i new) mks) (sym (stays refl))
     (recent_stay now t sts mks r i old new below at
-    (λ x runs. sym (can't_start old.tuned old.sending p t packet old.node is) ∙ sym (ap (λ (st : Station). st.sending) is_started) ∙ runs) later are)
+    (λ x runs. sym (can't_start old.tuning.now old.sending p t packet old.node is) ∙ sym (ap (λ (st : Station). st.sending) is_started) ∙ runs) later are)
 
 -- at first nothing was sent
 pub recent_first : (vs : List ℕ) (mks : List Mark) → ((k : ℕ) (e : Mark) → k < length vs → (get_or mks k e).end ≤ 0)

@@ -4,11 +4,12 @@ use Rattle.std.proofs.Common.{if◌then◌else◌, Option, Some, None, refl, sym
 use Rattle.std.proofs.lemmas.Bool.{cases_lt, cond_both, ltb-true, ltb-false, and_parts, and_from, eqb-true, both_ways}
 use Rattle.radio_model.specs.OnAir.{Tuning}
 use Rattle.radio_model.specs.Hearing.{Scene}
-use Rattle.radio_model.specs.Stations.{station_after_tuning, tuned_in, tuned_out, last_at, meets_at, since_with, is_tuned_to}
+use Rattle.radio_model.specs.Stations.{station_after_tuning, tuning_in, tuning_out, last_at, meets_at, since_with, is_tuned_to}
 use Rattle.radio_model.specs.Holding.{IsOrder, ended_tuning}
-use Rattle.radio_model.specs.declared.station.Tuned.{Tuned}
-use Rattle.radio_model.specs.declared.station.Past.{Past}
+use Rattle.radio_model.specs.declared.tuning.Tuned.{Tuned}
+use Rattle.radio_model.specs.declared.tuning.Past.{Past}
 use Rattle.radio_model.specs.declared.station.Station.{Station}
+use Rattle.radio_model.specs.declared.tuning.RadioTuning.{RadioTuning}
 use Rattle.radio_model.proofs.Tunings.{Goes, Went, Tells, told_went, tells_later, off_late, off_empty, on_fresh, on_joined}
 use Rattle.radio_model.proofs.Scenes.{Lit, with_tuning, lit_same, lit_apart, closed_is, closes_out, closed_same, closed_other}
 
@@ -122,24 +123,25 @@ module _ (a : Scene) (v now t : ℕ) (later : now ≤ t) (past : (c k : ℕ) →
         | inr new ↦ let end = by new.0 new.1 in let until = new.5 in omega arith
       ]
 
-  pub told_after : (rank : Option ℕ) (st : Station) → IsOrder now st.tuned st.last → Tells (Lit a v) st.tuned st.last now
-      → Told (with_tuning a (ended_tuning v rank t st.tuned)) v t (station_after_tuning rank t st).tuned (station_after_tuning rank t st).last
-  told_after None st order tells = told_out st.tuned st.last order tells
+  pub told_after : (rank : Option ℕ) (st : Station) → IsOrder now st.tuning.now st.tuning.last → Tells (Lit a v) st.tuning.now st.tuning.last now
+      → Told (with_tuning a (ended_tuning v rank t st.tuning.now)) v t (station_after_tuning rank t st).tuning.now (station_after_tuning rank t st).tuning.last
+  told_after None st order tells = told_out st.tuning.now st.tuning.last order tells
   told_after (Some r) st order tells =
-      cond_both (is_tuned_to st.tuned r) st (tuned_in r t (tuned_out t st))
-      (λ (s : Station). Told (with_tuning a (ended_tuning v (Some r) t st.tuned)) v t s.tuned s.last)
-      (λ is. subst (λ (e : Option Tuning). Told (with_tuning a e) v t st.tuned st.last) (sym (closed_same v r t st.tuned is)) (record {
-        tells = tells_same (Lit a v) (Lit (with_tuning a None) v) st.tuned st.last t (lit_same a v) (tells_later (Lit a v) st.tuned st.last now t later tells);
-        order = order_later now t st.tuned st.last later order;
+      cond_both (is_tuned_to st.tuning.now r) st.tuning (tuning_in r t (tuning_out t st.tuning))
+      (λ (x : RadioTuning). Told (with_tuning a (ended_tuning v (Some r) t st.tuning.now)) v t x.now x.last)
+      (λ is. subst (λ (e : Option Tuning). Told (with_tuning a e) v t st.tuning.now st.tuning.last) (sym (closed_same v r t st.tuning.now is)) (record {
+        tells = tells_same (Lit a v) (Lit (with_tuning a None) v) st.tuning.now st.tuning.last t (lit_same a v)
+            (tells_later (Lit a v) st.tuning.now st.tuning.last now t later tells);
+        order = order_later now t st.tuning.now st.tuning.last later order;
       }))
       (λ not.
-      let out = told_out st.tuned st.last order tells in
-      subst (λ (e : Option Tuning). Told (with_tuning a e) v t (tuned_in r t (tuned_out t st)).tuned (tuned_in r t (tuned_out t st)).last)
-      (sym (closed_other v r t st.tuned not)) (record {
+      let out = told_out st.tuning.now st.tuning.last order tells in
+      subst (λ (e : Option Tuning). Told (with_tuning a e) v t (tuning_in r t (tuning_out t st.tuning)).now (tuning_in r t (tuning_out t st.tuning)).last)
+      (sym (closed_other v r t st.tuning.now not)) (record {
         tells =
-            tells_on (Lit (with_tuning a (ended_tuning v None t st.tuned)) v) r t (last_at st.tuned st.last t)
-            (past_out (ended_tuning v None t st.tuned) (λ y is. omega (arith, (closed_is v None t st.tuned y is).end))) out.order out.tells;
-        order = order_on r t (last_at st.tuned st.last t) out.order;
+            tells_on (Lit (with_tuning a (ended_tuning v None t st.tuning.now)) v) r t (last_at st.tuning.now st.tuning.last t)
+            (past_out (ended_tuning v None t st.tuning.now) (λ y is. omega (arith, (closed_is v None t st.tuning.now y is).end))) out.order out.tells;
+        order = order_on r t (last_at st.tuning.now st.tuning.last t) out.order;
       }))
 
 -- before t the ended tunings and the present one are the same
@@ -181,26 +183,28 @@ none_new P r t (Some q) order tells c k early goes = by_test ((q.rank == r) && (
         ]
     by_test false is by = let since = by.1 in absurd (omega arith)
 
-pub same_after : (a : Scene) (v now t : ℕ) → now ≤ t → ((c k : ℕ) → Lit a v c k → k < now) → (rank : Option ℕ) (st : Station) → IsOrder now st.tuned st.last
-    → Tells (Lit a v) st.tuned st.last now
-    → SameBefore a (with_tuning a (ended_tuning v rank t st.tuned)) v t st.tuned (station_after_tuning rank t st).tuned
-same_after a v now t later past None st order tells = same_out a v t st.tuned
+pub same_after : (a : Scene) (v now t : ℕ) → now ≤ t → ((c k : ℕ) → Lit a v c k → k < now) → (rank : Option ℕ) (st : Station)
+    → IsOrder now st.tuning.now st.tuning.last → Tells (Lit a v) st.tuning.now st.tuning.last now
+    → SameBefore a (with_tuning a (ended_tuning v rank t st.tuning.now)) v t st.tuning.now (station_after_tuning rank t st).tuning.now
+same_after a v now t later past None st order tells = same_out a v t st.tuning.now
 same_after a v now t later past (Some r) st order tells =
-    cond_both (is_tuned_to st.tuned r) st (tuned_in r t (tuned_out t st))
-    (λ (s : Station). SameBefore a (with_tuning a (ended_tuning v (Some r) t st.tuned)) v t st.tuned s.tuned)
-    (λ is. subst (λ (e : Option Tuning). SameBefore a (with_tuning a e) v t st.tuned st.tuned) (sym (closed_same v r t st.tuned is)) (same_in a v t st.tuned))
-    (λ not. subst (λ (e : Option Tuning). SameBefore a (with_tuning a e) v t st.tuned (tuned_in r t (tuned_out t st)).tuned)
-    (sym (closed_other v r t st.tuned not)) begins)
+    cond_both (is_tuned_to st.tuning.now r) st.tuning (tuning_in r t (tuning_out t st.tuning))
+    (λ (x : RadioTuning). SameBefore a (with_tuning a (ended_tuning v (Some r) t st.tuning.now)) v t st.tuning.now x.now)
+    (λ is. subst (λ (e : Option Tuning). SameBefore a (with_tuning a e) v t st.tuning.now st.tuning.now)
+    (sym (closed_same v r t st.tuning.now is)) (same_in a v t st.tuning.now))
+    (λ not. subst (λ (e : Option Tuning). SameBefore a (with_tuning a e) v t st.tuning.now (tuning_in r t (tuning_out t st.tuning)).now)
+    (sym (closed_other v r t st.tuning.now not)) begins)
   where
-    begins : SameBefore a (with_tuning a (ended_tuning v None t st.tuned)) v t st.tuned (tuned_in r t (tuned_out t st)).tuned
+    begins : SameBefore a (with_tuning a (ended_tuning v None t st.tuning.now)) v t st.tuning.now (tuning_in r t (tuning_out t st.tuning)).now
     begins c k early =
-        let out = same_out a v t st.tuned c k early in
-        let told = told_out a v now t later past st.tuned st.last order tells in (
+        let out = same_out a v t st.tuning.now c k early in
+        let told = told_out a v now t later past st.tuning.now st.tuning.last order tells in (
           λ is. elim (out.0 is) [ inl p ↦ inl p | inr none ↦ absurd none ],
           λ is. elim is [
             | inl p ↦ out.1 (inl p)
             | inr goes ↦
-                out.1 (inl (none_new (Lit (with_tuning a (ended_tuning v None t st.tuned)) v) r t (last_at st.tuned st.last t) told.order told.tells c k
+                out.1 (inl (none_new (Lit (with_tuning a (ended_tuning v None t st.tuning.now)) v) r t (last_at st.tuning.now st.tuning.last t)
+                told.order told.tells c k
                 early goes))
           ],
         )

@@ -7,7 +7,7 @@ use Rattle.radio_model.specs.OnAir.{Tuning}
 use Rattle.radio_model.specs.Hearing.{Scene, IsTuned}
 use Rattle.radio_model.specs.Stations.{MediumState, id_of_station, is_tuned_to}
 use Rattle.radio_model.specs.Holding.{lasting, lasting_at, as_it_stands, ended_tuning}
-use Rattle.radio_model.specs.declared.station.Tuned.{Tuned}
+use Rattle.radio_model.specs.declared.tuning.Tuned.{Tuned}
 use Rattle.radio_model.specs.declared.station.Station.{Station}
 use Rattle.lwb_base.proofs.Elements.{in_filter, filter_from, in_option, of_option}
 use Rattle.radio_model.proofs.Places.{one_station}
@@ -39,7 +39,7 @@ pub record Lasts (m : MediumState) (v c k : ℕ) : Type 0 where
   pub station : Station
   pub there : Contains m.stations station
   pub node : station.node ≡ v
-  pub goes : Goes station.tuned c k
+  pub goes : Goes station.tuning.now c k
 
 pub lit_or_lasts : (m : MediumState) (a : Scene) (t v c k : ℕ) → IsTuned (as_it_stands m t a) v c k → Lit a v c k ⊎ Lasts m v c k
 lit_or_lasts m a t v c k is =
@@ -47,13 +47,13 @@ lit_or_lasts m a t v c k is =
       | inl ended ↦ inl (record { tuning = is.tuning; there = ended; node = is.node; rank = is.rank; since = is.since; until = is.until })
       | inr lasts ↦
           let w = filter_from (lasting_at t) m.stations is.tuning lasts in
-          let l = lasts_as w.0.node w.0.tuned t is.tuning w.2 in
+          let l = lasts_as w.0.node w.0.tuning.now t is.tuning w.2 in
           let since = is.since in
           inr (record {
             station = w.0;
             there = w.1;
             node = sym (ap (λ (y : Tuning). y.node) l.2) ∙ is.node;
-            goes = goes_as l.0 w.0.tuned c k l.1 (sym (ap (λ (y : Tuning). y.rank) l.2) ∙ is.rank) (omega (arith, ap (λ (y : Tuning). y.start) l.2));
+            goes = goes_as l.0 w.0.tuning.now c k l.1 (sym (ap (λ (y : Tuning). y.rank) l.2) ∙ is.rank) (omega (arith, ap (λ (y : Tuning). y.start) l.2));
           })
     ]
 
@@ -70,7 +70,7 @@ lit_stands m a t v c k is = record {
 pub lasts_stands : (m : MediumState) (a : Scene) (t v c k : ℕ) → k < t → Lasts m v c k → IsTuned (as_it_stands m t a) v c k
 lasts_stands m a t v c k early is =
     let st = is.station in
-    let l = lasts_from st.node st.tuned t c k is.goes in
+    let l = lasts_from st.node st.tuning.now t c k is.goes in
     record {
       tuning = l.0;
       there = Contains-append_right a.tunings (filter_map (lasting_at t) m.stations) l.0 (in_filter (lasting_at t) m.stations st l.0 is.there l.1);
@@ -81,17 +81,17 @@ lasts_stands m a t v c k early is =
     }
 
 pub stands : (m : MediumState) (a : Scene) (st : Station) (t c k : ℕ) → AllPairs (λ a b. a < b) (map id_of_station m.stations) → Contains m.stations st → k < t
-    → IsTuned (as_it_stands m t a) st.node c k ↔ (Lit a st.node c k ⊎ Goes st.tuned c k)
+    → IsTuned (as_it_stands m t a) st.node c k ↔ (Lit a st.node c k ⊎ Goes st.tuning.now c k)
 stands m a st t c k ascend there early = (apart, together)
   where
-    apart : IsTuned (as_it_stands m t a) st.node c k → Lit a st.node c k ⊎ Goes st.tuned c k
+    apart : IsTuned (as_it_stands m t a) st.node c k → Lit a st.node c k ⊎ Goes st.tuning.now c k
     apart is =
         elim (lit_or_lasts m a t st.node c k is) [
           | inl ended ↦ inl ended
-          | inr l ↦ inr (subst (λ (s : Station). Goes s.tuned c k) (one_station m.stations ascend l.station st l.there there l.node) l.goes)
+          | inr l ↦ inr (subst (λ (s : Station). Goes s.tuning.now c k) (one_station m.stations ascend l.station st l.there there l.node) l.goes)
         ]
 
-    together : Lit a st.node c k ⊎ Goes st.tuned c k → IsTuned (as_it_stands m t a) st.node c k
+    together : Lit a st.node c k ⊎ Goes st.tuning.now c k → IsTuned (as_it_stands m t a) st.node c k
     together (inl is) = lit_stands m a t st.node c k is
     together (inr goes) = lasts_stands m a t st.node c k early (record { station = st; there = there; node = refl; goes = goes })
 

@@ -3,8 +3,8 @@ use Rattle.std.proofs.Common.{◌≡◌, ℕ, ◌<◌, ◌≤◌, ◌-◌, ◌�
 use Rattle.std.proofs.Common.{nat_le, Option, Some, None, sym, ◌∙◌, subst, arith, eq-eqb}
 use Rattle.std.proofs.lemmas.Bool.{and_parts, and_from, or_cases, or_left, or_right, eqb-true, leb-true, le-leb, cases_lt, false≢true}
 use Rattle.radio_model.specs.Stations.{goes_on, went_until}
-use Rattle.radio_model.specs.declared.station.Tuned.{Tuned}
-use Rattle.radio_model.specs.declared.station.Past.{Past}
+use Rattle.radio_model.specs.declared.tuning.Tuned.{Tuned}
+use Rattle.radio_model.specs.declared.tuning.Past.{Past}
 
 -- the present tuning is of the channel, and began by the tick
 abbrev pub Goes : Option Tuned → ℕ → ℕ → Type 0

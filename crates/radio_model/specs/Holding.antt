@@ -6,8 +6,8 @@ use Rattle.link_trace.specs.Passes.{Lines}
 use Rattle.radio_model.specs.OnAir.{Sending, Tuning}
 use Rattle.radio_model.specs.Hearing.{Scene, IsTuned}
 use Rattle.radio_model.specs.Stations.{MediumState, station_of, is_tuned_to, on_air, covers, next_sending}
-use Rattle.radio_model.specs.declared.station.Tuned.{Tuned}
-use Rattle.radio_model.specs.declared.station.Past.{Past}
+use Rattle.radio_model.specs.declared.tuning.Tuned.{Tuned}
+use Rattle.radio_model.specs.declared.tuning.Past.{Past}
 use Rattle.radio_model.specs.declared.station.Station.{Station}
 
 abbrev pub longest : Numbers → ℕ
@@ -22,7 +22,7 @@ lasting v None t = None
 lasting v (Some o) t = Some (record { rank = o.rank; node = v; start = o.since; end = t })
 
 abbrev pub lasting_at : ℕ → Station → Option Tuning
-lasting_at t st = lasting st.node st.tuned t
+lasting_at t st = lasting st.node st.tuning.now t
 
 -- the scene of the ended tunings, with those that last at t
 abbrev pub as_it_stands : MediumState → ℕ → Scene → Scene
@@ -40,7 +40,7 @@ ended_tuning v (Some r) t (Some o) = if is_tuned_to (Some o) r then None else (i
 
 abbrev pub tuned_of : Option Station → Option Tuned
 tuned_of None = None
-tuned_of (Some st) = st.tuned
+tuned_of (Some st) = st.tuning.now
 
 -- the scene after the node is tuned to a channel, or to nothing, at t
 abbrev pub after_tuning : MediumState → ℕ → Option ℕ → ℕ → Scene → Scene
@@ -49,7 +49,7 @@ after_tuning m v rank t a = record a { tunings = a.tunings ++ option_to_list (en
 -- what the node sends if it begins at t. None where it is not tuned or already sends
 abbrev pub sending_at_start : Numbers → ℕ → List ℕ → Option Station → Option Sending
 sending_at_start p t packet None = None
-sending_at_start p t packet (Some st) = if is_none st.sending then next_sending p t packet st.node st.tuned else None
+sending_at_start p t packet (Some st) = if is_none st.sending then next_sending p t packet st.node st.tuning.now else None
 
 abbrev pub after_starting : MediumState → ℕ → ℕ → List ℕ → Scene → Scene
 after_starting m v t packet a = record a { sendings = a.sendings ++ option_to_list (sending_at_start m.numbers t packet (station_of m v)) }
@@ -86,7 +86,7 @@ pub record IsOrderly (p : Numbers) (now : ℕ) (st : Station) : Type 0 where
   pub own : (y : Sending) → Contains (on_air st) y → IsOwn p st.node y
   pub in_turn : InTurn 0 (on_air st)
   pub over : (y : Sending) → Contains st.ended.items y → y.end ≤ now
-  pub tunings : IsOrder now st.tuned st.last
+  pub tunings : IsOrder now st.tuning.now st.tuning.last
 
 -- of all transmissions and ended tunings up to now the medium keeps what can still matter
 pub record Holds (m : MediumState) (a : Scene) : Type 0 where

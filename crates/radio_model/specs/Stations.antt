@@ -6,8 +6,9 @@ use Rattle.lwb_base.specs.Profile.{Numbers, airtime, IsProfile}
 use Rattle.link_trace.specs.Masks.{AreNodes}
 use Rattle.radio_model.specs.OnAir.{goes_on_with}
 use Rattle.radio_model.specs.declared.sending.Sending.{Sending}
-use Rattle.radio_model.specs.declared.station.Tuned.{Tuned}
-use Rattle.radio_model.specs.declared.station.Past.{Past}
+use Rattle.radio_model.specs.declared.tuning.Tuned.{Tuned}
+use Rattle.radio_model.specs.declared.tuning.Past.{Past}
+use Rattle.radio_model.specs.declared.tuning.RadioTuning.{RadioTuning}
 use Rattle.radio_model.specs.declared.station.Station.{Station}
 
 -- the medium: the numbers of its profile, the tick of its last call, and its nodes by ascending ids
@@ -31,7 +32,7 @@ station_of m v = find (is_station_of v) m.stations
 -- the node is tuned and does not send
 abbrev pub can_send : Option Station → Bool
 can_send None = false
-can_send (Some st) = is_some st.tuned && is_none st.sending
+can_send (Some st) = is_some st.tuning.now && is_none st.sending
 
 abbrev pub sending_of_station : Option Station → Option Sending
 sending_of_station None = None
@@ -50,9 +51,18 @@ pub record Ends (m : MediumState) (v t : ℕ) : Type 0 where
   pub until : sending.end ≡ t
   pub lasts : t ≡ sending.start + airtime m.numbers (length sending.packet)
 
+-- tuned to nothing, now and before
+abbrev pub untuned : RadioTuning
+untuned = record { now = None; last = None }
+
+-- what a node is tuned to
+abbrev pub tuning_at : Option Station → RadioTuning
+tuning_at None = untuned
+tuning_at (Some st) = st.tuning
+
 -- a node as it is at first
 abbrev pub fresh : ℕ → ℕ → Station
-fresh node place = record { node = node; place = place; tuned = None; last = None; sending = None; ended = buffer [] 13 }
+fresh node place = record { node = node; place = place; tuning = untuned; sending = None; ended = buffer [] 13 }
 
 -- the nodes as they are at first, at places counted from here on
 abbrev pub stations_from : ℕ → List ℕ → List Station
@@ -84,24 +94,38 @@ abbrev pub since_with : Option Past → ℕ → ℕ → ℕ
 since_with None rank t = t
 since_with (Some p) rank t = if goes_on_with p.rank p.until rank t then p.since else t
 
+-- whether it is tuned to that channel
 abbrev pub is_tuned_to : Option Tuned → ℕ → Bool
 is_tuned_to None rank = false
 is_tuned_to (Some o) rank = o.rank == rank
 
--- the station that is tuned to this channel from t on
-abbrev pub tuned_in : ℕ → ℕ → Station → Station
-tuned_in rank t st = record st {
-  tuned = Some (record { rank = rank; since = since_with st.last rank t });
-  last = if meets_at st.last rank t then None else st.last;
+-- tuned to this channel from t on, after nothing
+abbrev pub tuning_in : ℕ → ℕ → RadioTuning → RadioTuning
+tuning_in rank t x = record {
+  now = Some (record { rank = rank; since = since_with x.last rank t });
+  last = if meets_at x.last rank t then None else x.last;
 }
 
--- the station that is tuned to nothing from t on
-abbrev pub tuned_out : ℕ → Station → Station
-tuned_out t st = record st { tuned = None; last = last_at st.tuned st.last t }
+-- tuned to nothing from t on
+abbrev pub tuning_out : ℕ → RadioTuning → RadioTuning
+tuning_out t x = record { now = None; last = last_at x.now x.last t }
+
+-- tuned to the channel of a rank from t on, or to nothing
+abbrev pub tuning_after : Option ℕ → ℕ → RadioTuning → RadioTuning
+tuning_after None t x = tuning_out t x
+tuning_after (Some rank) t x = if is_tuned_to x.now rank then x else tuning_in rank t (tuning_out t x)
+
+-- the tuning that goes on no more at t, since another one ends then: that which ended last before it
+abbrev pub over_at : Option Tuned → Option Past → ℕ → Option Past
+over_at None last t = None
+over_at (Some o) last t = if nat_lt o.since t then last else None
+
+abbrev pub over_after : Option ℕ → ℕ → RadioTuning → Option Past
+over_after None t x = over_at x.now x.last t
+over_after (Some rank) t x = if is_tuned_to x.now rank then None else over_at x.now x.last t
 
 abbrev pub station_after_tuning : Option ℕ → ℕ → Station → Station
-station_after_tuning None t st = tuned_out t st
-station_after_tuning (Some rank) t st = if is_tuned_to st.tuned rank then st else tuned_in rank t (tuned_out t st)
+station_after_tuning rank t st = record st { tuning = tuning_after rank t st.tuning }
 
 -- what the station sends if it begins to send at t. None where it is not tuned
 abbrev pub next_sending : Numbers → ℕ → List ℕ → ℕ → Option Tuned → Option Sending
@@ -120,7 +144,7 @@ current_or_next None next = next
 current_or_next (Some x) next = Some x
 
 abbrev pub station_after_start : Numbers → ℕ → List ℕ → Station → Station
-station_after_start p t packet st = record st { sending = current_or_next st.sending (next_sending p t packet st.node st.tuned) }
+station_after_start p t packet st = record st { sending = current_or_next st.sending (next_sending p t packet st.node st.tuning.now) }
 
 -- the ended transmissions with one more. Where there is no room the oldest one is forgotten
 abbrev pub with_ended : Buffer Sending → Option Sending → Buffer Sending
@@ -156,7 +180,7 @@ went_until None rank start t = false
 went_until (Some p) rank start t = (p.rank == rank) && nat_le p.since start && nat_le t p.until
 
 abbrev pub covers : Station → ℕ → ℕ → ℕ → Bool
-covers st rank start t = goes_on st.tuned rank start || went_until st.last rank start t
+covers st rank start t = goes_on st.tuning.now rank start || went_until st.tuning.last rank start t
 
 -- both are on the air at some tick
 abbrev pub overlaps : Sending → Sending → Bool

@@ -7,7 +7,8 @@ ghost use Rattle.link_trace.specs.Passes.{Lines};
 ghost use Rattle.radio_model.specs.Hearing.{Scene, HearsInScene};
 ghost use Rattle.radio_model.specs.Holding.{Holds, nothing_yet, after_tuning, after_starting, as_it_stands};
 ghost use Rattle.radio_model.specs.Stations.{MediumState, nodes_of, station_of, can_send, sending_of_station, station_after_tuning};
-ghost use Rattle.radio_model.specs.Stations.{station_after_start, station_after_end, medium_after_change, first_state, stations_from, IsTime, IsMedium, Ends};
+ghost use Rattle.radio_model.specs.Stations.{station_after_start, station_after_end, tuning_at, over_after, medium_after_change, first_state};
+ghost use Rattle.radio_model.specs.Stations.{stations_from, IsTime, IsMedium, Ends};
 ghost use Rattle.radio_model.specs.Meetings.{hearers_to};
 ghost use Rattle.radio_model.specs.Marks.{ArePlaces};
 ghost use Rattle.radio_model.specs.declared.sending.Sending.{Sending};
@@ -20,6 +21,7 @@ use crate::recent::Recent;
 use crate::rivals::{Key, frame_start};
 use crate::sending::Sending;
 use crate::station::Station;
+use crate::tuning::{Past, RadioTuning};
 use link_trace::Links;
 use lwb_base::{Memory, NodeId, PLACES_BY_ID, Packet, Profile, Rank};
 use std::alloc::Global;
@@ -87,18 +89,31 @@ impl Medium {
         })
     }
 
-    /// The node is tuned to that channel from t on, or to nothing.
+    /// The node is tuned to that channel from t on, or to nothing. Its tuning that goes on no more by this is given back
+    /// (`RadioTuning::tune`).
     #[inline(always)]
-    pub fn tune(&mut self, node: NodeId, rank: Option<Rank>, t: u64)
+    pub fn tune(&mut self, node: NodeId, rank: Option<Rank>, t: u64) -> Option<Past>
         requires node { Contains (nodes_of self.old) node }
         requires time { IsTime self.old t }
+        ensures over { result ≡ over_after rank t (tuning_at (station_of self.old node)) }
         ensures state { self.new ≡ medium_after_change t node (station_after_tuning rank t) self.old }
         ensures holds { (a : Scene) → Holds self.old a → Holds self.new (after_tuning self.old node rank t a) }
     {
         let place = place_of(&self.places, node);
         let station = &mut self.stations[place];
-        station.tune(rank, t);
+        let over = station.tuning.tune(rank, t);
         self.time = t;
+        over
+    }
+
+    /// What the node is tuned to.
+    pub fn tuning(&self, node: NodeId) -> RadioTuning
+        requires { Contains (nodes_of self.now) node }
+        ensures { result ≡ tuning_at (station_of self.now node) }
+    {
+        let place = place_of(&self.places, node);
+        let station = &self.stations[place];
+        station.tuning
     }
 
     /// The node begins to send at t, for the packet's airtime. Returns `false` if and only if it is not tuned or already sends,

@@ -4,13 +4,13 @@ ghost use Rattle.std.specs.Prelude.{◌≡◌, ◌≤◌, ◌+◌, ◌<◌, ◌^
 ghost use Rattle.std.specs.List.{list_any};
 ghost use Rattle.circular_buffer.specs.Buffer.{buffer};
 ghost use Rattle.lwb_base.specs.Profile.{airtime, Numbers};
-ghost use Rattle.radio_model.specs.Stations.{tuned_in, tuned_out, station_after_tuning, is_tuned_to, begins_on, station_after_start, station_after_end, on_air};
+ghost use Rattle.radio_model.specs.Stations.{untuned, begins_on, station_after_start, station_after_end, on_air};
 ghost use Rattle.radio_model.specs.Stations.{covers, overlaps};
 ghost use Rattle.radio_model.specs.Ages.{IsAged};
 
 use crate::meeting::overlap;
 use crate::sending::Sending;
-use crate::tuning::goes_on;
+use crate::tuning::RadioTuning;
 use circular_buffer::HeapCircularBuffer;
 use lwb_base::{Memory, NodeId, Packet, Rank};
 use std::alloc::Global;
@@ -19,29 +19,13 @@ use std::alloc::Global;
 /// shortest, so one that ended before the last 13 overlaps none that still runs.
 const KEPT: usize = 13;
 
-/// Tuned to the channel of a rank since a tick.
-#[derive(Clone, Copy)]
-pub struct Tuned {
-    pub rank: Rank,
-    pub since: u64,
-}
-
-/// Was tuned to the channel of a rank, from one tick until another.
-#[derive(Clone, Copy)]
-pub struct Past {
-    pub rank: Rank,
-    pub since: u64,
-    pub until: u64,
-}
-
-/// What is kept of one node: its place among the nodes, its tuning, the tuning that ended last, what it sends, and its last
-/// ended transmissions, the oldest first.
+/// What is kept of one node: its place among the nodes, its tuning, what it sends, and its last ended transmissions, the oldest
+/// first.
 #[derive(Drop)]
 pub struct Station {
     pub node: NodeId,
     pub place: u8,
-    pub tuned: Option<Tuned>,
-    pub last: Option<Past>,
+    pub tuning: RadioTuning,
     pub sending: Option<Sending>,
     pub ended: HeapCircularBuffer<Sending>,
 }
@@ -49,79 +33,25 @@ pub struct Station {
 impl Station {
     /// A node that is tuned to nothing and sends nothing.
     pub(crate) fn new(alloc: Global, node: NodeId, place: u8) -> Result<Station, Memory>
-        ensures { IfOk result (λ st. st ≡ record { node = node; place = place; tuned = None; last = None; sending = None; ended = buffer [] 13 }) }
+        ensures { IfOk result (λ st. st ≡ record { node = node; place = place; tuning = untuned; sending = None; ended = buffer [] 13 }) }
     {
         let ended = HeapCircularBuffer::with_capacity(alloc, KEPT)?;
         Ok(Station {
             node,
             place,
-            tuned: None,
-            last: None,
+            tuning: RadioTuning::none(),
             sending: None,
             ended,
         })
     }
 
-    /// It is tuned to that channel from t on, or to nothing.
-    pub(crate) fn tune(&mut self, rank: Option<Rank>, t: u64)
-        ensures { self.new ≡ station_after_tuning rank t self.old }
-    {
-        match rank {
-            None => self.tune_out(t),
-            Some(rank) => {
-                if !self.is_tuned_to(rank) {
-                    self.tune_out(t);
-                    self.tune_in(rank, t);
-                }
-            }
-        }
-    }
-
-    fn is_tuned_to(&self, rank: Rank) -> bool
-        ensures { result ≡ is_tuned_to self.now.tuned rank }
-    {
-        match self.tuned {
-            Some(tuned) => tuned.rank == rank,
-            None => false,
-        }
-    }
-
-    fn tune_out(&mut self, t: u64)
-        ensures { self.new ≡ tuned_out t self.old }
-    {
-        if let Some(tuned) = self.tuned {
-            if tuned.since < t {
-                self.last = Some(Past {
-                    rank: tuned.rank,
-                    since: tuned.since,
-                    until: t,
-                });
-            }
-        }
-        self.tuned = None;
-    }
-
-    // From off. It is one with the last tuning if it goes on with that.
-    fn tune_in(&mut self, rank: Rank, t: u64)
-        ensures { self.new ≡ tuned_in rank t self.old }
-    {
-        let mut since = t;
-        if let Some(last) = self.last {
-            if goes_on(last.rank, last.until, rank, t) {
-                since = last.since;
-                self.last = None;
-            }
-        }
-        self.tuned = Some(Tuned { rank, since });
-    }
-
     /// It begins to send at t, until `end`, on the channel of that rank. Returns `None` if and only if it is not tuned or
     /// already sends, and then nothing changes.
     pub(crate) fn start(&mut self, t: u64, end: u64, packet: &Packet) -> Option<Rank>
-        ensures value { result ≡ begins_on self.old.tuned self.old.sending }
+        ensures value { result ≡ begins_on self.old.tuning.now self.old.sending }
         ensures state { (p : Numbers) → end ≡ t + airtime p (length packet.now) → self.new ≡ station_after_start p t packet.now self.old }
     {
-        let Some(tuned) = self.tuned else {
+        let Some(tuned) = self.tuning.now else {
             return None;
         };
         if self.sending.is_some() {
@@ -150,11 +80,11 @@ impl Station {
     pub(crate) fn was_tuned(&self, rank: Rank, start: u64, t: u64) -> bool
         ensures { result ≡ covers self.now rank start t }
     {
-        let goes_on = match self.tuned {
+        let goes_on = match self.tuning.now {
             Some(tuned) => tuned.rank == rank && tuned.since <= start,
             None => false,
         };
-        let went_until_now = match self.last {
+        let went_until_now = match self.tuning.last {
             Some(last) => last.rank == rank && last.since <= start && t <= last.until,
             None => false,
         };

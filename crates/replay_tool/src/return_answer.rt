@@ -15,15 +15,14 @@ use crate::answer::{Answer, fault_answer};
 use crate::energy_lines::write_energies;
 use crate::return_lines::{write_probes, write_returns};
 use crate::scenario_run::run_of;
-use air_log::{Air, NodeCharge};
+use air_log::{Air, Idle, NodeCharge};
 use bus_report::write_report_lines;
 use bus_rules::{Delivery, DropLine};
 use host_return::{ListsIdle, Returned, Runner, follow_listed};
-use lwb_base::{Memory, NodeId, Rank};
+use lwb_base::Memory;
 use lwb_world::RunParts;
 use scenario_text::{ParseFault, Scenario, parse};
 use std::alloc::Global;
-use world_engine::Idle;
 
 /// The report of a run in which backup hosts go back, of the scenario that the bytes are a text of, or the line of their first
 /// fault.
@@ -89,9 +88,8 @@ impl Runner for Worlds {
 }
 
 impl ListsIdle for Worlds {
-    fn idle(&self, place: usize) -> Option<(u32, NodeId, Rank)> {
-        let one = self.idle.get(place)?;
-        Some((one.frame, one.node, one.rank))
+    fn idle(&self) -> &[Idle] {
+        &self.idle
     }
 }
 

@@ -5,7 +5,7 @@ use Rattle.std.proofs.lemmas.Bool.{cases_lt}
 use Rattle.std.proofs.lemmas.Option.{same_Some}
 use Rattle.radio_model.specs.declared.sending.Sending.{Sending}
 use Rattle.radio_model.specs.declared.station.Station.{Station}
-use Rattle.radio_model.specs.declared.station.Tuned.{Tuned}
+use Rattle.radio_model.specs.declared.tuning.Tuned.{Tuned}
 use Rattle.radio_model.specs.OnAir.{Hearing}
 use Rattle.radio_model.specs.Hearing.{Scene, IsTuned, HearsInScene}
 use Rattle.radio_model.specs.Holding.{Agree, as_it_stands, nothing_yet}
@@ -25,8 +25,10 @@ use Rattle.bus_rules.specs.Cores.{Setup}
 use Rattle.air_log.specs.declared.entry.Entry.{Entry}
 use Rattle.air_log.specs.Entries.{sendings_of, hearings_of}
 use Rattle.air_log.specs.Devices.{Device, Listening}
-use Rattle.world_engine.specs.Fields.{FieldState, IsField, FieldShows, rank_of_tuned}
-use Rattle.air_log.specs.DeviceStates.{channel_of}
+use Rattle.world_engine.specs.Fields.{FieldState, IsField, FieldShows}
+use Rattle.world_engine.specs.Following.{rank_of_tuned}
+use Rattle.air_log.specs.Tunings.{channel_of}
+use Rattle.world_engine.proofs.ShownPlaces.{station_channel}
 use Rattle.world_engine.specs.FieldSteps.{IsFirstField}
 use Rattle.world_engine.specs.Running.{Runs, HoldsScene, HasHearings, IsOnAir}
 use Rattle.air_log.specs.TunedTimes.{WasTuned, listened}
@@ -103,7 +105,7 @@ module _ (s : ScenarioParts) (t u : ℕ) (w : FieldState) (due : List Due) (a : 
   -- at a place whose device is shown now, at a tick from now on
   module _ (q : Setup) (p : ℕ) (d : Device) (shows : FieldShows q t w due p d) (by : HasTunedBy t d) (r k : ℕ) (from : t ≤ k) (until : k < u) where
     station : Station
-    station = shows.known.station
+    station = shows.station
 
     there : station_of w.medium q.id ≡ Some station
     unfolding station
@@ -112,9 +114,9 @@ module _ (s : ScenarioParts) (t u : ℕ) (w : FieldState) (due : List Due) (a : 
     found : Contains w.medium.stations station × (station.node ≡ q.id)
     found = found_in q.id w.medium.stations station there
 
-    same : option_map rank_of_tuned station.tuned ≡ option_map channel_of d.listening
+    same : option_map rank_of_tuned station.tuning.now ≡ option_map channel_of d.listening
     unfolding station
-    same = shows.known.tuned ∙ ap (λ (x : Device). option_map channel_of x.listening) shows.shows.is
+    same = station_channel q t w due p d shows ∙ sym shows.shows.channel ∙ ap (λ (x : Device). option_map channel_of x.listening) shows.shows.is
 
     past : Lit a q.id r k → ⊥
     past lit = omega (arith, lit.until, h.held.past lit.tuning lit.there, h.time.later, from)
@@ -126,7 +128,8 @@ module _ (s : ScenarioParts) (t u : ℕ) (w : FieldState) (due : List Due) (a : 
         of_station lasts =
             let one : lasts.station ≡ station = same_Some lasts.station station
             (sym (found_member w.medium.stations lasts.station field.medium.nodes.ascending lasts.there) ∙ ap (station_of w.medium) lasts.node ∙ there) in
-            listens_on station.tuned d.listening r k same (began_by t k d.listening from by.since) (subst (λ (st : Station). Goes st.tuned r k) one lasts.goes)
+            listens_on station.tuning.now d.listening r k same (began_by t k d.listening from by.since)
+            (subst (λ (st : Station). Goes st.tuning.now r k) one lasts.goes)
 
     back : WasTuned d r k → IsTuned (as_it_stands w.medium u a) q.id r k
     back is =
@@ -136,8 +139,8 @@ module _ (s : ScenarioParts) (t u : ℕ) (w : FieldState) (due : List Due) (a : 
             station = station;
             there = found.0;
             node = found.1;
-            goes = goes_on station.tuned d.listening r k same
-                (since_by w.medium.now k station.tuned station.last (let by_now = h.time.later in omega (arith, by_now, from))
+            goes = goes_on station.tuning.now d.listening r k same
+                (since_by w.medium.now k station.tuning.now station.tuning.last (let by_now = h.time.later in omega (arith, by_now, from))
                 (h.held.orderly station found.0).tunings) goes;
           })
         ]

@@ -11,6 +11,7 @@ use Rattle.air_log.specs.Devices.{Device, Listening, OrderedPacket, Made}
 use Rattle.air_log.specs.Trails.{device_after_start, begun_by, starts, sending_from, sendings_starting, starting_by}
 use Rattle.air_log.specs.DeviceStates.{DeviceState, whole, with_sent}
 use Rattle.air_log.specs.DeviceStates.{tick_of_ordered, RunsUntil}
+use Rattle.air_log.specs.Tunings.{Tunings, channel_in}
 
 -- an order that is due is gone
 abbrev pub unordered : Device → Device
@@ -87,36 +88,43 @@ pub ordered_then : (o : Option OrderedPacket) (t : ℕ) → option_map tick_of_o
 ordered_then None t is = cc
 ordered_then (Some q) t is = (q, refl, let same : q.tick ≡ t = cc in same)
 
+-- the device becomes another by a start that has this answer
+abbrev pub Answers : ℕ → DeviceState → DeviceState → Option Sending → Type 0
+Answers t st new r = (x : Tunings) (made : Made) → RunsUntil st.busy_until made.sent → channel_in x ≡ st.channel
+    → device_after_start st.setup t (whole st x made) ≡ whole new x (with_sent r made)
+
 -- what is known of a start that has the device's answer r
 module _ (t : ℕ) (st new : DeviceState) (ordered : option_map tick_of_ordered st.ordered ≡ Some t) where
-  abbrev answers : Option Sending → Type 0
-  answers r = (made : Made) → RunsUntil st.busy_until made.sent → device_after_start st.setup t (whole st made) ≡ whole new (with_sent r made)
-
   order : (q : OrderedPacket) × (st.ordered ≡ Some q) × (q.tick ≡ t)
   order = ordered_then st.ordered t ordered
 
-  nothing_sent : answers None → (made : Made) → RunsUntil st.busy_until made.sent → (x : Sending) → BeginsToSend st.setup t (whole st made) x → ⊥
-  nothing_sent is made runs x begins =
-      let same : made.sent ++ x ∷ [] ≡ made.sent = ap (λ (d : Device). d.made.sent) (sym begins.is ∙ is made runs) in
-      absurd (omega (arith, ap length same, length-append made.sent (x ∷ [])))
+  -- of the device with these tunings, and with this made
+  module _ (tunings : Tunings) (made : Made) (runs : RunsUntil st.busy_until made.sent) (channel : channel_in tunings ≡ st.channel) where
+    abbrev device : Device
+    device = whole st tunings made
 
-  pub silent_with : answers None → (made : Made) → RunsUntil st.busy_until made.sent → StaysSilent st.setup t (whole st made)
-  silent_with is made runs = elim (begins_or_not st.setup t (whole st made) order.0 order.1 order.2) [
-    | inl silent ↦ silent
-    | inr begins ↦ absurd (nothing_sent is made runs begins.0 begins.1)
-  ]
+    nothing_sent : Answers t st new None → (x : Sending) → BeginsToSend st.setup t device x → ⊥
+    nothing_sent is x begins =
+        let same : made.sent ++ x ∷ [] ≡ made.sent = ap (λ (d : Device). d.made.sent) (sym begins.is ∙ is tunings made runs channel) in
+        absurd (omega (arith, ap length same, length-append made.sent (x ∷ [])))
 
-  pub begins_with : (x : Sending) → answers (Some x) → (made : Made) → RunsUntil st.busy_until made.sent → BeginsToSend st.setup t (whole st made) x
-  begins_with x is made runs =
-      elim (begins_or_not st.setup t (whole st made) order.0 order.1 order.2) [
-        | inl silent ↦
-            let same : made.sent ≡ made.sent ++ x ∷ [] = ap (λ (d : Device). d.made.sent) (sym silent.is ∙ is made runs) in
-            absurd (omega (arith, ap length same, length-append made.sent (x ∷ [])))
-        | inr begins ↦
-            let same : made.sent ++ begins.0 ∷ [] ≡ made.sent ++ x ∷ [] = ap (λ (d : Device). d.made.sent) (sym begins.1.is ∙ is made runs) in
-            subst (λ (y : Sending). BeginsToSend st.setup t (whole st made) y) (last_same made.sent begins.0 x same) begins.1
-      ]
-    where
-      last_same : (ys : List Sending) (y z : Sending) → ys ++ y ∷ [] ≡ ys ++ z ∷ [] → y ≡ z
-      last_same [] y z is = cc
-      last_same (w ∷ ys) y z is = last_same ys y z (let rest : ys ++ y ∷ [] ≡ ys ++ z ∷ [] = cc in rest)
+    pub silent_with : Answers t st new None → StaysSilent st.setup t device
+    silent_with is = elim (begins_or_not st.setup t device order.0 order.1 order.2) [
+      | inl silent ↦ silent
+      | inr begins ↦ absurd (nothing_sent is begins.0 begins.1)
+    ]
+
+    pub begins_with : (x : Sending) → Answers t st new (Some x) → BeginsToSend st.setup t device x
+    begins_with x is =
+        elim (begins_or_not st.setup t device order.0 order.1 order.2) [
+          | inl silent ↦
+              let same : made.sent ≡ made.sent ++ x ∷ [] = ap (λ (d : Device). d.made.sent) (sym silent.is ∙ is tunings made runs channel) in
+              absurd (omega (arith, ap length same, length-append made.sent (x ∷ [])))
+          | inr begins ↦
+              let same : made.sent ++ begins.0 ∷ [] ≡ made.sent ++ x ∷ [] = ap (λ (d : Device). d.made.sent) (sym begins.1.is ∙ is tunings made runs channel) in
+              subst (λ (y : Sending). BeginsToSend st.setup t device y) (last_same made.sent begins.0 x same) begins.1
+        ]
+      where
+        last_same : (ys : List Sending) (y z : Sending) → ys ++ y ∷ [] ≡ ys ++ z ∷ [] → y ≡ z
+        last_same [] y z is = cc
+        last_same (w ∷ ys) y z is = last_same ys y z (let rest : ys ++ y ∷ [] ≡ ys ++ z ∷ [] = cc in rest)

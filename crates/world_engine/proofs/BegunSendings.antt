@@ -9,7 +9,7 @@ use Rattle.std.proofs.lemmas.List.Elements.{All-contains}
 use Rattle.lwb_base.specs.Profile.{Numbers, airtime}
 use Rattle.radio_model.specs.declared.sending.Sending.{Sending}
 use Rattle.radio_model.specs.declared.station.Station.{Station}
-use Rattle.radio_model.specs.declared.station.Tuned.{Tuned}
+use Rattle.radio_model.specs.declared.tuning.Tuned.{Tuned}
 use Rattle.radio_model.specs.Hearing.{Scene}
 use Rattle.radio_model.specs.Holding.{Holds, after_starting}
 use Rattle.radio_model.specs.Holding as holding
@@ -29,18 +29,20 @@ use Rattle.air_log.specs.Trails.{device_after_start}
 use Rattle.air_log.specs.declared.entry.Entry.TheVariants.{Sent}
 use Rattle.air_log.specs.declared.entry.Entry.{Entry}
 use Rattle.radio_model.proofs.ChangedStations.{node_of_station, station_changed}
-use Rattle.air_log.specs.DeviceStates.{DeviceState, whole, with_sent, running, RunsUntil}
+use Rattle.air_log.specs.DeviceStates.{DeviceState, whole, with_sent, running}
 use Rattle.air_log.specs.Lawful.{sent_by}
 use Rattle.air_log.proofs.RunningSendings.{last_made, runs_on, runs_still}
-use Rattle.world_engine.specs.Fields.{FieldState, IsField, due_of_device, id_of, ids_of, rank_of_tuned}
-use Rattle.air_log.specs.DeviceStates.{channel_of}
+use Rattle.air_log.specs.Tunings.{Tunings, channel_of, tunings_with}
+use Rattle.world_engine.specs.Fields.{FieldState, IsField, due_of_device, id_of, ids_of}
+use Rattle.world_engine.specs.Following.{rank_of_tuned}
 use Rattle.world_engine.specs.FieldSteps.{MediumGoesOn}
-use Rattle.world_engine.proofs.BegunDevices.{BeginsToSend, sends_now, begins_with}
+use Rattle.world_engine.proofs.BegunDevices.{Answers, BeginsToSend, sends_now, begins_with}
 use Rattle.world_engine.proofs.DeviceSteps.{IsStepAt, lists_sent, acts_at, field_stays}
 use Rattle.world_engine.proofs.DueChanges.{due_changed}
 use Rattle.world_engine.proofs.LoggedSendings.{sent_own}
-use Rattle.world_engine.proofs.NothingBegun.{Begins, IsStarting, due_by, shows, known, made_before, runs_before, ordered, start_shows, begun_are}
-use Rattle.world_engine.proofs.ShownPlaces.{station_sends}
+use Rattle.world_engine.proofs.NothingBegun.{Begins, IsStarting, due_by, shows, station as station_before, known, made_before, tunings_before, runs_before}
+use Rattle.world_engine.proofs.NothingBegun.{channel_before, ordered, start_shows, begun_are}
+use Rattle.world_engine.proofs.ShownPlaces.{station_sends, station_channel}
 
 -- a transmission is told by its parts
 same_sending : (x : Sending) (rank node start end : ℕ) → rank ≡ x.rank → node ≡ x.node → start ≡ x.start → end ≡ x.end
@@ -52,11 +54,9 @@ same_sending x rank node start end is_rank is_node is_start is_end =
 
 module _ {t p : ℕ} {w : FieldState} {due : List Due} {st new : DeviceState} (start : IsStarting t p w due st new) where
   -- where x starts
-  module _ (x : Sending)
-      (is : (made : Made) → RunsUntil st.busy_until made.sent → device_after_start st.setup t (whole st made) ≡ whole new (with_sent (Some x) made))
-      (until : new.busy_until ≡ Some x.end) where
+  module _ (x : Sending) (is : Answers t st new (Some x)) (until : new.busy_until ≡ Some x.end) where
     abbrev station : Station
-    station = (known start).station
+    station = station_before start
 
     abbrev change : Station → Station
     change = station_after_start w.medium.numbers t x.packet
@@ -77,11 +77,14 @@ module _ {t p : ℕ} {w : FieldState} {due : List Due} {st new : DeviceState} (s
     abbrev made : Made
     made = made_before start
 
-    starts : BeginsToSend st.setup t (whole st made) x
-    starts = begins_with t st new (ordered start) x is made (runs_before start)
+    abbrev tunings : Tunings
+    tunings = tunings_before start
 
-    begun_now : whole new (with_sent (Some x) made) ≡ sends_now x (whole st made)
-    begun_now = sym (is made (runs_before start)) ∙ starts.is
+    starts : BeginsToSend st.setup t (whole st tunings made) x
+    starts = begins_with t st new (ordered start) tunings made (runs_before start) (channel_before start) x is
+
+    begun_now : whole new tunings (with_sent (Some x) made) ≡ sends_now x (whole st tunings made)
+    begun_now = sym (is tunings made (runs_before start) (channel_before start)) ∙ starts.is
 
     begun_set : slice_get begun_due p ≡ Some (due_of_device new)
     begun_set =
@@ -96,8 +99,8 @@ module _ {t p : ℕ} {w : FieldState} {due : List Due} {st new : DeviceState} (s
     numbers : st.setup.profile ≡ w.medium.numbers
     numbers = All-contains (λ (d : DeviceState). d.setup.profile ≡ w.medium.numbers) w.devices st start.field.numbers (contains_at w.devices p st start.here)
 
-    next_by : (o : Option Tuned) → station.tuned ≡ o → option_map rank_of_tuned o ≡ Some x.rank
-        → next_sending w.medium.numbers t x.packet station.node station.tuned ≡ Some x
+    next_by : (o : Option Tuned) → station.tuning.now ≡ o → option_map rank_of_tuned o ≡ Some x.rank
+        → next_sending w.medium.numbers t x.packet station.node station.tuning.now ≡ Some x
     next_by None tuned rank = cc
     next_by (Some o) tuned rank =
         let same : o.rank ≡ x.rank = cc in
@@ -105,10 +108,11 @@ module _ {t p : ℕ} {w : FieldState} {due : List Due} {st new : DeviceState} (s
         ∙ same_sending x o.rank station.node t (t + airtime w.medium.numbers (length x.packet)) same own_node (sym starts.start)
         (ap (λ (m : Numbers). t + airtime m (length x.packet)) (sym numbers) ∙ sym starts.end)
 
-    next : next_sending w.medium.numbers t x.packet station.node station.tuned ≡ Some x
+    next : next_sending w.medium.numbers t x.packet station.node station.tuning.now ≡ Some x
     next =
-        next_by station.tuned refl
-        ((known start).tuned ∙ ap (option_map channel_of) starts.listens ∙ ap (λ (r : ℕ). let o : Option ℕ = Some r in o) (sym starts.rank))
+        next_by station.tuning.now refl
+        (station_channel start.shown.setup t w due p start.shown.device (shows start) ∙ sym (channel_before start)
+        ∙ ap (option_map channel_of) starts.listens ∙ ap (λ (r : ℕ). let o : Option ℕ = Some r in o) (sym starts.rank))
 
     station_silent : station.sending ≡ None
     station_silent =
@@ -116,7 +120,7 @@ module _ {t p : ℕ} {w : FieldState} {due : List Due} {st new : DeviceState} (s
 
     sends_x : (change station).sending ≡ Some x
     sends_x = ap (λ (o : Option Sending). current_or_next o
-        (next_sending w.medium.numbers t x.packet station.node station.tuned)) station_silent ∙ next
+        (next_sending w.medium.numbers t x.packet station.node station.tuning.now)) station_silent ∙ next
 
     -- what runs of its transmissions in the log
     runs_now : running new.busy_until (sent_by begun_field.air new.setup.id) ≡ Some x
@@ -137,7 +141,7 @@ module _ {t p : ℕ} {w : FieldState} {due : List Due} {st new : DeviceState} (s
     scene_begins =
         ap (holding.sending_at_start w.medium.numbers t x.packet) station_of_x
         ∙ ap (λ (o : Option Sending).
-        if is_none o then next_sending w.medium.numbers t x.packet station.node station.tuned else None) station_silent
+        if is_none o then next_sending w.medium.numbers t x.packet station.node station.tuning.now else None) station_silent
         ∙ next
 
     begun_time : IsTime begun_field.medium t
@@ -180,18 +184,17 @@ module _ {t p : ℕ} {w : FieldState} {due : List Due} {st new : DeviceState} (s
     }
 
     step : ((a : Scene) → Holds w.medium a → Holds begun_field.medium (after_starting w.medium x.node t x.packet a))
-        → IsStepAt t p st new (λ made. record made { sent = made.sent ++ x ∷ [] }) (x ∷ []) [] w due begun_field begun_due
+        → IsStepAt t p st new station (change station) (λ made. record made { sent = made.sent ++ x ∷ [] }) (x ∷ []) [] w due begun_field begun_due
     step held = record {
       here = start.here;
+      was = (known start).there;
       setup = start.node.setup;
       devices = refl;
       lists = lists_sent st.setup.id x w begun_field.medium (set w.devices p new) starts.node;
       drops = sym (append-nil w.drops);
       medium = begun_goes_on held;
       station = record {
-        station = change station;
         there = ap (λ (u : Setup). station_of begun_field.medium u.id) start.node.setup ∙ ap (station_of begun_field.medium) (sym starts.node) ∙ station_now;
-        tuned = (known start).tuned ∙ ap (λ (e : Device). option_map channel_of e.listening) (sym begun_now);
         sending = sends_x ∙ sym runs_now;
       };
       stations = λ u other. other_station w.medium t x.node change
@@ -206,13 +209,14 @@ module _ {t p : ℕ} {w : FieldState} {due : List Due} {st new : DeviceState} (s
     begins_here held = (
       x ∷ [],
       acts_at (step held) (λ s d. device_after_start s t d)
-          (λ s made d sh. (
-            made.windows,
-            start_shows start s made (record made { sent = made.sent ++ x ∷ [] }) d sh refl sh.ended
+          (λ s made d sh ended. (let k : Tunings = tunings_with s.id station.tuning made.tuned in record {
+            windows = made.windows;
+            shows = start_shows start s k made (record made { sent = made.sent ++ x ∷ [] }) d sh refl
                 (runs_still (Some x.end) new.busy_until (made.sent ++ x ∷ []) (made.sent ++ x ∷ []) until refl
-                (runs_on st.busy_until made.sent (Some x) sh.runs)) (is made sh.runs),
-          )) start.field,
-      begun_are start (x ∷ []) (λ made runs. (begins_with t st new (ordered start) x is made runs).starting),
+                (runs_on st.busy_until made.sent (Some x) sh.runs)) (is k made sh.runs sh.channel);
+            ended = ended;
+          })) start.field,
+      begun_are start (x ∷ []) (λ k made runs channel. (begins_with t st new (ordered start) k made runs channel x is).starting),
     )
 
     -- with the medium and the log as the code has them

@@ -1,35 +1,44 @@
 -- The medium after one device is tuned to a channel, or to nothing.
-use Rattle.std.proofs.Common.{◌≡◌, ◌≢◌, ℕ, [], true, Option, Some, None, option_map, ◌==◌, refl, sym, ◌∙◌, ap, subst, arith}
-use Rattle.std.proofs.lemmas.Bool.{cond_both, eqb-true}
+use Rattle.std.proofs.Common.{◌≡◌, ◌≢◌, ℕ, [], true, Option, Some, None, option_map, ◌==◌, refl, sym, ◌∙◌, ap, subst, arith, eq-eqb}
+use Rattle.std.proofs.lemmas.Bool.{cond_both, cond-true}
 use Rattle.std.proofs.lemmas.List.{append-nil}
+use Rattle.std.proofs.lemmas.Option.{same_Some}
 use Rattle.link_trace.specs.Masks.{AreNodes}
 use Rattle.radio_model.specs.Hearing.{Scene}
 use Rattle.radio_model.specs.Holding.{Agree, Holds, as_it_stands, after_tuning}
 use Rattle.radio_model.specs.declared.station.Station.{Station}
-use Rattle.radio_model.specs.declared.station.Tuned.{Tuned as TunedTo}
+use Rattle.radio_model.specs.declared.tuning.Tuned.{Tuned}
+use Rattle.radio_model.specs.declared.tuning.Past.{Past}
+use Rattle.radio_model.specs.declared.tuning.RadioTuning.{RadioTuning}
 use Rattle.radio_model.specs.Stations.{MediumState, IsMedium, IsTime, station_of, nodes_of, station_changed_at, medium_after_change, station_after_tuning}
-use Rattle.radio_model.specs.Stations.{tuned_in, tuned_out, is_tuned_to}
+use Rattle.radio_model.specs.Stations.{tuning_at, tuning_in, tuning_out, tuning_after, over_at, over_after}
 use Rattle.lwb_base.proofs.Elements.{map_from}
 use Rattle.radio_model.proofs.OneStation.{same_nodes, changed_station, other_station}
 use Rattle.radio_model.proofs.Changes.{retuned_keeps}
 use Rattle.radio_model.proofs.Places.{still_medium}
 use Rattle.radio_model.proofs.NothingBefore.{by_tuning}
 use Rattle.radio_model.proofs.TunedStations.{sends_still}
-use Rattle.world_engine.specs.Fields.{rank_of_tuned}
 use Rattle.world_engine.specs.FieldSteps.{MediumGoesOn}
-use Rattle.world_engine.specs.Following.{Retunes}
+use Rattle.world_engine.specs.Following.{Retunes, rank_of_tuned}
 use Rattle.world_engine.proofs.GoesOn.{goes_on_nothing}
 
--- the station is tuned to the channel then
-tuned_then : (rank : Option ℕ) (t : ℕ) (st : Station) → option_map rank_of_tuned (station_after_tuning rank t st).tuned ≡ rank
-tuned_then None t st = refl
-tuned_then (Some r) t st =
-    cond_both (is_tuned_to st.tuned r) st (tuned_in r t (tuned_out t st)) (λ (s : Station). option_map rank_of_tuned s.tuned ≡ Some r)
-    (λ is. was st.tuned is) (λ not. refl)
-  where
-    was : (o : Option TunedTo) → is_tuned_to o r ≡ true → option_map rank_of_tuned o ≡ Some r
-    was None is = cc
-    was (Some o) is = ap (λ (n : ℕ). Some n) (eqb-true o.rank r is)
+-- a radio that is tuned to its channel once more stays as it is, and none of its tunings is over by that
+record StaysTuned (rank : Option ℕ) (t : ℕ) (x : RadioTuning) : Type 0 where
+  same : tuning_after rank t x ≡ x
+  none : over_after rank t x ≡ None
+
+stays : (rank : Option ℕ) (t : ℕ) (now : Option Tuned) (last : Option Past) → option_map rank_of_tuned now ≡ rank
+    → StaysTuned rank t (record { now = now; last = last })
+stays None t None last is = record { same = refl; none = refl }
+stays None t (Some o) last is = cc
+stays (Some r) t None last is = cc
+stays (Some r) t (Some o) last is =
+    let x : RadioTuning = record { now = Some o; last = last } in
+    let here : (o.rank == r) ≡ true = eq-eqb o.rank r (same_Some o.rank r is) in
+    record {
+      same = cond-true (o.rank == r) x (tuning_in r t (tuning_out t x)) here;
+      none = cond-true (o.rank == r) None (over_at (Some o) last t) here;
+    }
 
 module _ (t v : ℕ) (rank : Option ℕ) (old new : MediumState) (is : new ≡ medium_after_change t v (station_after_tuning rank t) old) where
   sends_so : (st : Station) → (station_changed_at v (station_after_tuning rank t) st).sending ≡ st.sending
@@ -81,17 +90,20 @@ module _ (t v : ℕ) (rank : Option ℕ) (old new : MediumState) (is : new ≡ m
   }
 
 -- so a station gets to a channel, and stays at one
-pub is_tuned : (t v : ℕ) (from to : Option ℕ) (old new : MediumState) → new ≡ medium_after_change t v (station_after_tuning to t) old → AreNodes (nodes_of old)
-    → IsTime old t → ((a : Scene) → Holds old a → Holds new (after_tuning old v to t a)) → Retunes t v from to old new
-is_tuned t v from to old new is nodes time holds = record {
+pub is_tuned : (t v : ℕ) (from to : Option ℕ) (over : Option Past) (old new : MediumState) → over ≡ over_after to t (tuning_at (station_of old v))
+    → new ≡ medium_after_change t v (station_after_tuning to t) old → AreNodes (nodes_of old)
+    → IsTime old t → ((a : Scene) → Holds old a → Holds new (after_tuning old v to t a)) → Retunes t v from to over old new
+is_tuned t v from to over old new gone is nodes time holds = record {
   goes_on = retuned_goes_on t v to old new is nodes time holds;
-  own = λ x there tuned. (station_after_tuning to t x, retuned_own t v to old new is x there, tuned_then to t x, sends_still to t x);
+  own = λ x there tuned. (retuned_own t v to old new is x there, gone ∙ ap (λ (o : Option Station). over_after to t (tuning_at o)) there);
   others = retuned_others t v to old new is;
 }
 
-pub stays_tuned : (t v : ℕ) (from to : Option ℕ) (m : MediumState) → IsTime m t → from ≡ to → Retunes t v from to m m
+pub stays_tuned : (t v : ℕ) (from to : Option ℕ) (m : MediumState) → IsTime m t → from ≡ to → Retunes t v from to None m m
 stays_tuned t v from to m time same = record {
   goes_on = goes_on_nothing t m time;
-  own = λ x there tuned. (x, there, tuned ∙ same, refl);
+  own = λ x there tuned.
+      let at = stays to t x.tuning.now x.tuning.last (tuned ∙ same) in
+      (there ∙ ap (λ (k : RadioTuning). let o : Option Station = Some (record x { tuning = k }) in o) (sym at.same), sym at.none);
   others = λ u other. refl;
 }

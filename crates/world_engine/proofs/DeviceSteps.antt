@@ -1,5 +1,5 @@
 -- A step of the device at one place: what it is to the lists, to the devices at other places, and to the queue.
-use Rattle.std.proofs.Common.{◌≡◌, ◌≢◌, ℕ, ◌<◌, List, [], ◌∷◌, ◌++◌, map, filter, reverse, set, length, Option, Some, None, IfSome, option_map}
+use Rattle.std.proofs.Common.{◌≡◌, ◌≢◌, ℕ, ◌<◌, List, [], ◌∷◌, ◌++◌, map, filter, reverse, set, length, Option, Some, None, option_map}
 use Rattle.std.proofs.Common.{◌⊎◌, ◌==◌, if◌then◌else◌, refl, sym, ◌∙◌, ap, subst, inl, inr, eq-eqb}
 use Rattle.std.specs.Prelude.{Contains, All, AllPairs}
 use Rattle.std.specs.List.{slice_get}
@@ -8,7 +8,7 @@ use Rattle.std.proofs.lemmas.List.{append-nil, reverse-append}
 use Rattle.std.proofs.lemmas.List.Elements.{filter-append, filter_map-append, Contains-append_cases, Contains-push_cases}
 use Rattle.std.proofs.lemmas.List.Elements.{All-set, All-head, All-tail, All-contains}
 use Rattle.lwb_base.specs.Profile.{Numbers}
-use Rattle.std.proofs.lemmas.Option.{slice_get-map, slice_get_within, get_or_from_slice_get}
+use Rattle.std.proofs.lemmas.Option.{slice_get-map, slice_get_within, get_or_from_slice_get, same_Some}
 use Rattle.event_calendar.specs.Orders.{Due}
 use Rattle.bus_rules.specs.Cores.{Setup}
 use Rattle.bus_rules.specs.declared.delivery.Delivery.{Delivery}
@@ -20,58 +20,58 @@ use Rattle.lwb_base.proofs.Elements.{contains_cases, not_in_none, contains_at}
 use Rattle.lwb_base.proofs.Lists.{set_elsewhere, map_stays}
 use Rattle.air_log.specs.declared.entry.Entry.{Entry}
 use Rattle.air_log.specs.declared.entry.Entry.TheVariants.{Sent}
-use Rattle.air_log.specs.declared.entry.TunedEntry.{TunedEntry}
+use Rattle.radio_model.specs.declared.tuning.Past.{Past}
 use Rattle.air_log.specs.Entries.{sending_in, hearing_in, tuning_in, sendings_of, hearings_of, tunings_of, node_of_entry}
 use Rattle.air_log.specs.Lawful.{sent_by, tuned_by}
 use Rattle.air_log.specs.Devices.{Device, Made}
-use Rattle.air_log.specs.DeviceStates.{DeviceState, channel_of, tuning_of, one_more, running}
+use Rattle.air_log.specs.DeviceStates.{DeviceState, running}
+use Rattle.air_log.specs.Tunings.{EndedBefore, past_tuning, one_more, tunings_with}
 use Rattle.air_log.specs.DeviceChanges.{DeviceShows}
 use Rattle.air_log.specs.WindowLogs.{WindowLog}
 use Rattle.air_log.proofs.LoggedEntries.{sendings_sent, hearings_sent}
 use Rattle.world_engine.specs.Fields.{FieldState, FieldShows, IsField, IsLogged, entries_of, setup_of_device, id_of, ids_of}
-use Rattle.world_engine.specs.Fields.{due_of_device, rank_of_tuned}
+use Rattle.world_engine.specs.Fields.{due_of_device}
 use Rattle.world_engine.specs.FieldSteps.{MediumGoesOn, AreSame, Acts}
 use Rattle.world_engine.proofs.ActsInTurn.{same_ids}
 use Rattle.world_engine.proofs.DevicePlaces.{at_set, apart_at}
 use Rattle.world_engine.proofs.LoggedSendings.{sent_own, sent_other, tuned_beside_sent}
 use Rattle.world_engine.proofs.ShownPlaces.{shown_as}
 
--- the log with the entry of a tuning more, if there is one
-pub hearings_tuned : (air : List Entry) (c : Option TunedEntry) → hearings_of (air ++ entries_of c) ≡ hearings_of air
-hearings_tuned air None = ap hearings_of (append-nil air)
-hearings_tuned air (Some e) = filter_map-append hearing_in air (entries_of (Some e)) ∙ append-nil (hearings_of air)
+-- the log with the entry of a tuning of a node more, if there is one
+pub hearings_tuned : (air : List Entry) (v : ℕ) (o : Option Past) → hearings_of (air ++ entries_of v o) ≡ hearings_of air
+hearings_tuned air v None = ap hearings_of (append-nil air)
+hearings_tuned air v (Some p) = filter_map-append hearing_in air (entries_of v (Some p)) ∙ append-nil (hearings_of air)
 
-pub sendings_tuned : (air : List Entry) (c : Option TunedEntry) → sendings_of (air ++ entries_of c) ≡ sendings_of air
-sendings_tuned air None = ap sendings_of (append-nil air)
-sendings_tuned air (Some e) = filter_map-append sending_in air (entries_of (Some e)) ∙ append-nil (sendings_of air)
+pub sendings_tuned : (air : List Entry) (v : ℕ) (o : Option Past) → sendings_of (air ++ entries_of v o) ≡ sendings_of air
+sendings_tuned air v None = ap sendings_of (append-nil air)
+sendings_tuned air v (Some p) = filter_map-append sending_in air (entries_of v (Some p)) ∙ append-nil (sendings_of air)
 
-tuned_more : (air : List Entry) (u : ℕ) (e : TunedEntry)
-    → tuned_by (air ++ entries_of (Some e)) u ≡ tuned_by air u ++ (if e.node == u then tuning_of e ∷ [] else [])
-tuned_more air u e =
-    ap (λ (l : List Tuning). filter (λ (t : Tuning). t.node == u) l) (filter_map-append tuning_in air (entries_of (Some e)))
-    ∙ filter-append (λ (t : Tuning). t.node == u) (tunings_of air) (tuning_of e ∷ [])
+tuned_more : (air : List Entry) (u v : ℕ) (p : Past)
+    → tuned_by (air ++ entries_of v (Some p)) u ≡ tuned_by air u ++ (if v == u then past_tuning v p ∷ [] else [])
+tuned_more air u v p =
+    ap (λ (l : List Tuning). filter (λ (t : Tuning). t.node == u) l) (filter_map-append tuning_in air (entries_of v (Some p)))
+    ∙ filter-append (λ (t : Tuning). t.node == u) (tunings_of air) (past_tuning v p ∷ [])
 
-pub tuned_own : (air : List Entry) (u : ℕ) (c : Option TunedEntry) → IfSome c (λ e. e.node ≡ u)
-    → reverse (tuned_by (air ++ entries_of c) u) ≡ one_more c (reverse (tuned_by air u))
-tuned_own air u None own = ap (λ (l : List Entry). reverse (tuned_by l u)) (append-nil air)
-tuned_own air u (Some e) own =
+pub tuned_own : (air : List Entry) (v : ℕ) (o : Option Past) → reverse (tuned_by (air ++ entries_of v o) v) ≡ one_more v o (reverse (tuned_by air v))
+tuned_own air v None = ap (λ (l : List Entry). reverse (tuned_by l v)) (append-nil air)
+tuned_own air v (Some p) =
     ap (λ (l : List Tuning). reverse l)
-    (tuned_more air u e ∙ ap (λ (l : List Tuning). tuned_by air u ++ l) (cond-true (e.node == u) (tuning_of e ∷ []) [] (eq-eqb e.node u own)))
-    ∙ reverse-append (tuned_by air u) (tuning_of e ∷ [])
+    (tuned_more air v v p ∙ ap (λ (l : List Tuning). tuned_by air v ++ l) (cond-true (v == v) (past_tuning v p ∷ []) [] (eq-eqb v v refl)))
+    ∙ reverse-append (tuned_by air v) (past_tuning v p ∷ [])
 
-pub tuned_other : (air : List Entry) (u v : ℕ) (c : Option TunedEntry) → IfSome c (λ e. e.node ≡ v) → u ≢ v → tuned_by (air ++ entries_of c) u ≡ tuned_by air u
-tuned_other air u v None own other = ap (λ (l : List Entry). tuned_by l u) (append-nil air)
-tuned_other air u v (Some e) own other =
-    tuned_more air u e
-    ∙ ap (λ (l : List Tuning). tuned_by air u ++ l) (cond-false (e.node == u) (tuning_of e ∷ []) [] (ne_eqb e.node u (λ same. other (sym same ∙ own))))
+pub tuned_other : (air : List Entry) (u v : ℕ) (o : Option Past) → u ≢ v → tuned_by (air ++ entries_of v o) u ≡ tuned_by air u
+tuned_other air u v None other = ap (λ (l : List Entry). tuned_by l u) (append-nil air)
+tuned_other air u v (Some p) other =
+    tuned_more air u v p
+    ∙ ap (λ (l : List Tuning). tuned_by air u ++ l) (cond-false (v == u) (past_tuning v p ∷ []) [] (ne_eqb v u (λ same. other (sym same))))
     ∙ append-nil (tuned_by air u)
 
-pub sent_same : (air : List Entry) (u : ℕ) (c : Option TunedEntry) → sent_by (air ++ entries_of c) u ≡ sent_by air u
-sent_same air u c = ap (λ (l : List Sending). filter (λ (x : Sending). x.node == u) l) (sendings_tuned air c)
+pub sent_same : (air : List Entry) (u v : ℕ) (o : Option Past) → sent_by (air ++ entries_of v o) u ≡ sent_by air u
+sent_same air u v o = ap (λ (l : List Sending). filter (λ (x : Sending). x.node == u) l) (sendings_tuned air v o)
 
-pub entries_own : (c : Option TunedEntry) (v : ℕ) (e : Entry) → IfSome c (λ e. e.node ≡ v) → Contains (entries_of c) e → node_of_entry e ≡ v
-entries_own None v e own there = absurd (not_in_none e there)
-entries_own (Some x) v e own there = elim (contains_cases _ [] e there) [ inl is ↦ ap node_of_entry (sym is) ∙ own | inr none ↦ absurd (not_in_none e none) ]
+pub entries_own : (v : ℕ) (o : Option Past) (e : Entry) → Contains (entries_of v o) e → node_of_entry e ≡ v
+entries_own v None e there = absurd (not_in_none e there)
+entries_own v (Some p) e there = elim (contains_cases _ [] e there) [ inl is ↦ ap node_of_entry (sym is) | inr none ↦ absurd (not_in_none e none) ]
 
 -- the deliveries with those of a node more
 abbrev pub delivered_by : List Delivery → ℕ → List Delivery
@@ -99,11 +99,9 @@ delivered_other ds u v es own other =
     ∙ ap (λ (l : List Delivery). delivered_by ds u ++ l) (none_other u v es own other)
     ∙ append-nil (delivered_by ds u)
 
--- what the medium keeps of a device that is on this channel, or off, and sends what runs of its transmissions in the log
-pub record IsStationOf (m : MediumState) (air : List Entry) (d : DeviceState) : Type 0 where
-  pub station : Station
+-- what the medium keeps of a device, which sends what runs of its transmissions in the log
+pub record IsStationOf (m : MediumState) (air : List Entry) (d : DeviceState) (station : Station) : Type 0 where
   pub there : station_of m d.setup.id ≡ Some station
-  pub tuned : option_map rank_of_tuned station.tuned ≡ option_map channel_of d.listening
   pub sending : station.sending ≡ running d.busy_until (sent_by air d.setup.id)
 
 -- what the lists have more in a step is of node v: what it has made by that, and these transmissions
@@ -115,37 +113,36 @@ pub record ListsGoOn (v : ℕ) (making : Made → Made) (begun : List Sending) (
   pub entries : (e : Entry) → Contains new.air e → Contains old.air e ⊎ (node_of_entry e ≡ v)
   pub deliverers : (d : Delivery) → Contains new.deliveries d → Contains old.deliveries d ⊎ (d.node ≡ v)
 
-abbrev pub listed : Option TunedEntry → List Delivery → Made → Made
-listed closed ds made = record made { tuned = one_more closed made.tuned; deliveries = made.deliveries ++ ds }
+abbrev pub listed : ℕ → Option Past → List Delivery → Made → Made
+listed v over ds made = record made { tuned = one_more v over made.tuned; deliveries = made.deliveries ++ ds }
 
 -- a tuning of it, if there is one, and these deliveries
-pub lists_listed : (v : ℕ) (closed : Option TunedEntry) (ds : List Delivery) (old new : FieldState) → IfSome closed (λ e. e.node ≡ v)
-    → All (λ d. d.node ≡ v) ds → new.air ≡ old.air ++ entries_of closed → new.deliveries ≡ old.deliveries ++ ds
-    → ListsGoOn v (listed closed ds) [] old new
-lists_listed v closed ds old new own_tuning own_deliveries air deliveries = record {
+pub lists_listed : (v : ℕ) (over : Option Past) (ds : List Delivery) (old new : FieldState) → All (λ d. d.node ≡ v) ds
+    → new.air ≡ old.air ++ entries_of v over → new.deliveries ≡ old.deliveries ++ ds → ListsGoOn v (listed v over ds) [] old new
+lists_listed v over ds old new own air deliveries = record {
   own = λ made logged. record {
-    sent = logged.sent ∙ sym (ap (λ (l : List Entry). sent_by l v) air ∙ sent_same old.air v closed);
-    tuned = ap (λ (l : List Tuning). one_more closed l) logged.tuned
-        ∙ sym (ap (λ (l : List Entry). reverse (tuned_by l v)) air ∙ tuned_own old.air v closed own_tuning);
+    sent = logged.sent ∙ sym (ap (λ (l : List Entry). sent_by l v) air ∙ sent_same old.air v v over);
+    tuned = ap (λ (l : List Tuning). one_more v over l) logged.tuned
+        ∙ sym (ap (λ (l : List Entry). reverse (tuned_by l v)) air ∙ tuned_own old.air v over);
     deliveries = ap (λ (l : List Delivery). l ++ ds) logged.deliveries
-        ∙ sym (ap (λ (l : List Delivery). delivered_by l v) deliveries ∙ delivered_own old.deliveries v ds own_deliveries);
+        ∙ sym (ap (λ (l : List Delivery). delivered_by l v) deliveries ∙ delivered_own old.deliveries v ds own);
   };
   others = λ u made other logged. record {
-    sent = logged.sent ∙ sym (ap (λ (l : List Entry). sent_by l u) air ∙ sent_same old.air u closed);
+    sent = logged.sent ∙ sym (ap (λ (l : List Entry). sent_by l u) air ∙ sent_same old.air u v over);
     tuned = logged.tuned ∙ ap (λ (l : List Tuning). reverse l)
-        (sym (ap (λ (l : List Entry). tuned_by l u) air ∙ tuned_other old.air u v closed own_tuning other));
+        (sym (ap (λ (l : List Entry). tuned_by l u) air ∙ tuned_other old.air u v over other));
     deliveries = logged.deliveries
-        ∙ sym (ap (λ (l : List Delivery). delivered_by l u) deliveries ∙ delivered_other old.deliveries u v ds own_deliveries other);
+        ∙ sym (ap (λ (l : List Delivery). delivered_by l u) deliveries ∙ delivered_other old.deliveries u v ds own other);
   };
-  hearings = ap hearings_of air ∙ hearings_tuned old.air closed;
-  sendings = ap sendings_of air ∙ sendings_tuned old.air closed ∙ sym (append-nil (sendings_of old.air));
-  entries = λ e there. elim (Contains-append_cases old.air (entries_of closed) e (subst (λ (l : List Entry). Contains l e) air there)) [
+  hearings = ap hearings_of air ∙ hearings_tuned old.air v over;
+  sendings = ap sendings_of air ∙ sendings_tuned old.air v over ∙ sym (append-nil (sendings_of old.air));
+  entries = λ e there. elim (Contains-append_cases old.air (entries_of v over) e (subst (λ (l : List Entry). Contains l e) air there)) [
     | inl before ↦ inl before
-    | inr more ↦ inr (entries_own closed v e own_tuning more)
+    | inr more ↦ inr (entries_own v over e more)
   ];
   deliverers = λ d there. elim (Contains-append_cases old.deliveries ds d (subst (λ (l : List Delivery). Contains l d) deliveries there)) [
     | inl before ↦ inl before
-    | inr more ↦ inr (All-contains (λ (x : Delivery). x.node ≡ v) ds d own_deliveries more)
+    | inr more ↦ inr (All-contains (λ (x : Delivery). x.node ≡ v) ds d own more)
   ];
 }
 
@@ -183,23 +180,30 @@ lists_sent v x w m ds own = record {
 
 -- in a step at t the device at place p has become another of the same node: the lists, the medium and the queue go on with it,
 -- these transmissions begin, and these puts are lost
-pub record IsStepAt (t p : ℕ) (state after : DeviceState) (making : Made → Made) (begun : List Sending) (lost : List DropLine)
+pub record IsStepAt (t p : ℕ) (state after : DeviceState) (from to : Station) (making : Made → Made) (begun : List Sending) (lost : List DropLine)
     (old : FieldState) (old_due : List Due) (new : FieldState) (new_due : List Due) : Type 0 where
   pub here : slice_get old.devices p ≡ Some state
+  pub was : station_of old.medium state.setup.id ≡ Some from
   pub setup : after.setup ≡ state.setup
   pub devices : new.devices ≡ set old.devices p after
   pub lists : ListsGoOn state.setup.id making begun old new
   pub drops : new.drops ≡ old.drops ++ lost
   pub medium : MediumGoesOn t old.medium new.medium begun
-  pub station : IsStationOf new.medium new.air after
+  pub station : IsStationOf new.medium new.air after to
   pub stations : (u : ℕ) → u ≢ state.setup.id → station_of new.medium u ≡ station_of old.medium u
   pub due : slice_get new_due p ≡ Some (due_of_device after)
   pub dues : (q : ℕ) → q ≢ p → slice_get new_due q ≡ slice_get old_due q
   pub places : length new_due ≡ length old_due
 
-module _ {t p : ℕ} {state after : DeviceState} {making : Made → Made} {begun : List Sending} {lost : List DropLine} {old new : FieldState}
-    {old_due new_due : List Due}
-    (is : IsStepAt t p state after making begun lost old old_due new new_due) where
+-- at tick t the device, of this station and with this in the lists, is this one of a trail
+pub record ShowsWith (s : Setup) (t : ℕ) (state : DeviceState) (station : Station) (made : Made) (d : Device) : Type 0 where
+  pub windows : List WindowLog
+  pub shows : DeviceShows s t state (tunings_with s.id station.tuning made.tuned) (record made { windows = windows }) d
+  pub ended : EndedBefore t made.tuned
+
+module _ {t p : ℕ} {state after : DeviceState} {from to : Station} {making : Made → Made} {begun : List Sending} {lost : List DropLine}
+    {old new : FieldState} {old_due new_due : List Due}
+    (is : IsStepAt t p state after from to making begun lost old old_due new new_due) where
   stands_in : Contains (ids_of old) state.setup.id
   stands_in = contains_at (ids_of old) p state.setup.id (slice_get-map id_of old.devices p ∙ ap (λ (o : Option DeviceState). option_map id_of o) is.here)
 
@@ -236,34 +240,39 @@ module _ {t p : ℕ} {state after : DeviceState} {making : Made → Made} {begun
       record {
         state = shows.state;
         there = ap (λ (l : List DeviceState). slice_get l q) is.devices ∙ set_elsewhere old.devices p q after other ∙ shows.there;
+        station = shows.station;
         made = shows.made;
         shows = shows.shows;
+        ended = shows.ended;
         logged = logged;
         known = record {
-          station = known.station;
           there = is.stations shows.state.setup.id apart ∙ known.there;
-          tuned = known.tuned;
           sending = known.sending ∙ ap (running shows.state.busy_until) sent;
           set = is.dues q other ∙ known.set;
         };
       }
 
-  module _ (change : Setup → Device → Device) (goes : (s : Setup) (made : Made) (d : Device) → DeviceShows s t state made d
-      → (windows : List WindowLog) × DeviceShows s t after (record (making made) { windows = windows }) (change s d)) where
+  module _ (change : Setup → Device → Device) (goes : (s : Setup) (made : Made) (d : Device)
+      → DeviceShows s t state (tunings_with s.id from.tuning made.tuned) made d → EndedBefore t made.tuned
+      → ShowsWith s t after to (making made) (change s d)) where
     shown_own : (s : Setup) (d : Device) → FieldShows s t old old_due p d → FieldShows s t new new_due p (change s d)
     shown_own s d shows =
         let at = shown_as s t old old_due p d state is.here shows in
-        let next = goes s at.made d at.shows in
+        let station : at.station ≡ from = same_Some at.station from (sym at.known.there ∙ is.was) in
+        let next = goes s at.made d
+        (subst (λ (x : Station). DeviceShows s t state (tunings_with s.id x.tuning at.made.tuned) at.made d) station at.shows) at.ended in
         let own : s.id ≡ state.setup.id = ap (λ (x : Setup). x.id) (sym at.shows.setup) in
         let logged = subst (λ (v : ℕ). IsLogged new v (making at.made)) (sym own)
         (is.lists.own at.made (subst (λ (v : ℕ). IsLogged old v at.made) own at.logged)) in
         record {
           state = after;
           there = ap (λ (l : List DeviceState). slice_get l p) is.devices ∙ at_set old.devices p after (slice_get_within old.devices p state is.here);
-          made = record (making at.made) { windows = next.0 };
-          shows = next.1;
+          station = to;
+          made = record (making at.made) { windows = next.windows };
+          shows = next.shows;
+          ended = next.ended;
           logged = record { sent = logged.sent; tuned = logged.tuned; deliveries = logged.deliveries };
-          known = record { station = is.station.station; there = is.station.there; tuned = is.station.tuned; sending = is.station.sending; set = is.due };
+          known = record { there = is.station.there; sending = is.station.sending; set = is.due };
         }
 
     -- so the field acts by what the device does

@@ -20,7 +20,8 @@ use Rattle.event_calendar.specs.declared.class.Class.TheVariants.{SendingEnd}
 use Rattle.air_log.specs.Devices.{Device}
 use Rattle.radio_model.proofs.ChangedStations.{station_changed}
 use Rattle.air_log.specs.DeviceStates.{DeviceState, running, sending_end}
-use Rattle.air_log.proofs.DeviceChanges.{node_shows}
+use Rattle.air_log.specs.Tunings.{Tunings, tunings_with}
+use Rattle.air_log.proofs.DeviceChanges.{still_shows}
 use Rattle.world_engine.specs.Fields.{FieldState, IsField, IsKnownDevice, FieldIsShown, due_of_device}
 use Rattle.world_engine.specs.FieldSteps.{Acts, DeviceSends}
 use Rattle.world_engine.proofs.DeviceSteps.{IsStepAt, lists_stay, acts_at, field_stays}
@@ -50,14 +51,17 @@ module _ {t p : ℕ} {w : FieldState} {due : List Due} {st : DeviceState} {x : S
   at_place : FieldIsShown t w due p
   at_place = ending.shown p (slice_get_within w.devices p st ending.here)
 
-  known : IsKnownDevice w due p st
+  abbrev station : Station
+  station = at_place.shows.station
+
+  known : IsKnownDevice w due p st station
   known = (shown_as at_place.setup t w due p at_place.device st ending.here at_place.shows).known
 
   -- whatever trail it is of, it sends x
   pub sends_only : (y : Sending) → DeviceSends t w due p y → y ≡ x
   sends_only y sends =
       let sh = shown_as at_place.setup t w due p at_place.device st ending.here at_place.shows in
-      one_sending sh.known.station.sending y x (station_sends at_place.setup t w due p at_place.device sh
+      one_sending sh.station.sending y x (station_sends at_place.setup t w due p at_place.device sh
       ∙ sends at_place.setup at_place.device at_place.shows) (ap sending_of_station (sym sh.known.there) ∙ ending.own)
 
   -- and is to end now
@@ -89,9 +93,10 @@ module _ {t p : ℕ} {w : FieldState} {due : List Due} {st : DeviceState} {x : S
       (same_nodes w.medium t st.setup.id station_after_end finished_keeps.node) refl
 
   step : ((a : Scene) → Holds w.medium a → Holds (over t p st w).medium a)
-      → IsStepAt t p st (record st { busy_until = None }) (λ made. made) [] [] w due (over t p st w) over_due
+      → IsStepAt t p st (record st { busy_until = None }) station (station_after_end station) (λ made. made) [] [] w due (over t p st w) over_due
   step held = record {
     here = ending.here;
+    was = known.there;
     setup = refl;
     devices = refl;
     lists = lists_stay st.setup.id w (over t p st w).medium (over t p st w).devices;
@@ -104,9 +109,7 @@ module _ {t p : ℕ} {w : FieldState} {due : List Due} {st : DeviceState} {x : S
       still = still_medium station_after_end finished_keeps st.setup.id t w.medium;
     };
     station = record {
-      station = station_after_end known.station;
-      there = station_changed station_after_end finished_keeps st.setup.id w.medium t known.station known.there;
-      tuned = known.tuned;
+      there = station_changed station_after_end finished_keeps st.setup.id w.medium t station known.there;
       sending = refl;
     };
     stations = other_station w.medium t st.setup.id station_after_end finished_keeps.node;
@@ -119,10 +122,10 @@ module _ {t p : ℕ} {w : FieldState} {due : List Due} {st : DeviceState} {x : S
   pub sending_is_over : ((a : Scene) → Holds w.medium a → Holds (over t p st w).medium a)
       → Acts t p (λ s d. record d { sending = None }) [] [] w due (over t p st w) over_due
   sending_is_over held = acts_at (step held) (λ s d. record d { sending = None })
-      (λ s made d sh. (
-        made.windows,
-        node_shows s t st (record st { busy_until = None }) made made d (record d { sending = None }) sh
-            (record { setup = refl; delivery = refl; windows = refl }) (record { closed = sh.happened.closed; listening = sh.happened.listening })
-            refl sh.ended refl (ap (λ (e : Device). record e { sending = None }) sh.is),
-      ))
+      (λ s made d sh ended. (let x : Tunings = tunings_with s.id station.tuning made.tuned in record {
+        windows = made.windows;
+        shows = still_shows s t st (record st { busy_until = None }) x made made d (record d { sending = None }) sh
+            (record { setup = refl; delivery = refl; windows = refl }) refl refl refl (ap (λ (e : Device). record e { sending = None }) sh.is);
+        ended = ended;
+      }))
       ending.field

@@ -1,5 +1,5 @@
 -- A field as it is at first: its devices at rest, on a medium of which nobody has made use.
-use Rattle.std.proofs.Common.{◌≡◌, ℕ, ◌<◌, List, [], ◌∷◌, map, Option, Some, None, sym, ◌∙◌, ap, subst, refl, arith, rules}
+use Rattle.std.proofs.Common.{◌≡◌, ℕ, ◌<◌, List, [], ◌∷◌, map, None, sym, ◌∙◌, ap, subst, refl, arith, rules}
 use Rattle.std.specs.Prelude.{All}
 use Rattle.std.proofs.lemmas.List.{length-map}
 use Rattle.std.proofs.lemmas.List.Elements.{All-map}
@@ -12,28 +12,22 @@ use Rattle.scenario_text.specs.FloodParts.{node_id}
 use Rattle.radio_model.specs.Stations.{IsMedium, first_state, nodes_of}
 use Rattle.radio_model.proofs.Places.{nodes_from, first_is_medium}
 use Rattle.node_core.specs.Nodes.{rebooted, NodeState}
-use Rattle.air_log.specs.declared.entry.TunedEntry.{TunedEntry}
 use Rattle.air_log.specs.Devices.{Device, at_rest, nothing_made}
 use Rattle.scenario_text.specs.Setups.{setup_of}
-use Rattle.air_log.specs.DeviceStates.{DeviceState, whole, one_more, core_in}
+use Rattle.air_log.specs.DeviceStates.{DeviceState, whole, core_in}
 use Rattle.world_engine.specs.Fields.{FieldState, IsField, id_of}
 use Rattle.world_engine.specs.FieldSteps.{first_device, IsFirstField, nothing_counted}
 use Rattle.world_engine.specs.Worlds.{new_core}
 use Rattle.lwb_base.proofs.Elements.{pairs_of_map}
 
-none_closed : (e : Option TunedEntry) → one_more e [] ≡ [] → e ≡ None
-none_closed None is = refl
-none_closed (Some x) is = cc
-
 -- a device that is made for a node
-pub new_device : (s : ScenarioParts) (n : NodeLine) (d : DeviceState) → d.setup ≡ setup_of s n.node → whole d nothing_made ≡ at_rest
-    → d.busy_until ≡ None → d.delivery ≡ None → d.core ≡ rebooted 1 → d.windows ≡ nothing_counted s → d ≡ first_device s n
-new_device s n d setup rest idle delivery core windows =
+pub new_device : (s : ScenarioParts) (n : NodeLine) (d : DeviceState) → d.setup ≡ setup_of s n.node
+    → whole d (record { listening = None; ended = [] }) nothing_made ≡ at_rest → d.busy_until ≡ None → d.channel ≡ None
+    → d.delivery ≡ None → d.core ≡ rebooted 1 → d.windows ≡ nothing_counted s → d ≡ first_device s n
+new_device s n d setup rest idle channel delivery core windows =
     let power = ap (λ (x : Device). x.power) rest in
-    let listening = ap (λ (x : Device). x.listening) rest in
     let alarm = ap (λ (x : Device). x.alarm) rest in
     let ordered = ap (λ (x : Device). x.ordered) rest in
-    let closed : d.closed ≡ None = none_closed d.closed (ap (λ (x : Device). x.made.tuned) rest) in
     search rules
 
 pub sound_nodes : (s : ScenarioParts) → IsSoundScenario s → AreNodes (map node_id s.nodes)

@@ -11,10 +11,10 @@ use Rattle.air_log.specs.Trails.{run_end, frame_start}
 use Rattle.world_engine.specs.Counting.{TrailsStay, scans_before, all_scans_before, AreCountedOn}
 use Rattle.world_engine.specs.Fields.{FieldState}
 use Rattle.world_engine.specs.Frames.{told_before, CountsScriptLinesBefore}
-use Rattle.world_engine.specs.Idling.{idle_before}
+use Rattle.air_log.specs.Idling.{idle_before}
 use Rattle.world_engine.specs.Moments.{Before, InLines}
 use Rattle.world_engine.specs.Running.{IsRunning}
-use Rattle.world_engine.specs.declared.idle.Idle.{Idle}
+use Rattle.air_log.specs.declared.idle.Idle.{Idle}
 use Rattle.world_engine.proofs.CountedScans.{none_scanned, few_scans, scans_stay, scanned_on}
 use Rattle.world_engine.proofs.NextMoments.{starts_up}
 use Rattle.world_engine.proofs.PlacedNodes.{as_many_devices}

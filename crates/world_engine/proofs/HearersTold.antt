@@ -36,17 +36,17 @@ shown_when_logged t q u x w due s d shows =
     record {
       state = shows.state;
       there = shows.there;
+      station = shows.station;
       made = shows.made;
       shows = shows.shows;
+      ended = shows.ended;
       logged = record {
         sent = shows.logged.sent ∙ sym (sent_beside_heard w.air u x s.id);
         tuned = shows.logged.tuned ∙ ap reverse (sym (tuned_beside_heard w.air u x s.id));
         deliveries = shows.logged.deliveries;
       };
       known = record {
-        station = known.station;
         there = known.there;
-        tuned = known.tuned;
         sending = known.sending ∙ ap (running shows.state.busy_until) (sym (sent_beside_heard w.air u x shows.state.setup.id));
         set = known.set;
       };

@@ -3,10 +3,8 @@ use Rattle.std.proofs.Common.{◌≡◌, ℕ, zero, suc, ◌+◌, ◌<◌, ◌�
 use Rattle.std.proofs.Common.{if◌then◌else◌, refl, sym, ◌∙◌, ap, arith, add-one, append-nil}
 use Rattle.std.specs.Prelude.{slice_get, flat_map, Contains}
 use Rattle.std.specs.List.{cons_option, range_with_len}
-use Rattle.std.proofs.lemmas.Grind.{flat_map-append}
 use Rattle.std.proofs.lemmas.Option.{slice_get-get_or}
 use Rattle.lwb_base.proofs.Elements.{filter_same}
-use Rattle.lwb_base.proofs.Lists.{range_next}
 use Rattle.scenario_text.specs.ScenarioParts.{ScenarioParts}
 use Rattle.scenario_text.specs.ScenarioFacts.{IsSoundScenario}
 use Rattle.event_calendar.specs.Orders.{Due}
@@ -18,10 +16,12 @@ use Rattle.air_log.specs.Trails.{Reception, frame_start, device_after_script, tu
 use Rattle.world_engine.specs.Counting.{TrailsStay}
 use Rattle.world_engine.specs.Fields.{FieldState}
 use Rattle.world_engine.specs.Frames.{told_before}
-use Rattle.world_engine.specs.Idling.{idle_as, idle_now, idle_at, idle_in, idle_before, all_idle}
+use Rattle.air_log.specs.Idling.{idle_as, idle_at, idle_in, idle_before, all_idle}
+use Rattle.air_log.specs.declared.idle.Idle.{Idle}
+use Rattle.air_log.proofs.IdleFrames.{frames_more, frames_alike}
+use Rattle.world_engine.specs.Idling.{idle_now}
 use Rattle.world_engine.specs.Moments.{InLines}
 use Rattle.world_engine.specs.Running.{IsRunning}
-use Rattle.world_engine.specs.declared.idle.Idle.{Idle}
 use Rattle.world_engine.proofs.CountedScans.{tune_here}
 use Rattle.world_engine.proofs.NextMoments.{starts_up}
 use Rattle.world_engine.proofs.PlacedNodes.{as_many_devices, setup_at_place}
@@ -39,22 +39,6 @@ chosen_placed f g (x ∷ xs) [] long same = absurd (omega (arith, long))
 chosen_placed f g (x ∷ xs) (z ∷ zs) long same =
     ap (λ (o : Option _). cons_option o (filter_map f xs)) (same 0 x z refl refl)
     ∙ ap (λ (ys : List _). cons_option (g z) ys) (chosen_placed f g xs zs (omega (arith, long)) (λ p y w at here. same (suc p) y w at here))
-
--- one frame more
-pub frames_more : {Y : Type 0} (F : ℕ → List Y) (n : ℕ) → flat_map F (range_with_len 0 (n + 1)) ≡ flat_map F (range_with_len 0 n) ++ F n
-frames_more F n =
-    ap (flat_map F) (range_next n) ∙ flat_map-append F (range_with_len 0 n) (n ∷ [])
-    ∙ ap (λ (l : List _). flat_map F (range_with_len 0 n) ++ l) (append-nil (F n))
-
-pub frames_alike : {Y : Type 0} (F G : ℕ → List Y) (n : ℕ) → ((g : ℕ) → g < n → F g ≡ G g) → flat_map F (range_with_len 0 n) ≡ flat_map G (range_with_len 0 n)
-frames_alike F G zero same = refl
-frames_alike F G (suc n) same =
-    ap (λ (k : ℕ). flat_map F (range_with_len 0 k)) (sym (add-one n))
-    ∙ frames_more F n
-    ∙ ap (λ (l : List _). l ++ F n) (frames_alike F G n (λ g less. same g (omega (arith, less))))
-    ∙ ap (λ (l : List _). flat_map G (range_with_len 0 n) ++ l) (same n (omega arith))
-    ∙ sym (frames_more G n)
-    ∙ ap (λ (k : ℕ). flat_map G (range_with_len 0 k)) (add-one n)
 
 module _ (s : ScenarioParts) (clocks : ℕ → ℕ → ℕ) where
   -- what is received later changes none of the frames so far

@@ -87,13 +87,13 @@ module _ (s : ScenarioParts) (clocks : ℕ → ℕ → ℕ) (t : ℕ) (m : TickM
 pub ends_at_place : (t : ℕ) (w : FieldState) (due : List Due) (p : ℕ) (a : Scene) → Holds w.medium a → (x : Sending) → x.end ≡ t → DeviceSends t w due p x
     → (q : Setup) (d : Device) → FieldShows q t w due p d → Ends w.medium q.id t
 ends_at_place t w due p a holds x now sends q d shows =
-    let known = shows.known in
-    let runs : known.station.sending ≡ Some x = station_sends q t w due p d shows ∙ sends q d shows in
-    let station : station_of w.medium q.id ≡ Some known.station = ap (λ (y : Setup). station_of w.medium y.id) (sym shows.shows.setup) ∙ known.there in
-    let orderly = holds.orderly known.station (found (is_station_of q.id) w.medium.stations known.station station) in
-    let last : Contains (option_to_list known.station.sending) x =
+    let st = shows.station in
+    let runs : st.sending ≡ Some x = station_sends q t w due p d shows ∙ sends q d shows in
+    let station : station_of w.medium q.id ≡ Some st = ap (λ (y : Setup). station_of w.medium y.id) (sym shows.shows.setup) ∙ shows.known.there in
+    let orderly = holds.orderly st (found (is_station_of q.id) w.medium.stations st station) in
+    let last : Contains (option_to_list st.sending) x =
     subst (λ (o : Option Sending). Contains (option_to_list o) x) (sym runs) (contains_head x []) in
-    let own = orderly.own x (Contains-append_right known.station.ended.items (option_to_list known.station.sending) x last) in
+    let own = orderly.own x (Contains-append_right st.ended.items (option_to_list st.sending) x last) in
     record { sending = x; runs = ap sending_of_station station ∙ runs; until = now; lasts = sym now ∙ own.lasts }
 
 -- a node that a line switches on can boot

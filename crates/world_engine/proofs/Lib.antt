@@ -1,6 +1,3 @@
--- kept for the crates above
-pub mod IdleNodes
--- for this crate alone
 mod ActsInTurn
 mod AheadInTick
 mod AirInTime
@@ -41,6 +38,7 @@ mod HearingsAtEnd
 mod HearingsGoOn
 mod KeptDrops
 mod KnownAtPlaces
+mod IdleNodes
 mod LineSteps
 mod LinesInCode
 mod LinesTold

@@ -1,6 +1,6 @@
 -- What holds of a run holds at first.
-use Rattle.std.proofs.Common.{◌≡◌, ℕ, zero, suc, ◌+◌, ◌<◌, List, [], ◌∷◌, map, length, replicate, false, Some, refl, sym, ap, subst, ◌∙◌, arith, find, ◌==◌}
-use Rattle.std.proofs.Common.{eq-eqb}
+use Rattle.std.proofs.Common.{◌≡◌, ℕ, zero, suc, ◌+◌, ◌<◌, List, [], ◌∷◌, map, length, replicate, false, Some, None, refl, sym, ap, subst, ◌∙◌}
+use Rattle.std.proofs.Common.{arith, find, ◌==◌, eq-eqb}
 use Rattle.std.specs.Prelude.{slice_get, AllPairs, reverse, filter}
 use Rattle.std.specs.Option.{option_map}
 use Rattle.std.proofs.lemmas.Bool.{cond-true, cond-false, ne_eqb}
@@ -89,6 +89,7 @@ module _ (s : ScenarioParts) (clocks : ℕ → ℕ → ℕ) (sound : IsSoundScen
   shown_first p n at = record {
     state = first_device s n;
     there = device_at p n at;
+    station = fresh n.node p;
     made = nothing_made;
     shows = record {
       is = refl;
@@ -96,16 +97,17 @@ module _ (s : ScenarioParts) (clocks : ℕ → ℕ → ℕ) (sound : IsSoundScen
       setup = refl;
       counted = record { profile = refl; sends = refl; counts = record { earlier = refl; last = refl; by_alarm = refl }; small = tt };
       few = sound.few_sends;
-      ended = tt;
-      happened = record { closed = tt; listening = tt };
+      channel = refl;
+      tuned = record { before = record { listening = None; ended = [] }; since = tt; ended = tt; is = refl };
       taken = refl;
     };
+    ended = tt;
     logged = record {
       sent = ap (λ (air : List Entry). sent_by air n.node) (sym first.air);
       tuned = ap (λ (air : List Entry). reverse (tuned_by air n.node)) (sym first.air);
       deliveries = ap (filter (λ d. d.node == n.node)) (sym first.deliveries);
     };
-    known = record { station = fresh n.node p; there = station_at p n at; tuned = refl; sending = refl; set = due_at_first p n at };
+    known = record { there = station_at p n at; sending = refl; set = due_at_first p n at };
   }
 
   on_trail : (p : ℕ) (n : NodeLine) → slice_get s.nodes p ≡ Some n → IsOnTrail s clocks 0 Before w due p n.node

@@ -60,9 +60,9 @@ module _ (s : ScenarioParts) (clocks : ℕ → ℕ → ℕ) (told : List ScriptL
           let tuned = tuned_so_far place.place place.within in
           let shows = tuned.shows in
           let same_id : tuned.setup.id ≡ st.node = same_Some _ _ (sym (shown_id tuned.setup t w due place.place tuned.device shows) ∙ place.id) in
-          let here : station_of w.medium st.node ≡ Some shows.known.station = ap (station_of w.medium) (sym same_id)
+          let here : station_of w.medium st.node ≡ Some shows.station = ap (station_of w.medium) (sym same_id)
           ∙ ap (λ (x : Setup). station_of w.medium x.id) (sym shows.shows.setup) ∙ shows.known.there in
-          let same : shows.known.station ≡ st = same_Some _ _ (sym here ∙ found_member w.medium.stations st field.medium.nodes.ascending there) in
+          let same : shows.station ≡ st = same_Some _ _ (sym here ∙ found_member w.medium.stations st field.medium.nodes.ascending there) in
           let runs : tuned.device.sending ≡ Some y =
           sym (station_sends tuned.setup t w due place.place tuned.device shows) ∙ ap (λ (z : Station). z.sending) same ∙ sends in
           let set : at due place.place SendingEnd ≡ Some y.end = shown_end tuned.setup t w due place.place tuned.device shows y runs in

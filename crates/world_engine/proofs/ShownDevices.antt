@@ -15,6 +15,8 @@ use Rattle.scenario_text.specs.Setups.{setup_of}
 use Rattle.air_log.specs.Ahead.{IsAhead}
 use Rattle.air_log.specs.DeviceStates.{DeviceState, running}
 use Rattle.air_log.specs.Lawful.{sent_by}
+use Rattle.air_log.specs.Tunings.{tunings_with}
+use Rattle.air_log.proofs.KeptTunings.{ended_later}
 use Rattle.air_log.proofs.ShownCourses.{device_later}
 use Rattle.world_engine.specs.Fields.{FieldState, FieldShows, due_of_device, setup_of_device}
 use Rattle.world_engine.specs.Running.{HasPlaces, setup_by}
@@ -26,8 +28,10 @@ pub shows_later : (q : Setup) (t u : ℕ) (w : FieldState) (due : List Due) (p :
 shows_later q t u w due p d up shows = record {
   state = shows.state;
   there = shows.there;
+  station = shows.station;
   made = shows.made;
-  shows = device_later q t u shows.state shows.made d up shows.shows;
+  shows = device_later q t u shows.state (tunings_with q.id shows.station.tuning shows.made.tuned) shows.made d up shows.shows;
+  ended = ended_later t u shows.made.tuned up shows.ended;
   logged = shows.logged;
   known = shows.known;
 }

@@ -1,11 +1,12 @@
 -- The devices that a field shows at its places.
-use Rattle.std.proofs.Common.{option_map, ◌≡◌, ℕ, zero, suc, ◌<◌, ◌≤◌, List, [], ◌∷◌, map, reverse, length, get_or, slice_get, Some, None, Option, refl, sym}
-use Rattle.std.proofs.Common.{◌∙◌, ap, subst, arith, Contains, IfSome}
+use Rattle.std.proofs.Common.{option_map, ◌≡◌, ℕ, zero, suc, ◌<◌, ◌≤◌, List, [], ◌∷◌, map, reverse, length, get_or, slice_get, Some, Option, refl, sym}
+use Rattle.std.proofs.Common.{◌∙◌, ap, subst, arith, Contains}
 use Rattle.std.proofs.lemmas.Option.{same_Some, slice_get_within, slice_get-get_or, get_or_from_slice_get}
 use Rattle.std.proofs.lemmas.List.{length-map}
 use Rattle.radio_model.specs.declared.sending.Sending.{Sending}
 use Rattle.radio_model.specs.OnAir.{Tuning}
-use Rattle.radio_model.specs.Stations.{sending_of_station, station_of}
+use Rattle.radio_model.specs.Stations.{sending_of_station, station_of, tuning_at}
+use Rattle.radio_model.specs.declared.station.Station.{Station}
 use Rattle.scenario_text.specs.ScenarioParts.{ScenarioParts}
 use Rattle.scenario_text.specs.declared.lines.NodeLine.{NodeLine}
 use Rattle.event_calendar.specs.Orders.{Due, at, nothing_due}
@@ -14,7 +15,8 @@ use Rattle.bus_rules.specs.Cores.{Setup}
 use Rattle.air_log.specs.Devices.{Device, Listening}
 use Rattle.scenario_text.specs.Setups.{setup_of}
 use Rattle.air_log.specs.Lawful.{sent_by, tuned_by, heard_by}
-use Rattle.air_log.specs.DeviceStates.{DeviceState, one_more, running, sending_end}
+use Rattle.air_log.specs.DeviceStates.{DeviceState, running, sending_end}
+use Rattle.air_log.specs.Tunings.{Tunings, tunings_with}
 use Rattle.world_engine.specs.Fields.{FieldState, FieldShows, ids_of, setup_of_device, id_of, due_of_device}
 use Rattle.world_engine.specs.Moments.{TickMoment}
 use Rattle.world_engine.specs.Running.{HasPlaces, IsOnTrail, setup_by}
@@ -29,9 +31,9 @@ mapped f [] p x is = cc
 mapped f (y ∷ xs) zero x is = ap (λ (z : _). Some (f z)) (same_Some y x is)
 mapped f (y ∷ xs) (suc p) x is = mapped f xs p x is
 
-if_later : {X : Type 0} (o : Option X) (P Q : X → Type 0) → ((x : X) → P x → Q x) → IfSome o P → IfSome o Q
-if_later None P Q on is = tt
-if_later (Some x) P Q on is = on x is
+-- the tunings that a field has of a node
+abbrev tunings_at : Setup → FieldState → Tunings
+tunings_at q w = tunings_with q.id (tuning_at (station_of w.medium q.id)) (reverse (tuned_by w.air q.id))
 
 -- a device that is shown is one of the field's
 module _ (q : Setup) (t : ℕ) (w : FieldState) (due : List Due) (p : ℕ) (d : Device) (is : FieldShows q t w due p d) where
@@ -53,8 +55,13 @@ module _ (q : Setup) (t : ℕ) (w : FieldState) (due : List Due) (p : ℕ) (d : 
       ap (λ (x : Due). x.sending_end) (get_or_from_slice_get due p (due_of_device is.state) nothing_due is.known.set)
       ∙ ap (λ (x : Due). x.sending_end) (due_stands q t w due p d is) ∙ ap (option_map sending_end) sends
 
-  shown_tuned : d.made.tuned ≡ one_more is.state.closed (reverse (tuned_by w.air q.id))
-  shown_tuned = ap (λ (x : Device). x.made.tuned) (sym is.shows.is) ∙ ap (one_more is.state.closed) is.logged.tuned
+  -- its tunings are with the medium and in the log
+  shown_tuned : record { listening = d.listening; ended = d.made.tuned } ≡ tunings_at q w
+  shown_tuned =
+      ap (λ (x : Device). let tunings : Tunings = record { listening = x.listening; ended = x.made.tuned } in tunings) (sym is.shows.is)
+      ∙ ap (tunings_with q.id is.station.tuning) is.logged.tuned
+      ∙ ap (λ (o : Option Station). tunings_with q.id (tuning_at o) (reverse (tuned_by w.air q.id)))
+      (sym (ap (λ (s : Setup). station_of w.medium s.id) (sym is.shows.setup) ∙ is.known.there))
 
 -- two that are shown at one place are the same, but for what the log has not
 pub record AreAlike (q r : Setup) (d e : Device) : Type 0 where
@@ -68,12 +75,12 @@ pub alike : (q r : Setup) (t u : ℕ) (w : FieldState) (due : List Due) (p : ℕ
 alike q r t u w due p d e a b =
     let state : a.state ≡ b.state = same_Some a.state b.state (sym a.there ∙ b.there) in
     let setup : q ≡ r = sym a.shows.setup ∙ ap (λ (s : DeviceState). s.setup) state ∙ b.shows.setup in
+    let tunings : ◌≡◌ {A = Tunings} (record { listening = d.listening; ended = d.made.tuned }) (record { listening = e.listening; ended = e.made.tuned }) =
+    shown_tuned q t w due p d a ∙ ap (λ (s : Setup). tunings_at s w) setup ∙ sym (shown_tuned r u w due p e b) in
     record {
       setup = setup;
-      tuned =
-          shown_tuned q t w due p d a ∙ ap (λ (s : DeviceState). one_more s.closed (reverse (tuned_by w.air q.id))) state
-          ∙ ap (λ (s : Setup). one_more b.state.closed (reverse (tuned_by w.air s.id))) setup ∙ sym (shown_tuned r u w due p e b);
-      listening = ap (λ (x : Device). x.listening) (sym a.shows.is) ∙ ap (λ (s : DeviceState). s.listening) state ∙ ap (λ (x : Device). x.listening) b.shows.is;
+      tuned = ap (λ (x : Tunings). x.ended) tunings;
+      listening = ap (λ (x : Tunings). x.listening) tunings;
       sending = sym (runs_logged q t w due p d a) ∙ ap (λ (s : DeviceState). running s.busy_until (sent_by w.air s.setup.id)) state
           ∙ runs_logged r u w due p e b;
     }

@@ -16,12 +16,12 @@ use Rattle.air_log.specs.NodeCharges.{charges_in}
 use Rattle.world_engine.specs.Counting.{all_scans_before, AreCharges}
 use Rattle.world_engine.specs.Fields.{FieldState, FieldIsShown, sums_of}
 use Rattle.world_engine.specs.FieldSteps.{IsClosed}
-use Rattle.world_engine.specs.Idling.{all_idle}
+use Rattle.air_log.specs.Idling.{all_idle}
 use Rattle.world_engine.specs.Moments.{Before}
 use Rattle.world_engine.specs.Running.{IsRunning, setup_by}
 use Rattle.world_engine.specs.Runs.{IsEngineRun, orders_left}
 use Rattle.world_engine.specs.Worlds.{WorldState, HasEngineRun, core_of, core_setup}
-use Rattle.world_engine.specs.declared.idle.Idle.{Idle}
+use Rattle.air_log.specs.declared.idle.Idle.{Idle}
 use Rattle.world_engine.proofs.ChargesOver.{charges_over}
 use Rattle.world_engine.proofs.IdleNodes.{heard_alike}
 use Rattle.world_engine.proofs.KnownAtPlaces.{shown_within}

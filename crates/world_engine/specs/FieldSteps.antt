@@ -1,23 +1,22 @@
 -- What a step of a run does: at one device, on the air, and in the lists.
-use Rattle.std.specs.Prelude.{◌≡◌, ◌≢◌, ◌⊎◌, ◌↔◌, ℕ, ◌<◌, List, [], ◌++◌, map, length, slice_get, slice_set, slice_index_or, All, AllPairs, Contains}
+use Rattle.std.specs.Prelude.{◌≡◌, ◌≢◌, ◌⊎◌, ◌↔◌, ℕ, ◌<◌, List, [], ◌++◌, map, length, slice_get, slice_index_or, All, AllPairs, Contains}
 use Rattle.std.specs.Prelude.{Some, None, option_to_list, false}
 use Rattle.std.specs.declared.option.Option.{Option}
-use Rattle.std.specs.Option.{IfSome}
 use Rattle.lwb_base.specs.declared.event.Event.TheVariants.{Heard, Sent}
 use Rattle.link_trace.specs.Passes.{Lines}
 use Rattle.radio_model.specs.declared.sending.Sending.{Sending}
 use Rattle.radio_model.specs.OnAir.{Hearing}
 use Rattle.radio_model.specs.Hearing.{Scene, HearsInScene}
 use Rattle.radio_model.specs.Holding.{Holds, Agree, as_it_stands, nothing_yet}
-use Rattle.radio_model.specs.Stations.{MediumState, IsMedium, IsTime, nodes_of, first_state}
+use Rattle.radio_model.specs.declared.tuning.RadioTuning.{RadioTuning}
+use Rattle.radio_model.specs.Stations.{MediumState, IsMedium, IsTime, nodes_of, station_of, first_state, tuning_at, tuning_after, over_after}
 use Rattle.event_calendar.specs.Orders.{Due}
 use Rattle.bus_rules.specs.declared.delivery.Delivery.{Delivery}
 use Rattle.bus_rules.specs.declared.delivery.DropLine.{DropLine}
 use Rattle.bus_rules.specs.Cores.{Setup}
 use Rattle.air_log.specs.declared.entry.Entry.{Entry}
 use Rattle.air_log.specs.Entries.{sendings_of, hearings_of, node_of_entry}
-use Rattle.air_log.specs.declared.entry.TunedEntry.{TunedEntry}
-use Rattle.air_log.specs.Devices.{Device, Made, PowerOff, event, silenced}
+use Rattle.air_log.specs.Devices.{Device, PowerOff, event, silenced}
 use Rattle.air_log.specs.ScriptedDevices.{device_after_act}
 use Rattle.air_log.specs.Drops.{drop_by}
 use Rattle.scenario_text.specs.Setups.{setup_of}
@@ -27,7 +26,7 @@ use Rattle.bus_rules.specs.declared.act.Act.{Act}
 use Rattle.scenario_text.specs.declared.script.ScriptLine.{ScriptLine}
 use Rattle.scenario_text.specs.FloodParts.{node_id}
 use Rattle.node_core.specs.Nodes.{rebooted}
-use Rattle.air_log.specs.DeviceStates.{DeviceState, IsCoreAt, whole, with_tuned}
+use Rattle.air_log.specs.DeviceStates.{DeviceState, IsCoreAt}
 use Rattle.air_log.specs.WindowSums.{WindowSum}
 use Rattle.world_engine.specs.Fields.{FieldState, FieldShows, IsLogged, entries_of, ids_of, setups_of, sums_of, power_of}
 
@@ -115,21 +114,16 @@ pub record EndsSending (lines : Lines) (clocks : ℕ → ℕ → ℕ) (t p : ℕ
 abbrev pub DeviceSends : ℕ → FieldState → List Due → ℕ → Sending → Type 0
 DeviceSends t w due p x = (s : Setup) (d : Device) → FieldShows s t w due p d → d.sending ≡ Some x
 
--- at tick t the device at place p goes off, and all its tunings are in the log
+-- at tick t the tuning of the device at place p ends, and all its tunings are in the log
 pub record GoesSilent (t p : ℕ) (old new : FieldState) : Type 0 where
   pub state : DeviceState
   pub there : slice_get old.devices p ≡ Some state
-  pub silent : DeviceState
-  pub before : Option TunedEntry
-  pub last : Option TunedEntry
-  pub is : new ≡ record old { devices = slice_set old.devices p silent; air = (old.air ++ entries_of before) ++ entries_of last }
-  pub made : (made : Made) → silenced state.setup.id t (whole state made) ≡ whole silent (with_tuned last (with_tuned before made))
-  pub own_before : IfSome before (λ e. e.node ≡ state.setup.id)
-  pub own_last : IfSome last (λ e. e.node ≡ state.setup.id)
-  pub none : silent.closed ≡ None
-  pub setup : silent.setup ≡ state.setup
-  pub windows : silent.windows ≡ state.windows
-  pub core : IsCoreAt silent.core silent.power
+  pub core : IsCoreAt state.core state.power
+  pub tuning : RadioTuning
+  pub stands : tuning ≡ tuning_at (station_of old.medium state.setup.id)
+  pub is : new ≡ record old {
+    air = (old.air ++ entries_of state.setup.id (over_after None t tuning)) ++ entries_of state.setup.id (tuning_after None t tuning).last;
+  }
 
 -- at tick t all tunings end, and nothing else happens
 pub record IsClosed (t : ℕ) (old : FieldState) (old_due : List Due) (new : FieldState) : Type 0 where
@@ -154,8 +148,7 @@ first_device s n = record {
   setup = setup_of s n.node;
   core = rebooted 1;
   power = PowerOff 0;
-  listening = None;
-  closed = None;
+  channel = None;
   alarm = None;
   ordered = None;
   busy_until = None;

@@ -11,10 +11,10 @@ use Rattle.air_log.specs.declared.entry.Entry.{Entry}
 use Rattle.air_log.specs.declared.charge.NodeCharge.{NodeCharge}
 use Rattle.air_log.specs.NodeCharges.{charges_in}
 use Rattle.scenario_text.specs.Setups.{setup_of}
-use Rattle.world_engine.specs.Idling.{all_idle}
+use Rattle.air_log.specs.Idling.{all_idle}
 use Rattle.world_engine.specs.Running.{setup_by}
 use Rattle.world_engine.specs.Runs.{IsEngineRun}
-use Rattle.world_engine.specs.declared.idle.Idle.{Idle}
+use Rattle.air_log.specs.declared.idle.Idle.{Idle}
 
 -- ran: the run was begun; charges and cores: those of the nodes by ascending ids; idle: by frame and then node
 pub record WorldState : Type 0 where

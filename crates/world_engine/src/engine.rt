@@ -7,10 +7,10 @@ ghost use Rattle.air_log.specs.ClockLists.{clocks_by};
 ghost use Rattle.world_engine.specs.Runs.{orders_left};
 ghost use Rattle.world_engine.specs.Worlds.{new_world, core_of, HasEngineRun};
 
+use crate::RunParts;
 use crate::field::Field;
 use crate::frames::FrameCounts;
-use crate::{Idle, RunParts};
-use air_log::{Air, NodeCharge};
+use air_log::{Air, Idle, NodeCharge};
 use bus_rules::{Delivery, DropLine};
 use event_calendar::Orders;
 use lwb_base::{Memory, NodeId};

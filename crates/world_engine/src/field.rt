@@ -15,8 +15,9 @@ ghost use Rattle.world_engine.specs.FieldSteps.{Acts};
 use air_log::{Air, Device, Entry, EventRadio, Notice, TunedEntry};
 use bus_rules::{Delivery, DropLine};
 use event_calendar::{Class, Orders};
-use lwb_base::Memory;
+use lwb_base::{Memory, NodeId};
 use radio_model::Medium;
+use radio_model::tuning::Past;
 use std::marker::Model;
 use tick_clock::DriftClock;
 
@@ -63,8 +64,8 @@ impl Field {
     {
         let device = &mut self.devices[usize::from(place)];
         let before = device.settings();
-        let closed = device.notify(clock, t, notice, radio, &mut self.deliveries)?;
-        self.follow(orders, place, t, before, closed)
+        device.notify(clock, t, notice, radio, &mut self.deliveries)?;
+        self.follow(orders, place, t, before)
     }
 
     // The alarms of the device at the place that are due at tick t, one after another.
@@ -85,8 +86,8 @@ impl Field {
     {
         let device = &mut self.devices[usize::from(place)];
         let before = device.settings();
-        let closed = device.take_alarms(clock, t, radio, &mut self.deliveries)?;
-        self.follow(orders, place, t, before, closed)
+        device.take_alarms(clock, t, radio, &mut self.deliveries)?;
+        self.follow(orders, place, t, before)
     }
 
     // The transmission that the device at the place has ordered for tick t starts, if it can.
@@ -113,12 +114,12 @@ impl Field {
         self.air.push(Entry::Sent(x))
     }
 
-    // A tuning that has ended, if there is one.
-    pub(crate) fn log_tuning(&mut self, closed: Option<TunedEntry>) -> Result<(), Memory>
-        ensures { OnOk result (self.new ≡ record self.old { air = self.old.air ++ entries_of closed }) }
+    // A tuning of the node that goes on no more, if there is one.
+    pub(crate) fn log_tuning(&mut self, node: NodeId, over: Option<Past>) -> Result<(), Memory>
+        ensures { OnOk result (self.new ≡ record self.old { air = self.old.air ++ entries_of node over }) }
     {
-        match closed {
-            Some(entry) => self.air.push(Entry::Tuned(entry)),
+        match over {
+            Some(past) => self.air.push(Entry::Tuned(TunedEntry::of(node, past))),
             None => Ok(()),
         }
     }

@@ -52,10 +52,11 @@ impl Field {
         requires { place < length self.old.devices }
         ensures { OnOk result (GoesSilent t place self.old self.new) }
     {
-        let device = &mut self.devices[place];
-        let (first, last) = device.close(t);
-        self.log_tuning(first)?;
-        self.log_tuning(last)
+        let node = self.devices[place].node();
+        let mut tuning = self.medium.tuning(node);
+        let over = tuning.tune(None, t);
+        self.log_tuning(node, over)?;
+        self.log_tuning(node, tuning.last)
     }
 
     // The deliveries, in the order in which a report has them. None stay in the field.

@@ -8,32 +8,32 @@ ghost use Rattle.air_log.specs.DeviceStates.{DeviceState as DeviceStateOf};
 ghost use Rattle.world_engine.specs.Following.{Retunes, Resets, Follows};
 
 use crate::field::Field;
-use air_log::{Settings, TunedEntry};
+use air_log::Settings;
 use event_calendar::{Class, Orders};
 use lwb_base::{Memory, NodeId, Rank};
 use radio_model::Medium;
+use radio_model::tuning::Past;
 
 impl Field {
-    // The device at the place has changed at tick t, and has handed out a tuning or none: the medium and the queue get what is set
-    // there now, in place of what was set before, and the log gets the tuning.
+    // The device at the place has changed at tick t: the medium and the queue get what is set there now, in place of what was set
+    // before, and the log gets the tuning that goes on no more by this.
     pub(crate) fn follow<Q: Orders>(
         &mut self,
         orders: &mut Q,
         place: u8,
         t: u64,
         before: Settings,
-        closed: Option<TunedEntry>,
     ) -> Result<(), Memory>
         requires within { place < length self.old.devices }
         requires queue { place < length (Q.map orders.old) }
         requires time { IsTime self.old.medium t }
         ensures { (state : DeviceStateOf) → slice_get self.old.devices place ≡ Some state
-            → OnOk result (Follows t place before state closed self.old (Q.map orders.old) self.new (Q.map orders.new)) }
+            → OnOk result (Follows t place before state self.old (Q.map orders.old) self.new (Q.map orders.new)) }
     {
         let device = &self.devices[usize::from(place)];
         let node = device.node();
         let now = device.settings();
-        retune(&mut self.medium, node, before.channel, now.channel, t);
+        let over = retune(&mut self.medium, node, before.channel, now.channel, t);
         reset(orders, place, Class::Alarm, before.alarm, now.alarm);
         reset(
             orders,
@@ -42,21 +42,27 @@ impl Field {
             before.sending,
             now.sending,
         );
-        self.log_tuning(closed)
+        self.log_tuning(node, over)
     }
 }
 
-// At t the node is tuned to another channel, or off, unless it stays at its channel.
-fn retune(medium: &mut Medium, node: NodeId, from: Option<Rank>, to: Option<Rank>, t: u64)
+// At t the node is tuned to another channel, or off, unless it stays at its channel. The tuning that goes on no more is given back.
+fn retune(
+    medium: &mut Medium,
+    node: NodeId,
+    from: Option<Rank>,
+    to: Option<Rank>,
+    t: u64,
+) -> Option<Past>
     requires node { Contains (nodes_of medium.old) node }
     requires nodes { AreNodes (nodes_of medium.old) }
     requires time { IsTime medium.old t }
-    ensures { Retunes t node from to medium.old medium.new }
+    ensures { Retunes t node from to result medium.old medium.new }
 {
     if is_same_channel(&from, &to) {
-        return;
+        return None;
     }
-    medium.tune(node, to, t);
+    medium.tune(node, to, t)
 }
 
 fn is_same_channel(from: &Option<Rank>, to: &Option<Rank>) -> bool

@@ -39,8 +39,8 @@ impl Field {
     {
         let device = &mut self.devices[usize::from(place)];
         let before = device.settings();
-        let (closed, lost) = device.act(clock, t, line, radio, &mut self.deliveries)?;
-        self.follow(orders, place, t, before, closed)?;
+        let lost = device.act(clock, t, line, radio, &mut self.deliveries)?;
+        self.follow(orders, place, t, before)?;
         self.log_drop(lost)
     }
 

@@ -8,15 +8,14 @@ ghost use Rattle.scenario_text.specs.declared.script.ScriptLine.{ScriptLine as L
 ghost use Rattle.air_log.specs.Trails.{run_end, frame_start};
 ghost use Rattle.air_log.specs.ClockLists.{clocks_by};
 ghost use Rattle.world_engine.specs.Counting.{TrailsStay, all_scans_before};
-ghost use Rattle.world_engine.specs.Idling.{all_idle};
+ghost use Rattle.air_log.specs.Idling.{all_idle};
 ghost use Rattle.world_engine.specs.Moments.{Before, InLines, At};
 ghost use Rattle.world_engine.specs.Running.{IsRunning};
 ghost use Rattle.world_engine.specs.Frames.{told_before, CountsScriptLinesBefore, IsNextLine, AllComeLater};
 
 use crate::field::Field;
 use crate::field_counts::none_scanned;
-use crate::idle::Idle;
-use air_log::EventRadio;
+use air_log::{EventRadio, Idle};
 use event_calendar::{Class, Orders};
 use lwb_base::Memory;
 use scenario_text::{Scenario, ScriptLine};

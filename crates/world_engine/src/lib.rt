@@ -15,5 +15,4 @@ mod idle;
 mod run_parts;
 
 pub use engine::Engine;
-pub use idle::Idle;
 pub use run_parts::RunParts;

@@ -1,7 +1,6 @@
 //! What is kept of a run after its engine.
 
-use crate::Idle;
-use air_log::{Air, NodeCharge};
+use air_log::{Air, Idle, NodeCharge};
 use bus_rules::{Delivery, DropLine};
 
 /// The log of a run, and the lists that go with it.

@@ -4,7 +4,7 @@ use Rattle.std.proofs.lemmas.List.{get_or_default}
 use Rattle.std.proofs.lemmas.List.Elements.{Contains-get_or}
 use Rattle.std.specs.Prelude.{Contains}
 use Rattle.scenario_text.proofs.SoundScenarios.{sound}
-use Rattle.world_engine.specs.declared.idle.Idle.{Idle}
+use Rattle.air_log.specs.declared.idle.Idle.{Idle}
 use Rattle.host_return.specs.Probes.{idle_of}
 use Rattle.host_return.proofs.IdleInRuns.{idle_in_run}
 use Rattle.host_return.proofs.NodesProbing.{first_listed, none_fresh}

@@ -1,8 +1,8 @@
 use Rattle.std.proofs.Common.{◌≡◌, ◌++◌, List, ℕ, filter_map, sym, ◌∙◌, ap, arith}
 use Rattle.std.specs.Prelude.{flat_map}
 use Rattle.std.specs.List.{range_with_len}
-use Rattle.world_engine.specs.declared.idle.Idle.{Idle}
-use Rattle.world_engine.proofs.IdleNodes.{frames_more}
+use Rattle.air_log.specs.declared.idle.Idle.{Idle}
+use Rattle.air_log.proofs.IdleFrames.{frames_more}
 use Rattle.host_return.specs.TrailsInOrder.{idle_told}
 use Rattle.host_return.specs.declared.idle_trails.NodeTrail.{NodeTrail}
 use Rattle.host_return.proofs.IdleTrails.{all_told}

@@ -1,7 +1,7 @@
 use Rattle.std.proofs.Common.{◌++◌, List, Option, filter_map, option_to_list, take, sym, ◌∙◌, ap, arith}
 use Rattle.std.proofs.lemmas.List.{append_assoc, take_all}
 use Rattle.lwb_base.proofs.Lists.{filter_map_more}
-use Rattle.world_engine.specs.declared.idle.Idle.{Idle}
+use Rattle.air_log.specs.declared.idle.Idle.{Idle}
 use Rattle.host_return.specs.TrailsInOrder.{idle_told}
 use Rattle.host_return.specs.declared.idle_trails.NodeTrail.{NodeTrail}
 use Rattle.host_return.proofs.idle_trails.list_idle.Goals as goal

@@ -30,5 +30,5 @@ loop-line-preserved c =
     ∙ map_pushed
     (first_device c.args.s.now) c.nodes-line-items.result.now c.loop-line.line-index n c.loop-line.devices.items d c.loop-line-test.true
     c.line-item.is c.loop-line.invariant
-    (new_device c.args.s.now n d setup c.in_ok-device.ensures.rest c.in_ok-device.ensures.idle c.in_ok-device.ensures.delivery
-    c.in_ok-device.ensures.core windows)
+    (new_device c.args.s.now n d setup c.in_ok-device.ensures.rest c.in_ok-device.ensures.idle c.in_ok-device.ensures.channel
+    c.in_ok-device.ensures.delivery c.in_ok-device.ensures.core windows)

@@ -7,5 +7,6 @@ returns-then-is_same_channel c =
 
 pub returns : goal.returns
 returns c =
-    is_tuned c.args.t c.args.node c.args.from c.args.to c.args.medium.now c.tune.new.self c.tune.ensures.state c.requires.nodes c.requires.time
+    is_tuned c.args.t c.args.node c.args.from c.args.to c.tune.result c.args.medium.now c.tune.new.self c.tune.ensures.over c.tune.ensures.state
+    c.requires.nodes c.requires.time
     c.tune.ensures.holds

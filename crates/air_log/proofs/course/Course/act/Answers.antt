@@ -17,11 +17,11 @@ pub returns : goal.returns
 returns g c =
     let t = c.args.t in
     let old = course_of c.self.inside in
-    let x = c.in_ok-closed.ensures.goes in
+    let x = c.in_ok-act.ensures.goes in
     let line = c.args.line.now in
     let act_is : Setup → Device → Device = λ q d. device_after_act (g.C.DriftClock.readings c.args.clock.now) q t d line.act d.power in
-    on_ok_weaker c.log_tuning.result (λ logged.
-    goes_seen t act_is old c.args.self.now _ c.log_tuning.new.self c.self.view_is
-    (course_listed old c.act.new.self c.in_ok-closed.closed x.0 c.act.new.deliveries.items c.log_tuning.new.self x.1 logged)
-    (course_goes t act_is old c.act.new.self c.in_ok-closed.closed x.0 x.2))
-    c.log_tuning.ensures
+    on_ok_weaker c.follow.result (λ logged.
+    goes_seen t act_is old c.args.self.now _ c.follow.new.self c.self.view_is
+    (course_listed t old c.act.new.self x.0 c.act.new.deliveries.items c.follow.new.self x.1 logged)
+    (course_goes t act_is old c.act.new.self x.0 x.2))
+    c.follow.ensures

@@ -12,12 +12,8 @@ take_alarms-requires-clause-ends g c =
 
 pub returns : goal.returns
 returns g c =
-    let t = c.args.t in
     let clock = g.C.DriftClock.readings c.args.clock.now in
-    let old = course_of c.self.inside in
-    let x = c.in_ok-closed.ensures.goes in
-    let closed = c.in_ok-closed.closed in
     let after = c.take_alarms.new in
-    on_ok_weaker c.log_tuning.result (λ logged. alarmed_goes clock t old after.self closed after.deliveries.items x c.args.self.now c.log_tuning.new.self
-    c.self.view_is logged)
-    c.log_tuning.ensures
+    on_ok_weaker c.follow.result (λ logged. alarmed_goes clock c.args.t (course_of c.self.inside) after.self after.deliveries.items
+    c.in_ok-take_alarms.ensures.goes c.args.self.now c.follow.new.self c.self.view_is logged)
+    c.follow.ensures

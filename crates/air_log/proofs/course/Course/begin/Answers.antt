@@ -12,6 +12,6 @@ returns c =
     let x = c.start-sending in
     on_ok_weaker c.log_sending.result (λ logged.
     goes_seen c.args.t (λ q d. device_after_start q c.args.t d) old c.args.self.now _ c.log_sending.new.self c.self.view_is (sym logged)
-    (begin_goes c.args.t old x.new.self x.result (λ q d. device_after_start q c.args.t d) x.ensures.whole x.ensures.until (x.ensures.time c.args.t)
+    (begin_goes c.args.t old x.new.self x.result (λ q d. device_after_start q c.args.t d) x.ensures.whole x.ensures.until x.ensures.channel
     x.ensures.node))
     c.log_sending.ensures

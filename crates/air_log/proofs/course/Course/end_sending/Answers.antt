@@ -7,10 +7,9 @@ use Rattle.radio_model.specs.declared.sending.Sending.{Sending}
 use Rattle.bus_rules.specs.Cores.{Setup}
 use Rattle.air_log.specs.Devices.{Device, event}
 use Rattle.air_log.specs.Trails.{device_after_end}
-use Rattle.air_log.specs.DeviceStates.{DeviceState, HappenedBy, IsSameNode, RunsUntil, whole, told_of, running, ends_now}
+use Rattle.air_log.specs.DeviceStates.{DeviceState, IsSameNode, RunsUntil, whole, told_of, running, ends_now}
 use Rattle.air_log.specs.Courses.{CourseState, CourseIsShown, made_in}
 use Rattle.air_log.specs.CourseParts.{course_of}
-use Rattle.air_log.proofs.DeviceChanges.{set_happened}
 use Rattle.air_log.proofs.RunningSendings.{last_there, ended_last, told_last}
 use Rattle.air_log.proofs.ShownCourses.{goes_seen}
 use Rattle.air_log.proofs.CourseSteps.{shown_in, then_shown, then_goes, middle, course_goes, course_listed}
@@ -24,8 +23,8 @@ module _ (t : ℕ) (old : CourseState) (x : DeviceState) (r : Bool) (now : r ≡
   pub ended : x ≡ record (old.device) { busy_until = None }
   ended = is ∙ ap (λ (b : Bool). record (old.device) { busy_until = if b then None else old.device.busy_until }) now
 
-  pub happened : HappenedBy t old.device → HappenedBy t x
-  happened = set_happened t old.device x (ap (λ (s : DeviceState). s.closed) ended) (ap (λ (s : DeviceState). s.listening) ended)
+  pub channel : x.channel ≡ old.device.channel
+  channel = ap (λ (s : DeviceState). s.channel) ended
 
   pub node : IsSameNode old.device x
   node = record {
@@ -43,10 +42,10 @@ notify-requires-clause-shown g c =
     let t = c.args.t in
     let x = c.end_sending in
     let now = c.if-not-end_sending.false in
-    let h = happened t old x.new.self x.result now x.ensures.after in
+    let h = channel t old x.new.self x.result now x.ensures.after in
     let n = node t old x.new.self x.result now x.ensures.after in
     let r = runs t old x.new.self x.result now x.ensures.after in
-    shown_in t (middle t old x.new.self h n r) (then_shown t old x.new.self h n r (subst (CourseIsShown t) (sym c.self.view_is) c.requires.shown))
+    shown_in t (middle t old x.new.self n h r) (then_shown t old x.new.self n h r (subst (CourseIsShown t) (sym c.self.view_is) c.requires.shown))
 
 -- the last transmission, as code reads it
 last_is : (g : Over) (c : After-last g) → option_copied c.last.result ≡ slice_get c.self.inside.sent.items (length c.self.inside.sent.items - 1)
@@ -67,24 +66,23 @@ returns g c =
     let now = c.if-not-end_sending.false in
     let last = option_copied c.last.result in
     let at = (goal.at.returns g c).After-last in
-    let h = happened t old x.new.self x.result now x.ensures.after in
+    let h = channel t old x.new.self x.result now x.ensures.after in
     let n = node t old x.new.self x.result now x.ensures.after in
     let r = runs t old x.new.self x.result now x.ensures.after in
-    let mid = middle t old x.new.self h n r in
+    let mid = middle t old x.new.self n h r in
     let event_is : Setup → Device → Device = λ q d. event clock q t Sent last d in
-    let told = c.in_ok-closed.ensures.goes in
-    let closed = c.in_ok-closed.closed in
-    on_ok_weaker c.log_tuning.result (λ logged.
-    goes_seen t (λ q d. device_after_end clock q t d) old c.args.self.now c.log_tuning.new.self c.log_tuning.new.self c.self.view_is refl
-    (then_goes t old x.new.self h n r (λ q d. device_after_end clock q t d) event_is c.log_tuning.new.self
-    (λ windows runs.
+    let told = c.in_ok-notify.ensures.goes in
+    on_ok_weaker c.follow.result (λ logged.
+    goes_seen t (λ q d. device_after_end clock q t d) old c.args.self.now c.follow.new.self c.follow.new.self c.self.view_is refl
+    (then_goes t old x.new.self n h r (λ q d. device_after_end clock q t d) event_is c.follow.new.self
+    (λ y windows runs.
     let first = made_in old windows in
-    x.ensures.whole clock first runs
-    ∙ ap (λ (b : Bool). told_of clock old.device.setup t (if b then running old.device.busy_until old.sent else None) (whole x.new.self first)) now
-    ∙ ap (λ (o : Option Sending). told_of clock old.device.setup t o (whole x.new.self first))
+    x.ensures.whole clock y first runs
+    ∙ ap (λ (b : Bool). told_of clock old.device.setup t (if b then running old.device.busy_until old.sent else None) (whole x.new.self y first)) now
+    ∙ ap (λ (o : Option Sending). told_of clock old.device.setup t o (whole x.new.self y first))
     (ended_last t old.device.busy_until old.sent (due g at) ∙ sym (last_is g at))
-    ∙ told_last clock old.device.setup t last (whole x.new.self first) (some g at runs))
-    (goes_seen t event_is mid mid _ c.log_tuning.new.self refl
-    (course_listed mid c.notify.new.self closed told.0 c.notify.new.deliveries.items c.log_tuning.new.self told.1 logged)
-    (course_goes t event_is mid c.notify.new.self closed told.0 told.2))))
-    c.log_tuning.ensures
+    ∙ told_last clock old.device.setup t last (whole x.new.self y first) (some g at runs))
+    (goes_seen t event_is mid mid _ c.follow.new.self refl
+    (course_listed t mid c.notify.new.self told.0 c.notify.new.deliveries.items c.follow.new.self told.1 logged)
+    (course_goes t event_is mid c.notify.new.self told.0 told.2))))
+    c.follow.ensures

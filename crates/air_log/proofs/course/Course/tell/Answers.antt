@@ -17,12 +17,12 @@ pub returns : goal.returns
 returns g c =
     let t = c.args.t in
     let old = course_of c.self.inside in
-    let x = c.in_ok-closed.ensures.goes in
+    let x = c.in_ok-notify.ensures.goes in
     let notice = c.args.notice.now in
     let event_is : Setup → Device → Device =
     λ q d. event (g.C.DriftClock.readings c.args.clock.now) q t notice.event.now (option_copied notice.ended) d in
-    on_ok_weaker c.log_tuning.result (λ logged.
-    goes_seen t event_is old c.args.self.now _ c.log_tuning.new.self c.self.view_is
-    (course_listed old c.notify.new.self c.in_ok-closed.closed x.0 c.notify.new.deliveries.items c.log_tuning.new.self x.1 logged)
-    (course_goes t event_is old c.notify.new.self c.in_ok-closed.closed x.0 x.2))
-    c.log_tuning.ensures
+    on_ok_weaker c.follow.result (λ logged.
+    goes_seen t event_is old c.args.self.now _ c.follow.new.self c.self.view_is
+    (course_listed t old c.notify.new.self x.0 c.notify.new.deliveries.items c.follow.new.self x.1 logged)
+    (course_goes t event_is old c.notify.new.self x.0 x.2))
+    c.follow.ensures

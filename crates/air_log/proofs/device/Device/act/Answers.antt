@@ -10,13 +10,13 @@ use Rattle.air_log.specs.DeviceChanges.{Delivers}
 use Rattle.air_log.proofs.DeviceChanges.{step_goes, set_goes}
 use Rattle.air_log.proofs.device.Device.act.Goals as goal
 
-pub returns-in_ok-closed-in-Some-On-clause-goes : goal.returns-in_ok-closed-in-Some-On-clause-goes
-returns-in_ok-closed-in-Some-On-clause-goes g c =
+pub returns-in_ok-boot-in-Some-On-clause-goes : goal.returns-in_ok-boot-in-Some-On-clause-goes
+returns-in_ok-boot-in-Some-On-clause-goes g c =
     let clock = g.C.DriftClock.readings c.args.clock.now in
     let act : c.args.line.now.act ≡ On =
     switches_on c.args.line.now.act (sym c.switch.ensures ∙ c.in-Some-On.is ∙ ap (λ (w : Switch). Some w) c.in-Some-On.field-0-is) in
     subst (λ (a : Act). Delivers c.args.t (λ q d. device_after_act clock q c.args.t d a d.power) c.args.self.now c.boot.new.self
-    c.in_ok-closed-in-Some-On.closed c.args.deliveries.now.items c.boot.new.deliveries.items) (sym act) c.in_ok-closed-in-Some-On.ensures.goes
+    c.args.deliveries.now.items c.boot.new.deliveries.items) (sym act) c.in_ok-boot-in-Some-On.ensures.goes
 
 pub returns-in-Some-Off-clause-goes : goal.returns-in-Some-Off-clause-goes
 returns-in-Some-Off-clause-goes g c =
@@ -28,14 +28,10 @@ returns-in-Some-Off-clause-goes g c =
     switches_off c.args.line.now.act (sym c.switch.ensures ∙ c.in-Some-Off.is ∙ ap (λ (w : Switch). Some w) c.in-Some-Off.field-0-is) in (
       [],
       sym (append-nil c.args.deliveries.now.items),
-      step_goes t (λ q d. device_after_act clock q t d c.args.line.now.act d.power) old x.new.self x.result (record {
-        comes = λ made ended. ap (λ (a : Act). device_after_act clock old.setup t (whole old made) a old.power) act ∙ x.ensures.whole clock made;
+      step_goes t (λ q d. device_after_act clock q t d c.args.line.now.act d.power) old x.new.self (record {
+        comes = λ y made on. ap (λ (a : Act). device_after_act clock old.setup t (whole old y made) a old.power) act ∙ x.ensures.whole clock t y made on;
         node = x.ensures.node;
-        happened = x.ensures.time;
         busy = x.ensures.busy;
-        before = x.ensures.before;
-        own = x.ensures.own;
-        hands = x.ensures.hands;
       }),
     )
 
@@ -47,5 +43,5 @@ returns-in-None-clause-goes g c =
       [],
       sym (append-nil c.args.deliveries.now.items),
       set_goes t (λ q d. device_after_act clock q t d c.args.line.now.act d.power) c.args.self.now x.new.self (x.ensures.whole clock t) x.ensures.node
-          (x.ensures.time t) x.ensures.busy x.ensures.closed,
+          x.ensures.channel x.ensures.busy,
     )

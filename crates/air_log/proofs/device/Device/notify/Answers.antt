@@ -55,18 +55,18 @@ returns-clause-goes g c =
     let old = c.args.self.now in
     let row = row_of clock t e old in
     let ordered = c.react.ensures.orders.given ∙ ap (λ (r : Told). r.given ++ orders_by row) c.clear.ensures in
-    let goes = subst (λ (s : DeviceState). DeviceGoes t (λ q d. fold (obeyed clock q.id t) d (orders_by row)) s c.obey_all.new.self c.obey_all.result [])
+    let goes = subst (λ (s : DeviceState). DeviceGoes t (λ q d. fold (obeyed clock q.id t) d (orders_by row)) s c.obey_all.new.self [])
     (after g at)
-    (subst (λ (l : List Order). DeviceGoes t (λ q d. fold (obeyed clock q.id t) d l) c.log_delivery.new.self c.obey_all.new.self c.obey_all.result []) ordered
+    (subst (λ (l : List Order). DeviceGoes t (λ q d. fold (obeyed clock q.id t) d l) c.log_delivery.new.self c.obey_all.new.self []) ordered
     c.obey_all.ensures) in (
       delivers clock t e ended old,
       c.in_ok-log_delivery.ensures.deliveries ∙ ap (λ (o : Option Delivery). c.args.deliveries.now.items ++ option_to_list o)
           (delivery_listed clock t e ended old c.react.new.self c.count.new.self c.log_delivery.new.self c.is_in_window-before.result
           c.is_alarm-by_alarm.result (option_copied c.sent.result) c.react.ensures.after c.count.ensures.after c.log_delivery.ensures.device),
       event_goes clock t e ended old (few g at) c.requires.shown.shows.taken
-          (λ made. c.react.ensures.whole made ended ∙ ap (λ (s : DeviceState). fold (obeyed clock old.setup.id t)
-          (whole s (made_by t e ended old.power row made)) (orders_by row)) c.react.ensures.after)
-          c.obey_all.new.self c.obey_all.result goes,
+          (λ x made. c.react.ensures.whole x made ended ∙ ap (λ (s : DeviceState). fold (obeyed clock old.setup.id t)
+          (whole s x (made_by t e ended old.power row made)) (orders_by row)) c.react.ensures.after)
+          c.obey_all.new.self goes,
     )
 
 pub returns-clause-setup : goal.returns-clause-setup

@@ -19,8 +19,6 @@ invariant_of-self g c =
       numbers = c.self.invariant.numbers ∙ ap (λ (s : Setup). s.profile) same;
       boot = λ on. followed_boot _ _ _ _ _ kept row ∙ c.self.invariant.boot on;
       early = followed_zero _ _ _ _ _ c.self.invariant.early (timely old.setup old.node c.self.invariant.early c.new.result c.args.event.now now) row;
-      kept = c.self.invariant.kept;
-      own = c.self.invariant.own;
     }
 
 pub returns-then-self-clause-timely : goal.returns-then-self-clause-timely

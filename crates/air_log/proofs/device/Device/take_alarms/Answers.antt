@@ -1,8 +1,7 @@
-use Rattle.std.proofs.Common.{◌≡◌, ◌+◌, [], Bool, true, false, if◌then◌else◌, None, Option, sym, ◌∙◌, ap, subst, arith, refl, List, ◌++◌}
+use Rattle.std.proofs.Common.{◌≡◌, [], Bool, true, false, if◌then◌else◌, None, sym, ◌∙◌, ap, subst, arith, refl, List, ◌++◌}
 use Rattle.std.proofs.lemmas.List.{append-nil, append_assoc}
 use Rattle.tick_clock.proofs.Readings.{read_in_range}
 use Rattle.bus_rules.specs.declared.delivery.Delivery.{Delivery}
-use Rattle.air_log.specs.declared.entry.TunedEntry.{TunedEntry}
 use Rattle.air_log.specs.Trails.{alarm_is_due}
 use Rattle.air_log.specs.DeviceStates.{DeviceState}
 use Rattle.air_log.specs.DeviceChanges.{AreTaken}
@@ -23,7 +22,7 @@ returns-then-not-take_alarm-clause-goes g c =
       count = c.loop.counter;
       deliveries = i.0;
       listed = i.1;
-      taken = subst (λ (s : DeviceState). AreTaken (g.C.DriftClock.readings c.args.clock.now) c.args.t c.loop.counter c.args.self.now s c.loop.closed i.0)
+      taken = subst (λ (s : DeviceState). AreTaken (g.C.DriftClock.readings c.args.clock.now) c.args.t c.loop.counter c.args.self.now s i.0)
           (sym same) i.2;
       over = ap (λ (s : DeviceState). alarm_is_due c.args.t s.alarm) same ∙ over;
     }
@@ -31,26 +30,23 @@ returns-then-not-take_alarm-clause-goes g c =
 pub notify-requires-clause-shown : goal.notify-requires-clause-shown
 notify-requires-clause-shown g c =
     let first = c.requires.ends in
-    let now = shown_still _ _ _ _ _ _ c.loop.invariant.2.goes
-    (record { setup = first.setup; made = first.made; device = first.device; shows = first.shows }) in
+    let now = shown_still _ _ _ _ _ c.loop.invariant.2.goes
+    (record { setup = first.setup; tunings = first.tunings; made = first.made; device = first.device; shows = first.shows }) in
     let is : c.take_alarm.new.self ≡ record (c.loop.self) { alarm = None } =
     c.take_alarm.ensures.after ∙ ap (λ (b : Bool). record (c.loop.self) { alarm = if b then None else c.loop.self.alarm }) c.if-not-take_alarm.false in
-    shown_still _ _ _ _ _ _ (silent_goes c.args.t c.loop.self c.take_alarm.new.self is) now
+    shown_still _ _ _ _ _ (silent_goes c.args.t c.loop.self c.take_alarm.new.self is) now
 
 pub loop-preserved : goal.loop-preserved
 loop-preserved g c =
     let clock = g.C.DriftClock.readings c.args.clock.now in
     let i = c.loop.invariant in
-    let told = c.in_ok-one.ensures.goes in
+    let told = c.in_ok-notify.ensures.goes in
     let is : c.take_alarm.new.self ≡ record (c.loop.self) { alarm = None } =
     c.take_alarm.ensures.after ∙ ap (λ (b : Bool). record (c.loop.self) { alarm = if b then None else c.loop.self.alarm }) c.if-not-take_alarm.false in
     let due : alarm_is_due c.args.t c.loop.self.alarm ≡ true = sym c.take_alarm.ensures.due ∙ c.if-not-take_alarm.false in (
       i.0 ++ told.0,
       told.1 ∙ ap (λ (l : List Delivery). l ++ told.0) i.1 ∙ append_assoc c.args.deliveries.now.items i.0 told.0,
-      subst (λ (x : Option TunedEntry). AreTaken clock c.args.t (c.loop.counter + 1) c.args.self.now c.notify.new.self x (i.0 ++ told.0))
-          (sym c.or-closed.ensures)
-          (one_more_taken clock c.args.t c.loop.counter c.args.self.now c.loop.self c.loop.closed i.0 i.2 c.take_alarm.new.self c.notify.new.self
-          c.in_ok-one.one told.0 due is told.2),
+      one_more_taken clock c.args.t c.loop.counter c.args.self.now c.loop.self i.0 i.2 c.take_alarm.new.self c.notify.new.self told.0 due is told.2,
       c.notify.ensures.setup ∙ ap (λ (s : DeviceState). s.setup) is ∙ i.3,
     )
 
@@ -58,13 +54,13 @@ pub unreachable-requires : goal.unreachable-requires
 unreachable-requires g c =
     let clock = g.C.DriftClock.readings c.args.clock.now in
     let reads = read_in_range clock c.args.t (g.met.C.DriftClock.keeps_drift_law c.args.clock.now) c.requires.early in
-    let few = few_taken clock c.args.t c.loop.counter c.args.self.now c.loop.self c.loop.closed c.loop.invariant.0 c.loop.invariant.2 c.requires.ends in
+    let few = few_taken clock c.args.t c.loop.counter c.args.self.now c.loop.self c.loop.invariant.0 c.loop.invariant.2 c.requires.ends in
     omega (arith, reads, few, c.loop-test.false)
 
 pub returns-then-not-take_alarm-clause-setup : goal.returns-then-not-take_alarm-clause-setup
 returns-then-not-take_alarm-clause-setup g c =
     ap (λ (s : DeviceState). s.setup) c.take_alarm.ensures.after ∙ c.loop.invariant.3
 
-pub returns-in_err-one-clause-setup : goal.returns-in_err-one-clause-setup
-returns-in_err-one-clause-setup g c =
+pub returns-in_err-notify-clause-setup : goal.returns-in_err-notify-clause-setup
+returns-in_err-notify-clause-setup g c =
     c.notify.ensures.setup ∙ ap (λ (s : DeviceState). s.setup) c.take_alarm.ensures.after ∙ c.loop.invariant.3

@@ -83,7 +83,7 @@ pub returns-clause-value : goal.returns-clause-value
 returns-clause-value c =
     let old = c.index_mut-station.result.now in
     let at = station (goal.at.returns-clause-value c).After-index_mut-station in
-    c.is_some-starts.ensures ∙ ap is_some c.start-rank.ensures.value ∙ begins_if old.tuned old.sending
+    c.is_some-starts.ensures ∙ ap is_some c.start-rank.ensures.value ∙ begins_if old.tuning.now old.sending
     ∙ ap can_send (sym (found c.self.inside.stations.items c.args.node c.place_of-place.result old c.self.invariant.0.nodes.ascending at.below at.at at.node))
     ∙ ap (λ (s : MediumState). can_send (station_of s c.args.node)) c.self.view_is
 

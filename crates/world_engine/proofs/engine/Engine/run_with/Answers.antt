@@ -6,7 +6,7 @@ use Rattle.air_log.specs.Trails.{run_end}
 use Rattle.air_log.specs.ClockLists.{clocks_by}
 use Rattle.air_log.specs.DeviceStates.{core_in}
 use Rattle.world_engine.specs.Counting.{scans_before, all_scans_before}
-use Rattle.world_engine.specs.Idling.{all_idle}
+use Rattle.air_log.specs.Idling.{all_idle}
 use Rattle.world_engine.specs.Moments.{Before}
 use Rattle.world_engine.specs.Running.{IsRunning, setup_by}
 use Rattle.world_engine.specs.Worlds.{WorldState, core_setup}

@@ -62,6 +62,6 @@ returns g c =
     let follows = c.in_ok-follow.ensures c.act.new.self (after_there at c.act.new.self) in
     on_ok_weaker c.log_drop.result (λ logged.
     subst (λ (w : FieldState). TakesLine clock line c.args.t c.args.place line.act c.args.self.now orders w due) (sym logged)
-    (line_followed at c.settings-before.ensures follows clock line c.in_ok-closed.lost c.in_ok-closed.ensures.goes c.in_ok-closed.ensures.lost
+    (line_followed at c.settings-before.ensures follows clock line c.in_ok-lost.lost c.in_ok-lost.ensures.goes c.in_ok-lost.ensures.lost
     c.requires.node))
     c.log_drop.ensures

@@ -1,4 +1,5 @@
 use Rattle.std.proofs.lemmas.Result.{on_ok_weaker}
+use Rattle.air_log.specs.Tunings.{tunings_with}
 use Rattle.world_engine.specs.FieldParts.{state_of}
 use Rattle.world_engine.proofs.FollowedDevices.{after_there, mid_within, alarms_followed}
 use Rattle.world_engine.proofs.StepsInCode.{IsRead, field_as_was, in_queue, state_shows}
@@ -21,6 +22,7 @@ take_alarms-requires-clause-ends g c =
     let shown = c.requires.shown in
     record {
       setup = shown.setup;
+      tunings = tunings_with shown.setup.id shown.shows.station.tuning shown.shows.made.tuned;
       made = shown.shows.made;
       device = shown.device;
       shows = state_shows (read g (goal.at.take_alarms-requires-clause-ends g c).After-settings-before) shown.setup shown.device shown.shows;
@@ -46,5 +48,5 @@ follow-requires-clause-queue g c = in_queue (read g (goal.at.follow-requires-cla
 pub returns : goal.returns
 returns g c =
     let at = read g (goal.at.returns g c).After-settings-before in
-    on_ok_weaker c.follow.result (λ follows. alarms_followed at c.settings-before.ensures follows c.in_ok-closed.ensures.goes c.requires.ends)
+    on_ok_weaker c.follow.result (λ follows. alarms_followed at c.settings-before.ensures follows c.in_ok-take_alarms.ensures.goes c.requires.ends)
     (c.follow.ensures c.take_alarms.new.self (after_there at c.take_alarms.new.self))

@@ -5,11 +5,10 @@ use Rattle.radio_model.specs.Stations.{MediumState, IsTime}
 use Rattle.event_calendar.specs.Orders.{Due, at, changed}
 use Rattle.event_calendar.specs.declared.class.Class.TheVariants.{SendingEnd, SendingStart}
 use Rattle.radio_model.specs.declared.sending.Sending.{Sending}
-use Rattle.air_log.specs.Devices.{Made}
-use Rattle.air_log.specs.Trails.{device_after_start}
-use Rattle.air_log.specs.DeviceStates.{whole, with_sent, sending_end, RunsUntil}
+use Rattle.air_log.specs.DeviceStates.{whole, with_sent, sending_end}
 use Rattle.world_engine.specs.Fields.{FieldState, IsField, FieldIsShown}
 use Rattle.world_engine.specs.FieldParts.{state_of}
+use Rattle.world_engine.proofs.BegunDevices.{Answers}
 use Rattle.world_engine.proofs.BegunSendings.{has_begun, has_station, begun_is_field, as_given}
 use Rattle.world_engine.proofs.NothingBegun.{IsStarting, not_begun, silent_is_field}
 use Rattle.world_engine.proofs.ShownPlaces.{read_there}
@@ -30,16 +29,16 @@ starting g c =
       field = c.self.invariant;
       here = read_there c.args.t w due i c.index_mut-device.result.now shown c.index_mut-device.ensures.value;
       node = c.start.ensures.node;
-      keeps_time = c.start.ensures.time;
+      channel = c.start.ensures.channel;
       stands = ap (λ (k : ℕ). at due k SendingStart) c.from.ensures ∙ c.requires.stands;
       shown = shown;
       time = subst (λ (v : FieldState). IsTime v.medium c.args.t) (sym c.self.view_is) c.requires.time;
     }
 
 -- what starts, or that nothing does
-answers : (g : Over) (c : After-start g) (r : Option Sending) → c.start.result ≡ r → (let st = c.index_mut-device.result.now in
-    (made : Made) → RunsUntil st.busy_until made.sent → device_after_start st.setup c.args.t (whole st made) ≡ whole c.start.new.self (with_sent r made))
-answers g c r is made runs = c.start.ensures.whole made runs ∙ ap (λ (o : Option Sending). whole c.start.new.self (with_sent o made)) is
+answers : (g : Over) (c : After-start g) (r : Option Sending) → c.start.result ≡ r → Answers c.args.t c.index_mut-device.result.now c.start.new.self r
+answers g c r is x made runs channel =
+    c.start.ensures.whole x made runs channel ∙ ap (λ (o : Option Sending). whole c.start.new.self x (with_sent o made)) is
 
 until : (g : Over) (c : After-start g) (r : Option Sending) → c.start.result ≡ r
     → c.start.new.self.busy_until ≡ option_or (option_map sending_end r) c.index_mut-device.result.now.busy_until

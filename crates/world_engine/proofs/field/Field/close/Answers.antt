@@ -1,6 +1,5 @@
 use Rattle.std.proofs.Common.{◌≡◌, ◌∙◌, length, subst, ap, arith}
-use Rattle.std.proofs.lemmas.List.{length-map}
-use Rattle.world_engine.specs.Fields.{FieldState, IsField, setup_of_device}
+use Rattle.world_engine.specs.Fields.{FieldState, IsField}
 use Rattle.world_engine.proofs.FieldClosing.{closed_none, closed_more, all_closed}
 use Rattle.world_engine.proofs.field.Field.close.Goals as goal
 
@@ -9,12 +8,11 @@ loop-place-init c = closed_none c.args.t c.args.self.now
 
 pub close_one-requires : goal.close_one-requires
 close_one-requires c =
-    let now = c.loop-place.self in
     let old = c.args.self.now in
     let below = c.loop-place-test.true in
     let long : length c.as_slice-place-end.result.now ≡ length old.devices = ap length c.as_slice-place-end.ensures.value
     ∙ ap (λ (w : FieldState). length w.devices) c.self.view_is in
-    omega (arith, below, long, ap length c.loop-place.invariant.setups, length-map now.devices setup_of_device, length-map old.devices setup_of_device)
+    omega (arith, below, long, ap length c.loop-place.invariant.devices)
 
 pub loop-place-preserved : goal.loop-place-preserved
 loop-place-preserved c = closed_more c.args.t c.loop-place.place c.args.self.now c.loop-place.self c.close_one.new.self

@@ -34,7 +34,7 @@ asked g c = record {
 -- the medium has its transmission
 some : (g : Over) (c : After-sending g) → IsAsked c.args.t c.args.place (state_of c.self.inside) c.args.self.now (g.Q.Orders.map c.args.orders.now)
     → (x : Sending) × (option_copied c.sending.result ≡ Some x)
-some g c at = some_ends at c.from.ensures c.index.ensures c.node-node.ensures c.sending.ensures
+some g c at = some_ends at c.from.ensures c.index.ensures c.node-node.ensures.id c.sending.ensures
 
 sends : (g : Over) (c : After-copy-x g) → sending_of_station (station_of (state_of c.self.inside).medium c.node-node.result) ≡ Some c.copy-x.result
 sends g c = sym c.sending.ensures ∙ ap option_copied c.in-Some.is ∙ ap (λ (y : Sending). Some y) (sym c.copy-x.ensures)
@@ -45,13 +45,13 @@ ended : (g : Over) (c : After-end_sending g) → sending_of_station (station_of 
     c.copy-x.result c.end-hearers.result (changed_field w c.end-hearers.new.self (set w.devices c.from-2.result c.end_sending.new.self))
     (g.Q.Orders.map c.clear.new.self))
 ended g c has at =
-    has_ended at c.from.ensures c.index.ensures c.node-node.ensures has c.from-2.ensures c.index_mut.ensures.value
+    has_ended at c.from.ensures c.index.ensures c.node-node.ensures.id has c.from-2.ensures c.index_mut.ensures.value
     c.end_sending.ensures.ended c.end_sending.ensures.after c.end-hearers.ensures.state c.end-hearers.ensures.sender
     c.end-hearers.ensures.ascending c.end-hearers.ensures.hearers c.clear.ensures c.end-hearers.ensures.holds
 
 pub sending-requires : goal.sending-requires
 sending-requires g c =
-    node_there (asked g (goal.at.sending-requires g c).After-node-node) c.from.ensures c.index.ensures c.node-node.ensures
+    node_there (asked g (goal.at.sending-requires g c).After-node-node) c.from.ensures c.index.ensures c.node-node.ensures.id
 
 pub unreachable-requires : goal.unreachable-requires
 unreachable-requires g c =
@@ -61,7 +61,7 @@ unreachable-requires g c =
 
 pub end-hearers-requires-clause-sends : goal.end-hearers-requires-clause-sends
 end-hearers-requires-clause-sends g c =
-    node_ends (asked g (goal.at.end-hearers-requires-clause-sends g c).After-node-node) c.from.ensures c.index.ensures c.node-node.ensures
+    node_ends (asked g (goal.at.end-hearers-requires-clause-sends g c).After-node-node) c.from.ensures c.index.ensures c.node-node.ensures.id
 
 pub clear-requires : goal.clear-requires
 clear-requires g c = place_due (asked g (goal.at.clear-requires g c).After-node-node) c.from.ensures c.index.ensures
@@ -69,7 +69,7 @@ clear-requires g c = place_due (asked g (goal.at.clear-requires g c).After-node-
 pub invariant_of-self : goal.invariant_of-self
 invariant_of-self g c =
     let back = goal.at.invariant_of-self g c in
-    ended_field (asked g back.After-node-node) c.from.ensures c.index.ensures c.node-node.ensures (sends g back.After-copy-x) c.from-2.ensures
+    ended_field (asked g back.After-node-node) c.from.ensures c.index.ensures c.node-node.ensures.id (sends g back.After-copy-x) c.from-2.ensures
     c.index_mut.ensures.value c.end_sending.ensures.ended c.end_sending.ensures.after c.end-hearers.ensures.state
 
 pub hear_all-requires-clause-nodes : goal.hear_all-requires-clause-nodes
@@ -118,7 +118,7 @@ returns g c =
     reads_there g.C.DriftClock.readings c.args.clocks.now c.from-3.result p c.index-clocks-from.result c.from-3.ensures
     (omega (arith, within, c.from-3.ensures, c.requires.clocks)) c.index-clocks-from.is in
     λ y that.
-    let is_y : x ≡ y = sends_that (asked g back.After-node-node) c.from.ensures c.index.ensures c.node-node.ensures (sends g back.After-copy-x)
+    let is_y : x ≡ y = sends_that (asked g back.After-node-node) c.from.ensures c.index.ensures c.node-node.ensures.id (sends g back.After-copy-x)
     c.from-2.ensures c.index_mut.ensures.value c.end_sending.ensures.ended c.end_sending.ensures.after c.end-hearers.ensures.state y that in
     on_ok_weaker c.tell.result (λ acts. (
       c.in_ok-hear_all.ensures.0,

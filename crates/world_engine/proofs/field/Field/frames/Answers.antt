@@ -1,7 +1,7 @@
 use Rattle.std.proofs.Common.{◌≡◌, ◌∙◌, ap, arith, length}
 use Rattle.air_log.specs.ClockLists.{clocks_by}
 use Rattle.world_engine.specs.Counting.{all_scans_before}
-use Rattle.world_engine.specs.Idling.{idle_before}
+use Rattle.air_log.specs.Idling.{idle_before}
 use Rattle.world_engine.proofs.FramesInCode.{first_frame, last_frame, as_many_scanned, few_scanned, scanned_through}
 use Rattle.world_engine.proofs.IdleNodes.{listed_through}
 use Rattle.world_engine.proofs.field.Field.frames.Goals as goal

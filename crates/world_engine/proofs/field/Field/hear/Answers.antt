@@ -57,5 +57,5 @@ returns g c =
     (subst (λ (e : Event). Acts x.end c.args.place (λ s d. event clock s x.end e None d) [] []
     (record w { air = c.push.new.self }) due c.tell.new.self new_due) c.requires.heard acts) in
     subst (λ (v : FieldState). AllHear (λ q. clock) x.end x (c.args.place ∷ []) v due c.tell.new.self new_due) c.self.view_is
-    (heard_there clock c.args.place u x w due st c.tell.new.self new_due there c.node-node.ensures told))
+    (heard_there clock c.args.place u x w due st c.tell.new.self new_due there c.node-node.ensures.id told))
     c.tell.ensures

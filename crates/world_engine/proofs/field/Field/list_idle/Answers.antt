@@ -3,7 +3,7 @@ use Rattle.std.proofs.lemmas.List.{append_assoc, take_all}
 use Rattle.lwb_base.proofs.Lists.{filter_map_more}
 use Rattle.air_log.specs.DeviceStates.{DeviceState}
 use Rattle.world_engine.specs.Idling.{idle_now}
-use Rattle.world_engine.specs.declared.idle.Idle.{Idle}
+use Rattle.air_log.specs.declared.idle.Idle.{Idle}
 use Rattle.world_engine.proofs.field.Field.list_idle.Goals as goal
 
 pub loop-device-preserved : goal.loop-device-preserved

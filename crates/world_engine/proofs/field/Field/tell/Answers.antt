@@ -36,5 +36,5 @@ follow-requires-clause-queue g c = in_queue (read g (goal.at.follow-requires-cla
 pub returns : goal.returns
 returns g c =
     let at = read g (goal.at.returns g c).After-settings-before in
-    on_ok_weaker c.follow.result (λ follows. followed at c.settings-before.ensures follows c.in_ok-closed.ensures.goes)
+    on_ok_weaker c.follow.result (λ follows. followed at c.settings-before.ensures follows c.in_ok-notify.ensures.goes)
     (c.follow.ensures c.notify.new.self (after_there at c.notify.new.self))
