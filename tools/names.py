@@ -125,7 +125,8 @@ def is_path(span):
 def is_there(path):
     places = [TOP / path, TOP / "crates" / path]
     first, _, rest = path.partition("/")
-    if first in crates() and (TOP / "crates" / first / "must-fail" / f"{rest}.edit").exists():
+    edits = [TOP / "crates" / first / "must-fail", TOP / "tests" / "edits" / first]
+    if first in crates() and any((folder / f"{rest}.edit").exists() for folder in edits):
         return True
     if first in ("src", "specs", "proofs"):
         places += [TOP / "crates" / crate / path for crate in crates()]
