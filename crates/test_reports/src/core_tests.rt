@@ -28,15 +28,24 @@ struct Driven {
     tuned: Vec<(Rank, u64, u64)>,
 }
 
-// Node 1 hosts, and each node sends at most twice in a flood. It has booted at tick 0.
-fn booted(alloc: Global, id: u8) -> Result<Driven, Fail>
-    ensures { IfOk result (λ d. d.core.setup.profile ≡ one) }
+// The core of a node. Node 1 hosts, and each node sends at most twice in a flood.
+fn core_of(alloc: Global, id: u8) -> Result<Node, Fail>
+    ensures { IfOk result (λ c. c.setup.profile ≡ one) }
 {
     let host = NodeId::new(1).ok_or("id")?;
     let id = NodeId::new(id).ok_or("id")?;
+    Ok(Node::new(alloc, &Profile::one(), id, &[host], 2)?)
+}
+
+// It has booted at tick 0.
+fn booted(alloc: Global, id: u8) -> Result<Driven, Fail>
+    ensures { IfOk result (λ d. d.core.setup.profile ≡ one) }
+{
+    let core = core_of(alloc, id)?;
+    let clock = SegmentClock::new(alloc, 0, &[])?;
     let mut driven = Driven {
-        core: Node::new(alloc, &Profile::one(), id, &[host], 2)?,
-        clock: SegmentClock::new(alloc, 0, &[])?,
+        core,
+        clock,
         alarm: None,
         ordered: None,
         sends_until: None,

@@ -5,13 +5,13 @@ ghost use Rattle.std.specs.Prelude.{◌≡◌, IfOk, length};
 use crate::calls::flood_log;
 use air_log::{Air, Entry};
 use bus_rules::FloodResult;
-use lwb_base::INPUT_LIMIT;
+use lwb_base::Memory;
 use lwb_flood::flood;
-use scenario_text::{FloodText, parse_flood};
+use scenario_text::FloodText;
 use std::alloc::{AllocError, Global};
 use std::fmt::Write;
 use std::test::Fail;
-use test_texts::THREE_IN_A_LINE;
+use test_texts::{THREE_IN_A_LINE, flood_text};
 use tick_clock::JumpClock;
 
 // One clock for each node: of the first three the fast ones are those whose bit is in `fast`, the others are slow.
@@ -39,24 +39,26 @@ fn report_of(alloc: Global, flood: &FloodResult) -> Result<String, AllocError> {
 }
 
 // The report of a flood over these clocks.
-fn report_over(alloc: Global, text: &str, fast: u8) -> Result<String, Fail> {
-    let bytes = text.as_bytes();
-    if bytes.len() > INPUT_LIMIT {
-        return Err("length")?;
-    }
-    let f = parse_flood(alloc, bytes)?;
-    let result = flood(alloc, &f, jump_clocks(alloc, &f, fast)?)?;
+fn report_over(alloc: Global, f: &FloodText, fast: u8) -> Result<String, Memory> {
+    let clocks = jump_clocks(alloc, f, fast)?;
+    let result = flood(alloc, f, clocks)?;
     Ok(report_of(alloc, &result)?)
 }
 
 // Whether that is the report over every choice of clocks.
-fn is_report(alloc: Global, text: &str, report: &str) -> Result<bool, Fail> {
+fn all_report(alloc: Global, f: &FloodText, report: &str) -> Result<bool, Memory> {
     for fast in 0..8 {
-        if report_over(alloc, text, fast)?.as_str() != report {
+        if report_over(alloc, f, fast)?.as_str() != report {
             return Ok(false);
         }
     }
     Ok(true)
+}
+
+// The same of the flood of a text.
+fn is_report(alloc: Global, text: &str, report: &str) -> Result<bool, Fail> {
+    let f = flood_text(alloc, text)?;
+    Ok(all_report(alloc, &f, report)?)
 }
 
 const FIRST_HOP_LOST: &str =

@@ -15,7 +15,3 @@ mod queue_tests;
 mod run_tests;
 #[cfg(test)]
 mod runner_tests;
-#[cfg(test)]
-mod texts;
-#[cfg(test)]
-mod trail_tests;

@@ -1,6 +1,5 @@
 //! A worked run, by the nodes at its end.
 
-use crate::texts::FIRST_ROUND;
 use bus_rules::Tune;
 use lwb_base::{Memory, NodeId, Rank};
 use lwb_world::{World, world_after};
@@ -8,8 +7,11 @@ use node_core::Place;
 use scenario_text::Scenario;
 use std::alloc::Global;
 use std::test::Fail;
-use test_texts::scenario;
+use test_texts::{ONE_HOST, TWO_NODES, TWO_ON, scenario};
 use tick_clock::SegmentClock;
+
+// Two nodes, of which node 1 hosts, up to its first round in frame 5.
+const FIRST_ROUND: &[&str] = &[TWO_NODES, ONE_HOST, "frames 6\n", TWO_ON];
 
 // What the node scans, holds or hosts, if it awaits the end of a frame.
 fn tune_at_rest(world: &World<'_, SegmentClock>, id: u8) -> Option<Tune> {

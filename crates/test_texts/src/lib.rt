@@ -8,5 +8,5 @@ mod worked;
 pub use parts::{
     FAILOVER, OF_NODE_2, OF_NODE_3, ONE_HOST, THREE_NODES, THREE_ON, TWO_HOSTS, TWO_NODES, TWO_ON,
 };
-pub use reading::scenario;
+pub use reading::{flood_text, scenario};
 pub use worked::{LONGEST_RUN, ONE_PACKET, THREE_IN_A_LINE};
