@@ -107,14 +107,13 @@ fn without_direction(alloc: Global, from: u8, to: u8) -> Result<bool, Fail> {
     Ok(is_as_on_bus(alloc, &s))
 }
 
+const DIRECTIONS: &[(u8, u8)] = &[(1, 2), (2, 1), (1, 3), (3, 1), (2, 3), (3, 2)];
+
 #[test]
 fn lost_directions(rt: HostRuntime) -> Result<(), Fail> {
     let alloc = rt.alloc();
-    assert!(rt; without_direction(alloc, 1, 2)?);
-    assert!(rt; without_direction(alloc, 2, 1)?);
-    assert!(rt; without_direction(alloc, 1, 3)?);
-    assert!(rt; without_direction(alloc, 3, 1)?);
-    assert!(rt; without_direction(alloc, 2, 3)?);
-    assert!(rt; without_direction(alloc, 3, 2)?);
+    for &(from, to) in DIRECTIONS {
+        assert!(rt; without_direction(alloc, from, to)?, "{from} to {to}");
+    }
     Ok(())
 }

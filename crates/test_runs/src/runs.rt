@@ -2,12 +2,10 @@
 
 use air_log::{Air, Trail, trail_of};
 use bus_model::Bus;
-use bus_rules::{Delivery, DropLine};
-use lwb_world::World;
+use bus_report::report_lines;
+use lwb_world::{RunParts, World};
 use scenario_text::{NodeLine, Scenario};
-use std::alloc::{AllocError, Global};
-use std::fmt::Write;
-use text_writers::write_payload;
+use std::alloc::Global;
 use tick_clock::JumpClock;
 
 /// Which of the clocks gain; the others lose.
@@ -42,20 +40,21 @@ fn jump_clocks(alloc: Global, nodes: &[NodeLine], speeds: Speeds) -> Option<Vec<
     Some(clocks)
 }
 
-// The world of a scenario after its run over jump clocks with the offsets that it states.
-fn world_after(alloc: Global, s: &Scenario, speeds: Speeds) -> Option<World<'_, JumpClock>> {
+// What the run of a scenario leaves over jump clocks with the offsets that it states, unless memory is out.
+fn parts_after(alloc: Global, s: &Scenario, speeds: Speeds) -> Option<RunParts> {
     let clocks = jump_clocks(alloc, s.nodes(), speeds)?;
     if clocks.len() != s.nodes().len() {
         return None;
     }
     let mut world = World::new(alloc, s, clocks).ok()?;
     world.run(alloc).ok()?;
-    Some(world)
+    Some(world.into_parts())
 }
 
 /// The log of such a run, unless memory is out.
 pub fn log_after(alloc: Global, s: &Scenario, speeds: Speeds) -> Option<Air> {
-    Some(world_after(alloc, s, speeds)?.into_air())
+    let parts = parts_after(alloc, s, speeds)?;
+    Some(parts.air)
 }
 
 fn add_trails(
@@ -80,44 +79,16 @@ pub fn trails(alloc: Global, s: &Scenario, air: &Air, speeds: Speeds) -> Option<
     Some(trails)
 }
 
-fn write_delivery(text: &mut String, d: &Delivery) -> Result<(), AllocError> {
-    let (rank, node, from) = (d.rank.number(), d.node.number(), d.from.number());
-    let (frame, slot) = (d.frame, d.slot);
-    let (boot, stream, seq) = (d.boot, d.stream, d.seq);
-    write!(
-        text,
-        "deliver {frame} {rank} {slot} {node} {from} {boot} {stream} {seq} "
-    )?;
-    write_payload(text, d.payload.bytes())?;
-    text.push_str("\n")
-}
-
-fn write_drop(text: &mut String, d: &DropLine) -> Result<(), AllocError> {
-    let (frame, node, stream) = (d.frame, d.node.number(), d.stream);
-    write!(text, "drop {frame} {node} {stream}\n")
-}
-
-fn lines(alloc: Global, deliveries: &[Delivery], drops: &[DropLine]) -> Result<String, AllocError> {
-    let mut text = String::new(alloc);
-    for d in deliveries {
-        write_delivery(&mut text, d)?;
-    }
-    for d in drops {
-        write_drop(&mut text, d)?;
-    }
-    Ok(text)
-}
-
 // The lines on the deliveries and drops of a run over jump clocks.
 fn run_lines(alloc: Global, s: &Scenario, speeds: Speeds) -> Option<String> {
-    let world = world_after(alloc, s, speeds)?;
-    lines(alloc, world.deliveries(), world.drops()).ok()
+    let parts = parts_after(alloc, s, speeds)?;
+    report_lines(alloc, &parts.deliveries, &parts.drops).ok()
 }
 
 /// The same on the bus, unless memory is out.
 pub fn bus_lines(alloc: Global, s: &Scenario) -> Option<String> {
     let bus = Bus::run(alloc, s).ok()?;
-    lines(alloc, bus.deliveries(), bus.drops()).ok()
+    report_lines(alloc, bus.deliveries(), bus.drops()).ok()
 }
 
 // Whether a run has these lines.
