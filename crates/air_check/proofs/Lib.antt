@@ -20,4 +20,5 @@ mod LinksFound
 mod SameStart
 mod MissingOnes
 pub mod ReceiverMasks
+mod EntriesAdded
 mod Extended

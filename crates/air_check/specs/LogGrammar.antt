@@ -109,6 +109,12 @@ ids_are_known ns (entry.Sent x) = knows ns x.node
 ids_are_known ns (entry.Heard h) = knows ns h.node && knows ns h.from
 ids_are_known ns (entry.Tuned t) = knows ns t.node
 
+-- Internal: the entry that the words say, if they are those of a line, or its fault, whatever nodes there are
+abbrev pub entry_of_words : List (List ℕ) → Option LogLine → Result Entry FaultKind
+entry_of_words ws line = do
+  l ← spelled line (λ l. log_numbers l ws)
+  ok_or (entry_of_line l) Range
+
 -- after a line that the words say, if they are those of one, or its fault
 abbrev pub entries_after_line : List NodeLine → List Entry → List (List ℕ) → Option LogLine → Result (List Entry) FaultKind
 entries_after_line ns air ws line = do
