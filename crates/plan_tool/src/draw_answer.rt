@@ -1,8 +1,9 @@
 //! The answer to the command `draw`.
 
-ghost use Rattle.std.specs.Prelude.{◌≡◌, ◌<◌, ◌^◌, IfOk, length, map, string_bytes};
+ghost use Rattle.std.specs.Prelude.{◌≡◌, ◌<◌, ◌^◌, IfOk, Ok, length, map, string_bytes};
 ghost use Rattle.text_readers.specs.Faults.{RefusesBy};
 ghost use Rattle.scenario_text.specs.FloodParts.{node_id};
+ghost use Rattle.network_text.specs.NetworkGrammar.{network_of};
 ghost use Rattle.plan_tool.specs.DrawnTexts.{IsDrawnText, drawn_text_fault};
 ghost use Rattle.plan_tool.specs.TextsDue.{Answers};
 ghost use Rattle.plan_tool.specs.declared.command.Command.TheVariants as asked;
@@ -25,12 +26,27 @@ pub fn draw_answer(alloc: Global, seed: u64, bytes: &[u8]) -> Result<Answer, Mem
     requires { length bytes.now < 2 ^ 31 }
     ensures { IfOk result (λ a. Answers (asked.Draw seed) bytes.now a) }
 {
-    let (scenario, ratios) = match parse_network(alloc, bytes) {
-        Ok(network) => network,
-        Err(ParseFault::Line(line, kind)) => return fault_answer(alloc, line, kind),
-        Err(ParseFault::Memory) => return Err(Memory),
-    };
-    match drawn(alloc, &scenario, &ratios, seed)? {
+    match parse_network(alloc, bytes) {
+        Ok((scenario, ratios)) => network_answer(alloc, seed, bytes, &scenario, &ratios),
+        Err(ParseFault::Line(line, kind)) => fault_answer(alloc, line, kind),
+        Err(ParseFault::Memory) => Err(Memory),
+    }
+}
+
+// The answer to the network that the bytes are a text of.
+fn network_answer(
+    alloc: Global,
+    seed: u64,
+    bytes: &[u8],
+    scenario: &Scenario,
+    ratios: &Ratios,
+) -> Result<Answer, Memory>
+    requires short { length bytes.now < 2 ^ 31 }
+    requires network { network_of bytes.now ≡ Ok (scenario.now, ratios.now.lines) }
+    requires nodes { ratios.now.nodes ≡ map node_id scenario.now.nodes }
+    ensures { IfOk result (λ a. Answers (asked.Draw seed) bytes.now a) }
+{
+    match drawn(alloc, scenario, ratios, seed)? {
         Ok(text) => Ok(Answer::Report(text)),
         Err(kind) => fault_answer(alloc, line_count(bytes) + 1, kind),
     }
