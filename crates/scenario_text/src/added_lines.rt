@@ -50,8 +50,8 @@ fn with_own_script(alloc: Global, s: &Scenario, script: Vec<ScriptLine>) -> Resu
     requires { IsSaid (record s.now { script = script.items }) }
     ensures { IfOk result (λ t. t ≡ record s.now { script = script.items }) }
 {
-    let network = network_of(alloc, s)?;
     let hosts = Vec::from_slice(alloc, s.hosts())?;
+    let network = network_of(alloc, s)?;
     Ok(Scenario::of_network(s.profile(), s.frames(), network, hosts, script))
 }
 

@@ -288,5 +288,5 @@ fn last_tick(profile: &Profile) -> u64
 fn is_host(hosts: &[NodeId], node: NodeId) -> bool
     ensures { result ≡ list_any (λ h. h == node) hosts.now }
 {
-    hosts.iter().any(|h| *h == node)
+    hosts.contains(&node)
 }
