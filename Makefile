@@ -83,7 +83,7 @@ calls: # lists all public calls with their contracts again
 	tools/calls.py > docs/internals/CALLS.md
 
 costs: # runs the proofs, tests and edits of all crates from nothing, and writes what they cost in docs/internals/PROOFS.md
-	tools/gate_costs.py --table docs/internals/PROOFS.md rt ci
+	tools/gate_costs.py --table docs/internals/PROOFS.md rt ci --anew
 
 bench: # times runs, the bus, floods and draws
 	bench/run.sh $(PROGRAM)

@@ -6,7 +6,7 @@ process uses after its last look is not seen, so the sums are low by some second
 
 Usage: tools/gate_costs.py [--table FILE] COMMAND ..
 With --table the rows of the table of costs in that page (docs/internals/PROOFS.md) are written anew; else they are printed.
-The status is that of the command. Example: tools/gate_costs.py --table docs/internals/PROOFS.md rt ci
+The status is that of the command. Example: tools/gate_costs.py --table docs/internals/PROOFS.md rt ci --anew
 """
 
 import collections
