@@ -5,7 +5,7 @@ PLAN = bin/foldcairn-plan-x86_64-linux
 IN_CRATE = cd crates/$(or $(CRATE),$(error name a crate: make $@ CRATE=link_trace)) &&
 
 .PHONY: help check only try tests format edits crate gate store program python lint pages words pictures crates lemmas calls costs bench
-.PHONY: wheel deb release install-tests notebook
+.PHONY: wheel deb release install-tests notebook instructions
 
 help: # lists the targets
 	@grep -E '^[a-z-]+:' Makefile
@@ -84,6 +84,9 @@ calls: # lists all public calls with their contracts again
 
 costs: # runs the proofs, tests and edits of all crates from nothing, and writes what they cost in docs/internals/PROOFS.md
 	tools/gate_costs.py --table docs/internals/PROOFS.md rt ci --anew
+
+instructions: # stores how many instructions both stored programs take, for tests/instructions.sh
+	tests/instructions.sh $(PROGRAM) $(PLAN) --write
 
 bench: # times runs, the bus, floods and draws
 	bench/run.sh $(PROGRAM)
