@@ -1,8 +1,8 @@
 #!/usr/bin/env bash
 # The front end ./foldcairn, in a copy of the repository without the toolchain on the PATH: that it runs the stored program
 # where this is the one of the copy's sources and no other, what it says where a call fails, that what it writes on its
-# standard output is what the program writes, from which places it can be called, and that it writes into the user's cache
-# alone. For tests/program.sh, which has says, ends, line and base.
+# standard output is what the program writes, also of a pipe that is long or that cannot be copied, from which places it can be
+# called, and that it leaves nothing but a file in the user's cache. For tests/program.sh, which has says, ends, line and base.
 # shellcheck disable=SC2154,SC2016 # tests/program.sh sets the names; the words of a script stay as they are.
 
 # A copy of what git tracks, with the program under test in its bin/.
@@ -41,17 +41,25 @@ explains() {
 front_end_calls() {
     front --help
     says "--help: status $status" [ "$status" -eq 0 ]
-    for word in run log bus flood check deadlines times return demo --prove --version; do
+    cp "$folder/out" "$folder/help"
+    for word in run log bus flood check deadlines times return demo --prove version help; do
         says "--help does not have $word" grep -q -- "^  foldcairn $word" "$folder/out"
     done
-    front return --help
-    ends "the help of a command" 0 "$(grep '^  foldcairn return' "$folder/out")"$'\n'
+    front help
+    ends "help" 0 "$(cat "$folder/help")"$'\n'
+    for words in "return --help" "help return" "--help return"; do
+        # shellcheck disable=SC2086 # Each word is one of the command's.
+        front $words
+        ends "the help of a command by '$words'" 0 "$(grep '^  foldcairn return' "$folder/help")"$'\n'
+    done
     front --completion
     explains "a completion of no shell" 2 "" "takes bash, zsh or fish"
-    front --version
-    says "--version: status $status" [ "$status" -eq 0 ]
-    says "--version has no version" grep -qx "foldcairn $(cat "$top/VERSION")" "$folder/out"
-    says "--version has no checksum" grep -q "^sources of this tree [0-9a-f]\{64\}$" "$folder/out"
+    for word in version --version; do
+        front "$word"
+        says "$word: status $status" [ "$status" -eq 0 ]
+        says "$word has no version" grep -qx "foldcairn $(cat "$top/VERSION")" "$folder/out"
+        says "$word has no checksum" grep -q "^sources of this tree [0-9a-f]\{64\}$" "$folder/out"
+    done
     printf '%s' "$line" > "$folder/line.flood"
     front flood line.flood
     ends "a file" 0 $'accept 2 0\naccept 3 1\nsent 6\n'
@@ -62,6 +70,35 @@ front_end_calls() {
     says "a call that does well says something" [ ! -s "$folder/err" ]
     front run "$top/examples/two-contenders.scenario"
     says "run of a file: other report" cmp -s "$folder/out" "$top/examples/expected/two-contenders.report"
+}
+
+# Words that are no command: the words of all commands in one line, and the nearest one.
+front_end_words() {
+    local asked near words
+    words="usage: $(sed -n 's/^  foldcairn \([^ ]*\).*/\1/p' "$folder/help" | awk '!seen[$0]++' | paste -sd '|' | sed 's/|/ | /g')"$'\n'
+    while read -r asked near; do
+        front "$asked" < <(sleep 2)
+        explains "the word $asked" 2 "$words" "'$asked' is no command; did you mean $near?"
+    done <<'TEXT'
+sampel sample
+runs run
+RUN run
+reprot report
+dealines deadlines
+versoin version
+hepl help
+TEXT
+    for asked in xyzzy foo $'\xff' "$(head -c 100000 /dev/zero | tr '\0' r)"; do
+        front "$asked"
+        ends "a word that is like none" 2 "$words"
+        says "a word that is like none: a guess" fails grep -q "did you mean" "$folder/err"
+    done
+    front
+    explains "no word" 2 "$words" "no command was given"
+    if [ -w /dev/full ]; then
+        (cd "$folder" && PATH=$bare "$copy/foldcairn" sampel > /dev/full 2> "$folder/err")
+        says "no command, to a full device: status $?, not 4" [ $? -eq 4 ]
+    fi
 }
 
 front_end_sentences() {
@@ -91,14 +128,19 @@ front_end_sentences() {
     printf 'frames 6\n%s' "$base" > "$folder/no-log.check"
     front check no-log.check
     explains "no log" 1 $'fault line 7: Missing\n' "lacks a line \`log\`"
-    front run nowhere.scenario
-    explains "no file" 2 "$usage" "there is no file 'nowhere.scenario'"
-    front run "$top"
-    explains "a folder named" 2 "$usage" "is a folder"
+    printf 'frames 6\n%sratios\nratio 0 1 2 5\n' "$base" > "$folder/small.network"
+    for word in run log times return bus check; do
+        front "$word" small.network
+        explains "ratios for $word" 1 $'fault line 7: BadWord\n' "for $word, draw the losses of a seed first, by \`foldcairn draw SEED FILE\`"
+        front "$word" nowhere.scenario
+        explains "$word of no file" 3 "" "there is no file 'nowhere.scenario'"
+        front "$word" "$top"
+        explains "$word of a folder" 3 "" "'$top' is a folder, not a file"
+    done
+    front outcome 7 "$top"
+    explains "outcome of a folder" 3 "" "'$top' is a folder, not a file"
     front run a b
     explains "two words" 2 "$usage" "one file at most"
-    front runs < <(sleep 2)
-    explains "no command" 2 "$usage" "'runs' is no command"
     front demo 07 2 1
     explains "a seed with a leading zero" 2 "$usage" "the seed '07'"
     front demo 7 64 257
@@ -110,8 +152,72 @@ front_end_sentences() {
         says "a full device: status $?, not 4" [ $? -eq 4 ]
         says "a full device: no sentence" grep -q "could not be written" "$folder/err"
     fi
-    front $'\xff'
+    front demo $'\xff' 2 1
     explains "a word that is no UTF-8" 6 "" "not UTF-8"
+}
+
+# A pipe is copied, for the sentence on a line that is rejected: whole or not at all, and nothing is left of it.
+front_end_pipes() {
+    local flood=$'accept 2 0\naccept 3 1\nsent 6\n' long="$folder/long.scenario" signal
+    mkdir "$folder/tmp"
+    export TMPDIR=$folder/tmp
+    front flood < <(cat "$folder/longest")
+    ends "a pipe of as many bytes as are read" 0 "$flood"
+    # With one byte less the text would be sound.
+    front flood < <(cat "$folder/longest"; echo)
+    explains "a pipe of one byte more" 1 $'fault too long\n' "more than 4,194,304 bytes"
+    # Cut at any place the text would be another one: its first line is a profile, and the last one says what is sent.
+    { echo 'profile 2'; seq -f '# %.0f' 30000; printf 'frames 12\n%s' "$base"; } > "$long"
+    front bus < <(cat "$long")
+    cp "$folder/out" "$folder/whole"
+    says "a long pipe: status $status, not 0" [ "$status" -eq 0 ]
+    (trap '' XFSZ; ulimit -f 64; front bus < <(cat "$long"); echo "$status" > "$folder/status")
+    status=$(cat "$folder/status")
+    explains "a pipe whose copy is too large a file" 3 "" "could not be copied to a file in $TMPDIR"
+    (ulimit -f 64; front bus < <(cat "$long"); echo "$status" > "$folder/status") 2> "$folder/written"
+    status=$(cat "$folder/status")
+    explains "a pipe whose copy a signal ends" 3 "" "could not be copied to a file in $TMPDIR"
+    full_folder "$long"
+    TMPDIR=/nowhere
+    front bus < <(cat "$long")
+    ends "a pipe that cannot be copied at all" 0 "$(cat "$folder/whole")"$'\n'
+    TMPDIR=$folder/tmp
+    for signal in TERM INT KILL; do
+        stopped_pipe "$signal"
+        says "a pipe of a call that SIG$signal ends leaves a file" [ -z "$(ls -A "$TMPDIR")" ]
+    done
+    unset TMPDIR
+}
+
+# FILE: the same on a file system that is full, where one can be mounted: in a name space of its own, so that nothing stays mounted.
+full_folder() {
+    if ! unshare --user --map-root-user --mount mount -t tmpfs -o size=64k tmpfs "$TMPDIR" 2> "$folder/written"; then
+        echo "left out: a full file system, since none can be mounted" >&2
+        return
+    fi
+    unshare --user --map-root-user --mount bash -c 'mount -t tmpfs -o size=64k tmpfs "$TMPDIR" && cat "$1" | "$2" bus' bash "$1" "$copy/foldcairn" \
+        > "$folder/out" 2> "$folder/err"
+    status=$?
+    explains "a pipe whose copy fills the disk" 3 "" "could not be copied to a file in $TMPDIR"
+}
+
+# SIGNAL: a call that is ended by it while its pipe is still open.
+stopped_pipe() {
+    local caller number
+    rm -f "$folder/fifo" && mkfifo "$folder/fifo"
+    (cd "$folder" && PATH=$bare exec "$copy/foldcairn" flood < fifo > out 2> err) &
+    caller=$!
+    exec 9> "$folder/fifo"
+    echo '# the beginning' >&9
+    # Until the copy has begun.
+    for ((number = 0; number < 100; number++)); do
+        pgrep -P "$caller" -x head > "$folder/written" && break
+        sleep 0.1
+    done
+    says "a pipe is not copied by head" [ "$number" -lt 100 ]
+    kill -s "$signal" "$caller"
+    exec 9>&-
+    wait "$caller" 2> "$folder/written"
 }
 
 # The stored program is run for its own sources alone, and the gate's comparison sees each difference.
@@ -133,6 +239,40 @@ front_end_sources() {
     front flood line.flood
     explains "changed sources" 127 "" "it has to be proved and built"
     says "changed sources: the toolchain is not asked for" grep -q "toolchain is missing" "$folder/err"
+    front_end_looks
+}
+
+# What the last look found holds until a file changes: in a clone of git, by a letter in a file that is then no newer, and during the look.
+front_end_looks() {
+    local source=$copy/crates/foldcairn/src/main.rt flood=$'accept 2 0\naccept 3 1\nsent 6\n'
+    looks_again() {
+        cp "$top/crates/foldcairn/src/main.rt" "$source"
+        for number in 1 2; do
+            front flood line.flood
+            ends "$1: look $number" 0 "$flood"
+        done
+    }
+    (cd "$copy" && git init -q . && git add . && git -c user.name=A -c user.email=a@example.org commit -q -m first)
+    looks_again "a clone"
+    echo '// A remark.' >> "$source"
+    front flood line.flood
+    explains "a changed source of a clone" 127 "" "it has to be proved and built"
+    looks_again "its source again"
+    sed '1s/./?/' "$source" > "$folder/other"
+    touch -r "$source" "$folder/other"
+    cat "$folder/other" > "$source"
+    touch -r "$folder/other" "$source"
+    front flood line.flood
+    explains "a source with another letter, of the same size and time" 127 "" "it has to be proved and built"
+    looks_again "its source once more"
+    # A tool that the look uses changes a source after it was read.
+    mkdir "$folder/changing"
+    printf '#!/bin/sh\n"%s/xargs" "$@"\necho "// A remark." >> "%s"\n' "$bare" "$source" > "$folder/changing/xargs"
+    chmod +x "$folder/changing/xargs"
+    touch "$source"
+    (bare=$folder/changing:$bare; front flood line.flood)
+    front flood line.flood
+    explains "a source that changes during a look" 127 "" "it has to be proved and built"
 }
 
 # All files of a folder, with their sizes and times.
@@ -182,6 +322,18 @@ front_end_places() {
     rm -rf "$spaced" "$folder/first"
 }
 
+# The commands of the package are run by the Python that is named, and by no other.
+front_end_package() {
+    printf '#!/bin/sh\necho pandas scipy\n' > "$folder/python"
+    chmod +x "$folder/python"
+    FOLDCAIRN_PYTHON=$folder/python front report line.flood
+    explains "a Python that lacks modules" 127 "" "$folder/python lacks pandas scipy: $folder/python -m pip install pandas scipy"
+    FOLDCAIRN_PYTHON=/nowhere front report line.flood
+    explains "a Python that is not there" 127 "" "/nowhere lacks Python 3.11"
+    FOLDCAIRN_PYTHON=/nowhere front run rate.scenario
+    explains "a fault without Python" 1 $'fault line 7: Range\n' "foldcairn: line 7: Range"
+}
+
 # The program of draws, for which a script is put in its place: it writes its words, and its input after them. A word that the
 # package has too is the package's where an option is given, or a word after it that is no number.
 front_end_draws() {
@@ -195,6 +347,9 @@ front_end_draws() {
         for node in 3 4 5 6; do echo "node $node 0"; done >> "$folder/long.network"
         front draw 7 long.network
         explains "a draw that no run takes" 1 "fault line $(($(wc -l < "$folder/long.network") + 1)): TooBig"$'\n' "6 nodes times 4,096 frames are 24,576"
+        { printf 'frames 12\n%s' "$base"; printf 'on 0 1\non 0 2\n'; yes 'put 0 1 0 aa' | head -n 19995; printf 'ratios\nratio 0 1 2 0\n'; } > "$folder/full.network"
+        front draw 7 full.network
+        explains "a draw of too many losses" 1 "fault line $(($(wc -l < "$folder/full.network") + 1)): TooMany"$'\n' "with the losses of the seed the script has more than 20,000 lines"
         front fates 7 long.network
         says "fates over a long horizon: status $status, not 0" [ "$status" -eq 0 ]
         front outcome 7 long.network
@@ -265,8 +420,10 @@ front_end_installed() {
     starts "$installed/foldcairn" flood line.flood
     ends "an installed copy" 0 $'accept 2 0\naccept 3 1\nsent 6\n'
     starts "$installed/foldcairn" run rate.scenario
-    explains "a copy without the package names the line" 1 $'fault line 7: Range\n' "line 7: Range"
+    explains "a copy without the package names the line" 1 $'fault line 7: Range\n' "foldcairn: line 7: Range"
     says "a copy without the package: no page" grep -q 'SCENARIO.md has all lines' "$folder/err"
+    starts "$installed/foldcairn" report rate.scenario
+    explains "a copy without the package" 127 "" "'report' is a command of the Python package, which this copy does not have"
     starts "$installed/foldcairn" --prove
     explains "an installed copy is not proved" 2 "" "installed without the sources"
     starts "$installed/foldcairn" --version
@@ -285,7 +442,10 @@ fails() {
 front_end() {
     if front_end_copy; then
         front_end_calls
+        front_end_words
         front_end_sentences
+        front_end_pipes
+        front_end_package
         front_end_places
         front_end_draws
         front_end_alone

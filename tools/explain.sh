@@ -31,16 +31,9 @@ pages() {
     esac
 }
 
-# What is wrong with a line of the input, by the Python package, which says it in one place for its own calls too. The package is
-# in the clone, above what a wheel installed, or where Debian's Python looks; this module stands on no other.
+# COMMAND: what is wrong with a line of the input, by this copy's Python package, which says it in one place for its own calls too.
 explanation() {
-    for folder in "$top/python/src" "$top/../.."; do
-        [ -f "$folder/foldcairn/faults.py" ] && PYTHONPATH=$folder && export PYTHONPATH && break
-    done
-    for python in ${FOLDCAIRN_PYTHON:+"$FOLDCAIRN_PYTHON"} python3 /usr/bin/python3; do
-        "$python" -P -m foldcairn.faults "$1" "$number" "$kind" < "$input" 2>/dev/null && return
-    done
-    echo "line $number: $kind"
+    "$top/tools/in_python.sh" foldcairn.faults "$1" "$number" "$kind" < "$input" 2>/dev/null || echo "line $number: $kind"
 }
 
 # The first rejected line, as the program says it once more.
@@ -81,17 +74,6 @@ wrong_demo() {
     fi
 }
 
-# A file that was named, and is none that can be read.
-wrong_file() {
-    if [ -d "$1" ]; then
-        say "'$1' is a folder, not a file"
-    elif [ -e "$1" ]; then
-        say "the file '$1' cannot be read"
-    else
-        say "there is no file '$1'"
-    fi
-}
-
 # WORD and what came after it, where a command takes numbers before its file.
 wrong_numbers() {
     command=$1
@@ -103,22 +85,32 @@ wrong_numbers() {
         fi
         shift
     done
-    if [ $# -gt 1 ]; then
-        say "$command takes one file at most, and $# words come after its numbers"
-    elif [ $# -eq 1 ]; then
-        wrong_file "$1"
-    fi
+    say "$command takes one file at most, and $# words come after its numbers"
+}
+
+# WORD: the command that is spelled most like it, where at most a third of its letters are other, missing, too many or exchanged.
+nearest() {
+    WORD=$1 awk -F '|' '
+        function least(a, b) { return a < b ? a : b }
+        function letter(text, at) { return substr(text, at, 1) }
+        function changes(a, b,    i, j, least_of) {
+            for (i = 0; i <= length(a); i++) least_of[i, 0] = i
+            for (j = 0; j <= length(b); j++) least_of[0, j] = j
+            for (i = 1; i <= length(a); i++) for (j = 1; j <= length(b); j++) {
+                least_of[i, j] = least(least(least_of[i - 1, j], least_of[i, j - 1]) + 1, least_of[i - 1, j - 1] + (letter(a, i) != letter(b, j)))
+                if (i > 1 && j > 1 && letter(a, i) == letter(b, j - 1) && letter(a, i - 1) == letter(b, j))
+                    least_of[i, j] = least(least_of[i, j], least_of[i - 2, j - 2] + 1)
+            }
+            return least_of[length(a), length(b)]
+        }
+        BEGIN { fewest = 99; word = tolower(substr(ENVIRON["WORD"], 1, 20)) }
+        $1 == "command" && (number = changes(word, $2)) * 3 <= length($2) && number < fewest { fewest = number; near = $2 }
+        END { print near }' "$top/tools/commands.txt"
 }
 
 wrong_words() {
     case $form_of_command in
-        '[FILE]')
-            if [ $# -gt 2 ]; then
-                say "$1 takes one file at most, and $(($# - 1)) words come after it"
-            else
-                wrong_file "$2"
-            fi
-            ;;
+        '[FILE]') say "$1 takes one file at most, and $(($# - 1)) words come after it" ;;
         *' [FILE]') wrong_numbers "$@" ;;
         'SEED NODES FRAMES')
             shift
@@ -128,7 +120,8 @@ wrong_words() {
             if [ $# -eq 0 ]; then
                 say "no command was given"
             else
-                say "'$1' is no command"
+                near=$(nearest "$1")
+                say "'$1' is no command${near:+; did you mean $near?}"
             fi
             ;;
     esac

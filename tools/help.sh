@@ -1,7 +1,7 @@
 #!/bin/sh
-# Writes the help of the front end off tools/commands.txt: all of it, or the rows of a command of the programs. The package has
-# its own help of a command.
-# Usage: tools/help.sh [WORD]
+# Writes the help of the front end off tools/commands.txt: all of it, the rows of a command, or a line with the words of all commands.
+# The package has its own help of a command.
+# Usage: tools/help.sh [WORD | --usage]
 set -u
 top=$(cd "$(dirname "$0")/.." && pwd) || exit 1
 commands=$top/tools/commands.txt
@@ -38,10 +38,29 @@ rows() {
     done < "$commands"
 }
 
-if [ -n "${1-}" ]; then
-    rows "$1"
-    exit
-fi
+# The words of this copy's commands, each once.
+usage() {
+    words=
+    while IFS='|' read -r kind word _ owner _; do
+        case "$kind $words |" in
+            "command "*" | $word |"*) ;;
+            "command "*) ! has "$owner" '' || words="$words | $word" ;;
+        esac
+    done < "$commands"
+    echo "usage: ${words# | }"
+}
+
+case ${1-} in
+    '') ;;
+    --usage)
+        usage
+        exit
+        ;;
+    *)
+        rows "$1"
+        exit
+        ;;
+esac
 cat <<'TEXT'
 Usage: foldcairn COMMAND [WORD]...
 Foldcairn simulates a low-power radio network: Glossy floods and rounds of slots after the Low-Power Wireless Bus.

@@ -36,7 +36,9 @@ install -m 755 "$top/foldcairn" . || exit 1
 install -m 644 "$top/VERSION" . || exit 1
 install -m 644 "$top/bin/SOURCES" bin || exit 1
 install -m 644 "$top/tools/commands.txt" tools || exit 1
-install -m 755 "$top/tools/help.sh" "$top/tools/explain.sh" "$top/tools/completion.sh" tools || exit 1
+for tool in choose completion explain help in_python; do
+    install -m 755 "$top/tools/$tool.sh" tools || exit 1
+done
 if [ -n "$place" ]; then
     echo "$place" > tools/place || exit 1
 fi

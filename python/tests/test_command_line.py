@@ -169,8 +169,8 @@ def test_explain(capsys, tmp_path):
     path.write_text(LINE.read_text().replace("on 0 3\n", ""))
     assert main(["explain", str(path)]) == 0
     assert "warning: node 3 is never switched on" in capsys.readouterr().out
-    assert main(["explain", str(tmp_path / "none")]) == 1
-    assert "No such file" in capsys.readouterr().err
+    assert main(["explain", str(tmp_path / "none")]) == 3
+    assert "there is no file" in capsys.readouterr().err
 
 
 def test_what_ends_a_command_before_its_time(capsys, monkeypatch):

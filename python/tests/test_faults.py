@@ -165,6 +165,21 @@ def test_a_text_that_does_not_show_the_fault():
     assert faults.explain("", 1, "NotUtf8") == "line 1: fault of kind NotUtf8"
 
 
+@pytest.mark.parametrize("command", ["run", "log", "times", "return", "bus", "check"])
+def test_ratios_for_a_command_that_draws_no_losses(command: str):
+    error = refused(f"{HEAD}pair 1 2\nratios\nratio 0 1 2 5\n", command)
+    assert (error.line, error.kind) == (HEAD.count("\n") + 2, "BadWord")
+    assert "which is read by outcome, fates, sample and draw" in error.explanation
+    assert f"for {command}, draw the losses of a seed first, by `foldcairn draw SEED FILE`" in error.explanation
+
+
+def test_a_draw_with_too_many_losses():
+    text = f"{HEAD}pair 1 2\non 0 1\nput 0 1 0 aa\nratios\nratio 0 1 2 5\n"
+    said = faults.explain(text, text.count("\n") + 1, "TooMany", "draw")
+    assert "with the losses of the seed the script has more than 20,000 lines, of which 2 are in the text" in said
+    assert "`outcome`, `fates` and `sample`, which draw any number" in said
+
+
 @pytest.mark.parametrize("kind", ["NotUtf8", "BadWord", "BadNumber", "Range", "UnknownNode", "Order", "Twice", "TooMany", "Missing"])
 @pytest.mark.parametrize("line", ["pair 1 2", "rate 1 5 1", "on 3 1", "put 0 2 0 aa", ""])
 def test_nothing_is_made_up_about_a_line_without_a_fault(kind: str, line: str) -> None:

@@ -84,7 +84,6 @@ def test_importance(folder: Path, capsys: pytest.CaptureFixture[str]) -> None:
     [
         (["compare", "line.scenario"], "a comparison takes two plans or more"),
         (["compare", "line.scenario", "./line.scenario"], "two plans are called 'line': name them, as in A=./line.scenario"),
-        (["compare", "line.scenario", "A=nowhere"], "No such file or directory: 'nowhere'"),
         (["compare", "line.scenario", "late.scenario", "--seeds", "2-1"], "`--seeds` is '2-1', and has no seed"),
         (["compare", "line.scenario", "late.scenario", "--receivers", "9"], "`receivers`: the scenario has no node 9"),
         (["capacity", "line.scenario"], "there are not two packets with 60 s between them; take a longer run"),

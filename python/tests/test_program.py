@@ -134,7 +134,7 @@ def test_streams_that_fail(ends, kind, fake):
 
 def test_words_that_are_not_utf_8():
     with pytest.raises(program.BadWords):
-        program.execute(["run", "\udcff"])
+        program.execute(["demo", "\udcff", "2", "1"])
 
 
 def test_an_unknown_status(fake):
@@ -143,7 +143,7 @@ def test_an_unknown_status(fake):
 
 
 def test_words_that_are_no_command():
-    with pytest.raises(program.BadUsage, match="`runs` is no command; usage: flood"):
+    with pytest.raises(program.BadUsage, match="`runs` is no command; usage: "):
         program.execute(["runs"])
 
 

@@ -79,6 +79,20 @@ def test_a_text_that_is_rejected(tmp_path: Path, capsys: pytest.CaptureFixture[s
     assert not folder.exists()
 
 
-def test_a_file_that_is_missing(tmp_path: Path, capsys: pytest.CaptureFixture[str]) -> None:
-    assert __main__.main(["report", str(tmp_path / "nowhere")]) == 1
-    assert "nowhere" in capsys.readouterr().err
+def test_a_file_that_cannot_be_read(tmp_path: Path, capsys: pytest.CaptureFixture[str], monkeypatch: pytest.MonkeyPatch) -> None:
+    for words, says in (
+        (["report", str(tmp_path / "nowhere")], f"there is no file '{tmp_path / 'nowhere'}'"),
+        (["report", str(tmp_path)], f"'{tmp_path}' is a folder, not a file"),
+        (["explain", str(tmp_path)], "is a folder, not a file"),
+        (["compare", "A=" + str(tmp_path), "B=" + str(tmp_path)], "is a folder, not a file"),
+    ):
+        assert __main__.main(words) == 3
+        told = capsys.readouterr()
+        assert says in told.err and told.out == "" and "Errno" not in told.err
+
+    def denied(*_: object) -> bytes:
+        raise PermissionError(13, "Permission denied")
+
+    monkeypatch.setattr(Path, "read_bytes", denied)
+    assert __main__.main(["report", "kept"]) == 3
+    assert capsys.readouterr().err == "foldcairn: the file 'kept' can't be read: Permission denied\n"

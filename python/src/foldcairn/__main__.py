@@ -27,8 +27,9 @@ except ModuleNotFoundError as error:
 if TYPE_CHECKING:
     from . import losses
 
-# Exit statuses: 0 done; 1 the text is rejected, or what was asked for can't be had; 2 the words are no command.
+# Exit statuses: 0 done; 1 the text is rejected, or what was asked for can't be had; 2 the words are no command; 3 the input can't be read.
 _FAILED = 1
+_UNREADABLE = 3
 
 
 def main(arguments: Sequence[str] | None = None) -> int:
@@ -50,6 +51,9 @@ def main(arguments: Sequence[str] | None = None) -> int:
         return status
     except ModuleNotFoundError as error:
         print(f"foldcairn: {front_end.missing(error)}", file=sys.stderr)
+    except commands.Unreadable as error:
+        print(f"foldcairn: {error}", file=sys.stderr)
+        return _UNREADABLE
     except (program.ProgramError, commands.Failed, sweep.SweepStopped, OSError, ValueError) as error:
         print(f"foldcairn: {error}", file=sys.stderr)
     except KeyboardInterrupt:

@@ -27,6 +27,10 @@ class Failed(Exception):
     """What was asked for can't be had; the message says why."""
 
 
+class Unreadable(Exception):
+    """The input that is named can't be read; the message says why."""
+
+
 def add(commands: Commands, name: str, run: Callable[[argparse.Namespace], int], about: str) -> argparse.ArgumentParser:
     """Adds a command; in the list of commands it has the first sentence of what it is about."""
     # argparse fills in what follows a `%` in a help text, and in a description only `%(prog)`.
@@ -150,8 +154,15 @@ def places(made: Scenario, path: str | None) -> dict[int, tuple[float, float]] |
 
 
 def read(path: str) -> bytes:
-    """The text of a file, or of the standard input where it is `-`."""
-    return sys.stdin.buffer.read() if path == "-" else Path(path).read_bytes()
+    """The text of a file, or of the standard input where it is `-`. Raises `Unreadable` where it can't be read."""
+    try:
+        return sys.stdin.buffer.read() if path == "-" else Path(path).read_bytes()
+    except IsADirectoryError:
+        raise Unreadable("the input is a folder, not a file" if path == "-" else f"'{path}' is a folder, not a file") from None
+    except FileNotFoundError:
+        raise Unreadable(f"there is no file '{path}'") from None
+    except OSError as error:
+        raise Unreadable(f"the file '{path}' can't be read: {error.strerror}") from error
 
 
 def extent(words: str | None) -> tuple[float, float, float, float] | None:

@@ -90,7 +90,8 @@ class _Fault:
 
     def __init__(self, text: bytes, line: int, command: str) -> None:
         rows = split(text)
-        self.text, self.line = text, line
+        self.text, self.line, self.command = text, line, command
+        self.is_past_end = line > len(rows)
         self.grammar = command if command in ("flood", "deadlines") else "scenario"
         self.above = rows[: line - 1]
         self.words = rows[line - 1] if line <= len(rows) else []
@@ -162,7 +163,11 @@ class _Fault:
         if self.is_log and first in (*lines.fields("run"), "log"):
             return f"below a line `log` all lines are of the log, and `{first}` comes above it"
         if first in ("ratio", "ratios") and self.grammar == "scenario":
-            return f"`{first}` is a line of a network, which is read by outcome, fates, sample and draw; `ratio` lines are below a line `ratios`"
+            todo = (
+                "`ratio` lines are below a line `ratios`" if first == "ratio" else
+                f"for {self.command}, draw the losses of a seed first, by `foldcairn draw SEED FILE`, and give it what that writes"
+            )  # fmt: skip
+            return f"`{first}` is a line of a network, which is read by outcome, fates, sample and draw; {todo}"
         for grammar, commands in (("scenario", "run, log and bus"), ("flood", "flood"), ("deadlines", "deadlines")):
             if grammar != self.grammar and first in lines.fields(grammar):
                 return f"`{first}` is a line of another text, which is read by {commands}"
@@ -273,6 +278,11 @@ class _Fault:
         if first == "ratio":
             return f"a network has at most {lines.RATIO_LINES_MOST:,} ratios, and this is one more"
         script = sum(1 for words in self.above if words and words[0] in lines.SCRIPT_WORDS)
+        if self.command == "draw" and self.is_past_end:
+            return (
+                f"the text ends above this line; with the losses of the seed the script has more than {lines.SCRIPT_LINES_MOST:,} lines, of which "
+                f"{script:,} are in the text, and no run takes more: take fewer frames, or `outcome`, `fates` and `sample`, which draw any number"
+            )
         if script >= lines.SCRIPT_LINES_MOST:
             return f"a scenario has at most {lines.SCRIPT_LINES_MOST:,} lines of its script, and this is one more"
         if first == "on":
