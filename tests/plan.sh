@@ -347,6 +347,69 @@ draw_lines() {
     ends "a draw of too many lines in too many frames" 1 "fault line $(($(wc -l < "$folder/in") + 1)): TooBig"$'\n'
 }
 
+# A link that loses all, to the last frame of a run. The host transmits in the first step of the first slot and of the last one, each fourth
+# frame from 5 on, and nobody answers: 1,023 rounds.
+many_losses() {
+    { printf '%sframes 4096\n%s' "$base" "$two_on"; printf 'ratios\nratio 0 1 2 0\n'; } > "$folder/in"
+    "$program" draw 7 < "$folder/in" > "$folder/drawn"
+    status=$?
+    grep '^lose ' "$folder/drawn" > "$folder/out"
+    ends "a draw of 2,046 losses" 0 "$(seq 5 4 4095 | sed 's/.*/lose & 0 0 1 2\nlose & 2 0 1 2/')"$'\n'
+}
+
+# Packets of a node that has no slot before the last frame: the first 16 wait, and all others are dropped.
+many_puts() {
+    { printf '%sframes 4\n%sstream 0 2 0 8\n' "$base" "$two_on"; yes 'put 0 2 0 aa' | head -n 3000; } > "$folder/in"
+    "$program" fates 7 < "$folder/in" > "$folder/fates"
+    status=$?
+    awk '{ print $1, $2, $3, $4, $NF }' "$folder/fates" | uniq -c | awk '{ $1 = $1; print }' > "$folder/out"
+    ends "the fates of 3,000 puts" 0 $'16 put 0 2 0 waiting\n2984 put 0 2 0 dropped\n'
+}
+
+# with_ratios NODES FRAMES MOST: a network of nodes that all reach one another, in which node 2 sends each fourth frame, with the ratio 1 of
+# each link in each frame, and above its ratios in $folder/above.
+with_ratios() {
+    awk -v nodes="$1" -v frames="$2" -v most="$3" -v above="$folder/above" 'BEGIN {
+        text = "frames " frames "\nsends 2\n"
+        for (i = 1; i <= nodes; i++) text = text "node " i " 0\n"
+        text = text "host 0 1\n"
+        for (i = 1; i <= nodes; i++) for (j = i + 1; j <= nodes; j++) text = text "pair " i " " j "\n"
+        for (i = 1; i <= nodes; i++) text = text "on 0 " i "\n"
+        text = text "stream 0 2 0 8\n"
+        for (i = 0; i < frames; i += 4) text = text "put " i " 2 0 aa\n"
+        printf "%s", text > above
+        printf "%sratios\n", text
+        for (f = 0; f < frames; f++) for (i = 1; i <= nodes; i++) for (j = 1; j <= nodes; j++) if (i != j && most-- > 0) print "ratio", f, i, j, 1000000
+    }'
+}
+
+# More than 1,000 ratios, and as many as there may be, that lose nothing: the outcome is the bus. One more is a fault of its line.
+many_ratios() {
+    local size
+    for size in "3 400 2400" "20 264 100000"; do
+        # shellcheck disable=SC2086 # Each number is a word of its own.
+        with_ratios $size > "$folder/in"
+        says "the network has not ${size##* } ratios" [ "$(grep -c '^ratio ' "$folder/in")" -eq "${size##* }" ]
+        "$first" bus < "$folder/above" > "$folder/wanted"
+        "$program" outcome 7 < "$folder/in" > "$folder/out"
+        says "${size##* } ratios: status $?, not 0" [ $? -eq 0 ]
+        says "${size##* } ratios: not as bus" cmp -s "$folder/wanted" "$folder/out"
+    done
+    with_ratios 20 264 100001 > "$folder/in"
+    "$program" outcome 7 < "$folder/in" > "$folder/out"
+    status=$?
+    ends "one ratio more than there may be" 1 "fault line $(wc -l < "$folder/in"): TooMany"$'\n'
+}
+
+# Of seeds without end the first is there at once, and the memory is that of one seed.
+endless_seeds() {
+    local line="$top/tests/worked/three-in-a-line.network"
+    "$program" sample 0 1 < "$line" > "$folder/wanted"
+    (ulimit -v 30000; timeout 60 "$program" sample 0 9999999999999 < "$line"; echo $? > "$folder/status") | sed '/^seed 1$/Q' > "$folder/out"
+    says "the first of endless seeds is another text, or none" cmp -s "$folder/wanted" "$folder/out"
+    says "endless seeds for a closed pipe: status $(cat "$folder/status"), not 4" [ "$(cat "$folder/status")" -eq 4 ]
+}
+
 # Each status, and 3 and 4 with a stream that fails alone.
 statuses() {
     printf '%sframes 12\nput 0 1 0 aa\n' "$base" > "$folder/in"
@@ -405,6 +468,10 @@ rejected_ratios
 horizons
 draw_horizons
 draw_lines
+many_losses
+many_puts
+many_ratios
+endless_seeds
 statuses
 causes
 statuses_have_causes
