@@ -165,7 +165,8 @@ class FloodReport:
 
 @dataclass(frozen=True)
 class DeadlineReport:
-    """Which streams can keep their deadlines.
+    """Which streams could keep their deadlines if each frame had a round, which no host of a run holds: of a run ask
+    `planning.deadline`, of many seeds `planning.sample` with a `deadline`.
 
     admitted  A row for each stream that is admitted: `node`, `stream`.
     rejected  The others, with why: from `from_frame` on and by `until_frame` they would have `demand` jobs, more than slots.
@@ -333,7 +334,9 @@ def flood(text: str, *, program: Path | None = None) -> FloodReport:
 
 
 def deadlines(text: str, *, program: Path | None = None) -> DeadlineReport:
-    """Which streams keep their deadlines, of a text with deadlines (docs/DEADLINES.md)."""
+    """Which streams of a text with deadlines (docs/DEADLINES.md) could keep them if each frame had a round, which no host of a run
+    holds: it admits streams that miss their deadlines in each run. Of a run ask `planning.deadline`, of many seeds `planning.sample`
+    with a `deadline`."""
     rows = [line.split() for line in programs.execute(["deadlines"], text, program=program).decode().splitlines()]
     owners = [(int(row[1]), *divmod(int(code), 4)) for row in rows if row[0] == "round" for code in row[2:]]
     return DeadlineReport(
