@@ -412,7 +412,7 @@ def test_a_map_on_a_floor_plan(tmp_path: Path) -> None:
     plain, behind = plot.topology(made, positions=places), plot.topology(made, positions=places, background=tmp_path / "site.png", extent=(-5, 35, -5, 15))
     (shown,) = behind.axes[0].get_images()
     assert list(shown.get_extent()) == [-5, 35, -5, 15] and not plain.axes[0].get_images()
-    assert plot.topology(made, positions=places, background=(tmp_path / "site.png").read_bytes()).axes[0].get_images()[0].get_extent() == (0, 40, 0, 20)
+    assert list(plot.topology(made, positions=places, background=(tmp_path / "site.png").read_bytes()).axes[0].get_images()[0].get_extent()) == [0, 40, 0, 20]
     with pytest.raises(ValueError, match="a background needs the positions of the nodes on it"):
         plot.topology(made, background=tmp_path / "site.png")
 

@@ -37,7 +37,8 @@ def whole(name: str, value: Any, low: int | None = None, high: int | None = None
 
 def index(value: Any) -> int | None:
     """The whole number of a value, as `whole` takes it, or None where it is none."""
-    if isinstance(value, bool) or type(value).__name__ == "bool_":
+    # numpy's is called so from its second version on, and bool_ before.
+    if type(value).__name__ in ("bool", "bool_"):
         return None
     if hasattr(value, "__index__"):
         return int(value.__index__())

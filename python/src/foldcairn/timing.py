@@ -56,11 +56,11 @@ def spells(log: Log) -> pd.DataFrame:
     table = table.sort_values(["node", "start_ticks"], ignore_index=True)
     apart = table["searching"] & (table.groupby("node")["end_ticks"].shift() != table["start_ticks"])
     new = apart | (table[["node", "rank", "frame"]] != table[["node", "rank", "frame"]].shift()).any(axis=1)
-    grouped = table.groupby(new.cumsum(), as_index=False)
+    grouped = table.groupby(new.cumsum())
     return grouped.agg(
         node=("node", "first"), rank=("rank", "first"), start_seconds=("start_seconds", "min"),
         end_seconds=("end_seconds", "max"), searching=("searching", "first"),
-    )[["node", "rank", "start_seconds", "end_seconds", "searching"]]  # fmt: skip
+    ).reset_index(drop=True)  # fmt: skip
 
 
 @answer
