@@ -78,14 +78,18 @@ sums() {
     (cd "$dist" && sha256sum --check SHA256SUMS && [ "$(wc -l < SHA256SUMS)" -eq 3 ])
 }
 
-# An environment that sees Debian's modules, one that has none but pip, and an install of the clone, each without network.
+# An environment that sees Debian's modules, one that has none but pip, and an install of the clone, each without network. The first sees
+# the Debian package too where that is installed on this machine; so the wheel is installed as README.md says, and then once more, which asks for
+# its requirements.
 wheels() {
     local bare=$folder/bare/bin full=$folder/full/bin scenario=$top/examples/$example.scenario
     "$python" -m venv "$folder/bare" && "$python" -m venv --system-site-packages "$folder/full" || return 1
     says "the wheel without its requirements" "$bare/pip" install -q --no-index --no-deps "$dist/$wheel"
     says "it runs without pandas" reports "$bare/foldcairn" run "$scenario"
     says "it explains a rejected line" explains "$bare/foldcairn"
-    says "the wheel" "$full/pip" install -q --no-index "$dist/$wheel"
+    says "it names what a report needs" lacks_modules "$bare"
+    says "the wheel" "$full/pip" install -q --no-index --force-reinstall --no-deps "$dist/$wheel"
+    says "its requirements" "$full/pip" install -q --no-index "$dist/$wheel"
     says "run" reports "$full/foldcairn" run "$scenario"
     says "run of the standard input" reports "$full/foldcairn" run < "$scenario"
     says "one help for all commands" helps "$full/foldcairn"
@@ -96,7 +100,7 @@ wheels() {
     says "the package finds its own program" finds "$full/python"
     says "the example of README.md" readme_python "$full/python"
     says "the wheel is gone" removed
-    says "an install of the clone" "$full/pip" install -q --no-index --no-build-isolation "$folder/one/python"
+    says "an install of the clone" "$full/pip" install -q --no-index --no-deps --force-reinstall --no-build-isolation "$folder/one/python"
     says "the clone after it" untouched "$folder/one"
     says "run of the clone's wheel" reports "$full/foldcairn" run "$scenario"
     says "what the wheel says of itself" metadata
@@ -106,6 +110,14 @@ wheels() {
 explains() {
     printf 'frames 6\nsends 9\n' | "$1" run 2> "$folder/err" && return 1
     grep -q 'line 2: `sends 9`.* from 1 to 4' "$folder/err" || { cat "$folder/err" && return 1; }
+}
+
+# BIN: a command of the package names the modules that the Python of that environment lacks, and no other Python runs another package.
+lacks_modules() {
+    "$1/foldcairn" report "$top/examples/$example.scenario" > "$folder/out" 2> "$folder/err"
+    [ $? -eq 127 ] && [ ! -s "$folder/out" ] && grep -q "$1/python.* lacks networkx numpy pandas scipy statsmodels tqdm: .*pip install" "$folder/err" && return
+    cat "$folder/out" "$folder/err"
+    return 1
 }
 
 # Each command of the package is one of the help, and has a help of its own.
@@ -164,9 +176,9 @@ debs() {
     says "the unpacked program" reports "$root/usr/bin/foldcairn" run "$root/usr/share/doc/foldcairn/examples/$example.scenario"
     says "the pages lead to one another" pages_lead "$root/usr/share/doc/foldcairn"
     says "the man page has all commands" manual "$root"
-    says "bash completes" completes_bash "$root/usr/share/bash-completion/completions/foldcairn"
-    says "zsh completes" completes_zsh "$root/usr/share/zsh/vendor-completions"
-    says "fish completes" completes_fish "$root/usr/share/fish/vendor_completions.d/foldcairn.fish"
+    says "bash completes" completes in_bash "$root/usr/share/bash-completion/completions/foldcairn"
+    says "zsh completes" completes in_zsh "$root/usr/share/zsh/vendor-completions"
+    says "fish completes" completes in_fish "$root/usr/share/fish/vendor_completions.d/foldcairn.fish"
 }
 
 # Lintian has no error and no warning. Its remarks are these: the completions have words of bash in a script of sh, pages are
@@ -198,32 +210,51 @@ manual() {
     grep -qF 'foldcairn-x86_64-linux run < FILE' "$folder/shown"
 }
 
-completes_bash() {
-    bash -c 'source "$1" && COMP_CWORD=1 && _foldcairn foldcairn de foldcairn && echo "${COMPREPLY[@]}"' bash "$1" > "$folder/out"
-    [ "$(cat "$folder/out")" = "demo deadlines" ]
+# What is typed after the command, and what completes its last word: a command, an option and its words, and second words.
+completions='deadl|deadlines
+sweep --mea|--measure
+sweep --measure p|planning
+run --h|--help
+help capa|capacity
+--completion z|zsh'
+
+# FUNCTION FILE: whether each completion is what the function writes for it, which runs the unpacked command in an empty folder.
+completes() {
+    local typed wanted
+    mkdir -p "$folder/empty"
+    while IFS='|' read -r typed wanted; do
+        (cd "$folder/empty" && PATH=$folder/root/usr/bin:$PATH "$1" "$2" "$typed" < /dev/null) > "$folder/out" 2>&1
+        [ "$(tail -n 1 "$folder/out")" = "$wanted" ] || { echo "foldcairn $typed:" && cat "$folder/out" && return 1; }
+    done <<< "$completions"
 }
 
-completes_fish() {
-    fish -N -c "source '$1'; complete -C 'foldcairn de'" > "$folder/out"
-    [ "$(cut -f 1 "$folder/out" | sort | xargs)" = "deadlines demo" ]
+in_bash() {
+    # shellcheck disable=SC2016 # The inner shell has the words.
+    bash -c 'source "$1"; COMP_WORDS=(foldcairn $2); COMP_CWORD=$((${#COMP_WORDS[@]} - 1))
+        _foldcairn foldcairn "${COMP_WORDS[COMP_CWORD]}" "${COMP_WORDS[COMP_CWORD - 1]}"; echo "${COMPREPLY[@]}"' bash "$1" "$2"
+}
+
+in_fish() {
+    fish -N -c "source '$1'; complete -C 'foldcairn $2'" | cut -f 1
 }
 
 # An interactive zsh on a terminal of its own, in which a word is completed by a tabulator.
-completes_zsh() {
+in_zsh() {
     cat > "$folder/typed.zsh" <<'ZSH'
 zmodload zsh/zpty
 zpty shell 'env TERM=dumb PS1="> " zsh -f -i'
 zpty -w shell "fpath=($1 \$fpath); autoload -Uz compinit; compinit -u -D; bindkey '^I' complete-word; echo rea''dy"
 zpty -r -m shell answer '*ready*'
-zpty -n -w shell $'foldcairn deadl\t'
-repeat 50; do
+zpty -n -w shell "foldcairn $2"$'\t'
+all=
+repeat 100; do
     sleep 0.1
-    zpty -r -t shell answer && print -r -- "$answer"
-    [[ $answer == *deadlines* ]] && exit 0
+    while zpty -r -t shell answer; do all+=$answer; done
+    [[ $all == *$3* ]] && { print -r -- $3; exit 0 }
 done
-exit 1
+print -r -- $all
 ZSH
-    timeout 60 zsh -f "$folder/typed.zsh" "$1"
+    timeout 60 zsh -f "$folder/typed.zsh" "$1" "$2" "$(grep -F -- "$2|" <<< "$completions" | sed 's/.*|//')"
 }
 
 case ${1-} in

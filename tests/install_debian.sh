@@ -58,6 +58,7 @@ debian_package() {
     says "its first picture" is_picture "$root/root/first.svg"
     says "the example of README.md with the Debian package" inside "$root" "$(readme_script python3)"
     says "a page" inside "$root" 'foldcairn report --html report.html /usr/share/doc/foldcairn/examples/host-restarts.scenario'
+    says "README.md's commands for the wheel beside the Debian package" inside "$root" "$(commands Install 2)"
     says "what the package leaves" purged "$root"
     rm -rf "$root"
 }
