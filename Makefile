@@ -4,7 +4,7 @@ PROGRAM = bin/foldcairn-x86_64-linux
 PLAN = bin/foldcairn-plan-x86_64-linux
 IN_CRATE = cd crates/$(or $(CRATE),$(error name a crate: make $@ CRATE=link_trace)) &&
 
-.PHONY: help check only try tests format edits crate gate store program python lint pages words pictures crates lemmas calls costs bench
+.PHONY: help check only try tests test format edits crate gate store program python lint pages words pictures crates lemmas calls costs bench
 .PHONY: wheel deb release install-tests notebook instructions
 
 help: # lists the targets
@@ -24,6 +24,8 @@ tests: # runs the tests of a crate of tests before any proof
 
 format: # lays out the files of one crate
 	$(IN_CRATE) rt fmt
+
+test: program python pages # runs the stored programs, the Python package and the commands of the pages: some 6 minutes, without the toolchain
 
 edits: # tries the edits that must fail of one crate, or those of all crates that the gate leaves out
 	tests/edits.sh $(CRATE)
