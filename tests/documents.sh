@@ -1,6 +1,6 @@
 #!/usr/bin/env bash
-# Runs what the documents show and says where the program writes something else. It takes the fenced blocks of README.md, of
-# the pages below docs and of the README.md of each crate:
+# Runs what the documents show and says where the program writes something else. It takes the fenced blocks of README.md,
+# CONTRIBUTING.md and SECURITY.md, of the pages below docs and of the README.md of each crate:
 # - a block `console` has commands, each on a line after `$ `, with what they write on both streams. Every command is run, and
 #   its output compared to the byte. No command goes on in a second line, so that each can be copied.
 # - a block `text NAME`, NAME having a dot, is put into the file NAME for the commands below it.
@@ -310,7 +310,7 @@ words() {
 
 cd "$top" || exit 1
 if [ $# -eq 0 ]; then
-    set -- README.md CONTRIBUTING.md docs/*.md docs/internals/*.md docs/internals/proofs/*.md crates/*/README.md
+    set -- README.md CONTRIBUTING.md SECURITY.md docs/*.md docs/internals/*.md docs/internals/proofs/*.md crates/*/README.md
     pictures
     listed
     crate_pages

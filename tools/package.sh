@@ -57,7 +57,7 @@ deb_pages() {
     pages=$root/usr/share/doc/foldcairn
     mkdir -p "$root/usr/share/foldcairn" "$pages" || return 1
     mv "$own/docs" "$root/usr/share/foldcairn/docs" && cp -r "$tree/docs/internals" "$root/usr/share/foldcairn/docs/" || return 1
-    mv "$own/examples" "$pages/examples" && cp "$tree/README.md" "$tree/CONTRIBUTING.md" "$tree/CHANGELOG.md" "$pages/" || return 1
+    mv "$own/examples" "$pages/examples" && cp "$tree/README.md" "$tree/CONTRIBUTING.md" "$tree/SECURITY.md" "$tree/CHANGELOG.md" "$pages/" || return 1
     ln -s ../../share/foldcairn/docs "$own/docs" && ln -s ../../foldcairn/docs "$pages/docs" &&
         ln -s ../../share/doc/foldcairn/examples "$own/examples"
 }
