@@ -93,6 +93,7 @@ wheels() {
     says "run" reports "$full/foldcairn" run "$scenario"
     says "run of the standard input" reports "$full/foldcairn" run < "$scenario"
     says "one help for all commands" helps "$full/foldcairn"
+    says "a help of which one line is read" cuts_help "$full/foldcairn"
     says "report" "$full/foldcairn" report "$scenario"
     says "a page" "$full/foldcairn" report --html "$folder/page.html" "$scenario"
     says "timeline" "$full/foldcairn" timeline "$scenario" -o "$folder/timeline.svg"
@@ -129,6 +130,13 @@ helps() {
         "$1" "$word" --help > "$folder/out" && grep -q "^usage: foldcairn $word" "$folder/out" || return 1
     done
     [ "$(grep -c '^  foldcairn [a-z-]' "$folder/help")" -ge 20 ]
+}
+
+# COMMAND: where a reader goes, nothing is said of it.
+cuts_help() {
+    "$1" --help 2> "$folder/err" | head -n 1 > "$folder/out"
+    cat "$folder/err"
+    [ -s "$folder/out" ] && [ ! -s "$folder/err" ]
 }
 
 finds() {

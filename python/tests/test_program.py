@@ -84,11 +84,14 @@ def test_find_takes_what_was_installed_with_the_package(monkeypatch, tmp_path):
 
 def test_the_command_becomes_the_front_end(monkeypatch):
     begun = []
+    handled = []
     monkeypatch.setattr(front_end.os, "execv", lambda script, words: begun.append((script, words)))
+    monkeypatch.setattr(front_end.signal, "signal", lambda *change: handled.append(change))
     monkeypatch.setattr(sys, "argv", ["foldcairn", "report", "a file"])
     monkeypatch.setenv("FOLDCAIRN_PYTHON", "")
     front_end.main()
     assert begun == [(REPOSITORY / "foldcairn", [str(REPOSITORY / "foldcairn"), "report", "a file"])]
+    assert handled == [(signal.SIGPIPE, signal.SIG_DFL)]
     # By it the front end finds back to this Python.
     assert os.environ["FOLDCAIRN_PYTHON"] == sys.executable
     monkeypatch.setattr(front_end, "path", lambda: None)

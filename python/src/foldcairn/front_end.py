@@ -6,6 +6,7 @@ It imports nothing of the package and none of the libraries that it stands on, s
 from __future__ import annotations
 
 import os
+import signal
 import sys
 from pathlib import Path
 from typing import NoReturn
@@ -35,4 +36,6 @@ def main() -> NoReturn:
     if script is None:
         sys.exit("foldcairn: this package was installed without its programs")
     os.environ["FOLDCAIRN_PYTHON"] = sys.executable
+    # Python ignores it, and what it starts would too: a shell whose reader is gone would say so for each line.
+    signal.signal(signal.SIGPIPE, signal.SIG_DFL)
     os.execv(script, [str(script), *sys.argv[1:]])
