@@ -10,7 +10,9 @@ import numpy as np
 import pytest
 from networks import LINE
 
-from foldcairn import losses, planning, results
+import foldcairn
+from foldcairn import losses, planning, results, seeds as many
+from foldcairn.arguments import ArgumentError
 from foldcairn.scenario import Scenario
 
 
@@ -84,8 +86,71 @@ def test_what_can_not_be_answered(pool: ThreadPoolExecutor) -> None:
     network = Scenario.read(LINE)
     with pytest.raises(ValueError, match="not one of"):
         planning.importance(network, "hosts", executor=pool)
-    with pytest.raises(ValueError, match="one seed"):
+    with pytest.raises(ArgumentError, match="`seeds` has no seed"):
         planning.importance(network, seeds=[], executor=pool)
+    with pytest.raises(ArgumentError, match="`scenario` is a str, and has to be a Scenario; write Scenario.read"):
+        planning.importance(LINE, executor=pool)  # type: ignore[arg-type]
     network.script = [line for line in network.script if not line.text().startswith("put")]
     with pytest.raises(ValueError, match="nothing is put"):
         planning.importance(network, executor=pool)
+
+
+def test_the_network_of_a_log_answers_as_it_does_itself(pool: ThreadPoolExecutor) -> None:
+    """A log's scenario has losses that were drawn. Drawn once more on top of them, twice as much would be lost."""
+    network = Scenario(60).node(1).node(2).node(3).node(4).host(0, 1).pair(1, 2, 0.8).pair(2, 3, 0.8).pair(3, 4, 0.8).on().stream(4, 4).every(8, 4)
+    network.lose(9, 2, 0, 2, 1)
+    log = foldcairn.run(network, seed=1, progress=False)
+    for drawn in (log.scenario, Scenario.read(log.scenario.text(warn=False))):
+        for what in ("links", "nodes"):
+            asked = {"seeds": [1, 2], "executor": pool, "progress": False}
+            assert planning.importance(drawn, what, **asked).equals(planning.importance(network, what, **asked))
+    # The measure is that of the reports of the seeds.
+    reports = [results.outcome(network, seed, warn=False) for seed in (1, 2)]
+    wanted = np.mean([planning.delivery_ratio(one, "all")["ratio_of_put"][0] for one in reports])
+    assert planning.importance(log.scenario, seeds=[1, 2], executor=pool, progress=False)["ratio"][0] == pytest.approx(wanted)
+
+
+def test_what_is_kept_goes_by_the_nodes_that_are_cut(pool: ThreadPoolExecutor, tmp_path: Path) -> None:
+    """The ratio without a cut leaves the nodes out that are cut, so it is another one for other nodes."""
+    network = lossy().stream(3, 8).every(10, 3)
+    for node in (4, 3):
+        asked = {"what": "nodes", "candidates": [node], "seeds": [1, 2, 3], "executor": pool, "progress": False}
+        assert planning.importance(network, **asked, results=tmp_path).equals(planning.importance(network, **asked))
+
+
+def test_each_candidate_once(pool: ThreadPoolExecutor) -> None:
+    """Holm's method multiplies the least chance by the number of cuts: a cut that is named twice is one."""
+    asked = {"seeds": range(1, 7), "executor": pool, "progress": False}
+    once = planning.importance(lossy(), candidates=[(4, 2), (1, 3)], **asked)
+    again = planning.importance(lossy(), candidates=iter([(4, 2), (1, 3), (2, 4), [4, 2]]), **asked)
+    assert again.equals(once) and sorted(once[["one", "other"]].values.tolist()) == [[1, 3], [4, 2]]
+    assert planning.importance(lossy(), "nodes", candidates=[2, 2], **asked)["node"].tolist() == [2]
+
+
+@pytest.mark.parametrize(
+    ("what", "candidates", "says"),
+    [
+        ("links", [(1, 4)], "`candidates` has 1-4, and no link joins these; links join node 1 with 2, 3 and node 4 with 2, 3"),
+        ("links", [(5, 1)], "`candidates` has 5-1, and no link joins these; links join node 5 with none and node 1 with 2, 3"),
+        ("links", [(1, 9)], "the scenario has no node 9"), ("links", [1], r"`candidates` has 1, and for links has to have pairs of nodes, as \(1, 2\)"),
+        ("nodes", [9], "the scenario has no node 9"),
+    ],
+)  # fmt: skip
+def test_candidates_that_are_none(what: str, candidates: list[object], says: str) -> None:
+    with pytest.raises(ArgumentError, match=says):
+        planning.importance(lossy().node(5), what, candidates=candidates, progress=False)  # type: ignore[arg-type]
+
+
+def test_two_seeds_are_not_sure(pool: ThreadPoolExecutor, monkeypatch: pytest.MonkeyPatch) -> None:
+    """Changes of the same size have no spread, which is no certainty: two seeds can't tell, and six can by their signs."""
+    for seeds, chance in ((2, np.nan), (5, np.nan), (6, 2 / 64)):
+        ratios = [[0.9]] * seeds
+        monkeypatch.setattr(many, "answers", lambda asked, listed, told=ratios, **_: [told, [[0.75]] * len(told)])
+        row = planning.importance(lossy(), candidates=[(2, 4)], seeds=range(seeds), executor=pool).iloc[0]
+        assert row["change"] == pytest.approx(-0.15) and row[["low", "high"]].isna().all() and row["p"] == pytest.approx(chance, nan_ok=True)
+
+
+def test_seeds_of_any_kind(pool: ThreadPoolExecutor) -> None:
+    wanted = planning.importance(lossy(), candidates=[(2, 4)], seeds=[1, 2], executor=pool, progress=False)
+    for seeds in (np.arange(1, 3), (seed for seed in (1, 2)), range(1, 3)):
+        assert planning.importance(lossy(), candidates=[(2, 4)], seeds=seeds, executor=pool, progress=False).equals(wanted)

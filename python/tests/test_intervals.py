@@ -5,6 +5,7 @@ from __future__ import annotations
 import numpy as np
 import pandas as pd
 import pytest
+from scipy import stats
 
 from foldcairn import intervals
 from foldcairn.arguments import ArgumentError
@@ -44,8 +45,10 @@ def test_chances() -> None:
     values = np.array([-1.0, 0.0, 0.0, 1.0])
     values = values + 3.1824 * values.std(ddof=1) / 2
     assert intervals.chance(values) == pytest.approx(0.05, abs=1e-4)
-    assert (intervals.chance([0, 0, 0]), intervals.chance([-1, -1])) == (1, 0)
-    assert np.isnan(intervals.chance([0.3]))
+    assert intervals.chance([0, 0, 0]) == 1 and np.isnan(intervals.chance([0.3]))
+    # Values without a spread: six of one sign come up twice in 2^6 times, five in more than 5 % of all.
+    assert np.isnan(intervals.chance([-1, -1])) and np.isnan(intervals.chance([2.0] * 5))
+    assert intervals.chance([-1.0] * 6) == pytest.approx(stats.binomtest(0, 6).pvalue) and intervals.chance([3.0] * 10) == pytest.approx(2 / 1024)
 
 
 def test_several_chances_by_holm() -> None:

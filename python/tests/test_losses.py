@@ -17,6 +17,7 @@ from hypothesis import strategies as st
 
 from conftest import EXAMPLES
 from foldcairn import losses, program
+from foldcairn.arguments import ArgumentError
 from foldcairn.scenario import Loss, On, Scenario, ScenarioError, grid, line
 from scenarios import planned_grid
 
@@ -360,3 +361,25 @@ def test_a_drawn_text_keeps_its_seed_and_ratios():
     # What is no such comment is passed over.
     other = Scenario.read("#: seed x\n#: prr 1 2 x\n#: prr 9 9 0.5\n#: prr 1 2 nan\n#:\n#\n" + made.text(warn=False))
     assert other.seed is None and other.prr == {}
+
+
+def test_losses_are_never_drawn_on_top_of_others():
+    """What a seed lost is left out before another seed draws; what the scenario loses by itself stays, also in a text."""
+    network = small_lossy()
+    network.lose(6, 0, 0, 1, 2).lose(9, 1, 1, 2, 3)
+    first, second = losses.draw(network, 1), losses.draw(network, 2)
+    assert len(first.losses) > 2 and first.drawn == set(first.losses) - set(network.losses) and first.undrawn() == network
+    read = Scenario.read(first.text(warn=False))
+    assert read.drawn == first.drawn and read.undrawn().network_text() == network.network_text() and read.text() == first.text()
+    for drawn in (first, read, first.copy()):
+        assert losses.draw(drawn, 2).text() == second.text() and losses.fixed_point(drawn, 2) == losses.fixed_point(network, 2)
+        assert losses.Drawing(drawn, 2).drawn().text() == second.text() and losses.Outcome(drawn, 2).scenario == losses.Outcome(read, 2).scenario
+    # What is lost on top later is its own, and a network that was never drawn is the one that is given.
+    assert first.copy().lose(7, 0, 0, 1, 2).undrawn().losses == [*network.losses, Loss(7, 0, 0, 1, 2)] and network.undrawn() is network
+    with pytest.raises(ArgumentError, match="`scenario` is a str, and has to be a Scenario"):
+        losses.draw(network.text(), 1)
+
+
+def small_lossy() -> Scenario:
+    made = Scenario(30).node(1).node(2).node(3).host(0, 1).pair(1, 2, 0.7).pair(2, 3, 0.7).on()
+    return made.stream(3, 4).every(8, 3)

@@ -6,14 +6,18 @@ import io
 import json
 import re
 from concurrent.futures import ThreadPoolExecutor
+from functools import partial
 from pathlib import Path
 
+import numpy as np
 import pandas as pd
 import pytest
 from networks import FAILOVER, LINE
+from scipy import stats
 
-from foldcairn import commands, compare, planning, plans, program, tallies
+from foldcairn import commands, compare, losses, planning, plans, program, tallies
 from foldcairn.__main__ import main
+from foldcairn.arguments import ArgumentError
 from foldcairn.scenario import Scenario
 
 
@@ -21,6 +25,9 @@ from foldcairn.scenario import Scenario
 def threads(monkeypatch: pytest.MonkeyPatch) -> None:
     """Threads in place of processes, which each take a second to begin."""
     monkeypatch.setattr(plans, "ProcessPoolExecutor", ThreadPoolExecutor)
+
+
+planning_compare = partial(compare.compare, progress=False)
 
 
 @pytest.fixture
@@ -85,6 +92,15 @@ def test_importance(folder: Path, capsys: pytest.CaptureFixture[str]) -> None:
         (["compare", "line.scenario"], "a comparison takes two plans or more"),
         (["compare", "line.scenario", "./line.scenario"], "two plans are called 'line': name them, as in A=./line.scenario"),
         (["compare", "line.scenario", "late.scenario", "--seeds", "2-1"], "`--seeds` is '2-1', and has no seed"),
+        (["compare", "line.scenario", "late.scenario", "--seeds", "1-99999999999999"], "a seed is at most 9,999,999,999,999"),
+        (["sweep", "line.scenario", "--ratios", "ratios.csv", "--seeds", "1-9999999999999"], "has 9,999,999,999,999 seeds; at most 1,000,000 are taken"),
+        (["capacity", "line.scenario", "--every", "10", "--interval", "0"], "`interval` is 0, and has to be a whole number from 1 to 120"),
+        (["capacity", "line.scenario", "--every", "10", "--interval", "-3"], "`interval` is -3, and has to be a whole number from 1 to 120"),
+        (["capacity", "line.scenario", "--every", "10", "--ratio", "nan"], "`ratio` is nan, and has to be a number from 0 to 1 above 0"),
+        (["capacity", "line.scenario", "--every", "nan"], "`every` is nan, and has to be a number above 0"),
+        (["capacity", "line.scenario", "--every", "10", "--from", "inf"], "`start_seconds` is inf, and has to be a number"),
+        (["capacity", "line.scenario", "--every", "10", "--sources", "2,3,2"], "`sources` has node 2 twice"),
+        (["importance", "line.scenario", "--only", "1-3"], "`candidates` has 1-3, and no link joins these; links join node 1 with 2 and node 3 with 2"),
         (["compare", "line.scenario", "late.scenario", "--receivers", "9"], "`receivers`: the scenario has no node 9"),
         (["capacity", "line.scenario"], "there are not two packets with 60 s between them; take a longer run"),
         (["capacity", "line.scenario", "--every", "10", "--sources", "9"], "the scenario has no node 9"),
@@ -143,12 +159,56 @@ def test_seeds_without_an_answer_are_told() -> None:
     told = pd.DataFrame({name: 1.0 for name, *_ in compare._ANSWERS}, index=range(4)).assign(plan=["A", "A", "B", "B"], seed=[1, 2, 1, 2])
     told["all_joined_seconds"] = [46.0, 46.0, 26.0, float("nan")]
     told["outage_seconds"] = [9.0, 9.0, 8.0, 8.0]
-    rows = compare._table(told, ["A", "B"], "nobody").set_index("answer")
+    rows = compare._table(told, ["A", "B"], "nobody", exact=True).set_index("answer")
     joined = rows.loc["all nodes had joined after the first start"]
     assert (joined["A"], joined["B"], joined["better"], joined["missing"]) == (46, 26, "", "B in 1 of 2 seeds")
     outage = rows.loc["longest outage at a change of hosts, or to the end"]
     assert (outage["better"], outage["missing"]) == ("B", "")
     assert "none: B in 1 of 2 seeds</th>" in compare._answers(rows.reset_index(), ["A", "B"], [1, 2])
+    # With losses that are drawn, two seeds with the same difference are no proof.
+    assert (compare._table(told, ["A", "B"], "nobody")["better"] == "").all()
+
+
+def test_plans_that_share_their_seeds_are_compared_seed_by_seed(tmp_path: Path) -> None:
+    """B delivers a little less in each seed. The intervals of the two means overlap by far, and the differences leave no doubt."""
+    chance = np.random.default_rng(1)
+    bad = chance.normal(93, 3, 40)
+    told = pd.concat([pd.DataFrame({"ratio_of_put": ratio / 100, "seed": range(40), "plan": plan}) for plan, ratio in (
+        ("A", bad), ("B", bad - chance.normal(0.2, 0.1, 40)), ("C", chance.permutation(bad) - 0.1))])  # fmt: skip
+    row = compare._table(told[told["plan"] != "C"], ["A", "B"], "nobody").iloc[0]
+    assert abs(row["A"] - row["B"]) < row["A ±"] and stats.ttest_rel(bad, 100 * told.loc[told["plan"] == "B", "ratio_of_put"]).pvalue < 1e-9
+    assert row["better"] == "A"
+    # C has the same numbers with other seeds: that tells nothing of A, so A is not better than each other.
+    assert compare._table(told, ["A", "B", "C"], "nobody")["better"][0] == ""
+    assert compare._table(told[told["seed"] == 3], ["A", "B"], "nobody")["better"][0] == ""
+
+
+def test_which_way_is_better() -> None:
+    """More of what is delivered and acknowledged is better; of times, and of time with the radio on, it is less."""
+    told = pd.DataFrame({name: [1.0, 1.0, 2.0, 2.0] for name, *_ in compare._ANSWERS}).assign(plan=["A", "A", "B", "B"], seed=[1, 2, 1, 2])
+    better = dict(zip((name for name, *_ in compare._ANSWERS), compare._table(told, ["A", "B"], "nobody", exact=True)["better"]))
+    assert {name for name, plan in better.items() if plan == "B"} == {"ratio_of_put", "ratio_of_sent_while_on", "request_success"}
+    assert set(better.values()) == {"A", "B"}
+
+
+def test_plans_of_any_kind() -> None:
+    lossy = [Scenario.read(LINE).pair(2, 3, ratio) for ratio in (0.9, 0.5)]
+    with ThreadPoolExecutor(2) as pool:
+        told = planning_compare(lossy, seeds=np.arange(1, 3), executor=pool)
+        assert list(told.table)[2:6:2] == ["1", "2"] and told.runs.groupby("plan")["seed"].apply(list).to_dict() == {"1": [1, 2], "2": [1, 2]}
+        # A plan whose losses were drawn is compared as its network.
+        drawn = {"1": losses.draw(lossy[0], 7), "2": lossy[1]}
+        for by in ("log", "sample"):
+            again = planning_compare(drawn, seeds=(seed for seed in (1, 2)), executor=pool, by=by)
+            wanted = planning_compare(lossy, seeds=[1, 2], executor=pool, by=by)
+            assert again.table.equals(wanted.table) and again.table.attrs == wanted.table.attrs
+    for given, says in ((lossy[0], "was given a Scenario; write {'A': a, 'B': b}"), (lossy[:1], "was given 1"), (7, "was given a int")):
+        with pytest.raises(ArgumentError, match=f"a comparison takes two plans or more by their names, and {says}"):
+            planning_compare(given)
+    with pytest.raises(ArgumentError, match="`plan B` is a str, and has to be a Scenario; write Scenario.read"):
+        planning_compare({"A": lossy[0], "B": LINE})
+    with pytest.raises(ArgumentError, match="`seeds` has no seed"):
+        planning_compare(lossy, seeds=[])
 
 
 @pytest.mark.parametrize(

@@ -4,6 +4,7 @@ kept, and the command."""
 from __future__ import annotations
 
 import io
+import itertools
 import json
 import os
 import re
@@ -171,6 +172,15 @@ def test_a_node_without_power_has_no_duty_cycle(pool: Executor) -> None:
         Scenario.read(WORKED), [7, 8], executor=pool, progress=False).duty_cycle("all")["mean"].tolist())  # fmt: skip
 
 
+def test_seeds_of_any_kind_and_a_network_whose_losses_were_drawn(pool: Executor) -> None:
+    network = Scenario.read(WORKED)
+    wanted = planning.sample(network, [7, 8], executor=pool, progress=False)
+    drawn = Scenario.read(losses.draw(network, 8).text(warn=False))
+    for given, seeds in ((network, np.arange(7, 9)), (network, (seed for seed in (7, 8))), (drawn, [7, 8])):
+        found = planning.sample(given, seeds, executor=pool, progress=False)
+        assert found.runs.equals(wanted.runs) and found.origin == wanted.origin and found.scenario == network
+
+
 # What can't be sampled.
 
 
@@ -179,6 +189,8 @@ def test_what_can_not_be_sampled(pool: Executor) -> None:
     for given, says in (
         ({"seeds": 200}, r"`seeds` is 200, and has to be several; write range\(1, 201\)"), ({"seeds": []}, "`seeds` has no seed"),
         ({"seeds": [1, 2, 1]}, "`seeds` has the seed 1 twice"), ({"seeds": [-1]}, "`seeds` is -1"), ({"deadline": 0}, "`deadline` is 0"),
+        ({"seeds": "1-3"}, "`seeds` is '1-3', and has to be several whole numbers"), ({"seeds": range(10**13 - 1, 10**13 + 1)}, "`seeds` is 10000000000000"),
+        ({"seeds": itertools.count()}, "`seeds` has more than 1,000,000 seeds"),
         ({"receivers": 9}, "`receivers`: the scenario has no node 9"),
     ):  # fmt: skip
         with pytest.raises(ValueError, match=says):
@@ -187,7 +199,7 @@ def test_what_can_not_be_sampled(pool: Executor) -> None:
         planning.sample("frames 3", progress=False)  # type: ignore[arg-type]
     lossless = network.copy()
     lossless.prr = {}
-    with pytest.raises(ArgumentError, match="has no reception ratios, or its losses are drawn"):
+    with pytest.raises(ArgumentError, match="has no reception ratios: each seed would be the same"):
         planning.sample(lossless, progress=False)
     network.script = [line for line in network.script if not line.text().startswith("put")]
     with pytest.raises(ArgumentError, match="nothing is put in this network"):

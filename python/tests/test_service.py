@@ -2,11 +2,15 @@
 
 from __future__ import annotations
 
+import math
+
 import numpy as np
+import pandas as pd
 import pytest
 from networks import FAILOVER, LINE, log_of
 
-from foldcairn import planning, results
+from foldcairn import capacity, losses, planning, results
+from foldcairn.arguments import ArgumentError
 from foldcairn.scenario import On, Scenario
 
 # Node 1 hosts until frame 6, node 2 from frame 27 until frame 40, and then nobody.
@@ -190,3 +194,35 @@ def test_capacity_by_the_run(tmp_path) -> None:
     assert planning.capacity(made, every=20, sources=[2], progress=False)["further"].iloc[0] >= 3
     with pytest.raises(ValueError, match="there are not two packets with 60 s between them"):
         planning.capacity(made, start_seconds=239)
+
+
+def test_capacity_with_a_packet_of_grace() -> None:
+    """Of ten packets nine have to be delivered, but for one that may be on its way at the end."""
+    search = capacity._Search(line(3, frames=60), [(3, 1)], 20, 17, 0.9, None, [1], None)
+    search.before[1] = 0.0
+    for delivered, served in ((9, True), (8, True), (7, False)):
+        table = pd.DataFrame({"seed": 1, "source": [0, 3], "stream": [0, 1], "put": [0, 10], "delivered": [0, delivered], "one": [0.0, 1.0]})
+        assert search._is_served(table, 1) is served
+
+
+@pytest.mark.parametrize(
+    ("given", "says"),
+    [
+        ({"interval": 0}, "`interval` is 0, and has to be a whole number from 1 to 120"), ({"interval": 2.5}, "`interval` is 2.5"),
+        ({"every": 0}, "`every` is 0, and has to be a number above 0"), ({"every": math.nan}, "`every` is nan"), ({"ratio": math.nan}, "`ratio` is nan"),
+        ({"ratio": 1.5}, "`ratio` is 1.5"), ({"seeds": []}, "`seeds` has no seed"), ({"seeds": [1, 1]}, "`seeds` has the seed 1 twice"),
+        ({"sources": [2, 2, 2]}, "`sources` has node 2 twice; a node that is named once gets all streams"), ({"sources": []}, "`sources` has no node"),
+        ({"sources": 2}, r"`sources` is 2, and has to be several nodes; write \[2\] for one"), ({"start_seconds": math.nan}, "`start_seconds` is nan"),
+    ],
+)  # fmt: skip
+def test_arguments_of_capacity_that_are_wrong(given: dict[str, object], says: str) -> None:
+    with pytest.raises(ArgumentError, match=says):
+        planning.capacity(line(3, frames=60), **{"every": 20, **given}, progress=False)  # type: ignore[arg-type]
+    with pytest.raises(ArgumentError, match="`scenario` is a str, and has to be a Scenario"):
+        planning.capacity("frames 3", progress=False)  # type: ignore[arg-type]
+
+
+def test_capacity_of_a_network_whose_losses_were_drawn() -> None:
+    made = line(3, frames=60).pair(2, 3, 0.8)
+    asked = {"every": 20, "sources": [3], "seeds": np.arange(1, 3), "progress": False}
+    assert planning.capacity(losses.draw(made, 9), **asked).equals(planning.capacity(made, **asked))

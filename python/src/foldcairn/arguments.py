@@ -5,6 +5,7 @@ Each check gives the value in the type that the rest of the package uses. Tested
 
 from __future__ import annotations
 
+import contextlib
 import functools
 import math
 import os
@@ -14,8 +15,10 @@ from typing import TYPE_CHECKING, Any, TypeVar, cast
 
 if TYPE_CHECKING:
     from .results import Log
+    from .scenario import Scenario
 
 Call = TypeVar("Call", bound=Callable[..., Any])
+AnyScenario = TypeVar("AnyScenario", bound="Scenario")
 
 
 class ArgumentError(ValueError):
@@ -41,7 +44,10 @@ def index(value: Any) -> int | None:
     if type(value).__name__ in ("bool", "bool_"):
         return None
     if hasattr(value, "__index__"):
-        return int(value.__index__())
+        # An array of numpy has it too, and is no whole number unless it is one alone.
+        with contextlib.suppress(TypeError):
+            return int(value.__index__())
+        return None
     if isinstance(value, float) and value.is_integer():
         return int(value)
     return None
@@ -118,6 +124,16 @@ def text(name: str, value: Any) -> bytes:
     if isinstance(value, os.PathLike):
         return Path(value).read_bytes()
     raise ArgumentError(f"`{name}` is {_kind(value)}, and has to be a text, its bytes, or the pathlib.Path of a file")
+
+
+def network(name: str, value: AnyScenario) -> AnyScenario:
+    """The network that is given, whose losses are to be drawn: of one whose losses were drawn it is that without them
+    (`Scenario.undrawn`), so the scenario of a log answers as its network does. Raises `ArgumentError` where it is no `Scenario`."""
+    from .scenario import Scenario
+
+    if not isinstance(value, Scenario):
+        raise ArgumentError(f"`{name}` is {_kind(value)}, and has to be a Scenario; write Scenario.read(..) of a text")
+    return value.undrawn()
 
 
 def window(start_seconds: Any, end_seconds: Any, run_seconds: float) -> tuple[float, float]:

@@ -65,9 +65,13 @@ def bounds(network: Scenario | Report, by: str = "network") -> pd.DataFrame:
 
     With `by` = "stream" there is a row for each `source` and `stream` that asks for slots, with its `interval` in seconds, and each
     number of `packets`. A bound that does not hold is still the number for networks in which it does: whatever is in the way
-    may make it longer. Raises `ArgumentError` where `by` is another word.
+    may make it longer. Raises `ArgumentError` where `by` is another word, or `network` is neither.
     """
     arguments.one_of("by", by, ("network", "stream"))
+    if not isinstance(network, (Scenario, Report)):
+        raise arguments.ArgumentError(
+            f"`bounds` takes a network or the report of a run, and was given a {type(network).__name__}; write Scenario.read(..) of a text"
+        )
     scenario = _as_run(network) if isinstance(network, Report) else network
     if by == "stream":
         return _by_stream(_Known(scenario))

@@ -6,11 +6,11 @@ import functools
 import os
 from collections.abc import Iterable, Sequence
 from concurrent.futures import Executor
-from typing import TextIO
+from typing import Any, TextIO
 
 import pandas as pd
 
-from . import lines, losses, progress as bars, results as runs, sweep
+from . import arguments, lines, losses, progress as bars, results as runs, seeds as many, sweep
 from .arguments import ArgumentError
 from .events import Put, Stream
 from .receivers import Receivers, meant
@@ -19,6 +19,8 @@ from .scenario import Scenario
 # A stream asks for its slots that much more often than its packets come, so that its queue drains.
 _SLACK = 1.15
 _STREAMS_OF_A_NODE = 4
+# The longest interval, in seconds, that a stream may ask for.
+_INTERVAL_MOST = 120
 # By how much the streams of the network may deliver less, as a part of what they put.
 _NO_LESS = 0.02
 
@@ -31,7 +33,7 @@ def capacity(
     sources: Iterable[int | str] | None = None,
     ratio: float = 0.9,
     start_seconds: float | None = None,
-    seeds: Sequence[int] = (1,),
+    seeds: Iterable[int] = (1,),
     receivers: Receivers = None,
     executor: Executor | None = None,
     results: str | os.PathLike[str] | None = None,
@@ -56,13 +58,15 @@ def capacity(
     limit                    what forbids one more: "streams of a host", "slots of a round", "streams of nodes", or "the run"
 
     It takes some six runs of the bus a seed, which may be as long as those of `results.outcome`; `executor`, `results`, `progress` and
-    the table's `attrs` are those of `importance`. Raises `ScenarioError` where a source is no node or an interval is out of its range,
-    `ArgumentError` where the run is too short, and `ValueError` where a run fails.
+    the table's `attrs` are those of `importance`. Losses that were drawn before, as of the scenario of a log, are left out. Raises
+    `ArgumentError`, a `ValueError`, where a source is no node (then `ScenarioError`) or there twice, the seeds are none, another argument
+    is out of its range, or the run is too short, and `ValueError` where a run fails.
     """
+    scenario, listed = arguments.network("scenario", scenario), many.checked(seeds)
+    every, ratio = arguments.real("every", every, above=0), arguments.real("ratio", ratio, 0, 1, above=0)
+    interval = None if interval is None else arguments.whole("interval", interval, 1, _INTERVAL_MOST)
     asked = _asked_at_most(scenario)
-    wanted = max(1, min(120, int(every / _SLACK))) if interval is None else interval
-    if every / _SLACK > 120 and interval is None:
-        wanted = 120
+    wanted = max(1, min(_INTERVAL_MOST, int(every / _SLACK))) if interval is None else interval
     places = _places(scenario, sources)
     slot = scenario.frame_seconds / wanted
     left = {
@@ -72,7 +76,7 @@ def capacity(
     }
     limit = min(left, key=lambda name: left[name])
     most = max(0, left[limit])
-    search = _Search(scenario, places, every, wanted, ratio, start_seconds, seeds, receivers)
+    search = _Search(scenario, places, every, wanted, ratio, start_seconds, listed, receivers)
     further = search.largest(most, executor, results, progress)
     row = {
         "streams": asked[0], "streams_left": max(0, lines.STREAMS_OF_A_HOST - asked[0]), "slots": asked[1],
@@ -80,7 +84,7 @@ def capacity(
         "limit": limit if further == most else "the run",
     }  # fmt: skip
     table = pd.DataFrame([row])
-    table.attrs.update(sweep.origin(seeds, {"scenario": scenario}))
+    table.attrs.update(sweep.origin(listed, {"scenario": scenario}))
     return table
 
 
@@ -94,12 +98,24 @@ def _asked_at_most(scenario: Scenario) -> tuple[int, float]:
 def _places(scenario: Scenario, sources: Iterable[int | str] | None) -> list[tuple[int, int]]:
     """Where further streams may be, as nodes and streams, the nodes in turn."""
     hosts = scenario.hosts.get(0)
-    nodes = sorted(scenario.nodes.keys() - {hosts}) if sources is None else [scenario.id(node) for node in sources]
+    nodes = sorted(scenario.nodes.keys() - {hosts}) if sources is None else [scenario.id(node) for node in _listed(sources)]
+    if twice := [node for place, node in enumerate(nodes) if node in nodes[:place]]:
+        raise ArgumentError(f"`sources` has node {scenario.name(twice[0])} twice; a node that is named once gets all streams that it has room for")
     taken = {(event.node, event.stream) for event in scenario.script if isinstance(event, (Put, Stream))}
     free = {node: [stream for stream in range(_STREAMS_OF_A_NODE) if (node, stream) not in taken] for node in nodes}
     # Nodes without a stream come first: they are what a planner has in mind.
     order = sorted(nodes, key=lambda node: _STREAMS_OF_A_NODE - len(free[node]))
     return [(node, free[node][turn]) for turn in range(_STREAMS_OF_A_NODE) for node in order if turn < len(free[node])]
+
+
+def _listed(sources: Any) -> list[int | str]:
+    """The sources as a list. Raises `ArgumentError` where they are none."""
+    if isinstance(sources, (str, bytes)) or not isinstance(sources, Iterable):
+        raise ArgumentError(f"`sources` is {sources!r}, and has to be several nodes; write [{sources!r}] for one")
+    listed = list(sources)
+    if not listed:
+        raise ArgumentError("`sources` has no node; leave it out for all nodes but the first host")
+    return listed
 
 
 class _Search:
@@ -109,7 +125,7 @@ class _Search:
                  start_seconds: float | None, seeds: Sequence[int], receivers: Receivers) -> None:  # fmt: skip
         meant(scenario, receivers)
         self.scenario, self.seeds, self.ratio = scenario, tuple(seeds), ratio
-        start = scenario.seconds / 2 if start_seconds is None else start_seconds
+        start = scenario.seconds / 2 if start_seconds is None else arguments.real("start_seconds", start_seconds)
         if not 0 <= start <= scenario.seconds - 2 * every:
             raise ArgumentError(
                 f"from {start:g} s to the end of a run of {scenario.seconds} s there are not two packets with {every:g} s between them; take a "

@@ -12,7 +12,7 @@ from collections.abc import Callable
 from pathlib import Path
 from typing import Any, TypeAlias
 
-from . import tables
+from . import lines, tables
 from .arguments import ArgumentError
 from .receivers import ALL, HOSTS, Receivers
 from .scenario import Scenario
@@ -101,13 +101,17 @@ def add_runs(parser: argparse.ArgumentParser, seeds: str | None) -> None:
 
 
 def seeds(words: str) -> range:
-    """The seeds of `A-B` or `A`. Raises `ArgumentError` where there are none."""
+    """The seeds of `A-B` or `A`. Raises `ArgumentError` where there are none, more than `lines.SEEDS_MOST`, or one is out of its range."""
     first, _, last = words.partition("-")
     if not first.isdecimal() or not (last or first).isdecimal():
         raise ArgumentError(f"`--seeds` is {words!r}, and has to be a number or two with a dash between them, as in 1-10")
     found = range(int(first), int(last or first) + 1)
     if not found:
         raise ArgumentError(f"`--seeds` is {words!r}, and has no seed")
+    if found[-1] > lines.SEED_MOST:
+        raise ArgumentError(f"`--seeds` is {words!r}, and a seed is at most {lines.SEED_MOST:,}")
+    if found[-1] - found[0] >= lines.SEEDS_MOST:
+        raise ArgumentError(f"`--seeds` is {words!r}, and has {found[-1] - found[0] + 1:,} seeds; at most {lines.SEEDS_MOST:,} are taken")
     return found
 
 

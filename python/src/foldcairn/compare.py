@@ -6,7 +6,7 @@ import functools
 import html
 import math
 import os
-from collections.abc import Callable, Mapping, Sequence
+from collections.abc import Callable, Iterable, Mapping, Sequence
 from concurrent.futures import Executor
 from dataclasses import dataclass
 from pathlib import Path
@@ -37,16 +37,23 @@ _ANSWERS: tuple[tuple[str, str, bool, float, str], ...] = (
     ("duty_cycle_in_rounds", "mean duty cycle in rounds", False, 100, "%"),
 )
 
+# Differences that come up by chance more rarely than that are taken for real.
+_CHANCE_MOST = 0.05
+
 
 @dataclass(frozen=True, repr=False)
 class Comparison:
     """What came of a comparison.
 
     table      a row for each answer, and for each plan its mean over the seeds, and `.. ±`, half of the interval in which the mean
-               lies with 95 % (missing for one seed); `better` is the plan whose interval is better than each other's, if one is,
-               and `missing` says of which plans some seeds have no answer, as where not all nodes ever joined: the mean is that of
-               the others, and then no plan is called better
+               lies with 95 % (missing for one seed); `better` is the plan that is better than each other, if one is, and `missing`
+               says of which plans some seeds have no answer, as where not all nodes ever joined: the mean is that of the others,
+               and then no plan is called better
     runs       a row for each plan and seed, with the numbers of `planning.summary`
+    The plans share the seeds, so a seed that is bad for one is mostly bad for the others too. What is better is therefore decided by the
+    differences between two plans with the same seed: their mean has to be other than 0 by the t test for pairs, with 95 %
+    (`intervals.chance`). So a plan can be better where the intervals of the two means overlap. Plans of which none has ratios lose nothing
+    by chance, and any difference between them counts.
     The `attrs` of the table say where it comes from (`sweep.origin`), and the page says it at its end.
     """
 
@@ -72,10 +79,10 @@ class Comparison:
 
 
 def compare(
-    plans: Mapping[str, Scenario],
+    plans: Mapping[str, Scenario] | Iterable[Scenario],
     path: str | os.PathLike[str] | None = None,
     *,
-    seeds: Sequence[int] = (1, 2, 3, 4),
+    seeds: Iterable[int] = (1, 2, 3, 4),
     title: str = "Plans side by side",
     site: str = "",
     notes: str = "",
@@ -94,33 +101,44 @@ def compare(
     (None) it is "log", and "sample" where a plan is too long for a log. Latencies and duty cycles of a sample are counted by plan,
     so compare them with those of a sample alone.
 
-    `plans` are two or more networks by their names. With a `path` the page is written there. The losses are drawn by the seeds
-    anew, and a seed gives a link the same coins in each plan. `receivers` are in the forms of `foldcairn.receivers`, `positions`
-    are places of the nodes for the maps, and `executor`, `results` and `progress` are those of `sweep.sweep`. An interval is
-    Student's for the mean: it takes the seeds for a sample, and says nothing of what the model leaves out.
+    `plans` are two or more networks by their names; of a list the names are "1", "2" and so on. With a `path` the page is written
+    there. The losses are drawn by the seeds anew, also of a plan whose losses were drawn, and a seed gives a link the same coins in each
+    plan. `receivers` are in the forms of `foldcairn.receivers`, `positions` are places of the nodes for the maps, and `executor`,
+    `results` and `progress` are those of `sweep.sweep`. An interval is Student's for the mean: it takes the seeds for a sample, and says
+    nothing of what the model leaves out.
 
-    Raises `ArgumentError` where there are fewer than two plans, no seeds, `by` is another word, or a receiver is no node of a plan,
-    and `ValueError` where a run fails.
+    Raises `ArgumentError` where there are fewer than two plans or one is no `Scenario`, the seeds are none, `by` is another word, or a
+    receiver is no node of a plan, and `ValueError` where a run fails.
     """
-    if len(plans) < 2 or not seeds:
-        raise ArgumentError("a comparison takes two plans or more by their names, and at least one seed")
-    for network in plans.values():
+    networks, listed = _networks(plans), many.checked(seeds)
+    for network in networks.values():
         meant(network, receivers)
-    too_long = any(len(network.nodes) * network.frames > lines.NODE_FRAMES_MOST for network in plans.values())
+    too_long = any(len(network.nodes) * network.frames > lines.NODE_FRAMES_MOST for network in networks.values())
     by = arguments.one_of("by", by or ("sample" if too_long else "log"), ("log", "sample"))
     measured = _runs if by == "log" else _samples
-    told = measured(plans, seeds, receivers, executor, results, progress)
-    table = _table(told, list(plans), findings.whom(next(iter(plans.values())), receivers))
-    table.attrs.update(sweep.origin(seeds, plans))
+    told = measured(networks, listed, receivers, executor, results, progress)
+    exact = not any(network.is_to_be_drawn for network in networks.values())
+    table = _table(told, list(networks), findings.whom(next(iter(networks.values())), receivers), exact)
+    table.attrs.update(sweep.origin(listed, networks))
 
     def whole() -> str:
-        logs = {name: runs.log(_drawn(network, seeds[0]), warn=False) for name, network in plans.items() if by == "log"}
-        return _page(plans, logs, table, seeds, title, site, notes, positions)
+        logs = {name: runs.log(_drawn(network, listed[0]), warn=False) for name, network in networks.items() if by == "log"}
+        return _page(networks, logs, table, listed, title, site, notes, positions)
 
     made = Comparison(table, told, whole)
     if path is not None:
         made.write(path)
     return made
+
+
+def _networks(plans: Mapping[str, Scenario] | Iterable[Scenario]) -> dict[str, Scenario]:
+    """The plans by their names, as before any losses were drawn. Raises `ArgumentError` where they are not two or more."""
+    if isinstance(plans, (Scenario, str, bytes)) or not isinstance(plans, Iterable):
+        raise ArgumentError(f"a comparison takes two plans or more by their names, and was given a {type(plans).__name__}; write {{'A': a, 'B': b}}")
+    named = plans if isinstance(plans, Mapping) else {str(number): plan for number, plan in enumerate(plans, 1)}
+    if len(named) < 2:
+        raise ArgumentError(f"a comparison takes two plans or more by their names, and was given {len(named)}")
+    return {str(name): arguments.network(f"plan {name}", network) for name, network in named.items()}
 
 
 def _drawn(network: Scenario, seed: int) -> Scenario:
@@ -168,16 +186,18 @@ def _numbers(receivers: Receivers, scenario: Scenario | str) -> dict[str, float]
     return {**told, "seconds_without_host": 0.0 if math.isnan(silent) else log.scenario.seconds - silent}
 
 
-def _table(told: pd.DataFrame, plans: list[str], whom: str) -> pd.DataFrame:
+def _table(told: pd.DataFrame, plans: list[str], whom: str, exact: bool = False) -> pd.DataFrame:
+    """The table of the numbers of each plan and seed; `exact` where they don't depend on the seed."""
     rows = []
     for name, words, more, times, unit in (answer for answer in _ANSWERS if answer[0] in told):
+        # The plans have the seeds in the same order.
         values = {plan: times * told.loc[told["plan"] == plan, name].to_numpy(dtype="float64") for plan in plans}
         spans = {plan: _interval(numbers) for plan, numbers in values.items()}
         missing = [_missing(plan, numbers) for plan, numbers in values.items() if 0 < np.isnan(numbers).sum() < len(numbers)]
         row: dict[str, Any] = {"answer": words.format(whom=whom), "unit": unit}
         for plan in plans:
             row[plan], row[f"{plan} ±"] = spans[plan]
-        rows.append({**row, "better": "" if missing else _better(spans, more), "missing": ", ".join(missing)})
+        rows.append({**row, "better": "" if missing else _better(values, more, exact), "missing": ", ".join(missing)})
     return pd.DataFrame(rows)
 
 
@@ -192,15 +212,20 @@ def _interval(numbers: NDArray[np.float64]) -> tuple[float, float]:
     return mean, (high - low) / 2
 
 
-def _better(spans: Mapping[str, tuple[float, float]], more: bool) -> str:
-    """The plan whose interval is better than those of all others, if there is one."""
+def _better(values: Mapping[str, NDArray[np.float64]], more: bool, exact: bool) -> str:
+    """The plan that is better than each other one by the differences of the same seed, if there is one."""
     sign = 1 if more else -1
-    for plan, (mean, half) in spans.items():
-        others = [span for name, span in spans.items() if name != plan]
-        # One seed has no interval, and marks nothing.
-        if all(sign * mean - half > sign * other + wide for other, wide in others):
+    for plan, ours in values.items():
+        if all(_is_above(sign * (ours - theirs), exact) for name, theirs in values.items() if name != plan):
             return plan
     return ""
+
+
+def _is_above(differences: NDArray[np.float64], exact: bool) -> bool:
+    """Whether the mean of all differences is above 0, with 95 %. One seed tells nothing, so nothing is marked."""
+    if len(differences) < 2 or not differences.mean() > 0:
+        return False
+    return exact or intervals.chance(differences) < _CHANCE_MOST
 
 
 def _page(
@@ -236,8 +261,8 @@ def _answers(table: pd.DataFrame, plans: list[str], seeds: Sequence[int]) -> str
         rows.append(f"<tr><th>{html.escape(row['answer'])}{none}</th>{''.join(cells)}<td>{html.escape(row['better'] or '–')}</td></tr>")
     many = f"{len(seeds)} seeds" if len(seeds) > 1 else "one seed, which gives no interval"
     return (
-        f'<h2>The answers</h2><p>Means over {many}, with the interval in which the mean lies with 95 %. A plan is marked where its '
-        "interval is better than each other's; where none is, more seeds may tell. Where some seeds have no answer, the mean is that of the "
+        f'<h2>The answers</h2><p>Means over {many}, with the interval in which the mean lies with 95 %. A plan is marked where it is '
+        "better than each other by the differences with the same seed, with 95 %; where none is, more seeds may tell. Where some seeds have no answer, the mean is that of the "
         "others, and no plan is marked.</p>"
         f'<table class="plans"><thead><tr>{heads}</tr></thead><tbody>{"".join(rows)}</tbody></table>'
     )

@@ -7,15 +7,16 @@ from __future__ import annotations
 
 import functools
 import os
-from collections.abc import Iterable, Sequence
+from collections.abc import Iterable, Iterator, Sequence
 from concurrent.futures import Executor
-from typing import TextIO
+from typing import Any, TextIO
 
 import numpy as np
 import pandas as pd
 from numpy.typing import NDArray
 
-from . import intervals, program, seeds as many, sweep, tallies
+from . import arguments, intervals, program, seeds as many, sweep, tallies
+from .arguments import ArgumentError
 from .events import Put
 from .receivers import Receivers, meant
 from .scenario import Scenario
@@ -28,7 +29,7 @@ def importance(
     what: str = "links",
     *,
     candidates: Iterable[Cut] | None = None,
-    seeds: Sequence[int] = (1, 2, 3, 4),
+    seeds: Iterable[int] = (1, 2, 3, 4),
     receivers: Receivers = None,
     executor: Executor | None = None,
     results: str | os.PathLike[str] | None = None,
@@ -36,8 +37,8 @@ def importance(
 ) -> pd.DataFrame:
     """How much is delivered without each of the "links" (both directions of a pair) or of the "nodes".
 
-    Each candidate is cut for the whole run, once for each seed: a pair of ids, or an id, and all pairs of linked nodes or all
-    nodes if `candidates` is not given. The losses are drawn anew for each cut, as `results.outcome` does with the reception ratios
+    Each candidate is cut for the whole run, once for each seed: a pair of ids that a link joins, or an id, and all pairs of linked nodes
+    or all nodes if `candidates` is not given; one that is there twice is cut once. The losses are drawn anew for each cut, as `results.outcome` does with the reception ratios
     (`prr`, `ratios`) of the scenario, whose run may be as long as there: losses that were drawn for one network and kept for another
     rank links wrongly. The measure is the part, 0 to 1, of what was put that was delivered, over all pairs of a packet and a node that
     it is meant for (`receivers`, in the forms of `foldcairn.receivers`). A node is cut by cutting all its links, and is then no
@@ -51,53 +52,83 @@ def importance(
     least, greatest        the least and the greatest change of any seed
     error                  the standard error of `change`: `spread` over the square root of the number of seeds
     low, high              the interval that has the change of all seeds with a confidence of 95 %, by Student's distribution,
-                           which for few seeds is much wider than two errors; for this cut alone
+                           which for few seeds is much wider than two errors; for this cut alone. Missing where the changes of all seeds
+                           are the same, which says nothing of how far others lie from it
     p                      how likely a change so far from 0 would be of one of all these cuts if none changed anything (Holm's
-                           method, for each change by Student's distribution): a cut of p below 0.05 matters
-    The rows begin with the most harmful cut. It takes a run of the bus for each candidate and seed; `executor` runs them, a process
+                           method, for each change as `intervals.chance` has it): a cut of p below 0.05 matters. Missing where the
+                           seeds are too few to tell: those of all the same change have to be six
+    A network without ratios loses nothing by chance, so its changes are exact: then p is 0 where a cut changes anything, and 1 where it
+    does not. The rows begin with the most harmful cut. It takes a run of the bus for each candidate and seed; `executor` runs them, a process
     for each processor if it is not given. `progress` says how far it is, and a folder of `results` keeps each of them, so that a
     call that was stopped goes on where it was: both are those of `sweep.sweep`. The table's `attrs` say where it comes from
-    (`sweep.origin`). Raises `ValueError` where `what` is another word,
-    there is no seed, nothing is put, or a run fails.
+    (`sweep.origin`). Losses that were drawn before, as of the scenario of a log, are left
+    out. Raises `ArgumentError`, a `ValueError`, where `what` is another word, a candidate is no link or no node, the seeds are none, or
+    nothing is put, and `ValueError` where a run fails.
     """
-    if what not in ("links", "nodes"):
-        raise ValueError(f"`what` is {what!r}, and not one of links, nodes")
-    if not seeds:
-        raise ValueError("at least one seed is needed")
+    scenario, listed = arguments.network("scenario", scenario), many.checked(seeds)
+    arguments.one_of("what", what, ("links", "nodes"))
     if not any(isinstance(line, Put) for line in scenario.script):
-        raise ValueError("nothing is put in this scenario, so nothing can be delivered")
+        raise ArgumentError("nothing is put in this scenario, so nothing can be delivered")
     meant(scenario, receivers)
     cuts = _candidates(scenario, what, candidates)
     nodes = [cut for cut in cuts if isinstance(cut, int)]
     asked = [_question(scenario, receivers, None, [None, *nodes])]
     asked += [_question(scenario, receivers, cut, [cut if isinstance(cut, int) else None]) for cut in cuts]
-    whole, *told = many.answers(asked, seeds, executor=executor, results=results, progress=progress)
+    whole, *told = many.answers(asked, listed, executor=executor, results=results, progress=progress)
     rows = []
     for cut, ratios in zip(cuts, told):
         place = 1 + nodes.index(cut) if isinstance(cut, int) else 0
         before, after = np.array(whole, dtype=np.float64)[:, place], np.array(ratios, dtype=np.float64)[:, 0]
-        rows.append((*(cut if isinstance(cut, tuple) else (cut,)), before.mean(), after.mean(), *_summary(after - before)))
+        rows.append((*(cut if isinstance(cut, tuple) else (cut,)), before.mean(), after.mean(), *_summary(after - before, scenario.is_to_be_drawn)))
     names = ["one", "other"] if what == "links" else ["node"]
     columns = [*names, "ratio", "ratio_cut", "change", "spread", "least", "greatest", "error", "low", "high", "p"]
     table = pd.DataFrame(rows, columns=columns)
     table["p"] = intervals.adjusted(table["p"])
-    table.attrs.update(sweep.origin(seeds, {"scenario": scenario}))
+    table.attrs.update(sweep.origin(listed, {"scenario": scenario}))
     return table.sort_values("change", ignore_index=True)
 
 
-def _summary(changes: NDArray[np.float64]) -> tuple[float, ...]:
+def _summary(changes: NDArray[np.float64], drawn: bool) -> tuple[float, ...]:
+    """The numbers of a row, of changes by losses that were drawn, or of exact ones."""
     spread = float(changes.std(ddof=1)) if len(changes) > 1 else float("nan")
     mean, low, high = intervals.of_mean(changes)
+    chance = intervals.chance(changes)
+    if len(changes) > 1 and np.ptp(changes) == 0:
+        low, high, chance = (float("nan"), float("nan"), chance) if drawn else (low, high, float(mean == 0))
     error = spread / len(changes) ** 0.5
-    return mean, spread, float(changes.min()), float(changes.max()), error, low, high, intervals.chance(changes)
+    return mean, spread, float(changes.min()), float(changes.max()), error, low, high, chance
 
 
 def _candidates(scenario: Scenario, what: str, candidates: Iterable[Cut] | None) -> list[Cut]:
     if candidates is not None:
-        return [scenario.id(cut) if not isinstance(cut, tuple) else (scenario.id(cut[0]), scenario.id(cut[1])) for cut in candidates]
+        # Each once, a pair in either order, as it comes first.
+        return list({frozenset(cut) if isinstance(cut, tuple) else cut: cut for cut in reversed(list(_given(scenario, what, candidates)))}.values())[::-1]
     if what == "nodes":
         return sorted(scenario.nodes)
     return sorted({(min(link), max(link)) for link in scenario.links})
+
+
+def _given(scenario: Scenario, what: str, candidates: Iterable[Any]) -> Iterator[Cut]:
+    """The candidates that are given. Raises `ArgumentError` where one is none."""
+    for cut in candidates:
+        if what == "nodes":
+            yield scenario.id(cut)
+        elif isinstance(cut, (tuple, list)) and len(cut) == 2:
+            yield _pair(scenario, scenario.id(cut[0]), scenario.id(cut[1]))
+        else:
+            raise ArgumentError(f"`candidates` has {cut!r}, and for links has to have pairs of nodes, as (1, 2)")
+
+
+def _pair(scenario: Scenario, one: int, other: int) -> tuple[int, int]:
+    """A pair of nodes that a link joins."""
+    if (one, other) in scenario.links or (other, one) in scenario.links:
+        return one, other
+    near = {node: sorted({link[link[0] == node] for link in scenario.links if node in link}) for node in (one, other)}
+    told = " and ".join(
+        f"node {scenario.name(node)} with {', '.join(map(scenario.name, joined[:4]))}{', ..' * (len(joined) > 4)}" if joined else
+        f"node {scenario.name(node)} with none" for node, joined in near.items()
+    )  # fmt: skip
+    raise ArgumentError(f"`candidates` has {scenario.name(one)}-{scenario.name(other)}, and no link joins these; links join {told}")
 
 
 def _word(cut: Cut | None) -> str:
@@ -114,7 +145,6 @@ def _question(scenario: Scenario, receivers: Receivers, cut: Cut | None, without
 def _without(scenario: Scenario, cut: Cut | None) -> Scenario:
     """The scenario with this cut, whose losses are to be drawn."""
     changed = scenario.copy()
-    changed.seed = None
     if isinstance(cut, tuple):
         return changed.unlink(*cut)
     for link in sorted(scenario.links) if cut is not None else []:

@@ -56,17 +56,23 @@ def over_seeds(values: ArrayLike, confidence: float = 0.95, *, bounds: tuple[flo
     return pd.DataFrame({**found, **{name: spread.loc[quantile] for name, quantile in _QUANTILES.items()}})
 
 
+# Of fewer values of one sign the sign test gives more than 0.05.
+_SIGNS_LEAST = 6
 _QUANTILES = {"least": 0.0, "p5": 0.05, "p50": 0.5, "p95": 0.95, "greatest": 1.0}
 
 
 def chance(changes: ArrayLike) -> float:
     """How likely a mean so far from 0 would be if the true mean were 0, by Student's distribution: 0 to 1, and missing for
-    fewer than two values. Values that are all the same are 0 to the chance unless they are 0 themselves, which is 1."""
+    fewer than two values.
+
+    Values that are all the same have no spread to judge them by. Where they are 0 the chance is 1. Where they are not, it is that of
+    the sign test: that so many values lie on one side of 0, 2^(1 - n) for n values. It is missing for fewer than six values, of which the
+    test can't find any change."""
     known = _known(changes)
     if len(known) < 2:
         return float("nan")
     if np.ptp(known) == 0:
-        return float(known[0] == 0)
+        return 1.0 if known[0] == 0 else 2.0 ** (1 - len(known)) if len(known) >= _SIGNS_LEAST else float("nan")
     # The functions of `scipy.stats` call these, and to load it takes longer than most answers.
     from scipy import special
 

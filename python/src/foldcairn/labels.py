@@ -42,9 +42,13 @@ def answers(function: Call) -> Call:
     @functools.wraps(function)
     def call(*given: Any, **more: Any) -> pd.DataFrame:
         table = function(*given, **more)
-        return named(scenario_of(given[0] if given else next(iter(more.values()))), table)
+        return named(next(map(scenario_of, filter(_has_scenario, (*given, *more.values())))), table)
 
     return cast(Call, call)
+
+
+def _has_scenario(given: Any) -> bool:
+    return isinstance(given, Scenario) or hasattr(given, "scenario")
 
 
 def scenario_of(given: Any) -> Scenario:

@@ -19,6 +19,8 @@ SCRIPT_LINES_MOST = 20_000
 RATIO_LINES_MOST = 100_000
 # The greatest seed that the programs take.
 SEED_MOST = 9_999_999_999_999
+# How many seeds one call of this package takes.
+SEEDS_MOST = 1_000_000
 BOOTS_MOST = 200
 TEXT_BYTES_MOST = 4_194_304
 DIGITS_MOST = 13

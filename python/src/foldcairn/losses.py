@@ -279,7 +279,8 @@ def draw(
 ) -> AnyScenario:
     """The scenario with the losses that its reception ratios (`prr`, `ratios`) have by the coins of the seed.
 
-    Only losses that change who receives are written; what the scenario loses by itself stays. The same scenario and seed give
+    Only losses that change who receives are written; what the scenario loses by itself stays, and what was drawn before, as of the
+    scenario of a log, is drawn anew. The same scenario and seed give
     the same losses, and links that are taken out change no coin of the others. The deliveries, the drops and what radios are
     charged are those of all losses written. Starts of transmissions may differ by a few ticks, since of equal packets the
     earliest is received that is not lost. `progress` says how many frames are drawn, and a folder of `results` keeps what is
@@ -287,13 +288,11 @@ def draw(
     with the frame, where 20,000 script lines don't suffice, `ArgumentError` where the seed is no whole number, and what
     `program.execute` raises.
     """
-    if not isinstance(scenario, Scenario):
-        raise ArgumentError(f"`scenario` is a {type(scenario).__name__}, and has to be a Scenario; write Scenario.read(..) of a text")
+    scenario = arguments.network("scenario", scenario)
     seed = arguments.whole("seed", seed)
     scenario.check_ratios()
     store = kept.Store(results)
-    undrawn = replace(scenario, seed=None).network_text(warn=False)
-    key = kept.digest("losses", undrawn, seed, programs.versions() if program is None else programs.checksum(program)) if results else ""
+    key = kept.digest("losses", scenario.network_text(warn=False), seed, programs.versions() if program is None else programs.checksum(program)) if results else ""
     begun = store.take(key) or {"losses": [], "whole": False}
     drawn = numpy.array(begun["losses"], numpy.int64)
     if not begun["whole"]:
@@ -302,6 +301,7 @@ def draw(
                 bar.update(max(0, settled - bar.n))
                 store.keep(key, {"losses": drawn.tolist(), "whole": whole})
     made = scenario.copy()
+    made.drawn = set(_losses_of(drawn))
     made.losses.extend(_losses_of(drawn))
     made.seed = seed
     return made
@@ -311,7 +311,7 @@ def fixed_point(scenario: Scenario, seed: int, *, program: Path | None = None) -
     """Losses that are drawn without the command `draw` of the planner's program: by logs of the first one, until none changes. What
     the bus reports is what it reports with those of `draw`; lines may differ. Raises what `draw` raises."""
     drawn = numpy.empty(0, numpy.int64)
-    for drawn, _, _ in _draws(scenario, seed, program, drawn):
+    for drawn, _, _ in _draws(scenario.undrawn(), seed, program, drawn):
         pass
     return _losses_of(drawn)
 
@@ -332,7 +332,7 @@ def _by_program(scenario: Scenario, seed: int, planner: Path) -> Array | None:
     """The losses that the planner's program draws, as ordered keys; None where its lines don't fit a text: the other way says in
     which frame they are used up, or finds fewer."""
     try:
-        output = programs.execute(["draw", str(seed)], replace(scenario, seed=None).network_text(warn=False), program=planner)
+        output = programs.execute(["draw", str(seed)], scenario.network_text(warn=False), program=planner)
     except programs.Refused as error:
         if error.kind != "TooMany":
             raise
@@ -382,10 +382,13 @@ def _settled(needed: Array, drawn: Array, frames: int) -> int:
 @dataclass(frozen=True)
 class Drawing:
     """A scenario whose losses are still to be drawn by a seed: its text, its ratios and the seed say what comes of it, so a
-    sweep can tell whether it has the result before it draws."""
+    sweep can tell whether it has the result before it draws. Losses that were drawn before are left out."""
 
     scenario: Scenario
     seed: int
+
+    def __post_init__(self) -> None:
+        object.__setattr__(self, "scenario", arguments.network("scenario", self.scenario))
 
     def drawn(self, *, program: Path | None = None) -> Scenario:
         """The scenario with its losses; raises what `draw` raises."""

@@ -37,13 +37,15 @@ def scenario_of(kind: Callable[..., AnyScenario], text: str | bytes | os.PathLik
         raise ScenarioError(faults.explain(data, end + 1, "Missing", command))
     read(end + 1, len(rows), reader.take_ratio)
     made = reader.made(kind)
+    own: set[Loss] = set()
     for row in data.split(b"\n"):
-        _take_kept(made, row)
+        _take_kept(made, row, own)
+    made.drawn = set(made.losses) - own if made.seed is not None else set()
     return made
 
 
-def _take_kept(made: Scenario, row: bytes) -> None:
-    """Takes from a comment the name of a node, or by which seed, or by which ratio of a link, the losses were drawn."""
+def _take_kept(made: Scenario, row: bytes, own: set[Loss]) -> None:
+    """Takes from a comment the name of a node, by which seed, or by which ratio of a link, the losses were drawn, or one that was not."""
     from .scenario import KEPT
 
     mark, *words = row.decode("utf-8", "replace").split() or [""]
@@ -59,6 +61,8 @@ def _take_kept(made: Scenario, row: bytes) -> None:
             with contextlib.suppress(ValueError):
                 if link in made.links and 0 <= float(ratio) < 1:
                     made.prr[link] = float(ratio)
+        case ["lose", *place] if len(place) == 5 and all(word.isdecimal() for word in place):
+            own.add(Loss(*map(int, place)))
         case ["ratio", frame, sender, receiver, ratio] if all(word.isdecimal() for word in words[1:4]):
             with contextlib.suppress(ValueError):
                 made.ratio(int(sender), int(receiver), float(ratio), frame=int(frame))

@@ -246,18 +246,18 @@ def sample(
     progress    a bar on standard error or on the stream that is given, a line a minute where that is no terminal; False: none
 
     The answers do not depend on how the seeds are dealt out. A seed is kept by all that it depends on: the network's text with its ratios,
-    the receivers, the deadline, the checksum of the program and the version of this package. Raises `ArgumentError` where the network
-    has no ratios or its losses are drawn (each seed would be the same), nothing is put, or an argument is out of its range;
+    the receivers, the deadline, the checksum of the program and the version of this package. A network whose losses were drawn,
+    as that of a log, is sampled as it was before. Raises `ArgumentError` where the network has no ratios (each seed would be the same),
+    nothing is put, or an argument is out of its range;
     `sweep.SweepStopped` where the executor breaks down; and what `program.execute` raises.
     """
-    if not isinstance(network, Scenario):
-        raise arguments.ArgumentError(f"`network` is a {type(network).__name__}, and has to be a Scenario; write Scenario.read(..) of a text")
+    network = arguments.network("network", network)
     meant(network, receivers)
     listed = many.checked(seeds)
     limit = None if deadline is None else arguments.real("deadline", deadline, above=0)
     if not network.is_to_be_drawn:
         raise arguments.ArgumentError(
-            "the network has no reception ratios, or its losses are drawn: each seed would be the same; give its links a `prr`, or take foldcairn.outcome"
+            "the network has no reception ratios: each seed would be the same; give its links a `prr`, or take foldcairn.outcome"
         )
     asked = tallies.question(network, receivers, limit)
     (told,) = many.answers([asked], listed, executor=executor, results=results, progress=progress)

@@ -31,7 +31,7 @@ __all__ = [
 
 Link = tuple[int, int]
 
-# How a comment begins that is no remark: a name of a node, or by what the losses of a text were drawn.
+# How a comment begins that is no remark: a name of a node, or by what the losses of a text were drawn, and which of them were not.
 KEPT = "#:"
 
 
@@ -80,13 +80,14 @@ class Scenario:
     losses, cuts, captures   single losses of links, of nodes, and receptions in spite of a collision
     script    what happens by frame; `text` sorts it by frames and keeps the order within a frame
 
-    What follows is for the answers about a run, and the program does not know it. A text has `labels` and `seed` as comments, and
-    nothing else of it.
+    What follows is for the answers about a run, and the program does not know it. A text has `labels`, `seed` and `drawn` as comments,
+    and nothing else of it.
     receivers   for whom packets are meant, in the forms of `foldcairn.receivers` (`sinks` sets it); None: for all nodes
     keep_alive  the streams that are kept alive by packets of no bytes (`stream(.., keep_alive=..)`), which no answer counts
     labels      id -> name, where nodes have names: tables and pictures show them in place of the ids
     remarks     what reading tables left in doubt, in sentences; `cautions` has them too
     seed        by which `losses.draw` has drawn the losses; None: by none
+    drawn       those of the `losses` that were drawn; the others are its own (`undrawn`)
     told        whether the length of the run was told already, where it is too long for a log
 
     The methods that build return the scenario, so calls can be chained. Each takes its time as a frame or in seconds, which
@@ -112,6 +113,7 @@ class Scenario:
     labels: dict[int, str] = field(default_factory=dict)
     remarks: list[str] = field(default_factory=list)
     seed: int | None = None
+    drawn: set[Loss] = field(default_factory=set)
     told: bool = field(default=False, repr=False, compare=False)
 
     def __post_init__(self) -> None:
@@ -292,6 +294,16 @@ class Scenario:
         """Whether it has reception ratios, and no losses were drawn by them yet."""
         return self.seed is None and bool(self.ratio_lines())
 
+    def undrawn(self) -> Self:
+        """The network that this scenario was before its losses were drawn, to draw them anew: without the losses of its seed, and with
+        its own. Where none were drawn it is this scenario itself."""
+        if self.seed is None:
+            return self
+        made = self.copy()
+        made.losses = [loss for loss in self.losses if loss not in self.drawn]
+        made.seed, made.drawn = None, set()
+        return made
+
     def unlink(self, one: int, other: int) -> Self:
         """Takes out the links between two nodes, in both directions, and their ratios, losses and captures."""
         gone = {(one, other), (other, one)}
@@ -449,6 +461,7 @@ class Scenario:
             nodes=dict(self.nodes), rates=list(self.rates), hosts=dict(self.hosts), links=set(self.links),
             prr=dict(self.prr), ratios=dict(self.ratios), losses=list(self.losses), cuts=list(self.cuts), captures=list(self.captures),
             script=list(self.script), keep_alive=set(self.keep_alive), labels=dict(self.labels), remarks=list(self.remarks),
+            drawn=set(self.drawn),
         )  # fmt: skip
 
     # From and to other forms.
@@ -521,8 +534,8 @@ class Scenario:
         """The scenario of a text, or of the text in a file (a `pathlib.Path`), as the program reads it, but that lines of the
         script may be out of order.
 
-        It may have ratios below it, as `network_text` writes them. Of comments those are kept that `text` writes: names of nodes, and the
-        seed and ratios of losses. Raises `ScenarioError`, which names the first line that is wrong, the word and its range.
+        It may have ratios below it, as `network_text` writes them. Of comments those are kept that `text` writes: names of nodes, the seed
+        and ratios of losses, and which of these were not drawn. Raises `ScenarioError`, which names the first line that is wrong, the word and its range.
         """
         from . import reading
 
@@ -553,6 +566,7 @@ class Scenario:
             yield f"{KEPT} seed {self.seed}"
             yield from (f"{KEPT} prr {sender} {receiver} {ratio!r}" for (sender, receiver), ratio in sorted(self.prr.items()))
             yield from (f"{KEPT} ratio {' '.join(map(str, place))} {ratio!r}" for place, ratio in sorted(self.ratios.items()))
+            yield from (f"{KEPT} {loss.text()}" for loss in sorted(set(self.losses) - self.drawn))
         yield f"profile {self.profile}"
         if self.contend:
             yield f"contend {self.contend}"

@@ -26,11 +26,14 @@ _PIECE = 8
 @dataclass(frozen=True)
 class Question:
     """What is asked of each seed of a network: `measure` is called in the process of a worker, and `about` names it, with all that it
-    depends on beside the network and the program."""
+    depends on beside the network and the program. Losses that were drawn before are left out."""
 
     scenario: Scenario
     measure: Measure
     about: str
+
+    def __post_init__(self) -> None:
+        object.__setattr__(self, "scenario", arguments.network("scenario", self.scenario))
 
     def key(self) -> str:
         """A name for the question by all that its answers depend on but the seed."""
@@ -38,15 +41,23 @@ class Question:
 
 
 def checked(seeds: Any) -> list[int]:
-    """The seeds as whole numbers. Raises `ArgumentError` where there is none, one is out of its range, or one comes twice."""
+    """The seeds as whole numbers, of a list, a range, an array or a generator. Raises `ArgumentError` where there is none, one is out of
+    its range or comes twice, or there are more than `lines.SEEDS_MOST`, before all are listed."""
     if arguments.index(seeds) is not None:
         raise arguments.ArgumentError(f"`seeds` is {seeds!r}, and has to be several; write range(1, {seeds + 1}) for so many, or [{seeds}] for one")
-    listed = [arguments.whole("seeds", seed, 0, lines.SEED_MOST) for seed in seeds]
+    if isinstance(seeds, (str, bytes)) or not isinstance(seeds, Iterable):
+        raise arguments.ArgumentError(f"`seeds` is {seeds!r}, and has to be several whole numbers, as range(1, 101)")
+    listed: list[int] = []
+    known: set[int] = set()
+    for seed in seeds:
+        listed.append(arguments.whole("seeds", seed, 0, lines.SEED_MOST))
+        if listed[-1] in known:
+            raise arguments.ArgumentError(f"`seeds` has the seed {listed[-1]} twice")
+        known.add(listed[-1])
+        if len(listed) > lines.SEEDS_MOST:
+            raise arguments.ArgumentError(f"`seeds` has more than {lines.SEEDS_MOST:,} seeds, and so many at most are taken")
     if not listed:
         raise arguments.ArgumentError("`seeds` has no seed; write range(1, 101) for a hundred")
-    if len(set(listed)) < len(listed):
-        twice = next(seed for seed in listed if listed.count(seed) > 1)
-        raise arguments.ArgumentError(f"`seeds` has the seed {twice} twice")
     return listed
 
 
