@@ -11,7 +11,6 @@ import os
 import warnings
 from collections.abc import Callable, Iterator
 from concurrent.futures import ProcessPoolExecutor, ThreadPoolExecutor
-from functools import partial
 from pathlib import Path
 
 import pytest
@@ -59,9 +58,9 @@ def _threads(request: pytest.FixtureRequest, monkeypatch: pytest.MonkeyPatch) ->
     from foldcairn import executors
 
     if request.node.get_closest_marker("processes") is None:
-        monkeypatch.setattr(executors, "ProcessPoolExecutor", lambda: ThreadPoolExecutor(2))
+        monkeypatch.setattr(executors, "ProcessPoolExecutor", lambda jobs, **_: ThreadPoolExecutor(2))
     else:
-        monkeypatch.setattr(executors, "ProcessPoolExecutor", partial(ProcessPoolExecutor, 2))
+        monkeypatch.setattr(executors, "ProcessPoolExecutor", lambda jobs, **words: ProcessPoolExecutor(2, **words))
 
 
 @pytest.fixture

@@ -14,7 +14,7 @@ from functools import partial
 from pathlib import Path
 from typing import TYPE_CHECKING
 
-from . import front_end
+from . import ending, front_end
 
 try:
     from . import commands, outputs, plans, program, report, sweep
@@ -47,8 +47,9 @@ def main(arguments: Sequence[str] | None = None) -> int:
     warnings.showwarning = _show_warning
     warnings.simplefilter("always", ScenarioWarning)
     try:
-        status: int = chosen.run(chosen)
-        return status
+        with ending.by_exception():
+            status: int = chosen.run(chosen)
+            return status
     except ModuleNotFoundError as error:
         print(f"foldcairn: {front_end.missing(error)}", file=sys.stderr)
     except commands.Unreadable as error:
@@ -59,6 +60,9 @@ def main(arguments: Sequence[str] | None = None) -> int:
     except KeyboardInterrupt:
         print("foldcairn: stopped", file=sys.stderr)
         return 130
+    except ending.Ended as ended:
+        print("foldcairn: stopped", file=sys.stderr)
+        return 128 + ended.signal
     return _FAILED
 
 

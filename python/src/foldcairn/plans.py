@@ -17,7 +17,7 @@ from typing import Any
 
 import pandas as pd
 
-from . import commands, planning, program, report
+from . import commands, executors, planning, program, report
 from .arguments import ArgumentError
 from .commands import Commands
 from .scenario import Scenario
@@ -34,12 +34,8 @@ def add_commands(listed: Commands) -> None:
 @contextlib.contextmanager
 def workers(jobs: int | None) -> Iterator[Executor]:
     """Processes for the runs of a command. Where it is stopped, what has not begun is left."""
-    with ProcessPoolExecutor(jobs) as pool:
-        try:
-            yield pool
-        except BaseException:
-            pool.shutdown(wait=False, cancel_futures=True)
-            raise
+    with executors.processes(jobs, ProcessPoolExecutor) as pool:
+        yield pool
 
 
 def _add(listed: Commands, name: str, run: Any, about: str, files: str, seeds: str | None) -> argparse.ArgumentParser:

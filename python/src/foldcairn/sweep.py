@@ -34,7 +34,7 @@ _LASTING = (program.Refused, program.BadUsage, program.BadWords, TooManyLosses)
 
 
 class SweepStopped(Exception):
-    """The executor broke down; the results so far are kept where a folder was given, and the next call goes on from there."""
+    """The executor broke down, as where a worker was killed, a cluster lost it or a call was cancelled; the results so far are kept where a folder was given, and the next call goes on from there."""
 
 
 def grid(**values: Iterable[Any]) -> list[dict[str, Any]]:
@@ -214,7 +214,7 @@ def _finished(
     """The outcomes as they come; what is new is kept."""
 
     def call(name: str, keys: Sequence[str]) -> tuple[str, Callable[[], _Outcome | _Kept]]:
-        return name, functools.partial(job.run, name, cases[name], keys)
+        return name, functools.partial(_Job.run, job, name, cases[name], keys)
 
     ahead = [call(name, known.get(name, ())) for name in reversed(list(cases))]
     left = len(cases)
