@@ -5,17 +5,17 @@ from __future__ import annotations
 
 import random
 import re
-from collections import defaultdict
+from collections import Counter, defaultdict
 
 import pytest
 from conftest import EXAMPLES, REPOSITORY
 from networks import FAILOVER, log_of
 from scenarios import planned_grid
 
-from foldcairn import bounds, planning, program, report, results
+from foldcairn import bounds, losses, planning, program, report, results
 from foldcairn.arguments import ArgumentError
 from foldcairn.bounds import Bound, failover_frames, latency_frames
-from foldcairn.events import Put
+from foldcairn.events import Off, On, Put
 from foldcairn.scenario import Scenario, line
 
 PAGE = (REPOSITORY / "docs" / "BOUNDS.md").read_text(encoding="utf-8")
@@ -56,22 +56,22 @@ def test_the_numbers_of_the_page() -> None:
 
 def test_the_examples_of_the_page() -> None:
     first = WORKED["first"]
-    assert [(one.holds, one.begins) for one in (only(first, "first round"), only(first, "membership"))] == [(True, 0), (True, 0)]
+    assert [(one.holds, one.begins) for one in (only(first, "first round"), only(first, "membership"))] == [("yes", 0), ("yes", 0)]
     assert "to the end of the run" in only(first, "membership").needs
     missed = WORKED["missed"]
-    assert only(missed, "scanning").holds and "up to frame 9 (36 s)" in only(missed, "membership").needs
-    assert not only(missed.copy().lose(21, 0, 0, 1, 2), "scanning").holds
+    assert only(missed, "scanning").holds == "yes" and "up to frame 9 (36 s)" in only(missed, "membership").needs
+    assert only(missed.copy().lose(21, 0, 0, 1, 2), "scanning").holds == "no"
     slow = found(WORKED["slow"], "latency")
-    assert [(one.packets, one.frames, one.holds) for one in slow] == [(1, 4, True), (2, 5, True), (4, 8, True)]
-    assert slow[2].needs.endswith("the last of so many packets that wait is delivered")
+    assert [(one.packets, one.frames, one.holds) for one in slow] == [(1, 4, "not known"), (2, 5, "not known"), (4, 8, "not known")]
+    assert "once host and node have agreed on the stream, the last of so many packets that wait is delivered by then" in slow[2].premise
     backup = Scenario.read(BACKUP)
     failover, takeover = only(backup, "failover"), only(backup, "takeover")
     # Node 1 goes off in frame 6 and its round of frame 9 falls out; node 2 hosts in frame 27.
-    assert failover.holds and failover.begins + failover.frames == 27
-    assert takeover.holds and takeover.begins + takeover.frames == 27 and 9 + takeover.frames == 27
+    assert failover.holds == "yes" and failover.begins + failover.frames == 27
+    assert takeover.holds == "yes" and takeover.begins + takeover.frames == 27 and 9 + takeover.frames == 27
     six = only(WORKED["six"], "contention")
     assert six.wrong == ("6 nodes ask for slots, and more than two that ask at once need not part",)
-    assert not any(one.holds for one in found(WORKED["six"], "latency"))
+    assert {one.holds for one in found(WORKED["six"], "latency")} == {"no"}
 
 
 def test_tables_of_a_network() -> None:
@@ -79,7 +79,7 @@ def test_tables_of_a_network() -> None:
     table = planning.bounds(network)
     assert len(table) == 9 and len(repr(table.drop(columns=["premise", "proof"])).splitlines()) <= 24
     assert table.set_index("bound").loc[["first round", "failover"], "by_seconds"].tolist() == [25.0, 1005.0]
-    assert table.loc[table["holds"], "bound"].tolist() == ["first round", "failover"]
+    assert table.loc[table["holds"] == "yes", "bound"].tolist() == ["first round", "failover"]
     streams = planning.bounds(network, "stream")
     assert len(streams) == 60 and streams["source"].nunique() == 20 and streams["source"].dtype == "int64"
     assert (streams["frames"] == [latency_frames(row.packets, row.interval, 5) for row in streams.itertuples()]).all()
@@ -113,7 +113,13 @@ def network(frames: int = 60, hosts: int = 2, **words) -> Scenario:
 def pair_with_slots(slots: int, first: int, second: int) -> Scenario:
     """Two nodes that ask for slots of node 1, with so many contention slots in each round."""
     made = Scenario(150, profile=2, contend=slots).node(1).node(first).node(second).host(0, 1).pair(1, first).pair(1, second).on()
-    return made.stream(first, 8).stream(second, 8)
+    return made.stream(first, 8).stream(second, 8).put(first).put(second)
+
+
+def without(made: Scenario, kind: type, node: int) -> Scenario:
+    """The scenario without the lines of that kind of a node."""
+    made.script = [event for event in made.script if not (isinstance(event, kind) and event.node == node)]
+    return made
 
 
 @pytest.mark.parametrize(
@@ -146,6 +152,17 @@ def pair_with_slots(slots: int, first: int, second: int) -> Scenario:
         ("latency", lambda: network().leave(3, frame=40), "the stream is asked for anew, or left"),
         ("latency", lambda: Scenario.from_graph(line(3), 99, hosts=[1]).stream(3, 4).put(3).put(3, frame=17), "68 s lie between two packets"),
         ("latency", lambda: network().unlink(3, 4), "node 4 is out of reach"),
+        ("latency", lambda: network().off(2, frame=40).on(2, frame=40), "nodes 3, 4 are out of reach of the host without node 2, which is switched off"),
+        ("scanning", lambda: network().off(4, frame=26), "node 4 is switched off in frame 26"),
+        ("scanning", lambda: network().unlink(3, 4), "node 4 is out of reach of the host"),
+        ("scanning", lambda: network().lose(5, 0, 0, 1, 2), "packets may be lost in frame 5"),
+        ("scanning", lambda: Scenario(9).node(1).node(2), "no node hosts"),
+        ("contention", lambda: pair_with_slots(2, 2, 3).unlink(1, 3), "node 3 and the host are out of reach of each other"),
+        ("contention", lambda: pair_with_slots(2, 2, 3).node(7).stream(7, 8), "3 nodes ask for slots"),
+        ("contention", lambda: pair_with_slots(2, 2, 3).cut(60, 0, 0, 2), "packets may be lost, as in frame 60"),
+        ("contention", lambda: without(pair_with_slots(2, 2, 3), Put, 3), "node 3 has no packet, and so no request is due"),
+        ("contention", lambda: without(pair_with_slots(2, 2, 3), On, 3), "node 3 is never switched on"),
+        ("contention", lambda: without(pair_with_slots(2, 2, 3), On, 1), "node 1, the host of rank 0, is never switched on"),
         ("latency", lambda: Scenario(99).node(1).node(2).host(0, 1).pair(1, 2).on(2).stream(2, 4), "the host of rank 0 is never switched on"),
         ("contention", network, "fewer than two nodes ask for slots"),
         ("contention", lambda: pair_with_slots(3, 2, 50), "are equal modulo 48"),
@@ -155,24 +172,24 @@ def pair_with_slots(slots: int, first: int, second: int) -> Scenario:
 )  # fmt: skip
 def test_what_is_in_the_way(bound, build, says) -> None:
     row = found(build(), bound)[0]
-    assert not row.holds and says in "; ".join(row.wrong)
+    assert row.holds == "no" and says in row.premise
 
 
 def test_what_is_not_in_the_way() -> None:
     """Restarts are no failures of other boots, and a lossless ratio loses nothing."""
-    assert [one.holds for one in found(network().off(1, frame=10).on(1, frame=10), "first round")] == [True, True]
+    assert [one.holds for one in found(network().off(1, frame=10).on(1, frame=10), "first round")] == ["yes", "yes"]
     made = network().ratio(1, 2, 1.0, frame=7)
-    assert only(made, "scanning").holds and only(made, "membership").holds
+    assert only(made, "scanning").holds == "yes" and only(made, "membership").holds == "yes"
     assert only(network(hosts=3).off(1, 3, frame=10), "failover").frames == 33
     # Ids that are equal modulo 16 part with three slots.
     for slots, other, frames in [(1, 3, 120), (2, 3, 112), (3, 3, 120), (3, 18, 120), (4, 3, 96)]:
         parting = only(pair_with_slots(slots, 2, other), "contention")
-        assert parting.holds and parting.frames == frames
+        assert parting.holds == "not known" and parting.frames == frames
     # Losses before a host serves cost no member anything.
     early = network()
     for frame in range(5):
         early.cut(frame, 0, 0, 2)
-    assert only(early, "scanning").holds
+    assert only(early, "scanning").holds == "yes"
 
 
 # Against runs. Each bound is tried on 200 random scenarios.
@@ -237,7 +254,7 @@ def test_first_rounds_members_and_latencies_against_runs() -> None:
                 frame += chance.randint(1, 14)
         delivered, scanned = run(made)
         by = {one.bound: one for one in bounds.of(made)}
-        assert by["first round"].holds and by["membership"].holds
+        assert by["first round"].holds == "yes" and by["membership"].holds == "yes"
         first = by["first round"].begins + by["first round"].frames
         assert scanned[made.hosts[0]] == 5
         for node in sources:
@@ -284,7 +301,7 @@ def test_rounds_with_losses_against_runs() -> None:
                 made.cut(frame, chance.randint(0, 3), chance.randint(0, 2), chance.choice(sorted(made.nodes)))
                 made.lose(frame, chance.randint(0, 2), chance.randint(0, 3), *chance.choice(links))
         made.cuts, made.losses = sorted(set(made.cuts)), sorted(set(made.losses))
-        assert only(made, "scanning").holds
+        assert only(made, "scanning").holds == "yes"
         _, scanned = run(made)
         assert scanned[made.hosts[0]] == 5
         slack += [4 * len(rounds) - (scanned[node] - (first + 1 - up[node])) for node in made.nodes if node != made.hosts[0]]
@@ -310,7 +327,7 @@ def test_failovers_against_runs(hosts: int) -> None:
                 made.off(node, frame=restart).on(node, frame=restart)
         made.off(*(set(made.hosts.values()) - {last}), frame=begun)
         row = next(one for one in found(made, "failover") if one.begins == begun)
-        assert row.holds and row.frames == failover_frames(hosts)
+        assert row.holds == "yes" and row.frames == failover_frames(hosts)
         # It scans in no frame from then on.
         _, scanned = run(made, seed)
         low, high = begun, begun + row.frames + 1
@@ -344,7 +361,7 @@ def test_takeovers_against_runs() -> None:
             made.stream(node, chance.randint(5, 20), frame=first).every(chance.randint(5, 30), node, start=float(first * made.frame_seconds))
         fails = chance.randint(first + 1, 40)
         made.off(made.hosts[0], frame=fails)
-        assert only(made, "takeover").holds and only(made, "takeover").begins == fails + 3
+        assert only(made, "takeover").holds == "yes" and only(made, "takeover").begins == fails + 3
         _, scanned = run(made)
         for node in set(made.nodes) - {made.hosts[0]}:
             # From the frame after the round that fell out on: the other host up to its first round, the others in it too.
@@ -369,10 +386,149 @@ def test_two_contenders_against_runs() -> None:
         begun = chance.randint(0, 20)
         for node in two:
             made.stream(node, 20, frame=begun).put(node, frame=begun)
-        assert only(made, "contention").holds
+        assert only(made, "contention").holds == "not known"
         delivered, _ = run(made)
         # The first round from the put on; the slot comes in the round after the one in which a request was alone.
         first = max(5, 5 + 4 * -(-(begun - 5) // 4))
         slack.append(bounds.PARTING_ROUNDS[made.contention_slots] - 1 - (delivered[0][0] - 4 - first) // 4)
     assert min(slack) >= 0
     told("contention", slack, "rounds")
+
+
+# Where a bound is said to hold, the run keeps it, whatever else is in the network.
+
+
+def any_network(chance: random.Random) -> Scenario:
+    """A random network in which much may be in the way: nodes that come late, go off and come back, links and whole nodes that lose
+    packets, ratios for a time, hosts that fail, and nodes out of reach."""
+    hosts = chance.randint(1, 3)
+    made = connected(chance, chance.randint(40, 100), chance.randint(max(2, hosts), 7), hosts)
+    nodes = sorted(made.nodes)
+    if chance.random() < 0.8:
+        boot(chance, made)
+    else:
+        for node in nodes:
+            made.on(node, frame=chance.randint(0, 15))
+    if chance.random() < 0.15:
+        made.unlink(*chance.choice(sorted(made.links)))
+    if chance.random() < 0.3:
+        made.off(made.hosts[0], frame=chance.randint(10, 40))
+    for _ in range(chance.choice([0, 0, 1, 1, 2])):
+        node = chance.choice([*nodes, *made.hosts.values()])
+        frame = chance.randint(0, made.frames - 1)
+        made.off(node, frame=frame)
+        if chance.random() < 0.4:
+            made.on(node, frame=min(made.frames - 1, frame + chance.randint(0, 30)))
+    for frame in chance.sample(range(made.frames), chance.choice([0, 0, 1, 3, 8])) if made.links else ():
+        made.cut(frame, chance.randint(0, 3), chance.randint(0, 2), chance.choice(nodes))
+        made.lose(frame, chance.randint(0, 2), chance.randint(0, 3), *chance.choice(sorted(made.links)))
+    if made.links and chance.random() < 0.2:
+        link, frame = chance.choice(sorted(made.links)), chance.randint(0, made.frames - 10)
+        made.ratio(*link, 0.3, frame=frame).ratio(*link, 1.0, frame=frame + chance.randint(1, 9))
+    for node in chance.sample(nodes, min(2, len(nodes))):
+        made.stream(node, chance.randint(5, 20), frame=chance.randint(0, 20)).every(chance.randint(5, 40), node)
+    return made
+
+
+class Ran:
+    """A run of a network, held against what `bounds` says of it. What it needs of the script and the losses is worked out here anew."""
+
+    def __init__(self, network: Scenario, seed: int) -> None:
+        self.text = losses.draw(network, seed) if network.is_to_be_drawn else network
+        found = planning.rounds(results.log(self.text, warn=False))
+        self.rounds = {(int(row.start_seconds // network.frame_seconds), int(row.rank)): int(row.host) for row in found.itertuples()}
+        self.lossy = {one.frame for one in (*self.text.losses, *self.text.cuts)}
+        self.frames = network.frames
+        self.network = network
+
+    def scanned(self, frames: int) -> dict[int, int]:
+        """In how many of so many frames each node scans."""
+        return run(losses._beginning(self.text, min(frames, self.frames)))[1]
+
+    def keeps(self, row: Bound) -> None:
+        """Fails where the run breaks the bound."""
+        getattr(self, row.bound.replace(" ", "_"))(row)
+
+    def first_round(self, row: Bound) -> None:
+        assert self.rounds[row.begins + 5, 0] == self.network.hosts[0]
+
+    def membership(self, row: Bound) -> None:
+        first = row.begins + 5
+        offs = [event.frame for event in self.network.script if isinstance(event, Off) and event.frame > first]
+        ends = min([frame for frame in (*self.lossy, *offs) if frame >= first], default=self.frames - 1)
+        assert self.scanned(ends + 1) == self.scanned(first + 1) and {rank for frame, rank in self.rounds if first <= frame <= ends} == {0}
+
+    def scanning(self, row: Bound) -> None:
+        start = only(self.network, "membership").begins + 6
+        most = 4 * len({frame for frame, _ in self.rounds if frame >= start and frame in self.lossy})
+        before, after = self.scanned(start), self.scanned(self.frames)
+        assert all(after[node] - before[node] <= most for node in before)
+
+    def failover(self, row: Bound) -> None:
+        host, by = int(row.of.split()[1]), row.begins + row.frames
+        hosts = set(self.network.hosts.values())
+        stops = [event.frame for event in self.network.script if event.frame > row.begins and (
+            event.node == host if isinstance(event, Off) else isinstance(event, On) and event.node in hosts - {host})]  # fmt: skip
+        end = min(stops, default=self.frames)
+        assert self.scanned(end)[host] == self.scanned(by)[host]
+        assert end < by + 5 or any(by <= frame < by + 5 and served == host for (frame, _), served in self.rounds.items())
+
+    def takeover(self, row: Bound) -> None:
+        failed = row.begins - 3
+        first = min(frame for (frame, rank) in self.rounds if rank == 1 and frame >= failed)
+        assert failed + 18 <= first <= row.begins + row.frames
+
+
+def test_what_holds_is_kept_by_the_run() -> None:
+    counts: Counter[tuple[str, str]] = Counter()
+    for seed in range(100):
+        network = any_network(random.Random(f"any {seed}"))
+        ran = Ran(network, seed)
+        for row in bounds.of(network):
+            counts[row.bound, row.holds] += 1
+            if row.holds == "yes":
+                ran.keeps(row)
+    # Each is said to hold of some networks, and not of others.
+    for bound, least in (("first round", 90), ("membership", 30), ("scanning", 15), ("failover", 10), ("takeover", 3)):
+        assert counts[bound, "yes"] >= least and counts[bound, "no"] >= 3
+    assert not counts["latency", "yes"] and not counts["contention", "yes"] and counts["latency", "not known"] and counts["contention", "not known"]
+
+
+def relay_goes_off() -> Scenario:
+    made = Scenario.from_graph(line(3), 60, hosts=[1]).stream(3, 4)
+    for frame in (10, 20, 27, 40):
+        made.put(3, frame=frame)
+    return made.off(2, frame=26)
+
+
+def other_host_goes_off() -> Scenario:
+    """Node 2 hosts before node 1 begins, which nobody of its members hears."""
+    made = Scenario(100).node(1).node(2).node(3).host(0, 1).host(1, 2).pair(2, 3).pair(1, 3)
+    made.on(2, 3).on(1, frame=30).stream(3, 4)
+    for frame in (40, 50, 60, 68):
+        made.put(3, frame=frame)
+    return made.off(2, frame=66)
+
+
+@pytest.mark.parametrize(
+    ("build", "late", "holds", "says"),
+    [
+        (relay_goes_off, 27, "no", "node 3 is out of reach of the host without node 2, which is switched off"),
+        (other_host_goes_off, 68, "not known", "whether node 2 serves until it is switched off in frame 66 (264 s); nothing is in the way, and once"),
+    ],
+)  # fmt: skip
+def test_latencies_that_a_run_breaks(build, late: int, holds: str, says: str) -> None:
+    made = build()
+    row = found(made, "latency")[0]
+    assert (row.holds, row.frames) == (holds, 3) and says in row.premise
+    assert planning.bounds(made, "stream")["holds"].tolist() == [holds] * 3 and says in planning.bounds(made, "stream")["premise"][0]
+    # Packets that wait alone are sent in time before, and later or never from then on.
+    fates = results.fates_of(results.bus(made))
+    broken = (fates["deliveries"] == 0) | (fates["sent_frame"] > fates["frame"] + row.frames)
+    assert broken[fates["frame"] >= late].all() and not broken[(fates["frame"] < late) & (fates["number"] > 0)].any()
+
+
+def test_scanning_without_reach() -> None:
+    """No round loses anything, and node 3, behind a node that goes off, scans for good."""
+    made = relay_goes_off()
+    assert not made.losses and run(made)[1][3] > 30 and only(made, "scanning").holds == "no"

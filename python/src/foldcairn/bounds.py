@@ -1,12 +1,14 @@
 """How long things take at most in a network: the bounds of docs/BOUNDS.md, each with whether what it needs holds of the scenario.
 
 The numbers are proved of the programs, by the functions of the crate `law_times` that the column `proof` names. Whether their
-premises hold of a scenario is worked out here from its script, links, losses and ratios: that is tested, not proved. `planning`
-has all answers in one place.
+premises hold of a scenario is worked out here from its script, links, losses and ratios: that is tested, not proved. A premise on
+what a run comes to, as that the host has accepted a stream, can't be told from the script, and then the answer is that it is not
+known. `planning` has all answers in one place.
 """
 
 from __future__ import annotations
 
+from collections import Counter
 from collections.abc import Iterable, Iterator
 from dataclasses import dataclass
 from functools import cached_property
@@ -59,13 +61,14 @@ def bounds(network: Scenario | Report, by: str = "network") -> pd.DataFrame:
                   other bounds. Streams of which the same holds share three rows, by the longest of their intervals
     frames        the bound, and `seconds` in seconds: frames by plan, each of its whole length
     by_seconds    when that is over at the latest by plan, from the start of the run, where the script says when it begins
-    holds         whether all that the bound needs holds of the scenario as written
-    premise       what it needs, and where that does not hold, what is in the way
+    holds         whether all that the bound needs holds of the scenario as written: "yes", "no" where something is in the way, or
+                  "not known" where nothing is, but part of what it needs can't be told from the scenario
+    premise       what it needs; where that does not hold, what is in the way, and where that is not known, what can't be told
     proof         the function of the crate `law_times` that proves it, of any scenario of which the premises hold
 
     With `by` = "stream" there is a row for each `source` and `stream` that asks for slots, with its `interval` in seconds, and each
     number of `packets`. A bound that does not hold is still the number for networks in which it does: whatever is in the way
-    may make it longer. Raises `ArgumentError` where `by` is another word, or `network` is neither.
+    may make it longer. Latencies and contention are never "yes". Raises `ArgumentError` where `by` is another word, or `network` is neither.
     """
     arguments.one_of("by", by, ("network", "stream"))
     if not isinstance(network, (Scenario, Report)):
@@ -77,7 +80,7 @@ def bounds(network: Scenario | Report, by: str = "network") -> pd.DataFrame:
         return _by_stream(_Known(scenario))
     columns = ["bound", "of", "packets", "frames", "seconds", "by_seconds", "holds", "premise", "proof"]
     table = pd.DataFrame([_row(scenario, bound) for bound in of(scenario)], columns=columns)
-    return typed(table.astype({"frames": "int64", "seconds": "float64", "by_seconds": "float64", "holds": "bool"}))
+    return typed(table.astype({"frames": "int64", "seconds": "float64", "by_seconds": "float64"}))
 
 
 def _as_run(report: Report) -> Scenario:
@@ -91,7 +94,8 @@ def _as_run(report: Report) -> Scenario:
 
 @dataclass(frozen=True)
 class Bound:
-    """A row of `bounds`. It counts from the frame `begins` on, None where the script does not say; `wrong` is what is in the way."""
+    """A row of `bounds`. It counts from the frame `begins` on, None where the script does not say; `wrong` is what is in the way, and
+    `untold` what it needs and a script can't tell."""
 
     bound: str
     of: str
@@ -101,11 +105,21 @@ class Bound:
     wrong: tuple[str, ...] = ()
     begins: int | None = None
     packets: int = 0
+    untold: tuple[str, ...] = ()
 
     @property
-    def holds(self) -> bool:
-        """Whether nothing is in the way."""
-        return not self.wrong
+    def holds(self) -> str:
+        """Whether all that it needs holds: "yes", "no" or "not known"."""
+        return _holds(self.wrong, self.untold)
+
+    @property
+    def premise(self) -> str:
+        """What it needs, or what is in the way, or what can't be told."""
+        return "; ".join(self.wrong or self.untold) or self.needs
+
+
+def _holds(wrong: tuple[str, ...], untold: tuple[str, ...]) -> str:
+    return "no" if wrong else "not known" if untold else "yes"
 
 
 def of(scenario: Scenario) -> list[Bound]:
@@ -117,9 +131,8 @@ def of(scenario: Scenario) -> list[Bound]:
 def _row(scenario: Scenario, bound: Bound) -> tuple[object, ...]:
     seconds = scenario.frame_seconds
     by = float("nan") if bound.begins is None else float((bound.begins + bound.frames) * seconds)
-    premise = "; ".join(bound.wrong) or bound.needs
     return (
-        bound.bound, bound.of, bound.packets, bound.frames, float(bound.frames * seconds), by, bound.holds, premise, bound.proof,
+        bound.bound, bound.of, bound.packets, bound.frames, float(bound.frames * seconds), by, bound.holds, bound.premise, bound.proof,
     )  # fmt: skip
 
 
@@ -142,6 +155,12 @@ class _Known:
     def boots_of(self, node: int) -> list[_Boot]:
         """The boots of a node."""
         return [boot for boot in self.boots if boot.node == node]
+
+    @cached_property
+    def steady(self) -> set[int]:
+        """The nodes that are on from their only boot to the end of the run."""
+        counts = Counter(boot.node for boot in self.boots)
+        return {boot.node for boot in self.boots if counts[boot.node] == 1 and boot.off == self.scenario.frames > boot.on}
 
     def when(self, frame: int) -> str:
         """A frame, in words."""
@@ -203,8 +222,7 @@ class _Known:
 def _first_rounds(known: _Known) -> Iterator[Bound]:
     needs = "the host stays on; whatever is lost"
     if known.host is None or known.start is None:
-        wrong = "no node hosts" if known.host is None else f"{known.named([known.host])}, the host of rank 0, is never switched on"
-        yield Bound("first round", "the host of rank 0", QUIET_FRAMES, needs, "first_round_frames", (wrong,))
+        yield Bound("first round", "the host of rank 0", QUIET_FRAMES, needs, "first_round_frames", (_no_host(known),))
         return
     for boot in known.boots_of(known.host):
         wrong_then = known.kept(boot, boot.on + QUIET_FRAMES)
@@ -215,22 +233,38 @@ def _membership(known: _Known) -> Iterator[Bound]:
     """When all nodes are members, and for how long."""
     if known.start is None:
         return
-    begun, others = known.start.on, set(known.scenario.nodes) - {known.start.node}
+    begun = known.start.on
     first = begun + QUIET_FRAMES
-    wrong = list(known.kept(known.start, first))
-    up = {boot.node for boot in known.boots if begun <= boot.on <= first < boot.off}
-    if late := others - up:
-        wrong.append(f"{known.named(late)} {_have(late)} no power from then to {known.when(first)} on")
-    if far := known.unreached(known.start.node, up) & up:
-        wrong.append(f"{known.named(far)} {_are(far)} out of reach of the host")
-    lost = known.first_loss(first)
-    if lost == first:
-        wrong.append(f"packets may be lost in {known.when(first)}")
-    leaves = min((boot.off for boot in known.boots if boot.off > first and boot.off < known.scenario.frames), default=None)
-    ends = min((frame for frame in (lost, leaves) if frame is not None), default=None)
+    ends = min((frame for frame in (known.first_loss(first), _first_leave(known, first)) if frame is not None), default=None)
     until = "to the end of the run" if ends is None else f"up to {known.when(ends)}"
     needs = f"nothing is lost and nobody is switched off, which holds {until}: so long all stay members"
-    yield Bound("membership", "all nodes", QUIET_FRAMES + 1, needs, "members_stay", tuple(wrong), begun)
+    yield Bound("membership", "all nodes", QUIET_FRAMES + 1, needs, "members_stay", tuple(_in_the_way_of_members(known)), begun)
+
+
+def _in_the_way_of_members(known: _Known) -> Iterator[str]:
+    """What is in the way of all nodes being members after the first round of the host of rank 0."""
+    if known.start is None:
+        yield _no_host(known)
+        return
+    begun, others = known.start.on, set(known.scenario.nodes) - {known.start.node}
+    first = begun + QUIET_FRAMES
+    yield from known.kept(known.start, first)
+    up = {boot.node for boot in known.boots if begun <= boot.on <= first < boot.off}
+    if late := others - up:
+        yield f"{known.named(late)} {_have(late)} no power from then to {known.when(first)} on"
+    if far := known.unreached(known.start.node, up) & up:
+        yield f"{known.named(far)} {_are(far)} out of reach of the host"
+    if known.first_loss(first) == first:
+        yield f"packets may be lost in {known.when(first)}"
+
+
+def _first_leave(known: _Known, first: int) -> int | None:
+    """The first frame after that one in which a node is switched off."""
+    return min((boot.off for boot in known.boots if first < boot.off < known.scenario.frames), default=None)
+
+
+def _no_host(known: _Known) -> str:
+    return "no node hosts" if known.host is None else f"{known.named([known.host])}, the host of rank 0, is never switched on"
 
 
 def _have(nodes: set[int]) -> str:
@@ -251,9 +285,13 @@ def _scanning(known: _Known) -> Iterator[Bound]:
         row = row + 1 if later - earlier <= GREATEST_GAP else 1
         if row > LOSSY_ROUNDS:
             ends.append(later)
-    wrong = (f"more than three rounds in a row may lose packets, as up to {known.when(ends[0])}",) if ends else ()
-    needs = "no more than three rounds with losses follow one another, and the node is within reach in those without"
-    yield Bound("scanning", "a member, for each round with losses", GREATEST_GAP, needs, "lossy_round_frames", wrong)
+    wrong = list(_in_the_way_of_members(known))
+    if (leaves := _first_leave(known, begun)) is not None:
+        wrong.append(f"{known.named({boot.node for boot in known.boots if boot.off == leaves})} is switched off in {known.when(leaves)}")
+    if ends:
+        wrong.append(f"more than three rounds in a row may lose packets, as up to {known.when(ends[0])}")
+    needs = "all are members after the first round and stay on, and no more than three rounds with losses follow one another"
+    yield Bound("scanning", "a member, for each round with losses", GREATEST_GAP, needs, "lossy_round_frames", tuple(wrong))
 
 
 # When a host fails.
@@ -329,15 +367,24 @@ def _in_the_way_of_takeover(known: _Known, failed: _Boot, second: int) -> tuple[
 
 @dataclass(frozen=True)
 class _Asked:
-    """A stream with its interval, and what is in the way of its latencies."""
+    """A stream with its interval, what is in the way of its latencies, and what of their premises a script can't tell."""
 
     source: int
     stream: int
     interval: int
     wrong: tuple[str, ...]
+    untold: tuple[str, ...]
+
+    @property
+    def premise(self) -> str:
+        """What is in the way, or what can't be told."""
+        return "; ".join(self.wrong or self.untold)
 
 
-_DELIVERED = "nothing is lost, and the host has accepted the stream and stays on: by then the last of so many packets that wait is delivered"
+_AGREED = (
+    "nothing is in the way, and once host and node have agreed on the stream, the last of so many packets that wait is delivered by then; when "
+    "they have, a scenario does not tell"
+)
 
 
 def _asked(known: _Known) -> list[_Asked]:
@@ -347,9 +394,16 @@ def _asked(known: _Known) -> list[_Asked]:
         if isinstance(event, Stream):
             intervals.setdefault((event.node, event.stream), []).append(event)
     shared = _in_the_way_of_all(known, [event.interval for events in intervals.values() for event in events])
+    others = {boot.node: boot.off for boot in known.boots if boot.node in _backups(known) and boot.off < known.scenario.frames}
+    untold = (*(f"whether {known.named([node])} serves until it is switched off in {known.when(off)}" for node, off in others.items()), _AGREED)
     return [
-        _Asked(*key, events[-1].interval, (*shared, *_in_the_way_of(known, key, events))) for key, events in sorted(intervals.items())
+        _Asked(*key, events[-1].interval, (*shared, *_in_the_way_of(known, key, events)), untold) for key, events in sorted(intervals.items())
     ]
+
+
+def _backups(known: _Known) -> set[int]:
+    """The hosts of other ranks than 0."""
+    return {node for rank, node in known.scenario.hosts.items() if rank > 0}
 
 
 def _in_the_way_of_all(known: _Known, intervals: Iterable[int]) -> list[str]:
@@ -361,6 +415,8 @@ def _in_the_way_of_all(known: _Known, intervals: Iterable[int]) -> list[str]:
         wrong.append("the host of rank 0 is never switched on")
     elif known.start.off < known.scenario.frames:
         wrong.append(f"the host, {known.named([known.start.node])}, is switched off in {known.when(known.start.off)}")
+    elif far := known.unreached(known.start.node, known.steady) & known.steady:
+        wrong.append(f"{known.named(far)} {_are(far)} out of reach of the host{_without(known)}")
     most, _ = cautions.most_asked(known.scenario)
     if most > lines.STREAMS_OF_A_HOST:
         wrong.append(f"{most} streams are requested at a time, and a host has room for {lines.STREAMS_OF_A_HOST}")
@@ -375,8 +431,7 @@ def _in_the_way_of_all(known: _Known, intervals: Iterable[int]) -> list[str]:
 def _in_the_way_of(known: _Known, key: tuple[int, int], events: list[Stream]) -> Iterator[str]:
     node, stream = key
     scenario, interval = known.scenario, events[-1].interval
-    boots = known.boots_of(node)
-    if len(boots) != 1 or boots[0].off < scenario.frames:
+    if node not in known.steady:
         yield f"{known.named([node])} is not on from its start to the end of the run"
     if len(events) > 1 or any(isinstance(one, Leave) and (one.node, one.stream) == key for one in scenario.script):
         yield "the stream is asked for anew, or left"
@@ -384,9 +439,14 @@ def _in_the_way_of(known: _Known, key: tuple[int, int], events: list[Stream]) ->
     pause = max((later - earlier for earlier, later in zip(put, put[1:])), default=0) * scenario.frame_seconds
     if pause > EMPTY_SLOTS * interval:
         yield f"{pause:,} s lie between two packets, and a host takes a stream away whose slots stay empty {EMPTY_SLOTS} times in a row"
-    on = {boot.node for boot in known.boots}
-    if known.start and (far := (known.unreached(node, on) | known.unreached(known.start.node, on)) & on):
-        yield f"{known.named(far)} {_are(far)} out of reach"
+    if node in known.steady and (far := known.unreached(node, known.steady) & known.steady):
+        yield f"{known.named(far)} {_are(far)} out of reach of {known.named([node])}{_without(known)}"
+
+
+def _without(known: _Known) -> str:
+    """Whose power does not last, so that others may lie behind them."""
+    gone = {boot.node for boot in known.boots} - known.steady
+    return f" without {known.named(gone)}, which {_are(gone)} switched off" if gone else ""
 
 
 def _latency(known: _Known) -> Iterator[Bound]:
@@ -401,19 +461,19 @@ def _latency(known: _Known) -> Iterator[Bound]:
         of = f"streams {names}{rest}, intervals up to {longest} s" if len(streams) > 1 else f"stream {names}, interval {longest} s"
         for queue in _QUEUES:
             frames = latency_frames(queue, longest, known.scenario.frame_seconds)
-            yield Bound("latency", of, frames, _DELIVERED, "latency_frames", wrong, packets=queue)
+            yield Bound("latency", of, frames, _AGREED, "latency_frames", wrong, packets=queue, untold=streams[0].untold)
 
 
 def _by_stream(known: _Known) -> pd.DataFrame:
     seconds = known.scenario.frame_seconds
     rows = [
-        (one.source, one.stream, one.interval, queue, frames, float(frames * seconds), not one.wrong, "; ".join(one.wrong) or _DELIVERED)
+        (one.source, one.stream, one.interval, queue, frames, float(frames * seconds), _holds(one.wrong, one.untold), one.premise)
         for one in _asked(known)
         for queue in _QUEUES
         for frames in [latency_frames(queue, one.interval, seconds)]
     ]
     columns = ["source", "stream", "interval", "packets", "frames", "seconds", "holds", "premise"]
-    types = {**dict.fromkeys(columns[:5], "int64"), "seconds": "float64", "holds": "bool"}
+    types = {**dict.fromkeys(columns[:5], "int64"), "seconds": "float64"}
     return typed(pd.DataFrame(rows, columns=columns).astype(types))
 
 
@@ -433,6 +493,27 @@ def _contention(known: _Known) -> Iterator[Bound]:
         wrong.append("fewer than two nodes ask for slots, so none contends")
     if len(asking) == 2 and asking[0] % apart == asking[1] % apart:
         wrong.append(f"the ids of {known.named(asking)} are equal modulo {apart}: they may contend for ever")
+    if len(asking) == 2:
+        wrong += _in_the_way_of_contenders(known, asking)
     needs = f"two nodes have a request due in each of {rounds} rounds, with nothing lost; a round is at most {GREATEST_GAP} frames later"
     of = known.named(asking) if asking else "two nodes"
-    yield Bound("contention", of, rounds * GREATEST_GAP, needs, "parting_rounds", tuple(wrong))
+    untold = f"nothing is in the way of what it needs, that {needs}; whether they have, a scenario does not tell"
+    yield Bound("contention", of, rounds * GREATEST_GAP, needs, "parting_rounds", tuple(wrong), untold=(untold,))
+
+
+def _in_the_way_of_contenders(known: _Known, asking: Iterable[int]) -> Iterator[str]:
+    """What keeps two nodes from asking, or from being heard."""
+    if known.start is None:
+        yield _no_host(known)
+        return
+    on = {boot.node for boot in known.boots if boot.off > boot.on}
+    putting = {event.node for event in known.scenario.script if isinstance(event, Put)}
+    for node in asking:
+        if node not in on:
+            yield f"{known.named([node])} is never switched on"
+        elif known.start.node in known.unreached(node, on) or node in known.unreached(known.start.node, on):
+            yield f"{known.named([node])} and the host are out of reach of each other"
+        if node not in putting:
+            yield f"{known.named([node])} has no packet, and so no request is due"
+    if (lost := known.first_loss(min(known.start.on + QUIET_FRAMES, known.scenario.frames))) is not None:
+        yield f"packets may be lost, as in {known.when(lost)}"
