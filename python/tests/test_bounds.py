@@ -454,7 +454,8 @@ class Ran:
 
     def membership(self, row: Bound) -> None:
         first = row.begins + 5
-        offs = [event.frame for event in self.network.script if isinstance(event, Off) and event.frame > first]
+        # A node that is switched on again in the same frame scans in it.
+        offs = [event.frame - 1 for event in self.network.script if isinstance(event, Off) and event.frame > first]
         ends = min([frame for frame in (*self.lossy, *offs) if frame >= first], default=self.frames - 1)
         assert self.scanned(ends + 1) == self.scanned(first + 1) and {rank for frame, rank in self.rounds if first <= frame <= ends} == {0}
 

@@ -41,6 +41,14 @@ def test_a_line_needs_all_its_links(pool: ThreadPoolExecutor) -> None:
     assert table[["low", "high", "p"]].values.tolist() == [[-1, -1, 0], [-1, -1, 0]]
 
 
+def test_of_how_many_packets_the_ratios_are(pool: ThreadPoolExecutor) -> None:
+    network = lossy().stream(3, 8).every(10, 3)
+    puts = {node: sum(line.text().startswith("put") and line.node == node for line in network.script) for node in (3, 4)}
+    for what, cut, packets in (("links", (2, 4), puts[3] + puts[4]), ("nodes", 2, puts[3] + puts[4]), ("nodes", 3, puts[4]), ("nodes", 1, 0)):
+        table = planning.importance(network, what, candidates=[cut], seeds=[1, 2], receivers=1, executor=pool, progress=False)
+        assert table["packets"].tolist() == [2 * packets]
+
+
 def test_a_ring_needs_none_of_them(pool: ThreadPoolExecutor) -> None:
     ring = Scenario.read(LINE).pair(1, 3)
     table = planning.importance(ring, seeds=[1], executor=pool)

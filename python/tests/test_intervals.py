@@ -6,6 +6,7 @@ import numpy as np
 import pandas as pd
 import pytest
 from scipy import stats
+from statsmodels.stats.proportion import proportion_confint
 
 from foldcairn import intervals
 from foldcairn.arguments import ArgumentError
@@ -38,6 +39,25 @@ def test_how_numbers_spread_over_seeds() -> None:
     assert intervals.over_seeds(values, 0.9).loc[0, "low"] == pytest.approx(3 - 2.353 * error, abs=1e-3)
     with pytest.raises(ArgumentError, match="`confidence` is 95"):
         intervals.over_seeds(values, 95)
+
+
+def test_shares_that_are_the_same_in_all_seeds() -> None:
+    """By all packets together, as statsmodels has the interval of Clopper and Pearson; shares that differ by the spread of the seeds."""
+    values = np.array([[1.0, 0.0, 0.8, 0.9, 1.0, np.nan], [1.0, 0.0, 0.8, 1.0, 1.0, 1.0], [1.0, 0.0, 0.8, 0.8, np.nan, np.nan]])
+    table = intervals.over_seeds(values, bounds=(0.0, 1.0), packets=np.full((3, 6), 10))
+    assert table["packets"].tolist() == [30, 30, 30, 30, 20, 10]
+    for place, (hits, packets) in enumerate([(30, 30), (0, 30), (24, 30), (None, 30), (20, 20)]):
+        if hits is None:
+            assert table.loc[place, ["low", "high"]].tolist() == pytest.approx([max(0, 0.9 - 4.303 * 0.1 / 3**0.5), 1], abs=1e-3)
+        else:
+            assert table.loc[place, ["low", "high"]].tolist() == pytest.approx(proportion_confint(hits, packets, method="beta"))
+    # One seed is no sample of seeds, and numbers that are no shares of packets have no trials.
+    assert table.loc[5, ["low", "high"]].isna().all()
+    assert intervals.over_seeds(values, packets=np.zeros((3, 6))).loc[0, ["packets", "low", "high"]].tolist() == [0, 1, 1]
+    assert intervals.over_seeds(values, 0.9, packets=np.full((3, 6), 10)).loc[0, "low"] == pytest.approx(proportion_confint(30, 30, 0.1, "beta")[0])
+    # Of 3,000 that all arrive the interval with 95 % to one side begins at 99.9 %.
+    assert [intervals.packets_to_show(share) for share in (0.9, 0.99, 0.999)] == [30, 300, 3_000]
+    assert intervals.of_share(1, 3_000, 0.9)[0] == pytest.approx(0.999, abs=1e-5)
 
 
 def test_chances() -> None:

@@ -5,15 +5,18 @@ from __future__ import annotations
 import hashlib
 import io
 import os
+from collections.abc import Callable
 from pathlib import Path
+from typing import Any
 from unittest.mock import Mock
 
 import pytest
 from conftest import REPOSITORY
-from networks import FAILOVER, LINE
+from networks import FAILOVER, LINE, log_of
+from pandas.core.computation import expressions
 
 import foldcairn
-from foldcairn import capacity, importance, losses, program, results
+from foldcairn import capacity, counts, importance, losses, planning, program, results
 from foldcairn.results import Log
 from foldcairn.scenario import Scenario, ScenarioWarning
 
@@ -137,3 +140,28 @@ def test_a_fault_is_told_once() -> None:
     """The script of a repository explains the fault on standard error too."""
     fault = program.Refused(2, "Range", "sends 5", "line 2: `sends 5`: from 1 to 4", stderr="foldcairn: line 2, 'sends 5': out of its range")
     assert str(fault) == "line 2: `sends 5`: from 1 to 4 (Range)" and "out of its range" in fault.stderr
+
+
+def test_logs_in_collections() -> None:
+    """A log is equal to itself alone, as its tables have no truth of their own."""
+    one, other = log_of(LINE), results.log(LINE)
+    assert one == one and one != other and one in [other, one] and len({one, other, results.bus(LINE), counts.of(lossy(), 1, 1)}) == 4
+
+
+def test_truths_are_not_multiplied(monkeypatch: pytest.MonkeyPatch) -> None:
+    """In tables of a million rows pandas hands products to numexpr, which has none of truths, and warns."""
+    products = []
+
+    def noted(operator: Callable[..., object], _: object, one: Any, other: Any) -> object:
+        products.append((operator.__name__, *(str(getattr(part, "dtype", "float")) for part in (one, other))))
+        return operator(one, other)
+
+    monkeypatch.setattr(expressions, "_evaluate", noted)
+    planning.delivery_ratio(results.bus(LINE)), planning.deadline(results.bus(LINE), 30)
+    assert products and not [one for one in products if one[1:] == ("bool", "bool") and "mul" in one[0]]
+
+
+def test_arguments_by_name_in_any_order() -> None:
+    log = results.bus(LINE)
+    assert planning.delivery_ratio(by="node", log=log).equals(planning.delivery_ratio(log, "node"))
+    assert planning.importance(what="links", scenario=lossy(), seeds=[1], progress=False).equals(planning.importance(lossy(), seeds=[1], progress=False))

@@ -47,7 +47,7 @@ def test_compare(folder: Path, capsys: pytest.CaptureFixture[str], undrawn: None
              "--places", "places.csv", "--ratios", "ratios.csv", "--results", "kept", "-o", "both.html"]  # fmt: skip
     assert main(words) == 0
     told = capsys.readouterr().out.splitlines()
-    assert told[0].split() == ["answer", "unit", "early", "early", "±", "B", "B", "±", "better", "missing"] and len(told) == 12
+    assert told[0].split() == ["answer", "unit", "early", "early", "±", "B", "B", "±", "better", "missing", "packets"] and len(told) == 12
     assert "of what was put was delivered at whichever host serves" in told[1]
     page = (folder / "both.html").read_text()
     assert "Site: North slope" in page and "For the &lt;council&gt;." in page and "hosts: cellar (rank 0), stairs (rank 1)" in page
@@ -202,6 +202,11 @@ def test_plans_of_any_kind() -> None:
             again = planning_compare(drawn, seeds=(seed for seed in (1, 2)), executor=pool, by=by)
             wanted = planning_compare(lossy, seeds=[1, 2], executor=pool, by=by)
             assert again.table.equals(wanted.table) and again.table.attrs == wanted.table.attrs
+    # Both seeds deliver all of the few packets of this one, and that is no more than they show.
+    sure = [Scenario.read(LINE).pair(2, 3, 0.999999), Scenario.read(LINE).pair(2, 3, 0.5)]
+    row = planning_compare(sure, seeds=[1, 2], by="sample").table.iloc[0]
+    assert (row["1"], row["packets"]) == (100, 2) and row["1 ±"] == pytest.approx(100 - 100 * 0.025**0.5)
+    assert "<br>of 2 packets</th>" in compare._answers(planning_compare(sure, seeds=[1, 2], by="sample").table, ["1", "2"], [1, 2])
     for given, says in ((lossy[0], "was given a Scenario; write {'A': a, 'B': b}"), (lossy[:1], "was given 1"), (7, "was given a int")):
         with pytest.raises(ArgumentError, match=f"a comparison takes two plans or more by their names, and {says}"):
             planning_compare(given)

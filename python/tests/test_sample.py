@@ -12,6 +12,7 @@ import subprocess
 import sys
 import threading
 import time
+from collections import Counter
 from collections.abc import Callable
 from concurrent.futures import Executor, ProcessPoolExecutor, ThreadPoolExecutor
 from pathlib import Path
@@ -21,6 +22,8 @@ import numpy as np
 import pandas as pd
 import pytest
 from conftest import REPOSITORY
+from scipy import stats
+from statsmodels.stats.proportion import proportion_confint
 from test_outcome import small_network
 from test_sweep import network as swept_network
 
@@ -54,13 +57,17 @@ def told(table: pd.DataFrame, *names: str) -> list[list[Any]]:
 
 def test_the_worked_example_by_hand(worked: Sample) -> None:
     whole = worked.network().set_index("quantity")
-    assert list(whole.columns) == SPREAD
+    assert list(whole.columns) == ["packets", *SPREAD]
+    # Three packets with each seed, and of other numbers there are none.
+    assert whole.loc[["ratio_of_put", "within_deadline", "waiting", "latency_median", "duty_cycle"], "packets"].tolist() == [6, 6, 6, 0, 0]
     # 0 of 6 and 4 of 6 pairs; their standard error is half of their difference, and 12.7 of these are more than all there can be.
-    assert whole.loc["ratio_of_put"].tolist() == pytest.approx([2, 1 / 3, 1 / 3, 0, 1, 0, 1 / 30, 1 / 3, 19 / 30, 2 / 3])
+    assert whole.loc["ratio_of_put", SPREAD].tolist() == pytest.approx([2, 1 / 3, 1 / 3, 0, 1, 0, 1 / 30, 1 / 3, 19 / 30, 2 / 3])
     # One second into the frame, then 41 slots of 33 ms: 3 frames of 4 s are 14.353 s, and 9 of them 38.353 s, too late for 30 s.
     assert told(whole.loc[["latency_median", "latency_p90"]], "seeds", "mean") == [[1, pytest.approx(14.353)], [1, pytest.approx(38.353)]]
     assert whole.loc[["latency_median", "latency_p90"], ["error", "low", "high"]].isna().all(axis=None)
     assert whole.loc["within_deadline", "greatest"] == pytest.approx(1 / 3) and whole.loc["within_deadline", "mean"] == pytest.approx(1 / 6)
+    # With both seeds none is dropped: of six packets that is no more than 45.9 %, by 0.025^(1/6).
+    assert whole.loc["dropped", ["mean", "error", "low", "high"]].tolist() == pytest.approx([0, 0, 0, 1 - 0.025 ** (1 / 6)])
     # With seed 7 all three wait, with seed 8 all are sent.
     assert told(whole.loc[["dropped", "sent", "waiting", "cleared"]], "least", "greatest") == [[0, 0], [0, 1], [0, 1], [0, 0]]
     # The nodes search in 5, 10 and 14 or 18 frames of 4 s.
@@ -104,6 +111,47 @@ def test_the_object_says_what_it_is(worked: Sample) -> None:
     for call in (worked.delivery_ratio, worked.latency, worked.deadline, worked.fates, worked.duty_cycle, worked.search, worked.battery_life):
         with pytest.raises(ArgumentError, match="`by` is 'host', and not one of"):
             call("host")
+
+
+def test_shares_near_1_are_no_surer_than_their_packets_are_many(pool: Executor) -> None:
+    """Node 3 gets two packets at the same times in each seed, and its links lose hardly any: 80 of 80 are at most some 95.5 % sure."""
+    network = Scenario(30).node(1).node(2).node(3).host(0, 1).pair(1, 2, 0.7).pair(1, 3, 0.999999).pair(2, 3, 0.7).on().stream(2, 8).stream(3, 8)
+    network.labels = {1: "roof", 2: "cellar", 3: "pump"}
+    network.every(30, 2).put(3, frame=10).put(3, frame=15)
+    found = planning.sample(network, range(40), receivers=[1], deadline=60, executor=pool, progress=False)
+    row = found.delivery_ratio().set_index("source").loc["pump"]
+    low, high = proportion_confint(80, 80, method="beta")
+    assert row[["packets", "seeds", "mean", "error", "low", "high"]].tolist() == pytest.approx([80, 40, 1, 0, low, high]) and 0.95 < low < 0.96
+    seeds, few = found.remarks()
+    assert seeds.startswith("Seeds vary the losses alone: packets, power and changes of ratios come at the same times in each seed")
+    assert few.startswith("To show that 99.9 % are delivered takes some 3,000 packets that all are (the rule of three), and stream 0 of node pump has 80 ")
+    assert few.endswith(": take 38 times as many seeds.") and f"<p>{seeds}</p><p>{few}</p><table" in found._repr_html_()
+    # Where seeds differ each is one sample of what happens to its packets together.
+    other, ratios = found.delivery_ratio().set_index("source").loc["cellar"], [
+        planning.delivery_ratio(results.outcome(network, seed, warn=False), receivers=[1]).set_index("source").loc["cellar", "ratio_of_put"]
+        for seed in range(40)
+    ]  # fmt: skip
+    half = stats.t.ppf(0.975, 39) * np.std(ratios, ddof=1) / 40**0.5
+    assert other[["packets", "mean", "low", "high"]].tolist() == pytest.approx([160, np.mean(ratios), np.mean(ratios) - half, np.mean(ratios) + half])
+    # Without such a share there is nothing to say of it.
+    assert planning.sample(network.copy().pair(1, 3, 0.3), range(4), receivers=[1], executor=pool, progress=False).remarks() == [seeds]
+
+
+@pytest.mark.parametrize("whom", ["all", [1], "hosts", {3: [1, 2], "others": "hosts"}])
+def test_of_how_many_packets_shares_are(whom: Any, pool: Executor) -> None:
+    """A packet counts once however many receivers it has, at each node as one, and not if it only keeps a stream alive."""
+    network = Scenario(30).node(1).node(2).node(3).host(0, 1).host(1, 2).pair(1, 2, 0.8).pair(1, 3, 0.8).pair(2, 3, 0.8).on()
+    network.stream(1, 8).every(40, 1).stream(3, 8, keep_alive=20).every(30, 3, b"a").off(1, frame=20)
+    found = planning.sample(network, [1, 2, 3], receivers=whom, executor=pool, progress=False)
+    wanted: Counter[Any] = Counter()
+    for seed in (1, 2, 3):
+        rows = planning.delivery_ratio(results.outcome(network, seed, warn=False), "pair", receivers=whom)
+        wanted.update({("node", row.node): row.put for row in rows.groupby("node", as_index=False)["put"].sum().itertuples()})
+        wanted.update({("stream", source): rows.loc[rows["source"] == source, "put"].max() for source in rows["source"].unique()})
+    for by, name in (("stream", "source"), ("node", "node")):
+        told = {(by, row[name]): row["packets"] for _, row in found.delivery_ratio(by).iterrows() if row["packets"]}
+        assert told == {key: put for key, put in wanted.items() if key[0] == by and put}
+    assert found.delivery_ratio("all")["packets"].tolist() == [found.delivery_ratio()["packets"].sum()]
 
 
 def test_names_in_the_tables(pool: Executor) -> None:
@@ -176,8 +224,8 @@ def test_seeds_of_any_kind_and_a_network_whose_losses_were_drawn(pool: Executor)
     network = Scenario.read(WORKED)
     wanted = planning.sample(network, [7, 8], executor=pool, progress=False)
     drawn = Scenario.read(losses.draw(network, 8).text(warn=False))
-    for given, seeds in ((network, np.arange(7, 9)), (network, (seed for seed in (7, 8))), (drawn, [7, 8])):
-        found = planning.sample(given, seeds, executor=pool, progress=False)
+    for given, chosen in ((network, np.arange(7, 9)), (network, (seed for seed in (7, 8))), (drawn, [7, 8])):
+        found = planning.sample(given, chosen, executor=pool, progress=False)
         assert found.runs.equals(wanted.runs) and found.origin == wanted.origin and found.scenario == network
 
 
@@ -396,7 +444,7 @@ def test_the_command(folder: Path, capsys: pytest.CaptureFixture[str]) -> None:
     shown = capsys.readouterr()
     assert "The network, packets at node 1, node 2\n" in shown.out and "Part that is delivered within 30 s by stream, at node 1, node 2\n" in shown.out
     assert "Battery life in days (1300 mAh, 17.4 mA" in shown.out and "2/2" in shown.err and len(list((folder / "kept").iterdir())) == 2
-    assert re.search(r"^ *ratio_of_put +2 +0\.333 +0\.333 +0\.000 +1\.000 ", shown.out, re.MULTILINE)
+    assert re.search(r"^ *ratio_of_put +6 +2 +0\.333 +0\.333 +0\.000 +1\.000 ", shown.out, re.MULTILINE)
     # A network text has its ratios in itself, and a number is so many seeds.
     assert main(["sample", "line.network", "--seeds", "3", "--json"]) == 0
     told = json.loads(capsys.readouterr().out)

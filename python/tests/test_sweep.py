@@ -2,9 +2,11 @@
 
 from __future__ import annotations
 
+import datetime
 import io
 import json
 import os
+import warnings
 from concurrent.futures import ProcessPoolExecutor, ThreadPoolExecutor
 from functools import partial
 from pathlib import Path
@@ -313,3 +315,47 @@ def test_all_executors_give_the_same_table():
     assert table.deliveries.nunique() > 1
     with ThreadPoolExecutor(2) as threads:
         pandas.testing.assert_frame_equal(table, sweep.sweep(network, cases, executor=threads, progress=False))
+
+
+def measured_of_all_kinds(scenario: Scenario) -> dict[str, object]:
+    return {
+        "when": pandas.Timestamp("2026-12-01 05:40:00.25"), "utc": pandas.Timestamp("2026-12-01", tz="UTC"), "took": pandas.Timedelta(1.5, "s"),
+        "began": datetime.datetime(2026, 12, 1, 5, 40), "waited": datetime.timedelta(minutes=3), "missing": pandas.NA, "never": pandas.NaT, "nothing": None,
+        "pair": (1, (2.5, "x")), "nodes": {3, 1}, "listed": [(1, 2)], "number": numpy.int64(7), "parts": {"tuple": (), "#tuple": 1, "more": 2},
+    }  # fmt: skip
+
+
+def test_results_of_all_kinds_come_back_as_they_were(tmp_path):
+    tables = [
+        sweep.sweep(network, [{"interval": 4}], measured_of_all_kinds, executor=ThreadPoolExecutor(1), results=folder, progress=False)
+        for folder in (None, tmp_path, tmp_path)
+    ]
+    assert len(list(tmp_path.iterdir())) == 1
+    for table in tables[1:]:
+        pandas.testing.assert_frame_equal(table, tables[0])
+    store, given = kept.Store(tmp_path), measured_of_all_kinds(network(4))
+    store.keep("all", given)
+    found = store.take("all")
+    assert found.pop("missing") is given.pop("missing") is pandas.NA and found.pop("never") is given.pop("never") is pandas.NaT
+    assert found == given and [type(one) for one in found.values()] == [int if name == "number" else type(one) for name, one in given.items()]
+    assert type(found["pair"][1]) is tuple and type(found["listed"][0]) is tuple
+
+
+def test_a_result_that_can_not_be_kept_stops_nothing(tmp_path):
+    def measure(scenario: Scenario) -> dict[str, object]:
+        return {"what": object() if "stream 0 3 0 4" in scenario.text(warn=False) else "words"}
+
+    with warnings.catch_warnings(record=True) as told:
+        warnings.simplefilter("always")
+        table = sweep.sweep(network, sweep.grid(interval=[4, 8]), measure, executor=ThreadPoolExecutor(1), results=tmp_path, progress=False)
+    assert table["status"].tolist() == ["ok", "ok"] and table["what"][1] == "words" and len(list(tmp_path.iterdir())) == 1
+    assert "a result is in the table and is not kept, so the next call makes it again: <object object" in str(told[0].message)
+
+
+def test_a_kept_file_that_nests_too_deeply_is_made_again(tmp_path):
+    whole = sweep.sweep(network, [{"interval": 4}], results=tmp_path, progress=False)
+    (path,) = tmp_path.iterdir()
+    for text in ("[" * 100_000 + "]" * 100_000, '{"result": ' + "[" * 900 + "]" * 900 + "}", '{"key": "%s", "result": {"#time": 3}}' % path.stem):
+        path.write_text(text)
+        pandas.testing.assert_frame_equal(whole, sweep.sweep(network, [{"interval": 4}], results=tmp_path, progress=False))
+        assert json.loads(path.read_text())["result"]["status"] == "ok"

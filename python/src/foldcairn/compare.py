@@ -41,14 +41,15 @@ _ANSWERS: tuple[tuple[str, str, bool, float, str], ...] = (
 _CHANCE_MOST = 0.05
 
 
-@dataclass(frozen=True, repr=False)
+@dataclass(frozen=True, repr=False, eq=False)
 class Comparison:
     """What came of a comparison.
 
     table      a row for each answer, and for each plan its mean over the seeds, and `.. ±`, half of the interval in which the mean
                lies with 95 % (missing for one seed); `better` is the plan that is better than each other, if one is, and `missing`
                says of which plans some seeds have no answer, as where not all nodes ever joined: the mean is that of the others,
-               and then no plan is called better
+               and then no plan is called better. `packets` is of how many packets the share of what was put is, of all seeds
+               together, in the plan that has fewest; 0 of other answers
     runs       a row for each plan and seed, with the numbers of `planning.summary`
     The plans share the seeds, so a seed that is bad for one is mostly bad for the others too. What is better is therefore decided by the
     differences between two plans with the same seed: their mean has to be other than 0 by the t test for pairs, with 95 %
@@ -118,7 +119,8 @@ def compare(
     measured = _runs if by == "log" else _samples
     told = measured(networks, listed, receivers, executor, results, progress)
     exact = not any(network.is_to_be_drawn for network in networks.values())
-    table = _table(told, list(networks), findings.whom(next(iter(networks.values())), receivers), exact)
+    packets = {name: tallies.packets_meant(network, meant(network, receivers)) for name, network in networks.items()}
+    table = _table(told, list(networks), findings.whom(next(iter(networks.values())), receivers), exact, packets)
     table.attrs.update(sweep.origin(listed, networks))
 
     def whole() -> str:
@@ -186,18 +188,21 @@ def _numbers(receivers: Receivers, scenario: Scenario | str) -> dict[str, float]
     return {**told, "seconds_without_host": 0.0 if math.isnan(silent) else log.scenario.seconds - silent}
 
 
-def _table(told: pd.DataFrame, plans: list[str], whom: str, exact: bool = False) -> pd.DataFrame:
-    """The table of the numbers of each plan and seed; `exact` where they don't depend on the seed."""
+def _table(told: pd.DataFrame, plans: list[str], whom: str, exact: bool = False, packets: Mapping[str, int] | None = None) -> pd.DataFrame:
+    """The table of the numbers of each plan and seed; `exact` where they don't depend on the seed. `packets` says how many each plan has in a
+    run."""
     rows = []
     for name, words, more, times, unit in (answer for answer in _ANSWERS if answer[0] in told):
         # The plans have the seeds in the same order.
         values = {plan: times * told.loc[told["plan"] == plan, name].to_numpy(dtype="float64") for plan in plans}
-        spans = {plan: _interval(numbers) for plan, numbers in values.items()}
+        counts = {plan: packets[plan] if packets is not None and name == "ratio_of_put" else 0 for plan in plans}
+        spans = {plan: _interval(numbers, times, 0 if exact else counts[plan]) for plan, numbers in values.items()}
         missing = [_missing(plan, numbers) for plan, numbers in values.items() if 0 < np.isnan(numbers).sum() < len(numbers)]
         row: dict[str, Any] = {"answer": words.format(whom=whom), "unit": unit}
         for plan in plans:
             row[plan], row[f"{plan} ±"] = spans[plan]
-        rows.append({**row, "better": "" if missing else _better(values, more, exact), "missing": ", ".join(missing)})
+        of = min(counts[plan] * int(np.count_nonzero(~np.isnan(values[plan]))) for plan in plans)
+        rows.append({**row, "better": "" if missing else _better(values, more, exact), "missing": ", ".join(missing), "packets": of})
     return pd.DataFrame(rows)
 
 
@@ -206,10 +211,11 @@ def _missing(plan: str, numbers: NDArray[np.float64]) -> str:
     return f"{plan} in {np.isnan(numbers).sum()} of {len(numbers)} seeds"
 
 
-def _interval(numbers: NDArray[np.float64]) -> tuple[float, float]:
-    """The mean, and half of the interval in which it lies with 95 %."""
-    mean, low, high = intervals.of_mean(numbers)
-    return mean, (high - low) / 2
+def _interval(numbers: NDArray[np.float64], times: float, packets: int) -> tuple[float, float]:
+    """The mean, and half of the interval in which it lies with 95 %; of a share of packets that is the same in all seeds, the longer side of
+    the interval."""
+    row = intervals.over_seeds(numbers[:, None] / times, packets=np.full((len(numbers), 1), packets)).iloc[0]
+    return times * row["mean"], times * max(row["mean"] - row["low"], row["high"] - row["mean"])
 
 
 def _better(values: Mapping[str, NDArray[np.float64]], more: bool, exact: bool) -> str:
@@ -258,12 +264,13 @@ def _answers(table: pd.DataFrame, plans: list[str], seeds: Sequence[int]) -> str
     for row in table.to_dict("records"):
         cells = [_cell(row[plan], row[f"{plan} ±"], row["unit"], row["better"] == plan) for plan in plans]
         none = f"<br>none: {html.escape(row['missing'])}" if row["missing"] else ""
+        none += f"<br>of {row['packets']:,} packets" if row["packets"] else ""
         rows.append(f"<tr><th>{html.escape(row['answer'])}{none}</th>{''.join(cells)}<td>{html.escape(row['better'] or '–')}</td></tr>")
     many = f"{len(seeds)} seeds" if len(seeds) > 1 else "one seed, which gives no interval"
     return (
         f'<h2>The answers</h2><p>Means over {many}, with the interval in which the mean lies with 95 %. A plan is marked where it is '
-        "better than each other by the differences with the same seed, with 95 %; where none is, more seeds may tell. Where some seeds have no answer, the mean is that of the "
-        "others, and no plan is marked.</p>"
+        "better than each other by the differences with the same seed, with 95 %; where none is, more seeds may tell. Where some seeds have "
+        "no answer, the mean is that of the others, and no plan is marked.</p>"
         f'<table class="plans"><thead><tr>{heads}</tr></thead><tbody>{"".join(rows)}</tbody></table>'
     )
 

@@ -22,7 +22,7 @@ _LINES = {
 }
 
 
-@dataclass(frozen=True, repr=False)
+@dataclass(frozen=True, repr=False, eq=False)
 class Counts:
     """What is counted of each of some seeds.
 

@@ -149,7 +149,8 @@ def delivery_ratio(
 
 def _summed(log: Report, pairs: pd.DataFrame, by: str, keys: list[str], counts: list[str]) -> pd.DataFrame:
     """The sums of these columns, which are truths, over pairs that are `inside`: a row for each group, also where it is 0."""
-    values = pairs[counts].mul(pairs["inside"], axis=0)
+    # As numbers: for truths in large tables pandas warns of the product.
+    values = pairs[counts].astype("int64").mul(pairs["inside"].astype("int64"), axis=0)
     if not keys:
         return values.sum().astype("int64").to_frame().T
     table = values.astype("int64").groupby([pairs[key] for key in keys]).sum()

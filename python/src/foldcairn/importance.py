@@ -38,13 +38,14 @@ def importance(
     """How much is delivered without each of the "links" (both directions of a pair) or of the "nodes".
 
     Each candidate is cut for the whole run, once for each seed: a pair of ids that a link joins, or an id, and all pairs of linked nodes
-    or all nodes if `candidates` is not given; one that is there twice is cut once. The losses are drawn anew for each cut, as `results.outcome` does with the reception ratios
-    (`prr`, `ratios`) of the scenario, whose run may be as long as there: losses that were drawn for one network and kept for another
-    rank links wrongly. The measure is the part, 0 to 1, of what was put that was delivered, over all pairs of a packet and a node that
-    it is meant for (`receivers`, in the forms of `foldcairn.receivers`). A node is cut by cutting all its links, and is then no
-    source and no receiver, neither with the cut nor without it.
+    or all nodes if `candidates` is not given; one that is there twice is cut once. The losses are drawn anew for each cut, as
+    `results.outcome` does with the reception ratios (`prr`, `ratios`) of the scenario, whose run may be as long as there: losses that
+    were drawn for one network and kept for another rank links wrongly. The measure is the part, 0 to 1, of what was put that was
+    delivered, over all pairs of a packet and a node that it is meant for (`receivers`, in the forms of `foldcairn.receivers`). A node is
+    cut by cutting all its links, and is then no source and no receiver, neither with the cut nor without it.
 
     one, other, or node    what is cut
+    packets                of how many packets `ratio` and `ratio_cut` are, of all seeds together
     ratio                  the measure without the cut, the mean over the seeds
     ratio_cut              the measure with it, the mean over the seeds
     change                 `ratio_cut` less `ratio`; below 0 the cut does harm
@@ -69,7 +70,7 @@ def importance(
     arguments.one_of("what", what, ("links", "nodes"))
     if not any(isinstance(line, Put) for line in scenario.script):
         raise ArgumentError("nothing is put in this scenario, so nothing can be delivered")
-    meant(scenario, receivers)
+    whom = meant(scenario, receivers)
     cuts = _candidates(scenario, what, candidates)
     nodes = [cut for cut in cuts if isinstance(cut, int)]
     asked = [_question(scenario, receivers, None, [None, *nodes])]
@@ -79,9 +80,10 @@ def importance(
     for cut, ratios in zip(cuts, told):
         place = 1 + nodes.index(cut) if isinstance(cut, int) else 0
         before, after = np.array(whole, dtype=np.float64)[:, place], np.array(ratios, dtype=np.float64)[:, 0]
-        rows.append((*(cut if isinstance(cut, tuple) else (cut,)), before.mean(), after.mean(), *_summary(after - before, scenario.is_to_be_drawn)))
+        packets = len(listed) * tallies.packets_meant(scenario, whom, cut if isinstance(cut, int) else None)
+        rows.append((*(cut if isinstance(cut, tuple) else (cut,)), packets, before.mean(), after.mean(), *_summary(after - before, scenario.is_to_be_drawn)))
     names = ["one", "other"] if what == "links" else ["node"]
-    columns = [*names, "ratio", "ratio_cut", "change", "spread", "least", "greatest", "error", "low", "high", "p"]
+    columns = [*names, "packets", "ratio", "ratio_cut", "change", "spread", "least", "greatest", "error", "low", "high", "p"]
     table = pd.DataFrame(rows, columns=columns)
     table["p"] = intervals.adjusted(table["p"])
     table.attrs.update(sweep.origin(listed, {"scenario": scenario}))

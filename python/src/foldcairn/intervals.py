@@ -1,7 +1,12 @@
 """How sure a mean over seeds is: confidence intervals by Student's distribution, and how likely a change is by chance.
 
 Each seed is one draw of all losses, so the values of seeds are independent, and few: with four seeds an interval of 95 % is
-3.2 standard errors to each side, not two. Tested, not proved.
+3.2 standard errors to each side, not two. Packets of one seed are lost together, as in the same bad time or for want of the same host. So
+a share of packets is judged by how it spreads over the seeds, each of which is a cluster of packets. Where all seeds agree, as where
+nothing was lost in any, there is no spread to judge by, and then all packets together are: by the interval of Clopper and Pearson
+(Biometrika 26, 1934) for so many trials. It takes packets for independent, so it is the least that there is to doubt. Of n packets that
+all arrived it begins near 1 - 3.7 / n; with 95 % to one side it is the rule of three, 1 - 3 / n (Hanley and Lippman-Hand, JAMA 249, 1983).
+Tested, not proved.
 """
 
 from __future__ import annotations
@@ -33,27 +38,56 @@ def of_mean(values: ArrayLike, confidence: float = 0.95) -> tuple[float, float, 
     return mean, mean - half, mean + half
 
 
-def over_seeds(values: ArrayLike, confidence: float = 0.95, *, bounds: tuple[float, float] = (-np.inf, np.inf)) -> pd.DataFrame:
+def over_seeds(
+    values: ArrayLike, confidence: float = 0.95, *, bounds: tuple[float, float] = (-np.inf, np.inf), packets: ArrayLike | None = None
+) -> pd.DataFrame:
     """How numbers spread over seeds: `values` has a row for each seed and a column for each number, and what is not a number (NaN) is
-    left out. A row for each number:
+    left out. Where the numbers are shares of packets, `packets` says of how many, in the same form. A row for each number:
 
+    packets                of how many packets the share is, of all seeds together, if that is given
     seeds                  how many seeds have it
     mean, error            the mean, and its standard error: the sample standard deviation over the square root of `seeds`
     low, high              the interval that has the mean of all seeds with this confidence, by Student's distribution (`of_mean`), cut to
-                           the `bounds` that a number can have
+                           the `bounds` that a number can have; of a share that is the same in all seeds, by the number of its packets
+                           (Clopper and Pearson)
     least, p5, p50, p95, greatest   the quantiles over the seeds: the least, those of 5, 50 and 95 %, and the greatest
 
-    Seeds that are all the same give an interval without width, which says nothing of what is rarer than one seed. Raises
-    `ArgumentError` where the confidence is not between 0 and 1.
+    Other numbers that are the same in all seeds have an interval without width, which says nothing of what is rarer than one seed.
+    Raises `ArgumentError` where the confidence is not between 0 and 1.
     """
     part = arguments.real("confidence", confidence, 0, 1, above=0)
     table = pd.DataFrame(np.asarray(values, dtype=np.float64))
     seeds, mean, error = table.count(), table.mean(), table.sem()
     half = _errors((1 + part) / 2, seeds.to_numpy() - 1) * error
     low, high = (mean - half).clip(*bounds), (mean + half).clip(*bounds)
-    found = {"seeds": seeds.astype("int64"), "mean": mean, "error": error, "low": low, "high": high}
+    counted: dict[str, pd.Series] = {}
+    if packets is not None:
+        counted["packets"] = pd.DataFrame(np.asarray(packets, dtype=np.float64)).where(table.notna()).sum().astype("int64")
+        agree = (seeds > 1) & (table.max() == table.min()) & (counted["packets"] > 0)
+        low[agree], high[agree] = of_share(mean[agree], counted["packets"][agree], part)
+    found = {**counted, "seeds": seeds.astype("int64"), "mean": mean, "error": error, "low": low, "high": high}
     spread = table.quantile(list(_QUANTILES.values()))
     return pd.DataFrame({**found, **{name: spread.loc[quantile] for name, quantile in _QUANTILES.items()}})
+
+
+def of_share(share: ArrayLike, packets: ArrayLike, confidence: float = 0.95) -> tuple[NDArray[np.float64], NDArray[np.float64]]:
+    """The ends of the interval that has the true share with this confidence, where this share of so many packets was counted, each for
+    itself: that of Clopper and Pearson."""
+    # The function `proportion_confint` of statsmodels calls the same, and to load it takes longer than most answers.
+    from scipy import special
+
+    count, part = np.asarray(packets, dtype=np.float64), (1 - confidence) / 2
+    hits = np.round(np.asarray(share, dtype=np.float64) * count)
+    with np.errstate(invalid="ignore"):
+        low = np.where(hits > 0, special.betaincinv(np.maximum(hits, 1), count - hits + 1, part), 0.0)
+        high = np.where(hits < count, special.betaincinv(hits + 1, np.maximum(count - hits, 1), 1 - part), 1.0)
+    return low, high
+
+
+def packets_to_show(share: float) -> int:
+    """How many packets have to arrive, and all of them, to show with 95 % that no less than this share does: by the rule of three, 3,000
+    for 99.9 %."""
+    return round(3 / (1 - share))
 
 
 # Of fewer values of one sign the sign test gives more than 0.05.

@@ -7,6 +7,7 @@ keys. Tested, not proved.
 
 from __future__ import annotations
 
+import datetime
 import functools
 import hashlib
 import inspect
@@ -85,6 +86,61 @@ def _whole(value: Any) -> str:
         return repr(value)
 
 
+# What JSON has no word for is kept as a mapping with one of these marks alone.
+_TUPLE, _SET, _TIME, _SPAN, _MISSING = "#tuple", "#set", "#time", "#span", "#missing"
+
+
+def _encoded(value: Any) -> Any:
+    """A value as JSON has it."""
+    if isinstance(value, dict):
+        return {str(key): _encoded(part) for key, part in value.items()}
+    if isinstance(value, list):
+        return [_encoded(part) for part in value]
+    if isinstance(value, tuple):
+        return {_TUPLE: [_encoded(part) for part in value]}
+    if isinstance(value, (set, frozenset)):
+        return {_SET: sorted((_encoded(part) for part in value), key=repr)}
+    if isinstance(value, (float, int, str, bool)) or value is None:
+        return value
+    # pandas is asked for a value of its own alone: it takes a second to load.
+    if type(value).__name__ in ("NAType", "NaTType"):
+        return {_MISSING: [type(value).__name__]}
+    if isinstance(value, datetime.datetime):
+        return {_TIME: [type(value).__name__, value.isoformat()]}
+    if isinstance(value, datetime.timedelta):
+        return {_SPAN: [type(value).__name__, value // datetime.timedelta(microseconds=1)]}
+    return value
+
+
+def _decoded(value: Any) -> Any:
+    """A value of what `_encoded` made of it."""
+    if isinstance(value, list):
+        return [_decoded(part) for part in value]
+    if not isinstance(value, dict):
+        return value
+    mark: str
+    told: Any
+    mark, told = next(iter(value.items())) if len(value) == 1 else ("", None)
+    if mark == _TUPLE:
+        return tuple(_decoded(part) for part in told)
+    if mark == _SET:
+        return {_decoded(part) for part in told}
+    if mark in (_TIME, _SPAN, _MISSING):
+        return _of_pandas(mark, *told)
+    return {key: _decoded(part) for key, part in value.items()}
+
+
+def _of_pandas(mark: str, name: str, told: Any = None) -> Any:
+    """A time, or a span of time, of Python or of pandas, or what is missing."""
+    import pandas
+
+    if mark == _MISSING:
+        return pandas.NA if name == "NAType" else pandas.NaT
+    if mark == _TIME:
+        return pandas.Timestamp(told) if name == "Timestamp" else datetime.datetime.fromisoformat(told)
+    return pandas.Timedelta(told, "us") if name == "Timedelta" else datetime.timedelta(microseconds=told)
+
+
 class Store:
     """A folder of results, one file each, which appears whole or not at all; without a folder nothing is kept."""
 
@@ -103,17 +159,20 @@ class Store:
             return None
         try:
             read = json.loads((self.folder / f"{key}.json").read_text(encoding="utf-8"))
-        except (FileNotFoundError, ValueError):
+            if not isinstance(read, dict) or read.get("key") != key or read.get("checksum") != digest(read.get("result")):
+                return None
+            return _decoded(read["result"])
+        except (FileNotFoundError, ValueError, TypeError, RecursionError):
+            # A file that others wrote may nest lists more deeply than can be read.
             return None
-        if not isinstance(read, dict) or read.get("key") != key or read.get("checksum") != digest(read.get("result")):
-            return None
-        return read["result"]
 
     def keep(self, key: str, result: Any, about: Mapping[str, object] | None = None) -> None:
-        """Keeps a result: numbers, texts, lists and mappings of such; `about` is for readers of the file."""
+        """Keeps a result: numbers, texts, times, what is missing, and lists, tuples, sets and mappings of such, which `take` gives as they were;
+        of arrays it gives lists, and of the numbers of numpy plain ones. `about` is for readers of the file. Raises `TypeError` where a value
+        is of another kind."""
         if self.folder is None:
             return
-        whole = json.loads(json.dumps(result, default=plain))
+        whole = json.loads(json.dumps(_encoded(result), default=plain))
         told: dict[str, object] = {**program.versions(), **(about or {})}
         kept = {"key": key, "about": told, "checksum": digest(whole), "result": whole}
         files.write(self.folder / f"{key}.json", json.dumps(kept, default=plain).encode())

@@ -292,7 +292,8 @@ def draw(
     seed = arguments.whole("seed", seed)
     scenario.check_ratios()
     store = kept.Store(results)
-    key = kept.digest("losses", scenario.network_text(warn=False), seed, programs.versions() if program is None else programs.checksum(program)) if results else ""
+    by = programs.versions() if program is None else programs.checksum(program)
+    key = kept.digest("losses", scenario.network_text(warn=False), seed, by) if results else ""
     begun = store.take(key) or {"losses": [], "whole": False}
     drawn = numpy.array(begun["losses"], numpy.int64)
     if not begun["whole"]:

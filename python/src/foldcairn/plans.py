@@ -89,7 +89,7 @@ def _sample(chosen: argparse.Namespace) -> int:
     elif chosen.json:
         sys.stdout.write(report.as_json(found.tables(**battery), program.versions()))
     else:
-        sys.stdout.write(report.shown(found.tables(**battery), sample_page.titles(found, battery)))
+        sys.stdout.write("\n".join(found.remarks()) + "\n\n" + report.shown(found.tables(**battery), sample_page.titles(found, battery)))
     return 0
 
 

@@ -93,9 +93,9 @@ class Origin:
     seed: int | None
 
 
-@dataclass(frozen=True, repr=False)
+@dataclass(frozen=True, repr=False, eq=False)
 class Report:
-    """The report of a run of `scenario`.
+    """The report of a run of `scenario`. Two reports are equal only if they are one; `pandas.DataFrame.equals` compares their tables.
 
     deliveries  A row for each node that delivered a packet: `frame` and `slot` of its round, `rank` of the round's host, the
                 `node`, and the packet by its `source`, `boot` of the source, `stream`, `number` and `payload` (hexadecimal, `-`
@@ -127,7 +127,7 @@ class Report:
         return notebook.of_report(self)
 
 
-@dataclass(frozen=True, repr=False)
+@dataclass(frozen=True, repr=False, eq=False)
 class Log(Report):
     """The report and the log of a run.
 
@@ -154,7 +154,7 @@ class Log(Report):
         return begun.join(self.packets.drop(columns=["kind", "slot", "step"]), on="packet").reset_index(drop=True)
 
 
-@dataclass(frozen=True)
+@dataclass(frozen=True, eq=False)
 class FloodReport:
     """One flood: `accepts`, a row for each `node` that accepted the packet with its `step` (0 to 11), and the number of
     `transmissions`."""
@@ -163,7 +163,7 @@ class FloodReport:
     transmissions: int
 
 
-@dataclass(frozen=True)
+@dataclass(frozen=True, eq=False)
 class DeadlineReport:
     """Which streams could keep their deadlines if each frame had a round, which no host of a run holds: of a run ask
     `planning.deadline`, of many seeds `planning.sample` with a `deadline`.
@@ -178,7 +178,7 @@ class DeadlineReport:
     rounds: pd.DataFrame
 
 
-@dataclass(frozen=True, repr=False)
+@dataclass(frozen=True, repr=False, eq=False)
 class ReturnReport(Report):
     """The report of a run in which backup hosts go back, and when they do (docs/RETURN.md). `scenario` is the one that was
     asked for, without the lines of the returns.

@@ -1,13 +1,15 @@
 """How likely it is: a network with the losses of many seeds, and how its answers spread over them. `planning` has all answers in one
 place.
 
-One draw of the losses is one sample. `sample` runs the program's `sample` for each seed, and gives tables with means, standard errors,
-intervals and quantiles over the seeds. What the program counts of a seed is proved; the statistics are Python's: tested, not proved.
+One draw of the losses is one sample: packets, power and changes of ratios come at the same times in each seed, and an interval says nothing
+of other times. `sample` runs the program's `sample` for each seed, and gives tables with means, standard errors, intervals and quantiles
+over the seeds. What the program counts of a seed is proved; the statistics are Python's: tested, not proved.
 """
 
 from __future__ import annotations
 
 import functools
+import html
 import os
 from collections.abc import Iterable, Sequence
 from dataclasses import dataclass, field
@@ -27,11 +29,18 @@ from .scenario import Scenario
 Numbers = NDArray[np.float64]
 
 _FATES = ("dropped", "sent", "waiting", "cleared")
+_SEEDS = (
+    "Seeds vary the losses alone: packets, power and changes of ratios come at the same times in each seed, so the intervals say nothing of other "
+    "times."
+)
+# A share from here on is near 1, and `remarks` says how many packets it takes to show that one.
+_NEAR, _SHOWN = 0.99, 0.999
 
 
 @dataclass(frozen=True, repr=False, eq=False)
 class Sample:
-    """How the answers about a network spread over seeds.
+    """How the answers about a network spread over seeds, which vary the losses alone: packets, power and changes of ratios come at the same
+    times in each seed, so no interval has in it what other times would bring.
 
     scenario, seeds    the network, and the seeds by which its losses were drawn
     receivers          for whom packets are meant, in words
@@ -40,10 +49,12 @@ class Sample:
     origin             where it comes from (`sweep.origin`), which is also in the `attrs` of each table
 
     `network`, `delivery_ratio`, `deadline`, `latency`, `fates`, `duty_cycle`, `search` and `battery_life` give tables, and `tables` all of
-    them. A row is told by the columns for which it is (`source` and `stream`, or `node`) and by `quantity`, the word of the number. The
-    other columns say how this number spreads over the seeds: `seeds`, `mean`, `error`, `low`, `high`, `least`, `p5`, `p50`, `p95` and
+    them. A row is told by the columns for which it is (`source` and `stream`, or `node`) and by `quantity`, the word of the number. Where
+    that is a share of packets, `packets` says of how many, of all seeds together; it is 0 for other numbers in the same table. The other
+    columns say how this number spreads over the seeds: `seeds`, `mean`, `error`, `low`, `high`, `least`, `p5`, `p50`, `p95` and
     `greatest`, as `intervals.over_seeds` has them. The interval from `low` to `high` has the mean of all seeds with 95 %; of 100 seeds
-    90 lie from `p5` to `p95`. The seeds are taken for independent draws, and what the model leaves out is in no interval.
+    90 lie from `p5` to `p95`. The seeds are taken for independent draws, and what the model leaves out is in no interval. A share that is
+    the same in all seeds has the interval of its number of packets. `remarks` says what to know of the numbers, in sentences.
     """
 
     scenario: Scenario
@@ -59,7 +70,22 @@ class Sample:
 
     def _repr_html_(self) -> str:
         shown: str = self.network().to_html(index=False, border=0, na_rep="–", float_format=lambda number: f"{number:.3f}")
-        return shown
+        return "".join(f"<p>{html.escape(remark)}</p>" for remark in self.remarks()) + shown
+
+    def remarks(self) -> list[str]:
+        """What to know of the numbers, in sentences: that seeds vary losses alone, and where a share near 1 is of too few packets."""
+        tables = [self.delivery_ratio(), *([self.deadline()] if self.deadline_seconds is not None else [])]
+        needed = intervals.packets_to_show(_SHOWN)
+        near = pd.concat(tables).query("mean >= @_NEAR and packets < @needed").sort_values("packets", kind="stable")
+        if near.empty:
+            return [_SEEDS]
+        row, count = near.iloc[0], len(near.drop_duplicates(["source", "stream"]))
+        more = f", as {count - 1} more stream{'s' if count > 2 else ''} of few packets" if count > 1 else ""
+        return [
+            _SEEDS,
+            f"To show that {100 * _SHOWN:g} % are delivered takes some {needed:,} packets that all are (the rule of three), and stream {row['stream']} of node "
+            f"{row['source']} has {row['packets']:,} in all seeds together{more}: take {-(-needed // max(1, row['packets']))} times as many seeds.",
+        ]
 
     def write(self, path: str | os.PathLike[str], *, title: str = "How likely it is", **battery: float) -> Path:
         """Writes a page with a map, all tables and where they come from into an HTML file that stands alone, and gives its path.
@@ -85,11 +111,13 @@ class Sample:
         days, days_in_rounds   the shortest battery life of any node (`battery_life`, whose words may be given)
         """
         runs = self._runs(battery).drop(columns="seed") if battery else self.runs.drop(columns="seed")
-        shares = {name for name in runs if name.startswith(("ratio", "within", "duty")) or name in _FATES}
+        put = {name: self._tallies.packets("all") for name in runs if name.startswith(("ratio", "within"))}
+        put |= dict.fromkeys(_FATES, self._tallies.fates[..., 0].sum(axis=1, keepdims=True))
         tables = [
-            self._table("all", {name: runs[[name]].to_numpy() for name in runs if (name in shares) == share}, share) for share in (True, False)
+            self._table("all", {name: runs[[name]].to_numpy()}, name in put or name.startswith("duty"), put.get(name, np.zeros((len(runs), 1))))
+            for name in runs
         ]
-        return self._told(pd.concat(tables).set_index("quantity").loc[list(runs)].reset_index())
+        return self._told(pd.concat(tables, ignore_index=True))
 
     def delivery_ratio(self, by: str = "stream") -> pd.DataFrame:
         """The part, 0 to 1, of what was put that was delivered, of pairs of a packet and a receiver that it is meant for: `ratio_of_put`.
@@ -97,7 +125,7 @@ class Sample:
         `by` is "stream" (of each source and stream), "node" (at each receiver; of packets that are meant for whichever host serves, at
         each host that served) or "all". Raises `ArgumentError` where it is another word."""
         found = self._of(by)
-        return self._told(self._table(by, {"ratio_of_put": found.ratio("delivered", "put")}, share=True))
+        return self._told(self._table(by, {"ratio_of_put": found.ratio("delivered", "put")}, True, self._tallies.packets(by)))
 
     def deadline(self, by: str = "stream") -> pd.DataFrame:
         """The part of what was put that was delivered within the deadline: `within_deadline`; `by` is as in `delivery_ratio`.
@@ -107,7 +135,7 @@ class Sample:
         `planning.deadline` has both exactly, of one seed. Raises `ArgumentError` where no deadline was given."""
         if self.deadline_seconds is None:
             raise arguments.ArgumentError("no deadline was given; write planning.sample(.., deadline=30) for 30 seconds")
-        return self._told(self._table(by, {"within_deadline": self._of(by).ratio("in_time", "put")}, share=True))
+        return self._told(self._table(by, {"within_deadline": self._of(by).ratio("in_time", "put")}, True, self._tallies.packets(by)))
 
     def latency(self, by: str = "stream") -> pd.DataFrame:
         """The times from put to delivery in seconds: `latency_median` and `latency_p90`, which half and 90 % of the deliveries of a seed
@@ -125,7 +153,7 @@ class Sample:
         arguments.one_of("by", by, ("stream", "all"))
         found = self._tallies.fates if by == "stream" else self._tallies.fates.sum(axis=1, keepdims=True)
         parts = {name: _ratio(found[..., place], found[..., 0]) for place, name in enumerate(_FATES, 1)}
-        return self._told(self._table("fates" if by == "stream" else "all", parts, share=True))
+        return self._told(self._table("fates" if by == "stream" else "all", parts, True, found[..., 0]))
 
     def duty_cycle(self, by: str = "node") -> pd.DataFrame:
         """The part of the time with power in which each radio was on, `duty_cycle`, the same without searching for a host,
@@ -208,10 +236,12 @@ class Sample:
     def _by_node(self, by: str, parts: dict[str, Numbers], share: bool = False) -> pd.DataFrame:
         return self._table("nodes" if by == "node" else "all", parts if by == "node" else {name: _mean(part) for name, part in parts.items()}, share)
 
-    def _table(self, rows: str, parts: dict[str, Numbers], share: bool = False) -> pd.DataFrame:
-        """A row for each column of the arrays and each quantity, the quantities of one next to each other."""
+    def _table(self, rows: str, parts: dict[str, Numbers], share: bool = False, packets: Numbers | None = None) -> pd.DataFrame:
+        """A row for each column of the arrays and each quantity, the quantities of one next to each other; `packets` has of how many packets
+        each is."""
         keys = self._tallies.rows[rows]
-        spread = intervals.over_seeds(np.hstack(list(parts.values())), bounds=(0.0, 1.0 if share else np.inf))
+        counted = None if packets is None else np.hstack([packets] * len(parts))
+        spread = intervals.over_seeds(np.hstack(list(parts.values())), bounds=(0.0, 1.0 if share else np.inf), packets=counted)
         place = np.tile(np.arange(len(keys)), len(parts))
         table = pd.concat([keys.iloc[place].reset_index(drop=True), spread], axis=1)
         table.insert(len(keys.columns), "quantity", np.repeat(list(parts), len(keys)))

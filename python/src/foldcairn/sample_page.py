@@ -48,8 +48,9 @@ def text(sample: Sample, title: str, battery: Mapping[str, float]) -> str:
         "reception ratios. A number has its mean over the seeds, the standard error of that, the interval in which the mean of all seeds lies "
         "with 95 % (from low to high), and quantiles over the seeds."
     )
+    remarks = "".join(f"<p>{html.escape(remark)}</p>" for remark in sample.remarks())
     parts = [
-        f"<h1>{html.escape(title)}</h1><p>{html.escape(about)}</p>",
+        f"<h1>{html.escape(title)}</h1><p>{html.escape(about)}</p>{remarks}",
         f"<h2>{html.escape(whole)}</h2>{_shown(tables['network'])}{_meanings(tables['network'])}",
         f'<section class="figure"><h2>The map</h2>{page.picture("The network", lambda: plot.topology(scenario))}</section>',
         '<h2 class="screen">Tables</h2><p class="screen">A click on a title shows its table.</p>',

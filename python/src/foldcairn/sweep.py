@@ -11,6 +11,7 @@ import functools
 import hashlib
 import itertools
 import os
+import warnings
 from collections.abc import Callable, Iterable, Iterator, Mapping, Sequence
 from concurrent.futures import Executor
 from dataclasses import dataclass
@@ -34,7 +35,8 @@ _LASTING = (program.Refused, program.BadUsage, program.BadWords, TooManyLosses)
 
 
 class SweepStopped(Exception):
-    """The executor broke down, as where a worker was killed, a cluster lost it or a call was cancelled; the results so far are kept where a folder was given, and the next call goes on from there."""
+    """The executor broke down, as where a worker was killed, a cluster lost it or a call was cancelled. The results so far are kept where
+    a folder was given, and the next call goes on from there."""
 
 
 def grid(**values: Iterable[Any]) -> list[dict[str, Any]]:
@@ -117,7 +119,8 @@ def sweep(
     A result is kept by its parameters, the text of the scenario with its ratios, its receivers, the kind and seed of a drawing, the
     measure by its name and source, the program's checksum and the version of this package (`kept`). So each case is built again, and
     it is measured only where that gives another key; what the measure calls or reads elsewhere is no part of it, so give it another
-    `name` after a change there.
+    `name` after a change there. What is measured may be numbers, words, times, what is missing, and lists, tuples, sets and mappings of such;
+    a result with anything else is in the table, and not kept, of which a warning tells.
 
     `status` is `ok`, or the name of an exception, and then `message` says what it says. A case whose text is rejected, or whose
     losses don't fit a text, keeps that; one that ended otherwise, as for lack of memory, is made again by the next call. The
@@ -236,7 +239,10 @@ def _outcome(found: _Outcome | _Kept, store: kept.Store) -> _Outcome | None:
     if isinstance(found, _Kept):
         return _read(store.take(found.key))
     if found.key is not None and found.lasting:
-        store.keep(found.key, {"status": found.status, "rows": found.rows, "message": found.message})
+        try:
+            store.keep(found.key, {"status": found.status, "rows": found.rows, "message": found.message})
+        except TypeError as error:
+            warnings.warn(f"a result is in the table and is not kept, so the next call makes it again: {error}", stacklevel=4)
     return found
 
 

@@ -4,6 +4,7 @@ delivered and their latencies; the fates of packets, and the cost of radios. Tes
 from __future__ import annotations
 
 import functools
+from collections import Counter
 from collections.abc import Mapping, Sequence
 from dataclasses import dataclass
 from typing import Any
@@ -47,12 +48,27 @@ class Groups:
 @dataclass(frozen=True)
 class Tallies:
     """What was counted of all seeds: `groups` by "stream", "node" and "all"; `fates`, by seed, stream with packets and fate (first how many
-    were put); and `cost`, by seed, node and kind. `rows` has the keys of their rows, by the same words, "fates" and "nodes"."""
+    were put); and `cost`, by seed, node and kind. `rows` has the keys of their rows, by the same words, "fates" and "nodes", and `given` how
+    many packets each stream gets in a run."""
 
     groups: Mapping[str, Groups]
     fates: Numbers
     cost: Numbers
     rows: Mapping[str, pd.DataFrame]
+    given: Mapping[tuple[int, int], int]
+
+    def packets(self, by: str) -> Numbers:
+        """Of how many packets the numbers of the groups are, by seed and group: pairs of a packet and each of several receivers are one."""
+        found: Numbers = self.groups["node"]["put"]
+        if by != "node":
+            found = np.minimum(self.groups["stream"]["put"], [self.given.get(stream, 0) for stream in self.streams])
+        whole: Numbers = found.sum(axis=1, keepdims=True)
+        return whole if by == "all" else found
+
+    @property
+    def streams(self) -> list[tuple[int, int]]:
+        """The streams, in the order of their columns."""
+        return list(self.rows["stream"].itertuples(index=False, name=None))
 
     @classmethod
     def of(cls, told: Sequence[Mapping[str, Any]], scenario: Scenario, whom: Meant) -> Tallies:
@@ -68,7 +84,7 @@ class Tallies:
             "all": pd.DataFrame(index=[0]), "fates": pd.DataFrame(put, columns=["source", "stream"]),
             "nodes": pd.DataFrame({"node": sorted(scenario.nodes)}),
         }  # fmt: skip
-        return cls(groups, fates, cost, rows)
+        return cls(groups, fates, cost, rows, packets(scenario))
 
 
 def question(scenario: Scenario, receivers: Receivers, deadline: float | None) -> Question:
@@ -77,6 +93,20 @@ def question(scenario: Scenario, receivers: Receivers, deadline: float | None) -
         raise arguments.ArgumentError("nothing is put in this network, so nothing can be delivered; give it packets by `put` or `every`")
     about = f"sample {receivers!r} {deadline!r}"
     return Question(scenario, functools.partial(_tally, receivers, deadline), about)
+
+
+def packets(scenario: Scenario) -> dict[tuple[int, int], int]:
+    """How many packets each stream gets in a run, without those that keep it alive."""
+    counted = (event for event in scenario.script if isinstance(event, Put))
+    return Counter((event.node, event.stream) for event in counted if event.payload or (event.node, event.stream) not in scenario.keep_alive)
+
+
+def packets_meant(scenario: Scenario, whom: Meant, without: int | None = None) -> int:
+    """How many packets of a run are meant for somebody, where one node is neither a source nor a receiver."""
+    given = packets(scenario)
+    return sum(
+        given.get(stream, 0) for stream, nodes in whom.by_stream.items() if stream[0] != without and (nodes == HOSTS or set(nodes) - {stream[0], without})
+    )
 
 
 def latency_seconds(profile: int, frames: Numbers) -> Numbers:
