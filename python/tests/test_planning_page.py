@@ -28,7 +28,7 @@ def page(folder: Path) -> tuple[str, dict[str, object]]:
     """The page with what its code prints now, and the names that the code makes. Threads, since processes that are forked from all
     the tests cost more; the answers are the same."""
     with pytest.MonkeyPatch.context() as patched:
-        patched.setattr(executors, "ProcessPoolExecutor", lambda: ThreadPoolExecutor(2))
+        patched.setattr(executors, "ProcessPoolExecutor", lambda jobs, **_: ThreadPoolExecutor(2))
         return pages.run(PAGE, folder)
 
 
