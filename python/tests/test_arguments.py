@@ -180,7 +180,7 @@ def test_tables_of_numbers() -> None:
         assert made(nodes, links.assign(both=word)).links == {(1, 2)}
     with pytest.raises(ScenarioError, match="row 1: `prr` is 'good', and has to be a number"):
         made(nodes, links.assign(prr="good"))
-    with pytest.raises(ScenarioError, match="the table of links, row 1: 'prr' is not given"):
+    with pytest.raises(ScenarioError, match="the table of links, row 1: `prr` is not given; write the ratio"):
         tables.set_ratios(two(), links.assign(prr=math.nan))
     with pytest.raises(ScenarioError, match="the table of nodes, row 1: 'y' is not given"):
         tables.positions(pandas.DataFrame({"id": [1], "x": [2.0], "y": [math.nan]}))

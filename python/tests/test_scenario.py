@@ -183,7 +183,7 @@ def test_from_a_graph_and_back():
 
 def test_from_tables(tmp_path):
     (tmp_path / "nodes.csv").write_text("id,offset,ppm,host,on\n1,100,-3,0,\n2,,4,,8\n3,,,1,\n")
-    (tmp_path / "links.csv").write_text("from,to,prr,both\n1,2,0.9,yes\n2,3,,0\n")
+    (tmp_path / "links.csv").write_text("from,to,prr,both\n1,2,0.9,yes\n2,3,1,0\n")
     streams = pandas.DataFrame({"node": [2, 3], "interval": [4, 30], "every": [16, None], "start": [8, 0], "until": [30, None]})
     made = Scenario.from_tables(tmp_path / "nodes.csv", tmp_path / "links.csv", streams, frames=12)
     assert made.text(warn=False).splitlines() == [

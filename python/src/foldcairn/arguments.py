@@ -6,10 +6,12 @@ Each check gives the value in the type that the rest of the package uses. Tested
 from __future__ import annotations
 
 import contextlib
+import difflib
 import functools
 import math
 import os
-from collections.abc import Callable, Collection
+import re
+from collections.abc import Callable, Collection, Iterable
 from pathlib import Path
 from typing import TYPE_CHECKING, Any, TypeVar, cast
 
@@ -19,6 +21,7 @@ if TYPE_CHECKING:
 
 Call = TypeVar("Call", bound=Callable[..., Any])
 AnyScenario = TypeVar("AnyScenario", bound="Scenario")
+_DECIMAL_COMMA = re.compile(r"[+-]?\d+,\d+", re.ASCII)
 
 
 class ArgumentError(ValueError):
@@ -86,18 +89,40 @@ def instead(value: Any) -> str:
     """What to write in place of a text that is a number, as the end of a sentence."""
     if not isinstance(value, str):
         return ""
+    text = value.strip()
+    if _DECIMAL_COMMA.fullmatch(text):
+        return f"; write {text.replace(',', '.')}, with a point"
     try:
-        number = float(value)
+        number = float(text)
     except ValueError:
         return ""
-    return f"; write {value.strip()} without quotes" if math.isfinite(number) else ""
+    return f"; write {text} without quotes" if math.isfinite(number) and "_" not in text else ""
 
 
 def one_of(name: str, value: Any, choices: Collection[str]) -> str:
     """A word that is one of the choices. Raises `ArgumentError` where it is none."""
     if not isinstance(value, str) or value not in choices:
-        raise ArgumentError(f"`{name}` is {value!r}, and not one of {', '.join(choices)}")
+        raise ArgumentError(f"`{name}` is {value!r}, and not one of {', '.join(choices)}{did_you_mean(value, choices)}")
     return value
+
+
+def near(word: Any, known: Iterable[str], least: float = 0.6) -> str:
+    """The known word that a word nearly is, where its case, its blanks and its dashes are let alone; an empty text where none is.
+
+    `least` is how much of them two words have in common, 0 to 1, by `difflib`."""
+    plain = {_plain(one): one for one in reversed(list(known))}
+    found = difflib.get_close_matches(_plain(word), list(plain), 1, least)
+    return plain[found[0]] if found else ""
+
+
+def _plain(word: Any) -> str:
+    return str(word).strip().casefold().replace(" ", "_").replace("-", "_")
+
+
+def did_you_mean(word: Any, known: Iterable[str]) -> str:
+    """The question for the known word that a word nearly is, as the end of a sentence; empty where none is."""
+    found = near(word, known)
+    return f"; did you mean {found}?" if found else ""
 
 
 def payload(name: str, value: Any) -> bytes:

@@ -541,8 +541,10 @@ def read_table(scenario: AnyScenario, source: Any) -> AnyScenario:
     known = set(made.losses)
 
     def add(row: Mapping[str, Any]) -> None:
-        when = tables.whole(row, "frame") if "frame" in row else scenario.frame_at(row["seconds"])
-        for loss in _recorded(scenario, when, [tables.whole(row, column) for column in ("slot", *columns)]):
+        when = tables.whole(row, "frame") if "frame" in row else scenario.frame_at(tables.real(row, "seconds"))
+        nodes = ("from", "to", "node")
+        values = [tables.node_of(scenario, row, column) if column in nodes else tables.whole(row, column) for column in ("slot", *columns)]
+        for loss in _recorded(scenario, when, values):
             if loss not in known:
                 known.add(loss)
                 made.lose(loss.frame, loss.slot, loss.step, loss.sender, loss.receiver)

@@ -500,16 +500,20 @@ class Scenario:
         nodes     `id`; may have `name`, `offset` (ticks of 1/64 µs), `ppm`, `host` (the rank), `on` (seconds; 0 without it), and the
                   place, `x` and `y`
         links     `from`, `to` (or `u` and `v`, or `source` and `target`); may have `prr`, `both` (true for both directions), and the
-                  time from which on a ratio holds, `seconds` or `frame`, so that a link may have several rows
+                  time from which on a ratio holds, so that a link may have several rows: `seconds` or `frame` from the start of the
+                  run, or `timestamp`, a date and a time. The first time stamp of the table is the start of the run, and before its first
+                  sample a link has the ratio of that sample
         streams   `node`, `interval` (seconds); may have `stream`, `start` (seconds), `keep_alive` (seconds), and `every` with
                   `until` (seconds), by which packets are put as `every` does
 
         Ids may be names, as `pump` or `B-12`: then nodes get the ids 1, 2, .. by their rows, tables and pictures show the names, and
-        `id` gives the id of a name. Empty cells are values that are not given. A column that is none of these is not read, and
-        `cautions` names it.
+        `id` gives the id of a name. Blank cells, and words as `n/a`, are values that are not given; but a table that has ratios has one in
+        each row. A column that is none of these is not read, and `cautions` names it. A CSV file is in UTF-8, with commas, semicolons or
+        tabs between the cells.
 
         Raises `ScenarioError`, which names the table and the row, where a column is missing or a value out of range, a column has
-        nearly the name of one that is read, or a link is there twice with different ratios.
+        nearly the name of one that is read, two names are equal, a name is the id of another node, an id is not spelled as a number
+        (`007`), only some nodes have names, or a link has different ratios at one time; `OSError` where a file can't be read.
         """
         from . import tables
 
