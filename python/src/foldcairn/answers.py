@@ -28,7 +28,8 @@ WHOLE = frozenset(
 
 def answer(call: Call) -> Call:
     """Makes a call that takes a log raise `arguments.ArgumentError` where it is given something else, keep what it gives for
-    the same log and arguments, and give tables with the types of `typed`. What it gives is the caller's own."""
+    the same log, receivers of its scenario and arguments, and give tables with the types of `typed`. What it gives is the caller's own,
+    and of an iterator it gets a list."""
     return _answering(call, arguments.require_log)
 
 
@@ -41,8 +42,11 @@ def _answering(call: Call, require: Callable[[str, Any], None]) -> Call:
     @functools.wraps(call)
     def answered(log: Report, *rest: Any, **named: Any) -> Any:
         require(call.__name__, log)
+        rest, named = tuple(map(arguments.settled, rest)), arguments.settled(named)
         kept: dict[Hashable, Any] = log.__dict__.setdefault("_answers", {})
-        key = (call.__module__, call.__name__, rest, tuple(sorted(named.items())))
+        # What of its scenario may still be said after the run: for whom packets are meant, and which of them count.
+        meant = repr(log.scenario.receivers), frozenset(log.scenario.keep_alive)
+        key = (call.__module__, call.__name__, rest, tuple(sorted(named.items())), meant)
         found = kept[key] if _is_hashable(key) and key in kept else call(log, *rest, **named)
         if not isinstance(found, pd.DataFrame):
             return found

@@ -11,7 +11,7 @@ import functools
 import math
 import os
 import re
-from collections.abc import Callable, Collection, Iterable
+from collections.abc import Callable, Collection, Iterable, Mapping
 from pathlib import Path
 from typing import TYPE_CHECKING, Any, TypeVar, cast
 
@@ -43,8 +43,8 @@ def whole(name: str, value: Any, low: int | None = None, high: int | None = None
 
 def index(value: Any) -> int | None:
     """The whole number of a value, as `whole` takes it, or None where it is none."""
-    # numpy's is called so from its second version on, and bool_ before.
-    if type(value).__name__ in ("bool", "bool_"):
+    # numpy's truth is called so from its second version on, and bool_ before; and an array of one number has an index too.
+    if type(value).__name__ in ("bool", "bool_") or _is_array(value):
         return None
     if hasattr(value, "__index__"):
         # An array of numpy has it too, and is no whole number unless it is one alone.
@@ -54,6 +54,10 @@ def index(value: Any) -> int | None:
     if isinstance(value, float) and value.is_integer():
         return int(value)
     return None
+
+
+def _is_array(value: Any) -> bool:
+    return bool(getattr(value, "ndim", False))
 
 
 def real(
@@ -71,7 +75,7 @@ def real(
 
 
 def _float(value: Any) -> float | None:
-    if isinstance(value, (str, bytes, bool)) or not (hasattr(value, "__float__") or hasattr(value, "__index__")):
+    if isinstance(value, (str, bytes, bool)) or _is_array(value) or not (hasattr(value, "__float__") or hasattr(value, "__index__")):
         return None
     try:
         return float(value)
@@ -97,6 +101,19 @@ def instead(value: Any) -> str:
     except ValueError:
         return ""
     return f"; write {text} without quotes" if math.isfinite(number) and "_" not in text else ""
+
+
+def settled(value: Any) -> Any:
+    """A collection that can be gone through again, with plain values: a list of an iterator, a range, a set, or an array of numpy or
+    pandas, and a dictionary with such values of a mapping. It is the caller's own no more. What is no collection, a text and a tuple
+    stay as they are."""
+    if isinstance(value, Mapping):
+        return {key: settled(one) for key, one in value.items()}
+    if hasattr(value, "tolist"):
+        return value.tolist()
+    if isinstance(value, (str, bytes, tuple, frozenset)) or not isinstance(value, Iterable):
+        return value
+    return list(value)
 
 
 def one_of(name: str, value: Any, choices: Collection[str]) -> str:

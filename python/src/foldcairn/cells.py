@@ -5,6 +5,7 @@ A number that is not spelled as numbers are is none, since it may be a name: `00
 
 from __future__ import annotations
 
+import contextlib
 import datetime
 import math
 import re
@@ -55,12 +56,11 @@ def plain_id(value: Any) -> int | None:
 def numeral(value: Any) -> int | None:
     """The whole number that a text may be taken for, however it is spelled, or None."""
     text = str(value).strip()
-    for kind in (float, lambda digits: int(digits, 0)):
-        try:
-            found = kind(text)
-        except ValueError:
-            continue
+    with contextlib.suppress(ValueError):
+        found = float(text)
         return int(found) if math.isfinite(found) and found == int(found) else None
+    with contextlib.suppress(ValueError):
+        return int(text, 0)
     return None
 
 

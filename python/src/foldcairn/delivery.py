@@ -170,8 +170,9 @@ def _pairs(log: Report, receivers: Receivers) -> pd.DataFrame:
     kept: several answers ask for the same."""
     whom = meant(log.scenario, receivers)
     kept: tuple[object, pd.DataFrame] | None = log.__dict__.get("_pairs")
-    if kept is None or kept[0] != whom.by_stream:
-        kept = log.__dict__["_pairs"] = (whom.by_stream, _worked_out(log, whom))
+    about = whom.by_stream, frozenset(log.scenario.keep_alive)
+    if kept is None or kept[0] != about:
+        kept = log.__dict__["_pairs"] = (about, _worked_out(log, whom))
     return kept[1]
 
 

@@ -12,6 +12,7 @@ from typing import Any, TypeVar, cast
 
 import pandas as pd
 
+from . import arguments
 from .scenario import Scenario
 
 Call = TypeVar("Call", bound=Callable[..., Any])
@@ -37,10 +38,12 @@ def named(scenario: Scenario, table: pd.DataFrame) -> pd.DataFrame:
 
 
 def answers(function: Call) -> Call:
-    """The function, of a log or a scenario, with names in its table."""
+    """The function, of a log or a scenario, with names in its table. Of iterators and arrays it gets lists."""
 
     @functools.wraps(function)
     def call(*given: Any, **more: Any) -> pd.DataFrame:
+        given = (*given[:1], *map(arguments.settled, given[1:]))
+        more = {name: value if name in ("executor", "progress") else arguments.settled(value) for name, value in more.items()}
         table = function(*given, **more)
         return named(next(map(scenario_of, filter(_has_scenario, (*given, *more.values())))), table)
 

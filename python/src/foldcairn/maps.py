@@ -127,7 +127,7 @@ def topology(
     laid = places(scenario) if positions is None else {node: positions[node] for node in scenario.nodes if node in positions}
     if missing := set(scenario.nodes) - set(laid):
         raise ValueError(f"node {scenario.name(min(missing))} has no place")
-    if strange := set(failed) - scenario.links:
+    if strange := (failed := set(failed)) - scenario.links:
         raise ValueError("the scenario has no link from {} to {}".format(*map(scenario.name, min(strange))))
     if background is not None and positions is None:
         raise ValueError("a background needs the positions of the nodes on it")

@@ -47,7 +47,7 @@ import math
 
 import pandas as pd
 
-from . import bounds as _bounds, capacity as _capacity, delivery, importance as _importance, radio, rounds as _rounds, sample as _sample, service
+from . import arguments, bounds as _bounds, capacity as _capacity, delivery, importance as _importance, radio, rounds as _rounds, sample as _sample, service
 from .answers import answer
 from .counts import Counts
 from .labels import answers
@@ -160,6 +160,7 @@ def summary(run: Report | Counts | Scenario | str, *, receivers: Receivers = Non
     Times are true time, in seconds from the start of the run, but for those that are said to be by plan. What there is not is not a
     number (NaN). Raises what `results.log` and `delivery_ratio` raise.
     """
+    receivers = arguments.settled(receivers)
     if isinstance(run, Counts):
         return _sample.summary(run, receivers)
     # Without warnings: in a sweep they would come once a case.

@@ -16,7 +16,7 @@ from typing import TYPE_CHECKING, Any
 
 import pandas as pd
 
-from . import commands, files, findings, planning, program, results
+from . import arguments, commands, files, findings, planning, program, results
 from .commands import Commands
 from .events import Off, On, Put, Stream
 from .receivers import Receivers
@@ -57,7 +57,7 @@ def compare(plans: Mapping[str, Scenario], path: str | os.PathLike[str] | None =
     """
     from . import compare as comparing
 
-    return comparing.compare(plans, path, **given)
+    return comparing.compare(plans, path, **{name: arguments.settled(given[name]) if name in ("seeds", "receivers") else given[name] for name in given})
 
 
 def titles(scenario: Scenario, receivers: Receivers, battery: dict[str, float]) -> dict[str, str]:

@@ -282,6 +282,7 @@ def sample(
     `sweep.SweepStopped` where the executor breaks down; and what `program.execute` raises.
     """
     network = arguments.network("network", network)
+    receivers = arguments.settled(receivers)
     meant(network, receivers)
     listed = many.checked(seeds)
     limit = None if deadline is None else arguments.real("deadline", deadline, above=0)

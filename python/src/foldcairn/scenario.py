@@ -9,7 +9,7 @@ from __future__ import annotations
 import math
 import warnings
 from collections.abc import Callable, Iterable, Iterator, Sequence
-from dataclasses import dataclass, field, replace
+from dataclasses import MISSING, dataclass, field, fields, replace
 from operator import attrgetter
 from typing import TYPE_CHECKING, Any, Self
 
@@ -117,6 +117,11 @@ class Scenario:
     told: bool = field(default=False, repr=False, compare=False)
 
     def __post_init__(self) -> None:
+        # What it holds is its own: another one that was made of it, by `dataclasses.replace` or by a call, may change too.
+        for one in fields(self):
+            if one.default_factory is not MISSING:
+                setattr(self, one.name, one.default_factory(getattr(self, one.name)))  # type: ignore[call-arg]
+        self.receivers = arguments.settled(self.receivers)
         for word in ("profile", "frames", "sends", "contend"):
             value: Any = getattr(self, word)
             (what,) = lines.fields("run")[word]
@@ -352,7 +357,7 @@ class Scenario:
         """
         from .receivers import meant
 
-        given = receivers[0] if len(receivers) == 1 else list(receivers)
+        given = arguments.settled(receivers[0] if len(receivers) == 1 else list(receivers))
         try:
             if not isinstance(given, dict):
                 meant(self, given)
@@ -456,13 +461,7 @@ class Scenario:
 
     def copy(self) -> Self:
         """A scenario with the same content that can be changed without changing this one."""
-        return replace(
-            self,
-            nodes=dict(self.nodes), rates=list(self.rates), hosts=dict(self.hosts), links=set(self.links),
-            prr=dict(self.prr), ratios=dict(self.ratios), losses=list(self.losses), cuts=list(self.cuts), captures=list(self.captures),
-            script=list(self.script), keep_alive=set(self.keep_alive), labels=dict(self.labels), remarks=list(self.remarks),
-            drawn=set(self.drawn),
-        )  # fmt: skip
+        return replace(self)
 
     # From and to other forms.
 
@@ -483,6 +482,7 @@ class Scenario:
             raise ScenarioError(f"the node {strange[0]!r} of the graph is no id, which is a whole number from 1 to 200")
         for node, data in sorted(graph.nodes(data=True)):
             made.node(node, data.get("offset", 0), data.get("ppm", 0))
+        hosts = arguments.settled(hosts)
         ranks = {data["host"]: node for node, data in graph.nodes(data=True) if data.get("host") is not None}
         for rank, node in enumerate(hosts) if hosts else sorted(ranks.items()):
             made.host(rank, node)
